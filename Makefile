@@ -2,7 +2,7 @@
 #
 #   demo      run the main job, unproved: luks check on the sample image; ends with 'accepted luks1 areas 10'
 #   build     prove and build the program, and leave it at bin/luks
-#   library   prove and build libluks, the calls that read for C and Python: bin/libluks.so.0 and bin/libluks.a
+#   library   prove and build libluks, the calls for C and Python: bin/libluks.so.0 and bin/libluks.a
 #   test      the merge gate: every proof from nothing, the edits that must fail, each test, each program; and what it took:
 #             processor time by crate for its proof, its tests and its edits, and at its end the sums
 #   quick     between gates: proofs and tests of the crates that changed since BASE (the last commit) and of what stands on them
@@ -12,7 +12,7 @@
 #             all under DESTDIR where that is given)
 #   uninstall  take these away again
 #   install-library  put libluks, its header, libluks.pc and the Python module under PREFIX (PYTHONDIR is the module's folder)
-#   dist      the archive dist/luks-VERSION-linux-x86_64.tar.gz: the program, also static, its pages and install.sh, for a system without rt
+#   dist      the archive dist/luks-VERSION-linux-x86_64.tar.gz: the program, also static, its pages, libluks and install.sh, for a system without rt
 #   deb       the package dist/luks_VERSION_amd64.deb, for Debian, and those of libluks: libluks0, libluks-dev and python3-luks; beside all,
 #             dist/SHA256SUMS has their sums
 #   bench     times and memory, beside other implementations
@@ -93,7 +93,7 @@ uninstall:
 	rm -f "$(DESTDIR)$(PREFIX)/bin/luks" "$(DESTDIR)$(MANDIR)/man1/luks.1" "$(DESTDIR)$(BASHCOMPDIR)/luks" \
 	  "$(DESTDIR)$(ZSHCOMPDIR)/_luks" "$(DESTDIR)$(FISHCOMPDIR)/luks.fish"
 
-dist: bin/luks
+dist: bin/luks bin/libluks.so.0
 	@RT="$(RT)" tools/package archive
 
 deb: bin/luks bin/libluks.so.0

@@ -215,6 +215,53 @@ static int formats(int fd, uint64_t offset, uint64_t length, char **words)
     return done(answer, 0);
 }
 
+/* A text, or NULL for `none`. */
+static const char *maybe(const char *word)
+{
+    return strcmp(word, "none") == 0 ? NULL : word;
+}
+
+/* A header on a target, at 0: convert TARGET RANDOM PLACE; rebuild TARGET RANDOM UUID; rebuild2 TARGET RANDOM UUID SECOND SIZE;
+ * rebuild1 TARGET RANDOM UUID CIPHER MODE HASH KEY-BYTES PAYLOAD. */
+static int makes_header(int fd, uint64_t offset, uint64_t length, const char *call, char **words)
+{
+    size_t random_bytes = 0, wanted = strcmp(call, "convert") == 0 ? 128 : 144;
+    uint8_t *random = strcmp(words[1], "system") == 0 ? NULL : file_of(words[1], wanted, &random_bytes);
+    int target = open(words[0], O_RDWR);
+    uint32_t answer = LUKS_USAGE;
+    lseek(target, 5, SEEK_SET);
+    if (strcmp(call, "convert") == 0)
+        answer = luks_convert(fd, offset, length, strcmp(words[2], "detached") == 0, target, 0, LUKS_TO_END, random, random_bytes);
+    else if (strcmp(call, "rebuild") == 0)
+        answer = luks_rebuild(fd, offset, length, maybe(words[2]), target, 0, LUKS_TO_END, random, random_bytes);
+    else if (strcmp(call, "rebuild2") == 0)
+        answer = luks_rebuild2(fd, offset, length, strcmp(words[3], "second") == 0, strtoull(words[4], NULL, 10), maybe(words[2]), target, 0,
+                               LUKS_TO_END, random, random_bytes);
+    else {
+        struct luks_fields fields = {.cipher_name = maybe(words[3]), .cipher_mode = maybe(words[4]), .hash = maybe(words[5]),
+                                     .key_bytes = number(words[6]), .payload = number(words[7])};
+        answer = luks_rebuild1(fd, offset, length, &fields, maybe(words[2]), target, 0, LUKS_TO_END);
+    }
+    free(random);
+    int kept = errno;
+    if (target >= 0 && lseek(target, 0, SEEK_CUR) != 5)
+        puts("the target's position moved");
+    errno = kept;
+    return done(answer, LUKS_NO_SLOT);
+}
+
+/* What else the disk is used for, by its first bytes. */
+static int signature(int fd, uint64_t offset, uint64_t length, const char *within)
+{
+    uint32_t shows = 99;
+    uint8_t name[16];
+    uint32_t answer = luks_signature(fd, offset, length, strcmp(within, "all") == 0 ? LUKS_TO_END : strtoull(within, NULL, 10), &shows);
+    if (answer != LUKS_DONE)
+        return told(answer);
+    printf("%.*s\n", (int)luks_signature_name(shows, name, sizeof name), (char *)name);
+    return 0;
+}
+
 /* What a caller gets wrong. */
 static int wrong(int fd)
 {
@@ -228,6 +275,28 @@ static int wrong(int fd)
     uint8_t *words = mmap(NULL, long_one, PROT_READ, MAP_PRIVATE | MAP_ANONYMOUS | MAP_NORESERVE, -1, 0);
     printf("%u %u\n", luks_unlock_bytes(&byte, 1, 1, words, long_one, 0, &byte, 0, &opened), luks_open_bytes(&byte, 1, 1, 0, words, long_one, 0, &byte, 0, &opened));
     munmap(words, long_one);
+    struct luks_edit edit = {.kind = LUKS_ADD, .to = LUKS_NO_SLOT, .iterations = 1000}, no_edit = {.kind = 9}, no_slot = {.kind = LUKS_REMOVE, .slot = 256};
+    uint64_t needed;
+    uint32_t shows, slot;
+    printf("%u %u %u %u\n", luks_needed(fd, 0, LUKS_TO_END, false, NULL, NULL, 0, NULL, 0, &needed),
+           luks_needed(fd, 0, LUKS_TO_END, false, &edit, NULL, 0, NULL, 0, NULL), luks_needed(fd, 0, LUKS_TO_END, false, &no_edit, NULL, 0, NULL, 0, &needed),
+           luks_needed(fd, 0, LUKS_TO_END, false, &no_slot, NULL, 0, NULL, 0, &needed));
+    printf("%u %u %u %u\n", luks_apply(fd, 0, LUKS_TO_END, false, NULL, NULL, 0, NULL, 0, NULL, 0, &slot),
+           luks_apply(fd, 0, LUKS_TO_END, false, &edit, NULL, 3, NULL, 0, NULL, 0, &slot), luks_apply(fd, 0, LUKS_TO_END, false, &edit, NULL, 0, NULL, 3, NULL, 0, &slot),
+           luks_apply(fd, 0, LUKS_TO_END, false, &edit, NULL, 0, NULL, 0, NULL, 3, &slot));
+    printf("%u %u %u %u\n", luks_read(fd, 0, LUKS_TO_END, NULL, 0, NULL), luks_read(fd, 0, LUKS_TO_END, NULL, 1, &needed),
+           luks_format2(fd, 0, LUKS_TO_END, false, LUKS_SHA256, 1000, NULL, 1, NULL, 0), luks_signature(fd, 0, LUKS_TO_END, 0, NULL));
+    static const char long_text[] = "a cipher whose name is far too long for its field";
+    struct luks_fields fields = {.cipher_name = long_text, .key_bytes = LUKS_NO_NUMBER, .payload = LUKS_NO_NUMBER};
+    int target = open("target", O_RDWR);
+    printf("%u %u %u %u\n", luks_convert(fd, 0, LUKS_TO_END, false, target, 0, LUKS_TO_END, NULL, 1),
+           luks_rebuild1(fd, 0, LUKS_TO_END, &fields, NULL, target, 0, LUKS_TO_END),
+           luks_rebuild2(fd, 0, LUKS_TO_END, false, 0, "\xff", target, 0, LUKS_TO_END, NULL, 0), luks_rebuild(fd, 0, LUKS_TO_END, NULL, fd, 0, LUKS_TO_END, NULL, 0));
+    printf("%u %u\n", luks_convert(fd, 0, LUKS_TO_END, false, 1000, 0, LUKS_TO_END, NULL, 0), luks_convert(1000, 0, LUKS_TO_END, false, target, 0, LUKS_TO_END, NULL, 0));
+    shows = 99;
+    uint32_t answer = luks_signature(fd, 0, 0, 0, &shows);
+    printf("%u %u %zu %zu\n", answer, shows, luks_signature_name(0, &byte, 1), luks_signature_name(15, &byte, 1));
+    close(target);
     return 0;
 }
 
@@ -251,13 +320,16 @@ static int texts(void)
 
 struct one {
     const char *volume;
-    uint32_t answers[16];
+    uint32_t answers[16], added, removed;
 };
 
 static void *many(void *given)
 {
     struct one *one = given;
-    int fd = open(one->volume, O_RDONLY);
+    int fd = open(one->volume, O_RDWR);
+    uint32_t slot = LUKS_NO_SLOT;
+    one->added = luks_add(fd, 0, LUKS_TO_END, false, 0, "one", 3, "thread", 6, LUKS_NO_SLOT, 1000, 0, &slot);
+    one->removed = luks_remove(fd, 0, LUKS_TO_END, false, slot, LUKS_NO_SLOT, "thread", 6, 0);
     for (int i = 0; i < 16; i++) {
         struct luks_opened opened;
         one->answers[i] = luks_unlock(fd, 0, LUKS_TO_END, "one", 3, 0, NULL, 0, &opened);
@@ -280,6 +352,7 @@ static int threads(const char *first, const char *second)
             if (ones[i].answers[k] != ones[i].answers[0])
                 return puts("another answer"), 1;
     printf("%u %u\n", ones[0].answers[0], ones[1].answers[0]);
+    printf("%u %u %u %u\n", ones[0].added, ones[0].removed, ones[1].added, ones[1].removed);
     return 0;
 }
 
@@ -311,6 +384,10 @@ int main(int count, char **words)
         status = edits_by_name(fd, offset, length, words + 5);
     else if (strcmp(words[1], "format") == 0 && count == 11)
         status = formats(fd, offset, length, words + 5);
+    else if ((strcmp(words[1], "convert") == 0 || strncmp(words[1], "rebuild", 7) == 0) && count >= 8)
+        status = makes_header(fd, offset, length, words[1], words + 5);
+    else if (strcmp(words[1], "signature") == 0 && count == 6)
+        status = signature(fd, offset, length, words[5]);
     else if (strcmp(words[1], "wrong") == 0)
         status = wrong(fd);
     if (lseek(fd, 0, SEEK_CUR) != place)

@@ -108,6 +108,26 @@ static void end(struct held *held)
     errno = kept;
 }
 
+uint32_t luks_signature(int fd, uint64_t offset, uint64_t length, uint64_t within, uint32_t *shows)
+{
+    struct luks_signature signature;
+    struct held held;
+    if (shows == NULL)
+        return LUKS_USAGE;
+    *shows = 0;
+    uint32_t answer = begin(&held, fd, offset, length, HEADS);
+    if (answer == LUKS_DONE)
+        do {
+            answer = luks_signature_bytes(held.bytes, held.count, held.total, within, &signature);
+            if (answer == LUKS_BEYOND)
+                answer = hold_more(&held, signature.beyond);
+            else if (answer == LUKS_DONE)
+                *shows = signature.shows;
+        } while (answer == LUKS_BEYOND);
+    end(&held);
+    return answer;
+}
+
 uint32_t luks_check(int fd, uint64_t offset, uint64_t length, bool is_detached, struct luks_report *report)
 {
     struct held held;
@@ -198,13 +218,20 @@ struct room {
     size_t calls_room, bytes_room;
 };
 
-/* What is asked of a volume that is written: an edit, or a new volume by `version`. */
+/* What is asked of a volume that is written. */
+enum kind { EDIT, FORMAT1, FORMAT2, CONVERT, REBUILD1, REBUILD2 };
+
 struct asked {
-    bool is_detached;
+    enum kind kind;
+    bool is_detached, is_second;
     const struct luks_edit *edit;
-    uint32_t version, hash, iterations;
+    uint32_t hash, iterations;
+    uint64_t size;
     const uint8_t *passphrase, *text, *random;
     size_t passphrase_bytes, text_bytes, random_bytes;
+    struct held *source;
+    struct luks_fields fields;
+    const char *uuid;
 };
 
 static bool take_room(struct room *room, uint64_t calls, uint64_t bytes)
@@ -288,15 +315,47 @@ static uint32_t play(const struct held *held, const struct room *room, const str
     return LUKS_DONE;
 }
 
+/* A text's bytes, and how many: none where it isn't given. */
+static const uint8_t *bytes_of(const char *text)
+{
+    static const uint8_t nothing = 0;
+    return text != NULL ? (const uint8_t *)text : &nothing;
+}
+
+static size_t count_of(const char *text)
+{
+    return text != NULL ? strlen(text) : 0;
+}
+
+/* Plans the header that is made of the source. */
+static uint32_t plan_of_source(const struct held *held, const struct asked *it, struct room *room, struct luks_plan *plan)
+{
+    const struct held *source = it->source;
+    const struct luks_fields *given = &it->fields;
+    if (it->kind == CONVERT)
+        return luks_convert_bytes(source->bytes, source->count, source->total, it->is_detached, held->bytes, held->count, held->total, it->random,
+                                  it->random_bytes, room->calls, room->calls_room, room->bytes, room->bytes_room, plan);
+    if (it->kind == REBUILD2)
+        return luks_rebuild2_bytes(source->bytes, source->count, source->total, it->is_second, it->size, bytes_of(it->uuid), count_of(it->uuid),
+                                   held->bytes, held->count, held->total, it->random, it->random_bytes, room->calls, room->calls_room, room->bytes,
+                                   room->bytes_room, plan);
+    return luks_rebuild1_bytes(source->bytes, source->count, source->total, bytes_of(given->cipher_name), count_of(given->cipher_name),
+                               bytes_of(given->cipher_mode), count_of(given->cipher_mode), bytes_of(given->hash), count_of(given->hash),
+                               bytes_of(it->uuid), count_of(it->uuid), given->key_bytes, given->payload, held->bytes, held->count, held->total,
+                               room->calls, room->calls_room, room->bytes, room->bytes_room, plan);
+}
+
 /* Plans what is asked over the bytes that are held. */
 static uint32_t plan_of(const struct held *held, const struct asked *it, struct room *room, struct luks_plan *plan)
 {
-    if (it->version == 1)
+    if (it->kind == FORMAT1)
         return luks_format1_bytes(held->bytes, held->count, held->total, it->is_detached, it->hash, it->iterations, it->passphrase,
                                   it->passphrase_bytes, it->random, it->random_bytes, room->calls, room->calls_room, room->bytes, room->bytes_room, plan);
-    if (it->version == 2)
+    if (it->kind == FORMAT2)
         return luks_format2_bytes(held->bytes, held->count, held->total, it->is_detached, it->hash, it->iterations, it->passphrase,
                                   it->passphrase_bytes, it->random, it->random_bytes, room->calls, room->calls_room, room->bytes, room->bytes_room, plan);
+    if (it->kind != EDIT)
+        return plan_of_source(held, it, room, plan);
     return luks_apply_bytes(held->bytes, held->count, held->total, it->is_detached, it->edit, it->passphrase, it->passphrase_bytes, it->text,
                             it->text_bytes, it->random, it->random_bytes, room->calls, room->calls_room, room->bytes, room->bytes_room, plan);
 }
@@ -310,7 +369,7 @@ static uint32_t carry_out(struct held *held, const struct asked *it, uint32_t *s
     while (answer == LUKS_BEYOND || answer == LUKS_ROOM) {
         answer = plan_of(held, it, &room, &plan);
         if (answer == LUKS_BEYOND)
-            answer = hold_more(held, plan.beyond);
+            answer = plan.source_beyond > 0 ? hold_more(it->source, plan.source_beyond) : hold_more(held, plan.beyond);
         else if (answer == LUKS_ROOM && !take_room(&room, plan.calls, plan.bytes))
             answer = LUKS_MEMORY;
     }
@@ -450,7 +509,7 @@ uint32_t luks_label(int fd, uint64_t offset, uint64_t length, bool is_detached, 
     return luks_apply(fd, offset, length, is_detached, &edit, NULL, 0, label, label_bytes, NULL, 0, NULL);
 }
 
-/* Makes a volume by this version, which takes so many random bytes. */
+/* Makes a volume, which takes so many random bytes. */
 static uint32_t format(int fd, uint64_t offset, uint64_t length, struct asked *it, uint64_t count)
 {
     struct held held;
@@ -469,7 +528,7 @@ static uint32_t format(int fd, uint64_t offset, uint64_t length, struct asked *i
 uint32_t luks_format1(int fd, uint64_t offset, uint64_t length, bool is_detached, uint32_t hash, uint32_t iterations, const void *passphrase,
                       size_t passphrase_bytes, const void *random, size_t random_bytes)
 {
-    struct asked it = {.version = 1, .is_detached = is_detached, .hash = hash, .iterations = iterations, .passphrase = passphrase,
+    struct asked it = {.kind = FORMAT1, .is_detached = is_detached, .hash = hash, .iterations = iterations, .passphrase = passphrase,
                        .passphrase_bytes = passphrase_bytes, .random = random, .random_bytes = random_bytes};
     return format(fd, offset, length, &it, 256080);
 }
@@ -477,7 +536,122 @@ uint32_t luks_format1(int fd, uint64_t offset, uint64_t length, bool is_detached
 uint32_t luks_format2(int fd, uint64_t offset, uint64_t length, bool is_detached, uint32_t hash, uint32_t iterations, const void *passphrase,
                       size_t passphrase_bytes, const void *random, size_t random_bytes)
 {
-    struct asked it = {.version = 2, .is_detached = is_detached, .hash = hash, .iterations = iterations, .passphrase = passphrase,
+    struct asked it = {.kind = FORMAT2, .is_detached = is_detached, .hash = hash, .iterations = iterations, .passphrase = passphrase,
                        .passphrase_bytes = passphrase_bytes, .random = random, .random_bytes = random_bytes};
     return format(fd, offset, length, &it, 256208);
+}
+
+/* ---- a header that is made of a source ---- */
+
+/* Faults that are told or asked for here, by their numbers in luks_fault_name. */
+enum { SAME_FILE = 42, COUNTS = 43, NO_METADATA = 44, NO_HEADER = 51 };
+
+/* The bytes of a LUKS1 header. */
+#define HEADER1 592
+
+/* Whether both descriptors are of one file, or of one block device; -1 where that can't be told. */
+static int are_one(int first, int second)
+{
+    struct stat one, other;
+    if (fstat(first, &one) != 0 || fstat(second, &other) != 0)
+        return -1;
+    if (S_ISBLK(one.st_mode) && S_ISBLK(other.st_mode))
+        return one.st_rdev == other.st_rdev;
+    return one.st_dev == other.st_dev && one.st_ino == other.st_ino;
+}
+
+/* Holds the first bytes of the source and of the target, which is settled before. */
+static uint32_t begin_both(struct held *source, int source_fd, uint64_t source_offset, uint64_t source_length, struct held *held, int fd,
+                           uint64_t offset, uint64_t length)
+{
+    memset(source, 0, sizeof *source);
+    memset(held, 0, sizeof *held);
+    int is_one = are_one(source_fd, fd);
+    if (is_one != 0)
+        return is_one > 0 ? (uint32_t)SAME_FILE : (uint32_t)LUKS_DEVICE;
+    if (flush(fd) != 0)
+        return LUKS_DEVICE;
+    uint32_t answer = begin(source, source_fd, source_offset, source_length, WITH_KEY_AREAS);
+    return answer == LUKS_DONE ? begin(held, fd, offset, length, WITH_KEY_AREAS) : answer;
+}
+
+static void end_both(struct held *source, struct held *held)
+{
+    end(source);
+    end(held);
+}
+
+uint32_t luks_convert(int source_fd, uint64_t source_offset, uint64_t source_length, bool is_detached, int fd, uint64_t offset, uint64_t length,
+                      const void *random, size_t random_bytes)
+{
+    struct held source, held;
+    if (!are_given(random, random_bytes))
+        return LUKS_USAGE;
+    struct asked it = {.kind = CONVERT, .is_detached = is_detached, .source = &source, .random = random, .random_bytes = random_bytes};
+    uint32_t answer = begin_both(&source, source_fd, source_offset, source_length, &held, fd, offset, length);
+    if (answer == LUKS_DONE)
+        answer = carry_out_by_chance(&held, &it, 128, NULL);
+    end_both(&source, &held);
+    return answer;
+}
+
+uint32_t luks_rebuild2(int source_fd, uint64_t source_offset, uint64_t source_length, bool is_second, uint64_t size, const char *uuid, int fd,
+                       uint64_t offset, uint64_t length, const void *random, size_t random_bytes)
+{
+    struct held source, held;
+    if (!are_given(random, random_bytes))
+        return LUKS_USAGE;
+    struct asked it = {.kind = REBUILD2, .is_second = is_second, .size = size, .uuid = uuid, .source = &source, .random = random,
+                       .random_bytes = random_bytes};
+    uint32_t answer = begin_both(&source, source_fd, source_offset, source_length, &held, fd, offset, length);
+    if (answer == LUKS_DONE)
+        answer = carry_out_by_chance(&held, &it, 144, NULL);
+    end_both(&source, &held);
+    return answer;
+}
+
+static const struct luks_fields NO_FIELDS = {.key_bytes = LUKS_NO_NUMBER, .payload = LUKS_NO_NUMBER};
+
+uint32_t luks_rebuild1(int source_fd, uint64_t source_offset, uint64_t source_length, const struct luks_fields *fields, const char *uuid, int fd,
+                       uint64_t offset, uint64_t length)
+{
+    struct held source, held;
+    struct asked it = {.kind = REBUILD1, .fields = fields != NULL ? *fields : NO_FIELDS, .uuid = uuid, .source = &source};
+    uint32_t answer = begin_both(&source, source_fd, source_offset, source_length, &held, fd, offset, length);
+    if (answer == LUKS_DONE)
+        answer = carry_out(&held, &it, NULL);
+    end_both(&source, &held);
+    return answer;
+}
+
+/* Whether a fault of LUKS2 leads to LUKS1, by the source's first bytes: no metadata is whole and they aren't those of a LUKS2
+ * header; or a LUKS1 header stands there, accepted or not. */
+static bool leads_to_luks1(const struct held *source, uint32_t fault)
+{
+    static const uint8_t magic[] = {'L', 'U', 'K', 'S', 0xBA, 0xBE};
+    if (source->count < HEADER1)
+        return false;
+    unsigned version = (unsigned)source->bytes[6] << 8 | source->bytes[7];
+    if (fault == NO_METADATA)
+        return version != 2;
+    return fault == COUNTS && memcmp(source->bytes, magic, sizeof magic) == 0 && version == 1;
+}
+
+uint32_t luks_rebuild(int source_fd, uint64_t source_offset, uint64_t source_length, const char *uuid, int fd, uint64_t offset, uint64_t length,
+                      const void *random, size_t random_bytes)
+{
+    struct held source, held;
+    if (!are_given(random, random_bytes))
+        return LUKS_USAGE;
+    struct asked it = {.kind = REBUILD2, .fields = NO_FIELDS, .uuid = uuid, .source = &source, .random = random, .random_bytes = random_bytes};
+    uint32_t answer = begin_both(&source, source_fd, source_offset, source_length, &held, fd, offset, length);
+    if (answer == LUKS_DONE)
+        answer = carry_out_by_chance(&held, &it, 144, NULL);
+    if (leads_to_luks1(&source, answer)) {
+        it.kind = REBUILD1;
+        uint32_t instead = carry_out(&held, &it, NULL);
+        answer = instead == NO_HEADER ? answer : instead;
+    }
+    end_both(&source, &held);
+    return answer;
 }

@@ -1,4 +1,4 @@
-/* libluks: what is wrong with the header of a LUKS volume, what opens it, and edits of its keyslots.
+/* libluks: what is wrong with the header of a LUKS volume, what opens it, edits of its keyslots, and headers that are made.
  *
  * Link with -lluks. Two families of calls answer the same:
  *
@@ -45,6 +45,9 @@ enum {
 /* In the place of a keyslot: none, or any. */
 #define LUKS_NO_SLOT UINT32_MAX
 
+/* In the place of a number: none is given. */
+#define LUKS_NO_NUMBER UINT32_MAX
+
 /* What a volume is that is accepted; zeros else, but `beyond`. */
 struct luks_report {
     uint32_t version; /* 1 or 2 */
@@ -82,10 +85,24 @@ struct luks_call {
 
 /* A plan; only of the calls named _bytes. */
 struct luks_plan {
-    uint64_t calls;  /* how many calls it has, also with LUKS_ROOM */
-    uint64_t bytes;  /* how many bytes they write together */
+    uint64_t calls;         /* how many calls it has, also with LUKS_ROOM */
+    uint64_t bytes;         /* how many bytes they write together */
+    uint64_t beyond;        /* with LUKS_BEYOND: how many of the first bytes have to be given; 0 where the source's are */
+    uint64_t source_beyond; /* of a call with a source: the same of the source; 0 where the target's are */
+    uint32_t slot;          /* of an edit the keyslot that is made or sealed again, LUKS_NO_SLOT where none is */
+};
+
+/* What is given of a LUKS1 header that is made of what stands: texts that end with a 0, NULL where none is given. */
+struct luks_fields {
+    const char *cipher_name, *cipher_mode, *hash; /* as aes, xts-plain64, sha256 */
+    uint32_t key_bytes;                           /* of the volume key, 1 to 128, LUKS_NO_NUMBER where it isn't given */
+    uint32_t payload;                             /* the sector where the data begins, LUKS_NO_NUMBER where it isn't given */
+};
+
+/* What else a disk is used for; only of the call named _bytes. */
+struct luks_signature {
+    uint32_t shows;  /* the use, whose name luks_signature_name has; 0 where none is shown */
     uint64_t beyond; /* with LUKS_BEYOND: how many of the first bytes have to be given */
-    uint32_t slot;   /* the keyslot that is made or sealed again, LUKS_NO_SLOT where none is */
 };
 
 /* How many random bytes an edit takes; only of the call named _bytes. */
@@ -121,13 +138,18 @@ uint32_t luks_unlock(int fd, uint64_t offset, uint64_t length, const void *passp
 uint32_t luks_open(int fd, uint64_t offset, uint64_t length, uint8_t n, const void *passphrase, size_t passphrase_bytes, uint32_t memory,
                    void *key, size_t key_room, struct luks_opened *opened);
 
+/* What the signatures among the first `within` bytes show that the disk is used for: 0, or a number whose name
+ * luks_signature_name has: a partition table, a file system, swap and so on, as libblkid knows them. LUKS is none. */
+uint32_t luks_signature(int fd, uint64_t offset, uint64_t length, uint64_t within, uint32_t *shows);
+
 /* ---- through a descriptor that is open for reading and writing ----
  *
  * What was written before is asked to stay first, by fsync, and then all of the volume that is needed is
  * read. Where a fault refuses the call, nothing is written. `is_detached`: the volume is a header alone, and
  * its data lies elsewhere. `random` are bytes that nobody can guess, as many as luks_needed tells, or NULL:
- * then they are taken by getrandom. No call asks what else the disk is used for: where luks_check tells that
- * only the second copy is sound, something else may stand in the place of the first by now. */
+ * then they are taken by getrandom. No call asks what else the disk is used for: before luks_format1 and so on ask
+ * luks_signature of the whole, and before an edit of a volume of which luks_check tells that only the second copy is
+ * sound of the first 16384 bytes, where something else may stand by now. */
 
 /* How many random bytes the edit takes; or its first fault, of those that are seen without opening a keyslot.
  * `text` is the new passphrase, or the label. It writes nothing. */
@@ -164,6 +186,31 @@ uint32_t luks_format1(int fd, uint64_t offset, uint64_t length, bool is_detached
 uint32_t luks_format2(int fd, uint64_t offset, uint64_t length, bool is_detached, uint32_t hash, uint32_t iterations, const void *passphrase,
                       size_t passphrase_bytes, const void *random, size_t random_bytes);
 
+/* ---- a separate header, made of a source ----
+ *
+ * The source is only read, and its descriptor is the first; the other one is the target's, open for reading and writing,
+ * another file. From the target's byte 0 on a header is written for the source's data, over whatever stands there. The
+ * target has to be long enough: 16 MiB hold any of convert. Where a fault refuses the call, nothing is written. */
+
+/* A LUKS2 header of a LUKS1 volume, by which each enabled keyslot opens as before. `is_detached`: the source's data lies
+ * elsewhere. It takes 128 random bytes. */
+uint32_t luks_convert(int source_fd, uint64_t source_offset, uint64_t source_length, bool is_detached, int fd, uint64_t offset, uint64_t length,
+                      const void *random, size_t random_bytes);
+
+/* A LUKS2 header of metadata that a checksum vouches for or that is still whole, where no header counts: with `is_second`
+ * of a second copy's, with a `size` that isn't 0 of a copy of so many bytes, and with either though a header counts.
+ * `uuid` is a text or NULL. It takes 144 random bytes. */
+uint32_t luks_rebuild2(int source_fd, uint64_t source_offset, uint64_t source_length, bool is_second, uint64_t size, const char *uuid, int fd,
+                       uint64_t offset, uint64_t length, const void *random, size_t random_bytes);
+
+/* A LUKS1 header of what still stands of one, and of what is given: `fields` and `uuid` may be NULL. */
+uint32_t luks_rebuild1(int source_fd, uint64_t source_offset, uint64_t source_length, const struct luks_fields *fields, const char *uuid, int fd,
+                       uint64_t offset, uint64_t length);
+
+/* As `luks rebuild` without options: the first of the two, of any copy, or where that leads there the second. */
+uint32_t luks_rebuild(int source_fd, uint64_t source_offset, uint64_t source_length, const char *uuid, int fd, uint64_t offset, uint64_t length,
+                      const void *random, size_t random_bytes);
+
 /* ---- over the first bytes of a volume of `total` bytes ----
  *
  * Pointers are valid for their lengths, and no two that are written to overlap, nor one of these and
@@ -182,6 +229,8 @@ uint32_t luks_open_bytes(const uint8_t *first, size_t first_bytes, uint64_t tota
 uint32_t luks_needed_bytes(const uint8_t *first, size_t first_bytes, uint64_t total, bool is_detached, const struct luks_edit *edit,
                            const uint8_t *passphrase, size_t passphrase_bytes, const uint8_t *text, size_t text_bytes, struct luks_needed *needed);
 
+uint32_t luks_signature_bytes(const uint8_t *first, size_t first_bytes, uint64_t total, uint64_t within, struct luks_signature *signature);
+
 /* The plans: all calls and bytes, or LUKS_ROOM and how many there are. Played over the volume they leave what the
  * call leaves; a flush comes behind each write, and nothing behind the given bytes is written. */
 uint32_t luks_apply_bytes(const uint8_t *first, size_t first_bytes, uint64_t total, bool is_detached, const struct luks_edit *edit,
@@ -196,6 +245,23 @@ uint32_t luks_format2_bytes(const uint8_t *first, size_t first_bytes, uint64_t t
                             const uint8_t *passphrase, size_t passphrase_bytes, const uint8_t *random, size_t random_bytes,
                             struct luks_call *calls, size_t calls_room, uint8_t *bytes, size_t bytes_room, struct luks_plan *plan);
 
+/* Those with a source: of a text that has no byte none is given. A uuid or another text that isn't UTF-8, and one that is
+ * longer than its field of a LUKS1 header (32 bytes, of the uuid 40), is LUKS_USAGE. */
+uint32_t luks_convert_bytes(const uint8_t *source, size_t source_bytes, uint64_t source_total, bool is_detached, const uint8_t *first,
+                            size_t first_bytes, uint64_t total, const uint8_t *random, size_t random_bytes, struct luks_call *calls,
+                            size_t calls_room, uint8_t *bytes, size_t bytes_room, struct luks_plan *plan);
+
+uint32_t luks_rebuild2_bytes(const uint8_t *source, size_t source_bytes, uint64_t source_total, bool is_second, uint64_t size,
+                             const uint8_t *uuid, size_t uuid_bytes, const uint8_t *first, size_t first_bytes, uint64_t total,
+                             const uint8_t *random, size_t random_bytes, struct luks_call *calls, size_t calls_room, uint8_t *bytes,
+                             size_t bytes_room, struct luks_plan *plan);
+
+uint32_t luks_rebuild1_bytes(const uint8_t *source, size_t source_bytes, uint64_t source_total, const uint8_t *cipher_name,
+                             size_t cipher_name_bytes, const uint8_t *cipher_mode, size_t cipher_mode_bytes, const uint8_t *hash,
+                             size_t hash_bytes, const uint8_t *uuid, size_t uuid_bytes, uint32_t key_bytes, uint32_t payload,
+                             const uint8_t *first, size_t first_bytes, uint64_t total, struct luks_call *calls, size_t calls_room,
+                             uint8_t *bytes, size_t bytes_room, struct luks_plan *plan);
+
 /* ---- what a number says ----
  *
  * Both put as much into the buffer as fits, without a 0 behind it, and answer how many bytes there are:
@@ -207,6 +273,9 @@ size_t luks_fault_name(uint32_t number, uint8_t *buffer, size_t room);
 /* By `part` 1 what it means, 2 where it can stand, 3 what is still safe, 4 what to try next. Of the
  * last three a number that is no fault's has none. */
 size_t luks_fault_text(uint32_t number, uint32_t part, uint8_t *buffer, size_t room);
+
+/* The name of what luks_signature shows. */
+size_t luks_signature_name(uint32_t shows, uint8_t *buffer, size_t room);
 
 #ifdef __cplusplus
 }

@@ -33,7 +33,7 @@ whole_name() {
 
 # Every file that there is to install, by its place under PREFIX.
 files() {
-    (cd "$from" && find bin share -type f) | sed "s|^share/zsh/site-functions/|share/zsh/$zsh/|" | sort
+    (cd "$from" && find bin include lib share -type f) | sed "s|^share/zsh/site-functions/|share/zsh/$zsh/|" | sort
 }
 
 # The folders of these places that aren't there yet, each with a last slash.
@@ -49,7 +49,7 @@ missing_folders() {
 
 # What INSTALLED lists, of places that this script can have made.
 listed() {
-    grep -E '^(bin|share)/[A-Za-z0-9._/-]*$' "$prefix/$list" 2>/dev/null | grep -v -F .. || :
+    grep -E '^(bin|include|lib|share)/[A-Za-z0-9._/-]*$' "$prefix/$list" 2>/dev/null | grep -v -F .. || :
 }
 
 is_listed() {

@@ -12,6 +12,9 @@
     ...     volume.remove(0, b"another", by=1)
     1
 
+    >>> with luks.Volume("old.img") as source, luks.Volume("header.img", writes=True) as target:
+    ...     source.convert(target)
+
 A volume that isn't accepted, and an edit that is refused, raise `Fault`, which says what it means and what to try next; then nothing
 was written. A volume that is opened by its name is locked as `luks` locks it, so that an edit by that program waits, or is refused.
 
@@ -31,9 +34,9 @@ from typing import Any
 
 __all__ = ["Fault", "Report", "Volume", "explain"]
 
-DONE, MEMORY, DEVICE, SHUT, ROOM = 0, 103, 104, 105, 106
+DONE, OTHER_USE, MEMORY, DEVICE, SHUT, ROOM = 0, 49, 103, 104, 105, 106
 TO_END = 2**64 - 1
-NO_SLOT = 2**32 - 1
+NO_SLOT = NO_NUMBER = 2**32 - 1
 ADD, CHANGE, REMOVE, REPAIR, LABEL = range(1, 6)
 HASHES = (None, "sha1", "sha256", "sha512")
 LOCKS = "/run/cryptsetup"
@@ -53,6 +56,10 @@ class _Edit(ctypes.Structure):
     _fields_ = [(name, ctypes.c_uint32) for name in ("kind", "slot", "by", "to", "iterations", "memory")]
 
 
+class _Fields(ctypes.Structure):
+    _fields_ = [*((name, ctypes.c_char_p) for name in ("cipher_name", "cipher_mode", "hash")), ("key_bytes", ctypes.c_uint32), ("payload", ctypes.c_uint32)]
+
+
 def _loaded() -> ctypes.CDLL:
     library = ctypes.CDLL(os.environ.get("LIBLUKS", "libluks.so.0"), use_errno=True)
     window = [ctypes.c_int, ctypes.c_uint64, ctypes.c_uint64]
@@ -68,6 +75,12 @@ def _loaded() -> ctypes.CDLL:
         ("luks_apply", [*edited, *given, ctypes.POINTER(ctypes.c_uint32)], ctypes.c_uint32),
         ("luks_format1", made, ctypes.c_uint32),
         ("luks_format2", made, ctypes.c_uint32),
+        ("luks_convert", [*window, ctypes.c_bool, *window, *given], ctypes.c_uint32),
+        ("luks_rebuild", [*window, ctypes.c_char_p, *window, *given], ctypes.c_uint32),
+        ("luks_rebuild1", [*window, ctypes.POINTER(_Fields), ctypes.c_char_p, *window], ctypes.c_uint32),
+        ("luks_rebuild2", [*window, ctypes.c_bool, ctypes.c_uint64, ctypes.c_char_p, *window, *given], ctypes.c_uint32),
+        ("luks_signature", [*window, ctypes.c_uint64, ctypes.POINTER(ctypes.c_uint32)], ctypes.c_uint32),
+        ("luks_signature_name", [ctypes.c_uint32, ctypes.c_void_p, ctypes.c_size_t], ctypes.c_size_t),
         ("luks_fault_name", [ctypes.c_uint32, ctypes.c_void_p, ctypes.c_size_t], ctypes.c_size_t),
         ("luks_fault_text", [ctypes.c_uint32, ctypes.c_uint32, ctypes.c_void_p, ctypes.c_size_t], ctypes.c_size_t),
     ):
@@ -111,14 +124,15 @@ class Fault(Exception):
     """Why a call wasn't done.
 
     `number` is that of luks.h, `name` the fault as `luks` prints it, without brackets. `meaning` says what it means, `place` where it
-    can stand, `safe` what is still safe, and `next` what to try next; the last three may be empty.
+    can stand, `safe` what is still safe, and `next` what to try next; the last three may be empty. `use` is of OtherUse alone: what the
+    disk is used for.
     """
 
-    def __init__(self, number: int) -> None:
-        self.number = number
+    def __init__(self, number: int, use: str | None = None) -> None:
+        self.number, self.use = number, use
         self.name = _text(_LIBRARY.luks_fault_name, number)
         self.meaning, self.place, self.safe, self.next = (_text(_LIBRARY.luks_fault_text, number, part) for part in (1, 2, 3, 4))
-        super().__init__(f"{self.name}: {self.meaning}")
+        super().__init__(f"{self.name}{f'({use})' if use else ''}: {self.meaning}")
 
 
 def explain(number: int) -> Fault:
@@ -146,14 +160,17 @@ class Volume:
     It is given by its name, and is then opened and locked until `close`, for reading, or where it `writes` for both; or as a descriptor
     that the caller opened and locks. A name whose volume another program edits, or uses where it `writes`, raises BlockingIOError.
     `is_detached` says that it is a header alone, and its data lies on another device.
+
+    Where only the second copy of a LUKS2 header is sound, and something else stands in the place of the first by now, an edit is refused
+    by OtherUse, unless it may write `over` that.
     """
 
     def __init__(self, volume: str | os.PathLike[str] | int, offset: int = 0, length: int | None = None, *, writes: bool = False,
-                 is_detached: bool = False) -> None:
+                 is_detached: bool = False, over: bool = False) -> None:
         if not 0 <= offset <= TO_END or length is not None and not 0 <= length <= TO_END:
             raise ValueError("offset and length are numbers of bytes")
         self._window = (offset, TO_END if length is None else length)
-        self._is_detached = is_detached
+        self._is_detached, self._over = is_detached, over
         self._is_own = not isinstance(volume, int)
         self._held: list[int] = []
         self._fd = -1
@@ -267,16 +284,78 @@ class Volume:
         """LUKS2: sets the label, at most 47 bytes that can be printed."""
         self._edited(_Edit(kind=LABEL), b"", text.encode(), 0)
 
-    def format(self, version: int, passphrase: bytes, hash: str = "sha256", iterations: int = 100000) -> None:
-        """Makes a volume of LUKS1 or LUKS2 whose keyslot 0 opens by the passphrase. What stood there before is written over without question."""
+    def format(self, version: int, passphrase: bytes, hash: str = "sha256", iterations: int = 100000, force: bool = False) -> None:
+        """Makes a volume of LUKS1 or LUKS2 whose keyslot 0 opens by the passphrase. An older LUKS volume there is written over without question.
+
+        Where `signature` shows another use of the disk it is refused by OtherUse, unless it is to `force` that.
+        """
         if version not in (1, 2) or hash not in HASHES[1:]:
             raise ValueError("a version is 1 or 2, a hash sha1, sha256 or sha512")
+        if not force:
+            self._refuse_use(self.signature())
         call = _LIBRARY.luks_format1 if version == 1 else _LIBRARY.luks_format2
         self._done(call(self._fd, *self._window, self._is_detached, HASHES.index(hash), _iterations(iterations), bytes(passphrase), len(passphrase),
                         None, 0))
 
+    def signature(self, within: int | None = None) -> str | None:
+        """What else the disk is used for, by the signatures among its first `within` bytes or all: GPT, MBR, ext, swap and so on, or None.
+
+        LUKS itself isn't looked for: `check` is.
+        """
+        shows, room = ctypes.c_uint32(0), ctypes.create_string_buffer(32)
+        self._done(_LIBRARY.luks_signature(self._fd, *self._window, TO_END if within is None else within, ctypes.byref(shows)))
+        count = _LIBRARY.luks_signature_name(shows.value, room, len(room))
+        return room.raw[:count].decode("ascii") if count else None
+
+    def convert(self, target: Volume) -> None:
+        """Writes to the start of the target a LUKS2 header of this LUKS1 volume, by which each enabled keyslot opens as before.
+
+        The target is another file, of 16 MiB or more; what stands there is written over without question. This volume is only read. Where
+        it `is_detached`, its data lies elsewhere.
+        """
+        self._done(_LIBRARY.luks_convert(self._fd, *self._window, self._is_detached, target._fd, *target._window, None, 0))
+
+    def rebuild(self, target: Volume, uuid: str | None = None, *, second: bool = False, size: int = 0, cipher: str | None = None,
+                hash: str | None = None, key_bytes: int | None = None, payload: int | None = None) -> None:
+        """Writes to the start of the target a header of what is still whole in this volume, which is only read.
+
+        Of LUKS2 that is metadata that a checksum vouches for, or else the first that is whole, where no header counts; of the `second` copy,
+        or of a copy of `size` bytes, also where one does. Of LUKS1 these are the fields and keyslots that still stand; `cipher` (as
+        aes-xts-plain64), `hash`, `key_bytes` and `payload` (the sector where the data begins) say that LUKS1 is meant, and win over what
+        stands, as `uuid` does. Without these options LUKS2 comes first. What stands on the target is written over without question.
+        """
+        fields = (cipher, hash, key_bytes, payload)
+        if (second or size) and fields != (None,) * 4:
+            raise ValueError("second and size are of LUKS2, cipher, hash, key_bytes and payload of LUKS1")
+        to, text = (target._fd, *target._window), None if uuid is None else uuid.encode()
+        if second or size:
+            answer = _LIBRARY.luks_rebuild2(self._fd, *self._window, second, size, text, *to, None, 0)
+        elif fields != (None,) * 4:
+            name, _, mode = (cipher or "").partition("-")
+            given = _Fields(name.encode() or None, mode.encode() or None, None if hash is None else hash.encode(),
+                            NO_NUMBER if key_bytes is None else key_bytes, NO_NUMBER if payload is None else payload)
+            answer = _LIBRARY.luks_rebuild1(self._fd, *self._window, ctypes.byref(given), text, *to)
+        else:
+            answer = _LIBRARY.luks_rebuild(self._fd, *self._window, text, *to, None, 0)
+        self._done(answer)
+
+    def _refuse_use(self, use: str | None) -> None:
+        if use is not None:
+            raise Fault(OTHER_USE, use)
+
+    def _refuse_other_use(self) -> None:
+        """Refuses to write over what stands in the place of a first copy that isn't sound."""
+        try:
+            shown = self.show()
+        except Fault:
+            return
+        if shown.get("copies") == "second-only" and os.pread(self._fd, 6, self._window[0]) != b"LUKS\xba\xbe":
+            self._refuse_use(self.signature(shown["sizes"]["header"]))
+
     def _edited(self, edit: _Edit, passphrase: bytes, text: bytes, memory: int) -> int | None:
         edit.memory = _kib(memory)
+        if not self._over:
+            self._refuse_other_use()
         slot = ctypes.c_uint32(NO_SLOT)
         self._done(_LIBRARY.luks_apply(self._fd, *self._window, self._is_detached, ctypes.byref(edit), bytes(passphrase), len(passphrase),
                                        bytes(text), len(text), None, 0, ctypes.byref(slot)))

@@ -1,4 +1,4 @@
-pub mod BufferFacts
-pub mod NumberFacts
+pub mod HeaderFacts
 pub mod OpenFacts
 pub mod PlanFacts
+pub mod TextFacts

@@ -16,45 +16,14 @@ use Rattle.luks_planned.specs.Plan.{IsFlushed}
 use Rattle.luks_reading.specs.declared.report.Data.{Data}
 use Rattle.luks_volume.specs.Edits.{Refusal, Replies}
 use Rattle.luks_volume.specs.Outcome.{IsApplied}
-use Rattle.luks_c.specs.declared.plans.LuksPlan.{LuksPlan}
+use Rattle.luks_c_answers.specs.declared.plans.LuksPlan.{LuksPlan}
 use Rattle.luks_c.specs.EditAnswers.{AnswersEdit, IsEdited}
 use Rattle.luks_c.specs.EditAsked.{IsMaybeSlot}
 use Rattle.luks_c.specs.FormatAnswers.{AnswersFormat}
-use Rattle.luks_c.specs.Numbers.{edit_number}
-use Rattle.luks_c.proofs.NumberFacts.{edit_number_memory, edit_number_range}
-use Rattle.luks_c.specs.Plans.{Buffers, IsPlan, IsPlanGiven, IsPlanned}
-
--- the volume that a call left is what its plan leaves
-pub planned_of : (such : List ℕ → Type 0) (first left : List ℕ) (total : ℕ) (calls : List PlannedCall) (bytes : List ℕ) (old new : Buffers) (told : LuksPlan) (number : ℕ)
-    → such (volume left total) → IsPlan first left calls bytes → IsFlushed calls → told.calls ≡ length calls → told.bytes ≡ length bytes
-    → IsPlanGiven calls bytes old new number → IsPlanned first total such old new told number
-planned_of such first left total calls bytes old new told number so plan flushed calls_are bytes_are given = record {
-  calls = calls;
-  bytes = bytes;
-  leaves = record {
-    leaves = subst (λ l. such (volume l total)) (sym plan.plays) so;
-    inside = plan.inside;
-    counted = plan.counted;
-    flushed = flushed;
-  };
-  calls_count = calls_are;
-  bytes_count = bytes_are;
-  given = given;
-}
-
--- a plan is given, or there is no room
-pub given_or_room : (calls : List PlannedCall) (bytes : List ℕ) (old new : Buffers) (number : ℕ) → IsPlanGiven calls bytes old new number → (number ≡ 0) ⊎ (number ≡ 106)
-given_or_room calls bytes old new number given = elim given [
-  | inl done ↦ inl done.0
-  | inr room ↦ inr room.0
-]
-
--- where it isn't given, the buffers are as they were
-pub room_keeps : (calls : List PlannedCall) (bytes : List ℕ) (old new : Buffers) (number : ℕ) → IsPlanGiven calls bytes old new number → number ≢ 0 → new ≡ old
-room_keeps calls bytes old new number given other = elim given [
-  | inl done ↦ absurd (other done.0)
-  | inr room ↦ room.1
-]
+use Rattle.luks_c_answers.specs.Numbers.{edit_number}
+use Rattle.luks_c_answers.specs.NumberFacts.{edit_number_memory, edit_number_range}
+use Rattle.luks_c_answers.specs.PlanFacts.{given_or_room, planned_of, room_keeps}
+use Rattle.luks_c_answers.specs.Plans.{Buffers, IsPlan, IsPlanGiven, IsPlanned}
 
 -- a reply that is neither want of memory nor the device's failure is a refusal
 pub refusal_of : (payload : Data) (v : List ℕ) (e : Edit) (random : List ℕ) (f : EditFault) (w : List ℕ) → f ≢ edit.Memory → is_edit_failure f ≡ false
@@ -120,16 +89,3 @@ edit_unplanned first total payload e random old told number is = record {
   refused = λ zero six beyond memory. absurd (elim is [ inl b ↦ beyond b | inr m ↦ memory m ]);
   kept = λ other. refl;
 }
-
--- a format that was done is answered with its plan
-pub format_planned : (first left : List ℕ) (total : ℕ) (faults : FormatFault → Type 0) (such : List ℕ → Type 0) (calls : List PlannedCall) (bytes : List ℕ) (old new : Buffers)
-    (told : LuksPlan) (number : ℕ) → HasNoFault faults → such (volume left total) → IsPlan first left calls bytes → IsFlushed calls
-    → told.calls ≡ length calls → told.bytes ≡ length bytes → IsPlanGiven calls bytes old new number → AnswersFormat first total faults such old new told number
-format_planned first left total faults such calls bytes old new told number none so plan flushed calls_are bytes_are given =
-    let planned : IsPlanned first total such old new told number = planned_of such first left total calls bytes old new told number so plan flushed calls_are bytes_are given in
-    record {
-      planned = λ zero. (none, planned);
-      room = λ six. (none, planned);
-      refused = λ zero six beyond memory. absurd (elim (given_or_room calls bytes old new number given) [ inl is ↦ zero is | inr is ↦ six is ]);
-      kept = λ other. room_keeps calls bytes old new number given other;
-    }

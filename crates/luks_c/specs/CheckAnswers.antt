@@ -11,7 +11,7 @@ use Rattle.luks_reading.specs.Checked.{AreaOf, IsCheckRefusal, WellFormed}
 use Rattle.luks_reading.specs.Listing.{Lists}
 use Rattle.luks_reading.specs.Reported.{IsVersion}
 use Rattle.luks_c.specs.declared.checking.LuksReport.{LuksReport}
-use Rattle.luks_c.specs.Numbers.{check_number}
+use Rattle.luks_c_answers.specs.Numbers.{check_number}
 
 -- a version by its number
 abbrev pub version_number : Version → ℕ

@@ -13,9 +13,9 @@ use Rattle.luks_formatting.specs.Formatted1.{IsFormatted1}
 use Rattle.luks_formatting.specs.Formatted2.{IsFormatted2}
 use Rattle.luks_formatting.specs.RandomBytes.{volume_key}
 use Rattle.luks_given.specs.Volume.{volume}
-use Rattle.luks_c.specs.declared.plans.LuksPlan.{LuksPlan}
-use Rattle.luks_c.specs.Numbers.{format_number}
-use Rattle.luks_c.specs.Plans.{Buffers, IsPlanned}
+use Rattle.luks_c_answers.specs.declared.plans.LuksPlan.{LuksPlan}
+use Rattle.luks_c_answers.specs.Numbers.{format_number}
+use Rattle.luks_c_answers.specs.Plans.{AnswersPlan, Buffers}
 
 -- a hash by its number
 abbrev pub hash_number : HashName → ℕ
@@ -45,13 +45,9 @@ pub record IsFirstOf (faults : FormatFault → Type 0) (number : ℕ) : Type 0 w
   pub least : IsLeast format_key faults fault
   pub is : number ≡ format_number fault
 
--- 0 and 106 say that it is planned, and none of the faults stands; 102 that more bytes have to be given, 103 that memory
--- was refused, any other number which fault is the first; but for 0 the buffers are as they were
-pub record AnswersFormat (first : List ℕ) (total : ℕ) (faults : FormatFault → Type 0) (such : List ℕ → Type 0) (old new : Buffers) (told : LuksPlan) (number : ℕ) : Type 0 where
-  pub planned : number ≡ 0 → HasNoFault faults × IsPlanned first total such old new told number
-  pub room : number ≡ 106 → HasNoFault faults × IsPlanned first total such old new told number
-  pub refused : number ≢ 0 → number ≢ 106 → number ≢ 102 → number ≢ 103 → IsFirstOf faults number
-  pub kept : number ≢ 0 → new ≡ old
+-- as of each call that writes by a plan: none of the faults stands, or this is the first
+abbrev pub AnswersFormat : List ℕ → ℕ → (FormatFault → Type 0) → (List ℕ → Type 0) → Buffers → Buffers → LuksPlan → ℕ → Type 0
+AnswersFormat first total faults = AnswersPlan first total (HasNoFault faults) (IsFirstOf faults)
 
 -- of a LUKS1 volume
 abbrev pub AnswersFormat1 : List ℕ → ℕ → Data → Format → List ℕ → List ℕ → Buffers → Buffers → LuksPlan → ℕ → Type 0

@@ -1,10 +1,10 @@
 pub mod Asked
-pub mod Buffers
 pub mod CheckAnswers
+pub mod ConvertAnswers
 pub mod EditAnswers
 pub mod EditAsked
 pub mod FormatAnswers
-pub mod Numbers
 pub mod OpenAnswers
-pub mod Plans
 pub mod ReadAnswers
+pub mod RebuildAnswers
+pub mod SignatureAnswers

@@ -4,8 +4,8 @@ use Rattle.luks_reading.specs.declared.open_fault.OpenFault.{OpenFault}
 use Rattle.luks_reading.specs.Answer.{AnswerWithin, IsRefusedByWithin, no_key, opens}
 use Rattle.luks_reading.specs.Unlocking.{IsVolumeRefusedBy, Unlocks}
 use Rattle.luks_c.specs.declared.opening.LuksOpened.{LuksOpened}
-use Rattle.luks_c.specs.Buffers.{filled}
-use Rattle.luks_c.specs.Numbers.{open_number}
+use Rattle.luks_c_answers.specs.Buffers.{filled}
+use Rattle.luks_c_answers.specs.Numbers.{open_number}
 
 -- the key stands in the front of the buffer, as far as it fits: all of it, or none where the buffer is
 -- empty; or the buffer has some bytes and too few, and is as it was

@@ -13,8 +13,8 @@ use Rattle.luks_show.specs.declared.listing.Listing.{Listing}
 use Rattle.luks_show.specs.declared.listing.Listing.TheVariants.{Luks1, Luks2}
 use Rattle.luks_show.specs.JsonText.{IsJsonText}
 use Rattle.luks_c.specs.declared.reading.LuksRead.{LuksRead}
-use Rattle.luks_c.specs.Buffers.{filled}
-use Rattle.luks_c.specs.Numbers.{read_number}
+use Rattle.luks_c_answers.specs.Buffers.{filled}
+use Rattle.luks_c_answers.specs.Numbers.{read_number}
 
 -- what the header says that counts of the volume `v`
 abbrev pub IsListing : List ℕ → Listing → Type 0

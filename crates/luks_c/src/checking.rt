@@ -4,7 +4,7 @@ ghost use Rattle.luks_given.specs.Volume.{volume};
 ghost use Rattle.luks_c.specs.Asked.{payload_of};
 ghost use Rattle.luks_c.specs.CheckAnswers.{AnswersCheck, copies_number, number_of_copies, seqid_of, version_number};
 
-use crate::numbers::{BEYOND, DONE, USAGE, check_number};
+use luks_c_answers::{BEYOND, DONE, USAGE, check_number};
 use luks_given::{FirstBytes, Given};
 use luks_reading::{CheckFault, Copies, Data, Report, Version, check};
 use std::alloc::Global;

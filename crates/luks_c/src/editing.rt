@@ -10,8 +10,7 @@ ghost use Rattle.luks_c.specs.EditAsked.{IsMaybeSlot, IsUnasked};
 
 use crate::asking::{LuksEdit, NO_SLOT, edit_of};
 use crate::checking::data_of;
-use crate::numbers::{MEMORY, USAGE, edit_number};
-use crate::plans::{LuksPlan, give_plan, planned_writes, tell_reach};
+use luks_c_answers::{LuksPlan, MEMORY, USAGE, edit_number, give_plan, planned_writes, tell_reach};
 use luks_given::Given;
 use luks_planned::{PlannedCall, PlannedWrites};
 use luks_volume::{Data, Done, Edit, EditFault, apply};

@@ -3,13 +3,14 @@
 #![tactic(auto)]
 
 mod asking;
-mod buffers;
 mod checking;
+mod converting;
 mod editing;
 mod formatting;
 mod needing;
-mod numbers;
 mod opening;
-mod plans;
 mod reading;
+mod rebuilding;
+mod rebuilding1;
+mod signature;
 mod texts;

@@ -7,7 +7,7 @@ ghost use Rattle.luks_c.specs.EditAsked.{IsUnasked};
 
 use crate::asking::{LuksEdit, edit_of};
 use crate::checking::data_of;
-use crate::numbers::{BEYOND, DONE, USAGE, edit_number};
+use luks_c_answers::{BEYOND, DONE, USAGE, edit_number};
 use luks_given::{FirstBytes, Given};
 use luks_volume::{Data, Edit, EditFault, needed};
 use std::alloc::Global;

@@ -3,8 +3,7 @@ ghost use Rattle.std.specs.Prelude.{◌≡◌, ◌≤◌, ◌<◌, ◌^◌, leng
 ghost use Rattle.luks_given.specs.Volume.{volume};
 ghost use Rattle.luks_c.specs.OpenAnswers.{AnswersOpen, AnswersUnlock, IsGiven};
 
-use crate::buffers::fill_front;
-use crate::numbers::{BEYOND, DONE, ROOM, SHUT, USAGE, open_number};
+use luks_c_answers::{BEYOND, DONE, ROOM, SHUT, USAGE, fill_front, open_number};
 use luks_given::{FirstBytes, Given};
 use luks_reading::{Key, OpenFault, open_slot, unlock};
 use std::alloc::Global;

@@ -4,8 +4,7 @@ ghost use Rattle.luks_given.specs.Volume.{volume};
 ghost use Rattle.luks_reading.specs.Header.{IsHeader};
 ghost use Rattle.luks_c.specs.ReadAnswers.{AnswersRead, IsJsonGiven};
 
-use crate::buffers::fill_front;
-use crate::numbers::{BEYOND, DONE, MEMORY, ROOM, USAGE, read_number};
+use luks_c_answers::{BEYOND, DONE, MEMORY, ROOM, USAGE, fill_front, read_number};
 use luks_given::{FirstBytes, Given};
 use luks_reading::{Header, Luks1, ReadFault, read_header};
 use luks_show::{Listing, json_text};

@@ -5,14 +5,14 @@ use Rattle.luks_given.specs.Volume.{volume}
 use Rattle.luks_planned.specs.Planned.{planned_calls, planned_first, planned_written}
 use Rattle.luks_reading.specs.Answer.{Answer, opens}
 use Rattle.luks_reading.specs.Checked.{WellFormed}
-use Rattle.luks_c.specs.Plans.{IsPlan}
-use Rattle.luks_c.proofs.PlanFacts.{format_planned}
+use Rattle.luks_c_answers.specs.Plans.{IsPlan}
+use Rattle.luks_c_answers.specs.PlanFacts.{plan_answered}
 use Rattle.luks_c.proofs.formatting.give_made1.Goals as goal
 
 pub returns-clause-answers : goal.returns-clause-answers
 returns-clause-answers g c =
     let device = c.args.device.now in
-    format_planned c.args.first.now (planned_first device) c.args.total _ _ (planned_calls device) (planned_written device) _ _ _ _
+    plan_answered c.args.first.now (planned_first device) c.args.total _ _ _ (planned_calls device) (planned_written device) _ _ _ _
     c.requires.faultless
     (record {
       is = subst (λ (n : ℕ). IsFormatted1 c.args.data_ c.args.format.now c.args.passphrase.now c.args.random.now (volume c.args.first.now c.args.total) (volume (planned_first device) n)) c.requires.size c.requires.made;

@@ -22,8 +22,17 @@ use Rattle.luks_edit.specs.declared.edit_fault.EditFault.TheVariants as edit
 use Rattle.luks_formatting.specs.FormatFaults.{is_device_fault}
 use Rattle.luks_formatting.specs.declared.format_fault.FormatFault.{FormatFault}
 use Rattle.luks_formatting.specs.declared.format_fault.FormatFault.TheVariants as format
+use Rattle.luks_converting.specs.ConvertFaults.{is_convert_failure}
+use Rattle.luks_converting.specs.declared.convert_fault.ConvertFault.{ConvertFault}
+use Rattle.luks_converting.specs.declared.convert_fault.ConvertFault.TheVariants as convert
+use Rattle.luks_rebuilding.specs.RebuildFaults.{is_rebuild_failure}
+use Rattle.luks_rebuilding.specs.declared.rebuild_fault.RebuildFault.{RebuildFault}
+use Rattle.luks_rebuilding.specs.declared.rebuild_fault.RebuildFault.TheVariants as rebuild
+use Rattle.luks1_rebuilding.specs.RebuildFaults.{is_rebuild_failure as is_rebuild1_failure}
+use Rattle.luks1_rebuilding.specs.declared.rebuild_fault.Rebuild1Fault.{Rebuild1Fault}
+use Rattle.luks1_rebuilding.specs.declared.rebuild_fault.Rebuild1Fault.TheVariants as rebuild1
 use Rattle.luks_reading.specs.FaultTexts.{check_fault_text}
-use Rattle.luks_c.specs.Numbers.{check_number, edit_number, fault_number, format_number, number_printed, open_number, read_number}
+use Rattle.luks_c_answers.specs.Numbers.{check_number, convert_number, edit_number, fault_number, format_number, number_printed, open_number, read_number, rebuild1_number, rebuild_number}
 
 -- that of a fault is 1 to 51
 fault_number_range : (f : Fault) → (1 ≤ fault_number f) × (fault_number f ≤ 51)
@@ -128,3 +137,51 @@ format_number_usage f = λ e. absurd (omega (arith, e))
 pub format_number_other : (f : FormatFault) → is_device_fault f ≡ false → format_number f ≢ 102
 format_number_other format.Device own = absurd (true≢false own)
 format_number_other f own = λ e. absurd (omega (arith, e))
+
+-- what refuses a conversion has a number of 1 to 103
+pub convert_number_range : (f : ConvertFault) → (1 ≤ convert_number f) × (convert_number f ≤ 103)
+convert_number_range (convert.NotAccepted f) = let r = number_printed_range (check_fault_text f) in (r.0, let high = r.1 in omega (arith, high))
+convert_number_range f = (omega arith, omega arith)
+
+-- and isn't 101
+pub convert_number_usage : (f : ConvertFault) → convert_number f ≢ 101
+convert_number_usage (convert.NotAccepted f) = λ e. let high = (number_printed_range (check_fault_text f)).1 in absurd (omega (arith, high, e))
+convert_number_usage f = λ e. absurd (omega (arith, e))
+
+-- none but a device's asks for more bytes
+pub convert_number_other : (f : ConvertFault) → is_convert_failure f ≡ false → convert_number f ≢ 102
+convert_number_other (convert.NotAccepted f) own = λ e. let high = (number_printed_range (check_fault_text f)).1 in absurd (omega (arith, high, e))
+convert_number_other convert.Device own = absurd (true≢false own)
+convert_number_other f own = λ e. absurd (omega (arith, e))
+
+-- what refuses a LUKS2 header of metadata has a number of 1 to 103
+pub rebuild_number_range : (f : RebuildFault) → (1 ≤ rebuild_number f) × (rebuild_number f ≤ 103)
+rebuild_number_range (rebuild.Area f) = let r = number_printed_range (area_fault_text f) in (r.0, let high = r.1 in omega (arith, high))
+rebuild_number_range f = (omega arith, omega arith)
+
+-- and isn't 101
+pub rebuild_number_usage : (f : RebuildFault) → rebuild_number f ≢ 101
+rebuild_number_usage (rebuild.Area f) = λ e. let high = (number_printed_range (area_fault_text f)).1 in absurd (omega (arith, high, e))
+rebuild_number_usage f = λ e. absurd (omega (arith, e))
+
+-- none but a device's asks for more bytes
+pub rebuild_number_other : (f : RebuildFault) → is_rebuild_failure f ≡ false → rebuild_number f ≢ 102
+rebuild_number_other (rebuild.Area f) own = λ e. let high = (number_printed_range (area_fault_text f)).1 in absurd (omega (arith, high, e))
+rebuild_number_other rebuild.Device own = absurd (true≢false own)
+rebuild_number_other f own = λ e. absurd (omega (arith, e))
+
+-- what refuses a LUKS1 header of fields has a number of 1 to 103
+pub rebuild1_number_range : (f : Rebuild1Fault) → (1 ≤ rebuild1_number f) × (rebuild1_number f ≤ 103)
+rebuild1_number_range (rebuild1.Area f) = let r = number_printed_range (area_fault_text f) in (r.0, let high = r.1 in omega (arith, high))
+rebuild1_number_range f = (omega arith, omega arith)
+
+-- and isn't 101
+pub rebuild1_number_usage : (f : Rebuild1Fault) → rebuild1_number f ≢ 101
+rebuild1_number_usage (rebuild1.Area f) = λ e. let high = (number_printed_range (area_fault_text f)).1 in absurd (omega (arith, high, e))
+rebuild1_number_usage f = λ e. absurd (omega (arith, e))
+
+-- none but a device's asks for more bytes
+pub rebuild1_number_other : (f : Rebuild1Fault) → is_rebuild1_failure f ≡ false → rebuild1_number f ≢ 102
+rebuild1_number_other (rebuild1.Area f) own = λ e. let high = (number_printed_range (area_fault_text f)).1 in absurd (omega (arith, high, e))
+rebuild1_number_other rebuild1.Device own = absurd (true≢false own)
+rebuild1_number_other f own = λ e. absurd (omega (arith, e))

@@ -16,6 +16,12 @@ use Rattle.luks_edit.specs.declared.edit_fault.EditFault.{EditFault}
 use Rattle.luks_edit.specs.declared.edit_fault.EditFault.TheVariants as edit
 use Rattle.luks_formatting.specs.declared.format_fault.FormatFault.{FormatFault}
 use Rattle.luks_formatting.specs.declared.format_fault.FormatFault.TheVariants as format
+use Rattle.luks_converting.specs.declared.convert_fault.ConvertFault.{ConvertFault}
+use Rattle.luks_converting.specs.declared.convert_fault.ConvertFault.TheVariants as convert
+use Rattle.luks_rebuilding.specs.declared.rebuild_fault.RebuildFault.{RebuildFault}
+use Rattle.luks_rebuilding.specs.declared.rebuild_fault.RebuildFault.TheVariants as rebuild
+use Rattle.luks1_rebuilding.specs.declared.rebuild_fault.Rebuild1Fault.{Rebuild1Fault}
+use Rattle.luks1_rebuilding.specs.declared.rebuild_fault.Rebuild1Fault.TheVariants as rebuild1
 use Rattle.luks_explain.specs.declared.fault.Fault.{Fault}
 use Rattle.luks_explain.specs.declared.fault.Fault.TheVariants as fault
 use Rattle.luks_explain.specs.Names.{all_faults, fault_named, name_in}
@@ -135,3 +141,36 @@ format_number format.Iterations = 10
 format_number format.RandomLength = 39
 format_number format.Memory = 103
 format_number format.Device = 102
+
+-- of what converting answers in place of a header
+abbrev pub convert_number : ConvertFault → ℕ
+convert_number (convert.NotAccepted f) = number_printed (check_fault_text f)
+convert_number convert.NotLuks1 = 41
+convert_number convert.TooSmall = 40
+convert_number convert.NoRoom = 34
+convert_number convert.MetadataFull = 38
+convert_number convert.RandomLength = 39
+convert_number convert.Memory = 103
+convert_number convert.Device = 102
+
+-- of what rebuilding answers in place of a LUKS2 header
+abbrev pub rebuild_number : RebuildFault → ℕ
+rebuild_number rebuild.Counts = 43
+rebuild_number rebuild.NoMetadata = 44
+rebuild_number (rebuild.Area f) = number_printed (area_fault_text f)
+rebuild_number rebuild.TooSmall = 40
+rebuild_number rebuild.Uuid = 6
+rebuild_number rebuild.RandomLength = 39
+rebuild_number rebuild.Memory = 103
+rebuild_number rebuild.Device = 102
+
+-- and of a LUKS1 header
+abbrev pub rebuild1_number : Rebuild1Fault → ℕ
+rebuild1_number rebuild1.Counts = 43
+rebuild1_number rebuild1.NoHeader = 51
+rebuild1_number (rebuild1.Text t) = 5
+rebuild1_number rebuild1.KeyBytes = 8
+rebuild1_number rebuild1.Iterations = 10
+rebuild1_number rebuild1.TooSmall = 40
+rebuild1_number (rebuild1.Area f) = number_printed (area_fault_text f)
+rebuild1_number rebuild1.Device = 102

@@ -1,10 +1,10 @@
 -- The plan of a call that writes, in the caller's buffers.
-use Rattle.std.specs.Prelude.{◌≡◌, ◌⊎◌, ℕ, ◌<◌, ◌≤◌, List, length}
+use Rattle.std.specs.Prelude.{◌≡◌, ◌≢◌, ◌⊎◌, ℕ, ◌<◌, ◌≤◌, List, length}
 use Rattle.luks_given.specs.Volume.{volume}
 use Rattle.luks_planned.specs.declared.planned_writes.PlannedCall.{PlannedCall}
 use Rattle.luks_planned.specs.Plan.{furthest, planned_length, played, IsFlushed}
-use Rattle.luks_c.specs.declared.plans.LuksPlan.{LuksPlan}
-use Rattle.luks_c.specs.Buffers.{filled}
+use Rattle.luks_c_answers.specs.declared.plans.LuksPlan.{LuksPlan}
+use Rattle.luks_c_answers.specs.Buffers.{filled}
 
 -- played over the first bytes of the volume of `total` bytes, the plan leaves such a volume; it writes none but
 -- these, and a flush comes behind each write
@@ -39,3 +39,12 @@ pub record IsPlanned (first : List ℕ) (total : ℕ) (such : List ℕ → Type 
   pub calls_count : told.calls ≡ length calls
   pub bytes_count : told.bytes ≡ length bytes
   pub given : IsPlanGiven calls bytes old new number
+
+-- what a call answers that writes by a plan. 0 and 106 say that it is planned, and that nothing is against it; 102 that more
+-- bytes have to be given, 103 that memory was refused, any other number why it is refused; but for 0 the buffers are as
+-- they were
+pub record AnswersPlan (first : List ℕ) (total : ℕ) (faultless : Type 0) (refusal : ℕ → Type 0) (such : List ℕ → Type 0) (old new : Buffers) (told : LuksPlan) (number : ℕ) : Type 0 where
+  pub planned : number ≡ 0 → faultless × IsPlanned first total such old new told number
+  pub room : number ≡ 106 → faultless × IsPlanned first total such old new told number
+  pub refused : number ≢ 0 → number ≢ 106 → number ≢ 102 → number ≢ 103 → refusal number
+  pub kept : number ≢ 0 → new ≡ old

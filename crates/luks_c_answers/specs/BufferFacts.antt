@@ -2,7 +2,7 @@
 use Rattle.std.proofs.Common.{◌≡◌, ℕ, ◌+◌, ◌-◌, List, ◌++◌, inl, inr, length, take, drop, min, sym, ap, ◌∙◌, arith, length-append, length-drop, length-take}
 use Rattle.std.proofs.lemmas.List.{drop-append-le, drop_all, take_all}
 use Rattle.std.proofs.lemmas.Bool.{cases_lt}
-use Rattle.luks_c.specs.Buffers.{filled}
+use Rattle.luks_c_answers.specs.Buffers.{filled}
 
 -- what fits is put there, and what stands behind it stays
 pub filled_front : {A : Type 0} (buffer bytes : List A) (n : ℕ) → n ≡ min (length bytes) (length buffer) → take n bytes ++ drop n buffer ≡ filled buffer bytes

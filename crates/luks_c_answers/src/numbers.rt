@@ -1,43 +1,46 @@
 //! The numbers by which the calls answer. `luks.h` lists them; a number stays its own in each later
 //! version.
 ghost use Rattle.std.specs.Prelude.{◌≡◌};
-ghost use Rattle.luks_c.specs.Numbers.{check_number, edit_number, fault_number, fault_numbered, format_number, number_printed, open_number, read_number};
+ghost use Rattle.luks_c_answers.specs.Numbers.{check_number, convert_number, edit_number, fault_number, fault_numbered, format_number, number_printed, open_number, read_number, rebuild1_number, rebuild_number};
 ghost use Rattle.luks_area.specs.Printed.{area_fault_text};
 ghost use Rattle.luks1_header.specs.FaultTexts.{fault_text as head_fault_text};
 ghost use Rattle.luks_rules.specs.MetaFault.{fault_text as meta_fault_text};
 ghost use Rattle.luks_reading.specs.FaultTexts.{check_fault_text};
 ghost use Rattle.luks_slot.specs.Fault.{fault_text as slot_fault_text};
 
+use luks_converting::ConvertFault;
 use luks_edit::EditFault;
 use luks_explain::Fault;
 use luks_formatting::FormatFault;
 use luks_reading::{AreaFault, CheckFault, HeadFault, MetaFault, OpenFault, ReadFault};
+use luks_rebuilding::RebuildFault;
 use luks_slot::SlotFault;
+use luks1_rebuilding::Rebuild1Fault;
 
 /// Done: the volume is accepted, the keyslot opens, the text or the plan is given.
-pub(crate) const DONE: u32 = 0;
+pub const DONE: u32 = 0;
 
 /// No fault: the device's failure and want of memory have numbers of their own, and are never told by
 /// this one.
 const UNKNOWN: u32 = 99;
 
 /// What the caller asks can't be: more bytes than the volume has, a passphrase that is too long.
-pub(crate) const USAGE: u32 = 101;
+pub const USAGE: u32 = 101;
 
 /// More of the volume's first bytes have to be given.
-pub(crate) const BEYOND: u32 = 102;
+pub const BEYOND: u32 = 102;
 
 /// Memory was refused.
-pub(crate) const MEMORY: u32 = 103;
+pub const MEMORY: u32 = 103;
 
 /// The passphrase opens no keyslot that was tried.
-pub(crate) const SHUT: u32 = 105;
+pub const SHUT: u32 = 105;
 
 /// The caller's buffer is too short for what is to be written there.
-pub(crate) const ROOM: u32 = 106;
+pub const ROOM: u32 = 106;
 
 /// The fault of this number.
-pub(crate) fn fault_of(number: u32) -> Option<Fault>
+pub fn fault_of(number: u32) -> Option<Fault>
     ensures { result ≡ fault_numbered number }
 {
     Fault::ALL
@@ -47,7 +50,7 @@ pub(crate) fn fault_of(number: u32) -> Option<Fault>
 }
 
 /// The number of the fault.
-pub(crate) fn number_of(fault: Fault) -> u32
+pub fn number_of(fault: Fault) -> u32
     ensures { result ≡ fault_number fault }
 {
     match fault {
@@ -106,7 +109,7 @@ pub(crate) fn number_of(fault: Fault) -> u32
 }
 
 /// The number of what `check` answers in place of a report.
-pub(crate) fn check_number(fault: &CheckFault) -> u32
+pub fn check_number(fault: &CheckFault) -> u32
     ensures { result ≡ check_number fault.now }
 {
     match fault {
@@ -119,7 +122,7 @@ pub(crate) fn check_number(fault: &CheckFault) -> u32
 }
 
 /// The number of what reading the header answers in place of one.
-pub(crate) fn read_number(fault: &ReadFault) -> u32
+pub fn read_number(fault: &ReadFault) -> u32
     ensures { result ≡ read_number fault.now }
 {
     match fault {
@@ -131,7 +134,7 @@ pub(crate) fn read_number(fault: &ReadFault) -> u32
 }
 
 /// The number of what opening a keyslot answers in place of a key.
-pub(crate) fn open_number(fault: &OpenFault) -> u32
+pub fn open_number(fault: &OpenFault) -> u32
     ensures { result ≡ open_number fault.now }
 {
     match fault {
@@ -147,7 +150,7 @@ pub(crate) fn open_number(fault: &OpenFault) -> u32
 }
 
 /// The number of what an edit answers in place of what it made.
-pub(crate) fn edit_number(fault: &EditFault) -> u32
+pub fn edit_number(fault: &EditFault) -> u32
     ensures { result ≡ edit_number fault.now }
 {
     match fault {
@@ -172,7 +175,7 @@ pub(crate) fn edit_number(fault: &EditFault) -> u32
 }
 
 /// The number of what formatting answers in place of a volume.
-pub(crate) fn format_number(fault: &FormatFault) -> u32
+pub fn format_number(fault: &FormatFault) -> u32
     ensures { result ≡ format_number fault.now }
 {
     match fault {
@@ -181,6 +184,54 @@ pub(crate) fn format_number(fault: &FormatFault) -> u32
         FormatFault::RandomLength => number_of(Fault::RandomLength),
         FormatFault::Memory => MEMORY,
         FormatFault::Device => BEYOND,
+    }
+}
+
+/// The number of what converting answers in place of a header.
+pub fn convert_number(fault: &ConvertFault) -> u32
+    ensures { result ≡ convert_number fault.now }
+{
+    match fault {
+        ConvertFault::NotAccepted(fault) => checked_number(fault),
+        ConvertFault::NotLuks1 => number_of(Fault::NotLuks1),
+        ConvertFault::TooSmall => number_of(Fault::TooSmall),
+        ConvertFault::NoRoom => number_of(Fault::NoRoom),
+        ConvertFault::MetadataFull => number_of(Fault::MetadataFull),
+        ConvertFault::RandomLength => number_of(Fault::RandomLength),
+        ConvertFault::Memory => MEMORY,
+        ConvertFault::Device => BEYOND,
+    }
+}
+
+/// The number of what rebuilding answers in place of a LUKS2 header.
+pub fn rebuild_number(fault: &RebuildFault) -> u32
+    ensures { result ≡ rebuild_number fault.now }
+{
+    match fault {
+        RebuildFault::Counts => number_of(Fault::Counts),
+        RebuildFault::NoMetadata => number_of(Fault::NoMetadata),
+        RebuildFault::Area(fault) => area_number(fault),
+        RebuildFault::TooSmall => number_of(Fault::TooSmall),
+        RebuildFault::Uuid => number_of(Fault::Uuid),
+        RebuildFault::RandomLength => number_of(Fault::RandomLength),
+        RebuildFault::Memory => MEMORY,
+        RebuildFault::Device => BEYOND,
+    }
+}
+
+/// The number of what rebuilding answers in place of a LUKS1 header.
+pub fn rebuild1_number(fault: &Rebuild1Fault) -> u32
+    ensures { result ≡ rebuild1_number fault.now }
+{
+    match fault {
+        Rebuild1Fault::Counts => number_of(Fault::Counts),
+        Rebuild1Fault::NoHeader => number_of(Fault::NoHeader),
+        Rebuild1Fault::Text(_) => number_of(Fault::Text),
+        Rebuild1Fault::KeyBytes => number_of(Fault::KeyBytes),
+        Rebuild1Fault::Iterations => number_of(Fault::Iterations),
+        Rebuild1Fault::TooSmall => number_of(Fault::TooSmall),
+        Rebuild1Fault::Area(fault) => area_number(fault),
+        Rebuild1Fault::Device => BEYOND,
     }
 }
 

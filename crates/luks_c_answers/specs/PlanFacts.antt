@@ -1,0 +1,72 @@
+-- Facts on the plans of calls that write.
+use Rattle.std.proofs.Common.{◌≡◌, ◌≢◌, ◌⊎◌, inl, inr, ℕ, ◌≤◌, List, length, refl, sym, subst, ◌∙◌, arith}
+use Rattle.luks_given.specs.Volume.{volume}
+use Rattle.luks_planned.specs.declared.planned_writes.PlannedCall.{PlannedCall}
+use Rattle.luks_planned.specs.Plan.{IsFlushed}
+use Rattle.luks_c_answers.specs.declared.plans.LuksPlan.{LuksPlan}
+use Rattle.luks_c_answers.specs.Plans.{AnswersPlan, Buffers, IsPlan, IsPlanGiven, IsPlanned}
+
+-- the volume that a call left is what its plan leaves
+pub planned_of : (such : List ℕ → Type 0) (first left : List ℕ) (total : ℕ) (calls : List PlannedCall) (bytes : List ℕ) (old new : Buffers) (told : LuksPlan) (number : ℕ)
+    → such (volume left total) → IsPlan first left calls bytes → IsFlushed calls → told.calls ≡ length calls → told.bytes ≡ length bytes
+    → IsPlanGiven calls bytes old new number → IsPlanned first total such old new told number
+planned_of such first left total calls bytes old new told number so plan flushed calls_are bytes_are given = record {
+  calls = calls;
+  bytes = bytes;
+  leaves = record {
+    leaves = subst (λ l. such (volume l total)) (sym plan.plays) so;
+    inside = plan.inside;
+    counted = plan.counted;
+    flushed = flushed;
+  };
+  calls_count = calls_are;
+  bytes_count = bytes_are;
+  given = given;
+}
+
+-- a plan is given, or there is no room
+pub given_or_room : (calls : List PlannedCall) (bytes : List ℕ) (old new : Buffers) (number : ℕ) → IsPlanGiven calls bytes old new number → (number ≡ 0) ⊎ (number ≡ 106)
+given_or_room calls bytes old new number given = elim given [
+  | inl done ↦ inl done.0
+  | inr room ↦ inr room.0
+]
+
+-- where it isn't given, the buffers are as they were
+pub room_keeps : (calls : List PlannedCall) (bytes : List ℕ) (old new : Buffers) (number : ℕ) → IsPlanGiven calls bytes old new number → number ≢ 0 → new ≡ old
+room_keeps calls bytes old new number given other = elim given [
+  | inl done ↦ absurd (other done.0)
+  | inr room ↦ room.1
+]
+
+-- what was done is answered with its plan
+pub plan_answered : (first left : List ℕ) (total : ℕ) (faultless : Type 0) (refusal : ℕ → Type 0) (such : List ℕ → Type 0) (calls : List PlannedCall) (bytes : List ℕ)
+    (old new : Buffers) (told : LuksPlan) (number : ℕ) → faultless → such (volume left total) → IsPlan first left calls bytes → IsFlushed calls
+    → told.calls ≡ length calls → told.bytes ≡ length bytes → IsPlanGiven calls bytes old new number → AnswersPlan first total faultless refusal such old new told number
+plan_answered first left total faultless refusal such calls bytes old new told number none so plan flushed calls_are bytes_are given =
+    let planned : IsPlanned first total such old new told number = planned_of such first left total calls bytes old new told number so plan flushed calls_are bytes_are given in
+    record {
+      planned = λ zero. (none, planned);
+      room = λ six. (none, planned);
+      refused = λ zero six beyond memory. absurd (elim (given_or_room calls bytes old new number given) [ inl is ↦ zero is | inr is ↦ six is ]);
+      kept = λ other. room_keeps calls bytes old new number given other;
+    }
+
+-- what is refused, by a number of 1 to 103
+pub refusal_answered : (first : List ℕ) (total : ℕ) (faultless : Type 0) (refusal : ℕ → Type 0) (such : List ℕ → Type 0) (old : Buffers) (told : LuksPlan) (number : ℕ)
+    → 1 ≤ number → number ≤ 103 → (number ≢ 103 → refusal number) → AnswersPlan first total faultless refusal such old old told number
+refusal_answered first total faultless refusal such old told number low high so = record {
+  planned = λ zero. absurd (omega (arith, zero, low));
+  room = λ six. absurd (omega (arith, six, high));
+  refused = λ zero six beyond memory. so memory;
+  kept = λ other. refl;
+}
+
+-- where more bytes have to be given, or memory was refused, nothing more is said
+pub unplanned_answered : (first : List ℕ) (total : ℕ) (faultless : Type 0) (refusal : ℕ → Type 0) (such : List ℕ → Type 0) (old : Buffers) (told : LuksPlan) (number : ℕ)
+    → (number ≡ 102) ⊎ (number ≡ 103) → AnswersPlan first total faultless refusal such old old told number
+unplanned_answered first total faultless refusal such old told number is = record {
+  planned = λ zero. absurd (elim is [ inl b ↦ omega (arith, zero, b) | inr m ↦ omega (arith, zero, m) ]);
+  room = λ six. absurd (elim is [ inl b ↦ omega (arith, six, b) | inr m ↦ omega (arith, six, m) ]);
+  refused = λ zero six beyond memory. absurd (elim is [ inl b ↦ beyond b | inr m ↦ memory m ]);
+  kept = λ other. refl;
+}
