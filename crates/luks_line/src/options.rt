@@ -40,6 +40,10 @@ pub(crate) enum LongOption {
     GivenHash,
     KeyBytes,
     Payload,
+    Kdf,
+    KdfMemory,
+    Passes,
+    Lanes,
 }
 
 impl LongOption {
@@ -57,7 +61,7 @@ pub(crate) struct OptionRow {
 }
 
 /// In the order of `LongOption`.
-static OPTIONS: [OptionRow; 34] = [
+static OPTIONS: [OptionRow; 38] = [
     OptionRow {
         name: "detached",
         needed: false,
@@ -261,5 +265,29 @@ static OPTIONS: [OptionRow; 34] = [
         needed: false,
         help: "LUKS1: where the data begins, in sectors of 512",
         takes: Takes::Sector,
+    },
+    OptionRow {
+        name: "kdf",
+        needed: false,
+        help: "What the passphrase's key is derived by",
+        takes: Takes::Kdf,
+    },
+    OptionRow {
+        name: "kdf-memory",
+        needed: false,
+        help: "MiB that Argon2 takes, 1 to 4095",
+        takes: Takes::KdfMemory,
+    },
+    OptionRow {
+        name: "passes",
+        needed: false,
+        help: "Of Argon2, at least 1",
+        takes: Takes::Passes,
+    },
+    OptionRow {
+        name: "lanes",
+        needed: false,
+        help: "Of Argon2, 1 to 4",
+        takes: Takes::Lanes,
     },
 ];
