@@ -7,7 +7,7 @@ use Rattle.luks_reading.specs.Checked.{WellFormed}
 use Rattle.luks_making.specs.declared.new_keyslot.Argon2Costs.{Argon2Costs}
 use Rattle.luks_formatting.specs.declared.derivation.NewDerivation.{NewDerivation}
 use Rattle.luks_formatting.specs.declared.derivation.NewDerivation.TheVariants as by
-use Rattle.luks_formatting.specs.Deriving.{deriving, memory_by}
+use Rattle.luks_formatting.specs.Deriving.{slot_derivation, memory_by}
 use Rattle.luks_formatting.specs.Formatted1.{IsFormatted1, IsOfLuks1}
 use Rattle.luks_formatting.specs.Formatted2.{IsFormatted2By, IsOfLuks2}
 use Rattle.luks_formatting.specs.RandomBytes.{volume_key}
@@ -54,7 +54,7 @@ IsFormatted Luks2 making = IsFormatted2By making.data_ making.format (chosen_of 
 abbrev pub OpensNew : NewVersion → Making → List ℕ → List ℕ → List ℕ → Type 0
 OpensNew Luks1 making new passphrase key = Answer new 0 passphrase (opens key)
 OpensNew Luks2 making new passphrase key =
-    (memory : ℕ) → memory_by (deriving making.format (chosen_of making.argon2)) ≤ memory → AnswerWithin memory new 0 passphrase (opens key)
+    (memory : ℕ) → memory_by (slot_derivation making.format (chosen_of making.argon2)) ≤ memory → AnswerWithin memory new 0 passphrase (opens key)
 
 -- what is made of the volume `old` for this passphrase and these random bytes: `new`
 pub record IsNewVolume (making : Making) (passphrase random old new : List ℕ) : Type 0 where

@@ -34,7 +34,7 @@ use Rattle.luks_reading.specs.declared.open_fault.OpenFault.{OpenFault}
 use Rattle.luks_reading.specs.declared.open_fault.OpenFault.TheVariants.{Head, Meta, NoSuchSlot, SlotFree, Outside, Slot, Device, Memory}
 use Rattle.luks_reading.specs.declared.report.Data.{Data}
 use Rattle.luks_formatting.specs.declared.derivation.NewDerivation.{NewDerivation}
-use Rattle.luks_formatting.specs.Deriving.{deriving, memory_by, IsMakeable}
+use Rattle.luks_formatting.specs.Deriving.{slot_derivation, memory_by, IsMakeable}
 use Rattle.luks_formatting.specs.Formatted2.{IsFormatted2By}
 use Rattle.luks_formatting.specs.NewHeader2.{area2, first_slot_by, formatted_by, new_members, new_metadata, FitsMetadataBy, IsNewCipher2}
 use Rattle.luks_formatting.specs.NewPlan.{key_digest, IsNewPlanBy}
@@ -75,7 +75,7 @@ module _ (payload : Data) (format : Format) (chosen : Option NewDerivation) (pas
   meta = record {
     json = x.metadata.json;
     content = subst (λ (n : ℕ). IsContent n (new_metadata payload format chosen random)) (sym x.metadata.long)
-        (held_by (deriving format chosen) (new_members payload format random) fits.fits (can_format payload format random some long fits.digest_length) fits.derivation).content;
+        (held_by (slot_derivation format chosen) (new_members payload format random) fits.fits (can_format payload format random some long fits.digest_length) fits.derivation).content;
   }
 
   formed : IsLuks2Volume (header_at new 0) x.json payload (length new)
@@ -100,11 +100,11 @@ module _ (payload : Data) (format : Format) (chosen : Option NewDerivation) (pas
   }
 
   new_plan : (plan : SlotPlan) → HasLuks2Plan x.json 0 plan
-      → IsNewPlanBy (deriving format chosen) format (slot_salt slot_place2 random) area2 (digest_salt random) (key_digest format random (digest_size_of format.hash)) plan × IsNewCipher2 plan.cipher
+      → IsNewPlanBy (slot_derivation format chosen) format (slot_salt slot_place2 random) area2 (digest_salt random) (key_digest format random (digest_size_of format.hash)) plan × IsNewCipher2 plan.cipher
   new_plan = plan_is payload format chosen random some long fits x.json x.metadata.json
 
   -- where as much memory is allowed as the keyslot takes, its plan isn't refused
-  module _ (allowed memory : ℕ) (can : IfSome chosen (IsMakeable allowed)) (enough : memory_by (deriving format chosen) ≤ memory) where
+  module _ (allowed memory : ℕ) (can : IfSome chosen (IsMakeable allowed)) (enough : memory_by (slot_derivation format chosen) ≤ memory) where
     plan_unrefused : (plan : SlotPlan) → HasLuks2Plan x.json 0 plan → slot_refusal_within memory plan ≡ None
     plan_unrefused plan y =
         let is = new_plan plan y in
@@ -116,9 +116,9 @@ module _ (payload : Data) (format : Format) (chosen : Option NewDerivation) (pas
     none (Meta f) y = no_meta x.json (new_metadata payload format chosen random) meta f y
     none NoSuchSlot y =
         let v : VolumeMembers = new_members payload format random in
-        let same : y.value ≡ formatted_by (deriving format chosen) v = one_value x.json y.value (formatted_by (deriving format chosen) v) y.holds x.metadata.json in
-        let gone : object_at (formatted_by (deriving format chosen) v) Keyslots 0 ≡ None = subst (λ (k : Value). object_at k Keyslots 0 ≡ None) same (y.absent (lit< tt)) in
-        no_some (slot_value (first_slot_by (deriving format chosen) v)) (sym gone)
+        let same : y.value ≡ formatted_by (slot_derivation format chosen) v = one_value x.json y.value (formatted_by (slot_derivation format chosen) v) y.holds x.metadata.json in
+        let gone : object_at (formatted_by (slot_derivation format chosen) v) Keyslots 0 ≡ None = subst (λ (k : Value). object_at k Keyslots 0 ≡ None) same (y.absent (lit< tt)) in
+        no_some (slot_value (first_slot_by (slot_derivation format chosen) v)) (sym gone)
     none SlotFree y = y
     none Outside y =
         let past = y.past in

@@ -45,7 +45,7 @@ use Rattle.luks_reading.specs.Plans.{kind_text, HasLuks2Plan, IsLuks2Cipher, IsL
 use Rattle.luks_reading.specs.declared.report.Data.{Data}
 use Rattle.luks_reading.specs.declared.report.Data.TheVariants.{Here}
 use Rattle.luks_formatting.specs.declared.derivation.NewDerivation.{NewDerivation}
-use Rattle.luks_formatting.specs.Deriving.{deriving, IsArgon2Plan, IsDerivedBy}
+use Rattle.luks_formatting.specs.Deriving.{slot_derivation, IsArgon2Plan, IsDerivedBy}
 use Rattle.luks_formatting.specs.NewHeader2.{area2, first_slot_by, formatted_by, new_members, new_metadata, segment_start, FitsMetadataBy, IsNewCipher2}
 use Rattle.luks_formatting.specs.NewPlan.{key_digest, IsNewDigest, IsNewPlanBy}
 use Rattle.luks_formatting.specs.RandomBytes.{digest_salt, slot_place2, slot_salt}
@@ -162,8 +162,8 @@ module _ (payload : Data) (format : Format) (chosen : Option NewDerivation) (ran
   can : CanFormat (new_members payload format random)
   can = can_format payload format random some long fits.digest_length
 
-  slot_says : SaysMembers (first_slot_by (deriving format chosen) (new_members payload format random)) (slot_value (first_slot_by (deriving format chosen) (new_members payload format random)))
-  slot_says = says_members (first_slot_by (deriving format chosen) (new_members payload format random)) (slot_fits (deriving format chosen) (new_members payload format random) fits.fits can fits.derivation)
+  slot_says : SaysMembers (first_slot_by (slot_derivation format chosen) (new_members payload format random)) (slot_value (first_slot_by (slot_derivation format chosen) (new_members payload format random)))
+  slot_says = says_members (first_slot_by (slot_derivation format chosen) (new_members payload format random)) (slot_fits (slot_derivation format chosen) (new_members payload format random) fits.fits can fits.derivation)
 
   -- ---- the areas of the metadata
   slot_bounds : (total n : ℕ) (a : Area) → n < 32 → slot_number (new_metadata payload format chosen random) n (codes "offset") ≡ Some a.start
@@ -176,7 +176,7 @@ module _ (payload : Data) (format : Format) (chosen : Option NewDerivation) (ran
             let second : slot_number j 0 (codes "size") ≡ Some a.len = subst (λ (m : ℕ). slot_number j m (codes "size") ≡ Some a.len) zero len in
             (zero, some_same a.start 32768 (sym first ∙ decimal_is 32768 (lit< tt)), some_same a.len 258048 (sym second ∙ decimal_is 258048 (lit< tt))))
         | inr other ↦ (
-            let none : object_at j Keyslots n ≡ None = none_else (slot_value (first_slot_by (deriving format chosen) (new_members payload format random))) n other in
+            let none : object_at j Keyslots n ≡ None = none_else (slot_value (first_slot_by (slot_derivation format chosen) (new_members payload format random))) n other in
             absurd (no_some a.start (sym (ap (λ o. decimal_in (option_and_then (get (codes "offset")) (option_and_then (get (codes "area")) o))) none) ∙ start)))
       ]
 
@@ -210,29 +210,29 @@ module _ (payload : Data) (format : Format) (chosen : Option NewDerivation) (ran
   segments here = record {
     each = λ n d bytes start held region offset.
         let v : VolumeMembers = new_members payload format random in
-        let is : segment_value v ≡ d = (segment_at (deriving format chosen) v n d held.is).1 in
+        let is : segment_value v ≡ d = (segment_at (slot_derivation format chosen) v n d held.is).1 in
         let at : decimal_in (inside_at outer.Top (codes "offset") (segment_value v)) ≡ Some start = subst (λ (o : Value). decimal_in (inside_at outer.Top (codes "offset") o) ≡ Some start) (sym is) offset in
         let from : start ≡ 16777216 = some_same start (segment_start payload) (sym at ∙ decimal_is (segment_start payload) fits.fits.segment_offset) ∙ ap segment_start here in
-        let size : bytes ≡ 16744448 = some_same bytes 16744448 (sym region ∙ keyslots_say (deriving format chosen) v) in
+        let size : bytes ≡ 16744448 = some_same bytes 16744448 (sym region ∙ keyslots_say (slot_derivation format chosen) v) in
         omega (arith, from, size);
   }
 
   -- ---- the plans of keyslot 0
-  pub derivation_is : (d : Derivation) → IsLuks2Derivation (slot_value (first_slot_by (deriving format chosen) (new_members payload format random))) d
-      → IsDerivedBy (deriving format chosen) (slot_salt slot_place2 random) d
-  derivation_is d is = told_derivation (deriving format chosen) (slot_value (first_slot_by (deriving format chosen) (new_members payload format random)))
+  pub derivation_is : (d : Derivation) → IsLuks2Derivation (slot_value (first_slot_by (slot_derivation format chosen) (new_members payload format random))) d
+      → IsDerivedBy (slot_derivation format chosen) (slot_salt slot_place2 random) d
+  derivation_is d is = told_derivation (slot_derivation format chosen) (slot_value (first_slot_by (slot_derivation format chosen) (new_members payload format random)))
       (slot_salt slot_place2 random) slot_says.derivation slot_says.salt d is
 
-  derivation_by : (d : Derivation) → IsDerivedBy (deriving format chosen) (slot_salt slot_place2 random) d
-      → IsLuks2Derivation (slot_value (first_slot_by (deriving format chosen) (new_members payload format random))) d
-  derivation_by d is = tells_derivation (deriving format chosen) (slot_value (first_slot_by (deriving format chosen) (new_members payload format random)))
+  derivation_by : (d : Derivation) → IsDerivedBy (slot_derivation format chosen) (slot_salt slot_place2 random) d
+      → IsLuks2Derivation (slot_value (first_slot_by (slot_derivation format chosen) (new_members payload format random))) d
+  derivation_by d is = tells_derivation (slot_derivation format chosen) (slot_value (first_slot_by (slot_derivation format chosen) (new_members payload format random)))
       (slot_salt slot_place2 random) slot_says.derivation slot_says.salt d is
 
-  cipher_is : (cipher : AreaCipher) → IsLuks2Cipher (slot_value (first_slot_by (deriving format chosen) (new_members payload format random))) cipher → IsNewCipher2 cipher
+  cipher_is : (cipher : AreaCipher) → IsLuks2Cipher (slot_value (first_slot_by (slot_derivation format chosen) (new_members payload format random))) cipher → IsNewCipher2 cipher
   cipher_is (Apart name mode) is = absurd is
   cipher_is (Whole text) is = some_same text.now (codes "aes-xts-plain64") (sym is ∙ slot_says.encryption)
 
-  cipher_by : (cipher : AreaCipher) → IsNewCipher2 cipher → IsLuks2Cipher (slot_value (first_slot_by (deriving format chosen) (new_members payload format random))) cipher
+  cipher_by : (cipher : AreaCipher) → IsNewCipher2 cipher → IsLuks2Cipher (slot_value (first_slot_by (slot_derivation format chosen) (new_members payload format random))) cipher
   cipher_by (Apart name mode) is = absurd is
   cipher_by (Whole text) is = slot_says.encryption ∙ ap Some (sym is)
 
@@ -256,7 +256,7 @@ module _ (payload : Data) (format : Format) (chosen : Option NewDerivation) (ran
       → IsNewDigest format (digest_salt random) (key_digest format random (digest_size_of format.hash)) digest
   digest_is digest y =
       let v : VolumeMembers = new_members payload format random in
-      let is : digest_value v ≡ y.object = (digest_at (deriving format chosen) v y.number y.object y.there).1 in
+      let is : digest_value v ≡ y.object = (digest_at (slot_derivation format chosen) v y.number y.object y.there).1 in
       let d : Value = digest_value v in
       let hash : text_of (member_at d outer.Top name.Hash) ≡ Some digest.hash.now = subst (λ (o : Value). text_of (member_at o outer.Top name.Hash) ≡ Some digest.hash.now) (sym is) y.hash in
       let turns : small_at d outer.Top name.Iterations ≡ Some digest.iterations = subst (λ (o : Value). small_at o outer.Top name.Iterations ≡ Some digest.iterations) (sym is) y.iterations in
@@ -272,14 +272,14 @@ module _ (payload : Data) (format : Format) (chosen : Option NewDerivation) (ran
   -- a plan that the metadata gives is the one that was sealed by
   pub plan_is : (json : List ℕ) → Json json (new_metadata payload format chosen random)
       → (plan : SlotPlan) → HasLuks2Plan json 0 plan
-      → IsNewPlanBy (deriving format chosen) format (slot_salt slot_place2 random) area2 (digest_salt random) (key_digest format random (digest_size_of format.hash)) plan × IsNewCipher2 plan.cipher
+      → IsNewPlanBy (slot_derivation format chosen) format (slot_salt slot_place2 random) area2 (digest_salt random) (key_digest format random (digest_size_of format.hash)) plan × IsNewCipher2 plan.cipher
   plan_is json holds plan y =
       let v : VolumeMembers = new_members payload format random in
-      let same : y.value ≡ formatted_by (deriving format chosen) v = one_value json y.value (formatted_by (deriving format chosen) v) y.holds holds in
-      let there : object_at (formatted_by (deriving format chosen) v) Keyslots 0 ≡ Some y.object = subst (λ (k : Value). object_at k Keyslots 0 ≡ Some y.object) same y.there in
-      let object_is : slot_value (first_slot_by (deriving format chosen) v) ≡ y.object = (slot_at (deriving format chosen) v 0 y.object there).1 in
-      let first : IsLuks2Plan (formatted_by (deriving format chosen) v) 0 y.object plan = subst (λ (k : Value). IsLuks2Plan k 0 y.object plan) same y.is in
-      let is : IsLuks2Plan (formatted_by (deriving format chosen) v) 0 (slot_value (first_slot_by (deriving format chosen) v)) plan = subst (λ (o : Value). IsLuks2Plan (formatted_by (deriving format chosen) v) 0 o plan) (sym object_is) first in (
+      let same : y.value ≡ formatted_by (slot_derivation format chosen) v = one_value json y.value (formatted_by (slot_derivation format chosen) v) y.holds holds in
+      let there : object_at (formatted_by (slot_derivation format chosen) v) Keyslots 0 ≡ Some y.object = subst (λ (k : Value). object_at k Keyslots 0 ≡ Some y.object) same y.there in
+      let object_is : slot_value (first_slot_by (slot_derivation format chosen) v) ≡ y.object = (slot_at (slot_derivation format chosen) v 0 y.object there).1 in
+      let first : IsLuks2Plan (formatted_by (slot_derivation format chosen) v) 0 y.object plan = subst (λ (k : Value). IsLuks2Plan k 0 y.object plan) same y.is in
+      let is : IsLuks2Plan (formatted_by (slot_derivation format chosen) v) 0 (slot_value (first_slot_by (slot_derivation format chosen) v)) plan = subst (λ (o : Value). IsLuks2Plan (formatted_by (slot_derivation format chosen) v) 0 o plan) (sym object_is) first in (
         record {
           derivation = derivation_is plan.derivation is.derivation;
           area = area_is plan.area 32768 258048 (some_same plan.area.start 32768 (sym is.start ∙ slot_says.offset)) (some_same plan.area.len 258048 (sym is.len ∙ slot_says.size));
@@ -293,15 +293,15 @@ module _ (payload : Data) (format : Format) (chosen : Option NewDerivation) (ran
       )
 
   pub plan_by : (json : List ℕ) → Json json (new_metadata payload format chosen random) → (plan : SlotPlan)
-      → IsNewPlanBy (deriving format chosen) format (slot_salt slot_place2 random) area2 (digest_salt random) (key_digest format random (digest_size_of format.hash)) plan → IsNewCipher2 plan.cipher
+      → IsNewPlanBy (slot_derivation format chosen) format (slot_salt slot_place2 random) area2 (digest_salt random) (key_digest format random (digest_size_of format.hash)) plan → IsNewCipher2 plan.cipher
       → HasLuks2Plan json 0 plan
   plan_by json holds plan is cipher =
       let v : VolumeMembers = new_members payload format random in
       record {
         numbered = lit< tt;
-        value = formatted_by (deriving format chosen) v;
+        value = formatted_by (slot_derivation format chosen) v;
         holds = holds;
-        object = slot_value (first_slot_by (deriving format chosen) v);
+        object = slot_value (first_slot_by (slot_derivation format chosen) v);
         there = refl;
         is = record {
           derivation = derivation_by plan.derivation is.derivation;

@@ -29,7 +29,7 @@ use Rattle.luks_reading.specs.declared.report.Data.{Data}
 use Rattle.luks_reading.specs.declared.format.Format.{Format}
 use Rattle.luks_formatting.specs.declared.derivation.NewDerivation.{NewDerivation}
 use Rattle.luks_formatting.specs.declared.derivation.NewDerivation.TheVariants as by
-use Rattle.luks_formatting.specs.Deriving.{costs_beyond, deriving, FitsCosts, FitsNewDerivation, IsMakeable}
+use Rattle.luks_formatting.specs.Deriving.{costs_beyond, slot_derivation, FitsCosts, FitsNewDerivation, IsMakeable}
 use Rattle.luks_formatting.specs.NewHeader2.{first_slot_by, formatted_by, new_members}
 use Rattle.luks_formatting.specs.NewPlan.{key_digest}
 use Rattle.luks_formatting.specs.RandomBytes.{digest_salt, slot_place2, slot_salt}
@@ -129,7 +129,7 @@ costs_fit allowed costs few ok fits =
     record { time = below_32 costs.time pass fits.0; memory = below_32 costs.memory memory fits.1; cpus = below_32 costs.cpus lane fits.2 }
 
 pub derivation_fits : (format : Format) (allowed : ℕ) (chosen : Option NewDerivation) → 1 ≤ format.iterations → format.iterations < 2 ^ 32 → IfSome chosen (IsMakeable allowed)
-    → IfSome chosen FitsNewDerivation → FitsDerivation (deriving format chosen)
+    → IfSome chosen FitsNewDerivation → FitsDerivation (slot_derivation format chosen)
 derivation_fits format allowed None some low can fits = below_32 format.iterations some low
 derivation_fits format allowed (Some (by.Pbkdf2 n)) some low can fits =
     let high : 1000 ≤ n = ltb-false n 1000 can.turns in

@@ -12,7 +12,7 @@ use Rattle.luks_making.specs.declared.new_keyslot.Argon2Costs.{Argon2Costs}
 use Rattle.luks_reading.specs.declared.format.Format.{Format}
 use Rattle.luks_formatting.specs.declared.derivation.NewDerivation.{NewDerivation}
 use Rattle.luks_formatting.specs.declared.derivation.NewDerivation.TheVariants as by
-use Rattle.luks_formatting.specs.Deriving.{deriving, FitsCosts, FitsNewDerivation}
+use Rattle.luks_formatting.specs.Deriving.{slot_derivation, FitsCosts, FitsNewDerivation}
 use Rattle.luks_formatting.specs.NewHeader2.{formatted_by}
 
 pub name_short : (hash : HashName) → length (name_of hash) ≤ 6
@@ -51,7 +51,7 @@ argon2id_most costs salt fits short =
 
 -- its text takes at most 400 bytes
 pub derivation_most : (format : Format) (chosen : Option NewDerivation) (salt : List ℕ) → format.iterations < 2 ^ 32 → IfSome chosen FitsNewDerivation → length salt ≤ 32
-    → value_bound (kdf_value (deriving format chosen) salt) ≤ 400
+    → value_bound (kdf_value (slot_derivation format chosen) salt) ≤ 400
 derivation_most format None salt low fits short = pbkdf2_most (name_of format.hash) format.iterations salt (name_short format.hash) low short
 derivation_most format (Some (by.Pbkdf2 n)) salt low fits short = pbkdf2_most (name_of format.hash) n salt (name_short format.hash) fits short
 derivation_most format (Some (by.Argon2i costs)) salt low fits short = argon2i_most costs salt fits short

@@ -15,11 +15,11 @@ use Rattle.luks_formatting.specs.declared.derivation.NewDerivation.TheVariants.{
 
 -- the derivation of keyslot 0: PBKDF2 with the format's hash, by the digest's iterations or by those that
 -- are chosen; or Argon2 by the costs that are chosen
-abbrev pub deriving : Format → Option NewDerivation → Deriving
-deriving format None = by_pbkdf2 (name_of format.hash) format.iterations
-deriving format (Some (Pbkdf2 iterations)) = by_pbkdf2 (name_of format.hash) iterations
-deriving format (Some (Argon2i costs)) = by_argon2i costs
-deriving format (Some (Argon2id costs)) = by_argon2id costs
+abbrev pub slot_derivation : Format → Option NewDerivation → Deriving
+slot_derivation format None = by_pbkdf2 (name_of format.hash) format.iterations
+slot_derivation format (Some (Pbkdf2 iterations)) = by_pbkdf2 (name_of format.hash) iterations
+slot_derivation format (Some (Argon2i costs)) = by_argon2i costs
+slot_derivation format (Some (Argon2id costs)) = by_argon2id costs
 
 -- how many KiB of memory a keyslot takes that is so derived
 abbrev pub memory_by : Deriving → ℕ

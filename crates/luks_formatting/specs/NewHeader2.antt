@@ -16,7 +16,7 @@ use Rattle.luks_reading.specs.declared.report.Data.TheVariants.{Here, Elsewhere}
 use Rattle.luks_reading.specs.declared.format.Format.{Format}
 use Rattle.luks_head.specs.NewUuid.{uuid_text}
 use Rattle.luks_formatting.specs.declared.derivation.NewDerivation.{NewDerivation}
-use Rattle.luks_formatting.specs.Deriving.{deriving}
+use Rattle.luks_formatting.specs.Deriving.{slot_derivation}
 use Rattle.luks_formatting.specs.NewPlan.{key_digest}
 use Rattle.luks_formatting.specs.RandomBytes.{digest_salt, slot_place2, slot_salt, uuid_bytes}
 
@@ -75,7 +75,7 @@ formatted_by d v = object (
 
 -- by the derivation that is chosen
 abbrev pub new_metadata : Data → Format → Option NewDerivation → List ℕ → Value
-new_metadata payload format chosen random = formatted_by (deriving format chosen) (new_members payload format random)
+new_metadata payload format chosen random = formatted_by (slot_derivation format chosen) (new_members payload format random)
 
 -- the area of keyslot 0, of which the first 256000 bytes are used, and its cipher
 abbrev pub area2 : Area
@@ -90,7 +90,7 @@ pub record FitsMetadataBy (payload : Data) (format : Format) (chosen : Option Ne
   pub fits : FitsVolume (new_members payload format random)
   pub digest_length : length (key_digest format random (digest_size_of format.hash))
       ≡ digest_size_of format.hash
-  pub derivation : FitsDerivation (deriving format chosen)
+  pub derivation : FitsDerivation (slot_derivation format chosen)
 
 abbrev pub FitsMetadata : Data → Format → List ℕ → Type 0
 FitsMetadata payload format = FitsMetadataBy payload format None

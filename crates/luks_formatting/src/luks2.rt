@@ -5,7 +5,7 @@ ghost use Rattle.luks_area.specs.Ranges.{SameBut};
 ghost use Rattle.luks_writing.specs.MadeInOrder.{ClearsFirst};
 ghost use Rattle.luks_reading.specs.Answer.{Answer, AnswerWithin, opens};
 ghost use Rattle.luks_reading.specs.Checked.{WellFormed};
-ghost use Rattle.luks_formatting.specs.Deriving.{allowed_for, deriving, memory_by};
+ghost use Rattle.luks_formatting.specs.Deriving.{allowed_for, slot_derivation, memory_by};
 ghost use Rattle.luks_formatting.specs.FormatFaults.{HasNoFault, IsAnsweredFaultOrMemory, IsFormat2Fault, IsFormat2FaultBy, is_device_fault};
 ghost use Rattle.luks_formatting.specs.Formatted2.{HasAllButFirst2, HasAllButFirst2By, HasKeyArea2, HasKeyArea2By, IsFormatted2, IsFormatted2By, IsOfLuks2};
 ghost use Rattle.luks_formatting.specs.NewHeader2.{copy_size};
@@ -145,7 +145,7 @@ pub fn format2_by<D: Device>(
         passphrase.now.bytes.now random.now (D.bytes device.old) (D.bytes device.new)) }
     ensures well_formed { D.tells → OnOk result (WellFormed (D.bytes device.new) data_) }
     ensures opens { D.tells → OnOk result ((memory : ℕ)
-        → memory_by (deriving format.now chosen) ≤ memory
+        → memory_by (slot_derivation format.now chosen) ≤ memory
         → AnswerWithin memory (D.bytes device.new) 0 passphrase.now.bytes.now
         (opens (volume_key random.now))) }
 {

@@ -4,7 +4,7 @@ ghost use Rattle.serde_json.specs.View.{view};
 ghost use Rattle.luks_kdf.specs.Names.{digest_size_of, name_of};
 ghost use Rattle.luks_making.specs.Formatted.{volume_members};
 ghost use Rattle.luks_making.specs.Keyslots.{derivation_of, slot_members};
-ghost use Rattle.luks_formatting.specs.Deriving.{IsMakeable, deriving};
+ghost use Rattle.luks_formatting.specs.Deriving.{IsMakeable, slot_derivation};
 ghost use Rattle.luks_formatting.specs.NewHeader2.{first_slot_by, formatted_by, new_members, segment_start};
 ghost use Rattle.luks_formatting.specs.NewPlan.{key_digest};
 ghost use Rattle.luks_formatting.specs.Volume2.{Fits, HasArea};
@@ -79,7 +79,7 @@ fn metadata_of(
     like: &NewVolume<'_>,
 ) -> Result<Value, AllocError>
     ensures { IfOk result (λ v. view v
-        ≡ formatted_by (deriving format.now chosen) (volume_members like.now)) }
+        ≡ formatted_by (slot_derivation format.now chosen) (volume_members like.now)) }
 {
     let keyslot = slot_value(alloc, &first_slot(format, chosen, like))?;
     let value = formatted(alloc, like)?;
@@ -93,7 +93,7 @@ fn first_slot<'a>(
     like: &NewVolume<'a>,
 ) -> NewKeyslot<'a>
     ensures { slot_members result
-        ≡ first_slot_by (deriving format.now chosen) (volume_members like.now) }
+        ≡ first_slot_by (slot_derivation format.now chosen) (volume_members like.now) }
 {
     NewKeyslot {
         key_size: 64,
@@ -110,7 +110,7 @@ fn first_slot<'a>(
 
 /// The derivation as the metadata has it.
 fn written_derivation<'a>(format: &Format, chosen: Option<NewDerivation>) -> Written<'a>
-    ensures { derivation_of result ≡ deriving format.now chosen }
+    ensures { derivation_of result ≡ slot_derivation format.now chosen }
 {
     let hash = format.hash.text();
     match chosen {

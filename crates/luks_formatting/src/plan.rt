@@ -2,7 +2,7 @@
 ghost use Rattle.std.specs.Prelude.{◌≡◌, ◌≤◌, ℕ, List, length};
 ghost use Rattle.luks_making.specs.Keyslots.{Deriving};
 ghost use Rattle.luks_slot.specs.Opening.{HasIterations};
-ghost use Rattle.luks_formatting.specs.Deriving.{IsArgon2Plan, IsDerivedBy, deriving};
+ghost use Rattle.luks_formatting.specs.Deriving.{IsArgon2Plan, IsDerivedBy, slot_derivation};
 ghost use Rattle.luks_formatting.specs.NewPlan.{key_digest, IsNewPlan, IsNewPlanBy};
 
 use crate::derivation::NewDerivation;
@@ -39,9 +39,9 @@ pub(crate) fn new_plan_by<'a>(
     digest_salt: &'a [u8],
     stored: &'a [u8],
 ) -> SlotPlan<'a>
-    ensures plan { (own : Deriving) (salt : List ℕ) → IsDerivedBy own salt derivation
+    ensures plan { (own : Deriving) (salt : List ℕ) → IsDerivedBy own salt derivation.entry
         → IsNewPlanBy own format.now salt area digest_salt.now stored.now result }
-    ensures derivation { result.derivation ≡ derivation }
+    ensures derivation { result.derivation ≡ derivation.entry }
     ensures cipher { result.cipher ≡ cipher.entry }
 {
     let hash = format.hash.text();
@@ -68,7 +68,7 @@ pub(crate) fn plan_derivation<'a>(
     chosen: Option<NewDerivation>,
     salt: &'a [u8],
 ) -> Derivation<'a>
-    ensures { IsDerivedBy (deriving format.now chosen) salt.now result }
+    ensures { IsDerivedBy (slot_derivation format.now chosen) salt.now result }
 {
     let hash = format.hash.text();
     match chosen {

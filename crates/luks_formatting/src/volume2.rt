@@ -6,7 +6,7 @@ ghost use Rattle.luks_writing.specs.MadeInOrder.{ClearsFirst, WritesInTurn};
 ghost use Rattle.luks_kdf.specs.Names.{digest_size_of};
 ghost use Rattle.luks_reading.specs.Answer.{AnswerWithin, opens};
 ghost use Rattle.luks_reading.specs.Checked.{WellFormed};
-ghost use Rattle.luks_formatting.specs.Deriving.{IsMakeable, deriving, memory_by, takes_memory};
+ghost use Rattle.luks_formatting.specs.Deriving.{IsMakeable, slot_derivation, memory_by, takes_memory};
 ghost use Rattle.luks_formatting.specs.FormatFaults.{HasNoFault, IsAnsweredFaultOrMemory, IsFormat2FaultBy, is_device_fault};
 ghost use Rattle.luks_formatting.specs.Formatted2.{IsOfLuks2};
 ghost use Rattle.luks_formatting.specs.NewHeader2.{copy_size};
@@ -53,17 +53,6 @@ pub(crate) struct Volume<'a> {
     pub(crate) random: &'a [u8],
 }
 
-/// What is written of it, as far as it was made before the first write.
-#[derive(Clone, Copy)]
-pub(crate) struct Made<'a> {
-    /// By what keyslot 0 is sealed.
-    pub(crate) plan: SlotPlan<'a>,
-    /// The used sectors of its key area, where they were sealed ahead.
-    pub(crate) ahead: Option<&'a [u8]>,
-    /// The JSON area of both copies.
-    pub(crate) json: &'a [u8],
-}
-
 /// Makes the volume; or answers the first of its faults, or want of memory, and then no byte changes.
 /// Its passphrase allows memory only if Argon2 takes it.
 pub(crate) fn make<D: Device>(
@@ -102,7 +91,7 @@ pub(crate) fn make<D: Device>(
     ensures formatted { D.tells → OnOk result (IsMade volume.now (D.bytes device.old) (D.bytes device.new)) }
     ensures well_formed { D.tells → OnOk result (WellFormed (D.bytes device.new) volume.now.data_) }
     ensures opens { D.tells → OnOk result ((memory : ℕ)
-        → memory_by (deriving volume.now.format.now volume.now.chosen) ≤ memory
+        → memory_by (slot_derivation volume.now.format.now volume.now.chosen) ≤ memory
         → AnswerWithin memory (D.bytes device.new) 0 volume.now.passphrase.bytes.now
         (opens (volume_key volume.now.random.now))) }
 {
@@ -159,14 +148,9 @@ fn write_made<D: Device>(
     ensures formatted { D.tells → OnOk result
         (IsMade volume.now (D.bytes device.old) (D.bytes device.new)) }
 {
-    let plan = slot_plan(volume, digest);
+    let plan = slot_plan(volume.format, volume.chosen, volume.random, digest);
     if !takes_memory(volume.chosen) {
-        let made = Made {
-            plan,
-            ahead: None,
-            json,
-        };
-        write_volume(device, volume, &made)?;
+        write_volume(device, volume, &plan, None, json)?;
         return Ok(());
     }
     let key = taken(volume.random, KEY, KEY_BYTES);
@@ -174,12 +158,7 @@ fn write_made<D: Device>(
     let Ok(area) = sealed_ahead(alloc, &plan, &volume.passphrase, key, stripes) else {
         return Err(FormatFault::Memory);
     };
-    let made = Made {
-        plan,
-        ahead: Some(area.contents()),
-        json,
-    };
-    write_volume(device, volume, &made)?;
+    write_volume(device, volume, &plan, Some(area.contents()), json)?;
     Ok(())
 }
 
@@ -197,15 +176,17 @@ fn takes_memory(chosen: Option<NewDerivation>) -> bool
 fn write_volume<D: Device>(
     device: &mut D,
     volume: &Volume<'_>,
-    made: &Made<'_>,
+    plan: &SlotPlan<'_>,
+    ahead: Option<&[u8]>,
+    json: &[u8],
 ) -> Result<(), DeviceFault>
     requires iterations { 1 ≤ volume.now.format.now.iterations }
     requires long { length volume.now.random.now ≡ 256208 }
     requires within { 16777216 ≤ D.size device.old }
     requires fits { Fits volume.now }
-    requires area { HasArea volume.now made.now.json.now }
-    requires plan { HasPlan volume.now made.now.plan }
-    requires sealable { IsReady volume.now made.now }
+    requires area { HasArea volume.now json.now }
+    requires plan { HasPlan volume.now.format.now volume.now.chosen volume.now.random.now plan.now }
+    requires sealable { IsReady volume.now plan.now ahead }
     requires room { D.failed device.old + 1 < 2 ^ 64 }
     requires settled { D.tells → IsSettled D.unsettled device.old }
     ensures count { CountsFailure is_failure result (D.failed device.old) (D.failed device.new) }
@@ -221,22 +202,24 @@ fn write_volume<D: Device>(
         (IsMade volume.now (D.bytes device.old) (D.bytes device.new)) }
 {
     clear_places(device, COPY_SIZE)?;
-    write_over_cleared(device, volume, made)
+    write_over_cleared(device, volume, plan, ahead, json)
 }
 
 // The same where the first sectors are cleared.
 fn write_over_cleared<D: Device>(
     device: &mut D,
     volume: &Volume<'_>,
-    made: &Made<'_>,
+    plan: &SlotPlan<'_>,
+    ahead: Option<&[u8]>,
+    json: &[u8],
 ) -> Result<(), DeviceFault>
     requires iterations { 1 ≤ volume.now.format.now.iterations }
     requires long { length volume.now.random.now ≡ 256208 }
     requires within { 16777216 ≤ D.size device.old }
     requires fits { Fits volume.now }
-    requires area { HasArea volume.now made.now.json.now }
-    requires plan { HasPlan volume.now made.now.plan }
-    requires sealable { IsReady volume.now made.now }
+    requires area { HasArea volume.now json.now }
+    requires plan { HasPlan volume.now.format.now volume.now.chosen volume.now.random.now plan.now }
+    requires sealable { IsReady volume.now plan.now ahead }
     requires room { D.failed device.old + 1 < 2 ^ 64 }
     requires settled { D.tells → IsSettled D.unsettled device.old }
     ensures count { CountsFailure is_failure result (D.failed device.old) (D.failed device.new) }
@@ -255,28 +238,34 @@ fn write_over_cleared<D: Device>(
     let words = volume.passphrase.bytes;
     let key = taken(random, KEY, KEY_BYTES);
     let stripes = taken(random, SLOT_SALT + SALT_BYTES, RANDOM_STRIPES);
-    put_key_area(device, &made.plan, made.ahead, words, key, stripes)?;
+    put_key_area(device, plan, ahead, words, key, stripes)?;
     let second = taken_array(random, SECOND_SALT);
-    write_new_copy(device, COPY_SIZE, random, second, made.json)?;
+    write_new_copy(device, COPY_SIZE, random, second, json)?;
     let first = taken_array(random, FIRST_SALT);
-    write_new_copy(device, 0, random, first, made.json)?;
+    write_new_copy(device, 0, random, first, json)?;
     Ok(())
 }
 
 // The plan of keyslot 0.
-fn slot_plan<'a>(volume: &Volume<'a>, digest: &'a [u8]) -> SlotPlan<'a>
-    requires iterations { 1 ≤ volume.now.format.now.iterations }
-    requires long { 272 ≤ length volume.now.random.now }
-    requires makeable { IfSome volume.now.chosen (IsMakeable volume.now.passphrase.memory) }
-    requires digest { digest.now ≡ key_digest volume.now.format.now volume.now.random.now
-        (digest_size_of volume.now.format.now.hash) }
-    ensures plan { HasPlan volume.now result }
-    ensures sealable { IsSealableWithin volume.now.passphrase.memory result }
-    ensures here { takes_memory volume.now.chosen ≡ false → IsSealable result }
+fn slot_plan<'a>(
+    format: &Format,
+    chosen: Option<NewDerivation>,
+    random: &'a [u8],
+    digest: &'a [u8],
+) -> SlotPlan<'a>
+    requires iterations { 1 ≤ format.now.iterations }
+    requires long { 272 ≤ length random.now }
+    requires digest { digest.now
+        ≡ key_digest format.now random.now (digest_size_of format.now.hash) }
+    ensures plan { HasPlan format.now chosen random.now result }
+    ensures sealable { (allowed : ℕ) → IfSome chosen (IsMakeable allowed)
+        → IsSealableWithin allowed result }
+    ensures here { (allowed : ℕ) → IfSome chosen (IsMakeable allowed)
+        → takes_memory chosen ≡ false → IsSealable result }
 {
     let cipher = AreaCipher::Whole("aes-xts-plain64");
-    let salt = taken(volume.random, SLOT_SALT, SALT_BYTES);
-    let digest_salt = taken(volume.random, DIGEST_SALT, SALT_BYTES);
-    let derivation = plan_derivation(volume.format, volume.chosen, salt);
-    new_plan_by(derivation, volume.format, cipher, AREA, digest_salt, digest)
+    let salt = taken(random, SLOT_SALT, SALT_BYTES);
+    let digest_salt = taken(random, DIGEST_SALT, SALT_BYTES);
+    let derivation = plan_derivation(format, chosen, salt);
+    new_plan_by(derivation, format, cipher, AREA, digest_salt, digest)
 }

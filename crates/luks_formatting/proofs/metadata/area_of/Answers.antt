@@ -6,7 +6,7 @@ use Rattle.luks_kdf.specs.Names.{digest_size_of}
 use Rattle.luks_rules.specs.Held.{IsHeld}
 use Rattle.luks_making.specs.Conditions.{CanFormat, FitsDerivation, FitsVolume}
 use Rattle.luks_making.specs.Formatted.{VolumeMembers, volume_members}
-use Rattle.luks_formatting.specs.Deriving.{deriving}
+use Rattle.luks_formatting.specs.Deriving.{slot_derivation}
 use Rattle.luks_formatting.specs.NewHeader2.{formatted_by}
 use Rattle.luks_formatting.specs.NewPlan.{key_digest}
 use Rattle.luks_formatting.proofs.MetadataFacts.{can_format, derivation_fits, digest_short, held_by, length-digest_salt, length-slot_salt}
@@ -16,7 +16,7 @@ use Rattle.luks_formatting.proofs.metadata.area_of.Goals as goal
 pub written_area-requires : goal.written_area-requires
 written_area-requires c =
     let volume = c.args.volume.now in
-    let own = deriving volume.format.now volume.chosen in
+    let own = slot_derivation volume.format.now volume.chosen in
     let members = c.requires.members in
     let digest : length (key_digest volume.format.now volume.random.now (digest_size_of volume.format.now.hash)) ≡ digest_size_of volume.format.now.hash =
     sym (ap (λ (m : VolumeMembers). length m.digest) members) ∙ c.requires.digest_length in
@@ -32,7 +32,7 @@ short_text n m full is short = absurd (omega (arith, full, is, short))
 pub unreachable-requires : goal.unreachable-requires
 unreachable-requires c =
     let volume = c.args.volume.now in
-    let own = deriving volume.format.now volume.chosen in
+    let own = slot_derivation volume.format.now volume.chosen in
     let v = volume_members c.args.like.now in
     let members = c.requires.members in
     let empty : IsNone c.in_ok-area.field-0 = rw c.in-None.is (search rules) in
