@@ -59,6 +59,7 @@ written_sealed plan passphrase key random bytes v w key_is stripes_are large ins
 -- an area that is alone on a device is sealed as one at its place
 pub alone_sealed : (plan : SlotPlan) (area : Area) (passphrase key random bytes : List ℕ) → area ≡ record { start = 0; len = 256000 } → length bytes ≡ 256000
     → IsSealed (record plan { area = area }) (area_bytes bytes area) passphrase key random → IsSealedAhead plan passphrase key random bytes
+unfolding area_key stripes_in
 alone_sealed plan area passphrase key random bytes alone long x =
     let whole : area_bytes bytes area ≡ bytes = ap (λ (a : Area). part bytes a.start a.len) alone ∙ ap (λ n. part bytes 0 n) (sym long) ∙ part-whole bytes in
     let moved : IsSealed plan (area_bytes bytes area) passphrase key random = record { stripes = x.stripes; zeros = x.zeros } in

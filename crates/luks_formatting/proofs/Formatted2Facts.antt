@@ -63,8 +63,8 @@ module _ (payload : Data) (format : Format) (chosen : Option NewDerivation) (pas
   json_there : json_at new 0 ≡ x.json
   json_there = ap (λ n. part new 4096 (n - 4096)) size ∙ sym (ap (λ n. part new 4096 n) x.metadata.long) ∙ x.first.written.area
 
-  chosen : Chosen new (luks2 0 InStep)
-  chosen =
+  counts : Chosen new (luks2 0 InStep)
+  counts =
       let second = subst (λ (o : ℕ). IsWrittenCopy new o x.second.header x.json) (sym x.first.fields.hdr_size) x.second.written in
       written_in_step new x.first.header x.second.header x.json x.json x.first.written second (x.first.fields.seqid ∙ sym x.second.fields.seqid)
 
@@ -95,7 +95,7 @@ module _ (payload : Data) (format : Format) (chosen : Option NewDerivation) (pas
   pub well_formed : WellFormed new payload
   well_formed = record {
     choice = luks2 0 InStep;
-    chosen = chosen;
+    chosen = counts;
     formed = subst (λ (a : List ℕ). IsLuks2Volume (header_at new 0) a payload (length new)) (sym json_there) formed;
   }
 
@@ -141,7 +141,7 @@ module _ (payload : Data) (format : Format) (chosen : Option NewDerivation) (pas
         let stripes = is.stripes in
         record {
           choice = luks2 0 InStep;
-          chosen = chosen;
+          chosen = counts;
           plan = plan;
           is = subst (λ (a : List ℕ). HasLuks2Plan a 0 plan) (sym json_there) x.slot.is;
           unrefused = subst (λ (a : List ℕ). (f : OpenFault) → IsLuks2RefusalWithin memory (header_at new 0) a (length new) 0 f → ⊥) (sym json_there) none;

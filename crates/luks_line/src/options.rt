@@ -269,7 +269,7 @@ static OPTIONS: [OptionRow; 38] = [
     OptionRow {
         name: "kdf",
         needed: false,
-        help: "What the passphrase's key is derived by",
+        help: "pbkdf2, argon2i or argon2id",
         takes: Takes::Kdf,
     },
     OptionRow {

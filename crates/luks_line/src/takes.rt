@@ -118,6 +118,6 @@ impl Takes {
 
     /// Whether the help doesn't list the values, since its text names them.
     pub(crate) fn hides(self) -> bool {
-        matches!(self, Takes::Hash | Takes::CopySize)
+        matches!(self, Takes::Hash | Takes::CopySize | Takes::Kdf)
     }
 }

@@ -1,4 +1,3 @@
-use Rattle.std.proofs.Common.{List, ℕ, subst}
 use Rattle.luks_formatting.proofs.Keyslot2Facts.{cipher_opens}
 use Rattle.luks_formatting.proofs.MetadataFacts.{length-slot_salt}
 use Rattle.luks_formatting.proofs.NewPlanFacts.{sealable_chosen, sealable_here}

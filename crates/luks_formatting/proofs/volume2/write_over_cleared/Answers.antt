@@ -74,3 +74,10 @@ returns-clause-formatted g c tells =
     (bytes c.write_new_copy-2.new.device) (c.write_new_copy-2.ensures.rest tells)
     (subst (λ (s : List ℕ). HasNewCopy (bytes c.write_new_copy.new.device) random s json 16384) c.taken_array-second.ensures (c.in_ok-write_new_copy.ensures.copy tells))
     (subst (λ (s : List ℕ). HasNewCopy (bytes c.write_new_copy-2.new.device) random s json 0) c.taken_array-first.ensures (c.in_ok-write_new_copy-2.ensures.copy tells))
+
+pub returns-in_err-write_new_copy-2-clause-rest : goal.returns-in_err-write_new_copy-2-clause-rest
+returns-in_err-write_new_copy-2-clause-rest g c tells =
+    all_rest c.args.plan.now.area c.requires.plan.is.area (c.put_key_area.ensures.rest tells) (c.write_new_copy.ensures.rest tells) (c.write_new_copy-2.ensures.rest tells)
+
+pub returns-clause-settled : goal.returns-clause-settled
+returns-clause-settled g c tells same = c.write_new_copy-2.ensures.settled tells c.in_ok-write_new_copy-2.ensures.count
