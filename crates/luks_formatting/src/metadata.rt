@@ -13,8 +13,10 @@ use crate::derivation::{NewDerivation, fits};
 use crate::new_header2::{JSON_SIZE, SLOT_SALT};
 use crate::random::{DIGEST_SALT, SALT_BYTES, taken};
 use crate::volume2::Volume;
-use luks_making::{NewDerivation as Written, NewKeyslot, NewVolume};
-use luks_making::{formatted, slot_value, volume_fits, with_slot, without_slot, written_area};
+use luks_making::{
+    NewDerivation as Written, NewKeyslot, NewVolume, formatted, slot_value, volume_fits, with_slot,
+    without_slot, written_area,
+};
 use luks_reading::{Data, Format};
 use serde_json::Value;
 use std::alloc::{AllocError, Global};
@@ -47,11 +49,7 @@ pub(crate) fn new_area(
 }
 
 // The same by what the metadata says.
-fn area_of(
-    alloc: Global,
-    volume: &Volume<'_>,
-    like: &NewVolume<'_>,
-) -> Result<Vec<u8>, AllocError>
+fn area_of(alloc: Global, volume: &Volume<'_>, like: &NewVolume<'_>) -> Result<Vec<u8>, AllocError>
     requires iterations { 1 ≤ volume.now.format.now.iterations }
     requires makeable { IfSome volume.now.chosen (IsMakeable volume.now.passphrase.memory) }
     requires long { 272 ≤ length volume.now.random.now }

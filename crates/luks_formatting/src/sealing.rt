@@ -76,7 +76,15 @@ pub(crate) fn sealed_ahead(
         ..*plan
     };
     let (words, memory) = (passphrase.bytes, passphrase.memory);
-    match seal_area_within(alloc, &mut device, &alone, words, memory, &Key::new(key), random) {
+    match seal_area_within(
+        alloc,
+        &mut device,
+        &alone,
+        words,
+        memory,
+        &Key::new(key),
+        random,
+    ) {
         Ok(()) => Ok(device),
         Err(_) => Err(AllocError),
     }
