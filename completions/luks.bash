@@ -11,7 +11,7 @@ _luks() {
         [remove]="--slot --by --passphrase --passphrase-line --random --memory --over --detached --offset --length --quiet --help"
         [repair]="--random --over --detached --offset --length --quiet --help"
         [label]="--random --over --detached --offset --length --quiet --help"
-        [format]="--passphrase --passphrase-line --random --version --hash --iterations --detached --offset --length --quiet --help"
+        [format]="--passphrase --passphrase-line --random --version --hash --iterations --kdf --kdf-memory --passes --lanes --memory --detached --offset --length --quiet --help"
         [convert]="--random --detached --offset --length --quiet --help"
         [rebuild]="--random --second --size --cipher --hash --key-bytes --payload --passphrase --passphrase-line --uuid --offset --length --quiet --help"
         [find]="--offset --length --quiet --help"

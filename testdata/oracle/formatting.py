@@ -4,7 +4,7 @@ import uuid
 
 import images
 import makers
-from equations import pbkdf2, sealed_area
+from equations import argon2, pbkdf2, sealed_area
 from images import ENABLED, OFFSETS, Entry, Luks1
 from reader import Fault
 
@@ -32,10 +32,12 @@ def uuid_text(random):
     return str(uuid.UUID(bytes=random, version=4)).encode()
 
 
-def formatted(version, volume, detached, hash_name, iterations, passphrase, random):
-    """The line that the program prints, and the volume left."""
+def formatted(version, volume, detached, hash_name, iterations, passphrase, random, costs=None, memory=0):
+    """The line that the program prints, and the volume left. Keyslot 0 of LUKS2 derives by Argon2 where its costs are given, the `kdf` of a keyslot
+    but for the salt, with so many KiB allowed."""
     try:
-        parts = (parts1 if version == 1 else parts2)(judged(version, volume, iterations, random), detached, hash_name, iterations, passphrase)
+        drawn = judged(version, volume, iterations, random, costs, memory)
+        parts = parts1(drawn, detached, hash_name, iterations, passphrase) if version == 1 else parts2(drawn, detached, hash_name, iterations, passphrase, costs)
     except Fault as fault:
         return f"refused {fault}", volume
     out = bytearray(volume)
@@ -44,11 +46,13 @@ def formatted(version, volume, detached, hash_name, iterations, passphrase, rand
     return "done slot 0", bytes(out)
 
 
-def judged(version, volume, iterations, random):
+def judged(version, volume, iterations, random, costs, memory):
     if len(volume) < LEAST_LENGTH[version]:
         raise Fault("TooSmall")
     if iterations < 1000:
         raise Fault("Iterations")
+    if costs and not 8 * costs["cpus"] <= costs["memory"] <= memory:
+        raise Fault("Argon2")
     if len(random) != NEEDED[version]:
         raise Fault("RandomLength")
     return Drawn(random)
@@ -63,11 +67,15 @@ def parts1(drawn, detached, hash_name, iterations, passphrase):
     return [(4096, head.seal(0, passphrase, key, drawn.rest())), (0, head.header())]
 
 
-def parts2(drawn, detached, hash_name, iterations, passphrase):
+def parts2(drawn, detached, hash_name, iterations, passphrase, costs):
     """What is written of LUKS2, in order: key area, second copy, first copy."""
     uuid_bytes, key, digest_salt, first, second, slot_salt = (drawn.take(count) for count in (16, 64, 32, 64, 64, 32))
     digest = pbkdf2(hash_name, key, digest_salt, iterations, hashlib.new(hash_name).digest_size)
-    text = makers.compact(makers.formatted(hash_name, iterations, 0 if detached else 16777216, digest_salt, digest, slot_salt))
-    area = sealed_area(hash_name, pbkdf2(hash_name, passphrase, slot_salt, iterations, 64), key, drawn.rest())
+    value = makers.formatted(hash_name, iterations, 0 if detached else 16777216, digest_salt, digest, slot_salt)
+    if costs:
+        value["keyslots"]["0"]["kdf"] = costs | {"salt": value["keyslots"]["0"]["kdf"]["salt"]}
+    text = makers.compact(value)
+    derived = argon2(costs, passphrase, slot_salt, 64) if costs else pbkdf2(hash_name, passphrase, slot_salt, iterations, 64)
+    area = sealed_area(hash_name, derived, key, drawn.rest())
     named = uuid_text(uuid_bytes)
     return [(32768, area), (16384, images.copy(text, 16384, uuid=named, salt=second)), (0, images.copy(text, 0, uuid=named, salt=first))]

@@ -138,6 +138,7 @@ edit_parts editing.Device = bare (codes "Device") refl
 format_parts : (f : FormatFault) → HasParts (format_fault_text f)
 format_parts formatting.TooSmall = bare (codes "TooSmall") refl
 format_parts formatting.Iterations = bare (codes "Iterations") refl
+format_parts formatting.Argon2 = bare (codes "Argon2") refl
 format_parts formatting.RandomLength = bare (codes "RandomLength") refl
 format_parts formatting.Memory = bare (codes "Memory") refl
 format_parts formatting.Device = bare (codes "Device") refl

@@ -138,6 +138,7 @@ edit_number edit.Device = 102
 abbrev pub format_number : FormatFault → ℕ
 format_number format.TooSmall = 40
 format_number format.Iterations = 10
+format_number format.Argon2 = 25
 format_number format.RandomLength = 39
 format_number format.Memory = 103
 format_number format.Device = 102

@@ -181,6 +181,7 @@ pub fn format_number(fault: &FormatFault) -> u32
     match fault {
         FormatFault::TooSmall => number_of(Fault::TooSmall),
         FormatFault::Iterations => number_of(Fault::Iterations),
+        FormatFault::Argon2 => number_of(Fault::Argon2),
         FormatFault::RandomLength => number_of(Fault::RandomLength),
         FormatFault::Memory => MEMORY,
         FormatFault::Device => BEYOND,

@@ -2,11 +2,11 @@
 use Rattle.std.proofs.Common.{◌≡◌, ◌≢◌, ℕ, List, Result, Ok, Err, refl, sym, ap, subst, IfErr, OnOk, inl, arith}
 use Rattle.luks_area.specs.RangeFacts.{same_but-same}
 use Rattle.luks_area.specs.Ranges.{SameBut}
-use Rattle.luks_reading.specs.Answer.{Answer, opens}
 use Rattle.luks_reading.specs.Checked.{WellFormed}
 use Rattle.luks_formatting.specs.declared.format_fault.FormatFault.{FormatFault}
-use Rattle.luks_formatting.specs.declared.format_fault.FormatFault.TheVariants.{TooSmall, Iterations, RandomLength, Memory, Device}
-use Rattle.luks_formatting.specs.FormatFaults.{IsAnsweredFault, IsAnsweredFaultOrMemory, IsFormat2Fault}
+use Rattle.luks_formatting.specs.declared.format_fault.FormatFault.TheVariants.{TooSmall, Iterations, Argon2, RandomLength, Memory, Device}
+use Rattle.luks_formatting.specs.FormatFaults.{IsAnsweredFault, IsAnsweredFaultOrMemory, IsFormat2FaultBy}
+use Rattle.luks_formatting.specs.Deriving.{allowed_for}
 use Rattle.luks_formatting.specs.RandomBytes.{volume_key}
 use Rattle.luks_commands.specs.declared.answers.Status.{Status}
 use Rattle.luks_commands.specs.declared.answers.Status.TheVariants.{Done, Refused, NotInStep, Fault}
@@ -19,7 +19,8 @@ use Rattle.luks_commands.proofs.EndFacts.{done_by, refusal_by, Tells}
 use Rattle.luks_commands.specs.declared.inputs.InputFault.{InputFault}
 use Rattle.luks_commands.specs.Files.{LeavesVolume}
 use Rattle.luks_commands.specs.FormatAnswers.{HasFormatFault, IsMakingFault}
-use Rattle.luks_commands.specs.Formatting.{IsFormatted, IsOfNewVolume, IsNewVolume, SaysFormat}
+use Rattle.luks_commands.specs.Formatting.{chosen_of, IsFormatted, IsOfNewVolume, IsNewVolume, OpensNew, SaysFormat}
+use Rattle.luks_commands.specs.OpenAnswers.{kib_of}
 
 -- a fault that isn't the device's leaves the same where each fault that stands does
 pub same_by : {D Same : Type 0} (result : Result D FormatFault) (faults : FormatFault → Type 0) → IfErr result (IsAnsweredFault faults)
@@ -27,6 +28,7 @@ pub same_by : {D Same : Type 0} (result : Result D FormatFault) (faults : Format
 same_by (Ok done) faults held same = tt
 same_by (Err TooSmall) faults held same = λ apart. same TooSmall held.0
 same_by (Err Iterations) faults held same = λ apart. same Iterations held.0
+same_by (Err Argon2) faults held same = λ apart. same Argon2 held.0
 same_by (Err RandomLength) faults held same = λ apart. same RandomLength held.0
 same_by (Err Memory) faults held same = λ apart. absurd held
 same_by (Err Device) faults held same = λ apart. absurd (apart refl)
@@ -38,35 +40,37 @@ pub same_or_memory_by : {D Same : Type 0} (result : Result D FormatFault) (fault
 same_or_memory_by (Ok done) faults held same memory = tt
 same_or_memory_by (Err TooSmall) faults held same memory = λ apart. same TooSmall held.0
 same_or_memory_by (Err Iterations) faults held same memory = λ apart. same Iterations held.0
+same_or_memory_by (Err Argon2) faults held same memory = λ apart. same Argon2 held.0
 same_or_memory_by (Err RandomLength) faults held same memory = λ apart. same RandomLength held.0
 same_or_memory_by (Err Memory) faults held same memory = λ apart. memory refl
 same_or_memory_by (Err Device) faults held same memory = λ apart. absurd (apart refl)
 
-made_so : {D : Type 0} (result : Result D FormatFault) (making : Making) (total : ℕ) (random : List ℕ) → making.version ≡ Luks2
-    → IfErr result (IsAnsweredFaultOrMemory (HasFormatFault making.version making total random)) → IfErr result (IsMakingFault making total random)
-made_so (Ok done) making total random is held = tt
-made_so (Err TooSmall) making total random is held = held
-made_so (Err Iterations) making total random is held = held
-made_so (Err RandomLength) making total random is held = held
-made_so (Err Memory) making total random is held = (is, held)
-made_so (Err Device) making total random is held = tt
+made_so : {D : Type 0} (result : Result D FormatFault) (making : Making) (passphrase : List ℕ) (total : ℕ) (random : List ℕ) → making.version ≡ Luks2
+    → IfErr result (IsAnsweredFaultOrMemory (HasFormatFault making.version making passphrase total random)) → IfErr result (IsMakingFault making passphrase total random)
+made_so (Ok done) making passphrase total random is held = tt
+made_so (Err TooSmall) making passphrase total random is held = held
+made_so (Err Iterations) making passphrase total random is held = held
+made_so (Err Argon2) making passphrase total random is held = held
+made_so (Err RandomLength) making passphrase total random is held = held
+made_so (Err Memory) making passphrase total random is held = (is, held)
+made_so (Err Device) making passphrase total random is held = tt
 
 -- what ends the making of a LUKS2 volume
-pub made_fault : {D : Type 0} (result : Result D FormatFault) (making : Making) (total : ℕ) (random : List ℕ) → making.version ≡ Luks2
-    → IfErr result (IsAnsweredFaultOrMemory (IsFormat2Fault total making.format random)) → IfErr result (IsMakingFault making total random)
-made_fault result making total random is held =
-    made_so result making total random is
-    (subst (λ version. IfErr result (IsAnsweredFaultOrMemory (HasFormatFault version making total random))) (sym is) held)
+pub made_fault : {D : Type 0} (result : Result D FormatFault) (making : Making) (passphrase : List ℕ) (total : ℕ) (random : List ℕ) → making.version ≡ Luks2
+    → IfErr result (IsAnsweredFaultOrMemory (IsFormat2FaultBy (chosen_of making.argon2) (allowed_for (kib_of making.memory) passphrase) total making.format random)) → IfErr result (IsMakingFault making passphrase total random)
+made_fault result making passphrase total random is held =
+    made_so result making passphrase total random is
+    (subst (λ version. IfErr result (IsAnsweredFaultOrMemory (HasFormatFault version making passphrase total random))) (sym is) held)
 
 -- what was formatted by its version is the new volume
 pub made : {D : Type 0} (result : Result D FormatFault) (making : Making) (version : NewVersion) (passphrase random old new : List ℕ)
-    → making.version ≡ version → OnOk result (IsFormatted version making.data_ making.format passphrase random old new)
-    → OnOk result (WellFormed new making.data_) → OnOk result (Answer new 0 passphrase (opens (volume_key random)))
+    → making.version ≡ version → OnOk result (IsFormatted version making passphrase random old new)
+    → OnOk result (WellFormed new making.data_) → OnOk result (OpensNew version making new passphrase (volume_key random))
     → OnOk result (IsNewVolume making passphrase random old new)
 made (Ok done) making version passphrase random old new is formatted well opened = record {
-  formatted = subst (λ v. IsFormatted v making.data_ making.format passphrase random old new) (sym is) formatted;
+  formatted = subst (λ v. IsFormatted v making passphrase random old new) (sym is) formatted;
   well_formed = well;
-  opens = opened;
+  opened = subst (λ v. OpensNew v making new passphrase (volume_key random)) (sym is) opened;
 }
 made (Err fault) making version passphrase random old new is formatted well opened = tt
 

@@ -3,7 +3,8 @@ use Rattle.std.specs.Prelude.{◌≡◌, ◌⊎◌, ℕ, ◌+◌, List, Some, Re
 use Rattle.luks_area.specs.First.{IsLeast}
 use Rattle.luks_formatting.specs.declared.format_fault.FormatFault.{FormatFault}
 use Rattle.luks_formatting.specs.declared.format_fault.FormatFault.TheVariants.{Device, Memory}
-use Rattle.luks_formatting.specs.FormatFaults.{format_key, HasNoFault, IsFormat1Fault, IsFormat2Fault}
+use Rattle.luks_formatting.specs.FormatFaults.{format_key, HasNoFault, IsFormat1Fault, IsFormat2FaultBy}
+use Rattle.luks_formatting.specs.Deriving.{allowed_for}
 use Rattle.luks_request.specs.declared.request.Making.{Making}
 use Rattle.luks_request.specs.declared.request.NewVersion.{NewVersion}
 use Rattle.luks_request.specs.declared.request.NewVersion.TheVariants.{Luks1, Luks2}
@@ -13,19 +14,21 @@ use Rattle.luks_commands.specs.declared.answers.Refusal.TheVariants.{Format}
 use Rattle.luks_commands.specs.declared.inputs.InputFault.{InputFault}
 use Rattle.luks_commands.specs.Answer.{IsWordless, unread_answer}
 use Rattle.luks_commands.specs.Files.{IsUnread, IsUnreadRandom}
-use Rattle.luks_commands.specs.Formatting.{IsNewVolume}
+use Rattle.luks_commands.specs.Formatting.{chosen_of, IsNewVolume}
+use Rattle.luks_commands.specs.OpenAnswers.{kib_of}
 
 -- the faults of making a volume of this version on a device of `total` bytes
-abbrev pub HasFormatFault : NewVersion → Making → ℕ → List ℕ → FormatFault → Type 0
-HasFormatFault Luks1 making total random f = IsFormat1Fault total making.format random f
-HasFormatFault Luks2 making total random f = IsFormat2Fault total making.format random f
+abbrev pub HasFormatFault : NewVersion → Making → List ℕ → ℕ → List ℕ → FormatFault → Type 0
+HasFormatFault Luks1 making passphrase total random f = IsFormat1Fault total making.format random f
+HasFormatFault Luks2 making passphrase total random f =
+    IsFormat2FaultBy (chosen_of making.argon2) (allowed_for (kib_of making.memory) passphrase) total making.format random f
 
 -- the first of them, unless the device failed or memory was refused: it is taken for LUKS2 alone, and where
 -- none of them stands
-abbrev pub IsMakingFault : Making → ℕ → List ℕ → FormatFault → Type 0
-IsMakingFault making total random Device = ⊤
-IsMakingFault making total random Memory = (making.version ≡ Luks2) × HasNoFault (HasFormatFault making.version making total random)
-IsMakingFault making total random f = IsLeast format_key (HasFormatFault making.version making total random) f
+abbrev pub IsMakingFault : Making → List ℕ → ℕ → List ℕ → FormatFault → Type 0
+IsMakingFault making passphrase total random Device = ⊤
+IsMakingFault making passphrase total random Memory = (making.version ≡ Luks2) × HasNoFault (HasFormatFault making.version making passphrase total random)
+IsMakingFault making passphrase total random f = IsLeast format_key (HasFormatFault making.version making passphrase total random) f
 
 -- with this passphrase and these random bytes, of a volume of `total` bytes that was `old` and was left
 -- as `new`, while the device's count of failures went from `before` to `after`: `device fault` comes
@@ -36,10 +39,10 @@ IsFormatAnswer tells making passphrase random total old new before after (Done s
 IsFormatAnswer tells making passphrase random total old new before after (Refused (Format Device)) = ⊥
 IsFormatAnswer tells making passphrase random total old new before after (Refused (Format Memory)) = ⊥
 IsFormatAnswer tells making passphrase random total old new before after (Refused (Format f)) =
-    (after ≡ before) × IsMakingFault making total random f × (tells → new ≡ old)
+    (after ≡ before) × IsMakingFault making passphrase total random f × (tells → new ≡ old)
 IsFormatAnswer tells making passphrase random total old new before after DeviceFault = after ≡ before + 1
 IsFormatAnswer tells making passphrase random total old new before after NoMemory =
-    (after ≡ before) × IsMakingFault making total random Memory × (tells → new ≡ old)
+    (after ≡ before) × IsMakingFault making passphrase total random Memory × (tells → new ≡ old)
 IsFormatAnswer tells making passphrase random total old new before after a = ⊥
 
 -- the passphrase is what its file has, and the random bytes are the first that theirs has

@@ -1,5 +1,6 @@
 -- A volume that was formatted by LUKS2 is well formed, and its keyslot 0 opens.
-use Rattle.std.proofs.Common.{◌≡◌, ℕ, ◌*◌, ◌-◌, ◌≤◌, ◌++◌, List, length, replicate, Some, None, arith, sym, ap, ◌∙◌, subst, lit<, if◌then◌else◌}
+use Rattle.std.proofs.Common.{◌≡◌, ℕ, ◌*◌, ◌-◌, ◌≤◌, ◌++◌, List, length, replicate, Option, Some, None, arith, sym, ap, ◌∙◌, subst, lit<, if◌then◌else◌}
+use Rattle.std.specs.Prelude.{IfSome}
 use Rattle.serde_json.specs.Data.{Data as Value}
 use Rattle.luks_area.specs.Ranges.{part}
 use Rattle.luks_area.specs.RangeFacts.{length-part_inside}
@@ -21,27 +22,27 @@ use Rattle.luks_rules.specs.declared.fault.MetaFault.{MetaFault}
 use Rattle.luks_rules.specs.declared.table.Section.TheVariants.{Keyslots}
 use Rattle.luks_rules.proofs.AreaFaults.{one_value}
 use Rattle.luks_rules.proofs.Deciding.{metadata_faultless}
-use Rattle.luks_making.proofs.NewVolumeFacts.{held_made}
-use Rattle.luks_making.specs.Formatted.{VolumeMembers, first_slot, formatted}
+use Rattle.luks_making.specs.Formatted.{VolumeMembers}
 use Rattle.luks_making.specs.Keyslots.{slot_value}
-use Rattle.luks_slot.specs.Refusal.{slot_refusal}
+use Rattle.luks_slot.specs.Refusal.{slot_refusal_within}
 use Rattle.luks_slot.specs.declared.plan.SlotPlan.{SlotPlan}
-use Rattle.luks_reading.specs.Answer.{Answer, IsLuks2Refusal, opens}
+use Rattle.luks_reading.specs.Answer.{AnswerWithin, IsLuks2RefusalWithin, opens}
 use Rattle.luks_reading.specs.Checked.{IsLuks2Volume, SegmentsFollow, WellFormed}
 use Rattle.luks_reading.specs.Header.{json_at}
-use Rattle.luks_reading.specs.MemoryFacts.{refusal_at_zero}
 use Rattle.luks_reading.specs.Plans.{HasLuks2Plan}
 use Rattle.luks_reading.specs.declared.open_fault.OpenFault.{OpenFault}
 use Rattle.luks_reading.specs.declared.open_fault.OpenFault.TheVariants.{Head, Meta, NoSuchSlot, SlotFree, Outside, Slot, Device, Memory}
 use Rattle.luks_reading.specs.declared.report.Data.{Data}
-use Rattle.luks_formatting.specs.Formatted2.{IsFormatted2}
-use Rattle.luks_formatting.specs.NewHeader2.{area2, new_members, FitsMetadata, IsNewCipher2}
-use Rattle.luks_formatting.specs.NewPlan.{key_digest, IsNewPlan}
+use Rattle.luks_formatting.specs.declared.derivation.NewDerivation.{NewDerivation}
+use Rattle.luks_formatting.specs.Deriving.{slot_derivation, memory_by, IsMakeable}
+use Rattle.luks_formatting.specs.Formatted2.{IsFormatted2By}
+use Rattle.luks_formatting.specs.NewHeader2.{area2, first_slot_by, formatted_by, new_members, new_metadata, FitsMetadataBy, IsNewCipher2}
+use Rattle.luks_formatting.specs.NewPlan.{key_digest, IsNewPlanBy}
 use Rattle.luks_formatting.specs.RandomBytes.{digest_salt, random_stripes, slot_place2, slot_salt, uuid_bytes, volume_key}
 use Rattle.luks_formatting.proofs.Formatted1Facts.{length-volume_key, reopens}
 use Rattle.luks_formatting.proofs.Keyslot2Facts.{cipher_opens, fit, plan_is, segments}
-use Rattle.luks_formatting.proofs.MetadataFacts.{can_format, no_some}
-use Rattle.luks_formatting.proofs.NewPlanFacts.{key_meets, unrefused}
+use Rattle.luks_formatting.proofs.MetadataFacts.{can_format, held_by, length-slot_salt, no_some}
+use Rattle.luks_formatting.proofs.NewPlanFacts.{key_meets, makeable_enough, unrefused_chosen}
 
 -- the uuid of a new header
 uuid_good : (random field_ : List ℕ) → field_ ≡ uuid_text random ++ replicate 4 0 → IsUuidField field_
@@ -51,8 +52,8 @@ uuid_good random field_ is = subst IsUuidField (sym is) (fills (uuid_text random
 no_meta : (area : List ℕ) (j : Value) → IsMeta area j → (f : MetaFault) → IsMetaFault area f → ⊥
 no_meta area j is = (metadata_faultless area).1 (j, is)
 
-module _ (payload : Data) (format : Format) (passphrase random old new : List ℕ) (some : 1 ≤ format.iterations) (large : 16777216 ≤ length new) (counted : length random ≡ 256208)
-    (fits : FitsMetadata payload format random) (x : IsFormatted2 payload format passphrase random old new) where
+module _ (payload : Data) (format : Format) (chosen : Option NewDerivation) (passphrase random old new : List ℕ) (some : 1 ≤ format.iterations) (large : 16777216 ≤ length new) (counted : length random ≡ 256208)
+    (fits : FitsMetadataBy payload format chosen random) (x : IsFormatted2By payload format chosen passphrase random old new) where
   long : 272 ≤ length random
   long = omega (arith, counted)
 
@@ -62,31 +63,31 @@ module _ (payload : Data) (format : Format) (passphrase random old new : List �
   json_there : json_at new 0 ≡ x.json
   json_there = ap (λ n. part new 4096 (n - 4096)) size ∙ sym (ap (λ n. part new 4096 n) x.metadata.long) ∙ x.first.written.area
 
-  chosen : Chosen new (luks2 0 InStep)
-  chosen =
+  counts : Chosen new (luks2 0 InStep)
+  counts =
       let second = subst (λ (o : ℕ). IsWrittenCopy new o x.second.header x.json) (sym x.first.fields.hdr_size) x.second.written in
       written_in_step new x.first.header x.second.header x.json x.json x.first.written second (x.first.fields.seqid ∙ sym x.second.fields.seqid)
 
   uuid : IsUuidField (uuid_field (header_at new 0))
   uuid = uuid_good (uuid_bytes random) (uuid_field (header_at new 0)) (x.first.written.header.fields.uuid ∙ x.first.fields.uuid)
 
-  meta : IsMeta x.json (formatted (new_members payload format random))
+  meta : IsMeta x.json (new_metadata payload format chosen random)
   meta = record {
     json = x.metadata.json;
-    content = subst (λ (n : ℕ). IsContent n (formatted (new_members payload format random))) (sym x.metadata.long)
-        (held_made (new_members payload format random) fits.fits (can_format payload format random some long fits.digest_length)).content;
+    content = subst (λ (n : ℕ). IsContent n (new_metadata payload format chosen random)) (sym x.metadata.long)
+        (held_by (slot_derivation format chosen) (new_members payload format random) fits.fits (can_format payload format random some long fits.digest_length) fits.derivation).content;
   }
 
   formed : IsLuks2Volume (header_at new 0) x.json payload (length new)
   formed = record {
     uuid = uuid;
     layout = (
-      formatted (new_members payload format random),
+      new_metadata payload format chosen random,
       record {
         metadata = meta;
-        segments = λ here. subst (λ (n : ℕ). SegmentsFollow n (formatted (new_members payload format random))) (sym x.metadata.long)
-            (segments payload format random some long fits here);
-        fit = fit payload format random some long fits (length new) (hdr_size (header_at new 0)) size large;
+        segments = λ here. subst (λ (n : ℕ). SegmentsFollow n (new_metadata payload format chosen random)) (sym x.metadata.long)
+            (segments payload format chosen random some long fits here);
+        fit = fit payload format chosen random some long fits (length new) (hdr_size (header_at new 0)) size large;
       },
     );
   }
@@ -94,53 +95,56 @@ module _ (payload : Data) (format : Format) (passphrase random old new : List �
   pub well_formed : WellFormed new payload
   well_formed = record {
     choice = luks2 0 InStep;
-    chosen = chosen;
+    chosen = counts;
     formed = subst (λ (a : List ℕ). IsLuks2Volume (header_at new 0) a payload (length new)) (sym json_there) formed;
   }
 
   new_plan : (plan : SlotPlan) → HasLuks2Plan x.json 0 plan
-      → IsNewPlan format (slot_salt slot_place2 random) area2 (digest_salt random) (key_digest format random (digest_size_of format.hash)) plan × IsNewCipher2 plan.cipher
-  new_plan = plan_is payload format random some long fits x.json x.metadata.json
+      → IsNewPlanBy (slot_derivation format chosen) format (slot_salt slot_place2 random) area2 (digest_salt random) (key_digest format random (digest_size_of format.hash)) plan × IsNewCipher2 plan.cipher
+  new_plan = plan_is payload format chosen random some long fits x.json x.metadata.json
 
-  plan_unrefused : (plan : SlotPlan) → HasLuks2Plan x.json 0 plan → slot_refusal plan ≡ None
-  plan_unrefused plan y =
-      let is = new_plan plan y in
-      unrefused format (slot_salt slot_place2 random) area2 (digest_salt random) (key_digest format random (digest_size_of format.hash)) plan is.0 (cipher_opens plan.cipher is.1)
+  -- where as much memory is allowed as the keyslot takes, its plan isn't refused
+  module _ (allowed memory : ℕ) (can : IfSome chosen (IsMakeable allowed)) (enough : memory_by (slot_derivation format chosen) ≤ memory) where
+    plan_unrefused : (plan : SlotPlan) → HasLuks2Plan x.json 0 plan → slot_refusal_within memory plan ≡ None
+    plan_unrefused plan y =
+        let is = new_plan plan y in
+        unrefused_chosen format chosen (slot_salt slot_place2 random) area2 (digest_salt random) (key_digest format random (digest_size_of format.hash)) plan is.0 (cipher_opens plan.cipher is.1)
+        memory (length-slot_salt random long) (makeable_enough format allowed memory chosen can enough)
 
-  none : (f : OpenFault) → IsLuks2Refusal (header_at new 0) x.json (length new) 0 f → ⊥
-  none (Head f) y = uuid_sound (uuid_field (header_at new 0)) uuid f y
-  none (Meta f) y = no_meta x.json (formatted (new_members payload format random)) meta f y
-  none NoSuchSlot y =
-      let v : VolumeMembers = new_members payload format random in
-      let same : y.value ≡ formatted v = one_value x.json y.value (formatted v) y.holds x.metadata.json in
-      let gone : object_at (formatted v) Keyslots 0 ≡ None = subst (λ (k : Value). object_at k Keyslots 0 ≡ None) same (y.absent (lit< tt)) in
-      no_some (slot_value (first_slot v)) (sym gone)
-  none SlotFree y = y
-  none Outside y =
-      let past = y.past in
-      let is = (new_plan y.plan y.is).0 in
-      let start = ap (λ (a : Area). a.start) is.area in
-      let len = ap (λ (a : Area). a.len) is.area in
-      absurd (omega (arith, past, start, len, large))
-  none (Slot s) y = (let both : None ≡ Some s = sym (plan_unrefused y.plan y.is) ∙ sym (refusal_at_zero y.plan) ∙ y.refused in no_some s both)
-  none Device y = y
-  none Memory y = y
+    none : (f : OpenFault) → IsLuks2RefusalWithin memory (header_at new 0) x.json (length new) 0 f → ⊥
+    none (Head f) y = uuid_sound (uuid_field (header_at new 0)) uuid f y
+    none (Meta f) y = no_meta x.json (new_metadata payload format chosen random) meta f y
+    none NoSuchSlot y =
+        let v : VolumeMembers = new_members payload format random in
+        let same : y.value ≡ formatted_by (slot_derivation format chosen) v = one_value x.json y.value (formatted_by (slot_derivation format chosen) v) y.holds x.metadata.json in
+        let gone : object_at (formatted_by (slot_derivation format chosen) v) Keyslots 0 ≡ None = subst (λ (k : Value). object_at k Keyslots 0 ≡ None) same (y.absent (lit< tt)) in
+        no_some (slot_value (first_slot_by (slot_derivation format chosen) v)) (sym gone)
+    none SlotFree y = y
+    none Outside y =
+        let past = y.past in
+        let is = (new_plan y.plan y.is).0 in
+        let start = ap (λ (a : Area). a.start) is.area in
+        let len = ap (λ (a : Area). a.len) is.area in
+        absurd (omega (arith, past, start, len, large))
+    none (Slot s) y = (let both : None ≡ Some s = sym (plan_unrefused y.plan y.is) ∙ y.refused in no_some s both)
+    none Device y = y
+    none Memory y = y
 
-  pub slot_opens : Answer new 0 passphrase (opens (volume_key random))
-  slot_opens =
-      let plan = x.slot.plan in
-      let is = (new_plan plan x.slot.is).0 in
-      let key_len : length (volume_key random) ≡ plan.key_bytes = length-volume_key random (omega (arith, counted)) ∙ sym is.key_bytes in
-      let random_len : length (random_stripes slot_place2 random) ≡ (plan.stripes - 1) * plan.key_bytes =
-      length-part_inside random 272 255936 (omega (arith, counted)) ∙ sym (ap (λ s. (s - 1) * plan.key_bytes) is.stripes ∙ ap (λ k. (4000 - 1) * k) is.key_bytes) in
-      let meets = key_meets format random (digest_size_of format.hash) plan.digest is.digest fits.digest_length in
-      let stripes = is.stripes in
-      record {
-        choice = luks2 0 InStep;
-        chosen = chosen;
-        plan = plan;
-        is = subst (λ (a : List ℕ). HasLuks2Plan a 0 plan) (sym json_there) x.slot.is;
-        unrefused = subst (λ (a : List ℕ). (f : OpenFault) → IsLuks2Refusal (header_at new 0) a (length new) 0 f → ⊥) (sym json_there) none;
-        key = reopens plan (part new plan.area.start plan.area.len) passphrase (volume_key random) (random_stripes slot_place2 random) (omega (arith, stripes)) key_len random_len x.slot.sealed
-            ∙ ap (λ b. if b then Some (volume_key random) else None) meets;
-      }
+    pub slot_opens : AnswerWithin memory new 0 passphrase (opens (volume_key random))
+    slot_opens =
+        let plan = x.slot.plan in
+        let is = (new_plan plan x.slot.is).0 in
+        let key_len : length (volume_key random) ≡ plan.key_bytes = length-volume_key random (omega (arith, counted)) ∙ sym is.key_bytes in
+        let random_len : length (random_stripes slot_place2 random) ≡ (plan.stripes - 1) * plan.key_bytes =
+        length-part_inside random 272 255936 (omega (arith, counted)) ∙ sym (ap (λ s. (s - 1) * plan.key_bytes) is.stripes ∙ ap (λ k. (4000 - 1) * k) is.key_bytes) in
+        let meets = key_meets format random (digest_size_of format.hash) plan.digest is.digest fits.digest_length in
+        let stripes = is.stripes in
+        record {
+          choice = luks2 0 InStep;
+          chosen = counts;
+          plan = plan;
+          is = subst (λ (a : List ℕ). HasLuks2Plan a 0 plan) (sym json_there) x.slot.is;
+          unrefused = subst (λ (a : List ℕ). (f : OpenFault) → IsLuks2RefusalWithin memory (header_at new 0) a (length new) 0 f → ⊥) (sym json_there) none;
+          key = reopens plan (part new plan.area.start plan.area.len) passphrase (volume_key random) (random_stripes slot_place2 random) (omega (arith, stripes)) key_len random_len x.slot.sealed
+              ∙ ap (λ b. if b then Some (volume_key random) else None) meets;
+        }

@@ -1,7 +1,7 @@
 -- What the metadata of a new LUKS2 volume places: the areas, and the plan of keyslot 0.
 use Rattle.std.proofs.lemmas.Bool.{cases_eq}
 use Rattle.serde_json.specs.Find.{get}
-use Rattle.std.proofs.Common.{◌≡◌, ◌≢◌, ℕ, ◌+◌, ◌-◌, ◌<◌, ◌≤◌, List, length, codes, Some, None, true, option_and_then, arith, refl, sym, ap, ◌∙◌, subst, lit<, lit≤, inl, inr}
+use Rattle.std.proofs.Common.{◌≡◌, ◌≢◌, ℕ, ◌+◌, ◌-◌, ◌<◌, ◌≤◌, List, length, codes, Option, Some, None, true, option_and_then, arith, refl, sym, ap, ◌∙◌, subst, lit<, lit≤, inl, inr}
 use Rattle.serde_json.specs.Data.{Data as Value, number, string, unsigned}
 use Rattle.luks_area.specs.Area.{Fit, IsInside, LiesIn}
 use Rattle.luks_area.specs.declared.area.Area.{Area}
@@ -24,26 +24,30 @@ use Rattle.luks_making.proofs.NewVolumeFacts.{none_else}
 use Rattle.luks_making.proofs.ReadingFacts.{bytes_are, decimal_is, number_is}
 use Rattle.luks_making.proofs.RoomFacts.{says_members}
 use Rattle.luks_making.specs.Conditions.{CanFormat}
-use Rattle.luks_making.specs.Formatted.{VolumeMembers, digest_value, first_slot, formatted, segment_value}
-use Rattle.luks_making.specs.Keyslots.{slot_value}
-use Rattle.luks_making.specs.Unchanged.{SaysMembers}
+use Rattle.luks_making.specs.Formatted.{VolumeMembers, digest_value, segment_value}
+use Rattle.luks_making.specs.Keyslots.{Deriving, by_argon2i, by_argon2id, by_pbkdf2, slot_value}
+use Rattle.luks_making.specs.Unchanged.{SaysArgon2, SaysDerivation, SaysMembers, SaysPbkdf2}
+use Rattle.luks_making.specs.declared.new_keyslot.Argon2Costs.{Argon2Costs}
 use Rattle.luks_meta.specs.Says.{small_at}
 use Rattle.luks_slot.specs.declared.plan.DigestPlan.{DigestPlan}
 use Rattle.luks_slot.specs.Refusal.{is_open_cipher}
 use Rattle.luks_slot.specs.declared.plan.AreaCipher.{AreaCipher}
 use Rattle.luks_slot.specs.declared.plan.AreaCipher.TheVariants.{Apart, Whole}
+use Rattle.luks_slot.specs.declared.plan.Argon2Kind.{Argon2Kind}
+use Rattle.luks_slot.specs.declared.plan.Argon2Kind.TheVariants.{I, Id}
 use Rattle.luks_slot.specs.declared.plan.Derivation.{Derivation}
 use Rattle.luks_slot.specs.declared.plan.Derivation.TheVariants.{Pbkdf2, Argon2}
 use Rattle.luks_slot.specs.declared.plan.SlotPlan.{SlotPlan}
 use Rattle.luks_reading.specs.Checked.{SegmentsFollow}
 use Rattle.luks_reading.specs.Layout2.{HasExtent, Luks2Area, segment_extent, segment_offset, slot_number}
 use Rattle.luks_reading.specs.PlanFacts.{no_pbkdf2}
-use Rattle.luks_reading.specs.Plans.{HasLuks2Plan, IsLuks2Cipher, IsLuks2Derivation, IsLuks2Digest, IsLuks2Plan}
+use Rattle.luks_reading.specs.Plans.{kind_text, HasLuks2Plan, IsLuks2Cipher, IsLuks2Derivation, IsLuks2Digest, IsLuks2Plan}
 use Rattle.luks_reading.specs.declared.report.Data.{Data}
 use Rattle.luks_reading.specs.declared.report.Data.TheVariants.{Here}
-use Rattle.luks_formatting.specs.NewPlan.{IsNewDigest}
-use Rattle.luks_formatting.specs.NewHeader2.{area2, new_members, segment_start, FitsMetadata, IsNewCipher2}
-use Rattle.luks_formatting.specs.NewPlan.{key_digest, IsNewDerivation, IsNewPlan}
+use Rattle.luks_formatting.specs.declared.derivation.NewDerivation.{NewDerivation}
+use Rattle.luks_formatting.specs.Deriving.{slot_derivation, IsArgon2Plan, IsDerivedBy}
+use Rattle.luks_formatting.specs.NewHeader2.{area2, first_slot_by, formatted_by, new_members, new_metadata, segment_start, FitsMetadataBy, IsNewCipher2}
+use Rattle.luks_formatting.specs.NewPlan.{key_digest, IsNewDigest, IsNewPlanBy}
 use Rattle.luks_formatting.specs.RandomBytes.{digest_salt, slot_place2, slot_salt}
 use Rattle.luks_formatting.proofs.Formatted1Facts.{area_is}
 use Rattle.luks_formatting.proofs.MetadataFacts.{can_format, digest_at, keyslots_say, length-digest_salt, no_some, segment_at, slot_at, slot_fits, some_same}
@@ -90,32 +94,96 @@ pub cipher_opens : (cipher : AreaCipher) → IsNewCipher2 cipher → is_open_cip
 cipher_opens (Apart name mode) is = absurd is
 cipher_opens (Whole text) is = rw is refl
 
-module _ (payload : Data) (format : Format) (random : List ℕ) (some : 1 ≤ format.iterations) (long : 272 ≤ length random) (fits : FitsMetadata payload format random) where
+-- ---- what a keyslot says of its derivation
+
+-- the texts of the kinds differ
+kind_is : (k : Argon2Kind) (l : Argon2Kind) → Some (kind_text k) ≡ Some (kind_text l) → k ≡ l
+kind_is I I same = refl
+kind_is I Id same = cc
+kind_is Id I same = cc
+kind_is Id Id same = refl
+
+no_kind : (l : Argon2Kind) → Some (codes "pbkdf2") ≡ Some (kind_text l) → ⊥
+no_kind I same = cc
+no_kind Id same = cc
+
+module _ (k : Value) (salt : List ℕ) (salted : bytes_in 1 128 (member_at k outer.Kdf name.Salt) ≡ Some salt) where
+  told_argon2 : (kind : Argon2Kind) (costs : Argon2Costs) → SaysArgon2 (kind_text kind) costs k → (d : Derivation) → IsLuks2Derivation k d → IsArgon2Plan kind costs salt d
+  told_argon2 kind costs says (Pbkdf2 hash iterations own) is = absurd (no_kind kind (sym is.0 ∙ says.kind))
+  told_argon2 kind costs says (Argon2 c) is = record {
+    own_kind = kind_is c.kind kind (sym is.0 ∙ says.kind);
+    time = some_same c.time costs.time (sym is.1 ∙ says.time);
+    memory = some_same c.memory costs.memory (sym is.2 ∙ says.memory);
+    cpus = some_same c.cpus costs.cpus (sym is.3 ∙ says.cpus);
+    own_salt = some_same c.salt.now salt (sym is.4 ∙ salted);
+  }
+
+  tells_argon2 : (kind : Argon2Kind) (costs : Argon2Costs) → SaysArgon2 (kind_text kind) costs k → (d : Derivation) → IsArgon2Plan kind costs salt d → IsLuks2Derivation k d
+  tells_argon2 kind costs says (Pbkdf2 hash iterations own) is = absurd is
+  tells_argon2 kind costs says (Argon2 c) is = (
+    says.kind ∙ ap (λ l. Some (kind_text l)) (sym is.own_kind),
+    says.time ∙ ap Some (sym is.time),
+    says.memory ∙ ap Some (sym is.memory),
+    says.cpus ∙ ap Some (sym is.cpus),
+    salted ∙ ap Some (sym is.own_salt),
+  )
+
+  told_pbkdf2 : (h : List ℕ) (n : ℕ) → SaysPbkdf2 h n k → (d : Derivation) → IsLuks2Derivation k d → IsDerivedBy (by_pbkdf2 h n) salt d
+  told_pbkdf2 h n says (Pbkdf2 hash iterations own) is = (
+    some_same hash.now h (sym is.1 ∙ says.hash),
+    some_same iterations n (sym is.2 ∙ says.iterations),
+    some_same own.now salt (sym is.3 ∙ salted),
+  )
+  told_pbkdf2 h n says (Argon2 c) is = absurd (no_pbkdf2 k c is says.kind)
+
+  tells_pbkdf2 : (h : List ℕ) (n : ℕ) → SaysPbkdf2 h n k → (d : Derivation) → IsDerivedBy (by_pbkdf2 h n) salt d → IsLuks2Derivation k d
+  tells_pbkdf2 h n says (Pbkdf2 hash iterations own) is = (
+    says.kind,
+    says.hash ∙ ap Some (sym is.0),
+    says.iterations ∙ ap Some (sym is.1),
+    salted ∙ ap Some (sym is.2),
+  )
+  tells_pbkdf2 h n says (Argon2 c) is = absurd is
+
+-- a plan of the keyslot derives as the keyslot says, and the other way round
+told_derivation : (own : Deriving) (k : Value) (salt : List ℕ) → SaysDerivation own k → bytes_in 1 128 (member_at k outer.Kdf name.Salt) ≡ Some salt
+    → (d : Derivation) → IsLuks2Derivation k d → IsDerivedBy own salt d
+told_derivation (by_pbkdf2 h n) k salt says salted d is = told_pbkdf2 k salt salted h n says d is
+told_derivation (by_argon2i costs) k salt says salted d is = told_argon2 k salt salted I costs says d is
+told_derivation (by_argon2id costs) k salt says salted d is = told_argon2 k salt salted Id costs says d is
+
+tells_derivation : (own : Deriving) (k : Value) (salt : List ℕ) → SaysDerivation own k → bytes_in 1 128 (member_at k outer.Kdf name.Salt) ≡ Some salt
+    → (d : Derivation) → IsDerivedBy own salt d → IsLuks2Derivation k d
+tells_derivation (by_pbkdf2 h n) k salt says salted d is = tells_pbkdf2 k salt salted h n says d is
+tells_derivation (by_argon2i costs) k salt says salted d is = tells_argon2 k salt salted I costs says d is
+tells_derivation (by_argon2id costs) k salt says salted d is = tells_argon2 k salt salted Id costs says d is
+
+module _ (payload : Data) (format : Format) (chosen : Option NewDerivation) (random : List ℕ) (some : 1 ≤ format.iterations) (long : 272 ≤ length random) (fits : FitsMetadataBy payload format chosen random) where
   can : CanFormat (new_members payload format random)
   can = can_format payload format random some long fits.digest_length
 
-  slot_says : SaysMembers (first_slot (new_members payload format random)) (slot_value (first_slot (new_members payload format random)))
-  slot_says = says_members (first_slot (new_members payload format random)) (slot_fits (new_members payload format random) fits.fits can)
+  slot_says : SaysMembers (first_slot_by (slot_derivation format chosen) (new_members payload format random)) (slot_value (first_slot_by (slot_derivation format chosen) (new_members payload format random)))
+  slot_says = says_members (first_slot_by (slot_derivation format chosen) (new_members payload format random)) (slot_fits (slot_derivation format chosen) (new_members payload format random) fits.fits can fits.derivation)
 
   -- ---- the areas of the metadata
-  slot_bounds : (total n : ℕ) (a : Area) → n < 32 → slot_number (formatted (new_members payload format random)) n (codes "offset") ≡ Some a.start
-      → slot_number (formatted (new_members payload format random)) n (codes "size") ≡ Some a.len → Bounds total (SlotName n) a
+  slot_bounds : (total n : ℕ) (a : Area) → n < 32 → slot_number (new_metadata payload format chosen random) n (codes "offset") ≡ Some a.start
+      → slot_number (new_metadata payload format chosen random) n (codes "size") ≡ Some a.len → Bounds total (SlotName n) a
   slot_bounds total n a small start len =
-      let j : Value = formatted (new_members payload format random) in
+      let j : Value = new_metadata payload format chosen random in
       elim (cases_eq n 0) [
         | inl zero ↦ (
             let first : slot_number j 0 (codes "offset") ≡ Some a.start = subst (λ (m : ℕ). slot_number j m (codes "offset") ≡ Some a.start) zero start in
             let second : slot_number j 0 (codes "size") ≡ Some a.len = subst (λ (m : ℕ). slot_number j m (codes "size") ≡ Some a.len) zero len in
             (zero, some_same a.start 32768 (sym first ∙ decimal_is 32768 (lit< tt)), some_same a.len 258048 (sym second ∙ decimal_is 258048 (lit< tt))))
         | inr other ↦ (
-            let none : object_at j Keyslots n ≡ None = none_else (slot_value (first_slot (new_members payload format random))) n other in
+            let none : object_at j Keyslots n ≡ None = none_else (slot_value (first_slot_by (slot_derivation format chosen) (new_members payload format random))) n other in
             absurd (no_some a.start (sym (ap (λ o. decimal_in (option_and_then (get (codes "offset")) (option_and_then (get (codes "area")) o))) none) ∙ start)))
       ]
 
-  segment_bounds : (total n : ℕ) (a : Area) → n < 32 → payload ≡ Here → segment_offset (formatted (new_members payload format random)) n ≡ Some a.start
-      → HasExtent total a.start a.len (segment_extent (formatted (new_members payload format random)) n) → Bounds total (Segment n) a
+  segment_bounds : (total n : ℕ) (a : Area) → n < 32 → payload ≡ Here → segment_offset (new_metadata payload format chosen random) n ≡ Some a.start
+      → HasExtent total a.start a.len (segment_extent (new_metadata payload format chosen random) n) → Bounds total (Segment n) a
   segment_bounds total n a small here start extent =
-      let j : Value = formatted (new_members payload format random) in
+      let j : Value = new_metadata payload format chosen random in
       elim (cases_eq n 0) [
         | inl zero ↦ (
             let first : segment_offset j 0 ≡ Some a.start = subst (λ (m : ℕ). segment_offset j m ≡ Some a.start) zero start in
@@ -126,52 +194,45 @@ module _ (payload : Data) (format : Format) (random : List ℕ) (some : 1 ≤ fo
             absurd (no_some a.start (sym (ap (λ o. decimal_in (option_and_then (get (codes "offset")) o)) none) ∙ start)))
       ]
 
-  bounds : (total h : ℕ) → h ≡ 16384 → (n : AreaName) (a : Area) → Luks2Area (formatted (new_members payload format random)) h payload total n a → Bounds total n a
+  bounds : (total h : ℕ) → h ≡ 16384 → (n : AreaName) (a : Area) → Luks2Area (new_metadata payload format chosen random) h payload total n a → Bounds total n a
   bounds total h size Head1 a at = (at.0, at.1 ∙ size)
   bounds total h size Head2 a at = (at.0 ∙ size, at.1 ∙ size)
   bounds total h size (SlotName n) a at = slot_bounds total n a at.0 at.1 at.2
   bounds total h size (Segment n) a at = segment_bounds total n a at.0 at.1 at.2 at.3
 
-  pub fit : (total h : ℕ) → h ≡ 16384 → 16777216 ≤ total → Fit (Luks2Area (formatted (new_members payload format random)) h payload total) total
+  pub fit : (total h : ℕ) → h ≡ 16384 → 16777216 ≤ total → Fit (Luks2Area (new_metadata payload format chosen random) h payload total) total
   fit total h size large = record {
     inside = λ n a at. bounds_inside total large n a (bounds total h size n a at);
     disjoint = λ m n a b x y other. bounds_apart total m n a b (bounds total h size m a x) (bounds total h size n b y) other;
   }
 
-  pub segments : payload ≡ Here → SegmentsFollow 12288 (formatted (new_members payload format random))
+  pub segments : payload ≡ Here → SegmentsFollow 12288 (new_metadata payload format chosen random)
   segments here = record {
     each = λ n d bytes start held region offset.
         let v : VolumeMembers = new_members payload format random in
-        let is : segment_value v ≡ d = (segment_at v n d held.is).1 in
+        let is : segment_value v ≡ d = (segment_at (slot_derivation format chosen) v n d held.is).1 in
         let at : decimal_in (inside_at outer.Top (codes "offset") (segment_value v)) ≡ Some start = subst (λ (o : Value). decimal_in (inside_at outer.Top (codes "offset") o) ≡ Some start) (sym is) offset in
         let from : start ≡ 16777216 = some_same start (segment_start payload) (sym at ∙ decimal_is (segment_start payload) fits.fits.segment_offset) ∙ ap segment_start here in
-        let size : bytes ≡ 16744448 = some_same bytes 16744448 (sym region ∙ keyslots_say v) in
+        let size : bytes ≡ 16744448 = some_same bytes 16744448 (sym region ∙ keyslots_say (slot_derivation format chosen) v) in
         omega (arith, from, size);
   }
 
   -- ---- the plans of keyslot 0
-  derivation_is : (d : Derivation) → IsLuks2Derivation (slot_value (first_slot (new_members payload format random))) d → IsNewDerivation format (slot_salt slot_place2 random) d
-  derivation_is (Pbkdf2 hash iterations salt) is = (
-    some_same hash.now (name_of format.hash) (sym is.1 ∙ slot_says.derivation.hash),
-    some_same iterations format.iterations (sym is.2 ∙ slot_says.derivation.iterations),
-    some_same salt.now (slot_salt slot_place2 random) (sym is.3 ∙ slot_says.salt),
-  )
-  derivation_is (Argon2 c) is = absurd (no_pbkdf2 (slot_value (first_slot (new_members payload format random))) c is slot_says.derivation.kind)
+  pub derivation_is : (d : Derivation) → IsLuks2Derivation (slot_value (first_slot_by (slot_derivation format chosen) (new_members payload format random))) d
+      → IsDerivedBy (slot_derivation format chosen) (slot_salt slot_place2 random) d
+  derivation_is d is = told_derivation (slot_derivation format chosen) (slot_value (first_slot_by (slot_derivation format chosen) (new_members payload format random)))
+      (slot_salt slot_place2 random) slot_says.derivation slot_says.salt d is
 
-  derivation_by : (d : Derivation) → IsNewDerivation format (slot_salt slot_place2 random) d → IsLuks2Derivation (slot_value (first_slot (new_members payload format random))) d
-  derivation_by (Pbkdf2 hash iterations salt) is = (
-    slot_says.derivation.kind,
-    slot_says.derivation.hash ∙ ap Some (sym is.0),
-    slot_says.derivation.iterations ∙ ap Some (sym is.1),
-    slot_says.salt ∙ ap Some (sym is.2),
-  )
-  derivation_by (Argon2 c) is = absurd is
+  derivation_by : (d : Derivation) → IsDerivedBy (slot_derivation format chosen) (slot_salt slot_place2 random) d
+      → IsLuks2Derivation (slot_value (first_slot_by (slot_derivation format chosen) (new_members payload format random))) d
+  derivation_by d is = tells_derivation (slot_derivation format chosen) (slot_value (first_slot_by (slot_derivation format chosen) (new_members payload format random)))
+      (slot_salt slot_place2 random) slot_says.derivation slot_says.salt d is
 
-  cipher_is : (cipher : AreaCipher) → IsLuks2Cipher (slot_value (first_slot (new_members payload format random))) cipher → IsNewCipher2 cipher
+  cipher_is : (cipher : AreaCipher) → IsLuks2Cipher (slot_value (first_slot_by (slot_derivation format chosen) (new_members payload format random))) cipher → IsNewCipher2 cipher
   cipher_is (Apart name mode) is = absurd is
   cipher_is (Whole text) is = some_same text.now (codes "aes-xts-plain64") (sym is ∙ slot_says.encryption)
 
-  cipher_by : (cipher : AreaCipher) → IsNewCipher2 cipher → IsLuks2Cipher (slot_value (first_slot (new_members payload format random))) cipher
+  cipher_by : (cipher : AreaCipher) → IsNewCipher2 cipher → IsLuks2Cipher (slot_value (first_slot_by (slot_derivation format chosen) (new_members payload format random))) cipher
   cipher_by (Apart name mode) is = absurd is
   cipher_by (Whole text) is = slot_says.encryption ∙ ap Some (sym is)
 
@@ -191,11 +252,11 @@ module _ (payload : Data) (format : Format) (random : List ℕ) (some : 1 ≤ fo
       let high = can.digest.to in
       bytes_are 20 64 (key_digest format random (digest_size_of format.hash)) (lit≤ tt) fits.fits.digest (record { from = low; to = high })
 
-  digest_is : (digest : DigestPlan) → IsLuks2Digest (formatted (new_members payload format random)) 0 digest
+  digest_is : (digest : DigestPlan) → IsLuks2Digest (new_metadata payload format chosen random) 0 digest
       → IsNewDigest format (digest_salt random) (key_digest format random (digest_size_of format.hash)) digest
   digest_is digest y =
       let v : VolumeMembers = new_members payload format random in
-      let is : digest_value v ≡ y.object = (digest_at v y.number y.object y.there).1 in
+      let is : digest_value v ≡ y.object = (digest_at (slot_derivation format chosen) v y.number y.object y.there).1 in
       let d : Value = digest_value v in
       let hash : text_of (member_at d outer.Top name.Hash) ≡ Some digest.hash.now = subst (λ (o : Value). text_of (member_at o outer.Top name.Hash) ≡ Some digest.hash.now) (sym is) y.hash in
       let turns : small_at d outer.Top name.Iterations ≡ Some digest.iterations = subst (λ (o : Value). small_at o outer.Top name.Iterations ≡ Some digest.iterations) (sym is) y.iterations in
@@ -209,16 +270,16 @@ module _ (payload : Data) (format : Format) (random : List ℕ) (some : 1 ≤ fo
       }
 
   -- a plan that the metadata gives is the one that was sealed by
-  pub plan_is : (json : List ℕ) → Json json (formatted (new_members payload format random))
+  pub plan_is : (json : List ℕ) → Json json (new_metadata payload format chosen random)
       → (plan : SlotPlan) → HasLuks2Plan json 0 plan
-      → IsNewPlan format (slot_salt slot_place2 random) area2 (digest_salt random) (key_digest format random (digest_size_of format.hash)) plan × IsNewCipher2 plan.cipher
+      → IsNewPlanBy (slot_derivation format chosen) format (slot_salt slot_place2 random) area2 (digest_salt random) (key_digest format random (digest_size_of format.hash)) plan × IsNewCipher2 plan.cipher
   plan_is json holds plan y =
       let v : VolumeMembers = new_members payload format random in
-      let same : y.value ≡ formatted v = one_value json y.value (formatted v) y.holds holds in
-      let there : object_at (formatted v) Keyslots 0 ≡ Some y.object = subst (λ (k : Value). object_at k Keyslots 0 ≡ Some y.object) same y.there in
-      let object_is : slot_value (first_slot v) ≡ y.object = (slot_at v 0 y.object there).1 in
-      let first : IsLuks2Plan (formatted v) 0 y.object plan = subst (λ (k : Value). IsLuks2Plan k 0 y.object plan) same y.is in
-      let is : IsLuks2Plan (formatted v) 0 (slot_value (first_slot v)) plan = subst (λ (o : Value). IsLuks2Plan (formatted v) 0 o plan) (sym object_is) first in (
+      let same : y.value ≡ formatted_by (slot_derivation format chosen) v = one_value json y.value (formatted_by (slot_derivation format chosen) v) y.holds holds in
+      let there : object_at (formatted_by (slot_derivation format chosen) v) Keyslots 0 ≡ Some y.object = subst (λ (k : Value). object_at k Keyslots 0 ≡ Some y.object) same y.there in
+      let object_is : slot_value (first_slot_by (slot_derivation format chosen) v) ≡ y.object = (slot_at (slot_derivation format chosen) v 0 y.object there).1 in
+      let first : IsLuks2Plan (formatted_by (slot_derivation format chosen) v) 0 y.object plan = subst (λ (k : Value). IsLuks2Plan k 0 y.object plan) same y.is in
+      let is : IsLuks2Plan (formatted_by (slot_derivation format chosen) v) 0 (slot_value (first_slot_by (slot_derivation format chosen) v)) plan = subst (λ (o : Value). IsLuks2Plan (formatted_by (slot_derivation format chosen) v) 0 o plan) (sym object_is) first in (
         record {
           derivation = derivation_is plan.derivation is.derivation;
           area = area_is plan.area 32768 258048 (some_same plan.area.start 32768 (sym is.start ∙ slot_says.offset)) (some_same plan.area.len 258048 (sym is.len ∙ slot_says.size));
@@ -231,16 +292,16 @@ module _ (payload : Data) (format : Format) (random : List ℕ) (some : 1 ≤ fo
         cipher_is plan.cipher is.cipher,
       )
 
-  pub plan_by : (json : List ℕ) → Json json (formatted (new_members payload format random)) → (plan : SlotPlan)
-      → IsNewPlan format (slot_salt slot_place2 random) area2 (digest_salt random) (key_digest format random (digest_size_of format.hash)) plan → IsNewCipher2 plan.cipher
+  pub plan_by : (json : List ℕ) → Json json (new_metadata payload format chosen random) → (plan : SlotPlan)
+      → IsNewPlanBy (slot_derivation format chosen) format (slot_salt slot_place2 random) area2 (digest_salt random) (key_digest format random (digest_size_of format.hash)) plan → IsNewCipher2 plan.cipher
       → HasLuks2Plan json 0 plan
   plan_by json holds plan is cipher =
       let v : VolumeMembers = new_members payload format random in
       record {
         numbered = lit< tt;
-        value = formatted v;
+        value = formatted_by (slot_derivation format chosen) v;
         holds = holds;
-        object = slot_value (first_slot v);
+        object = slot_value (first_slot_by (slot_derivation format chosen) v);
         there = refl;
         is = record {
           derivation = derivation_by plan.derivation is.derivation;

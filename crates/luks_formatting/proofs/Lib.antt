@@ -1,3 +1,4 @@
+mod AheadFacts
 pub mod NewPlanFacts
 pub mod NewHeader1Facts
 pub mod Formatted1Facts

@@ -1,9 +1,10 @@
 -- What the metadata of a new volume says.
-use Rattle.std.proofs.Common.{◌≡◌, ◌≤◌, ℕ, List, length, codes, Some, None, arith, refl, sym, ◌∙◌, lit≤, lit<, inl, inr}
-use Rattle.std.specs.Prelude.{decimal}
+use Rattle.std.proofs.Common.{◌≡◌, ◌≤◌, ◌<◌, ℕ, ◌+◌, ◌*◌, ◌-◌, ◌^◌, List, length, codes, false, Option, Some, None, arith, refl, sym, subst, ◌∙◌, lit≤, lit<, inl, inr}
+use Rattle.std.specs.Prelude.{◌||◌, decimal, nat_lt, IfSome}
 use Rattle.std.specs.Fmt.{digits}
-use Rattle.std.proofs.lemmas.Bool.{cases_eq}
-use Rattle.serde_json.specs.Data.{Data as Value}
+use Rattle.std.proofs.lemmas.Bool.{cases_eq, leb-true, ltb-false}
+use Rattle.std.proofs.lemmas.Bool.Decides.{nat_tests}
+use Rattle.serde_json.specs.Data.{Data as Value, object, no_items, no_members, member}
 use Rattle.serde_json.specs.Find.{get}
 use Rattle.luks_area.specs.RangeFacts.{length-part_inside}
 use Rattle.luks_json.specs.Number.{number_text}
@@ -11,15 +12,25 @@ use Rattle.luks_json.proofs.Decimals.{decimal_told}
 use Rattle.luks_kdf.specs.Names.{digest_size_of, each_at_least, each_at_most}
 use Rattle.luks_kdf.specs.declared.hash_name.HashName.{HashName}
 use Rattle.luks_rules.specs.Faults.{object_at}
-use Rattle.luks_rules.specs.Sizes.{keyslots_size}
+use Rattle.luks_area.specs.Sectors.{rounded_to_sectors}
+use Rattle.luks_rules.specs.Held.{IsHeld}
+use Rattle.luks_rules.specs.Sizes.{keyslots_size, region_start}
 use Rattle.luks_rules.specs.declared.table.Section.TheVariants.{Digests, Keyslots, Segments}
-use Rattle.luks_making.specs.Conditions.{Between, CanFormat, FitsSlot, FitsVolume}
-use Rattle.luks_making.specs.Formatted.{VolumeMembers, digest_value, first_slot, formatted, segment_value, sole}
-use Rattle.luks_making.specs.Keyslots.{slot_value}
-use Rattle.luks_making.proofs.NewVolumeFacts.{none_else}
+use Rattle.luks_making.specs.Conditions.{Between, CanFormat, FitsCosts as FitsArgon2, FitsDerivation, FitsSlot, FitsVolume, IsRoom}
+use Rattle.luks_making.specs.Formatted.{VolumeMembers, digest_value, formatted, segment_value, sole}
+use Rattle.luks_making.specs.Keyslots.{Deriving, slot_value, text_member}
+use Rattle.luks_making.specs.With.{with_slot}
+use Rattle.luks_making.specs.Without.{without_slot}
+use Rattle.luks_making.specs.declared.new_keyslot.Argon2Costs.{Argon2Costs}
+use Rattle.luks_making.proofs.AdditionFacts.{held_with}
+use Rattle.luks_making.proofs.NewVolumeFacts.{digest_with, held_bare, none_else, shape}
+use Rattle.luks_making.proofs.ReadingFacts.{decimal_is}
 use Rattle.luks_reading.specs.declared.report.Data.{Data}
 use Rattle.luks_reading.specs.declared.format.Format.{Format}
-use Rattle.luks_formatting.specs.NewHeader2.{new_members}
+use Rattle.luks_formatting.specs.declared.derivation.NewDerivation.{NewDerivation}
+use Rattle.luks_formatting.specs.declared.derivation.NewDerivation.TheVariants as by
+use Rattle.luks_formatting.specs.Deriving.{costs_beyond, slot_derivation, FitsCosts, FitsNewDerivation, IsMakeable}
+use Rattle.luks_formatting.specs.NewHeader2.{first_slot_by, formatted_by, new_members}
 use Rattle.luks_formatting.specs.NewPlan.{key_digest}
 use Rattle.luks_formatting.specs.RandomBytes.{digest_salt, slot_place2, slot_salt}
 
@@ -63,8 +74,8 @@ keyslots_literal : codes "16744448" ≡ decimal 16744448
 unfolding digits
 keyslots_literal = refl
 
-pub keyslots_say : (v : VolumeMembers) → keyslots_size (formatted v) ≡ Some 16744448
-keyslots_say v = decimal_told (codes "16744448") 16744448 (record { fits = lit< tt; digits = keyslots_literal })
+pub keyslots_say : (own : Deriving) (v : VolumeMembers) → keyslots_size (formatted_by own v) ≡ Some 16744448
+keyslots_say own v = decimal_told (codes "16744448") 16744448 (record { fits = lit< tt; digits = keyslots_literal })
 
 -- what is found in a map with one object is that object
 only_zero : (d e : Value) (n : ℕ) → get (number_text n) (sole d) ≡ Some e → (n ≡ 0) × (d ≡ e)
@@ -75,26 +86,88 @@ only_zero d e n found = elim (cases_eq n 0) [
 
 -- ---- the objects
 
-module _ (v : VolumeMembers) where
-  pub slot_at : (n : ℕ) (d : Value) → object_at (formatted v) Keyslots n ≡ Some d → (n ≡ 0) × (slot_value (first_slot v) ≡ d)
-  slot_at n d is = only_zero (slot_value (first_slot v)) d n is
+module _ (own : Deriving) (v : VolumeMembers) where
+  pub slot_at : (n : ℕ) (d : Value) → object_at (formatted_by own v) Keyslots n ≡ Some d → (n ≡ 0) × (slot_value (first_slot_by own v) ≡ d)
+  slot_at n d is = only_zero (slot_value (first_slot_by own v)) d n is
 
-  pub digest_at : (n : ℕ) (d : Value) → object_at (formatted v) Digests n ≡ Some d → (n ≡ 0) × (digest_value v ≡ d)
+  pub digest_at : (n : ℕ) (d : Value) → object_at (formatted_by own v) Digests n ≡ Some d → (n ≡ 0) × (digest_value v ≡ d)
   digest_at n d is = only_zero (digest_value v) d n is
 
-  pub segment_at : (n : ℕ) (d : Value) → object_at (formatted v) Segments n ≡ Some d → (n ≡ 0) × (segment_value v ≡ d)
+  pub segment_at : (n : ℕ) (d : Value) → object_at (formatted_by own v) Segments n ≡ Some d → (n ≡ 0) × (segment_value v ≡ d)
   segment_at n d is = only_zero (segment_value v) d n is
 
 -- the members of keyslot 0 are in their ranges
-pub slot_fits : (v : VolumeMembers) → FitsVolume v → CanFormat v → FitsSlot (first_slot v)
-slot_fits v fits can =
-    let turns = fits.iterations in
+pub slot_fits : (own : Deriving) (v : VolumeMembers) → FitsVolume v → CanFormat v → FitsDerivation own → FitsSlot (first_slot_by own v)
+slot_fits own v fits can fits_own =
     record {
       key_size = record { from = lit≤ tt; to = lit≤ tt };
       stripes = record { from = lit≤ tt; to = lit≤ tt };
       offset = lit< tt;
       size = lit< tt;
       area_key_size = record { from = lit≤ tt; to = lit≤ tt };
-      derivation = record { from = can.iterations; to = omega (arith, turns) };
+      derivation = fits_own;
       salt = record { are_bytes = fits.slot_salt; long = can.slot_salt };
     }
+
+-- ---- the numbers of the derivation
+
+below_32 : (n : ℕ) → 1 ≤ n → n < 2 ^ 32 → Between 1 4294967295 n
+below_32 n some low = record { from = some; to = omega (arith, low) }
+
+some_lane : (allowed m c : ℕ) → (nat_lt allowed m || nat_lt m (8 * c) || nat_lt c 1 || nat_lt (2 ^ 24 - 1) c) ≡ false → 1 ≤ c
+some_lane allowed m c ok = grind (arith, nat_tests)
+
+some_memory : (allowed m c : ℕ) → (nat_lt allowed m || nat_lt m (8 * c) || nat_lt c 1 || nat_lt (2 ^ 24 - 1) c) ≡ false → 1 ≤ m
+some_memory allowed m c ok = grind (arith, nat_tests)
+
+-- Argon2 has a pass, a lane, and 8 KiB of memory for it
+costs_fit : (allowed : ℕ) (costs : Argon2Costs) → nat_lt costs.time 1 ≡ false → costs_beyond allowed costs ≡ false → FitsCosts costs → FitsArgon2 costs
+costs_fit allowed costs few ok fits =
+    let pass : 1 ≤ costs.time = ltb-false costs.time 1 few in
+    let lane = some_lane allowed costs.memory costs.cpus ok in
+    let memory = some_memory allowed costs.memory costs.cpus ok in
+    record { time = below_32 costs.time pass fits.0; memory = below_32 costs.memory memory fits.1; cpus = below_32 costs.cpus lane fits.2 }
+
+pub derivation_fits : (format : Format) (allowed : ℕ) (chosen : Option NewDerivation) → 1 ≤ format.iterations → format.iterations < 2 ^ 32 → IfSome chosen (IsMakeable allowed)
+    → IfSome chosen FitsNewDerivation → FitsDerivation (slot_derivation format chosen)
+derivation_fits format allowed None some low can fits = below_32 format.iterations some low
+derivation_fits format allowed (Some (by.Pbkdf2 n)) some low can fits =
+    let high : 1000 ≤ n = ltb-false n 1000 can.turns in
+    below_32 n (omega (arith, high)) fits
+derivation_fits format allowed (Some (by.Argon2i costs)) some low can fits = costs_fit allowed costs can.turns can.within fits
+derivation_fits format allowed (Some (by.Argon2id costs)) some low can fits = costs_fit allowed costs can.turns can.within fits
+
+-- ---- the metadata meets every rule
+
+-- with the text of the region's size
+abbrev with_region : Deriving → VolumeMembers → List ℕ → Value
+with_region own v t = object (
+    member (codes "config") (object (text_member (codes "json_size") (codes "12288") (text_member (codes "keyslots_size") t no_members))) (
+    member (codes "digests") (sole (digest_value v)) (
+    member (codes "keyslots") (sole (slot_value (first_slot_by own v))) (
+    member (codes "segments") (sole (segment_value v)) (
+    member (codes "tokens") (object no_members) no_members)))))
+
+module _ (own : Deriving) (v : VolumeMembers) (fits : FitsVolume v) (can : CanFormat v) (fits_own : FitsDerivation own) where
+  -- the keyslot has room in a new volume without one
+  room : IsRoom 12288 0 0 (first_slot_by own v) (shape v 16744448 no_items no_members) (digest_with v no_items)
+  room = record {
+    number = record { small = lit< tt; free = refl };
+    unnamed = refl;
+    digest = record { numbered = refl; named = lit< tt; is = refl };
+    fits = slot_fits own v fits can fits_own;
+    large = leb-true (rounded_to_sectors (64 * 4000)) 258048 refl;
+    within = λ bytes is.
+        let same : 16744448 ≡ bytes = some_same 16744448 bytes (sym (decimal_is 16744448 (lit< tt)) ∙ is) in
+        rw (← same) (leb-true (region_start 12288) 32768 refl, leb-true (32768 + 258048) (region_start 12288 + 16744448) refl);
+  }
+
+  pub held_by : IsHeld 12288 (formatted_by own v)
+  held_by =
+      let held : IsHeld 12288 (with_slot 0 0 (first_slot_by own v) (shape v 16744448 no_items no_members)) =
+      held_with 12288 0 0 (first_slot_by own v) (shape v 16744448 no_items no_members) (digest_with v no_items) (held_bare v fits can 16744448 (lit< tt)) room in
+      subst (λ t. IsHeld 12288 (with_region own v t)) (sym keyslots_literal) held
+
+-- what is made by putting keyslot 0 in anew
+pub made_anew : (own : Deriving) (v : VolumeMembers) → with_slot 0 0 (first_slot_by own v) (without_slot 0 (formatted v)) ≡ formatted_by own v
+made_anew own v = refl

@@ -1,19 +1,29 @@
 -- The plan of keyslot 0 of a new volume: it isn't refused, and the volume key meets its digest.
-use Rattle.std.proofs.Common.{◌≡◌, ◌≤◌, ℕ, List, length, true, false, None, bytes_eq, refl, sym, ap, subst}
+use Rattle.std.proofs.Common.{◌≡◌, ◌≤◌, ℕ, ◌*◌, ◌-◌, ◌^◌, List, length, true, false, true≢false, Option, None, Some, bytes_eq, refl, sym, ap, subst, ◌∙◌, arith}
+use Rattle.std.specs.Prelude.{◌||◌, nat_lt, IfSome}
+use Rattle.std.proofs.lemmas.Bool.{ltb-false}
+use Rattle.std.proofs.lemmas.Bool.Decides.{nat_tests}
 use Rattle.std.proofs.lemmas.Slice.Eq.{bytes_eq-Decides}
 use Rattle.luks_area.specs.Text.{is_plain, text_of}
 use Rattle.luks_area.specs.declared.area.Area.{Area}
 use Rattle.luks_kdf.specs.Derivation.{pbkdf2}
 use Rattle.luks_kdf.specs.Names.{block_size_of, each_passes, hash_of, name_of, named}
 use Rattle.luks_kdf.specs.declared.hash_name.HashName.{HashName}
+use Rattle.luks_making.specs.Keyslots.{by_pbkdf2}
+use Rattle.luks_making.specs.declared.new_keyslot.Argon2Costs.{Argon2Costs}
+use Rattle.luks_slot.specs.declared.plan.Argon2Kind.{Argon2Kind}
+use Rattle.luks_slot.specs.declared.plan.Argon2Kind.TheVariants.{I, Id}
 use Rattle.luks_slot.specs.declared.plan.Derivation.{Derivation}
 use Rattle.luks_slot.specs.declared.plan.Derivation.TheVariants.{Pbkdf2, Argon2}
 use Rattle.luks_slot.specs.declared.plan.DigestPlan.{DigestPlan}
 use Rattle.luks_slot.specs.declared.plan.SlotPlan.{SlotPlan}
 use Rattle.luks_slot.specs.Opening.{derived, hash_by_name, meets_digest, HasIterations}
-use Rattle.luks_slot.specs.Refusal.{is_argon2, is_known_derivation, is_open_cipher, slot_refusal}
+use Rattle.luks_slot.specs.Refusal.{is_argon2, is_argon2_refused, is_known_derivation, is_open_cipher, slot_refusal, slot_refusal_within}
 use Rattle.luks_reading.specs.declared.format.Format.{Format}
-use Rattle.luks_formatting.specs.NewPlan.{key_digest, IsNewDerivation, IsNewDigest, IsNewPlan}
+use Rattle.luks_formatting.specs.declared.derivation.NewDerivation.{NewDerivation}
+use Rattle.luks_formatting.specs.declared.derivation.NewDerivation.TheVariants as by
+use Rattle.luks_formatting.specs.Deriving.{costs_beyond, slot_derivation, memory_by, takes_memory, IsArgon2Plan, IsDerivedBy, IsMakeable}
+use Rattle.luks_formatting.specs.NewPlan.{key_digest, IsNewDerivation, IsNewDigest, IsNewPlan, IsNewPlanBy, IsSealable, IsSealableWithin}
 use Rattle.luks_formatting.specs.RandomBytes.{digest_salt, volume_key}
 
 -- the names of the hashes
@@ -54,6 +64,135 @@ module _ (format : Format) (salt : List ℕ) (area : Area) (digest stored : List
         named format.hash,
         new.area_key_bytes,
       ) refl
+
+-- ---- of what is chosen
+
+-- costs that aren't beyond what is allowed are refused for no salt of 32 bytes
+costs_within : (allowed m c salt : ℕ) → salt ≡ 32 → (nat_lt allowed m || nat_lt m (8 * c) || nat_lt c 1 || nat_lt (2 ^ 24 - 1) c) ≡ false
+    → (nat_lt allowed m || nat_lt m (8 * c) || nat_lt c 1 || nat_lt (2 ^ 24 - 1) c || nat_lt salt 8) ≡ false
+costs_within allowed m c salt long ok = grind (arith, nat_tests)
+
+argon2_within : (allowed : ℕ) (kind : Argon2Kind) (costs : Argon2Costs) (salt : List ℕ) (d : Derivation) → length salt ≡ 32 → costs_beyond allowed costs ≡ false
+    → IsArgon2Plan kind costs salt d → is_argon2_refused allowed d ≡ false
+argon2_within allowed kind costs salt (Pbkdf2 hash iterations own) long ok is = absurd is
+argon2_within allowed kind costs salt (Argon2 c) long ok is = rw (is.memory, is.cpus, is.own_salt) (costs_within allowed costs.memory costs.cpus (length salt) long ok)
+
+argon2_known : (kind : Argon2Kind) (costs : Argon2Costs) (salt : List ℕ) (d : Derivation) → IsArgon2Plan kind costs salt d → is_known_derivation d ≡ true
+argon2_known kind costs salt (Pbkdf2 hash iterations own) is = absurd is
+argon2_known kind costs salt (Argon2 c) is = refl
+
+some_pass : (time : ℕ) → nat_lt time 1 ≡ false → 1 ≤ time
+some_pass time few = ltb-false time 1 few
+
+argon2_turns : (kind : Argon2Kind) (costs : Argon2Costs) (salt : List ℕ) (d : Derivation) → length salt ≡ 32 → nat_lt costs.time 1 ≡ false → IsArgon2Plan kind costs salt d → HasIterations d
+argon2_turns kind costs salt (Pbkdf2 hash iterations own) long few is = absurd is
+argon2_turns kind costs salt (Argon2 c) long few is =
+    let time = is.time in
+    let pass = some_pass costs.time few in
+    let own : length c.salt.now ≡ 32 = ap length is.own_salt ∙ long in
+    (omega (arith, time, pass), omega (arith, own))
+
+pbkdf2_turns : (h : List ℕ) (n : ℕ) (salt : List ℕ) (d : Derivation) → 1 ≤ n → IsDerivedBy (by_pbkdf2 h n) salt d → HasIterations d
+pbkdf2_turns h n salt (Pbkdf2 hash iterations own) some is = subst (λ (k : ℕ). 1 ≤ k) (sym is.1) some
+pbkdf2_turns h n salt (Argon2 c) some is = absurd is
+
+pbkdf2_within : (allowed : ℕ) (h : List ℕ) (n : ℕ) (salt : List ℕ) (d : Derivation) → IsDerivedBy (by_pbkdf2 h n) salt d → is_argon2_refused allowed d ≡ false
+pbkdf2_within allowed h n salt (Pbkdf2 hash iterations own) is = refl
+pbkdf2_within allowed h n salt (Argon2 c) is = absurd is
+
+pbkdf2_here : (h : List ℕ) (n : ℕ) (salt : List ℕ) (d : Derivation) → IsDerivedBy (by_pbkdf2 h n) salt d → is_argon2 d ≡ false
+pbkdf2_here h n salt (Pbkdf2 hash iterations own) is = refl
+pbkdf2_here h n salt (Argon2 c) is = absurd is
+
+pbkdf2_known : (hash : HashName) (n : ℕ) (salt : List ℕ) (d : Derivation) → IsDerivedBy (by_pbkdf2 (name_of hash) n) salt d → is_known_derivation d ≡ true
+pbkdf2_known hash n salt (Pbkdf2 own_hash iterations own) is = rw (is.0, named hash) refl
+pbkdf2_known hash n salt (Argon2 c) is = absurd is
+
+module _ (format : Format) (salt : List ℕ) (d : Derivation) where
+  chosen_known : (chosen : Option NewDerivation) → IsDerivedBy (slot_derivation format chosen) salt d → is_known_derivation d ≡ true
+  chosen_known None is = pbkdf2_known format.hash format.iterations salt d is
+  chosen_known (Some (by.Pbkdf2 n)) is = pbkdf2_known format.hash n salt d is
+  chosen_known (Some (by.Argon2i costs)) is = argon2_known I costs salt d is
+  chosen_known (Some (by.Argon2id costs)) is = argon2_known Id costs salt d is
+
+  chosen_here : (chosen : Option NewDerivation) → takes_memory chosen ≡ false → IsDerivedBy (slot_derivation format chosen) salt d → is_argon2 d ≡ false
+  chosen_here None here is = pbkdf2_here (name_of format.hash) format.iterations salt d is
+  chosen_here (Some (by.Pbkdf2 n)) here is = pbkdf2_here (name_of format.hash) n salt d is
+  chosen_here (Some (by.Argon2i costs)) here is = absurd (true≢false here)
+  chosen_here (Some (by.Argon2id costs)) here is = absurd (true≢false here)
+
+  module _ (allowed : ℕ) (long : length salt ≡ 32) where
+    chosen_within : (chosen : Option NewDerivation) → IfSome chosen (IsMakeable allowed) → IsDerivedBy (slot_derivation format chosen) salt d → is_argon2_refused allowed d ≡ false
+    chosen_within None can is = pbkdf2_within allowed (name_of format.hash) format.iterations salt d is
+    chosen_within (Some (by.Pbkdf2 n)) can is = pbkdf2_within allowed (name_of format.hash) n salt d is
+    chosen_within (Some (by.Argon2i costs)) can is = argon2_within allowed I costs salt d long can.within is
+    chosen_within (Some (by.Argon2id costs)) can is = argon2_within allowed Id costs salt d long can.within is
+
+    pub chosen_turns : (chosen : Option NewDerivation) → 1 ≤ format.iterations → IfSome chosen (IsMakeable allowed) → IsDerivedBy (slot_derivation format chosen) salt d → HasIterations d
+    chosen_turns None some can is = pbkdf2_turns (name_of format.hash) format.iterations salt d some is
+    chosen_turns (Some (by.Pbkdf2 n)) some can is =
+        let high : 1000 ≤ n = ltb-false n 1000 can.turns in
+        pbkdf2_turns (name_of format.hash) n salt d (omega (arith, high)) is
+    chosen_turns (Some (by.Argon2i costs)) some can is = argon2_turns I costs salt d long can.turns is
+    chosen_turns (Some (by.Argon2id costs)) some can is = argon2_turns Id costs salt d long can.turns is
+
+-- what may be made where some memory is allowed may be where as much is as it takes
+costs_enough : (allowed more m c : ℕ) → m ≤ more → (nat_lt allowed m || nat_lt m (8 * c) || nat_lt c 1 || nat_lt (2 ^ 24 - 1) c) ≡ false
+    → (nat_lt more m || nat_lt m (8 * c) || nat_lt c 1 || nat_lt (2 ^ 24 - 1) c) ≡ false
+costs_enough allowed more m c enough ok = grind (arith, nat_tests)
+
+pub makeable_enough : (format : Format) (allowed memory : ℕ) (chosen : Option NewDerivation) → IfSome chosen (IsMakeable allowed) → memory_by (slot_derivation format chosen) ≤ memory
+    → IfSome chosen (IsMakeable memory)
+makeable_enough format allowed memory None can enough = can
+makeable_enough format allowed memory (Some (by.Pbkdf2 n)) can enough = record { turns = can.turns; within = refl }
+makeable_enough format allowed memory (Some (by.Argon2i costs)) can enough = record { turns = can.turns; within = costs_enough allowed memory costs.memory costs.cpus enough can.within }
+makeable_enough format allowed memory (Some (by.Argon2id costs)) can enough = record { turns = can.turns; within = costs_enough allowed memory costs.memory costs.cpus enough can.within }
+
+module _ (format : Format) (chosen : Option NewDerivation) (salt : List ℕ) (area : Area) (digest stored : List ℕ) (plan : SlotPlan)
+    (new : IsNewPlanBy (slot_derivation format chosen) format salt area digest stored plan) (cipher : is_open_cipher plan.cipher ≡ true) where
+  -- a new plan whose cipher opens isn't refused where Argon2 isn't
+  pub unrefused_by : (allowed : ℕ) → is_argon2_refused allowed plan.derivation ≡ false → slot_refusal_within allowed plan ≡ None
+  unrefused_by allowed within =
+      rw (
+        within,
+        cipher,
+        chosen_known format salt plan.derivation chosen new.derivation,
+        new.splitter_hash,
+        new.digest.hash,
+        named format.hash,
+        new.area_key_bytes,
+      ) refl
+
+  -- so where what is chosen may be made
+  pub unrefused_chosen : (allowed : ℕ) → length salt ≡ 32 → IfSome chosen (IsMakeable allowed) → slot_refusal_within allowed plan ≡ None
+  unrefused_chosen allowed long can = unrefused_by allowed (chosen_within format salt plan.derivation allowed long chosen can new.derivation)
+
+  -- and a key of 64 bytes is sealed by it
+  pub sealable_chosen : (allowed : ℕ) → 1 ≤ format.iterations → length salt ≡ 32 → IfSome chosen (IsMakeable allowed) → IsSealableWithin allowed plan
+  sealable_chosen allowed some long can = record {
+    unrefused = unrefused_chosen allowed long can;
+    iterations = chosen_turns format salt plan.derivation allowed long chosen some can new.derivation;
+    key_bytes = new.key_bytes;
+    stripes = new.stripes;
+  }
+
+  -- with no memory, where it isn't Argon2
+  pub sealable_here : (allowed : ℕ) → 1 ≤ format.iterations → length salt ≡ 32 → IfSome chosen (IsMakeable allowed) → takes_memory chosen ≡ false → IsSealable plan
+  sealable_here allowed some long can here = record {
+    unrefused =
+        rw (
+          chosen_here format salt plan.derivation chosen here new.derivation,
+          cipher,
+          chosen_known format salt plan.derivation chosen new.derivation,
+          new.splitter_hash,
+          new.digest.hash,
+          named format.hash,
+          new.area_key_bytes,
+        ) refl;
+    iterations = chosen_turns format salt plan.derivation allowed long chosen some can new.derivation;
+    key_bytes = new.key_bytes;
+    stripes = new.stripes;
+  }
 
 -- the digest that was made of the key is met by it
 pub key_meets : (format : Format) (random : List ℕ) (len : ℕ) (digest : DigestPlan) → IsNewDigest format (digest_salt random) (key_digest format random len) digest

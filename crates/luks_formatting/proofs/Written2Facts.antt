@@ -1,12 +1,11 @@
 -- What the steps of formatting by LUKS2 leave: both copies of the header of a new volume, and its key area.
-use Rattle.std.proofs.Common.{◌≡◌, ℕ, List, inl, inr, arith, lit≤, sym, ap, ◌∙◌, subst}
+use Rattle.std.proofs.Common.{◌≡◌, ℕ, List, Option, inl, inr, arith, lit≤, sym, ap, ◌∙◌, subst}
 use Rattle.luks_area.specs.Ranges.{part, IsAt, SameBut}
 use Rattle.luks_area.specs.RangeFacts.{part-same_but_at, same_but-then, same_but-wider}
 use Rattle.luks_area.specs.declared.area.Area.{Area}
 use Rattle.luks_writing.specs.Cleared.{IsOfFirstSectors}
 use Rattle.luks_writing.specs.MadeInOrder.{WritesInTurn}
 use Rattle.luks_writing.specs.MadeInOrderFacts.{clearing_widens, sectors_inside}
-use Rattle.luks_making.specs.Formatted.{formatted}
 use Rattle.luks_making.specs.WrittenArea.{IsWrittenArea}
 use Rattle.luks_slot.specs.Opening.{area_bytes}
 use Rattle.luks_slot.specs.Sealing.{IsSealed}
@@ -14,8 +13,9 @@ use Rattle.luks_slot.specs.declared.plan.SlotPlan.{SlotPlan}
 use Rattle.luks_reading.specs.Plans.{HasLuks2Plan}
 use Rattle.luks_reading.specs.declared.report.Data.{Data}
 use Rattle.luks_reading.specs.declared.format.Format.{Format}
-use Rattle.luks_formatting.specs.Formatted2.{HasAllButFirst2, HasKeyArea2, HasNewCopy, IsFormatted2, IsOfLuks2}
-use Rattle.luks_formatting.specs.NewHeader2.{area2, new_members}
+use Rattle.luks_formatting.specs.Formatted2.{HasAllButFirst2By, HasKeyArea2By, HasNewCopy, IsFormatted2By, IsOfLuks2}
+use Rattle.luks_formatting.specs.NewHeader2.{area2, new_metadata}
+use Rattle.luks_formatting.specs.declared.derivation.NewDerivation.{NewDerivation}
 use Rattle.luks_formatting.specs.NewPlan.{HoldsKey}
 use Rattle.luks_formatting.specs.RandomBytes.{first_copy_salt, random_stripes, second_copy_salt, slot_place2, volume_key}
 use Rattle.luks_formatting.proofs.NewHeader2Facts.{copy_stays}
@@ -46,8 +46,8 @@ all_rest area is same second first = same_but-then (second_rest area is same sec
 pub copies_wait : {u v : List ℕ} (area : Area) → area ≡ area2 → SameBut (IsAt area.start 256000) u v → part v 0 32768 ≡ part u 0 32768
 copies_wait area is same = (let start = ap (λ (a : Area). a.start) is in part-same_but_at area.start 256000 0 32768 same (inl (omega (arith, start))))
 
-module _ (payload : Data) (format : Format) (passphrase random v json key stripes : List ℕ) (plan : SlotPlan)
-    (metadata : IsWrittenArea 12288 (formatted (new_members payload format random)) json) (has_plan : HasLuks2Plan json 0 plan) (area : plan.area ≡ area2)
+module _ (payload : Data) (format : Format) (chosen : Option NewDerivation) (passphrase random v json key stripes : List ℕ) (plan : SlotPlan)
+    (metadata : IsWrittenArea 12288 (new_metadata payload format chosen random) json) (has_plan : HasLuks2Plan json 0 plan) (area : plan.area ≡ area2)
     (is_key : key ≡ volume_key random) (are_stripes : stripes ≡ random_stripes slot_place2 random) (sealed : IsSealed plan (area_bytes v plan.area) passphrase key stripes) where
   -- the keyslot of each volume whose key area is the sealed one
   slot_in : (y : List ℕ) → area_bytes y plan.area ≡ area_bytes v plan.area → HoldsKey (HasLuks2Plan json 0) y passphrase (volume_key random) (random_stripes slot_place2 random)
@@ -66,7 +66,7 @@ module _ (payload : Data) (format : Format) (passphrase random v json key stripe
         part-same_but_at 16384 16384 plan.area.start plan.area.len second_same (inr (omega (arith, start)))
 
     -- the key area, while the second copy is written
-    pub area_stands : WritesInTurn 16384 (HasKeyArea2 payload format passphrase random w) (HasAllButFirst2 payload format passphrase random w) u w
+    pub area_stands : WritesInTurn 16384 (HasKeyArea2By payload format chosen passphrase random w) (HasAllButFirst2By payload format chosen passphrase random w) u w
     area_stands =
         let start : plan.area.start ≡ 32768 = ap (λ (a : Area). a.start) area in
         inr (inl (
@@ -85,11 +85,11 @@ module _ (payload : Data) (format : Format) (passphrase random v json key stripe
           (part-same_but_at 0 16384 16384 4096 first_same (inr (omega arith))) (part-same_but_at 0 16384 20480 12288 first_same (inr (omega arith))) second
 
       -- both, while the first copy is written
-      pub all_but_first : WritesInTurn 16384 (HasKeyArea2 payload format passphrase random x) (HasAllButFirst2 payload format passphrase random x) u x
+      pub all_but_first : WritesInTurn 16384 (HasKeyArea2By payload format chosen passphrase random x) (HasAllButFirst2By payload format chosen passphrase random x) u x
       all_but_first = inr (inr (record { json = json; metadata = metadata; second = second_kept; slot = slot_in x area_kept }))
 
       -- the whole volume
-      pub formatted2 : HasNewCopy x random (first_copy_salt random) json 0 → IsFormatted2 payload format passphrase random u x
+      pub formatted2 : HasNewCopy x random (first_copy_salt random) json 0 → IsFormatted2By payload format chosen passphrase random u x
       formatted2 first = record {
         json = json;
         metadata = metadata;
@@ -112,9 +112,9 @@ pub over_rest : {t u x : List ℕ} → SameBut (IsOfFirstSectors 16384) t u → 
 over_rest cleared same = clearing_widens 16384 sectors_there cleared same
 
 -- a volume that was formatted after the clearing is formatted
-pub over_cleared : (payload : Data) (format : Format) (passphrase random t u x : List ℕ) → SameBut (IsOfFirstSectors 16384) t u
-    → IsFormatted2 payload format passphrase random u x → IsFormatted2 payload format passphrase random t x
-over_cleared payload format passphrase random t u x cleared is = record {
+pub over_cleared : (payload : Data) (format : Format) (chosen : Option NewDerivation) (passphrase random t u x : List ℕ) → SameBut (IsOfFirstSectors 16384) t u
+    → IsFormatted2By payload format chosen passphrase random u x → IsFormatted2By payload format chosen passphrase random t x
+over_cleared payload format chosen passphrase random t u x cleared is = record {
   json = is.json;
   metadata = is.metadata;
   first = is.first;

@@ -1,14 +1,14 @@
 -- A volume that was formatted by LUKS2.
-use Rattle.std.specs.Prelude.{ℕ, List}
+use Rattle.std.specs.Prelude.{ℕ, List, Option, None}
 use Rattle.luks_area.specs.Ranges.{IsAt, IsOfEither, SameBut}
 use Rattle.luks_head.specs.Written.{IsWrittenCopy}
 use Rattle.luks_head.specs.declared.bin2.Bin2.{Bin2}
-use Rattle.luks_making.specs.Formatted.{formatted}
 use Rattle.luks_making.specs.WrittenArea.{IsWrittenArea}
 use Rattle.luks_reading.specs.declared.report.Data.{Data}
 use Rattle.luks_reading.specs.Plans.{HasLuks2Plan}
 use Rattle.luks_reading.specs.declared.format.Format.{Format}
-use Rattle.luks_formatting.specs.NewHeader2.{copy_size, json_size, new_members, IsNewCopy}
+use Rattle.luks_formatting.specs.NewHeader2.{copy_size, json_size, new_metadata, IsNewCopy}
+use Rattle.luks_formatting.specs.declared.derivation.NewDerivation.{NewDerivation}
 use Rattle.luks_formatting.specs.NewPlan.{HoldsKey}
 use Rattle.luks_formatting.specs.RandomBytes.{first_copy_salt, random_stripes, second_copy_salt, slot_place2, volume_key}
 
@@ -22,13 +22,13 @@ pub record HasNewCopy (v random salt json : List ℕ) (o : ℕ) : Type 0 where
 abbrev pub IsOfLuks2 : ℕ → Type 0
 IsOfLuks2 = IsOfEither (IsAt 0 32768) (IsAt 32768 256000)
 
--- `new` begins with both copies of the header of a new volume, its keyslot 0 holds the volume key,
--- and all other bytes are those of `old`
-pub record IsFormatted2
-    (payload : Data) (format : Format) (passphrase random old new : List ℕ)
+-- `new` begins with both copies of the header of a new volume, its keyslot 0 holds the volume key by the
+-- derivation that is chosen, and all other bytes are those of `old`
+pub record IsFormatted2By
+    (payload : Data) (format : Format) (chosen : Option NewDerivation) (passphrase random old new : List ℕ)
     : Type 0 where
   pub json : List ℕ
-  pub metadata : IsWrittenArea json_size (formatted (new_members payload format random)) json
+  pub metadata : IsWrittenArea json_size (new_metadata payload format chosen random) json
   pub first : HasNewCopy new random (first_copy_salt random) json 0
   pub second : HasNewCopy new random (second_copy_salt random) json copy_size
   pub slot : HoldsKey (HasLuks2Plan json 0) new passphrase (volume_key random)
@@ -36,16 +36,27 @@ pub record IsFormatted2
   pub rest : SameBut IsOfLuks2 old new
 
 -- keyslot 0's area holds the volume key, as the metadata says that is to be written
-pub record HasKeyArea2 (payload : Data) (format : Format) (passphrase random new : List ℕ) : Type 0 where
+pub record HasKeyArea2By (payload : Data) (format : Format) (chosen : Option NewDerivation) (passphrase random new : List ℕ) : Type 0 where
   pub json : List ℕ
-  pub metadata : IsWrittenArea json_size (formatted (new_members payload format random)) json
+  pub metadata : IsWrittenArea json_size (new_metadata payload format chosen random) json
   pub slot : HoldsKey (HasLuks2Plan json 0) new passphrase (volume_key random)
       (random_stripes slot_place2 random)
 
 -- the second copy stands too
-pub record HasAllButFirst2 (payload : Data) (format : Format) (passphrase random new : List ℕ) : Type 0 where
+pub record HasAllButFirst2By (payload : Data) (format : Format) (chosen : Option NewDerivation) (passphrase random new : List ℕ) : Type 0 where
   pub json : List ℕ
-  pub metadata : IsWrittenArea json_size (formatted (new_members payload format random)) json
+  pub metadata : IsWrittenArea json_size (new_metadata payload format chosen random) json
   pub second : HasNewCopy new random (second_copy_salt random) json copy_size
   pub slot : HoldsKey (HasLuks2Plan json 0) new passphrase (volume_key random)
       (random_stripes slot_place2 random)
+
+-- ---- where no derivation is chosen
+
+abbrev pub IsFormatted2 : Data → Format → List ℕ → List ℕ → List ℕ → List ℕ → Type 0
+IsFormatted2 payload format = IsFormatted2By payload format None
+
+abbrev pub HasKeyArea2 : Data → Format → List ℕ → List ℕ → List ℕ → Type 0
+HasKeyArea2 payload format = HasKeyArea2By payload format None
+
+abbrev pub HasAllButFirst2 : Data → Format → List ℕ → List ℕ → List ℕ → Type 0
+HasAllButFirst2 payload format = HasAllButFirst2By payload format None

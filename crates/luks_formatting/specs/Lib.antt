@@ -1,3 +1,4 @@
+pub mod Deriving
 pub mod FormatFaults
 pub mod RandomBytes
 pub mod NewPlan
@@ -5,3 +6,4 @@ pub mod NewHeader1
 pub mod Formatted1
 pub mod NewHeader2
 pub mod Formatted2
+pub mod Volume2

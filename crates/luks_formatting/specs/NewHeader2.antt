@@ -1,18 +1,22 @@
 -- The LUKS2 header of a new volume: both copies of its binary header, and the metadata (LUKS2
 -- On-Disk Format 1.1, 2.1 and 3).
-use Rattle.std.specs.Prelude.{◌≡◌, ℕ, List, ◌++◌, codes, drop, length, replicate}
+use Rattle.std.specs.Prelude.{◌≡◌, ℕ, List, ◌++◌, codes, drop, length, replicate, Option, None}
+use Rattle.serde_json.specs.Data.{Data as Value, object, no_members, member}
 use Rattle.luks_area.specs.declared.area.Area.{Area}
 use Rattle.luks_head.specs.Header2.{magic_of, sha256_size}
 use Rattle.luks_head.specs.declared.bin2.Bin2.{Bin2}
 use Rattle.luks_kdf.specs.Names.{digest_size_of, name_of}
-use Rattle.luks_making.specs.Conditions.{FitsVolume}
-use Rattle.luks_making.specs.Formatted.{VolumeMembers}
+use Rattle.luks_making.specs.Conditions.{FitsDerivation, FitsVolume}
+use Rattle.luks_making.specs.Formatted.{VolumeMembers, config_value, digest_value, first_slot, segment_value, sole}
+use Rattle.luks_making.specs.Keyslots.{Deriving, SlotMembers, slot_value}
 use Rattle.luks_slot.specs.declared.plan.AreaCipher.{AreaCipher}
 use Rattle.luks_slot.specs.declared.plan.AreaCipher.TheVariants.{Apart, Whole}
 use Rattle.luks_reading.specs.declared.report.Data.{Data}
 use Rattle.luks_reading.specs.declared.report.Data.TheVariants.{Here, Elsewhere}
 use Rattle.luks_reading.specs.declared.format.Format.{Format}
 use Rattle.luks_head.specs.NewUuid.{uuid_text}
+use Rattle.luks_formatting.specs.declared.derivation.NewDerivation.{NewDerivation}
+use Rattle.luks_formatting.specs.Deriving.{slot_derivation}
 use Rattle.luks_formatting.specs.NewPlan.{key_digest}
 use Rattle.luks_formatting.specs.RandomBytes.{digest_salt, slot_place2, slot_salt, uuid_bytes}
 
@@ -56,6 +60,23 @@ new_members payload format random = record {
   encryption = codes "aes-xts-plain64";
 }
 
+-- keyslot 0, which holds the key, by this derivation
+abbrev pub first_slot_by : Deriving → VolumeMembers → SlotMembers
+first_slot_by d v = record (first_slot v) { derivation = d }
+
+-- the metadata, whose keyslot 0 is so derived (LUKS2 On-Disk Format 1.1, 3)
+abbrev pub formatted_by : Deriving → VolumeMembers → Value
+formatted_by d v = object (
+    member (codes "config") config_value (
+    member (codes "digests") (sole (digest_value v)) (
+    member (codes "keyslots") (sole (slot_value (first_slot_by d v))) (
+    member (codes "segments") (sole (segment_value v)) (
+    member (codes "tokens") (object no_members) no_members)))))
+
+-- by the derivation that is chosen
+abbrev pub new_metadata : Data → Format → Option NewDerivation → List ℕ → Value
+new_metadata payload format chosen random = formatted_by (slot_derivation format chosen) (new_members payload format random)
+
 -- the area of keyslot 0, of which the first 256000 bytes are used, and its cipher
 abbrev pub area2 : Area
 area2 = record { start = 32768; len = 258048 }
@@ -65,7 +86,11 @@ IsNewCipher2 (Apart name mode) = ⊥
 IsNewCipher2 (Whole text) = text.now ≡ codes "aes-xts-plain64"
 
 -- what the metadata says has the ranges of its types, and the digest its length
-pub record FitsMetadata (payload : Data) (format : Format) (random : List ℕ) : Type 0 where
+pub record FitsMetadataBy (payload : Data) (format : Format) (chosen : Option NewDerivation) (random : List ℕ) : Type 0 where
   pub fits : FitsVolume (new_members payload format random)
   pub digest_length : length (key_digest format random (digest_size_of format.hash))
       ≡ digest_size_of format.hash
+  pub derivation : FitsDerivation (slot_derivation format chosen)
+
+abbrev pub FitsMetadata : Data → Format → List ℕ → Type 0
+FitsMetadata payload format = FitsMetadataBy payload format None

@@ -1,16 +1,17 @@
 -- What keyslot 0 of a new volume says of its opening.
-use Rattle.std.specs.Prelude.{◌≡◌, ℕ, List, None}
+use Rattle.std.specs.Prelude.{◌≡◌, ℕ, List, length, None}
 use Rattle.luks_area.specs.declared.area.Area.{Area}
 use Rattle.luks_kdf.specs.Derivation.{pbkdf2}
 use Rattle.luks_kdf.specs.Names.{block_size_of, hash_of, name_of}
+use Rattle.luks_making.specs.Keyslots.{Deriving, by_pbkdf2}
 use Rattle.luks_slot.specs.declared.plan.Derivation.{Derivation}
-use Rattle.luks_slot.specs.declared.plan.Derivation.TheVariants.{Pbkdf2, Argon2}
 use Rattle.luks_slot.specs.declared.plan.DigestPlan.{DigestPlan}
 use Rattle.luks_slot.specs.declared.plan.SlotPlan.{SlotPlan}
 use Rattle.luks_slot.specs.Opening.{area_bytes, HasIterations}
-use Rattle.luks_slot.specs.Refusal.{slot_refusal}
+use Rattle.luks_slot.specs.Refusal.{slot_refusal, slot_refusal_within}
 use Rattle.luks_slot.specs.Sealing.{IsSealed}
 use Rattle.luks_reading.specs.declared.format.Format.{Format}
+use Rattle.luks_formatting.specs.Deriving.{IsDerivedBy}
 use Rattle.luks_formatting.specs.RandomBytes.{digest_salt, volume_key}
 
 -- the digest of the volume key, of `len` bytes: PBKDF2 of the key
@@ -19,23 +20,18 @@ key_digest format random len =
     pbkdf2 (hash_of format.hash) (block_size_of format.hash)
     (volume_key random) (digest_salt random) format.iterations len
 
-abbrev pub IsNewDerivation : Format → List ℕ → Derivation → Type 0
-IsNewDerivation format salt (Pbkdf2 hash iterations own_salt) =
-    (hash.now ≡ name_of format.hash) × (iterations ≡ format.iterations) × (own_salt.now ≡ salt)
-IsNewDerivation format salt (Argon2 c) = ⊥
-
 pub record IsNewDigest (format : Format) (salt stored : List ℕ) (digest : DigestPlan) : Type 0 where
   pub hash : digest.hash.now ≡ name_of format.hash
   pub iterations : digest.iterations ≡ format.iterations
   pub own_salt : digest.salt.now ≡ salt
   pub own_stored : digest.stored.now ≡ stored
 
--- the plan of a keyslot with this salt and area, and a digest with that salt that stores these
+-- the plan of a keyslot with this derivation, salt and area, and a digest with that salt that stores these
 -- bytes; its cipher is a matter of the version
-pub record IsNewPlan
-    (format : Format) (salt : List ℕ) (own_area : Area) (digest_salt stored : List ℕ) (plan : SlotPlan)
+pub record IsNewPlanBy
+    (own : Deriving) (format : Format) (salt : List ℕ) (own_area : Area) (digest_salt stored : List ℕ) (plan : SlotPlan)
     : Type 0 where
-  pub derivation : IsNewDerivation format salt plan.derivation
+  pub derivation : IsDerivedBy own salt plan.derivation
   pub area : plan.area ≡ own_area
   pub area_key_bytes : plan.area_key_bytes ≡ 64
   pub key_bytes : plan.key_bytes ≡ 64
@@ -43,12 +39,31 @@ pub record IsNewPlan
   pub splitter_hash : plan.splitter_hash.now ≡ name_of format.hash
   pub digest : IsNewDigest format digest_salt stored plan.digest
 
--- a key of 64 bytes is sealed by the plan in 4000 stripes
+-- a derivation, and a plan, by PBKDF2 as the digest
+abbrev pub IsNewDerivation : Format → List ℕ → Derivation → Type 0
+IsNewDerivation format = IsDerivedBy (by_pbkdf2 (name_of format.hash) format.iterations)
+
+abbrev pub IsNewPlan : Format → List ℕ → Area → List ℕ → List ℕ → SlotPlan → Type 0
+IsNewPlan format = IsNewPlanBy (by_pbkdf2 (name_of format.hash) format.iterations) format
+
+-- a key of 64 bytes is sealed by the plan in 4000 stripes, where Argon2 may take so many KiB
+pub record IsSealableWithin (allowed : ℕ) (plan : SlotPlan) : Type 0 where
+  pub unrefused : slot_refusal_within allowed plan ≡ None
+  pub iterations : HasIterations plan.derivation
+  pub key_bytes : plan.key_bytes ≡ 64
+  pub stripes : plan.stripes ≡ 4000
+
+-- where it may take none
 pub record IsSealable (plan : SlotPlan) : Type 0 where
   pub unrefused : slot_refusal plan ≡ None
   pub iterations : HasIterations plan.derivation
   pub key_bytes : plan.key_bytes ≡ 64
   pub stripes : plan.stripes ≡ 4000
+
+-- the bytes are those of the used sectors of an area that the plan sealed the key in
+pub record IsSealedAhead (plan : SlotPlan) (passphrase key random bytes : List ℕ) : Type 0 where
+  pub long : length bytes ≡ 256000
+  pub sealed : IsSealed plan bytes passphrase key random
 
 -- the area of a keyslot of the volume `v`, one of these plans, holds the key under the passphrase:
 -- stripes of which all but the last are the random ones, and then zeros

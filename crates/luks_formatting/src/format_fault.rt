@@ -10,8 +10,11 @@ use std::fmt;
 pub enum FormatFault {
     /// The volume has fewer than 2097152 bytes, for LUKS2 16777216.
     TooSmall,
-    /// Fewer than 1000 iterations.
+    /// Fewer than 1000 iterations, or no pass of Argon2.
     Iterations,
+    /// Argon2 that is chosen takes more memory than is allowed, or less than 8 KiB for each lane, or has
+    /// not 1 to 2^24 - 1 lanes.
+    Argon2,
     /// The random bytes aren't exactly as many as it takes.
     RandomLength,
     /// Memory was refused.
@@ -30,6 +33,7 @@ impl fmt::Display for FormatFault {
         match self {
             FormatFault::TooSmall => f.write_str("TooSmall"),
             FormatFault::Iterations => f.write_str("Iterations"),
+            FormatFault::Argon2 => f.write_str("Argon2"),
             FormatFault::RandomLength => f.write_str("RandomLength"),
             FormatFault::Memory => f.write_str("Memory"),
             FormatFault::Device => f.write_str("Device"),

@@ -1,11 +1,14 @@
 //! Laws on the definitions of this crate. Each function does nothing; its contract is the law.
-ghost use Rattle.std.specs.Prelude.{◌≡◌, ◌≤◌, ℕ, List, length};
-ghost use Rattle.luks_reading.specs.Answer.{Answer, opens};
+ghost use Rattle.std.specs.Prelude.{◌≡◌, ◌≤◌, ℕ, List, length, Option, None, IfSome};
+ghost use Rattle.luks_making.specs.Formatted.{formatted};
+ghost use Rattle.luks_reading.specs.Answer.{Answer, AnswerWithin, opens};
 ghost use Rattle.luks_reading.specs.Checked.{WellFormed};
 ghost use Rattle.luks_reading.specs.declared.report.Data.{Data as Payload};
 ghost use Rattle.luks_formatting.specs.Formatted1.{IsFormatted1};
-ghost use Rattle.luks_formatting.specs.Formatted2.{IsFormatted2};
-ghost use Rattle.luks_formatting.specs.NewHeader2.{FitsMetadata};
+ghost use Rattle.luks_formatting.specs.Formatted2.{IsFormatted2, IsFormatted2By};
+ghost use Rattle.luks_formatting.specs.NewHeader2.{FitsMetadata, FitsMetadataBy, new_members, new_metadata};
+ghost use Rattle.luks_formatting.specs.Deriving.{IsMakeable, memory_by, slot_derivation};
+ghost use Rattle.luks_formatting.specs.declared.derivation.NewDerivation.{NewDerivation as Chosen};
 ghost use Rattle.luks_formatting.specs.RandomBytes.{volume_key};
 ghost use Rattle.luks_reading.specs.declared.format.Format.{Format as TheFormat};
 
@@ -34,4 +37,27 @@ pub fn formatted2_opens()
         → length random ≡ 256208 → FitsMetadata payload format random
         → IsFormatted2 payload format passphrase random old new
         → Answer new 0 passphrase (opens (volume_key random)) }
+{}
+
+/// The same where a derivation was chosen: keyslot 0 opens wherever as much memory is allowed as it takes,
+/// if what was chosen may be made with some.
+pub fn formatted2_by_opens()
+    ensures well_formed { (payload : Payload) (format : TheFormat) (chosen : Option Chosen)
+        (passphrase random old new : List ℕ) → 1 ≤ format.iterations → 16777216 ≤ length new
+        → length random ≡ 256208 → FitsMetadataBy payload format chosen random
+        → IsFormatted2By payload format chosen passphrase random old new → WellFormed new payload }
+    ensures opens { (payload : Payload) (format : TheFormat) (chosen : Option Chosen)
+        (passphrase random old new : List ℕ) → 1 ≤ format.iterations → 16777216 ≤ length new
+        → length random ≡ 256208 → FitsMetadataBy payload format chosen random
+        → IsFormatted2By payload format chosen passphrase random old new
+        → (allowed memory : ℕ) → IfSome chosen (IsMakeable allowed)
+        → memory_by (slot_derivation format chosen) ≤ memory
+        → AnswerWithin memory new 0 passphrase (opens (volume_key random)) }
+{}
+
+/// Where no derivation is chosen, the metadata is that of a volume whose keyslot derives by PBKDF2, as the
+/// digest.
+pub fn none_chosen_is_as_the_digest()
+    ensures { (payload : Payload) (format : TheFormat) (random : List ℕ)
+        → new_metadata payload format None random ≡ formatted (new_members payload format random) }
 {}

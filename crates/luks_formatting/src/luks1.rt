@@ -13,7 +13,7 @@ ghost use Rattle.luks_reading.specs.declared.report.Data.{Data as Payload};
 ghost use Rattle.luks_formatting.specs.declared.format_fault.FormatFault.{FormatFault as TheFault};
 
 use crate::format_fault::FormatFault;
-use crate::judging::judge;
+use crate::judging::{Wanted, judge};
 use crate::new_header1::{SLOT_SALT, new_header};
 use crate::plan::new_plan;
 use crate::random::{KEY, KEY_BYTES, RANDOM_STRIPES, SALT_BYTES, taken};
@@ -28,8 +28,11 @@ use luks_writing::{clear_places, write_range};
 /// How many random bytes `format1` takes.
 pub const FORMAT1_RANDOM: u64 = 256080;
 
-/// The least length of a volume in bytes: where the payload begins.
-const LEAST: u64 = 2097152;
+/// At least as many bytes as stand before the payload.
+const WANTED: Wanted = Wanted {
+    least: 2097152,
+    needed: FORMAT1_RANDOM,
+};
 
 /// Where an older LUKS2 header of the usual metadata size has its second copy. The place lies in the
 /// area of keyslot 0.
@@ -90,7 +93,7 @@ pub fn format1<D: Device>(
     ensures opens { D.tells → OnOk result
         (Answer (D.bytes device.new) 0 passphrase.now (opens (volume_key random.now))) }
 {
-    judge(LEAST, FORMAT1_RANDOM, device.len(), format, random)?;
+    judge(WANTED, device.len(), format, None, 0, random)?;
     write_volume(device, data_, format, passphrase, random)?;
     Ok(Done { slot: Some(0) })
 }

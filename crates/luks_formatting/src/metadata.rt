@@ -1,67 +1,124 @@
 //! The metadata of a new LUKS2 volume.
-ghost use Rattle.std.specs.Prelude.{◌≡◌, ◌≤◌, length, IfOk, OnOk};
-ghost use Rattle.luks_kdf.specs.Names.{digest_size_of};
-ghost use Rattle.luks_making.specs.Formatted.{formatted, volume_members};
-ghost use Rattle.luks_making.specs.WrittenArea.{IsWrittenArea};
-ghost use Rattle.luks_formatting.specs.NewHeader2.{json_size, new_members, segment_start, FitsMetadata};
+ghost use Rattle.std.specs.Prelude.{◌≡◌, ◌≤◌, length, IfOk, IfSome, OnOk};
+ghost use Rattle.serde_json.specs.View.{view};
+ghost use Rattle.luks_kdf.specs.Names.{digest_size_of, name_of};
+ghost use Rattle.luks_making.specs.Formatted.{volume_members};
+ghost use Rattle.luks_making.specs.Keyslots.{derivation_of, slot_members};
+ghost use Rattle.luks_formatting.specs.Deriving.{IsMakeable, slot_derivation};
+ghost use Rattle.luks_formatting.specs.NewHeader2.{first_slot_by, formatted_by, new_members, segment_start};
 ghost use Rattle.luks_formatting.specs.NewPlan.{key_digest};
+ghost use Rattle.luks_formatting.specs.Volume2.{Fits, HasArea};
 
+use crate::derivation::{NewDerivation, fits};
 use crate::new_header2::{JSON_SIZE, SLOT_SALT};
 use crate::random::{DIGEST_SALT, SALT_BYTES, taken};
-use luks_making::{NewVolume, formatted, volume_fits, written_area};
+use crate::volume2::Volume;
+use luks_making::{
+    NewDerivation as Written, NewKeyslot, NewVolume, formatted, slot_value, volume_fits, with_slot,
+    without_slot, written_area,
+};
 use luks_reading::{Data, Format};
+use serde_json::Value;
 use std::alloc::{AllocError, Global};
 
 /// The JSON area of both copies of the header, with this digest of the volume key.
 pub(crate) fn new_area(
     alloc: Global,
-    data_: Data,
-    format: &Format,
+    volume: &Volume<'_>,
     digest: &[u8],
-    random: &[u8],
 ) -> Result<Vec<u8>, AllocError>
-    requires iterations { 1 ≤ format.now.iterations }
-    requires long { 272 ≤ length random.now }
-    requires digest { digest.now
-        ≡ key_digest format.now random.now (digest_size_of format.now.hash) }
-    requires digest_length { length digest.now ≡ digest_size_of format.now.hash }
-    ensures area { IfOk result (λ a.
-        IsWrittenArea json_size (formatted (new_members data_ format.now random.now)) a.items) }
-    ensures fits { OnOk result (FitsMetadata data_ format.now random.now) }
+    requires iterations { 1 ≤ volume.now.format.now.iterations }
+    requires makeable { IfSome volume.now.chosen (IsMakeable volume.now.passphrase.memory) }
+    requires long { 272 ≤ length volume.now.random.now }
+    requires digest { digest.now ≡ key_digest volume.now.format.now volume.now.random.now
+        (digest_size_of volume.now.format.now.hash) }
+    requires digest_length { length digest.now ≡ digest_size_of volume.now.format.now.hash }
+    ensures area { IfOk result (λ a. HasArea volume.now a.items) }
+    ensures fits { OnOk result (Fits volume.now) }
 {
-    let volume = NewVolume {
-        hash: format.hash.text(),
-        iterations: format.iterations,
-        segment_offset: segment_start(data_),
-        digest_salt: taken(random, DIGEST_SALT, SALT_BYTES),
+    let like = NewVolume {
+        hash: volume.format.hash.text(),
+        iterations: volume.format.iterations,
+        segment_offset: segment_start(volume.data_),
+        digest_salt: taken(volume.random, DIGEST_SALT, SALT_BYTES),
         digest,
-        slot_salt: taken(random, SLOT_SALT, SALT_BYTES),
+        slot_salt: taken(volume.random, SLOT_SALT, SALT_BYTES),
         encryption: "aes-xts-plain64",
     };
-    area_of(alloc, data_, format, random, &volume)
+    area_of(alloc, volume, &like)
 }
 
 // The same by what the metadata says.
-fn area_of(
-    alloc: Global,
-    data_: Data,
-    format: &Format,
-    random: &[u8],
-    volume: &NewVolume<'_>,
-) -> Result<Vec<u8>, AllocError>
-    requires iterations { 1 ≤ format.now.iterations }
-    requires long { 272 ≤ length random.now }
-    requires members { volume_members volume.now ≡ new_members data_ format.now random.now }
-    requires digest_length { length volume.now.digest.now ≡ digest_size_of format.now.hash }
-    ensures area { IfOk result (λ a.
-        IsWrittenArea json_size (formatted (new_members data_ format.now random.now)) a.items) }
-    ensures fits { OnOk result (FitsMetadata data_ format.now random.now) }
+fn area_of(alloc: Global, volume: &Volume<'_>, like: &NewVolume<'_>) -> Result<Vec<u8>, AllocError>
+    requires iterations { 1 ≤ volume.now.format.now.iterations }
+    requires makeable { IfSome volume.now.chosen (IsMakeable volume.now.passphrase.memory) }
+    requires long { 272 ≤ length volume.now.random.now }
+    requires members { volume_members like.now
+        ≡ new_members volume.now.data_ volume.now.format.now volume.now.random.now }
+    requires digest_length { length like.now.digest.now
+        ≡ digest_size_of volume.now.format.now.hash }
+    ensures area { IfOk result (λ a. HasArea volume.now a.items) }
+    ensures fits { OnOk result (Fits volume.now) }
 {
-    volume_fits(volume);
-    let value = formatted(alloc, volume)?;
+    volume_fits(like);
+    fits(volume.chosen);
+    let value = metadata_of(alloc, volume.format, volume.chosen, like)?;
     match written_area(alloc, &value, JSON_SIZE)? {
         Some(area) => Ok(area),
         None => unreachable!(),
+    }
+}
+
+// The metadata, whose keyslot is derived as the digest or as is chosen.
+fn metadata_of(
+    alloc: Global,
+    format: &Format,
+    chosen: Option<NewDerivation>,
+    like: &NewVolume<'_>,
+) -> Result<Value, AllocError>
+    ensures { IfOk result (λ v. view v
+        ≡ formatted_by (slot_derivation format.now chosen) (volume_members like.now)) }
+{
+    let keyslot = slot_value(alloc, &first_slot(format, chosen, like))?;
+    let value = formatted(alloc, like)?;
+    let bare = without_slot(alloc, value, 0)?;
+    with_slot(alloc, bare, 0, 0, keyslot)
+}
+
+fn first_slot<'a>(
+    format: &Format,
+    chosen: Option<NewDerivation>,
+    like: &NewVolume<'a>,
+) -> NewKeyslot<'a>
+    ensures { slot_members result
+        ≡ first_slot_by (slot_derivation format.now chosen) (volume_members like.now) }
+{
+    NewKeyslot {
+        key_size: 64,
+        stripes: 4000,
+        splitter_hash: like.hash,
+        offset: 32768,
+        size: 258048,
+        encryption: like.encryption,
+        area_key_size: 64,
+        derivation: written_derivation(format, chosen),
+        salt: like.slot_salt,
+    }
+}
+
+/// The derivation as the metadata has it.
+fn written_derivation<'a>(format: &Format, chosen: Option<NewDerivation>) -> Written<'a>
+    ensures { derivation_of result ≡ slot_derivation format.now chosen }
+{
+    let hash = format.hash.text();
+    match chosen {
+        None => Written::Pbkdf2 {
+            hash,
+            iterations: format.iterations,
+        },
+        Some(NewDerivation::Pbkdf2 { iterations }) => Written::Pbkdf2 { hash, iterations },
+        Some(NewDerivation::Argon2i(costs)) => Written::Argon2i(costs),
+        Some(NewDerivation::Argon2id(costs)) => Written::Argon2id(costs),
     }
 }
 

@@ -1,15 +1,19 @@
 //! What keyslot 0 of a new volume is sealed by.
-ghost use Rattle.std.specs.Prelude.{◌≡◌, ◌≤◌, length};
+ghost use Rattle.std.specs.Prelude.{◌≡◌, ◌≤◌, ℕ, List, length};
+ghost use Rattle.luks_making.specs.Keyslots.{Deriving};
 ghost use Rattle.luks_slot.specs.Opening.{HasIterations};
-ghost use Rattle.luks_formatting.specs.NewPlan.{key_digest, IsNewPlan};
+ghost use Rattle.luks_formatting.specs.Deriving.{IsArgon2Plan, IsDerivedBy, slot_derivation};
+ghost use Rattle.luks_formatting.specs.NewPlan.{key_digest, IsNewPlan, IsNewPlanBy};
 
+use crate::derivation::NewDerivation;
 use crate::random::{DIGEST_SALT, KEY, KEY_BYTES, SALT_BYTES, STRIPES, taken};
 use luks_area::Area;
+use luks_making::Argon2Costs;
 use luks_reading::Format;
-use luks_slot::{AreaCipher, Derivation, DigestPlan, SlotPlan};
+use luks_slot::{AreaCipher, Argon2Kind, Argon2Plan, Derivation, DigestPlan, SlotPlan};
 
 /// The plan of a keyslot with this salt and area, and of a digest with that salt that stores these
-/// bytes.
+/// bytes. It derives by PBKDF2, as the digest.
 pub(crate) fn new_plan<'a>(
     format: &Format,
     cipher: AreaCipher<'a>,
@@ -22,13 +26,27 @@ pub(crate) fn new_plan<'a>(
     ensures iterations { 1 ≤ format.now.iterations → HasIterations result.derivation }
     ensures cipher { result.cipher ≡ cipher.entry }
 {
+    let derivation = plan_derivation(format, None, salt);
+    new_plan_by(derivation, format, cipher, area, digest_salt, stored)
+}
+
+/// The same by a derivation with its salt.
+pub(crate) fn new_plan_by<'a>(
+    derivation: Derivation<'a>,
+    format: &Format,
+    cipher: AreaCipher<'a>,
+    area: Area,
+    digest_salt: &'a [u8],
+    stored: &'a [u8],
+) -> SlotPlan<'a>
+    ensures plan { (own : Deriving) (salt : List ℕ) → IsDerivedBy own salt derivation.entry
+        → IsNewPlanBy own format.now salt area digest_salt.now stored.now result }
+    ensures derivation { result.derivation ≡ derivation.entry }
+    ensures cipher { result.cipher ≡ cipher.entry }
+{
     let hash = format.hash.text();
     SlotPlan {
-        derivation: Derivation::Pbkdf2 {
-            hash,
-            iterations: format.iterations,
-            salt,
-        },
+        derivation,
         cipher,
         area,
         area_key_bytes: KEY_BYTES,
@@ -42,6 +60,44 @@ pub(crate) fn new_plan<'a>(
             stored,
         },
     }
+}
+
+/// The derivation with this salt: as the digest, or as is chosen.
+pub(crate) fn plan_derivation<'a>(
+    format: &Format,
+    chosen: Option<NewDerivation>,
+    salt: &'a [u8],
+) -> Derivation<'a>
+    ensures { IsDerivedBy (slot_derivation format.now chosen) salt.now result }
+{
+    let hash = format.hash.text();
+    match chosen {
+        None => Derivation::Pbkdf2 {
+            hash,
+            iterations: format.iterations,
+            salt,
+        },
+        Some(NewDerivation::Pbkdf2 { iterations }) => Derivation::Pbkdf2 {
+            hash,
+            iterations,
+            salt,
+        },
+        Some(NewDerivation::Argon2i(costs)) => by_argon2(Argon2Kind::I, costs, salt),
+        Some(NewDerivation::Argon2id(costs)) => by_argon2(Argon2Kind::Id, costs, salt),
+    }
+}
+
+/// Argon2 of this kind by these costs.
+fn by_argon2(kind: Argon2Kind, costs: Argon2Costs, salt: &[u8]) -> Derivation<'_>
+    ensures { IsArgon2Plan kind costs salt.now result }
+{
+    Derivation::Argon2(Argon2Plan {
+        kind,
+        time: costs.time,
+        memory: costs.memory,
+        cpus: costs.cpus,
+        salt,
+    })
 }
 
 /// Writes the digest of the volume key, at most 128 bytes of it.

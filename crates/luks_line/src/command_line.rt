@@ -1,3 +1,4 @@
+use crate::derivation::wrong_derivation;
 use crate::fields::wrong_field;
 use crate::manner::{Manner, manner_of};
 use crate::program::program;
@@ -69,6 +70,7 @@ pub fn line<'a>(alloc: Global, words: &'a [&'a str]) -> Result<Line<'a>, Error> 
 fn mistake_in(matches: &ArgMatches<'_>) -> Option<&'static str> {
     match matches.subcommand()? {
         ("rebuild", given) => wrong_field(given),
+        ("format", given) => wrong_derivation(given),
         _ => None,
     }
 }

@@ -370,16 +370,23 @@ there; with --detached it lies on another device, from its byte 0 on.
 
 Keyslot 0 opens by the passphrase: all bytes of its file, a last newline too,
 at most 65536; by --passphrase-line what stands there before the first newline.
-The cipher is aes-xts-plain64 with a volume key of 64 bytes, the derivation
-PBKDF2. The uuid, the key, the salts and the stripes are the first 256080 bytes
-of the random file, of LUKS2 256208, and no more are read. Give it
-/dev/urandom: whoever knows these bytes knows the volume key.
+The cipher is aes-xts-plain64 with a volume key of 64 bytes. The uuid, the key,
+the salts and the stripes are the first 256080 bytes of the random file, of
+LUKS2 256208, and no more are read. Give it /dev/urandom: whoever knows these
+bytes knows the volume key.
+
+The passphrase's key is derived by PBKDF2, or of LUKS2 by Argon2 with --kdf
+argon2id or argon2i: --kdf-memory, --passes and --lanes are its costs, and
+--memory has to allow that memory, as it has to when the keyslot is opened. Who
+guesses passphrases has these costs for each. The digest of the volume key has
+PBKDF2 always.
 
 Prints one line:
   done slot 0            the volume is made
   refused Passphrase     the passphrase's file is too long
   refused TooSmall       the volume is
   refused Iterations     there are fewer than 1000
+  refused Argon2         it takes more memory than --memory allows
   refused RandomLength   the random file has too few bytes
   device fault           a file can't be read, or the volume can't be written;
                          a write that failed leaves any part of it written

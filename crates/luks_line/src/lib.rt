@@ -5,6 +5,7 @@
 mod choices;
 mod command_line;
 mod commands;
+mod derivation;
 mod fields;
 mod helps;
 mod manner;

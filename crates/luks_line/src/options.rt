@@ -42,6 +42,10 @@ pub(crate) enum LongOption {
     Payload,
     TriedPassphrase,
     TriedPassphraseLine,
+    Kdf,
+    KdfMemory,
+    Passes,
+    Lanes,
 }
 
 impl LongOption {
@@ -59,7 +63,7 @@ pub(crate) struct OptionRow {
 }
 
 /// In the order of `LongOption`.
-static OPTIONS: [OptionRow; 36] = [
+static OPTIONS: [OptionRow; 40] = [
     OptionRow {
         name: "detached",
         needed: false,
@@ -275,5 +279,29 @@ static OPTIONS: [OptionRow; 36] = [
         needed: false,
         help: "Instead, a file whose first line is taken",
         takes: Takes::OnePassphrase,
+    },
+    OptionRow {
+        name: "kdf",
+        needed: false,
+        help: "pbkdf2, argon2i or argon2id",
+        takes: Takes::Kdf,
+    },
+    OptionRow {
+        name: "kdf-memory",
+        needed: false,
+        help: "MiB that Argon2 takes, 1 to 4095",
+        takes: Takes::KdfMemory,
+    },
+    OptionRow {
+        name: "passes",
+        needed: false,
+        help: "Of Argon2, at least 1",
+        takes: Takes::Passes,
+    },
+    OptionRow {
+        name: "lanes",
+        needed: false,
+        help: "Of Argon2, 1 to 4",
+        takes: Takes::Lanes,
     },
 ];

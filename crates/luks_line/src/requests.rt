@@ -1,5 +1,6 @@
 //! What the words of a command line ask for, once `clap` has told them apart.
 
+use crate::derivation::argon2_of;
 use crate::fields::fields_of;
 use crate::search::Search;
 use clap::ArgMatches;
@@ -142,6 +143,8 @@ fn making_of<'a>(given: &ArgMatches<'a>) -> Option<Making<'a>> {
             hash: HashName::parse(given.get_str("hash")?)?,
             iterations: given.get_one::<u32>("iterations")?,
         },
+        argon2: argon2_of(given)?,
+        memory: given.get_one::<u32>("memory")?,
         data_: data_of(given),
     })
 }

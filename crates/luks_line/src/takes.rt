@@ -43,6 +43,14 @@ pub(crate) enum Takes {
     KeyBytes,
     /// A sector, by its number.
     Sector,
+    /// A key derivation function.
+    Kdf,
+    /// MiB of memory that a new keyslot takes.
+    KdfMemory,
+    /// Passes of Argon2.
+    Passes,
+    /// Lanes of Argon2.
+    Lanes,
 }
 
 /// The lengths that a copy of a LUKS2 header may have (LUKS2 On-Disk Format 1.1, 2.1).
@@ -67,6 +75,10 @@ impl Takes {
             Takes::Memory => ValueParser::Unsigned(0, 4194303),
             Takes::Iterations | Takes::Sector => ValueParser::Unsigned(0, 4294967295),
             Takes::KeyBytes => ValueParser::Unsigned(1, 128),
+            Takes::Kdf => ValueParser::Names(&["pbkdf2", "argon2i", "argon2id"]),
+            Takes::KdfMemory => ValueParser::Unsigned(1, 4095),
+            Takes::Passes => ValueParser::Unsigned(1, 4294967295),
+            Takes::Lanes => ValueParser::Unsigned(1, 4),
             Takes::CopySize => ValueParser::Names(&COPY_SIZES),
             Takes::Offset | Takes::Bytes => ValueParser::Unsigned(0, u64::MAX),
             Takes::Version => ValueParser::Names(&["1", "2"]),
@@ -80,7 +92,9 @@ impl Takes {
             Takes::Nothing | Takes::Form | Takes::SecondCopy => &[],
             Takes::File | Takes::OnePassphrase => &["FILE"],
             Takes::Slot | Takes::Iterations | Takes::KeyBytes => &["N"],
-            Takes::Memory => &["MIB"],
+            Takes::Passes | Takes::Lanes => &["N"],
+            Takes::Memory | Takes::KdfMemory => &["MIB"],
+            Takes::Kdf => &["KDF"],
             Takes::Version => &["VERSION"],
             Takes::Hash => &["HASH"],
             Takes::Uuid => &["TEXT"],
@@ -98,12 +112,15 @@ impl Takes {
             Takes::Iterations => &["100000"],
             Takes::Version => &["2"],
             Takes::Hash => &["sha256"],
+            Takes::Kdf => &["pbkdf2"],
+            Takes::KdfMemory => &["1024"],
+            Takes::Passes | Takes::Lanes => &["4"],
             _ => &[],
         }
     }
 
     /// Whether the help doesn't list the values, since its text names them.
     pub(crate) fn hides(self) -> bool {
-        matches!(self, Takes::Hash | Takes::CopySize)
+        matches!(self, Takes::Hash | Takes::CopySize | Takes::Kdf)
     }
 }

@@ -1,11 +1,13 @@
 //! What a command line of the program `luks` asks for: the command, its volume and its files.
 #![tactic(auto)]
 
+mod derivation;
 mod keeping;
 mod place;
 mod rebuilding;
 mod request;
 
+pub use derivation::{AskedArgon2, AskedKind};
 pub use keeping::{BackingUp, Comparing, Restoring};
 pub use place::Place;
 pub use rebuilding::{Luks1Fields, Meant, Rebuilding};

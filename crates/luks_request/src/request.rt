@@ -2,6 +2,7 @@ ghost use Rattle.std.specs.Prelude.{◌≡◌, option_map};
 ghost use Rattle.luks_request.specs.Named.{backup_of, edit_new_of, edit_passphrase_of, is_writer, new_of};
 ghost use Rattle.luks_request.specs.Named.{passphrase_of, random_of, target_of};
 
+use crate::derivation::AskedArgon2;
 use crate::keeping::{BackingUp, Comparing, Restoring};
 use crate::place::Place;
 use crate::rebuilding::Rebuilding;
@@ -170,6 +171,10 @@ pub struct Making<'a> {
     pub version: NewVersion,
     /// Its hash and iterations.
     pub format: Format,
+    /// LUKS2: what keyslot 0 derives by; without it that is PBKDF2 by the hash and iterations.
+    pub argon2: Option<AskedArgon2>,
+    /// How many MiB of memory Argon2 may take.
+    pub memory: u32,
     /// Where the payload lies.
     pub data_: Data,
 }

@@ -1,3 +1,12 @@
+use Rattle.std.proofs.Common.{◌≤◌, ℕ, List, Option, IfErr, OnOk, subst}
+use Rattle.luks_reading.specs.Answer.{AnswerWithin, opens}
+use Rattle.luks_formatting.specs.Deriving.{allowed_for, memory_by, slot_derivation}
+use Rattle.luks_formatting.specs.FormatFaults.{IsAnsweredFaultOrMemory, IsFormat2FaultBy}
+use Rattle.luks_formatting.specs.Formatted2.{IsFormatted2By}
+use Rattle.luks_formatting.specs.RandomBytes.{volume_key}
+use Rattle.luks_formatting.specs.declared.derivation.NewDerivation.{NewDerivation}
+use Rattle.luks_commands.specs.Formatting.{chosen_of, OpensNew}
+use Rattle.luks_commands.specs.OpenAnswers.{kib_of}
 use Rattle.luks_commands.proofs.FormatFacts.{made, made_fault, same_by, same_or_memory_by}
 use Rattle.luks_request.specs.declared.request.NewVersion.TheVariants.{Luks1, Luks2}
 use Rattle.luks_commands.proofs.format.make.Goals as goal
@@ -12,12 +21,30 @@ returns-in-Luks1-clause-refused g c = λ tells. same_by c.format1.result _ c.for
 
 pub returns-in-Luks2-clause-made : goal.returns-in-Luks2-clause-made
 returns-in-Luks2-clause-made g c = λ tells.
-    made c.format2.result c.args.making.now Luks2 _ _ _ _ c.in-Luks2.is (c.format2.ensures.formatted tells)
-    (c.format2.ensures.well_formed tells) (c.format2.ensures.opens tells)
+    let making = c.args.making.now in
+    let p = c.args.passphrase.now in
+    let random = c.args.random.now in
+    let old = g.D.Device.bytes c.args.device.now in
+    let new = g.D.Device.bytes c.format2_by.new.device in
+    let formatted : OnOk c.format2_by.result (IsFormatted2By making.data_ making.format (chosen_of making.argon2) p random old new) =
+    subst (λ (chosen : Option NewDerivation). OnOk c.format2_by.result (IsFormatted2By making.data_ making.format chosen p random old new)) c.chosen_of-chosen.ensures (c.format2_by.ensures.formatted tells) in
+    let opened : OnOk c.format2_by.result (OpensNew Luks2 making new p (volume_key random)) =
+    subst (λ (chosen : Option NewDerivation). OnOk c.format2_by.result ((memory : ℕ) → memory_by (slot_derivation making.format chosen) ≤ memory → AnswerWithin memory new 0 p (opens (volume_key random))))
+    c.chosen_of-chosen.ensures (c.format2_by.ensures.opens tells) in
+    made c.format2_by.result making Luks2 p random old new c.in-Luks2.is formatted (c.format2_by.ensures.well_formed tells) opened
 
 pub returns-in-Luks2-clause-refused : goal.returns-in-Luks2-clause-refused
 returns-in-Luks2-clause-refused g c = λ tells.
-    same_or_memory_by c.format2.result _ c.format2.ensures.fault (c.format2.ensures.same tells) (c.format2.ensures.memory tells)
+    same_or_memory_by c.format2_by.result _ c.format2_by.ensures.fault (c.format2_by.ensures.same tells) (c.format2_by.ensures.memory tells)
 
 pub returns-in-Luks2-clause-fault : goal.returns-in-Luks2-clause-fault
-returns-in-Luks2-clause-fault g c = made_fault c.format2.result c.args.making.now _ _ c.in-Luks2.is c.format2.ensures.fault
+returns-in-Luks2-clause-fault g c =
+    let making = c.args.making.now in
+    let p = c.args.passphrase.now in
+    let random = c.args.random.now in
+    let total = g.D.Device.size c.args.device.now in
+    let allowed : IfErr c.format2_by.result (IsAnsweredFaultOrMemory (IsFormat2FaultBy c.chosen_of-chosen.result (allowed_for (kib_of making.memory) p) total making.format random)) =
+    subst (λ (n : ℕ). IfErr c.format2_by.result (IsAnsweredFaultOrMemory (IsFormat2FaultBy c.chosen_of-chosen.result (allowed_for n p) total making.format random))) c.kib_of.ensures c.format2_by.ensures.fault in
+    let held : IfErr c.format2_by.result (IsAnsweredFaultOrMemory (IsFormat2FaultBy (chosen_of making.argon2) (allowed_for (kib_of making.memory) p) total making.format random)) =
+    subst (λ (chosen : Option NewDerivation). IfErr c.format2_by.result (IsAnsweredFaultOrMemory (IsFormat2FaultBy chosen (allowed_for (kib_of making.memory) p) total making.format random))) c.chosen_of-chosen.ensures allowed in
+    made_fault c.format2_by.result making p total random c.in-Luks2.is held

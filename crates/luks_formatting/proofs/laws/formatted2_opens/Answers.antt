@@ -1,8 +1,10 @@
+use Rattle.std.proofs.Common.{None, arith}
 use Rattle.luks_formatting.proofs.Formatted2Facts.{slot_opens, well_formed}
 use Rattle.luks_formatting.proofs.laws.formatted2_opens.Goals as goal
 
 pub returns-clause-well_formed : goal.returns-clause-well_formed
-returns-clause-well_formed c = well_formed
+returns-clause-well_formed c payload format = well_formed payload format None
 
 pub returns-clause-opens : goal.returns-clause-opens
-returns-clause-opens c = slot_opens
+returns-clause-opens c payload format passphrase random old new some large counted fits x =
+    slot_opens payload format None passphrase random old new some large counted fits x 0 0 tt (omega arith)

@@ -1,29 +1,6 @@
-use Rattle.std.proofs.Common.{◌≡◌, length, arith, ◌∙◌}
-use Rattle.luks_formatting.proofs.Formatted2Facts.{slot_opens, well_formed}
+use Rattle.std.proofs.Common.{arith}
+use Rattle.std.proofs.lemmas.Result.{on_ok_weaker}
 use Rattle.luks_formatting.proofs.luks2.format2.Goals as goal
 
-pub returns-in_ok-write_volume-in-Ok-clause-well_formed :
-    goal.returns-in_ok-write_volume-in-Ok-clause-well_formed
-returns-in_ok-write_volume-in-Ok-clause-well_formed g c tells =
-    let bytes = g.D.Device.bytes in
-    let w = bytes c.write_volume.new.device in
-    let ready = c.in_ok-judge.ensures.formattable in
-    let some = ready.iterations in
-    let least = ready.large in
-    let total = c.len.ensures in
-    let size : length w ≡ g.D.Device.size c.args.device.now = g.met.D.Device.sized c.write_volume.new.device tells ∙ c.write_volume.ensures.size in
-    well_formed c.args.data_ c.args.format.now c.args.passphrase.now c.args.random.now (bytes c.args.device.now) w
-    (omega (arith, some)) (omega (arith, size, least, total)) ready.counted c.in-Ok.ensures.fits (c.in_ok-write_volume-in-Ok.ensures.formatted tells)
-
-pub returns-in_ok-write_volume-in-Ok-clause-opens :
-    goal.returns-in_ok-write_volume-in-Ok-clause-opens
-returns-in_ok-write_volume-in-Ok-clause-opens g c tells =
-    let bytes = g.D.Device.bytes in
-    let w = bytes c.write_volume.new.device in
-    let ready = c.in_ok-judge.ensures.formattable in
-    let some = ready.iterations in
-    let least = ready.large in
-    let total = c.len.ensures in
-    let size : length w ≡ g.D.Device.size c.args.device.now = g.met.D.Device.sized c.write_volume.new.device tells ∙ c.write_volume.ensures.size in
-    slot_opens c.args.data_ c.args.format.now c.args.passphrase.now c.args.random.now (bytes c.args.device.now) w
-    (omega (arith, some)) (omega (arith, size, least, total)) ready.counted c.in-Ok.ensures.fits (c.in_ok-write_volume-in-Ok.ensures.formatted tells)
+pub returns-clause-opens : goal.returns-clause-opens
+returns-clause-opens g c tells = on_ok_weaker c.make.result (λ opened. opened 0 (omega arith)) (c.make.ensures.opens tells)

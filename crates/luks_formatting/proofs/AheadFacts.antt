@@ -1,0 +1,66 @@
+-- A key area that was sealed ahead, alone on a device, and is then written where it belongs.
+use Rattle.std.proofs.Common.{◌≡◌, ℕ, zero, suc, ◌+◌, ◌*◌, ◌≤◌, List, ◌++◌, take, drop, length, arith, refl, sym, ap, subst, ◌∙◌}
+use Rattle.luks_area.specs.Ranges.{part, written}
+use Rattle.luks_area.specs.RangeFacts.{part-part, part-written, part-whole}
+use Rattle.luks_area.specs.Sectors.{sector_count}
+use Rattle.luks_area.specs.declared.area.Area.{Area}
+use Rattle.luks_xts.specs.Xts.{XtsOpen}
+use Rattle.luks_slot.specs.Opening.{area_bytes, area_key, opened_sector, opened_sectors, stripe_bytes, stripes_from, stripes_in}
+use Rattle.luks_slot.specs.Sealing.{IsSealed}
+use Rattle.luks_slot.specs.declared.plan.SlotPlan.{SlotPlan}
+use Rattle.luks_formatting.specs.NewPlan.{IsSealedAhead}
+
+-- a part of the front of a list is that part of the list
+front_part : (a : List ℕ) (n i len : ℕ) → i + len ≤ n → part (part a 0 n) i len ≡ part a i len
+front_part a n i len inside = part-part a 0 n i len inside ∙ ap (λ p. part a p len) (omega arith)
+
+-- what the front of an area decrypts to depends on that front alone
+same_sectors : (key a b : List ℕ) (n : ℕ) → part a 0 (512 * n) ≡ part b 0 (512 * n) → opened_sectors key a n ≡ opened_sectors key b n
+unfolding opened_sectors opened_sector
+same_sectors key a b zero same = refl
+same_sectors key a b (suc n) same =
+    let front : part a 0 (512 * n) ≡ part b 0 (512 * n) =
+    sym (front_part a (512 * suc n) 0 (512 * n) (omega arith)) ∙ ap (λ v. part v 0 (512 * n)) same ∙ front_part b (512 * suc n) 0 (512 * n) (omega arith) in
+    let last : part a (512 * n) 512 ≡ part b (512 * n) 512 =
+    sym (front_part a (512 * suc n) (512 * n) 512 (omega arith)) ∙ ap (λ v. part v (512 * n) 512) same ∙ front_part b (512 * suc n) (512 * n) 512 (omega arith) in
+    let before = same_sectors key a b n front in
+    ap (λ rows. rows ++ XtsOpen key n (part a (512 * n) 512)) before ∙ ap (λ sector. opened_sectors key b n ++ XtsOpen key n sector) last
+
+-- an area whose used sectors are those of a sealed one is sealed
+sealed_front : (plan : SlotPlan) (a b passphrase key random : List ℕ)
+    → part a 0 (512 * sector_count (stripe_bytes plan)) ≡ part b 0 (512 * sector_count (stripe_bytes plan))
+    → IsSealed plan a passphrase key random → IsSealed plan b passphrase key random
+unfolding stripes_in stripes_from
+sealed_front plan a b passphrase key random same x =
+    let rows = same_sectors (area_key plan passphrase) a b (sector_count (stripe_bytes plan)) same in
+    record {
+      stripes = ap (λ (r : List ℕ). take (plan.key_bytes * plan.stripes) r) (sym rows) ∙ x.stripes;
+      zeros = ap (λ (r : List ℕ). drop (plan.key_bytes * plan.stripes) r) (sym rows) ∙ x.zeros;
+    }
+
+-- a key of 64 bytes in 4000 stripes takes 500 sectors
+used : (key_bytes stripes : ℕ) → key_bytes ≡ 64 → stripes ≡ 4000 → 512 * sector_count (key_bytes * stripes) ≡ 256000
+used key_bytes stripes key count = rw (key, count) refl
+
+-- where they are written, the area is sealed
+pub written_sealed : (plan : SlotPlan) (passphrase key random bytes v w : List ℕ) → plan.key_bytes ≡ 64 → plan.stripes ≡ 4000 → 256000 ≤ plan.area.len
+    → plan.area.start + plan.area.len ≤ length v → IsSealedAhead plan passphrase key random bytes → w ≡ written v plan.area.start bytes
+    → IsSealed plan (area_bytes w plan.area) passphrase key random
+written_sealed plan passphrase key random bytes v w key_is stripes_are large inside x is =
+    let at = plan.area.start in
+    let long = x.long in
+    let count = used plan.key_bytes plan.stripes key_is stripes_are in
+    let there : part w at 256000 ≡ bytes = ap (λ (u : List ℕ). part u at 256000) is ∙ ap (λ n. part (written v at bytes) at n) (sym long) ∙ part-written v at bytes (omega (arith, long, large, inside)) in
+    let front : part (part w at plan.area.len) 0 256000 ≡ part w at 256000 = part-part w at plan.area.len 0 256000 (omega (arith, large)) ∙ ap (λ p. part w p 256000) (omega arith) in
+    let whole : part bytes 0 256000 ≡ bytes = ap (λ n. part bytes 0 n) (sym long) ∙ part-whole bytes in
+    let same : part bytes 0 256000 ≡ part (area_bytes w plan.area) 0 256000 = whole ∙ sym there ∙ sym front in
+    sealed_front plan bytes (area_bytes w plan.area) passphrase key random (subst (λ n. part bytes 0 n ≡ part (area_bytes w plan.area) 0 n) (sym count) same) x.sealed
+
+-- an area that is alone on a device is sealed as one at its place
+pub alone_sealed : (plan : SlotPlan) (area : Area) (passphrase key random bytes : List ℕ) → area ≡ record { start = 0; len = 256000 } → length bytes ≡ 256000
+    → IsSealed (record plan { area = area }) (area_bytes bytes area) passphrase key random → IsSealedAhead plan passphrase key random bytes
+unfolding area_key stripes_in
+alone_sealed plan area passphrase key random bytes alone long x =
+    let whole : area_bytes bytes area ≡ bytes = ap (λ (a : Area). part bytes a.start a.len) alone ∙ ap (λ n. part bytes 0 n) (sym long) ∙ part-whole bytes in
+    let moved : IsSealed plan (area_bytes bytes area) passphrase key random = record { stripes = x.stripes; zeros = x.zeros } in
+    record { long = long; sealed = subst (λ (a : List ℕ). IsSealed plan a passphrase key random) whole moved }

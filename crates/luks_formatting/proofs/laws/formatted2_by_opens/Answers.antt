@@ -1,0 +1,9 @@
+use Rattle.luks_formatting.proofs.Formatted2Facts.{slot_opens, well_formed}
+use Rattle.luks_formatting.proofs.laws.formatted2_by_opens.Goals as goal
+
+pub returns-clause-well_formed : goal.returns-clause-well_formed
+returns-clause-well_formed c = well_formed
+
+pub returns-clause-opens : goal.returns-clause-opens
+returns-clause-opens c payload format chosen passphrase random old new some large counted fits x allowed memory can enough =
+    slot_opens payload format chosen passphrase random old new some large counted fits x allowed memory can enough

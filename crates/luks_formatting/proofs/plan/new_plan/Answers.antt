@@ -1,0 +1,6 @@
+use Rattle.std.proofs.Common.{None}
+use Rattle.luks_formatting.specs.Deriving.{slot_derivation}
+use Rattle.luks_formatting.proofs.plan.new_plan.Goals as goal
+
+pub returns-clause-plan : goal.returns-clause-plan
+returns-clause-plan c = c.new_plan_by.ensures.plan (slot_derivation c.args.format.now None) c.args.salt.now c.plan_derivation-derivation.ensures

@@ -1,0 +1,32 @@
+use Rattle.std.proofs.Common.{◌≡◌, length, arith, ◌∙◌}
+use Rattle.luks_formatting.proofs.Formatted2Facts.{slot_opens, well_formed}
+use Rattle.luks_formatting.proofs.volume2.make.Goals as goal
+
+pub returns-clause-well_formed :
+    goal.returns-clause-well_formed
+returns-clause-well_formed g c tells =
+    let volume = c.args.volume.now in
+    let bytes = g.D.Device.bytes in
+    let w = bytes c.write_made.new.device in
+    let ready = c.in_ok-judge.ensures.formattable in
+    let some = ready.iterations in
+    let least = ready.large in
+    let total = c.len.ensures in
+    let size : length w ≡ g.D.Device.size c.args.device.now = g.met.D.Device.sized c.write_made.new.device tells ∙ c.write_made.ensures.size in
+    well_formed volume.data_ volume.format.now volume.chosen volume.passphrase.bytes.now volume.random.now (bytes c.args.device.now) w
+    (omega (arith, some)) (omega (arith, size, least, total)) ready.counted c.in-Ok.ensures.fits (c.in_ok-write_made.ensures.formatted tells)
+
+pub returns-clause-opens :
+    goal.returns-clause-opens
+returns-clause-opens g c tells memory enough =
+    let volume = c.args.volume.now in
+    let bytes = g.D.Device.bytes in
+    let w = bytes c.write_made.new.device in
+    let ready = c.in_ok-judge.ensures.formattable in
+    let some = ready.iterations in
+    let least = ready.large in
+    let total = c.len.ensures in
+    let size : length w ≡ g.D.Device.size c.args.device.now = g.met.D.Device.sized c.write_made.new.device tells ∙ c.write_made.ensures.size in
+    slot_opens volume.data_ volume.format.now volume.chosen volume.passphrase.bytes.now volume.random.now (bytes c.args.device.now) w
+    (omega (arith, some)) (omega (arith, size, least, total)) ready.counted c.in-Ok.ensures.fits (c.in_ok-write_made.ensures.formatted tells)
+    volume.passphrase.memory memory ready.makeable enough

@@ -1,0 +1,271 @@
+//! A new LUKS2 volume, made and then written.
+ghost use Rattle.std.specs.Prelude.{◌≡◌, ◌≢◌, ◌+◌, ◌^◌, ◌<◌, ◌≤◌, ℕ, false, length, Some, IfErr, IfOk, IfSome, OnOk};
+ghost use Rattle.luks_area.specs.Device.{CountsFailure, IsSettled, is_failure};
+ghost use Rattle.luks_area.specs.Ranges.{SameBut};
+ghost use Rattle.luks_writing.specs.MadeInOrder.{ClearsFirst, WritesInTurn};
+ghost use Rattle.luks_kdf.specs.Names.{digest_size_of};
+ghost use Rattle.luks_reading.specs.Answer.{AnswerWithin, opens};
+ghost use Rattle.luks_reading.specs.Checked.{WellFormed};
+ghost use Rattle.luks_formatting.specs.Deriving.{IsMakeable, slot_derivation, memory_by, takes_memory};
+ghost use Rattle.luks_formatting.specs.FormatFaults.{HasNoFault, IsAnsweredFaultOrMemory, IsFormat2FaultBy, is_device_fault};
+ghost use Rattle.luks_formatting.specs.Formatted2.{IsOfLuks2};
+ghost use Rattle.luks_formatting.specs.NewHeader2.{copy_size};
+ghost use Rattle.luks_formatting.specs.NewPlan.{key_digest, IsSealable, IsSealableWithin};
+ghost use Rattle.luks_formatting.specs.RandomBytes.{volume_key};
+ghost use Rattle.luks_formatting.specs.Volume2.{Fits, HasAllButFirst, HasArea, HasKeyArea, HasPlan, IsMade, IsReady};
+ghost use Rattle.luks_formatting.specs.declared.format_fault.FormatFault.{FormatFault as TheFault};
+
+use crate::derivation::NewDerivation;
+use crate::format_fault::FormatFault;
+use crate::judging::{Wanted, judge};
+use crate::luks2::FORMAT2_RANDOM;
+use crate::metadata::new_area;
+use crate::new_header2::{COPY_SIZE, FIRST_SALT, SECOND_SALT, SLOT_SALT, write_new_copy};
+use crate::plan::{new_plan_by, plan_derivation, put_key_digest};
+use crate::random::{DIGEST_SALT, KEY, KEY_BYTES, RANDOM_STRIPES, SALT_BYTES, taken, taken_array};
+use crate::sealing::{put_key_area, sealed_ahead};
+use luks_area::{Area, Device, DeviceFault};
+use luks_edit::{Done, Passphrase};
+use luks_reading::{Data, Format};
+use luks_slot::{AreaCipher, SlotPlan};
+use luks_writing::clear_places;
+use std::alloc::Global;
+
+/// At least as many bytes as stand before the payload.
+const WANTED: Wanted = Wanted {
+    least: 16777216,
+    needed: FORMAT2_RANDOM,
+};
+
+/// The area of keyslot 0, of which 500 sectors are used.
+const AREA: Area = Area {
+    start: 32768,
+    len: 258048,
+};
+
+/// A volume that is to be made, and that none of the faults refuses.
+#[derive(Clone, Copy)]
+pub(crate) struct Volume<'a> {
+    pub(crate) data_: Data,
+    pub(crate) format: &'a Format,
+    pub(crate) chosen: Option<NewDerivation>,
+    pub(crate) passphrase: Passphrase<'a>,
+    pub(crate) random: &'a [u8],
+}
+
+/// Makes the volume; or answers the first of its faults, or want of memory, and then no byte changes.
+/// Its passphrase allows memory only if Argon2 takes it.
+pub(crate) fn make<D: Device>(
+    alloc: Global,
+    device: &mut D,
+    volume: &Volume<'_>,
+) -> Result<Done, FormatFault>
+    requires short { 0 < volume.now.passphrase.memory → length volume.now.passphrase.bytes.now < 2 ^ 32 }
+    requires room { D.failed device.old + 1 < 2 ^ 64 }
+    requires settled { D.tells → IsSettled D.unsettled device.old }
+    ensures fault { IfErr result
+        (IsAnsweredFaultOrMemory (IsFormat2FaultBy volume.now.chosen
+        volume.now.passphrase.memory
+        (D.size device.old) volume.now.format.now volume.now.random.now)) }
+    ensures faultless { OnOk result
+        (HasNoFault (IsFormat2FaultBy volume.now.chosen
+        volume.now.passphrase.memory
+        (D.size device.old) volume.now.format.now volume.now.random.now)) }
+    ensures same { D.tells → (f : TheFault)
+        → IsFormat2FaultBy volume.now.chosen volume.now.passphrase.memory
+        (D.size device.old) volume.now.format.now volume.now.random.now f
+        → D.bytes device.new ≡ D.bytes device.old }
+    ensures memory { D.tells → result ≡ Err FormatFault.Memory
+        → D.bytes device.new ≡ D.bytes device.old }
+    ensures count { CountsFailure is_device_fault result
+        (D.failed device.old) (D.failed device.new) }
+    ensures size { D.size device.new ≡ D.size device.old }
+    ensures settled { D.tells → D.failed device.new ≡ D.failed device.old
+        → IsSettled D.unsettled device.new }
+    ensures rest { D.tells → SameBut IsOfLuks2 (D.bytes device.old) (D.bytes device.new) }
+    ensures order { D.tells → ClearsFirst copy_size
+        (HasKeyArea volume.now (D.bytes device.new))
+        (HasAllButFirst volume.now (D.bytes device.new))
+        (D.bytes device.old) (D.bytes device.new) }
+    ensures slot { IfOk result (λ done. done.slot ≡ Some 0) }
+    ensures formatted { D.tells → OnOk result (IsMade volume.now (D.bytes device.old) (D.bytes device.new)) }
+    ensures well_formed { D.tells → OnOk result (WellFormed (D.bytes device.new) volume.now.data_) }
+    ensures opens { D.tells → OnOk result ((memory : ℕ)
+        → memory_by (slot_derivation volume.now.format.now volume.now.chosen) ≤ memory
+        → AnswerWithin memory (D.bytes device.new) 0 volume.now.passphrase.bytes.now
+        (opens (volume_key volume.now.random.now))) }
+{
+    let Volume {
+        format,
+        chosen,
+        random,
+        ..
+    } = *volume;
+    let memory = volume.passphrase.memory;
+    judge(WANTED, device.len(), format, chosen, memory, random)?;
+    let mut buffer = [0; 64];
+    let digest = &mut buffer[..format.hash.digest_len()];
+    put_key_digest(digest, format, random);
+    let Ok(json) = new_area(alloc, volume, digest) else {
+        return Err(FormatFault::Memory);
+    };
+    write_made(alloc, device, volume, digest, json.as_slice())?;
+    Ok(Done { slot: Some(0) })
+}
+
+// Writes the volume, whose digest of the key and JSON area were made.
+fn write_made<D: Device>(
+    alloc: Global,
+    device: &mut D,
+    volume: &Volume<'_>,
+    digest: &[u8],
+    json: &[u8],
+) -> Result<(), FormatFault>
+    requires short { 0 < volume.now.passphrase.memory
+        → length volume.now.passphrase.bytes.now < 2 ^ 32 }
+    requires iterations { 1 ≤ volume.now.format.now.iterations }
+    requires makeable { IfSome volume.now.chosen (IsMakeable volume.now.passphrase.memory) }
+    requires long { length volume.now.random.now ≡ 256208 }
+    requires within { 16777216 ≤ D.size device.old }
+    requires digest { digest.now ≡ key_digest volume.now.format.now volume.now.random.now
+        (digest_size_of volume.now.format.now.hash) }
+    requires fits { Fits volume.now }
+    requires area { HasArea volume.now json.now }
+    requires room { D.failed device.old + 1 < 2 ^ 64 }
+    requires settled { D.tells → IsSettled D.unsettled device.old }
+    ensures memory { IfErr result (λ f. f ≢ TheFault.Device → f ≡ TheFault.Memory) }
+    ensures same { D.tells → IfErr result (λ f. f ≢ TheFault.Device
+        → D.bytes device.new ≡ D.bytes device.old) }
+    ensures count { CountsFailure is_device_fault result (D.failed device.old) (D.failed device.new) }
+    ensures size { D.size device.new ≡ D.size device.old }
+    ensures settled { D.tells → D.failed device.new ≡ D.failed device.old
+        → IsSettled D.unsettled device.new }
+    ensures rest { D.tells → SameBut IsOfLuks2 (D.bytes device.old) (D.bytes device.new) }
+    ensures order { D.tells → ClearsFirst copy_size
+        (HasKeyArea volume.now (D.bytes device.new))
+        (HasAllButFirst volume.now (D.bytes device.new))
+        (D.bytes device.old) (D.bytes device.new) }
+    ensures formatted { D.tells → OnOk result
+        (IsMade volume.now (D.bytes device.old) (D.bytes device.new)) }
+{
+    let plan = slot_plan(volume.format, volume.chosen, volume.random, digest);
+    if !takes_memory(volume.chosen) {
+        write_volume(device, volume, &plan, None, json)?;
+        return Ok(());
+    }
+    let key = taken(volume.random, KEY, KEY_BYTES);
+    let stripes = taken(volume.random, SLOT_SALT + SALT_BYTES, RANDOM_STRIPES);
+    let Ok(area) = sealed_ahead(alloc, &plan, &volume.passphrase, key, stripes) else {
+        return Err(FormatFault::Memory);
+    };
+    write_volume(device, volume, &plan, Some(area.contents()), json)?;
+    Ok(())
+}
+
+// What is chosen derives by Argon2.
+fn takes_memory(chosen: Option<NewDerivation>) -> bool
+    ensures { result ≡ takes_memory chosen }
+{
+    matches!(
+        chosen,
+        Some(NewDerivation::Argon2i(_) | NewDerivation::Argon2id(_))
+    )
+}
+
+// Clears both copies' places, and writes the volume.
+fn write_volume<D: Device>(
+    device: &mut D,
+    volume: &Volume<'_>,
+    plan: &SlotPlan<'_>,
+    ahead: Option<&[u8]>,
+    json: &[u8],
+) -> Result<(), DeviceFault>
+    requires iterations { 1 ≤ volume.now.format.now.iterations }
+    requires long { length volume.now.random.now ≡ 256208 }
+    requires within { 16777216 ≤ D.size device.old }
+    requires fits { Fits volume.now }
+    requires area { HasArea volume.now json.now }
+    requires plan { HasPlan volume.now.format.now volume.now.chosen volume.now.random.now plan.now }
+    requires sealable { IsReady volume.now plan.now ahead }
+    requires room { D.failed device.old + 1 < 2 ^ 64 }
+    requires settled { D.tells → IsSettled D.unsettled device.old }
+    ensures count { CountsFailure is_failure result (D.failed device.old) (D.failed device.new) }
+    ensures size { D.size device.new ≡ D.size device.old }
+    ensures settled { D.tells → D.failed device.new ≡ D.failed device.old
+        → IsSettled D.unsettled device.new }
+    ensures rest { D.tells → SameBut IsOfLuks2 (D.bytes device.old) (D.bytes device.new) }
+    ensures order { D.tells → ClearsFirst copy_size
+        (HasKeyArea volume.now (D.bytes device.new))
+        (HasAllButFirst volume.now (D.bytes device.new))
+        (D.bytes device.old) (D.bytes device.new) }
+    ensures formatted { D.tells → OnOk result
+        (IsMade volume.now (D.bytes device.old) (D.bytes device.new)) }
+{
+    clear_places(device, COPY_SIZE)?;
+    write_over_cleared(device, volume, plan, ahead, json)
+}
+
+// The same where the first sectors are cleared.
+fn write_over_cleared<D: Device>(
+    device: &mut D,
+    volume: &Volume<'_>,
+    plan: &SlotPlan<'_>,
+    ahead: Option<&[u8]>,
+    json: &[u8],
+) -> Result<(), DeviceFault>
+    requires iterations { 1 ≤ volume.now.format.now.iterations }
+    requires long { length volume.now.random.now ≡ 256208 }
+    requires within { 16777216 ≤ D.size device.old }
+    requires fits { Fits volume.now }
+    requires area { HasArea volume.now json.now }
+    requires plan { HasPlan volume.now.format.now volume.now.chosen volume.now.random.now plan.now }
+    requires sealable { IsReady volume.now plan.now ahead }
+    requires room { D.failed device.old + 1 < 2 ^ 64 }
+    requires settled { D.tells → IsSettled D.unsettled device.old }
+    ensures count { CountsFailure is_failure result (D.failed device.old) (D.failed device.new) }
+    ensures size { D.size device.new ≡ D.size device.old }
+    ensures settled { D.tells → D.failed device.new ≡ D.failed device.old
+        → IsSettled D.unsettled device.new }
+    ensures rest { D.tells → SameBut IsOfLuks2 (D.bytes device.old) (D.bytes device.new) }
+    ensures order { D.tells → WritesInTurn copy_size
+        (HasKeyArea volume.now (D.bytes device.new))
+        (HasAllButFirst volume.now (D.bytes device.new))
+        (D.bytes device.old) (D.bytes device.new) }
+    ensures formatted { D.tells → OnOk result
+        (IsMade volume.now (D.bytes device.old) (D.bytes device.new)) }
+{
+    let random = volume.random;
+    let words = volume.passphrase.bytes;
+    let key = taken(random, KEY, KEY_BYTES);
+    let stripes = taken(random, SLOT_SALT + SALT_BYTES, RANDOM_STRIPES);
+    put_key_area(device, plan, ahead, words, key, stripes)?;
+    let second = taken_array(random, SECOND_SALT);
+    write_new_copy(device, COPY_SIZE, random, second, json)?;
+    let first = taken_array(random, FIRST_SALT);
+    write_new_copy(device, 0, random, first, json)?;
+    Ok(())
+}
+
+// The plan of keyslot 0.
+fn slot_plan<'a>(
+    format: &Format,
+    chosen: Option<NewDerivation>,
+    random: &'a [u8],
+    digest: &'a [u8],
+) -> SlotPlan<'a>
+    requires iterations { 1 ≤ format.now.iterations }
+    requires long { 272 ≤ length random.now }
+    requires digest { digest.now
+        ≡ key_digest format.now random.now (digest_size_of format.now.hash) }
+    ensures plan { HasPlan format.now chosen random.now result }
+    ensures sealable { (allowed : ℕ) → IfSome chosen (IsMakeable allowed)
+        → IsSealableWithin allowed result }
+    ensures here { (allowed : ℕ) → IfSome chosen (IsMakeable allowed)
+        → takes_memory chosen ≡ false → IsSealable result }
+{
+    let cipher = AreaCipher::Whole("aes-xts-plain64");
+    let salt = taken(random, SLOT_SALT, SALT_BYTES);
+    let digest_salt = taken(random, DIGEST_SALT, SALT_BYTES);
+    let derivation = plan_derivation(format, chosen, salt);
+    new_plan_by(derivation, format, cipher, AREA, digest_salt, digest)
+}

@@ -1,0 +1,53 @@
+//! What a new keyslot derives by, as the words of a command line say it.
+
+use clap::ArgMatches;
+use clap::parser::ValueSource;
+use luks_request::{AskedArgon2, AskedKind};
+
+/// What of the words doesn't go together.
+pub(crate) fn wrong_derivation(given: &ArgMatches<'_>) -> Option<&'static str> {
+    if kind_of(given).is_some() {
+        if is_given(given, "iterations") {
+            return Some("the argument '--iterations <N>' cannot be used with Argon2: it has '--passes <N>'");
+        }
+        if given.get_str("version") == Some("1") {
+            return Some("the argument '--kdf <KDF>' cannot be Argon2 with '--version 1'");
+        }
+        return None;
+    }
+    for name in ["kdf-memory", "passes", "lanes"] {
+        if is_given(given, name) {
+            return Some(
+                "'--kdf-memory', '--passes' and '--lanes' are of Argon2 alone: '--kdf argon2id' chooses it",
+            );
+        }
+    }
+    None
+}
+
+/// Whether the words have the option, and not only its preset value.
+fn is_given(given: &ArgMatches<'_>, name: &str) -> bool {
+    given.value_source(name) == Some(ValueSource::CommandLine)
+}
+
+/// The kind of Argon2 that is asked for, if it is.
+fn kind_of(given: &ArgMatches<'_>) -> Option<AskedKind> {
+    match given.get_str("kdf")? {
+        "argon2i" => Some(AskedKind::Argon2i),
+        "argon2id" => Some(AskedKind::Argon2id),
+        _ => None,
+    }
+}
+
+/// Argon2 that is asked for, or none; nothing where a cost isn't there.
+pub(crate) fn argon2_of(given: &ArgMatches<'_>) -> Option<Option<AskedArgon2>> {
+    let Some(kind) = kind_of(given) else {
+        return Some(None);
+    };
+    Some(Some(AskedArgon2 {
+        kind,
+        passes: given.get_one::<u32>("passes")?,
+        memory: given.get_one::<u32>("kdf-memory")?,
+        lanes: given.get_one::<u32>("lanes")?,
+    }))
+}

@@ -1,0 +1,21 @@
+/// Argon2 that is asked for a new keyslot, in place of PBKDF2.
+#[derive(Debug, Clone, Copy, PartialEq, Eq)]
+pub struct AskedArgon2 {
+    /// Of which kind it is.
+    pub kind: AskedKind,
+    /// How many passes it makes over the memory.
+    pub passes: u32,
+    /// How many MiB of memory it takes.
+    pub memory: u32,
+    /// How many lanes it has.
+    pub lanes: u32,
+}
+
+/// A kind of Argon2.
+#[derive(Debug, Clone, Copy, PartialEq, Eq)]
+pub enum AskedKind {
+    /// Argon2i.
+    Argon2i,
+    /// Argon2id.
+    Argon2id,
+}
