@@ -4,7 +4,9 @@ use Rattle.std.specs.Borrow.{Bor}
 use Rattle.serde_json.specs.Data.{Data as Value}
 use Rattle.luks_area.specs.declared.area.Area.{Area}
 use Rattle.luks_area.specs.declared.areas.Entry.{Entry}
+use Rattle.luks_area.specs.declared.area.AreaName.{AreaName}
 use Rattle.luks_area.specs.Area.{IsInside}
+use Rattle.luks_area.specs.Names.{HasArea}
 use Rattle.luks_head.specs.Header2.{hdr_size, header_at}
 use Rattle.luks_meta.specs.Content.{area_len, content}
 use Rattle.luks_reading.specs.declared.header.ChosenCopy.{ChosenCopy}
@@ -27,7 +29,7 @@ use Rattle.luks_edit.specs.Asked.{deed_of}
 use Rattle.luks_edit.specs.Endings.{EndsBy}
 use Rattle.luks2_edit_laws.specs.Metadata.{IsInUse, IsKeyArea}
 use Rattle.luks2_edit_laws.specs.Places.{IsNewArea}
-use Rattle.luks2_edit_laws.specs.Refused.{Refusal2}
+use Rattle.luks2_edit_laws.specs.Refused.{IsAbsent, Refusal2}
 use Rattle.luks2_judging.specs.declared.judged.Addition.{Addition}
 use Rattle.luks2_judging.specs.declared.judged.Judged.{Judged}
 use Rattle.luks2_judging.specs.declared.judged.JudgedEdit.{JudgedEdit}
@@ -108,6 +110,14 @@ pub record IsJudged (header : Header) (total : ℕ) (e : Edit) (it : Judged) : T
 -- the same of any copy that the header is
 abbrev pub IsTakenOf : Header → ℕ → Edit → JudgedEdit → Type 0
 IsTakenOf header total e it = (copy : ChosenCopy) → header ≡ Luks2 copy → Takes (area_len copy.meta) (content copy.meta) total e it
+
+-- the header is of this copy, whose areas and key areas lie inside `total` bytes, and which has the
+-- keyslots that the edit opens and removes
+pub record IsAcceptedFor (header : Header) (copy : ChosenCopy) (areas : List Entry) (total : ℕ) (e : Edit) : Type 0 where
+  pub is : header ≡ Luks2 copy
+  pub there : IsAbsent (content copy.meta) e → ⊥
+  pub inside : (m : AreaName) (a : Area) → HasArea areas m a → IsInside a total
+  pub key_areas : (n : ℕ) (a : Area) → IsKeyArea (content copy.meta) n a → IsInside a total
 
 -- ---- of the volume `v`
 

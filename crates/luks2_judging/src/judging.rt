@@ -21,7 +21,7 @@ ghost use Rattle.luks_edit.specs.EditFaults.{is_edit_failure};
 ghost use Rattle.luks2_edit_laws.specs.Refused.{IsAbsent, Refusal2};
 ghost use Rattle.luks2_judging.specs.Header.{IsOfLuks2};
 ghost use Rattle.luks2_judging.specs.Judged.{IsNewNumber};
-ghost use Rattle.luks2_judging.specs.Judging.{IsJudged, IsJudgedTo, IsRefusedEarly, IsTakenOf, IsUnrefusedOf, IsUnrefusedSoFar, Seals, Takes};
+ghost use Rattle.luks2_judging.specs.Judging.{IsAcceptedFor, IsJudged, IsJudgedTo, IsRefusedEarly, IsTakenOf, IsUnrefusedOf, IsUnrefusedSoFar, Seals, Takes};
 ghost use Rattle.luks2_judging.specs.Room.{IsPlaced, IsUnsealable};
 ghost use Rattle.luks2_judging.specs.Rows.{HasNoFaultBefore};
 ghost use Rattle.luks2_judging.specs.Sealing.{IsUnadded};
@@ -132,13 +132,9 @@ fn judge_without_key<'a>(
     requires luks2 { IsOfLuks2 header.now }
     ensures own { IfErr result (λ f. is_edit_failure f ≡ false) }
     ensures memory { IfErr result (λ f. f ≢ EditFault.Memory) }
-    ensures copy { IfOk result (λ a. header.now ≡ OfLuks2 a.copy.now) }
     ensures total { IfOk result (λ a. a.total ≡ total) }
-    ensures there { IfOk result (λ a. IsAbsent (content a.copy.now.meta) edit.now → ⊥) }
-    ensures inside { IfOk result (λ a. (m : AreaName) (b : TheArea) → HasArea a.areas m b
-        → IsInside b total) }
-    ensures key_areas { IfOk result (λ a. (n : ℕ) (b : TheArea)
-        → IsKeyArea (content a.copy.now.meta) n b → IsInside b total) }
+    ensures accepted { IfOk result
+        (λ a. IsAcceptedFor header.now a.copy.now a.areas a.total edit.now) }
     ensures well { (v : List ℕ) → IsHeader v header.now → length v ≡ total
         → OnOk result (WellFormed v data_) }
     ensures passed { (v random : List ℕ) → IsHeader v header.now → length v ≡ total
@@ -165,13 +161,9 @@ fn judge_with_key<'a, D: Device>(
 ) -> Result<JudgedEdit<'a>, EditFault>
     requires room { D.failed device.old + 1 < 2 ^ 64 }
     requires accepted { IsAcceptedHeader header.now }
-    requires copy { header.now ≡ OfLuks2 accepted.now.copy.now }
-    requires there { IsAbsent (content accepted.now.copy.now.meta) edit.now → ⊥ }
     requires total { accepted.now.total ≡ D.size device.old }
-    requires inside { (m : AreaName) (a : TheArea) → HasArea accepted.now.areas m a
-        → IsInside a accepted.now.total }
-    requires key_areas { (n : ℕ) (a : TheArea)
-        → IsKeyArea (content accepted.now.copy.now.meta) n a → IsInside a (D.size device.old) }
+    requires own { IsAcceptedFor header.now accepted.now.copy.now accepted.now.areas
+        accepted.now.total edit.now }
     ensures unchanged { IsUnchanged D.tells D.size D.bytes D.unsettled device.old device.new }
     ensures count { CountsFailure is_edit_failure result
         (D.failed device.old) (D.failed device.new) }
@@ -217,13 +209,9 @@ fn judge_sealing_of<'a, D: Device>(
 ) -> Result<JudgedEdit<'a>, EditFault>
     requires room { D.failed device.old + 1 < 2 ^ 64 }
     requires accepted { IsAcceptedHeader header.now }
-    requires copy { header.now ≡ OfLuks2 accepted.now.copy.now }
-    requires there { IsAbsent (content accepted.now.copy.now.meta) edit.now → ⊥ }
     requires total { accepted.now.total ≡ D.size device.old }
-    requires inside { (m : AreaName) (a : TheArea) → HasArea accepted.now.areas m a
-        → IsInside a accepted.now.total }
-    requires key_areas { (n : ℕ) (a : TheArea)
-        → IsKeyArea (content accepted.now.copy.now.meta) n a → IsInside a (D.size device.old) }
+    requires own { IsAcceptedFor header.now accepted.now.copy.now accepted.now.areas
+        accepted.now.total edit.now }
     requires asked { deed_of edit.now ≡ SealsKey sealed.now }
     ensures unchanged { IsUnchanged D.tells D.size D.bytes D.unsettled device.old device.new }
     ensures count { CountsFailure is_edit_failure result
@@ -291,13 +279,9 @@ fn judge_removal_of<'a, D: Device>(
 ) -> Result<JudgedEdit<'a>, EditFault>
     requires room { D.failed device.old + 1 < 2 ^ 64 }
     requires accepted { IsAcceptedHeader header.now }
-    requires copy { header.now ≡ OfLuks2 accepted.now.copy.now }
-    requires there { IsAbsent (content accepted.now.copy.now.meta) edit.now → ⊥ }
     requires total { accepted.now.total ≡ D.size device.old }
-    requires inside { (m : AreaName) (a : TheArea) → HasArea accepted.now.areas m a
-        → IsInside a accepted.now.total }
-    requires key_areas { (n : ℕ) (a : TheArea)
-        → IsKeyArea (content accepted.now.copy.now.meta) n a → IsInside a (D.size device.old) }
+    requires own { IsAcceptedFor header.now accepted.now.copy.now accepted.now.areas
+        accepted.now.total edit.now }
     requires asked { deed_of edit.now ≡ RemovesKeyslot removed.now }
     ensures unchanged { IsUnchanged D.tells D.size D.bytes D.unsettled device.old device.new }
     ensures count { CountsFailure is_edit_failure result

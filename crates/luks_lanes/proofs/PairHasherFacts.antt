@@ -1,6 +1,6 @@
 -- Blocks that follow those of a message.
-use Rattle.std.proofs.Common.{◌≡◌, ℕ, zero, suc, ◌+◌, ◌*◌, ◌/◌, ◌%◌, ◌^◌, ◌<◌, ◌≤◌, List, [], ◌∷◌, ◌++◌, length, take, drop, slice_index, slice_set, inl, inr, refl, ap, ap₂, sym, ◌∙◌, arith, length-append}
-use Rattle.std.proofs.lemmas.List.{drop-append-le, drop-drop, drop_at, get_or-set_same, get_or-set_other, map-set, length-map}
+use Rattle.std.proofs.Common.{◌≡◌, ℕ, zero, suc, ◌+◌, ◌*◌, ◌<◌, List, [], ◌∷◌, ◌++◌, length, take, drop, slice_index, slice_set, inl, inr, refl, ap, ap₂, sym, ◌∙◌, arith}
+use Rattle.std.proofs.lemmas.List.{drop-drop, drop_at, get_or-set_same, get_or-set_other, map-set, length-map}
 use Rattle.std.proofs.lemmas.Bool.{cases_lt}
 use Rattle.luks_rounds.specs.Pair.{window, word_of}
 use Rattle.sha2.specs.Sha256.{compress, hash_after, word_at}

@@ -1,5 +1,6 @@
-use Rattle.std.proofs.Common.{◌≡◌, ◌<◌, sym, ◌∙◌, subst}
+use Rattle.std.proofs.Common.{ℕ, ◌<◌, sym, ◌∙◌, subst}
 use Rattle.std.proofs.lemmas.Result.{err_from_is_err_and}
+use Rattle.luks_area.specs.Area.{IsInside}
 use Rattle.luks_meta.specs.Content.{content}
 use Rattle.luks_edit.proofs.AllowedMemory.{short_where_allowed}
 use Rattle.luks_meta.specs.declared.meta.Meta.{Meta}
@@ -35,14 +36,14 @@ returns-clause-takes g c =
       by_ = c.args.removed.now.by_;
       passphrase = c.args.removed.now.passphrase;
       asked = c.requires.asked;
-      there = removed_used (content c.args.accepted.now.copy.now.meta) c.args.edit.now c.args.removed.now c.requires.asked c.requires.there;
-      lost = record { is = is; inside = c.requires.key_areas c.args.removed.now.slot area is };
+      there = removed_used (content c.args.accepted.now.copy.now.meta) c.args.edit.now c.args.removed.now c.requires.asked c.requires.own.there;
+      lost = record { is = is; inside = subst (λ (t : ℕ). IsInside area t) c.requires.total (c.requires.own.key_areas c.args.removed.now.slot area is) };
     }
 
 pub judge_removal-requires : goal.judge_removal-requires
 judge_removal-requires g c =
     subst (λ (m : Meta). IsInUse (content m) c.args.removed.now.slot) (sym c.room-room.ensures.meta)
-    (removed_used (content c.args.accepted.now.copy.now.meta) c.args.edit.now c.args.removed.now c.requires.asked c.requires.there)
+    (removed_used (content c.args.accepted.now.copy.now.meta) c.args.edit.now c.args.removed.now c.requires.asked c.requires.own.there)
 
 pub returns-clause-passed : goal.returns-clause-passed
 returns-clause-passed g c = λ tells is payload judged.

@@ -1,5 +1,6 @@
 use Rattle.std.proofs.Common.{◌≡◌, ℕ, ◌<◌, length, sym, ◌∙◌, subst}
 use Rattle.std.proofs.lemmas.Result.{err_from_is_err_and}
+use Rattle.luks_area.specs.Area.{IsInside}
 use Rattle.luks_meta.specs.Content.{area_len, content}
 use Rattle.luks_edit.specs.declared.deed.Place.TheVariants.{New, Opened}
 use Rattle.luks_edit.specs.declared.edit.Edit.TheVariants.{Add, Change}
@@ -27,7 +28,7 @@ returns-in_err-key-clause-refused g c = λ tells is payload well judged.
 pub judge_addition-requires-clause-there : goal.judge_addition-requires-clause-there
 judge_addition-requires-clause-there g c =
     subst (λ (m : Meta). IsInUse (content m) c.args.sealed.now.opener.slot) (sym c.room-room.ensures.meta)
-    (used_of (content c.args.accepted.now.copy.now.meta) c.args.edit.now c.args.sealed.now.opener.slot c.args.sealed.now.opener.passphrase.bytes.now (sealed_opens c.args.edit.now c.args.sealed.now c.requires.asked) c.requires.there)
+    (used_of (content c.args.accepted.now.copy.now.meta) c.args.edit.now c.args.sealed.now.opener.slot c.args.sealed.now.opener.passphrase.bytes.now (sealed_opens c.args.edit.now c.args.sealed.now c.requires.asked) c.requires.own.there)
 
 pub returns-in_err-addition-in-New-clause-refused : goal.returns-in_err-addition-in-New-clause-refused
 returns-in_err-addition-in-New-clause-refused g c = λ tells is payload well judged.
@@ -41,7 +42,7 @@ returns-in_err-addition-in-New-clause-refused g c = λ tells is payload well jud
 pub judge_renewal-requires-clause-there : goal.judge_renewal-requires-clause-there
 judge_renewal-requires-clause-there g c =
     subst (λ (m : Meta). IsInUse (content m) c.args.sealed.now.opener.slot) (sym c.room-room.ensures.meta)
-    (used_of (content c.args.accepted.now.copy.now.meta) c.args.edit.now c.args.sealed.now.opener.slot c.args.sealed.now.opener.passphrase.bytes.now (sealed_opens c.args.edit.now c.args.sealed.now c.requires.asked) c.requires.there)
+    (used_of (content c.args.accepted.now.copy.now.meta) c.args.edit.now c.args.sealed.now.opener.slot c.args.sealed.now.opener.passphrase.bytes.now (sealed_opens c.args.edit.now c.args.sealed.now c.requires.asked) c.requires.own.there)
 
 pub returns-in_err-renewal-in-Opened-clause-refused : goal.returns-in_err-renewal-in-Opened-clause-refused
 returns-in_err-renewal-in-Opened-clause-refused g c = λ tells is payload well judged.
@@ -84,18 +85,18 @@ returns-in_ok-renewal-in-Opened-clause-takes g c =
     let r = c.in_ok-renewal-in-Opened.renewal in
     let said = c.in_ok-renewal-in-Opened.ensures in
     let key = c.in_ok-key.key in
-    let used = used_of (content meta) c.args.edit.now c.args.sealed.now.opener.slot c.args.sealed.now.opener.passphrase.bytes.now (sealed_opens c.args.edit.now c.args.sealed.now c.requires.asked) c.requires.there in
+    let used = used_of (content meta) c.args.edit.now c.args.sealed.now.opener.slot c.args.sealed.now.opener.passphrase.bytes.now (sealed_opens c.args.edit.now c.args.sealed.now c.requires.asked) c.requires.own.there in
     let is = subst (λ (m : Meta). IsKeyArea (content m) r.slot r.lost) c.room-room.ensures.meta said.lost in
     record {
       old = c.args.sealed.now.opener.passphrase;
       asked = sealed_as c.args.edit.now c.args.sealed.now Opened r.slot r.iterations c.requires.asked c.in-Opened.is said.slot said.iterations;
       there = subst (λ (n : ℕ). IsInUse (content meta) n) (sym said.slot) used;
       key_length = subst (λ (n : ℕ). HasLuks2KeyBytes (content meta) n (length key)) (sym said.slot)
-          (subst (λ (h : Header). HasKeyBytes h c.args.sealed.now.opener.slot (length key)) c.requires.copy c.in_ok-key.ensures.length);
+          (subst (λ (h : Header). HasKeyBytes h c.args.sealed.now.opener.slot (length key)) c.requires.own.is c.in_ok-key.ensures.length);
       placed = subst (λ (t : ℕ). IsPlaced (area_len meta) (content meta) t r.slot r.area) (c.room-room.ensures.total ∙ c.requires.total)
           (subst (λ (m : Meta). IsPlaced (area_len m) (content m) c.room-room.result.total r.slot r.area) c.room-room.ensures.meta said.placed);
       iterated = said.iterated;
-      lost = record { is = is; inside = c.requires.key_areas r.slot r.lost is };
+      lost = record { is = is; inside = subst (λ (t : ℕ). IsInside r.lost t) c.requires.total (c.requires.own.key_areas r.slot r.lost is) };
     }
 
 pub returns-in_ok-renewal-in-Opened-clause-passed : goal.returns-in_ok-renewal-in-Opened-clause-passed
@@ -124,7 +125,7 @@ returns-in_ok-addition-in-New-clause-takes g c =
       asked = sealed_as c.args.edit.now c.args.sealed.now (New c.in-New.to) a.by_ a.iterations c.requires.asked c.in-New.is said.like said.iterations;
       number = subst (λ (m : Meta). IsNewNumber (content m) c.in-New.to a.made) c.room-room.ensures.meta said.number;
       key_length = subst (λ (n : ℕ). HasLuks2KeyBytes (content meta) n (length key)) (sym said.like)
-          (subst (λ (h : Header). HasKeyBytes h c.args.sealed.now.opener.slot (length key)) c.requires.copy c.in_ok-key.ensures.length);
+          (subst (λ (h : Header). HasKeyBytes h c.args.sealed.now.opener.slot (length key)) c.requires.own.is c.in_ok-key.ensures.length);
       placed = subst (λ (t : ℕ). IsPlaced (area_len meta) (content meta) t a.by_ a.area) (c.room-room.ensures.total ∙ c.requires.total)
           (subst (λ (m : Meta). IsPlaced (area_len m) (content m) c.room-room.result.total a.by_ a.area) c.room-room.ensures.meta said.placed);
       iterated = said.iterated;

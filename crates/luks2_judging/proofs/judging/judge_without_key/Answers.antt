@@ -71,8 +71,12 @@ returns-clause-passed c = λ v random is size.
     let past4 = past_same v c.args.data_ e random past3 c.in_ok-judge_opener.ensures in
     record { chosen = x; lists = c.in_ok-areas.ensures.areas v is size; passed = before_of 4 v c.args.data_ e random past4 }
 
-pub returns-clause-key_areas : goal.returns-clause-key_areas
-returns-clause-key_areas c = λ n a is.
-    let areas = c.in_ok-areas.areas in
-    let listed = subst (λ h. Lists areas (HeaderArea h c.args.data_ c.args.total)) c.copy_of-copy.ensures c.in_ok-areas.ensures.listed in
-    c.in_ok-areas.ensures.inside (Slot n) a (listed.all (Slot n) a is)
+pub returns-clause-accepted : goal.returns-clause-accepted
+returns-clause-accepted c =
+    let listed = subst (λ h. Lists c.in_ok-areas.areas (HeaderArea h c.args.data_ c.args.total)) c.copy_of-copy.ensures c.in_ok-areas.ensures.listed in
+    record {
+      is = c.copy_of-copy.ensures;
+      there = c.in_ok-judge_wanted.ensures;
+      inside = c.in_ok-areas.ensures.inside;
+      key_areas = λ n a is. c.in_ok-areas.ensures.inside (Slot n) a (listed.all (Slot n) a is);
+    }

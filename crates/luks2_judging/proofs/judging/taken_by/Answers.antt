@@ -1,7 +1,6 @@
-use Rattle.std.proofs.Common.{◌≡◌, List, ℕ, length, subst, sym, ◌∙◌}
+use Rattle.std.proofs.Common.{◌≡◌, List, ℕ, length, sym, ◌∙◌}
 use Rattle.std.specs.Prelude.{⊤}
 use Rattle.std.proofs.lemmas.Result.{err_from_is_err_and}
-use Rattle.luks_area.specs.Area.{IsInside}
 use Rattle.luks_edit.specs.Endings.{refused_ends, refusing}
 use Rattle.luks2_edit_laws.specs.Refused.{Refusal2}
 use Rattle.luks2_judging.specs.Opened.{TakesMemoryToOpen}
@@ -18,18 +17,15 @@ returns-in_err-accepted-clause-refused g c = λ tells is.
     (refused_ends (λ g. (random : List ℕ) → Refusal2 v c.args.data_ c.args.edit.now random g) (TakesMemoryToOpen v c.args.edit.now) ⊤ f
     (refusing f c.in_err-accepted.ensures.memory c.in_err-accepted.ensures.own) (λ random. c.in_err-accepted.ensures.refused v random is size))
 
-pub judge_with_key-requires-clause-key_areas : goal.judge_with_key-requires-clause-key_areas
-judge_with_key-requires-clause-key_areas g c = λ n a is. subst (λ (t : ℕ). IsInside a t) c.len.ensures (c.in_ok-accepted.ensures.key_areas n a is)
-
 pub returns-clause-judged : goal.returns-clause-judged
 returns-clause-judged g c =
-    taken c.args.header.now c.in_ok-accepted.accepted.copy.now (g.D.Device.size c.args.device.now) c.args.edit.now c.judge_with_key.result c.in_ok-accepted.ensures.copy c.judge_with_key.ensures.takes
+    taken c.args.header.now c.in_ok-accepted.accepted.copy.now (g.D.Device.size c.args.device.now) c.args.edit.now c.judge_with_key.result c.in_ok-accepted.ensures.accepted.is c.judge_with_key.ensures.takes
 
 pub returns-clause-unrefused : goal.returns-clause-unrefused
 returns-clause-unrefused g c = λ tells is.
     let v = g.D.Device.bytes c.args.device.now in
     let size : length v ≡ c.len.result = g.met.D.Device.sized c.args.device.now tells ∙ sym c.len.ensures in
-    unrefused c.args.header.now c.in_ok-accepted.accepted.copy.now v c.args.data_ c.args.edit.now c.judge_with_key.result c.in_ok-accepted.ensures.copy
+    unrefused c.args.header.now c.in_ok-accepted.accepted.copy.now v c.args.data_ c.args.edit.now c.judge_with_key.result c.in_ok-accepted.ensures.accepted.is
     (c.in_ok-accepted.ensures.well v is size) (c.judge_with_key.ensures.seals tells is c.args.data_ (λ random. c.in_ok-accepted.ensures.passed v random is size))
     (c.judge_with_key.ensures.passed tells is c.args.data_ (λ random. c.in_ok-accepted.ensures.passed v random is size))
 

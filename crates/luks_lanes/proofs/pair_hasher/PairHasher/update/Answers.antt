@@ -1,4 +1,4 @@
-use Rattle.std.proofs.Common.{◌≡◌, ℕ, ◌+◌, ◌-◌, ◌*◌, ◌/◌, List, ◌++◌, length, take, drop, refl, ap, ap₂, ◌∙◌, sym, arith, length-append}
+use Rattle.std.proofs.Common.{◌≡◌, ◌+◌, ◌-◌, ◌*◌, ◌/◌, ◌++◌, length, take, drop, refl, ap, ap₂, ◌∙◌, sym, arith, length-append}
 use Rattle.sha2.specs.Sha256.{compress, hash_after, initial_hash_256}
 use Rattle.sha2.proofs.Absorbing256.{hash_after_next, total_append}
 use Rattle.luks_lanes.proofs.PairHasherFacts.{hash_after_both}
