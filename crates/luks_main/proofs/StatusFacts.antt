@@ -47,6 +47,11 @@ use Rattle.luks_main.specs.Statuses.{EndsBackup, EndsCheck, EndsCompare, EndsCon
 abbrev pub own : Answer → ℕ
 own answer = exit_status (answer_status answer)
 
+-- `rebuild` may be refused memory, with a passphrase and without one
+rebuild_memory_ends : {A : Type 0} (passphrase : Option A) → EndsRebuild passphrase NoMemory 4
+rebuild_memory_ends None = refl
+rebuild_memory_ends (Some file) = refl
+
 -- of every command: memory may be refused
 pub memory_ends : (c : Command) → EndsWith c NoMemory 4
 memory_ends (command.Check payload) = refl
@@ -59,7 +64,7 @@ memory_ends (command.Open passphrase (Some n) memory) = refl
 memory_ends (command.Edit editing) = refl
 memory_ends (command.Format making) = refl
 memory_ends (command.Convert converting) = refl
-memory_ends (command.Rebuild rebuilding) = refl
+memory_ends (command.Rebuild rebuilding) = rebuild_memory_ends rebuilding.passphrase
 memory_ends (command.Backup backing_up) = refl
 memory_ends (command.Restore restoring) = refl
 memory_ends (command.Compare comparing) = refl
