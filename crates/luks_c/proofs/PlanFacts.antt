@@ -1,5 +1,5 @@
 -- Facts on the plans of calls that write.
-use Rattle.std.proofs.Common.{◌≡◌, ◌≢◌, ◌⊎◌, inl, inr, ℕ, List, length, Ok, Err, false, refl, sym, subst, ◌∙◌, arith}
+use Rattle.std.proofs.Common.{◌≡◌, ◌≢◌, ◌⊎◌, inl, inr, ℕ, List, length, Ok, Err, false, refl, ◌∙◌, arith}
 use Rattle.std.proofs.lemmas.Bool.{true≢false}
 use Rattle.luks_area.specs.First.{IsLeast}
 use Rattle.luks_edit.specs.declared.edit.Done.{Done}
@@ -9,7 +9,7 @@ use Rattle.luks_edit.specs.declared.edit_fault.EditFault.TheVariants as edit
 use Rattle.luks_edit.specs.EditFaults.{is_edit_failure}
 use Rattle.luks_formatting.specs.declared.format_fault.FormatFault.{FormatFault}
 use Rattle.luks_formatting.specs.declared.format_fault.FormatFault.TheVariants as format
-use Rattle.luks_formatting.specs.FormatFaults.{format_key, is_device_fault, HasNoFault, IsAnsweredFault, IsAnsweredFaultOrMemory}
+use Rattle.luks_formatting.specs.FormatFaults.{format_key, is_device_fault, IsAnsweredFault, IsAnsweredFaultOrMemory}
 use Rattle.luks_given.specs.Volume.{volume}
 use Rattle.luks_planned.specs.declared.planned_writes.PlannedCall.{PlannedCall}
 use Rattle.luks_planned.specs.Plan.{IsFlushed}
@@ -19,7 +19,6 @@ use Rattle.luks_volume.specs.Outcome.{IsApplied}
 use Rattle.luks_c_answers.specs.declared.plans.LuksPlan.{LuksPlan}
 use Rattle.luks_c.specs.EditAnswers.{AnswersEdit, IsEdited}
 use Rattle.luks_c.specs.EditAsked.{IsMaybeSlot}
-use Rattle.luks_c.specs.FormatAnswers.{AnswersFormat}
 use Rattle.luks_c_answers.specs.Numbers.{edit_number}
 use Rattle.luks_c_answers.specs.NumberFacts.{edit_number_memory, edit_number_range}
 use Rattle.luks_c_answers.specs.PlanFacts.{given_or_room, planned_of, room_keeps}

@@ -1,5 +1,5 @@
 -- Facts on texts that are given.
-use Rattle.std.proofs.Common.{◌≡◌, ℕ, List, Option, Some, None, refl}
+use Rattle.std.proofs.Common.{ℕ, List, Option, Some, None, refl}
 use Rattle.arrayvec.specs.ArrayString.{ArrayString}
 use Rattle.luks_c.specs.RebuildAnswers.{IsMaybeField, IsNoText}
 

@@ -1,5 +1,5 @@
 -- What the calls answer that make a volume.
-use Rattle.std.specs.Prelude.{◌≡◌, ◌≢◌, ℕ, List}
+use Rattle.std.specs.Prelude.{◌≡◌, ℕ, List}
 use Rattle.luks_area.specs.First.{IsLeast}
 use Rattle.luks_kdf.specs.declared.hash_name.HashName.{HashName}
 use Rattle.luks_kdf.specs.declared.hash_name.HashName.TheVariants.{Sha1, Sha256, Sha512}

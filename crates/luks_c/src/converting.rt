@@ -50,7 +50,16 @@ pub extern "C" fn luks_convert_bytes(
     }
     let data_ = data_of(is_detached);
     convert_given::<Brand, Brand>(
-        alloc, source, source_total, data_, first, total, random, calls, bytes, told,
+        alloc,
+        source,
+        source_total,
+        data_,
+        first,
+        total,
+        random,
+        calls,
+        bytes,
+        told,
     )
 }
 

@@ -15,7 +15,9 @@ ghost use Rattle.luks_c.specs.Asked.{payload_of};
 ghost use Rattle.luks_c.specs.FormatAnswers.{AnswersFormat1, AnswersFormat2, AnswersNumbered, IsNoHash, hash_number};
 
 use crate::checking::data_of;
-use luks_c_answers::{LuksPlan, MEMORY, USAGE, format_number, give_plan, planned_writes, tell_reach};
+use luks_c_answers::{
+    LuksPlan, MEMORY, USAGE, format_number, give_plan, planned_writes, tell_reach,
+};
 use luks_given::Given;
 use luks_planned::{PlannedCall, PlannedWrites};
 use luks_volume::{Data, Format, FormatFault, HashName, format1, format2};

@@ -59,7 +59,17 @@ pub extern "C" fn luks_rebuild2_bytes(
         Ok(uuid) => {
             let which = which_of(is_second, size);
             rebuild_given::<Brand, Brand>(
-                alloc, source, source_total, which, uuid, first, total, random, calls, bytes, told,
+                alloc,
+                source,
+                source_total,
+                which,
+                uuid,
+                first,
+                total,
+                random,
+                calls,
+                bytes,
+                told,
             )
         }
         Err(NoText) => USAGE,

@@ -61,7 +61,15 @@ pub extern "C" fn luks_rebuild1_bytes(
     }
     match fields_of(cipher_name, cipher_mode, hash, uuid, key_bytes, payload) {
         Ok(fields) => rebuild_given::<Brand, Brand>(
-            alloc, source, source_total, &fields, first, total, calls, bytes, told,
+            alloc,
+            source,
+            source_total,
+            &fields,
+            first,
+            total,
+            calls,
+            bytes,
+            told,
         ),
         Err(NoText) => USAGE,
     }
@@ -158,5 +166,9 @@ fn fitting<const N: usize>(text: &str) -> Result<ArrayString<N>, NoText>
 fn number_of(number: u32) -> Option<u32>
     ensures { IsMaybeNumber number result }
 {
-    if number == NO_NUMBER { None } else { Some(number) }
+    if number == NO_NUMBER {
+        None
+    } else {
+        Some(number)
+    }
 }

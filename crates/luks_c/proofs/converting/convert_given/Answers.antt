@@ -1,4 +1,4 @@
-use Rattle.std.proofs.Common.{◌≡◌, ◌≢◌, inl, inr, ℕ, List, false, ◌∙◌, ap, arith, rules, subst, sym}
+use Rattle.std.proofs.Common.{◌≡◌, inl, inr, ℕ, List, false, ◌∙◌, ap, arith, rules, subst, sym}
 use Rattle.luks_converting.specs.ConvertFaults.{is_convert_failure}
 use Rattle.luks_converting.specs.Outcome.{IsAnsweredFault, IsConvertible}
 use Rattle.luks_given.specs.Given.{given_bytes}
@@ -17,11 +17,11 @@ returns-in-Ok-convert-clause-answers g c =
     let device = c.convert.new.target in
     let e = c.in-Ok-convert.ensures in
     let both = of_volumes
-        (λ (u : List ℕ) (n : ℕ) (o : List ℕ) (m : ℕ). IsConvertible u c.args.data_ n c.args.random.now × IsConvertedTo u c.args.random.now o (volume (planned_first device) m))
-        (given_bytes c.new-from.result) (volume c.args.source.now c.args.source_total) (planned_size c.in-Ok.device) c.args.total (planned_size device)
-        (planned_bytes c.in-Ok.device) (volume c.args.first.now c.args.total)
-        c.new-from.ensures.bytes c.in-Ok.ensures.size c.in-Ok.ensures.bytes (e.size ∙ c.in-Ok.ensures.size)
-        (e.faultless tt, record { converted = e.converted tt tt; well_formed = e.well_formed tt tt; opens = e.opens tt tt; absent = e.absent tt tt }) in
+    (λ (u : List ℕ) (n : ℕ) (o : List ℕ) (m : ℕ). IsConvertible u c.args.data_ n c.args.random.now × IsConvertedTo u c.args.random.now o (volume (planned_first device) m))
+    (given_bytes c.new-from.result) (volume c.args.source.now c.args.source_total) (planned_size c.in-Ok.device) c.args.total (planned_size device)
+    (planned_bytes c.in-Ok.device) (volume c.args.first.now c.args.total)
+    c.new-from.ensures.bytes c.in-Ok.ensures.size c.in-Ok.ensures.bytes (e.size ∙ c.in-Ok.ensures.size)
+    (e.faultless tt, record { converted = e.converted tt tt; well_formed = e.well_formed tt tt; opens = e.opens tt tt; absent = e.absent tt tt }) in
     plan_answered c.args.first.now (planned_first device) c.args.total _ _ _ (planned_calls device) (planned_written device) _ _ _ _
     both.0 both.1
     (subst (λ (l : List ℕ). IsPlan l (planned_first device) (planned_calls device) (planned_written device)) c.requires.given c.give_plan.ensures.plan)
@@ -43,7 +43,7 @@ returns g c =
     let high = r.1 in
     let answered : IsAnsweredFault (volume c.args.source.now c.args.source_total) c.args.data_ c.args.total c.args.random.now f =
     fault_of_volume (λ (u : List ℕ) (n : ℕ). IsAnsweredFault u c.args.data_ n c.args.random.now f) (given_bytes c.new-from.result) (volume c.args.source.now c.args.source_total)
-        (planned_size c.in-Ok.device) c.args.total c.new-from.ensures.bytes c.in-Ok.ensures.size (c.in-Err.ensures.fault tt) in
+    (planned_size c.in-Ok.device) c.args.total c.new-from.ensures.bytes c.in-Ok.ensures.size (c.in-Err.ensures.fault tt) in
     record {
       own = λ usage. convert_number_usage f (sym is ∙ usage);
       answers = refusal_answered c.args.first.now c.args.total _ _ _ _ _ c.convert_number.result (omega (arith, is, low)) (omega (arith, is, high))

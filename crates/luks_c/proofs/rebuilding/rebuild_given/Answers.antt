@@ -1,4 +1,4 @@
-use Rattle.std.proofs.Common.{◌≡◌, ◌≢◌, ℕ, List, Option, option_map, false, ◌∙◌, ap, arith, rules, subst, sym}
+use Rattle.std.proofs.Common.{◌≡◌, ℕ, List, Option, option_map, false, ◌∙◌, ap, arith, rules, subst, sym}
 use Rattle.luks_rebuilding.specs.Outcome.{IsAnsweredFault, IsRebuildable}
 use Rattle.luks_rebuilding.specs.RebuildFaults.{is_rebuild_failure}
 use Rattle.luks_given.specs.Given.{given_bytes}
@@ -18,12 +18,12 @@ returns-in-Ok-rebuild-clause-answers g c =
     let e = c.in-Ok-rebuild.ensures in
     let uuid : Option (List ℕ) = option_map (λ t. t.now) c.args.uuid in
     let both = of_volumes
-        (λ (u : List ℕ) (n : ℕ) (o : List ℕ) (m : ℕ). IsRebuildable u c.args.which uuid n c.args.random.now
-            × IsRebuiltTo u c.args.which uuid c.args.random.now o (volume (planned_first device) m))
-        (given_bytes c.new-from.result) (volume c.args.source.now c.args.source_total) (planned_size c.in-Ok.device) c.args.total (planned_size device)
-        (planned_bytes c.in-Ok.device) (volume c.args.first.now c.args.total)
-        c.new-from.ensures.bytes c.in-Ok.ensures.size c.in-Ok.ensures.bytes (e.size ∙ c.in-Ok.ensures.size)
-        (e.faultless tt, record { rebuilt = e.rebuilt tt tt; well_formed = e.well_formed tt tt; opens = e.opens tt tt }) in
+    (λ (u : List ℕ) (n : ℕ) (o : List ℕ) (m : ℕ). IsRebuildable u c.args.which uuid n c.args.random.now
+    × IsRebuiltTo u c.args.which uuid c.args.random.now o (volume (planned_first device) m))
+    (given_bytes c.new-from.result) (volume c.args.source.now c.args.source_total) (planned_size c.in-Ok.device) c.args.total (planned_size device)
+    (planned_bytes c.in-Ok.device) (volume c.args.first.now c.args.total)
+    c.new-from.ensures.bytes c.in-Ok.ensures.size c.in-Ok.ensures.bytes (e.size ∙ c.in-Ok.ensures.size)
+    (e.faultless tt, record { rebuilt = e.rebuilt tt tt; well_formed = e.well_formed tt tt; opens = e.opens tt tt }) in
     plan_answered c.args.first.now (planned_first device) c.args.total _ _ _ (planned_calls device) (planned_written device) _ _ _ _
     both.0 both.1
     (subst (λ (l : List ℕ). IsPlan l (planned_first device) (planned_calls device) (planned_written device)) c.requires.given c.give_plan.ensures.plan)
@@ -43,7 +43,7 @@ returns g c =
     let high = r.1 in
     let answered : IsAnsweredFault (volume c.args.source.now c.args.source_total) c.args.which uuid c.args.total c.args.random.now f =
     fault_of_volume (λ (u : List ℕ) (n : ℕ). IsAnsweredFault u c.args.which uuid n c.args.random.now f) (given_bytes c.new-from.result)
-        (volume c.args.source.now c.args.source_total) (planned_size c.in-Ok.device) c.args.total c.new-from.ensures.bytes c.in-Ok.ensures.size (c.in-Err.ensures.fault tt) in
+    (volume c.args.source.now c.args.source_total) (planned_size c.in-Ok.device) c.args.total c.new-from.ensures.bytes c.in-Ok.ensures.size (c.in-Err.ensures.fault tt) in
     record {
       own = λ usage. rebuild_number_usage f (sym is ∙ usage);
       answers = refusal_answered c.args.first.now c.args.total _ _ _ _ _ c.rebuild_number.result (omega (arith, is, low)) (omega (arith, is, high))
