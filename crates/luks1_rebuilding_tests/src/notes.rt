@@ -8,7 +8,9 @@ use std::alloc::Global;
 use std::test::Fail;
 
 /// What is said of keyslot 0, of which the small volume alone makes use, and of keyslot 1.
-const ZERO: &str = "luks: keyslot 0, which may have been in use, couldn't be kept: it is disabled\n";
+const ZERO: &str =
+    "luks: keyslot 0, which may have been in use, couldn't be kept: it is disabled\n";
+
 const ONE: &str = "luks: keyslot 1, which may have been in use, couldn't be kept: it is disabled\n";
 
 /// Bytes at a place of the volume, whose magic is lost too, and what is said then.
