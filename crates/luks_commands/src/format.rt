@@ -17,8 +17,9 @@ use crate::passphrase_file::{PassphraseFault, passphrase};
 use crate::printer::Printer;
 use crate::random_file::{RandomBytes, few_random_bytes, random_bytes};
 use luks_edit::{Done, Passphrase};
-use luks_formatting::{Argon2Costs, FORMAT1_RANDOM, FORMAT2_RANDOM, FormatFault, NewDerivation};
-use luks_formatting::{format1, format2_by};
+use luks_formatting::{
+    Argon2Costs, FORMAT1_RANDOM, FORMAT2_RANDOM, FormatFault, NewDerivation, format1, format2_by,
+};
 use luks_reading::Device;
 use luks_request::{AskedArgon2, AskedKind, Making, NewVersion};
 use std::alloc::Global;
@@ -205,7 +206,15 @@ fn make<D: Device>(
                 bytes: passphrase,
                 memory: kib_of(making.memory),
             };
-            format2_by(alloc, device, making.data_, format, chosen, &allowed, random)
+            format2_by(
+                alloc,
+                device,
+                making.data_,
+                format,
+                chosen,
+                &allowed,
+                random,
+            )
         }
     }
 }

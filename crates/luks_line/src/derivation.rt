@@ -8,7 +8,9 @@ use luks_request::{AskedArgon2, AskedKind};
 pub(crate) fn wrong_derivation(given: &ArgMatches<'_>) -> Option<&'static str> {
     if kind_of(given).is_some() {
         if is_given(given, "iterations") {
-            return Some("the argument '--iterations <N>' cannot be used with Argon2: it has '--passes <N>'");
+            return Some(
+                "the argument '--iterations <N>' cannot be used with Argon2: it has '--passes <N>'",
+            );
         }
         if given.get_str("version") == Some("1") {
             return Some("the argument '--kdf <KDF>' cannot be Argon2 with '--version 1'");

@@ -17,8 +17,7 @@ pub use luks_converting::{
     copied_keyslot_opens_alike, metadata_is_never_full,
 };
 pub use luks_edit::{Done, Edit, EditFault, LEAST_ITERATIONS, Passphrase, RunFault, Step};
-pub use luks_formatting::{Argon2Costs, FORMAT1_RANDOM, FORMAT2_RANDOM, Format, FormatFault, NewDerivation};
-pub use luks_formatting::{format1, format2, format2_by};
+pub use luks_formatting::{FORMAT1_RANDOM, FORMAT2_RANDOM, Format, FormatFault, format1, format2};
 pub use luks_head::{IterationsOf, Luks1Common, TextField};
 pub use luks_kdf::HashName;
 pub use luks_meta::{Argon2, Derivation, Encryption, KeyArea, Pbkdf2, Splitter};
