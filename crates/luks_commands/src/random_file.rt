@@ -30,6 +30,7 @@ pub fn random_bytes<R: Read>(
 ) -> Result<Secret, InputFault>
     ensures taken { IfOk result (λ b. AreFirstBytes count R.remaining file.old b) }
     ensures unread { IfErr result (IsUnreadRandom count file.old) }
+    ensures unasked { count ≡ 0 → file.new ≡ file.old }
 {
     if count == 0 {
         return Ok(Secret::new(Vec::new(alloc)));
