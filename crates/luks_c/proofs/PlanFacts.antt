@@ -1,15 +1,12 @@
 -- Facts on the plans of calls that write.
 use Rattle.std.proofs.Common.{◌≡◌, ◌≢◌, ◌⊎◌, inl, inr, ℕ, List, length, Ok, Err, false, refl, ◌∙◌, arith}
 use Rattle.std.proofs.lemmas.Bool.{true≢false}
-use Rattle.luks_area.specs.First.{IsLeast}
 use Rattle.luks_edit.specs.declared.edit.Done.{Done}
 use Rattle.luks_edit.specs.declared.edit.Edit.{Edit}
 use Rattle.luks_edit.specs.declared.edit_fault.EditFault.{EditFault}
 use Rattle.luks_edit.specs.declared.edit_fault.EditFault.TheVariants as edit
 use Rattle.luks_edit.specs.EditFaults.{is_edit_failure}
-use Rattle.luks_formatting.specs.declared.format_fault.FormatFault.{FormatFault}
 use Rattle.luks_formatting.specs.declared.format_fault.FormatFault.TheVariants as format
-use Rattle.luks_formatting.specs.FormatFaults.{format_key, is_device_fault, IsAnsweredFault, IsAnsweredFaultOrMemory}
 use Rattle.luks_given.specs.Volume.{volume}
 use Rattle.luks_planned.specs.declared.planned_writes.PlannedCall.{PlannedCall}
 use Rattle.luks_planned.specs.Plan.{IsFlushed}
@@ -30,19 +27,6 @@ pub refusal_of : (payload : Data) (v : List ℕ) (e : Edit) (random : List ℕ) 
 refusal_of payload v e random edit.Memory w other own replies = absurd (other refl)
 refusal_of payload v e random edit.Device w other own replies = absurd (true≢false own)
 refusal_of payload v e random f w other own replies = replies.0
-
--- the same of a format
-pub format_refusal : (faults : FormatFault → Type 0) (f : FormatFault) → f ≢ format.Memory → is_device_fault f ≡ false → IsAnsweredFault faults f → IsLeast format_key faults f
-format_refusal faults format.Memory other own answered = absurd (other refl)
-format_refusal faults format.Device other own answered = absurd (true≢false own)
-format_refusal faults f other own answered = answered
-
--- and of one that takes memory
-pub format_refusal_or_memory : (faults : FormatFault → Type 0) (f : FormatFault) → f ≢ format.Memory → is_device_fault f ≡ false
-    → IsAnsweredFaultOrMemory faults f → IsLeast format_key faults f
-format_refusal_or_memory faults format.Memory other own answered = absurd (other refl)
-format_refusal_or_memory faults format.Device other own answered = absurd (true≢false own)
-format_refusal_or_memory faults f other own answered = answered
 
 -- an edit that was done is answered with its plan
 pub edit_planned : (first left : List ℕ) (total : ℕ) (payload : Data) (e : Edit) (random : List ℕ) (done : Done) (calls : List PlannedCall) (bytes : List ℕ) (old new : Buffers)

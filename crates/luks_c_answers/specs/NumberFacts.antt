@@ -9,18 +9,14 @@ use Rattle.luks1_header.specs.FaultTexts.{fault_text as head_fault_text}
 use Rattle.luks_area.specs.Printed.{area_fault_text}
 use Rattle.luks_rules.specs.MetaFault.{fault_text as meta_fault_text}
 use Rattle.luks_slot.specs.Fault.{fault_text as slot_fault_text}
-use Rattle.luks_reading.specs.Failures.{is_check_failure, is_open_failure, is_read_failure}
-use Rattle.luks_reading.specs.declared.check_fault.CheckFault.{CheckFault}
+use Rattle.luks_reading.specs.Failures.{is_open_failure}
 use Rattle.luks_reading.specs.declared.check_fault.CheckFault.TheVariants as checking
 use Rattle.luks_reading.specs.declared.open_fault.OpenFault.{OpenFault}
 use Rattle.luks_reading.specs.declared.open_fault.OpenFault.TheVariants as opening
-use Rattle.luks_reading.specs.declared.read_fault.ReadFault.{ReadFault}
 use Rattle.luks_reading.specs.declared.read_fault.ReadFault.TheVariants as reading
 use Rattle.luks_edit.specs.EditFaults.{is_edit_failure}
 use Rattle.luks_edit.specs.declared.edit_fault.EditFault.{EditFault}
 use Rattle.luks_edit.specs.declared.edit_fault.EditFault.TheVariants as edit
-use Rattle.luks_formatting.specs.FormatFaults.{is_device_fault}
-use Rattle.luks_formatting.specs.declared.format_fault.FormatFault.{FormatFault}
 use Rattle.luks_formatting.specs.declared.format_fault.FormatFault.TheVariants as format
 use Rattle.luks_converting.specs.ConvertFaults.{is_convert_failure}
 use Rattle.luks_converting.specs.declared.convert_fault.ConvertFault.{ConvertFault}
@@ -32,7 +28,7 @@ use Rattle.luks1_rebuilding.specs.RebuildFaults.{is_rebuild_failure as is_rebuil
 use Rattle.luks1_rebuilding.specs.declared.rebuild_fault.Rebuild1Fault.{Rebuild1Fault}
 use Rattle.luks1_rebuilding.specs.declared.rebuild_fault.Rebuild1Fault.TheVariants as rebuild1
 use Rattle.luks_reading.specs.FaultTexts.{check_fault_text}
-use Rattle.luks_c_answers.specs.Numbers.{check_number, convert_number, edit_number, fault_number, format_number, number_printed, open_number, read_number, rebuild1_number, rebuild_number}
+use Rattle.luks_c_answers.specs.Numbers.{convert_number, edit_number, fault_number, number_printed, open_number, rebuild1_number, rebuild_number}
 
 -- that of a fault is 1 to 51
 fault_number_range : (f : Fault) → (1 ≤ fault_number f) × (fault_number f ≤ 51)
@@ -47,36 +43,6 @@ number_range (Some f) = let r = fault_number_range f in (r.0, let high = r.1 in 
 -- that of a printed fault is 1 to 99
 pub number_printed_range : (printed : List ℕ) → (1 ≤ number_printed printed) × (number_printed printed ≤ 99)
 number_printed_range printed = number_range (fault_named (name_in printed))
-
--- no fault has the number of what is done
-pub check_number_some : (f : CheckFault) → 1 ≤ check_number f
-check_number_some (checking.Head f) = (number_printed_range (head_fault_text f)).0
-check_number_some (checking.Meta f) = (number_printed_range (meta_fault_text f)).0
-check_number_some (checking.Area f) = (number_printed_range (area_fault_text f)).0
-check_number_some checking.Device = omega arith
-check_number_some checking.Memory = omega arith
-
--- none but the device's asks for more bytes
-pub check_number_other : (f : CheckFault) → is_check_failure f ≡ false → check_number f ≢ 102
-check_number_other (checking.Head f) own = λ e. let high = (number_printed_range (head_fault_text f)).1 in absurd (omega (arith, high, e))
-check_number_other (checking.Meta f) own = λ e. let high = (number_printed_range (meta_fault_text f)).1 in absurd (omega (arith, high, e))
-check_number_other (checking.Area f) own = λ e. let high = (number_printed_range (area_fault_text f)).1 in absurd (omega (arith, high, e))
-check_number_other checking.Device own = absurd (true≢false own)
-check_number_other checking.Memory own = λ e. absurd (omega (arith, e))
-
--- what keeps a header from being read has a number of 1 to 103
-pub read_number_range : (f : ReadFault) → (1 ≤ read_number f) × (read_number f ≤ 103)
-read_number_range (reading.Head f) = let r = number_printed_range (head_fault_text f) in (r.0, let high = r.1 in omega (arith, high))
-read_number_range (reading.Meta f) = let r = number_printed_range (meta_fault_text f) in (r.0, let high = r.1 in omega (arith, high))
-read_number_range reading.Device = (omega arith, omega arith)
-read_number_range reading.Memory = (omega arith, omega arith)
-
--- none but the device's asks for more bytes
-pub read_number_other : (f : ReadFault) → is_read_failure f ≡ false → read_number f ≢ 102
-read_number_other (reading.Head f) own = λ e. let high = (number_printed_range (head_fault_text f)).1 in absurd (omega (arith, high, e))
-read_number_other (reading.Meta f) own = λ e. let high = (number_printed_range (meta_fault_text f)).1 in absurd (omega (arith, high, e))
-read_number_other reading.Device own = absurd (true≢false own)
-read_number_other reading.Memory own = λ e. absurd (omega (arith, e))
 
 -- what refuses a passphrase has a number of 1 to 103
 pub open_number_range : (f : OpenFault) → (1 ≤ open_number f) × (open_number f ≤ 103)
@@ -122,21 +88,6 @@ edit_number_other f own = λ e. absurd (omega (arith, e))
 -- the number 103 is that of want of memory
 pub edit_number_memory : (f : EditFault) → edit_number f ≢ 103 → f ≢ edit.Memory
 edit_number_memory f other = λ is. other (ap edit_number is)
-
--- what refuses a format has a number of 1 to 103
-pub format_number_range : (f : FormatFault) → (1 ≤ format_number f) × (format_number f ≤ 103)
-format_number_range format.TooSmall = (omega arith, omega arith)
-format_number_range f = (omega arith, omega arith)
-
--- and isn't 101
-pub format_number_usage : (f : FormatFault) → format_number f ≢ 101
-format_number_usage format.TooSmall = λ e. absurd (omega (arith, e))
-format_number_usage f = λ e. absurd (omega (arith, e))
-
--- none but the device's asks for more bytes
-pub format_number_other : (f : FormatFault) → is_device_fault f ≡ false → format_number f ≢ 102
-format_number_other format.Device own = absurd (true≢false own)
-format_number_other f own = λ e. absurd (omega (arith, e))
 
 -- what refuses a conversion has a number of 1 to 103
 pub convert_number_range : (f : ConvertFault) → (1 ≤ convert_number f) × (convert_number f ≤ 103)

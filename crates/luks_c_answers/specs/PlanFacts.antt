@@ -60,13 +60,3 @@ refusal_answered first total faultless refusal such old told number low high so 
   refused = λ zero six beyond memory. so memory;
   kept = λ other. refl;
 }
-
--- where more bytes have to be given, or memory was refused, nothing more is said
-pub unplanned_answered : (first : List ℕ) (total : ℕ) (faultless : Type 0) (refusal : ℕ → Type 0) (such : List ℕ → Type 0) (old : Buffers) (told : LuksPlan) (number : ℕ)
-    → (number ≡ 102) ⊎ (number ≡ 103) → AnswersPlan first total faultless refusal such old old told number
-unplanned_answered first total faultless refusal such old told number is = record {
-  planned = λ zero. absurd (elim is [ inl b ↦ omega (arith, zero, b) | inr m ↦ omega (arith, zero, m) ]);
-  room = λ six. absurd (elim is [ inl b ↦ omega (arith, six, b) | inr m ↦ omega (arith, six, m) ]);
-  refused = λ zero six beyond memory. absurd (elim is [ inl b ↦ beyond b | inr m ↦ memory m ]);
-  kept = λ other. refl;
-}

@@ -1,15 +1,13 @@
 -- What `convert` answers, by what it met.
-use Rattle.std.proofs.Common.{◌≡◌, ◌≢◌, List, ℕ, false, refl}
+use Rattle.std.proofs.Common.{◌≡◌, List, ℕ, false, refl}
 use Rattle.luks_reading.specs.declared.report.Data.{Data}
 use Rattle.luks_converting.specs.ConvertFaults.{is_convert_failure}
 use Rattle.luks_converting.specs.Outcome.{IsAnsweredFault}
 use Rattle.luks_writing.specs.TwoDevices.{CountsAfter}
 use Rattle.luks_converting.specs.declared.convert_fault.ConvertFault.{ConvertFault}
 use Rattle.luks_converting.specs.declared.convert_fault.ConvertFault.TheVariants.{Memory, Device}
-use Rattle.luks_commands.specs.declared.answers.Answer.{Answer}
 use Rattle.luks_commands.specs.declared.answers.Answer.TheVariants as answer
-use Rattle.luks_commands.specs.declared.answers.Status.TheVariants.{NotInStep}
-use Rattle.luks_commands.specs.Answer.{answer_status, convert_fault_answer}
+use Rattle.luks_commands.specs.Answer.{convert_fault_answer}
 use Rattle.luks_header_commands.specs.Converting.{IsConvertAnswer}
 use Rattle.luks_header_commands.specs.Target.{Pair}
 
@@ -21,12 +19,3 @@ pub answers_fault : (tells : Type 0) (payload : Data) (random : List ℕ) (d : P
 answers_fault tells payload random d Device count same is = count
 answers_fault tells payload random d Memory count same is = (count, same refl, is)
 answers_fault tells payload random d f count same is = (count, same refl, is)
-
--- no answer tells of copies out of step
-pub convert_kinds : (tells : Type 0) (payload : Data) (random : List ℕ) (d : Pair) (a : Answer) → IsConvertAnswer tells payload random d a
-    → answer_status a ≢ NotInStep
-convert_kinds tells payload random d (answer.Done slot) is = λ e. cc
-convert_kinds tells payload random d (answer.Refused r) is = λ e. cc
-convert_kinds tells payload random d answer.DeviceFault is = λ e. cc
-convert_kinds tells payload random d answer.NoMemory is = λ e. cc
-convert_kinds tells payload random d a is = absurd is

@@ -42,15 +42,6 @@ pub answers_fault1 : (tells : Type 0) (given : Given) (d : Pair) (f : Rebuild1Fa
 answers_fault1 tells given d fault1.Device count same is = count
 answers_fault1 tells given d f count same is = (count, same refl, is)
 
--- no answer tells of copies out of step
-pub luks2_kinds : (tells : Type 0) (which : Which) (given : Option (List ℕ)) (random : List ℕ) (d : Pair) (a : Answer) → IsLuks2Answer tells which given random d a
-    → answer_status a ≢ NotInStep
-luks2_kinds tells which given random d (answer.Done slot) is = λ e. cc
-luks2_kinds tells which given random d (answer.Refused r) is = λ e. cc
-luks2_kinds tells which given random d answer.DeviceFault is = λ e. cc
-luks2_kinds tells which given random d answer.NoMemory is = λ e. cc
-luks2_kinds tells which given random d a is = absurd is
-
 pub luks1_kinds : (tells : Type 0) (given : Given) (d : Pair) (a : Answer) → IsLuks1Answer tells given d a → answer_status a ≢ NotInStep
 luks1_kinds tells given d (answer.Done slot) is = λ e. cc
 luks1_kinds tells given d (answer.Refused r) is = λ e. cc
@@ -203,17 +194,6 @@ other_stays v Counts a b = absurd (b refl)
 other_stays v Memory a b = tt
 other_stays v Device a b = tt
 other_stays v f a b = λ leads. absurd leads.leads
-
--- no answer of either is of copies out of step
-pub turned_kinds : (tells : Type 0) (luks1 : Given) (f : RebuildFault) (d : Pair) (a : Answer) → Turned tells luks1 f d a → answer_status a ≢ NotInStep
-turned_kinds tells luks1 f d a (stays none same lacks is) = subst (λ (x : Answer). answer_status x ≢ NotInStep) (sym is) (λ e. cc)
-turned_kinds tells luks1 f d a (unread one is) = subst (λ (x : Answer). answer_status x ≢ NotInStep) (sym is) (λ e. cc)
-turned_kinds tells luks1 f d a (turns leads said has) = luks1_kinds tells luks1 d a said
-
-pub fault_kinds : (f : RebuildFault) → answer_status (rebuild_fault_answer f) ≢ NotInStep
-fault_kinds Device = λ e. cc
-fault_kinds Memory = λ e. cc
-fault_kinds f = λ e. cc
 
 -- which bytes have changed then
 turned_kept : (r : Rebuilding) (luks1 : Given) (f : RebuildFault) (v old new : List ℕ) → IsRebuildFault v (which_of r) None 0 [] f → IsTurnedRest luks1 f v old new

@@ -1,5 +1,5 @@
 -- What `rebuild` answers with a passphrase, by what it met.
-use Rattle.std.proofs.Common.{◌≡◌, ◌≢◌, List, ℕ, Option, Some, None, IfSome, IfNone, Result, Ok, Err, refl, sym, subst, inl, inr}
+use Rattle.std.proofs.Common.{◌≡◌, List, ℕ, Option, Some, None, IfSome, IfNone, Result, Ok, Err, refl, sym, subst, inl, inr}
 use Rattle.luks_area.specs.Device.{count_after}
 use Rattle.luks1_mending.specs.declared.given.Given.{Given}
 use Rattle.luks1_rebuilding.specs.RebuildFaults.{is_rebuild_failure}
@@ -10,13 +10,12 @@ use Rattle.luks1_trying.specs.Openings.{IsFirstOpening, OpensNoneBelow}
 use Rattle.luks1_trying.specs.declared.opening.Opening.{Opening}
 use Rattle.luks_request.specs.declared.rebuilding.Rebuilding.{Rebuilding}
 use Rattle.luks_commands.specs.declared.answers.Answer.{Answer}
-use Rattle.luks_commands.specs.declared.answers.Status.TheVariants.{NotInStep}
 use Rattle.luks_commands.specs.declared.inputs.InputFault.{InputFault}
-use Rattle.luks_commands.specs.Answer.{answer_status, rebuild1_fault_answer}
+use Rattle.luks_commands.specs.Answer.{rebuild1_fault_answer}
 use Rattle.luks_header_commands.specs.Rebuilding.{IsGiven, IsLuks1Answer, IsRebuildAnswer, KeepsRest, KeepsRest1}
 use Rattle.luks_header_commands.specs.Target.{AnswersHeader, LeavesTarget, Pair}
-use Rattle.luks_header_commands.specs.Trying.{no_header, none_open, one_opens, trial_failed, AnswersBy, IsTriedRest, IsWithPassphrase, KeepsBy, KeepsTried, TriedAnswer}
-use Rattle.luks_header_commands.proofs.RebuildFacts.{luks1_kinds, luks1_later, IsLater}
+use Rattle.luks_header_commands.specs.Trying.{no_header, one_opens, trial_failed, AnswersBy, IsTriedRest, IsWithPassphrase, KeepsBy, KeepsTried, TriedAnswer}
+use Rattle.luks_header_commands.proofs.RebuildFacts.{luks1_later, IsLater}
 
 -- the trial ended by a fault, and the target is as it was
 pub tried_fault : (tells : Type 0) (g : Given) (p : List ℕ) (d : Pair) (f : Rebuild1Fault)
@@ -47,13 +46,6 @@ opened_rest g p v v' old new o same first keeps =
 pub given_rest : (r : Rebuilding) (g : Given) (p v old new : List ℕ) → IsGiven r g → IsTriedRest g p v old new → KeepsTried r (λ words. words ≡ p) v old new
 given_rest r g p v old new is (inl same) = inl same
 given_rest r g p v old new is (inr kept) = inr (record { given = g; is = is; keeps = kept })
-
--- no answer is of copies out of step
-pub tried_kinds : (tells : Type 0) (g : Given) (p : List ℕ) (d : Pair) (a : Answer) → TriedAnswer tells g p d a → answer_status a ≢ NotInStep
-tried_kinds tells g p d a (none_open none same faultless shut is) = subst (λ (x : Answer). answer_status x ≢ NotInStep) (sym is) (λ e. cc)
-tried_kinds tells g p d a (no_header f unfailed none same first is) = subst (λ (x : Answer). answer_status x ≢ NotInStep) (sym is) (λ e. cc)
-tried_kinds tells g p d a (trial_failed one same is) = subst (λ (x : Answer). answer_status x ≢ NotInStep) (sym is) (λ e. cc)
-tried_kinds tells g p d a (one_opens o first said) = luks1_kinds tells o.given d a said
 
 -- these words are those of the passphrase's file
 pub keeps_words : (r : Rebuilding) (HasWords : List ℕ → Type 0) (p : List ℕ) → HasWords p → (v old new : List ℕ)
