@@ -2,7 +2,8 @@
 use luks_area::{Device, FaultyDevice, Leave, MemDevice};
 use luks_kdf::HashName;
 use luks_test_devices::{old_bytes, part, put, small1};
-use luks1_rebuilding::{Given, Rebuild1Fault, rebuild1};
+use luks1_mending::Given;
+use luks1_rebuilding::{Rebuild1Fault, rebuild1};
 use luks1_trying::{Untold, try_combinations};
 use std::alloc::Global;
 use std::test::Fail;
@@ -67,7 +68,8 @@ fn tried(alloc: Global, volume: &[u8], call: u64) -> Result<bool, Fail> {
     let mut source = FaultyDevice::new(behind, call, Leave::Old);
     let answer = try_combinations(alloc, &mut source, &Given::NOTHING, b"one", &mut Untold);
     Ok(match answer {
-        Ok(found) => source.failures() == 0 && found.map(|it| it.slot) == Some(0),
+        Ok(Some(found)) => source.failures() == 0 && found.slot == 0,
+        Ok(None) => false,
         Err(fault) => source.failures() == 1 && fault == Rebuild1Fault::Device,
     })
 }
