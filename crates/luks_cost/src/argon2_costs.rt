@@ -84,7 +84,16 @@ fn sample<C: Clock>(
 {
     let mut key = [0u8; 64];
     let start = Instant::now(clock)?;
-    argon2(alloc, variant, &mut key, b"a passphrase", &[0; 32], costs.passes, costs.memory, lanes)?;
+    argon2(
+        alloc,
+        variant,
+        &mut key,
+        b"a passphrase",
+        &[0; 32],
+        costs.passes,
+        costs.memory,
+        lanes,
+    )?;
     let took = start.elapsed(clock)?;
     let work = u64::from(costs.passes) * u64::from(costs.memory);
     Ok(Sample::of(work, took))
