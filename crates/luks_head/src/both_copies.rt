@@ -71,7 +71,8 @@ fn hasher_of_both(first: &[u8], first_json: &[u8], second: &[u8], second_json: &
 
 /// The SHA-256 of the copy at 0 and of that at `size`, each of `size` bytes, by a hasher that was fed
 /// the first 16384 of each. It is fed the others, up to 12288 of each at a time, in two windows on the
-/// stack.
+/// stack, which no frame of its caller holds.
+#[inline(never)]
 fn digests_from<D: Device>(
     device: &mut D,
     size: u64,

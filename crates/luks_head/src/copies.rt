@@ -115,7 +115,8 @@ fn digest_of_copy<D: Device>(
 }
 
 /// The same by a hasher that was fed the first 16384 bytes. It is fed the others, up to 32768 at a
-/// time, in a window of as many bytes on the stack.
+/// time, in a window of as many bytes on the stack, which no frame of its caller holds.
+#[inline(never)]
 fn digest_from<D: Device>(
     device: &mut D,
     at: u64,
