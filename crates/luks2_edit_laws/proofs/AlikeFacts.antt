@@ -9,7 +9,7 @@ use Rattle.luks_rules.specs.declared.table.Member.TheVariants as name
 use Rattle.luks_rules.specs.declared.table.Outer.TheVariants as outer
 use Rattle.luks_rules.specs.Faults.{member_at, type_at}
 use Rattle.luks_rules.specs.Reading.{bytes_in, number_in, text_of}
-use Rattle.luks_making.specs.declared.new_keyslot.Argon2Costs.{Argon2Costs}
+use Rattle.luks_making.specs.declared.derivation.Argon2Costs.{Argon2Costs}
 use Rattle.luks_making.specs.Keyslots.{by_argon2i, by_argon2id, by_pbkdf2, Deriving, HasCosts, IsDerivedLike, NewMembers}
 use Rattle.luks_making.specs.Unchanged.{SaysArgon2, SaysDerivation, SaysNew}
 use Rattle.luks_slot.specs.declared.plan.Argon2Kind.{Argon2Kind}

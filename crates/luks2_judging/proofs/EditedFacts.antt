@@ -8,7 +8,7 @@ use Rattle.luks_area.specs.declared.area.Area.{Area}
 use Rattle.luks_making.specs.Changed.{changed_slot}
 use Rattle.luks_rules.specs.declared.table.Outer.TheVariants as outer
 use Rattle.luks_rules.specs.Faults.{type_at}
-use Rattle.luks_making.specs.declared.new_keyslot.Argon2Costs.{Argon2Costs}
+use Rattle.luks_making.specs.declared.derivation.Argon2Costs.{Argon2Costs}
 use Rattle.luks_making.specs.Keyslots.{IsMadeFrom, NewMembers, SlotMembers, by_argon2i, by_argon2id, by_pbkdf2, Deriving, HasCosts, IsDerivedLike}
 use Rattle.luks_making.specs.With.{with_slot}
 use Rattle.luks_reading.specs.declared.report.Data.{Data}

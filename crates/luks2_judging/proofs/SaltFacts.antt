@@ -10,7 +10,7 @@ use Rattle.luks_area.specs.declared.area.Area.{Area}
 use Rattle.luks_json.specs.Number.{number_text}
 use Rattle.luks_making.specs.Changed.{changed_slot, renewed_area, renewed_kdf, renewed_slot}
 use Rattle.luks_making.specs.Changing.{at_member, change_member, in_object}
-use Rattle.luks_making.specs.declared.new_keyslot.Argon2Costs.{Argon2Costs}
+use Rattle.luks_making.specs.declared.derivation.Argon2Costs.{Argon2Costs}
 use Rattle.luks_making.specs.Keyslots.{area_value, base64_text, kdf_value, slot_value, splitter_value, SlotMembers, argon2_value, by_argon2i, by_argon2id, by_pbkdf2, Deriving}
 use Rattle.luks_making.specs.With.{with_name, with_slot}
 use Rattle.luks2_edit_laws.specs.Edited.{members_of}

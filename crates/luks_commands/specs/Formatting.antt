@@ -4,7 +4,7 @@ use Rattle.luks_area.specs.Ranges.{SameBut}
 use Rattle.luks_reading.specs.declared.report.Data.{Data}
 use Rattle.luks_reading.specs.Answer.{Answer, AnswerWithin, opens}
 use Rattle.luks_reading.specs.Checked.{WellFormed}
-use Rattle.luks_making.specs.declared.new_keyslot.Argon2Costs.{Argon2Costs}
+use Rattle.luks_making.specs.declared.derivation.Argon2Costs.{Argon2Costs}
 use Rattle.luks_formatting.specs.declared.derivation.NewDerivation.{NewDerivation}
 use Rattle.luks_formatting.specs.declared.derivation.NewDerivation.TheVariants as by
 use Rattle.luks_formatting.specs.Deriving.{slot_derivation, memory_by}

@@ -27,7 +27,7 @@ use Rattle.luks_making.specs.Conditions.{CanFormat}
 use Rattle.luks_making.specs.Formatted.{VolumeMembers, digest_value, segment_value}
 use Rattle.luks_making.specs.Keyslots.{Deriving, by_argon2i, by_argon2id, by_pbkdf2, slot_value}
 use Rattle.luks_making.specs.Unchanged.{SaysArgon2, SaysDerivation, SaysMembers, SaysPbkdf2}
-use Rattle.luks_making.specs.declared.new_keyslot.Argon2Costs.{Argon2Costs}
+use Rattle.luks_making.specs.declared.derivation.Argon2Costs.{Argon2Costs}
 use Rattle.luks_meta.specs.Says.{small_at}
 use Rattle.luks_slot.specs.declared.plan.DigestPlan.{DigestPlan}
 use Rattle.luks_slot.specs.Refusal.{is_open_cipher}

@@ -21,7 +21,7 @@ use Rattle.luks_making.specs.Formatted.{VolumeMembers, digest_value, formatted, 
 use Rattle.luks_making.specs.Keyslots.{Deriving, slot_value, text_member}
 use Rattle.luks_making.specs.With.{with_slot}
 use Rattle.luks_making.specs.Without.{without_slot}
-use Rattle.luks_making.specs.declared.new_keyslot.Argon2Costs.{Argon2Costs}
+use Rattle.luks_making.specs.declared.derivation.Argon2Costs.{Argon2Costs}
 use Rattle.luks_making.proofs.AdditionFacts.{held_with}
 use Rattle.luks_making.proofs.NewVolumeFacts.{digest_with, held_bare, none_else, shape}
 use Rattle.luks_making.proofs.ReadingFacts.{decimal_is}

@@ -3,7 +3,7 @@ use Rattle.std.specs.Prelude.{◌≡◌, ◌⊎◌, ℕ, ◌-◌, ◌*◌, ◌^�
 use Rattle.luks_kdf.specs.Names.{name_of}
 use Rattle.luks_making.specs.Conditions.{FitsDerivation}
 use Rattle.luks_making.specs.Keyslots.{Deriving, by_pbkdf2, by_argon2i, by_argon2id}
-use Rattle.luks_making.specs.declared.new_keyslot.Argon2Costs.{Argon2Costs}
+use Rattle.luks_making.specs.declared.derivation.Argon2Costs.{Argon2Costs}
 use Rattle.luks_slot.specs.declared.plan.Argon2Kind.{Argon2Kind}
 use Rattle.luks_slot.specs.declared.plan.Argon2Kind.TheVariants.{I, Id}
 use Rattle.luks_slot.specs.declared.plan.Argon2Plan.{Argon2Plan}
