@@ -3,7 +3,7 @@ use Rattle.std.proofs.Common.{◌≡◌, ℕ, List, codes, refl, ap, ◌∙◌}
 use Rattle.serde_json.specs.Data.{Data, number, string, unsigned, put}
 use Rattle.luks_json.specs.Number.{number_text}
 use Rattle.luks_making.specs.Changing.{at_member, drop_member, each_member, in_object, set_member}
-use Rattle.luks_making.specs.Changed.{renewed_kdf}
+use Rattle.luks_making.specs.Changed.{resalted_kdf}
 use Rattle.luks_making.specs.Converted.{with_region}
 use Rattle.luks_making.specs.Formatted.{VolumeMembers, formatted}
 use Rattle.luks_making.specs.Keyslots.{NewMembers, SlotMembers, base64_text, slot_value}
@@ -23,8 +23,8 @@ pub with_steps : (n m : ℕ) (s : SlotMembers) (tm tn tk : List ℕ) (j a made :
 with_steps n m s tm tn tk j a made first second third is named_by = rw (named_by, is, first, second, third) refl
 
 -- a derivation gets a new salt and new iterations
-pub kdf_steps : (f : NewMembers) (k a salt : Data) (count : Data) → count ≡ number (unsigned f.iterations) → salt ≡ string (base64_text f.salt) → a ≡ set_member (codes "salt") salt k
-    → set_member (codes "iterations") count a ≡ renewed_kdf f k
+pub kdf_steps : (f : NewMembers) (k a salt : Data) (count : Data) → count ≡ number (unsigned f.derivation.iterations) → salt ≡ string (base64_text f.salt) → a ≡ set_member (codes "salt") salt k
+    → set_member (codes "iterations") count a ≡ resalted_kdf f k
 kdf_steps f k a salt count counted encoded salted = rw (salted, encoded, counted) refl
 
 -- a new volume loses its keyslot, and gets another region

@@ -2,7 +2,7 @@ use Rattle.serde_json.specs.View.{view}
 use Rattle.luks_making.specs.Keyslots.{new_members}
 use Rattle.luks_making.proofs.MapFacts.{same_ok, text_view}
 use Rattle.luks_making.proofs.StepFacts.{kdf_steps}
-use Rattle.luks_making.proofs.changed.renewed_kdf.Goals as goal
+use Rattle.luks_making.proofs.changed.resalted_kdf.Goals as goal
 
 pub returns : goal.returns
 returns c =
