@@ -1,7 +1,7 @@
 -- The metadata with one more keyslot: what is there of the old, and that it meets every rule that the old met.
 use Rattle.std.proofs.Common.{◌≡◌, ℕ, true, false, List, [], ◌∷◌, Option, Some, option_map, option_and_then, is_some, bytes_eq, codes, refl, sym, ap, ◌∙◌, inl, inr, arith, ◌↔◌}
 use Rattle.std.specs.List.{list_any}
-use Rattle.std.proofs.lemmas.Bool.{false≢true, cases_eq}
+use Rattle.std.proofs.lemmas.Bool.{cases_eq}
 use Rattle.serde_json.specs.Data.{Data, Members, put}
 use Rattle.serde_json.specs.Find.{get, as_object}
 use Rattle.luks_json.specs.Arrays.{all_named, names, naming_count, naming_members}

@@ -26,11 +26,11 @@ use Rattle.luks_rules.specs.Table.{keyslot_rows, member_name, section_name}
 use Rattle.luks_making.specs.declared.derivation.NewDerivation.{NewDerivation}
 use Rattle.luks_making.specs.Changed.{changed_slot, kdf_or, renewed_area, renewed_kdf, renewed_slot, resalted_kdf, splitter_hash}
 use Rattle.luks_making.specs.Changing.{at_member, change_member}
-use Rattle.luks_making.specs.Conditions.{Between, CanSeal, FitsDerivation, FitsNew, IsSalt}
+use Rattle.luks_making.specs.Conditions.{Between, CanSeal, FitsNew, IsSalt}
 use Rattle.luks_making.specs.Derivations.{FitsNewDerivation, IsPositiveOr}
-use Rattle.luks_making.specs.Keyslots.{Deriving, NewMembers, base64_text, derivation_by, kdf_value}
+use Rattle.luks_making.specs.Keyslots.{NewMembers, base64_text, derivation_by, kdf_value}
 use Rattle.luks_making.specs.Naming.{IsDigestOf}
-use Rattle.luks_making.specs.Unchanged.{ChangesSlot, KeepsDerivation, KeepsOthers, KeepsRest, SaysAsked, SaysChosen, SaysNew}
+use Rattle.luks_making.specs.Unchanged.{ChangesSlot, KeepsDerivation, KeepsOthers, KeepsRest, SaysAsked, SaysNew}
 use Rattle.luks_making.proofs.EachFacts.{IsFine, KeepsFine, Named, each_changed, fine_at, fine_set, named_map, neither, or_off}
 use Rattle.luks_making.proofs.EditFacts.{ObjectEdit, SlotBack, held_edited, kept, made, naming_kept, naming_same, object_same, objects_kept}
 use Rattle.luks_making.proofs.KdfFacts.{ReadsKdf, chosen_fits, made_fine, made_read, says_derivation, says_salt}

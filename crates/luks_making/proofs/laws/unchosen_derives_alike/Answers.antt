@@ -1,4 +1,4 @@
-use Rattle.std.proofs.Common.{ap, refl, subst}
+use Rattle.std.proofs.Common.{ap, subst}
 use Rattle.luks_making.specs.Changed.{kdf_or}
 use Rattle.luks_making.specs.Keyslots.{IsDerivedOr}
 use Rattle.luks_making.proofs.laws.unchosen_derives_alike.Goals as goal
