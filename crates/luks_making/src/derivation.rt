@@ -113,8 +113,9 @@ pub fn chosen_fits(chosen: Option<NewDerivation>)
     }
 }
 
-/// The numbers of what is asked have the ranges of their types.
-pub(crate) fn asked_fits(asked: AskedDerivation)
+/// The numbers of what is asked have the ranges of their types. The function does nothing; its contract
+/// is the law.
+pub fn asked_fits(asked: AskedDerivation)
     ensures { FitsAsked asked }
 {
     chosen_fits(asked.chosen);

@@ -13,7 +13,9 @@ mod with;
 mod without;
 
 pub use changed::changed_slot;
-pub use derivation::{Argon2Costs, AskedDerivation, LEAST_ITERATIONS, NewDerivation, chosen_fits};
+pub use derivation::{
+    Argon2Costs, AskedDerivation, LEAST_ITERATIONS, NewDerivation, asked_fits, chosen_fits,
+};
 pub use json_area::written_area;
 pub use laws::{
     addition_keeps_the_rest, change_keeps_the_rest, converted_volume_is_accepted,
