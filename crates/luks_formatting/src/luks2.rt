@@ -5,18 +5,20 @@ ghost use Rattle.luks_area.specs.Ranges.{SameBut};
 ghost use Rattle.luks_writing.specs.MadeInOrder.{ClearsFirst};
 ghost use Rattle.luks_reading.specs.Answer.{Answer, AnswerWithin, opens};
 ghost use Rattle.luks_reading.specs.Checked.{WellFormed};
-ghost use Rattle.luks_formatting.specs.Deriving.{allowed_for, slot_derivation, memory_by};
+ghost use Rattle.luks_making.specs.Derivations.{memory_by};
+ghost use Rattle.luks_formatting.specs.Deriving.{allowed_for, slot_derivation};
 ghost use Rattle.luks_formatting.specs.FormatFaults.{HasNoFault, IsAnsweredFaultOrMemory, IsFormat2Fault, IsFormat2FaultBy, is_device_fault};
 ghost use Rattle.luks_formatting.specs.Formatted2.{HasAllButFirst2, HasAllButFirst2By, HasKeyArea2, HasKeyArea2By, IsFormatted2, IsFormatted2By, IsOfLuks2};
 ghost use Rattle.luks_formatting.specs.NewHeader2.{copy_size};
 ghost use Rattle.luks_formatting.specs.RandomBytes.{volume_key};
 ghost use Rattle.luks_formatting.specs.declared.format_fault.FormatFault.{FormatFault as TheFault};
 
-use crate::derivation::{NewDerivation, allowed_for};
+use crate::derivation::allowed_for;
 use crate::format_fault::FormatFault;
 use crate::volume2::{Volume, make};
 use luks_area::Device;
 use luks_edit::{Done, Passphrase};
+use luks_making::NewDerivation;
 use luks_reading::{Data, Format};
 use std::alloc::Global;
 

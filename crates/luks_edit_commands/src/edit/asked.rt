@@ -25,6 +25,7 @@ pub(super) fn edit_of<'a>(request: &EditRequest<'a>, old: &'a [u8], new: &'a [u8
             new,
             to,
             iterations,
+            derivation: None,
         },
         EditRequest::Change {
             slot,
@@ -37,6 +38,7 @@ pub(super) fn edit_of<'a>(request: &EditRequest<'a>, old: &'a [u8], new: &'a [u8
             old: allowed(old, memory),
             new,
             iterations,
+            derivation: None,
         },
         EditRequest::Remove {
             slot,
