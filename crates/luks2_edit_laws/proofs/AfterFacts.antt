@@ -125,7 +125,7 @@ module _ (memory : ℕ) (v : List ℕ) (o h : ℕ) (payload : Data) (random : Li
 
   seals : (area : Area) → IsNewArea h (length v) payload j n area → CanSeal (h - 4096) j n (members_of asked (keyslot_salt random) area)
   seals area place =
-      can_seal h (length v) payload j n area place asked (keyslot_salt random) head_size (opened_there memory v o j n ready.opened) (unrefused_positive memory asked ready.turns ready.within)
+      can_seal h (length v) payload j n area place asked (keyslot_salt random) head_size (opened_there memory v o j n ready.opened) (unrefused_positive memory asked.iterations asked.chosen ready.turns ready.within)
       (salt_length random (need_met j n random place.key_bytes place.stripes place.slot ready.met))
 
   -- the new salt is long enough for Argon2
