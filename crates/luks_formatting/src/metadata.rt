@@ -10,12 +10,11 @@ ghost use Rattle.luks_formatting.specs.NewHeader2.{first_slot_by, formatted_by, 
 ghost use Rattle.luks_formatting.specs.NewPlan.{key_digest};
 ghost use Rattle.luks_formatting.specs.Volume2.{Fits, HasArea};
 
-use crate::derivation::fits;
 use crate::new_header2::{JSON_SIZE, SLOT_SALT};
 use crate::random::{DIGEST_SALT, SALT_BYTES, taken};
 use crate::volume2::Volume;
 use luks_making::{
-    KeyslotDerivation, NewDerivation, NewKeyslot, NewVolume, formatted, slot_value, volume_fits,
+    KeyslotDerivation, NewDerivation, NewKeyslot, NewVolume, chosen_fits, formatted, slot_value, volume_fits,
     with_slot, without_slot, written_area,
 };
 use luks_reading::{Data, Format};
@@ -62,7 +61,7 @@ fn area_of(alloc: Global, volume: &Volume<'_>, like: &NewVolume<'_>) -> Result<V
     ensures fits { OnOk result (Fits volume.now) }
 {
     volume_fits(like);
-    fits(volume.chosen);
+    chosen_fits(volume.chosen);
     let value = metadata_of(alloc, volume.format, volume.chosen, like)?;
     match written_area(alloc, &value, JSON_SIZE)? {
         Some(area) => Ok(area),
