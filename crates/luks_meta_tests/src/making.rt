@@ -199,7 +199,12 @@ fn compare_as(
 fn of_chosen_derivations(rt: HostRuntime) -> Result<(), Fail> {
     compare_as(&rt, rt.alloc(), shapes::TOKENS, &chosen::OF_TOKENS)?;
     compare_as(&rt, rt.alloc(), shapes::ARGON2, &chosen::OF_ARGON2)?;
-    compare_as(&rt, rt.alloc(), odd::ODDLY_WRITTEN, &chosen::OF_ODDLY_WRITTEN)
+    compare_as(
+        &rt,
+        rt.alloc(),
+        odd::ODDLY_WRITTEN,
+        &chosen::OF_ODDLY_WRITTEN,
+    )
 }
 
 // Unnamed members of every kind, deep ones, escaped ones, and such as stand twice.
