@@ -1,6 +1,4 @@
 //! Commands over files of a folder, run as the program runs them.
-ghost use Rattle.std.specs.Prelude.{◌≤◌, IsTrue, length};
-
 use luks_sessions::{Told, Trial, words_of};
 use std::alloc::{AllocError, Global};
 use std::fs::{self, File};
@@ -52,29 +50,4 @@ fn names<R: AllocGlobal>(rt: &R, folder: &str) -> Result<[String; 3], Fail> {
         format!(in alloc; "{folder}/n")?,
         format!(in alloc; "{folder}/r")?,
     ])
-}
-
-/// How the last line of a refusal begins.
-const HINT: &[u8] = b"luks: luks explain ";
-
-/// Whether this was said on standard error, and no more but the last line of a refusal.
-pub fn says_no_more(found: &Told, said: &str) -> bool {
-    let (said, err) = (said.as_bytes(), found.err.as_slice());
-    if !begins_with(err, said) {
-        return false;
-    }
-    let rest = &err[said.len()..];
-    rest.is_empty() || found.status == 1 && is_hint(rest)
-}
-
-/// Whether these bytes are the last line of a refusal.
-fn is_hint(said: &[u8]) -> bool {
-    begins_with(said, HINT) && said.iter().filter(|byte| **byte == b'\n').count() == 1
-}
-
-/// Whether the bytes begin so.
-fn begins_with(bytes: &[u8], front: &[u8]) -> bool
-    ensures { IsTrue result → length front.now ≤ length bytes.now }
-{
-    bytes.len() >= front.len() && &bytes[..front.len()] == front
 }

@@ -3,8 +3,7 @@ ghost use Rattle.std.specs.Prelude.{◌≡◌, ◌+◌, ◌<◌, ◌^◌};
 ghost use Rattle.luks_area.specs.Device.{IsSettled};
 
 use crate::commands::{Given, counted_from, run};
-use crate::rows::NEW;
-use crate::volume_files::{Before, has_sum};
+use crate::volume_files::{NEW, has_sum, make_new};
 use luks_area::{Device, FaultyDevice, FileDevice, Leave};
 use luks_edit_commands::{InputFault, Inputs};
 use luks_samples::new_folder;
@@ -63,7 +62,7 @@ fn make_volume<R: AllocGlobal + Clock + Files<File = File>>(
     folder: &str,
     path: &str,
 ) -> Result<bool, Fail> {
-    Before::New(16777728).make(rt, path)?;
+    make_new(rt, path, 16777728)?;
     let random = counted_from(rt.alloc(), 0, RANDOM)?;
     let made = told_by_one(rt, folder, FORMAT, &random)?;
     Ok(made.is("done slot 0\n", 0) && has_sum(rt, path, NEW)?)

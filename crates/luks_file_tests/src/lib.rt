@@ -1,6 +1,6 @@
 //! Tests over real files in a temporary folder: the device over a file, what devices pass on to the
-//! one behind, files that are opened when they are first read, and edits of volumes in files, run as the program
-//! runs them. They stand here so that no crate is proved a second time for them.
+//! one behind, files that are opened when they are first read, and edits whose first write fails. They
+//! stand here so that no crate is proved a second time for them.
 #![tactic(auto)]
 
 #[cfg(test)]
@@ -16,8 +16,4 @@ mod passed_on;
 #[cfg(test)]
 mod refused_files;
 #[cfg(test)]
-mod rows;
-#[cfg(test)]
 mod volume_files;
-#[cfg(test)]
-mod worked_rows;

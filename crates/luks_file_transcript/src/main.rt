@@ -16,15 +16,24 @@
 //!     remove NAME
 //!     put NAME AT TEXT       TEXT is written to this place of the file
 //!     into NAME AT OTHER     OTHER's bytes are written to this place of the file
+//!     cut NAME LEN           the file has so many bytes from here on
+//!     flip NAME AT           the lowest bit of the byte at this place is turned
+//!     metadata NAME SEQID SEQID OLD NEW     both copies of its header are written anew, with these sequence
+//!                            numbers, and with the metadata in which NEW stands for OLD, both with no space
 //!     typed TEXT             standard input of the commands behind
 //!     hold NAME, release NAME   another program takes the lock of the file, and lets it go
 //!     $ WORDS                runs the command, its words parted by single spaces: prints standard output,
 //!                            standard error behind `!`, the status behind `=`, and the files that were opened
 //!                            behind `<` (to be read) and `>` (to be written too)
+//!     % WORDS                the same, but for the files that were opened
 //!     same NAME OTHER        whether both have the same bytes
+//!     sum NAME               SHA-256 of its first 2097152 bytes, or of all that it has, and of its last 512
+//!
+//! The commands behind `%`, and what is owed to them, are printed by `testdata/oracle/file_rows`.
 #![tactic(auto)]
 
 mod steps;
+mod volume_files;
 
 use anyhow::Context;
 use std::fs;

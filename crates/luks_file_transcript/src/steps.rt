@@ -1,4 +1,5 @@
 //! The steps of the transcript.
+use crate::volume_files::{cut, flip, rewrite, sum_of};
 use luks_sessions::Trial;
 use std::fs::{self, File, OpenOptions, Permissions};
 use std::io::{self, ErrorKind, Seek, SeekFrom, Write};
@@ -32,7 +33,17 @@ impl<'a, R: AllocGlobal + Files<File = File>> Folder<'a, R> {
             "#" => writeln!(out, "{line}"),
             "$" => {
                 writeln!(out, "{line}")?;
-                self.run(rest, out)
+                let opened = self.run(rest, out)?;
+                out.write_all(opened.as_slice())
+            }
+            "%" => {
+                writeln!(out, "{line}")?;
+                let _opened = self.run(rest, out)?;
+                Ok(())
+            }
+            "sum" => {
+                let sum = sum_of(self.rt, self.place(rest)?.as_str())?;
+                writeln!(out, "{line}: {sum}")
             }
             "same" => {
                 let answer = if self.are_same(rest)? { "yes" } else { "no" };
@@ -90,6 +101,9 @@ impl<'a, R: AllocGlobal + Files<File = File>> Folder<'a, R> {
             "remove" => fs::remove_file(self.rt, place),
             "put" => self.put(place, other),
             "into" => self.put_file(place, other),
+            "cut" => cut(self.rt, place, other),
+            "flip" => flip(self.rt, place, other),
+            "metadata" => rewrite(self.rt, place, other),
             _ => Err(unknown()),
         }
     }
@@ -131,8 +145,8 @@ impl<'a, R: AllocGlobal + Files<File = File>> Folder<'a, R> {
         Ok(one.as_slice() == other.as_slice())
     }
 
-    /// Runs a command, and prints what comes of it.
-    fn run<W: Write>(&self, words: &str, out: &mut W) -> io::Result<()> {
+    /// Runs a command, and prints what comes of it. The files that were opened are answered.
+    fn run<W: Write>(&self, words: &str, out: &mut W) -> io::Result<Vec<u8>> {
         let words: Vec<&str> = words.split(' ').collect(self.rt.alloc())?;
         let typed = self.typed.as_bytes();
         let trial = Trial::new(self.rt, self.name, words.as_slice(), typed);
@@ -143,16 +157,17 @@ impl<'a, R: AllocGlobal + Files<File = File>> Folder<'a, R> {
             writeln!(out, "! {line}")?;
         }
         writeln!(out, "= {status}")?;
-        out.write_all(opened.as_slice())
+        Ok(opened)
     }
 }
 
 /// The fault of a line that is no step.
-fn unknown() -> io::Error {
+pub fn unknown() -> io::Error {
     io::Error::from(ErrorKind::InvalidInput)
 }
 
-fn number_of(text: &str) -> io::Result<u64> {
+/// The number that a word says.
+pub fn number_of(text: &str) -> io::Result<u64> {
     text.parse().map_err(|_| unknown())
 }
 

@@ -1,10 +1,8 @@
-//! Tests of rebuilding headers of small damaged volumes: what is left byte for byte, refusals, what
-//! opens and what is said, failing devices and refused memory. They stand here so that no crate is
-//! proved a second time for them.
+//! Tests of rebuilding headers of small damaged volumes: what opens and what is said, failing devices
+//! and refused memory. They stand here so that no crate is proved a second time for them; what is left
+//! byte for byte, and refusals, are lines of luks_rebuilding_vectors.
 #![tactic(auto)]
 
-#[cfg(test)]
-mod damages;
 #[cfg(test)]
 mod failing_calls;
 #[cfg(test)]
@@ -13,7 +11,5 @@ mod keyslots;
 mod notes;
 #[cfg(test)]
 mod refused_memory;
-#[cfg(test)]
-mod rows;
 #[cfg(test)]
 mod sources;

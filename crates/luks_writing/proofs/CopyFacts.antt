@@ -1,5 +1,5 @@
 -- A copy of the LUKS2 header, as it is written.
-use Rattle.std.proofs.Common.{◌≡◌, ℕ, ◌+◌, ◌≤◌, ◌++◌, List, length, take, drop, replicate, inl, arith, refl, sym, ap, ◌∙◌, subst}
+use Rattle.std.proofs.Common.{◌≡◌, ℕ, ◌+◌, ◌≤◌, ◌++◌, List, length, take, drop, replicate, inl, arith, refl, sym, ap, ◌∙◌, subst, Result, Ok, Err, OnOk}
 use Rattle.std.proofs.Math.Seq.{drop-append_seam, take-append_seam}
 use Rattle.sha2.specs.Sha256.{sha256}
 use Rattle.sha2.proofs.Facts256.{length-sha256}
@@ -10,7 +10,7 @@ use Rattle.luks_area.specs.RangeFacts.{length-written, part-same_but_at, part-wr
 use Rattle.luks_head.specs.Header2.{with_zero_checksum}
 use Rattle.luks_head.specs.Written.{IsWrittenCopy, WritesBin2}
 use Rattle.luks_head.specs.declared.bin2.Bin2.{Bin2}
-use Rattle.luks_writing.specs.Copy.{HasCopy, IsCopyHeader}
+use Rattle.luks_writing.specs.Copy.{HasCopy, IsCopyHeader, IsSummed}
 
 -- a checksum's field begins with the digest
 digest_front : (m : List ℕ) → take 32 (sha256 m ++ replicate 32 0) ≡ sha256 m
@@ -48,39 +48,47 @@ module _ (v w x head json : List ℕ) (at : ℕ) (inside : at + (4096 + length j
       part-same_but_at (at + 4096) (length json) at 4096 (same_but-same_outside behind) (inl (omega arith))
       ∙ ap (λ l. part l at 4096) first ∙ ap (λ n. part (written v at head) at n) (sym size) ∙ part-written v at head (omega (arith, inside, size))
 
--- the copy was written with its checksum, which was made of the bytes of its header
-module _ (h s : Bin2) (w head json : List ℕ) (is : IsCopyHeader h) (put : WritesBin2 head s)
-    (made : (b c : List ℕ) → WritesBin2 b (record h { csum = c }) → s ≡ record h { csum = sha256 (with_zero_checksum b ++ json) ++ replicate 32 0 })
-    (some : (b : List ℕ) × WritesBin2 b h) (fed : with_zero_checksum (head ++ json) ≡ with_zero_checksum head ++ json)
-    (inside : h.hdr_offset + h.hdr_size ≤ length w) (rest : 4096 + length json ≡ h.hdr_size)
-    (head_is : part w h.hdr_offset 4096 ≡ head) (area_is : part w (h.hdr_offset + 4096) (length json) ≡ json) where
-  abbrev first_sum : List ℕ
-  first_sum = sha256 (with_zero_checksum some.0 ++ json) ++ replicate 32 0
+-- the copy of the binary header `h` was written with its checksum, as `s`
+module _ (h s : Bin2) (w head json : List ℕ) (is : IsCopyHeader h) (put : WritesBin2 head s) (summed : IsSummed h json s)
+    (inside : s.hdr_offset + s.hdr_size ≤ length w) (rest : 4096 + length json ≡ s.hdr_size)
+    (head_is : part w s.hdr_offset 4096 ≡ head) (area_is : part w (s.hdr_offset + 4096) (length json) ≡ json) where
+  place : s.hdr_offset ≡ h.hdr_offset
+  place = ap (λ x. x.hdr_offset) summed.same
 
-  abbrev sum : List ℕ
-  sum = sha256 (with_zero_checksum head ++ json) ++ replicate 32 0
+  size : s.hdr_size ≡ h.hdr_size
+  size = ap (λ x. x.hdr_size) summed.same
 
-  has_sum : s ≡ record h { csum = sum }
-  has_sum = made head first_sum (subst (λ (b : Bin2). WritesBin2 head b) (made some.0 h.csum some.1) put)
+  header_is : part w h.hdr_offset 4096 ≡ head
+  header_is = ap (λ o. part w o 4096) (sym place) ∙ head_is
+
+  sum : s.csum ≡ sha256 (with_zero_checksum (head ++ json)) ++ replicate 32 0
+  sum = summed.sum head put
 
   pub copy_made : HasCopy w json h
   copy_made = record {
-    csum = sum;
-    csum_rest = digest_rest (with_zero_checksum head ++ json);
+    csum = s.csum;
+    csum_rest = ap (drop 32) sum ∙ digest_rest (with_zero_checksum (head ++ json));
     written = record {
-      header = subst (λ (b : List ℕ). WritesBin2 b (record h { csum = sum })) (sym head_is) (subst (λ (b : Bin2). WritesBin2 head b) has_sum put);
-      area = area_is;
-      size = rest;
-      inside = inside;
+      header = subst (λ (b : List ℕ). WritesBin2 b (record h { csum = s.csum })) (sym header_is) (subst (λ (x : Bin2). WritesBin2 head x) summed.same put);
+      area = ap (λ o. part w (o + 4096) (length json)) (sym place) ∙ area_is;
+      size = rest ∙ size;
+      inside = omega (arith, inside, place, size);
       listed = is.listed;
       second = is.second;
       magic = is.magic;
       version = is.version;
       hdr_offset = refl;
       csum_alg = is.csum_alg;
-      csum = digest_front (with_zero_checksum head ++ json) ∙ ap sha256 (sym fed) ∙ ap (λ b. sha256 (with_zero_checksum (b ++ json))) (sym head_is);
+      csum = ap (take 32) sum ∙ digest_front (with_zero_checksum (head ++ json)) ∙ ap (λ b. sha256 (with_zero_checksum (b ++ json))) (sym header_is);
     };
   }
+
+-- and where it was written, if it was
+pub copy_made_on : {A F : Type 0} (r : Result A F) (h s : Bin2) (w head json : List ℕ) → IsCopyHeader h → WritesBin2 head s → IsSummed h json s
+    → s.hdr_offset + s.hdr_size ≤ length w → 4096 + length json ≡ s.hdr_size → OnOk r (part w s.hdr_offset 4096 ≡ head)
+    → OnOk r (part w (s.hdr_offset + 4096) (length json) ≡ json) → OnOk r (HasCopy w json h)
+copy_made_on (Ok x) h s w head json is put summed inside rest head_is area_is = copy_made h s w head json is put summed inside rest head_is area_is
+copy_made_on (Err f) h s w head json is put summed inside rest head_is area_is = tt
 
 -- a written copy stays where its bytes do
 pub copy_stays : (v w json : List ℕ) (at : ℕ) (h : Bin2) → length w ≡ length v → part w at 4096 ≡ part v at 4096

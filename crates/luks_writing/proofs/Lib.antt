@@ -1,3 +1,4 @@
 pub mod CopyFacts
+pub mod ChecksumFacts
 pub mod AreaFacts
 pub mod ClearedFacts

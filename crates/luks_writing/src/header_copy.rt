@@ -1,14 +1,13 @@
-ghost use Rattle.std.specs.Prelude.{◌≡◌, ◌+◌, ◌++◌, ◌^◌, ◌<◌, ◌≤◌, ℕ, List, length, replicate, OnOk};
-ghost use Rattle.sha2.specs.Sha256.{sha256};
+ghost use Rattle.std.specs.Prelude.{◌≡◌, ◌+◌, ◌^◌, ◌<◌, ◌≤◌, length, OnOk};
 ghost use Rattle.luks_area.specs.Device.{CountsFailure, IsSettled, is_failure};
 ghost use Rattle.luks_area.specs.Ranges.{part, IsAt, SameBut};
-ghost use Rattle.luks_head.specs.Header2.{binary_header_size, header_at, sha256_size, with_zero_checksum};
-ghost use Rattle.luks_head.specs.Written.{WritesBin2};
-ghost use Rattle.luks_writing.specs.Copy.{HasCopy, IsCopyHeader};
+ghost use Rattle.luks_head.specs.Header2.{binary_header_size, header_at};
+ghost use Rattle.luks_head.specs.declared.bin2.Bin2.{Bin2 as TheHeader};
+ghost use Rattle.luks_writing.specs.Copy.{HasCopy, IsCopyHeader, IsSummed};
 
+use crate::checksums::with_checksum;
 use luks_area::{Device, DeviceFault};
 use luks_head::Bin2;
-use sha2::Digest;
 
 /// The bytes of the binary header, behind which the JSON area stands.
 const BINARY_HEADER: u64 = 4096;
@@ -33,23 +32,30 @@ pub fn write_copy<D: Device>(device: &mut D, header: &Bin2, json: &[u8]) -> Resu
     ensures rest { D.tells → SameBut (IsAt header.now.hdr_offset header.now.hdr_size)
         (D.bytes device.old) (D.bytes device.new) }
 {
-    let head = summed(header, json).write();
-    write_both(device, header.hdr_offset, &head, json)?;
-    Ok(())
+    write_summed_copy(device, &with_checksum(header, json), json)
 }
 
-/// The header with the checksum of the copy with this JSON area.
-fn summed(header: &Bin2, json: &[u8]) -> Bin2
-    ensures made { (b c : List ℕ) → WritesBin2 b (record header.now { csum = c })
-        → result ≡ record header.now
-        { csum = sha256 (with_zero_checksum b ++ json.now) ++ replicate sha256_size 0 } }
-    ensures some { (b : List ℕ) × WritesBin2 b header.now }
+/// The same of a header that has its checksum already, as `with_checksums` makes it. No checksum is
+/// taken here.
+pub fn write_summed_copy<D: Device>(
+    device: &mut D,
+    header: &Bin2,
+    json: &[u8],
+) -> Result<(), DeviceFault>
+    requires json { binary_header_size + length json.now ≡ header.now.hdr_size }
+    requires within { header.now.hdr_offset + header.now.hdr_size ≤ D.size device.old }
+    requires room { D.failed device.old + 1 < 2 ^ 64 }
+    requires settled { D.tells → IsSettled D.unsettled device.old }
+    ensures count { CountsFailure is_failure result (D.failed device.old) (D.failed device.new) }
+    ensures size { D.size device.new ≡ D.size device.old }
+    ensures settled { D.tells → D.failed device.new ≡ D.failed device.old
+        → IsSettled D.unsettled device.new }
+    ensures copy { D.tells → (h : TheHeader) → IsCopyHeader h → IsSummed h json.now header.now
+        → OnOk result (HasCopy (D.bytes device.new) json.now h) }
+    ensures rest { D.tells → SameBut (IsAt header.now.hdr_offset header.now.hdr_size)
+        (D.bytes device.old) (D.bytes device.new) }
 {
-    // That the header has bytes at all: what the hasher was fed is said of any such bytes.
-    let _bytes = header.write();
-    let mut hasher = header.hasher();
-    hasher.update(json);
-    header.with_checksum(hasher)
+    write_both(device, header.hdr_offset, &header.write(), json)
 }
 
 /// Writes the binary header and the JSON area behind it, and flushes.

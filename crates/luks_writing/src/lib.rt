@@ -8,6 +8,7 @@
 #![tactic(auto)]
 
 mod areas;
+mod checksums;
 mod clearing;
 mod copying;
 mod header_copy;
@@ -15,7 +16,8 @@ mod laws;
 mod steps;
 
 pub use areas::copy_area;
+pub use checksums::with_checksums;
 pub use clearing::clear_places;
-pub use header_copy::write_copy;
+pub use header_copy::{write_copy, write_summed_copy};
 pub use laws::cleared_counts_no_more;
 pub use steps::{seal_area, seal_area_within, wipe_area, write_range};

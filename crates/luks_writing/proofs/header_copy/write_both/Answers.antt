@@ -1,4 +1,4 @@
-use Rattle.std.proofs.Common.{◌≡◌, ℕ, ◌+◌, List, length, arith, sym, ap, ◌∙◌}
+use Rattle.std.proofs.Common.{◌≡◌, ◌+◌, length, arith, ap, ◌∙◌}
 use Rattle.luks_area.specs.DeviceFacts.{touches-flush, touches-settled}
 use Rattle.luks_area.specs.Ranges.{part}
 use Rattle.luks_writing.proofs.CopyFacts.{area_there, copy_begun, copy_rest, head_there}
