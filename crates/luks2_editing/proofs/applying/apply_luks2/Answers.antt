@@ -99,12 +99,10 @@ pub add-requires-clause-allowed : goal.add-requires-clause-allowed
 add-requires-clause-allowed g c =
     let copy = c.in_ok-judged.judged.copy in
     let takes = subst (λ t. Takes (area_len copy.meta) (content copy.meta) (g.D.Device.size c.args.device.now) c.args.edit.now t) c.in-Add.is c.in_ok-judged.ensures.judged.takes in
-    rw (c.new-secrets.ensures, c.in-Add.is)
-    (subst (λ (m : ℕ). IsAllowed m c.in-Add.addition.derivation) (sym (c.allowed_memory-memory.ensures ∙ ap allowed_memory (edit_is c.args.edit.now _ takes.asked))) takes.allowed)
+    rw c.new-secrets.ensures (subst (λ (m : ℕ). IsAllowed m c.in-Add.addition.derivation) (sym (c.allowed_memory-memory.ensures ∙ ap allowed_memory (edit_is c.args.edit.now _ takes.asked))) takes.allowed)
 
 pub change-requires-clause-allowed : goal.change-requires-clause-allowed
 change-requires-clause-allowed g c =
     let copy = c.in_ok-judged.judged.copy in
     let takes = subst (λ t. Takes (area_len copy.meta) (content copy.meta) (g.D.Device.size c.args.device.now) c.args.edit.now t) c.in-Change.is c.in_ok-judged.ensures.judged.takes in
-    rw (c.new-secrets-in-Change.ensures, c.in-Change.is)
-    (subst (λ (m : ℕ). IsAllowed m c.in-Change.renewal.derivation) (sym (c.allowed_memory-memory.ensures ∙ ap allowed_memory (edit_is c.args.edit.now _ takes.asked))) takes.allowed)
+    rw c.new-secrets-in-Change.ensures (subst (λ (m : ℕ). IsAllowed m c.in-Change.renewal.derivation) (sym (c.allowed_memory-memory.ensures ∙ ap allowed_memory (edit_is c.args.edit.now _ takes.asked))) takes.allowed)
