@@ -1,16 +1,16 @@
 -- A copy of the LUKS2 header that takes the place of an older one, as it is written.
-use Rattle.std.proofs.Common.{ℕ, List, sym, ap, ◌∙◌, subst, Result, Ok, Err, OnOk}
+use Rattle.std.proofs.Common.{◌≡◌, ℕ, ◌+◌, ◌≤◌, List, length, arith, sym, ap, ◌∙◌, subst}
 use Rattle.luks_area.specs.Ranges.{IsAt, SameBut}
 use Rattle.luks_area.specs.Text.{text_of}
 use Rattle.luks_head.specs.Header2.{magic_of}
 use Rattle.luks_head.specs.Written.{IsWrittenCopy}
 use Rattle.luks_head.specs.declared.bin2.Bin2.{Bin2}
-use Rattle.luks_writing.specs.Copy.{HasCopy, IsCopyHeader}
-use Rattle.luks2_editing.specs.NewCopy.{HasNewCopy, IsCopyPlace, IsNewHeader}
+use Rattle.luks_writing.specs.Copy.{HasCopy, IsCopyHeader, IsSummed}
+use Rattle.luks2_editing.specs.NewCopy.{HasNewCopy, IsCopyPlace, IsNewHeader, IsNewSummed}
 
 module _ (old : Bin2) (at : ℕ) (label salt : List ℕ) (h : Bin2) (new : IsNewHeader old at label salt h) where
   -- its binary header is that of a copy at its place
-  pub header_there : IsCopyPlace old at → IsCopyHeader h
+  header_there : IsCopyPlace old at → IsCopyHeader h
   header_there place = record {
     magic = new.magic ∙ ap magic_of (sym new.hdr_offset);
     version = new.version;
@@ -39,10 +39,31 @@ module _ (old : Bin2) (at : ℕ) (label salt : List ℕ) (h : Bin2) (new : IsNew
     written = subst (λ o. IsWrittenCopy w o (record h { csum = x.csum }) json) new.hdr_offset x.written;
   }
 
-  pub new_copy : {A F : Type 0} (r : Result A F) (w json : List ℕ) → OnOk r (HasCopy w json h) → OnOk r (HasNewCopy old label salt json w at)
-  new_copy (Ok x) w json there = has_new_copy w json there
-  new_copy (Err f) w json there = tt
+-- the same of a header that has its checksum
+module _ (old : Bin2) (at : ℕ) (label salt json : List ℕ) (s : Bin2) (new : IsNewSummed old at label salt json s) where
+  -- it has the size of the older copy, and names its place
+  pub size_is : s.hdr_size ≡ old.hdr_size
+  size_is = ap (λ x. x.hdr_size) new.summed.same ∙ new.fields.hdr_size
+
+  pub place_is : s.hdr_offset ≡ at
+  place_is = ap (λ x. x.hdr_offset) new.summed.same ∙ new.fields.hdr_offset
+
+  -- the area behind it fills the copy
+  pub area_fits : 4096 + length json ≡ old.hdr_size → 4096 + length json ≡ s.hdr_size
+  area_fits long = long ∙ sym size_is
+
+  -- it lies inside where its place does
+  pub inside : (total : ℕ) → at + old.hdr_size ≤ total → s.hdr_offset + s.hdr_size ≤ total
+  inside total within =
+      let size : s.hdr_size ≡ old.hdr_size = size_is in
+      let place : s.hdr_offset ≡ at = place_is in
+      omega (arith, within, size, place)
+
+  -- the copy that was written with it takes the place of the older one
+  pub new_copy : (w : List ℕ) → IsCopyPlace old at → ((h : Bin2) → IsCopyHeader h → IsSummed h json s → HasCopy w json h) → HasNewCopy old label salt json w at
+  new_copy w place there =
+      has_new_copy old at label salt new.header new.fields w json (there new.header (header_there old at label salt new.header new.fields place) new.summed)
 
   -- it lies at its place
-  pub of_new_copy : {u v : List ℕ} → SameBut (IsAt h.hdr_offset h.hdr_size) u v → SameBut (IsAt at old.hdr_size) u v
-  of_new_copy {u} {v} same = subst (λ n. SameBut (IsAt at n) u v) new.hdr_size (subst (λ o. SameBut (IsAt o h.hdr_size) u v) new.hdr_offset same)
+  pub of_new_copy : {u v : List ℕ} → SameBut (IsAt s.hdr_offset s.hdr_size) u v → SameBut (IsAt at old.hdr_size) u v
+  of_new_copy {u} {v} same = subst (λ n. SameBut (IsAt at n) u v) size_is (subst (λ o. SameBut (IsAt o s.hdr_size) u v) place_is same)

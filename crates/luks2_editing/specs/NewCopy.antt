@@ -5,6 +5,7 @@ use Rattle.luks_head.specs.Header2.{magic_of, sha256_size}
 use Rattle.luks_head.specs.Sizes.{IsListed}
 use Rattle.luks_head.specs.Written.{IsWrittenCopy}
 use Rattle.luks_head.specs.declared.bin2.Bin2.{Bin2}
+use Rattle.luks_writing.specs.Copy.{IsSummed}
 
 -- `new` is the binary header of the copy at the place `o` that takes the place of the copy of `old`,
 -- with this label and salt; what its checksum is made of is a matter of the whole copy
@@ -20,6 +21,12 @@ pub record IsNewHeader (old : Bin2) (o : ℕ) (label salt : List ℕ) (new : Bin
   pub subsystem : new.subsystem ≡ old.subsystem
   pub hdr_offset : new.hdr_offset ≡ o
   pub csum_rest : drop sha256_size new.csum ≡ replicate sha256_size 0
+
+-- `s` is that header with the checksum of the copy that it makes with the JSON area `json`
+pub record IsNewSummed (old : Bin2) (o : ℕ) (label salt json : List ℕ) (s : Bin2) : Type 0 where
+  pub header : Bin2
+  pub fields : IsNewHeader old o label salt header
+  pub summed : IsSummed header json s
 
 -- the volume `w` has at the place `o` the copy that takes the place of that of `old`, with this label,
 -- salt and JSON area
