@@ -32,9 +32,9 @@ use Rattle.luks_edit_commands.specs.OtherUses.{Bars}
 -- the edit is the one that the command line asks for, with the memory that it allows to Argon2, its
 -- passphrases being such bytes
 abbrev pub IsAsked : EditRequest → (List ℕ → Type 0) → (List ℕ → Type 0) → Edit → Type 0
-IsAsked (Add by_ passphrase memory new to iterations) IsOld IsNew (edit.Add b o n t i) =
+IsAsked (Add by_ passphrase memory new to iterations kdf) IsOld IsNew (edit.Add b o n t i) =
     (b ≡ by_) × IsOld o.bytes.now × (o.memory ≡ kib_of memory) × IsNew n.now × (t ≡ to) × (i ≡ iterations)
-IsAsked (Change slot passphrase memory new iterations) IsOld IsNew (edit.Change s o n i) =
+IsAsked (Change slot passphrase memory new iterations kdf) IsOld IsNew (edit.Change s o n i) =
     (s ≡ slot) × IsOld o.bytes.now × (o.memory ≡ kib_of memory) × IsNew n.now × (i ≡ iterations)
 IsAsked (Remove slot by_ passphrase memory) IsOld IsNew (edit.Remove s b p) =
     (s ≡ slot) × (b ≡ by_) × IsOld p.bytes.now × (p.memory ≡ kib_of memory)

@@ -15,7 +15,7 @@ use luks_notes::{
     note_whole, read_front,
 };
 use luks_rebuilding::Which;
-use luks_request::{Meant, Place};
+use luks_request::{AskedArgon2, AskedKdf, EditRequest, Meant, Place};
 use luks_signatures::first_use;
 use std::alloc::Global;
 use std::fs::File;
@@ -160,6 +160,9 @@ fn tell_more<R: AllocGlobal + Clock + Files<File = File>>(
         (Command::Open { .. }, 1) if ended.answer == "no slot opens\n" => {
             tell_no_keyslots(rt, volume, notes)
         }
+        (Command::Edit(_) | Command::Format(_), 1) if ended.answer == "refused Argon2\n" => {
+            tell_wanted(&line.command, notes)
+        }
         _ => {}
     }
 }
@@ -243,6 +246,35 @@ fn tell_no_keyslots<R: AllocGlobal + Clock + Files<File = File>>(
         return;
     };
     note_no_keyslots(rt.alloc(), &mut device, looked.file, notes);
+}
+
+/// Notes how much memory the new keyslot of this command takes, where more than is allowed.
+fn tell_wanted(command: &Command<'_>, notes: &mut Vec<u8>) {
+    let Some((kdf, allowed)) = asked_kdf(command) else {
+        return;
+    };
+    if let AskedKdf::Argon2(AskedArgon2 { memory, .. }) = kdf {
+        if memory > allowed {
+            let _ = writeln!(
+                notes,
+                "luks: the new keyslot takes {memory} MiB of memory: --memory {memory} allows it"
+            );
+        }
+    }
+}
+
+/// What a new keyslot is asked to derive by, and how many MiB of memory are allowed for it.
+fn asked_kdf(command: &Command<'_>) -> Option<(AskedKdf, u32)> {
+    match *command {
+        Command::Format(making) => Some((making.kdf?, making.memory)),
+        Command::Edit(editing) => match editing.request {
+            EditRequest::Add { kdf, memory, .. } | EditRequest::Change { kdf, memory, .. } => {
+                Some((kdf?, memory))
+            }
+            _ => None,
+        },
+        _ => None,
+    }
 }
 
 /// Notes what was left where a header was made of what stood there before, or why it wasn't looked for.

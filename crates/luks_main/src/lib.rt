@@ -10,6 +10,7 @@ mod outcome;
 mod progress;
 mod running;
 mod searching;
+mod timing;
 mod told;
 mod trial;
 

@@ -19,6 +19,7 @@ pub(super) fn edit_of<'a>(request: &EditRequest<'a>, old: &'a [u8], new: &'a [u8
             new: _,
             to,
             iterations,
+            kdf: _,
         } => Edit::Add {
             by_,
             old: allowed(old, memory),
@@ -32,6 +33,7 @@ pub(super) fn edit_of<'a>(request: &EditRequest<'a>, old: &'a [u8], new: &'a [u8
             memory,
             new: _,
             iterations,
+            kdf: _,
         } => Edit::Change {
             slot,
             old: allowed(old, memory),
