@@ -134,10 +134,6 @@ EndsWith (command.Compare comparing) answer status = EndsCompare answer status
 abbrev pub MayEnd : Command → ℕ → Type 0
 MayEnd command_ status = (answer : Answer) × EndsWith command_ answer status
 
--- any status that the second may end with is one of the first
-abbrev pub EndsAlike : Command → Command → Type 0
-EndsAlike command_ other = (status : ℕ) → MayEnd other status → MayEnd command_ status
-
 -- what the program may end with: 0, 1, 3 or 4 as a command does, or 2 for a command line that can't be read
 abbrev pub IsProgramStatus : ℕ → Type 0
 IsProgramStatus n = (n ≡ 0) ⊎ (n ≡ 1) ⊎ (n ≡ 2) ⊎ (n ≡ 3) ⊎ (n ≡ 4)

@@ -10,7 +10,6 @@ mod outcome;
 mod progress;
 mod running;
 mod searching;
-mod timing;
 mod told;
 mod trial;
 

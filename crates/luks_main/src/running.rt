@@ -8,7 +8,6 @@ ghost use Rattle.luks_main.specs.Statuses.{IsProgramStatus, MayEnd};
 use crate::hints::{Ended, tell, tell_ended, tell_overwritten, use_before};
 use crate::outcome::{Outcome, outcome_of};
 use crate::searching::search;
-use crate::timing::Timing;
 use crate::told::{device_fault, explain, list_faults, no_memory, tell_untimed, tell_usage};
 use crate::trial::TrialLines;
 use crate::{FAULT, USAGE};
@@ -16,6 +15,7 @@ use luks_edit_commands::{CountingPrinter, InputFault, Inputs, Line, OtherUse, Un
 use luks_files::{Openings, Passphrases, Volume, Volumes, has_changed, open_volumes, reader};
 use luks_guarded_files::LazyFile;
 use luks_line::{Asked, Manner, parse};
+use luks_timing::Timing;
 use luks_wiping::wipe_stack;
 use std::fs::File;
 use std::io::{ErrorKind, Write};
@@ -126,7 +126,10 @@ fn run_line<R: AllocGlobal + Clock + Files<File = File> + Input + Print + Eprint
     }
 }
 
-/// The same, with costs that take that many milliseconds.
+/// The same, with costs that take that many milliseconds. It isn't inlined, so that what Argon2 takes of the
+/// stack isn't taken from the command.
+#[inline(never)]
+#[tactic(auto, using(crate::proofs::OutcomeFacts::fault_ends, crate::proofs::OutcomeFacts::timed_ends))]
 fn run_timed<R: AllocGlobal + Clock + Files<File = File> + Input + Print + Eprint>(
     rt: &R,
     line: &Line<'_>,
@@ -139,7 +142,12 @@ fn run_timed<R: AllocGlobal + Clock + Files<File = File> + Input + Print + Eprin
     ensures ends { MayEnd line.now.command result }
     ensures status { IsExitStatus result }
 {
-    match Timing::new(rt, milliseconds).line(line, &mut noticed) {
+    let timing = Timing {
+        alloc: rt.alloc(),
+        clock: rt,
+        milliseconds,
+    };
+    match timing.line(line, &mut noticed) {
         Ok(timed) => run_read(rt, &timed, manner, openings, passphrases, noticed),
         Err(fault) => tell_untimed(rt, &fault, manner.quiet),
     }

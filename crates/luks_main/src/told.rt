@@ -5,8 +5,8 @@ ghost use Rattle.luks_main.specs.Statuses.{IsStatusWithout, named_status};
 
 use crate::{FAULT, TOLD, USAGE};
 use clap::error::ErrorKind as FaultKind;
-use luks_cost::CostFault;
 use luks_explain::Fault;
+use luks_timing::CostFault;
 use std::io;
 
 /// Prints what `clap` says of the words: a fault of them on standard error, and a help that they ask
