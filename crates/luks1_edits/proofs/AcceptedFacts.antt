@@ -55,8 +55,8 @@ module _ (v : List ℕ) (payload : Data) (r : List ℕ) (accepted : (f : CheckFa
   new_passed label is = past_new v payload e r (none_to_open v payload e r accepted (opens_none e label is)) (λ bad. rw is at bad) (λ bad. rw is at bad)
 
   -- there is nothing to repair
-  idle : deed_of e ≡ deed.Rewrite None → Passed (IsEditFault1 v payload e r) 14
-  idle is = past_label v payload e r (new_passed None is) (λ bad. rw is at bad) (λ bad. rw is at bad) (λ bad. rw is at bad)
+  idle : deed_of e ≡ deed.Rewrite None → Passed (IsEditFault1 v payload e r) 15
+  idle is = past_label v payload e r (new_passed None is) (λ bad. rw is at bad) (λ bad. rw is at bad) (λ bad. rw is at bad) (λ bad. rw is at bad)
 
   need_none : deed_of e ≡ deed.Rewrite None → (k : ℕ) → Need1 v e k → k ≡ 0
   need_none is k x = rw is at x
@@ -76,7 +76,8 @@ module _ (v : List ℕ) (payload : Data) (r : List ℕ) (accepted : (f : CheckFa
   label_refused text is =
       let s = IsEditFault1 v payload e r in
       first_of_row s fault.BadLabel refl
-      (next s fault.Iterations refl (next s fault.LastSlot refl (new_passed (Some text) is) (λ bad. rw is at bad)) (λ bad. rw is at bad)) (rw is tt)
+      (next s fault.Argon2 refl
+      (next s fault.Iterations refl (next s fault.LastSlot refl (new_passed (Some text) is) (λ bad. rw is at bad)) (λ bad. rw is at bad)) (λ bad. rw is at bad)) (rw is tt)
 
   pub rewrite_replies : (label : Option (Bor (List ℕ))) → deed_of e ≡ deed.Rewrite label → (result : Result Done EditFault)
       → MatchOption label (MatchResult result (λ done. (length r ≡ 0) × (done.slot ≡ None)) (λ f. (length r ≢ 0) × (f ≡ fault.RandomLength))) (λ text. result ≡ Err fault.BadLabel)

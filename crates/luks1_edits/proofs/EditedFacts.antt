@@ -1,6 +1,6 @@
 -- What holds of a LUKS1 volume after an edit that nothing refused, done or ended by the device.
-use Rattle.std.proofs.Common.{◌≡◌, ℕ, ◌<◌, ◌≤◌, ◌⊎◌, List, length, replicate, take, drop, subst, refl, sym, ap, ◌∙◌, arith, inl, inr, Option, Some, None}
-use Rattle.std.proofs.lemmas.Bool.{cases_lt, cases_eq}
+use Rattle.std.proofs.Common.{◌≡◌, ℕ, ◌<◌, ◌≤◌, ◌⊎◌, List, length, true, replicate, take, drop, subst, refl, sym, ap, ◌∙◌, arith, inl, inr, Option, Some, None}
+use Rattle.std.proofs.lemmas.Bool.{cases_lt, cases_eq, false_from_ne_true, ltb-false}
 use Rattle.std.proofs.lemmas.Option.{same_Some}
 use Rattle.luks_area.specs.declared.area.Area.{Area}
 use Rattle.luks_area.specs.declared.area.AreaName.TheVariants.{Slot}
@@ -11,6 +11,9 @@ use Rattle.luks1_header.specs.Header1.{active_word, disabled_word, enabled_word,
 use Rattle.luks1_header.specs.declared.fault.HeadFault.TheVariants as head
 use Rattle.luks1_header.specs.declared.fault.IterationsOf.TheVariants as of
 use Rattle.luks_head.specs.Selection.{luks1, Chosen}
+use Rattle.luks_making.specs.Derivations.{few_turns_or, takes_memory}
+use Rattle.luks_making.specs.declared.derivation.NewDerivation.{NewDerivation}
+use Rattle.luks_making.specs.declared.derivation.NewDerivation.TheVariants.{Pbkdf2, Argon2i, Argon2id}
 use Rattle.luks_reading.specs.declared.report.Data.{Data}
 use Rattle.luks_reading.specs.Answer.{Answer, opens}
 use Rattle.luks_reading.specs.Checked.{AreaOf, WellFormed}
@@ -19,7 +22,7 @@ use Rattle.luks_edit.specs.declared.edit.Edit.{Edit}
 use Rattle.luks_edit.specs.declared.edit.Edit.TheVariants.{Add, Change, Remove, Repair, Label}
 use Rattle.luks_edit.specs.declared.edit_fault.EditFault.TheVariants as fault
 use Rattle.luks_edit.specs.Kept.{Keeps}
-use Rattle.luks1_edits.specs.Edited.{After1, HoldsKey, IsFreed, IsInUse, IsLeastFree, IsMade, IsNewKeyslot, IsWiped, NamedKeyslots1, OpensAfter1, Removes}
+use Rattle.luks1_edits.specs.Edited.{After1, HoldsKey, IsFreed, IsInUse, IsLeastFree, IsMade, IsNewKeyslot, IsWiped, iterations_or, NamedKeyslots1, OpensAfter1, Removes}
 use Rattle.luks1_edits.specs.Kept.{AreKeyslots, ChangesKeyslots, IsEither, IsFitFor, KeepsOthers}
 use Rattle.luks1_edits.specs.Leftovers.{IsSealedFirst, IsTorn1, IsUntorn, Leftover1, OpensEither1}
 use Rattle.luks1_edits.specs.Places.{area_len, area_start, IsOfKeyslots}
@@ -46,15 +49,19 @@ in_use v n not = elim (in_use_or_not v n) [ inl is ↦ is | inr isnt ↦ absurd 
 at_most_seven : (n : ℕ) → (7 < n → ⊥) → n < 8
 at_most_seven n not = elim (cases_lt 7 n) [ inl over ↦ absurd (not over) | inr under ↦ omega (arith, under) ]
 
-enough : (n : ℕ) → (n < 1000 → ⊥) → 1000 ≤ n
-enough n not = elim (cases_lt n 1000) [ inl few ↦ absurd (not few) | inr many ↦ many ]
+-- PBKDF2 that isn't refused has enough iterations
+pub enough : (n : ℕ) (d : Option NewDerivation) → (few_turns_or n d ≡ true → ⊥) → (takes_memory d ≡ true → ⊥) → 1000 ≤ iterations_or n d
+enough n None few argon2 = ltb-false n 1000 (false_from_ne_true _ few)
+enough n (Some (Pbkdf2 iterations)) few argon2 = ltb-false iterations 1000 (false_from_ne_true _ few)
+enough n (Some (Argon2i costs)) few argon2 = absurd (argon2 refl)
+enough n (Some (Argon2id costs)) few argon2 = absurd (argon2 refl)
 
 -- the keyslots that an edit names are LUKS1's
 named_numbered : (v : List ℕ) (payload : Data) (e : Edit) (r : List ℕ) → IsUnrefused1 v payload e r → (n : ℕ) → NamedKeyslots1 v e n → n < 8
-named_numbered v payload (Add by_ old new (Some t) iterations) r free n is =
+named_numbered v payload (Add by_ old new (Some t) iterations d) r free n is =
     let low = at_most_seven t (λ over. free.none fault.NoFreeSlot over) in omega (arith, is, low)
-named_numbered v payload (Add by_ old new None iterations) r free n is = is.free.0
-named_numbered v payload (Change slot old new iterations) r free n is =
+named_numbered v payload (Add by_ old new None iterations d) r free n is = is.free.0
+named_numbered v payload (Change slot old new iterations d) r free n is =
     let used = in_use v slot (λ not. free.none fault.NoSuchSlot (record { slot = slot; wanted = refl; unused = not })) in
     let low = used.0 in
     elim is [ inl same ↦ omega (arith, same, low) | inr least ↦ least.free.0 ]
@@ -155,15 +162,15 @@ module _ (payload : Data) (v : List ℕ) (chosen : Chosen v luks1) (well : WellF
 
   -- after an edit that is done
   pub leaves : (e : Edit) (r w : List ℕ) → IsUnrefused1 v payload e r → After1 v e r w → Leaves payload (NamedKeyslots1 v e) v w
-  leaves (Add by_ old new to iterations) r w free x =
-      let lt : x.slot < 8 = named_numbered v payload (Add by_ old new to iterations) r free x.slot x.is_new in
-      let fits = made_fits (entry v x.slot) (entry w x.slot) iterations (take 32 r) (enough iterations (λ few. free.none fault.Iterations few)) x.made in
+  leaves (Add by_ old new to iterations d) r w free x =
+      let lt : x.slot < 8 = named_numbered v payload (Add by_ old new to iterations d) r free x.slot x.is_new in
+      let fits = made_fits (entry v x.slot) (entry w x.slot) (iterations_or iterations d) (take 32 r) (enough iterations d (λ few. free.none fault.Iterations few) (λ argon2. free.none fault.Argon2 argon2)) x.made in
       both_leave (IsNewKeyslot v to) x.slot x.slot w lt lt x.rest fits fits x.is_new x.is_new
-  leaves (Change slot old new iterations) r w free x =
-      let used : slot < 8 = named_numbered v payload (Change slot old new iterations) r free slot (inl refl) in
-      both_leave (NamedKeyslots1 v (Change slot old new iterations)) slot x.fresh w used x.is_free.free.0 x.rest
+  leaves (Change slot old new iterations d) r w free x =
+      let used : slot < 8 = named_numbered v payload (Change slot old new iterations d) r free slot (inl refl) in
+      both_leave (NamedKeyslots1 v (Change slot old new iterations d)) slot x.fresh w used x.is_free.free.0 x.rest
       (freed_fits (entry v slot) (entry w slot) x.freed)
-      (made_fits (entry v x.fresh) (entry w x.fresh) iterations (take 32 r) (enough iterations (λ few. free.none fault.Iterations few)) x.made)
+      (made_fits (entry v x.fresh) (entry w x.fresh) (iterations_or iterations d) (take 32 r) (enough iterations d (λ few. free.none fault.Iterations few) (λ argon2. free.none fault.Argon2 argon2)) x.made)
       (inl refl) (inr x.is_free)
   leaves (Remove slot by_ passphrase) r w free x =
       let used : slot < 8 = named_numbered v payload (Remove slot by_ passphrase) r free slot refl in
@@ -198,15 +205,15 @@ module _ (payload : Data) (v : List ℕ) (chosen : Chosen v luks1) (well : WellF
       subst (λ k. Answer w fresh new (opens k)) same (made_opens payload v opener old fresh iterations salt new key random w x)
 
   pub opens_after : (e : Edit) (r w : List ℕ) → IsUnrefused1 v payload e r → After1 v e r w → OpensAfter1 v e w
-  opens_after (Add by_ old new to iterations) r w free x = λ n key is opened.
-      let lt : x.slot < 8 = named_numbered v payload (Add by_ old new to iterations) r free x.slot x.is_new in
+  opens_after (Add by_ old new to iterations d) r w free x = λ n key is opened.
+      let lt : x.slot < 8 = named_numbered v payload (Add by_ old new to iterations d) r free x.slot x.is_new in
       subst (λ k. Answer w k new.now (opens key)) (new_once v to x.slot n x.is_new is)
-      (made_to by_ old.bytes.now x.slot iterations (take 32 r) new.now x.key key (drop 32 r) w lt (enough iterations (λ few. free.none fault.Iterations few))
+      (made_to by_ old.bytes.now x.slot (iterations_or iterations d) (take 32 r) new.now x.key key (drop 32 r) w lt (enough iterations d (λ few. free.none fault.Iterations few) (λ argon2. free.none fault.Argon2 argon2))
       x.slot x.slot lt lt x.rest x.made x.holds x.opened opened)
-  opens_after (Change slot old new iterations) r w free x = λ n key is opened.
-      let used : slot < 8 = named_numbered v payload (Change slot old new iterations) r free slot (inl refl) in
+  opens_after (Change slot old new iterations d) r w free x = λ n key is opened.
+      let used : slot < 8 = named_numbered v payload (Change slot old new iterations d) r free slot (inl refl) in
       subst (λ k. Answer w k new.now (opens key)) (least_free_once v x.fresh n x.is_free is)
-      (made_to slot old.bytes.now x.fresh iterations (take 32 r) new.now x.key key (drop 32 r) w x.is_free.free.0 (enough iterations (λ few. free.none fault.Iterations few))
+      (made_to slot old.bytes.now x.fresh (iterations_or iterations d) (take 32 r) new.now x.key key (drop 32 r) w x.is_free.free.0 (enough iterations d (λ few. free.none fault.Iterations few) (λ argon2. free.none fault.Argon2 argon2))
       slot x.fresh used x.is_free.free.0 x.rest x.made x.holds x.opened opened)
   opens_after (Remove slot by_ passphrase) r w free x = tt
   opens_after Repair r w free x = tt
@@ -215,8 +222,8 @@ module _ (payload : Data) (v : List ℕ) (chosen : Chosen v luks1) (well : WellF
   -- ---- after a device's failure
 
   opens_either : (e : Edit) (r w : List ℕ) → IsUnrefused1 v payload e r → IsTorn1 v e r w → OpensEither1 v e w
-  opens_either (Add by_ old new to iterations) r w free x = tt
-  opens_either (Change slot old new iterations) r w free (inl x) = λ key opened.
+  opens_either (Add by_ old new to iterations d) r w free x = tt
+  opens_either (Change slot old new iterations d) r w free (inl x) = λ key opened.
       let used = in_use v slot (λ not. free.none fault.NoSuchSlot (record { slot = slot; wanted = refl; unused = not })) in
       let lt : x.slot < 8 = x.is_new.free.0 in
       let other : IsEither x.slot x.slot slot → ⊥ = λ either.
@@ -225,13 +232,13 @@ module _ (payload : Data) (v : List ℕ) (chosen : Chosen v luks1) (well : WellF
       omega (arith, two) in
       inl (answer_moves 0 slot v w old.bytes.now (opens key) chosen
       (same_keyslot v payload (volume_of v payload chosen well).fit w (IsEither x.slot x.slot) (either_keyslots x.slot x.slot lt lt) (half_made_rest x.order) slot other) opened)
-  opens_either (Change slot old new iterations) r w free (inr x) = λ key opened.
-      let used : slot < 8 = named_numbered v payload (Change slot old new iterations) r free slot (inl refl) in
+  opens_either (Change slot old new iterations d) r w free (inr x) = λ key opened.
+      let used : slot < 8 = named_numbered v payload (Change slot old new iterations d) r free slot (inl refl) in
       inr (
         x.fresh,
         (
           x.is_free,
-          made_to slot old.bytes.now x.fresh iterations (take 32 r) new.now x.key key (drop 32 r) w x.is_free.free.0 (enough iterations (λ few. free.none fault.Iterations few))
+          made_to slot old.bytes.now x.fresh (iterations_or iterations d) (take 32 r) new.now x.key key (drop 32 r) w x.is_free.free.0 (enough iterations d (λ few. free.none fault.Iterations few) (λ argon2. free.none fault.Argon2 argon2))
               slot x.fresh used x.is_free.free.0 x.rest x.made x.holds x.opened opened,
         ),
       )
@@ -240,8 +247,8 @@ module _ (payload : Data) (v : List ℕ) (chosen : Chosen v luks1) (well : WellF
   opens_either (Label text) r w free x = tt
 
   same_opens : (e : Edit) → OpensEither1 v e v
-  same_opens (Add by_ old new to iterations) = tt
-  same_opens (Change slot old new iterations) = λ key opened. inl opened
+  same_opens (Add by_ old new to iterations d) = tt
+  same_opens (Change slot old new iterations d) = λ key opened. inl opened
   same_opens (Remove slot by_ passphrase) = tt
   same_opens Repair = tt
   same_opens (Label text) = tt
@@ -251,14 +258,14 @@ module _ (payload : Data) (v : List ℕ) (chosen : Chosen v luks1) (well : WellF
   leftover_opens e r w (inr x) = opens_either e r w x.0 x.1
 
   torn_rest : (e : Edit) (r w : List ℕ) → IsTorn1 v e r w → SameBut (IsOfKeyslots v (NamedKeyslots1 v e)) v w
-  torn_rest (Add by_ old new to iterations) r w x =
+  torn_rest (Add by_ old new to iterations d) r w x =
       places_wider (IsEither x.slot x.slot) (IsNewKeyslot v to) v w (one_named (IsNewKeyslot v to) x.slot x.is_new) (half_made_rest x.order)
-  torn_rest (Change slot old new iterations) r w (inl x) =
-      places_wider (IsEither x.slot x.slot) (NamedKeyslots1 v (Change slot old new iterations)) v w
-      (one_named (NamedKeyslots1 v (Change slot old new iterations)) x.slot (inr x.is_new)) (half_made_rest x.order)
-  torn_rest (Change slot old new iterations) r w (inr x) =
-      places_wider (IsEither slot x.fresh) (NamedKeyslots1 v (Change slot old new iterations)) v w
-      (two_named (NamedKeyslots1 v (Change slot old new iterations)) slot x.fresh (inl refl) (inr x.is_free)) x.rest
+  torn_rest (Change slot old new iterations d) r w (inl x) =
+      places_wider (IsEither x.slot x.slot) (NamedKeyslots1 v (Change slot old new iterations d)) v w
+      (one_named (NamedKeyslots1 v (Change slot old new iterations d)) x.slot (inr x.is_new)) (half_made_rest x.order)
+  torn_rest (Change slot old new iterations d) r w (inr x) =
+      places_wider (IsEither slot x.fresh) (NamedKeyslots1 v (Change slot old new iterations d)) v w
+      (two_named (NamedKeyslots1 v (Change slot old new iterations d)) slot x.fresh (inl refl) (inr x.is_free)) x.rest
   torn_rest (Remove slot by_ passphrase) r w x =
       places_wider (IsEither slot slot) (λ n. n ≡ slot) v w (one_named (λ n. n ≡ slot) slot refl) x.rest
   torn_rest Repair r w x = absurd x
@@ -291,18 +298,18 @@ module _ (payload : Data) (v : List ℕ) (chosen : Chosen v luks1) (well : WellF
 
   -- so the volume is accepted still
   untorn_well : (e : Edit) (r w : List ℕ) → IsUnrefused1 v payload e r → IsTorn1 v e r w → ((n : ℕ) → NamedKeyslots1 v e n → IsUntorn v w n) → WellFormed w payload
-  untorn_well (Add by_ old new to iterations) r w free x untorn =
-      let lt : x.slot < 8 = named_numbered v payload (Add by_ old new to iterations) r free x.slot x.is_new in
+  untorn_well (Add by_ old new to iterations d) r w free x untorn =
+      let lt : x.slot < 8 = named_numbered v payload (Add by_ old new to iterations d) r free x.slot x.is_new in
       let fits = untorn_fits w x.slot lt (untorn x.slot x.is_new) in
       (both_leave (IsNewKeyslot v to) x.slot x.slot w lt lt (half_made_rest x.order) fits fits x.is_new x.is_new).well
-  untorn_well (Change slot old new iterations) r w free (inl x) untorn =
+  untorn_well (Change slot old new iterations d) r w free (inl x) untorn =
       let lt : x.slot < 8 = x.is_new.free.0 in
       let fits = untorn_fits w x.slot lt (untorn x.slot (inr x.is_new)) in
-      (both_leave (NamedKeyslots1 v (Change slot old new iterations)) x.slot x.slot w lt lt (half_made_rest x.order) fits fits (inr x.is_new) (inr x.is_new)).well
-  untorn_well (Change slot old new iterations) r w free (inr x) untorn =
-      let used : slot < 8 = named_numbered v payload (Change slot old new iterations) r free slot (inl refl) in
+      (both_leave (NamedKeyslots1 v (Change slot old new iterations d)) x.slot x.slot w lt lt (half_made_rest x.order) fits fits (inr x.is_new) (inr x.is_new)).well
+  untorn_well (Change slot old new iterations d) r w free (inr x) untorn =
+      let used : slot < 8 = named_numbered v payload (Change slot old new iterations d) r free slot (inl refl) in
       let lt : x.fresh < 8 = x.is_free.free.0 in
-      (both_leave (NamedKeyslots1 v (Change slot old new iterations)) slot x.fresh w used lt x.rest
+      (both_leave (NamedKeyslots1 v (Change slot old new iterations d)) slot x.fresh w used lt x.rest
       (untorn_fits w slot used (untorn slot (inl refl))) (untorn_fits w x.fresh lt (untorn x.fresh (inr x.is_free))) (inl refl) (inr x.is_free)).well
   untorn_well (Remove slot by_ passphrase) r w free x untorn =
       let used : slot < 8 = named_numbered v payload (Remove slot by_ passphrase) r free slot refl in
@@ -327,8 +334,8 @@ module _ (payload : Data) (v : List ℕ) (chosen : Chosen v luks1) (well : WellF
       subst (λ s. part w s a.len ≡ replicate a.len 0) (sym start) (subst (λ l. part w (area_start v n) l ≡ replicate l 0) (sym len) zeros)
 
   pub removed_area : (e : Edit) (r w : List ℕ) (n : ℕ) (a : Area) → After1 v e r w → Removes e n → AreaOf v payload (Slot n) a → part w a.start a.len ≡ replicate a.len 0
-  removed_area (Add by_ old new to iterations) r w n a x is has = absurd is
-  removed_area (Change slot old new iterations) r w n a x is has = wiped_area n w a (subst (λ k. IsWiped v k w) (sym is) x.wiped) has
+  removed_area (Add by_ old new to iterations d) r w n a x is has = absurd is
+  removed_area (Change slot old new iterations d) r w n a x is has = wiped_area n w a (subst (λ k. IsWiped v k w) (sym is) x.wiped) has
   removed_area (Remove slot by_ passphrase) r w n a x is has = wiped_area n w a (subst (λ k. IsWiped v k w) (sym is) x.wiped) has
   removed_area Repair r w n a x is has = absurd is
   removed_area (Label text) r w n a x is has = absurd is

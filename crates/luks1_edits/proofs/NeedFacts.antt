@@ -5,6 +5,7 @@ use Rattle.luks_area.specs.First.{IsLeast}
 use Rattle.luks_reading.specs.declared.check_fault.CheckFault.{CheckFault}
 use Rattle.luks_reading.specs.declared.report.Data.{Data}
 use Rattle.luks_reading.specs.Checked.{IsFault}
+use Rattle.luks_making.specs.declared.derivation.AskedDerivation.{AskedDerivation}
 use Rattle.luks_edit.specs.declared.edit.Edit.{Edit}
 use Rattle.luks_edit.specs.declared.edit_fault.EditFault.{EditFault}
 use Rattle.luks_edit.specs.declared.edit_fault.EditFault.TheVariants as fault
@@ -74,7 +75,7 @@ module _ (v : List ℕ) (payload : Data) (e : Edit) (accepted : (f : CheckFault)
     removal_need_tells (Ok k) x = told k (removable_there is x.1) is.untaken is.some_free (subst (λ m. Need1 v e m) (sym x.0) is.need)
     removal_need_tells (Err f) x = removal_need_refused f x
 
-  module _ (opener : ℕ) (p : List ℕ) (to : Option ℕ) (iterations : ℕ) (is : IsMaking v e opener p to iterations) where
+  module _ (opener : ℕ) (p : List ℕ) (to : Option ℕ) (asked : AskedDerivation) (is : IsMaking v e opener p to asked) where
     need_refused : (f : EditFault) → IsNewNeedFault v opener to f → IsLeast edit_key (IsNeedFault1 v payload e) f
     need_refused fault.NoSuchSlot bad = need_absent opener is.opening.wanted bad
     need_refused fault.SlotTaken bad = first_of_row (IsNeedFault1 v payload e) fault.SlotTaken refl (past_opener (is.opening.all bad.used)) (is.taken_is bad.is)

@@ -1,8 +1,11 @@
 -- What an edit that makes a keyslot replies, from what was judged of it.
-use Rattle.std.proofs.Common.{◌≡◌, ℕ, ◌<◌, ◌≤◌, List, length, subst, refl, sym, ap, ◌∙◌, arith, inr, Option, Some, None}
+use Rattle.std.proofs.Common.{◌≡◌, ℕ, ◌<◌, ◌≤◌, List, length, true, subst, refl, sym, ap, ◌∙◌, arith, inr, Option, Some, None}
 use Rattle.luks_area.specs.Ranges.{part}
 use Rattle.luks1_header.specs.Header1.{active_word, disabled_word, enabled_word, entry}
 use Rattle.luks_head.specs.Selection.{luks1}
+use Rattle.std.proofs.lemmas.Bool.{both_ways}
+use Rattle.luks_making.specs.Derivations.{asked_few_turns, takes_memory}
+use Rattle.luks_making.specs.declared.derivation.AskedDerivation.{AskedDerivation}
 use Rattle.luks_slot.specs.declared.fault.SlotFault.{SlotFault}
 use Rattle.luks_head.proofs.ChoiceFacts.{choices_agree}
 use Rattle.luks_reading.specs.declared.open_fault.OpenFault.TheVariants as opening
@@ -14,9 +17,9 @@ use Rattle.luks_edit.specs.declared.deed.Deed.TheVariants.{Seal}
 use Rattle.luks_edit.specs.declared.deed.Sealed.{Sealed}
 use Rattle.luks_edit.specs.declared.edit_fault.EditFault.{EditFault}
 use Rattle.luks_edit.specs.declared.edit_fault.EditFault.TheVariants as fault
-use Rattle.luks_edit.specs.Asked.{deed_of, HasFewIterations}
+use Rattle.luks_edit.specs.Asked.{ChoosesArgon2, deed_of, HasFewIterations}
 use Rattle.luks_edit.specs.RowFacts.{Passed, first_of_row, next}
-use Rattle.luks1_edits.specs.Accepted.{IsHeaderOf, IsNewFault, IsNewFree, IsNewRefused, IsOpenedBy}
+use Rattle.luks1_edits.specs.Accepted.{IsHeaderOf, IsIterated, IsNewFault, IsNewFree, IsNewRefused, IsOpenedBy}
 use Rattle.luks1_edits.specs.Edited.{IsNewKeyslot, number_asked}
 use Rattle.luks1_edits.specs.Leftovers.{IsSealedFirst, IsTorn1}
 use Rattle.luks1_edits.specs.Refused.{HasNoFree, IsEditFault1, IsLabel, IsLast, IsTaken, IsTakenFor, IsUnrefused1, keyslot_need, LacksFree, Need1, NeedsFor}
@@ -28,7 +31,7 @@ use Rattle.luks1_edits.proofs.MadeKeyslotFacts.{same_refusal, same_terms}
 use Rattle.luks1_edits.proofs.RowFacts.{alone, IsOpener, opener_passed, past_label, past_new, unrefused}
 
 -- the edit opens the keyslot `opener` by the passphrase, and makes the keyslot `to`, or the least free
-pub record IsMaking (v : List ℕ) (e : Edit) (opener : ℕ) (p : List ℕ) (to : Option ℕ) (iterations : ℕ) : Type 0 where
+pub record IsMaking (v : List ℕ) (e : Edit) (opener : ℕ) (p : List ℕ) (to : Option ℕ) (asked : AskedDerivation) : Type 0 where
   pub opening : IsOpener v e opener p
   pub taken_is : IsTakenFor v to → IsTaken v e
   pub taken_only : IsTaken v e → IsTakenFor v to
@@ -36,13 +39,15 @@ pub record IsMaking (v : List ℕ) (e : Edit) (opener : ℕ) (p : List ℕ) (to 
   pub free_only : HasNoFree v e → LacksFree v to
   pub not_last : IsLast v e → ⊥
   pub no_label : IsLabel e → ⊥
-  pub few_is : iterations < 1000 → HasFewIterations e
-  pub few_only : HasFewIterations e → iterations < 1000
+  pub few_is : asked_few_turns asked ≡ true → HasFewIterations e
+  pub few_only : HasFewIterations e → asked_few_turns asked ≡ true
+  pub argon2_is : takes_memory asked.chosen ≡ true → ChoosesArgon2 e
+  pub argon2_only : ChoosesArgon2 e → takes_memory asked.chosen ≡ true
   pub need : (k : ℕ) → NeedsFor v (IsNewKeyslot v to) k → Need1 v e k
   pub need_only : (k : ℕ) → Need1 v e k → NeedsFor v (IsNewKeyslot v to) k
 
 -- each edit does that seals a key
-pub making : (v : List ℕ) (e : Edit) (s : Sealed) → deed_of e ≡ Seal s → IsMaking v e s.opener.slot s.opener.passphrase.bytes.now (number_asked s.place) s.iterations
+pub making : (v : List ℕ) (e : Edit) (s : Sealed) → deed_of e ≡ Seal s → IsMaking v e s.opener.slot s.opener.passphrase.bytes.now (number_asked s.place) s.derivation
 making v e s is = record {
   opening = alone v e s.opener.slot s.opener.passphrase.bytes.now (rw is (refl, refl)) (rw is refl) (λ m y. rw is at y) (λ y. rw is at y);
   taken_is = λ y. rw is y;
@@ -53,6 +58,8 @@ making v e s is = record {
   no_label = λ y. rw is at y;
   few_is = λ y. rw is y;
   few_only = λ y. rw is at y;
+  argon2_is = λ y. rw is y;
+  argon2_only = λ y. rw is at y;
   need = λ k y. rw is y;
   need_only = λ k y. rw is at y;
 }
@@ -84,7 +91,7 @@ not_refused h payload v opener p key f of x bad =
     let refusal : IsLuks1Refusal (part v 0 592) (length v) opener (opening.Slot f) = record { plan = x.plan; is = there; refused = same_refusal x.plan bad.plan terms ∙ bad.refused } in
     x.unrefused (opening.Slot f) (subst (λ c. IsRefusalAs v opener c (opening.Slot f)) (sym one) refusal)
 
-module _ (v : List ℕ) (payload : Data) (e : Edit) (r : List ℕ) (opener : ℕ) (p key : List ℕ) (to : Option ℕ) (iterations : ℕ) (is : IsMaking v e opener p to iterations)
+module _ (v : List ℕ) (payload : Data) (e : Edit) (r : List ℕ) (opener : ℕ) (p key : List ℕ) (to : Option ℕ) (asked : AskedDerivation) (is : IsMaking v e opener p to asked)
     (h : List ℕ) (of : IsHeaderOf h payload v) (opened : IsOpenedBy v opener p key) where
   before : Passed (IsEditFault1 v payload e r) 6
   before = opener_passed v payload e r of.faultless of.chosen opener p is.opening key opened
@@ -106,26 +113,32 @@ module _ (v : List ℕ) (payload : Data) (e : Edit) (r : List ℕ) (opener : ℕ
     need_is : (k : ℕ) → Need1 v e k → k ≡ keyslot_need v n
     need_is k needs = let x = is.need_only k needs in x.count ∙ ap (keyslot_need v) (new_once v to x.slot n x.is new.is_new)
 
-    enough_passed : 1000 ≤ iterations → Passed (IsEditFault1 v payload e r) 14
-    enough_passed many = past_label v payload e r made_passed is.not_last (λ few. let lt = is.few_only few in omega (arith, lt, many)) is.no_label
+    enough_passed : IsIterated asked → Passed (IsEditFault1 v payload e r) 15
+    enough_passed x = past_label v payload e r made_passed is.not_last (λ few. both_ways _ x.turns (is.few_only few)) (λ argon2. both_ways _ x.own (is.argon2_only argon2)) is.no_label
 
-    -- its iterations or the random bytes are refused
-    pub new_refused : (w : List ℕ) (f : EditFault) → w ≡ v → IsNewRefused v n iterations r f → EndsBy1 payload v e r f w
+    -- its iterations, its derivation or the random bytes are refused
+    pub new_refused : (w : List ℕ) (f : EditFault) → w ≡ v → IsNewRefused v n asked r f → EndsBy1 payload v e r f w
     new_refused w fault.Iterations same few = (
       let s = IsEditFault1 v payload e r in
           first_of_row s fault.Iterations refl (next s fault.LastSlot refl made_passed is.not_last) (is.few_is few),
       same,
     )
+    new_refused w fault.Argon2 same bad = (
+      let s = IsEditFault1 v payload e r in
+          first_of_row s fault.Argon2 refl
+          (next s fault.Iterations refl (next s fault.LastSlot refl made_passed is.not_last) (λ few. both_ways _ bad.turns (is.few_only few))) (is.argon2_is bad.own),
+      same,
+    )
     new_refused w fault.RandomLength same bad = (
-      first_of_row (IsEditFault1 v payload e r) fault.RandomLength refl (enough_passed bad.many)
+      first_of_row (IsEditFault1 v payload e r) fault.RandomLength refl (enough_passed bad.iterated)
           (record { need = keyslot_need v n; is = is.need (keyslot_need v n) (record { slot = n; is = new.is_new; count = refl }); other = bad.other }),
       same,
     )
     new_refused w f same bad = absurd bad
 
-    module _ (many : 1000 ≤ iterations) (counted : length r ≡ keyslot_need v n) where
+    module _ (iterated : IsIterated asked) (counted : length r ≡ keyslot_need v n) where
       pub making_unrefused : IsUnrefused1 v payload e r
-      making_unrefused = unrefused v payload e r (enough_passed many) (λ bad. bad.other (counted ∙ sym (need_is bad.need bad.is)))
+      making_unrefused = unrefused v payload e r (enough_passed iterated) (λ bad. bad.other (counted ∙ sym (need_is bad.need bad.is)))
 
       -- the keyslot wasn't made
       pub unmade_ends : (w : List ℕ) (f : EditFault) → IsTorn1 v e r w → IsUnmade h f → EndsBy1 payload v e r f w

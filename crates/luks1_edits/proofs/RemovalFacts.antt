@@ -8,7 +8,7 @@ use Rattle.luks_edit.specs.declared.deed.Deed.TheVariants.{Remove}
 use Rattle.luks_edit.specs.declared.deed.Removed.{Removed}
 use Rattle.luks_edit.specs.declared.edit_fault.EditFault.TheVariants as fault
 use Rattle.luks_edit.specs.declared.edit_fault.EditFault.{EditFault}
-use Rattle.luks_edit.specs.Asked.{deed_of, HasFewIterations, NamesItself, opener_of, OpensBy, Wants}
+use Rattle.luks_edit.specs.Asked.{ChoosesArgon2, deed_of, HasFewIterations, NamesItself, opener_of, OpensBy, Wants}
 use Rattle.luks_edit.specs.RowFacts.{Passed, first_of_row}
 use Rattle.luks1_edits.specs.Accepted.{HasOther, IsHeaderOf, IsNamedTwice, IsOpenedBy, IsRemovable, IsUnremovable}
 use Rattle.luks1_edits.specs.Edited.{After1, IsInUse, IsRemoved}
@@ -30,6 +30,7 @@ pub record IsRemoval (v : List ℕ) (e : Edit) (slot : ℕ) (by_ : Option ℕ) (
   pub last_is : ((m : ℕ) → IsInUse v m → m ≡ slot) → IsLast v e
   pub last_only : IsLast v e → (m : ℕ) → IsInUse v m → m ≡ slot
   pub many : HasFewIterations e → ⊥
+  pub no_argon2 : ChoosesArgon2 e → ⊥
   pub no_label : IsLabel e → ⊥
   pub need : Need1 v e 0
   pub need_only : (k : ℕ) → Need1 v e k → k ≡ 0
@@ -51,6 +52,7 @@ removal v e d r is = record {
   last_is = λ y. rw is y;
   last_only = λ y. rw is at y;
   many = λ y. rw is at y;
+  no_argon2 = λ y. rw is at y;
   no_label = λ y. rw is at y;
   need = rw is refl;
   need_only = λ k y. rw is at y;
@@ -96,8 +98,8 @@ module _ (v : List ℕ) (payload : Data) (e : Edit) (r : List ℕ) (slot : ℕ) 
   last_refused last = first_of_row (IsEditFault1 v payload e r) fault.LastSlot refl passed (is.last_is last)
 
   module _ (more : HasOther v slot) where
-    past_last : Passed (IsEditFault1 v payload e r) 14
-    past_last = past_label v payload e r passed (λ bad. more.other (is.last_only bad more.keyslot more.used)) is.many is.no_label
+    past_last : Passed (IsEditFault1 v payload e r) 15
+    past_last = past_label v payload e r passed (λ bad. more.other (is.last_only bad more.keyslot more.used)) is.many is.no_argon2 is.no_label
 
     pub random_refused : length r ≢ 0 → Refusal1 v payload e r fault.RandomLength
     random_refused some = first_of_row (IsEditFault1 v payload e r) fault.RandomLength refl past_last (record { need = 0; is = is.need; other = some })

@@ -14,7 +14,7 @@ use Rattle.luks_edit.specs.declared.deed.Deed.TheVariants as deed
 use Rattle.luks_edit.specs.declared.edit.Opener.{Opener}
 use Rattle.luks_edit.specs.declared.edit_fault.EditFault.{EditFault}
 use Rattle.luks_edit.specs.declared.edit_fault.EditFault.TheVariants as fault
-use Rattle.luks_edit.specs.Asked.{allowed_memory, deed_of, HasFewIterations, NamesItself, opener_in, OpensBy, Wants}
+use Rattle.luks_edit.specs.Asked.{allowed_memory, ChoosesArgon2, deed_of, HasFewIterations, NamesItself, opener_in, OpensBy, Wants}
 use Rattle.luks_edit.specs.Opener.{IsLocked, IsShut}
 use Rattle.luks_edit.proofs.AllowedMemory.{luks1_answers_alike}
 use Rattle.luks_edit.specs.RowFacts.{Passed, after_check, after_plan, first_of_plan, first_of_row, next, none_at_all}
@@ -75,15 +75,17 @@ module _ (v : List ℕ) (payload : Data) (e : Edit) (r : List ℕ) where
       let s = IsEditFault1 v payload e r in
       next s fault.NoRoom refl (next s fault.NoFreeSlot refl (next s fault.SlotTaken refl before untaken) free) (λ bad. bad)
 
-  pub past_label : Passed (IsEditFault1 v payload e r) 9 → (IsLast v e → ⊥) → (HasFewIterations e → ⊥) → (IsLabel e → ⊥) → Passed (IsEditFault1 v payload e r) 14
-  past_label before last few label =
+  pub past_label : Passed (IsEditFault1 v payload e r) 9 → (IsLast v e → ⊥) → (HasFewIterations e → ⊥) → (ChoosesArgon2 e → ⊥) → (IsLabel e → ⊥)
+      → Passed (IsEditFault1 v payload e r) 15
+  past_label before last few argon2 label =
       let s = IsEditFault1 v payload e r in
       next s fault.MetadataFull refl
-      (next s fault.SeqExhausted refl (next s fault.BadLabel refl (next s fault.Iterations refl (next s fault.LastSlot refl before last) few) label) (λ bad. bad))
+      (next s fault.SeqExhausted refl
+      (next s fault.BadLabel refl (next s fault.Argon2 refl (next s fault.Iterations refl (next s fault.LastSlot refl before last) few) argon2) label) (λ bad. bad))
       (λ bad. bad)
 
   -- nothing refuses it
-  pub unrefused : Passed (IsEditFault1 v payload e r) 14 → (IsMiscounted v e r → ⊥) → IsUnrefused1 v payload e r
+  pub unrefused : Passed (IsEditFault1 v payload e r) 15 → (IsMiscounted v e r → ⊥) → IsUnrefused1 v payload e r
   unrefused before counted =
       let s = IsEditFault1 v payload e r in
       record { none = none_at_all s (next s fault.Device refl (next s fault.Memory refl (next s fault.RandomLength refl before counted) (λ bad. bad)) (λ bad. bad)) }

@@ -10,7 +10,7 @@ use Rattle.luks_edit.specs.declared.deed.Sealed.{Sealed}
 use Rattle.luks_edit.specs.declared.edit.Edit.{Edit}
 use Rattle.luks_edit.specs.Asked.{deed_of, MatchPlace}
 use Rattle.luks1_edits.specs.Accepted.{IsHeaderOf, IsSealedNew}
-use Rattle.luks1_edits.specs.Edited.{IsLeastFree, IsNewKeyslot, IsRemoved, number_asked}
+use Rattle.luks1_edits.specs.Edited.{IsLeastFree, IsNewKeyslot, IsRemoved, iterations_of, number_asked}
 use Rattle.luks1_edits.specs.Leftovers.{IsHalfChanged, IsHalfMade, IsHalfRemoved, IsTorn1, Leftover1}
 use Rattle.luks1_edits.specs.Replies.{IsDone1}
 use Rattle.luks1_edits.specs.Steps.{IsKeyslotAt}
@@ -18,15 +18,15 @@ use Rattle.luks1_edits.proofs.ChangeFacts.{changed, half_changed, still_at}
 
 -- while its keyslot was made
 torn_at : (v : List ℕ) (s : Sealed) (r w : List ℕ) (place : Place)
-    → IsHalfMade v s.opener.slot s.opener.passphrase.bytes.now s.passphrase.now (number_asked place) s.iterations r w
-    → MatchPlace place (λ to. IsHalfMade v s.opener.slot s.opener.passphrase.bytes.now s.passphrase.now to s.iterations r w)
-    (IsHalfMade v s.opener.slot s.opener.passphrase.bytes.now s.passphrase.now None s.iterations r w
-    ⊎ IsHalfChanged v s.opener.slot s.opener.passphrase.bytes.now s.passphrase.now s.iterations r w)
+    → IsHalfMade v s.opener.slot s.opener.passphrase.bytes.now s.passphrase.now (number_asked place) (iterations_of s.derivation) r w
+    → MatchPlace place (λ to. IsHalfMade v s.opener.slot s.opener.passphrase.bytes.now s.passphrase.now to (iterations_of s.derivation) r w)
+    (IsHalfMade v s.opener.slot s.opener.passphrase.bytes.now s.passphrase.now None (iterations_of s.derivation) r w
+    ⊎ IsHalfChanged v s.opener.slot s.opener.passphrase.bytes.now s.passphrase.now (iterations_of s.derivation) r w)
 torn_at v s r w (New to) x = x
 torn_at v s r w Opened x = inl x
 
 pub half_made : (v : List ℕ) (e : Edit) (s : Sealed) (r w : List ℕ) → deed_of e ≡ Seal s
-    → IsHalfMade v s.opener.slot s.opener.passphrase.bytes.now s.passphrase.now (number_asked s.place) s.iterations r w → IsTorn1 v e r w
+    → IsHalfMade v s.opener.slot s.opener.passphrase.bytes.now s.passphrase.now (number_asked s.place) (iterations_of s.derivation) r w → IsTorn1 v e r w
 half_made v e s r w is x = rw is (torn_at v s r w s.place x)
 
 module _ (payload : Data) (v : List ℕ) (e : Edit) (s : Sealed) (r : List ℕ) (n : ℕ) (u : List ℕ) (is : deed_of e ≡ Seal s) (x : IsSealedNew payload v s r n u) where
@@ -52,13 +52,13 @@ module _ (payload : Data) (v : List ℕ) (e : Edit) (s : Sealed) (r : List ℕ) 
 
     -- the one that was opened is where it was
     pub opened_at : {t : Luks1Slot} {a : Area} → IsKeyslotAt v s.opener.slot t a → IsKeyslotAt u s.opener.slot t a
-    opened_at at = still_at h payload v of s.opener.slot n x.used least s.iterations s.passphrase.now x.key r u x.made at
+    opened_at at = still_at h payload v of s.opener.slot n x.used least (iterations_of s.derivation) s.passphrase.now x.key r u x.made at
 
     -- it was removed
     pub renewed : (w : List ℕ) → IsRemoved u s.opener.slot w → IsDone1 payload v e r (record { slot = Some n }) w
     renewed w removed = record {
       unrefused = x.unrefused e is;
-      after = rw (is, place) (changed h payload v of s.opener.slot n x.used least s.iterations s.passphrase.now x.key r u x.made s.opener.passphrase.bytes.now w x.opened removed);
+      after = rw (is, place) (changed h payload v of s.opener.slot n x.used least (iterations_of s.derivation) s.passphrase.now x.key r u x.made s.opener.passphrase.bytes.now w x.opened removed);
       told = rw is x.is_new;
     }
 
@@ -67,5 +67,5 @@ module _ (payload : Data) (v : List ℕ) (e : Edit) (s : Sealed) (r : List ℕ) 
     half_renewed w half = inr (
       x.unrefused e is,
       rw (is, place)
-          (inr (half_changed h payload v of s.opener.slot n x.used least s.iterations s.passphrase.now x.key r u x.made s.opener.passphrase.bytes.now w x.opened half)),
+          (inr (half_changed h payload v of s.opener.slot n x.used least (iterations_of s.derivation) s.passphrase.now x.key r u x.made s.opener.passphrase.bytes.now w x.opened half)),
     )

@@ -1,9 +1,11 @@
 -- The header of a LUKS1 volume that was accepted, and what is judged by it.
-use Rattle.std.specs.Prelude.{◌≡◌, ◌≢◌, ℕ, ◌<◌, ◌≤◌, ◌⊎◌, List, length, Option, Some, ⊤}
+use Rattle.std.specs.Prelude.{◌≡◌, ◌≢◌, ℕ, ◌<◌, ◌⊎◌, List, length, true, false, Option, Some, ⊤}
 use Rattle.luks_area.specs.Ranges.{part}
 use Rattle.luks1_header.specs.Header1.{luks1_size, IsLuks1}
 use Rattle.luks1_header.specs.declared.luks1.Luks1.{Luks1}
 use Rattle.luks_head.specs.Selection.{luks1, Chosen}
+use Rattle.luks_making.specs.Derivations.{asked_few_turns, takes_memory}
+use Rattle.luks_making.specs.declared.derivation.AskedDerivation.{AskedDerivation}
 use Rattle.luks_slot.specs.declared.fault.SlotFault.{SlotFault}
 use Rattle.luks_slot.specs.declared.fault.SlotFault.TheVariants as slot
 use Rattle.luks_reading.specs.declared.check_fault.CheckFault.{CheckFault}
@@ -18,7 +20,7 @@ use Rattle.luks_edit.specs.declared.deed.Sealed.{Sealed}
 use Rattle.luks_edit.specs.declared.edit.Edit.{Edit}
 use Rattle.luks_edit.specs.Asked.{deed_of, opener_of}
 use Rattle.luks1_edits.specs.declared.accepted.AcceptedHeader.{AcceptedHeader}
-use Rattle.luks1_edits.specs.Edited.{IsFree, IsInUse, IsNewKeyslot, IsSealedIn}
+use Rattle.luks1_edits.specs.Edited.{IsFree, IsInUse, IsNewKeyslot, IsSealedIn, iterations_of}
 use Rattle.luks1_edits.specs.Refused.{IsTakenFor, IsUnrefused1, keyslot_need, LacksFree, NeedsFor}
 use Rattle.luks1_edits.specs.Steps.{IsKeyslotMade}
 
@@ -113,15 +115,26 @@ IsNewFault v to fault.SlotTaken = IsTakenFor v to
 IsNewFault v to fault.NoFreeSlot = LacksFree v to
 IsNewFault v to f = ⊥
 
+-- the new keyslot has enough iterations, and no Argon2 is chosen for it
+pub record IsIterated (asked : AskedDerivation) : Type 0 where
+  pub turns : asked_few_turns asked ≡ false
+  pub own : takes_memory asked.chosen ≡ false
+
+-- it would have enough turns of an Argon2 that is chosen
+pub record IsArgon2 (asked : AskedDerivation) : Type 0 where
+  pub turns : asked_few_turns asked ≡ false
+  pub own : takes_memory asked.chosen ≡ true
+
 -- the random bytes aren't those of the new keyslot, but its iterations are enough
-pub record IsMiscountedNew (v : List ℕ) (n iterations : ℕ) (random : List ℕ) : Type 0 where
-  pub many : 1000 ≤ iterations
+pub record IsMiscountedNew (v : List ℕ) (n : ℕ) (asked : AskedDerivation) (random : List ℕ) : Type 0 where
+  pub iterated : IsIterated asked
   pub other : length random ≢ keyslot_need v n
 
-abbrev pub IsNewRefused : List ℕ → ℕ → ℕ → List ℕ → EditFault → Type 0
-IsNewRefused v n iterations random fault.Iterations = iterations < 1000
-IsNewRefused v n iterations random fault.RandomLength = IsMiscountedNew v n iterations random
-IsNewRefused v n iterations random f = ⊥
+abbrev pub IsNewRefused : List ℕ → ℕ → AskedDerivation → List ℕ → EditFault → Type 0
+IsNewRefused v n asked random fault.Iterations = asked_few_turns asked ≡ true
+IsNewRefused v n asked random fault.Argon2 = IsArgon2 asked
+IsNewRefused v n asked random fault.RandomLength = IsMiscountedNew v n asked random
+IsNewRefused v n asked random f = ⊥
 
 -- the keyslot `n` was made for the key that is sealed, which the old passphrase opens; nothing refuses
 -- an edit that seals it
@@ -130,7 +143,7 @@ pub record IsSealedNew (payload : Data) (v : List ℕ) (s : Sealed) (random : Li
   pub key : List ℕ
   pub opened : Answer v s.opener.slot s.opener.passphrase.bytes.now (opens key)
   pub is_new : IsSealedIn v s n
-  pub made : IsKeyslotMade v n s.iterations s.passphrase.now key random w
+  pub made : IsKeyslotMade v n (iterations_of s.derivation) s.passphrase.now key random w
   pub unrefused : (e : Edit) → deed_of e ≡ Seal s → IsUnrefused1 v payload e random
 
 -- ---- the random bytes that an edit asks for

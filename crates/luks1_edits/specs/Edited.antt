@@ -2,6 +2,9 @@
 use Rattle.std.specs.Prelude.{◌≡◌, ℕ, ◌-◌, ◌*◌, ◌<◌, ◌≤◌, ◌⊎◌, List, length, take, drop, replicate, Option, Some, None, IfSome, IsSomeAnd, MatchOption}
 use Rattle.luks_area.specs.Ranges.{part, SameBut}
 use Rattle.luks1_header.specs.Header1.{active_word, disabled_word, enabled_word, entry, entry_iterations, entry_key_material_offset, entry_salt, entry_stripes, luks1_size}
+use Rattle.luks_making.specs.declared.derivation.AskedDerivation.{AskedDerivation}
+use Rattle.luks_making.specs.declared.derivation.NewDerivation.{NewDerivation}
+use Rattle.luks_making.specs.declared.derivation.NewDerivation.TheVariants.{Pbkdf2, Argon2i, Argon2id}
 use Rattle.luks_slot.specs.declared.plan.SlotPlan.{SlotPlan}
 use Rattle.luks_slot.specs.Opening.{area_bytes}
 use Rattle.luks_slot.specs.Sealing.{IsSealed}
@@ -47,6 +50,17 @@ NamedKeyslots1 v e n = MatchDeed (deed_of e)
     (λ s. MatchPlace s.place (λ to. IsNewKeyslot v to n) ((n ≡ s.opener.slot) ⊎ IsLeastFree v n))
     (λ r. n ≡ r.slot)
     (λ label. ⊥)
+
+-- the iterations of a keyslot that is made: those of the PBKDF2 that is chosen, where it is; LUKS1 has no
+-- Argon2
+abbrev pub iterations_or : ℕ → Option NewDerivation → ℕ
+iterations_or n None = n
+iterations_or n (Some (Pbkdf2 iterations)) = iterations
+iterations_or n (Some (Argon2i costs)) = n
+iterations_or n (Some (Argon2id costs)) = n
+
+abbrev pub iterations_of : AskedDerivation → ℕ
+iterations_of asked = iterations_or asked.iterations asked.chosen
 
 -- ---- entries and areas
 
@@ -121,8 +135,8 @@ pub record IsChanged
 abbrev pub After1 : List ℕ → Edit → List ℕ → List ℕ → Type 0
 After1 v e random w = MatchDeed (deed_of e)
     (λ s. MatchPlace s.place
-    (λ to. IsAdded v s.opener.slot s.opener.passphrase.bytes.now s.passphrase.now to s.iterations random w)
-    (IsChanged v s.opener.slot s.opener.passphrase.bytes.now s.passphrase.now s.iterations random w))
+    (λ to. IsAdded v s.opener.slot s.opener.passphrase.bytes.now s.passphrase.now to (iterations_of s.derivation) random w)
+    (IsChanged v s.opener.slot s.opener.passphrase.bytes.now s.passphrase.now (iterations_of s.derivation) random w))
     (λ r. IsRemoved v r.slot w)
     (λ label. MatchOption label (w ≡ v) (λ text. ⊥))
 

@@ -8,7 +8,7 @@ use Rattle.luks_reading.specs.declared.report.Data.{Data}
 use Rattle.luks_reading.specs.Answer.{Answer, opens}
 use Rattle.luks_edit.specs.declared.edit.Edit.{Edit}
 use Rattle.luks_edit.specs.Asked.{again_by, deed_of, MatchDeed, MatchPlace}
-use Rattle.luks1_edits.specs.Edited.{HoldsKey, IsFreed, IsLeastFree, IsMade, IsNewKeyslot}
+use Rattle.luks1_edits.specs.Edited.{HoldsKey, IsFreed, IsLeastFree, IsMade, IsNewKeyslot, iterations_of}
 use Rattle.luks1_edits.specs.Kept.{IsEither, IsFitFor}
 use Rattle.luks1_edits.specs.Places.{area_len, area_start, entry_place, IsOfKeyslots}
 use Rattle.luks1_edits.specs.Refused.{IsUnrefused1}
@@ -69,9 +69,9 @@ pub record IsHalfChanged
 abbrev pub IsTorn1 : List ℕ → Edit → List ℕ → List ℕ → Type 0
 IsTorn1 v e random w = MatchDeed (deed_of e)
     (λ s. MatchPlace s.place
-    (λ to. IsHalfMade v s.opener.slot s.opener.passphrase.bytes.now s.passphrase.now to s.iterations random w)
-    (IsHalfMade v s.opener.slot s.opener.passphrase.bytes.now s.passphrase.now None s.iterations random w
-    ⊎ IsHalfChanged v s.opener.slot s.opener.passphrase.bytes.now s.passphrase.now s.iterations random w))
+    (λ to. IsHalfMade v s.opener.slot s.opener.passphrase.bytes.now s.passphrase.now to (iterations_of s.derivation) random w)
+    (IsHalfMade v s.opener.slot s.opener.passphrase.bytes.now s.passphrase.now None (iterations_of s.derivation) random w
+    ⊎ IsHalfChanged v s.opener.slot s.opener.passphrase.bytes.now s.passphrase.now (iterations_of s.derivation) random w))
     (λ r. IsHalfRemoved v r.slot w)
     (λ label. ⊥)
 

@@ -8,7 +8,7 @@ use Rattle.luks_reading.specs.Checked.{IsFault}
 use Rattle.luks_edit.specs.declared.edit.Edit.{Edit}
 use Rattle.luks_edit.specs.declared.edit_fault.EditFault.{EditFault}
 use Rattle.luks_edit.specs.declared.edit_fault.EditFault.TheVariants as fault
-use Rattle.luks_edit.specs.Asked.{HasFewIterations, label_by, NamesItself, removed_by, sealed_by, Wants}
+use Rattle.luks_edit.specs.Asked.{ChoosesArgon2, HasFewIterations, label_by, NamesItself, removed_by, sealed_by, Wants}
 use Rattle.luks_edit.specs.Opener.{IsLocked, IsShut}
 use Rattle.luks_edit.specs.EditFaults.{edit_key}
 use Rattle.luks1_edits.specs.Edited.{IsFree, IsInUse, IsSealedIn, number_asked}
@@ -82,6 +82,7 @@ IsEditFault1 v payload e random fault.SlotTaken = IsTaken v e
 IsEditFault1 v payload e random fault.NoFreeSlot = HasNoFree v e
 IsEditFault1 v payload e random fault.LastSlot = IsLast v e
 IsEditFault1 v payload e random fault.Iterations = HasFewIterations e
+IsEditFault1 v payload e random fault.Argon2 = ChoosesArgon2 e
 IsEditFault1 v payload e random fault.BadLabel = IsLabel e
 IsEditFault1 v payload e random fault.RandomLength = IsMiscounted v e random
 IsEditFault1 v payload e random f = ⊥

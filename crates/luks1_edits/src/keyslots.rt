@@ -1,12 +1,13 @@
 //! Which keyslots of a LUKS1 header are in use, and which is free.
-ghost use Rattle.std.specs.Prelude.{◌≡◌, ◌≢◌, ◌<◌, ◌≤◌, ℕ, List, false, length, IfErr, IfOk, IfSome, IsTrue, MatchOption, MatchResult, OnOk};
+ghost use Rattle.std.specs.Prelude.{◌≡◌, ◌≢◌, ◌<◌, ℕ, List, false, length, IfErr, IfOk, IfSome, IsTrue, MatchOption, MatchResult, OnOk};
 ghost use Rattle.luks1_header.specs.Header1.{key_bytes_of, HoldsSlots};
+ghost use Rattle.luks_making.specs.Derivations.{takes_memory};
 ghost use Rattle.luks_edit.specs.EditFaults.{is_edit_failure};
-ghost use Rattle.luks1_edits.specs.Accepted.{HasOther, IsNewFault, IsNewFree, IsNewRefused, IsRemovable, IsUnremovable};
-ghost use Rattle.luks1_edits.specs.Edited.{IsFree, IsInUse, IsLeastFree, number_asked};
+ghost use Rattle.luks1_edits.specs.Accepted.{HasOther, IsIterated, IsNewFault, IsNewFree, IsNewRefused, IsRemovable, IsUnremovable};
+ghost use Rattle.luks1_edits.specs.Edited.{IsFree, IsInUse, IsLeastFree, iterations_of, number_asked};
 ghost use Rattle.luks1_edits.specs.Refused.{keyslot_need};
 
-use luks_edit::{EditFault, LEAST_ITERATIONS, Place, opener_of};
+use luks_edit::{AskedDerivation, EditFault, NewDerivation, Place, opener_of};
 use luks_head::{Luks1, SlotState};
 
 /// Whether the keyslot is in use.
@@ -127,27 +128,52 @@ pub(crate) fn keyslot_need(header: &Luks1, n: u8) -> u64
     32 + random
 }
 
-/// Whether the keyslot `n` may be made with these iterations and random bytes. Refused by
-/// `Iterations`, `RandomLength`.
+/// The iterations of a keyslot that is made.
+pub(crate) fn iterations_of(derivation: AskedDerivation) -> u32
+    ensures { result ≡ iterations_of derivation }
+{
+    match derivation.chosen {
+        Some(NewDerivation::Pbkdf2 { iterations }) => iterations,
+        Some(NewDerivation::Argon2i(_)) | Some(NewDerivation::Argon2id(_)) | None => {
+            derivation.iterations
+        }
+    }
+}
+
+/// Whether it would derive by Argon2, which LUKS1 hasn't.
+fn takes_memory(derivation: AskedDerivation) -> bool
+    ensures { result ≡ takes_memory derivation.chosen }
+{
+    match derivation.chosen {
+        Some(NewDerivation::Argon2i(_)) | Some(NewDerivation::Argon2id(_)) => true,
+        Some(NewDerivation::Pbkdf2 { iterations: _ }) | None => false,
+    }
+}
+
+/// Whether the keyslot `n` may be made with this derivation and these random bytes. Refused by
+/// `Iterations`, `Argon2`, `RandomLength`.
 pub(crate) fn judge_new(
     header: &Luks1,
     n: u8,
-    iterations: u32,
+    derivation: AskedDerivation,
     random: &[u8],
 ) -> Result<(), EditFault>
     requires { n < 8 }
     ensures own { IfErr result (λ f. is_edit_failure f ≡ false) }
     ensures memory { IfErr result (λ f. f ≢ EditFault.Memory) }
-    ensures many { OnOk result (1000 ≤ iterations) }
+    ensures iterated { OnOk result (IsIterated derivation) }
     ensures counted { (v : List ℕ) → HoldsSlots v header.now.slots
         → key_bytes_of v ≡ header.now.common.key_bytes
         → OnOk result (length random.now ≡ keyslot_need v n) }
     ensures refused { (v : List ℕ) → HoldsSlots v header.now.slots
         → key_bytes_of v ≡ header.now.common.key_bytes
-        → IfErr result (IsNewRefused v n iterations random.now) }
+        → IfErr result (IsNewRefused v n derivation random.now) }
 {
-    if iterations < LEAST_ITERATIONS {
+    if derivation.has_few_turns() {
         return Err(EditFault::Iterations);
+    }
+    if takes_memory(derivation) {
+        return Err(EditFault::Argon2);
     }
     if random.len() as u64 != keyslot_need(header, n) {
         return Err(EditFault::RandomLength);

@@ -10,7 +10,7 @@ ghost use Rattle.luks1_edits.specs.Replies.{EndsBy1, Replies1};
 
 use crate::accepted::AcceptedHeader;
 use crate::freeing::free_keyslot;
-use crate::keyslots::{judge_new, new_keyslot, number_asked};
+use crate::keyslots::{iterations_of, judge_new, new_keyslot, number_asked};
 use crate::making::make_keyslot;
 use crate::unlocking::unlock;
 use luks_area::Device;
@@ -84,14 +84,14 @@ fn make<D: Device>(
     let opener = sealed.opener;
     let key = unlock(alloc, device, header, opener.slot, opener.passphrase.bytes)?;
     let n = new_keyslot(&header.fields, number_asked(sealed.place))?;
-    judge_new(&header.fields, n, sealed.iterations, random)?;
+    judge_new(&header.fields, n, sealed.derivation, random)?;
     make_keyslot(
         device,
         header,
         n,
         sealed.passphrase,
         &key,
-        sealed.iterations,
+        iterations_of(sealed.derivation),
         random,
     )?;
     Ok(n)

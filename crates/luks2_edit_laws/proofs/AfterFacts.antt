@@ -1,6 +1,6 @@
 -- What an edit that was completed keeps of a LUKS2 volume.
-use Rattle.std.proofs.Common.{◌≡◌, ◌≢◌, ℕ, ◌+◌, ◌-◌, ◌*◌, ◌<◌, ◌≤◌, ◌^◌, List, length, replicate, codes, Option, Some, None, option_and_then, is_some, inl, inr, refl, sym, ap, subst, ◌∙◌, arith}
-use Rattle.std.proofs.lemmas.Bool.{cases_eq, cases_lt}
+use Rattle.std.proofs.Common.{◌≡◌, ◌≢◌, ℕ, ◌+◌, ◌-◌, ◌*◌, ◌<◌, ◌≤◌, ◌^◌, List, length, replicate, codes, false, Option, Some, None, option_and_then, is_some, inl, inr, refl, sym, ap, subst, ◌∙◌, arith}
+use Rattle.std.proofs.lemmas.Bool.{cases_eq, cases_lt, false_from_ne_true}
 use Rattle.base64.specs.GeneralPurpose.{IsBytes}
 use Rattle.serde_json.specs.Data.{Data as Value}
 use Rattle.serde_json.specs.Find.{get}
@@ -16,6 +16,9 @@ use Rattle.luks_rules.specs.Faults.{object_at}
 use Rattle.luks_rules.specs.Reading.{decimal_in}
 use Rattle.luks_making.specs.Changed.{changed_slot}
 use Rattle.luks_making.specs.Conditions.{CanSeal, FitsNew, IsFree, IsRoom}
+use Rattle.luks_making.specs.Derivations.{asked_beyond, asked_few_turns, FitsAsked}
+use Rattle.luks_making.specs.declared.derivation.AskedDerivation.{AskedDerivation}
+use Rattle.luks_making.specs.declared.derivation.NewDerivation.{NewDerivation}
 use Rattle.luks_making.specs.Keyslots.{slot_value, NewMembers}
 use Rattle.luks_making.specs.Naming.{HasUniqueDigests}
 use Rattle.luks_making.specs.Unchanged.{ChangesSlot, GainsSlot, SaysMembers}
@@ -30,9 +33,9 @@ use Rattle.luks_reading.specs.Layout2.{slot_number}
 use Rattle.luks_edit.specs.declared.edit.Edit.{Edit}
 use Rattle.luks_edit.specs.declared.edit.Edit.TheVariants.{Add, Change, Remove, Repair, Label}
 use Rattle.luks_edit.specs.Asked.{memory_for}
-use Rattle.luks_edit.specs.declared.edit_fault.EditFault.TheVariants.{Iterations, NoFreeSlot, RandomLength, SlotTaken}
+use Rattle.luks_edit.specs.declared.edit_fault.EditFault.TheVariants.{Argon2, Iterations, NoFreeSlot, RandomLength, SlotTaken}
 use Rattle.luks_edit.specs.Kept.{Keeps}
-use Rattle.luks2_edit_laws.specs.Edited.{keyslot_salt, members_of, After2, HasAdded, HasChanged, HasRangedIterations, HasRanges, IsEdited, IsMadeIn, IsSealedBy, IsWiped, IsWipedBy, NamedKeyslots2}
+use Rattle.luks2_edit_laws.specs.Edited.{keyslot_salt, members_of, After2, HasAdded, HasChanged, HasRangedDerivation, HasRanges, IsEdited, IsMadeIn, IsSealedBy, IsWiped, IsWipedBy, NamedKeyslots2}
 use Rattle.luks2_edit_laws.specs.Metadata.{HasMetadata, HasStripes, IsNewKeyslot}
 use Rattle.luks2_edit_laws.specs.Places.{key_areas_end, IsNewArea, Loses}
 use Rattle.luks2_edit_laws.specs.Refused.{HasNoNumber, IsNumberTaken, IsUnrefused2, NeedsLike}
@@ -41,18 +44,18 @@ use Rattle.luks2_edit_laws.proofs.KeptFacts.{all_kept, says_itself, KeepsMetadat
 use Rattle.luks2_edit_laws.proofs.SoundCopyFacts.{copy_sound}
 use Rattle.luks2_edit_laws.proofs.MetadataFacts.{lost_metadata, placed_metadata}
 use Rattle.luks2_edit_laws.proofs.PlaceFacts.{left_bytes}
-use Rattle.luks2_edit_laws.proofs.SealFacts.{can_seal, enough_random, fits_new, none_of, opened_there, opened_plan, part_bytes, salt_length, under, IsOpened}
+use Rattle.luks2_edit_laws.proofs.SealFacts.{can_seal, enough_random, fits_new, none_of, opened_there, positive, opened_plan, part_bytes, salt_length, under, IsOpened}
 use Rattle.luks2_edit_laws.proofs.UniqueFacts.{unique_digests}
 use Rattle.luks2_edit_laws.proofs.VolumeFacts.{areas_are, copy_of, layout_of, HasCopy, IsLayout}
 
 -- what an edit is given has the ranges of its types
-pub has_ranges : (v : List ℕ) (e : Edit) (random : List ℕ) {size : ℕ} → length v ≡ size → size < 2 ^ 64 → HasRangedIterations e → IsBytes random → HasRanges v e random
-has_ranges v e random long fits iterations random_bytes = record { size = omega (arith, long, fits); iterations = iterations; random_bytes = random_bytes }
+pub has_ranges : (v : List ℕ) (e : Edit) (random : List ℕ) {size : ℕ} → length v ≡ size → size < 2 ^ 64 → HasRangedDerivation e → IsBytes random → HasRanges v e random
+has_ranges v e random long fits derivation random_bytes = record { size = omega (arith, long, fits); derivation = derivation; random_bytes = random_bytes }
 
 -- a keyslot that loses its area is named
 pub lost_is_named : (v : List ℕ) (e : Edit) (n : ℕ) → Loses e n → NamedKeyslots2 v e n
-lost_is_named v (Add by_ old new to iterations) n lost = absurd lost
-lost_is_named v (Change slot old new iterations) n lost = lost
+lost_is_named v (Add by_ old new to iterations d) n lost = absurd lost
+lost_is_named v (Change slot old new iterations d) n lost = lost
 lost_is_named v (Remove slot by_ passphrase) n lost = lost
 lost_is_named v Repair n lost = absurd lost
 lost_is_named v (Label text) n lost = absurd lost
@@ -93,11 +96,16 @@ need_met j n random key stripes slot met =
       | inr other ↦ absurd (met need like other)
     ]
 
+-- the derivation that an edit asks for
+abbrev pub asking : ℕ → Option NewDerivation → AskedDerivation
+asking n d = record { iterations = n; chosen = d }
+
 -- what no refusal says of an edit that seals a keyslot like the keyslot `n`
-pub record IsReady (memory : ℕ) (v : List ℕ) (o : ℕ) (j : Value) (n iterations : ℕ) (random : List ℕ) : Type 0 where
+pub record IsReady (memory : ℕ) (v : List ℕ) (o : ℕ) (j : Value) (n : ℕ) (asked : AskedDerivation) (random : List ℕ) : Type 0 where
   pub opened : IsOpened memory v o j n
-  pub turns : 1000 ≤ iterations
-  pub ranged : iterations < 2 ^ 32
+  pub turns : asked_few_turns asked ≡ false
+  pub within : asked_beyond memory asked ≡ false
+  pub ranged : FitsAsked asked
   pub small : length v < 2 ^ 64
   pub random_bytes : IsBytes random
   pub met : (need : ℕ) → NeedsLike j n need → length random ≢ need → ⊥
@@ -107,17 +115,16 @@ above : {g h : ℕ} → g ≡ h → 16384 ≤ g → 4096 ≤ h
 above same least = omega (arith, same, least)
 
 module _ (memory : ℕ) (v : List ℕ) (o h : ℕ) (payload : Data) (random : List ℕ) (j k : Value) (before : HasCopy v o h j)
-    (layout : IsLayout h (length v) payload j) (n iterations : ℕ) (ready : IsReady memory v o j n iterations random) where
+    (layout : IsLayout h (length v) payload j) (n : ℕ) (asked : AskedDerivation) (ready : IsReady memory v o j n asked random) where
   head_size : 4096 ≤ h
   head_size =
       let least : 16384 ≤ hdr_size (header_at v o) = listed_at_least (hdr_size (header_at v o)) (copy_sound v o before.copies before.chosen).form.listed in
       let size : hdr_size (header_at v o) ≡ h = before.size in
       above size least
 
-  seals : (area : Area) → IsNewArea h (length v) payload j n area → CanSeal (h - 4096) j n (members_of iterations (keyslot_salt random) area)
+  seals : (area : Area) → IsNewArea h (length v) payload j n area → CanSeal (h - 4096) j n (members_of asked (keyslot_salt random) area)
   seals area place =
-      let turns : 1000 ≤ iterations = ready.turns in
-      can_seal h (length v) payload j n area place iterations (keyslot_salt random) head_size (opened_there memory v o j n ready.opened) (omega (arith, turns))
+      can_seal h (length v) payload j n area place asked (keyslot_salt random) head_size (opened_there memory v o j n ready.opened) (positive memory asked ready.turns ready.within)
       (salt_length random (need_met j n random place.key_bytes place.stripes place.slot ready.met))
 
   -- the new salt is long enough for Argon2
@@ -126,37 +133,37 @@ module _ (memory : ℕ) (v : List ℕ) (o h : ℕ) (payload : Data) (random : Li
       let long : length (keyslot_salt random) ≡ 32 = salt_length random (need_met j n random place.key_bytes place.stripes place.slot ready.met) in
       omega (arith, long)
 
-  fits : (area : Area) → IsNewArea h (length v) payload j n area → FitsNew (members_of iterations (keyslot_salt random) area)
-  fits area place = fits_new h (length v) payload j n area place iterations (keyslot_salt random) ready.small ready.ranged (part_bytes random 128 32 ready.random_bytes)
+  fits : (area : Area) → IsNewArea h (length v) payload j n area → FitsNew (members_of asked (keyslot_salt random) area)
+  fits area place = fits_new h (length v) payload j n area place asked (keyslot_salt random) ready.small ready.ranged (part_bytes random 128 32 ready.random_bytes)
 
   -- the keyslot that is gained, and what it says
   pub added_gains : (to : Option ℕ) → (IsNumberTaken j to → ⊥) → (HasNoNumber j to → ⊥)
-      → (a : HasAdded h (length v) payload n to iterations (keyslot_salt random) j k) → GainsSlot a.slot a.is.digest a.is.slot j k
+      → (a : HasAdded h (length v) payload n to asked (keyslot_salt random) j k) → GainsSlot a.slot a.is.digest a.is.slot j k
   added_gains to taken none a =
-      gained_added (h - 4096) a.slot n (members_of iterations (keyslot_salt random) a.area) j k layout.held
+      gained_added (h - 4096) a.slot n (members_of asked (keyslot_salt random) a.area) j k layout.held
       (unique_digests before.holds.text j before.holds.reads) (new_free j to a.slot taken none a.is_new) (seals a.area a.place) (fits a.area a.place) a.is
 
   pub added_says : (to : Option ℕ) → (IsNumberTaken j to → ⊥) → (HasNoNumber j to → ⊥)
-      → (a : HasAdded h (length v) payload n to iterations (keyslot_salt random) j k) → SaysMembers a.is.slot (slot_value a.is.slot)
+      → (a : HasAdded h (length v) payload n to asked (keyslot_salt random) j k) → SaysMembers a.is.slot (slot_value a.is.slot)
   added_says to taken none a =
       let room : IsRoom (h - 4096) a.slot a.is.digest a.is.slot j a.is.names.object =
-      has_room (h - 4096) a.slot n (members_of iterations (keyslot_salt random) a.area) j k layout.held.content
+      has_room (h - 4096) a.slot n (members_of asked (keyslot_salt random) a.area) j k layout.held.content
       (unique_digests before.holds.text j before.holds.reads) (new_free j to a.slot taken none a.is_new) (seals a.area a.place) (fits a.area a.place) a.is in
       says_members a.is.slot room.fits
 
   -- the keyslot that is changed
-  pub changed_changes : (a : HasChanged h (length v) payload n iterations (keyslot_salt random) j k)
-      → ChangesSlot n (members_of iterations (keyslot_salt random) a.area) j k
+  pub changed_changes : (a : HasChanged h (length v) payload n asked (keyslot_salt random) j k)
+      → ChangesSlot n (members_of asked (keyslot_salt random) a.area) j k
   changed_changes a =
-      let c : ChangesSlot n (members_of iterations (keyslot_salt random) a.area) j (changed_slot n (members_of iterations (keyslot_salt random) a.area) j) =
-      slot_renewed (h - 4096) n (members_of iterations (keyslot_salt random) a.area) j layout.held.content (seals a.area a.place) (fits a.area a.place) in
-      subst (ChangesSlot n (members_of iterations (keyslot_salt random) a.area) j) (sym a.is) c
+      let c : ChangesSlot n (members_of asked (keyslot_salt random) a.area) j (changed_slot n (members_of asked (keyslot_salt random) a.area) j) =
+      slot_renewed (h - 4096) n (members_of asked (keyslot_salt random) a.area) j layout.held.content (seals a.area a.place) (fits a.area a.place) in
+      subst (ChangesSlot n (members_of asked (keyslot_salt random) a.area) j) (sym a.is) c
 
   -- the metadata with a new keyslot
   added_metadata : (named : ℕ → Type 0) (to : Option ℕ) → (IsNumberTaken j to → ⊥) → (HasNoNumber j to → ⊥)
-      → (a : HasAdded h (length v) payload n to iterations (keyslot_salt random) j k) → named a.slot → KeepsMetadata h (length v) payload named j k
+      → (a : HasAdded h (length v) payload n to asked (keyslot_salt random) j k) → named a.slot → KeepsMetadata h (length v) payload named j k
   added_metadata named to taken none a is =
-      let f : NewMembers = members_of iterations (keyslot_salt random) a.area in
+      let f : NewMembers = members_of asked (keyslot_salt random) a.area in
       let free : IsFree j a.slot = new_free j to a.slot taken none a.is_new in
       let once : HasUniqueDigests j = unique_digests before.holds.text j before.holds.reads in
       let seal : CanSeal (h - 4096) j n f = seals a.area a.place in
@@ -172,10 +179,10 @@ module _ (memory : ℕ) (v : List ℕ) (o h : ℕ) (payload : Data) (random : Li
       (under h (length v) payload j n a.area a.place) named is (held_added (h - 4096) a.slot n f j k layout.held once free seal fit a.is) layout
 
   -- the metadata with a keyslot that was sealed again
-  changed_metadata : (named : ℕ → Type 0) → (a : HasChanged h (length v) payload n iterations (keyslot_salt random) j k) → named n
+  changed_metadata : (named : ℕ → Type 0) → (a : HasChanged h (length v) payload n asked (keyslot_salt random) j k) → named n
       → KeepsMetadata h (length v) payload named j k
   changed_metadata named a is =
-      let f : NewMembers = members_of iterations (keyslot_salt random) a.area in
+      let f : NewMembers = members_of asked (keyslot_salt random) a.area in
       let new : Value = changed_slot n f j in
       let seal : CanSeal (h - 4096) j n f = seals a.area a.place in
       let fit : FitsNew f = fits a.area a.place in
@@ -193,51 +200,49 @@ module _ (memory : ℕ) (v : List ℕ) (o h : ℕ) (payload : Data) (random : Li
 
 -- the keyslot that the edit opens was opened
 abbrev pub WasOpened : List ℕ → Edit → Type 0
-WasOpened v (Add by_ old new to iterations) = (key : List ℕ) × AnswerWithin (memory_for old new.now) v by_ old.bytes.now (opens key)
-WasOpened v (Change slot old new iterations) = (key : List ℕ) × AnswerWithin (memory_for old new.now) v slot old.bytes.now (opens key)
+WasOpened v (Add by_ old new to iterations d) = (key : List ℕ) × AnswerWithin (memory_for old new.now) v by_ old.bytes.now (opens key)
+WasOpened v (Change slot old new iterations d) = (key : List ℕ) × AnswerWithin (memory_for old new.now) v slot old.bytes.now (opens key)
 WasOpened v (Remove slot by_ passphrase) = Unit {0}
 WasOpened v Repair = Unit {0}
 WasOpened v (Label text) = Unit {0}
 
 pub was_opened : (v : List ℕ) (e : Edit) (random : List ℕ) (j : Value) (w : List ℕ) (k : Value) → IsSealedBy v e random j w k → WasOpened v e
-was_opened v (Add by_ old new to iterations) random j w k sealed = (sealed.key, sealed.opened)
-was_opened v (Change slot old new iterations) random j w k sealed = (sealed.key, sealed.opened)
+was_opened v (Add by_ old new to iterations d) random j w k sealed = (sealed.key, sealed.opened)
+was_opened v (Change slot old new iterations d) random j w k sealed = (sealed.key, sealed.opened)
 was_opened v (Remove slot by_ passphrase) random j w k sealed = tt
 was_opened v Repair random j w k sealed = tt
 was_opened v (Label text) random j w k sealed = tt
-
--- iterations that aren't too few
-pub enough_turns : (iterations : ℕ) → (iterations < 1000 → ⊥) → 1000 ≤ iterations
-enough_turns iterations few = elim (cases_lt iterations 1000) [ inl lt ↦ absurd (few lt) | inr past ↦ past ]
 
 pub edited_metadata : (v : List ℕ) (o : ℕ) (payload : Data) (e : Edit) (random : List ℕ) (j k : Value)
     → HasMetadata v o j → HasCopy v o (hdr_size (header_at v o)) j → HasRanges v e random → IsUnrefused2 v payload e random → WasOpened v e
     → IsEdited (hdr_size (header_at v o)) (length v) payload e (keyslot_salt random) j k
     → IsLayout (hdr_size (header_at v o)) (length v) payload j
     → KeepsMetadata (hdr_size (header_at v o)) (length v) payload (NamedKeyslots2 v e) j k
-edited_metadata v o payload (Add by_ old new to iterations) random j k m before ranges free sealed is layout =
-    let ready : IsReady (memory_for old new.now) v o j by_ iterations random = record {
+edited_metadata v o payload (Add by_ old new to iterations d) random j k m before ranges free sealed is layout =
+    let ready : IsReady (memory_for old new.now) v o j by_ (asking iterations d) random = record {
       opened = opened_plan (memory_for old new.now) v o j by_ old.bytes.now sealed.0 m sealed.1;
-      turns = enough_turns iterations (λ few. free.none Iterations few);
-      ranged = ranges.iterations;
+      turns = false_from_ne_true _ (λ few. free.none Iterations few);
+      within = false_from_ne_true _ (λ beyond. free.none Argon2 beyond);
+      ranged = ranges.derivation;
       small = ranges.size;
       random_bytes = ranges.random_bytes;
       met = λ need like other. free.none RandomLength (record { place = o; value = j; metadata = m; is = record { need = need; is = like; other = other } });
     } in
-    added_metadata (memory_for old new.now) v o (hdr_size (header_at v o)) payload random j k before layout by_ iterations ready (λ n. IsMadeIn v to n) to
+    added_metadata (memory_for old new.now) v o (hdr_size (header_at v o)) payload random j k before layout by_ (asking iterations d) ready (λ n. IsMadeIn v to n) to
     (λ taken. free.none SlotTaken (record { place = o; value = j; metadata = m; is = taken }))
     (λ none. free.none NoFreeSlot (record { place = o; value = j; metadata = m; is = none }))
     is (record { place = o; value = j; metadata = m; is_new = is.is_new })
-edited_metadata v o payload (Change slot old new iterations) random j k m before ranges free sealed is layout =
-    let ready : IsReady (memory_for old new.now) v o j slot iterations random = record {
+edited_metadata v o payload (Change slot old new iterations d) random j k m before ranges free sealed is layout =
+    let ready : IsReady (memory_for old new.now) v o j slot (asking iterations d) random = record {
       opened = opened_plan (memory_for old new.now) v o j slot old.bytes.now sealed.0 m sealed.1;
-      turns = enough_turns iterations (λ few. free.none Iterations few);
-      ranged = ranges.iterations;
+      turns = false_from_ne_true _ (λ few. free.none Iterations few);
+      within = false_from_ne_true _ (λ beyond. free.none Argon2 beyond);
+      ranged = ranges.derivation;
       small = ranges.size;
       random_bytes = ranges.random_bytes;
       met = λ need like other. free.none RandomLength (record { place = o; value = j; metadata = m; is = record { need = need; is = like; other = other } });
     } in
-    changed_metadata (memory_for old new.now) v o (hdr_size (header_at v o)) payload random j k before layout slot iterations ready (λ n. n ≡ slot) is refl
+    changed_metadata (memory_for old new.now) v o (hdr_size (header_at v o)) payload random j k before layout slot (asking iterations d) ready (λ n. n ≡ slot) is refl
 edited_metadata v o payload (Remove slot by_ passphrase) random j k m before ranges free sealed is layout =
     without_metadata (hdr_size (header_at v o)) (length v) payload (λ n. n ≡ slot) slot j k refl is layout
 edited_metadata v o payload Repair random j k m before ranges free sealed is layout =
@@ -281,8 +286,8 @@ module _
 
 -- the area that a keyslot loses is wiped
 wiped_is : (e : Edit) (j : Value) (w : List ℕ) (n : ℕ) → IsWipedBy e j w → Loses e n → IsWiped j n w
-wiped_is (Add by_ old new to iterations) j w n wiped lost = absurd lost
-wiped_is (Change slot old new iterations) j w n wiped lost = subst (λ m. IsWiped j m w) (sym lost) wiped
+wiped_is (Add by_ old new to iterations d) j w n wiped lost = absurd lost
+wiped_is (Change slot old new iterations d) j w n wiped lost = subst (λ m. IsWiped j m w) (sym lost) wiped
 wiped_is (Remove slot by_ passphrase) j w n wiped lost = subst (λ m. IsWiped j m w) (sym lost) wiped
 wiped_is Repair j w n wiped lost = absurd lost
 wiped_is (Label text) j w n wiped lost = absurd lost

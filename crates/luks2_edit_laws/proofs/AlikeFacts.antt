@@ -1,7 +1,8 @@
--- A keyslot that says of its opening what another one says, by a digest of the same hash: its plan is
--- refused where the other is.
-use Rattle.std.proofs.Common.{◌≡◌, ◌≤◌, ◌*◌, ◌-◌, ◌^◌, false, List, ℕ, length, codes, Some, None, is_some, refl, sym, ap, subst, ◌∙◌, arith}
-use Rattle.std.specs.Prelude.{◌||◌, nat_lt}
+-- A keyslot that says of its opening what another one says, or derives as is chosen, by a digest of the
+-- same hash: its plan is refused where the other is.
+use Rattle.std.proofs.Common.{◌≡◌, ◌≤◌, ◌*◌, ◌-◌, ◌^◌, Bool, true, false, List, ℕ, length, codes, Option, Some, None, is_some, refl, sym, ap, subst, ◌∙◌, arith}
+use Rattle.std.specs.Prelude.{◌==◌, ◌||◌, if◌then◌else◌, nat_lt, not}
+use Rattle.std.proofs.lemmas.Bool.{and_parts}
 use Rattle.std.proofs.lemmas.Bool.Decides.{nat_tests}
 use Rattle.serde_json.specs.Data.{Data as Value}
 use Rattle.luks_kdf.specs.Names.{hash_named}
@@ -9,9 +10,12 @@ use Rattle.luks_rules.specs.declared.table.Member.TheVariants as name
 use Rattle.luks_rules.specs.declared.table.Outer.TheVariants as outer
 use Rattle.luks_rules.specs.Faults.{member_at, type_at}
 use Rattle.luks_rules.specs.Reading.{bytes_in, number_in, text_of}
-use Rattle.luks_making.specs.declared.new_keyslot.Argon2Costs.{Argon2Costs}
-use Rattle.luks_making.specs.Keyslots.{by_argon2i, by_argon2id, by_pbkdf2, Deriving, HasCosts, IsDerivedLike, NewMembers}
-use Rattle.luks_making.specs.Unchanged.{SaysArgon2, SaysDerivation, SaysNew}
+use Rattle.luks_making.specs.Derivations.{beyond, chosen_beyond, costs_beyond}
+use Rattle.luks_making.specs.declared.derivation.Argon2Costs.{Argon2Costs}
+use Rattle.luks_making.specs.declared.derivation.NewDerivation.{NewDerivation}
+use Rattle.luks_making.specs.declared.derivation.NewDerivation.TheVariants as by
+use Rattle.luks_making.specs.Keyslots.{by_argon2i, by_argon2id, by_pbkdf2, derivation_by, Deriving, HasCosts, IsDerivedLike, IsDerivedOr, NewMembers}
+use Rattle.luks_making.specs.Unchanged.{KeepsDerivation, SaysArgon2, SaysAsked, SaysDerivation}
 use Rattle.luks_slot.specs.declared.plan.Argon2Kind.{Argon2Kind}
 use Rattle.luks_slot.specs.declared.plan.Argon2Kind.TheVariants.{I, Id}
 use Rattle.luks_slot.specs.declared.plan.AreaCipher.{AreaCipher}
@@ -19,22 +23,30 @@ use Rattle.luks_slot.specs.declared.plan.AreaCipher.TheVariants.{Apart, Whole}
 use Rattle.luks_slot.specs.declared.plan.Derivation.{Derivation}
 use Rattle.luks_slot.specs.declared.plan.Derivation.TheVariants.{Pbkdf2, Argon2}
 use Rattle.luks_slot.specs.declared.plan.SlotPlan.{SlotPlan}
-use Rattle.luks_slot.specs.Refusal.{is_argon2_refused, is_known_derivation, is_open_cipher, slot_refusal_within}
+use Rattle.luks_slot.specs.declared.fault.SlotFault.TheVariants as refusal
+use Rattle.luks_slot.specs.Refusal.{are_known_hashes, is_argon2_refused, is_known_derivation, is_open_cipher, slot_refusal_within}
 use Rattle.luks_reading.specs.Plans.{kind_text, IsLuks2Cipher, IsLuks2Derivation, IsLuks2Plan}
 use Rattle.luks2_edit_laws.proofs.MetadataFacts.{some_same}
 use Rattle.luks2_edit_laws.proofs.SealFacts.{allowed_derivation}
 
--- one derivation is refused where another is: both are PBKDF2 with one hash, or Argon2 with one memory
--- and as many lanes, the new one by a salt that is long enough
-abbrev pub IsDerivedAlike : Derivation → Derivation → Type 0
+-- one derivation is as another: both are PBKDF2 with one hash, or Argon2 with one memory and as many
+-- lanes, the new one by a salt that is long enough
+abbrev IsDerivedAlike : Derivation → Derivation → Type 0
 IsDerivedAlike (Pbkdf2 h i s) (Pbkdf2 g k t) = h.now ≡ g.now
 IsDerivedAlike (Pbkdf2 h i s) (Argon2 d) = ⊥
 IsDerivedAlike (Argon2 c) (Pbkdf2 g k t) = ⊥
 IsDerivedAlike (Argon2 c) (Argon2 d) = (c.memory ≡ d.memory) × (c.cpus ≡ d.cpus) × (8 ≤ length d.salt.now)
 
--- the keyslot `new` says of its opening what the keyslot `old` says
-pub record SaysLike (old new : Value) : Type 0 where
-  pub derived : (a b : Derivation) → IsLuks2Derivation old a → IsLuks2Derivation new b → IsDerivedAlike a b
+-- the derivation `b` isn't refused where `a` isn't, beside a splitter of this hash, and so many KiB of
+-- memory are allowed
+pub record OpensAlike (memory : ℕ) (splitter : List ℕ) (a b : Derivation) : Type 0 where
+  pub argon2 : is_argon2_refused memory a ≡ false → is_argon2_refused memory b ≡ false
+  pub known : is_some (hash_named splitter) ≡ true → is_known_derivation a ≡ true → is_known_derivation b ≡ true
+
+-- the keyslot `new` says of its opening what the keyslot `old` says, but for how it derives
+pub record SaysLike (memory : ℕ) (old new : Value) : Type 0 where
+  pub derived : (a b : Derivation) (hash : List ℕ) → IsLuks2Derivation old a → IsLuks2Derivation new b → text_of (member_at old outer.Af name.Hash) ≡ Some hash
+      → OpensAlike memory hash a b
   pub encryption : text_of (member_at new outer.Area name.Encryption) ≡ text_of (member_at old outer.Area name.Encryption)
   pub area_key : number_in 1 128 (member_at new outer.Area name.KeySize) ≡ number_in 1 128 (member_at old outer.Area name.KeySize)
   pub splitter : text_of (member_at new outer.Af name.Hash) ≡ text_of (member_at old outer.Af name.Hash)
@@ -56,22 +68,23 @@ module _ (d f : Value) (salt : List ℕ) (said : bytes_in 1 128 (member_at f out
     subst (λ s. 8 ≤ length s) (some_same salt e.salt.now (sym said ∙ y.4)) long,
   )
 
-  pub made_derived : (n : ℕ) (k : Deriving) (a b : Derivation) → IsDerivedLike d n k → SaysDerivation k f → IsLuks2Derivation d a → IsLuks2Derivation f b → IsDerivedAlike a b
+  made_derived : (n : ℕ) (k : Deriving) (a b : Derivation) → IsDerivedLike d n k → SaysDerivation k f → IsLuks2Derivation d a → IsLuks2Derivation f b → IsDerivedAlike a b
   made_derived n (by_pbkdf2 hash iterations) (Pbkdf2 h i s) (Pbkdf2 g l t) like says x y = some_same h.now g.now (sym x.1 ∙ like.1 ∙ sym says.hash ∙ y.1)
   made_derived n (by_pbkdf2 hash iterations) (Pbkdf2 h i s) (Argon2 e) like says x y = absurd (other_kinds e.kind (sym y.0 ∙ says.kind))
   made_derived n (by_pbkdf2 hash iterations) (Argon2 c) b like says x y = absurd (other_kinds c.kind (sym x.0 ∙ like.0))
   made_derived n (by_argon2i costs) a b like says x y = costs_alike (codes "argon2i") costs a b like.0 (other_kinds I) like.1 says x y
   made_derived n (by_argon2id costs) a b like says x y = costs_alike (codes "argon2id") costs a b like.0 (other_kinds Id) like.1 says x y
 
--- a keyslot that was sealed again
-pub changed_derived : (f : NewMembers) (was now : Value) (a b : Derivation) → SaysNew f was now → 8 ≤ length f.salt → IsLuks2Derivation was a → IsLuks2Derivation now b → IsDerivedAlike a b
-changed_derived f was now (Pbkdf2 h i s) (Pbkdf2 g l t) says long x y = some_same h.now g.now (sym x.1 ∙ sym (ap text_of (says.kdf (codes "hash") refl)) ∙ y.1)
-changed_derived f was now (Pbkdf2 h i s) (Argon2 e) says long x y = absurd (other_kinds e.kind (sym y.0 ∙ ap text_of (says.kdf (codes "type") refl) ∙ x.0))
-changed_derived f was now (Argon2 c) (Pbkdf2 g l t) says long x y = absurd (other_kinds c.kind (sym x.0 ∙ sym (ap text_of (says.kdf (codes "type") refl)) ∙ y.0))
-changed_derived f was now (Argon2 c) (Argon2 e) says long x y = (
-  some_same c.memory e.memory (sym x.2 ∙ sym (ap (number_in 1 4294967295) (says.kdf (codes "memory") refl)) ∙ y.2),
-  some_same c.cpus e.cpus (sym x.3 ∙ sym (ap (number_in 1 4294967295) (says.kdf (codes "cpus") refl)) ∙ y.3),
-  subst (λ s. 8 ≤ length s) (some_same f.salt e.salt.now (sym says.salt ∙ y.4)) long,
+-- a keyslot that was sealed again, where nothing is chosen
+kept_derived : (n : ℕ) (salt : List ℕ) (was now : Value) (a b : Derivation) → KeepsDerivation n was now → bytes_in 1 128 (member_at now outer.Kdf name.Salt) ≡ Some salt → 8 ≤ length salt
+    → IsLuks2Derivation was a → IsLuks2Derivation now b → IsDerivedAlike a b
+kept_derived n salt was now (Pbkdf2 h i s) (Pbkdf2 g l t) says said long x y = some_same h.now g.now (sym x.1 ∙ sym (ap text_of (says.others (codes "hash") refl)) ∙ y.1)
+kept_derived n salt was now (Pbkdf2 h i s) (Argon2 e) says said long x y = absurd (other_kinds e.kind (sym y.0 ∙ ap text_of (says.others (codes "type") refl) ∙ x.0))
+kept_derived n salt was now (Argon2 c) (Pbkdf2 g l t) says said long x y = absurd (other_kinds c.kind (sym x.0 ∙ sym (ap text_of (says.others (codes "type") refl)) ∙ y.0))
+kept_derived n salt was now (Argon2 c) (Argon2 e) says said long x y = (
+  some_same c.memory e.memory (sym x.2 ∙ sym (ap (number_in 1 4294967295) (says.others (codes "memory") refl)) ∙ y.2),
+  some_same c.cpus e.cpus (sym x.3 ∙ sym (ap (number_in 1 4294967295) (says.others (codes "cpus") refl)) ∙ y.3),
+  subst (λ s. 8 ≤ length s) (some_same salt e.salt.now (sym said ∙ y.4)) long,
 )
 
 -- limits that Argon2 keeps it keeps by another salt that is long enough
@@ -92,6 +105,52 @@ known_both (Pbkdf2 h i s) (Argon2 d) alike = absurd alike
 known_both (Argon2 c) (Pbkdf2 g k t) alike = absurd alike
 known_both (Argon2 c) (Argon2 d) alike = refl
 
+-- what is derived alike opens alike
+alike_opens : (memory : ℕ) (splitter : List ℕ) (a b : Derivation) → IsDerivedAlike a b → OpensAlike memory splitter a b
+alike_opens memory splitter a b alike = record { argon2 = argon2_both memory a b alike; known = λ other known. sym (known_both a b alike) ∙ known }
+
+-- limits that a chosen Argon2 keeps it keeps by a salt that is long enough
+chosen_limits : (memory m c salt n k : ℕ) → m ≡ n → c ≡ k → 8 ≤ salt → (nat_lt memory m || nat_lt m (8 * c) || nat_lt c 1 || nat_lt (2 ^ 24 - 1) c) ≡ false
+    → (nat_lt memory n || nat_lt n (8 * k) || nat_lt k 1 || nat_lt (2 ^ 24 - 1) k || nat_lt salt 8) ≡ false
+chosen_limits memory m c salt n k one two long is = grind (arith, nat_tests)
+
+-- a keyslot that derives as is chosen, within the memory that is allowed, opens
+module _ (memory : ℕ) (hash salt : List ℕ) (f : Value) (said : bytes_in 1 128 (member_at f outer.Kdf name.Salt) ≡ Some salt) (long : 8 ≤ length salt) where
+  costs_open : (k : Argon2Kind) (costs : Argon2Costs) (a b : Derivation) → costs_beyond memory costs ≡ false → SaysArgon2 (kind_text k) costs f → IsLuks2Derivation f b → OpensAlike memory hash a b
+  costs_open k costs a (Pbkdf2 g l t) within says y = absurd (other_kinds k (sym says.kind ∙ y.0))
+  costs_open k costs a (Argon2 e) within says y = record {
+    argon2 = λ off.
+        chosen_limits memory costs.memory costs.cpus (length e.salt.now) e.memory e.cpus (some_same costs.memory e.memory (sym says.memory ∙ y.2)) (some_same costs.cpus e.cpus (sym says.cpus ∙ y.3))
+        (subst (λ s. 8 ≤ length s) (some_same salt e.salt.now (sym said ∙ y.4)) long) within;
+    known = λ other known. refl;
+  }
+
+  pub chosen_opens : (c : NewDerivation) (a b : Derivation) → beyond memory c ≡ false → SaysDerivation (derivation_by hash c) f → IsLuks2Derivation f b → OpensAlike memory hash a b
+  chosen_opens (by.Pbkdf2 iterations) a (Pbkdf2 g l t) within says y = record {
+    argon2 = λ off. refl;
+    known = λ other known. subst (λ h. is_some (hash_named h) ≡ true) (some_same hash g.now (sym says.hash ∙ y.1)) other;
+  }
+  chosen_opens (by.Pbkdf2 iterations) a (Argon2 e) within says y = absurd (other_kinds e.kind (sym y.0 ∙ says.kind))
+  chosen_opens (by.Argon2i costs) a b within says y = costs_open I costs a b within says y
+  chosen_opens (by.Argon2id costs) a b within says y = costs_open Id costs a b within says y
+
+-- a keyslot that was made with the members of another, or derives as is chosen
+pub made_derived_or : (memory : ℕ) (d f : Value) (hash salt : List ℕ) → bytes_in 1 128 (member_at f outer.Kdf name.Salt) ≡ Some salt → 8 ≤ length salt → (n : ℕ) (chosen : Option NewDerivation)
+    (k : Deriving) (a b : Derivation) → chosen_beyond memory chosen ≡ false → IsDerivedOr d n hash chosen k → SaysDerivation k f → IsLuks2Derivation d a → IsLuks2Derivation f b
+    → OpensAlike memory hash a b
+made_derived_or memory d f hash salt said long n None k a b within is says x y = alike_opens memory hash a b (made_derived d f salt said long n k a b is says x y)
+made_derived_or memory d f hash salt said long n (Some c) k a b within is says x y =
+    chosen_opens memory hash salt f said long c a b within (subst (λ q. SaysDerivation q f) is says) y
+
+-- and one that was sealed again, whose splitter has the hash
+pub changed_derived_or : (memory : ℕ) (f : NewMembers) (was now : Value) (hash : List ℕ) → bytes_in 1 128 (member_at now outer.Kdf name.Salt) ≡ Some f.salt → 8 ≤ length f.salt
+    → text_of (member_at now outer.Af name.Hash) ≡ Some hash → (chosen : Option NewDerivation) (a b : Derivation) → chosen_beyond memory chosen ≡ false → SaysAsked f chosen was now
+    → IsLuks2Derivation was a → IsLuks2Derivation now b → OpensAlike memory hash a b
+changed_derived_or memory f was now hash said long splitter None a b within says x y = alike_opens memory hash a b (kept_derived f.derivation.iterations f.salt was now a b says said long x y)
+changed_derived_or memory f was now hash said long splitter (Some c) a b within says x y =
+    let own : says.hash ≡ hash = some_same says.hash hash (sym says.splitter ∙ splitter) in
+    chosen_opens memory hash f.salt now said long c a b within (subst (λ h. SaysDerivation (derivation_by h c) now) own says.derivation) y
+
 cipher_both : (d f : Value) (a b : AreaCipher) → text_of (member_at f outer.Area name.Encryption) ≡ text_of (member_at d outer.Area name.Encryption)
     → IsLuks2Cipher d a → IsLuks2Cipher f b → is_open_cipher a ≡ is_open_cipher b
 cipher_both d f (Apart n m) b same x y = absurd x
@@ -110,14 +169,27 @@ record SameTerms (memory : ℕ) (a b : SlotPlan) : Type 0 where
 same_refusal : (memory : ℕ) (a b : SlotPlan) → SameTerms memory a b → slot_refusal_within memory a ≡ slot_refusal_within memory b
 same_refusal memory a b s = simp (s.argon2, s.known, s.cipher, s.area_key_bytes, s.splitter_hash, s.digest_hash)
 
-pub alike_refusal : {j k d f : Value} {m n : ℕ} (memory : ℕ) (a b : SlotPlan) → SaysLike d f → slot_refusal_within memory a ≡ None → IsLuks2Plan j m d a → IsLuks2Plan k n f b
+-- where a plan isn't refused, its hashes are known
+open_hashes : (test cipher known size : Bool)
+    → (if test then Some refusal.Argon2 else if not cipher then Some refusal.Cipher else if not known then Some refusal.Hash else if not size then Some refusal.KeySize else None) ≡ None
+    → known ≡ true
+open_hashes true cipher known size is = absurd cc
+open_hashes false false known size is = absurd cc
+open_hashes false true false size is = absurd cc
+open_hashes false true true size is = refl
+
+pub alike_refusal : {j k d f : Value} {m n : ℕ} (memory : ℕ) (a b : SlotPlan) → SaysLike memory d f → slot_refusal_within memory a ≡ None → IsLuks2Plan j m d a → IsLuks2Plan k n f b
     → a.digest.hash.now ≡ b.digest.hash.now → slot_refusal_within memory a ≡ slot_refusal_within memory b
 alike_refusal {j} {k} {d} {f} {m} {n} memory a b like open_ x y hash =
     let off : is_argon2_refused memory a.derivation ≡ false = allowed_derivation memory a open_ (is_argon2_refused memory a.derivation) refl in
-    let alike = like.derived a.derivation b.derivation x.derivation y.derivation in
+    let hashes : are_known_hashes a ≡ true =
+    open_hashes (is_argon2_refused memory a.derivation) (is_open_cipher a.cipher) (are_known_hashes a) (a.area_key_bytes == 32 || a.area_key_bytes == 64) open_ in
+    let derivation = and_parts _ _ hashes in
+    let splitter = and_parts _ _ derivation.1 in
+    let alike = like.derived a.derivation b.derivation a.splitter_hash.now x.derivation y.derivation x.splitter_hash in
     same_refusal memory a b (record {
-      argon2 = off ∙ sym (argon2_both memory a.derivation b.derivation alike off);
-      known = known_both a.derivation b.derivation alike;
+      argon2 = off ∙ sym (alike.argon2 off);
+      known = derivation.0 ∙ sym (alike.known splitter.0 derivation.0);
       cipher = cipher_both d f a.cipher b.cipher like.encryption x.cipher y.cipher;
       area_key_bytes = some_same a.area_key_bytes b.area_key_bytes (sym x.area_key_bytes ∙ sym like.area_key ∙ y.area_key_bytes);
       splitter_hash = some_same a.splitter_hash.now b.splitter_hash.now (sym x.splitter_hash ∙ sym like.splitter ∙ y.splitter_hash);

@@ -62,7 +62,7 @@ same_meeting a b key s = simp (s.hash, s.iterations, s.salt, s.stored)
 module _
     (memory : ℕ) (v w : List ℕ) (payload : Data) (o p h : ℕ) (j k : Value) (opener n : ℕ) (new key random : List ℕ)
     (x : IsOpened memory v o j opener) (meets : meets_digest x.plan.digest key ≡ true) (after : HasCopy w p h k) (layout : IsLayout h (length w) payload k)
-    (y : HoldsKey w k n new key random) (like : SaysLike x.object y.object)
+    (y : HoldsKey w k n new key random) (like : SaysLike memory x.object y.object)
     (one : (m l : ℕ) → IsDigestOf k n m → IsDigestOf k n l → m ≡ l) (digest : IsLuks2Digest k n x.plan.digest)
   where
     plan_is : (plan : SlotPlan) → HasLuks2Plan (json_at w p) n plan → IsLuks2Plan k n y.object plan

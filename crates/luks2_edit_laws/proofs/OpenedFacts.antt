@@ -1,5 +1,5 @@
 -- After an edit of a LUKS2 volume the keyslot that it made or sealed again opens.
-use Rattle.std.proofs.Common.{◌≡◌, ℕ, ◌≤◌, List, length, true, codes, Option, Some, None, option_and_then, refl, sym, ap, subst, ◌∙◌, arith}
+use Rattle.std.proofs.Common.{◌≡◌, ℕ, ◌≤◌, List, length, true, false, codes, Option, Some, None, option_and_then, refl, sym, ap, subst, ◌∙◌, arith}
 use Rattle.serde_json.specs.Data.{Data as Value}
 use Rattle.serde_json.specs.Find.{get}
 use Rattle.luks_rules.specs.declared.table.Member.TheVariants as name
@@ -8,6 +8,7 @@ use Rattle.luks_rules.specs.declared.table.Section.TheVariants.{Keyslots}
 use Rattle.luks_rules.specs.Faults.{member_at, object_at}
 use Rattle.luks_rules.specs.Reading.{number_in, text_of}
 use Rattle.luks_making.specs.Changed.{renewed_slot}
+use Rattle.luks_making.specs.Derivations.{asked_beyond}
 use Rattle.luks_making.specs.Keyslots.{slot_value, IsMadeFrom, NewMembers, SlotMembers}
 use Rattle.luks_making.specs.Naming.{IsDigestOf}
 use Rattle.luks_making.specs.Unchanged.{ChangesSlot, GainsSlot, KeepsRest, SaysMembers, SaysNew}
@@ -20,7 +21,7 @@ use Rattle.luks_reading.specs.Plans.{IsLuks2Derivation, IsLuks2Digest}
 use Rattle.luks2_edit_laws.specs.Edited.{HoldsKey}
 use Rattle.luks2_edit_laws.specs.Metadata.{HasMetadata, IsNewKeyslot}
 use Rattle.luks2_edit_laws.proofs.MetadataFacts.{digest_moves, some_same}
-use Rattle.luks2_edit_laws.proofs.AlikeFacts.{changed_derived, made_derived, SaysLike}
+use Rattle.luks2_edit_laws.proofs.AlikeFacts.{changed_derived_or, made_derived_or, OpensAlike, SaysLike}
 use Rattle.luks2_edit_laws.proofs.OpenFacts.{holds_opens}
 use Rattle.luks2_edit_laws.proofs.SealFacts.{opened_meets, opened_plan, IsOpened}
 use Rattle.luks2_edit_laws.proofs.VolumeFacts.{copy_meta, HasCopy, IsLayout}
@@ -31,11 +32,13 @@ one_new j (Some t) a b x y = x ∙ sym y
 one_new j None a b x y = let low : a ≤ b = x.least b y.free in let high : b ≤ a = y.least a x.free in omega (arith, low, high)
 
 -- what a made keyslot says
-like_made : (d from f : Value) (new : NewMembers) (s : SlotMembers) → from ≡ d → f ≡ slot_value s → IsMadeFrom from new s → SaysMembers s (slot_value s) → 8 ≤ length new.salt → SaysLike d f
-like_made d from f new s was is made says long = record {
-  derived = λ a b x y.
-      made_derived from (slot_value s) s.salt says.salt (rw made.salt long) new.iterations s.derivation a b made.derivation says.derivation
-      (subst (λ v. IsLuks2Derivation v a) (sym was) x) (subst (λ v. IsLuks2Derivation v b) is y);
+like_made : (memory : ℕ) (d from f : Value) (new : NewMembers) (s : SlotMembers) → from ≡ d → f ≡ slot_value s → IsMadeFrom from new s → SaysMembers s (slot_value s) → 8 ≤ length new.salt
+    → asked_beyond memory new.derivation ≡ false → SaysLike memory d f
+like_made memory d from f new s was is made says long within = record {
+  derived = λ a b hash x y splitter.
+      subst (λ h. OpensAlike memory h a b) (some_same s.splitter_hash hash (sym made.splitter_hash ∙ ap (λ o. text_of (member_at o outer.Af name.Hash)) was ∙ splitter))
+      (made_derived_or memory from (slot_value s) s.splitter_hash s.salt says.salt (rw made.salt long) new.derivation.iterations new.derivation.chosen s.derivation a b within made.derivation says.derivation
+      (subst (λ v. IsLuks2Derivation v a) (sym was) x) (subst (λ v. IsLuks2Derivation v b) is y));
   encryption = ap (λ x. text_of (member_at x outer.Area name.Encryption)) is ∙ says.encryption ∙ sym made.encryption
       ∙ ap (λ x. text_of (member_at x outer.Area name.Encryption)) was;
   area_key = ap (λ x. number_in 1 128 (member_at x outer.Area name.KeySize)) is ∙ says.area_key_size ∙ sym made.area_key_size
@@ -45,9 +48,13 @@ like_made d from f new s was is made says long = record {
 }
 
 -- what a changed keyslot says
-like_changed : (d was f now : Value) (new : NewMembers) → was ≡ d → f ≡ now → SaysNew new was now → 8 ≤ length new.salt → SaysLike d f
-like_changed d was f now new old is says long = record {
-  derived = λ a b x y. changed_derived new was now a b says long (subst (λ v. IsLuks2Derivation v a) (sym old) x) (subst (λ v. IsLuks2Derivation v b) is y);
+like_changed : (memory : ℕ) (d was f now : Value) (new : NewMembers) → was ≡ d → f ≡ now → SaysNew new was now → 8 ≤ length new.salt → asked_beyond memory new.derivation ≡ false
+    → SaysLike memory d f
+like_changed memory d was f now new old is says long within = record {
+  derived = λ a b hash x y splitter.
+      changed_derived_or memory new was now hash says.salt long
+      (ap (λ a. text_of (option_and_then (get (codes "hash")) a)) (says.members (codes "af") refl) ∙ ap (λ x. text_of (member_at x outer.Af name.Hash)) old ∙ splitter) new.derivation.chosen a b within
+      says.derivation (subst (λ v. IsLuks2Derivation v a) (sym old) x) (subst (λ v. IsLuks2Derivation v b) is y);
   encryption = ap (λ x. text_of (member_at x outer.Area name.Encryption)) is ∙ ap text_of (says.area (codes "encryption") refl)
       ∙ ap (λ x. text_of (member_at x outer.Area name.Encryption)) old;
   area_key = ap (λ x. number_in 1 128 (member_at x outer.Area name.KeySize)) is ∙ ap (number_in 1 128) (says.area (codes "key_size") refl)
@@ -67,7 +74,7 @@ module _
     meets : meets_digest (opened_plan memory v o j opener old key m opened).plan.digest key ≡ true
     meets = opened_meets memory v o j opener old key m opened
 
-    opens_by : SaysLike (opened_plan memory v o j opener old key m opened).object y.object
+    opens_by : SaysLike memory (opened_plan memory v o j opener old key m opened).object y.object
         → ((number : ℕ) → IsDigestOf j opener number → IsDigestOf k n number) → KeepsRest n j k → AnswerWithin memory w n new (opens key)
     opens_by like names rest =
         let dx : IsLuks2Digest j opener plan_of.plan.digest = plan_of.is.digest in
@@ -78,21 +85,21 @@ module _
 
     -- a keyslot that was made
     pub made_opens : (f : NewMembers) (s : SlotMembers) (digest : ℕ) (from : Value) → object_at j Keyslots opener ≡ Some from → IsMadeFrom from f s
-        → IsDigestOf j opener digest → SaysMembers s (slot_value s) → 8 ≤ length f.salt → GainsSlot n digest s j k → AnswerWithin memory w n new (opens key)
-    made_opens f s digest from there made names says long gains =
+        → IsDigestOf j opener digest → SaysMembers s (slot_value s) → 8 ≤ length f.salt → asked_beyond memory f.derivation ≡ false → GainsSlot n digest s j k → AnswerWithin memory w n new (opens key)
+    made_opens f s digest from there made names says long within gains =
         opens_by
-        (like_made plan_of.object from y.object f s (some_same from plan_of.object (sym there ∙ plan_of.there))
-        (some_same y.object (slot_value s) (sym y.there.is ∙ gains.there)) made says long)
+        (like_made memory plan_of.object from y.object f s (some_same from plan_of.object (sym there ∙ plan_of.there))
+        (some_same y.object (slot_value s) (sym y.there.is ∙ gains.there)) made says long within)
         (λ number is. subst (IsDigestOf k n) (one_digest (json_at v o) j (copy_meta v o h j before was.held) opener digest number names is) gains.names)
         gains.rest
 
     -- a keyslot that was sealed again
-    pub changed_opens : (f : NewMembers) → opener ≡ n → 8 ≤ length f.salt
+    pub changed_opens : (f : NewMembers) → opener ≡ n → 8 ≤ length f.salt → asked_beyond memory f.derivation ≡ false
         → ChangesSlot n f j k → AnswerWithin memory w n new (opens key)
-    changed_opens f same long c =
+    changed_opens f same long within c =
         let there : object_at j Keyslots opener ≡ Some c.was = ap (object_at j Keyslots) same ∙ c.there.is in
         opens_by
-        (like_changed plan_of.object c.was y.object (renewed_slot f c.was) f (some_same c.was plan_of.object (sym there ∙ plan_of.there))
-        (some_same y.object (renewed_slot f c.was) (sym y.there.is ∙ c.is)) c.says long)
+        (like_changed memory plan_of.object c.was y.object (renewed_slot f c.was) f (some_same c.was plan_of.object (sym there ∙ plan_of.there))
+        (some_same y.object (renewed_slot f c.was) (sym y.there.is ∙ c.is)) c.says long within)
         (λ number is. (c.naming n number).0 (subst (λ q. IsDigestOf j q number) same is))
         c.rest

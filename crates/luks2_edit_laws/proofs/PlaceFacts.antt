@@ -65,10 +65,10 @@ module _ (h total : ℕ) (payload : Data) (j : Value) (e : Edit) (fit : Fit (Luk
 -- no byte of such an area is of what is sealed
 beside_sealed : (h total : ℕ) (payload : Data) (j : Value) (e : Edit) (fit : Fit (Luks2Area j h payload total) total) (n : AreaName) (a : Area)
     → IsLeft e n → Luks2Area j h payload total n a → (p : ℕ) → IsAt a.start a.len p → IsOfSealed h total payload j e p → ⊥
-beside_sealed h total payload j (Add by_ old new to iterations) fit n a left is p at x =
-    beside_new h total payload j (Add by_ old new to iterations) fit n a left is p at by_ x
-beside_sealed h total payload j (Change slot old new iterations) fit n a left is p at x =
-    beside_new h total payload j (Change slot old new iterations) fit n a left is p at slot x
+beside_sealed h total payload j (Add by_ old new to iterations d) fit n a left is p at x =
+    beside_new h total payload j (Add by_ old new to iterations d) fit n a left is p at by_ x
+beside_sealed h total payload j (Change slot old new iterations d) fit n a left is p at x =
+    beside_new h total payload j (Change slot old new iterations d) fit n a left is p at slot x
 beside_sealed h total payload j (Remove slot by_ passphrase) fit n a left is p at x = x
 beside_sealed h total payload j Repair fit n a left is p at x = x
 beside_sealed h total payload j (Label text) fit n a left is p at x = x
@@ -76,9 +76,9 @@ beside_sealed h total payload j (Label text) fit n a left is p at x = x
 -- nor of what is lost
 beside_losing : (h total : ℕ) (payload : Data) (j : Value) (e : Edit) (fit : Fit (Luks2Area j h payload total) total) (n : AreaName) (a : Area)
     → IsLeft e n → Luks2Area j h payload total n a → (p : ℕ) → IsAt a.start a.len p → IsOfLost j e p → ⊥
-beside_losing h total payload j (Add by_ old new to iterations) fit n a left is p at x = x
-beside_losing h total payload j (Change slot old new iterations) fit n a left is p at x =
-    beside_lost h total payload j (Change slot old new iterations) fit n a left is p at slot refl x
+beside_losing h total payload j (Add by_ old new to iterations d) fit n a left is p at x = x
+beside_losing h total payload j (Change slot old new iterations d) fit n a left is p at x =
+    beside_lost h total payload j (Change slot old new iterations d) fit n a left is p at slot refl x
 beside_losing h total payload j (Remove slot by_ passphrase) fit n a left is p at x =
     beside_lost h total payload j (Remove slot by_ passphrase) fit n a left is p at slot refl x
 beside_losing h total payload j Repair fit n a left is p at x = x

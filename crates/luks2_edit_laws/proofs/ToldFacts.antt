@@ -33,8 +33,8 @@ needed_once j n a b x y =
     x.count ∙ ap (λ k. 64 + 64 + 32 + (x.stripes - 1) * k) s.key_bytes ∙ ap (λ k. 64 + 64 + 32 + (k - 1) * y.key_bytes) s.stripes ∙ sym y.count
 
 pub need_once : (j : Value) (e : Edit) (a b : ℕ) → Need2 j e a → Need2 j e b → a ≡ b
-need_once j (Add by_ old new to iterations) a b x y = needed_once j by_ a b x y
-need_once j (Change slot old new iterations) a b x y = needed_once j slot a b x y
+need_once j (Add by_ old new to iterations d) a b x y = needed_once j by_ a b x y
+need_once j (Change slot old new iterations d) a b x y = needed_once j slot a b x y
 need_once j (Remove slot by_ passphrase) a b x y = x ∙ sym y
 need_once j Repair a b x y = x ∙ sym y
 need_once j (Label text) a b x y = x ∙ sym y

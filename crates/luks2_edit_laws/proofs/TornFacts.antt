@@ -1,6 +1,6 @@
 -- What a LUKS2 volume keeps that a failing device call left.
 use Rattle.std.proofs.Common.{◌≡◌, ℕ, ◌+◌, ◌-◌, ◌*◌, ◌<◌, ◌≤◌, ◌⊎◌, ◌==◌, Bool, true, false, List, length, None, inl, inr, refl, sym, ap, subst, ◌∙◌, arith}
-use Rattle.std.proofs.lemmas.Bool.{eqb-true}
+use Rattle.std.proofs.lemmas.Bool.{eqb-true, false_from_ne_true}
 use Rattle.serde_json.specs.Data.{Data as Value}
 use Rattle.luks_area.specs.declared.area.AreaName.TheVariants as name
 use Rattle.luks_area.specs.RangeFacts.{part-part, part-same_but, same_but-equal, same_but-wider}
@@ -14,6 +14,7 @@ use Rattle.luks_head.proofs.CopyFacts.{listed_at_least}
 use Rattle.luks_head.proofs.ChoiceFacts.{choices_agree, choice_exists}
 use Rattle.luks_rules.specs.MetaFault.{Json}
 use Rattle.luks_making.specs.Changed.{changed_slot}
+use Rattle.luks_making.specs.declared.derivation.AskedDerivation.{AskedDerivation}
 use Rattle.luks_reading.specs.declared.report.Data.{Data}
 use Rattle.luks_reading.specs.Answer.{opens, AnswerWithin}
 use Rattle.luks_reading.specs.Layout2.{Luks2Area}
@@ -24,7 +25,7 @@ use Rattle.luks_edit.specs.declared.edit.Edit.{Edit}
 use Rattle.luks_edit.specs.declared.edit.Edit.TheVariants.{Add, Change, Remove, Repair, Label}
 use Rattle.luks_edit.specs.Asked.{memory_for}
 use Rattle.luks_edit.specs.Kept.{Keeps}
-use Rattle.luks_edit.specs.declared.edit_fault.EditFault.TheVariants.{Iterations, RandomLength}
+use Rattle.luks_edit.specs.declared.edit_fault.EditFault.TheVariants.{Argon2, Iterations, RandomLength}
 use Rattle.luks2_edit_laws.specs.Copies.{other_place, IsRenewed}
 use Rattle.luks2_edit_laws.specs.Edited.{keyslot_salt, members_of, stripes_random, HasChanged, HasRanges, HoldsKey, IsEdited, IsSealedBy, NamedKeyslots2}
 use Rattle.luks2_edit_laws.specs.Leftovers.{CountsAsAfter, CountsAsBefore, IsAllowed, IsNotStray, IsTorn2, IsTornAt, IsTornChosen, IsTornLost, IsTornOther, Leftover2, OpensEither2}
@@ -35,7 +36,7 @@ use Rattle.luks2_edit_laws.specs.Refused.{IsUnrefused2}
 use Rattle.luks2_edit_laws.proofs.MetadataFacts.{some_same}
 use Rattle.luks2_edit_laws.proofs.OpenedFacts.{changed_opens}
 use Rattle.luks2_edit_laws.proofs.SealFacts.{opened_plan}
-use Rattle.luks2_edit_laws.proofs.AfterFacts.{changed_changes, edited_metadata, enough_turns, lost_is_named, same_metadata, was_opened, IsReady, WasOpened, long_salt}
+use Rattle.luks2_edit_laws.proofs.AfterFacts.{asking, changed_changes, edited_metadata, lost_is_named, same_metadata, was_opened, IsReady, WasOpened, long_salt}
 use Rattle.luks2_edit_laws.proofs.KeptFacts.{all_kept}
 use Rattle.luks2_edit_laws.proofs.LeftoverFacts.{first_size_left, is_sound, left_of, not_other, place_is, same_header, Left}
 use Rattle.luks2_edit_laws.proofs.SoundCopyFacts.{copy_sound}
@@ -50,8 +51,8 @@ new_behind : (h total : ℕ) (payload : Data) (j : Value) (n p : ℕ) → IsOfNe
 new_behind h total payload j n p x = let from : 2 * h ≤ x.area.start = x.is.gap.gap.from in let low : x.area.start ≤ p = x.at.0 in omega (arith, from, low)
 
 sealed_behind : (h total : ℕ) (payload : Data) (j : Value) (e : Edit) (p : ℕ) → IsOfSealed h total payload j e p → 2 * h ≤ p
-sealed_behind h total payload j (Add by_ old new to iterations) p x = new_behind h total payload j by_ p x
-sealed_behind h total payload j (Change slot old new iterations) p x = new_behind h total payload j slot p x
+sealed_behind h total payload j (Add by_ old new to iterations d) p x = new_behind h total payload j by_ p x
+sealed_behind h total payload j (Change slot old new iterations d) p x = new_behind h total payload j slot p x
 sealed_behind h total payload j (Remove slot by_ passphrase) p x = absurd x
 sealed_behind h total payload j Repair p x = absurd x
 sealed_behind h total payload j (Label text) p x = absurd x
@@ -178,20 +179,20 @@ one_new_area h total payload j n a b x y =
     same_area a b (one_start (x.gap.least b.start moved.gap) (moved.least a.start x.gap.gap)) len
 
 -- so what a change makes of metadata is one value
-changed_once : (h total : ℕ) (payload : Data) (n iterations : ℕ) (salt : List ℕ) (j k i : Value) → HasChanged h total payload n iterations salt j k
-    → HasChanged h total payload n iterations salt j i → k ≡ i
-changed_once h total payload n iterations salt j k i x y =
+changed_once : (h total : ℕ) (payload : Data) (n : ℕ) (asked : AskedDerivation) (salt : List ℕ) (j k i : Value) → HasChanged h total payload n asked salt j k
+    → HasChanged h total payload n asked salt j i → k ≡ i
+changed_once h total payload n asked salt j k i x y =
     let area : x.area ≡ y.area = one_new_area h total payload j n x.area y.area x.place y.place in
-    x.is ∙ ap (λ a. changed_slot n (members_of iterations salt a) j) area ∙ sym y.is
+    x.is ∙ ap (λ a. changed_slot n (members_of asked salt a) j) area ∙ sym y.is
 
 -- where one counts that the edit writes, a keyslot that was sealed again opens by the new passphrase
 opens_written : (v : List ℕ) (payload : Data) (e : Edit) (random w : List ℕ) → WellFormed v payload
     → HasRanges v e random → IsUnrefused2 v payload e random → length w ≡ length v → (j new : Value) (p : ℕ) (b : Copies) → Chosen w (luks2 p b)
     → (a : IsAllowed v payload e random w p) → IsEdited (hdr_size (header_at v a.place)) (length v) payload e (keyslot_salt random) a.value new
     → IsSealedBy v e random j w new → OpensEither2 v e w
-opens_written v payload (Add by_ old new to iterations) random w well ranges free long j k p b chosen a edited sealed = tt
-opens_written v payload (Change slot old new iterations) random w well ranges free long j k p b chosen a edited sealed =
-    let e : Edit = Change slot old new iterations in
+opens_written v payload (Add by_ old new to iterations d) random w well ranges free long j k p b chosen a edited sealed = tt
+opens_written v payload (Change slot old new iterations d) random w well ranges free long j k p b chosen a edited sealed =
+    let e : Edit = Change slot old new iterations d in
     let h : ℕ = hdr_size (header_at v a.place) in
     let before : HasCopy v a.place h a.value = copy_of v payload a.place a.value a.metadata well in
     let layout : IsLayout h (length v) payload a.value = layout_of v payload a.place a.value a.metadata well in
@@ -204,24 +205,25 @@ opens_written v payload (Change slot old new iterations) random w well ranges fr
     } in
     let now : IsLayout h (length w) payload a.new = subst (λ n. IsLayout h n payload a.new) (sym long)
     (edited_metadata v a.place payload e random a.value a.new a.metadata before ranges free (sealed.key, sealed.opened) a.edited layout).layout in
-    let ready : IsReady (memory_for old new.now) v a.place a.value slot iterations random = record {
+    let ready : IsReady (memory_for old new.now) v a.place a.value slot (asking iterations d) random = record {
       opened = opened_plan (memory_for old new.now) v a.place a.value slot old.bytes.now sealed.key a.metadata sealed.opened;
-      turns = enough_turns iterations (λ few. free.none Iterations few);
-      ranged = ranges.iterations;
+      turns = false_from_ne_true _ (λ few. free.none Iterations few);
+      within = false_from_ne_true _ (λ beyond. free.none Argon2 beyond);
+      ranged = ranges.derivation;
       small = ranges.size;
       random_bytes = ranges.random_bytes;
       met = λ need like other. free.none RandomLength (record { place = a.place; value = a.value; metadata = a.metadata; is = record { need = need; is = like; other = other } });
     } in
-    let changes = changed_changes (memory_for old new.now) v a.place h payload random a.value a.new before layout slot iterations ready a.edited in
-    let same : k ≡ a.new = changed_once h (length v) payload slot iterations (keyslot_salt random) a.value k a.new edited a.edited in
+    let changes = changed_changes (memory_for old new.now) v a.place h payload random a.value a.new before layout slot (asking iterations d) ready a.edited in
+    let same : k ≡ a.new = changed_once h (length v) payload slot (asking iterations d) (keyslot_salt random) a.value k a.new edited a.edited in
     let there : HoldsKey w k slot new.now sealed.key (stripes_random random) =
     subst (λ n. HoldsKey w k n new.now sealed.key (stripes_random random)) sealed.is_made sealed.holds in
     let holds : HoldsKey w a.new slot new.now sealed.key (stripes_random random) = subst (λ i. HoldsKey w i slot new.now sealed.key (stripes_random random)) same there in
     let opened : AnswerWithin (memory_for old new.now) w slot new.now (opens sealed.key) =
     changed_opens (memory_for old new.now) v w payload a.place p h a.value a.new slot slot old.bytes.now new.now sealed.key (stripes_random random)
     a.metadata sealed.opened before layout after now holds
-    (members_of iterations (keyslot_salt random) a.edited.area) refl
-    (long_salt (memory_for old new.now) v a.place h payload random a.value a.new before layout slot iterations ready a.edited.area a.edited.place) changes in
+    (members_of (asking iterations d) (keyslot_salt random) a.edited.area) refl
+    (long_salt (memory_for old new.now) v a.place h payload random a.value a.new before layout slot (asking iterations d) ready a.edited.area a.edited.place) ready.within changes in
     λ key was.
     (let key_same : sealed.key ≡ key = one_answer (memory_for old new.now) v slot old.bytes.now (opens sealed.key) (opens key) sealed.opened was in
     inr (subst (λ x. AnswerWithin (memory_for old new.now) w slot new.now (opens x)) key_same opened))
@@ -253,12 +255,12 @@ pub record Outcome (v : List ℕ) (payload : Data) (e : Edit) (random w : List �
 opens_before : (v : List ℕ) (payload : Data) (e : Edit) (random w : List ℕ) → WellFormed v payload
     → HasRanges v e random → (o : ℕ) (j : Value) (m : HasMetadata v o j) (b : Copies) → Chosen w (luks2 o b) → copy_at w o ≡ copy_at v o
     → SameBut (IsOfEither (IsOfSealed (hdr_size (header_at v o)) (length v) payload j e) (IsOfCopies (hdr_size (header_at v o)))) v w → OpensEither2 v e w
-opens_before v payload (Add by_ old new to iterations) random w well ranges o j m b chosen same rest = tt
-opens_before v payload (Change slot old new iterations) random w well ranges o j m b chosen same rest = λ key was.
-    (let all : SameBut (IsTouched (hdr_size (header_at v o)) (length v) payload j (Add slot old new None iterations)) v w =
+opens_before v payload (Add by_ old new to iterations d) random w well ranges o j m b chosen same rest = tt
+opens_before v payload (Change slot old new iterations d) random w well ranges o j m b chosen same rest = λ key was.
+    (let all : SameBut (IsTouched (hdr_size (header_at v o)) (length v) payload j (Add slot old new None iterations d)) v w =
     same_but-wider (λ p x. sealed_or_copy (IsOfNewKeyslot (hdr_size (header_at v o)) (length v) payload j slot p) (IsOfCopies (hdr_size (header_at v o)) p) x) rest in
     let kept : Keeps payload (λ n. ⊥) v w =
-    kept_before v payload (Change slot old new iterations) random w well ranges rest.length_same (λ n. ⊥) (Add slot old new None iterations) (λ n lost. lost)
+    kept_before v payload (Change slot old new iterations d) random w well ranges rest.length_same (λ n. ⊥) (Add slot old new None iterations d) (λ n lost. lost)
     o j m b chosen same all in
     inl (((kept.slots slot (λ x. x)).answers (memory_for old new.now) old.bytes.now (opens key)).0 was))
 opens_before v payload (Remove slot by_ passphrase) random w well ranges o j m b chosen same rest = tt

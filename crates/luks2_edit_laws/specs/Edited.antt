@@ -8,6 +8,8 @@ use Rattle.luks_head.specs.Header2.{hdr_size, header_at}
 use Rattle.luks_rules.specs.declared.table.Section.TheVariants.{Keyslots}
 use Rattle.luks_rules.specs.Accepted.{HasObject}
 use Rattle.luks_making.specs.Changed.{changed_slot}
+use Rattle.luks_making.specs.Derivations.{FitsAsked}
+use Rattle.luks_making.specs.declared.derivation.AskedDerivation.{AskedDerivation}
 use Rattle.luks_making.specs.Keyslots.{NewMembers}
 use Rattle.luks_making.specs.With.{IsAdded}
 use Rattle.luks_making.specs.Without.{without_slot}
@@ -42,49 +44,49 @@ NamedKeyslots2 v e n = MatchDeed (deed_of e) (λ s. IsSealedIn v s n) (λ r. n �
 
 -- ---- what a call is given
 
--- the iterations have 32 bits
-abbrev pub HasRangedIterations : Edit → Type 0
-HasRangedIterations e = IfSome (sealed_by e) (λ s. s.iterations < 2 ^ 32)
+-- the numbers of the derivation that is asked for have 32 bits
+abbrev pub HasRangedDerivation : Edit → Type 0
+HasRangedDerivation e = IfSome (sealed_by e) (λ s. FitsAsked s.derivation)
 
 -- what an edit is given has the ranges of its types: 64 bits for the volume's length, 32 for the
--- iterations, and random bytes
+-- numbers of a derivation, and random bytes
 pub record HasRanges (v : List ℕ) (e : Edit) (random : List ℕ) : Type 0 where
   pub size : length v < 2 ^ 64
-  pub iterations : HasRangedIterations e
+  pub derivation : HasRangedDerivation e
   pub random_bytes : IsBytes random
 
 -- ---- the metadata, in a volume of `total` bytes with copies of `h` bytes
 
 -- what is new of a keyslot
-abbrev pub members_of : ℕ → List ℕ → Area → NewMembers
-members_of iterations salt area =
-    record { iterations = iterations; salt = salt; offset = area.start; size = area.len }
+abbrev pub members_of : AskedDerivation → List ℕ → Area → NewMembers
+members_of asked salt area =
+    record { derivation = asked; salt = salt; offset = area.start; size = area.len }
 
 -- `new` is the metadata `j` with a new keyslot, made with the members of the keyslot `opener`
 pub record HasAdded
-    (h total : ℕ) (payload : Data) (opener : ℕ) (to : Option ℕ) (iterations : ℕ) (salt : List ℕ)
+    (h total : ℕ) (payload : Data) (opener : ℕ) (to : Option ℕ) (asked : AskedDerivation) (salt : List ℕ)
     (j new : Value)
     : Type 0 where
   pub slot : ℕ
   pub is_new : IsNewKeyslot j to slot
   pub area : Area
   pub place : IsNewArea h total payload j opener area
-  pub is : IsAdded slot opener (members_of iterations salt area) j new
+  pub is : IsAdded slot opener (members_of asked salt area) j new
 
--- `new` is the metadata `j` with new iterations, salt and area in the keyslot `slot`
+-- `new` is the metadata `j` with a new derivation, salt and area in the keyslot `slot`
 pub record HasChanged
-    (h total : ℕ) (payload : Data) (slot : ℕ) (iterations : ℕ) (salt : List ℕ) (j new : Value)
+    (h total : ℕ) (payload : Data) (slot : ℕ) (asked : AskedDerivation) (salt : List ℕ) (j new : Value)
     : Type 0 where
   pub area : Area
   pub place : IsNewArea h total payload j slot area
-  pub is : new ≡ changed_slot slot (members_of iterations salt area) j
+  pub is : new ≡ changed_slot slot (members_of asked salt area) j
 
 -- `new` is what the edit makes of the metadata `j`, with the salt for a keyslot that it seals
 abbrev pub IsEdited : ℕ → ℕ → Data → Edit → List ℕ → Value → Value → Type 0
 IsEdited h total payload e salt j k = MatchDeed (deed_of e)
     (λ s. MatchPlace s.place
-    (λ to. HasAdded h total payload s.opener.slot to s.iterations salt j k)
-    (HasChanged h total payload s.opener.slot s.iterations salt j k))
+    (λ to. HasAdded h total payload s.opener.slot to s.derivation salt j k)
+    (HasChanged h total payload s.opener.slot s.derivation salt j k))
     (λ r. k ≡ without_slot r.slot j)
     (λ label. k ≡ j)
 

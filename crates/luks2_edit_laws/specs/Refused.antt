@@ -15,7 +15,7 @@ use Rattle.luks_reading.specs.Checked.{IsFault}
 use Rattle.luks_edit.specs.declared.edit.Edit.{Edit}
 use Rattle.luks_edit.specs.declared.edit_fault.EditFault.{EditFault}
 use Rattle.luks_edit.specs.declared.edit_fault.EditFault.TheVariants as fault
-use Rattle.luks_edit.specs.Asked.{HasFewIterations, label_by, MatchPlace, NamesItself, removed_by, sealed_by, Wants}
+use Rattle.luks_edit.specs.Asked.{HasFewIterations, IsBeyondMemory, label_by, MatchPlace, NamesItself, removed_by, sealed_by, Wants}
 use Rattle.luks_edit.specs.EditFaults.{edit_key}
 use Rattle.luks_edit.specs.Opener.{IsLocked, IsShut}
 use Rattle.luks2_edit_laws.specs.Edited.{IsEdited}
@@ -119,6 +119,7 @@ IsEditFault2 v payload e random fault.NoFreeSlot = HasSaid v (λ o j. HasNoFree 
 IsEditFault2 v payload e random fault.NoRoom = HasSaid v (λ o j. HasNoRoom (hdr_size (header_at v o)) (length v) payload j e)
 IsEditFault2 v payload e random fault.LastSlot = HasSaid v (λ o j. IsLast j e)
 IsEditFault2 v payload e random fault.Iterations = HasFewIterations e
+IsEditFault2 v payload e random fault.Argon2 = IsBeyondMemory e
 IsEditFault2 v payload e random fault.BadLabel = IsBadLabel e
 IsEditFault2 v payload e random fault.SeqExhausted = HasSaid v (λ o j. seqid (header_at v o) + 1 ≡ 2 ^ 64)
 IsEditFault2 v payload e random fault.MetadataFull = HasSaid v (λ o j. IsFull (hdr_size (header_at v o)) (length v) payload j e)

@@ -8,8 +8,10 @@ use Rattle.luks_area.specs.declared.area.Area.{Area}
 use Rattle.luks_making.specs.Changed.{changed_slot}
 use Rattle.luks_rules.specs.declared.table.Outer.TheVariants as outer
 use Rattle.luks_rules.specs.Faults.{type_at}
-use Rattle.luks_making.specs.declared.new_keyslot.Argon2Costs.{Argon2Costs}
-use Rattle.luks_making.specs.Keyslots.{IsMadeFrom, NewMembers, SlotMembers, by_argon2i, by_argon2id, by_pbkdf2, Deriving, HasCosts, IsDerivedLike}
+use Rattle.luks_making.specs.declared.derivation.Argon2Costs.{Argon2Costs}
+use Rattle.luks_making.specs.declared.derivation.AskedDerivation.{AskedDerivation}
+use Rattle.luks_making.specs.declared.derivation.NewDerivation.{NewDerivation}
+use Rattle.luks_making.specs.Keyslots.{IsMadeFrom, NewMembers, SlotMembers, by_argon2i, by_argon2id, by_pbkdf2, derivation_by, Deriving, HasCosts, IsDerivedLike, IsDerivedOr}
 use Rattle.luks_making.specs.With.{with_slot}
 use Rattle.luks_reading.specs.declared.report.Data.{Data}
 use Rattle.luks_reading.specs.Layout2.{Luks2Area}
@@ -84,9 +86,14 @@ derived_once d m n (by_argon2id c) (by_pbkdf2 g k) same x y = absurd (other_kind
 derived_once d m n (by_argon2id c) (by_argon2i e) same x y = absurd (other_kind d (codes "argon2id") (codes "argon2i") x.0 y.0 (λ e. cc))
 derived_once d m n (by_argon2id c) (by_argon2id e) same x y = ap by_argon2id (costs_once d c e x.1 y.1)
 
+-- or the one that is chosen
+derived_or_once : (d : Value) (n : ℕ) (g h : List ℕ) (chosen : Option NewDerivation) (a b : Deriving) → g ≡ h → IsDerivedOr d n g chosen a → IsDerivedOr d n h chosen b → a ≡ b
+derived_or_once d n g h None a b hash x y = derived_once d n n a b refl x y
+derived_or_once d n g h (Some c) a b hash x y = x ∙ ap (λ k. derivation_by k c) hash ∙ sym y
+
 made_once : (d : Value) (f g : NewMembers) (s t : SlotMembers) → IsMadeFrom d f s → IsMadeFrom d g t
-    → f.offset ≡ g.offset → f.size ≡ g.size → f.iterations ≡ g.iterations → SaltsAsLong f.salt g.salt → SameButSalt s t
-made_once d f g s t x y offset size iterations salts = record {
+    → f.offset ≡ g.offset → f.size ≡ g.size → f.derivation ≡ g.derivation → SaltsAsLong f.salt g.salt → SameButSalt s t
+made_once d f g s t x y offset size asked salts = record {
   key_size = same_Some s.key_size t.key_size (sym x.key_size ∙ y.key_size);
   stripes = same_Some s.stripes t.stripes (sym x.stripes ∙ y.stripes);
   splitter_hash = same_Some s.splitter_hash t.splitter_hash (sym x.splitter_hash ∙ y.splitter_hash);
@@ -94,22 +101,24 @@ made_once d f g s t x y offset size iterations salts = record {
   size = x.size ∙ size ∙ sym y.size;
   encryption = same_Some s.encryption t.encryption (sym x.encryption ∙ y.encryption);
   area_key_size = same_Some s.area_key_size t.area_key_size (sym x.area_key_size ∙ y.area_key_size);
-  derivation = derived_once d f.iterations g.iterations s.derivation t.derivation iterations x.derivation y.derivation;
+  derivation = derived_or_once d g.derivation.iterations s.splitter_hash t.splitter_hash g.derivation.chosen s.derivation t.derivation
+      (same_Some s.splitter_hash t.splitter_hash (sym x.splitter_hash ∙ y.splitter_hash))
+      (subst (λ a. IsDerivedOr d a.iterations s.splitter_hash a.chosen s.derivation) asked x.derivation) y.derivation;
   salt = subst (λ l. SaltsAsLong l t.salt) (sym x.salt) (subst (λ l. SaltsAsLong f.salt l) (sym y.salt) salts);
 }
 
 -- ---- the new metadata
 
 module _ (h total : ℕ) (payload : Data) (j : Value) (a b : List ℕ) (salts : SaltsAsLong a b) (digests : HasOneDigest j) where
-  added_as_long : (opener : ℕ) (to : Option ℕ) (iterations : ℕ) (x y : Value)
-      → HasAdded h total payload opener to iterations a j x → HasAdded h total payload opener to iterations b j y → AsLong x y
-  added_as_long opener to iterations x y one two =
+  added_as_long : (opener : ℕ) (to : Option ℕ) (asked : AskedDerivation) (x y : Value)
+      → HasAdded h total payload opener to asked a j x → HasAdded h total payload opener to asked b j y → AsLong x y
+  added_as_long opener to asked x y one two =
       let slot : one.slot ≡ two.slot = new_once j to one.slot two.slot one.is_new two.is_new in
       let from : one.is.from ≡ two.is.from = same_Some one.is.from two.is.from (sym one.is.there.is ∙ two.is.there.is) in
       let digest : one.is.digest ≡ two.is.digest = digests.one opener one.is.digest two.is.digest one.is.names two.is.names in
       let made : SameButSalt one.is.slot two.is.slot =
-      made_once two.is.from (members_of iterations a one.area) (members_of iterations b two.area) one.is.slot two.is.slot
-      (subst (λ d. IsMadeFrom d (members_of iterations a one.area) one.is.slot) from one.is.made) two.is.made
+      made_once two.is.from (members_of asked a one.area) (members_of asked b two.area) one.is.slot two.is.slot
+      (subst (λ d. IsMadeFrom d (members_of asked a one.area) one.is.slot) from one.is.made) two.is.made
       (start_once h total payload j opener one.area two.area one.place two.place) (len_once h total payload j opener one.area two.area one.place two.place) refl salts in
       let long : AsLong (with_slot one.slot one.is.digest one.is.slot j) (with_slot one.slot one.is.digest two.is.slot j) =
       with_as_long one.slot one.is.digest one.is.slot two.is.slot j made in
@@ -118,21 +127,21 @@ module _ (h total : ℕ) (payload : Data) (j : Value) (a b : List ℕ) (salts : 
       (subst (λ n. AsLong (with_slot one.slot one.is.digest one.is.slot j) (with_slot n one.is.digest two.is.slot j)) slot long) in
       subst (λ v. AsLong v y) (sym one.is.is) (subst (λ v. AsLong (with_slot one.slot one.is.digest one.is.slot j) v) (sym two.is.is) same)
 
-  renewed_as_long : (slot iterations : ℕ) (x y : Value)
-      → HasChanged h total payload slot iterations a j x → HasChanged h total payload slot iterations b j y → AsLong x y
-  renewed_as_long slot iterations x y one two =
+  renewed_as_long : (slot : ℕ) (asked : AskedDerivation) (x y : Value)
+      → HasChanged h total payload slot asked a j x → HasChanged h total payload slot asked b j y → AsLong x y
+  renewed_as_long slot asked x y one two =
       let start = start_once h total payload j slot one.area two.area one.place two.place in
       let len = len_once h total payload j slot one.area two.area one.place two.place in
-      let same : changed_slot slot (members_of iterations b one.area) j ≡ changed_slot slot (members_of iterations b two.area) j =
-      ap (λ n. changed_slot slot (record { iterations = iterations; salt = b; offset = n; size = one.area.len }) j) start
-      ∙ ap (λ n. changed_slot slot (record { iterations = iterations; salt = b; offset = two.area.start; size = n }) j) len in
-      let long : AsLong (changed_slot slot (members_of iterations a one.area) j) (changed_slot slot (members_of iterations b one.area) j) =
-      changed_as_long iterations a b one.area slot j salts in
-      subst (λ v. AsLong v y) (sym one.is) (subst (λ v. AsLong (changed_slot slot (members_of iterations a one.area) j) v) (same ∙ sym two.is) long)
+      let same : changed_slot slot (members_of asked b one.area) j ≡ changed_slot slot (members_of asked b two.area) j =
+      ap (λ n. changed_slot slot (record { derivation = asked; salt = b; offset = n; size = one.area.len }) j) start
+      ∙ ap (λ n. changed_slot slot (record { derivation = asked; salt = b; offset = two.area.start; size = n }) j) len in
+      let long : AsLong (changed_slot slot (members_of asked a one.area) j) (changed_slot slot (members_of asked b one.area) j) =
+      changed_as_long asked a b one.area slot j salts in
+      subst (λ v. AsLong v y) (sym one.is) (subst (λ v. AsLong (changed_slot slot (members_of asked a one.area) j) v) (same ∙ sym two.is) long)
 
   edited_as_long : (e : Edit) (x y : Value) → IsEdited h total payload e a j x → IsEdited h total payload e b j y → AsLong x y
-  edited_as_long (Add by_ old new to iterations) x y one two = added_as_long by_ to iterations x y one two
-  edited_as_long (Change slot old new iterations) x y one two = renewed_as_long slot iterations x y one two
+  edited_as_long (Add by_ old new to iterations chosen) x y one two = added_as_long by_ to (record { iterations = iterations; chosen = chosen }) x y one two
+  edited_as_long (Change slot old new iterations chosen) x y one two = renewed_as_long slot (record { iterations = iterations; chosen = chosen }) x y one two
   edited_as_long (Remove slot by_ passphrase) x y one two = subst (λ v. AsLong x v) (one ∙ sym two) refl
   edited_as_long Repair x y one two = subst (λ v. AsLong x v) (one ∙ sym two) refl
   edited_as_long (Label text) x y one two = subst (λ v. AsLong x v) (one ∙ sym two) refl

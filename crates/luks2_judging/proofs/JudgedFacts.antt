@@ -1,5 +1,6 @@
 -- An edit judged row by row, up to `BadLabel`: the first fault, and what stands where none does.
-use Rattle.std.proofs.Common.{◌≡◌, ◌↔◌, ℕ, ◌<◌, ◌≤◌, Bor, List, length, true, Option, arith, refl, subst}
+use Rattle.std.proofs.Common.{◌≡◌, ◌↔◌, ℕ, ◌<◌, ◌≤◌, Bor, List, length, true, false, Option, arith, refl, subst}
+use Rattle.std.proofs.lemmas.Bool.{both_ways}
 use Rattle.serde_json.specs.Data.{Data as Value}
 use Rattle.luks_head.specs.Header2.{hdr_size, header_at}
 use Rattle.luks_meta.specs.Requirements.{has_requirements}
@@ -14,7 +15,9 @@ use Rattle.luks_edit.specs.declared.edit.Edit.TheVariants.{Add, Change, Remove}
 use Rattle.luks_edit.specs.declared.edit.Passphrase.{Passphrase}
 use Rattle.luks_edit.specs.declared.edit_fault.EditFault.{EditFault}
 use Rattle.luks_edit.specs.declared.edit_fault.EditFault.TheVariants as fault
-use Rattle.luks_edit.specs.Asked.{allowed_memory, HasFewIterations, NamesItself, OpensBy}
+use Rattle.luks_making.specs.Derivations.{asked_beyond, asked_few_turns}
+use Rattle.luks_making.specs.declared.derivation.AskedDerivation.{AskedDerivation}
+use Rattle.luks_edit.specs.Asked.{allowed_memory, HasFewIterations, IsBeyondMemory, memory_for, NamesItself, OpensBy}
 use Rattle.luks_edit.specs.Opener.{IsShut}
 use Rattle.luks_edit.specs.RowFacts.{after_check, after_plan, first_of_check, first_of_plan, first_of_row, next, not_before, passed_from, Passed}
 use Rattle.luks2_edit_laws.specs.Metadata.{HasMetadata}
@@ -24,7 +27,7 @@ use Rattle.luks2_judging.specs.Header.{IsUnaccepted}
 use Rattle.luks2_judging.specs.Judged.{IsNewNumber, IsNumberFault}
 use Rattle.luks2_judging.specs.Judging.{IsRefusedEarly}
 use Rattle.luks2_judging.specs.Opened.{IsFirstShut, IsUnlocked, IsUnopened}
-use Rattle.luks2_judging.specs.Room.{IsUnsealable}
+use Rattle.luks2_judging.specs.Room.{IsAllowed, IsUnsealable}
 use Rattle.luks2_judging.specs.Rows.{HasNoFaultBefore}
 use Rattle.luks2_judging.proofs.ChosenFacts.{said, say}
 use Rattle.luks2_judging.proofs.NumberFacts.{new_numbered, new_untaken, unnumbered_untaken}
@@ -154,67 +157,77 @@ module _ (v : List ℕ) (payload : Data) (e : Edit) (random : List ℕ) where
   pub past_few : IsPast 10 v payload e random → (HasFewIterations e → ⊥) → IsPast 11 v payload e random
   past_few passed not = next (IsEditFault2 v payload e random) fault.Iterations refl passed not
 
+  -- Argon2
+  pub large_first : IsPast 11 v payload e random → IsBeyondMemory e → Refusal2 v payload e random fault.Argon2
+  large_first passed bad = first_of_row (IsEditFault2 v payload e random) fault.Argon2 refl passed bad
+
+  pub past_large : IsPast 11 v payload e random → (IsBeyondMemory e → ⊥) → IsPast 12 v payload e random
+  past_large passed not = next (IsEditFault2 v payload e random) fault.Argon2 refl passed not
+
   -- BadLabel
-  pub unlabelled_first : IsPast 11 v payload e random → IsBadLabel e → Refusal2 v payload e random fault.BadLabel
+  pub unlabelled_first : IsPast 12 v payload e random → IsBadLabel e → Refusal2 v payload e random fault.BadLabel
   unlabelled_first passed bad = first_of_row (IsEditFault2 v payload e random) fault.BadLabel refl passed bad
 
-  pub past_label : IsPast 11 v payload e random → (IsBadLabel e → ⊥) → IsPast 12 v payload e random
+  pub past_label : IsPast 12 v payload e random → (IsBadLabel e → ⊥) → IsPast 13 v payload e random
   past_label passed not = next (IsEditFault2 v payload e random) fault.BadLabel refl passed not
 
--- a keyslot is sealed like the keyslot `like`, with so many iterations: the rows `NoRoom` to `BadLabel`
-module _ (v : List ℕ) (payload : Data) (o : ℕ) (j : Value) (m : HasMetadata v o j) (e : Edit) (like iterations : ℕ)
+-- a keyslot is sealed like the keyslot `like`, and derives as is asked: the rows `NoRoom` to `BadLabel`
+module _ (v : List ℕ) (payload : Data) (o : ℕ) (j : Value) (m : HasMetadata v o j) (e : Edit) (like allowed : ℕ) (asked : AskedDerivation)
     (rooms : HasNoRoom (hdr_size (header_at v o)) (length v) payload j e ↔ HasNoNewArea (hdr_size (header_at v o)) (length v) payload j like)
-    (few : HasFewIterations e ↔ (iterations < 1000)) (kept : IsLast j e → ⊥) (good : IsBadLabel e → ⊥)
+    (few : HasFewIterations e ↔ (asked_few_turns asked ≡ true)) (large : IsBeyondMemory e ↔ (asked_beyond allowed asked ≡ true)) (kept : IsLast j e → ⊥) (good : IsBadLabel e → ⊥)
     (eight : (random : List ℕ) → IsPast 8 v payload e random) where
   past_area : (HasNoNewArea (hdr_size (header_at v o)) (length v) payload j like → ⊥) → (random : List ℕ) → IsPast 10 v payload e random
   past_area room random = past_last v payload o j m e random (past_room v payload o j m e random (eight random) (λ bad. room (rooms.0 bad))) kept
 
-  pub unsealed_first : (f : EditFault) → IsUnsealable (hdr_size (header_at v o)) (length v) payload j like iterations f → IsRefusedEarly v payload e f
+  pub unsealed_first : (f : EditFault) → IsUnsealable (hdr_size (header_at v o)) (length v) payload j like allowed asked f → IsRefusedEarly v payload e f
   unsealed_first fault.NoRoom bad = λ random. roomless_first v payload o j m e random (eight random) (rooms.1 bad)
-  unsealed_first fault.Iterations bad = λ random. few_first v payload e random (past_area bad.0 random) (few.1 bad.1)
+  unsealed_first fault.Iterations bad = λ random. few_first v payload e random (past_area bad.room random) (few.1 bad.turns)
+  unsealed_first fault.Argon2 bad =
+      λ random. large_first v payload e random (past_few v payload e random (past_area bad.room random) (λ quick. both_ways _ bad.turns (few.0 quick))) (large.1 bad.beyond)
   unsealed_first f bad = absurd bad
 
-  pub sealed_past : (HasNoNewArea (hdr_size (header_at v o)) (length v) payload j like → ⊥) → 1000 ≤ iterations → (random : List ℕ)
-      → HasNoFaultBefore 12 v payload e random
-  sealed_past room enough random = before_of 12 v payload e random
-      (past_label v payload e random (past_few v payload e random (past_area room random) (λ bad. (let under = few.0 bad in omega (arith, under, enough)))) good)
+  pub sealed_past : (HasNoNewArea (hdr_size (header_at v o)) (length v) payload j like → ⊥) → IsAllowed allowed asked → (random : List ℕ)
+      → HasNoFaultBefore 13 v payload e random
+  sealed_past room enough random = before_of 13 v payload e random
+      (past_label v payload e random
+      (past_large v payload e random (past_few v payload e random (past_area room random) (λ bad. both_ways _ enough.turns (few.0 bad))) (λ bad. both_ways _ enough.within (large.0 bad))) good)
 
 -- ---- an addition
 
-module _ (v : List ℕ) (payload : Data) (o : ℕ) (j : Value) (m : HasMetadata v o j) (by_ : ℕ) (old : Passphrase) (new : Bor (List ℕ)) (to : Option ℕ) (iterations : ℕ)
-    (past : (random : List ℕ) → IsPast 6 v payload (Add by_ old new to iterations) random) where
-  pub number_first : (f : EditFault) → IsNumberFault j to f → IsRefusedEarly v payload (Add by_ old new to iterations) f
-  number_first fault.SlotTaken bad = λ random. taken_first v payload o j m (Add by_ old new to iterations) random (past random) bad
+module _ (v : List ℕ) (payload : Data) (o : ℕ) (j : Value) (m : HasMetadata v o j) (by_ : ℕ) (old : Passphrase) (new : Bor (List ℕ)) (to : Option ℕ) (asked : AskedDerivation)
+    (past : (random : List ℕ) → IsPast 6 v payload (Add by_ old new to asked.iterations asked.chosen) random) where
+  pub number_first : (f : EditFault) → IsNumberFault j to f → IsRefusedEarly v payload (Add by_ old new to asked.iterations asked.chosen) f
+  number_first fault.SlotTaken bad = λ random. taken_first v payload o j m (Add by_ old new to asked.iterations asked.chosen) random (past random) bad
   number_first fault.NoFreeSlot bad =
-      λ random. unfree_first v payload o j m (Add by_ old new to iterations) random (past random) (unnumbered_untaken j to bad) bad
+      λ random. unfree_first v payload o j m (Add by_ old new to asked.iterations asked.chosen) random (past random) (unnumbered_untaken j to bad) bad
   number_first f bad = absurd bad
 
   module _ (made : ℕ) (number : IsNewNumber j to made) where
-    eight : (random : List ℕ) → IsPast 8 v payload (Add by_ old new to iterations) random
-    eight random = past_number v payload o j m (Add by_ old new to iterations) random (past random) (new_untaken j to made number) (new_numbered j to made number)
+    eight : (random : List ℕ) → IsPast 8 v payload (Add by_ old new to asked.iterations asked.chosen) random
+    eight random = past_number v payload o j m (Add by_ old new to asked.iterations asked.chosen) random (past random) (new_untaken j to made number) (new_numbered j to made number)
 
-    pub unadded_first : (f : EditFault) → IsUnsealable (hdr_size (header_at v o)) (length v) payload j by_ iterations f
-        → IsRefusedEarly v payload (Add by_ old new to iterations) f
-    unadded_first f bad = unsealed_first v payload o j m (Add by_ old new to iterations) by_ iterations (λ x. x, λ x. x) (λ x. x, λ x. x) (λ x. x) (λ x. x) eight f bad
+    pub unadded_first : (f : EditFault) → IsUnsealable (hdr_size (header_at v o)) (length v) payload j by_ (memory_for old new.now) asked f
+        → IsRefusedEarly v payload (Add by_ old new to asked.iterations asked.chosen) f
+    unadded_first f bad = unsealed_first v payload o j m (Add by_ old new to asked.iterations asked.chosen) by_ (memory_for old new.now) asked (λ x. x, λ x. x) (λ x. x, λ x. x) (λ x. x, λ x. x) (λ x. x) (λ x. x) eight f bad
 
-    pub added_past : (HasNoNewArea (hdr_size (header_at v o)) (length v) payload j by_ → ⊥) → 1000 ≤ iterations → (random : List ℕ)
-        → HasNoFaultBefore 12 v payload (Add by_ old new to iterations) random
-    added_past = sealed_past v payload o j m (Add by_ old new to iterations) by_ iterations (λ x. x, λ x. x) (λ x. x, λ x. x) (λ x. x) (λ x. x) eight
+    pub added_past : (HasNoNewArea (hdr_size (header_at v o)) (length v) payload j by_ → ⊥) → IsAllowed (memory_for old new.now) asked → (random : List ℕ)
+        → HasNoFaultBefore 13 v payload (Add by_ old new to asked.iterations asked.chosen) random
+    added_past = sealed_past v payload o j m (Add by_ old new to asked.iterations asked.chosen) by_ (memory_for old new.now) asked (λ x. x, λ x. x) (λ x. x, λ x. x) (λ x. x, λ x. x) (λ x. x) (λ x. x) eight
 
 -- ---- the other edits
 
-module _ (v : List ℕ) (payload : Data) (o : ℕ) (j : Value) (m : HasMetadata v o j) (slot : ℕ) (old : Passphrase) (new : Bor (List ℕ)) (iterations : ℕ)
-    (past : (random : List ℕ) → IsPast 6 v payload (Change slot old new iterations) random) where
-  change_eight : (random : List ℕ) → IsPast 8 v payload (Change slot old new iterations) random
-  change_eight random = past_number v payload o j m (Change slot old new iterations) random (past random) (λ x. x) (λ x. x)
+module _ (v : List ℕ) (payload : Data) (o : ℕ) (j : Value) (m : HasMetadata v o j) (slot : ℕ) (old : Passphrase) (new : Bor (List ℕ)) (asked : AskedDerivation)
+    (past : (random : List ℕ) → IsPast 6 v payload (Change slot old new asked.iterations asked.chosen) random) where
+  change_eight : (random : List ℕ) → IsPast 8 v payload (Change slot old new asked.iterations asked.chosen) random
+  change_eight random = past_number v payload o j m (Change slot old new asked.iterations asked.chosen) random (past random) (λ x. x) (λ x. x)
 
-  pub unchanged_first : (f : EditFault) → IsUnsealable (hdr_size (header_at v o)) (length v) payload j slot iterations f
-      → IsRefusedEarly v payload (Change slot old new iterations) f
-  unchanged_first f bad = unsealed_first v payload o j m (Change slot old new iterations) slot iterations (λ x. x, λ x. x) (λ x. x, λ x. x) (λ x. x) (λ x. x) change_eight f bad
+  pub unchanged_first : (f : EditFault) → IsUnsealable (hdr_size (header_at v o)) (length v) payload j slot (memory_for old new.now) asked f
+      → IsRefusedEarly v payload (Change slot old new asked.iterations asked.chosen) f
+  unchanged_first f bad = unsealed_first v payload o j m (Change slot old new asked.iterations asked.chosen) slot (memory_for old new.now) asked (λ x. x, λ x. x) (λ x. x, λ x. x) (λ x. x, λ x. x) (λ x. x) (λ x. x) change_eight f bad
 
-  pub changed_past : (HasNoNewArea (hdr_size (header_at v o)) (length v) payload j slot → ⊥) → 1000 ≤ iterations → (random : List ℕ)
-      → HasNoFaultBefore 12 v payload (Change slot old new iterations) random
-  changed_past = sealed_past v payload o j m (Change slot old new iterations) slot iterations (λ x. x, λ x. x) (λ x. x, λ x. x) (λ x. x) (λ x. x) change_eight
+  pub changed_past : (HasNoNewArea (hdr_size (header_at v o)) (length v) payload j slot → ⊥) → IsAllowed (memory_for old new.now) asked → (random : List ℕ)
+      → HasNoFaultBefore 13 v payload (Change slot old new asked.iterations asked.chosen) random
+  changed_past = sealed_past v payload o j m (Change slot old new asked.iterations asked.chosen) slot (memory_for old new.now) asked (λ x. x, λ x. x) (λ x. x, λ x. x) (λ x. x, λ x. x) (λ x. x) (λ x. x) change_eight
 
 module _ (v : List ℕ) (payload : Data) (o : ℕ) (j : Value) (m : HasMetadata v o j) (slot : ℕ) (by_ : Option ℕ) (passphrase : Passphrase)
     (past : (random : List ℕ) → IsPast 6 v payload (Remove slot by_ passphrase) random) where
@@ -225,21 +238,22 @@ module _ (v : List ℕ) (payload : Data) (o : ℕ) (j : Value) (m : HasMetadata 
   pub only_first : IsOnlyOne j slot → IsRefusedEarly v payload (Remove slot by_ passphrase) fault.LastSlot
   only_first bad = λ random. last_first v payload o j m (Remove slot by_ passphrase) random (nine random) bad
 
-  pub removed_past : (IsOnlyOne j slot → ⊥) → (random : List ℕ) → HasNoFaultBefore 12 v payload (Remove slot by_ passphrase) random
-  removed_past other random = before_of 12 v payload (Remove slot by_ passphrase) random
+  pub removed_past : (IsOnlyOne j slot → ⊥) → (random : List ℕ) → HasNoFaultBefore 13 v payload (Remove slot by_ passphrase) random
+  removed_past other random = before_of 13 v payload (Remove slot by_ passphrase) random
       (past_label v payload (Remove slot by_ passphrase) random
-      (past_few v payload (Remove slot by_ passphrase) random (past_last v payload o j m (Remove slot by_ passphrase) random (nine random) other) (λ x. x)) (λ x. x))
+      (past_large v payload (Remove slot by_ passphrase) random
+      (past_few v payload (Remove slot by_ passphrase) random (past_last v payload o j m (Remove slot by_ passphrase) random (nine random) other) (λ x. x)) (λ x. x)) (λ x. x))
 
 -- an edit that names no keyslot
 module _ (v : List ℕ) (payload : Data) (o : ℕ) (j : Value) (m : HasMetadata v o j) (e : Edit) (untaken : IsTaken j e → ⊥) (free : HasNoFree j e → ⊥)
-    (room : HasNoRoom (hdr_size (header_at v o)) (length v) payload j e → ⊥) (kept : IsLast j e → ⊥) (enough : HasFewIterations e → ⊥)
+    (room : HasNoRoom (hdr_size (header_at v o)) (length v) payload j e → ⊥) (kept : IsLast j e → ⊥) (enough : HasFewIterations e → ⊥) (within : IsBeyondMemory e → ⊥)
     (past : (random : List ℕ) → IsPast 6 v payload e random) where
-  eleven : (random : List ℕ) → IsPast 11 v payload e random
-  eleven random = past_few v payload e random (past_last v payload o j m e random (past_room v payload o j m e random
-      (past_number v payload o j m e random (past random) untaken free) room) kept) enough
+  twelve : (random : List ℕ) → IsPast 12 v payload e random
+  twelve random = past_large v payload e random (past_few v payload e random (past_last v payload o j m e random (past_room v payload o j m e random
+      (past_number v payload o j m e random (past random) untaken free) room) kept) enough) within
 
   pub label_first : IsBadLabel e → IsRefusedEarly v payload e fault.BadLabel
-  label_first bad = λ random. unlabelled_first v payload e random (eleven random) bad
+  label_first bad = λ random. unlabelled_first v payload e random (twelve random) bad
 
-  pub label_past : (IsBadLabel e → ⊥) → (random : List ℕ) → HasNoFaultBefore 12 v payload e random
-  label_past good random = before_of 12 v payload e random (past_label v payload e random (eleven random) good)
+  pub label_past : (IsBadLabel e → ⊥) → (random : List ℕ) → HasNoFaultBefore 13 v payload e random
+  label_past good random = before_of 13 v payload e random (past_label v payload e random (twelve random) good)

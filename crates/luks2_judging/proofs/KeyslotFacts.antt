@@ -49,16 +49,16 @@ in_use_or_not j n =
 
 -- an edit wants what it opens
 pub opener_wanted : (e : Edit) (n : ℕ) (p : List ℕ) → OpensBy e n p → Wants e n
-opener_wanted (Add by_ old new to iterations) n p asked = asked.0
-opener_wanted (Change slot old new iterations) n p asked = asked.0
+opener_wanted (Add by_ old new to iterations chosen) n p asked = asked.0
+opener_wanted (Change slot old new iterations chosen) n p asked = asked.0
 opener_wanted (Remove slot by_ passphrase) n p asked = inl asked.0
 opener_wanted Repair n p asked = asked
 opener_wanted (Label text) n p asked = asked
 
 -- one that opens none wants none
 pub none_wanted : (e : Edit) → ((n : ℕ) (p : List ℕ) → OpensBy e n p → ⊥) → (n : ℕ) → Wants e n → ⊥
-none_wanted (Add by_ old new to iterations) none n wanted = none by_ old.bytes.now (refl, refl)
-none_wanted (Change slot old new iterations) none n wanted = none slot old.bytes.now (refl, refl)
+none_wanted (Add by_ old new to iterations chosen) none n wanted = none by_ old.bytes.now (refl, refl)
+none_wanted (Change slot old new iterations chosen) none n wanted = none slot old.bytes.now (refl, refl)
 none_wanted (Remove slot by_ passphrase) none n wanted = none (opener_of slot by_) passphrase.bytes.now (refl, refl)
 none_wanted Repair none n wanted = wanted
 none_wanted (Label text) none n wanted = wanted

@@ -12,6 +12,7 @@ use Rattle.luks_reading.specs.declared.report.Data.{Data}
 use Rattle.luks_reading.specs.Checked.{IsFault, WellFormed}
 use Rattle.luks_reading.specs.Header.{IsHeader}
 use Rattle.luks_reading.proofs.VolumeLaws.{well_formed_faultless}
+use Rattle.luks_making.specs.declared.derivation.AskedDerivation.{AskedDerivation}
 use Rattle.luks_edit.specs.declared.edit.Edit.{Edit}
 use Rattle.luks_edit.specs.declared.edit.Edit.TheVariants.{Add}
 use Rattle.luks_edit.specs.declared.edit.Passphrase.{Passphrase}
@@ -72,19 +73,20 @@ module _ (v : List ℕ) (payload : Data) (o : ℕ) (j : Value) (m : HasMetadata 
         need_unfree untaken bad = first_of_row (IsNeedFault2 v payload e) fault.NoFreeSlot refl (past_taken untaken) (say v o j m (λ p i. HasNoFree i e) bad)
 
         -- none of the faults stands
-        past_all : (untaken : IsTaken j e → ⊥) → (HasNoFree j e → ⊥) → Passed (IsNeedFault2 v payload e) 17
+        past_all : (untaken : IsTaken j e → ⊥) → (HasNoFree j e → ⊥) → Passed (IsNeedFault2 v payload e) 18
         past_all untaken free =
             let s = IsNeedFault2 v payload e in
             let p8 : Passed s 8 = next s fault.NoFreeSlot refl (past_taken untaken) (λ bad. free (said v o j m (λ p i. HasNoFree i e) bad)) in
             let p9 : Passed s 9 = next s fault.NoRoom refl p8 (λ bad. bad) in
             let p10 : Passed s 10 = next s fault.LastSlot refl p9 (λ bad. bad) in
             let p11 : Passed s 11 = next s fault.Iterations refl p10 (λ bad. bad) in
-            let p12 : Passed s 12 = next s fault.BadLabel refl p11 (λ bad. bad) in
-            let p13 : Passed s 13 = next s fault.SeqExhausted refl p12 (λ bad. bad) in
-            let p14 : Passed s 14 = next s fault.MetadataFull refl p13 (λ bad. bad) in
-            let p15 : Passed s 15 = next s fault.RandomLength refl p14 (λ bad. bad) in
-            let p16 : Passed s 16 = next s fault.Memory refl p15 (λ bad. bad) in
-            next s fault.Device refl p16 (λ bad. bad)
+            let p12 : Passed s 12 = next s fault.Argon2 refl p11 (λ bad. bad) in
+            let p13 : Passed s 13 = next s fault.BadLabel refl p12 (λ bad. bad) in
+            let p14 : Passed s 14 = next s fault.SeqExhausted refl p13 (λ bad. bad) in
+            let p15 : Passed s 15 = next s fault.MetadataFull refl p14 (λ bad. bad) in
+            let p16 : Passed s 16 = next s fault.RandomLength refl p15 (λ bad. bad) in
+            let p17 : Passed s 17 = next s fault.Memory refl p16 (λ bad. bad) in
+            next s fault.Device refl p17 (λ bad. bad)
 
         pub need_told : (k : ℕ) → (IsTaken j e → ⊥) → (HasNoFree j e → ⊥) → Need2 j e k → NeedsRandom v payload e k
         need_told k untaken free need = record {
@@ -93,14 +95,14 @@ module _ (v : List ℕ) (payload : Data) (o : ℕ) (j : Value) (m : HasMetadata 
         }
 
 -- there is no number for a keyslot that is added
-pub need_unnumbered : (v : List ℕ) (payload : Data) (o : ℕ) (j : Value) (m : HasMetadata v o j) (by_ : ℕ) (old : Passphrase) (new : Bor (List ℕ)) (to : Option ℕ) (iterations : ℕ)
-    → ((f : CheckFault) → IsFault v payload f → ⊥) → (has_requirements j ≡ true → ⊥) → (IsAbsent j (Add by_ old new to iterations) → ⊥)
-    → (f : EditFault) → IsNumberFault j to f → IsLeast edit_key (IsNeedFault2 v payload (Add by_ old new to iterations)) f
-need_unnumbered v payload o j m by_ old new to iterations accepted unrequired there fault.SlotTaken bad =
-    need_taken v payload o j m (Add by_ old new to iterations) accepted unrequired there (λ x. x) bad
-need_unnumbered v payload o j m by_ old new to iterations accepted unrequired there fault.NoFreeSlot bad =
-    need_unfree v payload o j m (Add by_ old new to iterations) accepted unrequired there (λ x. x) (unnumbered_untaken j to bad) bad
-need_unnumbered v payload o j m by_ old new to iterations accepted unrequired there f bad = absurd bad
+pub need_unnumbered : (v : List ℕ) (payload : Data) (o : ℕ) (j : Value) (m : HasMetadata v o j) (by_ : ℕ) (old : Passphrase) (new : Bor (List ℕ)) (to : Option ℕ) (asked : AskedDerivation)
+    → ((f : CheckFault) → IsFault v payload f → ⊥) → (has_requirements j ≡ true → ⊥) → (IsAbsent j (Add by_ old new to asked.iterations asked.chosen) → ⊥)
+    → (f : EditFault) → IsNumberFault j to f → IsLeast edit_key (IsNeedFault2 v payload (Add by_ old new to asked.iterations asked.chosen)) f
+need_unnumbered v payload o j m by_ old new to asked accepted unrequired there fault.SlotTaken bad =
+    need_taken v payload o j m (Add by_ old new to asked.iterations asked.chosen) accepted unrequired there (λ x. x) bad
+need_unnumbered v payload o j m by_ old new to asked accepted unrequired there fault.NoFreeSlot bad =
+    need_unfree v payload o j m (Add by_ old new to asked.iterations asked.chosen) accepted unrequired there (λ x. x) (unnumbered_untaken j to bad) bad
+need_unnumbered v payload o j m by_ old new to asked accepted unrequired there f bad = absurd bad
 
 -- ---- by the header that was read
 

@@ -37,8 +37,8 @@ pub opens_as : (e it : Edit) (n : ℕ) (p : List ℕ) → e ≡ it → OpensBy i
 opens_as e it n p is there = subst (λ y. OpensBy y n p) (sym is) there
 
 pub opens_once : (e : Edit) (n m : ℕ) (p q : List ℕ) → OpensBy e n p → OpensBy e m q → (m ≡ n) × (q ≡ p)
-opens_once (Add by_ old new to iterations) n m p q x y = (y.0 ∙ sym x.0, y.1 ∙ sym x.1)
-opens_once (Change slot old new iterations) n m p q x y = (y.0 ∙ sym x.0, y.1 ∙ sym x.1)
+opens_once (Add by_ old new to iterations chosen) n m p q x y = (y.0 ∙ sym x.0, y.1 ∙ sym x.1)
+opens_once (Change slot old new iterations chosen) n m p q x y = (y.0 ∙ sym x.0, y.1 ∙ sym x.1)
 opens_once (Remove slot by_ passphrase) n m p q x y = (y.0 ∙ sym x.0, y.1 ∙ sym x.1)
 opens_once Repair n m p q x y = absurd x
 opens_once (Label text) n m p q x y = absurd x

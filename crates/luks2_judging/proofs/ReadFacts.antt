@@ -12,10 +12,11 @@ use Rattle.luks_reading.specs.Layout2.{Luks2Area}
 use Rattle.luks_reading.specs.Listing.{Lists}
 use Rattle.luks_edit.specs.declared.edit.Edit.{Edit}
 use Rattle.luks_edit.specs.declared.edit.Edit.TheVariants.{Add, Change, Remove, Repair, Label}
+use Rattle.luks_making.specs.declared.derivation.AskedDerivation.{AskedDerivation}
 use Rattle.luks_edit.specs.declared.edit.Passphrase.{Passphrase}
 use Rattle.luks_edit.specs.declared.edit_fault.EditFault.{EditFault}
 use Rattle.luks_edit.specs.declared.edit_fault.EditFault.TheVariants as fault
-use Rattle.luks_edit.specs.Asked.{OpensBy}
+use Rattle.luks_edit.specs.Asked.{memory_for, OpensBy}
 use Rattle.luks2_edit_laws.specs.Metadata.{HasMetadata}
 use Rattle.luks2_edit_laws.specs.Places.{IsNewArea}
 use Rattle.luks2_edit_laws.specs.Refused.{HasSaid, IsAbsent, IsBadLabel, IsOnlyOne}
@@ -23,7 +24,7 @@ use Rattle.luks2_judging.specs.declared.judged.JudgedEdit.{JudgedEdit}
 use Rattle.luks2_judging.specs.Judged.{IsNewNumber, Judges}
 use Rattle.luks2_judging.specs.Judging.{IsJudgedTo, IsRefusedEarly}
 use Rattle.luks2_judging.specs.Opened.{IsUnlocked, IsUnopened}
-use Rattle.luks2_judging.specs.Room.{IsUnsealable}
+use Rattle.luks2_judging.specs.Room.{IsAllowed, IsUnsealable}
 use Rattle.luks2_judging.specs.Rows.{HasNoFaultBefore}
 use Rattle.luks2_judging.specs.Sealing.{IsUnadded}
 use Rattle.luks2_judging.proofs.AreaFacts.{header_long, listed_here}
@@ -75,33 +76,33 @@ module _ {v : List ℕ} {payload : Data} {e : Edit} {o : ℕ} {meta : Meta} {ent
     six_of it is random = subst (λ y. IsPast 6 v payload y random) is (past_opened v payload e random past (r.four random))
 
     -- a keyslot is added
-    module _ {by_ : ℕ} {old : Passphrase} {new : Bor (List ℕ)} {to : Option ℕ} {iterations : ℕ} (is : e ≡ Add by_ old new to iterations) where
-      pub unadded_refused : (f : EditFault) → IsUnadded (area_len meta + 4096) total payload (content meta) by_ to iterations f
+    module _ {by_ : ℕ} {old : Passphrase} {new : Bor (List ℕ)} {to : Option ℕ} (asked : AskedDerivation) (is : e ≡ Add by_ old new to asked.iterations asked.chosen) where
+      pub unadded_refused : (f : EditFault) → IsUnadded (area_len meta + 4096) total payload (content meta) by_ to (memory_for old new.now) asked f
           → IsRefusedEarly v payload e f
       unadded_refused f (inl bad) = subst (λ y. IsRefusedEarly v payload y f) (sym is)
-          (number_first v payload o (content meta) r.metadata by_ old new to iterations (six_of (Add by_ old new to iterations) is) f bad)
+          (number_first v payload o (content meta) r.metadata by_ old new to asked (six_of (Add by_ old new to asked.iterations asked.chosen) is) f bad)
       unadded_refused f (inr bad) = subst (λ y. IsRefusedEarly v payload y f) (sym is)
-          (unadded_first v payload o (content meta) r.metadata by_ old new to iterations (six_of (Add by_ old new to iterations) is)
-          bad.0.number bad.0.is f (said_of (λ h t. IsUnsealable h t payload (content meta) by_ iterations f) bad.1))
+          (unadded_first v payload o (content meta) r.metadata by_ old new to asked (six_of (Add by_ old new to asked.iterations asked.chosen) is)
+          bad.0.number bad.0.is f (said_of (λ h t. IsUnsealable h t payload (content meta) by_ (memory_for old new.now) asked f) bad.1))
 
-      pub added_passed : {made : ℕ} {a : Area} → IsNewNumber (content meta) to made → 1000 ≤ iterations
-          → IsNewArea (area_len meta + 4096) total payload (content meta) by_ a → (random : List ℕ) → HasNoFaultBefore 12 v payload e random
-      added_passed {made} {a} number enough place random = subst (λ y. HasNoFaultBefore 12 v payload y random) (sym is)
-          (added_past v payload o (content meta) r.metadata by_ old new to iterations (six_of (Add by_ old new to iterations) is) made number
+      pub added_passed : {made : ℕ} {a : Area} → IsNewNumber (content meta) to made → IsAllowed (memory_for old new.now) asked
+          → IsNewArea (area_len meta + 4096) total payload (content meta) by_ a → (random : List ℕ) → HasNoFaultBefore 13 v payload e random
+      added_passed {made} {a} number enough place random = subst (λ y. HasNoFaultBefore 13 v payload y random) (sym is)
+          (added_past v payload o (content meta) r.metadata by_ old new to asked (six_of (Add by_ old new to asked.iterations asked.chosen) is) made number
           (λ none. area_excludes (hdr_size (header_at v o)) (length v) payload (content meta) by_ a (free_of place) none) enough random)
 
     -- one is sealed again
-    module _ {slot : ℕ} {old : Passphrase} {new : Bor (List ℕ)} {iterations : ℕ} (is : e ≡ Change slot old new iterations) where
-      pub unchanged_refused : (f : EditFault) → IsUnsealable (area_len meta + 4096) total payload (content meta) slot iterations f
+    module _ {slot : ℕ} {old : Passphrase} {new : Bor (List ℕ)} (asked : AskedDerivation) (is : e ≡ Change slot old new asked.iterations asked.chosen) where
+      pub unchanged_refused : (f : EditFault) → IsUnsealable (area_len meta + 4096) total payload (content meta) slot (memory_for old new.now) asked f
           → IsRefusedEarly v payload e f
       unchanged_refused f bad = subst (λ y. IsRefusedEarly v payload y f) (sym is)
-          (unchanged_first v payload o (content meta) r.metadata slot old new iterations (six_of (Change slot old new iterations) is)
-          f (said_of (λ h t. IsUnsealable h t payload (content meta) slot iterations f) bad))
+          (unchanged_first v payload o (content meta) r.metadata slot old new asked (six_of (Change slot old new asked.iterations asked.chosen) is)
+          f (said_of (λ h t. IsUnsealable h t payload (content meta) slot (memory_for old new.now) asked f) bad))
 
-      pub changed_passed : {a : Area} → 1000 ≤ iterations → IsNewArea (area_len meta + 4096) total payload (content meta) slot a
-          → (random : List ℕ) → HasNoFaultBefore 12 v payload e random
-      changed_passed {a} enough place random = subst (λ y. HasNoFaultBefore 12 v payload y random) (sym is)
-          (changed_past v payload o (content meta) r.metadata slot old new iterations (six_of (Change slot old new iterations) is)
+      pub changed_passed : {a : Area} → IsAllowed (memory_for old new.now) asked → IsNewArea (area_len meta + 4096) total payload (content meta) slot a
+          → (random : List ℕ) → HasNoFaultBefore 13 v payload e random
+      changed_passed {a} enough place random = subst (λ y. HasNoFaultBefore 13 v payload y random) (sym is)
+          (changed_past v payload o (content meta) r.metadata slot old new asked (six_of (Change slot old new asked.iterations asked.chosen) is)
           (λ none. area_excludes (hdr_size (header_at v o)) (length v) payload (content meta) slot a (free_of place) none) enough random)
 
     -- one is removed
@@ -110,14 +111,14 @@ module _ {v : List ℕ} {payload : Data} {e : Edit} {o : ℕ} {meta : Meta} {ent
       last_refused bad = subst (λ y. IsRefusedEarly v payload y fault.LastSlot) (sym is)
           (only_first v payload o (content meta) r.metadata slot by_ passphrase (six_of (Remove slot by_ passphrase) is) bad)
 
-      pub removed_passed : (IsOnlyOne (content meta) slot → ⊥) → (random : List ℕ) → HasNoFaultBefore 12 v payload e random
-      removed_passed other random = subst (λ y. HasNoFaultBefore 12 v payload y random) (sym is)
+      pub removed_passed : (IsOnlyOne (content meta) slot → ⊥) → (random : List ℕ) → HasNoFaultBefore 13 v payload e random
+      removed_passed other random = subst (λ y. HasNoFaultBefore 13 v payload y random) (sym is)
           (removed_past v payload o (content meta) r.metadata slot by_ passphrase (six_of (Remove slot by_ passphrase) is) other random)
 
   -- the copies are written anew
-  pub repaired_passed : e ≡ Repair → (random : List ℕ) → HasNoFaultBefore 12 v payload e random
-  repaired_passed is random = subst (λ y. HasNoFaultBefore 12 v payload y random) (sym is)
-      (label_past v payload o (content meta) r.metadata Repair (λ x. x) (λ x. x) (λ x. x) (λ x. x) (λ x. x)
+  pub repaired_passed : e ≡ Repair → (random : List ℕ) → HasNoFaultBefore 13 v payload e random
+  repaired_passed is random = subst (λ y. HasNoFaultBefore 13 v payload y random) (sym is)
+      (label_past v payload o (content meta) r.metadata Repair (λ x. x) (λ x. x) (λ x. x) (λ x. x) (λ x. x) (λ x. x)
       (six_of (none_opened v e (λ n p asked. subst (λ y. OpensBy y n p) is asked)) Repair is) (λ x. x) random)
 
   -- the label is set
@@ -127,14 +128,14 @@ module _ {v : List ℕ} {payload : Data} {e : Edit} {o : ℕ} {meta : Meta} {ent
 
     label_refused : IsBadLabel (Label text) → IsRefusedEarly v payload e fault.BadLabel
     label_refused bad = subst (λ y. IsRefusedEarly v payload y fault.BadLabel) (sym is)
-        (label_first v payload o (content meta) r.metadata (Label text) (λ x. x) (λ x. x) (λ x. x) (λ x. x) (λ x. x) six_of_label bad)
+        (label_first v payload o (content meta) r.metadata (Label text) (λ x. x) (λ x. x) (λ x. x) (λ x. x) (λ x. x) (λ x. x) six_of_label bad)
 
-    label_passed : (IsBadLabel (Label text) → ⊥) → (random : List ℕ) → HasNoFaultBefore 12 v payload e random
-    label_passed good random = subst (λ y. HasNoFaultBefore 12 v payload y random) (sym is)
-        (label_past v payload o (content meta) r.metadata (Label text) (λ x. x) (λ x. x) (λ x. x) (λ x. x) (λ x. x) six_of_label good random)
+    label_passed : (IsBadLabel (Label text) → ⊥) → (random : List ℕ) → HasNoFaultBefore 13 v payload e random
+    label_passed good random = subst (λ y. HasNoFaultBefore 13 v payload y random) (sym is)
+        (label_past v payload o (content meta) r.metadata (Label text) (λ x. x) (λ x. x) (λ x. x) (λ x. x) (λ x. x) (λ x. x) six_of_label good random)
 
     pub label_judged : (it : Result JudgedEdit EditFault) → Judges (IsBadLabel (Label text)) fault.BadLabel it
-        → OnOk it ((random : List ℕ) → HasNoFaultBefore 12 v payload e random)
+        → OnOk it ((random : List ℕ) → HasNoFaultBefore 13 v payload e random)
     label_judged (Ok it) good = label_passed good
     label_judged (Err f) bad = tt
 

@@ -1,5 +1,5 @@
 -- The text of new metadata is as long with one salt as with another.
-use Rattle.std.proofs.Common.{◌≡◌, ℕ, suc, ◌+◌, List, ◌∷◌, ◌++◌, length, length-append, Bool, true, false, cond, codes, decimal, Ordering, Less, Equal, Greater, refl, ap, arith, subst}
+use Rattle.std.proofs.Common.{◌≡◌, ℕ, suc, ◌+◌, List, ◌∷◌, ◌++◌, length, length-append, Bool, true, false, cond, codes, decimal, Option, Some, None, Ordering, Less, Equal, Greater, refl, ap, arith, subst}
 use Rattle.std.specs.Cmp.Lexicographic.{slice_cmp}
 use Rattle.std.specs.Ordering.{match_ordering, nat_cmp}
 use Rattle.std.specs.Str.{bytes_eq}
@@ -8,10 +8,12 @@ use Rattle.serde_json.specs.Written.{comma_if, compact_text, members_text}
 use Rattle.json.specs.Print.{quoted}
 use Rattle.luks_area.specs.declared.area.Area.{Area}
 use Rattle.luks_json.specs.Number.{number_text}
-use Rattle.luks_making.specs.Changed.{changed_slot, renewed_area, renewed_kdf, renewed_slot}
+use Rattle.luks_making.specs.Changed.{changed_slot, kdf_or, renewed_area, renewed_kdf, renewed_slot, splitter_hash}
 use Rattle.luks_making.specs.Changing.{at_member, change_member, in_object}
-use Rattle.luks_making.specs.declared.new_keyslot.Argon2Costs.{Argon2Costs}
-use Rattle.luks_making.specs.Keyslots.{area_value, base64_text, kdf_value, slot_value, splitter_value, SlotMembers, argon2_value, by_argon2i, by_argon2id, by_pbkdf2, Deriving}
+use Rattle.luks_making.specs.declared.derivation.Argon2Costs.{Argon2Costs}
+use Rattle.luks_making.specs.declared.derivation.AskedDerivation.{AskedDerivation}
+use Rattle.luks_making.specs.declared.derivation.NewDerivation.{NewDerivation}
+use Rattle.luks_making.specs.Keyslots.{area_value, base64_text, kdf_value, slot_value, splitter_value, SlotMembers, argon2_value, by_argon2i, by_argon2id, by_pbkdf2, derivation_by, Deriving}
 use Rattle.luks_making.specs.With.{with_name, with_slot}
 use Rattle.luks2_edit_laws.specs.Edited.{members_of}
 
@@ -106,17 +108,6 @@ put_as_long k d e value (member l f ms) = put_by (slice_cmp nat_cmp k l) k l d e
 pub record SaltsAsLong (a b : List ℕ) : Type 0 where
   pub same : length (quoted (base64_text a)) ≡ length (quoted (base64_text b))
 
-pub changed_as_long : (iterations : ℕ) (a b : List ℕ) (area : Area) (n : ℕ) (j : Data) → SaltsAsLong a b
-    → AsLong (changed_slot n (members_of iterations a area) j) (changed_slot n (members_of iterations b area) j)
-changed_as_long iterations a b area n j salts =
-    let f = members_of iterations a area in
-    let g = members_of iterations b area in
-    at_member_as_long (codes "keyslots") (at_member (number_text n) (renewed_slot f)) (at_member (number_text n) (renewed_slot g))
-    (λ d. at_member_as_long (number_text n) (renewed_slot f) (renewed_slot g)
-    (λ k. at_member_as_long (codes "kdf") (renewed_kdf f) (renewed_kdf g)
-    (λ m. set_as_long (codes "iterations") (codes "salt") (number (unsigned iterations)) (λ _. string (base64_text a)) (λ _. string (base64_text b)) (λ _. salts.same) m)
-    (at_member (codes "area") (renewed_area f) k)) d) j
-
 -- the keyslots have the same members but for the salt
 pub record SameButSalt (s t : SlotMembers) : Type 0 where
   pub key_size : s.key_size ≡ t.key_size
@@ -155,6 +146,24 @@ module _ (a b : List ℕ) (salts : SaltsAsLong a b) where
   one_kdf_as_long (by_pbkdf2 hash n) = pbkdf2_as_long hash n
   one_kdf_as_long (by_argon2i costs) = argon2_as_long (codes "argon2i") costs
   one_kdf_as_long (by_argon2id costs) = argon2_as_long (codes "argon2id") costs
+
+-- so is that of one that is salted anew, or chosen
+kdf_or_as_long : (asked : AskedDerivation) (a b : List ℕ) (area : Area) (hash : List ℕ) → SaltsAsLong a b → (chosen : Option NewDerivation) (m : Data)
+    → AsLong (kdf_or (members_of asked a area) hash chosen m) (kdf_or (members_of asked b area) hash chosen m)
+kdf_or_as_long asked a b area hash salts None m =
+    set_as_long (codes "iterations") (codes "salt") (number (unsigned asked.iterations)) (λ _. string (base64_text a)) (λ _. string (base64_text b)) (λ _. salts.same) m
+kdf_or_as_long asked a b area hash salts (Some c) m = one_kdf_as_long a b salts (derivation_by hash c)
+
+pub changed_as_long : (asked : AskedDerivation) (a b : List ℕ) (area : Area) (n : ℕ) (j : Data) → SaltsAsLong a b
+    → AsLong (changed_slot n (members_of asked a area) j) (changed_slot n (members_of asked b area) j)
+changed_as_long asked a b area n j salts =
+    let f = members_of asked a area in
+    let g = members_of asked b area in
+    at_member_as_long (codes "keyslots") (at_member (number_text n) (renewed_slot f)) (at_member (number_text n) (renewed_slot g))
+    (λ d. at_member_as_long (number_text n) (renewed_slot f) (renewed_slot g)
+    (λ k. at_member_as_long (codes "kdf") (renewed_kdf f (splitter_hash k)) (renewed_kdf g (splitter_hash k))
+    (λ m. kdf_or_as_long asked a b area (splitter_hash k) salts asked.chosen m)
+    (at_member (codes "area") (renewed_area f) k)) d) j
 
 kdf_as_long : (s t : SlotMembers) → SameButSalt s t → AsLong (kdf_value s.derivation s.salt) (kdf_value t.derivation t.salt)
 kdf_as_long s t x = subst (λ d. AsLong (kdf_value s.derivation s.salt) (kdf_value d t.salt)) x.derivation (one_kdf_as_long s.salt t.salt x.salt s.derivation)

@@ -26,7 +26,7 @@ taken header copy total e (Err f) is takes = tt
 
 -- what is known of the volume where no row refuses the edit
 pub unrefused : (header : Header) (copy : ChosenCopy) (v : List ℕ) (payload : Data) (e : Edit) (r : Result JudgedEdit EditFault) → header ≡ Luks2 copy → WellFormed v payload
-    → IfOk r (Seals (hdr_size (header_at v copy.header.hdr_offset)) v payload (content copy.meta) e) → OnOk r ((random : List ℕ) → HasNoFaultBefore 12 v payload e random)
+    → IfOk r (Seals (hdr_size (header_at v copy.header.hdr_offset)) v payload (content copy.meta) e) → OnOk r ((random : List ℕ) → HasNoFaultBefore 13 v payload e random)
     → IfOk r (IsUnrefusedOf header v payload e)
 unrefused header copy v payload e (Ok it) is well seals none = record {
   well = well;

@@ -1,5 +1,5 @@
 -- What judging an edit of a LUKS2 volume by the rows up to `BadLabel` gives.
-use Rattle.std.specs.Prelude.{◌≡◌, ℕ, ◌++◌, ◌-◌, ◌≤◌, List, length, replicate, Option, Some, None, ⊤}
+use Rattle.std.specs.Prelude.{◌≡◌, ℕ, ◌++◌, ◌-◌, List, length, replicate, Option, Some, None, ⊤}
 use Rattle.std.specs.Borrow.{Bor}
 use Rattle.serde_json.specs.Data.{Data as Value}
 use Rattle.luks_area.specs.declared.area.Area.{Area}
@@ -9,6 +9,7 @@ use Rattle.luks_area.specs.Area.{IsInside}
 use Rattle.luks_area.specs.Names.{HasArea}
 use Rattle.luks_head.specs.Header2.{hdr_size, header_at}
 use Rattle.luks_meta.specs.Content.{area_len, content}
+use Rattle.luks_making.specs.declared.derivation.AskedDerivation.{AskedDerivation}
 use Rattle.luks_reading.specs.declared.header.ChosenCopy.{ChosenCopy}
 use Rattle.luks_reading.specs.declared.header.Header.{Header}
 use Rattle.luks_reading.specs.declared.header.Header.TheVariants.{Luks2}
@@ -25,7 +26,7 @@ use Rattle.luks_edit.specs.declared.deed.Removed.{Removed}
 use Rattle.luks_edit.specs.declared.deed.Sealed.{Sealed}
 use Rattle.luks_edit.specs.declared.edit.Passphrase.{Passphrase}
 use Rattle.luks_edit.specs.declared.edit_fault.EditFault.{EditFault}
-use Rattle.luks_edit.specs.Asked.{deed_of}
+use Rattle.luks_edit.specs.Asked.{deed_of, memory_for}
 use Rattle.luks_edit.specs.Endings.{EndsBy}
 use Rattle.luks2_edit_laws.specs.Metadata.{IsInUse, IsKeyArea}
 use Rattle.luks2_edit_laws.specs.Places.{IsNewArea}
@@ -37,7 +38,7 @@ use Rattle.luks2_judging.specs.declared.judged.JudgedEdit.TheVariants as judged
 use Rattle.luks2_judging.specs.declared.judged.Renewal.{Renewal}
 use Rattle.luks2_judging.specs.Judged.{IsNewNumber}
 use Rattle.luks2_judging.specs.Opened.{IsOpenedTo, TakesMemoryToOpen}
-use Rattle.luks2_judging.specs.Room.{IsPlaced}
+use Rattle.luks2_judging.specs.Room.{IsAllowed, IsPlaced}
 use Rattle.luks2_judging.specs.Rows.{HasNoFaultBefore}
 
 -- ---- on any device: what the edit `e` takes, by the metadata `j` of a JSON area of `len` bytes in a
@@ -49,9 +50,9 @@ pub record IsLostArea (j : Value) (total n : ℕ) (a : Area) : Type 0 where
   pub inside : IsInside a total
 
 -- a key is sealed at this place under a new passphrase, which the old one opens in the keyslot `slot`
-abbrev pub sealing : ℕ → Passphrase → Place → Bor (List ℕ) → ℕ → Sealed
-sealing slot old place new iterations =
-    record { opener = record { slot = slot; passphrase = old }; place = place; passphrase = new; iterations = iterations }
+abbrev pub sealing : ℕ → Passphrase → Place → Bor (List ℕ) → AskedDerivation → Sealed
+sealing slot old place new asked =
+    record { opener = record { slot = slot; passphrase = old }; place = place; passphrase = new; derivation = asked }
 
 -- the keyslot `slot` is removed, by the passphrase of the keyslot `by_` where one is named
 abbrev pub removing : ℕ → Option ℕ → Passphrase → Removed
@@ -63,23 +64,23 @@ pub record IsAddition
     : Type 0 where
   pub old : Passphrase
   pub to : Option ℕ
-  pub asked : deed_of e ≡ deed.Seal (sealing a.by_ old (New to) passphrase a.iterations)
+  pub asked : deed_of e ≡ deed.Seal (sealing a.by_ old (New to) passphrase a.derivation)
   pub number : IsNewNumber j to a.made
   pub key_length : HasLuks2KeyBytes j a.by_ (length key)
   pub placed : IsPlaced len j total a.by_ a.area
-  pub iterated : 1000 ≤ a.iterations
+  pub allowed : IsAllowed (memory_for old passphrase.now) a.derivation
 
 -- it seals this keyslot again, for the key under the passphrase
 pub record IsRenewal
     (len : ℕ) (j : Value) (total : ℕ) (e : Edit) (r : Renewal) (key : List ℕ) (passphrase : Bor (List ℕ))
     : Type 0 where
   pub old : Passphrase
-  pub asked : deed_of e ≡ deed.Seal (sealing r.slot old Opened passphrase r.iterations)
+  pub asked : deed_of e ≡ deed.Seal (sealing r.slot old Opened passphrase r.derivation)
   pub there : IsInUse j r.slot
   pub key_length : HasLuks2KeyBytes j r.slot (length key)
   pub placed : IsPlaced len j total r.slot r.area
   pub lost : IsLostArea j total r.slot r.lost
-  pub iterated : 1000 ≤ r.iterations
+  pub allowed : IsAllowed (memory_for old passphrase.now) r.derivation
 
 -- it removes this keyslot, and its area with it
 pub record IsRemoval (j : Value) (total : ℕ) (e : Edit) (slot : ℕ) (area : Area) : Type 0 where
@@ -132,13 +133,13 @@ Seals h v payload j e it = ⊤
 pub record IsUnrefusedSoFar (v : List ℕ) (payload : Data) (e : Edit) (it : Judged) : Type 0 where
   pub well : WellFormed v payload
   pub seals : Seals (hdr_size (header_at v it.copy.header.hdr_offset)) v payload (content it.copy.meta) e it.edit
-  pub none : (random : List ℕ) → HasNoFaultBefore 12 v payload e random
+  pub none : (random : List ℕ) → HasNoFaultBefore 13 v payload e random
 
 -- the same of any copy that the header is
 pub record IsUnrefusedOf (header : Header) (v : List ℕ) (payload : Data) (e : Edit) (it : JudgedEdit) : Type 0 where
   pub well : WellFormed v payload
   pub seals : (copy : ChosenCopy) → header ≡ Luks2 copy → Seals (hdr_size (header_at v copy.header.hdr_offset)) v payload (content copy.meta) e it
-  pub none : (random : List ℕ) → HasNoFaultBefore 12 v payload e random
+  pub none : (random : List ℕ) → HasNoFaultBefore 13 v payload e random
 
 -- one of them does, whatever the random bytes are; or memory was refused that opening its keyslot
 -- takes; or the device failed

@@ -1,9 +1,11 @@
 -- Where a new keyslot's area goes, by the numbers of the metadata `j` of a JSON area of `len` bytes in
 -- a volume of `total` bytes.
-use Rattle.std.specs.Prelude.{◌≡◌, ℕ, ◌+◌, ◌-◌, ◌*◌, ◌^◌, ◌<◌, ◌≤◌, Some, min}
+use Rattle.std.specs.Prelude.{◌≡◌, ℕ, ◌+◌, ◌-◌, ◌*◌, ◌^◌, ◌≤◌, true, false, Some, min}
 use Rattle.serde_json.specs.Data.{Data as Value}
 use Rattle.luks_area.specs.declared.area.Area.{Area}
 use Rattle.luks_rules.specs.Sizes.{keyslots_size, region_start}
+use Rattle.luks_making.specs.Derivations.{asked_beyond, asked_few_turns}
+use Rattle.luks_making.specs.declared.derivation.AskedDerivation.{AskedDerivation}
 use Rattle.luks_reading.specs.declared.report.Data.{Data}
 use Rattle.luks_edit.specs.declared.edit_fault.EditFault.{EditFault}
 use Rattle.luks_edit.specs.declared.edit_fault.EditFault.TheVariants as fault
@@ -35,9 +37,28 @@ pub record IsPlaced (len : ℕ) (j : Value) (total n : ℕ) (area : Area) : Type
   pub to : area.start + area.len ≤ region_start len + bytes
   pub inside : area.start + area.len ≤ total
 
--- why no keyslot is sealed like the keyslot `n`: there is no room for its area, or there is and its
--- key would be derived with too few iterations
-abbrev pub IsUnsealable : ℕ → ℕ → Data → Value → ℕ → ℕ → EditFault → Type 0
-IsUnsealable h total payload j n iterations fault.NoRoom = HasNoNewArea h total payload j n
-IsUnsealable h total payload j n iterations fault.Iterations = (HasNoNewArea h total payload j n → ⊥) × (iterations < 1000)
-IsUnsealable h total payload j n iterations f = ⊥
+-- what is asked has enough iterations or passes, and Argon2 that is chosen takes no more than so many
+-- KiB, in its bounds
+pub record IsAllowed (allowed : ℕ) (asked : AskedDerivation) : Type 0 where
+  pub turns : asked_few_turns asked ≡ false
+  pub within : asked_beyond allowed asked ≡ false
+
+-- there is room for the area of a keyslot that is sealed like the keyslot `n`, but its key would be
+-- derived with too few iterations or passes
+pub record IsTooQuick (h total : ℕ) (payload : Data) (j : Value) (n : ℕ) (asked : AskedDerivation) : Type 0 where
+  pub room : HasNoNewArea h total payload j n → ⊥
+  pub turns : asked_few_turns asked ≡ true
+
+-- it wouldn't, but by an Argon2 that takes too much memory, or is outside its bounds
+pub record IsTooLarge (h total : ℕ) (payload : Data) (j : Value) (n allowed : ℕ) (asked : AskedDerivation) : Type 0 where
+  pub room : HasNoNewArea h total payload j n → ⊥
+  pub turns : asked_few_turns asked ≡ false
+  pub beyond : asked_beyond allowed asked ≡ true
+
+-- why no keyslot is sealed like the keyslot `n` that derives as is asked, where Argon2 may take so many
+-- KiB
+abbrev pub IsUnsealable : ℕ → ℕ → Data → Value → ℕ → ℕ → AskedDerivation → EditFault → Type 0
+IsUnsealable h total payload j n allowed asked fault.NoRoom = HasNoNewArea h total payload j n
+IsUnsealable h total payload j n allowed asked fault.Iterations = IsTooQuick h total payload j n asked
+IsUnsealable h total payload j n allowed asked fault.Argon2 = IsTooLarge h total payload j n allowed asked
+IsUnsealable h total payload j n allowed asked f = ⊥

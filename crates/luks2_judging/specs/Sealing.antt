@@ -1,6 +1,7 @@
 -- Why an edit seals no new keyslot.
 use Rattle.std.specs.Prelude.{ℕ, Option, ◌⊎◌}
 use Rattle.serde_json.specs.Data.{Data as Value}
+use Rattle.luks_making.specs.declared.derivation.AskedDerivation.{AskedDerivation}
 use Rattle.luks_reading.specs.declared.report.Data.{Data}
 use Rattle.luks_edit.specs.declared.edit_fault.EditFault.{EditFault}
 use Rattle.luks2_judging.specs.Judged.{IsNewNumber, IsNumberFault}
@@ -13,6 +14,6 @@ pub record HasNewNumber (j : Value) (to : Option ℕ) : Type 0 where
 
 -- none is added with the members of the keyslot `by_`, by the metadata `j` of a volume of `total` bytes
 -- whose header has `h`: there is no number for it, or there is and it can't be sealed
-abbrev pub IsUnadded : ℕ → ℕ → Data → Value → ℕ → Option ℕ → ℕ → EditFault → Type 0
-IsUnadded h total payload j by_ to iterations f =
-    IsNumberFault j to f ⊎ (HasNewNumber j to × IsUnsealable h total payload j by_ iterations f)
+abbrev pub IsUnadded : ℕ → ℕ → Data → Value → ℕ → Option ℕ → ℕ → AskedDerivation → EditFault → Type 0
+IsUnadded h total payload j by_ to allowed asked f =
+    IsNumberFault j to f ⊎ (HasNewNumber j to × IsUnsealable h total payload j by_ allowed asked f)

@@ -1,5 +1,6 @@
 //! What an edit takes once it was judged.
 use luks_area::Area;
+use luks_making::AskedDerivation;
 use luks_reading::ChosenCopy;
 use luks_slot::Key;
 
@@ -54,8 +55,8 @@ pub enum JudgedEdit<'a> {
 pub struct Addition {
     /// The keyslot that the old passphrase opened; the new one is made with its members.
     pub by_: u8,
-    /// The iterations of the new keyslot's derivation, at least 1000.
-    pub iterations: u32,
+    /// How the new keyslot derives.
+    pub derivation: AskedDerivation,
     /// The number of the new keyslot, 0 to 31.
     pub made: u8,
     /// Its area.
@@ -67,8 +68,8 @@ pub struct Addition {
 pub struct Renewal {
     /// The keyslot, which the old passphrase opened.
     pub slot: u8,
-    /// The iterations of its new derivation, at least 1000.
-    pub iterations: u32,
+    /// How it derives from now on.
+    pub derivation: AskedDerivation,
     /// Its new area.
     pub area: Area,
     /// The area that it loses.

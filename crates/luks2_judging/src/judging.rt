@@ -1,5 +1,5 @@
 //! Judging an edit of a LUKS2 volume by the rows that nothing has to be made for.
-ghost use Rattle.std.specs.Prelude.{◌≡◌, ◌≢◌, ◌+◌, ◌-◌, ◌^◌, ◌<◌, ◌≤◌, ℕ, List, false, length, IfErr, IfOk, OnOk};
+ghost use Rattle.std.specs.Prelude.{◌≡◌, ◌≢◌, ◌+◌, ◌-◌, ◌^◌, ◌<◌, ℕ, List, false, length, IfErr, IfOk, OnOk};
 ghost use Rattle.luks_area.specs.declared.area.Area.{Area as TheArea};
 ghost use Rattle.luks_area.specs.declared.area.AreaName.{AreaName};
 ghost use Rattle.luks_area.specs.Area.{IsInside};
@@ -22,7 +22,7 @@ ghost use Rattle.luks2_edit_laws.specs.Refused.{IsAbsent, Refusal2};
 ghost use Rattle.luks2_judging.specs.Header.{IsOfLuks2};
 ghost use Rattle.luks2_judging.specs.Judged.{IsNewNumber};
 ghost use Rattle.luks2_judging.specs.Judging.{IsAcceptedFor, IsJudged, IsJudgedTo, IsRefusedEarly, IsTakenOf, IsUnrefusedOf, IsUnrefusedSoFar, Seals, Takes};
-ghost use Rattle.luks2_judging.specs.Room.{IsPlaced, IsUnsealable};
+ghost use Rattle.luks2_judging.specs.Room.{IsAllowed, IsPlaced, IsUnsealable};
 ghost use Rattle.luks2_judging.specs.Rows.{HasNoFaultBefore};
 ghost use Rattle.luks2_judging.specs.Sealing.{IsUnadded};
 
@@ -34,7 +34,7 @@ use crate::room::{Room, judge_sealing};
 use crate::rows::judge_removal;
 use crate::unlocking::unlock;
 use luks_area::{Areas, Device};
-use luks_edit::{Deed, Edit, EditFault, Place, Removed, Sealed, opener_of};
+use luks_edit::{AskedDerivation, Deed, Edit, EditFault, Place, Removed, Sealed, opener_of};
 use luks_reading::{ChosenCopy, Data, Header};
 use std::alloc::Global;
 
@@ -151,7 +151,7 @@ fn judge_without_key<'a>(
 }
 
 /// The rows from the opening of a keyslot on: `Locked`, `Slot`, `SlotTaken`, `NoFreeSlot`, `NoRoom`,
-/// `LastSlot`, `Iterations`, `BadLabel`.
+/// `LastSlot`, `Iterations`, `Argon2`, `BadLabel`.
 fn judge_with_key<'a, D: Device>(
     alloc: Global,
     device: &mut D,
@@ -180,7 +180,7 @@ fn judge_with_key<'a, D: Device>(
         → ((random : List ℕ) → IsJudgedTo 4 accepted.now.copy.now accepted.now.areas
         (D.bytes device.old) payload edit.now random)
         → OnOk result
-        ((random : List ℕ) → HasNoFaultBefore 12 (D.bytes device.old) payload edit.now random) }
+        ((random : List ℕ) → HasNoFaultBefore 13 (D.bytes device.old) payload edit.now random) }
     ensures refused { D.tells → IsHeader (D.bytes device.old) header.now → (payload : Payload)
         → WellFormed (D.bytes device.old) payload
         → ((random : List ℕ) → IsJudgedTo 4 accepted.now.copy.now accepted.now.areas
@@ -198,7 +198,7 @@ fn judge_with_key<'a, D: Device>(
 }
 
 /// The same of an edit that seals a key: `Locked`, `Slot`, `SlotTaken`, `NoFreeSlot`, `NoRoom`,
-/// `Iterations`.
+/// `Iterations`, `Argon2`.
 fn judge_sealing_of<'a, D: Device>(
     alloc: Global,
     device: &mut D,
@@ -229,7 +229,7 @@ fn judge_sealing_of<'a, D: Device>(
         → ((random : List ℕ) → IsJudgedTo 4 accepted.now.copy.now accepted.now.areas
         (D.bytes device.old) payload edit.now random)
         → OnOk result
-        ((random : List ℕ) → HasNoFaultBefore 12 (D.bytes device.old) payload edit.now random) }
+        ((random : List ℕ) → HasNoFaultBefore 13 (D.bytes device.old) payload edit.now random) }
     ensures refused { D.tells → IsHeader (D.bytes device.old) header.now → (payload : Payload)
         → WellFormed (D.bytes device.old) payload
         → ((random : List ℕ) → IsJudgedTo 4 accepted.now.copy.now accepted.now.areas
@@ -250,7 +250,7 @@ fn judge_sealing_of<'a, D: Device>(
     )?;
     match sealed.place {
         Place::New { to } => {
-            let addition = judge_addition(&room, opener.slot, to, sealed.iterations)?;
+            let addition = judge_addition(&room, opener.slot, to, sealed.derivation, memory)?;
             Ok(JudgedEdit::Add {
                 addition,
                 key,
@@ -258,7 +258,7 @@ fn judge_sealing_of<'a, D: Device>(
             })
         }
         Place::Opened => {
-            let renewal = judge_renewal(&room, opener.slot, sealed.iterations)?;
+            let renewal = judge_renewal(&room, opener.slot, sealed.derivation, memory)?;
             Ok(JudgedEdit::Change {
                 renewal,
                 key,
@@ -299,7 +299,7 @@ fn judge_removal_of<'a, D: Device>(
         → ((random : List ℕ) → IsJudgedTo 4 accepted.now.copy.now accepted.now.areas
         (D.bytes device.old) payload edit.now random)
         → OnOk result
-        ((random : List ℕ) → HasNoFaultBefore 12 (D.bytes device.old) payload edit.now random) }
+        ((random : List ℕ) → HasNoFaultBefore 13 (D.bytes device.old) payload edit.now random) }
     ensures refused { D.tells → IsHeader (D.bytes device.old) header.now → (payload : Payload)
         → WellFormed (D.bytes device.old) payload
         → ((random : List ℕ) → IsJudgedTo 4 accepted.now.copy.now accepted.now.areas
@@ -323,12 +323,14 @@ fn judge_removal_of<'a, D: Device>(
 }
 
 /// The keyslot that is added with the members of the keyslot `by_`, which is there: of the number `to`,
-/// or else of the least that is free. Refused by `SlotTaken`, `NoFreeSlot`, `NoRoom`, `Iterations`.
+/// or else of the least that is free. Refused by `SlotTaken`, `NoFreeSlot`, `NoRoom`, `Iterations`,
+/// `Argon2`.
 fn judge_addition(
     room: &Room<'_>,
     by_: u8,
     to: Option<u8>,
-    iterations: u32,
+    derivation: AskedDerivation,
+    allowed: u32,
 ) -> Result<Addition, EditFault>
     requires there { IsInUse (content room.now.meta.now) by_ }
     requires ends { (m : AreaName) (a : TheArea) → HasArea room.now.entries.now m a
@@ -336,8 +338,8 @@ fn judge_addition(
     ensures own { IfErr result (λ f. is_edit_failure f ≡ false) }
     ensures memory { IfErr result (λ f. f ≢ EditFault.Memory) }
     ensures like { IfOk result (λ a. a.by_ ≡ by_) }
-    ensures iterations { IfOk result (λ a. a.iterations ≡ iterations) }
-    ensures iterated { IfOk result (λ a. 1000 ≤ a.iterations) }
+    ensures derivation { IfOk result (λ a. a.derivation ≡ derivation) }
+    ensures allowed { IfOk result (λ a. IsAllowed allowed a.derivation) }
     ensures number { IfOk result (λ a. IsNewNumber (content room.now.meta.now) to a.made) }
     ensures placed { IfOk result (λ a.
         IsPlaced (area_len room.now.meta.now) (content room.now.meta.now) room.now.total a.by_ a.area) }
@@ -348,17 +350,17 @@ fn judge_addition(
     ensures refused { (payload : Payload) → Lists room.now.entries.now
         (Luks2Area (content room.now.meta.now) (area_len room.now.meta.now + 4096) payload room.now.total)
         → IfErr result (IsUnadded (area_len room.now.meta.now + 4096) room.now.total payload
-        (content room.now.meta.now) by_ to iterations) }
+        (content room.now.meta.now) by_ to allowed derivation) }
 {
     // Not by `?`: the kit makes no proof of it where no parameter holds a fault of the metadata.
     let made = match new_number(room.meta, to) {
         Ok(made) => made,
         Err(fault) => return Err(fault),
     };
-    match judge_sealing(room, by_, iterations) {
+    match judge_sealing(room, by_, derivation, allowed) {
         Ok(area) => Ok(Addition {
             by_,
-            iterations,
+            derivation,
             made,
             area,
         }),
@@ -366,16 +368,21 @@ fn judge_addition(
     }
 }
 
-/// The keyslot `slot`, which is there, with its new area. Refused by `NoRoom`, `Iterations`.
-fn judge_renewal(room: &Room<'_>, slot: u8, iterations: u32) -> Result<Renewal, EditFault>
+/// The keyslot `slot`, which is there, with its new area. Refused by `NoRoom`, `Iterations`, `Argon2`.
+fn judge_renewal(
+    room: &Room<'_>,
+    slot: u8,
+    derivation: AskedDerivation,
+    allowed: u32,
+) -> Result<Renewal, EditFault>
     requires there { IsInUse (content room.now.meta.now) slot }
     requires ends { (m : AreaName) (a : TheArea) → HasArea room.now.entries.now m a
         → IsInside a (2 ^ 64 - 1) }
     ensures own { IfErr result (λ f. is_edit_failure f ≡ false) }
     ensures memory { IfErr result (λ f. f ≢ EditFault.Memory) }
     ensures slot { IfOk result (λ r. r.slot ≡ slot) }
-    ensures iterations { IfOk result (λ r. r.iterations ≡ iterations) }
-    ensures iterated { IfOk result (λ r. 1000 ≤ r.iterations) }
+    ensures derivation { IfOk result (λ r. r.derivation ≡ derivation) }
+    ensures allowed { IfOk result (λ r. IsAllowed allowed r.derivation) }
     ensures placed { IfOk result (λ r.
         IsPlaced (area_len room.now.meta.now) (content room.now.meta.now) room.now.total r.slot r.area) }
     ensures area { (payload : Payload) → Lists room.now.entries.now
@@ -386,12 +393,12 @@ fn judge_renewal(room: &Room<'_>, slot: u8, iterations: u32) -> Result<Renewal, 
     ensures refused { (payload : Payload) → Lists room.now.entries.now
         (Luks2Area (content room.now.meta.now) (area_len room.now.meta.now + 4096) payload room.now.total)
         → IfErr result (IsUnsealable (area_len room.now.meta.now + 4096) room.now.total payload
-        (content room.now.meta.now) slot iterations) }
+        (content room.now.meta.now) slot allowed derivation) }
 {
-    match judge_sealing(room, slot, iterations) {
+    match judge_sealing(room, slot, derivation, allowed) {
         Ok(area) => Ok(Renewal {
             slot,
-            iterations,
+            derivation,
             area,
             lost: key_area(room.meta, slot),
         }),

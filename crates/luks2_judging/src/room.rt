@@ -1,5 +1,5 @@
 //! Where the area of a new keyslot goes.
-ghost use Rattle.std.specs.Prelude.{◌≡◌, ◌≢◌, ◌+◌, ◌-◌, ◌*◌, ◌^◌, ◌<◌, ◌≤◌, ℕ, false, IfErr, IfOk, IfSome, MatchOption, OnOk};
+ghost use Rattle.std.specs.Prelude.{◌≡◌, ◌≢◌, ◌+◌, ◌-◌, ◌*◌, ◌^◌, ◌<◌, ℕ, false, IfErr, IfOk, IfSome, MatchOption, OnOk};
 ghost use Rattle.luks_area.specs.declared.area.Area.{Area as TheArea};
 ghost use Rattle.luks_area.specs.declared.area.AreaName.{AreaName};
 ghost use Rattle.luks_area.specs.Area.{IsInside};
@@ -11,10 +11,11 @@ ghost use Rattle.luks_reading.specs.declared.report.Data.{Data as Payload};
 ghost use Rattle.luks2_edit_laws.specs.Metadata.{IsInUse};
 ghost use Rattle.luks2_edit_laws.specs.Places.{HasNoNewArea, IsNewArea, rounded_to_blocks};
 ghost use Rattle.luks_edit.specs.EditFaults.{is_edit_failure};
-ghost use Rattle.luks2_judging.specs.Room.{IsPlaced, IsRegion, IsUnsealable, TakesBlocks};
+ghost use Rattle.luks2_judging.specs.Room.{IsAllowed, IsPlaced, IsRegion, IsUnsealable, TakesBlocks};
 
 use luks_area::{Area, Entry};
-use luks_edit::{EditFault, LEAST_ITERATIONS};
+use luks_edit::EditFault;
+use luks_making::AskedDerivation;
 use luks_meta::Meta;
 use luks2_edit_laws::least_gap;
 
@@ -43,15 +44,20 @@ struct Region {
     high: u64,
 }
 
-/// The area of a keyslot that is sealed like the keyslot `n`, which is there, and derived with so
-/// many iterations. Refused by `NoRoom`, `Iterations`.
-pub(crate) fn judge_sealing(room: &Room<'_>, n: u8, iterations: u32) -> Result<Area, EditFault>
+/// The area of a keyslot that is sealed like the keyslot `n`, which is there, and derived as is asked,
+/// where Argon2 may take so many KiB. Refused by `NoRoom`, `Iterations`, `Argon2`.
+pub(crate) fn judge_sealing(
+    room: &Room<'_>,
+    n: u8,
+    derivation: AskedDerivation,
+    allowed: u32,
+) -> Result<Area, EditFault>
     requires there { IsInUse (content room.now.meta.now) n }
     requires ends { (m : AreaName) (a : TheArea) → HasArea room.now.entries.now m a
         → IsInside a (2 ^ 64 - 1) }
     ensures own { IfErr result (λ f. is_edit_failure f ≡ false) }
     ensures memory { IfErr result (λ f. f ≢ EditFault.Memory) }
-    ensures iterated { OnOk result (1000 ≤ iterations) }
+    ensures allowed { OnOk result (IsAllowed allowed derivation) }
     ensures placed { IfOk result (IsPlaced (area_len room.now.meta.now) (content room.now.meta.now) room.now.total n) }
     ensures area { (payload : Payload) → Lists room.now.entries.now
         (Luks2Area (content room.now.meta.now) (area_len room.now.meta.now + 4096) payload room.now.total)
@@ -59,13 +65,16 @@ pub(crate) fn judge_sealing(room: &Room<'_>, n: u8, iterations: u32) -> Result<A
     ensures refused { (payload : Payload) → Lists room.now.entries.now
         (Luks2Area (content room.now.meta.now) (area_len room.now.meta.now + 4096) payload room.now.total)
         → IfErr result
-        (IsUnsealable (area_len room.now.meta.now + 4096) room.now.total payload (content room.now.meta.now) n iterations) }
+        (IsUnsealable (area_len room.now.meta.now + 4096) room.now.total payload (content room.now.meta.now) n allowed derivation) }
 {
     let Some(area) = new_area(room.meta, room.entries, room.total, n) else {
         return Err(EditFault::NoRoom);
     };
-    if iterations < LEAST_ITERATIONS {
+    if derivation.has_few_turns() {
         return Err(EditFault::Iterations);
+    }
+    if derivation.is_beyond(allowed) {
+        return Err(EditFault::Argon2);
     }
     Ok(area)
 }

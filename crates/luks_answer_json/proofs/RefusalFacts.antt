@@ -128,6 +128,7 @@ edit_parts editing.NoFreeSlot = bare (codes "NoFreeSlot") refl
 edit_parts editing.NoRoom = bare (codes "NoRoom") refl
 edit_parts editing.LastSlot = bare (codes "LastSlot") refl
 edit_parts editing.Iterations = bare (codes "Iterations") refl
+edit_parts editing.Argon2 = bare (codes "Argon2") refl
 edit_parts editing.BadLabel = bare (codes "BadLabel") refl
 edit_parts editing.SeqExhausted = bare (codes "SeqExhausted") refl
 edit_parts editing.MetadataFull = bare (codes "MetadataFull") refl

@@ -18,12 +18,13 @@ IsMaybeSlot number (Some n) = IsSlot number n
 abbrev pub IsPassphrase : List ℕ → ℕ → Passphrase → Type 0
 IsPassphrase bytes memory p = (p.bytes.now ≡ bytes) × (p.memory ≡ memory)
 
--- the edit is asked for, with these bytes as its old passphrase, and those as the new one or as the label
+-- the edit is asked for, with these bytes as its old passphrase, and those as the new one or as the label;
+-- no derivation is chosen
 abbrev pub IsAsked : LuksEdit → List ℕ → List ℕ → Edit → Type 0
-IsAsked asked words text (Add by_ old new to iterations) = (asked.kind ≡ 1) × IsSlot asked.by_ by_ × IsPassphrase words asked.memory old
-    × (new.now ≡ text) × IsMaybeSlot asked.to to × (iterations ≡ asked.iterations)
-IsAsked asked words text (Change slot old new iterations) = (asked.kind ≡ 2) × IsSlot asked.slot slot × IsPassphrase words asked.memory old
-    × (new.now ≡ text) × (iterations ≡ asked.iterations)
+IsAsked asked words text (Add by_ old new to iterations derivation) = (asked.kind ≡ 1) × IsSlot asked.by_ by_ × IsPassphrase words asked.memory old
+    × (new.now ≡ text) × IsMaybeSlot asked.to to × (iterations ≡ asked.iterations) × (derivation ≡ None)
+IsAsked asked words text (Change slot old new iterations derivation) = (asked.kind ≡ 2) × IsSlot asked.slot slot × IsPassphrase words asked.memory old
+    × (new.now ≡ text) × (iterations ≡ asked.iterations) × (derivation ≡ None)
 IsAsked asked words text (Remove slot by_ passphrase) = (asked.kind ≡ 3) × IsSlot asked.slot slot × IsMaybeSlot asked.by_ by_
     × IsPassphrase words asked.memory passphrase
 IsAsked asked words text Repair = asked.kind ≡ 4

@@ -52,12 +52,14 @@ pub(crate) fn edit_of<'a>(
             new: text,
             to: maybe_slot(asked.to)?,
             iterations: asked.iterations,
+            derivation: None,
         }),
         2 => Ok(Edit::Change {
             slot: slot_of(asked.slot)?,
             old,
             new: text,
             iterations: asked.iterations,
+            derivation: None,
         }),
         3 => Ok(Edit::Remove {
             slot: slot_of(asked.slot)?,

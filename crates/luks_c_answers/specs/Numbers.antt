@@ -127,6 +127,7 @@ edit_number edit.NoFreeSlot = 33
 edit_number edit.NoRoom = 34
 edit_number edit.LastSlot = 35
 edit_number edit.Iterations = 10
+edit_number edit.Argon2 = 25
 edit_number edit.BadLabel = 36
 edit_number edit.SeqExhausted = 37
 edit_number edit.MetadataFull = 38

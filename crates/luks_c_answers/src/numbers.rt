@@ -165,6 +165,7 @@ pub fn edit_number(fault: &EditFault) -> u32
         EditFault::NoRoom => number_of(Fault::NoRoom),
         EditFault::LastSlot => number_of(Fault::LastSlot),
         EditFault::Iterations => number_of(Fault::Iterations),
+        EditFault::Argon2 => number_of(Fault::Argon2),
         EditFault::BadLabel => number_of(Fault::BadLabel),
         EditFault::SeqExhausted => number_of(Fault::SeqExhausted),
         EditFault::MetadataFull => number_of(Fault::MetadataFull),

@@ -1,8 +1,8 @@
 -- By what a new keyslot derives, of what the command line asks for.
 use Rattle.std.specs.Prelude.{Option, None, Some}
-use Rattle.luks_making.specs.declared.new_keyslot.Argon2Costs.{Argon2Costs}
-use Rattle.luks_formatting.specs.declared.derivation.NewDerivation.{NewDerivation}
-use Rattle.luks_formatting.specs.declared.derivation.NewDerivation.TheVariants as by
+use Rattle.luks_making.specs.declared.derivation.Argon2Costs.{Argon2Costs}
+use Rattle.luks_making.specs.declared.derivation.NewDerivation.{NewDerivation}
+use Rattle.luks_making.specs.declared.derivation.NewDerivation.TheVariants as by
 use Rattle.luks_request.specs.declared.derivation.AskedArgon2.{AskedArgon2}
 use Rattle.luks_request.specs.declared.derivation.AskedKdf.{AskedKdf}
 use Rattle.luks_request.specs.declared.derivation.AskedKdf.TheVariants.{Pbkdf2, Argon2}

@@ -4,7 +4,8 @@ use Rattle.luks_area.specs.Ranges.{SameBut}
 use Rattle.luks_reading.specs.declared.report.Data.{Data}
 use Rattle.luks_reading.specs.Answer.{Answer, AnswerWithin, opens}
 use Rattle.luks_reading.specs.Checked.{WellFormed}
-use Rattle.luks_formatting.specs.Deriving.{slot_derivation, memory_by}
+use Rattle.luks_making.specs.Derivations.{memory_by}
+use Rattle.luks_formatting.specs.Deriving.{slot_derivation}
 use Rattle.luks_formatting.specs.Formatted1.{IsFormatted1, IsOfLuks1}
 use Rattle.luks_formatting.specs.Formatted2.{IsFormatted2By, IsOfLuks2}
 use Rattle.luks_formatting.specs.RandomBytes.{volume_key}

@@ -3,7 +3,7 @@ ghost use Rattle.std.specs.Prelude.{◌≡◌};
 ghost use Rattle.luks_commands.specs.Chosen.{chosen_of, derivation_of};
 
 use crate::open::kib_of;
-use luks_formatting::{Argon2Costs, NewDerivation};
+use luks_making::{Argon2Costs, NewDerivation};
 use luks_request::{AskedKdf, AskedKind};
 
 /// The derivation that is chosen for a new keyslot, if one is asked for. The memory that is asked for in

@@ -1,6 +1,7 @@
 -- What an edit asks for, whatever the version of the volume.
-use Rattle.std.specs.Prelude.{◌≡◌, ◌⊎◌, ℕ, ◌^◌, ◌<◌, ◌&&◌, nat_lt, if◌then◌else◌, List, [], length, Option, Some, None, IfSome, IsSomeAnd, ⊤}
+use Rattle.std.specs.Prelude.{◌≡◌, ◌⊎◌, ℕ, ◌^◌, ◌<◌, ◌&&◌, nat_lt, if◌then◌else◌, List, [], length, true, Option, Some, None, IfSome, IsSomeAnd, ⊤}
 use Rattle.std.specs.Borrow.{Bor}
+use Rattle.luks_making.specs.Derivations.{asked_beyond, asked_few_turns, takes_memory}
 use Rattle.luks_edit.specs.declared.deed.Deed.{Deed}
 use Rattle.luks_edit.specs.declared.deed.Deed.TheVariants as deed
 use Rattle.luks_edit.specs.declared.deed.Place.{Place}
@@ -20,10 +21,10 @@ opener_of slot None = slot
 opener_of slot (Some other) = other
 
 abbrev pub deed_of : Edit → Deed
-deed_of (Add by_ old new to iterations) =
-    deed.Seal (record { opener = record { slot = by_; passphrase = old }; place = New to; passphrase = new; iterations = iterations })
-deed_of (Change slot old new iterations) =
-    deed.Seal (record { opener = record { slot = slot; passphrase = old }; place = Opened; passphrase = new; iterations = iterations })
+deed_of (Add by_ old new to iterations chosen) =
+    deed.Seal (record { opener = record { slot = by_; passphrase = old }; place = New to; passphrase = new; derivation = record { iterations = iterations; chosen = chosen } })
+deed_of (Change slot old new iterations chosen) =
+    deed.Seal (record { opener = record { slot = slot; passphrase = old }; place = Opened; passphrase = new; derivation = record { iterations = iterations; chosen = chosen } })
 deed_of (Remove slot by_ passphrase) =
     deed.Remove (record { slot = slot; by_ = by_; passphrase = passphrase })
 deed_of Repair = deed.Rewrite None
@@ -139,6 +140,14 @@ AreShortIn (deed.Rewrite label) = ⊤
 abbrev pub HasShortPassphrases : Edit → Type 0
 HasShortPassphrases e = AreShortIn (deed_of e)
 
--- the edit derives a new keyslot's key with fewer iterations than new keyslots have
+-- the edit derives a new keyslot's key with fewer iterations than new keyslots have, or with no pass
 abbrev pub HasFewIterations : Edit → Type 0
-HasFewIterations e = IsSomeAnd (sealed_by e) (λ s. s.iterations < 1000)
+HasFewIterations e = IsSomeAnd (sealed_by e) (λ s. asked_few_turns s.derivation ≡ true)
+
+-- it chooses an Argon2 that takes more memory than both of its passphrases may, or is outside the bounds
+abbrev pub IsBeyondMemory : Edit → Type 0
+IsBeyondMemory e = IsSomeAnd (sealed_by e) (λ s. asked_beyond (memory_for s.opener.passphrase s.passphrase.now) s.derivation ≡ true)
+
+-- it chooses Argon2
+abbrev pub ChoosesArgon2 : Edit → Type 0
+ChoosesArgon2 e = IsSomeAnd (sealed_by e) (λ s. takes_memory s.derivation.chosen ≡ true)

@@ -29,19 +29,20 @@ fault_at n =
     else (if n == 8 then fault.NoRoom
     else (if n == 9 then fault.LastSlot
     else (if n == 10 then fault.Iterations
-    else (if n == 11 then fault.BadLabel
-    else (if n == 12 then fault.SeqExhausted
-    else (if n == 13 then fault.MetadataFull
-    else (if n == 14 then fault.RandomLength
-    else (if n == 15 then fault.Memory
-    else fault.Device)))))))))))))
+    else (if n == 11 then fault.Argon2
+    else (if n == 12 then fault.BadLabel
+    else (if n == 13 then fault.SeqExhausted
+    else (if n == 14 then fault.MetadataFull
+    else (if n == 15 then fault.RandomLength
+    else (if n == 16 then fault.Memory
+    else fault.Device))))))))))))))
 
 pub record IsOnly (f : EditFault) : Type 0 where
   pub plain : is_plain (edit_row f) ≡ true
   pub is : fault_at (edit_row f) ≡ f
   pub place : edit_place f ≡ []
   pub low : 1 ≤ edit_row f
-  pub high : edit_row f ≤ 16
+  pub high : edit_row f ≤ 17
 
 abbrev pub View : EditFault → Type 0
 View f = ((c : CheckFault) × (f ≡ fault.NotAccepted c)) ⊎ (((s : SlotFault) × (f ≡ fault.Slot s)) ⊎ IsOnly f)
@@ -70,7 +71,7 @@ only_one : (f g : EditFault) → is_plain (edit_row f) ≡ true → edit_row g �
 only_one f g plain same = sym (only_of g (ap is_plain same ∙ plain)).is ∙ ap fault_at same ∙ (only_of f plain).is
 
 -- each row is one of the table
-pub in_table : (f : EditFault) → edit_row f < 17
+pub in_table : (f : EditFault) → edit_row f < 18
 in_table f = elim (view f) [
   | inl c ↦ (let row : edit_row f ≡ 0 = ap edit_row c.1 in omega (arith, row))
   | inr other ↦ (elim other [
@@ -103,7 +104,7 @@ module _ (faults : EditFault → Type 0) where
   passed_from k each = record { none = λ g under bad. (let over : k ≤ edit_row g = each g bad in omega (arith, under, over)) }
 
   -- there is none at all
-  pub none_at_all : Passed faults 17 → (f : EditFault) → faults f → ⊥
+  pub none_at_all : Passed faults 18 → (f : EditFault) → faults f → ⊥
   none_at_all passed f bad = passed.none f (in_table f) bad
 
   -- a fault of the row `k`, and none before it

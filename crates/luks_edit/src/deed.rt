@@ -3,6 +3,7 @@ ghost use Rattle.std.specs.Prelude.{◌≡◌};
 ghost use Rattle.luks_edit.specs.Asked.{opener_of};
 
 use crate::edit::{Opener, Passphrase, opener_of};
+use luks_making::AskedDerivation;
 
 /// What an edit does of a volume.
 ///
@@ -30,8 +31,8 @@ pub struct Sealed<'a> {
     pub place: Place,
     /// The new passphrase.
     pub passphrase: &'a [u8],
-    /// The iterations of the new derivation, at least 1000. Argon2 has none.
-    pub iterations: u32,
+    /// How the keyslot that it is sealed in derives.
+    pub derivation: AskedDerivation,
 }
 
 /// The keyslot that a key is sealed in.

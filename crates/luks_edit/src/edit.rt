@@ -3,9 +3,7 @@ ghost use Rattle.std.specs.Prelude.{◌≡◌, ◌^◌, ℕ, List, MatchOption, 
 ghost use Rattle.luks_edit.specs.Asked.{allowed_memory, deed_of, memory_for, opener_of, OpensBy};
 
 use crate::deed::{Deed, Place, Removed, Sealed};
-
-/// The least iterations of a keyslot that is made.
-pub const LEAST_ITERATIONS: u32 = 1000;
+use luks_making::{AskedDerivation, NewDerivation};
 
 /// A passphrase, and how much memory may be spent on it.
 #[derive(Clone, Copy, Debug)]
@@ -27,8 +25,8 @@ pub struct Passphrase<'a> {
 pub enum Edit<'a> {
     /// Adds a keyslot in which a new passphrase opens the key that the old one opens.
     ///
-    /// LUKS2 derives its key as that of the keyslot that the old passphrase opens: by Argon2 of the
-    /// same kind and costs, or by PBKDF2 with the same hash.
+    /// Where no derivation is chosen, LUKS2 derives its key as that of the keyslot that the old
+    /// passphrase opens: by Argon2 of the same kind and costs, or by PBKDF2 with the same hash.
     Add {
         /// The keyslot that the old passphrase opens.
         by_: u8,
@@ -38,13 +36,16 @@ pub enum Edit<'a> {
         new: &'a [u8],
         /// The number of the new keyslot; where it isn't given, the least that is free.
         to: Option<u8>,
-        /// The iterations of the new keyslot's derivation, at least 1000. Argon2 has none.
+        /// The iterations of the new keyslot's derivation where none is chosen, at least 1000. Argon2
+        /// has none.
         iterations: u32,
+        /// The derivation that is chosen for the new keyslot. LUKS1 has PBKDF2 alone.
+        derivation: Option<NewDerivation>,
     },
     /// Puts a new passphrase in the place of an old one.
     ///
-    /// LUKS2 keeps the keyslot's number, and the kind and costs of Argon2; LUKS1 makes the least free
-    /// keyslot, and then disables the old one.
+    /// LUKS2 keeps the keyslot's number and, where no derivation is chosen, the kind and costs of
+    /// Argon2; LUKS1 makes the least free keyslot, and then disables the old one.
     Change {
         /// The keyslot that the old passphrase opens.
         slot: u8,
@@ -52,8 +53,11 @@ pub enum Edit<'a> {
         old: Passphrase<'a>,
         /// The new passphrase.
         new: &'a [u8],
-        /// The iterations of the keyslot's derivation, at least 1000. Argon2 has none.
+        /// The iterations of the keyslot's derivation where none is chosen, at least 1000. Argon2 has
+        /// none.
         iterations: u32,
+        /// The derivation that is chosen for the keyslot. LUKS1 has PBKDF2 alone.
+        derivation: Option<NewDerivation>,
     },
     /// Removes a keyslot, and wipes its area: by its own passphrase or, as where somebody has left and
     /// the passphrase with them, by that of another keyslot. It needn't be one that can be opened here.
@@ -95,28 +99,24 @@ impl<'a> Edit<'a> {
                 new,
                 to,
                 iterations,
+                derivation,
             } => Deed::Seal(Sealed {
-                opener: Opener {
-                    slot: by_,
-                    passphrase: old,
-                },
+                opener: opened_by(by_, old),
                 place: Place::New { to },
                 passphrase: new,
-                iterations,
+                derivation: asked(iterations, derivation),
             }),
             Edit::Change {
                 slot,
                 old,
                 new,
                 iterations,
+                derivation,
             } => Deed::Seal(Sealed {
-                opener: Opener {
-                    slot,
-                    passphrase: old,
-                },
+                opener: opened_by(slot, old),
                 place: Place::Opened,
                 passphrase: new,
-                iterations,
+                derivation: asked(iterations, derivation),
             }),
             Edit::Remove {
                 slot,
@@ -143,6 +143,22 @@ impl<'a> Edit<'a> {
             Deed::Rewrite { label: _ } => None,
         }
     }
+}
+
+/// The keyslot that is opened by this passphrase.
+fn opened_by(slot: u8, passphrase: Passphrase<'_>) -> Opener<'_>
+    ensures slot { result.slot ≡ slot }
+    ensures passphrase { result.passphrase ≡ passphrase.entry }
+{
+    Opener { slot, passphrase }
+}
+
+/// What is chosen, or so many iterations.
+fn asked(iterations: u32, chosen: Option<NewDerivation>) -> AskedDerivation
+    ensures iterations { result.iterations ≡ iterations }
+    ensures chosen { result.chosen ≡ chosen }
+{
+    AskedDerivation { iterations, chosen }
 }
 
 /// The keyslot whose passphrase removes the keyslot `slot`: `by_` where it is given, else `slot`.

@@ -33,8 +33,11 @@ pub enum EditFault {
     NoRoom,
     /// No other keyslot would be left.
     LastSlot,
-    /// Fewer than 1000 iterations.
+    /// Fewer than 1000 iterations, or no pass of the Argon2 that is chosen.
     Iterations,
+    /// The Argon2 that is chosen takes more memory than is allowed, or is outside its bounds; LUKS1 has
+    /// none.
+    Argon2,
     /// LUKS1 has no label; a label of LUKS2 has at most 47 bytes of 0x20 to 0x7E.
     BadLabel,
     /// LUKS2: there is no higher sequence number.
@@ -65,6 +68,7 @@ impl fmt::Display for EditFault {
             EditFault::NoRoom => f.write_str("NoRoom"),
             EditFault::LastSlot => f.write_str("LastSlot"),
             EditFault::Iterations => f.write_str("Iterations"),
+            EditFault::Argon2 => f.write_str("Argon2"),
             EditFault::BadLabel => f.write_str("BadLabel"),
             EditFault::SeqExhausted => f.write_str("SeqExhausted"),
             EditFault::MetadataFull => f.write_str("MetadataFull"),

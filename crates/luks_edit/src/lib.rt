@@ -7,5 +7,6 @@ mod edit;
 mod edit_fault;
 
 pub use deed::{Deed, Place, Removed, Sealed};
-pub use edit::{Done, Edit, LEAST_ITERATIONS, Opener, Passphrase, Step, opener_of};
+pub use edit::{Done, Edit, Opener, Passphrase, Step, opener_of};
 pub use edit_fault::{EditFault, RunFault};
+pub use luks_making::{Argon2Costs, AskedDerivation, LEAST_ITERATIONS, NewDerivation};

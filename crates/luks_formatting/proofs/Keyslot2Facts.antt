@@ -27,7 +27,7 @@ use Rattle.luks_making.specs.Conditions.{CanFormat}
 use Rattle.luks_making.specs.Formatted.{VolumeMembers, digest_value, segment_value}
 use Rattle.luks_making.specs.Keyslots.{Deriving, by_argon2i, by_argon2id, by_pbkdf2, slot_value}
 use Rattle.luks_making.specs.Unchanged.{SaysArgon2, SaysDerivation, SaysMembers, SaysPbkdf2}
-use Rattle.luks_making.specs.declared.new_keyslot.Argon2Costs.{Argon2Costs}
+use Rattle.luks_making.specs.declared.derivation.Argon2Costs.{Argon2Costs}
 use Rattle.luks_meta.specs.Says.{small_at}
 use Rattle.luks_slot.specs.declared.plan.DigestPlan.{DigestPlan}
 use Rattle.luks_slot.specs.Refusal.{is_open_cipher}
@@ -44,7 +44,7 @@ use Rattle.luks_reading.specs.PlanFacts.{no_pbkdf2}
 use Rattle.luks_reading.specs.Plans.{kind_text, HasLuks2Plan, IsLuks2Cipher, IsLuks2Derivation, IsLuks2Digest, IsLuks2Plan}
 use Rattle.luks_reading.specs.declared.report.Data.{Data}
 use Rattle.luks_reading.specs.declared.report.Data.TheVariants.{Here}
-use Rattle.luks_formatting.specs.declared.derivation.NewDerivation.{NewDerivation}
+use Rattle.luks_making.specs.declared.derivation.NewDerivation.{NewDerivation}
 use Rattle.luks_formatting.specs.Deriving.{slot_derivation, IsArgon2Plan, IsDerivedBy}
 use Rattle.luks_formatting.specs.NewHeader2.{area2, first_slot_by, formatted_by, new_members, new_metadata, segment_start, FitsMetadataBy, IsNewCipher2}
 use Rattle.luks_formatting.specs.NewPlan.{key_digest, IsNewDigest, IsNewPlanBy}

@@ -21,15 +21,16 @@ use Rattle.luks_making.specs.Formatted.{VolumeMembers, digest_value, formatted, 
 use Rattle.luks_making.specs.Keyslots.{Deriving, slot_value, text_member}
 use Rattle.luks_making.specs.With.{with_slot}
 use Rattle.luks_making.specs.Without.{without_slot}
-use Rattle.luks_making.specs.declared.new_keyslot.Argon2Costs.{Argon2Costs}
+use Rattle.luks_making.specs.declared.derivation.Argon2Costs.{Argon2Costs}
 use Rattle.luks_making.proofs.AdditionFacts.{held_with}
 use Rattle.luks_making.proofs.NewVolumeFacts.{digest_with, held_bare, none_else, shape}
 use Rattle.luks_making.proofs.ReadingFacts.{decimal_is}
 use Rattle.luks_reading.specs.declared.report.Data.{Data}
 use Rattle.luks_reading.specs.declared.format.Format.{Format}
-use Rattle.luks_formatting.specs.declared.derivation.NewDerivation.{NewDerivation}
-use Rattle.luks_formatting.specs.declared.derivation.NewDerivation.TheVariants as by
-use Rattle.luks_formatting.specs.Deriving.{costs_beyond, slot_derivation, FitsCosts, FitsNewDerivation, IsMakeable}
+use Rattle.luks_making.specs.declared.derivation.NewDerivation.{NewDerivation}
+use Rattle.luks_making.specs.declared.derivation.NewDerivation.TheVariants as by
+use Rattle.luks_making.specs.Derivations.{costs_beyond, FitsCosts, FitsNewDerivation, IsMakeable}
+use Rattle.luks_formatting.specs.Deriving.{slot_derivation}
 use Rattle.luks_formatting.specs.NewHeader2.{first_slot_by, formatted_by, new_members}
 use Rattle.luks_formatting.specs.NewPlan.{key_digest}
 use Rattle.luks_formatting.specs.RandomBytes.{digest_salt, slot_place2, slot_salt}

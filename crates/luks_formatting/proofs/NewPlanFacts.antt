@@ -10,7 +10,7 @@ use Rattle.luks_kdf.specs.Derivation.{pbkdf2}
 use Rattle.luks_kdf.specs.Names.{block_size_of, each_passes, hash_of, name_of, named}
 use Rattle.luks_kdf.specs.declared.hash_name.HashName.{HashName}
 use Rattle.luks_making.specs.Keyslots.{by_pbkdf2}
-use Rattle.luks_making.specs.declared.new_keyslot.Argon2Costs.{Argon2Costs}
+use Rattle.luks_making.specs.declared.derivation.Argon2Costs.{Argon2Costs}
 use Rattle.luks_slot.specs.declared.plan.Argon2Kind.{Argon2Kind}
 use Rattle.luks_slot.specs.declared.plan.Argon2Kind.TheVariants.{I, Id}
 use Rattle.luks_slot.specs.declared.plan.Derivation.{Derivation}
@@ -20,9 +20,10 @@ use Rattle.luks_slot.specs.declared.plan.SlotPlan.{SlotPlan}
 use Rattle.luks_slot.specs.Opening.{derived, hash_by_name, meets_digest, HasIterations}
 use Rattle.luks_slot.specs.Refusal.{is_argon2, is_argon2_refused, is_known_derivation, is_open_cipher, slot_refusal, slot_refusal_within}
 use Rattle.luks_reading.specs.declared.format.Format.{Format}
-use Rattle.luks_formatting.specs.declared.derivation.NewDerivation.{NewDerivation}
-use Rattle.luks_formatting.specs.declared.derivation.NewDerivation.TheVariants as by
-use Rattle.luks_formatting.specs.Deriving.{costs_beyond, slot_derivation, memory_by, takes_memory, IsArgon2Plan, IsDerivedBy, IsMakeable}
+use Rattle.luks_making.specs.declared.derivation.NewDerivation.{NewDerivation}
+use Rattle.luks_making.specs.declared.derivation.NewDerivation.TheVariants as by
+use Rattle.luks_making.specs.Derivations.{costs_beyond, memory_by, takes_memory, IsMakeable}
+use Rattle.luks_formatting.specs.Deriving.{slot_derivation, IsArgon2Plan, IsDerivedBy}
 use Rattle.luks_formatting.specs.NewPlan.{key_digest, IsNewDerivation, IsNewDigest, IsNewPlan, IsNewPlanBy, IsSealable, IsSealableWithin}
 use Rattle.luks_formatting.specs.RandomBytes.{digest_salt, volume_key}
 

@@ -8,11 +8,12 @@ use Rattle.luks_kdf.specs.declared.hash_name.HashName.{HashName}
 use Rattle.luks_making.specs.Formatted.{VolumeMembers}
 use Rattle.luks_making.specs.Keyslots.{base64_text, by_argon2i, by_argon2id, by_pbkdf2, Deriving, kdf_value}
 use Rattle.luks_making.specs.TextLengths.{encoded_short, string_most, value_bound, value_short}
-use Rattle.luks_making.specs.declared.new_keyslot.Argon2Costs.{Argon2Costs}
+use Rattle.luks_making.specs.declared.derivation.Argon2Costs.{Argon2Costs}
 use Rattle.luks_reading.specs.declared.format.Format.{Format}
-use Rattle.luks_formatting.specs.declared.derivation.NewDerivation.{NewDerivation}
-use Rattle.luks_formatting.specs.declared.derivation.NewDerivation.TheVariants as by
-use Rattle.luks_formatting.specs.Deriving.{slot_derivation, FitsCosts, FitsNewDerivation}
+use Rattle.luks_making.specs.declared.derivation.NewDerivation.{NewDerivation}
+use Rattle.luks_making.specs.declared.derivation.NewDerivation.TheVariants as by
+use Rattle.luks_making.specs.Derivations.{FitsCosts, FitsNewDerivation}
+use Rattle.luks_formatting.specs.Deriving.{slot_derivation}
 use Rattle.luks_formatting.specs.NewHeader2.{formatted_by}
 
 pub name_short : (hash : HashName) → length (name_of hash) ≤ 6

@@ -15,7 +15,7 @@ use Rattle.luks_reading.specs.declared.report.Data.{Data}
 use Rattle.luks_reading.specs.declared.format.Format.{Format}
 use Rattle.luks_formatting.specs.Formatted2.{HasAllButFirst2By, HasKeyArea2By, HasNewCopy, IsFormatted2By, IsOfLuks2}
 use Rattle.luks_formatting.specs.NewHeader2.{area2, new_metadata}
-use Rattle.luks_formatting.specs.declared.derivation.NewDerivation.{NewDerivation}
+use Rattle.luks_making.specs.declared.derivation.NewDerivation.{NewDerivation}
 use Rattle.luks_formatting.specs.NewPlan.{HoldsKey}
 use Rattle.luks_formatting.specs.RandomBytes.{first_copy_salt, random_stripes, second_copy_salt, slot_place2, volume_key}
 use Rattle.luks_formatting.proofs.NewHeader2Facts.{copy_stays}

@@ -2,10 +2,11 @@
 use Rattle.std.specs.Prelude.{◌≡◌, ◌≢◌, ℕ, ◌<◌, ◌≤◌, List, [], ◌∷◌, length, Bool, true, false, codes, Option, None, IfSome}
 use Rattle.luks_area.specs.First.{IsLeast}
 use Rattle.luks_reading.specs.declared.format.Format.{Format}
-use Rattle.luks_formatting.specs.declared.derivation.NewDerivation.{NewDerivation}
+use Rattle.luks_making.specs.declared.derivation.NewDerivation.{NewDerivation}
 use Rattle.luks_formatting.specs.declared.format_fault.FormatFault.{FormatFault}
 use Rattle.luks_formatting.specs.declared.format_fault.FormatFault.TheVariants.{TooSmall, Iterations, Argon2, RandomLength, Memory, Device}
-use Rattle.luks_formatting.specs.Deriving.{HasFewTurns, IsBeyond, IsMakeable}
+use Rattle.luks_making.specs.Derivations.{IsMakeable}
+use Rattle.luks_formatting.specs.Deriving.{HasFewTurns, IsBeyond}
 
 -- the rows of the table of faults, in their order
 abbrev pub format_row : FormatFault → ℕ

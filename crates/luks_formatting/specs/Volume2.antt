@@ -5,7 +5,7 @@ use Rattle.luks_kdf.specs.Names.{digest_size_of}
 use Rattle.luks_making.specs.WrittenArea.{IsWrittenArea}
 use Rattle.luks_slot.specs.declared.plan.SlotPlan.{SlotPlan}
 use Rattle.luks_reading.specs.declared.format.Format.{Format}
-use Rattle.luks_formatting.specs.declared.derivation.NewDerivation.{NewDerivation}
+use Rattle.luks_making.specs.declared.derivation.NewDerivation.{NewDerivation}
 use Rattle.luks_formatting.specs.declared.volume2.Volume.{Volume}
 use Rattle.luks_formatting.specs.Deriving.{slot_derivation}
 use Rattle.luks_formatting.specs.Formatted2.{HasAllButFirst2By, HasKeyArea2By, IsFormatted2By}

@@ -1,10 +1,10 @@
 //! The faults of formatting that come before any byte is written.
 ghost use Rattle.std.specs.Prelude.{◌≡◌, None, IfErr, OnOk};
 ghost use Rattle.luks_area.specs.First.{IsLeast};
-ghost use Rattle.luks_formatting.specs.Deriving.{chosen_beyond, chosen_few};
+ghost use Rattle.luks_making.specs.Derivations.{chosen_beyond, chosen_few};
 ghost use Rattle.luks_formatting.specs.FormatFaults.{format_key, HasNoFault, IsFormatFaultBy, IsFormattable};
 
-use crate::derivation::NewDerivation;
+use luks_making::NewDerivation;
 use crate::format_fault::FormatFault;
 use luks_edit::LEAST_ITERATIONS;
 use luks_reading::Format;

@@ -7,8 +7,9 @@ ghost use Rattle.luks_reading.specs.declared.report.Data.{Data as Payload};
 ghost use Rattle.luks_formatting.specs.Formatted1.{IsFormatted1};
 ghost use Rattle.luks_formatting.specs.Formatted2.{IsFormatted2, IsFormatted2By};
 ghost use Rattle.luks_formatting.specs.NewHeader2.{FitsMetadata, FitsMetadataBy, new_members, new_metadata};
-ghost use Rattle.luks_formatting.specs.Deriving.{IsMakeable, memory_by, slot_derivation};
-ghost use Rattle.luks_formatting.specs.declared.derivation.NewDerivation.{NewDerivation as Chosen};
+ghost use Rattle.luks_making.specs.Derivations.{IsMakeable, memory_by};
+ghost use Rattle.luks_formatting.specs.Deriving.{slot_derivation};
+ghost use Rattle.luks_making.specs.declared.derivation.NewDerivation.{NewDerivation as Chosen};
 ghost use Rattle.luks_formatting.specs.RandomBytes.{volume_key};
 ghost use Rattle.luks_reading.specs.declared.format.Format.{Format as TheFormat};
 

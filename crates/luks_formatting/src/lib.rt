@@ -15,12 +15,11 @@ mod random;
 mod sealing;
 mod volume2;
 
-pub use derivation::NewDerivation;
 pub use format_fault::FormatFault;
 pub use laws::{
     formatted1_opens, formatted2_by_opens, formatted2_opens, none_chosen_is_as_the_digest,
 };
-pub use luks_making::Argon2Costs;
+pub use luks_making::{Argon2Costs, NewDerivation};
 pub use luks_reading::Format;
 pub use luks1::{FORMAT1_RANDOM, format1};
 pub use luks2::{FORMAT2_RANDOM, format2, format2_by};

@@ -6,7 +6,8 @@ ghost use Rattle.luks_writing.specs.MadeInOrder.{ClearsFirst, WritesInTurn};
 ghost use Rattle.luks_kdf.specs.Names.{digest_size_of};
 ghost use Rattle.luks_reading.specs.Answer.{AnswerWithin, opens};
 ghost use Rattle.luks_reading.specs.Checked.{WellFormed};
-ghost use Rattle.luks_formatting.specs.Deriving.{IsMakeable, slot_derivation, memory_by, takes_memory};
+ghost use Rattle.luks_making.specs.Derivations.{IsMakeable, memory_by, takes_memory};
+ghost use Rattle.luks_formatting.specs.Deriving.{slot_derivation};
 ghost use Rattle.luks_formatting.specs.FormatFaults.{HasNoFault, IsAnsweredFaultOrMemory, IsFormat2FaultBy, is_device_fault};
 ghost use Rattle.luks_formatting.specs.Formatted2.{IsOfLuks2};
 ghost use Rattle.luks_formatting.specs.NewHeader2.{copy_size};
@@ -15,7 +16,7 @@ ghost use Rattle.luks_formatting.specs.RandomBytes.{volume_key};
 ghost use Rattle.luks_formatting.specs.Volume2.{Fits, HasAllButFirst, HasArea, HasKeyArea, HasPlan, IsMade, IsReady};
 ghost use Rattle.luks_formatting.specs.declared.format_fault.FormatFault.{FormatFault as TheFault};
 
-use crate::derivation::NewDerivation;
+use luks_making::NewDerivation;
 use crate::format_fault::FormatFault;
 use crate::judging::{Wanted, judge};
 use crate::luks2::FORMAT2_RANDOM;

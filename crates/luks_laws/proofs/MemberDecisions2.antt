@@ -11,7 +11,7 @@ use Rattle.luks_rules.specs.Faults.{object_at, type_at}
 use Rattle.luks_rules.specs.Reading.{number_in, text_of}
 use Rattle.luks_rules.specs.Sizes.{inside_at}
 use Rattle.luks_making.specs.Conditions.{IsFree}
-use Rattle.luks_making.specs.declared.new_keyslot.Argon2Costs.{Argon2Costs}
+use Rattle.luks_making.specs.declared.derivation.Argon2Costs.{Argon2Costs}
 use Rattle.luks_making.specs.Keyslots.{by_argon2i, by_argon2id, by_pbkdf2, Deriving, HasCosts, IsDerivedLike, IsMadeFrom, NewMembers, SlotMembers}
 use Rattle.luks_making.specs.Naming.{IsDigestOf}
 use Rattle.luks2_edit_laws.specs.Metadata.{HasStripes, IsInUse, IsLeastFree, IsNewKeyslot}

@@ -9,7 +9,7 @@ use Rattle.luks_rules.specs.Held.{IsHeld}
 use Rattle.luks_rules.specs.Reading.{bytes_in}
 use Rattle.luks_rules.specs.Sizes.{inside_at}
 use Rattle.luks_making.specs.Conditions.{Between, CanSeal, FitsCosts, FitsDerivation, FitsNew, FitsSlot, IsFree, IsInRegion, IsRoom}
-use Rattle.luks_making.specs.declared.new_keyslot.Argon2Costs.{Argon2Costs}
+use Rattle.luks_making.specs.declared.derivation.Argon2Costs.{Argon2Costs}
 use Rattle.luks_making.specs.Keyslots.{Deriving, by_pbkdf2, by_argon2i, by_argon2id, HasCosts, IsDerivedLike, IsMadeFrom, NewMembers, SlotMembers, base64_text, kdf_value, slot_value, slot_value_by}
 use Rattle.luks_making.specs.Naming.{HasUniqueDigests}
 use Rattle.luks_making.specs.Unchanged.{GainsSlot, SaysDerivation, SaysMembers}

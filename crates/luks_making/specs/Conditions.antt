@@ -12,7 +12,7 @@ use Rattle.luks_rules.specs.Faults.{object_at, section_at}
 use Rattle.luks_rules.specs.Reading.{number_in}
 use Rattle.luks_rules.specs.Sizes.{inside_at, keyslots_size, region_start}
 use Rattle.luks_making.specs.Formatted.{VolumeMembers}
-use Rattle.luks_making.specs.declared.new_keyslot.Argon2Costs.{Argon2Costs}
+use Rattle.luks_making.specs.declared.derivation.Argon2Costs.{Argon2Costs}
 use Rattle.luks_making.specs.Keyslots.{Deriving, by_pbkdf2, by_argon2i, by_argon2id, NewMembers, SlotMembers}
 
 pub record Between (least most n : ℕ) : Type 0 where

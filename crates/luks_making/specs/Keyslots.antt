@@ -7,10 +7,10 @@ use Rattle.luks_rules.specs.declared.table.Outer.TheVariants as outer
 use Rattle.luks_rules.specs.Faults.{type_at}
 use Rattle.luks_rules.specs.Reading.{number_in, text_of}
 use Rattle.luks_rules.specs.Sizes.{inside_at}
-use Rattle.luks_making.specs.declared.new_keyslot.Argon2Costs.{Argon2Costs}
+use Rattle.luks_making.specs.declared.derivation.Argon2Costs.{Argon2Costs}
 use Rattle.luks_making.specs.declared.new_keyslot.New.{New}
-use Rattle.luks_making.specs.declared.new_keyslot.NewDerivation.{NewDerivation}
-use Rattle.luks_making.specs.declared.new_keyslot.NewDerivation.TheVariants.{Pbkdf2, Argon2i, Argon2id}
+use Rattle.luks_making.specs.declared.new_keyslot.KeyslotDerivation.{KeyslotDerivation}
+use Rattle.luks_making.specs.declared.new_keyslot.KeyslotDerivation.TheVariants.{Pbkdf2, Argon2i, Argon2id}
 use Rattle.luks_making.specs.declared.new_keyslot.NewKeyslot.{NewKeyslot}
 
 -- how the key of a keyslot's area is derived, but for the salt
@@ -19,7 +19,7 @@ pub data Deriving : Type 0 where
   by_argon2i : Argon2Costs → Deriving
   by_argon2id : Argon2Costs → Deriving
 
-abbrev pub derivation_of : NewDerivation → Deriving
+abbrev pub derivation_of : KeyslotDerivation → Deriving
 derivation_of (Pbkdf2 hash iterations) = by_pbkdf2 hash.now iterations
 derivation_of (Argon2i costs) = by_argon2i costs
 derivation_of (Argon2id costs) = by_argon2id costs

@@ -1,6 +1,7 @@
 pub mod Changing
 pub mod Without
 pub mod Keyslots
+pub mod Derivations
 pub mod With
 pub mod Changed
 pub mod Formatted

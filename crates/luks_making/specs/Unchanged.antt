@@ -15,7 +15,7 @@ use Rattle.luks_rules.specs.Faults.{member_at, object_at, section_at, type_at}
 use Rattle.luks_rules.specs.Reading.{bytes_in, decimal_in, number_in, text_of, texts_of}
 use Rattle.luks_rules.specs.Sizes.{inside_at}
 use Rattle.luks_making.specs.Changed.{renewed_slot}
-use Rattle.luks_making.specs.declared.new_keyslot.Argon2Costs.{Argon2Costs}
+use Rattle.luks_making.specs.declared.derivation.Argon2Costs.{Argon2Costs}
 use Rattle.luks_making.specs.Keyslots.{Deriving, by_pbkdf2, by_argon2i, by_argon2id, NewMembers, SlotMembers, slot_value}
 use Rattle.luks_making.specs.Naming.{IsDigestOf}
 use Rattle.luks_making.specs.With.{with_name}

@@ -3,6 +3,7 @@
 
 mod changed;
 mod changing;
+mod derivation;
 mod json_area;
 mod laws;
 mod new_keyslot;
@@ -12,12 +13,13 @@ mod with;
 mod without;
 
 pub use changed::changed_slot;
+pub use derivation::{Argon2Costs, AskedDerivation, LEAST_ITERATIONS, NewDerivation};
 pub use json_area::written_area;
 pub use laws::{
     addition_keeps_the_rest, change_keeps_the_rest, converted_volume_is_accepted,
     made_keyslot_has_room, names_are_apart, new_volume_is_accepted, removal_keeps_the_rest,
 };
-pub use new_keyslot::{Argon2Costs, New, NewDerivation, NewKeyslot, new_fits, slot_value};
+pub use new_keyslot::{KeyslotDerivation, New, NewKeyslot, new_fits, slot_value};
 pub use new_volume::{NewVolume, formatted, volume_fits};
 pub use source_volume::{SourceSlot, SourceVolume, area_size, area_start, converted, source_fits};
 pub use with::with_slot;

@@ -6,6 +6,7 @@ ghost use Rattle.serde_json.specs.View.{view};
 ghost use Rattle.luks_making.specs.Keyslots.{area_value, argon2_value, base64_text, by_pbkdf2, derivation_of, kdf_value, new_members, slot_members, slot_value, splitter_value};
 ghost use Rattle.luks_making.specs.Conditions.{FitsNew};
 
+use crate::derivation::Argon2Costs;
 use base64::engine::general_purpose::STANDARD;
 use serde_json::{Value, json};
 use std::alloc::{AllocError, Global};
@@ -23,20 +24,9 @@ pub struct New<'a> {
     pub size: u64,
 }
 
-/// What Argon2 costs.
-#[derive(Clone, Copy, Debug)]
-pub struct Argon2Costs {
-    /// How many passes over the memory.
-    pub time: u32,
-    /// The memory in KiB.
-    pub memory: u32,
-    /// The number of lanes.
-    pub cpus: u32,
-}
-
 /// How the key of a keyslot's area is derived, but for the salt.
 #[derive(Clone, Copy, Debug)]
-pub enum NewDerivation<'a> {
+pub enum KeyslotDerivation<'a> {
     /// The type `pbkdf2`.
     Pbkdf2 {
         /// The hash.
@@ -68,7 +58,7 @@ pub struct NewKeyslot<'a> {
     /// The length of the cipher's key in bytes.
     pub area_key_size: u8,
     /// How the key of the area is derived.
-    pub derivation: NewDerivation<'a>,
+    pub derivation: KeyslotDerivation<'a>,
     /// The derivation's salt.
     pub salt: &'a [u8],
 }
@@ -151,15 +141,17 @@ fn argon2_value(
 
 fn kdf_value(
     alloc: Global,
-    derivation: &NewDerivation<'_>,
+    derivation: &KeyslotDerivation<'_>,
     salt: &[u8],
 ) -> Result<Value, AllocError>
     ensures { IfOk result (λ v. view v ≡ kdf_value (derivation_of derivation.now) salt.now) }
 {
     match *derivation {
-        NewDerivation::Pbkdf2 { hash, iterations } => pbkdf2_value(alloc, hash, iterations, salt),
-        NewDerivation::Argon2i(costs) => argon2_value(alloc, "argon2i", &costs, salt),
-        NewDerivation::Argon2id(costs) => argon2_value(alloc, "argon2id", &costs, salt),
+        KeyslotDerivation::Pbkdf2 { hash, iterations } => pbkdf2_value(
+            alloc, hash, iterations, salt,
+        ),
+        KeyslotDerivation::Argon2i(costs) => argon2_value(alloc, "argon2i", &costs, salt),
+        KeyslotDerivation::Argon2id(costs) => argon2_value(alloc, "argon2id", &costs, salt),
     }
 }
 

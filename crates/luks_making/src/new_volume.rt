@@ -7,7 +7,7 @@ ghost use Rattle.luks_making.specs.Keyslots.{slot_value};
 ghost use Rattle.luks_making.specs.Conditions.{CanFormat, FitsVolume};
 ghost use Rattle.luks_making.specs.Formatted.{VolumeMembers, config_value, digest_value, first_slot, formatted, segment_value, sole, volume_members};
 
-use crate::new_keyslot::{NewDerivation, NewKeyslot, are_bytes, base64_text, slot_value};
+use crate::new_keyslot::{KeyslotDerivation, NewKeyslot, are_bytes, base64_text, slot_value};
 use luks_json::{decimals_say_numbers, encodings_say_bytes, names_say_numbers};
 use serde_json::{Value, json};
 use std::alloc::{AllocError, Global};
@@ -83,7 +83,7 @@ fn first_slot(alloc: Global, volume: &NewVolume<'_>) -> Result<Value, AllocError
         size: 258048,
         encryption: volume.encryption,
         area_key_size: 64,
-        derivation: NewDerivation::Pbkdf2 {
+        derivation: KeyslotDerivation::Pbkdf2 {
             hash: volume.hash,
             iterations: volume.iterations,
         },

@@ -9,7 +9,7 @@ ghost use Rattle.luks_making.specs.Converted.{SourceSlotMembers, area_size, area
 ghost use Rattle.luks_making.specs.Keyslots.{slot_members};
 
 use crate::changing::{set_member, take_member, with_member};
-use crate::new_keyslot::{NewDerivation, NewKeyslot, are_bytes, slot_value};
+use crate::new_keyslot::{KeyslotDerivation, NewKeyslot, are_bytes, slot_value};
 use crate::new_volume::{NewVolume, formatted};
 use crate::with::with_slot;
 use crate::without::without_slot;
@@ -209,7 +209,7 @@ fn converted_slot<'a>(
         size: area_size(volume, slot),
         encryption: volume.encryption,
         area_key_size: volume.key_bytes,
-        derivation: NewDerivation::Pbkdf2 {
+        derivation: KeyslotDerivation::Pbkdf2 {
             hash: volume.hash,
             iterations: slot.iterations,
         },

@@ -11,7 +11,7 @@ ghost use Rattle.luks_meta.specs.Content.{content};
 ghost use Rattle.luks_new_meta.specs.Made.{IsMadeLike};
 ghost use Rattle.luks_meta.specs.Says.{TellsCost, TellsKeyslot};
 
-use luks_making::{Argon2Costs, New, NewDerivation, NewKeyslot, slot_value, with_slot};
+use luks_making::{Argon2Costs, New, KeyslotDerivation, NewKeyslot, slot_value, with_slot};
 use luks_meta::{Argon2, Cost, Keyslot, Meta};
 use serde_json::Value;
 use std::alloc::{AllocError, Global};
@@ -28,16 +28,16 @@ fn same_costs(costs: Argon2) -> Argon2Costs
 }
 
 /// The same derivation, by so many iterations where it is PBKDF2.
-fn derived_like<'a>(cost: &Cost<'a>, iterations: u32) -> NewDerivation<'a>
+fn derived_like<'a>(cost: &Cost<'a>, iterations: u32) -> KeyslotDerivation<'a>
     ensures { (d : Data) → TellsCost d cost.now → IsDerivedLike d iterations (derivation_of result) }
 {
     match *cost {
-        Cost::Pbkdf2(pbkdf2) => NewDerivation::Pbkdf2 {
+        Cost::Pbkdf2(pbkdf2) => KeyslotDerivation::Pbkdf2 {
             hash: pbkdf2.hash,
             iterations,
         },
-        Cost::Argon2i(costs) => NewDerivation::Argon2i(same_costs(costs)),
-        Cost::Argon2id(costs) => NewDerivation::Argon2id(same_costs(costs)),
+        Cost::Argon2i(costs) => KeyslotDerivation::Argon2i(same_costs(costs)),
+        Cost::Argon2id(costs) => KeyslotDerivation::Argon2id(same_costs(costs)),
     }
 }
 

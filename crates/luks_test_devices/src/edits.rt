@@ -18,6 +18,7 @@ macro_rules! add {
             new: $new,
             to: $to,
             iterations: $iterations,
+            derivation: None,
         }
     };
 }
@@ -38,6 +39,7 @@ macro_rules! change {
             },
             new: $new,
             iterations: $iterations,
+            derivation: None,
         }
     };
 }

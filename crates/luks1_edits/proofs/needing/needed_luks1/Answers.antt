@@ -17,7 +17,7 @@ returns-in-Seal-clause-tells c = λ v is size.
     let header = c.in-Ok.ensures.header v is size in
     let fields = c.in-Ok.ensures.accepted.fields in
     let s = c.in-Seal.sealed in
-    new_need_tells v c.args.data_ c.args.edit.now header.faultless s.opener.slot s.opener.passphrase.bytes.now (number_asked s.place) s.iterations (making v c.args.edit.now s (sym c.in-Seal.ensures)) c.new_need.result
+    new_need_tells v c.args.data_ c.args.edit.now header.faultless s.opener.slot s.opener.passphrase.bytes.now (number_asked s.place) s.derivation (making v c.args.edit.now s (sym c.in-Seal.ensures)) c.new_need.result
     (subst (λ t. MatchResult c.new_need.result (IsNewNeed v s.opener.slot t) (IsNewNeedFault v s.opener.slot t)) c.number_asked.ensures
     (c.new_need.ensures.need v (slots_in a.bytes.now c.args.data_ v a.fields.slots header fields.slots) (key_bytes_in a.bytes.now a.fields c.args.data_ v header fields)))
 

@@ -1,8 +1,12 @@
-use Rattle.std.proofs.Common.{subst}
+use Rattle.std.proofs.Common.{subst, arith}
+use Rattle.std.proofs.lemmas.Bool.{both_ways}
 use Rattle.std.proofs.lemmas.Result.{err_from_is_err_and}
 use Rattle.luks_area.specs.DeviceFacts.{settled_unchanged}
 use Rattle.luks1_edits.specs.Accepted.{IsNewFault, IsNewFree}
 use Rattle.luks1_edits.specs.Edited.{number_asked}
+use Rattle.luks1_edits.specs.Leftovers.{IsSealedFirst}
+use Rattle.luks1_edits.specs.Steps.{IsKeyslotMade}
+use Rattle.luks1_edits.proofs.EditedFacts.{enough}
 use Rattle.luks1_edits.proofs.KeyslotPlaces.{key_bytes_in}
 use Rattle.luks1_edits.proofs.NewKeyslotFacts.{header_of_same, made_same, making, making_unrefused, new_refused, none_made, torn_same, unmade_ends}
 use Rattle.luks1_edits.proofs.OpenerFacts.{slots_in}
@@ -26,7 +30,7 @@ returns-in_err-n-clause-refused g c = λ tells e is x.
     let s = c.args.sealed.now in
     let p = err_from_is_err_and c.from_residual-in_err-n.result c.from_residual-in_err-n.ensures.1 in
     rw (p.1, p.2)
-    (none_made v a.data_ e c.args.random.now s.opener.slot s.opener.passphrase.bytes.now c.in_ok-key.key (number_asked s.place) s.iterations (making v e s is) a.bytes.now x (c.in_ok-key.ensures.opened tells x)
+    (none_made v a.data_ e c.args.random.now s.opener.slot s.opener.passphrase.bytes.now c.in_ok-key.key (number_asked s.place) s.derivation (making v e s is) a.bytes.now x (c.in_ok-key.ensures.opened tells x)
     (g.D.Device.bytes c.unlock.new.device) c.in_err-n.field-0.0 (c.unlock.ensures.unchanged.same tells)
     (subst (λ t. IsNewFault v t c.in_err-n.field-0.0) c.number_asked.ensures (c.in_err-n.ensures.new v (slots_in a.bytes.now a.data_ v a.fields.slots x c.requires.accepted.fields.slots))))
 
@@ -38,13 +42,21 @@ returns-in_err-judge_new-clause-refused g c = λ tells e is x.
     let slots = slots_in a.bytes.now a.data_ v a.fields.slots x c.requires.accepted.fields.slots in
     let p = err_from_is_err_and c.from_residual-in_err-judge_new.result c.from_residual-in_err-judge_new.ensures.1 in
     rw (p.1, p.2)
-    (new_refused v a.data_ e c.args.random.now s.opener.slot s.opener.passphrase.bytes.now c.in_ok-key.key (number_asked s.place) s.iterations (making v e s is) a.bytes.now x (c.in_ok-key.ensures.opened tells x)
+    (new_refused v a.data_ e c.args.random.now s.opener.slot s.opener.passphrase.bytes.now c.in_ok-key.key (number_asked s.place) s.derivation (making v e s is) a.bytes.now x (c.in_ok-key.ensures.opened tells x)
     c.in_ok-n.n (subst (λ t. IsNewFree v t c.in_ok-n.n) c.number_asked.ensures (c.in_ok-n.ensures.new v slots)) (g.D.Device.bytes c.unlock.new.device) c.in_err-judge_new.field-0.0 (c.unlock.ensures.unchanged.same tells)
     (c.in_err-judge_new.ensures.refused v slots (key_bytes_in a.bytes.now a.fields a.data_ v x c.requires.accepted.fields)))
 
 pub make_keyslot-requires-clause-random_length : goal.make_keyslot-requires-clause-random_length
 make_keyslot-requires-clause-random_length g c =
     c.in_ok-judge_new.ensures.counted c.args.header.now.bytes.now c.requires.accepted.fields.slots c.requires.accepted.fields.common.fields.key_bytes
+
+pub make_keyslot-requires-clause-iterated : goal.make_keyslot-requires-clause-iterated
+make_keyslot-requires-clause-iterated g c =
+    let d = c.args.sealed.now.derivation in
+    let x = c.in_ok-judge_new.ensures.iterated in
+    let many = enough d.iterations d.chosen (both_ways _ x.turns) (both_ways _ x.own) in
+    let same = c.iterations_of.ensures in
+    omega (arith, many, same)
 
 pub returns-in_err-make_keyslot-clause-refused : goal.returns-in_err-make_keyslot-clause-refused
 returns-in_err-make_keyslot-clause-refused g c = λ tells e is x.
@@ -56,11 +68,12 @@ returns-in_err-make_keyslot-clause-refused g c = λ tells e is x.
     let new = subst (λ t. IsNewFree v t c.in_ok-n.n) c.number_asked.ensures (c.in_ok-n.ensures.new v slots) in
     let w = g.D.Device.bytes c.make_keyslot.new.device in
     let same = c.unlock.ensures.unchanged.same tells in
-    let torn = torn_same same (c.in_err-make_keyslot.ensures.torn tells (header_of_same same x)) in
+    let torn = subst (λ k. IsSealedFirst v c.in_ok-n.n k s.passphrase.now c.in_ok-key.key c.args.random.now w) c.iterations_of.ensures
+        (torn_same same (c.in_err-make_keyslot.ensures.torn tells (header_of_same same x))) in
     let p = err_from_is_err_and c.from_residual-in_err-make_keyslot.result c.from_residual-in_err-make_keyslot.ensures.1 in
     rw (p.1, p.2)
-    (unmade_ends v a.data_ e c.args.random.now s.opener.slot s.opener.passphrase.bytes.now c.in_ok-key.key (number_asked s.place) s.iterations (making v e s is) a.bytes.now x (c.in_ok-key.ensures.opened tells x)
-    c.in_ok-n.n new c.in_ok-judge_new.ensures.many (c.in_ok-judge_new.ensures.counted v slots (key_bytes_in a.bytes.now a.fields a.data_ v x c.requires.accepted.fields)) w c.in_err-make_keyslot.field-0.0
+    (unmade_ends v a.data_ e c.args.random.now s.opener.slot s.opener.passphrase.bytes.now c.in_ok-key.key (number_asked s.place) s.derivation (making v e s is) a.bytes.now x (c.in_ok-key.ensures.opened tells x)
+    c.in_ok-n.n new c.in_ok-judge_new.ensures.iterated (c.in_ok-judge_new.ensures.counted v slots (key_bytes_in a.bytes.now a.fields a.data_ v x c.requires.accepted.fields)) w c.in_err-make_keyslot.field-0.0
     (half_made v e s c.args.random.now w is (record { slot = c.in_ok-n.n; is_new = new.is_new; key = c.in_ok-key.key; opened = opened.opened; order = torn })) c.in_err-make_keyslot.ensures.fault)
 
 pub returns-clause-made : goal.returns-clause-made
@@ -77,10 +90,11 @@ returns-clause-made g c = λ tells x.
       key = c.in_ok-key.key;
       opened = opened.opened;
       is_new = new.is_new;
-      made = made_same same (c.in_ok-make_keyslot.ensures.made tells (header_of_same same x));
+      made = subst (λ k. IsKeyslotMade v c.in_ok-n.n k s.passphrase.now c.in_ok-key.key c.args.random.now (g.D.Device.bytes c.make_keyslot.new.device)) c.iterations_of.ensures
+          (made_same same (c.in_ok-make_keyslot.ensures.made tells (header_of_same same x)));
       unrefused = λ e is.
-          making_unrefused v a.data_ e c.args.random.now s.opener.slot s.opener.passphrase.bytes.now c.in_ok-key.key (number_asked s.place) s.iterations (making v e s is) a.bytes.now x opened
-          c.in_ok-n.n new c.in_ok-judge_new.ensures.many (c.in_ok-judge_new.ensures.counted v slots (key_bytes_in a.bytes.now a.fields a.data_ v x c.requires.accepted.fields));
+          making_unrefused v a.data_ e c.args.random.now s.opener.slot s.opener.passphrase.bytes.now c.in_ok-key.key (number_asked s.place) s.derivation (making v e s is) a.bytes.now x opened
+          c.in_ok-n.n new c.in_ok-judge_new.ensures.iterated (c.in_ok-judge_new.ensures.counted v slots (key_bytes_in a.bytes.now a.fields a.data_ v x c.requires.accepted.fields));
     }
 
 pub returns-in_err-key-clause-settled : goal.returns-in_err-key-clause-settled

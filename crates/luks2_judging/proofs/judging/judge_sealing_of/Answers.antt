@@ -1,4 +1,4 @@
-use Rattle.std.proofs.Common.{◌≡◌, ℕ, ◌<◌, length, sym, ◌∙◌, subst}
+use Rattle.std.proofs.Common.{◌≡◌, ℕ, ◌+◌, ◌<◌, length, sym, ◌∙◌, subst}
 use Rattle.std.proofs.lemmas.Result.{err_from_is_err_and}
 use Rattle.luks_area.specs.Area.{IsInside}
 use Rattle.luks_meta.specs.Content.{area_len, content}
@@ -10,8 +10,9 @@ use Rattle.luks2_edit_laws.specs.Metadata.{IsInUse, IsKeyArea}
 use Rattle.luks_reading.specs.declared.header.Header.{Header}
 use Rattle.luks_reading.specs.Plans.{HasKeyBytes, HasLuks2KeyBytes}
 use Rattle.luks2_judging.specs.Judged.{IsNewNumber}
-use Rattle.luks2_judging.specs.Room.{IsPlaced}
-use Rattle.luks2_judging.proofs.DeedFacts.{added_is, changed_is, sealed_as}
+use Rattle.luks2_judging.specs.Room.{IsAllowed, IsPlaced, IsUnsealable}
+use Rattle.luks2_judging.specs.Sealing.{IsUnadded}
+use Rattle.luks2_judging.proofs.DeedFacts.{added_is, changed_is, sealed_as, sealed_memory}
 use Rattle.luks2_judging.proofs.KeyslotFacts.{sealed_opens, sealed_short, used_of}
 use Rattle.luks2_judging.proofs.ReadFacts.{added_passed, changed_passed, placed_of, read_as, unadded_refused, unchanged_refused, unopened_refused}
 use Rattle.luks2_judging.proofs.judging.judge_sealing_of.Goals as goal
@@ -36,8 +37,9 @@ returns-in_err-addition-in-New-clause-refused g c = λ tells is payload well jud
     (g.met.D.Device.sized c.args.device.now tells ∙ sym c.requires.total ∙ sym c.room-room.ensures.total) judged in
     let p = err_from_is_err_and c.from_residual-in_err-addition-in-New.result c.from_residual-in_err-addition-in-New.ensures.1 in
     rw (p.1, p.2)
-    (unadded_refused read (c.in_ok-key.ensures.opened tells is c.args.edit.now (sym c.allowed_memory-memory.ensures) (sealed_opens c.args.edit.now c.args.sealed.now c.requires.asked)).past (added_is c.args.edit.now c.args.sealed.now c.in-New.to c.requires.asked c.in-New.is) c.in_err-addition-in-New.field-0.0
-    (c.in_err-addition-in-New.ensures.refused payload read.lists))
+    (unadded_refused read (c.in_ok-key.ensures.opened tells is c.args.edit.now (sym c.allowed_memory-memory.ensures) (sealed_opens c.args.edit.now c.args.sealed.now c.requires.asked)).past c.args.sealed.now.derivation (added_is c.args.edit.now c.args.sealed.now c.in-New.to c.requires.asked c.in-New.is) c.in_err-addition-in-New.field-0.0
+    (subst (λ k. IsUnadded (area_len c.room-room.result.meta.now + 4096) c.room-room.result.total payload (content c.room-room.result.meta.now) c.args.sealed.now.opener.slot c.in-New.to k c.args.sealed.now.derivation c.in_err-addition-in-New.field-0.0)
+    (c.allowed_memory-memory.ensures ∙ sealed_memory c.args.edit.now c.args.sealed.now c.requires.asked) (c.in_err-addition-in-New.ensures.refused payload read.lists)))
 
 pub judge_renewal-requires-clause-there : goal.judge_renewal-requires-clause-there
 judge_renewal-requires-clause-there g c =
@@ -50,8 +52,9 @@ returns-in_err-renewal-in-Opened-clause-refused g c = λ tells is payload well j
     (g.met.D.Device.sized c.args.device.now tells ∙ sym c.requires.total ∙ sym c.room-room.ensures.total) judged in
     let p = err_from_is_err_and c.from_residual-in_err-renewal-in-Opened.result c.from_residual-in_err-renewal-in-Opened.ensures.1 in
     rw (p.1, p.2)
-    (unchanged_refused read (c.in_ok-key.ensures.opened tells is c.args.edit.now (sym c.allowed_memory-memory.ensures) (sealed_opens c.args.edit.now c.args.sealed.now c.requires.asked)).past (changed_is c.args.edit.now c.args.sealed.now c.requires.asked c.in-Opened.is) c.in_err-renewal-in-Opened.field-0.0
-    (c.in_err-renewal-in-Opened.ensures.refused payload read.lists))
+    (unchanged_refused read (c.in_ok-key.ensures.opened tells is c.args.edit.now (sym c.allowed_memory-memory.ensures) (sealed_opens c.args.edit.now c.args.sealed.now c.requires.asked)).past c.args.sealed.now.derivation (changed_is c.args.edit.now c.args.sealed.now c.requires.asked c.in-Opened.is) c.in_err-renewal-in-Opened.field-0.0
+    (subst (λ k. IsUnsealable (area_len c.room-room.result.meta.now + 4096) c.room-room.result.total payload (content c.room-room.result.meta.now) c.args.sealed.now.opener.slot k c.args.sealed.now.derivation c.in_err-renewal-in-Opened.field-0.0)
+    (c.allowed_memory-memory.ensures ∙ sealed_memory c.args.edit.now c.args.sealed.now c.requires.asked) (c.in_err-renewal-in-Opened.ensures.refused payload read.lists)))
 
 pub returns-in_ok-addition-in-New-clause-seals : goal.returns-in_ok-addition-in-New-clause-seals
 returns-in_ok-addition-in-New-clause-seals g c = λ tells is payload judged.
@@ -66,10 +69,12 @@ returns-in_ok-addition-in-New-clause-passed g c = λ tells is payload judged.
     let read = read_as c.room-room.ensures.meta c.room-room.ensures.entries
     (g.met.D.Device.sized c.args.device.now tells ∙ sym c.requires.total ∙ sym c.room-room.ensures.total) judged in
     let added = c.in_ok-addition-in-New.addition in
-    let asked : c.args.edit.now ≡ Add added.by_ c.args.sealed.now.opener.passphrase c.args.sealed.now.passphrase c.in-New.to added.iterations =
-    rw (c.in_ok-addition-in-New.ensures.like, c.in_ok-addition-in-New.ensures.iterations) (added_is c.args.edit.now c.args.sealed.now c.in-New.to c.requires.asked c.in-New.is) in
-    added_passed read (c.in_ok-key.ensures.opened tells is c.args.edit.now (sym c.allowed_memory-memory.ensures) (sealed_opens c.args.edit.now c.args.sealed.now c.requires.asked)).past asked
-    c.in_ok-addition-in-New.ensures.number c.in_ok-addition-in-New.ensures.iterated (c.in_ok-addition-in-New.ensures.area payload read.lists)
+    let asked : c.args.edit.now ≡ Add added.by_ c.args.sealed.now.opener.passphrase c.args.sealed.now.passphrase c.in-New.to added.derivation.iterations added.derivation.chosen =
+    rw (c.in_ok-addition-in-New.ensures.like, c.in_ok-addition-in-New.ensures.derivation) (added_is c.args.edit.now c.args.sealed.now c.in-New.to c.requires.asked c.in-New.is) in
+    added_passed read (c.in_ok-key.ensures.opened tells is c.args.edit.now (sym c.allowed_memory-memory.ensures) (sealed_opens c.args.edit.now c.args.sealed.now c.requires.asked)).past added.derivation asked
+    c.in_ok-addition-in-New.ensures.number
+    (subst (λ k. IsAllowed k added.derivation) (c.allowed_memory-memory.ensures ∙ sealed_memory c.args.edit.now c.args.sealed.now c.requires.asked) c.in_ok-addition-in-New.ensures.allowed)
+    (c.in_ok-addition-in-New.ensures.area payload read.lists)
 
 pub returns-in_ok-renewal-in-Opened-clause-seals : goal.returns-in_ok-renewal-in-Opened-clause-seals
 returns-in_ok-renewal-in-Opened-clause-seals g c = λ tells is payload judged.
@@ -89,13 +94,13 @@ returns-in_ok-renewal-in-Opened-clause-takes g c =
     let is = subst (λ (m : Meta). IsKeyArea (content m) r.slot r.lost) c.room-room.ensures.meta said.lost in
     record {
       old = c.args.sealed.now.opener.passphrase;
-      asked = sealed_as c.args.edit.now c.args.sealed.now Opened r.slot r.iterations c.requires.asked c.in-Opened.is said.slot said.iterations;
+      asked = sealed_as c.args.edit.now c.args.sealed.now Opened r.slot r.derivation c.requires.asked c.in-Opened.is said.slot said.derivation;
       there = subst (λ (n : ℕ). IsInUse (content meta) n) (sym said.slot) used;
       key_length = subst (λ (n : ℕ). HasLuks2KeyBytes (content meta) n (length key)) (sym said.slot)
           (subst (λ (h : Header). HasKeyBytes h c.args.sealed.now.opener.slot (length key)) c.requires.own.is c.in_ok-key.ensures.length);
       placed = subst (λ (t : ℕ). IsPlaced (area_len meta) (content meta) t r.slot r.area) (c.room-room.ensures.total ∙ c.requires.total)
           (subst (λ (m : Meta). IsPlaced (area_len m) (content m) c.room-room.result.total r.slot r.area) c.room-room.ensures.meta said.placed);
-      iterated = said.iterated;
+      allowed = subst (λ k. IsAllowed k r.derivation) (c.allowed_memory-memory.ensures ∙ sealed_memory c.args.edit.now c.args.sealed.now c.requires.asked) said.allowed;
       lost = record { is = is; inside = subst (λ (t : ℕ). IsInside r.lost t) c.requires.total (c.requires.own.key_areas r.slot r.lost is) };
     }
 
@@ -104,10 +109,11 @@ returns-in_ok-renewal-in-Opened-clause-passed g c = λ tells is payload judged.
     let read = read_as c.room-room.ensures.meta c.room-room.ensures.entries
     (g.met.D.Device.sized c.args.device.now tells ∙ sym c.requires.total ∙ sym c.room-room.ensures.total) judged in
     let renewed = c.in_ok-renewal-in-Opened.renewal in
-    let asked : c.args.edit.now ≡ Change renewed.slot c.args.sealed.now.opener.passphrase c.args.sealed.now.passphrase renewed.iterations =
-    rw (c.in_ok-renewal-in-Opened.ensures.slot, c.in_ok-renewal-in-Opened.ensures.iterations) (changed_is c.args.edit.now c.args.sealed.now c.requires.asked c.in-Opened.is) in
-    changed_passed read (c.in_ok-key.ensures.opened tells is c.args.edit.now (sym c.allowed_memory-memory.ensures) (sealed_opens c.args.edit.now c.args.sealed.now c.requires.asked)).past asked
-    c.in_ok-renewal-in-Opened.ensures.iterated (c.in_ok-renewal-in-Opened.ensures.area payload read.lists)
+    let asked : c.args.edit.now ≡ Change renewed.slot c.args.sealed.now.opener.passphrase c.args.sealed.now.passphrase renewed.derivation.iterations renewed.derivation.chosen =
+    rw (c.in_ok-renewal-in-Opened.ensures.slot, c.in_ok-renewal-in-Opened.ensures.derivation) (changed_is c.args.edit.now c.args.sealed.now c.requires.asked c.in-Opened.is) in
+    changed_passed read (c.in_ok-key.ensures.opened tells is c.args.edit.now (sym c.allowed_memory-memory.ensures) (sealed_opens c.args.edit.now c.args.sealed.now c.requires.asked)).past renewed.derivation asked
+    (subst (λ k. IsAllowed k renewed.derivation) (c.allowed_memory-memory.ensures ∙ sealed_memory c.args.edit.now c.args.sealed.now c.requires.asked) c.in_ok-renewal-in-Opened.ensures.allowed)
+    (c.in_ok-renewal-in-Opened.ensures.area payload read.lists)
 
 pub unlock-requires-clause-passphrase : goal.unlock-requires-clause-passphrase
 unlock-requires-clause-passphrase g c = λ some.
@@ -122,11 +128,11 @@ returns-in_ok-addition-in-New-clause-takes g c =
     record {
       old = c.args.sealed.now.opener.passphrase;
       to = c.in-New.to;
-      asked = sealed_as c.args.edit.now c.args.sealed.now (New c.in-New.to) a.by_ a.iterations c.requires.asked c.in-New.is said.like said.iterations;
+      asked = sealed_as c.args.edit.now c.args.sealed.now (New c.in-New.to) a.by_ a.derivation c.requires.asked c.in-New.is said.like said.derivation;
       number = subst (λ (m : Meta). IsNewNumber (content m) c.in-New.to a.made) c.room-room.ensures.meta said.number;
       key_length = subst (λ (n : ℕ). HasLuks2KeyBytes (content meta) n (length key)) (sym said.like)
           (subst (λ (h : Header). HasKeyBytes h c.args.sealed.now.opener.slot (length key)) c.requires.own.is c.in_ok-key.ensures.length);
       placed = subst (λ (t : ℕ). IsPlaced (area_len meta) (content meta) t a.by_ a.area) (c.room-room.ensures.total ∙ c.requires.total)
           (subst (λ (m : Meta). IsPlaced (area_len m) (content m) c.room-room.result.total a.by_ a.area) c.room-room.ensures.meta said.placed);
-      iterated = said.iterated;
+      allowed = subst (λ k. IsAllowed k a.derivation) (c.allowed_memory-memory.ensures ∙ sealed_memory c.args.edit.now c.args.sealed.now c.requires.asked) said.allowed;
     }

@@ -49,7 +49,7 @@ returns-in_err-new_number-in-New-clause-tells c = λ v is size.
     let asked = added_is c.args.edit.now s c.in-New.to (sym c.in-Seal.ensures) c.in-New.is in
     rw (p.1, p.2)
     (subst (λ y. IsLeast edit_key (IsNeedFault2 v c.args.data_ y) c.in_err-new_number-in-New.field-0.0) (sym asked)
-    (need_unnumbered v c.args.data_ copy.header.hdr_offset (content copy.meta) a.metadata s.opener.slot s.opener.passphrase s.passphrase c.in-New.to s.iterations
+    (need_unnumbered v c.args.data_ copy.header.hdr_offset (content copy.meta) a.metadata s.opener.slot s.opener.passphrase s.passphrase c.in-New.to s.derivation
     a.accepted c.in_ok-judge_requirements.ensures
     (subst (λ y. IsAbsent (content copy.meta) y → ⊥) asked c.in_ok-judge_wanted.ensures) c.in_err-new_number-in-New.field-0.0 c.in_err-new_number-in-New.ensures))
 
@@ -61,7 +61,7 @@ returns-in_ok-new_number-in-New-clause-tells c = λ v is size.
     need_as (added_is c.args.edit.now s c.in-New.to (sym c.in-Seal.ensures) c.in-New.is) a c.in_ok-judge_requirements.ensures c.in_ok-judge_wanted.ensures c.in_ok-judge_opener.ensures c.sealed_need.result
     (new_untaken (content copy.meta) c.in-New.to c.in_ok-new_number-in-New.field-0 c.in_ok-new_number-in-New.ensures)
     (new_numbered (content copy.meta) c.in-New.to c.in_ok-new_number-in-New.field-0 c.in_ok-new_number-in-New.ensures)
-    (λ there. c.sealed_need.ensures (used_of (content copy.meta) (Add s.opener.slot s.opener.passphrase s.passphrase c.in-New.to s.iterations)
+    (λ there. c.sealed_need.ensures (used_of (content copy.meta) (Add s.opener.slot s.opener.passphrase s.passphrase c.in-New.to s.derivation.iterations s.derivation.chosen)
     s.opener.slot s.opener.passphrase.bytes.now (refl, refl) there))
 
 pub returns-in-Opened-clause-tells : goal.returns-in-Opened-clause-tells
@@ -70,7 +70,7 @@ returns-in-Opened-clause-tells c = λ v is size.
     let a = accepted_copy c.in_ok-copy.ensures.copy is (c.in_ok-copy.ensures.well v is size) in
     let s = c.in-Seal.sealed in
     need_as (changed_is c.args.edit.now s (sym c.in-Seal.ensures) c.in-Opened.is) a c.in_ok-judge_requirements.ensures c.in_ok-judge_wanted.ensures c.in_ok-judge_opener.ensures c.sealed_need-in-Opened.result (λ x. x) (λ x. x)
-    (λ there. c.sealed_need-in-Opened.ensures (used_of (content copy.meta) (Change s.opener.slot s.opener.passphrase s.passphrase s.iterations)
+    (λ there. c.sealed_need-in-Opened.ensures (used_of (content copy.meta) (Change s.opener.slot s.opener.passphrase s.passphrase s.derivation.iterations s.derivation.chosen)
     s.opener.slot s.opener.passphrase.bytes.now (refl, refl) there))
 
 pub returns-in-Remove-clause-tells : goal.returns-in-Remove-clause-tells

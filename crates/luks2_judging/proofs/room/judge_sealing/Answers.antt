@@ -3,8 +3,8 @@ use Rattle.luks_meta.specs.Content.{area_len, content}
 use Rattle.luks2_judging.proofs.RoomFacts.{area_excludes}
 use Rattle.luks2_judging.proofs.room.judge_sealing.Goals as goal
 
-pub returns-then-iterations-lt-LEAST_ITERATIONS-clause-refused : goal.returns-then-iterations-lt-LEAST_ITERATIONS-clause-refused
-returns-then-iterations-lt-LEAST_ITERATIONS-clause-refused c = λ payload lists. (
-  λ none. area_excludes (area_len c.args.room.now.meta.now + 4096) c.args.room.now.total payload (content c.args.room.now.meta.now) c.args.n c.in-Some.area (c.in-Some.ensures.new payload lists) none,
-  c.if-iterations-lt-LEAST_ITERATIONS.true,
-)
+pub returns-then-has_few_turns-clause-refused : goal.returns-then-has_few_turns-clause-refused
+returns-then-has_few_turns-clause-refused c = λ payload lists. record {
+  room = λ none. area_excludes (area_len c.args.room.now.meta.now + 4096) c.args.room.now.total payload (content c.args.room.now.meta.now) c.args.n c.in-Some.area (c.in-Some.ensures.new payload lists) none;
+  turns = c.has_few_turns.ensures.0;
+}

@@ -1,10 +1,11 @@
 use Rattle.std.proofs.Common.{◌≤◌, ℕ, List, Option, IfErr, OnOk, subst}
 use Rattle.luks_reading.specs.Answer.{AnswerWithin, opens}
-use Rattle.luks_formatting.specs.Deriving.{allowed_for, memory_by, slot_derivation}
+use Rattle.luks_making.specs.Derivations.{memory_by}
+use Rattle.luks_formatting.specs.Deriving.{allowed_for, slot_derivation}
 use Rattle.luks_formatting.specs.FormatFaults.{IsAnsweredFaultOrMemory, IsFormat2FaultBy}
 use Rattle.luks_formatting.specs.Formatted2.{IsFormatted2By}
 use Rattle.luks_formatting.specs.RandomBytes.{volume_key}
-use Rattle.luks_formatting.specs.declared.derivation.NewDerivation.{NewDerivation}
+use Rattle.luks_making.specs.declared.derivation.NewDerivation.{NewDerivation}
 use Rattle.luks_commands.specs.Chosen.{chosen_of}
 use Rattle.luks_commands.specs.Formatting.{OpensNew}
 use Rattle.luks_commands.specs.OpenAnswers.{kib_of}
