@@ -1,6 +1,6 @@
 -- A command with costs of its new keyslot that take a wanted time, in the place of those that it is given. Which time they take no definition
 -- says; all else is as it was, and the costs lie within bounds.
-use Rattle.std.specs.Prelude.{◌≡◌, ◌×◌, ⊥, ℕ, ◌≤◌, min, Option, None, Some}
+use Rattle.std.specs.Prelude.{◌≡◌, ℕ, ◌≤◌, min, Option, None, Some}
 use Rattle.luks_request.specs.declared.derivation.AskedArgon2.{AskedArgon2}
 use Rattle.luks_request.specs.declared.derivation.AskedKdf.{AskedKdf}
 use Rattle.luks_request.specs.declared.derivation.AskedKdf.TheVariants.{Pbkdf2, Argon2}

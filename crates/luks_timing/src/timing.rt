@@ -1,5 +1,5 @@
 //! Costs of a new keyslot that take a wanted time on this machine.
-ghost use Rattle.std.specs.Prelude.{◌≡◌, ◌≤◌, ◌×◌, IfOk};
+ghost use Rattle.std.specs.Prelude.{◌≡◌, ◌≤◌, IfOk};
 ghost use Rattle.luks_timing.specs.Timed.{AreTimed, IsTimed, IsTimedEdit, IsTimedKdf, IsTimedMaking};
 
 use luks_argon2::Variant;
@@ -41,11 +41,7 @@ impl<C: Clock> Timing<'_, C> {
     /// chosen. The volume isn't read for it: an edit's PBKDF2 is timed by SHA-256.
     ///
     /// `Memory` where the memory of Argon2 is refused, `Clock` where the clock can't be read.
-    pub fn line<'b, E: Write>(
-        &self,
-        line: &Line<'b>,
-        err: &mut E,
-    ) -> Result<Line<'b>, CostFault>
+    pub fn line<'b, E: Write>(&self, line: &Line<'b>, err: &mut E) -> Result<Line<'b>, CostFault>
         ensures volume { IfOk result (λ timed. (timed.volume ≡ line.now.volume) × (timed.place ≡ line.now.place)) }
         ensures command { IfOk result (λ timed. IsTimed line.now.command timed.command) }
     {
@@ -61,7 +57,7 @@ impl<C: Clock> Timing<'_, C> {
         command: Command<'b>,
         err: &mut E,
     ) -> Result<Command<'b>, CostFault>
-        ensures { IfOk result (IsTimed command) }
+        ensures { IfOk result (IsTimed command.entry) }
     {
         match command {
             Command::Edit(editing) => Ok(Command::Edit(Editing {
@@ -80,7 +76,7 @@ impl<C: Clock> Timing<'_, C> {
         request: EditRequest<'b>,
         err: &mut E,
     ) -> Result<EditRequest<'b>, CostFault>
-        ensures { IfOk result (IsTimedEdit request) }
+        ensures { IfOk result (IsTimedEdit request.entry) }
     {
         match request {
             EditRequest::Add {
@@ -119,12 +115,8 @@ impl<C: Clock> Timing<'_, C> {
         }
     }
 
-    fn making<'b, E: Write>(
-        &self,
-        making: Making<'b>,
-        err: &mut E,
-    ) -> Result<Making<'b>, CostFault>
-        ensures { IfOk result (IsTimedMaking making) }
+    fn making<'b, E: Write>(&self, making: Making<'b>, err: &mut E) -> Result<Making<'b>, CostFault>
+        ensures { IfOk result (IsTimedMaking making.entry) }
     {
         let hash = making.format.hash;
         let (kdf, iterations) = match making.version {
