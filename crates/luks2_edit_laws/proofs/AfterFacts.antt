@@ -23,6 +23,7 @@ use Rattle.luks_making.specs.Keyslots.{slot_value, NewMembers}
 use Rattle.luks_making.specs.Naming.{HasUniqueDigests}
 use Rattle.luks_making.specs.Unchanged.{ChangesSlot, GainsSlot, SaysMembers}
 use Rattle.luks_making.specs.Without.{without_slot}
+use Rattle.luks_making.proofs.KdfFacts.{unrefused_positive}
 use Rattle.luks_making.proofs.ChangeFacts.{held_changed, slot_renewed}
 use Rattle.luks_making.proofs.RemovalFacts.{held_left, slot_lost}
 use Rattle.luks_making.proofs.RoomFacts.{gained_added, held_added, room as has_room, says_members}
@@ -44,7 +45,7 @@ use Rattle.luks2_edit_laws.proofs.KeptFacts.{all_kept, says_itself, KeepsMetadat
 use Rattle.luks2_edit_laws.proofs.SoundCopyFacts.{copy_sound}
 use Rattle.luks2_edit_laws.proofs.MetadataFacts.{lost_metadata, placed_metadata}
 use Rattle.luks2_edit_laws.proofs.PlaceFacts.{left_bytes}
-use Rattle.luks2_edit_laws.proofs.SealFacts.{can_seal, enough_random, fits_new, none_of, opened_there, positive, opened_plan, part_bytes, salt_length, under, IsOpened}
+use Rattle.luks2_edit_laws.proofs.SealFacts.{can_seal, enough_random, fits_new, none_of, opened_there, opened_plan, part_bytes, salt_length, under, IsOpened}
 use Rattle.luks2_edit_laws.proofs.UniqueFacts.{unique_digests}
 use Rattle.luks2_edit_laws.proofs.VolumeFacts.{areas_are, copy_of, layout_of, HasCopy, IsLayout}
 
@@ -124,7 +125,7 @@ module _ (memory : ℕ) (v : List ℕ) (o h : ℕ) (payload : Data) (random : Li
 
   seals : (area : Area) → IsNewArea h (length v) payload j n area → CanSeal (h - 4096) j n (members_of asked (keyslot_salt random) area)
   seals area place =
-      can_seal h (length v) payload j n area place asked (keyslot_salt random) head_size (opened_there memory v o j n ready.opened) (positive memory asked ready.turns ready.within)
+      can_seal h (length v) payload j n area place asked (keyslot_salt random) head_size (opened_there memory v o j n ready.opened) (unrefused_positive memory asked.iterations asked.chosen ready.turns ready.within)
       (salt_length random (need_met j n random place.key_bytes place.stripes place.slot ready.met))
 
   -- the new salt is long enough for Argon2

@@ -1,7 +1,7 @@
 -- A keyslot that says of its opening what another one says, or derives as is chosen, by a digest of the
 -- same hash: its plan is refused where the other is.
 use Rattle.std.proofs.Common.{◌≡◌, ◌≤◌, ◌*◌, ◌-◌, ◌^◌, Bool, true, false, List, ℕ, length, codes, Option, Some, None, is_some, refl, sym, ap, subst, ◌∙◌, arith}
-use Rattle.std.specs.Prelude.{◌==◌, ◌||◌, if◌then◌else◌, nat_lt, not}
+use Rattle.std.specs.Prelude.{◌==◌, ◌&&◌, ◌||◌, if◌then◌else◌, nat_lt, not}
 use Rattle.std.proofs.lemmas.Bool.{and_parts}
 use Rattle.std.proofs.lemmas.Bool.Decides.{nat_tests}
 use Rattle.serde_json.specs.Data.{Data as Value}
@@ -184,12 +184,12 @@ alike_refusal {j} {k} {d} {f} {m} {n} memory a b like open_ x y hash =
     let off : is_argon2_refused memory a.derivation ≡ false = allowed_derivation memory a open_ (is_argon2_refused memory a.derivation) refl in
     let hashes : are_known_hashes a ≡ true =
     open_hashes (is_argon2_refused memory a.derivation) (is_open_cipher a.cipher) (are_known_hashes a) (a.area_key_bytes == 32 || a.area_key_bytes == 64) open_ in
-    let derivation = and_parts _ _ hashes in
-    let splitter = and_parts _ _ derivation.1 in
+    let both = and_parts (is_known_derivation a.derivation && is_some (hash_named a.splitter_hash.now)) (is_some (hash_named a.digest.hash.now)) hashes in
+    let own = and_parts (is_known_derivation a.derivation) (is_some (hash_named a.splitter_hash.now)) both.0 in
     let alike = like.derived a.derivation b.derivation a.splitter_hash.now x.derivation y.derivation x.splitter_hash in
     same_refusal memory a b (record {
       argon2 = off ∙ sym (alike.argon2 off);
-      known = derivation.0 ∙ sym (alike.known splitter.0 derivation.0);
+      known = own.0 ∙ sym (alike.known own.1 own.0);
       cipher = cipher_both d f a.cipher b.cipher like.encryption x.cipher y.cipher;
       area_key_bytes = some_same a.area_key_bytes b.area_key_bytes (sym x.area_key_bytes ∙ sym like.area_key ∙ y.area_key_bytes);
       splitter_hash = some_same a.splitter_hash.now b.splitter_hash.now (sym x.splitter_hash ∙ sym like.splitter ∙ y.splitter_hash);

@@ -1,8 +1,6 @@
 -- What is known of a keyslot that an edit makes or seals again, where nothing refused the edit.
 use Rattle.std.proofs.Common.{◌≡◌, ℕ, ◌+◌, ◌-◌, ◌*◌, ◌<◌, ◌≤◌, ◌^◌, min, List, length, get_or, Bool, true, false, codes, Option, Some, None, inl, inr, refl, sym, ap, subst, ◌∙◌, arith}
-use Rattle.std.specs.Prelude.{◌||◌, nat_lt}
-use Rattle.std.proofs.lemmas.Bool.{cases_lt, ltb-false}
-use Rattle.std.proofs.lemmas.Bool.Decides.{nat_tests}
+use Rattle.std.proofs.lemmas.Bool.{cases_lt}
 use Rattle.std.proofs.lemmas.List.{get_or_past}
 use Rattle.base64.specs.GeneralPurpose.{IsBytes}
 use Rattle.serde_json.specs.Data.{Data as Value}
@@ -19,10 +17,8 @@ use Rattle.luks_rules.specs.Reading.{number_in}
 use Rattle.luks_rules.specs.Sizes.{inside_at}
 use Rattle.luks_rules.proofs.AreaFaults.{one_value}
 use Rattle.luks_making.specs.Conditions.{CanSeal, FitsNew, IsThere}
-use Rattle.luks_making.specs.Derivations.{asked_beyond, asked_few_turns, beyond, chosen_beyond, few_turns, few_turns_or, FitsAsked, IsPositive, IsPositiveOr}
+use Rattle.luks_making.specs.Derivations.{FitsAsked, IsPositive}
 use Rattle.luks_making.specs.declared.derivation.AskedDerivation.{AskedDerivation}
-use Rattle.luks_making.specs.declared.derivation.NewDerivation.{NewDerivation}
-use Rattle.luks_making.specs.declared.derivation.NewDerivation.TheVariants as by
 use Rattle.luks_slot.specs.declared.fault.SlotFault.TheVariants.{Argon2}
 use Rattle.luks_slot.specs.declared.plan.SlotPlan.{SlotPlan}
 use Rattle.luks_slot.specs.Opening.{meets_digest}
@@ -55,31 +51,6 @@ part_bytes v at len bytes = λ i. elim (cases_lt i len) [
 -- the salt of a keyslot has 32 bytes where there are as many random bytes as the edit takes
 pub salt_length : (random : List ℕ) → 160 ≤ length random → length (keyslot_salt random) ≡ 32
 salt_length random enough = let long : length (part random 128 32) ≡ min 32 (length random - 128) = length-part random 128 32 in omega (arith, long, enough)
-
--- ---- the derivation that is asked for
-
--- fewer than 1000 iterations aren't none
-some_turns : (n : ℕ) → nat_lt n 1000 ≡ false → 1 ≤ n
-some_turns n enough = let many = ltb-false n 1000 enough in omega (arith, many)
-
--- Argon2 that keeps its limits takes memory, and has lanes
-some_memory : (allowed memory cpus : ℕ) → (nat_lt allowed memory || nat_lt memory (8 * cpus) || nat_lt cpus 1 || nat_lt (2 ^ 24 - 1) cpus) ≡ false → 1 ≤ memory
-some_memory allowed memory cpus within = grind (arith, nat_tests)
-
-some_lanes : (allowed memory cpus : ℕ) → (nat_lt allowed memory || nat_lt memory (8 * cpus) || nat_lt cpus 1 || nat_lt (2 ^ 24 - 1) cpus) ≡ false → 1 ≤ cpus
-some_lanes allowed memory cpus within = grind (arith, nat_tests)
-
--- none of the numbers of what isn't refused is 0
-positive_or : (allowed n : ℕ) (d : Option NewDerivation) → few_turns_or n d ≡ false → chosen_beyond allowed d ≡ false → IsPositiveOr n d
-positive_or allowed n None turns within = some_turns n turns
-positive_or allowed n (Some (by.Pbkdf2 iterations)) turns within = some_turns iterations turns
-positive_or allowed n (Some (by.Argon2i costs)) turns within =
-    (ltb-false costs.time 1 turns, some_memory allowed costs.memory costs.cpus within, some_lanes allowed costs.memory costs.cpus within)
-positive_or allowed n (Some (by.Argon2id costs)) turns within =
-    (ltb-false costs.time 1 turns, some_memory allowed costs.memory costs.cpus within, some_lanes allowed costs.memory costs.cpus within)
-
-pub positive : (allowed : ℕ) (asked : AskedDerivation) → asked_few_turns asked ≡ false → asked_beyond allowed asked ≡ false → IsPositive asked
-positive allowed asked turns within = positive_or allowed asked.iterations asked.chosen turns within
 
 -- ---- the keyslot that was opened
 

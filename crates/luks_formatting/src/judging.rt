@@ -4,9 +4,8 @@ ghost use Rattle.luks_area.specs.First.{IsLeast};
 ghost use Rattle.luks_making.specs.Derivations.{chosen_beyond, chosen_few};
 ghost use Rattle.luks_formatting.specs.FormatFaults.{format_key, HasNoFault, IsFormatFaultBy, IsFormattable};
 
-use luks_making::NewDerivation;
 use crate::format_fault::FormatFault;
-use luks_edit::LEAST_ITERATIONS;
+use luks_making::{LEAST_ITERATIONS, NewDerivation};
 use luks_reading::Format;
 
 /// What a version wants of a volume and of its random bytes.

@@ -13,11 +13,12 @@ ghost use Rattle.luks_formatting.specs.NewHeader2.{copy_size};
 ghost use Rattle.luks_formatting.specs.RandomBytes.{volume_key};
 ghost use Rattle.luks_formatting.specs.declared.format_fault.FormatFault.{FormatFault as TheFault};
 
-use crate::derivation::{NewDerivation, allowed_for};
+use crate::derivation::allowed_for;
 use crate::format_fault::FormatFault;
 use crate::volume2::{Volume, make};
 use luks_area::Device;
 use luks_edit::{Done, Passphrase};
+use luks_making::NewDerivation;
 use luks_reading::{Data, Format};
 use std::alloc::Global;
 

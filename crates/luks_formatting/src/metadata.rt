@@ -10,13 +10,12 @@ ghost use Rattle.luks_formatting.specs.NewHeader2.{first_slot_by, formatted_by, 
 ghost use Rattle.luks_formatting.specs.NewPlan.{key_digest};
 ghost use Rattle.luks_formatting.specs.Volume2.{Fits, HasArea};
 
-use crate::derivation::{NewDerivation, fits};
 use crate::new_header2::{JSON_SIZE, SLOT_SALT};
 use crate::random::{DIGEST_SALT, SALT_BYTES, taken};
 use crate::volume2::Volume;
 use luks_making::{
-    NewDerivation as Written, NewKeyslot, NewVolume, formatted, slot_value, volume_fits, with_slot,
-    without_slot, written_area,
+    KeyslotDerivation, NewDerivation, NewKeyslot, NewVolume, chosen_fits, formatted, slot_value, volume_fits,
+    with_slot, without_slot, written_area,
 };
 use luks_reading::{Data, Format};
 use serde_json::Value;
@@ -62,7 +61,7 @@ fn area_of(alloc: Global, volume: &Volume<'_>, like: &NewVolume<'_>) -> Result<V
     ensures fits { OnOk result (Fits volume.now) }
 {
     volume_fits(like);
-    fits(volume.chosen);
+    chosen_fits(volume.chosen);
     let value = metadata_of(alloc, volume.format, volume.chosen, like)?;
     match written_area(alloc, &value, JSON_SIZE)? {
         Some(area) => Ok(area),
@@ -108,18 +107,21 @@ fn first_slot<'a>(
 }
 
 /// The derivation as the metadata has it.
-fn written_derivation<'a>(format: &Format, chosen: Option<NewDerivation>) -> Written<'a>
+fn written_derivation<'a>(format: &Format, chosen: Option<NewDerivation>) -> KeyslotDerivation<'a>
     ensures { derivation_of result ≡ slot_derivation format.now chosen }
 {
     let hash = format.hash.text();
     match chosen {
-        None => Written::Pbkdf2 {
+        None => KeyslotDerivation::Pbkdf2 {
             hash,
             iterations: format.iterations,
         },
-        Some(NewDerivation::Pbkdf2 { iterations }) => Written::Pbkdf2 { hash, iterations },
-        Some(NewDerivation::Argon2i(costs)) => Written::Argon2i(costs),
-        Some(NewDerivation::Argon2id(costs)) => Written::Argon2id(costs),
+        Some(NewDerivation::Pbkdf2 { iterations }) => KeyslotDerivation::Pbkdf2 {
+            hash,
+            iterations,
+        },
+        Some(NewDerivation::Argon2i(costs)) => KeyslotDerivation::Argon2i(costs),
+        Some(NewDerivation::Argon2id(costs)) => KeyslotDerivation::Argon2id(costs),
     }
 }
 

@@ -5,10 +5,9 @@ ghost use Rattle.luks_slot.specs.Opening.{HasIterations};
 ghost use Rattle.luks_formatting.specs.Deriving.{IsArgon2Plan, IsDerivedBy, slot_derivation};
 ghost use Rattle.luks_formatting.specs.NewPlan.{key_digest, IsNewPlan, IsNewPlanBy};
 
-use luks_making::NewDerivation;
 use crate::random::{DIGEST_SALT, KEY, KEY_BYTES, SALT_BYTES, STRIPES, taken};
 use luks_area::Area;
-use luks_making::Argon2Costs;
+use luks_making::{Argon2Costs, NewDerivation};
 use luks_reading::Format;
 use luks_slot::{AreaCipher, Argon2Kind, Argon2Plan, Derivation, DigestPlan, SlotPlan};
 

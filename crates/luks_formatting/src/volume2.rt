@@ -16,7 +16,6 @@ ghost use Rattle.luks_formatting.specs.RandomBytes.{volume_key};
 ghost use Rattle.luks_formatting.specs.Volume2.{Fits, HasAllButFirst, HasArea, HasKeyArea, HasPlan, IsMade, IsReady};
 ghost use Rattle.luks_formatting.specs.declared.format_fault.FormatFault.{FormatFault as TheFault};
 
-use luks_making::NewDerivation;
 use crate::format_fault::FormatFault;
 use crate::judging::{Wanted, judge};
 use crate::luks2::FORMAT2_RANDOM;
@@ -27,6 +26,7 @@ use crate::random::{DIGEST_SALT, KEY, KEY_BYTES, RANDOM_STRIPES, SALT_BYTES, tak
 use crate::sealing::{put_key_area, sealed_ahead};
 use luks_area::{Area, Device, DeviceFault};
 use luks_edit::{Done, Passphrase};
+use luks_making::NewDerivation;
 use luks_reading::{Data, Format};
 use luks_slot::{AreaCipher, SlotPlan};
 use luks_writing::clear_places;

@@ -1,7 +1,7 @@
 -- The metadata with one more keyslot: what is there of the old, and that it meets every rule that the old met.
-use Rattle.std.proofs.Common.{◌≡◌, ℕ, true, false, List, [], ◌∷◌, Option, Some, option_map, option_and_then, is_some, bytes_eq, codes, take, drop, refl, sym, ap, ◌∙◌, inl, inr, arith, ◌↔◌}
+use Rattle.std.proofs.Common.{◌≡◌, ℕ, true, false, List, [], ◌∷◌, Option, Some, option_map, option_and_then, is_some, bytes_eq, codes, refl, sym, ap, ◌∙◌, inl, inr, arith, ◌↔◌}
 use Rattle.std.specs.List.{list_any}
-use Rattle.std.proofs.lemmas.Bool.{false≢true, cases_eq}
+use Rattle.std.proofs.lemmas.Bool.{cases_eq}
 use Rattle.serde_json.specs.Data.{Data, Members, put}
 use Rattle.serde_json.specs.Find.{get, as_object}
 use Rattle.luks_json.specs.Arrays.{all_named, names, naming_count, naming_members}
@@ -12,42 +12,32 @@ use Rattle.luks_rules.specs.Accepted.{HasObject, IsContent, IsRead}
 use Rattle.luks_rules.specs.Faults.{is_section, object_at, section_at}
 use Rattle.luks_rules.specs.Held.{IsHeld}
 use Rattle.luks_rules.specs.Reading.{texts_of}
+use Rattle.luks_rules.specs.Reading.{object as object_field}
 use Rattle.luks_rules.specs.Table.{keyslot_rows, section_name}
 use Rattle.luks_making.specs.Changing.{add_text, at_member, change_member, in_array, in_object}
-use Rattle.luks_making.specs.Conditions.{FitsDerivation, FitsSlot, IsRoom}
+use Rattle.luks_making.specs.Conditions.{FitsSlot, IsRoom}
 use Rattle.luks_making.specs.Unchanged.{GainsSlot, KeepsOthers, KeepsRest}
-use Rattle.luks_making.specs.Keyslots.{Deriving, by_pbkdf2, by_argon2i, by_argon2id, SlotMembers, slot_value, slot_value_by}
+use Rattle.luks_making.specs.Keyslots.{Deriving, by_pbkdf2, by_argon2i, by_argon2id, SlotMembers, kdf_value, slot_value, slot_value_by}
 use Rattle.luks_making.specs.Naming.{IsDigestOf}
 use Rattle.luks_making.specs.With.{with_name, with_slot}
 use Rattle.luks_making.proofs.EachFacts.{IsFine, Named, each_changed, each_put, fine_added, fine_at, fine_put, named_map, neither, or_off}
 use Rattle.luks_making.proofs.EditFacts.{NamingBack, ObjectEdit, SlotBack, held_edited, kept, made, naming_edited, naming_kept, naming_same, object_same, objects_kept}
-use Rattle.luks_making.proofs.MemberFacts.{array_map, beside, found_in, get_changed, get_kept, object_map, put_beside, put_here, put_more, some_same, tested_object, through}
+use Rattle.luks_making.proofs.KdfFacts.{made_read}
+use Rattle.luks_making.proofs.MemberFacts.{array_map, beside, found_in, get_changed, get_kept, map_is_some, object_map, put_beside, put_here, put_more, some_same, tested_object, through}
 use Rattle.luks_making.proofs.NameFacts.{HasMore, added_text, all_added, all_more, count_added, count_changed, has_added, names_added, none_names, once_added, others_added, texts_differ}
-use Rattle.luks_making.proofs.ReadingFacts.{decimal_is, decimal_read, name_is, number_is, number_read, salt_read}
-use Rattle.luks_making.proofs.RowFacts.{Given, RowRead, array_beside, digest_array, digest_edited, rows_read}
+use Rattle.luks_making.proofs.ReadingFacts.{decimal_is, decimal_read, name_is, number_is, number_read}
+use Rattle.luks_making.proofs.RowFacts.{array_beside, digest_array, digest_edited, rows_read}
 
 -- ---- the new keyslot meets the rules
 
--- the rows of the derivation, and those of each keyslot
-rows_by : (s : SlotMembers) (d : Deriving) → FitsSlot s → Given (RowRead (slot_value_by d s)) (IsRead keyslot_rows (slot_value_by d s)) (take 8 (drop 10 keyslot_rows))
-rows_by s d f = λ kdf cpus hash iterations memory salt time kind.
-    rows_read keyslot_rows (slot_value_by d s) refl (λ _. refl) (λ _. refl) (λ _. number_read 1 4294967295 s.stripes f.stripes) (λ _. refl) (λ _. refl) (λ _. refl)
-    (λ _. number_read 1 128 s.area_key_size f.area_key_size) (λ _. decimal_read s.offset f.offset) (λ _. decimal_read s.size f.size) (λ _. refl)
-    kdf cpus hash iterations memory salt time kind (λ _. number_read 1 128 s.key_size f.key_size) (λ _. refl) (λ _. refl)
-
-read_by : (s : SlotMembers) (d : Deriving) → FitsDerivation d → FitsSlot s → IsRead keyslot_rows (slot_value_by d s)
-read_by s (by_pbkdf2 hash iterations) fits f =
-    rows_by s (by_pbkdf2 hash iterations) f (λ _. refl) (λ j. absurd (false≢true j)) (λ _. refl) (λ _. number_read 1 4294967295 iterations fits) (λ j. absurd (false≢true j)) (λ _. salt_read s.salt f.salt)
-    (λ j. absurd (false≢true j)) (λ _. refl)
-read_by s (by_argon2i costs) fits f =
-    rows_by s (by_argon2i costs) f (λ _. refl) (λ _. number_read 1 4294967295 costs.cpus fits.cpus) (λ j. absurd (false≢true j)) (λ j. absurd (false≢true j))
-    (λ _. number_read 1 4294967295 costs.memory fits.memory) (λ _. salt_read s.salt f.salt) (λ _. number_read 1 4294967295 costs.time fits.time) (λ _. refl)
-read_by s (by_argon2id costs) fits f =
-    rows_by s (by_argon2id costs) f (λ _. refl) (λ _. number_read 1 4294967295 costs.cpus fits.cpus) (λ j. absurd (false≢true j)) (λ j. absurd (false≢true j))
-    (λ _. number_read 1 4294967295 costs.memory fits.memory) (λ _. salt_read s.salt f.salt) (λ _. number_read 1 4294967295 costs.time fits.time) (λ _. refl)
-
+-- its rows, of which those of the derivation are read
 pub slot_read : (s : SlotMembers) → FitsSlot s → IsRead keyslot_rows (slot_value s)
-slot_read s f = read_by s s.derivation f.derivation f
+slot_read s f =
+    let kdf = made_read s.derivation s.salt f.derivation f.salt in
+    rows_read keyslot_rows (slot_value s) refl (λ _. refl) (λ _. refl) (λ _. number_read 1 4294967295 s.stripes f.stripes) (λ _. refl) (λ _. refl) (λ _. refl)
+    (λ _. number_read 1 128 s.area_key_size f.area_key_size) (λ _. decimal_read s.offset f.offset) (λ _. decimal_read s.size f.size) (λ _. refl)
+    (λ _. map_is_some (λ m. object_field) (as_object (kdf_value s.derivation s.salt)) ∙ kdf.object)
+    kdf.cpus kdf.hash kdf.iterations kdf.memory kdf.salt kdf.time kdf.kind (λ _. number_read 1 128 s.key_size f.key_size) (λ _. refl) (λ _. refl)
 
 -- its numbers are whole, and it nests two levels
 slot_fine : (s : SlotMembers) (d : Deriving) → IsFine 125 (slot_value_by d s)

@@ -1,8 +1,9 @@
 -- The metadata with a changed keyslot: what is there of the old, and that it meets every rule that the old met.
-use Rattle.std.proofs.Common.{◌≡◌, ℕ, ◌≤◌, true, false, List, [], ◌∷◌, length, Option, Some, None, option_map, option_and_then, is_some, bytes_eq, codes, decimal, refl, sym, ap, ◌∙◌, inl, inr, arith}
-use Rattle.std.specs.Prelude.{◌↔◌, slice_get}
+use Rattle.std.proofs.Common.{◌≡◌, ℕ, Bool, true, false, List, [], ◌∷◌, length, Option, Some, None, option_map, option_and_then, is_some, bytes_eq, codes, decimal, refl, sym, ap, subst, ◌∙◌, inl, inr, arith}
+use Rattle.std.specs.Prelude.{◌↔◌, slice_get, IfSome}
 use Rattle.std.specs.List.{list_any}
-use Rattle.std.proofs.lemmas.Bool.{false≢true, cases_Bool, cases_eq, and_from}
+use Rattle.std.specs.Option.{unwrap_or}
+use Rattle.std.proofs.lemmas.Bool.{false≢true, true≢false, cases_Bool, cases_eq, and_from}
 use Rattle.std.proofs.lemmas.Slice.Eq.{bytes_eq-Decides}
 use Rattle.serde_json.specs.Data.{Data, number, string, unsigned}
 use Rattle.serde_json.specs.Find.{get, as_object}
@@ -19,24 +20,27 @@ use Rattle.luks_rules.specs.declared.table.Row.{Row}
 use Rattle.luks_rules.specs.Accepted.{HasObject, IsContent, IsRead}
 use Rattle.luks_rules.specs.Faults.{is_judged, is_section, object_at, outer_at, section_at, suits, type_at, value_at}
 use Rattle.luks_rules.specs.Held.{IsHeld}
-use Rattle.luks_rules.specs.Reading.{bytes_in, decimal_in, number_in, reads}
+use Rattle.luks_rules.specs.Reading.{bytes_in, decimal_in, number_in, reads, text, text_of}
 use Rattle.luks_rules.specs.Reading.{object as object_field}
 use Rattle.luks_rules.specs.Table.{keyslot_rows, member_name, section_name}
-use Rattle.luks_making.specs.Changed.{changed_slot, renewed_area, renewed_kdf, renewed_slot}
+use Rattle.luks_making.specs.declared.derivation.NewDerivation.{NewDerivation}
+use Rattle.luks_making.specs.Changed.{changed_slot, kdf_or, renewed_area, renewed_kdf, renewed_slot, resalted_kdf, splitter_hash}
 use Rattle.luks_making.specs.Changing.{at_member, change_member}
 use Rattle.luks_making.specs.Conditions.{Between, CanSeal, FitsNew, IsSalt}
-use Rattle.luks_making.specs.Keyslots.{NewMembers, base64_text}
+use Rattle.luks_making.specs.Derivations.{FitsNewDerivation, IsPositiveOr}
+use Rattle.luks_making.specs.Keyslots.{NewMembers, base64_text, derivation_by, kdf_value}
 use Rattle.luks_making.specs.Naming.{IsDigestOf}
-use Rattle.luks_making.specs.Unchanged.{ChangesSlot, KeepsOthers, KeepsRest, SaysNew}
+use Rattle.luks_making.specs.Unchanged.{ChangesSlot, KeepsDerivation, KeepsOthers, KeepsRest, SaysAsked, SaysNew}
 use Rattle.luks_making.proofs.EachFacts.{IsFine, KeepsFine, Named, each_changed, fine_at, fine_set, named_map, neither, or_off}
 use Rattle.luks_making.proofs.EditFacts.{ObjectEdit, SlotBack, held_edited, kept, made, naming_kept, naming_same, object_same, objects_kept}
+use Rattle.luks_making.proofs.KdfFacts.{ReadsKdf, chosen_fits, made_fine, made_read, says_derivation, says_salt}
 use Rattle.luks_making.proofs.MemberFacts.{beside, get_changed, get_kept, map_is_some, some_same, through, two_first, two_object, two_others, two_second}
 use Rattle.luks_making.proofs.NameFacts.{HasMore, texts_differ}
 use Rattle.luks_making.proofs.ReadingFacts.{below_32, bytes_are, decimal_is, decimal_read, number_is, number_read, salt_read}
 use Rattle.luks_making.proofs.RowFacts.{RowRead, rows_read}
 
 abbrev counted : NewMembers → Data
-counted f = number (unsigned f.iterations)
+counted f = number (unsigned f.derivation.iterations)
 
 abbrev salted : NewMembers → Data
 salted f = string (base64_text f.salt)
@@ -52,46 +56,65 @@ abbrev edited : Outer → List (List ℕ)
 edited outer.Top = codes "area" ∷ codes "kdf" ∷ []
 edited outer.Af = []
 edited outer.Area = codes "offset" ∷ codes "size" ∷ []
-edited outer.Kdf = codes "iterations" ∷ codes "salt" ∷ []
+edited outer.Kdf = []
 
-module _ (f : NewMembers) (d : Data) where
-  -- ---- the members of the keyslot
+abbrev is_kdf : Outer → Bool
+is_kdf outer.Top = false
+is_kdf outer.Af = false
+is_kdf outer.Area = false
+is_kdf outer.Kdf = true
 
+-- a row whose object and type are as they were is judged as it was
+judged_by : (a b : Data) (r : Row) → is_some (option_and_then as_object (outer_at a r.outer)) ≡ is_some (option_and_then as_object (outer_at b r.outer))
+    → option_and_then (get (codes "type")) (outer_at a r.outer) ≡ option_and_then (get (codes "type")) (outer_at b r.outer) → is_judged a r ≡ is_judged b r
+judged_by a b r there kind = rw (there, kind) refl
+
+objects_by : (g : Data → Data) (v : Option Data) → ((x : Data) → is_some (as_object (g x)) ≡ is_some (as_object x)) → is_some (option_and_then as_object (option_map g v)) ≡ is_some (option_and_then as_object v)
+objects_by g None h = refl
+objects_by g (Some x) h = h x
+
+-- a value that is read is there
+there_by : (q : Rule) (v : Option Data) → is_some (reads q None) ≡ false → is_some (reads q v) ≡ true → (x : Data) × (v ≡ Some x)
+there_by q None off h = absurd (false≢true (sym off ∙ h))
+there_by q (Some x) off h = (x, refl)
+
+-- a member that is put in the place of one is there
+put_by : (v : Option Data) (x : Data) → is_some (option_and_then as_object v) ≡ true → option_map (λ _. x) v ≡ Some x
+put_by None x h = absurd (false≢true h)
+put_by (Some y) x h = refl
+
+-- a text that is there is the text, or what stands for none
+text_or : (t : Option (List ℕ)) → is_some (option_map text t) ≡ true → t ≡ Some (unwrap_or t [])
+text_or None h = absurd (false≢true h)
+text_or (Some t) h = refl
+
+-- ---- a keyslot with a new area, and its derivation changed by any function
+
+module _ (f : NewMembers) (g : Data → Data) (d : Data) where
   abbrev slot : Data
-  slot = renewed_slot f d
+  slot = at_member (codes "kdf") g (at_member (codes "area") (renewed_area f) d)
 
   area_is : get (codes "area") slot ≡ option_map (renewed_area f) (get (codes "area") d)
-  area_is = two_second (codes "kdf") (codes "area") (renewed_kdf f) (renewed_area f) d refl
+  area_is = two_second (codes "kdf") (codes "area") g (renewed_area f) d refl
 
-  kdf_is : get (codes "kdf") slot ≡ option_map (renewed_kdf f) (get (codes "kdf") d)
-  kdf_is = two_first (codes "kdf") (codes "area") (renewed_kdf f) (renewed_area f) d refl
+  kdf_is : get (codes "kdf") slot ≡ option_map g (get (codes "kdf") d)
+  kdf_is = two_first (codes "kdf") (codes "area") g (renewed_area f) d refl
 
   beside_both : KeepsOthers (edited outer.Top) d slot
-  beside_both k off = let p = neither _ _ off in two_others k (codes "kdf") (codes "area") (renewed_kdf f) (renewed_area f) d (neither _ _ p.1).0 p.0
+  beside_both k off = let p = neither _ _ off in two_others k (codes "kdf") (codes "area") g (renewed_area f) d (neither _ _ p.1).0 p.0
 
   -- a member whose value stays
-  member_same : (o : Outer) (k : List ℕ) → list_any (bytes_eq k) (edited o) ≡ false → option_and_then (get k) (outer_at slot o) ≡ option_and_then (get k) (outer_at d o)
-  member_same outer.Top k off = beside_both k off
-  member_same outer.Af k off = ap (option_and_then (get k)) (beside_both (codes "af") refl)
-  member_same outer.Area k off =
+  member_same : (o : Outer) (k : List ℕ) → is_kdf o ≡ false → list_any (bytes_eq k) (edited o) ≡ false → option_and_then (get k) (outer_at slot o) ≡ option_and_then (get k) (outer_at d o)
+  member_same outer.Top k out off = beside_both k off
+  member_same outer.Af k out off = ap (option_and_then (get k)) (beside_both (codes "af") refl)
+  member_same outer.Area k out off =
       let p = neither _ _ off in
       ap (option_and_then (get k)) area_is ∙ beside k (renewed_area f) (get (codes "area") d) (λ x. two_others k (codes "offset") (codes "size") (λ _. placed f) (λ _. sized f) x p.0 (neither _ _ p.1).0)
-  member_same outer.Kdf k off =
-      let p = neither _ _ off in
-      ap (option_and_then (get k)) kdf_is ∙ beside k (renewed_kdf f) (get (codes "kdf") d) (λ x. two_others k (codes "iterations") (codes "salt") (λ _. counted f) (λ _. salted f) x p.0 (neither _ _ p.1).0)
+  member_same outer.Kdf k out off = absurd (true≢false out)
 
   -- a member whose value is new
-  in_kdf : (k : List ℕ) (v : Data) → ((x : Data) → get k (renewed_kdf f x) ≡ option_map (λ _. v) (get k x)) → option_and_then (get k) (get (codes "kdf") slot) ≡ option_map (λ _. v) (option_and_then (get k) (get (codes "kdf") d))
-  in_kdf k v h = ap (option_and_then (get k)) kdf_is ∙ through k (renewed_kdf f) (λ _. v) (get (codes "kdf") d) h
-
   in_area : (k : List ℕ) (v : Data) → ((x : Data) → get k (renewed_area f x) ≡ option_map (λ _. v) (get k x)) → option_and_then (get k) (get (codes "area") slot) ≡ option_map (λ _. v) (option_and_then (get k) (get (codes "area") d))
   in_area k v h = ap (option_and_then (get k)) area_is ∙ through k (renewed_area f) (λ _. v) (get (codes "area") d) h
-
-  new_iterations : option_and_then (get (codes "iterations")) (get (codes "kdf") slot) ≡ option_map (λ _. counted f) (option_and_then (get (codes "iterations")) (get (codes "kdf") d))
-  new_iterations = in_kdf (codes "iterations") (counted f) (λ x. two_first (codes "iterations") (codes "salt") (λ _. counted f) (λ _. salted f) x refl)
-
-  new_salt : option_and_then (get (codes "salt")) (get (codes "kdf") slot) ≡ option_map (λ _. salted f) (option_and_then (get (codes "salt")) (get (codes "kdf") d))
-  new_salt = in_kdf (codes "salt") (salted f) (λ x. two_second (codes "iterations") (codes "salt") (λ _. counted f) (λ _. salted f) x refl)
 
   new_offset : option_and_then (get (codes "offset")) (get (codes "area") slot) ≡ option_map (λ _. placed f) (option_and_then (get (codes "offset")) (get (codes "area") d))
   new_offset = in_area (codes "offset") (placed f) (λ x. two_first (codes "offset") (codes "size") (λ _. placed f) (λ _. sized f) x refl)
@@ -102,94 +125,211 @@ module _ (f : NewMembers) (d : Data) where
   -- ---- which rows are judged
 
   still_slot : is_some (as_object slot) ≡ is_some (as_object d)
-  still_slot = two_object (codes "kdf") (codes "area") (renewed_kdf f) (renewed_area f) d
+  still_slot = two_object (codes "kdf") (codes "area") g (renewed_area f) d
 
-  objects_by : (g : Data → Data) (v : Option Data) → ((x : Data) → is_some (as_object (g x)) ≡ is_some (as_object x)) → is_some (option_and_then as_object (option_map g v)) ≡ is_some (option_and_then as_object v)
-  objects_by g None h = refl
-  objects_by g (Some x) h = h x
-
-  object_stays : (o : Outer) → is_some (option_and_then as_object (outer_at slot o)) ≡ is_some (option_and_then as_object (outer_at d o))
-  object_stays outer.Top = still_slot
-  object_stays outer.Af = ap (λ v. is_some (option_and_then as_object v)) (beside_both (codes "af") refl)
-  object_stays outer.Area =
+  object_stays : (o : Outer) → is_kdf o ≡ false → is_some (option_and_then as_object (outer_at slot o)) ≡ is_some (option_and_then as_object (outer_at d o))
+  object_stays outer.Top out = still_slot
+  object_stays outer.Af out = ap (λ v. is_some (option_and_then as_object v)) (beside_both (codes "af") refl)
+  object_stays outer.Area out =
       ap (λ v. is_some (option_and_then as_object v)) area_is ∙ objects_by (renewed_area f) (get (codes "area") d) (two_object (codes "offset") (codes "size") (λ _. placed f) (λ _. sized f))
-  object_stays outer.Kdf =
-      ap (λ v. is_some (option_and_then as_object v)) kdf_is ∙ objects_by (renewed_kdf f) (get (codes "kdf") d) (two_object (codes "iterations") (codes "salt") (λ _. counted f) (λ _. salted f))
+  object_stays outer.Kdf out = absurd (true≢false out)
 
   type_off : (o : Outer) → list_any (bytes_eq (codes "type")) (edited o) ≡ false
   type_off outer.Top = refl
   type_off o = refl
 
   -- the same as before
-  judged_same : (r : Row) → is_judged slot r ≡ is_judged d r
-  judged_same r = rw (object_stays r.outer, member_same r.outer (codes "type") (type_off r.outer)) refl
+  judged_same : (r : Row) → is_kdf r.outer ≡ false → is_judged slot r ≡ is_judged d r
+  judged_same r out = judged_by slot d r (object_stays r.outer out) (member_same r.outer (codes "type") out (type_off r.outer))
 
   -- ---- the rows
 
   module _ (read : IsRead keyslot_rows d) where
-    kept_row : (i : ℕ) (r : Row) → slice_get keyslot_rows i ≡ Some r → list_any (bytes_eq (member_name r.name)) (edited r.outer) ≡ false → RowRead slot r
-    kept_row i r here off judged = ap (λ v. is_some (reads r.rule v)) (member_same r.outer (member_name r.name) off) ∙ read.each i r here (sym (judged_same r) ∙ judged)
+    kept_row : (i : ℕ) (r : Row) → slice_get keyslot_rows i ≡ Some r → is_kdf r.outer ≡ false → list_any (bytes_eq (member_name r.name)) (edited r.outer) ≡ false → RowRead slot r
+    kept_row i r here out off judged = ap (λ v. is_some (reads r.rule v)) (member_same r.outer (member_name r.name) out off) ∙ read.each i r here (sym (judged_same r out) ∙ judged)
 
     renewed_by : (q : Rule) (v : Option Data) (x : Data) → is_some (reads q v) ≡ true → is_some (reads q (Some x)) ≡ true → is_some (reads q (option_map (λ _. x) v)) ≡ true
     renewed_by q None x h k = h
     renewed_by q (Some y) x h k = k
 
-    new_row : (i : ℕ) (r : Row) (x : Data) → slice_get keyslot_rows i ≡ Some r → value_at slot r ≡ option_map (λ _. x) (value_at d r) → is_some (reads r.rule (Some x)) ≡ true → RowRead slot r
-    new_row i r x here is fits judged =
-        ap (λ v. is_some (reads r.rule v)) is ∙ renewed_by r.rule (value_at d r) x (read.each i r here (sym (judged_same r) ∙ judged)) fits
+    new_row : (i : ℕ) (r : Row) (x : Data) → slice_get keyslot_rows i ≡ Some r → is_kdf r.outer ≡ false → value_at slot r ≡ option_map (λ _. x) (value_at d r) → is_some (reads r.rule (Some x)) ≡ true → RowRead slot r
+    new_row i r x here out is fits judged =
+        ap (λ v. is_some (reads r.rule v)) is ∙ renewed_by r.rule (value_at d r) x (read.each i r here (sym (judged_same r out) ∙ judged)) fits
 
-    object_row : (i : ℕ) (r : Row) → slice_get keyslot_rows i ≡ Some r → r.rule ≡ rule.Object
-        → is_some (option_and_then as_object (value_at slot r)) ≡ is_some (option_and_then as_object (value_at d r)) → RowRead slot r
-    object_row i r here is same judged =
-        let was : is_some (reads rule.Object (value_at d r)) ≡ true = rw is at (read.each i r here (sym (judged_same r) ∙ judged)) in
-        rw is (map_is_some (λ m. object_field) (option_and_then as_object (value_at slot r)) ∙ (same ∙ (sym (map_is_some (λ m. object_field) (option_and_then as_object (value_at d r))) ∙ was)))
+    was_object : (i : ℕ) (r : Row) → slice_get keyslot_rows i ≡ Some r → r.rule ≡ rule.Object → is_judged d r ≡ true → is_some (option_and_then as_object (value_at d r)) ≡ true
+    was_object i r here is judged =
+        let read_it : is_some (reads rule.Object (value_at d r)) ≡ true = rw is at (read.each i r here judged) in
+        sym (map_is_some (λ m. object_field) (option_and_then as_object (value_at d r))) ∙ read_it
 
-    module _ (new : FitsNew f) (one : 1 ≤ f.iterations) (long : Between 1 128 (length f.salt)) where
-      -- the keyslot meets the rules
-      renewed_read : IsRead keyslot_rows slot
-      renewed_read =
-          let salt : IsSalt f.salt = record { are_bytes = new.salt; long = long } in
-          rows_read keyslot_rows slot (still_slot ∙ read.is_object) (kept_row 0 _ refl refl) (kept_row 1 _ refl refl) (kept_row 2 _ refl refl) (kept_row 3 _ refl refl)
-          (object_row 4 _ refl refl (object_stays outer.Area)) (kept_row 5 _ refl refl) (kept_row 6 _ refl refl) (new_row 7 _ (placed f) refl new_offset (decimal_read f.offset new.offset))
-          (new_row 8 _ (sized f) refl new_size (decimal_read f.size new.size)) (kept_row 9 _ refl refl) (object_row 10 _ refl refl (object_stays outer.Kdf)) (kept_row 11 _ refl refl) (kept_row 12 _ refl refl)
-          (new_row 13 _ (counted f) refl new_iterations (number_read 1 4294967295 f.iterations (below_32 f.iterations one new.iterations))) (kept_row 14 _ refl refl)
-          (new_row 15 _ (salted f) refl new_salt (salt_read f.salt salt)) (kept_row 16 _ refl refl) (kept_row 17 _ refl refl) (kept_row 18 _ refl refl) (kept_row 19 _ refl refl) (kept_row 20 _ refl refl)
+    has_af : is_some (option_and_then as_object (get (codes "af") d)) ≡ true
+    has_af = was_object 0 _ refl refl (and_from _ _ read.is_object refl)
 
-      -- ---- what the keyslot says
+    has_area : is_some (option_and_then as_object (get (codes "area") d)) ≡ true
+    has_area = was_object 4 _ refl refl (and_from _ _ read.is_object refl)
 
-      -- a value that is read is there
-      there_by : (q : Rule) (v : Option Data) → is_some (reads q None) ≡ false → is_some (reads q v) ≡ true → (x : Data) × (v ≡ Some x)
-      there_by q None off h = absurd (false≢true (sym off ∙ h))
-      there_by q (Some x) off h = (x, refl)
+    has_kdf : is_some (option_and_then as_object (get (codes "kdf") d)) ≡ true
+    has_kdf = was_object 10 _ refl refl (and_from _ _ read.is_object refl)
 
-      was_object : (i : ℕ) (r : Row) → slice_get keyslot_rows i ≡ Some r → r.rule ≡ rule.Object → is_judged d r ≡ true → is_some (option_and_then as_object (value_at d r)) ≡ true
-      was_object i r here is judged =
-          let read_it : is_some (reads rule.Object (value_at d r)) ≡ true = rw is at (read.each i r here judged) in
-          sym (map_is_some (λ m. object_field) (option_and_then as_object (value_at d r))) ∙ read_it
+    -- a row whose member is an object
+    object_row : (i : ℕ) (r : Row) → slice_get keyslot_rows i ≡ Some r → r.rule ≡ rule.Object → is_some (option_and_then as_object (value_at slot r)) ≡ true → RowRead slot r
+    object_row i r here is there judged = rw is (map_is_some (λ m. object_field) (option_and_then as_object (value_at slot r)) ∙ there)
 
-      has_area : is_some (option_and_then as_object (get (codes "area") d)) ≡ true
-      has_area = was_object 4 _ refl refl (and_from _ _ read.is_object refl)
+    -- the keyslot meets the rules once its derivation does
+    read_with : FitsNew f → ReadsKdf (get (codes "kdf") slot) → IsRead keyslot_rows slot
+    read_with new kdf =
+        rows_read keyslot_rows slot (still_slot ∙ read.is_object) (kept_row 0 _ refl refl refl) (kept_row 1 _ refl refl refl) (kept_row 2 _ refl refl refl) (kept_row 3 _ refl refl refl)
+        (object_row 4 _ refl refl (object_stays outer.Area refl ∙ has_area)) (kept_row 5 _ refl refl refl) (kept_row 6 _ refl refl refl) (new_row 7 _ (placed f) refl refl new_offset (decimal_read f.offset new.offset))
+        (new_row 8 _ (sized f) refl refl new_size (decimal_read f.size new.size)) (kept_row 9 _ refl refl refl) (object_row 10 _ refl refl kdf.object) kdf.cpus kdf.hash kdf.iterations kdf.memory kdf.salt kdf.time kdf.kind
+        (kept_row 18 _ refl refl refl) (kept_row 19 _ refl refl refl) (kept_row 20 _ refl refl refl)
 
-      has_kdf : is_some (option_and_then as_object (get (codes "kdf") d)) ≡ true
-      has_kdf = was_object 10 _ refl refl (and_from _ _ read.is_object refl)
+    -- ---- what its area says
 
-      says_new : SaysNew f d slot
-      says_new =
-          let offset = there_by rule.Decimal (option_and_then (get (codes "offset")) (get (codes "area") d)) refl (read.each 7 _ refl (and_from _ _ has_area refl)) in
-          let size = there_by rule.Decimal (option_and_then (get (codes "size")) (get (codes "area") d)) refl (read.each 8 _ refl (and_from _ _ has_area refl)) in
-          let salt = there_by (rule.Base64 1 128) (option_and_then (get (codes "salt")) (get (codes "kdf") d)) refl (read.each 15 _ refl (and_from _ _ has_kdf refl)) in
-          record {
-            iterations = λ derived. (
-                let suited : suits when.Pbkdf2 (type_at d outer.Kdf) ≡ true = rw derived refl in
-                let iterations = there_by (rule.Number 1 4294967295) (option_and_then (get (codes "iterations")) (get (codes "kdf") d)) refl (read.each 13 _ refl (and_from _ _ has_kdf suited)) in
-                ap (number_in 1 4294967295) (new_iterations ∙ ap (option_map (λ _. counted f)) iterations.1) ∙ number_is 1 4294967295 f.iterations (below_32 f.iterations one new.iterations));
-            salt = ap (bytes_in 1 128) (new_salt ∙ ap (option_map (λ _. salted f)) salt.1) ∙ bytes_are 1 128 f.salt (omega arith) new.salt long;
-            offset = ap decimal_in (new_offset ∙ ap (option_map (λ _. placed f)) offset.1) ∙ decimal_is f.offset new.offset;
-            size = ap decimal_in (new_size ∙ ap (option_map (λ _. sized f)) size.1) ∙ decimal_is f.size new.size;
-            members = beside_both;
-            area = member_same outer.Area;
-            kdf = member_same outer.Kdf;
-          }
+    offset_is : FitsNew f → decimal_in (option_and_then (get (codes "offset")) (get (codes "area") slot)) ≡ Some f.offset
+    offset_is new =
+        let was = there_by rule.Decimal (option_and_then (get (codes "offset")) (get (codes "area") d)) refl (read.each 7 _ refl (and_from _ _ has_area refl)) in
+        ap decimal_in (new_offset ∙ ap (option_map (λ _. placed f)) was.1) ∙ decimal_is f.offset new.offset
+
+    size_is : FitsNew f → decimal_in (option_and_then (get (codes "size")) (get (codes "area") slot)) ≡ Some f.size
+    size_is new =
+        let was = there_by rule.Decimal (option_and_then (get (codes "size")) (get (codes "area") d)) refl (read.each 8 _ refl (and_from _ _ has_area refl)) in
+        ap decimal_in (new_size ∙ ap (option_map (λ _. sized f)) was.1) ∙ decimal_is f.size new.size
+
+    -- the hash of its splitter is as it was
+    splitter_is : text_of (option_and_then (get (codes "hash")) (get (codes "af") slot)) ≡ Some (splitter_hash d)
+    splitter_is =
+        ap text_of (member_same outer.Af (codes "hash") refl refl)
+        ∙ text_or (text_of (option_and_then (get (codes "hash")) (get (codes "af") d))) (read.each 1 _ refl (and_from _ _ has_af refl))
+
+-- ---- its derivation is as it was, but for the salt and the iterations
+
+module _ (f : NewMembers) (d : Data) (read : IsRead keyslot_rows d) where
+  abbrev resalted : Data
+  resalted = slot f (resalted_kdf f) d
+
+  abbrev old_kdf : Option Data
+  old_kdf = get (codes "kdf") d
+
+  resalted_is : get (codes "kdf") resalted ≡ option_map (resalted_kdf f) old_kdf
+  resalted_is = kdf_is f (resalted_kdf f) d
+
+  kdf_same : (k : List ℕ) → list_any (bytes_eq k) (codes "iterations" ∷ codes "salt" ∷ []) ≡ false → option_and_then (get k) (get (codes "kdf") resalted) ≡ option_and_then (get k) old_kdf
+  kdf_same k off =
+      let p = neither _ _ off in
+      ap (option_and_then (get k)) resalted_is ∙ beside k (resalted_kdf f) old_kdf (λ x. two_others k (codes "iterations") (codes "salt") (λ _. counted f) (λ _. salted f) x p.0 (neither _ _ p.1).0)
+
+  in_kdf : (k : List ℕ) (v : Data) → ((x : Data) → get k (resalted_kdf f x) ≡ option_map (λ _. v) (get k x)) → option_and_then (get k) (get (codes "kdf") resalted) ≡ option_map (λ _. v) (option_and_then (get k) old_kdf)
+  in_kdf k v h = ap (option_and_then (get k)) resalted_is ∙ through k (resalted_kdf f) (λ _. v) old_kdf h
+
+  new_iterations : option_and_then (get (codes "iterations")) (get (codes "kdf") resalted) ≡ option_map (λ _. counted f) (option_and_then (get (codes "iterations")) old_kdf)
+  new_iterations = in_kdf (codes "iterations") (counted f) (λ x. two_first (codes "iterations") (codes "salt") (λ _. counted f) (λ _. salted f) x refl)
+
+  new_salt : option_and_then (get (codes "salt")) (get (codes "kdf") resalted) ≡ option_map (λ _. salted f) (option_and_then (get (codes "salt")) old_kdf)
+  new_salt = in_kdf (codes "salt") (salted f) (λ x. two_second (codes "iterations") (codes "salt") (λ _. counted f) (λ _. salted f) x refl)
+
+  kdf_stays : is_some (option_and_then as_object (get (codes "kdf") resalted)) ≡ is_some (option_and_then as_object old_kdf)
+  kdf_stays = ap (λ v. is_some (option_and_then as_object v)) resalted_is ∙ objects_by (resalted_kdf f) old_kdf (two_object (codes "iterations") (codes "salt") (λ _. counted f) (λ _. salted f))
+
+  -- its rows are judged as before
+  judged_kdf : (r : Row) → r.outer ≡ outer.Kdf → is_judged resalted r ≡ is_judged d r
+  judged_kdf r inside = judged_by resalted d r (rw inside kdf_stays) (rw inside (kdf_same (codes "type") refl))
+
+  kept_kdf : (i : ℕ) (r : Row) → slice_get keyslot_rows i ≡ Some r → r.outer ≡ outer.Kdf → list_any (bytes_eq (member_name r.name)) (codes "iterations" ∷ codes "salt" ∷ []) ≡ false → RowRead resalted r
+  kept_kdf i r here inside off judged =
+      let same : value_at resalted r ≡ value_at d r = rw inside (kdf_same (member_name r.name) off) in
+      ap (λ v. is_some (reads r.rule v)) same ∙ read.each i r here (sym (judged_kdf r inside) ∙ judged)
+
+  new_kdf : (i : ℕ) (r : Row) (x : Data) → slice_get keyslot_rows i ≡ Some r → r.outer ≡ outer.Kdf → value_at resalted r ≡ option_map (λ _. x) (value_at d r) → is_some (reads r.rule (Some x)) ≡ true → RowRead resalted r
+  new_kdf i r x here inside is fits judged =
+      ap (λ v. is_some (reads r.rule v)) is
+      ∙ renewed_by f (resalted_kdf f) d read r.rule (value_at d r) x (read.each i r here (sym (judged_kdf r inside) ∙ judged)) fits
+
+  module _ (fits : Between 1 4294967295 f.derivation.iterations) (salt : IsSalt f.salt) where
+    resalted_reads : ReadsKdf (get (codes "kdf") resalted)
+    resalted_reads = record {
+      object = kdf_stays ∙ has_kdf f (resalted_kdf f) d read;
+      cpus = kept_kdf 11 _ refl refl refl;
+      hash = kept_kdf 12 _ refl refl refl;
+      iterations = new_kdf 13 _ (counted f) refl refl new_iterations (number_read 1 4294967295 f.derivation.iterations fits);
+      memory = kept_kdf 14 _ refl refl refl;
+      salt = new_kdf 15 _ (salted f) refl refl new_salt (salt_read f.salt salt);
+      time = kept_kdf 16 _ refl refl refl;
+      kind = kept_kdf 17 _ refl refl refl;
+    }
+
+    -- what it says of its derivation
+    keeps_derivation : KeepsDerivation f.derivation.iterations d resalted
+    keeps_derivation = record {
+      iterations = λ derived. (
+          let suited : suits when.Pbkdf2 (type_at d outer.Kdf) ≡ true = rw derived refl in
+          let was = there_by (rule.Number 1 4294967295) (option_and_then (get (codes "iterations")) old_kdf) refl (read.each 13 _ refl (and_from _ _ (has_kdf f (resalted_kdf f) d read) suited)) in
+          ap (number_in 1 4294967295) (new_iterations ∙ ap (option_map (λ _. counted f)) was.1) ∙ number_is 1 4294967295 f.derivation.iterations fits);
+      others = kdf_same;
+    }
+
+    resalted_says : bytes_in 1 128 (option_and_then (get (codes "salt")) (get (codes "kdf") resalted)) ≡ Some f.salt
+    resalted_says =
+        let was = there_by (rule.Base64 1 128) (option_and_then (get (codes "salt")) old_kdf) refl (read.each 15 _ refl (and_from _ _ (has_kdf f (resalted_kdf f) d read) refl)) in
+        ap (bytes_in 1 128) (new_salt ∙ ap (option_map (λ _. salted f)) was.1) ∙ bytes_are 1 128 f.salt (omega arith) salt.are_bytes salt.long
+
+-- ---- whatever is asked of its derivation
+
+module _ (f : NewMembers) (d : Data) (read : IsRead keyslot_rows d) (new : FitsNew f) (long : Between 1 128 (length f.salt)) where
+  abbrev hash : List ℕ
+  hash = splitter_hash d
+
+  abbrev asked_slot : Option NewDerivation → Data
+  asked_slot chosen = slot f (kdf_or f hash chosen) d
+
+  salt_is : IsSalt f.salt
+  salt_is = record { are_bytes = new.salt; long = long }
+
+  -- the chosen derivation stands in it
+  chosen_is : (c : NewDerivation) → get (codes "kdf") (asked_slot (Some c)) ≡ Some (kdf_value (derivation_by hash c) f.salt)
+  chosen_is c = kdf_is f (kdf_or f hash (Some c)) d ∙ put_by (get (codes "kdf") d) (kdf_value (derivation_by hash c) f.salt) (has_kdf f (kdf_or f hash (Some c)) d read)
+
+  abbrev Counts : Option NewDerivation → Type 0
+  Counts chosen = IfSome chosen FitsNewDerivation × IsPositiveOr f.derivation.iterations chosen
+
+  turns : IsPositiveOr f.derivation.iterations None → Between 1 4294967295 f.derivation.iterations
+  turns one = below_32 f.derivation.iterations one new.derivation.iterations
+
+  -- the keyslot meets the rules
+  read_by : (chosen : Option NewDerivation) → Counts chosen → IsRead keyslot_rows (asked_slot chosen)
+  read_by None fits = read_with f (kdf_or f hash None) d read new (resalted_reads f d read (turns fits.1) salt_is)
+  read_by (Some c) fits =
+      read_with f (kdf_or f hash (Some c)) d read new
+      (subst ReadsKdf (sym (chosen_is c)) (made_read (derivation_by hash c) f.salt (chosen_fits hash f.derivation.iterations c fits.0 fits.1) salt_is))
+
+  -- and says what is asked
+  asked_says : (chosen : Option NewDerivation) → Counts chosen → SaysAsked f chosen d (asked_slot chosen)
+  asked_says None fits = keeps_derivation f d read (turns fits.1) salt_is
+  asked_says (Some c) fits = record {
+    hash = hash;
+    splitter = splitter_is f (kdf_or f hash (Some c)) d read;
+    derivation = says_derivation (derivation_by hash c) f.salt (asked_slot (Some c)) (chosen_is c) (chosen_fits hash f.derivation.iterations c fits.0 fits.1);
+    whole = chosen_is c;
+  }
+
+  salt_says : (chosen : Option NewDerivation) → Counts chosen → bytes_in 1 128 (option_and_then (get (codes "salt")) (get (codes "kdf") (asked_slot chosen))) ≡ Some f.salt
+  salt_says None fits = resalted_says f d read (turns fits.1) salt_is
+  salt_says (Some c) fits = says_salt (derivation_by hash c) f.salt (asked_slot (Some c)) (chosen_is c) salt_is
+
+  module _ (one : IsPositiveOr f.derivation.iterations f.derivation.chosen) where
+    abbrev kdf : Data → Data
+    kdf = renewed_kdf f hash
+
+    renewed_read : IsRead keyslot_rows (renewed_slot f d)
+    renewed_read = read_by f.derivation.chosen (new.derivation.chosen, one)
+
+    says_new : SaysNew f d (renewed_slot f d)
+    says_new = record {
+      derivation = asked_says f.derivation.chosen (new.derivation.chosen, one);
+      salt = salt_says f.derivation.chosen (new.derivation.chosen, one);
+      offset = offset_is f kdf d read new;
+      size = size_is f kdf d read new;
+      members = beside_both f kdf d;
+      area = λ k. member_same f kdf d outer.Area k refl;
+    }
 
 module _ (n : ℕ) (f : NewMembers) (j : Data) where
   -- ---- sections and objects
@@ -249,8 +389,9 @@ module _ (n : ℕ) (f : NewMembers) (j : Data) where
 
   -- ---- whole numbers and nesting
 
-  fine_kdf : KeepsFine 124 (renewed_kdf f)
-  fine_kdf d h = fine_set 123 (codes "iterations") (counted f) (record { whole = refl; nests = omega arith }) _ (fine_set 123 (codes "salt") (salted f) (record { whole = refl; nests = omega arith }) d h)
+  fine_kdf : (hash : List ℕ) (chosen : Option NewDerivation) → KeepsFine 124 (kdf_or f hash chosen)
+  fine_kdf hash None d h = fine_set 123 (codes "iterations") (counted f) (record { whole = refl; nests = omega arith }) _ (fine_set 123 (codes "salt") (salted f) (record { whole = refl; nests = omega arith }) d h)
+  fine_kdf hash (Some c) d h = made_fine (derivation_by hash c) f.salt
 
   fine_area : KeepsFine 124 (renewed_area f)
   fine_area d h = fine_set 123 (codes "offset") (placed f) (record { whole = refl; nests = omega arith }) _ (fine_set 123 (codes "size") (sized f) (record { whole = refl; nests = omega arith }) d h)
@@ -258,7 +399,7 @@ module _ (n : ℕ) (f : NewMembers) (j : Data) where
   -- at most 127 levels, 126 below a section, 125 below a keyslot
   fine_changed : IsFine 127 j → IsFine 127 changed
   fine_changed h =
-      fine_at 126 (codes "keyslots") into (fine_at 125 (number_text n) (renewed_slot f) (λ d x. fine_at 124 (codes "kdf") (renewed_kdf f) fine_kdf _ (fine_at 124 (codes "area") (renewed_area f) fine_area d x))) j h
+      fine_at 126 (codes "keyslots") into (fine_at 125 (number_text n) (renewed_slot f) (λ d x. fine_at 124 (codes "kdf") (renewed_kdf f (splitter_hash d)) (fine_kdf (splitter_hash d) f.derivation.chosen) _ (fine_at 124 (codes "area") (renewed_area f) fine_area d x))) j h
 
   -- ---- the rules
 
@@ -280,18 +421,19 @@ module _ (n : ℕ) (f : NewMembers) (j : Data) where
     was_read = c.objects Keyslots n can.slot.object can.slot.there
 
     says : SaysNew f can.slot.object (renewed_slot f can.slot.object)
-    says = says_new f can.slot.object was_read new can.iterations can.salt
+    says = says_new f can.slot.object was_read new can.salt can.derivation
 
     slot_back : (i : ℕ) (d : Data) → HasObject changed Keyslots i d → SlotBack len j i d
     slot_back i d h = elim (cases_eq i n) [
       | inl same ↦ (
           let old = can.slot.object in
+          let kdf = renewed_kdf f (splitter_hash old) in
           let there : object_at changed Keyslots n ≡ Some d = rw same at h.is in
           let is : renewed_slot f old ≡ d = some_same _ d (sym slot_now ∙ there) in
-          rw (← is) (made (renewed_read f old was_read new can.iterations can.salt) (λ key stripes size a b z.
+          rw (← is) (made (renewed_read f old was_read new can.salt can.derivation) (λ key stripes size a b z.
           let y : f.size ≡ size = some_same f.size size (sym says.size ∙ z) in
-          rw (← y) (can.large key stripes (ap (number_in 1 128) (sym (member_same f old outer.Top (codes "key_size") refl)) ∙ a)
-          (ap (number_in 1 4294967295) (sym (member_same f old outer.Af (codes "stripes") refl)) ∙ b))) (λ bytes start size region o z.
+          rw (← y) (can.large key stripes (ap (number_in 1 128) (sym (member_same f kdf old outer.Top (codes "key_size") refl refl)) ∙ a)
+          (ap (number_in 1 4294967295) (sym (member_same f kdf old outer.Af (codes "stripes") refl refl)) ∙ b))) (λ bytes start size region o z.
           let x : f.offset ≡ start = some_same f.offset start (sym says.offset ∙ o) in
           let y : f.size ≡ size = some_same f.size size (sym says.size ∙ z) in
           rw (← x, ← y) (can.within bytes region))))

@@ -3,6 +3,7 @@ mod MemberFacts
 pub mod NameFacts
 mod RowFacts
 mod EditFacts
+pub mod KdfFacts
 pub mod RemovalFacts
 pub mod ReadingFacts
 pub mod AdditionFacts

@@ -13,6 +13,7 @@ use Rattle.luks_rules.specs.Reading.{number_in}
 use Rattle.luks_rules.specs.Sizes.{inside_at, keyslots_size, region_start}
 use Rattle.luks_making.specs.Formatted.{VolumeMembers}
 use Rattle.luks_making.specs.declared.derivation.Argon2Costs.{Argon2Costs}
+use Rattle.luks_making.specs.Derivations.{FitsAsked, IsPositive}
 use Rattle.luks_making.specs.Keyslots.{Deriving, by_pbkdf2, by_argon2i, by_argon2id, NewMembers, SlotMembers}
 
 pub record Between (least most n : ℕ) : Type 0 where
@@ -45,15 +46,16 @@ pub record IsThere (j : Data) (n : ℕ) : Type 0 where
 
 -- what is new has the ranges of its types: 32 bits, bytes, 64 bits
 pub record FitsNew (f : NewMembers) : Type 0 where
-  pub iterations : f.iterations < 2 ^ 32
+  pub derivation : FitsAsked f.derivation
   pub salt : IsBytes f.salt
   pub offset : f.offset < 2 ^ 64
   pub size : f.size < 2 ^ 64
 
--- what is new suits the keyslot `n`: its area is large enough for the key and lies in the region
+-- what is new suits the keyslot `n`: no iterations or cost of its derivation are 0, and its area is
+-- large enough for the key and lies in the region
 pub record CanSeal (len : ℕ) (j : Data) (n : ℕ) (f : NewMembers) : Type 0 where
   pub slot : IsThere j n
-  pub iterations : 1 ≤ f.iterations
+  pub derivation : IsPositive f.derivation
   pub salt : Between 1 128 (length f.salt)
   pub large : (key stripes : ℕ)
       → number_in 1 128 (inside_at outer.Top (codes "key_size") slot.object) ≡ Some key

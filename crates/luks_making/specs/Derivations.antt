@@ -1,16 +1,11 @@
 -- How the key of a keyslot that is made is to be derived, and what of it is refused.
-use Rattle.std.specs.Prelude.{◌≡◌, ℕ, ◌-◌, ◌*◌, ◌^◌, ◌<◌, ◌||◌, nat_lt, List, Bool, true, false, Option, Some, None, IfSome}
+use Rattle.std.specs.Prelude.{◌≡◌, ℕ, ◌-◌, ◌*◌, ◌^◌, ◌<◌, ◌≤◌, ◌||◌, nat_lt, Bool, true, false, Option, Some, None, IfSome}
 use Rattle.luks_making.specs.Keyslots.{Deriving, by_pbkdf2, by_argon2i, by_argon2id}
+pub use Rattle.luks_making.specs.Keyslots.{derivation_by}
 use Rattle.luks_making.specs.declared.derivation.Argon2Costs.{Argon2Costs}
 use Rattle.luks_making.specs.declared.derivation.AskedDerivation.{AskedDerivation}
 use Rattle.luks_making.specs.declared.derivation.NewDerivation.{NewDerivation}
 use Rattle.luks_making.specs.declared.derivation.NewDerivation.TheVariants.{Pbkdf2, Argon2i, Argon2id}
-
--- the derivation that is chosen for a keyslot whose splitter has this hash
-abbrev pub derivation_by : List ℕ → NewDerivation → Deriving
-derivation_by hash (Pbkdf2 iterations) = by_pbkdf2 hash iterations
-derivation_by hash (Argon2i costs) = by_argon2i costs
-derivation_by hash (Argon2id costs) = by_argon2id costs
 
 -- how many KiB of memory a keyslot takes that is so derived
 abbrev pub memory_by : Deriving → ℕ
@@ -87,3 +82,17 @@ FitsNewDerivation (Argon2id costs) = FitsCosts costs
 pub record FitsAsked (asked : AskedDerivation) : Type 0 where
   pub iterations : asked.iterations < 2 ^ 32
   pub chosen : IfSome asked.chosen FitsNewDerivation
+
+-- none of the numbers is 0
+abbrev pub ArePositive : Argon2Costs → Type 0
+ArePositive costs = (1 ≤ costs.time) × (1 ≤ costs.memory) × (1 ≤ costs.cpus)
+
+-- those of what is chosen, or the iterations where nothing is
+abbrev pub IsPositiveOr : ℕ → Option NewDerivation → Type 0
+IsPositiveOr iterations None = 1 ≤ iterations
+IsPositiveOr iterations (Some (Pbkdf2 own)) = 1 ≤ own
+IsPositiveOr iterations (Some (Argon2i costs)) = ArePositive costs
+IsPositiveOr iterations (Some (Argon2id costs)) = ArePositive costs
+
+abbrev pub IsPositive : AskedDerivation → Type 0
+IsPositive asked = IsPositiveOr asked.iterations asked.chosen

@@ -1,5 +1,5 @@
 -- The value of a keyslot that is made, and what is new of one.
-use Rattle.std.specs.Prelude.{◌≡◌, ℕ, List, true, Some, codes, decimal}
+use Rattle.std.specs.Prelude.{◌≡◌, ℕ, List, true, Option, Some, None, codes, decimal}
 use Rattle.base64.specs.Rfc4648.{encode}
 use Rattle.serde_json.specs.Data.{Data, number, string, object, Members, no_members, member, unsigned}
 use Rattle.luks_json.specs.Encoded.{alphabet}
@@ -8,6 +8,9 @@ use Rattle.luks_rules.specs.Faults.{type_at}
 use Rattle.luks_rules.specs.Reading.{number_in, text_of}
 use Rattle.luks_rules.specs.Sizes.{inside_at}
 use Rattle.luks_making.specs.declared.derivation.Argon2Costs.{Argon2Costs}
+use Rattle.luks_making.specs.declared.derivation.AskedDerivation.{AskedDerivation}
+use Rattle.luks_making.specs.declared.derivation.NewDerivation.{NewDerivation}
+use Rattle.luks_making.specs.declared.derivation.NewDerivation.TheVariants as chosen
 use Rattle.luks_making.specs.declared.new_keyslot.New.{New}
 use Rattle.luks_making.specs.declared.new_keyslot.KeyslotDerivation.{KeyslotDerivation}
 use Rattle.luks_making.specs.declared.new_keyslot.KeyslotDerivation.TheVariants.{Pbkdf2, Argon2i, Argon2id}
@@ -23,6 +26,12 @@ abbrev pub derivation_of : KeyslotDerivation → Deriving
 derivation_of (Pbkdf2 hash iterations) = by_pbkdf2 hash.now iterations
 derivation_of (Argon2i costs) = by_argon2i costs
 derivation_of (Argon2id costs) = by_argon2id costs
+
+-- the derivation that is chosen for a keyslot whose splitter has this hash
+abbrev pub derivation_by : List ℕ → NewDerivation → Deriving
+derivation_by hash (chosen.Pbkdf2 iterations) = by_pbkdf2 hash iterations
+derivation_by hash (chosen.Argon2i costs) = by_argon2i costs
+derivation_by hash (chosen.Argon2id costs) = by_argon2id costs
 
 -- what a keyslot that is made says
 pub record SlotMembers : Type 0 where
@@ -49,17 +58,16 @@ slot_members s = record {
   salt = s.salt.now;
 }
 
--- what is new of a keyslot that is sealed again, or made with the members of another; PBKDF2 alone has
--- iterations
+-- what is new of a keyslot that is sealed again, or made with the members of another
 pub record NewMembers : Type 0 where
-  pub iterations : ℕ
+  pub derivation : AskedDerivation
   pub salt : List ℕ
   pub offset : ℕ
   pub size : ℕ
 
 abbrev pub new_members : New → NewMembers
 new_members f = record {
-  iterations = f.iterations;
+  derivation = f.derivation;
   salt = f.salt.now;
   offset = f.offset;
   size = f.size;
@@ -137,6 +145,11 @@ IsDerivedLike d n (by_pbkdf2 hash iterations) = (type_at d outer.Kdf ≡ Some (c
 IsDerivedLike d n (by_argon2i costs) = (type_at d outer.Kdf ≡ Some (codes "argon2i")) × HasCosts d costs
 IsDerivedLike d n (by_argon2id costs) = (type_at d outer.Kdf ≡ Some (codes "argon2id")) × HasCosts d costs
 
+-- or it is the one that is chosen, PBKDF2 by the hash of the splitter of the keyslot that is made
+abbrev pub IsDerivedOr : Data → ℕ → List ℕ → Option NewDerivation → Deriving → Type 0
+IsDerivedOr d n hash None derivation = IsDerivedLike d n derivation
+IsDerivedOr d n hash (Some c) derivation = derivation ≡ derivation_by hash c
+
 -- `s` has the members of the keyslot `d`, but for what is new
 pub record IsMadeFrom (d : Data) (f : NewMembers) (s : SlotMembers) : Type 0 where
   pub key_size : number_in 1 128 (inside_at outer.Top (codes "key_size") d) ≡ Some s.key_size
@@ -144,7 +157,7 @@ pub record IsMadeFrom (d : Data) (f : NewMembers) (s : SlotMembers) : Type 0 whe
   pub splitter_hash : text_of (inside_at outer.Af (codes "hash") d) ≡ Some s.splitter_hash
   pub encryption : text_of (inside_at outer.Area (codes "encryption") d) ≡ Some s.encryption
   pub area_key_size : number_in 1 128 (inside_at outer.Area (codes "key_size") d) ≡ Some s.area_key_size
-  pub derivation : IsDerivedLike d f.iterations s.derivation
+  pub derivation : IsDerivedOr d f.derivation.iterations s.splitter_hash f.derivation.chosen s.derivation
   pub offset : s.offset ≡ f.offset
   pub size : s.size ≡ f.size
   pub salt : s.salt ≡ f.salt

@@ -1,5 +1,5 @@
 -- What an edit of the metadata keeps as it was, and what it changes.
-use Rattle.std.specs.Prelude.{◌≡◌, ◌≢◌, ◌↔◌, ℕ, List, [], ◌∷◌, ◌++◌, not, codes, false, None, Some, option_map}
+use Rattle.std.specs.Prelude.{◌≡◌, ◌≢◌, ◌↔◌, ℕ, List, [], ◌∷◌, ◌++◌, not, codes, false, Option, None, Some, option_map}
 use Rattle.std.specs.List.{filter, list_any}
 use Rattle.std.specs.Str.{bytes_eq}
 use Rattle.serde_json.specs.Data.{Data}
@@ -11,12 +11,13 @@ use Rattle.luks_rules.specs.declared.table.Section.TheVariants.{Config, Digests,
 use Rattle.luks_rules.specs.declared.table.Outer.TheVariants as outer
 use Rattle.luks_rules.specs.declared.table.Member.TheVariants as name
 use Rattle.luks_rules.specs.Accepted.{HasObject}
-use Rattle.luks_rules.specs.Faults.{member_at, object_at, section_at, type_at}
+use Rattle.luks_rules.specs.Faults.{member_at, object_at, outer_at, section_at, type_at}
 use Rattle.luks_rules.specs.Reading.{bytes_in, decimal_in, number_in, text_of, texts_of}
 use Rattle.luks_rules.specs.Sizes.{inside_at}
 use Rattle.luks_making.specs.Changed.{renewed_slot}
 use Rattle.luks_making.specs.declared.derivation.Argon2Costs.{Argon2Costs}
-use Rattle.luks_making.specs.Keyslots.{Deriving, by_pbkdf2, by_argon2i, by_argon2id, NewMembers, SlotMembers, slot_value}
+use Rattle.luks_making.specs.declared.derivation.NewDerivation.{NewDerivation}
+use Rattle.luks_making.specs.Keyslots.{Deriving, by_pbkdf2, by_argon2i, by_argon2id, NewMembers, SlotMembers, derivation_by, kdf_value, slot_value}
 use Rattle.luks_making.specs.Naming.{IsDigestOf}
 use Rattle.luks_making.specs.With.{with_name}
 use Rattle.luks_making.specs.Without.{without_name}
@@ -119,18 +120,35 @@ pub record SaysMembers (s : SlotMembers) (d : Data) : Type 0 where
 
 -- ---- a value with a changed keyslot
 
--- the keyslot `d` is `was` with a new salt and area, and new iterations where it derives by PBKDF2
-pub record SaysNew (f : NewMembers) (was d : Data) : Type 0 where
+-- the keyslot `d` derives as `was`, but for the salt, and for the iterations where it does so by PBKDF2
+pub record KeepsDerivation (n : ℕ) (was d : Data) : Type 0 where
   pub iterations : type_at was outer.Kdf ≡ Some (codes "pbkdf2")
-      → number_in 1 4294967295 (member_at d outer.Kdf name.Iterations) ≡ Some f.iterations
+      → number_in 1 4294967295 (member_at d outer.Kdf name.Iterations) ≡ Some n
+  pub others : (k : List ℕ) → list_any (bytes_eq k) (codes "iterations" ∷ codes "salt" ∷ []) ≡ false
+      → inside_at outer.Kdf k d ≡ inside_at outer.Kdf k was
+
+-- the keyslot `d` derives as is chosen, PBKDF2 by the hash of its splitter, and says no more of it
+pub record SaysChosen (c : NewDerivation) (salt : List ℕ) (d : Data) : Type 0 where
+  pub hash : List ℕ
+  pub splitter : text_of (member_at d outer.Af name.Hash) ≡ Some hash
+  pub derivation : SaysDerivation (derivation_by hash c) d
+  pub whole : outer_at d outer.Kdf ≡ Some (kdf_value (derivation_by hash c) salt)
+
+-- what the keyslot `d` says of its derivation, by what is chosen
+abbrev pub SaysAsked : NewMembers → Option NewDerivation → Data → Data → Type 0
+SaysAsked f None was d = KeepsDerivation f.derivation.iterations was d
+SaysAsked f (Some c) was d = SaysChosen c f.salt d
+
+-- the keyslot `d` is `was` with a new salt and area, and new iterations where it derives by PBKDF2, or
+-- the derivation that is chosen
+pub record SaysNew (f : NewMembers) (was d : Data) : Type 0 where
+  pub derivation : SaysAsked f f.derivation.chosen was d
   pub salt : bytes_in 1 128 (member_at d outer.Kdf name.Salt) ≡ Some f.salt
   pub offset : decimal_in (member_at d outer.Area name.Offset) ≡ Some f.offset
   pub size : decimal_in (member_at d outer.Area name.Size) ≡ Some f.size
   pub members : KeepsOthers (codes "area" ∷ codes "kdf" ∷ []) was d
   pub area : (k : List ℕ) → list_any (bytes_eq k) (codes "offset" ∷ codes "size" ∷ []) ≡ false
       → inside_at outer.Area k d ≡ inside_at outer.Area k was
-  pub kdf : (k : List ℕ) → list_any (bytes_eq k) (codes "iterations" ∷ codes "salt" ∷ []) ≡ false
-      → inside_at outer.Kdf k d ≡ inside_at outer.Kdf k was
 
 -- the value `new` is `old` with what is new in the keyslot `n`
 pub record ChangesSlot (n : ℕ) (f : NewMembers) (old new : Data) : Type 0 where

@@ -1,23 +1,29 @@
 //! The metadata with a keyslot that is sealed again.
 
-ghost use Rattle.std.specs.Prelude.{◌≡◌, ◌<◌, codes, IfOk};
+ghost use Rattle.std.specs.Prelude.{◌≡◌, ◌<◌, codes, option_map, IfOk};
 ghost use Rattle.serde_json.specs.View.{view};
-ghost use Rattle.luks_making.specs.Changing.{at_member};
-ghost use Rattle.luks_making.specs.Changed.{changed_slot, renewed_area, renewed_kdf, renewed_slot};
-ghost use Rattle.luks_making.specs.Keyslots.{new_members};
+ghost use Rattle.luks_rules.specs.declared.table.Outer.TheVariants as outer;
+ghost use Rattle.luks_rules.specs.Reading.{text_of};
+ghost use Rattle.luks_rules.specs.Sizes.{inside_at};
+ghost use Rattle.luks_making.specs.Changing.{at_member, set_member};
+ghost use Rattle.luks_making.specs.Changed.{changed_slot, renewed_area, renewed_kdf, renewed_slot, resalted_kdf, splitter_hash};
+ghost use Rattle.luks_making.specs.Keyslots.{derivation_by, kdf_value, new_members};
 
 use crate::changing::{set_member, take_member, with_member};
-use crate::new_keyslot::{New, base64_text};
-use luks_json::number_text;
+use crate::derivation::NewDerivation;
+use crate::new_keyslot::{KeyslotDerivation, New, base64_text, kdf_value};
+use luks_json::{number_text, text_in};
 use serde_json::Value;
 use std::alloc::{AllocError, Global};
 
-fn renewed_kdf(alloc: Global, kdf: Value, new: &New<'_>) -> Result<Value, AllocError>
-    ensures { IfOk result (λ v. view v ≡ renewed_kdf (new_members new.now) (view kdf)) }
+/// The derivation with its new salt, and new iterations where it has some.
+fn resalted_kdf(alloc: Global, kdf: Value, new: &New<'_>) -> Result<Value, AllocError>
+    ensures { IfOk result (λ v. view v ≡ resalted_kdf (new_members new.now) (view kdf)) }
 {
     let salt = base64_text(alloc, new.salt)?;
     let salted = set_member(alloc, kdf, "salt", Value::String(salt))?;
-    set_member(alloc, salted, "iterations", Value::from(new.iterations))
+    let iterations = Value::from(new.derivation.iterations);
+    set_member(alloc, salted, "iterations", iterations)
 }
 
 fn renewed_area(alloc: Global, area: Value, new: &New<'_>) -> Result<Value, AllocError>
@@ -43,17 +49,63 @@ fn with_area(alloc: Global, mut keyslot: Value, new: &New<'_>) -> Result<Value, 
     }
 }
 
-/// The keyslot with its new derivation.
-fn with_kdf(alloc: Global, mut keyslot: Value, new: &New<'_>) -> Result<Value, AllocError>
+/// The keyslot with the derivation that it has, salted anew.
+fn with_resalted(alloc: Global, mut keyslot: Value, new: &New<'_>) -> Result<Value, AllocError>
     ensures { IfOk result (λ v. view v
-        ≡ at_member (codes "kdf") (renewed_kdf (new_members new.now)) (view keyslot)) }
+        ≡ at_member (codes "kdf") (resalted_kdf (new_members new.now)) (view keyslot)) }
 {
     match take_member(&mut keyslot, "kdf") {
         Some(kdf) => {
-            let changed = renewed_kdf(alloc, kdf, new)?;
+            let changed = resalted_kdf(alloc, kdf, new)?;
             with_member(alloc, keyslot, "kdf", changed)
         }
         None => Ok(keyslot),
+    }
+}
+
+/// The hash of the keyslot's splitter, if it has one.
+fn hash_in(keyslot: &Value) -> Option<&str>
+    ensures { option_map (λ t. t.now) result
+        ≡ text_of (inside_at outer.Af (codes "hash") (view keyslot.now)) }
+{
+    text_in(keyslot.get("af")?.get("hash"))
+}
+
+/// The hash of the keyslot's splitter.
+fn splitter_hash(keyslot: &Value) -> &str
+    ensures { result.now ≡ splitter_hash (view keyslot.now) }
+{
+    match hash_in(keyslot) {
+        Some(hash) => hash,
+        None => "",
+    }
+}
+
+/// The keyslot with the derivation that is chosen.
+fn with_chosen(
+    alloc: Global,
+    keyslot: Value,
+    chosen: &NewDerivation,
+    salt: &[u8],
+) -> Result<Value, AllocError>
+    ensures { IfOk result (λ v. view v ≡ set_member (codes "kdf")
+        (kdf_value (derivation_by (splitter_hash (view keyslot)) chosen.now) salt.now)
+        (view keyslot)) }
+{
+    let derivation = KeyslotDerivation::of_chosen(chosen, splitter_hash(&keyslot));
+    let kdf = kdf_value(alloc, &derivation, salt)?;
+    set_member(alloc, keyslot, "kdf", kdf)
+}
+
+/// The keyslot with its new derivation.
+fn with_kdf(alloc: Global, keyslot: Value, new: &New<'_>) -> Result<Value, AllocError>
+    ensures { IfOk result (λ v. view v ≡ at_member (codes "kdf")
+        (renewed_kdf (new_members new.now) (splitter_hash (view keyslot)))
+        (view keyslot)) }
+{
+    match &new.derivation.chosen {
+        None => with_resalted(alloc, keyslot, new),
+        Some(chosen) => with_chosen(alloc, keyslot, chosen, new.salt),
     }
 }
 
@@ -83,9 +135,9 @@ fn renewed_in(
     }
 }
 
-/// The metadata with the keyslot's new iterations, salt and area (LUKS2 On-Disk Format 1.1,
-/// section 3.2). All else is as in `value`, which is edited in place; a keyslot whose derivation has
-/// no iterations gets none.
+/// The metadata with the keyslot's new derivation and area (LUKS2 On-Disk Format 1.1, section 3.2).
+/// Where nothing is chosen the derivation is as it was, but for its salt and iterations; one that has
+/// no iterations gets none. All else is as in `value`, which is edited in place.
 ///
 /// Takes memory for the new members.
 pub fn changed_slot(

@@ -1,7 +1,7 @@
 //! How the key of a keyslot that is made is to be derived: as is chosen, or as that of another.
 
-ghost use Rattle.std.specs.Prelude.{◌≡◌};
-ghost use Rattle.luks_making.specs.Derivations.{asked_beyond, asked_few_turns, beyond, costs_beyond, few_turns};
+ghost use Rattle.std.specs.Prelude.{◌≡◌, IfSome};
+ghost use Rattle.luks_making.specs.Derivations.{FitsAsked, FitsCosts, FitsNewDerivation, asked_beyond, asked_few_turns, beyond, costs_beyond, few_turns};
 
 /// The least iterations of a keyslot that is made.
 pub const LEAST_ITERATIONS: u32 = 1000;
@@ -98,4 +98,31 @@ impl AskedDerivation {
             Some(chosen) => chosen.is_beyond(allowed),
         }
     }
+}
+
+/// The numbers of what is chosen have the ranges of their types. The function does nothing; its contract
+/// is the law.
+pub fn chosen_fits(chosen: Option<NewDerivation>)
+    ensures { IfSome chosen FitsNewDerivation }
+{
+    match chosen {
+        None => {}
+        Some(NewDerivation::Pbkdf2 { iterations: _ }) => {}
+        Some(NewDerivation::Argon2i(costs)) => costs_fit(&costs),
+        Some(NewDerivation::Argon2id(costs)) => costs_fit(&costs),
+    }
+}
+
+/// The numbers of what is asked have the ranges of their types. The function does nothing; its contract
+/// is the law.
+pub fn asked_fits(asked: AskedDerivation)
+    ensures { FitsAsked asked }
+{
+    chosen_fits(asked.chosen);
+}
+
+fn costs_fit(costs: &Argon2Costs)
+    ensures { FitsCosts costs.now }
+{
+    let Argon2Costs { time, memory, cpus } = *costs;
 }

@@ -1,18 +1,20 @@
 //! Laws on the definitions of this crate. Each function does nothing; its contract is the law.
 
-ghost use Rattle.std.specs.Prelude.{◌≡◌, ◌≤◌, ℕ, length};
+ghost use Rattle.std.specs.Prelude.{◌≡◌, ◌≤◌, ℕ, List, None, false, length};
 ghost use Rattle.serde_json.specs.Data.{Data};
 ghost use Rattle.serde_json.specs.Written.{compact_text};
 ghost use Rattle.luks_json.specs.Number.{number_text};
 ghost use Rattle.luks_rules.specs.Held.{IsHeld};
-ghost use Rattle.luks_making.specs.Changed.{changed_slot};
+ghost use Rattle.luks_making.specs.Changed.{changed_slot, renewed_kdf, resalted_kdf};
 ghost use Rattle.luks_making.specs.Conditions.{CanFormat, CanSeal, FitsNew, FitsSlot, FitsVolume, IsFree, IsRoom};
 ghost use Rattle.luks_making.specs.Conversions.{CanConvert, FitsSource, SaysSource};
 ghost use Rattle.luks_making.specs.Converted.{SourceMembers, converted};
+ghost use Rattle.luks_making.specs.Derivations.{IsPositive, asked_beyond, asked_few_turns};
+ghost use Rattle.luks_making.specs.declared.derivation.AskedDerivation.{AskedDerivation};
 ghost use Rattle.luks_making.specs.Formatted.{VolumeMembers, formatted};
 ghost use Rattle.luks_making.specs.NewVolumes.{SaysVolume};
 ghost use Rattle.luks_making.specs.Unchanged.{ChangesSlot, GainsSlot, LosesSlot, SaysMembers};
-ghost use Rattle.luks_making.specs.Keyslots.{NewMembers, SlotMembers, slot_value};
+ghost use Rattle.luks_making.specs.Keyslots.{IsDerivedLike, IsMadeFrom, NewMembers, SlotMembers, slot_value};
 ghost use Rattle.luks_making.specs.Naming.{HasUniqueDigests};
 ghost use Rattle.luks_making.specs.With.{IsAdded, with_slot};
 ghost use Rattle.luks_making.specs.Without.{without_slot};
@@ -54,12 +56,28 @@ pub fn made_keyslot_has_room()
 {}
 
 /// Metadata with a changed keyslot meets every rule that it met, where what is new suits the
-/// keyslot, and all but its iterations, its salt and its area's place and length is as it was.
+/// keyslot, and all but its derivation and its area's place and length is as it was; of the derivation
+/// all but its iterations and its salt, where nothing else is chosen.
 pub fn change_keeps_the_rest()
     ensures held { (len n : ℕ) (f : NewMembers) (j : Data) → IsHeld len j → CanSeal len j n f
         → FitsNew f → IsHeld len (changed_slot n f j) }
     ensures rest { (len n : ℕ) (f : NewMembers) (j : Data) → IsHeld len j → CanSeal len j n f
         → FitsNew f → ChangesSlot n f j (changed_slot n f j) }
+{}
+
+/// Where no derivation is chosen, a keyslot that is sealed again derives as it did but for its salt and
+/// iterations, and one that is made with the members of another derives as that one.
+pub fn unchosen_derives_alike()
+    ensures changed { (f : NewMembers) (hash : List ℕ) (k : Data) → f.derivation.chosen ≡ None
+        → renewed_kdf f hash k ≡ resalted_kdf f k }
+    ensures made { (d : Data) (f : NewMembers) (s : SlotMembers) → f.derivation.chosen ≡ None
+        → IsMadeFrom d f s → IsDerivedLike d f.derivation.iterations s.derivation }
+{}
+
+/// What has enough turns, and isn't refused where some memory is allowed, has no number that is 0.
+pub fn unrefused_is_positive()
+    ensures { (allowed : ℕ) (asked : AskedDerivation) → asked_few_turns asked ≡ false
+        → asked_beyond allowed asked ≡ false → IsPositive asked }
 {}
 
 /// The metadata of a new volume meets every rule, and says one keyslot, one digest that names it,

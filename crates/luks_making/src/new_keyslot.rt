@@ -3,10 +3,10 @@
 ghost use Rattle.std.specs.Prelude.{◌≡◌, string_bytes, IfOk};
 ghost use Rattle.base64.specs.GeneralPurpose.{IsBytes};
 ghost use Rattle.serde_json.specs.View.{view};
-ghost use Rattle.luks_making.specs.Keyslots.{area_value, argon2_value, base64_text, by_pbkdf2, derivation_of, kdf_value, new_members, slot_members, slot_value, splitter_value};
+ghost use Rattle.luks_making.specs.Keyslots.{area_value, argon2_value, base64_text, by_pbkdf2, derivation_by, derivation_of, kdf_value, new_members, slot_members, slot_value, splitter_value};
 ghost use Rattle.luks_making.specs.Conditions.{FitsNew};
 
-use crate::derivation::Argon2Costs;
+use crate::derivation::{Argon2Costs, AskedDerivation, NewDerivation, asked_fits};
 use base64::engine::general_purpose::STANDARD;
 use serde_json::{Value, json};
 use std::alloc::{AllocError, Global};
@@ -14,8 +14,8 @@ use std::alloc::{AllocError, Global};
 /// What is new of a keyslot that is sealed again, or made with the members of another.
 #[derive(Clone, Copy, Debug)]
 pub struct New<'a> {
-    /// The derivation's iterations, which PBKDF2 alone has.
-    pub iterations: u32,
+    /// How the key of the area is derived.
+    pub derivation: AskedDerivation,
     /// The derivation's salt.
     pub salt: &'a [u8],
     /// Where the area begins, in bytes.
@@ -38,6 +38,19 @@ pub enum KeyslotDerivation<'a> {
     Argon2i(Argon2Costs),
     /// The type `argon2id`.
     Argon2id(Argon2Costs),
+}
+
+impl<'a> KeyslotDerivation<'a> {
+    /// The derivation that is chosen for a keyslot whose splitter has the hash.
+    pub fn of_chosen(chosen: &NewDerivation, hash: &'a str) -> Self
+        ensures { derivation_of result ≡ derivation_by hash.now chosen.now }
+    {
+        match *chosen {
+            NewDerivation::Pbkdf2 { iterations } => KeyslotDerivation::Pbkdf2 { hash, iterations },
+            NewDerivation::Argon2i(costs) => KeyslotDerivation::Argon2i(costs),
+            NewDerivation::Argon2id(costs) => KeyslotDerivation::Argon2id(costs),
+        }
+    }
 }
 
 /// The members of a keyslot that is made, without a priority.
@@ -68,11 +81,12 @@ pub fn new_fits(new: &New<'_>)
     ensures { FitsNew (new_members new.now) }
 {
     let New {
-        iterations,
+        derivation,
         salt,
         offset,
         size,
     } = *new;
+    asked_fits(derivation);
     are_bytes(salt);
 }
 
@@ -139,7 +153,8 @@ fn argon2_value(
     })
 }
 
-fn kdf_value(
+/// The value of the derivation with its salt.
+pub(crate) fn kdf_value(
     alloc: Global,
     derivation: &KeyslotDerivation<'_>,
     salt: &[u8],

@@ -4,14 +4,16 @@ ghost use Rattle.std.specs.Prelude.{◌≡◌, ◌<◌, IfOk};
 ghost use Rattle.serde_json.specs.Data.{Data};
 ghost use Rattle.serde_json.specs.View.{view};
 ghost use Rattle.luks_making.specs.Conditions.{IsThere};
-ghost use Rattle.luks_making.specs.Keyslots.{IsDerivedLike, IsMadeFrom, derivation_of, new_members, slot_members};
+ghost use Rattle.luks_making.specs.Keyslots.{IsDerivedLike, IsDerivedOr, IsMadeFrom, derivation_of, new_members, slot_members};
 ghost use Rattle.luks_making.specs.Naming.{HasUniqueDigests};
 ghost use Rattle.luks_making.specs.With.{IsAdded};
 ghost use Rattle.luks_meta.specs.Content.{content};
 ghost use Rattle.luks_new_meta.specs.Made.{IsMadeLike};
 ghost use Rattle.luks_meta.specs.Says.{TellsCost, TellsKeyslot};
 
-use luks_making::{Argon2Costs, New, KeyslotDerivation, NewKeyslot, slot_value, with_slot};
+use luks_making::{
+    Argon2Costs, AskedDerivation, KeyslotDerivation, New, NewKeyslot, slot_value, with_slot,
+};
 use luks_meta::{Argon2, Cost, Keyslot, Meta};
 use serde_json::Value;
 use std::alloc::{AllocError, Global};
@@ -41,6 +43,18 @@ fn derived_like<'a>(cost: &Cost<'a>, iterations: u32) -> KeyslotDerivation<'a>
     }
 }
 
+/// The derivation of a keyslot that is made with the members of another: the one that is chosen, or the
+/// same.
+fn derived_as<'a>(keyslot: &Keyslot<'a>, asked: &AskedDerivation) -> KeyslotDerivation<'a>
+    ensures { (d : Data) → TellsKeyslot d keyslot.now → IsDerivedOr d asked.now.iterations
+        keyslot.now.af.hash.now asked.now.chosen (derivation_of result) }
+{
+    match &asked.chosen {
+        None => derived_like(&keyslot.kdf.cost, asked.iterations),
+        Some(chosen) => KeyslotDerivation::of_chosen(chosen, keyslot.af.hash),
+    }
+}
+
 /// A keyslot with the members of another, but for what is new.
 fn made_from<'a>(keyslot: &Keyslot<'a>, new: &New<'a>) -> NewKeyslot<'a>
     ensures { (d : Data) → TellsKeyslot d keyslot.now
@@ -54,7 +68,7 @@ fn made_from<'a>(keyslot: &Keyslot<'a>, new: &New<'a>) -> NewKeyslot<'a>
         size: new.size,
         encryption: keyslot.area.encryption,
         area_key_size: keyslot.area.key_size,
-        derivation: derived_like(&keyslot.kdf.cost, new.iterations),
+        derivation: derived_as(keyslot, &new.derivation),
         salt: new.salt,
     }
 }

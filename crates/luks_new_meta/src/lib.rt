@@ -7,5 +7,8 @@ mod laws;
 mod metadata;
 
 pub use laws::edits_keep_records;
-pub use luks_making::{New, NewVolume, SourceSlot, SourceVolume, area_size, area_start};
+pub use luks_making::{
+    Argon2Costs, AskedDerivation, New, NewDerivation, NewVolume, SourceSlot, SourceVolume,
+    area_size, area_start,
+};
 pub use metadata::{changed_slot, converted, formatted, json_area, with_slot, without_slot};

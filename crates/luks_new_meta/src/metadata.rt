@@ -80,7 +80,7 @@ pub fn without_slot(alloc: Global, meta: Meta, number: u8) -> Result<Meta, Alloc
 }
 
 /// The metadata with the keyslot `to`, without a priority: it has the members of the keyslot `by`, the
-/// costs of its derivation too, but for what is new. Its name goes last in the array of the
+/// costs of its derivation too where none is chosen, but for what is new. Its name goes last in the array of the
 /// digest that names `by`. All else stays as it is. No digest's name stands twice in the metadata,
 /// which is given up: its value is edited in place.
 ///
@@ -105,9 +105,9 @@ pub fn with_slot(
     Ok(Meta::of_value(value, len))
 }
 
-/// The metadata with the keyslot's new salt and area, and new iterations where it derives by PBKDF2. All
-/// else stays as it is. The
-/// metadata is given up: its value is edited in place.
+/// The metadata with the keyslot's new salt and area, and the derivation that is chosen; where none is,
+/// with new iterations if it derives by PBKDF2. All else stays as it is. The metadata is given up: its
+/// value is edited in place.
 ///
 /// Takes memory for the new members.
 pub fn changed_slot(

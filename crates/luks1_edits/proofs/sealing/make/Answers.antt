@@ -69,7 +69,7 @@ returns-in_err-make_keyslot-clause-refused g c = λ tells e is x.
     let w = g.D.Device.bytes c.make_keyslot.new.device in
     let same = c.unlock.ensures.unchanged.same tells in
     let torn = subst (λ k. IsSealedFirst v c.in_ok-n.n k s.passphrase.now c.in_ok-key.key c.args.random.now w) c.iterations_of.ensures
-        (torn_same same (c.in_err-make_keyslot.ensures.torn tells (header_of_same same x))) in
+    (torn_same same (c.in_err-make_keyslot.ensures.torn tells (header_of_same same x))) in
     let p = err_from_is_err_and c.from_residual-in_err-make_keyslot.result c.from_residual-in_err-make_keyslot.ensures.1 in
     rw (p.1, p.2)
     (unmade_ends v a.data_ e c.args.random.now s.opener.slot s.opener.passphrase.bytes.now c.in_ok-key.key (number_asked s.place) s.derivation (making v e s is) a.bytes.now x (c.in_ok-key.ensures.opened tells x)

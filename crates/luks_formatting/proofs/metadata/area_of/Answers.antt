@@ -23,7 +23,7 @@ written_area-requires c =
     let can : CanFormat (volume_members c.args.like.now) =
     subst CanFormat (sym members) (can_format volume.data_ volume.format.now volume.random.now c.requires.iterations c.requires.long digest) in
     let low : volume.format.now.iterations < 4294967296 = subst (λ (n : ℕ). n < 4294967296) (ap (λ (m : VolumeMembers). m.iterations) members) c.volume_fits.ensures.iterations in
-    let fits_own : FitsDerivation own = derivation_fits volume.format.now volume.passphrase.memory volume.chosen c.requires.iterations low c.requires.makeable c.fits.ensures in
+    let fits_own : FitsDerivation own = derivation_fits volume.format.now volume.passphrase.memory volume.chosen c.requires.iterations low c.requires.makeable c.chosen_fits.ensures in
     subst (λ (d : Data). IsHeld 12288 d) (sym c.in_ok-value.ensures) (held_by own (volume_members c.args.like.now) c.volume_fits.ensures can fits_own)
 
 short_text : (n m : ℕ) → 12288 ≤ n → n ≡ m → m < 12288 → ⊥
@@ -44,6 +44,6 @@ unreachable-requires c =
     let second : length v.digest ≤ 64 = (let long = c.requires.digest_length in let short = digest_short volume.format.now.hash in omega (arith, long, short)) in
     let encryption : length v.encryption ≤ 15 = (let same = ap (λ (m : VolumeMembers). length m.encryption) members in omega (arith, same)) in
     let low : volume.format.now.iterations < 4294967296 = subst (λ (n : ℕ). n < 4294967296) (ap (λ (m : VolumeMembers). m.iterations) members) c.volume_fits.ensures.iterations in
-    let derivation = derivation_most volume.format.now volume.chosen v.slot_salt low c.fits.ensures third in
+    let derivation = derivation_most volume.format.now volume.chosen v.slot_salt low c.chosen_fits.ensures third in
     let short = text_fits own v derivation hash c.volume_fits.ensures.iterations c.volume_fits.ensures.segment_offset first second encryption in
     short_text (length (compact_text (view c.in_ok-value.value))) (length (compact_text (formatted_by own v))) full is short

@@ -1,5 +1,5 @@
 use Rattle.std.proofs.Common.{refl}
-use Rattle.luks_making.proofs.changed.with_kdf.Goals as goal
+use Rattle.luks_making.proofs.changed.with_resalted.Goals as goal
 
 pub returns-in_ok-changed-in-Some : goal.returns-in_ok-changed-in-Some
 returns-in_ok-changed-in-Some c = c.with_member.ensures _ _ _ c.take_member.ensures.left c.in-Some.ensures.taken c.in_ok-changed-in-Some.ensures
