@@ -8,6 +8,7 @@ mod LeftoverFacts
 mod MetadataFacts
 mod OpenFacts
 mod OpenedFacts
+mod DerivedFacts
 pub mod OpensFacts
 pub mod PlaceFacts
 pub mod RefusalFacts

@@ -4,6 +4,7 @@ pub mod Metadata
 pub mod Places
 pub mod Copies
 pub mod Edited
+pub mod Derived
 pub mod Refused
 pub mod Leftovers
 pub mod Kept

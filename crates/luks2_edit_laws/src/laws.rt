@@ -10,6 +10,7 @@ ghost use Rattle.luks_reading.specs.Checked.{AreaOf, WellFormed};
 ghost use Rattle.luks_reading.specs.declared.report.Data.{Data as Payload};
 ghost use Rattle.luks_edit.specs.declared.edit.Edit.{Edit as TheEdit};
 ghost use Rattle.luks_edit.specs.Kept.{Keeps};
+ghost use Rattle.luks2_edit_laws.specs.Derived.{IsDerivedBy};
 ghost use Rattle.luks2_edit_laws.specs.Edited.{After2, HasRanges, NamedKeyslots2, OpensAfter2};
 ghost use Rattle.luks2_edit_laws.specs.Kept.{HasSameKeyslot};
 ghost use Rattle.luks2_edit_laws.specs.Leftovers.{CountsAsAfter, CountsAsBefore, IsNotStray, Leftover2, OpensEither2};
@@ -49,6 +50,15 @@ pub fn luks2_edit_opens()
     ensures { (payload : Payload) (e : TheEdit) (v random w : List ℕ) → WellFormed v payload
         → HasRanges v e random → IsUnrefused2 v payload e random → After2 v payload e random w
         → OpensAfter2 v e w }
+{}
+
+/// After an edit of a well formed LUKS2 volume that nothing refused, a keyslot that it made or sealed
+/// again derives as is chosen, and says no more of it. Where nothing is chosen, a new one derives as
+/// the keyslot that was opened, and one that is sealed again as it did but for its salt and iterations.
+pub fn luks2_edit_derives()
+    ensures { (payload : Payload) (e : TheEdit) (v random w : List ℕ) → WellFormed v payload
+        → HasRanges v e random → IsUnrefused2 v payload e random
+        → (a : After2 v payload e random w) → IsDerivedBy v e random a.value a.new }
 {}
 
 /// What a failing device call leaves of a well formed LUKS2 volume is well formed, unless bytes of

@@ -14,8 +14,8 @@ use crate::new_header2::{JSON_SIZE, SLOT_SALT};
 use crate::random::{DIGEST_SALT, SALT_BYTES, taken};
 use crate::volume2::Volume;
 use luks_making::{
-    KeyslotDerivation, NewDerivation, NewKeyslot, NewVolume, chosen_fits, formatted, slot_value, volume_fits,
-    with_slot, without_slot, written_area,
+    KeyslotDerivation, NewDerivation, NewKeyslot, NewVolume, chosen_fits, formatted, slot_value,
+    volume_fits, with_slot, without_slot, written_area,
 };
 use luks_reading::{Data, Format};
 use serde_json::Value;

@@ -1,9 +1,10 @@
--- What an edit asks for: its iterations are enough or too few, and the answer of the keyslot that it opens tells why it gives no key.
-use Rattle.std.proofs.Common.{◌≡◌, ◌⊎◌, ◌<◌, ℕ, List, [], ◌∷◌, Option, Some, None, get_or, refl, sym, ap, subst, ◌∙◌, arith, inl, inr}
+-- What an edit asks for: its iterations are enough or too few, the Argon2 that it chooses may be made or not, and the answer of the keyslot that it opens tells why it gives no key.
+use Rattle.std.proofs.Common.{◌≡◌, ◌⊎◌, ℕ, List, [], ◌∷◌, true, Option, Some, None, get_or, refl, sym, ap, subst, ◌∙◌, arith, inl, inr}
 use Rattle.std.proofs.lemmas.Bool.{cases_eq}
 use Rattle.luks1_header.specs.declared.fault.HeadFault.{HeadFault}
 use Rattle.luks1_header.specs.declared.fault.HeadFault.TheVariants as head
 use Rattle.luks1_header.specs.declared.fault.IterationsOf.TheVariants as of
+use Rattle.luks_making.specs.Derivations.{asked_beyond, asked_few_turns, takes_memory}
 use Rattle.luks_slot.specs.declared.fault.SlotFault.{SlotFault}
 use Rattle.luks_slot.specs.declared.fault.SlotFault.TheVariants as slot
 use Rattle.luks_reading.specs.declared.open_fault.OpenFault.{OpenFault}
@@ -16,16 +17,25 @@ use Rattle.luks_edit.specs.declared.deed.Deed.{Deed}
 use Rattle.luks_edit.specs.declared.deed.Deed.TheVariants as deed
 use Rattle.luks_edit.specs.declared.deed.Removed.{Removed}
 use Rattle.luks_edit.specs.declared.deed.Sealed.{Sealed}
-use Rattle.luks_edit.specs.Asked.{allowed_memory, deed_of, HasFewIterations, MatchDeed, NamesItself, opener_in, opener_of, OpensBy, removed_by, sealed_by, Wants}
+use Rattle.luks_edit.specs.Asked.{allowed_memory, ChoosesArgon2, deed_of, HasFewIterations, IsBeyondMemory, MatchDeed, memory_for, NamesItself, opener_in, opener_of, OpensBy, removed_by, sealed_by, Wants}
 use Rattle.luks_edit.specs.Opener.{IsLocked, IsShut}
-use Rattle.luks_laws.proofs.DecidedFacts.{alike_decided, Decided, less_decided, one_decided}
+use Rattle.luks_laws.proofs.DecidedFacts.{alike_decided, Decided, one_decided, true_decided}
 use Rattle.luks_laws.proofs.SearchFacts.{some_decided, some_same}
 
--- ---- iterations
+-- ---- the derivation
 
 -- the iterations of the edit are too few, or they aren't
 pub few_decided : (e : Edit) → Decided (HasFewIterations e)
-few_decided e = some_decided Sealed (sealed_by e) (λ s. s.iterations < 1000) (λ s. less_decided s.iterations 1000)
+few_decided e = some_decided Sealed (sealed_by e) (λ s. asked_few_turns s.derivation ≡ true) (λ s. true_decided (asked_few_turns s.derivation))
+
+-- it chooses an Argon2 that is beyond its memory, or it doesn't
+pub beyond_decided : (e : Edit) → Decided (IsBeyondMemory e)
+beyond_decided e = some_decided Sealed (sealed_by e) (λ s. asked_beyond (memory_for s.opener.passphrase s.passphrase.now) s.derivation ≡ true)
+    (λ s. true_decided (asked_beyond (memory_for s.opener.passphrase s.passphrase.now) s.derivation))
+
+-- it chooses Argon2, or it doesn't
+pub argon2_decided : (e : Edit) → Decided (ChoosesArgon2 e)
+argon2_decided e = some_decided Sealed (sealed_by e) (λ s. takes_memory s.derivation.chosen ≡ true) (λ s. true_decided (takes_memory s.derivation.chosen))
 
 -- ---- the keyslot that it opens
 

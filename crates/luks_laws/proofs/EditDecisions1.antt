@@ -8,7 +8,7 @@ use Rattle.luks_edit.specs.declared.edit.Edit.{Edit}
 use Rattle.luks_edit.specs.declared.edit_fault.EditFault.{EditFault}
 use Rattle.luks_edit.specs.declared.edit_fault.EditFault.TheVariants as edit
 use Rattle.luks1_edits.specs.Refused.{IsEditFault1}
-use Rattle.luks_laws.proofs.AskedDecisions.{few_decided, itself_decided, locked_decided, shut_decided}
+use Rattle.luks_laws.proofs.AskedDecisions.{argon2_decided, few_decided, itself_decided, locked_decided, shut_decided}
 use Rattle.luks_laws.proofs.DecidedFacts.{Decided}
 use Rattle.luks_laws.proofs.RowDecisions1.{absent_decided, label_decided, last_decided, miscounted_decided, no_free_decided, taken_decided}
 
@@ -26,6 +26,7 @@ module _ (v : List ℕ) (payload : Data) (answer : (m n : ℕ) (p : List ℕ) �
   fault1_decided edit.NoRoom = inr (λ bad. bad)
   fault1_decided edit.LastSlot = last_decided v e
   fault1_decided edit.Iterations = few_decided e
+  fault1_decided edit.Argon2 = argon2_decided e
   fault1_decided edit.BadLabel = label_decided e
   fault1_decided edit.SeqExhausted = inr (λ bad. bad)
   fault1_decided edit.MetadataFull = inr (λ bad. bad)

@@ -19,7 +19,7 @@ use Rattle.luks2_edit_laws.specs.Edited.{IsEdited}
 use Rattle.luks2_edit_laws.specs.Metadata.{HasMetadata, IsInUse}
 use Rattle.luks2_edit_laws.specs.Places.{HasNoNewArea, IsNewArea}
 use Rattle.luks2_edit_laws.specs.Refused.{HasSaid, IsEditFault2}
-use Rattle.luks_laws.proofs.AskedDecisions.{few_decided, itself_decided, locked_decided, shut_decided}
+use Rattle.luks_laws.proofs.AskedDecisions.{beyond_decided, few_decided, itself_decided, locked_decided, shut_decided}
 use Rattle.luks_laws.proofs.DecidedFacts.{Decided, true_decided}
 use Rattle.luks_laws.proofs.FullDecisions2.{full_decided}
 use Rattle.luks_laws.proofs.RowDecisions2.{absent_decided, bad_label_decided, last_decided, miscounted_decided, no_free_decided, no_room_decided, taken_decided}
@@ -61,6 +61,7 @@ module _ (v : List ℕ) (payload : Data) (answer : (m n : ℕ) (p : List ℕ) �
   fault_of_counting c edit.NoRoom = said_decided v payload c _ (no_room_decided (hdr_size (header_at v c.place)) (length v) payload c.value c.area e)
   fault_of_counting c edit.LastSlot = said_decided v payload c _ (last_decided c.value c.digest e)
   fault_of_counting c edit.Iterations = few_decided e
+  fault_of_counting c edit.Argon2 = beyond_decided e
   fault_of_counting c edit.BadLabel = bad_label_decided e
   fault_of_counting c edit.SeqExhausted = said_decided v payload c _ (cases_eq (seqid (header_at v c.place) + 1) (2 ^ 64))
   fault_of_counting c edit.MetadataFull = said_decided v payload c _ (full_decided (hdr_size (header_at v c.place)) (length v) payload c.value c.area e (c.alike e))
@@ -75,6 +76,7 @@ module _ (v : List ℕ) (payload : Data) (answer : (m n : ℕ) (p : List ℕ) �
   fault_of_none none edit.Locked = locked_decided v answer e
   fault_of_none none (edit.Slot f) = shut_decided v answer e f
   fault_of_none none edit.Iterations = few_decided e
+  fault_of_none none edit.Argon2 = beyond_decided e
   fault_of_none none edit.BadLabel = bad_label_decided e
   fault_of_none none edit.Memory = inr (λ bad. bad)
   fault_of_none none edit.Device = inr (λ bad. bad)

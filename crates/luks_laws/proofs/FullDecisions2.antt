@@ -7,12 +7,14 @@ use Rattle.serde_json.specs.Written.{compact_text}
 use Rattle.luks_area.specs.declared.area.Area.{Area}
 use Rattle.luks_head.specs.Header2.{binary_header_size}
 use Rattle.luks_making.specs.Changed.{changed_slot}
-use Rattle.luks_making.specs.Keyslots.{by_argon2i, by_argon2id, by_pbkdf2, Deriving, IsDerivedLike, IsMadeFrom, NewMembers}
+use Rattle.luks_making.specs.declared.derivation.AskedDerivation.{AskedDerivation}
+use Rattle.luks_making.specs.Keyslots.{IsDerivedOr, IsMadeFrom, NewMembers}
 use Rattle.luks_making.specs.With.{IsAdded, with_slot}
 use Rattle.luks_making.specs.Without.{without_slot}
 use Rattle.luks_reading.specs.declared.report.Data.{Data}
 use Rattle.luks_edit.specs.declared.edit.Edit.{Edit}
 use Rattle.luks_edit.specs.declared.edit.Edit.TheVariants.{Add, Change, Label, Remove, Repair}
+use Rattle.luks2_edit_laws.proofs.AfterFacts.{asking}
 use Rattle.luks2_edit_laws.specs.Edited.{HasAdded, HasChanged, IsEdited, members_of}
 use Rattle.luks2_edit_laws.specs.Metadata.{IsInUse}
 use Rattle.luks2_edit_laws.specs.Places.{HasNoNewArea, IsNewArea}
@@ -24,23 +26,10 @@ use Rattle.luks_laws.proofs.RowDecisions2.{area_or_none}
 
 -- ---- a value with one more keyslot
 
--- the derivation by other iterations
-with_turns : ℕ → Deriving → Deriving
-with_turns n (by_pbkdf2 hash iterations) = by_pbkdf2 hash n
-with_turns n (by_argon2i costs) = by_argon2i costs
-with_turns n (by_argon2id costs) = by_argon2id costs
-
--- is one like that of the keyslot too
-derived_anew : (d : Value) (m n : ℕ) (k : Deriving) → IsDerivedLike d m k → IsDerivedLike d n (with_turns n k)
-unfolding with_turns
-derived_anew d m n (by_pbkdf2 hash iterations) x = (x.0, x.1, refl)
-derived_anew d m n (by_argon2i costs) x = x
-derived_anew d m n (by_argon2id costs) x = x
-
--- whether a keyslot is added depends neither on its number nor on what is new of it
-added_alike : (to other by : ℕ) (f g : NewMembers) (j new : Value) → IsAdded to by f j new → (k : Value) × IsAdded other by g j k
-added_alike to other by f g j new x =
-    let slot = record x.slot { offset = g.offset; size = g.size; derivation = with_turns g.iterations x.slot.derivation; salt = g.salt } in (
+-- whether a keyslot is added depends neither on its number nor on its salt and its area
+added_alike : (to other by : ℕ) (f g : NewMembers) (j new : Value) → f.derivation ≡ g.derivation → IsAdded to by f j new → (k : Value) × IsAdded other by g j k
+added_alike to other by f g j new asked x =
+    let slot = record x.slot { offset = g.offset; size = g.size; salt = g.salt } in (
       with_slot other x.digest slot j,
       record {
         from = x.from;
@@ -52,7 +41,7 @@ added_alike to other by f g j new x =
           splitter_hash = x.made.splitter_hash;
           encryption = x.made.encryption;
           area_key_size = x.made.area_key_size;
-          derivation = derived_anew x.from f.iterations g.iterations x.slot.derivation x.made.derivation;
+          derivation = subst (λ a. IsDerivedOr x.from a.iterations x.slot.splitter_hash a.chosen x.slot.derivation) asked x.made.derivation;
           offset = refl;
           size = refl;
           salt = refl;
@@ -92,12 +81,12 @@ added_or_none to by f j = elim (object_or_none j by) [
 module _ (h total : ℕ) (payload : Data) (j : Value)
     (area : (n : ℕ) → IsInUse j n → ((a : Area) × IsNewArea h total payload j n a) ⊎ HasNoNewArea h total payload j n) where
   -- an addition makes a value, or it lacks a number, an area, a member or a digest
-  add_or_none : (by : ℕ) (to : Option ℕ) (iterations : ℕ) (salt : List ℕ) → SomeOrNone Value (HasAdded h total payload by to iterations salt j)
-  add_or_none by to iterations salt = elim (new_number j to) [
+  add_or_none : (by : ℕ) (to : Option ℕ) (asked : AskedDerivation) (salt : List ℕ) → SomeOrNone Value (HasAdded h total payload by to asked salt j)
+  add_or_none by to asked salt = elim (new_number j to) [
     | inl n ↦ elim (area_or_none h total payload j area by) [
-      | inl a ↦ elim (added_or_none n.0 by (members_of iterations salt a.0) j) [
+      | inl a ↦ elim (added_or_none n.0 by (members_of asked salt a.0) j) [
         | inl new ↦ inl (new.0, record { slot = n.0; is_new = n.1; area = a.0; place = a.1; is = new.1 })
-        | inr none ↦ inr (λ k x. (let y = added_alike x.slot n.0 by (members_of iterations salt x.area) (members_of iterations salt a.0) j k x.is in none y.0 y.1))
+        | inr none ↦ inr (λ k x. (let y = added_alike x.slot n.0 by (members_of asked salt x.area) (members_of asked salt a.0) j k refl x.is in none y.0 y.1))
       ]
       | inr none ↦ inr (λ k x. none x.area x.place)
     ]
@@ -105,27 +94,27 @@ module _ (h total : ℕ) (payload : Data) (j : Value)
   ]
 
   -- a change makes a value, or it lacks an area
-  change_or_none : (slot iterations : ℕ) (salt : List ℕ) → SomeOrNone Value (HasChanged h total payload slot iterations salt j)
-  change_or_none slot iterations salt = elim (area_or_none h total payload j area slot) [
-    | inl a ↦ inl (changed_slot slot (members_of iterations salt a.0) j, record { area = a.0; place = a.1; is = refl })
+  change_or_none : (slot : ℕ) (asked : AskedDerivation) (salt : List ℕ) → SomeOrNone Value (HasChanged h total payload slot asked salt j)
+  change_or_none slot asked salt = elim (area_or_none h total payload j area slot) [
+    | inl a ↦ inl (changed_slot slot (members_of asked salt a.0) j, record { area = a.0; place = a.1; is = refl })
     | inr none ↦ inr (λ k x. none x.area x.place)
   ]
 
   -- an edit makes a value with a salt, or it makes none
   edited_or_none : (e : Edit) (salt : List ℕ) → SomeOrNone Value (IsEdited h total payload e salt j)
-  edited_or_none (Add by_ old new to iterations) salt = add_or_none by_ to iterations salt
-  edited_or_none (Change slot old new iterations) salt = change_or_none slot iterations salt
+  edited_or_none (Add by_ old new to iterations d) salt = add_or_none by_ to (asking iterations d) salt
+  edited_or_none (Change slot old new iterations d) salt = change_or_none slot (asking iterations d) salt
   edited_or_none (Remove slot by_ passphrase) salt = inl (without_slot slot j, refl)
   edited_or_none Repair salt = inl (j, refl)
   edited_or_none (Label text) salt = inl (j, refl)
 
 -- with another salt an edit makes a value too
 salted_anew : (h total : ℕ) (payload : Data) (e : Edit) (a b : List ℕ) (j x : Value) → IsEdited h total payload e a j x → (y : Value) × IsEdited h total payload e b j y
-salted_anew h total payload (Add by_ old new to iterations) a b j x is =
-    let y = added_alike is.slot is.slot by_ (members_of iterations a is.area) (members_of iterations b is.area) j x is.is in
+salted_anew h total payload (Add by_ old new to iterations d) a b j x is =
+    let y = added_alike is.slot is.slot by_ (members_of (asking iterations d) a is.area) (members_of (asking iterations d) b is.area) j x refl is.is in
     (y.0, record { slot = is.slot; is_new = is.is_new; area = is.area; place = is.place; is = y.1 })
-salted_anew h total payload (Change slot old new iterations) a b j x is =
-    (changed_slot slot (members_of iterations b is.area) j, record { area = is.area; place = is.place; is = refl })
+salted_anew h total payload (Change slot old new iterations d) a b j x is =
+    (changed_slot slot (members_of (asking iterations d) b is.area) j, record { area = is.area; place = is.place; is = refl })
 salted_anew h total payload (Remove slot by_ passphrase) a b j x is = (x, is)
 salted_anew h total payload Repair a b j x is = (x, is)
 salted_anew h total payload (Label text) a b j x is = (x, is)

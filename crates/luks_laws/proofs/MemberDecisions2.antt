@@ -12,7 +12,8 @@ use Rattle.luks_rules.specs.Reading.{number_in, text_of}
 use Rattle.luks_rules.specs.Sizes.{inside_at}
 use Rattle.luks_making.specs.Conditions.{IsFree}
 use Rattle.luks_making.specs.declared.derivation.Argon2Costs.{Argon2Costs}
-use Rattle.luks_making.specs.Keyslots.{by_argon2i, by_argon2id, by_pbkdf2, Deriving, HasCosts, IsDerivedLike, IsMadeFrom, NewMembers, SlotMembers}
+use Rattle.luks_making.specs.declared.derivation.NewDerivation.{NewDerivation}
+use Rattle.luks_making.specs.Keyslots.{by_argon2i, by_argon2id, by_pbkdf2, derivation_by, Deriving, HasCosts, IsDerivedLike, IsDerivedOr, IsMadeFrom, NewMembers, SlotMembers}
 use Rattle.luks_making.specs.Naming.{IsDigestOf}
 use Rattle.luks2_edit_laws.specs.Metadata.{HasStripes, IsInUse, IsLeastFree, IsNewKeyslot}
 use Rattle.luks_laws.proofs.DecidedFacts.{alike_decided, both_decided, Decided, less_decided, true_decided}
@@ -187,6 +188,11 @@ derived_or_none d n = elim (kind_decided d) [
   | inr none ↦ inr (λ k x. none (kind_of d n k x))
 ]
 
+-- or the one that is chosen
+derived_or : (d : Value) (n : ℕ) (hash : List ℕ) (chosen : Option NewDerivation) → SomeOrNone Deriving (IsDerivedOr d n hash chosen)
+derived_or d n hash None = derived_or_none d n
+derived_or d n hash (Some c) = inl (derivation_by hash c, refl)
+
 -- what a keyslot has that is made with the members of the keyslot `d`
 pub made_or_none : (d : Value) (f : NewMembers) → SomeOrNone SlotMembers (IsMadeFrom d f)
 made_or_none d f = elim (held_or_none (number_in 1 128 (inside_at outer.Top (codes "key_size") d))) [
@@ -199,8 +205,9 @@ made_or_none d f = elim (held_or_none (number_in 1 128 (inside_at outer.Top (cod
         | inr none ↦ inr (λ s x. none s.encryption x.encryption)
         | inl encryption ↦ elim (held_or_none (number_in 1 128 (inside_at outer.Area (codes "key_size") d))) [
           | inr none ↦ inr (λ s x. none s.area_key_size x.area_key_size)
-          | inl area_key ↦ elim (derived_or_none d f.iterations) [
-            | inr none ↦ inr (λ s x. none s.derivation x.derivation)
+          | inl area_key ↦ elim (derived_or d f.derivation.iterations splitter.0 f.derivation.chosen) [
+            | inr none ↦ inr (λ s x. none s.derivation
+                (subst (λ h. IsDerivedOr d f.derivation.iterations h f.derivation.chosen s.derivation) (some_same s.splitter_hash splitter.0 (sym x.splitter_hash ∙ splitter.1)) x.derivation))
             | inl derivation ↦ inl (
               record {
                 key_size = key.0;

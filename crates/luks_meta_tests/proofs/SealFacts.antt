@@ -7,6 +7,7 @@ use Rattle.luks_rules.specs.declared.table.Outer.TheVariants as outer
 use Rattle.luks_rules.specs.Reading.{number_in}
 use Rattle.luks_rules.specs.Sizes.{inside_at, keyslots_size, region_start}
 use Rattle.luks_making.specs.Conditions.{CanSeal, IsInRegion}
+use Rattle.luks_making.specs.Derivations.{IsPositive}
 use Rattle.luks_making.specs.Keyslots.{NewMembers}
 use Rattle.luks_meta.specs.declared.configuration.Config.{Config}
 use Rattle.luks_meta.specs.declared.keyslots.Keyslot.{Keyslot}
@@ -36,7 +37,7 @@ region_told j k told = rw told.is told.tells_members.1
 -- a keyslot that is told, with room for what is new
 pub can_seal : (len : ℕ) (j : Data) (n : ℕ) (f : NewMembers) (k : Keyslot) (sizes : Config)
     → n < 32 → IsObject TellsKeyslot j Keyslots n k → IsConfig j sizes
-    → 1 ≤ f.iterations → 1 ≤ length f.salt → length f.salt ≤ 128
+    → IsPositive f.derivation → 1 ≤ length f.salt → length f.salt ≤ 128
     → rounded_to_sectors (k.key_size * k.af.stripes) ≤ f.size
     → region_start len ≤ f.offset → f.offset + f.size ≤ region_start len + sizes.keyslots_size
     → CanSeal len j n f
@@ -45,7 +46,7 @@ can_seal len j n f k sizes small told config turns some most large from to = rec
     object = told.object;
     there = record { numbered = refl; named = small; is = told.is };
   };
-  iterations = turns;
+  derivation = turns;
   salt = record { from = some; to = most };
   large = large_told told.object k.key_size k.af.stripes f.size told.tells_members.1 told.tells_members.3.2 large;
   within = within_told len j f.offset f.size sizes.keyslots_size (region_told j sizes config) from to;

@@ -13,6 +13,7 @@ mod odd;
 
 use crate::rows::{AREA, edited, read};
 use luks_area::rounded_to_sectors;
+use luks_making::AskedDerivation;
 use luks_meta::Meta;
 use luks_new_meta::{New, NewVolume};
 use luks_samples::shapes;
@@ -55,7 +56,10 @@ fn suits(meta: &Meta, number: u8, new: &New<'_>) -> bool
     let used = rounded_to_sectors(u64::from(keyslot.key_size) * u64::from(keyslot.af.stripes));
     let region = meta.config().keyslots_size;
     let salt = new.salt.len();
-    if number >= 32 || new.iterations == 0 || salt == 0 || salt > 128 {
+    if new.derivation.has_few_turns() || new.derivation.is_beyond(u32::MAX) {
+        return false;
+    }
+    if number >= 32 || salt == 0 || salt > 128 {
         return false;
     }
     if used > new.size || new.offset < 32768 || region < new.offset - 32768 {
@@ -69,7 +73,10 @@ pub fn made(alloc: Global, meta: Meta, maker: Maker) -> Result<Option<Meta>, All
     requires { area_len meta ≡ 12288 }
 {
     let new = New {
-        iterations: 2345,
+        derivation: AskedDerivation {
+            iterations: 2345,
+            chosen: None,
+        },
         salt: &SALT,
         offset: 36864,
         size: 524288,

@@ -35,8 +35,8 @@ use Rattle.luks_volume.proofs.VersionFacts.{fault_by}
 
 -- a keyslot that is lost is removed
 removes : (e : Edit) (n : ℕ) → Loses e n → Removes e n
-removes (Add by_ old new to iterations) n x = x
-removes (Change slot old new iterations) n x = x
+removes (Add by_ old new to iterations d) n x = x
+removes (Change slot old new iterations d) n x = x
 removes (Remove slot by_ passphrase) n x = x
 removes Repair n x = x
 removes (Label text) n x = x
@@ -57,20 +57,20 @@ allowed_more : (memory : ℕ) (w : List ℕ) (n : ℕ) (p key : List ℕ) → An
 allowed_more memory w n p key x = opens_alike 0 memory w n p (Some key) (omega arith) x
 
 opens_by1 : (v : List ℕ) (e : Edit) (w : List ℕ) → Chosen v luks1 → OpensAfter1 v e w → OpensMade v e w
-opens_by1 v (Add by_ old new to iterations) w chosen x = λ n key made opened.
-    allowed_more (memory_for old new.now) w n new.now key (x n key (makes_by v (Add by_ old new to iterations) luks1 n chosen made)
+opens_by1 v (Add by_ old new to iterations d) w chosen x = λ n key made opened.
+    allowed_more (memory_for old new.now) w n new.now key (x n key (makes_by v (Add by_ old new to iterations d) luks1 n chosen made)
     (luks1_answers_alike v chosen (memory_for old new.now) 0 by_ old.bytes.now (opens key) opened))
-opens_by1 v (Change slot old new iterations) w chosen x = λ n key made opened.
-    allowed_more (memory_for old new.now) w n new.now key (x n key (makes_by v (Change slot old new iterations) luks1 n chosen made)
+opens_by1 v (Change slot old new iterations d) w chosen x = λ n key made opened.
+    allowed_more (memory_for old new.now) w n new.now key (x n key (makes_by v (Change slot old new iterations d) luks1 n chosen made)
     (luks1_answers_alike v chosen (memory_for old new.now) 0 slot old.bytes.now (opens key) opened))
 opens_by1 v (Remove slot by_ passphrase) w chosen x = tt
 opens_by1 v Repair w chosen x = tt
 opens_by1 v (Label text) w chosen x = tt
 
 opens_by2 : (v : List ℕ) (e : Edit) (w : List ℕ) (o : ℕ) (copies : Copies) → Chosen v (luks2 o copies) → OpensAfter2 v e w → OpensMade v e w
-opens_by2 v (Add by_ old new to iterations) w o copies chosen x = λ n key made. x n key (makes_by v (Add by_ old new to iterations) (luks2 o copies) n chosen made)
-opens_by2 v (Change slot old new iterations) w o copies chosen x = λ n key made opened.
-    let is : n ≡ slot = makes_by v (Change slot old new iterations) (luks2 o copies) n chosen made in rw is (x key opened)
+opens_by2 v (Add by_ old new to iterations d) w o copies chosen x = λ n key made. x n key (makes_by v (Add by_ old new to iterations d) (luks2 o copies) n chosen made)
+opens_by2 v (Change slot old new iterations d) w o copies chosen x = λ n key made opened.
+    let is : n ≡ slot = makes_by v (Change slot old new iterations d) (luks2 o copies) n chosen made in rw is (x key opened)
 opens_by2 v (Remove slot by_ passphrase) w o copies chosen x = tt
 opens_by2 v Repair w o copies chosen x = tt
 opens_by2 v (Label text) w o copies chosen x = tt

@@ -59,19 +59,19 @@ first_untold v payload e f first =
 -- the keyslot that is told
 
 pub tells_slot1 : (v : List ℕ) (e : Edit) (told : Option ℕ) → Chosen v luks1 → Tells1 v e told → TellsSlot v e told
-tells_slot1 v (Add by_ old new to iterations) (Some n) chosen x = record { choice = luks1; chosen = chosen; makes = x }
-tells_slot1 v (Add by_ old new to iterations) None chosen x = absurd x
-tells_slot1 v (Change slot old new iterations) (Some n) chosen x = record { choice = luks1; chosen = chosen; makes = x }
-tells_slot1 v (Change slot old new iterations) None chosen x = absurd x
+tells_slot1 v (Add by_ old new to iterations d) (Some n) chosen x = record { choice = luks1; chosen = chosen; makes = x }
+tells_slot1 v (Add by_ old new to iterations d) None chosen x = absurd x
+tells_slot1 v (Change slot old new iterations d) (Some n) chosen x = record { choice = luks1; chosen = chosen; makes = x }
+tells_slot1 v (Change slot old new iterations d) None chosen x = absurd x
 tells_slot1 v (Remove slot by_ passphrase) told chosen x = subst (λ t. TellsSlot v (Remove slot by_ passphrase) t) (sym x) (λ n made. made.makes)
 tells_slot1 v Repair told chosen x = subst (λ t. TellsSlot v Repair t) (sym x) (λ n made. made.makes)
 tells_slot1 v (Label text) told chosen x = absurd x
 
 pub tells_slot2 : (v : List ℕ) (e : Edit) (told : Option ℕ) (o : ℕ) (copies : Copies) → Chosen v (luks2 o copies) → Tells2 v e told → TellsSlot v e told
-tells_slot2 v (Add by_ old new to iterations) (Some n) o copies chosen x = record { choice = luks2 o copies; chosen = chosen; makes = x }
-tells_slot2 v (Add by_ old new to iterations) None o copies chosen x = absurd x
-tells_slot2 v (Change slot old new iterations) told o copies chosen x =
-    subst (λ t. TellsSlot v (Change slot old new iterations) t) (sym x) (record { choice = luks2 o copies; chosen = chosen; makes = refl })
+tells_slot2 v (Add by_ old new to iterations d) (Some n) o copies chosen x = record { choice = luks2 o copies; chosen = chosen; makes = x }
+tells_slot2 v (Add by_ old new to iterations d) None o copies chosen x = absurd x
+tells_slot2 v (Change slot old new iterations d) told o copies chosen x =
+    subst (λ t. TellsSlot v (Change slot old new iterations d) t) (sym x) (record { choice = luks2 o copies; chosen = chosen; makes = refl })
 tells_slot2 v (Remove slot by_ passphrase) told o copies chosen x = subst (λ t. TellsSlot v (Remove slot by_ passphrase) t) (sym x) (λ n made. made.makes)
 tells_slot2 v Repair told o copies chosen x = subst (λ t. TellsSlot v Repair t) (sym x) (λ n made. made.makes)
 tells_slot2 v (Label text) told o copies chosen x = subst (λ t. TellsSlot v (Label text) t) (sym x) (λ n made. made.makes)

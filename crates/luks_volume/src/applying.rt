@@ -3,11 +3,12 @@ ghost use Rattle.std.specs.Prelude.{◌≡◌, ◌≢◌, ◌+◌, ◌^◌, ◌<
 ghost use Rattle.luks_area.specs.Device.{CountsFailure, IsSettled};
 ghost use Rattle.luks_edit.specs.EditFaults.{is_edit_failure};
 ghost use Rattle.luks_reading.specs.Header.{IsAcceptedHeader, IsHeader, TakesNoMemory};
-ghost use Rattle.luks2_edit_laws.specs.Edited.{HasRangedIterations};
+ghost use Rattle.luks2_edit_laws.specs.Edited.{HasRangedDerivation};
 ghost use Rattle.luks_volume.specs.Outcome.{IsApplied};
 
 use crate::header::edited_header;
 use luks_edit::{Deed, Done, Edit, EditFault};
+use luks_making::asked_fits;
 use luks_reading::{Data, Device, Header};
 use luks1_edits::apply_luks1;
 use luks2_editing::apply_luks2;
@@ -41,7 +42,7 @@ pub fn apply<D: Device>(
     ensures memory { D.tells → TakesNoMemory (D.bytes device.old)
         → IfErr result (λ f. f ≢ EditFault.Memory) }
 {
-    iterations_have_32_bits(edit);
+    derivation_has_32_bits(edit);
     let header = edited_header(alloc, device)?;
     apply_of_header(alloc, device, header, data_, edit, random)
 }
@@ -74,27 +75,20 @@ pub fn apply_of_header<D: Device>(
     ensures memory { D.tells → TakesNoMemory (D.bytes device.old)
         → IfErr result (λ f. f ≢ EditFault.Memory) }
 {
-    iterations_have_32_bits(edit);
+    derivation_has_32_bits(edit);
     match header {
         Header::Luks1(bytes) => apply_luks1(alloc, device, &bytes, data_, edit, random),
         Header::Luks2(_) => apply_luks2(alloc, device, header, data_, edit, random),
     }
 }
 
-/// The iterations of an edit's new keyslot have the range of their type.
-fn iterations_have_32_bits(edit: &Edit<'_>)
-    ensures { HasRangedIterations edit.now }
+/// The numbers of the derivation that an edit asks for have the ranges of their types.
+fn derivation_has_32_bits(edit: &Edit<'_>)
+    ensures { HasRangedDerivation edit.now }
 {
     match edit.deed() {
-        Deed::Seal(sealed) => has_32_bits(sealed.iterations),
+        Deed::Seal(sealed) => asked_fits(sealed.derivation),
         Deed::Remove(_) => {}
         Deed::Rewrite { .. } => {}
     }
-}
-
-/// A number of the type has its range.
-fn has_32_bits(n: u32)
-    ensures { n < 2 ^ 32 }
-{
-    let _n = n;
 }

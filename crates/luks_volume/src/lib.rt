@@ -16,7 +16,9 @@ pub use luks_converting::{
     CONVERT_RANDOM, ConvertFault, convert, converted_volume_opens_alike,
     copied_keyslot_opens_alike, metadata_is_never_full,
 };
-pub use luks_edit::{Done, Edit, EditFault, LEAST_ITERATIONS, Passphrase, RunFault, Step};
+pub use luks_edit::{
+    Argon2Costs, Done, Edit, EditFault, LEAST_ITERATIONS, NewDerivation, Passphrase, RunFault, Step,
+};
 pub use luks_formatting::{FORMAT1_RANDOM, FORMAT2_RANDOM, Format, FormatFault, format1, format2};
 pub use luks_head::{IterationsOf, Luks1Common, TextField};
 pub use luks_kdf::HashName;

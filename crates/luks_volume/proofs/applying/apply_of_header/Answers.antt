@@ -11,7 +11,7 @@ returns-in-Luks1-clause-applied g c = λ tells.
     let w = g.D.Device.bytes c.apply_luks1.new.device in
     let is = rw c.in-Luks1.is at (c.requires.read tells) in
     let ranges = has_ranges v c.args.edit.now c.args.random.now (g.met.D.Device.sized c.args.device.now tells) (g.met.D.Device.bounded c.args.device.now)
-    c.iterations_have_32_bits.ensures (λ k. (c.type_inv.random k).fits) in
+    c.derivation_has_32_bits.ensures (λ k. (c.type_inv.random k).fits) in
     applied_by c.args.data_ v c.args.edit.now c.args.random.now c.apply_luks1.result w ranges
     (replies_by1 v c.args.data_ c.args.edit.now c.args.random.now w is.0 ranges c.apply_luks1.result (c.apply_luks1.ensures.replies tells is))
 
@@ -22,7 +22,7 @@ returns-in-Luks2-clause-applied g c = λ tells.
     let read = c.requires.read tells in
     let copy = rw c.in-Luks2.is at read in
     let ranges = has_ranges v c.args.edit.now c.args.random.now (g.met.D.Device.sized c.args.device.now tells) (g.met.D.Device.bounded c.args.device.now)
-    c.iterations_have_32_bits.ensures (λ k. (c.type_inv.random k).fits) in
+    c.derivation_has_32_bits.ensures (λ k. (c.type_inv.random k).fits) in
     applied_by c.args.data_ v c.args.edit.now c.args.random.now c.apply_luks2.result w ranges
     (replies_by2 v c.args.data_ c.args.edit.now c.args.random.now w
     c.in-Luks2.field-0.header.hdr_offset c.in-Luks2.field-0.copies copy.chosen
