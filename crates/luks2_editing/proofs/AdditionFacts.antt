@@ -1,5 +1,5 @@
 -- A keyslot that is added to a LUKS2 volume: what its metadata says, and what the addition leaves.
-use Rattle.std.proofs.Common.{◌≡◌, ℕ, ◌<◌, ◌≤◌, Bor, List, length, codes, Option, Some, inl, inr, refl, sym, ap, ◌∙◌, subst}
+use Rattle.std.proofs.Common.{◌≡◌, ℕ, ◌<◌, ◌≤◌, Bor, List, length, codes, false, Option, Some, inl, inr, refl, sym, ap, ◌∙◌, subst}
 use Rattle.std.proofs.lemmas.Option.{same_Some}
 use Rattle.serde_json.specs.Data.{Data as Value}
 use Rattle.luks_area.specs.declared.area.Area.{Area}
@@ -11,6 +11,8 @@ use Rattle.luks_rules.specs.declared.table.Section.TheVariants.{Keyslots}
 use Rattle.luks_rules.specs.Accepted.{HasObject}
 use Rattle.luks_rules.specs.Reading.{number_in}
 use Rattle.luks_rules.specs.Sizes.{inside_at}
+use Rattle.luks_making.specs.declared.derivation.AskedDerivation.{AskedDerivation}
+use Rattle.luks_making.specs.Derivations.{asked_beyond}
 use Rattle.luks_making.specs.Keyslots.{slot_value}
 use Rattle.luks_making.specs.Naming.{IsDigestOf}
 use Rattle.luks_meta.specs.Content.{content}
@@ -27,7 +29,7 @@ use Rattle.luks_edit.specs.declared.edit.Passphrase.{Passphrase}
 use Rattle.luks2_edit_laws.specs.Edited.{keyslot_salt, members_of, stripes_random, After2, HoldsKey, HoldsOpened, IsEdited, IsMadeIn}
 use Rattle.luks2_edit_laws.specs.Metadata.{HasStripes, IsKeyArea, IsNewKeyslot}
 use Rattle.luks2_edit_laws.specs.Places.{IsNewArea, IsOfCopies, IsOfNewKeyslot, IsTouched}
-use Rattle.luks2_edit_laws.proofs.AlikeFacts.{made_derived, SaysLike}
+use Rattle.luks2_edit_laws.proofs.AlikeFacts.{made_derived_or, OpensAlike, SaysLike}
 use Rattle.luks2_edit_laws.proofs.SealFacts.{opened_plan, IsOpened}
 use Rattle.luks2_judging.specs.Rows.{HasNoFaultBefore}
 use Rattle.luks2_judging.specs.declared.judged.Addition.{Addition}
@@ -42,7 +44,7 @@ use Rattle.luks2_editing.proofs.RenewalFacts.{metadata_here}
 
 -- ---- the new keyslot, made with the members of the keyslot `like`
 
-module _ (j k : Value) (slot like iterations : ℕ) (salt : List ℕ) (area : Area) (x : IsGained slot like (members_of iterations salt area) j k) (small : slot < 32) where
+module _ (j k : Value) (slot like : ℕ) (derivation : AskedDerivation) (salt : List ℕ) (area : Area) (x : IsGained slot like (members_of derivation salt area) j k) (small : slot < 32) where
   made_object : HasObject k Keyslots slot (slot_value x.added.slot)
   made_object = record { numbered = refl; named = small; is = x.gains.there }
 
@@ -72,24 +74,25 @@ module _ (j k : Value) (slot like iterations : ℕ) (salt : List ℕ) (area : Ar
   -- ---- its plan
 
   -- it says of its opening what the other says
-  made_like : 8 ≤ length salt → SaysLike x.added.from (slot_value x.added.slot)
-  made_like long = record {
-    derived = λ a b was now.
-        made_derived x.added.from (slot_value x.added.slot) x.added.slot.salt x.says.salt (rw x.added.made.salt long) iterations x.added.slot.derivation a b
-        x.added.made.derivation x.says.derivation was now;
+  made_like : (memory : ℕ) → 8 ≤ length salt → asked_beyond memory derivation ≡ false → SaysLike memory x.added.from (slot_value x.added.slot)
+  made_like memory long within = record {
+    derived = λ a b hash was now splitter.
+        subst (λ h. OpensAlike memory h a b) (same_Some x.added.slot.splitter_hash hash (sym x.added.made.splitter_hash ∙ splitter))
+        (made_derived_or memory x.added.from (slot_value x.added.slot) x.added.slot.splitter_hash x.added.slot.salt x.says.salt (rw x.added.made.salt long) derivation.iterations derivation.chosen
+        x.added.slot.derivation a b within x.added.made.derivation x.says.derivation was now);
     encryption = x.says.encryption ∙ sym x.added.made.encryption;
     area_key = x.says.area_key_size ∙ sym x.added.made.area_key_size;
     splitter = x.says.splitter_hash ∙ sym x.added.made.splitter_hash;
   }
 
   -- where the other was opened, its plan isn't refused
-  made_unrefused : {memory : ℕ} {v : List ℕ} {o : ℕ} (g : SlotFault) → 8 ≤ length salt → IsOpened memory v o j like → ((n m : ℕ) → IsDigestOf j like n → IsDigestOf j like m → n ≡ m)
+  made_unrefused : {memory : ℕ} {v : List ℕ} {o : ℕ} (g : SlotFault) → 8 ≤ length salt → asked_beyond memory derivation ≡ false → IsOpened memory v o j like → ((n m : ℕ) → IsDigestOf j like n → IsDigestOf j like m → n ≡ m)
       → HasRefusedKeyslot memory k slot g → ⊥
-  made_unrefused g long open_ once bad =
+  made_unrefused {memory} g long within open_ once bad =
       let was : open_.object ≡ x.added.from = same_Some open_.object x.added.from (sym open_.there ∙ x.added.there.is) in
       let now : bad.object ≡ slot_value x.added.slot = same_Some bad.object (slot_value x.added.slot) (sym bad.there.is ∙ x.gains.there) in
       like_unrefused j k like slot g open_ bad
-      (subst (λ d. SaysLike d bad.object) (sym was) (subst (λ d. SaysLike x.added.from d) (sym now) (made_like long)))
+      (subst (λ d. SaysLike memory d bad.object) (sym was) (subst (λ d. SaysLike memory x.added.from d) (sym now) (made_like memory long within)))
       (λ m names. subst (λ i. IsDigestOf k slot i) (once x.added.digest m x.added.names names) x.gains.names)
       x.gains.rest.digests
 
@@ -99,18 +102,18 @@ module _ (j k : Value) (slot like iterations : ℕ) (salt : List ℕ) (area : Ar
 pub record IsJudgedAddition (v : List ℕ) (payload : Data) (copy : ChosenCopy) (addition : Addition) (old : Passphrase) (new : Bor (List ℕ)) (to : Option ℕ) (key random : List ℕ) : Type 0 where
   pub chosen : IsChosenCopy v copy
   pub well : WellFormed v payload
-  pub before : HasNoFaultBefore 12 v payload (Add addition.by_ old new to addition.iterations) random
+  pub before : HasNoFaultBefore 13 v payload (Add addition.by_ old new to addition.derivation.iterations addition.derivation.chosen) random
   pub opened : AnswerWithin (memory_for old new.now) v addition.by_ old.bytes.now (opens key)
   pub is_new : IsNewKeyslot (content copy.meta) to addition.made
   pub place : IsNewArea (hdr_size (header_at v copy.header.hdr_offset)) (length v) payload (content copy.meta) addition.by_ addition.area
 
 -- what it seals
 abbrev pub sealing_of : Addition → Sealing
-sealing_of a = record { keyslot = Made a.made a.by_; iterations = a.iterations; area = a.area }
+sealing_of a = record { keyslot = Made a.made a.by_; derivation = a.derivation; area = a.area }
 
 module _ (v : List ℕ) (payload : Data) (copy : ChosenCopy) (addition : Addition) (old : Passphrase) (new : Bor (List ℕ)) (to : Option ℕ) (key random : List ℕ)
     (x : IsJudgedAddition v payload copy addition old new to key random) where
-  pub addition_seals : IsSealingEdit v payload (Add addition.by_ old new to addition.iterations) random copy (sealing_of addition)
+  pub addition_seals : IsSealingEdit v payload (Add addition.by_ old new to addition.derivation.iterations addition.derivation.chosen) random copy (sealing_of addition)
   addition_seals = record {
     chosen = x.chosen;
     well = x.well;
@@ -123,37 +126,37 @@ module _ (v : List ℕ) (payload : Data) (copy : ChosenCopy) (addition : Additio
   }
 
   module _ (small : addition.made < 32) (k : Value)
-      (gained : IsGained addition.made addition.by_ (members_of addition.iterations (keyslot_salt random) addition.area) (content copy.meta) k) where
+      (gained : IsGained addition.made addition.by_ (members_of addition.derivation (keyslot_salt random) addition.area) (content copy.meta) k) where
     place_in : (p : ℕ) → IsOfStripesOf k addition.made p
         → IsOfNewKeyslot (hdr_size (header_at v copy.header.hdr_offset)) (length v) payload (content copy.meta) addition.by_ p
     place_in p at = alike_place (content copy.meta) k addition.by_ addition.made addition.area
-        (made_alike (content copy.meta) k addition.made addition.by_ addition.iterations (keyslot_salt random) addition.area gained small)
+        (made_alike (content copy.meta) k addition.made addition.by_ addition.derivation (keyslot_salt random) addition.area gained small)
         (hdr_size (header_at v copy.header.hdr_offset)) (length v) payload p x.place at
 
     sealed_in : (w : List ℕ) → HoldsKey w k addition.made new.now key (stripes_random random)
         → HoldsOpened (memory_for old new.now) v addition.by_ old.bytes.now new.now (IsNewKeyslot (content copy.meta) to) random w k
     sealed_in w holds = record { slot = addition.made; is_made = x.is_new; key = key; opened = x.opened; holds = holds }
 
-    pub addition_sealing : IsSealing v payload (Add addition.by_ old new to addition.iterations) random copy.header.hdr_offset (content copy.meta) k addition.made new.now key
+    pub addition_sealing : IsSealing v payload (Add addition.by_ old new to addition.derivation.iterations addition.derivation.chosen) random copy.header.hdr_offset (content copy.meta) k addition.made new.now key
     addition_sealing = record { sealed = sealed_in; place = place_in }
 
     -- its plan isn't refused
-    pub addition_fine : 160 ≤ length random → (g : SlotFault) → HasRefusedKeyslot (memory_for old new.now) k addition.made g → ⊥
-    addition_fine enough g bad = made_unrefused (content copy.meta) k addition.made addition.by_ addition.iterations (keyslot_salt random) addition.area gained small g
-        (long_salt random enough)
+    pub addition_fine : 160 ≤ length random → asked_beyond (memory_for old new.now) addition.derivation ≡ false → (g : SlotFault) → HasRefusedKeyslot (memory_for old new.now) k addition.made g → ⊥
+    addition_fine enough within g bad = made_unrefused (content copy.meta) k addition.made addition.by_ addition.derivation (keyslot_salt random) addition.area gained small g
+        (long_salt random enough) within
         (opened_plan (memory_for old new.now) v copy.header.hdr_offset (content copy.meta) addition.by_ old.bytes.now key (metadata_here v payload copy x.chosen x.well) x.opened)
         (one_digest (json_at v copy.header.hdr_offset) (content copy.meta) x.chosen.metadata addition.by_) bad
 
-    module _ (edited : IsEdited (hdr_size (header_at v copy.header.hdr_offset)) (length v) payload (Add addition.by_ old new to addition.iterations) (keyslot_salt random) (content copy.meta) k)
+    module _ (edited : IsEdited (hdr_size (header_at v copy.header.hdr_offset)) (length v) payload (Add addition.by_ old new to addition.derivation.iterations addition.derivation.chosen) (keyslot_salt random) (content copy.meta) k)
         (w : List ℕ) where
       touched : (p : ℕ) → IsOfEither (IsOfStripesOf k addition.made) (IsOfCopies (hdr_size (header_at v copy.header.hdr_offset))) p
-          → IsTouched (hdr_size (header_at v copy.header.hdr_offset)) (length v) payload (content copy.meta) (Add addition.by_ old new to addition.iterations) p
+          → IsTouched (hdr_size (header_at v copy.header.hdr_offset)) (length v) payload (content copy.meta) (Add addition.by_ old new to addition.derivation.iterations addition.derivation.chosen) p
       touched p (inl at) = inr (inl (place_in p at))
       touched p (inr at) = inl at
 
       -- what it leaves where it was done
-      pub added_after : IsKeyslotWritten v copy.header.hdr_offset (Add addition.by_ old new to addition.iterations) random k addition.made new.now key w
-          → After2 v payload (Add addition.by_ old new to addition.iterations) random w
+      pub added_after : IsKeyslotWritten v copy.header.hdr_offset (Add addition.by_ old new to addition.derivation.iterations addition.derivation.chosen) random k addition.made new.now key w
+          → After2 v payload (Add addition.by_ old new to addition.derivation.iterations addition.derivation.chosen) random w
       added_after written = record {
         place = copy.header.hdr_offset;
         value = content copy.meta;

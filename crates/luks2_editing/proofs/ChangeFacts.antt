@@ -1,5 +1,5 @@
 -- A keyslot of a LUKS2 volume that is sealed again: its new area, and what the edit leaves.
-use Rattle.std.proofs.Common.{◌≡◌, ℕ, ◌≤◌, Bor, List, length, replicate, codes, option_and_then, inl, inr, refl, sym, ap, ◌∙◌, subst, arith}
+use Rattle.std.proofs.Common.{◌≡◌, ℕ, ◌≤◌, Bor, List, length, replicate, codes, false, option_and_then, inl, inr, refl, sym, ap, ◌∙◌, subst, arith}
 use Rattle.std.proofs.lemmas.Option.{same_Some}
 use Rattle.serde_json.specs.Data.{Data as Value}
 use Rattle.serde_json.specs.Find.{get}
@@ -11,7 +11,9 @@ use Rattle.luks_head.specs.Header2.{header_at, hdr_size}
 use Rattle.luks_rules.specs.declared.table.Outer.TheVariants as outer
 use Rattle.luks_rules.specs.Reading.{number_in}
 use Rattle.luks_rules.specs.Sizes.{inside_at}
+use Rattle.luks_making.specs.declared.derivation.AskedDerivation.{AskedDerivation}
 use Rattle.luks_making.specs.Changed.{renewed_slot}
+use Rattle.luks_making.specs.Derivations.{asked_beyond}
 use Rattle.luks_slot.specs.declared.fault.SlotFault.{SlotFault}
 use Rattle.luks_slot.specs.Opening.{area_bytes}
 use Rattle.luks_slot.specs.Sealing.{IsSealed}
@@ -46,7 +48,7 @@ use Rattle.luks2_editing.proofs.RenewalFacts.{metadata_here, sound_here}
 
 -- ---- the keyslot in the new metadata
 
-module _ (j k : Value) (slot iterations : ℕ) (salt : List ℕ) (area : Area) (made : IsSealedAgain slot (members_of iterations salt area) j k) where
+module _ (j k : Value) (slot : ℕ) (derivation : AskedDerivation) (salt : List ℕ) (area : Area) (made : IsSealedAgain slot (members_of derivation salt area) j k) where
   -- its stripes are as before
   stripes_stay : (bytes stripes : ℕ) → HasStripes j slot bytes stripes → HasStripes k slot bytes stripes
   stripes_stay bytes stripes x =
@@ -54,7 +56,7 @@ module _ (j k : Value) (slot iterations : ℕ) (salt : List ℕ) (area : Area) (
       let says = made.changes.says in
       let object : was ≡ x.object = same_Some was x.object (sym made.changes.there.is ∙ x.there.is) in
       record {
-        object = renewed_slot (members_of iterations salt area) was;
+        object = renewed_slot (members_of derivation salt area) was;
         there = record { numbered = refl; named = made.changes.there.named; is = made.changes.is };
         key_bytes_are = ap (number_in 1 128) (says.members (codes "key_size") refl)
             ∙ ap (λ o. number_in 1 128 (inside_at outer.Top (codes "key_size") o)) object ∙ x.key_bytes_are;
@@ -64,7 +66,7 @@ module _ (j k : Value) (slot iterations : ℕ) (salt : List ℕ) (area : Area) (
 
   -- its area is the new one
   area_there : IsKeyArea k slot area
-  area_there = area_of_object k (renewed_slot (members_of iterations salt area) made.changes.was) slot area.start area.len
+  area_there = area_of_object k (renewed_slot (members_of derivation salt area) made.changes.was) slot area.start area.len
       made.changes.there.named made.changes.is made.changes.says.offset made.changes.says.size
 
   pub renewed_alike : SealsLike j k slot slot area
@@ -74,10 +76,10 @@ module _ (j k : Value) (slot iterations : ℕ) (salt : List ℕ) (area : Area) (
 
 -- what an edit that seals it again seals, once its rows up to that of the label were judged
 pub renewal_seals : (v : List ℕ) (payload : Data) (copy : ChosenCopy) (r : Renewal) (old : Passphrase) (new : Bor (List ℕ)) (key random : List ℕ)
-    → IsChosenCopy v copy → WellFormed v payload → HasNoFaultBefore 12 v payload (Change r.slot old new r.iterations) random
+    → IsChosenCopy v copy → WellFormed v payload → HasNoFaultBefore 13 v payload (Change r.slot old new r.derivation.iterations r.derivation.chosen) random
     → AnswerWithin (memory_for old new.now) v r.slot old.bytes.now (opens key)
     → IsNewArea (hdr_size (header_at v copy.header.hdr_offset)) (length v) payload (content copy.meta) r.slot r.area
-    → IsSealingEdit v payload (Change r.slot old new r.iterations) random copy (record { keyslot = Renewed r.slot; iterations = r.iterations; area = r.area })
+    → IsSealingEdit v payload (Change r.slot old new r.derivation.iterations r.derivation.chosen) random copy (record { keyslot = Renewed r.slot; derivation = r.derivation; area = r.area })
 renewal_seals v payload copy r old new key random x well before opened place = record {
   chosen = x;
   well = well;
@@ -90,43 +92,43 @@ renewal_seals v payload copy r old new key random x well before opened place = r
 }
 
 module _ (v : List ℕ) (payload : Data) (copy : ChosenCopy) (x : IsChosenCopy v copy) (well : WellFormed v payload)
-    (slot : ℕ) (old : Passphrase) (new : Bor (List ℕ)) (iterations : ℕ) (key random : List ℕ) (area : Area) (k : Value)
+    (slot : ℕ) (old : Passphrase) (new : Bor (List ℕ)) (derivation : AskedDerivation) (key random : List ℕ) (area : Area) (k : Value)
     (opened : AnswerWithin (memory_for old new.now) v slot old.bytes.now (opens key))
     (place : IsNewArea (hdr_size (header_at v copy.header.hdr_offset)) (length v) payload (content copy.meta) slot area)
-    (made : IsSealedAgain slot (members_of iterations (keyslot_salt random) area) (content copy.meta) k) where
+    (made : IsSealedAgain slot (members_of derivation (keyslot_salt random) area) (content copy.meta) k) where
   -- what is sealed is of the edit
-  pub change_sealing : IsSealing v payload (Change slot old new iterations) random copy.header.hdr_offset (content copy.meta) k slot new.now key
+  pub change_sealing : IsSealing v payload (Change slot old new derivation.iterations derivation.chosen) random copy.header.hdr_offset (content copy.meta) k slot new.now key
   change_sealing = record {
     sealed = λ w holds. record { slot = slot; is_made = refl; key = key; opened = opened; holds = holds };
-    place = λ p at. alike_place (content copy.meta) k slot slot area (renewed_alike (content copy.meta) k slot iterations (keyslot_salt random) area made)
+    place = λ p at. alike_place (content copy.meta) k slot slot area (renewed_alike (content copy.meta) k slot derivation (keyslot_salt random) area made)
         (hdr_size (header_at v copy.header.hdr_offset)) (length v) payload p place at;
   }
 
   -- its plan isn't refused
-  pub renewed_unrefused : 160 ≤ length random → (g : SlotFault) → HasRefusedKeyslot (memory_for old new.now) k slot g → ⊥
-  renewed_unrefused enough g y =
+  pub renewed_unrefused : 160 ≤ length random → asked_beyond (memory_for old new.now) derivation ≡ false → (g : SlotFault) → HasRefusedKeyslot (memory_for old new.now) k slot g → ⊥
+  renewed_unrefused enough within g y =
       let j : Value = content copy.meta in
       let was : IsOpened (memory_for old new.now) v copy.header.hdr_offset j slot = opened_plan (memory_for old new.now) v copy.header.hdr_offset j slot old.bytes.now key (metadata_here v payload copy x well) opened in
-      let now : renewed_slot (members_of iterations (keyslot_salt random) area) made.changes.was ≡ y.object =
-      same_Some (renewed_slot (members_of iterations (keyslot_salt random) area) made.changes.was) y.object (sym made.changes.is ∙ y.there.is) in
+      let now : renewed_slot (members_of derivation (keyslot_salt random) area) made.changes.was ≡ y.object =
+      same_Some (renewed_slot (members_of derivation (keyslot_salt random) area) made.changes.was) y.object (sym made.changes.is ∙ y.there.is) in
       let object : made.changes.was ≡ was.object = same_Some made.changes.was was.object (sym made.changes.there.is ∙ was.there) in
-      let like : SaysLike made.changes.was (renewed_slot (members_of iterations (keyslot_salt random) area) made.changes.was) =
-      like_changed made.changes.was (renewed_slot (members_of iterations (keyslot_salt random) area) made.changes.was)
-      (members_of iterations (keyslot_salt random) area) made.changes.says (long_salt random enough) in
-      like_unrefused j k slot slot g was y (subst (λ d. SaysLike d y.object) object (subst (λ d. SaysLike made.changes.was d) now like))
+      let like : SaysLike (memory_for old new.now) made.changes.was (renewed_slot (members_of derivation (keyslot_salt random) area) made.changes.was) =
+      like_changed (memory_for old new.now) made.changes.was (renewed_slot (members_of derivation (keyslot_salt random) area) made.changes.was)
+      (members_of derivation (keyslot_salt random) area) made.changes.says (long_salt random enough) within in
+      like_unrefused j k slot slot g was y (subst (λ d. SaysLike (memory_for old new.now) d y.object) object (subst (λ d. SaysLike (memory_for old new.now) made.changes.was d) now like))
       (λ m is. (made.changes.naming slot m).0 is) made.changes.rest.digests
 
-  module _ (free : IsUnrefused2 v payload (Change slot old new iterations) random)
-      (edited : IsEdited (hdr_size (header_at v copy.header.hdr_offset)) (length v) payload (Change slot old new iterations) (keyslot_salt random) (content copy.meta) k) where
+  module _ (free : IsUnrefused2 v payload (Change slot old new derivation.iterations derivation.chosen) random)
+      (edited : IsEdited (hdr_size (header_at v copy.header.hdr_offset)) (length v) payload (Change slot old new derivation.iterations derivation.chosen) (keyslot_salt random) (content copy.meta) k) where
     -- ---- the old area
 
     module _ (lost : Area) (is : IsKeyArea (content copy.meta) slot lost) (w y : List ℕ)
-        (written : IsKeyslotWritten v copy.header.hdr_offset (Change slot old new iterations) random k slot new.now key w)
+        (written : IsKeyslotWritten v copy.header.hdr_offset (Change slot old new derivation.iterations derivation.chosen) random k slot new.now key w)
         (wiping : SameBut (IsAt lost.start lost.len) w y) where
       -- the new one lies beside it
       apart : (a : Area) → IsKeyArea k slot a → (p : ℕ) → IsAt a.start a.len p → IsAt lost.start lost.len p → ⊥
       apart a there p here at =
-          let new_there = area_there (content copy.meta) k slot iterations (keyslot_salt random) area made in
+          let new_there = area_there (content copy.meta) k slot derivation (keyslot_salt random) area made in
           let start : a.start ≡ area.start = same_start k slot a area there new_there in
           let len : a.len ≡ area.len = same_len k slot a area there new_there in
           let low = here.0 in
@@ -150,26 +152,26 @@ module _ (v : List ℕ) (payload : Data) (copy : ChosenCopy) (x : IsChosenCopy v
             sealed = subst (λ l. IsSealed h.plan l new.now key (stripes_random random)) (sym same) h.sealed;
           }
 
-      anew_kept : AreWrittenAnew v copy.header.hdr_offset (Change slot old new iterations) random k y
+      anew_kept : AreWrittenAnew v copy.header.hdr_offset (Change slot old new derivation.iterations derivation.chosen) random k y
       anew_kept =
           let size : 16384 ≤ hdr_size (header_at v copy.header.hdr_offset) =
           listed_at_least (hdr_size (header_at v copy.header.hdr_offset)) (sound_here v payload copy x well).form.listed in
-          both_beside v copy.header.hdr_offset (Change slot old new iterations) random k w y lost.start lost.len (omega (arith, size)) wiping
+          both_beside v copy.header.hdr_offset (Change slot old new derivation.iterations derivation.chosen) random k w y lost.start lost.len (omega (arith, size)) wiping
           (beside_first v payload copy x well slot lost is) (beside_second v payload copy x well slot lost is) written.anew
 
-      rest_touched : SameBut (IsTouched (hdr_size (header_at v copy.header.hdr_offset)) (length v) payload (content copy.meta) (Change slot old new iterations)) v y
+      rest_touched : SameBut (IsTouched (hdr_size (header_at v copy.header.hdr_offset)) (length v) payload (content copy.meta) (Change slot old new derivation.iterations derivation.chosen)) v y
       rest_touched = same_but-then
           (same_but-wider (λ p at. of_written p at) written.rest)
           (same_but-wider (λ p at. inr (inr (record { area = lost; is = is; at = at }))) wiping)
         where
           of_written : (p : ℕ) → IsOfEither (IsOfStripesOf k slot) (IsOfCopies (hdr_size (header_at v copy.header.hdr_offset))) p
-              → IsTouched (hdr_size (header_at v copy.header.hdr_offset)) (length v) payload (content copy.meta) (Change slot old new iterations) p
+              → IsTouched (hdr_size (header_at v copy.header.hdr_offset)) (length v) payload (content copy.meta) (Change slot old new derivation.iterations derivation.chosen) p
           of_written p (inl at) = inr (inl (change_sealing.place p at))
           of_written p (inr at) = inl at
 
       -- while it was overwritten
-      pub torn_lost : Leftover2 v payload (Change slot old new iterations) random y
-      torn_lost = torn_leftover v payload copy x well (Change slot old new iterations) random k free edited y (inr (inr (inr (record {
+      pub torn_lost : Leftover2 v payload (Change slot old new derivation.iterations derivation.chosen) random y
+      torn_lost = torn_leftover v payload copy x well (Change slot old new derivation.iterations derivation.chosen) random k free edited y (inr (inr (inr (record {
         sealed = change_sealing.sealed y holds_kept;
         first = anew_kept.first;
         second = anew_kept.second;
@@ -177,7 +179,7 @@ module _ (v : List ℕ) (payload : Data) (copy : ChosenCopy) (x : IsChosenCopy v
       }))))
 
       -- once it was
-      pub changed_after : part y lost.start lost.len ≡ replicate lost.len 0 → After2 v payload (Change slot old new iterations) random y
+      pub changed_after : part y lost.start lost.len ≡ replicate lost.len 0 → After2 v payload (Change slot old new derivation.iterations derivation.chosen) random y
       changed_after wiped = record {
         place = copy.header.hdr_offset;
         value = content copy.meta;

@@ -5,7 +5,9 @@ use Rattle.serde_json.specs.Data.{Data as Value}
 use Rattle.luks_area.specs.declared.area.Area.{Area}
 use Rattle.luks_area.specs.Sectors.{rounded_to_sectors}
 use Rattle.luks_rules.specs.Sizes.{region_start}
+use Rattle.luks_making.specs.declared.derivation.AskedDerivation.{AskedDerivation}
 use Rattle.luks_making.specs.Conditions.{CanSeal, IsThere}
+use Rattle.luks_making.specs.Derivations.{IsPositive}
 use Rattle.luks_reading.specs.declared.report.Data.{Data}
 use Rattle.luks_edit.specs.declared.edit.Edit.{Edit}
 use Rattle.luks_edit.specs.declared.edit.Edit.TheVariants.{Add, Change, Remove, Repair, Label}
@@ -27,11 +29,11 @@ pub placed_used : (len : ℕ) (j : Value) (total n : ℕ) (area : Area) → IsPl
 placed_used len j total n area x = (x.blocks.slot.there.named, ap is_some x.blocks.slot.there.is)
 
 -- it suits the keyslot
-pub placed_suits : (len : ℕ) (j : Value) (total n : ℕ) (area : Area) (iterations : ℕ) (salt : List ℕ)
-    → IsPlaced len j total n area → IsThere j n → 1 ≤ iterations → length salt ≡ 32 → CanSeal len j n (members_of iterations salt area)
-placed_suits len j total n area iterations salt x slot turns long = record {
+pub placed_suits : (len : ℕ) (j : Value) (total n : ℕ) (area : Area) (derivation : AskedDerivation) (salt : List ℕ)
+    → IsPlaced len j total n area → IsThere j n → IsPositive derivation → length salt ≡ 32 → CanSeal len j n (members_of derivation salt area)
+placed_suits len j total n area derivation salt x slot positive long = record {
   slot = slot;
-  iterations = turns;
+  derivation = positive;
   salt = record { from = omega (arith, long); to = omega (arith, long) };
   large = λ key stripes is_key are_stripes. (
       let here : HasStripes j n key stripes = record { object = slot.object; there = slot.there; key_bytes_are = is_key; stripes_are = are_stripes } in
@@ -48,38 +50,38 @@ placed_suits len j total n area iterations salt x slot turns long = record {
 -- ---- the edit
 
 -- what is made by it is what it makes
-pub made_edited : (h total : ℕ) (payload : Data) (e : Edit) (j k : Value) (keyslot : SealedSlot) (iterations : ℕ) (salt : List ℕ) (area : Area)
-    → AsksFor e j keyslot iterations → IsNewArea h total payload j (like_of keyslot) area → IsMadeBy keyslot (members_of iterations salt area) j k
+pub made_edited : (h total : ℕ) (payload : Data) (e : Edit) (j k : Value) (keyslot : SealedSlot) (derivation : AskedDerivation) (salt : List ℕ) (area : Area)
+    → AsksFor e j keyslot derivation → IsNewArea h total payload j (like_of keyslot) area → IsMadeBy keyslot (members_of derivation salt area) j k
     → IsEdited h total payload e salt j k
-made_edited h total payload (Add by_ old new to n) j k (Made slot like) iterations salt area asked place made =
+made_edited h total payload (Add by_ old new to n chosen) j k (Made slot like) derivation salt area asked place made =
     subst (λ i. HasAdded h total payload by_ to i salt j k) asked.1
-    (subst (λ m. HasAdded h total payload m to iterations salt j k) asked.0
+    (subst (λ m. HasAdded h total payload m to derivation salt j k) asked.0
     (record { slot = slot; is_new = asked.2; area = area; place = place; is = made.added }))
-made_edited h total payload (Add by_ old new to n) j k (Renewed slot) iterations salt area asked place made = absurd asked
-made_edited h total payload (Change named old new n) j k (Made slot like) iterations salt area asked place made = absurd asked
-made_edited h total payload (Change named old new n) j k (Renewed slot) iterations salt area asked place made =
+made_edited h total payload (Add by_ old new to n chosen) j k (Renewed slot) derivation salt area asked place made = absurd asked
+made_edited h total payload (Change named old new n chosen) j k (Made slot like) derivation salt area asked place made = absurd asked
+made_edited h total payload (Change named old new n chosen) j k (Renewed slot) derivation salt area asked place made =
     subst (λ i. HasChanged h total payload named i salt j k) asked.1
-    (subst (λ m. HasChanged h total payload m iterations salt j k) asked.0
+    (subst (λ m. HasChanged h total payload m derivation salt j k) asked.0
     (record { area = area; place = place; is = made.is }))
-made_edited h total payload (Remove slot by_ passphrase) j k (Made made_slot like) iterations salt area asked place made = absurd asked
-made_edited h total payload (Remove slot by_ passphrase) j k (Renewed made_slot) iterations salt area asked place made = absurd asked
-made_edited h total payload Repair j k (Made slot like) iterations salt area asked place made = absurd asked
-made_edited h total payload Repair j k (Renewed slot) iterations salt area asked place made = absurd asked
-made_edited h total payload (Label text) j k (Made slot like) iterations salt area asked place made = absurd asked
-made_edited h total payload (Label text) j k (Renewed slot) iterations salt area asked place made = absurd asked
+made_edited h total payload (Remove slot by_ passphrase) j k (Made made_slot like) derivation salt area asked place made = absurd asked
+made_edited h total payload (Remove slot by_ passphrase) j k (Renewed made_slot) derivation salt area asked place made = absurd asked
+made_edited h total payload Repair j k (Made slot like) derivation salt area asked place made = absurd asked
+made_edited h total payload Repair j k (Renewed slot) derivation salt area asked place made = absurd asked
+made_edited h total payload (Label text) j k (Made slot like) derivation salt area asked place made = absurd asked
+made_edited h total payload (Label text) j k (Renewed slot) derivation salt area asked place made = absurd asked
 
 -- it takes as many random bytes as a keyslot like that
-pub asked_need : (e : Edit) (j : Value) (keyslot : SealedSlot) (iterations k : ℕ) → AsksFor e j keyslot iterations → NeedsLike j (like_of keyslot) k → Need2 j e k
-asked_need (Add by_ old new to n) j (Made slot like) iterations k asked need = subst (λ m. NeedsLike j m k) asked.0 need
-asked_need (Add by_ old new to n) j (Renewed slot) iterations k asked need = absurd asked
-asked_need (Change named old new n) j (Made slot like) iterations k asked need = absurd asked
-asked_need (Change named old new n) j (Renewed slot) iterations k asked need = subst (λ m. NeedsLike j m k) asked.0 need
-asked_need (Remove slot by_ passphrase) j (Made made_slot like) iterations k asked need = absurd asked
-asked_need (Remove slot by_ passphrase) j (Renewed made_slot) iterations k asked need = absurd asked
-asked_need Repair j (Made slot like) iterations k asked need = absurd asked
-asked_need Repair j (Renewed slot) iterations k asked need = absurd asked
-asked_need (Label text) j (Made slot like) iterations k asked need = absurd asked
-asked_need (Label text) j (Renewed slot) iterations k asked need = absurd asked
+pub asked_need : (e : Edit) (j : Value) (keyslot : SealedSlot) (derivation : AskedDerivation) (k : ℕ) → AsksFor e j keyslot derivation → NeedsLike j (like_of keyslot) k → Need2 j e k
+asked_need (Add by_ old new to n chosen) j (Made slot like) derivation k asked need = subst (λ m. NeedsLike j m k) asked.0 need
+asked_need (Add by_ old new to n chosen) j (Renewed slot) derivation k asked need = absurd asked
+asked_need (Change named old new n chosen) j (Made slot like) derivation k asked need = absurd asked
+asked_need (Change named old new n chosen) j (Renewed slot) derivation k asked need = subst (λ m. NeedsLike j m k) asked.0 need
+asked_need (Remove slot by_ passphrase) j (Made made_slot like) derivation k asked need = absurd asked
+asked_need (Remove slot by_ passphrase) j (Renewed made_slot) derivation k asked need = absurd asked
+asked_need Repair j (Made slot like) derivation k asked need = absurd asked
+asked_need Repair j (Renewed slot) derivation k asked need = absurd asked
+asked_need (Label text) j (Made slot like) derivation k asked need = absurd asked
+asked_need (Label text) j (Renewed slot) derivation k asked need = absurd asked
 
 -- as many random bytes are enough for the salt
 pub enough_random : (j : Value) (n k : ℕ) → NeedsLike j n k → 160 ≤ k

@@ -1,5 +1,5 @@
 -- The plan of a keyslot that an edit makes or seals again, beside that of the keyslot that it opened.
-use Rattle.std.proofs.Common.{◌≡◌, ◌≤◌, ℕ, List, [], ◌∷◌, length, codes, Some, None, option_and_then, refl, sym, ap, ◌∙◌, arith}
+use Rattle.std.proofs.Common.{◌≡◌, ◌≤◌, ℕ, List, [], ◌∷◌, length, codes, false, Some, None, option_and_then, refl, sym, ap, ◌∙◌, arith}
 use Rattle.std.proofs.lemmas.Option.{same_Some}
 use Rattle.serde_json.specs.Data.{Data as Value}
 use Rattle.serde_json.specs.Find.{get}
@@ -8,6 +8,7 @@ use Rattle.luks_rules.specs.declared.table.Outer.TheVariants as outer
 use Rattle.luks_rules.specs.declared.table.Section.TheVariants.{Digests}
 use Rattle.luks_rules.specs.Faults.{member_at, object_at}
 use Rattle.luks_rules.specs.Reading.{number_in, text_of}
+use Rattle.luks_making.specs.Derivations.{asked_beyond}
 use Rattle.luks_making.specs.Naming.{IsDigestOf}
 use Rattle.luks_making.specs.Unchanged.{KeepsObjects, SaysNew}
 use Rattle.luks_making.specs.Keyslots.{NewMembers}
@@ -15,7 +16,7 @@ use Rattle.luks_slot.specs.declared.fault.SlotFault.{SlotFault}
 use Rattle.luks_slot.specs.Refusal.{slot_refusal_within}
 use Rattle.luks_reading.specs.Plans.{IsLuks2Digest}
 use Rattle.luks2_edit_laws.specs.Edited.{keyslot_salt}
-use Rattle.luks2_edit_laws.proofs.AlikeFacts.{alike_refusal, changed_derived, SaysLike}
+use Rattle.luks2_edit_laws.proofs.AlikeFacts.{alike_refusal, changed_derived_or, SaysLike}
 use Rattle.luks2_edit_laws.proofs.SealFacts.{salt_length, IsOpened}
 use Rattle.luks2_editing.specs.SealedKeyslot.{HasRefusedKeyslot}
 
@@ -26,9 +27,11 @@ long_salt random enough = let long : length (keyslot_salt random) ≡ 32 = salt_
 -- ---- a keyslot that says of its opening what another says
 
 -- one that was changed
-pub like_changed : (was now : Value) (f : NewMembers) → SaysNew f was now → 8 ≤ length f.salt → SaysLike was now
-like_changed was now f says long = record {
-  derived = λ a b x y. changed_derived f was now a b says long x y;
+pub like_changed : (memory : ℕ) (was now : Value) (f : NewMembers) → SaysNew f was now → 8 ≤ length f.salt → asked_beyond memory f.derivation ≡ false → SaysLike memory was now
+like_changed memory was now f says long within = record {
+  derived = λ a b hash x y splitter.
+      changed_derived_or memory f was now hash says.salt long (ap (λ a. text_of (option_and_then (get (codes "hash")) a)) (says.members (codes "af") refl) ∙ splitter)
+      f.derivation.chosen a b within says.derivation x y;
   encryption = ap text_of (says.area (codes "encryption") refl);
   area_key = ap (number_in 1 128) (says.area (codes "key_size") refl);
   splitter = ap (λ a. text_of (option_and_then (get (codes "hash")) a)) (says.members (codes "af") refl);
@@ -36,7 +39,7 @@ like_changed was now f says long = record {
 
 -- where a keyslot was opened, a new one that says the same, by a digest that says the same, isn't
 -- refused
-pub like_unrefused : {memory : ℕ} {v : List ℕ} {o : ℕ} (j k : Value) (opener n : ℕ) (g : SlotFault) (x : IsOpened memory v o j opener) (y : HasRefusedKeyslot memory k n g) → SaysLike x.object y.object
+pub like_unrefused : {memory : ℕ} {v : List ℕ} {o : ℕ} (j k : Value) (opener n : ℕ) (g : SlotFault) (x : IsOpened memory v o j opener) (y : HasRefusedKeyslot memory k n g) → SaysLike memory x.object y.object
     → ((m : ℕ) → IsDigestOf j opener m → IsDigestOf k n m) → KeepsObjects (codes "keyslots" ∷ []) Digests j k → ⊥
 like_unrefused {memory} j k opener n g x y like names keeps =
     let was : IsLuks2Digest j opener x.plan.digest = x.is.digest in

@@ -2,6 +2,7 @@
 use Rattle.std.specs.Prelude.{◌≡◌, ℕ, List, length, IsSomeAnd, ⊤}
 use Rattle.serde_json.specs.Data.{Data as Value}
 use Rattle.luks_head.specs.Header2.{hdr_size, header_at}
+use Rattle.luks_making.specs.declared.derivation.AskedDerivation.{AskedDerivation}
 use Rattle.luks_making.specs.Changed.{changed_slot}
 use Rattle.luks_making.specs.Conditions.{IsFree}
 use Rattle.luks_making.specs.Keyslots.{slot_value, NewMembers}
@@ -34,12 +35,12 @@ abbrev pub HasNumber : Value → SealedSlot → Type 0
 HasNumber j (Made slot like) = IsFree j slot
 HasNumber j (Renewed slot) = ⊤
 
--- the edit of the metadata `j` seals it, by so many iterations
-abbrev pub AsksFor : Edit → Value → SealedSlot → ℕ → Type 0
-AsksFor e j (Made slot like) n = IsSomeAnd (sealed_by e) (λ s.
-    MatchPlace s.place (λ to. (like ≡ s.opener.slot) × (n ≡ s.iterations) × IsNewKeyslot j to slot) ⊥)
-AsksFor e j (Renewed slot) n = IsSomeAnd (sealed_by e) (λ s.
-    MatchPlace s.place (λ to. ⊥) ((slot ≡ s.opener.slot) × (n ≡ s.iterations)))
+-- the edit of the metadata `j` seals it, so derived
+abbrev pub AsksFor : Edit → Value → SealedSlot → AskedDerivation → Type 0
+AsksFor e j (Made slot like) derivation = IsSomeAnd (sealed_by e) (λ s.
+    MatchPlace s.place (λ to. (like ≡ s.opener.slot) × (derivation ≡ s.derivation) × IsNewKeyslot j to slot) ⊥)
+AsksFor e j (Renewed slot) derivation = IsSomeAnd (sealed_by e) (λ s.
+    MatchPlace s.place (λ to. ⊥) ((slot ≡ s.opener.slot) × (derivation ≡ s.derivation)))
 
 -- ---- the metadata `k`, made of the metadata `j`
 
@@ -67,8 +68,8 @@ pub record IsSealingEdit
     : Type 0 where
   pub chosen : IsChosenCopy v copy
   pub well : WellFormed v payload
-  pub before : HasNoFaultBefore 12 v payload e random
-  pub asked : AsksFor e (content copy.meta) sealing.keyslot sealing.iterations
+  pub before : HasNoFaultBefore 13 v payload e random
+  pub asked : AsksFor e (content copy.meta) sealing.keyslot sealing.derivation
   pub place : IsNewArea (hdr_size (header_at v copy.header.hdr_offset)) (length v) payload
       (content copy.meta) (like_of sealing.keyslot) sealing.area
   pub passphrase : List ℕ

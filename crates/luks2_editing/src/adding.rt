@@ -18,7 +18,7 @@ ghost use Rattle.luks_edit.specs.declared.edit.Passphrase.{Passphrase};
 ghost use Rattle.luks2_edit_laws.specs.Metadata.{IsNewKeyslot};
 ghost use Rattle.luks2_edit_laws.specs.Places.{IsNewArea};
 ghost use Rattle.luks2_judging.specs.Judging.{sealing};
-ghost use Rattle.luks2_judging.specs.Room.{IsPlaced};
+ghost use Rattle.luks2_judging.specs.Room.{IsAllowed, IsPlaced};
 ghost use Rattle.luks2_judging.specs.Rows.{HasNoFaultBefore};
 ghost use Rattle.luks2_editing.specs.Replies.{Replies2};
 
@@ -48,7 +48,7 @@ pub(crate) fn add<D: Device>(
     requires settled { D.tells → IsSettled D.unsettled device.old }
     requires free { IsFree (content copy.meta) addition.now.made }
     requires passphrase { 0 < secrets.now.memory → length secrets.now.passphrase.now < 2 ^ 32 }
-    requires iterated { 1000 ≤ addition.now.iterations }
+    requires allowed { IsAllowed secrets.now.memory addition.now.derivation }
     requires key_length { HasLuks2KeyBytes (content copy.meta) addition.now.by_
         (length secrets.now.key.now) }
     requires placed { IsPlaced (area_len copy.meta) (content copy.meta)
@@ -60,9 +60,9 @@ pub(crate) fn add<D: Device>(
         (D.failed device.old) (D.failed device.new) }
     ensures replies { D.tells → (payload : Payload) (e : Edit) (old : Passphrase) (to : Option ℕ)
         → deed_of e ≡ Seal (sealing addition.now.by_ old (New to) secrets.now.passphrase
-        addition.now.iterations)
+        addition.now.derivation)
         → IsChosenCopy (D.bytes device.old) copy → WellFormed (D.bytes device.old) payload
-        → HasNoFaultBefore 12 (D.bytes device.old) payload e secrets.now.random.now
+        → HasNoFaultBefore 13 (D.bytes device.old) payload e secrets.now.random.now
         → memory_for old secrets.now.passphrase.now ≡ secrets.now.memory
         → AnswerWithin (memory_for old secrets.now.passphrase.now) (D.bytes device.old) addition.now.by_ old.bytes.now
         (opens secrets.now.key.now)
@@ -78,7 +78,7 @@ pub(crate) fn add<D: Device>(
     };
     let sealing = Sealing {
         keyslot,
-        iterations: addition.iterations,
+        derivation: addition.derivation,
         area: addition.area,
     };
     let header = copy.header;

@@ -17,7 +17,7 @@ ghost use Rattle.luks_edit.specs.declared.edit.Passphrase.{Passphrase};
 ghost use Rattle.luks2_edit_laws.specs.Metadata.{IsInUse};
 ghost use Rattle.luks2_edit_laws.specs.Places.{IsNewArea};
 ghost use Rattle.luks2_judging.specs.Judging.{IsLostArea, sealing};
-ghost use Rattle.luks2_judging.specs.Room.{IsPlaced};
+ghost use Rattle.luks2_judging.specs.Room.{IsAllowed, IsPlaced};
 ghost use Rattle.luks2_judging.specs.Rows.{HasNoFaultBefore};
 ghost use Rattle.luks2_editing.specs.Replies.{Replies2};
 
@@ -48,7 +48,7 @@ pub(crate) fn change<D: Device>(
     requires settled { D.tells → IsSettled D.unsettled device.old }
     requires there { IsInUse (content copy.meta) renewal.now.slot }
     requires passphrase { 0 < secrets.now.memory → length secrets.now.passphrase.now < 2 ^ 32 }
-    requires iterated { 1000 ≤ renewal.now.iterations }
+    requires allowed { IsAllowed secrets.now.memory renewal.now.derivation }
     requires key_length { HasLuks2KeyBytes (content copy.meta) renewal.now.slot
         (length secrets.now.key.now) }
     requires placed { IsPlaced (area_len copy.meta) (content copy.meta)
@@ -62,9 +62,9 @@ pub(crate) fn change<D: Device>(
         (D.failed device.old) (D.failed device.new) }
     ensures replies { D.tells → (payload : Payload) (e : Edit) (old : Passphrase)
         → deed_of e ≡ Seal (sealing renewal.now.slot old Opened secrets.now.passphrase
-        renewal.now.iterations)
+        renewal.now.derivation)
         → IsChosenCopy (D.bytes device.old) copy → WellFormed (D.bytes device.old) payload
-        → HasNoFaultBefore 12 (D.bytes device.old) payload e secrets.now.random.now
+        → HasNoFaultBefore 13 (D.bytes device.old) payload e secrets.now.random.now
         → memory_for old secrets.now.passphrase.now ≡ secrets.now.memory
         → AnswerWithin (memory_for old secrets.now.passphrase.now) (D.bytes device.old) renewal.now.slot old.bytes.now
         (opens secrets.now.key.now)
@@ -76,7 +76,7 @@ pub(crate) fn change<D: Device>(
 {
     let sealing = Sealing {
         keyslot: SealedSlot::Renewed { slot: renewal.slot },
-        iterations: renewal.iterations,
+        derivation: renewal.derivation,
         area: renewal.area,
     };
     let header = copy.header;

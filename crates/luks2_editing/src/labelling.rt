@@ -41,7 +41,7 @@ pub(crate) fn set_label<D: Device>(
     ensures replies { D.tells → (payload : Payload) (e : Edit) (text : Bor (List ℕ))
         → deed_of e ≡ Rewrite (Some text)
         → IsChosenCopy (D.bytes device.old) copy.now → WellFormed (D.bytes device.old) payload
-        → HasNoFaultBefore 12 (D.bytes device.old) payload e random.now
+        → HasNoFaultBefore 13 (D.bytes device.old) payload e random.now
         → label ≡ text.now ++ replicate (48 - length text.now) 0
         → Replies2 payload (D.bytes device.old) e random.now result (D.bytes device.new) }
 {

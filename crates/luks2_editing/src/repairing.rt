@@ -37,7 +37,7 @@ pub(crate) fn repair<D: Device>(
         (D.failed device.old) (D.failed device.new) }
     ensures replies { D.tells → (payload : Payload) (e : Edit) → deed_of e ≡ Rewrite None
         → IsChosenCopy (D.bytes device.old) copy.now → WellFormed (D.bytes device.old) payload
-        → HasNoFaultBefore 12 (D.bytes device.old) payload e random.now
+        → HasNoFaultBefore 13 (D.bytes device.old) payload e random.now
         → Replies2 payload (D.bytes device.old) e random.now result (D.bytes device.new) }
 {
     rewrite(

@@ -2,6 +2,7 @@
 ghost use Rattle.std.specs.Prelude.{◌≡◌, ◌↔◌, ◌+◌, ◌^◌, ◌<◌, ◌≤◌, ℕ, List, false, length, IfErr, IfOk, IsTrue, OnOk};
 ghost use Rattle.luks_head.specs.Header2.{hdr_size, header_at};
 ghost use Rattle.luks_making.specs.Conditions.{CanSeal, IsThere, IsFree};
+ghost use Rattle.luks_making.specs.Derivations.{IsPositive};
 ghost use Rattle.luks_making.specs.Keyslots.{new_members};
 ghost use Rattle.luks_making.specs.WrittenArea.{IsWrittenArea};
 ghost use Rattle.luks_meta.specs.Content.{area_len, content};
@@ -19,7 +20,7 @@ use crate::preparing::prepared;
 use crate::random::keyslot_salt;
 use luks_area::Area;
 use luks_edit::EditFault;
-use luks_making::{New, new_fits};
+use luks_making::{AskedDerivation, New, new_fits};
 use luks_meta::Meta;
 use luks_new_meta::{changed_slot, with_slot};
 use luks_reading::ChosenCopy;
@@ -51,8 +52,8 @@ impl SealedSlot {
 #[derive(Clone, Copy)]
 pub(crate) struct Sealing {
     pub(crate) keyslot: SealedSlot,
-    /// The iterations of its derivation, where that is PBKDF2.
-    pub(crate) iterations: u32,
+    /// How it derives.
+    pub(crate) derivation: AskedDerivation,
     /// Its area.
     pub(crate) area: Area,
 }
@@ -78,11 +79,11 @@ pub(crate) fn new_metadata(
     total: u64,
 ) -> Result<NewMetadata, EditFault>
     requires number { HasNumber (content copy.meta) sealing.now.keyslot }
-    requires iterated { 1 ≤ sealing.now.iterations }
+    requires positive { IsPositive sealing.now.derivation }
     requires placed { IsPlaced (area_len copy.meta) (content copy.meta) total
         (like_of sealing.now.keyslot) sealing.now.area }
     ensures made { IfOk result (λ m. IsMadeBy sealing.now.keyslot
-        (members_of sealing.now.iterations (keyslot_salt random.now) sealing.now.area)
+        (members_of sealing.now.derivation (keyslot_salt random.now) sealing.now.area)
         (content copy.meta) (content m.meta)) }
     ensures length { IfOk result (λ m. area_len m.meta ≡ area_len copy.meta) }
     ensures json { IfOk result (λ m.
@@ -109,7 +110,7 @@ pub(crate) fn new_metadata(
     }
     let salt = keyslot_salt(random);
     let new = New {
-        iterations: sealing.iterations,
+        derivation: sealing.derivation,
         salt: &salt,
         offset: sealing.area.start,
         size: sealing.area.len,

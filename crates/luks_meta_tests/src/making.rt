@@ -2,9 +2,11 @@
 
 ghost use Rattle.std.specs.Prelude.{◌≡◌, IsTrue};
 ghost use Rattle.luks_making.specs.Conditions.{CanSeal, IsFree};
+ghost use Rattle.luks_making.specs.Derivations.{ArePositive, IsPositive};
 ghost use Rattle.luks_making.specs.Keyslots.{new_members};
 ghost use Rattle.luks_meta.specs.Content.{area_len, content};
 
+mod chosen;
 pub mod converted;
 mod cryptsetup;
 mod many;
@@ -13,9 +15,8 @@ mod odd;
 
 use crate::rows::{AREA, edited, read};
 use luks_area::rounded_to_sectors;
-use luks_making::AskedDerivation;
 use luks_meta::Meta;
-use luks_new_meta::{New, NewVolume};
+use luks_new_meta::{Argon2Costs, AskedDerivation, New, NewDerivation, NewVolume};
 use luks_samples::shapes;
 use std::alloc::{AllocError, Global};
 use std::process::Abort;
@@ -44,6 +45,24 @@ fn is_free(meta: &Meta, number: u8) -> bool
     number < 32 && meta.keyslot(number).is_none()
 }
 
+fn are_positive(costs: &Argon2Costs) -> bool
+    ensures { IsTrue result → ArePositive costs.now }
+{
+    costs.time > 0 && costs.memory > 0 && costs.cpus > 0
+}
+
+/// Whether none of its numbers is 0.
+fn is_positive(derivation: &AskedDerivation) -> bool
+    ensures { IsTrue result → IsPositive derivation.now }
+{
+    match &derivation.chosen {
+        None => derivation.iterations > 0,
+        Some(NewDerivation::Pbkdf2 { iterations }) => *iterations > 0,
+        Some(NewDerivation::Argon2i(costs)) => are_positive(costs),
+        Some(NewDerivation::Argon2id(costs)) => are_positive(costs),
+    }
+}
+
 /// Whether what is new suits the keyslot, in a JSON area of 12288 bytes.
 fn suits(meta: &Meta, number: u8, new: &New<'_>) -> bool
     requires { area_len meta.now ≡ 12288 }
@@ -56,10 +75,7 @@ fn suits(meta: &Meta, number: u8, new: &New<'_>) -> bool
     let used = rounded_to_sectors(u64::from(keyslot.key_size) * u64::from(keyslot.af.stripes));
     let region = meta.config().keyslots_size;
     let salt = new.salt.len();
-    if new.derivation.has_few_turns() || new.derivation.is_beyond(u32::MAX) {
-        return false;
-    }
-    if number >= 32 || salt == 0 || salt > 128 {
+    if number >= 32 || !is_positive(&new.derivation) || salt == 0 || salt > 128 {
         return false;
     }
     if used > new.size || new.offset < 32768 || region < new.offset - 32768 {
@@ -72,11 +88,24 @@ fn suits(meta: &Meta, number: u8, new: &New<'_>) -> bool
 pub fn made(alloc: Global, meta: Meta, maker: Maker) -> Result<Option<Meta>, AllocError>
     requires { area_len meta ≡ 12288 }
 {
+    made_as(alloc, meta, maker, None)
+}
+
+/// The same with the derivation that is chosen for the keyslot.
+fn made_as(
+    alloc: Global,
+    meta: Meta,
+    maker: Maker,
+    chosen: Option<NewDerivation>,
+) -> Result<Option<Meta>, AllocError>
+    requires { area_len meta ≡ 12288 }
+{
+    let derivation = AskedDerivation {
+        iterations: 2345,
+        chosen,
+    };
     let new = New {
-        derivation: AskedDerivation {
-            iterations: 2345,
-            chosen: None,
-        },
+        derivation,
         salt: &SALT,
         offset: 36864,
         size: 524288,
@@ -136,6 +165,45 @@ fn of_cryptsetup(rt: HostRuntime) -> Result<(), Fail> {
         rt.alloc(),
         shapes::CONVERTED,
         &cryptsetup::OF_CONVERTED,
+    )
+}
+
+/// Whether the maker makes this with the derivation that is chosen, and it is read again.
+fn makes_as(
+    alloc: Global,
+    text: &str,
+    maker: Maker,
+    chosen: NewDerivation,
+    want: &str,
+) -> Result<bool, Fail> {
+    let meta = read(alloc, text)?;
+    let after = made_as(alloc, meta, maker, Some(chosen))?.ok_or("nothing is made")?;
+    Ok(is_text(alloc, &after, want)? && is_text(alloc, &read(alloc, want)?, want)?)
+}
+
+fn compare_as(
+    rt: &impl Abort,
+    alloc: Global,
+    text: &str,
+    rows: &[(Maker, NewDerivation, &str)],
+) -> Result<(), Fail> {
+    for (maker, chosen, want) in rows.iter() {
+        assert!(rt; makes_as(alloc, text, *maker, *chosen, want)?, "{maker:?}");
+    }
+    Ok(())
+}
+
+// Keyslots by PBKDF2 made of ones by Argon2, and the other way round; all that the old derivation
+// says goes.
+#[test]
+fn of_chosen_derivations(rt: HostRuntime) -> Result<(), Fail> {
+    compare_as(&rt, rt.alloc(), shapes::TOKENS, &chosen::OF_TOKENS)?;
+    compare_as(&rt, rt.alloc(), shapes::ARGON2, &chosen::OF_ARGON2)?;
+    compare_as(
+        &rt,
+        rt.alloc(),
+        odd::ODDLY_WRITTEN,
+        &chosen::OF_ODDLY_WRITTEN,
     )
 }
 

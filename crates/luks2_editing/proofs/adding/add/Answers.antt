@@ -1,6 +1,8 @@
-use Rattle.std.proofs.Common.{◌≡◌, ℕ, length, sym, ◌∙◌, subst}
+use Rattle.std.proofs.Common.{◌≡◌, ℕ, false, length, sym, ◌∙◌, subst}
 use Rattle.std.proofs.lemmas.Result.{err_from_is_err_and}
 use Rattle.luks_edit.specs.declared.edit.Edit.TheVariants.{Add}
+use Rattle.luks_making.specs.Derivations.{asked_beyond}
+use Rattle.luks_making.proofs.KdfFacts.{unrefused_positive}
 use Rattle.luks_meta.specs.Content.{area_len, content}
 use Rattle.luks_slot.specs.declared.fault.SlotFault.{SlotFault}
 use Rattle.luks2_judging.proofs.DeedFacts.{edit_is}
@@ -27,7 +29,12 @@ returns-in_err-made-clause-replies g c = λ tells payload e_ old to asked chosen
     let x : IsJudgedAddition v payload copy addition old new to key random = record { chosen = chosen; well = well; before = before; opened = opened; is_new = is_new; place = place } in
     let p = err_from_is_err_and c.from_residual.result c.from_residual.ensures.1 in
     rw (p.1, p.2, is)
-    (c.in_err-made.ensures.refused v payload (Add addition.by_ old new to addition.iterations) (addition_seals v payload copy addition old new to key random x) total)
+    (c.in_err-made.ensures.refused v payload (Add addition.by_ old new to addition.derivation.iterations addition.derivation.chosen) (addition_seals v payload copy addition old new to key random x) total)
+
+pub new_metadata-requires-clause-positive : goal.new_metadata-requires-clause-positive
+new_metadata-requires-clause-positive g c =
+    let derivation = c.args.addition.now.derivation in
+    unrefused_positive c.args.secrets.now.memory derivation.iterations derivation.chosen c.requires.allowed.turns c.requires.allowed.within
 
 pub write_keyslot-requires-clause-sealable : goal.write_keyslot-requires-clause-sealable
 write_keyslot-requires-clause-sealable g c =
@@ -38,7 +45,7 @@ write_keyslot-requires-clause-sealable g c =
     (subst (λ (n : ℕ). AreCopiesWithin copy.header (area_len c.in_ok-made.made.meta) n) c.len.ensures c.in_ok-made.ensures.within) in
     let j = content copy.meta in
     let k = content c.in_ok-made.made.meta in
-    alike_sealable j k addition.by_ addition.made addition.area (made_alike j k addition.made addition.by_ addition.iterations _ addition.area c.in_ok-made.ensures.made c.requires.free.small)
+    alike_sealable j k addition.by_ addition.made addition.area (made_alike j k addition.made addition.by_ addition.derivation _ addition.area c.in_ok-made.ensures.made c.requires.free.small)
     (area_len copy.meta) (g.D.Device.size c.args.device.now) copy.header c.args.secrets.now.key.now c.args.secrets.now.random.now c.in_ok-made.ensures.counted c.requires.key_length c.requires.placed within
 
 pub returns-in_err-write_keyslot-clause-replies : goal.returns-in_err-write_keyslot-clause-replies
@@ -53,7 +60,7 @@ returns-in_err-write_keyslot-clause-replies g c = λ tells payload e_ old to ask
     let random = c.args.secrets.now.random.now in
     let total : length v ≡ c.len.result = g.met.D.Device.sized c.args.device.now tells ∙ sym c.len.ensures in
     let x : IsJudgedAddition v payload copy addition old new to key random = record { chosen = chosen; well = well; before = before; opened = opened; is_new = is_new; place = place } in
-    let e = Add addition.by_ old new to addition.iterations in
+    let e = Add addition.by_ old new to addition.derivation.iterations addition.derivation.chosen in
     let seals = addition_seals v payload copy addition old new to key random x in
     let k = content c.in_ok-made.made.meta in
     let renews = subst (λ (n : ℕ). IsRenewing v e copy.header copy.header.label n) (sym c.in_ok-made.ensures.length) (renewing v payload copy chosen well e copy.header.label (sym chosen.header.label)) in
@@ -62,7 +69,8 @@ returns-in_err-write_keyslot-clause-replies g c = λ tells payload e_ old to ask
     (unsealed_ends v payload copy chosen well e random k (c.in_ok-made.ensures.unrefused v payload e seals total) (c.in_ok-made.ensures.edited v payload e seals total)
     (g.D.Device.bytes c.write_keyslot.new.device) c.args.secrets.now.memory addition.made (subst (λ m. (g : SlotFault) → HasRefusedKeyslot m k addition.made g → ⊥) same
     (addition_fine v payload copy addition old new to key random x c.requires.free.small k c.in_ok-made.ensures.made
-    (enough_random (content copy.meta) addition.by_ (length random) c.in_ok-made.ensures.counted)))
+    (enough_random (content copy.meta) addition.by_ (length random) c.in_ok-made.ensures.counted)
+    (subst (λ m. asked_beyond m addition.derivation ≡ false) (sym same) c.requires.allowed.within)))
     (c.write_keyslot.ensures.torn tells payload e (content copy.meta) renews (addition_sealing v payload copy addition old new to key random x c.requires.free.small k c.in_ok-made.ensures.made))
     c.in_err-write_keyslot.field-0.0 (c.in_err-write_keyslot.ensures.same tells) c.in_err-write_keyslot.ensures.fault)
 
@@ -78,7 +86,7 @@ returns-clause-replies g c = λ tells payload e_ old to asked chosen well before
     let random = c.args.secrets.now.random.now in
     let total : length v ≡ c.len.result = g.met.D.Device.sized c.args.device.now tells ∙ sym c.len.ensures in
     let x : IsJudgedAddition v payload copy addition old new to key random = record { chosen = chosen; well = well; before = before; opened = opened; is_new = is_new; place = place } in
-    let e = Add addition.by_ old new to addition.iterations in
+    let e = Add addition.by_ old new to addition.derivation.iterations addition.derivation.chosen in
     let seals = addition_seals v payload copy addition old new to key random x in
     let k = content c.in_ok-made.made.meta in
     let renews = subst (λ (n : ℕ). IsRenewing v e copy.header copy.header.label n) (sym c.in_ok-made.ensures.length) (renewing v payload copy chosen well e copy.header.label (sym chosen.header.label)) in

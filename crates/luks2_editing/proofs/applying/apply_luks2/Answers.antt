@@ -7,6 +7,7 @@ use Rattle.luks_edit.specs.Asked.{allowed_memory, HasShortPassphrases}
 use Rattle.luks_edit.specs.declared.edit.Edit.{Edit}
 use Rattle.luks_edit.specs.declared.edit.Edit.TheVariants.{Add, Change, Remove, Repair, Label}
 use Rattle.luks2_judging.specs.Judging.{IsLostArea, Seals, Takes}
+use Rattle.luks2_judging.specs.Room.{IsAllowed}
 use Rattle.luks2_judging.proofs.DeedFacts.{edit_is}
 use Rattle.luks2_editing.proofs.JudgedFacts.{judged_edit, refused_ends, replied}
 use Rattle.luks2_editing.proofs.applying.apply_luks2.Goals as goal
@@ -61,7 +62,7 @@ returns-in-Change-clause-replies g c = λ tells is.
     let same = c.judge_luks2.ensures.unchanged.same tells in
     let judged = judged_edit same (edit_is c.args.edit.now _ takes.asked) c.in_ok-judged.ensures.judged.copy is (c.in_ok-judged.ensures.unrefused tells is) in
     let v = g.D.Device.bytes c.judge_luks2.new.device in
-    let e : Edit = Change c.in-Change.renewal.slot takes.old c.in-Change.passphrase c.in-Change.renewal.iterations in
+    let e : Edit = Change c.in-Change.renewal.slot takes.old c.in-Change.passphrase c.in-Change.renewal.derivation.iterations c.in-Change.renewal.derivation.chosen in
     let seals = subst (λ t. Seals (hdr_size (header_at v copy.header.hdr_offset)) v c.args.data_ (content copy.meta) e t) c.in-Change.is judged.seals in
     let replies = rw (c.new-secrets-in-Change.ensures, c.in-Change.is) at (c.change.ensures.replies tells c.args.data_) in
     replied same (edit_is c.args.edit.now _ takes.asked) c.args.data_ c.args.random.now _ _ (replies e takes.old refl judged.chosen judged.well (judged.none c.args.random.now)
@@ -74,7 +75,7 @@ returns-in-Add-clause-replies g c = λ tells is.
     let same = c.judge_luks2.ensures.unchanged.same tells in
     let judged = judged_edit same (edit_is c.args.edit.now _ takes.asked) c.in_ok-judged.ensures.judged.copy is (c.in_ok-judged.ensures.unrefused tells is) in
     let v = g.D.Device.bytes c.judge_luks2.new.device in
-    let e : Edit = Add c.in-Add.addition.by_ takes.old c.in-Add.passphrase takes.to c.in-Add.addition.iterations in
+    let e : Edit = Add c.in-Add.addition.by_ takes.old c.in-Add.passphrase takes.to c.in-Add.addition.derivation.iterations c.in-Add.addition.derivation.chosen in
     let seals = subst (λ t. Seals (hdr_size (header_at v copy.header.hdr_offset)) v c.args.data_ (content copy.meta) e t) c.in-Add.is judged.seals in
     let replies = rw (c.new-secrets.ensures, c.in-Add.is) at (c.add.ensures.replies tells c.args.data_) in
     replied same (edit_is c.args.edit.now _ takes.asked) c.args.data_ c.args.random.now _ _ (replies e takes.old takes.to refl judged.chosen judged.well (judged.none c.args.random.now)
@@ -93,3 +94,15 @@ change-requires-clause-passphrase g c =
     let takes = subst (λ t. Takes (area_len copy.meta) (content copy.meta) (g.D.Device.size c.args.device.now) c.args.edit.now t) c.in-Change.is c.in_ok-judged.ensures.judged.takes in
     rw (c.new-secrets-in-Change.ensures, c.in-Change.is)
     (λ some. (subst HasShortPassphrases (edit_is c.args.edit.now _ takes.asked) (short_where_allowed c.args.edit.now (subst (λ m. 0 < m) c.allowed_memory-memory.ensures some))).1)
+
+pub add-requires-clause-allowed : goal.add-requires-clause-allowed
+add-requires-clause-allowed g c =
+    let copy = c.in_ok-judged.judged.copy in
+    let takes = subst (λ t. Takes (area_len copy.meta) (content copy.meta) (g.D.Device.size c.args.device.now) c.args.edit.now t) c.in-Add.is c.in_ok-judged.ensures.judged.takes in
+    rw c.new-secrets.ensures (subst (λ (m : ℕ). IsAllowed m c.in-Add.addition.derivation) (sym (c.allowed_memory-memory.ensures ∙ ap allowed_memory (edit_is c.args.edit.now _ takes.asked))) takes.allowed)
+
+pub change-requires-clause-allowed : goal.change-requires-clause-allowed
+change-requires-clause-allowed g c =
+    let copy = c.in_ok-judged.judged.copy in
+    let takes = subst (λ t. Takes (area_len copy.meta) (content copy.meta) (g.D.Device.size c.args.device.now) c.args.edit.now t) c.in-Change.is c.in_ok-judged.ensures.judged.takes in
+    rw c.new-secrets-in-Change.ensures (subst (λ (m : ℕ). IsAllowed m c.in-Change.renewal.derivation) (sym (c.allowed_memory-memory.ensures ∙ ap allowed_memory (edit_is c.args.edit.now _ takes.asked))) takes.allowed)

@@ -1,7 +1,9 @@
-use Rattle.std.proofs.Common.{◌≡◌, ℕ, length, refl, sym, ◌∙◌, subst}
+use Rattle.std.proofs.Common.{◌≡◌, ℕ, false, length, refl, sym, ◌∙◌, subst}
 use Rattle.std.proofs.lemmas.Result.{err_from_is_err_and}
 use Rattle.luks_edit.specs.declared.edit.Edit.{Edit}
 use Rattle.luks_edit.specs.declared.edit.Edit.TheVariants.{Change}
+use Rattle.luks_making.specs.Derivations.{asked_beyond}
+use Rattle.luks_making.proofs.KdfFacts.{unrefused_positive}
 use Rattle.luks_meta.specs.Content.{area_len, content}
 use Rattle.luks_slot.specs.declared.fault.SlotFault.{SlotFault}
 use Rattle.luks2_judging.proofs.DeedFacts.{edit_is}
@@ -24,10 +26,15 @@ returns-in_err-made-clause-replies g c = λ tells payload e_ old asked x well be
     let random = c.args.secrets.now.random.now in
     let total : length v ≡ c.len.result = g.met.D.Device.sized c.args.device.now tells ∙ sym c.len.ensures in
     let is = edit_is e_ _ asked in
-    let e : Edit = Change r.slot old new r.iterations in
+    let e : Edit = Change r.slot old new r.derivation.iterations r.derivation.chosen in
     let seals = renewal_seals v payload copy r old new key random x well (rw is at before) opened place in
     let p = err_from_is_err_and c.from_residual.result c.from_residual.ensures.1 in
     rw (p.1, p.2, is) (c.in_err-made.ensures.refused v payload e seals total)
+
+pub new_metadata-requires-clause-positive : goal.new_metadata-requires-clause-positive
+new_metadata-requires-clause-positive g c =
+    let derivation = c.args.renewal.now.derivation in
+    unrefused_positive c.args.secrets.now.memory derivation.iterations derivation.chosen c.requires.allowed.turns c.requires.allowed.within
 
 pub write_keyslot-requires-clause-sealable : goal.write_keyslot-requires-clause-sealable
 write_keyslot-requires-clause-sealable g c =
@@ -39,7 +46,7 @@ write_keyslot-requires-clause-sealable g c =
     let within : AreCopiesWithin copy.header (area_len copy.meta) (g.D.Device.size c.args.device.now) =
     subst (λ (n : ℕ). AreCopiesWithin copy.header n (g.D.Device.size c.args.device.now)) made.length
     (subst (λ (n : ℕ). AreCopiesWithin copy.header (area_len c.in_ok-made.made.meta) n) c.len.ensures made.within) in
-    alike_sealable j k renewal.slot renewal.slot renewal.area (renewed_alike j k renewal.slot renewal.iterations _ renewal.area made.made)
+    alike_sealable j k renewal.slot renewal.slot renewal.area (renewed_alike j k renewal.slot renewal.derivation _ renewal.area made.made)
     (area_len copy.meta) (g.D.Device.size c.args.device.now) copy.header c.args.secrets.now.key.now c.args.secrets.now.random.now made.counted c.requires.key_length c.requires.placed within
 
 pub returns-in_err-write_keyslot-clause-replies : goal.returns-in_err-write_keyslot-clause-replies
@@ -52,7 +59,7 @@ returns-in_err-write_keyslot-clause-replies g c = λ tells payload e_ old asked 
     let random = c.args.secrets.now.random.now in
     let total : length v ≡ c.len.result = g.met.D.Device.sized c.args.device.now tells ∙ sym c.len.ensures in
     let is = edit_is e_ _ asked in
-    let e : Edit = Change r.slot old new r.iterations in
+    let e : Edit = Change r.slot old new r.derivation.iterations r.derivation.chosen in
     let seals = renewal_seals v payload copy r old new key random x well (rw is at before) opened place in
     let made = c.in_ok-made.ensures in
     let k = content c.in_ok-made.made.meta in
@@ -63,10 +70,11 @@ returns-in_err-write_keyslot-clause-replies g c = λ tells payload e_ old asked 
     rw (p.1, p.2, is)
     (unsealed_ends v payload copy x well e random k free edited (g.D.Device.bytes c.write_keyslot.new.device)
     c.args.secrets.now.memory r.slot
-    (subst (λ m. (g : SlotFault) → HasRefusedKeyslot m k r.slot g → ⊥) same (renewed_unrefused v payload copy x well r.slot old new r.iterations key random r.area k opened place made.made
-    (enough_random (content copy.meta) r.slot (length random) made.counted)))
+    (subst (λ m. (g : SlotFault) → HasRefusedKeyslot m k r.slot g → ⊥) same (renewed_unrefused v payload copy x well r.slot old new r.derivation key random r.area k opened place made.made
+    (enough_random (content copy.meta) r.slot (length random) made.counted)
+    (subst (λ m. asked_beyond m r.derivation ≡ false) (sym same) c.requires.allowed.within)))
     (c.write_keyslot.ensures.torn tells payload e (content copy.meta) renews
-    (change_sealing v payload copy x well r.slot old new r.iterations key random r.area k opened place made.made))
+    (change_sealing v payload copy x well r.slot old new r.derivation key random r.area k opened place made.made))
     c.in_err-write_keyslot.field-0.0 (c.in_err-write_keyslot.ensures.same tells) c.in_err-write_keyslot.ensures.fault)
 
 pub returns-in-Ok-clause-replies : goal.returns-in-Ok-clause-replies
@@ -79,7 +87,7 @@ returns-in-Ok-clause-replies g c = λ tells payload e_ old asked x well before s
     let random = c.args.secrets.now.random.now in
     let total : length v ≡ c.len.result = g.met.D.Device.sized c.args.device.now tells ∙ sym c.len.ensures in
     let is = edit_is e_ _ asked in
-    let e : Edit = Change r.slot old new r.iterations in
+    let e : Edit = Change r.slot old new r.derivation.iterations r.derivation.chosen in
     let seals = renewal_seals v payload copy r old new key random x well (rw is at before) opened place in
     let made = c.in_ok-made.ensures in
     let k = content c.in_ok-made.made.meta in
@@ -91,7 +99,7 @@ returns-in-Ok-clause-replies g c = λ tells payload e_ old asked x well before s
     let written = c.in_ok-write_keyslot.ensures.written tells e renews in
     rw is (record {
       unrefused = free;
-      after = changed_after v payload copy x well r.slot old new r.iterations key random r.area k opened place made.made free edited
+      after = changed_after v payload copy x well r.slot old new r.derivation key random r.area k opened place made.made free edited
           r.lost c.requires.lost.is w y written (c.wipe_area.ensures.rest tells) (c.in-Ok.ensures.wiped tells);
       told = refl;
     })
@@ -106,7 +114,7 @@ returns-clause-replies g c = λ tells payload e_ old asked x well before same op
     let random = c.args.secrets.now.random.now in
     let total : length v ≡ c.len.result = g.met.D.Device.sized c.args.device.now tells ∙ sym c.len.ensures in
     let is = edit_is e_ _ asked in
-    let e : Edit = Change r.slot old new r.iterations in
+    let e : Edit = Change r.slot old new r.derivation.iterations r.derivation.chosen in
     let seals = renewal_seals v payload copy r old new key random x well (rw is at before) opened place in
     let made = c.in_ok-made.ensures in
     let k = content c.in_ok-made.made.meta in
@@ -116,5 +124,5 @@ returns-clause-replies g c = λ tells payload e_ old asked x well before same op
     let w = g.D.Device.bytes c.write_keyslot.new.device in
     let y = g.D.Device.bytes c.wipe_area.new.device in
     let written = c.in_ok-write_keyslot.ensures.written tells e renews in
-    rw is (torn_lost v payload copy x well r.slot old new r.iterations key random r.area k opened place made.made free edited
+    rw is (torn_lost v payload copy x well r.slot old new r.derivation key random r.area k opened place made.made free edited
     r.lost c.requires.lost.is w y written (c.wipe_area.ensures.rest tells))

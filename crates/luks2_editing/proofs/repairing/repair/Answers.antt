@@ -17,7 +17,7 @@ returns-in_err-rewrite-clause-replies g c = λ tells payload e_ asked x well bef
     let w = g.D.Device.bytes c.rewrite.new.device in
     let copy = c.args.copy.now in
     let random = c.args.random.now in
-    let passed = passed_from (IsEditFault2 v payload Repair random) 12 before.each in
+    let passed = passed_from (IsEditFault2 v payload Repair random) 13 before.each in
     let size : length v ≡ g.D.Device.size c.args.device.now = g.met.D.Device.sized c.args.device.now tells in
     let within : AreCopiesWithin copy.header (area_len copy.meta) (g.D.Device.size c.args.device.now) =
     subst (λ n. AreCopiesWithin copy.header (area_len copy.meta) n) size (copy_within v payload copy x well) in
@@ -35,7 +35,7 @@ returns-clause-replies g c = λ tells payload e_ asked x well before_.
     let w = g.D.Device.bytes c.rewrite.new.device in
     let copy = c.args.copy.now in
     let random = c.args.random.now in
-    let passed = passed_from (IsEditFault2 v payload Repair random) 12 before.each in
+    let passed = passed_from (IsEditFault2 v payload Repair random) 13 before.each in
     let renews = renewing v payload copy x well Repair copy.header.label (sym x.header.label) in
     rw is (record {
       unrefused = prepared_unrefused v payload copy x well Repair random (content copy.meta) passed (λ salt. refl) (λ salt k is. is) refl (λ k is. is) (λ u. tt) c.in_ok-rewrite.ensures.ready;

@@ -25,8 +25,8 @@ made_metadata-requires-clause-suits c =
     let copy = c.args.copy in
     let sealing = c.args.sealing.now in
     let there = subst (λ (n : ℕ). IsThere (content copy.meta) n) c.like-like.ensures (c.is_there.ensures.0 c.if-not-is_there.false) in
-    placed_suits (area_len copy.meta) (content copy.meta) c.args.total (like_of sealing.keyslot) sealing.area sealing.iterations c.keyslot_salt-salt.result
-    c.requires.placed there c.requires.iterated c.keyslot_salt-salt.ensures.long
+    placed_suits (area_len copy.meta) (content copy.meta) c.args.total (like_of sealing.keyslot) sealing.area sealing.derivation c.keyslot_salt-salt.result
+    c.requires.placed there c.requires.positive c.keyslot_salt-salt.ensures.long
 
 pub returns-in_err-json-clause-refused : goal.returns-in_err-json-clause-refused
 returns-in_err-json-clause-refused c = λ v payload e x total.
@@ -68,4 +68,4 @@ returns-clause-edited c = λ v payload e x total.
     let needs = subst (λ (n : ℕ). IsInUse (content copy.meta) n → NeedsLike (content copy.meta) n c.sealed_need-need.result) c.like-like.ensures c.sealed_need-need.ensures used in
     let enough : 160 ≤ length random = subst (λ (n : ℕ). 160 ≤ n) (sym c.in_ok-json.ensures.ready.counted) (enough_random (content copy.meta) (like_of sealing.keyslot) c.sealed_need-need.result needs) in
     edited_by v payload e random copy sealing x (keyslot_salt random) (content c.in_ok-meta.meta)
-    (subst (λ (s : List ℕ). IsMadeBy sealing.keyslot (members_of sealing.iterations s sealing.area) (content copy.meta) (content c.in_ok-meta.meta)) (c.keyslot_salt-salt.ensures.salt enough) c.in_ok-meta.ensures.made)
+    (subst (λ (s : List ℕ). IsMadeBy sealing.keyslot (members_of sealing.derivation s sealing.area) (content copy.meta) (content c.in_ok-meta.meta)) (c.keyslot_salt-salt.ensures.salt enough) c.in_ok-meta.ensures.made)
