@@ -6,12 +6,12 @@ _luks() {
         [check]="--detached --json --offset --length --quiet --help"
         [show]="--all --map --json --offset --length --quiet --help"
         [open]="--passphrase --passphrase-line --slot --memory --json --offset --length --quiet --help"
-        [add]="--slot --passphrase --passphrase-line --new --new-line --random --to --iterations --memory --over --detached --offset --length --quiet --help"
-        [change]="--slot --passphrase --passphrase-line --new --new-line --random --iterations --memory --over --detached --offset --length --quiet --help"
+        [add]="--slot --passphrase --passphrase-line --new --new-line --random --to --iterations --kdf --kdf-memory --passes --lanes --iter-time --memory --over --detached --offset --length --quiet --help"
+        [change]="--slot --passphrase --passphrase-line --new --new-line --random --iterations --kdf --kdf-memory --passes --lanes --iter-time --memory --over --detached --offset --length --quiet --help"
         [remove]="--slot --by --passphrase --passphrase-line --random --memory --over --detached --offset --length --quiet --help"
         [repair]="--random --over --detached --offset --length --quiet --help"
         [label]="--random --over --detached --offset --length --quiet --help"
-        [format]="--passphrase --passphrase-line --random --version --hash --iterations --kdf --kdf-memory --passes --lanes --memory --detached --offset --length --quiet --help"
+        [format]="--passphrase --passphrase-line --random --version --hash --iterations --kdf --kdf-memory --passes --lanes --iter-time --memory --detached --offset --length --quiet --help"
         [convert]="--random --detached --offset --length --quiet --help"
         [rebuild]="--random --second --size --cipher --hash --key-bytes --payload --passphrase --passphrase-line --uuid --offset --length --quiet --help"
         [find]="--offset --length --quiet --help"
@@ -30,7 +30,7 @@ _luks() {
     fi
     # these take no file
     case $before in
-        --slot | --by | --to | --version | --hash | --iterations | --uuid | --offset | --length) compopt +o default 2>/dev/null ;;
+        --slot | --by | --to | --version | --hash | --iterations | --iter-time | --kdf | --kdf-memory | --passes | --lanes | --memory | --uuid | --offset | --length) compopt +o default 2>/dev/null ;;
     esac
     if ((COMP_CWORD == 1)); then
         words="${!options[*]} --help --version"
@@ -42,6 +42,8 @@ _luks() {
         words="1 2"
     elif [[ $before == --hash ]]; then
         words="sha1 sha256 sha512"
+    elif [[ $before == --kdf ]]; then
+        words="pbkdf2 argon2i argon2id"
     elif [[ $word == -* ]]; then
         words=${options[${COMP_WORDS[1]}]}
     elif [[ ${COMP_WORDS[1]} == explain ]]; then

@@ -1,6 +1,7 @@
 """Edits of a volume in Python: the first refusal, or the volume that is left, byte for byte, of the old one and the random bytes.
 
-An edit's `memory` is how many KiB Argon2 may take. An edit is a list of writes, each followed by a flush, so that what a failing call leaves can be told too (`left`).
+An edit's `memory` is how many KiB Argon2 may take; its `kdf` is what a new keyslot is to derive by, the members of the metadata that say so, and none where
+that is as of the keyslot that opens. An edit is a list of writes, each followed by a flush, so that what a failing call leaves can be told too (`left`).
 """
 from dataclasses import dataclass, replace
 
@@ -24,6 +25,7 @@ class Add:
     to: int = None
     iterations: int = 1000
     memory: int = 0
+    kdf: dict = None
 
 
 @dataclass(frozen=True)
@@ -33,6 +35,7 @@ class Change:
     new: bytes
     iterations: int = 1000
     memory: int = 0
+    kdf: dict = None
 
 
 @dataclass(frozen=True)
@@ -105,6 +108,10 @@ class Volume1:
     def entry(self, n, entry):
         return 208 + 48 * n, images.struct.pack(">II32sII", entry.active, entry.iterations, entry.salt, entry.offset, entry.stripes)
 
+    def is_beyond(self, edit):
+        """LUKS1 has no Argon2."""
+        return edit.kdf is not None and edit.kdf["type"] != "pbkdf2"
+
     def writes(self, edit, key, random):
         if isinstance(edit, Remove):
             return self.disabling(edit.slot)
@@ -112,8 +119,8 @@ class Volume1:
             return []
         to, drawn, name = place_of(self, edit), Drawn(random), self.d["hash"].decode()
         salt = drawn.take(32)
-        area = sealed_area(name, pbkdf2(name, edit.new, salt, edit.iterations, self.d["key_bytes"]), key, drawn.rest())
-        new = replace(self.entries[to], active=ENABLED, iterations=edit.iterations, salt=salt)
+        area = sealed_area(name, pbkdf2(name, edit.new, salt, iterations_of(edit), self.d["key_bytes"]), key, drawn.rest())
+        new = replace(self.entries[to], active=ENABLED, iterations=iterations_of(edit), salt=salt)
         return [(self.area(to)[0], area), self.entry(to, new)] + (self.disabling(edit.slot) if isinstance(edit, Change) else [])
 
     def disabling(self, n):
@@ -190,8 +197,13 @@ class Volume2:
             return makers.without_slot(self.value, edit.slot)
         if not isinstance(edit, (Add, Change)):
             return self.value
-        rest = (edit.iterations, salt, self.gap(edit), makers.area_size(self.keyslot(opened_by(edit)[0])))
+        rest = (edit.iterations, salt, self.gap(edit), makers.area_size(self.keyslot(opened_by(edit)[0])), edit.kdf)
         return makers.with_slot(self.value, place_of(self, edit), edit.by, *rest) if isinstance(edit, Add) else makers.changed_slot(self.value, edit.slot, *rest)
+
+    def is_beyond(self, edit):
+        """More memory than is allowed, or less than 8 KiB for each lane (RFC 9106, 3.1)."""
+        kdf = edit.kdf or {}
+        return "memory" in kdf and not 8 * kdf["cpus"] <= kdf["memory"] <= edit.memory
 
     def copies(self, edit, value, salts):
         """Both copies of the new header, the one that wasn't chosen first."""
@@ -207,7 +219,8 @@ class Volume2:
         salt = drawn.take(32) if isinstance(edit, (Add, Change)) else None
         if salt:
             old = self.keyslot(opened_by(edit)[0])
-            slot_key = derived(old["kdf"], edit, salt, old["area"]["key_size"])
+            kdf = makers.derivation(old, edit.iterations, salt, edit.kdf)
+            slot_key = derived(kdf, edit, salt, old["area"]["key_size"])
             areas.append((self.gap(edit), sealed_area(old["af"]["hash"], slot_key, key, drawn.rest())))
         wiped = []
         if isinstance(edit, (Change, Remove)):
@@ -216,9 +229,19 @@ class Volume2:
         return areas + self.copies(edit, self.made(edit, salt), salts) + wiped
 
 
+def iterations_of(edit):
+    """Those of a new keyslot by PBKDF2."""
+    return edit.iterations if edit.kdf is None else edit.kdf["iterations"]
+
+
+def has_few_turns(edit):
+    """Fewer than 1000 iterations, of a new keyslot by Argon2 no pass."""
+    return edit.kdf["time"] < 1 if edit.kdf and "time" in edit.kdf else iterations_of(edit) < 1000
+
+
 def derived(kdf, edit, salt, length):
-    """The key that the new passphrase gives: derived as the keyslot that opened is."""
-    return pbkdf2(kdf["hash"], edit.new, salt, edit.iterations, length) if kdf["type"] == "pbkdf2" else argon2(kdf, edit.new, salt, length)
+    """The key that the new passphrase gives."""
+    return pbkdf2(kdf["hash"], edit.new, salt, kdf["iterations"], length) if kdf["type"] == "pbkdf2" else argon2(kdf, edit.new, salt, length)
 
 
 def refuse_use(volume):
@@ -312,8 +335,10 @@ def steps(volume, detached, edit, random, over=True):
         raise Fault("NoRoom")
     if isinstance(edit, Remove) and v.is_last(edit.slot):
         raise Fault("LastSlot")
-    if isinstance(edit, (Add, Change)) and edit.iterations < 1000:
+    if isinstance(edit, (Add, Change)) and has_few_turns(edit):
         raise Fault("Iterations")
+    if isinstance(edit, (Add, Change)) and v.is_beyond(edit):
+        raise Fault("Argon2")
     if isinstance(edit, Label) and not v.takes_label(edit.text):
         raise Fault("BadLabel")
     v.refuse_header(edit)

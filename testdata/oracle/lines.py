@@ -57,6 +57,16 @@ class Transcript:
         print("\n".join({"steps": self.steps, "owed": self.owed}[what]))
 
 
+def derivation(edit):
+    """The options of what a new keyslot derives by."""
+    kdf = edit.kdf
+    if kdf is None:
+        return f" --iterations={edit.iterations}"
+    if kdf["type"] == "pbkdf2":
+        return f" --kdf=pbkdf2 --iterations={kdf['iterations']}"
+    return f" --kdf={kdf['type']} --kdf-memory={kdf['memory'] // 1024} --passes={kdf['time']} --lanes={kdf['cpus']}"
+
+
 def words(edit, detached):
     """The command of an edit; none where a line can't say it."""
     end = " --detached" if detached else ""
@@ -66,9 +76,9 @@ def words(edit, detached):
         if edit.to is not None and edit.to > 31:
             return None
         to = f" --to={edit.to}" if edit.to is not None else ""
-        return f"luks add v --slot={edit.by} --passphrase=p --new=n --random=r --iterations={edit.iterations}{to}{memory}{end}"
+        return f"luks add v --slot={edit.by} --passphrase=p --new=n --random=r{derivation(edit)}{to}{memory}{end}"
     if name == "change":
-        return f"luks change v --slot={edit.slot} --passphrase=p --new=n --random=r --iterations={edit.iterations}{memory}{end}"
+        return f"luks change v --slot={edit.slot} --passphrase=p --new=n --random=r{derivation(edit)}{memory}{end}"
     if name == "remove":
         by = f" --by={edit.by}" if edit.by is not None else ""
         return f"luks remove v --slot={edit.slot}{by} --passphrase=p --random=r{memory}{end}"

@@ -35,7 +35,14 @@ def derived_like(kdf, iterations, salt):
     return {"type": kdf["type"], "salt": images.b64(salt), **costs}
 
 
-def with_slot(value, to, by, iterations, salt, offset, size):
+def derivation(old, iterations, salt, chosen):
+    """How a keyslot derives that is made like this one: as that one does, or as is chosen, PBKDF2 by the hash of its splitter."""
+    if chosen is None:
+        return derived_like(old["kdf"], iterations, salt)
+    return {"salt": images.b64(salt), **({"hash": old["af"]["hash"]} if chosen["type"] == "pbkdf2" else {}), **chosen}
+
+
+def with_slot(value, to, by, iterations, salt, offset, size, chosen=None):
     """With a new keyslot `to` that holds the key of keyslot `by`, after the manner of `by`."""
     value = copy.deepcopy(value)
     old = value["keyslots"][str(by)]
@@ -44,17 +51,20 @@ def with_slot(value, to, by, iterations, salt, offset, size):
         "key_size": old["key_size"],
         "af": {"type": "luks1", "stripes": old["af"]["stripes"], "hash": old["af"]["hash"]},
         "area": {"type": "raw", "offset": str(offset), "size": str(size), "encryption": old["area"]["encryption"], "key_size": old["area"]["key_size"]},
-        "kdf": derived_like(old["kdf"], iterations, salt),
+        "kdf": derivation(old, iterations, salt, chosen),
     }
     digest_of(value, by)["keyslots"].append(str(to))
     return value
 
 
-def changed_slot(value, n, iterations, salt, offset, size):
-    """With the salt and area of keyslot n renewed, and its iterations where its kdf has such a member, as PBKDF2 has."""
+def changed_slot(value, n, iterations, salt, offset, size, chosen=None):
+    """With the salt and area of keyslot n renewed, and its iterations where its kdf has such a member, as PBKDF2 has; or with a kdf that is chosen."""
     value = copy.deepcopy(value)
     slot = value["keyslots"][str(n)]
-    slot["kdf"].update(salt=images.b64(salt), **({"iterations": iterations} if "iterations" in slot["kdf"] else {}))
+    if chosen is None:
+        slot["kdf"].update(salt=images.b64(salt), **({"iterations": iterations} if "iterations" in slot["kdf"] else {}))
+    else:
+        slot["kdf"] = derivation(slot, iterations, salt, chosen)
     slot["area"].update(offset=str(offset), size=str(size))
     return value
 

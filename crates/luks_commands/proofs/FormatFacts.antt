@@ -19,7 +19,8 @@ use Rattle.luks_commands.proofs.EndFacts.{done_by, refusal_by, Tells}
 use Rattle.luks_commands.specs.declared.inputs.InputFault.{InputFault}
 use Rattle.luks_commands.specs.Files.{LeavesVolume}
 use Rattle.luks_commands.specs.FormatAnswers.{HasFormatFault, IsMakingFault}
-use Rattle.luks_commands.specs.Formatting.{chosen_of, IsFormatted, IsOfNewVolume, IsNewVolume, OpensNew, SaysFormat}
+use Rattle.luks_commands.specs.Chosen.{chosen_of}
+use Rattle.luks_commands.specs.Formatting.{IsFormatted, IsOfNewVolume, IsNewVolume, OpensNew, SaysFormat}
 use Rattle.luks_commands.specs.OpenAnswers.{kib_of}
 
 -- a fault that isn't the device's leaves the same where each fault that stands does
@@ -57,7 +58,7 @@ made_so (Err Device) making passphrase total random is held = tt
 
 -- what ends the making of a LUKS2 volume
 pub made_fault : {D : Type 0} (result : Result D FormatFault) (making : Making) (passphrase : List ℕ) (total : ℕ) (random : List ℕ) → making.version ≡ Luks2
-    → IfErr result (IsAnsweredFaultOrMemory (IsFormat2FaultBy (chosen_of making.argon2) (allowed_for (kib_of making.memory) passphrase) total making.format random)) → IfErr result (IsMakingFault making passphrase total random)
+    → IfErr result (IsAnsweredFaultOrMemory (IsFormat2FaultBy (chosen_of making.kdf) (allowed_for (kib_of making.memory) passphrase) total making.format random)) → IfErr result (IsMakingFault making passphrase total random)
 made_fault result making passphrase total random is held =
     made_so result making passphrase total random is
     (subst (λ version. IfErr result (IsAnsweredFaultOrMemory (HasFormatFault version making passphrase total random))) (sym is) held)

@@ -14,14 +14,15 @@ use Rattle.luks_commands.specs.declared.answers.Refusal.TheVariants.{Format}
 use Rattle.luks_commands.specs.declared.inputs.InputFault.{InputFault}
 use Rattle.luks_commands.specs.Answer.{IsWordless, unread_answer}
 use Rattle.luks_commands.specs.Files.{IsUnread, IsUnreadRandom}
-use Rattle.luks_commands.specs.Formatting.{chosen_of, IsNewVolume}
+use Rattle.luks_commands.specs.Chosen.{chosen_of}
+use Rattle.luks_commands.specs.Formatting.{IsNewVolume}
 use Rattle.luks_commands.specs.OpenAnswers.{kib_of}
 
 -- the faults of making a volume of this version on a device of `total` bytes
 abbrev pub HasFormatFault : NewVersion → Making → List ℕ → ℕ → List ℕ → FormatFault → Type 0
 HasFormatFault Luks1 making passphrase total random f = IsFormat1Fault total making.format random f
 HasFormatFault Luks2 making passphrase total random f =
-    IsFormat2FaultBy (chosen_of making.argon2) (allowed_for (kib_of making.memory) passphrase) total making.format random f
+    IsFormat2FaultBy (chosen_of making.kdf) (allowed_for (kib_of making.memory) passphrase) total making.format random f
 
 -- the first of them, unless the device failed or memory was refused: it is taken for LUKS2 alone, and where
 -- none of them stands

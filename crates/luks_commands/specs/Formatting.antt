@@ -1,26 +1,20 @@
 -- What the command `format` leaves of its volume.
-use Rattle.std.specs.Prelude.{◌≡◌, ℕ, ◌≤◌, List, Option, None, Some}
+use Rattle.std.specs.Prelude.{◌≡◌, ℕ, ◌≤◌, List}
 use Rattle.luks_area.specs.Ranges.{SameBut}
 use Rattle.luks_reading.specs.declared.report.Data.{Data}
 use Rattle.luks_reading.specs.Answer.{Answer, AnswerWithin, opens}
 use Rattle.luks_reading.specs.Checked.{WellFormed}
-use Rattle.luks_making.specs.declared.derivation.Argon2Costs.{Argon2Costs}
-use Rattle.luks_making.specs.declared.derivation.NewDerivation.{NewDerivation}
-use Rattle.luks_making.specs.declared.derivation.NewDerivation.TheVariants as by
 use Rattle.luks_making.specs.Derivations.{memory_by}
 use Rattle.luks_formatting.specs.Deriving.{slot_derivation}
 use Rattle.luks_formatting.specs.Formatted1.{IsFormatted1, IsOfLuks1}
 use Rattle.luks_formatting.specs.Formatted2.{IsFormatted2By, IsOfLuks2}
 use Rattle.luks_formatting.specs.RandomBytes.{volume_key}
-use Rattle.luks_request.specs.declared.derivation.AskedArgon2.{AskedArgon2}
-use Rattle.luks_request.specs.declared.derivation.AskedKind.{AskedKind}
-use Rattle.luks_request.specs.declared.derivation.AskedKind.TheVariants.{Argon2i, Argon2id}
 use Rattle.luks_request.specs.declared.request.Command.{Command}
 use Rattle.luks_request.specs.declared.request.Command.TheVariants as command
 use Rattle.luks_request.specs.declared.request.Making.{Making}
 use Rattle.luks_request.specs.declared.request.NewVersion.{NewVersion}
 use Rattle.luks_request.specs.declared.request.NewVersion.TheVariants.{Luks1, Luks2}
-use Rattle.luks_commands.specs.OpenAnswers.{kib_of}
+use Rattle.luks_commands.specs.Chosen.{chosen_of}
 
 -- how many random bytes a new volume of this version takes
 abbrev pub needed : NewVersion → ℕ
@@ -32,30 +26,17 @@ abbrev pub IsOfNewVolume : NewVersion → ℕ → Type 0
 IsOfNewVolume Luks1 = IsOfLuks1
 IsOfNewVolume Luks2 = IsOfLuks2
 
--- Argon2 that is asked for, whose memory the command line gives in MiB
-abbrev pub costs_of : AskedArgon2 → Argon2Costs
-costs_of asked = record { time = asked.passes; memory = kib_of asked.memory; cpus = asked.lanes }
-
-abbrev pub derivation_by : AskedKind → Argon2Costs → NewDerivation
-derivation_by Argon2i costs = by.Argon2i costs
-derivation_by Argon2id costs = by.Argon2id costs
-
--- the derivation that is chosen: none where Argon2 isn't asked for
-abbrev pub chosen_of : Option AskedArgon2 → Option NewDerivation
-chosen_of None = None
-chosen_of (Some asked) = Some (derivation_by asked.kind (costs_of asked))
-
 -- `new` is `old` formatted by this version
 abbrev pub IsFormatted : NewVersion → Making → List ℕ → List ℕ → List ℕ → List ℕ → Type 0
 IsFormatted Luks1 making = IsFormatted1 making.data_ making.format
-IsFormatted Luks2 making = IsFormatted2By making.data_ making.format (chosen_of making.argon2)
+IsFormatted Luks2 making = IsFormatted2By making.data_ making.format (chosen_of making.kdf)
 
 -- keyslot 0 of the volume `new` opens by the passphrase to the key: of LUKS2 wherever as much memory is
 -- allowed as its derivation takes
 abbrev pub OpensNew : NewVersion → Making → List ℕ → List ℕ → List ℕ → Type 0
 OpensNew Luks1 making new passphrase key = Answer new 0 passphrase (opens key)
 OpensNew Luks2 making new passphrase key =
-    (memory : ℕ) → memory_by (slot_derivation making.format (chosen_of making.argon2)) ≤ memory → AnswerWithin memory new 0 passphrase (opens key)
+    (memory : ℕ) → memory_by (slot_derivation making.format (chosen_of making.kdf)) ≤ memory → AnswerWithin memory new 0 passphrase (opens key)
 
 -- what is made of the volume `old` for this passphrase and these random bytes: `new`
 pub record IsNewVolume (making : Making) (passphrase random old new : List ℕ) : Type 0 where

@@ -5,6 +5,7 @@ pub mod Printing
 pub mod Checked
 pub mod Answer
 pub mod CheckAnswers
+pub mod Chosen
 pub mod Formatting
 pub mod OpenAnswers
 pub mod FormatAnswers

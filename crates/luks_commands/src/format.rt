@@ -8,20 +8,19 @@ ghost use Rattle.luks_commands.specs.Answer.{answer_status, format_fault_answer,
 ghost use Rattle.luks_commands.specs.Exit.{exit_status, IsExitStatus};
 ghost use Rattle.luks_commands.specs.Files.{AreFirstBytes, IsLong, IsWhole, LeavesSettled, LeavesVolume};
 ghost use Rattle.luks_commands.specs.FormatAnswers.{AnswersFormat, IsFormatAnswer, IsMakingFault, IsUnreadEither};
-ghost use Rattle.luks_commands.specs.Formatting.{IsOfNewVolume, IsNewVolume, chosen_of, needed, SaysFormat};
+ghost use Rattle.luks_commands.specs.Formatting.{IsOfNewVolume, IsNewVolume, needed, SaysFormat};
 
 use crate::answers::{Answer, Refusal, Status, device_fault, end, unread};
+use crate::chosen::chosen_of;
 use crate::inputs::Inputs;
 use crate::open::kib_of;
 use crate::passphrase_file::{PassphraseFault, passphrase};
 use crate::printer::Printer;
 use crate::random_file::{RandomBytes, few_random_bytes, random_bytes};
 use luks_edit::{Done, Passphrase};
-use luks_formatting::{
-    Argon2Costs, FORMAT1_RANDOM, FORMAT2_RANDOM, FormatFault, NewDerivation, format1, format2_by,
-};
+use luks_formatting::{FORMAT1_RANDOM, FORMAT2_RANDOM, FormatFault, format1, format2_by};
 use luks_reading::Device;
-use luks_request::{AskedArgon2, AskedKind, Making, NewVersion};
+use luks_request::{Making, NewVersion};
 use std::alloc::Global;
 use std::io::{Read, Write};
 
@@ -201,7 +200,7 @@ fn make<D: Device>(
     match making.version {
         NewVersion::Luks1 => format1(device, making.data_, format, passphrase, random),
         NewVersion::Luks2 => {
-            let chosen = chosen_of(making.argon2);
+            let chosen = chosen_of(making.kdf);
             let allowed = Passphrase {
                 bytes: passphrase,
                 memory: kib_of(making.memory),
@@ -217,20 +216,4 @@ fn make<D: Device>(
             )
         }
     }
-}
-
-/// The derivation that is asked for, with its memory in KiB; none where it is PBKDF2.
-fn chosen_of(asked: Option<AskedArgon2>) -> Option<NewDerivation>
-    ensures { result ≡ chosen_of asked }
-{
-    let asked = asked?;
-    let costs = Argon2Costs {
-        time: asked.passes,
-        memory: kib_of(asked.memory),
-        cpus: asked.lanes,
-    };
-    Some(match asked.kind {
-        AskedKind::Argon2i => NewDerivation::Argon2i(costs),
-        AskedKind::Argon2id => NewDerivation::Argon2id(costs),
-    })
 }

@@ -5,6 +5,7 @@
 
 mod answers;
 pub mod check;
+mod chosen;
 pub mod format;
 mod inputs;
 pub mod open;
@@ -14,6 +15,7 @@ mod random_file;
 mod secret_file;
 
 pub use answers::{Answer, Refusal, Status, device_fault, end, refused, unread};
+pub use chosen::chosen_of;
 pub use inputs::{InputFault, Inputs, Reason};
 pub use passphrase_file::{PassphraseFault, first_bytes, first_line, passphrase};
 pub use printer::{CountingPrinter, Printer, Unprinted};

@@ -108,7 +108,11 @@ pub(crate) fn place(fault: Fault) -> &'static str {
         }
         Fault::SameSlot => "remove: the keyslots of --by and --slot",
         Fault::SlotFree => "open: the keyslot of --slot",
-        Fault::Argon2 => "open, add, change and remove: the keyslot of --slot or --by, of LUKS2",
+        Fault::Argon2 => {
+            "open, add, change and remove: the keyslot of --slot or --by, of LUKS2;
+       format, add and change: the new keyslot that --kdf chooses; LUKS1 has
+       none by Argon2"
+        }
         Fault::Hash => {
             "open, add, change and remove: the hash of the derivation, the splitter or
        the digest of the keyslot of --slot or --by"
@@ -333,7 +337,8 @@ pub(crate) fn next(fault: Fault) -> &'static str {
         Fault::Argon2 => {
             "the same command with --memory and the MiB that standard error says;
        where there isn't as much: cryptsetup open --test-passphrase, on a copy
-       of the header"
+       of the header; for a new keyslot a smaller --kdf-memory, in LUKS1 --kdf
+       pbkdf2"
         }
         Fault::Cipher | Fault::Hash | Fault::KeySize => {
             "try it by cryptsetup open --test-passphrase, on a copy of the header"

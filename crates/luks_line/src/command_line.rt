@@ -70,7 +70,7 @@ pub fn line<'a>(alloc: Global, words: &'a [&'a str]) -> Result<Line<'a>, Error> 
 fn mistake_in(matches: &ArgMatches<'_>) -> Option<&'static str> {
     match matches.subcommand()? {
         ("rebuild", given) => wrong_field(given),
-        ("format", given) => wrong_derivation(given),
+        ("format" | "add" | "change", given) => wrong_derivation(given),
         _ => None,
     }
 }

@@ -2,9 +2,9 @@
 //! backups, and the last, stand in `rescue_commands`.
 
 use crate::choices::Choice;
-use crate::helps;
 use crate::operands::Operand;
 use crate::options::LongOption;
+use luks_helps::helps;
 
 /// A command: its name, its help, and what may follow its name.
 #[derive(Clone, Copy)]
@@ -99,6 +99,11 @@ static COMMANDS: [Described; 11] = [
             LongOption::NeededRandom,
             LongOption::To,
             LongOption::Iterations,
+            LongOption::ChosenKdf,
+            LongOption::KdfMemory,
+            LongOption::Passes,
+            LongOption::Lanes,
+            LongOption::IterTime,
             LongOption::Memory,
             LongOption::Over,
             LongOption::Detached,
@@ -123,6 +128,11 @@ static COMMANDS: [Described; 11] = [
             LongOption::NewLine,
             LongOption::NeededRandom,
             LongOption::Iterations,
+            LongOption::ChosenKdf,
+            LongOption::KdfMemory,
+            LongOption::Passes,
+            LongOption::Lanes,
+            LongOption::IterTime,
             LongOption::Memory,
             LongOption::Over,
             LongOption::Detached,
@@ -206,6 +216,7 @@ static COMMANDS: [Described; 11] = [
             LongOption::KdfMemory,
             LongOption::Passes,
             LongOption::Lanes,
+            LongOption::IterTime,
             LongOption::Memory,
             LongOption::Detached,
             LongOption::Offset,

@@ -2,20 +2,17 @@
 
 use clap::ArgMatches;
 use clap::parser::ValueSource;
-use luks_request::{AskedArgon2, AskedKind};
+use luks_request::{AskedArgon2, AskedKdf, AskedKind};
 
 /// What of the words doesn't go together.
 pub(crate) fn wrong_derivation(given: &ArgMatches<'_>) -> Option<&'static str> {
+    if is_given(given, "iter-time") {
+        if let Some(text) = wrong_time(given) {
+            return Some(text);
+        }
+    }
     if kind_of(given).is_some() {
-        if is_given(given, "iterations") {
-            return Some(
-                "the argument '--iterations <N>' cannot be used with Argon2: it has '--passes <N>'",
-            );
-        }
-        if given.get_str("version") == Some("1") {
-            return Some("the argument '--kdf <KDF>' cannot be Argon2 with '--version 1'");
-        }
-        return None;
+        return wrong_argon2(given);
     }
     for name in ["kdf-memory", "passes", "lanes"] {
         if is_given(given, name) {
@@ -23,6 +20,32 @@ pub(crate) fn wrong_derivation(given: &ArgMatches<'_>) -> Option<&'static str> {
                 "'--kdf-memory', '--passes' and '--lanes' are of Argon2 alone: '--kdf argon2id' chooses it",
             );
         }
+    }
+    None
+}
+
+/// What doesn't go together with a time.
+fn wrong_time(given: &ArgMatches<'_>) -> Option<&'static str> {
+    if is_given(given, "iterations") || is_given(given, "passes") {
+        return Some(
+            "the argument '--iter-time <MS>' cannot be used with '--iterations <N>' or '--passes <N>'",
+        );
+    }
+    if given.get_str("kdf").is_none() {
+        return Some("the argument '--iter-time <MS>' needs '--kdf <KDF>'");
+    }
+    None
+}
+
+/// What doesn't go together with Argon2.
+fn wrong_argon2(given: &ArgMatches<'_>) -> Option<&'static str> {
+    if is_given(given, "iterations") {
+        return Some(
+            "the argument '--iterations <N>' cannot be used with Argon2: it has '--passes <N>'",
+        );
+    }
+    if given.get_str("version") == Some("1") {
+        return Some("the argument '--kdf <KDF>' cannot be Argon2 with '--version 1'");
     }
     None
 }
@@ -42,14 +65,24 @@ fn kind_of(given: &ArgMatches<'_>) -> Option<AskedKind> {
 }
 
 /// Argon2 that is asked for, or none; nothing where a cost isn't there.
-pub(crate) fn argon2_of(given: &ArgMatches<'_>) -> Option<Option<AskedArgon2>> {
+pub(crate) fn argon2_of(given: &ArgMatches<'_>) -> Option<Option<AskedKdf>> {
     let Some(kind) = kind_of(given) else {
         return Some(None);
     };
-    Some(Some(AskedArgon2 {
+    Some(Some(AskedKdf::Argon2(AskedArgon2 {
         kind,
         passes: given.get_one::<u32>("passes")?,
         memory: given.get_one::<u32>("kdf-memory")?,
         lanes: given.get_one::<u32>("lanes")?,
-    }))
+    })))
+}
+
+/// The derivation that is asked for, or none, which keeps that of the keyslot that opens; nothing where a
+/// cost isn't there.
+pub(crate) fn kdf_of(given: &ArgMatches<'_>) -> Option<Option<AskedKdf>> {
+    if given.get_str("kdf") == Some("pbkdf2") {
+        let iterations = given.get_one::<u32>("iterations")?;
+        return Some(Some(AskedKdf::Pbkdf2 { iterations }));
+    }
+    argon2_of(given)
 }

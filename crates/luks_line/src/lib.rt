@@ -1,5 +1,4 @@
-//! The command line of the program `luks`: which command its words ask for, over which files, and
-//! the texts of its help.
+//! The command line of the program `luks`: which command its words ask for, over which files.
 #![tactic(auto)]
 
 mod choices;
@@ -7,14 +6,12 @@ mod command_line;
 mod commands;
 mod derivation;
 mod fields;
-mod helps;
 mod manner;
 mod operands;
 mod options;
 mod program;
 mod requests;
 mod rescue_commands;
-mod rescue_helps;
 mod search;
 mod takes;
 

@@ -1,8 +1,8 @@
-//! How a command's answer is told, and how the passphrases' files are read.
+//! How a command's answer is told, how the passphrases' files are read, and by what costs are chosen.
 
 use clap::ArgMatches;
 
-/// How a command's answer is told, and how the passphrases' files are read.
+/// How a command's answer is told, how the passphrases' files are read, and by what costs are chosen.
 #[derive(Debug, Clone, Copy, PartialEq, Eq)]
 pub struct Manner {
     /// As one JSON object in place of the line, which `check` and `open` can. How `show` lists a
@@ -14,6 +14,9 @@ pub struct Manner {
     pub passphrase_line: bool,
     /// The new passphrase likewise.
     pub new_line: bool,
+    /// How many milliseconds a new keyslot's derivation is to take on this machine: its iterations, or its
+    /// passes and memory, are chosen by that, in the place of those that the command's request has.
+    pub iter_time: Option<u32>,
 }
 
 /// How the answer of the command of this name is to be told, and its files are to be read.
@@ -23,5 +26,6 @@ pub(crate) fn manner_of(name: &str, given: &ArgMatches<'_>) -> Manner {
         quiet: given.get_flag("quiet"),
         passphrase_line: given.get_str("passphrase-line").is_some(),
         new_line: given.get_str("new-line").is_some(),
+        iter_time: given.get_one::<u32>("iter-time"),
     }
 }

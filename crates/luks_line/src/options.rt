@@ -46,6 +46,8 @@ pub(crate) enum LongOption {
     KdfMemory,
     Passes,
     Lanes,
+    ChosenKdf,
+    IterTime,
 }
 
 impl LongOption {
@@ -63,7 +65,7 @@ pub(crate) struct OptionRow {
 }
 
 /// In the order of `LongOption`.
-static OPTIONS: [OptionRow; 40] = [
+static OPTIONS: [OptionRow; 42] = [
     OptionRow {
         name: "detached",
         needed: false,
@@ -303,5 +305,17 @@ static OPTIONS: [OptionRow; 40] = [
         needed: false,
         help: "Of Argon2, 1 to 4",
         takes: Takes::Lanes,
+    },
+    OptionRow {
+        name: "kdf",
+        needed: false,
+        help: "pbkdf2, argon2i or argon2id; else the opener's",
+        takes: Takes::ChosenKdf,
+    },
+    OptionRow {
+        name: "iter-time",
+        needed: false,
+        help: "Choose costs that take so many milliseconds",
+        takes: Takes::Milliseconds,
     },
 ];

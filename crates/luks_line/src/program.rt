@@ -2,12 +2,12 @@
 
 use crate::choices::ChoiceRow;
 use crate::commands::{Described, commands};
-use crate::helps;
 use crate::operands::OperandRow;
 use crate::options::OptionRow;
 use crate::rescue_commands::rescue_commands;
 use crate::takes::Takes;
 use clap::{Arg, ArgGroup, Command};
+use luks_helps::helps;
 use std::alloc::{AllocError, Global};
 
 /// The program, with the commands that overwrite or without them.

@@ -1,6 +1,6 @@
 //! What the words of a command line ask for, once `clap` has told them apart.
 
-use crate::derivation::argon2_of;
+use crate::derivation::{argon2_of, kdf_of};
 use crate::fields::fields_of;
 use crate::search::Search;
 use clap::ArgMatches;
@@ -106,6 +106,7 @@ fn adding_of<'a>(given: &ArgMatches<'a>) -> Option<EditRequest<'a>> {
         new: new_of(given)?,
         to: given.get_one::<u8>("to"),
         iterations: given.get_one::<u32>("iterations")?,
+        kdf: kdf_of(given)?,
     })
 }
 
@@ -116,6 +117,7 @@ fn changing_of<'a>(given: &ArgMatches<'a>) -> Option<EditRequest<'a>> {
         memory: given.get_one::<u32>("memory")?,
         new: new_of(given)?,
         iterations: given.get_one::<u32>("iterations")?,
+        kdf: kdf_of(given)?,
     })
 }
 
@@ -143,7 +145,7 @@ fn making_of<'a>(given: &ArgMatches<'a>) -> Option<Making<'a>> {
             hash: HashName::parse(given.get_str("hash")?)?,
             iterations: given.get_one::<u32>("iterations")?,
         },
-        argon2: argon2_of(given)?,
+        kdf: argon2_of(given)?,
         memory: given.get_one::<u32>("memory")?,
         data_: data_of(given),
     })

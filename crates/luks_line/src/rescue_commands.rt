@@ -4,7 +4,7 @@
 use crate::commands::Described;
 use crate::operands::Operand;
 use crate::options::LongOption;
-use crate::{helps, rescue_helps};
+use luks_helps::{helps, rescue_helps};
 
 /// The last commands.
 pub(crate) fn rescue_commands() -> &'static [Described] {

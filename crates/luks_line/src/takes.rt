@@ -43,14 +43,18 @@ pub(crate) enum Takes {
     KeyBytes,
     /// A sector, by its number.
     Sector,
-    /// A key derivation function.
+    /// A key derivation function, one of which counts without the option.
     Kdf,
+    /// A key derivation function.
+    ChosenKdf,
     /// MiB of memory that a new keyslot takes.
     KdfMemory,
     /// Passes of Argon2.
     Passes,
     /// Lanes of Argon2.
     Lanes,
+    /// A time in milliseconds.
+    Milliseconds,
 }
 
 /// The lengths that a copy of a LUKS2 header may have (LUKS2 On-Disk Format 1.1, 2.1).
@@ -75,9 +79,9 @@ impl Takes {
             Takes::Memory => ValueParser::Unsigned(0, 4194303),
             Takes::Iterations | Takes::Sector => ValueParser::Unsigned(0, 4294967295),
             Takes::KeyBytes => ValueParser::Unsigned(1, 128),
-            Takes::Kdf => ValueParser::Names(&["pbkdf2", "argon2i", "argon2id"]),
+            Takes::Kdf | Takes::ChosenKdf => ValueParser::Names(&["pbkdf2", "argon2i", "argon2id"]),
             Takes::KdfMemory => ValueParser::Unsigned(1, 4095),
-            Takes::Passes => ValueParser::Unsigned(1, 4294967295),
+            Takes::Passes | Takes::Milliseconds => ValueParser::Unsigned(1, 4294967295),
             Takes::Lanes => ValueParser::Unsigned(1, 4),
             Takes::CopySize => ValueParser::Names(&COPY_SIZES),
             Takes::Offset | Takes::Bytes => ValueParser::Unsigned(0, u64::MAX),
@@ -94,7 +98,8 @@ impl Takes {
             Takes::Slot | Takes::Iterations | Takes::KeyBytes => &["N"],
             Takes::Passes | Takes::Lanes => &["N"],
             Takes::Memory | Takes::KdfMemory => &["MIB"],
-            Takes::Kdf => &["KDF"],
+            Takes::Kdf | Takes::ChosenKdf => &["KDF"],
+            Takes::Milliseconds => &["MS"],
             Takes::Version => &["VERSION"],
             Takes::Hash => &["HASH"],
             Takes::Uuid => &["TEXT"],
@@ -121,6 +126,9 @@ impl Takes {
 
     /// Whether the help doesn't list the values, since its text names them.
     pub(crate) fn hides(self) -> bool {
-        matches!(self, Takes::Hash | Takes::CopySize | Takes::Kdf)
+        matches!(
+            self,
+            Takes::Hash | Takes::CopySize | Takes::Kdf | Takes::ChosenKdf
+        )
     }
 }

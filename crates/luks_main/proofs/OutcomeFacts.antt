@@ -32,6 +32,7 @@ use Rattle.luks_edit_commands.specs.Editing.{WhereEdit}
 use Rattle.luks_main.specs.declared.outcome.Outcome.{Outcome}
 use Rattle.luks_main.specs.Outcomes.{EndsAsObject, IsOf, IsOutcome, IsToldAsObject, IsUntold, told, refused, failed}
 use Rattle.luks_main.specs.Statuses.{EndsBackup, EndsCheck, EndsCompare, EndsConvert, EndsEdit, EndsFormat, EndsOpen, EndsRebuild, EndsRestore, EndsShow, EndsWith, MayEnd}
+use Rattle.luks_timing.specs.Timed.{IsTimed}
 use Rattle.luks_main.proofs.StatusFacts.{backup_ends, backup_same_file_ends, compare_ends, compare_same_file_ends, convert_ends, converted_same_file_ends, memory_ends, own, prints_as, rebuilt_same_file_ends, restore_ends, restore_same_file_ends}
 
 -- ---- whether both files are one
@@ -188,3 +189,16 @@ object_printed X o b value a status before after held holds hints text printed h
 -- it may always end with 4
 pub fault_ends : (c : Command) → MayEnd c 4
 fault_ends c = (NoMemory, memory_ends c)
+
+-- a command ends as it does with timed costs
+pub timed_ends : (c timed : Command) (status : ℕ) → IsTimed c timed → MayEnd timed status → MayEnd c status
+timed_ends (command.Edit editing) timed status is ends = subst (λ (x : Command). MayEnd x status) is.2 ends
+timed_ends (command.Format making) timed status is ends = subst (λ (x : Command). MayEnd x status) is.2 ends
+timed_ends (command.Check payload) timed status is ends = subst (λ (x : Command). MayEnd x status) is ends
+timed_ends (command.Show shown_as) timed status is ends = subst (λ (x : Command). MayEnd x status) is ends
+timed_ends (command.Open passphrase slot memory) timed status is ends = subst (λ (x : Command). MayEnd x status) is ends
+timed_ends (command.Convert converting) timed status is ends = subst (λ (x : Command). MayEnd x status) is ends
+timed_ends (command.Rebuild rebuilding) timed status is ends = subst (λ (x : Command). MayEnd x status) is ends
+timed_ends (command.Backup backing_up) timed status is ends = subst (λ (x : Command). MayEnd x status) is ends
+timed_ends (command.Restore restoring) timed status is ends = subst (λ (x : Command). MayEnd x status) is ends
+timed_ends (command.Compare comparing) timed status is ends = subst (λ (x : Command). MayEnd x status) is ends

@@ -15,7 +15,7 @@ use luks_notes::{
     note_whole, read_front,
 };
 use luks_rebuilding::Which;
-use luks_request::{Meant, Place};
+use luks_request::{AskedKdf, EditRequest, Meant, Place};
 use luks_signatures::first_use;
 use std::alloc::Global;
 use std::fs::File;
@@ -160,6 +160,9 @@ fn tell_more<R: AllocGlobal + Clock + Files<File = File>>(
         (Command::Open { .. }, 1) if ended.answer == "no slot opens\n" => {
             tell_no_keyslots(rt, volume, notes)
         }
+        (Command::Edit(_) | Command::Format(_), 1) if ended.answer == "refused Argon2\n" => {
+            tell_wanted(rt, line, notes)
+        }
         _ => {}
     }
 }
@@ -243,6 +246,57 @@ fn tell_no_keyslots<R: AllocGlobal + Clock + Files<File = File>>(
         return;
     };
     note_no_keyslots(rt.alloc(), &mut device, looked.file, notes);
+}
+
+/// Notes how much memory a new keyslot takes, where more than is allowed; of an edit of LUKS1 that there is
+/// none by Argon2.
+fn tell_wanted<R: AllocGlobal + Clock + Files<File = File>>(
+    rt: &R,
+    line: &Line<'_>,
+    notes: &mut Vec<u8>,
+) {
+    let Some((AskedKdf::Argon2(asked), allowed)) = asked_kdf(&line.command) else {
+        return;
+    };
+    if let Command::Edit(_) = line.command {
+        if is_luks1(rt, Looked::at_volume(line)) {
+            let volume = line.volume;
+            let _ = writeln!(notes, "luks: {volume}: LUKS1 has no Argon2: --kdf pbkdf2");
+            return;
+        }
+    }
+    if asked.memory > allowed {
+        let mib = asked.memory;
+        let _ = writeln!(
+            notes,
+            "luks: the new keyslot takes {mib} MiB of memory: --memory {mib} allows it"
+        );
+    }
+}
+
+/// Whether a LUKS1 header stands there, by its magic.
+fn is_luks1<R: AllocGlobal + Clock + Files<File = File>>(rt: &R, looked: Looked<'_>) -> bool {
+    let Some(mut device) = reopened(rt, looked.file, looked.place) else {
+        return false;
+    };
+    let mut head = [0u8; 8];
+    device.len() >= 8
+        && device.read_at(0, &mut head).is_ok()
+        && head.as_slice() == b"LUKS\xba\xbe\0\x01".as_slice()
+}
+
+/// What a new keyslot is asked to derive by, and how many MiB of memory are allowed for it.
+fn asked_kdf(command: &Command<'_>) -> Option<(AskedKdf, u32)> {
+    match *command {
+        Command::Format(making) => Some((making.kdf?, making.memory)),
+        Command::Edit(editing) => match editing.request {
+            EditRequest::Add { kdf, memory, .. } | EditRequest::Change { kdf, memory, .. } => {
+                Some((kdf?, memory))
+            }
+            _ => None,
+        },
+        _ => None,
+    }
 }
 
 /// Notes what was left where a header was made of what stood there before, or why it wasn't looked for.

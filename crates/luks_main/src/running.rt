@@ -8,13 +8,14 @@ ghost use Rattle.luks_main.specs.Statuses.{IsProgramStatus, MayEnd};
 use crate::hints::{Ended, tell, tell_ended, tell_overwritten, use_before};
 use crate::outcome::{Outcome, outcome_of};
 use crate::searching::search;
-use crate::told::{device_fault, explain, list_faults, no_memory, tell_usage};
+use crate::told::{device_fault, explain, list_faults, no_memory, tell_untimed, tell_usage};
 use crate::trial::TrialLines;
 use crate::{FAULT, USAGE};
 use luks_edit_commands::{CountingPrinter, InputFault, Inputs, Line, OtherUse, Unprinted};
 use luks_files::{Openings, Passphrases, Volume, Volumes, has_changed, open_volumes, reader};
 use luks_guarded_files::LazyFile;
 use luks_line::{Asked, Manner, parse};
+use luks_timing::Timing;
 use luks_wiping::wipe_stack;
 use std::fs::File;
 use std::io::{ErrorKind, Write};
@@ -96,8 +97,8 @@ fn hold_standard_numbers<R: Files<File = File>>(rt: &R) -> io::Result<[File; 3]>
     ])
 }
 
-/// Runs the command of this line: reads and opens its files in their order, prints its answer, says what is
-/// noted; gives the exit status, which is the answer's where that could be printed.
+/// Runs the command of this line: reads its passphrases, and chooses costs where they are to take a wanted
+/// time; gives the exit status, which is the answer's where that could be printed.
 fn run_line<R: AllocGlobal + Clock + Files<File = File> + Input + Print + Eprint>(
     rt: &R,
     line: &Line<'_>,
@@ -108,11 +109,67 @@ fn run_line<R: AllocGlobal + Clock + Files<File = File> + Input + Print + Eprint
 {
     let openings = Openings::of(line);
     let passphrases = Passphrases::read(rt, &openings, manner);
+    let noticed = Vec::new(rt.alloc());
+    match manner.iter_time {
+        Some(milliseconds) if !passphrases.end_command() => {
+            run_timed(
+                rt,
+                line,
+                manner,
+                milliseconds,
+                &openings,
+                &passphrases,
+                noticed,
+            )
+        }
+        _ => run_read(rt, line, manner, &openings, &passphrases, noticed),
+    }
+}
+
+/// The same, with costs that take that many milliseconds. It isn't inlined, so that what Argon2 takes of the
+/// stack isn't taken from the command.
+#[inline(never)]
+#[tactic(auto, using(crate::proofs::OutcomeFacts::fault_ends, crate::proofs::OutcomeFacts::timed_ends))]
+fn run_timed<R: AllocGlobal + Clock + Files<File = File> + Input + Print + Eprint>(
+    rt: &R,
+    line: &Line<'_>,
+    manner: Manner,
+    milliseconds: u32,
+    openings: &Openings<'_>,
+    passphrases: &Passphrases,
+    mut noticed: Vec<u8>,
+) -> u8
+    ensures ends { MayEnd line.now.command result }
+    ensures status { IsExitStatus result }
+{
+    let timing = Timing {
+        alloc: rt.alloc(),
+        clock: rt,
+        milliseconds,
+    };
+    match timing.line(line, &mut noticed) {
+        Ok(timed) => run_read(rt, &timed, manner, openings, passphrases, noticed),
+        Err(fault) => tell_untimed(rt, &fault, manner.quiet),
+    }
+}
+
+/// Opens the files of a line whose passphrases were read, in their order, runs its command, prints the
+/// answer, and says what is noted.
+fn run_read<R: AllocGlobal + Clock + Files<File = File> + Input + Print + Eprint>(
+    rt: &R,
+    line: &Line<'_>,
+    manner: Manner,
+    openings: &Openings<'_>,
+    passphrases: &Passphrases,
+    mut noticed: Vec<u8>,
+) -> u8
+    ensures ends { MayEnd line.now.command result }
+    ensures status { IsExitStatus result }
+{
     let ended = passphrases.end_command();
     let standing = if ended { None } else { use_before(rt, line) };
-    let mut noticed = Vec::new(rt.alloc());
-    let volumes = open_volumes(rt, line, &openings, ended, &mut noticed);
-    let mut inputs = inputs_of(rt, volumes, &passphrases, &openings);
+    let volumes = open_volumes(rt, line, openings, ended, &mut noticed);
+    let mut inputs = inputs_of(rt, volumes, passphrases, openings);
     let mut trial = TrialLines::new(rt, line, manner.quiet);
     let mut outcome = outcome_of(rt.alloc(), line, manner, &mut inputs, &mut trial);
     let is_noted = outcome.is_noted(manner);

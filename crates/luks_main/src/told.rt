@@ -6,6 +6,7 @@ ghost use Rattle.luks_main.specs.Statuses.{IsStatusWithout, named_status};
 use crate::{FAULT, TOLD, USAGE};
 use clap::error::ErrorKind as FaultKind;
 use luks_explain::Fault;
+use luks_timing::CostFault;
 use std::io;
 
 /// Prints what `clap` says of the words: a fault of them on standard error, and a help that they ask
@@ -63,4 +64,24 @@ pub(crate) fn no_memory<R: Print + Eprint>(rt: &R) -> io::Result<u8>
     let _ = eprintln!(rt; "luks: memory for the command line was refused");
     println!(rt; "no memory")?;
     Ok(FAULT)
+}
+
+/// Answers that no costs were found that take a wanted time.
+pub(crate) fn tell_untimed<R: Print + Eprint>(rt: &R, fault: &CostFault, quiet: bool) -> u8
+    ensures { result ≡ 4 }
+{
+    let answer = match fault {
+        CostFault::Clock(error) => {
+            let _ = eprintln!(rt; "luks: --iter-time: the clock can't be read: {error}");
+            "device fault"
+        }
+        CostFault::Memory => {
+            if !quiet {
+                let _ = eprintln!(rt; "luks: --iter-time: memory was refused");
+            }
+            "no memory"
+        }
+    };
+    let _ = println!(rt; "{answer}");
+    FAULT
 }

@@ -7,16 +7,16 @@ use Rattle.luks_request.specs.declared.request.EditRequest.TheVariants.{Add, Cha
 
 -- the edits that open a keyslot need its passphrase
 abbrev pub edit_passphrase_of : EditRequest → Option (List ℕ)
-edit_passphrase_of (Add by_ passphrase memory new to iterations) = Some passphrase.now
-edit_passphrase_of (Change slot passphrase memory new iterations) = Some passphrase.now
+edit_passphrase_of (Add by_ passphrase memory new to iterations kdf) = Some passphrase.now
+edit_passphrase_of (Change slot passphrase memory new iterations kdf) = Some passphrase.now
 edit_passphrase_of (Remove slot by_ passphrase memory) = Some passphrase.now
 edit_passphrase_of Repair = None
 edit_passphrase_of (Label text) = None
 
 -- and those that seal one the new passphrase
 abbrev pub edit_new_of : EditRequest → Option (List ℕ)
-edit_new_of (Add by_ passphrase memory new to iterations) = Some new.now
-edit_new_of (Change slot passphrase memory new iterations) = Some new.now
+edit_new_of (Add by_ passphrase memory new to iterations kdf) = Some new.now
+edit_new_of (Change slot passphrase memory new iterations kdf) = Some new.now
 edit_new_of (Remove slot by_ passphrase memory) = None
 edit_new_of Repair = None
 edit_new_of (Label text) = None

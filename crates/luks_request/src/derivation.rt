@@ -1,4 +1,18 @@
-/// Argon2 that is asked for a new keyslot, in place of PBKDF2.
+//! What a new keyslot is asked to derive by.
+
+/// What a new keyslot is asked to derive by.
+#[derive(Debug, Clone, Copy, PartialEq, Eq)]
+pub enum AskedKdf {
+    /// PBKDF2.
+    Pbkdf2 {
+        /// How many iterations it has.
+        iterations: u32,
+    },
+    /// Argon2.
+    Argon2(AskedArgon2),
+}
+
+/// Argon2 that is asked for, by its costs.
 #[derive(Debug, Clone, Copy, PartialEq, Eq)]
 pub struct AskedArgon2 {
     /// Of which kind it is.

@@ -7,7 +7,7 @@ mod place;
 mod rebuilding;
 mod request;
 
-pub use derivation::{AskedArgon2, AskedKind};
+pub use derivation::{AskedArgon2, AskedKdf, AskedKind};
 pub use keeping::{BackingUp, Comparing, Restoring};
 pub use place::Place;
 pub use rebuilding::{Luks1Fields, Meant, Rebuilding};

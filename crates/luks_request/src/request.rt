@@ -2,7 +2,7 @@ ghost use Rattle.std.specs.Prelude.{◌≡◌, option_map};
 ghost use Rattle.luks_request.specs.Named.{backup_of, edit_new_of, edit_passphrase_of, is_writer, new_of};
 ghost use Rattle.luks_request.specs.Named.{passphrase_of, random_of, target_of};
 
-use crate::derivation::AskedArgon2;
+use crate::derivation::AskedKdf;
 use crate::keeping::{BackingUp, Comparing, Restoring};
 use crate::place::Place;
 use crate::rebuilding::Rebuilding;
@@ -102,6 +102,8 @@ pub enum EditRequest<'a> {
         to: Option<u8>,
         /// The iterations of its derivation, where that is PBKDF2.
         iterations: u32,
+        /// What the new keyslot derives by; without it that is as of the one that opens.
+        kdf: Option<AskedKdf>,
     },
     /// Put a new passphrase in the place of an old one.
     Change {
@@ -115,6 +117,8 @@ pub enum EditRequest<'a> {
         new: &'a str,
         /// The iterations of its derivation, where that is PBKDF2.
         iterations: u32,
+        /// What it derives by then; without it that is as before.
+        kdf: Option<AskedKdf>,
     },
     /// Remove a keyslot, by its own passphrase or by another keyslot's.
     Remove {
@@ -169,10 +173,10 @@ pub struct Making<'a> {
     pub random: &'a str,
     /// The version of the format.
     pub version: NewVersion,
-    /// Its hash and iterations.
+    /// Its hash, and the iterations of the digest.
     pub format: Format,
-    /// LUKS2: what keyslot 0 derives by; without it that is PBKDF2 by the hash and iterations.
-    pub argon2: Option<AskedArgon2>,
+    /// LUKS2: what keyslot 0 derives by; without it that is PBKDF2 by the hash and iterations of the digest.
+    pub kdf: Option<AskedKdf>,
     /// How many MiB of memory Argon2 may take.
     pub memory: u32,
     /// Where the payload lies.

@@ -1,8 +1,10 @@
 //! The edit that a command line asks for.
 ghost use Rattle.std.specs.Prelude.{◌≡◌};
+ghost use Rattle.luks_commands.specs.Chosen.{chosen_of};
 ghost use Rattle.luks_commands.specs.OpenAnswers.{kib_of};
 ghost use Rattle.luks_edit_commands.specs.Editing.{IsAsked};
 
+use luks_commands::chosen_of;
 use luks_commands::open::kib_of;
 use luks_request::EditRequest;
 use luks_volume::{Edit, Passphrase};
@@ -19,13 +21,14 @@ pub(super) fn edit_of<'a>(request: &EditRequest<'a>, old: &'a [u8], new: &'a [u8
             new: _,
             to,
             iterations,
+            kdf,
         } => Edit::Add {
             by_,
             old: allowed(old, memory),
             new,
             to,
             iterations,
-            derivation: None,
+            derivation: chosen_of(kdf),
         },
         EditRequest::Change {
             slot,
@@ -33,12 +36,13 @@ pub(super) fn edit_of<'a>(request: &EditRequest<'a>, old: &'a [u8], new: &'a [u8
             memory,
             new: _,
             iterations,
+            kdf,
         } => Edit::Change {
             slot,
             old: allowed(old, memory),
             new,
             iterations,
-            derivation: None,
+            derivation: chosen_of(kdf),
         },
         EditRequest::Remove {
             slot,

@@ -7,6 +7,7 @@ ghost use Rattle.luks_edit_commands.specs.OtherUses.{is_unseen_failure, IsUnseen
 
 use crate::other_use::barring_use;
 use luks_commands::open::{MemoryNote, memory_note};
+use luks_edit::NewDerivation;
 use luks_request::Editing;
 use luks_signatures::OtherUse;
 use luks_volume::{
@@ -111,19 +112,7 @@ pub(super) fn see<D: Device>(
 /// The keyslot that the edit makes, where that has fewer iterations than the one that it opens in a
 /// volume with this header.
 fn weaker_keyslot(header: &Header, edit: &Edit<'_>) -> Option<Weaker> {
-    let (opener, iterations) = match *edit {
-        Edit::Add {
-            by_,
-            iterations,
-            ..
-        } => (by_, iterations),
-        Edit::Change {
-            slot,
-            iterations,
-            ..
-        } => (slot, iterations),
-        _ => return None,
-    };
+    let (opener, iterations) = new_iterations(edit)?;
     let opener_iterations = iterations_of(header, opener)?;
     if iterations >= opener_iterations {
         return None;
@@ -133,6 +122,31 @@ fn weaker_keyslot(header: &Header, edit: &Edit<'_>) -> Option<Weaker> {
         opener,
         opener_iterations,
     })
+}
+
+/// The number of the keyslot that the edit opens, and the iterations of the one that it makes; none where
+/// that is chosen to derive by Argon2.
+fn new_iterations(edit: &Edit<'_>) -> Option<(u8, u32)> {
+    let (opener, iterations, derivation) = match *edit {
+        Edit::Add {
+            by_,
+            iterations,
+            derivation,
+            ..
+        } => (by_, iterations, derivation),
+        Edit::Change {
+            slot,
+            iterations,
+            derivation,
+            ..
+        } => (slot, iterations, derivation),
+        _ => return None,
+    };
+    match derivation {
+        None => Some((opener, iterations)),
+        Some(NewDerivation::Pbkdf2 { iterations }) => Some((opener, iterations)),
+        Some(NewDerivation::Argon2i(_) | NewDerivation::Argon2id(_)) => None,
+    }
 }
 
 /// The iterations of PBKDF2 that the keyslot `n` says; none where it isn't there, or by Argon2.

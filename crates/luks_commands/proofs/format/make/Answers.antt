@@ -6,7 +6,8 @@ use Rattle.luks_formatting.specs.FormatFaults.{IsAnsweredFaultOrMemory, IsFormat
 use Rattle.luks_formatting.specs.Formatted2.{IsFormatted2By}
 use Rattle.luks_formatting.specs.RandomBytes.{volume_key}
 use Rattle.luks_making.specs.declared.derivation.NewDerivation.{NewDerivation}
-use Rattle.luks_commands.specs.Formatting.{chosen_of, OpensNew}
+use Rattle.luks_commands.specs.Chosen.{chosen_of}
+use Rattle.luks_commands.specs.Formatting.{OpensNew}
 use Rattle.luks_commands.specs.OpenAnswers.{kib_of}
 use Rattle.luks_commands.proofs.FormatFacts.{made, made_fault, same_by, same_or_memory_by}
 use Rattle.luks_request.specs.declared.request.NewVersion.TheVariants.{Luks1, Luks2}
@@ -27,7 +28,7 @@ returns-in-Luks2-clause-made g c = λ tells.
     let random = c.args.random.now in
     let old = g.D.Device.bytes c.args.device.now in
     let new = g.D.Device.bytes c.format2_by.new.device in
-    let formatted : OnOk c.format2_by.result (IsFormatted2By making.data_ making.format (chosen_of making.argon2) p random old new) =
+    let formatted : OnOk c.format2_by.result (IsFormatted2By making.data_ making.format (chosen_of making.kdf) p random old new) =
     subst (λ (chosen : Option NewDerivation). OnOk c.format2_by.result (IsFormatted2By making.data_ making.format chosen p random old new)) c.chosen_of-chosen.ensures (c.format2_by.ensures.formatted tells) in
     let opened : OnOk c.format2_by.result (OpensNew Luks2 making new p (volume_key random)) =
     subst (λ (chosen : Option NewDerivation). OnOk c.format2_by.result ((memory : ℕ) → memory_by (slot_derivation making.format chosen) ≤ memory → AnswerWithin memory new 0 p (opens (volume_key random))))
@@ -46,6 +47,6 @@ returns-in-Luks2-clause-fault g c =
     let total = g.D.Device.size c.args.device.now in
     let allowed : IfErr c.format2_by.result (IsAnsweredFaultOrMemory (IsFormat2FaultBy c.chosen_of-chosen.result (allowed_for (kib_of making.memory) p) total making.format random)) =
     subst (λ (n : ℕ). IfErr c.format2_by.result (IsAnsweredFaultOrMemory (IsFormat2FaultBy c.chosen_of-chosen.result (allowed_for n p) total making.format random))) c.kib_of.ensures c.format2_by.ensures.fault in
-    let held : IfErr c.format2_by.result (IsAnsweredFaultOrMemory (IsFormat2FaultBy (chosen_of making.argon2) (allowed_for (kib_of making.memory) p) total making.format random)) =
+    let held : IfErr c.format2_by.result (IsAnsweredFaultOrMemory (IsFormat2FaultBy (chosen_of making.kdf) (allowed_for (kib_of making.memory) p) total making.format random)) =
     subst (λ (chosen : Option NewDerivation). IfErr c.format2_by.result (IsAnsweredFaultOrMemory (IsFormat2FaultBy chosen (allowed_for (kib_of making.memory) p) total making.format random))) c.chosen_of-chosen.ensures allowed in
     made_fault c.format2_by.result making p total random c.in-Luks2.is held

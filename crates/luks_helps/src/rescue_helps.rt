@@ -1,8 +1,10 @@
 //! The texts of `--help`, of at most 80 columns, of the commands that find volumes and keep their headers.
 
-pub(crate) const FIND: &str = "Finds the volumes of a disk by any sign left of them";
+/// What `find` does, in a line.
+pub const FIND: &str = "Finds the volumes of a disk by any sign left of them";
 
-pub(crate) const FIND_MORE: &str = "\
+/// The help of `find` after its words.
+pub const FIND_MORE: &str = "\
 DEVICE is read once, from its beginning to its end, and nothing is written. A
 volume begins at a multiple of 512 where one of these signs is left of it: the
 LUKS magic with version 1 or 2 behind it; a sound second copy of a LUKS2 header;
@@ -29,9 +31,11 @@ Exit status:
   2  the command line is wrong; the text is on standard error
   4  device fault, no memory, or the output can't be written";
 
-pub(crate) const BACKUP: &str = "Copies a volume's header and key areas to a file";
+/// What `backup` does, in a line.
+pub const BACKUP: &str = "Copies a volume's header and key areas to a file";
 
-pub(crate) const BACKUP_MORE: &str = "\
+/// The help of `backup` after its words.
+pub const BACKUP_MORE: &str = "\
 The header and the key areas of VOLUME, which check has to accept, are copied to
 FILE, each byte to its own place: of LUKS1 up to where the data begins, of LUKS2
 up to the end of the key areas, mostly 2 MiB and 16 MiB. Elsewhere FILE has
@@ -62,9 +66,11 @@ Exit status:
   2  the command line is wrong; the text is on standard error
   4  device fault, no memory, or the output can't be written";
 
-pub(crate) const RESTORE: &str = "Puts a header backup back onto its volume";
+/// What `restore` does, in a line.
+pub const RESTORE: &str = "Puts a header backup back onto its volume";
 
-pub(crate) const RESTORE_MORE: &str = "\
+/// The help of `restore` after its words.
+pub const RESTORE_MORE: &str = "\
 The header and the key areas of FILE, a backup by luks backup or by cryptsetup
 luksHeaderBackup, are written to VOLUME, each byte to its own place. FILE is
 only read, and no byte of the data changes. Afterwards the passphrases of the
@@ -95,9 +101,11 @@ Exit status:
   2  the command line is wrong; the text is on standard error
   4  device fault, no memory, or the output can't be written";
 
-pub(crate) const COMPARE: &str = "Tells whether a header backup is up to date";
+/// What `compare` does, in a line.
+pub const COMPARE: &str = "Tells whether a header backup is up to date";
 
-pub(crate) const COMPARE_MORE: &str = "\
+/// The help of `compare` after its words.
+pub const COMPARE_MORE: &str = "\
 FILE, a header backup, is compared with the header of VOLUME that counts, and
 nothing is written. Keyslots are compared by their salts; none is tried.
 

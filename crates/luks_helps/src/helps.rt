@@ -2,12 +2,13 @@
 
 /// What `--version` prints after the program's name: the version, whose section is the first of
 /// CHANGELOG.md, and the kit that proves and builds the program, as `rt version` says it.
-pub(crate) const VERSION: &str = "0.2.0 (rattle-kit-13f logic dac8208d650f15bf)";
+pub const VERSION: &str = "0.2.0 (rattle-kit-13f logic dac8208d650f15bf)";
 
-pub(crate) const PROGRAM: &str =
-    "Checks and lists the header of a LUKS volume, and manages its keyslots";
+/// What the program does, in a line.
+pub const PROGRAM: &str = "Checks and lists the header of a LUKS volume, and manages its keyslots";
 
-pub(crate) const PROGRAM_MORE: &str = "\
+/// The program's help after its commands.
+pub const PROGRAM_MORE: &str = "\
 A volume is a device, an image, or the detached header of one; with --offset and
 --length it is the bytes of a disk or an image where it lies, and no other byte
 of that changes. The commands check, show, open, find and compare write nothing,
@@ -32,9 +33,11 @@ Exit status:
 
 luks(1) has examples.";
 
-pub(crate) const CHECK: &str = "Judges a volume's header and where its areas lie";
+/// What `check` does, in a line.
+pub const CHECK: &str = "Judges a volume's header and where its areas lie";
 
-pub(crate) const CHECK_MORE: &str = "\
+/// The help of `check` after its words.
+pub const CHECK_MORE: &str = "\
 Judged is, in this order: which header counts, of LUKS2 the sound copy with the
 higher sequence number; its fields; of LUKS2 the metadata, its values, names and
 sizes; and the areas, each of which lies inside the volume and shares no byte
@@ -67,9 +70,11 @@ Exit status:
   3  accepted, but the two copies of the header aren't in step
   4  device fault, no memory, or the output can't be written";
 
-pub(crate) const SHOW: &str = "Lists what a volume's header says";
+/// What `show` does, in a line.
+pub const SHOW: &str = "Lists what a volume's header says";
 
-pub(crate) const SHOW_MORE: &str = "\
+/// The help of `show` after its words.
+pub const SHOW_MORE: &str = "\
 Prints the header line by line: the version, luks1 or luks2, then the uuid and
 the other fields, then a line for each keyslot, and of LUKS2 for each token,
 segment and digest. Texts have each byte outside 0x20 to 0x7E, and the
@@ -98,14 +103,16 @@ Exit status:
   2  the command line is wrong; the text is on standard error
   4  device fault, no memory, or the output can't be written";
 
-pub(crate) const OPEN: &str = "Tells whether a passphrase opens a keyslot";
+/// What `open` does, in a line.
+pub const OPEN: &str = "Tells whether a passphrase opens a keyslot";
 
-/// The usage after `Usage: `, on several lines, since one would have more than 80 columns.
-pub(crate) const OPEN_USAGE: &str = "\
+/// The usage of `open` after `Usage: `, on several lines, since one would have more than 80 columns.
+pub const OPEN_USAGE: &str = "\
 luks open [OPTIONS] <--passphrase <FILE>|--passphrase-line <FILE>>
                  <VOLUME>";
 
-pub(crate) const OPEN_MORE: &str = "\
+/// The help of `open` after its words.
+pub const OPEN_MORE: &str = "\
 The passphrase is all bytes of its file, a last newline too, at most 65536; by
 --passphrase-line what stands there before the first newline, a carriage return
 too, or all where there is none. The file may be -, standard input, or
@@ -142,15 +149,17 @@ Exit status:
   2  the command line is wrong; the text is on standard error
   4  device fault, no memory, or the output can't be written";
 
-pub(crate) const ADD: &str = "Adds a keyslot for a new passphrase";
+/// What `add` does, in a line.
+pub const ADD: &str = "Adds a keyslot for a new passphrase";
 
-/// The usage after `Usage: `, on several lines, since one would have more than 80 columns.
-pub(crate) const ADD_USAGE: &str = "\
+/// The usage of `add` after `Usage: `, on several lines, since one would have more than 80 columns.
+pub const ADD_USAGE: &str = "\
 luks add [OPTIONS] --slot <N> --random <FILE>
                 <--passphrase <FILE>|--passphrase-line <FILE>>
                 <--new <FILE>|--new-line <FILE>> <VOLUME>";
 
-pub(crate) const ADD_MORE: &str = "\
+/// The help of `add` after its words.
+pub const ADD_MORE: &str = "\
 The passphrase opens keyslot --slot. A new keyslot is made, in which the new
 passphrase opens the same volume key: keyslot --to, or the least that is free,
 of 0 to 7 in LUKS1 and 0 to 31 in LUKS2. All others stay as they are. A
@@ -162,9 +171,16 @@ its entry in the header, of LUKS2 the copy of the header that doesn't count and
 the one that does. Salts and stripes are the first bytes of the random file, as
 many as that takes, and no more are read. Give it /dev/urandom.
 
-Beside a keyslot by Argon2 the new one is by Argon2 too, of the same costs, and
---iterations counts for nothing. Memory is taken for it by --memory alone, once
-to open the one and once to seal the other; standard error says how much.
+Beside a keyslot by PBKDF2 the new one is by PBKDF2 too, with --iterations;
+beside one by Argon2 it is by Argon2, with the same costs. --kdf chooses
+another: pbkdf2, or of LUKS2 argon2id or argon2i with --kdf-memory, --passes and
+--lanes. With --iter-time the program chooses what takes that long on this
+machine, in place of --iterations or --passes: at least 1000 iterations, or 4
+passes; where 4 take longer, it takes less memory, but at least 64 MiB. Standard
+error says what it chose.
+
+Memory is taken for Argon2 by --memory alone, once to open the one and once to
+seal the other; standard error says how much.
 
 Where only the second copy of a LUKS2 header is sound and another use of the
 disk, as a file system or a partition table, stands in the place of the first,
@@ -175,9 +191,10 @@ Prints one line:
   refused FAULT  the first fault, and nothing was written: what check refuses,
                  OtherUse (as above), Requirements, NoSuchSlot, Locked (the
                  passphrase doesn't open it), Argon2, Cipher, Hash, KeySize,
-                 SlotTaken, NoFreeSlot, NoRoom, Iterations, SeqExhausted,
-                 MetadataFull, RandomLength (the random file is too short), or
-                 Passphrase (one is too long)
+                 SlotTaken, NoFreeSlot, NoRoom, Iterations, Argon2 (the new one
+                 takes more memory than is allowed, or LUKS1 has none),
+                 SeqExhausted, MetadataFull, RandomLength (the random file is
+                 too short), or Passphrase (one is too long)
   device fault   a file can't be read, or the volume read or written
   no memory      memory was refused; nothing was written
 
@@ -191,15 +208,17 @@ Exit status:
   2  the command line is wrong; the text is on standard error
   4  device fault, no memory, or the output can't be written";
 
-pub(crate) const CHANGE: &str = "Puts a new passphrase in the place of an old one";
+/// What `change` does, in a line.
+pub const CHANGE: &str = "Puts a new passphrase in the place of an old one";
 
-/// The usage after `Usage: `, on several lines, since one would have more than 80 columns.
-pub(crate) const CHANGE_USAGE: &str = "\
+/// The usage of `change` after `Usage: `, on several lines, since one would have more than 80 columns.
+pub const CHANGE_USAGE: &str = "\
 luks change [OPTIONS] --slot <N> --random <FILE>
                    <--passphrase <FILE>|--passphrase-line <FILE>>
                    <--new <FILE>|--new-line <FILE>> <VOLUME>";
 
-pub(crate) const CHANGE_MORE: &str = "\
+/// The help of `change` after its words.
+pub const CHANGE_MORE: &str = "\
 The passphrase opens keyslot --slot; then the new one does, and the old no more.
 LUKS2 keeps the keyslot's number, and takes a free area. LUKS1 makes the least
 keyslot that is free, and disables the old one. All others stay as they are. A
@@ -212,9 +231,15 @@ count and the one that does; at last zeros over the old area. Salts and stripes
 are the first bytes of the random file, as many as that takes, and no more are
 read. Give it /dev/urandom.
 
-A keyslot by Argon2 stays so, by the same costs, and --iterations counts for
-nothing. Memory is taken for it by --memory alone, once to open it and once to
-seal it; standard error says how much.
+A keyslot by PBKDF2 stays so, with --iterations, and one by Argon2 with the same
+costs. --kdf chooses another: pbkdf2, or of LUKS2 argon2id or argon2i with
+--kdf-memory, --passes and --lanes. With --iter-time the program chooses what
+takes that long on this machine, in place of --iterations or --passes: at least
+1000 iterations, or 4 passes; where 4 take longer, it takes less memory, but at
+least 64 MiB. Standard error says what it chose.
+
+Memory is taken for Argon2 by --memory alone, once to open it and once to seal
+it; standard error says how much.
 
 Where only the second copy of a LUKS2 header is sound and another use of the
 disk, as a file system or a partition table, stands in the place of the first,
@@ -225,9 +250,10 @@ Prints one line:
   refused FAULT  the first fault, and nothing was written: what check refuses,
                  OtherUse (as above), Requirements, NoSuchSlot, Locked (the
                  passphrase doesn't open it), Argon2, Cipher, Hash, KeySize,
-                 NoFreeSlot, NoRoom, Iterations, SeqExhausted, MetadataFull,
-                 RandomLength (the random file is too short), or Passphrase
-                 (one is too long)
+                 NoFreeSlot, NoRoom, Iterations, Argon2 (the new one takes more
+                 memory than is allowed, or LUKS1 has none), SeqExhausted,
+                 MetadataFull, RandomLength (the random file is too short), or
+                 Passphrase (one is too long)
   device fault   a file can't be read, or the volume read or written
   no memory      memory was refused; nothing was written
 
@@ -242,14 +268,16 @@ Exit status:
   2  the command line is wrong; the text is on standard error
   4  device fault, no memory, or the output can't be written";
 
-pub(crate) const REMOVE: &str = "Removes a keyslot";
+/// What `remove` does, in a line.
+pub const REMOVE: &str = "Removes a keyslot";
 
-/// The usage after `Usage: `, on several lines, since one would have more than 80 columns.
-pub(crate) const REMOVE_USAGE: &str = "\
+/// The usage of `remove` after `Usage: `, on several lines, since one would have more than 80 columns.
+pub const REMOVE_USAGE: &str = "\
 luks remove [OPTIONS] --slot <N>
                    <--passphrase <FILE>|--passphrase-line <FILE>> <VOLUME>";
 
-pub(crate) const REMOVE_MORE: &str = "\
+/// The help of `remove` after its words.
+pub const REMOVE_MORE: &str = "\
 Keyslot --slot is removed, and its area is overwritten with zeros, once. The
 passphrase opens it, or keyslot --by where that is given: then --slot needn't be
 one that opens here. The last keyslot of its key isn't removed. All others stay
@@ -289,9 +317,11 @@ Exit status:
   2  the command line is wrong; the text is on standard error
   4  device fault, no memory, or the output can't be written";
 
-pub(crate) const REPAIR: &str = "Writes both copies of a LUKS2 header anew";
+/// What `repair` does, in a line.
+pub const REPAIR: &str = "Writes both copies of a LUKS2 header anew";
 
-pub(crate) const REPAIR_MORE: &str = "\
+/// The help of `repair` after its words.
+pub const REPAIR_MORE: &str = "\
 Both copies of the header are written from the one that counts, so that they are
 in step: with its metadata and the next sequence number, new salts and new
 checksums. What check refuses isn't repaired. LUKS1 has one header, so that
@@ -323,9 +353,11 @@ Exit status:
   2  the command line is wrong; the text is on standard error
   4  device fault, no memory, or the output can't be written";
 
-pub(crate) const LABEL: &str = "Sets the label of a LUKS2 volume";
+/// What `label` does, in a line.
+pub const LABEL: &str = "Sets the label of a LUKS2 volume";
 
-pub(crate) const LABEL_MORE: &str = "\
+/// The help of `label` after its words.
+pub const LABEL_MORE: &str = "\
 The label is at most 47 bytes of 0x20 to 0x7E, and may be empty. One that begins
 with a hyphen comes after --, with the volume: luks label .. -- VOLUME TEXT.
 
@@ -355,14 +387,16 @@ Exit status:
   2  the command line is wrong; the text is on standard error
   4  device fault, no memory, or the output can't be written";
 
-pub(crate) const FORMAT: &str = "Makes a LUKS volume over whatever stands there";
+/// What `format` does, in a line.
+pub const FORMAT: &str = "Makes a LUKS volume over whatever stands there";
 
-/// The usage after `Usage: `, on several lines, since one would have more than 80 columns.
-pub(crate) const FORMAT_USAGE: &str = "\
+/// The usage of `format` after `Usage: `, on several lines, since one would have more than 80 columns.
+pub const FORMAT_USAGE: &str = "\
 luks format [OPTIONS] --random <FILE>
                    <--passphrase <FILE>|--passphrase-line <FILE>> <VOLUME>";
 
-pub(crate) const FORMAT_MORE: &str = "\
+/// The help of `format` after its words.
+pub const FORMAT_MORE: &str = "\
 What stood there is overwritten, without a question: of LUKS1 the bytes 0 to 591
 and 4096 to 260095, of LUKS2 the bytes 0 to 288767. No other byte is written.
 The volume has at least 2097152 bytes, of LUKS2 16777216, and its data begins
@@ -381,6 +415,12 @@ argon2id or argon2i: --kdf-memory, --passes and --lanes are its costs, and
 guesses passphrases has these costs for each. The digest of the volume key has
 PBKDF2 always.
 
+With --iter-time the program chooses what takes that long on this machine, in
+place of --iterations or --passes: at least 1000 iterations, or 4 passes; where
+4 take longer, it takes less memory, but at least 64 MiB. The digest of LUKS2
+takes an eighth of that time, that of LUKS1 as many iterations as the keyslot.
+Standard error says what it chose.
+
 Prints one line:
   done slot 0            the volume is made
   refused Passphrase     the passphrase's file is too long
@@ -398,9 +438,11 @@ Exit status:
   2  the command line is wrong; the text is on standard error
   4  device fault, no memory, or the output can't be written";
 
-pub(crate) const CONVERT: &str = "Makes a LUKS2 header of a LUKS1 volume, on another file";
+/// What `convert` does, in a line.
+pub const CONVERT: &str = "Makes a LUKS2 header of a LUKS1 volume, on another file";
 
-pub(crate) const CONVERT_MORE: &str = "\
+/// The help of `convert` after its words.
+pub const CONVERT_MORE: &str = "\
 A detached LUKS2 header is written to TARGET, which has to be there and to have
 at least 16777216 bytes. SOURCE is only read. Each passphrase that opens a
 keyslot of SOURCE opens the keyslot of the same number of TARGET, to the same
@@ -430,9 +472,11 @@ Exit status:
   2  the command line is wrong; the text is on standard error
   4  device fault, no memory, or the output can't be written";
 
-pub(crate) const REBUILD: &str = "Makes a header of what is still whole of a damaged one";
+/// What `rebuild` does, in a line.
+pub const REBUILD: &str = "Makes a header of what is still whole of a damaged one";
 
-pub(crate) const REBUILD_MORE: &str = "\
+/// The help of `rebuild` after its words.
+pub const REBUILD_MORE: &str = "\
 Where check says NotLuks or NoSoundCopy of a LUKS2 volume, its metadata and key
 areas may still be whole: a partition table, mkswap or a flipped byte spoils the
 binary headers alone. Of a LUKS1 header the fields and keyslots are kept that
@@ -484,9 +528,11 @@ Exit status:
   2  the command line is wrong; the text is on standard error
   4  device fault, no memory, or the output can't be written";
 
-pub(crate) const EXPLAIN: &str = "Says what a fault means, and what to try next";
+/// What `explain` does, in a line.
+pub const EXPLAIN: &str = "Says what a fault means, and what to try next";
 
-pub(crate) const EXPLAIN_MORE: &str = "\
+/// The help of `explain` after its words.
+pub const EXPLAIN_MORE: &str = "\
 FAULT is what stands behind 'refused', as 'Overlap(Slot(0),Slot(1))', in quotes
 because of its brackets; or its name alone, as Overlap. Without it all faults
 are listed. No file is read.

@@ -1,5 +1,5 @@
 use Rattle.luks_main.proofs.OutcomeFacts.{fault_ends, told_ends}
-use Rattle.luks_main.proofs.running.run_line.Goals as goal
+use Rattle.luks_main.proofs.running.run_read.Goals as goal
 
 pub returns-in-Ok-clause-ends : goal.returns-in-Ok-clause-ends
 returns-in-Ok-clause-ends g c =

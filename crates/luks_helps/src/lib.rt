@@ -1,0 +1,5 @@
+//! The texts of the help of the program `luks`.
+#![tactic(auto)]
+
+pub mod helps;
+pub mod rescue_helps;
