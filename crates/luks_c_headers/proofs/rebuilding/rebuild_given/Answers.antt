@@ -8,9 +8,9 @@ use Rattle.luks_c_answers.specs.NumberFacts.{rebuild_number_other, rebuild_numbe
 use Rattle.luks_c_answers.specs.Numbers.{rebuild_number}
 use Rattle.luks_c_answers.specs.PlanFacts.{plan_answered, refusal_answered}
 use Rattle.luks_c_answers.specs.Plans.{IsPlan}
-use Rattle.luks_c.specs.RebuildAnswers.{IsRebuiltTo}
-use Rattle.luks_c.proofs.HeaderFacts.{fault_of_volume, of_volumes, rebuild_refusal}
-use Rattle.luks_c.proofs.rebuilding.rebuild_given.Goals as goal
+use Rattle.luks_c_headers.specs.RebuildAnswers.{IsRebuiltTo}
+use Rattle.luks_c_headers.proofs.HeaderFacts.{fault_of_volume, of_volumes, rebuild_refusal}
+use Rattle.luks_c_headers.proofs.rebuilding.rebuild_given.Goals as goal
 
 pub returns-in-Ok-rebuild-clause-answers : goal.returns-in-Ok-rebuild-clause-answers
 returns-in-Ok-rebuild-clause-answers g c =

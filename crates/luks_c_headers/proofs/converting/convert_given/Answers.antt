@@ -8,9 +8,9 @@ use Rattle.luks_c_answers.specs.NumberFacts.{convert_number_other, convert_numbe
 use Rattle.luks_c_answers.specs.Numbers.{convert_number}
 use Rattle.luks_c_answers.specs.PlanFacts.{plan_answered, refusal_answered}
 use Rattle.luks_c_answers.specs.Plans.{IsPlan}
-use Rattle.luks_c.specs.ConvertAnswers.{IsConvertedTo}
-use Rattle.luks_c.proofs.HeaderFacts.{convert_refusal, fault_of_volume, of_volumes}
-use Rattle.luks_c.proofs.converting.convert_given.Goals as goal
+use Rattle.luks_c_headers.specs.ConvertAnswers.{IsConvertedTo}
+use Rattle.luks_c_headers.proofs.HeaderFacts.{convert_refusal, fault_of_volume, of_volumes}
+use Rattle.luks_c_headers.proofs.converting.convert_given.Goals as goal
 
 pub returns-in-Ok-convert-clause-answers : goal.returns-in-Ok-convert-clause-answers
 returns-in-Ok-convert-clause-answers g c =

@@ -12,6 +12,13 @@ use Rattle.luks_rebuilding.specs.RebuildFaults.{is_rebuild_failure, rebuild_key}
 use Rattle.luks_rebuilding.specs.declared.place.Which.{Which}
 use Rattle.luks_rebuilding.specs.declared.rebuild_fault.RebuildFault.{RebuildFault}
 use Rattle.luks_rebuilding.specs.declared.rebuild_fault.RebuildFault.TheVariants as rebuild
+use Rattle.luks_keeping.specs.BackupFaults.{backup_key, is_backup_failure, IsAnsweredBackup, IsBackupFault}
+use Rattle.luks_keeping.specs.RestoreFaults.{is_restore_failure, restore_key, IsAnsweredRestore, IsRestoreFault}
+use Rattle.luks_keeping.specs.declared.backup_fault.BackupFault.{BackupFault}
+use Rattle.luks_keeping.specs.declared.backup_fault.BackupFault.TheVariants as backup
+use Rattle.luks_keeping.specs.declared.over.Over.{Over}
+use Rattle.luks_keeping.specs.declared.restore_fault.RestoreFault.{RestoreFault}
+use Rattle.luks_keeping.specs.declared.restore_fault.RestoreFault.TheVariants as restore
 use Rattle.luks1_mending.specs.declared.given.Given.{Given}
 use Rattle.luks1_rebuilding.specs.Outcome.{IsAnsweredFault as IsAnsweredRebuild1, IsRebuildFault as IsRebuild1Fault}
 use Rattle.luks1_rebuilding.specs.RebuildFaults.{is_rebuild_failure as is_rebuild1_failure, rebuild_key as rebuild1_key}
@@ -47,3 +54,17 @@ pub rebuild1_refusal : (v : List ℕ) (given : Given) (total : ℕ) (f : Rebuild
     → IsLeast rebuild1_key (IsRebuild1Fault v given total) f
 rebuild1_refusal v given total rebuild1.Device own answered = absurd (true≢false own)
 rebuild1_refusal v given total f own answered = answered
+
+-- a backup's
+pub backup_refusal : (v : List ℕ) (payload : Data) (total : ℕ) (f : BackupFault) → f ≢ backup.Memory → is_backup_failure f ≡ false
+    → IsAnsweredBackup v payload total f → IsLeast backup_key (IsBackupFault v payload total) f
+backup_refusal v payload total backup.Memory other own answered = absurd (other refl)
+backup_refusal v payload total backup.Device other own answered = absurd (true≢false own)
+backup_refusal v payload total f other own answered = answered
+
+-- and that of a backup that is restored
+pub restore_refusal : (b t : List ℕ) (payload : Data) (over : Over) (f : RestoreFault) → f ≢ restore.Memory → is_restore_failure f ≡ false
+    → IsAnsweredRestore b t payload over f → IsLeast restore_key (IsRestoreFault b t payload over) f
+restore_refusal b t payload over restore.Memory other own answered = absurd (other refl)
+restore_refusal b t payload over restore.Device other own answered = absurd (true≢false own)
+restore_refusal b t payload over f other own answered = answered

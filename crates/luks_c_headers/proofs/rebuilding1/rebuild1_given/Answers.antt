@@ -7,9 +7,9 @@ use Rattle.luks_planned.specs.Planned.{planned_bytes, planned_calls, planned_fir
 use Rattle.luks_c_answers.specs.NumberFacts.{rebuild1_number_other, rebuild1_number_range, rebuild1_number_usage}
 use Rattle.luks_c_answers.specs.PlanFacts.{plan_answered, refusal_answered}
 use Rattle.luks_c_answers.specs.Plans.{IsPlan}
-use Rattle.luks_c.specs.RebuildAnswers.{IsRebuilt1To}
-use Rattle.luks_c.proofs.HeaderFacts.{fault_of_volume, of_volumes, rebuild1_refusal}
-use Rattle.luks_c.proofs.rebuilding1.rebuild_given.Goals as goal
+use Rattle.luks_c_headers.specs.RebuildAnswers.{IsRebuilt1To}
+use Rattle.luks_c_headers.proofs.HeaderFacts.{fault_of_volume, of_volumes, rebuild1_refusal}
+use Rattle.luks_c_headers.proofs.rebuilding1.rebuild1_given.Goals as goal
 
 pub returns-in-Ok-rebuild1-clause-answers : goal.returns-in-Ok-rebuild1-clause-answers
 returns-in-Ok-rebuild1-clause-answers g c =

@@ -3,7 +3,7 @@ use Rattle.std.specs.Prelude.{◌≡◌, ℕ, ◌<◌, List, Option, Some, None}
 use Rattle.luks_edit.specs.declared.edit.Edit.{Edit}
 use Rattle.luks_edit.specs.declared.edit.Edit.TheVariants.{Add, Change, Remove, Repair, Label}
 use Rattle.luks_edit.specs.declared.edit.Passphrase.{Passphrase}
-use Rattle.luks_c.specs.declared.asking.LuksEdit.{LuksEdit}
+use Rattle.luks_c_answers.specs.declared.asking.LuksEdit.{LuksEdit}
 
 -- the keyslot of this number, which a byte holds
 abbrev pub IsSlot : ℕ → ℕ → Type 0

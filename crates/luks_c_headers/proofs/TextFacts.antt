@@ -1,7 +1,7 @@
 -- Facts on texts that are given.
 use Rattle.std.proofs.Common.{ℕ, List, Option, Some, None, refl}
 use Rattle.arrayvec.specs.ArrayString.{ArrayString}
-use Rattle.luks_c.specs.RebuildAnswers.{IsMaybeField, IsNoText}
+use Rattle.luks_c_headers.specs.RebuildAnswers.{IsMaybeField, IsNoText}
 
 -- bytes that are no text are none in a field either
 pub no_field : (room : ℕ) (bytes : List ℕ) → IsNoText bytes → (text : Option ArrayString) → IsMaybeField room bytes text → ⊥

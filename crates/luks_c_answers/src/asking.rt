@@ -1,12 +1,14 @@
-//! The edit that a caller asks for.
+//! What a caller asks for by numbers.
 ghost use Rattle.std.specs.Prelude.{◌≡◌, ℕ, Option, MatchResult};
 ghost use Rattle.luks_edit.specs.declared.edit.Edit.{Edit as TheEdit};
-ghost use Rattle.luks_c.specs.EditAsked.{IsAsked, IsMaybeSlot, IsPassphrase, IsSlot};
+ghost use Rattle.luks_c_answers.specs.Asked.{payload_of};
+ghost use Rattle.luks_c_answers.specs.EditAsked.{IsAsked, IsMaybeSlot, IsPassphrase, IsSlot};
 
-use luks_volume::{Edit, Passphrase};
+use luks_edit::{Edit, Passphrase};
+use luks_reading::Data;
 
 /// The number that names no keyslot.
-pub(crate) const NO_SLOT: u32 = 0xFFFF_FFFF;
+const NO_SLOT: u32 = 0xFFFF_FFFF;
 
 /// An edit of a volume, but for its passphrases and its label.
 #[repr(C)]
@@ -30,10 +32,10 @@ pub struct LuksEdit {
 
 /// No edit is asked for by such numbers.
 #[derive(Debug, Clone, Copy)]
-pub(crate) struct Unasked;
+pub struct Unasked;
 
 /// The edit; `text` is the new passphrase, or the label.
-pub(crate) fn edit_of<'a>(
+pub fn edit_of<'a>(
     asked: &LuksEdit,
     passphrase: &'a [u8],
     text: &'a [u8],
@@ -89,4 +91,25 @@ fn maybe_slot(number: u32) -> Result<Option<u8>, Unasked>
         return Ok(None);
     }
     Ok(Some(slot_of(number)?))
+}
+
+/// The number of a keyslot, or of none.
+pub fn number_of_slot(slot: Option<u8>) -> u32
+    ensures { IsMaybeSlot result slot }
+{
+    match slot {
+        Some(n) => u32::from(n),
+        None => NO_SLOT,
+    }
+}
+
+/// Where the payload lies.
+pub fn data_of(is_detached: bool) -> Data
+    ensures { result ≡ payload_of is_detached }
+{
+    if is_detached {
+        Data::Elsewhere
+    } else {
+        Data::Here
+    }
 }
