@@ -1,6 +1,6 @@
 //! The numbers by which the calls answer. `luks.h` lists them; a number stays its own in each later
 //! version.
-ghost use Rattle.std.specs.Prelude.{◌≡◌};
+ghost use Rattle.std.specs.Prelude.{◌≡◌, ◌<◌};
 ghost use Rattle.luks_c_answers.specs.Numbers.{backup_number, check_number, convert_number, edit_number, fault_number, fault_numbered, format_number, number_printed, open_number, read_number, rebuild1_number, rebuild_number, restore_number};
 ghost use Rattle.luks_area.specs.Printed.{area_fault_text};
 ghost use Rattle.luks1_header.specs.FaultTexts.{fault_text as head_fault_text};

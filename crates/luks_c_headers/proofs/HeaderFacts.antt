@@ -1,5 +1,5 @@
 -- Facts on headers that are made of a source.
-use Rattle.std.proofs.Common.{◌≡◌, ◌≢◌, ℕ, List, Option, false, refl, subst}
+use Rattle.std.proofs.Common.{◌≡◌, ◌≢◌, ℕ, List, Option, None, Some, false, refl, subst, sym, ◌∙◌}
 use Rattle.std.proofs.lemmas.Bool.{true≢false}
 use Rattle.luks_area.specs.First.{IsLeast}
 use Rattle.luks_reading.specs.declared.report.Data.{Data}
@@ -68,3 +68,8 @@ pub restore_refusal : (b t : List ℕ) (payload : Data) (over : Over) (f : Resto
 restore_refusal b t payload over restore.Memory other own answered = absurd (other refl)
 restore_refusal b t payload over restore.Device other own answered = absurd (true≢false own)
 restore_refusal b t payload over f other own answered = answered
+
+-- what is none stays none, where nothing is of it that wasn't before
+pub none_still : (old new : Option ℕ) → old ≡ None → ((p : ℕ) → new ≡ Some p → old ≡ Some p) → new ≡ None
+none_still old None is same = refl
+none_still old (Some p) is same = let both : None ≡ Some p = sym is ∙ same p refl in absurd (cc)
