@@ -262,6 +262,59 @@ static int signature(int fd, uint64_t offset, uint64_t length, const char *withi
     return 0;
 }
 
+/* A backup, put back or compared: backup TARGET PLACE; restore VOLUME PLACE OVER; compare VOLUME PLACE. The descriptor's file is the source, of
+ * the last two the backup. */
+static int keeps(int fd, uint64_t offset, uint64_t length, const char *call, char **words)
+{
+    bool is_detached = strcmp(words[1], "detached") == 0, is_same_key = false;
+    uint8_t keyslots[LUKS_KEYSLOTS];
+    uint64_t bytes = 0;
+    int other = open(words[0], O_RDWR);
+    uint32_t answer = LUKS_USAGE;
+    lseek(other, 5, SEEK_SET);
+    if (strcmp(call, "backup") == 0) {
+        answer = luks_backup_length(fd, offset, length, is_detached, &bytes);
+        if (answer == LUKS_DONE && lseek(other, 0, SEEK_END) == 0 && ftruncate(other, (off_t)bytes) != 0)
+            puts("the target has no room");
+        lseek(other, 5, SEEK_SET);
+        if (answer == LUKS_DONE)
+            answer = luks_backup(fd, offset, length, is_detached, other, 0, LUKS_TO_END);
+    } else if (strcmp(call, "restore") == 0)
+        answer = luks_restore(fd, offset, length, other, 0, LUKS_TO_END, is_detached, strcmp(words[2], "any") == 0);
+    else
+        answer = luks_compare(fd, offset, length, other, 0, LUKS_TO_END, is_detached, keyslots, &is_same_key);
+    int kept = errno;
+    if (other >= 0 && lseek(other, 0, SEEK_CUR) != 5)
+        puts("the other's position moved");
+    errno = kept;
+    if (answer != LUKS_DONE || strcmp(call, "compare") != 0)
+        return done(answer, LUKS_NO_SLOT);
+    static const char *const STATES[] = {"absent", "same", "older", "missing", "removed"};
+    bool is_current = true;
+    for (int n = 0; n < LUKS_KEYSLOTS; n++)
+        is_current = is_current && keyslots[n] <= LUKS_SAME;
+    puts(is_current ? "current" : "outdated");
+    for (int n = 0; n < LUKS_KEYSLOTS; n++)
+        if (keyslots[n] != LUKS_ABSENT)
+            printf("keyslot %d %s\n", n, STATES[keyslots[n]]);
+    return is_current ? 0 : 3;
+}
+
+/* Each place at which a volume begins, from this one on. */
+static int finds(int fd, uint64_t offset, uint64_t length, const char *from)
+{
+    uint64_t place = strtoull(from, NULL, 10);
+    for (;;) {
+        uint32_t answer = luks_find(fd, offset, length, place, &place);
+        if (answer != LUKS_DONE)
+            return told(answer);
+        if (place == LUKS_TO_END)
+            return 0;
+        printf("%ju\n", (uintmax_t)place);
+        place++;
+    }
+}
+
 /* What a caller gets wrong. */
 static int wrong(int fd)
 {
@@ -296,6 +349,19 @@ static int wrong(int fd)
     shows = 99;
     uint32_t answer = luks_signature(fd, 0, 0, 0, &shows);
     printf("%u %u %zu %zu\n", answer, shows, luks_signature_name(0, &byte, 1), luks_signature_name(15, &byte, 1));
+    struct luks_compared compared;
+    struct luks_length backup;
+    struct luks_found found;
+    uint8_t keyslots[LUKS_KEYSLOTS];
+    uint64_t start = 0;
+    printf("%u %u %u %u\n", luks_find(fd, 0, LUKS_TO_END, 0, NULL), luks_backup_length(fd, 0, LUKS_TO_END, false, NULL),
+           luks_compare(fd, 0, LUKS_TO_END, target, 0, LUKS_TO_END, false, NULL, NULL), luks_compare(fd, 0, LUKS_TO_END, fd, 0, LUKS_TO_END, false, keyslots, NULL));
+    printf("%u %u %u %u\n", luks_find_bytes(&byte, 1, 0, &start, 1, &found), luks_backup_length_bytes(&byte, 1, 0, false, &backup),
+           luks_compare_bytes(&byte, 1, 1, &byte, 1, 1, false, keyslots, LUKS_KEYSLOTS - 1, &compared), luks_compare_bytes(&byte, 1, 0, &byte, 1, 1, false, keyslots, LUKS_KEYSLOTS, &compared));
+    printf("%u %u %u %u\n", luks_backup(fd, 0, LUKS_TO_END, false, 1000, 0, LUKS_TO_END), luks_backup(fd, 0, LUKS_TO_END, false, fd, 0, LUKS_TO_END),
+           luks_restore(fd, 0, LUKS_TO_END, 1000, 0, LUKS_TO_END, false, false), luks_restore(1000, 0, LUKS_TO_END, target, 0, LUKS_TO_END, false, false));
+    answer = luks_find(fd, 0, 0, 7, &start);
+    printf("%u %d\n", answer, start == LUKS_TO_END);
     close(target);
     return 0;
 }
@@ -386,6 +452,10 @@ int main(int count, char **words)
         status = formats(fd, offset, length, words + 5);
     else if ((strcmp(words[1], "convert") == 0 || strncmp(words[1], "rebuild", 7) == 0) && count >= 8)
         status = makes_header(fd, offset, length, words[1], words + 5);
+    else if ((strcmp(words[1], "backup") == 0 || strcmp(words[1], "restore") == 0 || strcmp(words[1], "compare") == 0) && count >= 7)
+        status = keeps(fd, offset, length, words[1], words + 5);
+    else if (strcmp(words[1], "find") == 0 && count == 6)
+        status = finds(fd, offset, length, words[5]);
     else if (strcmp(words[1], "signature") == 0 && count == 6)
         status = signature(fd, offset, length, words[5]);
     else if (strcmp(words[1], "wrong") == 0)

@@ -219,11 +219,11 @@ struct room {
 };
 
 /* What is asked of a volume that is written. */
-enum kind { EDIT, FORMAT1, FORMAT2, CONVERT, REBUILD1, REBUILD2 };
+enum kind { EDIT, FORMAT1, FORMAT2, CONVERT, REBUILD1, REBUILD2, BACKUP, RESTORE };
 
 struct asked {
     enum kind kind;
-    bool is_detached, is_second;
+    bool is_detached, is_second, is_over_any;
     const struct luks_edit *edit;
     uint32_t hash, iterations;
     uint64_t size;
@@ -327,11 +327,17 @@ static size_t count_of(const char *text)
     return text != NULL ? strlen(text) : 0;
 }
 
-/* Plans the header that is made of the source. */
+/* Plans the header that is made of the source, or copied from it. */
 static uint32_t plan_of_source(const struct held *held, const struct asked *it, struct room *room, struct luks_plan *plan)
 {
     const struct held *source = it->source;
     const struct luks_fields *given = &it->fields;
+    if (it->kind == BACKUP)
+        return luks_backup_bytes(source->bytes, source->count, source->total, it->is_detached, held->bytes, held->count, held->total, room->calls,
+                                 room->calls_room, room->bytes, room->bytes_room, plan);
+    if (it->kind == RESTORE)
+        return luks_restore_bytes(source->bytes, source->count, source->total, held->bytes, held->count, held->total, it->is_detached,
+                                  it->is_over_any, room->calls, room->calls_room, room->bytes, room->bytes_room, plan);
     if (it->kind == CONVERT)
         return luks_convert_bytes(source->bytes, source->count, source->total, it->is_detached, held->bytes, held->count, held->total, it->random,
                                   it->random_bytes, room->calls, room->calls_room, room->bytes, room->bytes_room, plan);
@@ -654,4 +660,136 @@ uint32_t luks_rebuild(int source_fd, uint64_t source_offset, uint64_t source_len
     }
     end_both(&source, &held);
     return answer;
+}
+
+/* ---- header backups ---- */
+
+uint32_t luks_backup_length(int fd, uint64_t offset, uint64_t length, bool is_detached, uint64_t *bytes)
+{
+    struct luks_length told = {0};
+    struct held held;
+    if (bytes == NULL)
+        return LUKS_USAGE;
+    uint32_t answer = begin(&held, fd, offset, length, HEADS);
+    if (answer == LUKS_DONE)
+        do {
+            answer = luks_backup_length_bytes(held.bytes, held.count, held.total, is_detached, &told);
+            if (answer == LUKS_BEYOND)
+                answer = hold_more(&held, told.beyond);
+        } while (answer == LUKS_BEYOND);
+    *bytes = answer == LUKS_DONE ? told.bytes : 0;
+    end(&held);
+    return answer;
+}
+
+uint32_t luks_backup(int source_fd, uint64_t source_offset, uint64_t source_length, bool is_detached, int fd, uint64_t offset, uint64_t length)
+{
+    struct held source, held;
+    struct asked it = {.kind = BACKUP, .is_detached = is_detached, .source = &source};
+    uint32_t answer = begin_both(&source, source_fd, source_offset, source_length, &held, fd, offset, length);
+    if (answer == LUKS_DONE)
+        answer = carry_out(&held, &it, NULL);
+    end_both(&source, &held);
+    return answer;
+}
+
+uint32_t luks_restore(int backup_fd, uint64_t backup_offset, uint64_t backup_length, int fd, uint64_t offset, uint64_t length, bool is_detached,
+                      bool is_over_any)
+{
+    struct held backup, held;
+    struct asked it = {.kind = RESTORE, .is_detached = is_detached, .is_over_any = is_over_any, .source = &backup};
+    uint32_t answer = begin_both(&backup, backup_fd, backup_offset, backup_length, &held, fd, offset, length);
+    if (answer == LUKS_DONE)
+        answer = carry_out(&held, &it, NULL);
+    end_both(&backup, &held);
+    return answer;
+}
+
+uint32_t luks_compare(int backup_fd, uint64_t backup_offset, uint64_t backup_length, int fd, uint64_t offset, uint64_t length, bool is_detached,
+                      uint8_t keyslots[LUKS_KEYSLOTS], bool *is_same_key)
+{
+    struct luks_compared told = {0};
+    struct held backup = {0}, held = {0};
+    if (keyslots == NULL)
+        return LUKS_USAGE;
+    int is_one = are_one(backup_fd, fd);
+    if (is_one != 0)
+        return is_one > 0 ? (uint32_t)SAME_FILE : (uint32_t)LUKS_DEVICE;
+    uint32_t answer = begin(&backup, backup_fd, backup_offset, backup_length, HEADS);
+    if (answer == LUKS_DONE)
+        answer = begin(&held, fd, offset, length, HEADS);
+    if (answer == LUKS_DONE)
+        do {
+            answer = luks_compare_bytes(backup.bytes, backup.count, backup.total, held.bytes, held.count, held.total, is_detached, keyslots,
+                                        LUKS_KEYSLOTS, &told);
+            if (answer == LUKS_BEYOND)
+                answer = told.backup_beyond > 0 ? hold_more(&backup, told.backup_beyond) : hold_more(&held, told.beyond);
+        } while (answer == LUKS_BEYOND);
+    if (answer == LUKS_DONE && is_same_key != NULL)
+        *is_same_key = told.same_key == 1;
+    end_both(&backup, &held);
+    return answer;
+}
+
+/* ---- volumes on a disk ---- */
+
+/* A disk is searched by blocks, small ones first. What tells of a volume ends 8 MiB behind its start: two copies of 4 MiB. So
+ * a block tells all volumes that begin in it, but for its last 8 MiB, which the next block begins with. */
+#define LEAST_BLOCK ((uint64_t)1 << 24)
+#define MOST_BLOCK ((uint64_t)1 << 26)
+#define TELLS ((uint64_t)1 << 23)
+#define SECTOR ((uint64_t)512)
+
+/* The least start in the block that is held, before this end; LUKS_TO_END where there is none. */
+static uint32_t find_in(const struct held *held, uint64_t before, uint64_t *place)
+{
+    struct luks_found found = {.count = 64};
+    uint64_t *starts = NULL;
+    uint32_t answer = LUKS_ROOM;
+    while (answer == LUKS_ROOM) {
+        size_t room = (size_t)found.count;
+        free(starts);
+        starts = malloc(room * sizeof *starts);
+        if (starts == NULL)
+            return LUKS_MEMORY;
+        answer = luks_find_bytes(held->bytes, held->count, held->total, starts, room, &found);
+    }
+    *place = LUKS_TO_END;
+    for (uint64_t i = 0; answer == LUKS_DONE && i < found.count; i++)
+        if (starts[i] < before)
+            *place = least(*place, starts[i]);
+    free(starts);
+    return answer;
+}
+
+uint32_t luks_find(int fd, uint64_t offset, uint64_t length, uint64_t from, uint64_t *place)
+{
+    uint64_t total = 0, block = LEAST_BLOCK;
+    if (place == NULL)
+        return LUKS_USAGE;
+    *place = LUKS_TO_END;
+    if (length_of(fd, &total) != 0)
+        return LUKS_DEVICE;
+    uint64_t start = least(offset, total), at = from;
+    total = least(length, total - start);
+    if (from % SECTOR != 0)
+        at = least(from, total) / SECTOR * SECTOR + SECTOR;
+    while (at < total) {
+        struct held held;
+        uint64_t found = LUKS_TO_END, count = least(block, total - at);
+        uint64_t before = count < total - at ? count - TELLS : count;
+        uint32_t answer = begin(&held, fd, start + at, count, count);
+        if (answer == LUKS_DONE)
+            answer = find_in(&held, before, &found);
+        end(&held);
+        if (answer != LUKS_DONE)
+            return answer;
+        if (found != LUKS_TO_END) {
+            *place = at + found;
+            return LUKS_DONE;
+        }
+        at += before;
+        block = least(block * 2, MOST_BLOCK);
+    }
+    return LUKS_DONE;
 }

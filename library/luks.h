@@ -1,4 +1,5 @@
-/* libluks: what is wrong with the header of a LUKS volume, what opens it, edits of its keyslots, and headers that are made.
+/* libluks: what is wrong with the header of a LUKS volume, what opens it, edits of its keyslots, headers that are made and
+ * backed up, and where volumes begin on a disk.
  *
  * Link with -lluks. Two families of calls answer the same:
  *
@@ -99,6 +100,32 @@ struct luks_fields {
     uint32_t payload;                             /* the sector where the data begins, LUKS_NO_NUMBER where it isn't given */
 };
 
+/* How a keyslot of a backup stands to that of the volume with the same number, by their salts, of which each keyslot gets a new
+ * one when it is made: neither has it; both have it, with one salt or with two; the volume alone has it; the backup alone. */
+enum { LUKS_ABSENT = 0, LUKS_SAME = 1, LUKS_OLDER = 2, LUKS_MISSING = 3, LUKS_REMOVED = 4 };
+
+/* How many keyslots a volume may have. */
+#define LUKS_KEYSLOTS 32
+
+/* How a backup stands to a volume, beside the keyslots; only of the call named _bytes. */
+struct luks_compared {
+    uint32_t same_key;      /* 1 where a digest of the backup's volume key is one of the volume's */
+    uint64_t backup_beyond; /* with LUKS_BEYOND: how many of the backup's first bytes have to be given; 0 where the volume's are */
+    uint64_t beyond;        /* the same of the volume */
+};
+
+/* How long a backup is; only of the call named _bytes. */
+struct luks_length {
+    uint64_t bytes;
+    uint64_t beyond; /* with LUKS_BEYOND: how many of the first bytes have to be given */
+};
+
+/* Where volumes begin; only of the call named _bytes. */
+struct luks_found {
+    uint64_t count;  /* how many do, also with LUKS_ROOM */
+    uint64_t beyond; /* with LUKS_BEYOND: how many of the first bytes have to be given */
+};
+
 /* What else a disk is used for; only of the call named _bytes. */
 struct luks_signature {
     uint32_t shows;  /* the use, whose name luks_signature_name has; 0 where none is shown */
@@ -141,6 +168,20 @@ uint32_t luks_open(int fd, uint64_t offset, uint64_t length, uint8_t n, const vo
 /* What the signatures among the first `within` bytes show that the disk is used for: 0, or a number whose name
  * luks_signature_name has: a partition table, a file system, swap and so on, as libblkid knows them. LUKS is none. */
 uint32_t luks_signature(int fd, uint64_t offset, uint64_t length, uint64_t within, uint32_t *shows);
+
+/* The least place, at `from` or behind it, at which a LUKS volume begins in the window, as its header, its second copy or whole
+ * metadata tells; LUKS_TO_END where there is none. It is in bytes from the window's start, a multiple of 512. Up to 64 MiB are
+ * held. */
+uint32_t luks_find(int fd, uint64_t offset, uint64_t length, uint64_t from, uint64_t *place);
+
+/* How the keyslots of a backup, which is the first descriptor's, stand to those of the volume; `is_same_key`, where it isn't NULL,
+ * tells whether a digest of the volume keys is one. The backup is current where each keyslot is LUKS_ABSENT or LUKS_SAME.
+ * Nothing is written. */
+uint32_t luks_compare(int backup_fd, uint64_t backup_offset, uint64_t backup_length, int fd, uint64_t offset, uint64_t length, bool is_detached,
+                      uint8_t keyslots[LUKS_KEYSLOTS], bool *is_same_key);
+
+/* How many bytes a backup of the volume's header has. */
+uint32_t luks_backup_length(int fd, uint64_t offset, uint64_t length, bool is_detached, uint64_t *bytes);
 
 /* ---- through a descriptor that is open for reading and writing ----
  *
@@ -211,6 +252,17 @@ uint32_t luks_rebuild1(int source_fd, uint64_t source_offset, uint64_t source_le
 uint32_t luks_rebuild(int source_fd, uint64_t source_offset, uint64_t source_length, const char *uuid, int fd, uint64_t offset, uint64_t length,
                       const void *random, size_t random_bytes);
 
+/* ---- header backups: the source is only read, and its descriptor is the first ---- */
+
+/* Writes a backup of the source's header to the target, from its byte 0 on: the header and the key areas of the keyslots in use,
+ * at their places, with zeros between them. The target has to have as many bytes as luks_backup_length tells. */
+uint32_t luks_backup(int source_fd, uint64_t source_offset, uint64_t source_length, bool is_detached, int fd, uint64_t offset, uint64_t length);
+
+/* Puts the header and the key areas of a backup onto the volume, where `is_detached` says whether that is a header alone. One
+ * whose header that counts is another volume's is refused, unless it `is_over_any`. */
+uint32_t luks_restore(int backup_fd, uint64_t backup_offset, uint64_t backup_length, int fd, uint64_t offset, uint64_t length, bool is_detached,
+                      bool is_over_any);
+
 /* ---- over the first bytes of a volume of `total` bytes ----
  *
  * Pointers are valid for their lengths, and no two that are written to overlap, nor one of these and
@@ -230,6 +282,15 @@ uint32_t luks_needed_bytes(const uint8_t *first, size_t first_bytes, uint64_t to
                            const uint8_t *passphrase, size_t passphrase_bytes, const uint8_t *text, size_t text_bytes, struct luks_needed *needed);
 
 uint32_t luks_signature_bytes(const uint8_t *first, size_t first_bytes, uint64_t total, uint64_t within, struct luks_signature *signature);
+
+uint32_t luks_backup_length_bytes(const uint8_t *first, size_t first_bytes, uint64_t total, bool is_detached, struct luks_length *backup);
+
+/* `keyslots` has room for LUKS_KEYSLOTS numbers, else this is LUKS_USAGE. */
+uint32_t luks_compare_bytes(const uint8_t *backup, size_t backup_bytes, uint64_t backup_total, const uint8_t *first, size_t first_bytes,
+                            uint64_t total, bool is_detached, uint8_t *keyslots, size_t keyslots_room, struct luks_compared *compared);
+
+/* All places at which volumes begin, in the order of the first of what is left of each; all bytes have to be given. */
+uint32_t luks_find_bytes(const uint8_t *first, size_t first_bytes, uint64_t total, uint64_t *starts, size_t starts_room, struct luks_found *found);
 
 /* The plans: all calls and bytes, or LUKS_ROOM and how many there are. Played over the volume they leave what the
  * call leaves; a flush comes behind each write, and nothing behind the given bytes is written. */
@@ -261,6 +322,14 @@ uint32_t luks_rebuild1_bytes(const uint8_t *source, size_t source_bytes, uint64_
                              size_t hash_bytes, const uint8_t *uuid, size_t uuid_bytes, uint32_t key_bytes, uint32_t payload,
                              const uint8_t *first, size_t first_bytes, uint64_t total, struct luks_call *calls, size_t calls_room,
                              uint8_t *bytes, size_t bytes_room, struct luks_plan *plan);
+
+uint32_t luks_backup_bytes(const uint8_t *source, size_t source_bytes, uint64_t source_total, bool is_detached, const uint8_t *first,
+                           size_t first_bytes, uint64_t total, struct luks_call *calls, size_t calls_room, uint8_t *bytes, size_t bytes_room,
+                           struct luks_plan *plan);
+
+uint32_t luks_restore_bytes(const uint8_t *backup, size_t backup_bytes, uint64_t backup_total, const uint8_t *first, size_t first_bytes,
+                            uint64_t total, bool is_detached, bool is_over_any, struct luks_call *calls, size_t calls_room, uint8_t *bytes,
+                            size_t bytes_room, struct luks_plan *plan);
 
 /* ---- what a number says ----
  *

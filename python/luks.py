@@ -1,4 +1,4 @@
-"""What is wrong with the header of a LUKS volume, what opens it, and edits of its keyslots: the calls of libluks.
+"""What is wrong with the header of a LUKS volume, what opens it, edits of its keyslots, and its backups: the calls of libluks.
 
     >>> import luks
     >>> with luks.Volume("disk.img") as volume:
@@ -15,6 +15,17 @@
     >>> with luks.Volume("old.img") as source, luks.Volume("header.img", writes=True) as target:
     ...     source.convert(target)
 
+    >>> with luks.Volume("disk.img") as volume:
+    ...     volume.backup("disk.backup")
+    >>> with luks.Volume("disk.img", writes=True) as volume, luks.Volume("disk.backup") as backup:
+    ...     volume.compare(backup).is_current
+    ...     volume.restore(backup)
+    True
+
+    >>> with luks.Volume("whole-disk.img") as disk:
+    ...     list(disk.find())
+    [1048576]
+
 A volume that isn't accepted, and an edit that is refused, raise `Fault`, which says what it means and what to try next; then nothing
 was written. A volume that is opened by its name is locked as `luks` locks it, so that an edit by that program waits, or is refused.
 
@@ -30,9 +41,9 @@ import os
 import stat
 from dataclasses import dataclass
 from types import TracebackType
-from typing import Any
+from typing import Any, Iterator
 
-__all__ = ["Fault", "Report", "Volume", "explain"]
+__all__ = ["Comparison", "Fault", "Report", "Volume", "explain"]
 
 DONE, OTHER_USE, MEMORY, DEVICE, SHUT, ROOM = 0, 49, 103, 104, 105, 106
 TO_END = 2**64 - 1
@@ -41,6 +52,8 @@ ADD, CHANGE, REMOVE, REPAIR, LABEL = range(1, 6)
 HASHES = (None, "sha1", "sha256", "sha512")
 LOCKS = "/run/cryptsetup"
 KEY_ROOM = 128
+KEYSLOTS = 32
+KEEPINGS = ("absent", "same", "older", "missing", "removed")
 COPIES = (None, "in-step", "first-newer", "second-newer", "first-only", "second-only")
 
 
@@ -79,6 +92,11 @@ def _loaded() -> ctypes.CDLL:
         ("luks_rebuild", [*window, ctypes.c_char_p, *window, *given], ctypes.c_uint32),
         ("luks_rebuild1", [*window, ctypes.POINTER(_Fields), ctypes.c_char_p, *window], ctypes.c_uint32),
         ("luks_rebuild2", [*window, ctypes.c_bool, ctypes.c_uint64, ctypes.c_char_p, *window, *given], ctypes.c_uint32),
+        ("luks_find", [*window, ctypes.c_uint64, ctypes.POINTER(ctypes.c_uint64)], ctypes.c_uint32),
+        ("luks_backup_length", [*window, ctypes.c_bool, ctypes.POINTER(ctypes.c_uint64)], ctypes.c_uint32),
+        ("luks_backup", [*window, ctypes.c_bool, *window], ctypes.c_uint32),
+        ("luks_restore", [*window, *window, ctypes.c_bool, ctypes.c_bool], ctypes.c_uint32),
+        ("luks_compare", [*window, *window, ctypes.c_bool, ctypes.c_void_p, ctypes.POINTER(ctypes.c_bool)], ctypes.c_uint32),
         ("luks_signature", [*window, ctypes.c_uint64, ctypes.POINTER(ctypes.c_uint32)], ctypes.c_uint32),
         ("luks_signature_name", [ctypes.c_uint32, ctypes.c_void_p, ctypes.c_size_t], ctypes.c_size_t),
         ("luks_fault_name", [ctypes.c_uint32, ctypes.c_void_p, ctypes.c_size_t], ctypes.c_size_t),
@@ -152,6 +170,22 @@ class Report:
     """The sequence number of the copy that counts. LUKS1 has none."""
     areas: int
     """How many areas it has: headers, keyslots, segments."""
+
+
+@dataclass(frozen=True)
+class Comparison:
+    """How a backup stands to a volume."""
+
+    is_same_key: bool
+    """Whether a digest of the backup's volume key is one of the volume's."""
+    keyslots: dict[int, str]
+    """How each keyslot of either stands, by its number: same, older (it was made anew since), missing (the volume alone has it) or removed
+    (the backup alone has it)."""
+
+    @property
+    def is_current(self) -> bool:
+        """Whether restoring the backup would change no keyslot."""
+        return all(state == "same" for state in self.keyslots.values())
 
 
 class Volume:
@@ -306,6 +340,51 @@ class Volume:
         self._done(_LIBRARY.luks_signature(self._fd, *self._window, TO_END if within is None else within, ctypes.byref(shows)))
         count = _LIBRARY.luks_signature_name(shows.value, room, len(room))
         return room.raw[:count].decode("ascii") if count else None
+
+    def find(self, start: int = 0) -> Iterator[int]:
+        """The places at which LUKS volumes begin on this disk, from `start` on and in ascending order, in bytes from its own offset.
+
+        Its header, its second copy or whole metadata tells of a volume: `check` of one at that offset says more.
+        """
+        if not 0 <= start <= TO_END:
+            raise ValueError("a place is a number of bytes")
+        place = ctypes.c_uint64(start)
+        while True:
+            self._done(_LIBRARY.luks_find(self._fd, *self._window, place.value, ctypes.byref(place)))
+            if place.value == TO_END:
+                return
+            yield place.value
+            place.value += 1
+
+    def backup(self, name: str | os.PathLike[str]) -> None:
+        """Writes a backup of the header and of the key areas in use to a new file of this name, which only its owner may read.
+
+        A file that is there raises FileExistsError. Where the backup fails, its file is taken away again.
+        """
+        length = ctypes.c_uint64(0)
+        self._done(_LIBRARY.luks_backup_length(self._fd, *self._window, self._is_detached, ctypes.byref(length)))
+        fd = os.open(name, os.O_RDWR | os.O_CREAT | os.O_EXCL | os.O_CLOEXEC, 0o600)
+        try:
+            os.ftruncate(fd, length.value)
+            self._done(_LIBRARY.luks_backup(self._fd, *self._window, self._is_detached, fd, 0, TO_END))
+        except BaseException:
+            os.unlink(name)
+            raise
+        finally:
+            os.close(fd)
+
+    def restore(self, backup: Volume, *, over_any: bool = False) -> None:
+        """Puts the header and the key areas of a backup, which is only read, onto this volume.
+
+        Where the header that counts here is another volume's it is refused by OtherVolume, unless it may be put `over_any`.
+        """
+        self._done(_LIBRARY.luks_restore(backup._fd, *backup._window, self._fd, *self._window, self._is_detached, over_any))
+
+    def compare(self, backup: Volume) -> Comparison:
+        """How a backup stands to this volume, keyslot by keyslot. Nothing is written."""
+        keyslots, is_same_key = ctypes.create_string_buffer(KEYSLOTS), ctypes.c_bool(False)
+        self._done(_LIBRARY.luks_compare(backup._fd, *backup._window, self._fd, *self._window, self._is_detached, keyslots, ctypes.byref(is_same_key)))
+        return Comparison(is_same_key.value, {n: KEEPINGS[state] for n, state in enumerate(keyslots.raw) if state})
 
     def convert(self, target: Volume) -> None:
         """Writes to the start of the target a LUKS2 header of this LUKS1 volume, by which each enabled keyslot opens as before.

@@ -1,4 +1,2 @@
-pub mod HeaderFacts
 pub mod OpenFacts
 pub mod PlanFacts
-pub mod TextFacts

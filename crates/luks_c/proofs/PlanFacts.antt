@@ -1,5 +1,5 @@
 -- Facts on the plans of calls that write.
-use Rattle.std.proofs.Common.{◌≡◌, ◌≢◌, ◌⊎◌, inl, inr, ℕ, List, length, Ok, Err, false, refl, ◌∙◌, arith}
+use Rattle.std.proofs.Common.{◌≡◌, ◌≢◌, ◌⊎◌, inl, inr, ℕ, List, length, Ok, Err, false, refl, subst, ◌∙◌, arith}
 use Rattle.std.proofs.lemmas.Bool.{true≢false}
 use Rattle.luks_edit.specs.declared.edit.Done.{Done}
 use Rattle.luks_edit.specs.declared.edit.Edit.{Edit}
@@ -15,11 +15,15 @@ use Rattle.luks_volume.specs.Edits.{Refusal, Replies}
 use Rattle.luks_volume.specs.Outcome.{IsApplied}
 use Rattle.luks_c_answers.specs.declared.plans.LuksPlan.{LuksPlan}
 use Rattle.luks_c.specs.EditAnswers.{AnswersEdit, IsEdited}
-use Rattle.luks_c.specs.EditAsked.{IsMaybeSlot}
+use Rattle.luks_c_answers.specs.EditAsked.{IsMaybeSlot}
 use Rattle.luks_c_answers.specs.Numbers.{edit_number}
 use Rattle.luks_c_answers.specs.NumberFacts.{edit_number_memory, edit_number_range}
 use Rattle.luks_c_answers.specs.PlanFacts.{given_or_room, planned_of, room_keeps}
 use Rattle.luks_c_answers.specs.Plans.{Buffers, IsPlan, IsPlanGiven, IsPlanned}
+
+-- what holds of the device holds of the volume whose first bytes it was given
+pub of_volume : (P : ℕ → List ℕ → ℕ → Type 0) (n total m : ℕ) (o w : List ℕ) → n ≡ total → o ≡ w → m ≡ total → P n o m → P total w total
+of_volume P n total m o w size target left holds = subst (λ k. P total w k) left (subst (λ t. P total t m) target (subst (λ k. P k o m) size holds))
 
 -- a reply that is neither want of memory nor the device's failure is a refusal
 pub refusal_of : (payload : Data) (v : List ℕ) (e : Edit) (random : List ℕ) (f : EditFault) (w : List ℕ) → f ≢ edit.Memory → is_edit_failure f ≡ false

@@ -8,10 +8,10 @@ use Rattle.luks_given.specs.Volume.{volume}
 use Rattle.luks_volume.specs.Edits.{Refusal}
 use Rattle.luks_volume.specs.Needed.{NeedsRandom, IsUntold}
 use Rattle.luks_volume.specs.Outcome.{IsApplied}
-use Rattle.luks_c.specs.declared.asking.LuksEdit.{LuksEdit}
+use Rattle.luks_c_answers.specs.declared.asking.LuksEdit.{LuksEdit}
 use Rattle.luks_c.specs.declared.needing.LuksNeeded.{LuksNeeded}
 use Rattle.luks_c_answers.specs.declared.plans.LuksPlan.{LuksPlan}
-use Rattle.luks_c.specs.EditAsked.{IsAsked, IsMaybeSlot}
+use Rattle.luks_c_answers.specs.EditAsked.{IsAsked, IsMaybeSlot}
 use Rattle.luks_c_answers.specs.Numbers.{edit_number}
 use Rattle.luks_c_answers.specs.Plans.{Buffers, IsPlanned}
 

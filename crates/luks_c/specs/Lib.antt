@@ -1,10 +1,8 @@
-pub mod Asked
 pub mod CheckAnswers
-pub mod ConvertAnswers
 pub mod EditAnswers
-pub mod EditAsked
+pub mod FindAnswers
 pub mod FormatAnswers
+pub mod LengthAnswers
 pub mod OpenAnswers
 pub mod ReadAnswers
-pub mod RebuildAnswers
 pub mod SignatureAnswers

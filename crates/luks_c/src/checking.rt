@@ -1,10 +1,10 @@
 //! Checking a volume.
 ghost use Rattle.std.specs.Prelude.{◌≡◌, ◌≤◌, ◌<◌, length};
 ghost use Rattle.luks_given.specs.Volume.{volume};
-ghost use Rattle.luks_c.specs.Asked.{payload_of};
+ghost use Rattle.luks_c_answers.specs.Asked.{payload_of};
 ghost use Rattle.luks_c.specs.CheckAnswers.{AnswersCheck, copies_number, number_of_copies, seqid_of, version_number};
 
-use luks_c_answers::{BEYOND, DONE, USAGE, check_number};
+use luks_c_answers::{BEYOND, DONE, USAGE, check_number, data_of};
 use luks_given::{FirstBytes, Given};
 use luks_reading::{CheckFault, Copies, Data, Report, Version, check};
 use std::alloc::Global;
@@ -79,17 +79,6 @@ fn check_given<K: Given>(
             BEYOND
         }
         Err(fault) => check_number(&fault),
-    }
-}
-
-/// Where the payload lies.
-pub(crate) fn data_of(is_detached: bool) -> Data
-    ensures { result ≡ payload_of is_detached }
-{
-    if is_detached {
-        Data::Elsewhere
-    } else {
-        Data::Here
     }
 }
 

@@ -1,16 +1,12 @@
 //! Converting a LUKS1 volume.
 ghost use Rattle.std.specs.Prelude.{◌≡◌, ◌≢◌, ◌⊎◌, ◌↔◌, ◌≤◌, ◌<◌, length};
 ghost use Rattle.luks_given.specs.Volume.{volume};
-ghost use Rattle.luks_c.specs.Asked.{payload_of};
-ghost use Rattle.luks_c.specs.ConvertAnswers.{AnswersConvert};
+ghost use Rattle.luks_c_answers.specs.Asked.{payload_of};
+ghost use Rattle.luks_c_headers.specs.ConvertAnswers.{AnswersConvert};
 
-use crate::checking::data_of;
-use luks_c_answers::{
-    LuksPlan, MEMORY, USAGE, convert_number, give_plan, planned_writes, tell_reaches,
-};
-use luks_given::{FirstBytes, Given};
+use luks_c_answers::{LuksPlan, USAGE, data_of};
+use luks_c_headers::convert_given;
 use luks_planned::PlannedCall;
-use luks_volume::{ConvertFault, Data, convert};
 use std::alloc::Global;
 use std::marker::Brand;
 
@@ -61,43 +57,4 @@ pub extern "C" fn luks_convert_bytes(
         bytes,
         told,
     )
-}
-
-/// The same where not more bytes are given than there are.
-fn convert_given<S: Given, K: Given>(
-    alloc: Global,
-    source: &[u8],
-    source_total: u64,
-    data_: Data,
-    first: &[u8],
-    total: u64,
-    random: &[u8],
-    calls: &mut [PlannedCall],
-    bytes: &mut [u8],
-    told: &mut LuksPlan,
-) -> u32
-    requires source_within { length source.now ≤ source_total }
-    requires source_given { S.bytes ≡ source.now }
-    requires within { length first.now ≤ total }
-    requires given { K.bytes ≡ first.now }
-    requires source_told { told.old.source_beyond ≡ 0 }
-    requires target_told { told.old.beyond ≡ 0 }
-    ensures own { result ≢ 101 }
-    ensures answers { AnswersConvert (volume source.now source_total) data_ first.now total
-        random.now (record { calls = calls.old; bytes = bytes.old })
-        (record { calls = calls.new; bytes = bytes.new }) told.new result }
-    ensures more { result ≡ 102 → (length source.now < told.new.source_beyond)
-        ⊎ (length first.now < told.new.beyond) }
-    ensures source_inside { result ≡ 102 → told.new.source_beyond ≤ source_total }
-    ensures inside { result ≡ 102 → told.new.beyond ≤ total }
-{
-    let mut from: FirstBytes<'_, S> = FirstBytes::new(source, source_total);
-    let Ok(mut device) = planned_writes::<K>(alloc, first, total) else {
-        return MEMORY;
-    };
-    match convert(alloc, &mut from, data_, &mut device, random) {
-        Ok(()) => give_plan(&device, calls, bytes, told),
-        Err(ConvertFault::Device) => tell_reaches(&from, &device, told),
-        Err(fault) => convert_number(&fault),
-    }
 }

@@ -4,13 +4,14 @@ ghost use Rattle.luks_area.specs.Device.{IsSettled};
 ghost use Rattle.luks_given.specs.Volume.{volume};
 ghost use Rattle.luks_planned.specs.Planned.{planned_bytes, planned_size, planned_unsettled};
 ghost use Rattle.luks_volume.specs.Outcome.{IsApplied};
-ghost use Rattle.luks_c.specs.Asked.{payload_of};
+ghost use Rattle.luks_c_answers.specs.Asked.{payload_of};
 ghost use Rattle.luks_c.specs.EditAnswers.{AnswersAsked, AnswersEdit};
-ghost use Rattle.luks_c.specs.EditAsked.{IsMaybeSlot, IsUnasked};
+ghost use Rattle.luks_c_answers.specs.EditAsked.{IsUnasked};
 
-use crate::asking::{LuksEdit, NO_SLOT, edit_of};
-use crate::checking::data_of;
-use luks_c_answers::{LuksPlan, MEMORY, USAGE, edit_number, give_plan, planned_writes, tell_reach};
+use luks_c_answers::{
+    LuksEdit, LuksPlan, MEMORY, USAGE, data_of, edit_number, edit_of, give_plan, number_of_slot,
+    planned_writes, tell_reach,
+};
 use luks_given::Given;
 use luks_planned::{PlannedCall, PlannedWrites};
 use luks_volume::{Data, Done, Edit, EditFault, apply};
@@ -125,14 +126,4 @@ fn give_edited<K: Given>(
 {
     told.slot = number_of_slot(done.slot);
     give_plan(device, calls, bytes, told)
-}
-
-/// The number of a keyslot, or of none.
-fn number_of_slot(slot: Option<u8>) -> u32
-    ensures { IsMaybeSlot result slot }
-{
-    match slot {
-        Some(n) => u32::from(n),
-        None => NO_SLOT,
-    }
 }

@@ -1,25 +1,15 @@
 //! Making a volume.
 ghost use Rattle.std.specs.Prelude.{◌≡◌, ◌≢◌, ◌⊎◌, ◌↔◌, ◌≤◌, ◌<◌, length, MatchOption};
-ghost use Rattle.luks_area.specs.Device.{IsSettled};
-ghost use Rattle.luks_formatting.specs.FormatFaults.{HasNoFault, IsFormat1Fault, IsFormat2Fault};
-ghost use Rattle.luks_formatting.specs.Formatted1.{IsFormatted1};
-ghost use Rattle.luks_formatting.specs.Formatted2.{IsFormatted2};
-ghost use Rattle.luks_formatting.specs.RandomBytes.{volume_key};
-ghost use Rattle.luks_given.specs.Volume.{volume};
-ghost use Rattle.luks_planned.specs.Planned.{planned_bytes, planned_size, planned_unsettled};
-ghost use Rattle.luks_reading.specs.Answer.{Answer, opens};
-ghost use Rattle.luks_reading.specs.Checked.{WellFormed};
 ghost use Rattle.luks_kdf.specs.declared.hash_name.HashName.{HashName as TheHash};
 ghost use Rattle.luks_reading.specs.declared.format.Format.{Format as TheFormat};
-ghost use Rattle.luks_c.specs.Asked.{payload_of};
-ghost use Rattle.luks_c.specs.FormatAnswers.{AnswersFormat1, AnswersFormat2, AnswersNumbered, IsNoHash, hash_number};
+ghost use Rattle.luks_c_answers.specs.Asked.{payload_of};
+ghost use Rattle.luks_c.specs.FormatAnswers.{AnswersFormat1, AnswersFormat2, AnswersNumbered, IsFormat, IsNoHash, hash_number};
 
-use crate::checking::data_of;
 use luks_c_answers::{
-    LuksPlan, MEMORY, USAGE, format_number, give_plan, planned_writes, tell_reach,
+    LuksPlan, MEMORY, USAGE, data_of, format_number, give_plan, planned_writes, tell_reach,
 };
 use luks_given::Given;
-use luks_planned::{PlannedCall, PlannedWrites};
+use luks_planned::PlannedCall;
 use luks_volume::{Data, Format, FormatFault, HashName, format1, format2};
 use std::alloc::Global;
 use std::marker::Brand;
@@ -52,17 +42,13 @@ pub extern "C" fn luks_format1_bytes(
     ensures within { result ≡ 102 → told.new.beyond ≤ total }
 {
     *told = LuksPlan::default();
-    if first.len() as u64 > total {
-        return USAGE;
-    }
-    let Some(hash) = hash_of(hash) else {
-        return USAGE;
-    };
-    let format = Format { hash, iterations };
     let data_ = data_of(is_detached);
-    make1::<Brand>(
-        alloc, first, total, data_, &format, passphrase, random, calls, bytes, told,
-    )
+    match format_of(first, total, hash, iterations) {
+        Some(format) => make1::<Brand>(
+            alloc, first, total, data_, &format, passphrase, random, calls, bytes, told,
+        ),
+        None => USAGE,
+    }
 }
 
 /// The same by LUKS2, which takes 256208 random bytes, and memory for its metadata.
@@ -89,17 +75,13 @@ pub extern "C" fn luks_format2_bytes(
     ensures within { result ≡ 102 → told.new.beyond ≤ total }
 {
     *told = LuksPlan::default();
-    if first.len() as u64 > total {
-        return USAGE;
-    }
-    let Some(hash) = hash_of(hash) else {
-        return USAGE;
-    };
-    let format = Format { hash, iterations };
     let data_ = data_of(is_detached);
-    make2::<Brand>(
-        alloc, first, total, data_, &format, passphrase, random, calls, bytes, told,
-    )
+    match format_of(first, total, hash, iterations) {
+        Some(format) => make2::<Brand>(
+            alloc, first, total, data_, &format, passphrase, random, calls, bytes, told,
+        ),
+        None => USAGE,
+    }
 }
 
 /// The LUKS1 volume, where not more bytes are given than there are.
@@ -129,9 +111,7 @@ fn make1<K: Given>(
         return MEMORY;
     };
     match format1(&mut device, data_, format, passphrase, random) {
-        Ok(_) => give_made1(
-            first, total, data_, format, passphrase, random, &device, calls, bytes, told,
-        ),
+        Ok(_) => give_plan(&device, calls, bytes, told),
         Err(FormatFault::Device) => tell_reach(&device, told),
         Err(fault) => format_number(&fault),
     }
@@ -164,74 +144,24 @@ fn make2<K: Given>(
         return MEMORY;
     };
     match format2(alloc, &mut device, data_, format, passphrase, random) {
-        Ok(_) => give_made2(
-            first, total, data_, format, passphrase, random, &device, calls, bytes, told,
-        ),
+        Ok(_) => give_plan(&device, calls, bytes, told),
         Err(FormatFault::Device) => tell_reach(&device, told),
         Err(fault) => format_number(&fault),
     }
 }
 
-/// Gives the plan of a LUKS1 volume that was made over the device.
-fn give_made1<K: Given>(
-    first: &[u8],
-    total: u64,
-    data_: Data,
-    format: &Format,
-    passphrase: &[u8],
-    random: &[u8],
-    device: &PlannedWrites<K>,
-    calls: &mut [PlannedCall],
-    bytes: &mut [u8],
-    told: &mut LuksPlan,
-) -> u32
-    requires given { K.bytes ≡ first.now }
-    requires size { planned_size device.now ≡ total }
-    requires slot { told.old.slot ≡ 0 }
-    requires settled { IsSettled planned_unsettled device.now }
-    requires faultless { HasNoFault (IsFormat1Fault total format.now random.now) }
-    requires made { IsFormatted1 data_ format.now passphrase.now random.now
-        (volume first.now total) (planned_bytes device.now) }
-    requires well_formed { WellFormed (planned_bytes device.now) data_ }
-    requires opens { Answer (planned_bytes device.now) 0 passphrase.now
-        (opens (volume_key random.now)) }
-    ensures answers { AnswersFormat1 first.now total data_ format.now passphrase.now random.now
-        (record { calls = calls.old; bytes = bytes.old })
-        (record { calls = calls.new; bytes = bytes.new }) told.new result }
-    ensures given { (result ≡ 0) ⊎ (result ≡ 106) }
+/// How the volume is made, where not more bytes are given than there are, and the number is a hash's.
+fn format_of(first: &[u8], total: u64, hash: u32, iterations: u32) -> Option<Format>
+    ensures { MatchOption result ((total < length first.now) ⊎ IsNoHash hash)
+        (λ (format : TheFormat). (length first.now ≤ total) × IsFormat hash iterations format) }
 {
-    give_plan(device, calls, bytes, told)
-}
-
-/// Gives the plan of a LUKS2 volume that was made over the device.
-fn give_made2<K: Given>(
-    first: &[u8],
-    total: u64,
-    data_: Data,
-    format: &Format,
-    passphrase: &[u8],
-    random: &[u8],
-    device: &PlannedWrites<K>,
-    calls: &mut [PlannedCall],
-    bytes: &mut [u8],
-    told: &mut LuksPlan,
-) -> u32
-    requires given { K.bytes ≡ first.now }
-    requires size { planned_size device.now ≡ total }
-    requires slot { told.old.slot ≡ 0 }
-    requires settled { IsSettled planned_unsettled device.now }
-    requires faultless { HasNoFault (IsFormat2Fault total format.now random.now) }
-    requires made { IsFormatted2 data_ format.now passphrase.now random.now
-        (volume first.now total) (planned_bytes device.now) }
-    requires well_formed { WellFormed (planned_bytes device.now) data_ }
-    requires opens { Answer (planned_bytes device.now) 0 passphrase.now
-        (opens (volume_key random.now)) }
-    ensures answers { AnswersFormat2 first.now total data_ format.now passphrase.now random.now
-        (record { calls = calls.old; bytes = bytes.old })
-        (record { calls = calls.new; bytes = bytes.new }) told.new result }
-    ensures given { (result ≡ 0) ⊎ (result ≡ 106) }
-{
-    give_plan(device, calls, bytes, told)
+    if first.len() as u64 > total {
+        return None;
+    }
+    Some(Format {
+        hash: hash_of(hash)?,
+        iterations,
+    })
 }
 
 /// The hash of this number.

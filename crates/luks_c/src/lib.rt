@@ -2,15 +2,18 @@
 //! read. `luks.h` says what a caller owes.
 #![tactic(auto)]
 
-mod asking;
+mod backing_up;
 mod checking;
+mod comparing;
 mod converting;
 mod editing;
+mod finding;
 mod formatting;
 mod needing;
 mod opening;
 mod reading;
 mod rebuilding;
 mod rebuilding1;
+mod restoring;
 mod signature;
 mod texts;

@@ -1,13 +1,11 @@
 //! How many random bytes an edit takes.
 ghost use Rattle.std.specs.Prelude.{◌≡◌, ◌≢◌, ◌⊎◌, ◌↔◌, ◌≤◌, ◌<◌, length};
 ghost use Rattle.luks_given.specs.Volume.{volume};
-ghost use Rattle.luks_c.specs.Asked.{payload_of};
+ghost use Rattle.luks_c_answers.specs.Asked.{payload_of};
 ghost use Rattle.luks_c.specs.EditAnswers.{AnswersNeed, AnswersNeeded};
-ghost use Rattle.luks_c.specs.EditAsked.{IsUnasked};
+ghost use Rattle.luks_c_answers.specs.EditAsked.{IsUnasked};
 
-use crate::asking::{LuksEdit, edit_of};
-use crate::checking::data_of;
-use luks_c_answers::{BEYOND, DONE, USAGE, edit_number};
+use luks_c_answers::{BEYOND, DONE, LuksEdit, USAGE, data_of, edit_number, edit_of};
 use luks_given::{FirstBytes, Given};
 use luks_volume::{Data, Edit, EditFault, needed};
 use std::alloc::Global;

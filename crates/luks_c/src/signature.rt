@@ -1,14 +1,15 @@
 //! What else a disk is used for.
-ghost use Rattle.std.specs.Prelude.{◌≡◌, ◌⊎◌, ◌≤◌, ◌<◌, [], drop, length, take};
+ghost use Rattle.std.specs.Prelude.{◌≡◌, ◌≤◌, ◌<◌, drop, length, take};
 ghost use Rattle.luks_c_answers.specs.Buffers.{filled};
 ghost use Rattle.luks_signatures.specs.UseTexts.{use_text};
 ghost use Rattle.luks_signatures.specs.declared.other_use.OtherUse.{OtherUse as TheUse};
 ghost use Rattle.luks_given.specs.Volume.{volume};
-ghost use Rattle.luks_c.specs.SignatureAnswers.{AnswersSignature, shown_number, use_number};
+ghost use Rattle.luks_c.specs.SignatureAnswers.{AnswersSignature};
+ghost use Rattle.luks_c_answers.specs.Uses.{use_number};
 
-use luks_c_answers::{BEYOND, DONE, USAGE, fill_front};
+use luks_c_answers::{BEYOND, DONE, USAGE, fill_front, number_shown, use_name};
 use luks_given::{FirstBytes, Given};
-use luks_signatures::{OtherUse, first_use};
+use luks_signatures::first_use;
 use std::marker::Brand;
 
 /// What `luks_signature_bytes` tells.
@@ -75,62 +76,7 @@ pub extern "C" fn luks_signature_name(number: u32, buffer: &mut [u8]) -> usize
     ensures none { 14 < number → result ≡ 0 }
     ensures behind { drop result buffer.new ≡ drop result buffer.old }
 {
-    let name = name_of(number);
+    let name = use_name(number);
     fill_front(buffer, name.as_bytes());
     name.len()
-}
-
-/// The name of the use of this number.
-fn name_of(number: u32) -> &'static str
-    ensures named { (shown : TheUse) → use_number shown ≡ number → result.now ≡ use_text shown }
-    ensures none { 14 < number → result.now ≡ [] }
-{
-    match number {
-        1 => "GPT",
-        2 => "md",
-        3 => "bcache",
-        4 => "LVM2",
-        5 => "BitLocker",
-        6 => "FAT",
-        7 => "swap",
-        8 => "XFS",
-        9 => "ext",
-        10 => "ZFS",
-        11 => "NTFS",
-        12 => "btrfs",
-        13 => "exFAT",
-        14 => "MBR",
-        _ => "",
-    }
-}
-
-/// The number of a use, or of none.
-fn number_shown(found: Option<OtherUse>) -> u32
-    ensures { result ≡ shown_number found }
-{
-    match found {
-        Some(shown) => number_of(shown),
-        None => 0,
-    }
-}
-
-fn number_of(shown: OtherUse) -> u32
-    ensures { result ≡ use_number shown }
-{
-    match shown {
-        OtherUse::Gpt => 1,
-        OtherUse::Md => 2,
-        OtherUse::Bcache => 3,
-        OtherUse::Lvm2 => 4,
-        OtherUse::BitLocker => 5,
-        OtherUse::Fat => 6,
-        OtherUse::Swap => 7,
-        OtherUse::Xfs => 8,
-        OtherUse::Ext => 9,
-        OtherUse::Zfs => 10,
-        OtherUse::Ntfs => 11,
-        OtherUse::Btrfs => 12,
-        OtherUse::ExFat => 13,
-        OtherUse::Mbr => 14,
-    }
 }

@@ -9,7 +9,8 @@ use Rattle.luks1_header.specs.FaultTexts.{fault_text as head_fault_text}
 use Rattle.luks_area.specs.Printed.{area_fault_text}
 use Rattle.luks_rules.specs.MetaFault.{fault_text as meta_fault_text}
 use Rattle.luks_slot.specs.Fault.{fault_text as slot_fault_text}
-use Rattle.luks_reading.specs.Failures.{is_open_failure}
+use Rattle.luks_reading.specs.Failures.{is_check_failure, is_open_failure}
+use Rattle.luks_reading.specs.declared.check_fault.CheckFault.{CheckFault}
 use Rattle.luks_reading.specs.declared.check_fault.CheckFault.TheVariants as checking
 use Rattle.luks_reading.specs.declared.open_fault.OpenFault.{OpenFault}
 use Rattle.luks_reading.specs.declared.open_fault.OpenFault.TheVariants as opening
@@ -27,8 +28,14 @@ use Rattle.luks_rebuilding.specs.declared.rebuild_fault.RebuildFault.TheVariants
 use Rattle.luks1_rebuilding.specs.RebuildFaults.{is_rebuild_failure as is_rebuild1_failure}
 use Rattle.luks1_rebuilding.specs.declared.rebuild_fault.Rebuild1Fault.{Rebuild1Fault}
 use Rattle.luks1_rebuilding.specs.declared.rebuild_fault.Rebuild1Fault.TheVariants as rebuild1
+use Rattle.luks_keeping.specs.BackupFaults.{is_backup_failure}
+use Rattle.luks_keeping.specs.RestoreFaults.{is_restore_failure}
+use Rattle.luks_keeping.specs.declared.backup_fault.BackupFault.{BackupFault}
+use Rattle.luks_keeping.specs.declared.backup_fault.BackupFault.TheVariants as backup
+use Rattle.luks_keeping.specs.declared.restore_fault.RestoreFault.{RestoreFault}
+use Rattle.luks_keeping.specs.declared.restore_fault.RestoreFault.TheVariants as restore
 use Rattle.luks_reading.specs.FaultTexts.{check_fault_text}
-use Rattle.luks_c_answers.specs.Numbers.{convert_number, edit_number, fault_number, number_printed, open_number, rebuild1_number, rebuild_number}
+use Rattle.luks_c_answers.specs.Numbers.{backup_number, check_number, convert_number, edit_number, fault_number, number_printed, open_number, rebuild1_number, rebuild_number, restore_number}
 
 -- that of a fault is 1 to 51
 fault_number_range : (f : Fault) → (1 ≤ fault_number f) × (fault_number f ≤ 51)
@@ -136,3 +143,56 @@ pub rebuild1_number_other : (f : Rebuild1Fault) → is_rebuild1_failure f ≡ fa
 rebuild1_number_other (rebuild1.Area f) own = λ e. let high = (number_printed_range (area_fault_text f)).1 in absurd (omega (arith, high, e))
 rebuild1_number_other rebuild1.Device own = absurd (true≢false own)
 rebuild1_number_other f own = λ e. absurd (omega (arith, e))
+
+-- what refuses a backup has a number of 1 to 103
+pub backup_number_range : (f : BackupFault) → (1 ≤ backup_number f) × (backup_number f ≤ 103)
+backup_number_range (backup.NotAccepted f) = let r = number_printed_range (check_fault_text f) in (r.0, let high = r.1 in omega (arith, high))
+backup_number_range f = (omega arith, omega arith)
+
+-- and isn't 101
+pub backup_number_usage : (f : BackupFault) → backup_number f ≢ 101
+backup_number_usage (backup.NotAccepted f) = λ e. let high = (number_printed_range (check_fault_text f)).1 in absurd (omega (arith, high, e))
+backup_number_usage f = λ e. absurd (omega (arith, e))
+
+-- none but a device's asks for more bytes
+pub backup_number_other : (f : BackupFault) → is_backup_failure f ≡ false → backup_number f ≢ 102
+backup_number_other (backup.NotAccepted f) own = λ e. let high = (number_printed_range (check_fault_text f)).1 in absurd (omega (arith, high, e))
+backup_number_other backup.Device own = absurd (true≢false own)
+backup_number_other f own = λ e. absurd (omega (arith, e))
+
+-- what refuses the restoring of one has a number of 1 to 103
+pub restore_number_range : (f : RestoreFault) → (1 ≤ restore_number f) × (restore_number f ≤ 103)
+restore_number_range restore.OtherVolume = (omega arith, omega arith)
+restore_number_range f = (omega arith, omega arith)
+
+-- and isn't 101
+pub restore_number_usage : (f : RestoreFault) → restore_number f ≢ 101
+restore_number_usage restore.OtherVolume = λ e. absurd (omega (arith, e))
+restore_number_usage f = λ e. absurd (omega (arith, e))
+
+-- none but a device's asks for more bytes
+pub restore_number_other : (f : RestoreFault) → is_restore_failure f ≡ false → restore_number f ≢ 102
+restore_number_other restore.Device own = absurd (true≢false own)
+restore_number_other f own = λ e. absurd (omega (arith, e))
+
+-- what refuses a volume has a number of 1 to 103
+pub check_number_range : (f : CheckFault) → (1 ≤ check_number f) × (check_number f ≤ 103)
+check_number_range (checking.Head f) = let r = number_printed_range (head_fault_text f) in (r.0, let high = r.1 in omega (arith, high))
+check_number_range (checking.Meta f) = let r = number_printed_range (meta_fault_text f) in (r.0, let high = r.1 in omega (arith, high))
+check_number_range (checking.Area f) = let r = number_printed_range (area_fault_text f) in (r.0, let high = r.1 in omega (arith, high))
+check_number_range f = (omega arith, omega arith)
+
+-- and isn't 101
+pub check_number_usage : (f : CheckFault) → check_number f ≢ 101
+check_number_usage (checking.Head f) = λ e. let high = (number_printed_range (head_fault_text f)).1 in absurd (omega (arith, high, e))
+check_number_usage (checking.Meta f) = λ e. let high = (number_printed_range (meta_fault_text f)).1 in absurd (omega (arith, high, e))
+check_number_usage (checking.Area f) = λ e. let high = (number_printed_range (area_fault_text f)).1 in absurd (omega (arith, high, e))
+check_number_usage f = λ e. absurd (omega (arith, e))
+
+-- none but the device's asks for more bytes
+pub check_number_other : (f : CheckFault) → is_check_failure f ≡ false → check_number f ≢ 102
+check_number_other (checking.Head f) own = λ e. let high = (number_printed_range (head_fault_text f)).1 in absurd (omega (arith, high, e))
+check_number_other (checking.Meta f) own = λ e. let high = (number_printed_range (meta_fault_text f)).1 in absurd (omega (arith, high, e))
+check_number_other (checking.Area f) own = λ e. let high = (number_printed_range (area_fault_text f)).1 in absurd (omega (arith, high, e))
+check_number_other checking.Device own = absurd (true≢false own)
+check_number_other f own = λ e. absurd (omega (arith, e))

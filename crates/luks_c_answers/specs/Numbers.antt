@@ -22,6 +22,10 @@ use Rattle.luks_rebuilding.specs.declared.rebuild_fault.RebuildFault.{RebuildFau
 use Rattle.luks_rebuilding.specs.declared.rebuild_fault.RebuildFault.TheVariants as rebuild
 use Rattle.luks1_rebuilding.specs.declared.rebuild_fault.Rebuild1Fault.{Rebuild1Fault}
 use Rattle.luks1_rebuilding.specs.declared.rebuild_fault.Rebuild1Fault.TheVariants as rebuild1
+use Rattle.luks_keeping.specs.declared.backup_fault.BackupFault.{BackupFault}
+use Rattle.luks_keeping.specs.declared.backup_fault.BackupFault.TheVariants as backup
+use Rattle.luks_keeping.specs.declared.restore_fault.RestoreFault.{RestoreFault}
+use Rattle.luks_keeping.specs.declared.restore_fault.RestoreFault.TheVariants as restore
 use Rattle.luks_explain.specs.declared.fault.Fault.{Fault}
 use Rattle.luks_explain.specs.declared.fault.Fault.TheVariants as fault
 use Rattle.luks_explain.specs.Names.{all_faults, fault_named, name_in}
@@ -176,3 +180,18 @@ rebuild1_number rebuild1.Iterations = 10
 rebuild1_number rebuild1.TooSmall = 40
 rebuild1_number (rebuild1.Area f) = number_printed (area_fault_text f)
 rebuild1_number rebuild1.Device = 102
+
+-- of what backing up answers in place of a backup
+abbrev pub backup_number : BackupFault → ℕ
+backup_number (backup.NotAccepted f) = number_printed (check_fault_text f)
+backup_number backup.TooSmall = 40
+backup_number backup.Memory = 103
+backup_number backup.Device = 102
+
+-- of what restoring answers in place of a volume
+abbrev pub restore_number : RestoreFault → ℕ
+restore_number (restore.NotAccepted f) = 46
+restore_number (restore.DoesNotFit f) = 47
+restore_number restore.OtherVolume = 48
+restore_number restore.Memory = 103
+restore_number restore.Device = 102

@@ -1,14 +1,21 @@
-//! How the calls for programs in C answer: by a number, in the caller's buffers, and by a plan of
-//! writes.
+//! How the calls for programs in C are asked and answer: by numbers, in the caller's buffers, and by a
+//! plan of writes.
 #![tactic(auto)]
 
+mod asking;
 mod buffers;
 mod numbers;
 mod plans;
+mod texts;
+mod uses;
 
+pub use asking::{LuksEdit, Unasked, data_of, edit_of, number_of_slot};
 pub use buffers::fill_front;
 pub use numbers::{
-    BEYOND, DONE, MEMORY, ROOM, SHUT, USAGE, check_number, convert_number, edit_number, fault_of,
-    format_number, number_of, open_number, read_number, rebuild_number, rebuild1_number,
+    BEYOND, DONE, MEMORY, ROOM, SHUT, USAGE, backup_number, check_number, convert_number,
+    edit_number, fault_of, format_number, number_of, open_number, read_number, rebuild_number,
+    rebuild1_number, restore_number,
 };
 pub use plans::{LuksPlan, give_plan, planned_writes, tell_reach, tell_reaches};
+pub use texts::{number_name, number_text};
+pub use uses::{number_shown, use_name};

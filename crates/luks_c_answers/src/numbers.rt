@@ -1,7 +1,7 @@
 //! The numbers by which the calls answer. `luks.h` lists them; a number stays its own in each later
 //! version.
-ghost use Rattle.std.specs.Prelude.{◌≡◌};
-ghost use Rattle.luks_c_answers.specs.Numbers.{check_number, convert_number, edit_number, fault_number, fault_numbered, format_number, number_printed, open_number, read_number, rebuild1_number, rebuild_number};
+ghost use Rattle.std.specs.Prelude.{◌≡◌, ◌<◌};
+ghost use Rattle.luks_c_answers.specs.Numbers.{backup_number, check_number, convert_number, edit_number, fault_number, fault_numbered, format_number, number_printed, open_number, read_number, rebuild1_number, rebuild_number, restore_number};
 ghost use Rattle.luks_area.specs.Printed.{area_fault_text};
 ghost use Rattle.luks1_header.specs.FaultTexts.{fault_text as head_fault_text};
 ghost use Rattle.luks_rules.specs.MetaFault.{fault_text as meta_fault_text};
@@ -12,6 +12,7 @@ use luks_converting::ConvertFault;
 use luks_edit::EditFault;
 use luks_explain::Fault;
 use luks_formatting::FormatFault;
+use luks_keeping::{BackupFault, RestoreFault};
 use luks_reading::{AreaFault, CheckFault, HeadFault, MetaFault, OpenFault, ReadFault};
 use luks_rebuilding::RebuildFault;
 use luks_slot::SlotFault;
@@ -76,6 +77,15 @@ pub fn number_of(fault: Fault) -> u32
         Fault::Region => 20,
         Fault::Outside => 21,
         Fault::Overlap => 22,
+        fault => number_of_call(fault),
+    }
+}
+
+/// The number of a fault that a call may have where `check` finds none.
+fn number_of_call(fault: Fault) -> u32
+    ensures { 22 < fault_number fault → result ≡ fault_number fault }
+{
+    match fault {
         Fault::NoSuchSlot => 23,
         Fault::SlotFree => 24,
         Fault::Argon2 => 25,
@@ -105,6 +115,7 @@ pub fn number_of(fault: Fault) -> u32
         Fault::OtherUse => 49,
         Fault::SameSlot => 50,
         Fault::NoHeader => 51,
+        _ => UNKNOWN,
     }
 }
 
@@ -234,6 +245,31 @@ pub fn rebuild1_number(fault: &Rebuild1Fault) -> u32
         Rebuild1Fault::TooSmall => number_of(Fault::TooSmall),
         Rebuild1Fault::Area(fault) => area_number(fault),
         Rebuild1Fault::Device => BEYOND,
+    }
+}
+
+/// The number of what backing up answers in place of a backup.
+pub fn backup_number(fault: &BackupFault) -> u32
+    ensures { result ≡ backup_number fault.now }
+{
+    match fault {
+        BackupFault::NotAccepted(fault) => checked_number(fault),
+        BackupFault::TooSmall => number_of(Fault::TooSmall),
+        BackupFault::Memory => MEMORY,
+        BackupFault::Device => BEYOND,
+    }
+}
+
+/// The number of what restoring answers in place of a volume.
+pub fn restore_number(fault: &RestoreFault) -> u32
+    ensures { result ≡ restore_number fault.now }
+{
+    match fault {
+        RestoreFault::NotAccepted(_) => number_of(Fault::NotAccepted),
+        RestoreFault::DoesNotFit(_) => number_of(Fault::DoesNotFit),
+        RestoreFault::OtherVolume => number_of(Fault::OtherVolume),
+        RestoreFault::Memory => MEMORY,
+        RestoreFault::Device => BEYOND,
     }
 }
 

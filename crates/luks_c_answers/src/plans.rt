@@ -4,7 +4,6 @@ ghost use Rattle.luks_area.specs.Device.{IsSettled};
 ghost use Rattle.luks_given.specs.Given.{given_failures, given_size, IsUnwritten};
 ghost use Rattle.luks_given.specs.Volume.{volume};
 ghost use Rattle.luks_planned.specs.Planned.{lacked_memory, planned_bytes, planned_calls, planned_failures, planned_first, planned_size, planned_unsettled, planned_written};
-ghost use Rattle.luks_c_answers.specs.Buffers.{filled};
 ghost use Rattle.luks_c_answers.specs.Plans.{IsPlan, IsPlanGiven};
 
 use crate::buffers::fill_front;
@@ -74,17 +73,9 @@ pub fn give_plan<K: Given>(
     if calls.len() < planned.len() || bytes.len() < written.len() {
         return ROOM;
     }
-    fill_calls(calls, planned);
+    fill_front(calls, planned);
     fill_front(bytes, written);
     DONE
-}
-
-/// Writes the calls to the front of the buffer, where they fit, and leaves the rest of it as it was.
-fn fill_calls(buffer: &mut [PlannedCall], calls: &[PlannedCall])
-    requires { length calls.now ≤ length buffer.old }
-    ensures { buffer.new ≡ filled buffer.old calls.now }
-{
-    buffer[..calls.len()].copy_from_slice(calls);
 }
 
 /// Tells how many bytes have to be given for the call that failed not to; or memory was refused.

@@ -2,7 +2,7 @@ use Rattle.std.proofs.Common.{ℕ, List, Ok, sym, subst}
 use Rattle.luks_given.specs.Volume.{volume}
 use Rattle.luks_planned.specs.Planned.{planned_calls, planned_first, planned_written}
 use Rattle.luks_volume.specs.Outcome.{IsApplied}
-use Rattle.luks_c.specs.EditAsked.{IsMaybeSlot}
+use Rattle.luks_c_answers.specs.EditAsked.{IsMaybeSlot}
 use Rattle.luks_c_answers.specs.Plans.{IsPlan}
 use Rattle.luks_c.proofs.PlanFacts.{edit_planned}
 use Rattle.luks_c.proofs.editing.give_edited.Goals as goal

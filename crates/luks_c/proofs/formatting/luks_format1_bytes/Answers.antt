@@ -1,16 +1,21 @@
-use Rattle.std.proofs.Common.{refl, subst}
+use Rattle.std.proofs.Common.{inl, inr, subst, arith}
 use Rattle.luks_reading.specs.declared.report.Data.{Data}
-use Rattle.luks_reading.specs.declared.format.Format.{Format}
 use Rattle.luks_c.specs.FormatAnswers.{AnswersFormat1}
 use Rattle.luks_c.proofs.formatting.luks_format1_bytes.Goals as goal
 
-pub returns-clause-answers : goal.returns-clause-answers
-returns-clause-answers c = λ used.
-    let format : Format = record { hash = c.in-Some.hash; iterations = c.args.iterations } in
+pub returns-in-Some-clause-usage : goal.returns-in-Some-clause-usage
+returns-in-Some-clause-usage c =
+    let within = c.in-Some.ensures.0 in (
+      (λ usage. absurd (c.make1.ensures.own usage)),
+      (λ any. absurd (elim any [ inl long ↦ omega (arith, long, within) | inr none ↦ none c.in-Some.format.hash c.in-Some.ensures.1.hash_is ])),
+    )
+
+pub returns-in-Some-clause-answers : goal.returns-in-Some-clause-answers
+returns-in-Some-clause-answers c = λ used.
     record {
-      format = format;
-      is = record { hash_is = c.in-Some.ensures; iterations_are = refl };
-      so = subst (λ (payload : Data). AnswersFormat1 c.args.first.now c.args.total payload format c.args.passphrase.now c.args.random.now
+      format = c.in-Some.format;
+      is = c.in-Some.ensures.1;
+      so = subst (λ (payload : Data). AnswersFormat1 c.args.first.now c.args.total payload c.in-Some.format c.args.passphrase.now c.args.random.now
           (record { calls = c.args.calls.now; bytes = c.args.bytes.now }) (record { calls = c.make1.new.calls; bytes = c.make1.new.bytes }) c.make1.new.told c.make1.result)
           c.data_of-data_.ensures c.make1.ensures.answers;
     }

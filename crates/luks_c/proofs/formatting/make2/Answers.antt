@@ -1,12 +1,29 @@
-use Rattle.std.proofs.Common.{ℕ, List, subst}
+use Rattle.std.proofs.Common.{ℕ, List, ◌∙◌, subst}
+use Rattle.luks_formatting.specs.FormatFaults.{HasNoFault, IsFormat2Fault}
 use Rattle.luks_formatting.specs.Formatted2.{IsFormatted2}
-use Rattle.luks_planned.specs.Planned.{planned_bytes}
+use Rattle.luks_given.specs.Volume.{volume}
+use Rattle.luks_planned.specs.Planned.{planned_bytes, planned_calls, planned_first, planned_size, planned_written}
+use Rattle.luks_c_answers.specs.Plans.{IsPlan}
+use Rattle.luks_c_answers.specs.PlanFacts.{plan_answered}
+use Rattle.luks_c.specs.FormatAnswers.{IsMade}
+use Rattle.luks_c.proofs.PlanFacts.{of_volume}
 use Rattle.luks_c.proofs.formatting.make2.Goals as goal
 
-pub give_made2-requires-clause-settled : goal.give_made2-requires-clause-settled
-give_made2-requires-clause-settled g c = c.in-Ok-format2.ensures.settled tt c.in-Ok-format2.ensures.count
-
-pub give_made2-requires-clause-made : goal.give_made2-requires-clause-made
-give_made2-requires-clause-made g c =
-    subst (λ (v : List ℕ). IsFormatted2 c.args.data_ c.args.format.now c.args.passphrase.now c.args.random.now v (planned_bytes c.format2.new.device))
-    c.in-Ok.ensures.bytes (c.in-Ok-format2.ensures.formatted tt)
+pub returns-in-Ok-format2-clause-answers : goal.returns-in-Ok-format2-clause-answers
+returns-in-Ok-format2-clause-answers g c =
+    let device = c.format2.new.device in
+    let e = c.in-Ok-format2.ensures in
+    let both = of_volume
+    (λ (n : ℕ) (o : List ℕ) (m : ℕ). HasNoFault (IsFormat2Fault n c.args.format.now c.args.random.now)
+    × IsMade (IsFormatted2 c.args.data_ c.args.format.now c.args.passphrase.now c.args.random.now o) c.args.data_ c.args.passphrase.now c.args.random.now
+    c.give_plan.new.told.slot (volume (planned_first device) m))
+    (planned_size c.in-Ok.device) c.args.total (planned_size device) (planned_bytes c.in-Ok.device) (volume c.args.first.now c.args.total)
+    c.in-Ok.ensures.size c.in-Ok.ensures.bytes (e.size ∙ c.in-Ok.ensures.size)
+    (e.faultless, record { is = e.formatted tt; well_formed = e.well_formed tt; opened = e.opens tt; slot = c.give_plan.ensures.slot ∙ c.requires.slot }) in
+    plan_answered c.args.first.now (planned_first device) c.args.total _ _ _ (planned_calls device) (planned_written device) _ _ _ _
+    both.0 both.1
+    (subst (λ (l : List ℕ). IsPlan l (planned_first device) (planned_calls device) (planned_written device)) c.requires.given c.give_plan.ensures.plan)
+    (record { none = λ p is. (e.settled tt e.count).none p is })
+    c.give_plan.ensures.calls
+    c.give_plan.ensures.bytes
+    c.give_plan.ensures.given

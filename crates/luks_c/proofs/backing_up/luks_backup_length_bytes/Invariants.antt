@@ -1,0 +1,4 @@
+use Rattle.luks_c.proofs.backing_up.luks_backup_length_bytes.Given as goal
+
+abbrev pub ghosts-length_given : goal.ghosts-length_given
+ghosts-length_given a = record { bytes = a.first.now }

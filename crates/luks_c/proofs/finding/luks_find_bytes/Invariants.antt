@@ -1,0 +1,4 @@
+use Rattle.luks_c.proofs.finding.luks_find_bytes.Given as goal
+
+abbrev pub ghosts-find_given : goal.ghosts-find_given
+ghosts-find_given a = record { bytes = a.first.now }

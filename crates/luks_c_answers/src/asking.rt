@@ -1,0 +1,117 @@
+//! What a caller asks for by numbers.
+ghost use Rattle.std.specs.Prelude.{◌≡◌, ℕ, Option, MatchResult};
+ghost use Rattle.luks_edit.specs.declared.edit.Edit.{Edit as TheEdit};
+ghost use Rattle.luks_c_answers.specs.Asked.{payload_of};
+ghost use Rattle.luks_c_answers.specs.EditAsked.{IsAsked, IsMaybeSlot, IsPassphrase, IsSlot};
+
+use luks_edit::{Edit, Passphrase};
+use luks_reading::Data;
+
+/// The number that names no keyslot.
+const NO_SLOT: u32 = 0xFFFF_FFFF;
+
+/// An edit of a volume, but for its passphrases and its label.
+#[repr(C)]
+#[derive(Debug, Clone, Copy, Drop, Default)]
+pub struct LuksEdit {
+    /// 1 adds a keyslot, 2 changes one's passphrase, 3 removes one, 4 repairs the header, 5 sets the
+    /// label.
+    pub kind: u32,
+    /// Of a change and a removal the keyslot.
+    pub slot: u32,
+    /// The keyslot that the passphrase opens, of an addition; of a removal too, or 2^32 - 1 where it is
+    /// the one that is removed.
+    pub by_: u32,
+    /// Of an addition the number of the new keyslot, or 2^32 - 1 for the least that is free.
+    pub to: u32,
+    /// Of an addition and a change the iterations of the new keyslot's derivation, at least 1000.
+    pub iterations: u32,
+    /// How many KiB of memory Argon2 may take.
+    pub memory: u32,
+}
+
+/// No edit is asked for by such numbers.
+#[derive(Debug, Clone, Copy)]
+pub struct Unasked;
+
+/// The edit; `text` is the new passphrase, or the label.
+pub fn edit_of<'a>(
+    asked: &LuksEdit,
+    passphrase: &'a [u8],
+    text: &'a [u8],
+) -> Result<Edit<'a>, Unasked>
+    ensures { MatchResult result (IsAsked asked.now passphrase.now text.now)
+        (λ _. (e : TheEdit) → IsAsked asked.now passphrase.now text.now e → ⊥) }
+{
+    let old = Passphrase {
+        bytes: passphrase,
+        memory: asked.memory,
+    };
+    match asked.kind {
+        1 => Ok(Edit::Add {
+            by_: slot_of(asked.by_)?,
+            old,
+            new: text,
+            to: maybe_slot(asked.to)?,
+            iterations: asked.iterations,
+            derivation: None,
+        }),
+        2 => Ok(Edit::Change {
+            slot: slot_of(asked.slot)?,
+            old,
+            new: text,
+            iterations: asked.iterations,
+            derivation: None,
+        }),
+        3 => Ok(Edit::Remove {
+            slot: slot_of(asked.slot)?,
+            by_: maybe_slot(asked.by_)?,
+            passphrase: old,
+        }),
+        4 => Ok(Edit::Repair),
+        5 => Ok(Edit::Label { text }),
+        _ => Err(Unasked),
+    }
+}
+
+/// The keyslot of this number.
+fn slot_of(number: u32) -> Result<u8, Unasked>
+    ensures { MatchResult result (IsSlot number) (λ _. (n : ℕ) → IsSlot number n → ⊥) }
+{
+    match u8::try_from(number) {
+        Ok(slot) => Ok(slot),
+        Err(_) => Err(Unasked),
+    }
+}
+
+/// The same, or none.
+fn maybe_slot(number: u32) -> Result<Option<u8>, Unasked>
+    ensures { MatchResult result (IsMaybeSlot number)
+        (λ _. (n : Option ℕ) → IsMaybeSlot number n → ⊥) }
+{
+    if number == NO_SLOT {
+        return Ok(None);
+    }
+    Ok(Some(slot_of(number)?))
+}
+
+/// The number of a keyslot, or of none.
+pub fn number_of_slot(slot: Option<u8>) -> u32
+    ensures { IsMaybeSlot result slot }
+{
+    match slot {
+        Some(n) => u32::from(n),
+        None => NO_SLOT,
+    }
+}
+
+/// Where the payload lies.
+pub fn data_of(is_detached: bool) -> Data
+    ensures { result ≡ payload_of is_detached }
+{
+    if is_detached {
+        Data::Elsewhere
+    } else {
+        Data::Here
+    }
+}

@@ -1,0 +1,64 @@
+//! What is said of a number.
+ghost use Rattle.std.specs.Prelude.{◌≡◌, IfSome};
+ghost use Rattle.luks_explain.specs.Names.{name_of};
+ghost use Rattle.luks_c_answers.specs.Numbers.{fault_numbered};
+
+use crate::numbers::fault_of;
+
+/// The name of what the number says: of a fault as the program prints it, without brackets. It has no
+/// byte where no call answers by this number.
+pub fn number_name(number: u32) -> &'static str
+    ensures { IfSome (fault_numbered number) (λ f. result.now ≡ name_of f) }
+{
+    match fault_of(number) {
+        Some(fault) => fault.name(),
+        None => other_name(number),
+    }
+}
+
+/// What is said of the number: by `part` 1 what it means, 2 where it can stand, 3 what is still safe, 4
+/// what to try next. Where nothing is said, it has no byte.
+pub fn number_text(number: u32, part: u32) -> &'static str {
+    match fault_of(number) {
+        Some(fault) => {
+            let said = fault.explanation();
+            match part {
+                1 => said.means,
+                2 => said.place,
+                3 => said.safe,
+                4 => said.next,
+                _ => "",
+            }
+        }
+        None if part == 1 => other_meaning(number),
+        None => "",
+    }
+}
+
+/// The name of a number that is no fault's.
+fn other_name(number: u32) -> &'static str {
+    match number {
+        0 => "Done",
+        101 => "Usage",
+        102 => "Beyond",
+        103 => "Memory",
+        104 => "Device",
+        105 => "Shut",
+        106 => "Room",
+        _ => "",
+    }
+}
+
+/// What such a number says.
+fn other_meaning(number: u32) -> &'static str {
+    match number {
+        0 => "done",
+        101 => "an argument that can't be",
+        102 => "more of the volume's first bytes have to be given",
+        103 => "memory was refused",
+        104 => "a call of the device failed",
+        105 => "the passphrase opens no keyslot that was tried",
+        106 => "a buffer of the caller's is too short",
+        _ => "",
+    }
+}

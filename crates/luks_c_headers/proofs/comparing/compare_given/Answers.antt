@@ -1,0 +1,62 @@
+use Rattle.std.proofs.Common.{◌≡◌, ◌≢◌, ◌<◌, inl, inr, length, ℕ, List, None, IsTrue, false, refl, ◌∙◌, arith, rules, subst, sym}
+use Rattle.luks_given.specs.Volume.{volume}
+use Rattle.luks_keeping.specs.SameVolume.{IsOtherVolume}
+use Rattle.luks_reading.specs.Checked.{IsCheckRefusal, WellFormed}
+use Rattle.luks_reading.specs.Failures.{is_check_failure}
+use Rattle.luks_reading.specs.Header.{IsHeader}
+use Rattle.luks_reading.specs.declared.report.Data.TheVariants.{Elsewhere}
+use Rattle.luks_c_answers.specs.NumberFacts.{check_number_other, check_number_range, check_number_usage}
+use Rattle.luks_c_headers.proofs.HeaderFacts.{none_still}
+use Rattle.luks_c_headers.proofs.comparing.compare_given.Goals as goal
+
+pub returns-in-Err-Device-accepted_header-clause-more : goal.returns-in-Err-Device-accepted_header-clause-more
+returns-in-Err-Device-accepted_header-clause-more g c =
+    let e = c.in-Err-Device-accepted_header.ensures in
+    let unwritten : c.accepted_header-2.new.device.refused ≡ None = none_still _ _ c.new-device.ensures.unwritten (e.unchanged.unsettled tt) in
+    let failed : c.accepted_header-2.new.device.failures ≢ 0 = search rules in
+    let far = c.reached-told-in-Err-Device-accepted_header.ensures.far unwritten failed in
+    let all = c.requires.given in
+    λ asked. inr (subst (λ (l : List ℕ). length l < c.reached-told-in-Err-Device-accepted_header.result) all far)
+
+pub returns-in-Err-accepted_header : goal.returns-in-Err-accepted_header
+returns-in-Err-accepted_header g c =
+    let f = c.in-Err-accepted_header.fault in
+    let is = c.check_number.ensures in
+    let own : is_check_failure f ≡ false = search rules in
+    let low = (check_number_range f).0 in
+    let kept = subst (λ (v : List ℕ). WellFormed v Elsewhere) c.new-kept.ensures.bytes (c.in-Ok.ensures.formed tt) in
+    let refusal = subst (λ (v : List ℕ). IsCheckRefusal v c.args.data_ f) c.new-device.ensures.bytes (c.in-Err-accepted_header.ensures.refused tt) in
+    record {
+      own = λ usage. check_number_usage f (sym is ∙ usage);
+      answers = record {
+        told = λ zero. absurd (omega (arith, is, zero, low));
+        untold = λ other. inr (inl (record { kept = kept; fault = f; refusal = refusal; is = is }));
+        kept = λ other. refl;
+      };
+      more = λ asked. absurd (check_number_other f own (sym is ∙ asked));
+      backup_inside = λ asked. absurd (check_number_other f own (sym is ∙ asked));
+      inside = λ asked. absurd (check_number_other f own (sym is ∙ asked));
+    }
+
+pub returns-clause-answers : goal.returns-clause-answers
+returns-clause-answers g c =
+    let b : List ℕ = volume c.args.backup.now c.args.backup_total in
+    let t : List ℕ = volume c.args.first.now c.args.total in
+    let here = subst (λ (v : List ℕ). IsHeader v c.in-Ok.header) c.new-kept.ensures.bytes (c.in-Ok.ensures.read tt) in
+    let there = subst (λ (v : List ℕ). IsHeader v c.in-Ok-accepted_header.header) c.new-device.ensures.bytes (c.in-Ok-accepted_header.ensures.read tt) in
+    let kept = subst (λ (v : List ℕ). WellFormed v Elsewhere) c.new-kept.ensures.bytes (c.in-Ok.ensures.formed tt) in
+    let formed = subst (λ (v : List ℕ). WellFormed v c.args.data_) c.new-device.ensures.bytes (c.in-Ok-accepted_header.ensures.formed tt) in
+    let none : IsTrue c.is_other_volume.result → ⊥ = search rules in
+    record {
+      told = λ zero. record {
+        kept = kept;
+        formed = formed;
+        own = λ other. none ((c.is_other_volume.ensures b t here there).1 other);
+        comparison = c.compare-found.result;
+        compared = c.compare-found.ensures b t here there;
+        key = c.number_of_key-told.ensures;
+        keyslots = c.tell_keyslots.ensures;
+      };
+      untold = λ other. absurd (other refl);
+      kept = λ other. absurd (other refl);
+    }

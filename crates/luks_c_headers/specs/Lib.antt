@@ -1,0 +1,3 @@
+pub mod ConvertAnswers
+pub mod KeepAnswers
+pub mod RebuildAnswers
