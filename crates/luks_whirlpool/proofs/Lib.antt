@@ -1,0 +1,4 @@
+pub mod DigestFacts
+pub mod HoldingFacts
+pub mod SboxFacts
+pub mod StateFacts
