@@ -8,34 +8,105 @@ mod laws;
 mod needing;
 mod running;
 
-pub use applying::{apply, apply_of_header};
+pub use applying::apply;
+pub use applying::apply_of_header;
 pub use header::edited_header;
-pub use laws::{edits_keep_volume, list_runs_by_steps, removal_keeps_opener};
+pub use laws::edits_keep_volume;
+pub use laws::list_runs_by_steps;
+pub use laws::removal_keeps_opener;
 pub use luks_area::FileDevice;
-pub use luks_converting::{
-    CONVERT_RANDOM, ConvertFault, convert, converted_volume_opens_alike,
-    copied_keyslot_opens_alike, metadata_is_never_full,
-};
-pub use luks_edit::{
-    Argon2Costs, Done, Edit, EditFault, LEAST_ITERATIONS, NewDerivation, Passphrase, RunFault, Step,
-};
-pub use luks_formatting::{FORMAT1_RANDOM, FORMAT2_RANDOM, Format, FormatFault, format1, format2};
-pub use luks_head::{IterationsOf, Luks1Common, TextField};
+pub use luks_converting::CONVERT_RANDOM;
+pub use luks_converting::ConvertFault;
+pub use luks_converting::convert;
+pub use luks_converting::converted_volume_opens_alike;
+pub use luks_converting::copied_keyslot_opens_alike;
+pub use luks_converting::metadata_is_never_full;
+pub use luks_edit::Argon2Costs;
+pub use luks_edit::Done;
+pub use luks_edit::Edit;
+pub use luks_edit::EditFault;
+pub use luks_edit::LEAST_ITERATIONS;
+pub use luks_edit::NewDerivation;
+pub use luks_edit::Passphrase;
+pub use luks_edit::RunFault;
+pub use luks_edit::Step;
+pub use luks_formatting::FORMAT1_RANDOM;
+pub use luks_formatting::FORMAT2_RANDOM;
+pub use luks_formatting::Format;
+pub use luks_formatting::FormatFault;
+pub use luks_formatting::format1;
+pub use luks_formatting::format2;
+pub use luks_head::IterationsOf;
+pub use luks_head::Luks1Common;
+pub use luks_head::TextField;
 pub use luks_kdf::HashName;
-pub use luks_meta::{Argon2, Derivation, Encryption, KeyArea, Pbkdf2, Splitter};
-pub use luks_reading::{
-    Area, AreaFault, AreaName, Areas, Bin2, CheckFault, ChosenCopy, Config, Copies, Cost, Data,
-    Device, DeviceFault, Digest, Entry, Extent, HeadFault, Header, Key, Keyslot, Luks1, Luks1Slot,
-    MemDevice, Meta, MetaFault, OpenFault, ReadFault, Report, Segment, SegmentKind, Selected,
-    SlotState, Token, Version, check, check_header, more_memory_opens_alike,
-    no_fault_is_well_formed, nothing_allowed_is_as_before, one_answer, one_area, one_unlocking,
-    open_header_slot, open_slot, read_header, refused_slot, select, text_field, unlock,
-    unlock_header, well_formed_volume,
-};
-pub use luks_rebuilding::{
-    Candidate, Place, REBUILD_RANDOM, RebuildFault, Which, find_candidate, one_candidate, rebuild,
-    rebuilt_header_opens_alike,
-};
+pub use luks_meta::Argon2;
+pub use luks_meta::Derivation;
+pub use luks_meta::Encryption;
+pub use luks_meta::KeyArea;
+pub use luks_meta::Pbkdf2;
+pub use luks_meta::Splitter;
+pub use luks_reading::Area;
+pub use luks_reading::AreaFault;
+pub use luks_reading::AreaName;
+pub use luks_reading::Areas;
+pub use luks_reading::Bin2;
+pub use luks_reading::CheckFault;
+pub use luks_reading::ChosenCopy;
+pub use luks_reading::Config;
+pub use luks_reading::Copies;
+pub use luks_reading::Cost;
+pub use luks_reading::Data;
+pub use luks_reading::Device;
+pub use luks_reading::DeviceFault;
+pub use luks_reading::Digest;
+pub use luks_reading::Entry;
+pub use luks_reading::Extent;
+pub use luks_reading::HeadFault;
+pub use luks_reading::Header;
+pub use luks_reading::Key;
+pub use luks_reading::Keyslot;
+pub use luks_reading::Luks1;
+pub use luks_reading::Luks1Slot;
+pub use luks_reading::MemDevice;
+pub use luks_reading::Meta;
+pub use luks_reading::MetaFault;
+pub use luks_reading::OpenFault;
+pub use luks_reading::ReadFault;
+pub use luks_reading::Report;
+pub use luks_reading::Segment;
+pub use luks_reading::SegmentKind;
+pub use luks_reading::Selected;
+pub use luks_reading::SlotState;
+pub use luks_reading::Token;
+pub use luks_reading::Version;
+pub use luks_reading::check;
+pub use luks_reading::check_header;
+pub use luks_reading::more_memory_opens_alike;
+pub use luks_reading::no_fault_is_well_formed;
+pub use luks_reading::nothing_allowed_is_as_before;
+pub use luks_reading::one_answer;
+pub use luks_reading::one_area;
+pub use luks_reading::one_unlocking;
+pub use luks_reading::open_header_slot;
+pub use luks_reading::open_slot;
+pub use luks_reading::read_header;
+pub use luks_reading::refused_slot;
+pub use luks_reading::select;
+pub use luks_reading::text_field;
+pub use luks_reading::unlock;
+pub use luks_reading::unlock_header;
+pub use luks_reading::well_formed_volume;
+pub use luks_rebuilding::Candidate;
+pub use luks_rebuilding::Place;
+pub use luks_rebuilding::REBUILD_RANDOM;
+pub use luks_rebuilding::RebuildFault;
+pub use luks_rebuilding::Which;
+pub use luks_rebuilding::find_candidate;
+pub use luks_rebuilding::one_candidate;
+pub use luks_rebuilding::rebuild;
+pub use luks_rebuilding::rebuilt_header_opens_alike;
 pub use luks_slot::SlotFault;
-pub use needing::{needed, needed_of_header};
+pub use needing::needed;
+pub use needing::needed_of_header;
 pub use running::run;
