@@ -129,7 +129,6 @@ fn run_line<R: AllocGlobal + Clock + Files<File = File> + Input + Print + Eprint
 /// The same, with costs that take that many milliseconds. It isn't inlined, so that what Argon2 takes of the
 /// stack isn't taken from the command.
 #[inline(never)]
-#[tactic(auto, using(crate::proofs::OutcomeFacts::fault_ends, crate::proofs::OutcomeFacts::timed_ends))]
 fn run_timed<R: AllocGlobal + Clock + Files<File = File> + Input + Print + Eprint>(
     rt: &R,
     line: &Line<'_>,
