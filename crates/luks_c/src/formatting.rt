@@ -74,7 +74,7 @@ pub extern "C" fn luks_format2_bytes(
     told: &mut LuksPlan,
 ) -> u32
     ensures usage { result ≡ 101 ↔ (IsNoChoice derivation.now
-        ⊎ (total < length first.now) ⊎ IsNoHash hash) }
+        ⊎ ((total < length first.now) ⊎ IsNoHash hash)) }
     ensures answers { result ≢ 101 → AnswersChosen hash iterations derivation.now
         (λ (format : TheFormat) (chosen : Option Chosen).
         AnswersFormat2 first.now total (payload_of is_detached) format chosen memory

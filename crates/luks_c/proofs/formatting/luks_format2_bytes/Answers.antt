@@ -8,7 +8,7 @@ returns-in-Some-clause-usage c =
     let within = c.in-Some.ensures.0 in (
       (λ usage. absurd (c.make2.ensures.own usage)),
       (λ any. absurd (elim any [
-        inl unchosen ↦ unchosen c.in-Ok.chosen c.in-Ok.ensures
+        | inl unchosen ↦ unchosen c.in-Ok.chosen c.in-Ok.ensures
         | inr other ↦ elim other [ inl long ↦ omega (arith, long, within) | inr none ↦ none c.in-Some.format.hash c.in-Some.ensures.1.hash_is ]
       ])),
     )
