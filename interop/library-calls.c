@@ -150,11 +150,20 @@ static int done(uint32_t answer, uint32_t slot)
     return 0;
 }
 
-/* An edit: KIND SLOT BY TO ITERATIONS MIB PASSPHRASE TEXT RANDOM PLACE; RANDOM is a file, or `system`. */
+/* A derivation, where one is chosen: KDF TURNS KIB LANES, each a number. */
+static struct luks_derivation derivation_of(char **words)
+{
+    struct luks_derivation none = {0};
+    if (words[0] == NULL)
+        return none;
+    return (struct luks_derivation){.kind = number(words[0]), .turns = number(words[1]), .memory = number(words[2]), .lanes = number(words[3])};
+}
+
+/* An edit: KIND SLOT BY TO ITERATIONS MIB PASSPHRASE TEXT RANDOM PLACE [KDF TURNS KIB LANES]; RANDOM is a file, or `system`. */
 static int edits(int fd, uint64_t offset, uint64_t length, char **words)
 {
     struct luks_edit edit = {.kind = number(words[0]), .slot = number(words[1]), .by = number(words[2]), .to = number(words[3]),
-                             .iterations = number(words[4]), .memory = number(words[5]) * 1024};
+                             .iterations = number(words[4]), .memory = number(words[5]) * 1024, .derivation = derivation_of(words + 10)};
     size_t old_bytes, text_bytes, random_bytes = 0;
     bool is_detached = strcmp(words[9], "detached") == 0;
     uint8_t *old = file_of(words[6], 65537, &old_bytes), *text = file_of(words[7], 65537, &text_bytes), *random = NULL;
@@ -181,11 +190,12 @@ static int edits_by_name(int fd, uint64_t offset, uint64_t length, char **words)
     size_t old_bytes, text_bytes;
     bool is_detached = strcmp(words[9], "detached") == 0;
     uint8_t *old = file_of(words[6], 65537, &old_bytes), *text = file_of(words[7], 65537, &text_bytes);
+    struct luks_derivation derivation = derivation_of(words + 10), *chosen = words[10] != NULL ? &derivation : NULL;
     uint32_t made = LUKS_NO_SLOT, answer = LUKS_USAGE;
     if (kind == LUKS_ADD)
-        answer = luks_add(fd, offset, length, is_detached, by, old, old_bytes, text, text_bytes, number(words[3]), iterations, memory, &made);
+        answer = luks_add(fd, offset, length, is_detached, by, old, old_bytes, text, text_bytes, number(words[3]), iterations, chosen, memory, &made);
     else if (kind == LUKS_CHANGE)
-        answer = luks_change(fd, offset, length, is_detached, slot, old, old_bytes, text, text_bytes, iterations, memory, &made);
+        answer = luks_change(fd, offset, length, is_detached, slot, old, old_bytes, text, text_bytes, iterations, chosen, memory, &made);
     else if (kind == LUKS_REMOVE)
         answer = luks_remove(fd, offset, length, is_detached, slot, by, old, old_bytes, memory);
     else if (kind == LUKS_REPAIR)
@@ -197,19 +207,22 @@ static int edits_by_name(int fd, uint64_t offset, uint64_t length, char **words)
     return done(answer, made);
 }
 
-/* A new volume: VERSION HASH ITERATIONS PASSPHRASE RANDOM PLACE. */
+/* A new volume: VERSION HASH ITERATIONS PASSPHRASE RANDOM PLACE [KDF TURNS KIB LANES MIB]. */
 static int formats(int fd, uint64_t offset, uint64_t length, char **words)
 {
     static const char *const HASHES[] = {"", "sha1", "sha256", "sha512"};
     size_t old_bytes, random_bytes = 0;
     bool is_first = strcmp(words[0], "1") == 0, is_detached = strcmp(words[5], "detached") == 0;
     uint8_t *old = file_of(words[3], 65537, &old_bytes), *random = NULL;
-    uint32_t hash = 0;
+    struct luks_derivation derivation = derivation_of(words + 6), *chosen = words[6] != NULL ? &derivation : NULL;
+    uint32_t hash = 0, memory = chosen != NULL ? number(words[10]) * 1024 : 0;
     while (hash < 4 && strcmp(HASHES[hash], words[1]) != 0)
         hash++;
     if (strcmp(words[4], "system") != 0)
         random = file_of(words[4], is_first ? 256080 : 256208, &random_bytes);
-    uint32_t answer = (is_first ? luks_format1 : luks_format2)(fd, offset, length, is_detached, hash, number(words[2]), old, old_bytes, random, random_bytes);
+    uint32_t iterations = number(words[2]);
+    uint32_t answer = is_first ? luks_format1(fd, offset, length, is_detached, hash, iterations, old, old_bytes, random, random_bytes)
+                               : luks_format2(fd, offset, length, is_detached, hash, iterations, chosen, old, old_bytes, memory, random, random_bytes);
     free(old);
     free(random);
     return done(answer, 0);
@@ -338,7 +351,7 @@ static int wrong(int fd)
            luks_apply(fd, 0, LUKS_TO_END, false, &edit, NULL, 3, NULL, 0, NULL, 0, &slot), luks_apply(fd, 0, LUKS_TO_END, false, &edit, NULL, 0, NULL, 3, NULL, 0, &slot),
            luks_apply(fd, 0, LUKS_TO_END, false, &edit, NULL, 0, NULL, 0, NULL, 3, &slot));
     printf("%u %u %u %u\n", luks_read(fd, 0, LUKS_TO_END, NULL, 0, NULL), luks_read(fd, 0, LUKS_TO_END, NULL, 1, &needed),
-           luks_format2(fd, 0, LUKS_TO_END, false, LUKS_SHA256, 1000, NULL, 1, NULL, 0), luks_signature(fd, 0, LUKS_TO_END, 0, NULL));
+           luks_format2(fd, 0, LUKS_TO_END, false, LUKS_SHA256, 1000, NULL, NULL, 1, 0, NULL, 0), luks_signature(fd, 0, LUKS_TO_END, 0, NULL));
     static const char long_text[] = "a cipher whose name is far too long for its field";
     struct luks_fields fields = {.cipher_name = long_text, .key_bytes = LUKS_NO_NUMBER, .payload = LUKS_NO_NUMBER};
     int target = open("target", O_RDWR);
@@ -394,7 +407,7 @@ static void *many(void *given)
     struct one *one = given;
     int fd = open(one->volume, O_RDWR);
     uint32_t slot = LUKS_NO_SLOT;
-    one->added = luks_add(fd, 0, LUKS_TO_END, false, 0, "one", 3, "thread", 6, LUKS_NO_SLOT, 1000, 0, &slot);
+    one->added = luks_add(fd, 0, LUKS_TO_END, false, 0, "one", 3, "thread", 6, LUKS_NO_SLOT, 1000, NULL, 0, &slot);
     one->removed = luks_remove(fd, 0, LUKS_TO_END, false, slot, LUKS_NO_SLOT, "thread", 6, 0);
     for (int i = 0; i < 16; i++) {
         struct luks_opened opened;

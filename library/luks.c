@@ -225,7 +225,8 @@ struct asked {
     enum kind kind;
     bool is_detached, is_second, is_over_any;
     const struct luks_edit *edit;
-    uint32_t hash, iterations;
+    uint32_t hash, iterations, memory;
+    struct luks_derivation derivation;
     uint64_t size;
     const uint8_t *passphrase, *text, *random;
     size_t passphrase_bytes, text_bytes, random_bytes;
@@ -358,8 +359,9 @@ static uint32_t plan_of(const struct held *held, const struct asked *it, struct 
         return luks_format1_bytes(held->bytes, held->count, held->total, it->is_detached, it->hash, it->iterations, it->passphrase,
                                   it->passphrase_bytes, it->random, it->random_bytes, room->calls, room->calls_room, room->bytes, room->bytes_room, plan);
     if (it->kind == FORMAT2)
-        return luks_format2_bytes(held->bytes, held->count, held->total, it->is_detached, it->hash, it->iterations, it->passphrase,
-                                  it->passphrase_bytes, it->random, it->random_bytes, room->calls, room->calls_room, room->bytes, room->bytes_room, plan);
+        return luks_format2_bytes(held->bytes, held->count, held->total, it->is_detached, it->hash, it->iterations, &it->derivation, it->passphrase,
+                                  it->passphrase_bytes, it->memory, it->random, it->random_bytes, room->calls, room->calls_room, room->bytes,
+                                  room->bytes_room, plan);
     if (it->kind != EDIT)
         return plan_of_source(held, it, room, plan);
     return luks_apply_bytes(held->bytes, held->count, held->total, it->is_detached, it->edit, it->passphrase, it->passphrase_bytes, it->text,
@@ -482,17 +484,28 @@ uint32_t luks_apply(int fd, uint64_t offset, uint64_t length, bool is_detached, 
     return answer;
 }
 
-uint32_t luks_add(int fd, uint64_t offset, uint64_t length, bool is_detached, uint32_t by, const void *passphrase, size_t passphrase_bytes,
-                  const void *added, size_t added_bytes, uint32_t to, uint32_t iterations, uint32_t memory, uint32_t *slot)
+/* What is chosen, or that nothing is. */
+static struct luks_derivation choice_of(const struct luks_derivation *derivation)
 {
-    struct luks_edit edit = {.kind = LUKS_ADD, .by = by, .to = to, .iterations = iterations, .memory = memory};
+    static const struct luks_derivation none = {0};
+    return derivation != NULL ? *derivation : none;
+}
+
+uint32_t luks_add(int fd, uint64_t offset, uint64_t length, bool is_detached, uint32_t by, const void *passphrase, size_t passphrase_bytes,
+                  const void *added, size_t added_bytes, uint32_t to, uint32_t iterations, const struct luks_derivation *derivation,
+                  uint32_t memory, uint32_t *slot)
+{
+    struct luks_edit edit = {.kind = LUKS_ADD, .by = by, .to = to, .iterations = iterations, .memory = memory,
+                             .derivation = choice_of(derivation)};
     return luks_apply(fd, offset, length, is_detached, &edit, passphrase, passphrase_bytes, added, added_bytes, NULL, 0, slot);
 }
 
 uint32_t luks_change(int fd, uint64_t offset, uint64_t length, bool is_detached, uint32_t slot, const void *passphrase, size_t passphrase_bytes,
-                     const void *changed, size_t changed_bytes, uint32_t iterations, uint32_t memory, uint32_t *made)
+                     const void *changed, size_t changed_bytes, uint32_t iterations, const struct luks_derivation *derivation,
+                     uint32_t memory, uint32_t *made)
 {
-    struct luks_edit edit = {.kind = LUKS_CHANGE, .slot = slot, .iterations = iterations, .memory = memory};
+    struct luks_edit edit = {.kind = LUKS_CHANGE, .slot = slot, .iterations = iterations, .memory = memory,
+                             .derivation = choice_of(derivation)};
     return luks_apply(fd, offset, length, is_detached, &edit, passphrase, passphrase_bytes, changed, changed_bytes, NULL, 0, made);
 }
 
@@ -539,11 +552,13 @@ uint32_t luks_format1(int fd, uint64_t offset, uint64_t length, bool is_detached
     return format(fd, offset, length, &it, 256080);
 }
 
-uint32_t luks_format2(int fd, uint64_t offset, uint64_t length, bool is_detached, uint32_t hash, uint32_t iterations, const void *passphrase,
-                      size_t passphrase_bytes, const void *random, size_t random_bytes)
+uint32_t luks_format2(int fd, uint64_t offset, uint64_t length, bool is_detached, uint32_t hash, uint32_t iterations,
+                      const struct luks_derivation *derivation, const void *passphrase, size_t passphrase_bytes, uint32_t memory,
+                      const void *random, size_t random_bytes)
 {
-    struct asked it = {.kind = FORMAT2, .is_detached = is_detached, .hash = hash, .iterations = iterations, .passphrase = passphrase,
-                       .passphrase_bytes = passphrase_bytes, .random = random, .random_bytes = random_bytes};
+    struct asked it = {.kind = FORMAT2, .is_detached = is_detached, .hash = hash, .iterations = iterations, .derivation = choice_of(derivation),
+                       .passphrase = passphrase, .passphrase_bytes = passphrase_bytes, .memory = memory, .random = random,
+                       .random_bytes = random_bytes};
     return format(fd, offset, length, &it, 256208);
 }
 

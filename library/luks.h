@@ -65,6 +65,17 @@ struct luks_opened {
     uint64_t beyond;    /* with LUKS_BEYOND: how many of the first bytes have to be given */
 };
 
+/* How the key of a keyslot that is made is derived: 0 and all else 0 where none is chosen. Argon2 takes so many KiB, at least 8
+ * for each of its 1 to 2^24 - 1 lanes; LUKS1 has PBKDF2 alone. Costs beyond these bounds, or beyond the memory that the call
+ * allows, are the fault Argon2; fewer than 1000 iterations or no pass the fault Iterations; another kind is LUKS_USAGE. */
+enum { LUKS_PBKDF2 = 1, LUKS_ARGON2I = 2, LUKS_ARGON2ID = 3 };
+struct luks_derivation {
+    uint32_t kind;   /* which one: the numbers above */
+    uint32_t turns;  /* the iterations of PBKDF2, the passes of Argon2 */
+    uint32_t memory; /* of Argon2, in KiB */
+    uint32_t lanes;  /* of Argon2 */
+};
+
 /* An edit, but for its passphrases and its label. */
 enum { LUKS_ADD = 1, LUKS_CHANGE = 2, LUKS_REMOVE = 3, LUKS_REPAIR = 4, LUKS_LABEL = 5 };
 struct luks_edit {
@@ -72,8 +83,9 @@ struct luks_edit {
     uint32_t slot;       /* change, remove: the keyslot */
     uint32_t by;         /* add: the keyslot that the passphrase opens; remove: the same, LUKS_NO_SLOT where it is `slot` */
     uint32_t to;         /* add: the new keyslot, LUKS_NO_SLOT for the least that is free */
-    uint32_t iterations; /* add, change: of the new keyslot's derivation by PBKDF2, at least 1000 */
+    uint32_t iterations; /* add, change: of the new keyslot's derivation by PBKDF2, at least 1000, where none is chosen */
     uint32_t memory;     /* how many KiB Argon2 may take */
+    struct luks_derivation derivation; /* add, change: the new keyslot's; of kind 0 as that of the keyslot that the passphrase opens */
 };
 
 /* The hash of a volume that is made: of the derivation, the splitter and the digest. */
@@ -203,12 +215,15 @@ uint32_t luks_apply(int fd, uint64_t offset, uint64_t length, bool is_detached, 
 
 /* The edits by name, with random bytes of getrandom. The first adds a keyslot in which the new passphrase opens
  * what the old one opens, the second puts the new passphrase in the old one's place, the third removes the
- * keyslot `slot` by its own passphrase, or by that of the keyslot `by`. */
+ * keyslot `slot` by its own passphrase, or by that of the keyslot `by`. The new keyslot derives by `derivation`, or
+ * where it is NULL as the one that is opened, PBKDF2 by `iterations`; Argon2 takes up to `memory` KiB for either. */
 uint32_t luks_add(int fd, uint64_t offset, uint64_t length, bool is_detached, uint32_t by, const void *passphrase, size_t passphrase_bytes,
-                  const void *added, size_t added_bytes, uint32_t to, uint32_t iterations, uint32_t memory, uint32_t *slot);
+                  const void *added, size_t added_bytes, uint32_t to, uint32_t iterations,
+                  const struct luks_derivation *derivation, uint32_t memory, uint32_t *slot);
 
 uint32_t luks_change(int fd, uint64_t offset, uint64_t length, bool is_detached, uint32_t slot, const void *passphrase, size_t passphrase_bytes,
-                     const void *changed, size_t changed_bytes, uint32_t iterations, uint32_t memory, uint32_t *made);
+                     const void *changed, size_t changed_bytes, uint32_t iterations, const struct luks_derivation *derivation, uint32_t memory,
+                     uint32_t *made);
 
 uint32_t luks_remove(int fd, uint64_t offset, uint64_t length, bool is_detached, uint32_t slot, uint32_t by, const void *passphrase,
                      size_t passphrase_bytes, uint32_t memory);
@@ -220,12 +235,14 @@ uint32_t luks_repair(int fd, uint64_t offset, uint64_t length, bool is_detached)
 uint32_t luks_label(int fd, uint64_t offset, uint64_t length, bool is_detached, const char *label, size_t label_bytes);
 
 /* Makes a LUKS1 or a LUKS2 volume whose keyslot 0 opens by the passphrase. What stood there before is written over
- * without question. They take 256080 and 256208 random bytes. */
+ * without question. They take 256080 and 256208 random bytes. The keyslot of LUKS2 derives by `derivation`, Argon2 with up
+ * to `memory` KiB, or where it is NULL as the digest of the volume key: by PBKDF2 with `iterations`. */
 uint32_t luks_format1(int fd, uint64_t offset, uint64_t length, bool is_detached, uint32_t hash, uint32_t iterations, const void *passphrase,
                       size_t passphrase_bytes, const void *random, size_t random_bytes);
 
-uint32_t luks_format2(int fd, uint64_t offset, uint64_t length, bool is_detached, uint32_t hash, uint32_t iterations, const void *passphrase,
-                      size_t passphrase_bytes, const void *random, size_t random_bytes);
+uint32_t luks_format2(int fd, uint64_t offset, uint64_t length, bool is_detached, uint32_t hash, uint32_t iterations,
+                      const struct luks_derivation *derivation, const void *passphrase, size_t passphrase_bytes, uint32_t memory,
+                      const void *random, size_t random_bytes);
 
 /* ---- a separate header, made of a source ----
  *
@@ -302,9 +319,11 @@ uint32_t luks_format1_bytes(const uint8_t *first, size_t first_bytes, uint64_t t
                             const uint8_t *passphrase, size_t passphrase_bytes, const uint8_t *random, size_t random_bytes,
                             struct luks_call *calls, size_t calls_room, uint8_t *bytes, size_t bytes_room, struct luks_plan *plan);
 
+/* `derivation` is of kind 0 where none is chosen. */
 uint32_t luks_format2_bytes(const uint8_t *first, size_t first_bytes, uint64_t total, bool is_detached, uint32_t hash, uint32_t iterations,
-                            const uint8_t *passphrase, size_t passphrase_bytes, const uint8_t *random, size_t random_bytes,
-                            struct luks_call *calls, size_t calls_room, uint8_t *bytes, size_t bytes_room, struct luks_plan *plan);
+                            const struct luks_derivation *derivation, const uint8_t *passphrase, size_t passphrase_bytes, uint32_t memory,
+                            const uint8_t *random, size_t random_bytes, struct luks_call *calls, size_t calls_room, uint8_t *bytes,
+                            size_t bytes_room, struct luks_plan *plan);
 
 /* Those with a source: of a text that has no byte none is given. A uuid or another text that isn't UTF-8, and one that is
  * longer than its field of a LUKS1 header (32 bytes, of the uuid 40), is LUKS_USAGE. */

@@ -43,13 +43,14 @@ from dataclasses import dataclass
 from types import TracebackType
 from typing import Any, Iterator
 
-__all__ = ["Comparison", "Fault", "Report", "Volume", "explain"]
+__all__ = ["Comparison", "Derivation", "Fault", "Report", "Volume", "explain"]
 
 DONE, OTHER_USE, MEMORY, DEVICE, SHUT, ROOM = 0, 49, 103, 104, 105, 106
 TO_END = 2**64 - 1
 NO_SLOT = NO_NUMBER = 2**32 - 1
 ADD, CHANGE, REMOVE, REPAIR, LABEL = range(1, 6)
 HASHES = (None, "sha1", "sha256", "sha512")
+KINDS = (None, "pbkdf2", "argon2i", "argon2id")
 LOCKS = "/run/cryptsetup"
 KEY_ROOM = 128
 KEYSLOTS = 32
@@ -65,8 +66,12 @@ class _Opened(ctypes.Structure):
     _fields_ = [("slot", ctypes.c_uint32), ("key_bytes", ctypes.c_uint32), ("beyond", ctypes.c_uint64)]
 
 
+class _Derivation(ctypes.Structure):
+    _fields_ = [(name, ctypes.c_uint32) for name in ("kind", "turns", "memory", "lanes")]
+
+
 class _Edit(ctypes.Structure):
-    _fields_ = [(name, ctypes.c_uint32) for name in ("kind", "slot", "by", "to", "iterations", "memory")]
+    _fields_ = [*((name, ctypes.c_uint32) for name in ("kind", "slot", "by", "to", "iterations", "memory")), ("derivation", _Derivation)]
 
 
 class _Fields(ctypes.Structure):
@@ -79,15 +84,15 @@ def _loaded() -> ctypes.CDLL:
     given = [ctypes.c_char_p, ctypes.c_size_t]
     tried = [*given, ctypes.c_uint32, ctypes.c_void_p, ctypes.c_size_t, ctypes.POINTER(_Opened)]
     edited = [*window, ctypes.c_bool, ctypes.POINTER(_Edit), *given, *given]
-    made = [*window, ctypes.c_bool, ctypes.c_uint32, ctypes.c_uint32, *given, *given]
+    numbers = [*window, ctypes.c_bool, ctypes.c_uint32, ctypes.c_uint32]
     for name, takes, gives in (
         ("luks_check", [*window, ctypes.c_bool, ctypes.POINTER(_Report)], ctypes.c_uint32),
         ("luks_read", [*window, ctypes.c_void_p, ctypes.c_size_t, ctypes.POINTER(ctypes.c_uint64)], ctypes.c_uint32),
         ("luks_unlock", [*window, *tried], ctypes.c_uint32),
         ("luks_open", [*window, ctypes.c_uint8, *tried], ctypes.c_uint32),
         ("luks_apply", [*edited, *given, ctypes.POINTER(ctypes.c_uint32)], ctypes.c_uint32),
-        ("luks_format1", made, ctypes.c_uint32),
-        ("luks_format2", made, ctypes.c_uint32),
+        ("luks_format1", [*numbers, *given, *given], ctypes.c_uint32),
+        ("luks_format2", [*numbers, ctypes.POINTER(_Derivation), *given, ctypes.c_uint32, *given], ctypes.c_uint32),
         ("luks_convert", [*window, ctypes.c_bool, *window, *given], ctypes.c_uint32),
         ("luks_rebuild", [*window, ctypes.c_char_p, *window, *given], ctypes.c_uint32),
         ("luks_rebuild1", [*window, ctypes.POINTER(_Fields), ctypes.c_char_p, *window], ctypes.c_uint32),
@@ -123,6 +128,12 @@ def _slot_or_none(number: int | None) -> int:
 def _iterations(number: int) -> int:
     if not 0 <= number < 2**32:
         raise ValueError("iterations are a number of 32 bits")
+    return number
+
+
+def _number(number: int) -> int:
+    if not 0 <= number < 2**32:
+        raise ValueError("costs are numbers of 32 bits")
     return number
 
 
@@ -170,6 +181,39 @@ class Report:
     """The sequence number of the copy that counts. LUKS1 has none."""
     areas: int
     """How many areas it has: headers, keyslots, segments."""
+
+
+@dataclass(frozen=True)
+class Derivation:
+    """How the key of a new keyslot is derived from its passphrase.
+
+        >>> Derivation("argon2id", passes=4, memory=1024 * 1024, lanes=4)
+        >>> Derivation("pbkdf2", iterations=1000000)
+
+    Where the call allows less memory, or a cost is outside its bounds, the fault is Argon2; LUKS1 has pbkdf2 alone.
+    """
+
+    kind: str
+    """pbkdf2, argon2i or argon2id."""
+    iterations: int = 100000
+    """Of pbkdf2, at least 1000."""
+    passes: int = 4
+    """Of Argon2, at least one."""
+    memory: int = 1024 * 1024
+    """How many KiB Argon2 takes, at least 8 for each lane."""
+    lanes: int = 4
+    """Of Argon2, 1 to 2^24 - 1."""
+
+    def _numbers(self) -> _Derivation:
+        if self.kind not in KINDS[1:]:
+            raise ValueError("a derivation is pbkdf2, argon2i or argon2id")
+        if self.kind == "pbkdf2":
+            return _Derivation(KINDS.index(self.kind), _number(self.iterations))
+        return _Derivation(KINDS.index(self.kind), *map(_number, (self.passes, self.memory, self.lanes)))
+
+
+def _choice(derivation: Derivation | None) -> _Derivation:
+    return _Derivation() if derivation is None else derivation._numbers()
 
 
 @dataclass(frozen=True)
@@ -290,19 +334,26 @@ class Volume:
         found = self._opened(_LIBRARY.luks_unlock, (), passphrase, memory, KEY_ROOM)
         return None if found is None else found[1]
 
-    def add(self, by: int, passphrase: bytes, added: bytes, to: int | None = None, iterations: int = 100000, memory: int = 0) -> int:
+    def add(self, by: int, passphrase: bytes, added: bytes, to: int | None = None, iterations: int = 100000, memory: int = 0,
+            derivation: Derivation | None = None) -> int:
         """Adds a keyslot, the least that is free or `to`, in which the passphrase `added` opens what `passphrase` opens in the keyslot `by`.
 
-        LUKS2 derives as that keyslot does: by Argon2 of the same costs, or by PBKDF2 with so many iterations. Argon2 may take `memory`
-        MiB. Returns the new keyslot.
+        It derives by the `derivation`, or where there is none as that keyslot does: by Argon2 of the same costs, or by PBKDF2 with so many
+        iterations. Argon2 may take `memory` MiB, of either keyslot. Returns the new keyslot.
         """
-        slot = self._edited(_Edit(kind=ADD, by=_slot(by), to=_slot_or_none(to), iterations=_iterations(iterations)), passphrase, added, memory)
+        edit = _Edit(kind=ADD, by=_slot(by), to=_slot_or_none(to), iterations=_iterations(iterations), derivation=_choice(derivation))
+        slot = self._edited(edit, passphrase, added, memory)
         assert slot is not None
         return slot
 
-    def change(self, slot: int, passphrase: bytes, changed: bytes, iterations: int = 100000, memory: int = 0) -> int:
-        """Puts the passphrase `changed` in the place of the one that opens the keyslot. Returns its number, which LUKS1 changes."""
-        made = self._edited(_Edit(kind=CHANGE, slot=_slot(slot), iterations=_iterations(iterations)), passphrase, changed, memory)
+    def change(self, slot: int, passphrase: bytes, changed: bytes, iterations: int = 100000, memory: int = 0,
+               derivation: Derivation | None = None) -> int:
+        """Puts the passphrase `changed` in the place of the one that opens the keyslot. Returns its number, which LUKS1 changes.
+
+        From then on it derives by the `derivation`, or where there is none as before. Argon2 may take `memory` MiB.
+        """
+        edit = _Edit(kind=CHANGE, slot=_slot(slot), iterations=_iterations(iterations), derivation=_choice(derivation))
+        made = self._edited(edit, passphrase, changed, memory)
         assert made is not None
         return made
 
@@ -318,18 +369,27 @@ class Volume:
         """LUKS2: sets the label, at most 47 bytes that can be printed."""
         self._edited(_Edit(kind=LABEL), b"", text.encode(), 0)
 
-    def format(self, version: int, passphrase: bytes, hash: str = "sha256", iterations: int = 100000, force: bool = False) -> None:
+    def format(self, version: int, passphrase: bytes, hash: str = "sha256", iterations: int = 100000, force: bool = False, *,
+               derivation: Derivation | None = None, memory: int = 0) -> None:
         """Makes a volume of LUKS1 or LUKS2 whose keyslot 0 opens by the passphrase. An older LUKS volume there is written over without question.
 
+        The keyslot of LUKS2 derives by the `derivation`, Argon2 with up to `memory` MiB, or where there is none by PBKDF2, as the digest.
         Where `signature` shows another use of the disk it is refused by OtherUse, unless it is to `force` that.
         """
         if version not in (1, 2) or hash not in HASHES[1:]:
             raise ValueError("a version is 1 or 2, a hash sha1, sha256 or sha512")
+        if version == 1 and derivation is not None:
+            raise ValueError("a derivation is chosen for LUKS2")
+        choice = _choice(derivation)
         if not force:
             self._refuse_use(self.signature())
-        call = _LIBRARY.luks_format1 if version == 1 else _LIBRARY.luks_format2
-        self._done(call(self._fd, *self._window, self._is_detached, HASHES.index(hash), _iterations(iterations), bytes(passphrase), len(passphrase),
-                        None, 0))
+        made = (self._fd, *self._window, self._is_detached, HASHES.index(hash), _iterations(iterations))
+        words = (bytes(passphrase), len(passphrase))
+        if version == 1:
+            answer = _LIBRARY.luks_format1(*made, *words, None, 0)
+        else:
+            answer = _LIBRARY.luks_format2(*made, ctypes.byref(choice), *words, _kib(memory), None, 0)
+        self._done(answer)
 
     def signature(self, within: int | None = None) -> str | None:
         """What else the disk is used for, by the signatures among its first `within` bytes or all: GPT, MBR, ext, swap and so on, or None.

@@ -1,18 +1,23 @@
 -- What the calls answer that make a volume.
-use Rattle.std.specs.Prelude.{◌≡◌, ℕ, List}
+use Rattle.std.specs.Prelude.{◌≡◌, ℕ, ◌≤◌, List, Option}
 use Rattle.luks_area.specs.First.{IsLeast}
 use Rattle.luks_kdf.specs.declared.hash_name.HashName.{HashName}
 use Rattle.luks_kdf.specs.declared.hash_name.HashName.TheVariants.{Sha1, Sha256, Sha512}
 use Rattle.luks_reading.specs.declared.format.Format.{Format}
-use Rattle.luks_reading.specs.Answer.{Answer, opens}
+use Rattle.luks_making.specs.Derivations.{memory_by}
+use Rattle.luks_making.specs.declared.derivation.NewDerivation.{NewDerivation}
+use Rattle.luks_reading.specs.Answer.{Answer, AnswerWithin, opens}
 use Rattle.luks_reading.specs.Checked.{WellFormed}
 use Rattle.luks_reading.specs.declared.report.Data.{Data}
 use Rattle.luks_formatting.specs.declared.format_fault.FormatFault.{FormatFault}
-use Rattle.luks_formatting.specs.FormatFaults.{format_key, HasNoFault, IsFormat1Fault, IsFormat2Fault}
+use Rattle.luks_formatting.specs.Deriving.{allowed_for, slot_derivation}
+use Rattle.luks_formatting.specs.FormatFaults.{format_key, HasNoFault, IsFormat1Fault, IsFormat2FaultBy}
 use Rattle.luks_formatting.specs.Formatted1.{IsFormatted1}
-use Rattle.luks_formatting.specs.Formatted2.{IsFormatted2}
+use Rattle.luks_formatting.specs.Formatted2.{IsFormatted2By}
 use Rattle.luks_formatting.specs.RandomBytes.{volume_key}
 use Rattle.luks_given.specs.Volume.{volume}
+use Rattle.luks_c_answers.specs.ChoiceAsked.{IsChoice}
+use Rattle.luks_c_answers.specs.declared.asking.LuksDerivation.{LuksDerivation}
 use Rattle.luks_c_answers.specs.declared.plans.LuksPlan.{LuksPlan}
 use Rattle.luks_c_answers.specs.Numbers.{format_number}
 use Rattle.luks_c_answers.specs.Plans.{AnswersPlan, Buffers}
@@ -32,11 +37,18 @@ pub record IsFormat (hash iterations : ℕ) (format : Format) : Type 0 where
 abbrev pub IsNoHash : ℕ → Type 0
 IsNoHash number = (h : HashName) → hash_number h ≡ number → ⊥
 
--- done, it leaves a volume `w` that keyslot 0 opens by the passphrase
-pub record IsMade (formatted : List ℕ → Type 0) (payload : Data) (passphrase random : List ℕ) (number : ℕ) (w : List ℕ) : Type 0 where
-  pub is : formatted w
+-- done, it leaves a volume `w` of LUKS1 that keyslot 0 opens by the passphrase
+pub record IsMade1 (payload : Data) (format : Format) (passphrase random old : List ℕ) (number : ℕ) (w : List ℕ) : Type 0 where
+  pub is : IsFormatted1 payload format passphrase random old w
   pub well_formed : WellFormed w payload
   pub opened : Answer w 0 passphrase (opens (volume_key random))
+  pub slot : number ≡ 0
+
+-- one of LUKS2, whose keyslot 0 is derived as is chosen, and opens wherever as much memory is allowed as it takes
+pub record IsMade2 (payload : Data) (format : Format) (chosen : Option NewDerivation) (passphrase random old : List ℕ) (number : ℕ) (w : List ℕ) : Type 0 where
+  pub is : IsFormatted2By payload format chosen passphrase random old w
+  pub well_formed : WellFormed w payload
+  pub opened : (memory : ℕ) → memory_by (slot_derivation format chosen) ≤ memory → AnswerWithin memory w 0 passphrase (opens (volume_key random))
   pub slot : number ≡ 0
 
 -- the first of the faults has this number
@@ -53,16 +65,24 @@ AnswersFormat first total faults = AnswersPlan first total (HasNoFault faults) (
 abbrev pub AnswersFormat1 : List ℕ → ℕ → Data → Format → List ℕ → List ℕ → Buffers → Buffers → LuksPlan → ℕ → Type 0
 AnswersFormat1 first total payload format passphrase random old new told number =
     AnswersFormat first total (IsFormat1Fault total format random)
-    (IsMade (IsFormatted1 payload format passphrase random (volume first total)) payload passphrase random told.slot) old new told number
+    (IsMade1 payload format passphrase random (volume first total) told.slot) old new told number
 
--- of a LUKS2 volume
-abbrev pub AnswersFormat2 : List ℕ → ℕ → Data → Format → List ℕ → List ℕ → Buffers → Buffers → LuksPlan → ℕ → Type 0
-AnswersFormat2 first total payload format passphrase random old new told number =
-    AnswersFormat first total (IsFormat2Fault total format random)
-    (IsMade (IsFormatted2 payload format passphrase random (volume first total)) payload passphrase random told.slot) old new told number
+-- of a LUKS2 volume, by the derivation that is chosen, with so many KiB that Argon2 may take
+abbrev pub AnswersFormat2 : List ℕ → ℕ → Data → Format → Option NewDerivation → ℕ → List ℕ → List ℕ → Buffers → Buffers → LuksPlan → ℕ → Type 0
+AnswersFormat2 first total payload format chosen memory passphrase random old new told number =
+    AnswersFormat first total (IsFormat2FaultBy chosen (allowed_for memory passphrase) total format random)
+    (IsMade2 payload format chosen passphrase random (volume first total) told.slot) old new told number
 
 -- made by these numbers
 pub record AnswersNumbered (hash iterations : ℕ) (answers : Format → Type 0) : Type 0 where
   pub format : Format
   pub is : IsFormat hash iterations format
   pub so : answers format
+
+-- made by these numbers, and by the derivation that is chosen
+pub record AnswersChosen (hash iterations : ℕ) (asked : LuksDerivation) (answers : Format → Option NewDerivation → Type 0) : Type 0 where
+  pub format : Format
+  pub is : IsFormat hash iterations format
+  pub chosen : Option NewDerivation
+  pub choice : IsChoice asked chosen
+  pub so : answers format chosen

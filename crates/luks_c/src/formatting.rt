@@ -1,16 +1,20 @@
 //! Making a volume.
-ghost use Rattle.std.specs.Prelude.{◌≡◌, ◌≢◌, ◌⊎◌, ◌↔◌, ◌≤◌, ◌<◌, length, MatchOption};
+ghost use Rattle.std.specs.Prelude.{◌≡◌, ◌≢◌, ◌⊎◌, ◌↔◌, ◌≤◌, ◌<◌, length, MatchOption, Option};
 ghost use Rattle.luks_kdf.specs.declared.hash_name.HashName.{HashName as TheHash};
+ghost use Rattle.luks_making.specs.declared.derivation.NewDerivation.{NewDerivation as Chosen};
 ghost use Rattle.luks_reading.specs.declared.format.Format.{Format as TheFormat};
 ghost use Rattle.luks_c_answers.specs.Asked.{payload_of};
-ghost use Rattle.luks_c.specs.FormatAnswers.{AnswersFormat1, AnswersFormat2, AnswersNumbered, IsFormat, IsNoHash, hash_number};
+ghost use Rattle.luks_c_answers.specs.ChoiceAsked.{IsNoChoice};
+ghost use Rattle.luks_c.specs.FormatAnswers.{AnswersChosen, AnswersFormat1, AnswersFormat2, AnswersNumbered, IsFormat, IsNoHash, hash_number};
 
 use luks_c_answers::{
-    LuksPlan, MEMORY, USAGE, data_of, format_number, give_plan, planned_writes, tell_reach,
+    LuksDerivation, LuksPlan, MEMORY, USAGE, chosen_of, data_of, format_number, give_plan,
+    planned_writes, tell_reach,
 };
+use luks_formatting::format2_by;
 use luks_given::Given;
 use luks_planned::PlannedCall;
-use luks_volume::{Data, Format, FormatFault, HashName, format1, format2};
+use luks_volume::{Data, Format, FormatFault, HashName, NewDerivation, Passphrase, format1};
 use std::alloc::Global;
 use std::marker::Brand;
 
@@ -51,7 +55,8 @@ pub extern "C" fn luks_format1_bytes(
     }
 }
 
-/// The same by LUKS2, which takes 256208 random bytes, and memory for its metadata.
+/// The same by LUKS2, which takes 256208 random bytes, and memory for its metadata. The keyslot is derived
+/// as is chosen, and Argon2 may take `memory` KiB; the random bytes are those of any choice.
 #[unsafe(no_mangle)]
 pub extern "C" fn luks_format2_bytes(
     alloc: Global,
@@ -60,25 +65,36 @@ pub extern "C" fn luks_format2_bytes(
     is_detached: bool,
     hash: u32,
     iterations: u32,
+    derivation: &LuksDerivation,
     passphrase: &[u8],
+    memory: u32,
     random: &[u8],
     calls: &mut [PlannedCall],
     bytes: &mut [u8],
     told: &mut LuksPlan,
 ) -> u32
-    ensures usage { result ≡ 101 ↔ ((total < length first.now) ⊎ IsNoHash hash) }
-    ensures answers { result ≢ 101 → AnswersNumbered hash iterations (λ (format : TheFormat).
-        AnswersFormat2 first.now total (payload_of is_detached) format passphrase.now random.now
-        (record { calls = calls.old; bytes = bytes.old })
+    ensures usage { result ≡ 101 ↔ (IsNoChoice derivation.now
+        ⊎ ((total < length first.now) ⊎ IsNoHash hash)) }
+    ensures answers { result ≢ 101 → AnswersChosen hash iterations derivation.now
+        (λ (format : TheFormat) (chosen : Option Chosen).
+        AnswersFormat2 first.now total (payload_of is_detached) format chosen memory
+        passphrase.now random.now (record { calls = calls.old; bytes = bytes.old })
         (record { calls = calls.new; bytes = bytes.new }) told.new result) }
     ensures more { result ≡ 102 → length first.now < told.new.beyond }
     ensures within { result ≡ 102 → told.new.beyond ≤ total }
 {
     *told = LuksPlan::default();
     let data_ = data_of(is_detached);
+    let Ok(chosen) = chosen_of(derivation) else {
+        return USAGE;
+    };
+    let by_ = Passphrase {
+        bytes: passphrase,
+        memory,
+    };
     match format_of(first, total, hash, iterations) {
         Some(format) => make2::<Brand>(
-            alloc, first, total, data_, &format, passphrase, random, calls, bytes, told,
+            alloc, first, total, data_, &format, chosen, &by_, random, calls, bytes, told,
         ),
         None => USAGE,
     }
@@ -124,7 +140,8 @@ fn make2<K: Given>(
     total: u64,
     data_: Data,
     format: &Format,
-    passphrase: &[u8],
+    chosen: Option<NewDerivation>,
+    passphrase: &Passphrase<'_>,
     random: &[u8],
     calls: &mut [PlannedCall],
     bytes: &mut [u8],
@@ -134,7 +151,8 @@ fn make2<K: Given>(
     requires given { K.bytes ≡ first.now }
     requires slot { told.old.slot ≡ 0 }
     ensures own { result ≢ 101 }
-    ensures answers { AnswersFormat2 first.now total data_ format.now passphrase.now random.now
+    ensures answers { AnswersFormat2 first.now total data_ format.now chosen
+        passphrase.now.memory passphrase.now.bytes.now random.now
         (record { calls = calls.old; bytes = bytes.old })
         (record { calls = calls.new; bytes = bytes.new }) told.new result }
     ensures more { result ≡ 102 → length first.now < told.new.beyond }
@@ -143,7 +161,15 @@ fn make2<K: Given>(
     let Ok(mut device) = planned_writes::<K>(alloc, first, total) else {
         return MEMORY;
     };
-    match format2(alloc, &mut device, data_, format, passphrase, random) {
+    match format2_by(
+        alloc,
+        &mut device,
+        data_,
+        format,
+        chosen,
+        passphrase,
+        random,
+    ) {
         Ok(_) => give_plan(&device, calls, bytes, told),
         Err(FormatFault::Device) => tell_reach(&device, told),
         Err(fault) => format_number(&fault),

@@ -2,13 +2,29 @@
 ghost use Rattle.std.specs.Prelude.{◌≡◌, ℕ, Option, MatchResult};
 ghost use Rattle.luks_edit.specs.declared.edit.Edit.{Edit as TheEdit};
 ghost use Rattle.luks_c_answers.specs.Asked.{payload_of};
+ghost use Rattle.luks_c_answers.specs.ChoiceAsked.{IsChoice, IsNoChoice};
 ghost use Rattle.luks_c_answers.specs.EditAsked.{IsAsked, IsMaybeSlot, IsPassphrase, IsSlot};
 
-use luks_edit::{Edit, Passphrase};
+use luks_edit::{Argon2Costs, Edit, NewDerivation, Passphrase};
 use luks_reading::Data;
 
 /// The number that names no keyslot.
 const NO_SLOT: u32 = 0xFFFF_FFFF;
+
+/// How the key of a keyslot that is made is to be derived.
+#[repr(C)]
+#[derive(Debug, Clone, Copy, Drop, Default)]
+pub struct LuksDerivation {
+    /// 1 by PBKDF2, 2 by Argon2i, 3 by Argon2id; 0 where none is chosen: of an addition and a change as
+    /// the keyslot that the passphrase opens, of a volume that is made as its digest.
+    pub kind: u32,
+    /// The iterations of PBKDF2, at least 1000, or the passes of Argon2, at least one.
+    pub turns: u32,
+    /// How many KiB of memory Argon2 takes, at least 8 for each lane.
+    pub memory: u32,
+    /// The lanes of Argon2.
+    pub lanes: u32,
+}
 
 /// An edit of a volume, but for its passphrases and its label.
 #[repr(C)]
@@ -24,13 +40,16 @@ pub struct LuksEdit {
     pub by_: u32,
     /// Of an addition the number of the new keyslot, or 2^32 - 1 for the least that is free.
     pub to: u32,
-    /// Of an addition and a change the iterations of the new keyslot's derivation, at least 1000.
+    /// Of an addition and a change the iterations of the new keyslot's derivation by PBKDF2, at least 1000,
+    /// where none is chosen.
     pub iterations: u32,
     /// How many KiB of memory Argon2 may take.
     pub memory: u32,
+    /// Of an addition and a change the new keyslot's derivation.
+    pub derivation: LuksDerivation,
 }
 
-/// No edit is asked for by such numbers.
+/// Nothing is asked for by such numbers.
 #[derive(Debug, Clone, Copy)]
 pub struct Unasked;
 
@@ -54,14 +73,14 @@ pub fn edit_of<'a>(
             new: text,
             to: maybe_slot(asked.to)?,
             iterations: asked.iterations,
-            derivation: None,
+            derivation: chosen_of(&asked.derivation)?,
         }),
         2 => Ok(Edit::Change {
             slot: slot_of(asked.slot)?,
             old,
             new: text,
             iterations: asked.iterations,
-            derivation: None,
+            derivation: chosen_of(&asked.derivation)?,
         }),
         3 => Ok(Edit::Remove {
             slot: slot_of(asked.slot)?,
@@ -70,6 +89,26 @@ pub fn edit_of<'a>(
         }),
         4 => Ok(Edit::Repair),
         5 => Ok(Edit::Label { text }),
+        _ => Err(Unasked),
+    }
+}
+
+/// The derivation that is chosen, or none.
+pub fn chosen_of(derivation: &LuksDerivation) -> Result<Option<NewDerivation>, Unasked>
+    ensures { MatchResult result (IsChoice derivation.now) (λ _. IsNoChoice derivation.now) }
+{
+    let costs = Argon2Costs {
+        time: derivation.turns,
+        memory: derivation.memory,
+        cpus: derivation.lanes,
+    };
+    match derivation.kind {
+        0 => Ok(None),
+        1 => Ok(Some(NewDerivation::Pbkdf2 {
+            iterations: derivation.turns,
+        })),
+        2 => Ok(Some(NewDerivation::Argon2i(costs))),
+        3 => Ok(Some(NewDerivation::Argon2id(costs))),
         _ => Err(Unasked),
     }
 }

@@ -7,7 +7,10 @@ pub returns-in-Some-clause-usage : goal.returns-in-Some-clause-usage
 returns-in-Some-clause-usage c =
     let within = c.in-Some.ensures.0 in (
       (λ usage. absurd (c.make2.ensures.own usage)),
-      (λ any. absurd (elim any [ inl long ↦ omega (arith, long, within) | inr none ↦ none c.in-Some.format.hash c.in-Some.ensures.1.hash_is ])),
+      (λ any. absurd (elim any [
+        | inl unchosen ↦ unchosen c.in-Ok.chosen c.in-Ok.ensures
+        | inr other ↦ elim other [ inl long ↦ omega (arith, long, within) | inr none ↦ none c.in-Some.format.hash c.in-Some.ensures.1.hash_is ]
+      ])),
     )
 
 pub returns-in-Some-clause-answers : goal.returns-in-Some-clause-answers
@@ -15,7 +18,9 @@ returns-in-Some-clause-answers c = λ used.
     record {
       format = c.in-Some.format;
       is = c.in-Some.ensures.1;
-      so = subst (λ (payload : Data). AnswersFormat2 c.args.first.now c.args.total payload c.in-Some.format c.args.passphrase.now c.args.random.now
+      chosen = c.in-Ok.chosen;
+      choice = c.in-Ok.ensures;
+      so = subst (λ (payload : Data). AnswersFormat2 c.args.first.now c.args.total payload c.in-Some.format c.in-Ok.chosen c.args.memory c.args.passphrase.now c.args.random.now
           (record { calls = c.args.calls.now; bytes = c.args.bytes.now }) (record { calls = c.make2.new.calls; bytes = c.make2.new.bytes }) c.make2.new.told c.make2.result)
           c.data_of-data_.ensures c.make2.ensures.answers;
     }

@@ -1,11 +1,10 @@
 use Rattle.std.proofs.Common.{ℕ, List, ◌∙◌, subst}
 use Rattle.luks_formatting.specs.FormatFaults.{HasNoFault, IsFormat1Fault}
-use Rattle.luks_formatting.specs.Formatted1.{IsFormatted1}
 use Rattle.luks_given.specs.Volume.{volume}
 use Rattle.luks_planned.specs.Planned.{planned_bytes, planned_calls, planned_first, planned_size, planned_written}
 use Rattle.luks_c_answers.specs.Plans.{IsPlan}
 use Rattle.luks_c_answers.specs.PlanFacts.{plan_answered}
-use Rattle.luks_c.specs.FormatAnswers.{IsMade}
+use Rattle.luks_c.specs.FormatAnswers.{IsMade1}
 use Rattle.luks_c.proofs.PlanFacts.{of_volume}
 use Rattle.luks_c.proofs.formatting.make1.Goals as goal
 
@@ -15,7 +14,7 @@ returns-in-Ok-format1-clause-answers g c =
     let e = c.in-Ok-format1.ensures in
     let both = of_volume
     (λ (n : ℕ) (o : List ℕ) (m : ℕ). HasNoFault (IsFormat1Fault n c.args.format.now c.args.random.now)
-    × IsMade (IsFormatted1 c.args.data_ c.args.format.now c.args.passphrase.now c.args.random.now o) c.args.data_ c.args.passphrase.now c.args.random.now
+    × IsMade1 c.args.data_ c.args.format.now c.args.passphrase.now c.args.random.now o
     c.give_plan.new.told.slot (volume (planned_first device) m))
     (planned_size c.in-Ok.device) c.args.total (planned_size device) (planned_bytes c.in-Ok.device) (volume c.args.first.now c.args.total)
     c.in-Ok.ensures.size c.in-Ok.ensures.bytes (e.size ∙ c.in-Ok.ensures.size)

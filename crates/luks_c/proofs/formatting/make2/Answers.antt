@@ -1,21 +1,21 @@
 use Rattle.std.proofs.Common.{ℕ, List, ◌∙◌, subst}
-use Rattle.luks_formatting.specs.FormatFaults.{HasNoFault, IsFormat2Fault}
-use Rattle.luks_formatting.specs.Formatted2.{IsFormatted2}
+use Rattle.luks_formatting.specs.Deriving.{allowed_for}
+use Rattle.luks_formatting.specs.FormatFaults.{HasNoFault, IsFormat2FaultBy}
 use Rattle.luks_given.specs.Volume.{volume}
 use Rattle.luks_planned.specs.Planned.{planned_bytes, planned_calls, planned_first, planned_size, planned_written}
 use Rattle.luks_c_answers.specs.Plans.{IsPlan}
 use Rattle.luks_c_answers.specs.PlanFacts.{plan_answered}
-use Rattle.luks_c.specs.FormatAnswers.{IsMade}
+use Rattle.luks_c.specs.FormatAnswers.{IsMade2}
 use Rattle.luks_c.proofs.PlanFacts.{of_volume}
 use Rattle.luks_c.proofs.formatting.make2.Goals as goal
 
-pub returns-in-Ok-format2-clause-answers : goal.returns-in-Ok-format2-clause-answers
-returns-in-Ok-format2-clause-answers g c =
-    let device = c.format2.new.device in
-    let e = c.in-Ok-format2.ensures in
+pub returns-in-Ok-format2_by-clause-answers : goal.returns-in-Ok-format2_by-clause-answers
+returns-in-Ok-format2_by-clause-answers g c =
+    let device = c.format2_by.new.device in
+    let e = c.in-Ok-format2_by.ensures in
     let both = of_volume
-    (λ (n : ℕ) (o : List ℕ) (m : ℕ). HasNoFault (IsFormat2Fault n c.args.format.now c.args.random.now)
-    × IsMade (IsFormatted2 c.args.data_ c.args.format.now c.args.passphrase.now c.args.random.now o) c.args.data_ c.args.passphrase.now c.args.random.now
+    (λ (n : ℕ) (o : List ℕ) (m : ℕ). HasNoFault (IsFormat2FaultBy c.args.chosen (allowed_for c.args.passphrase.now.memory c.args.passphrase.now.bytes.now) n c.args.format.now c.args.random.now)
+    × IsMade2 c.args.data_ c.args.format.now c.args.chosen c.args.passphrase.now.bytes.now c.args.random.now o
     c.give_plan.new.told.slot (volume (planned_first device) m))
     (planned_size c.in-Ok.device) c.args.total (planned_size device) (planned_bytes c.in-Ok.device) (volume c.args.first.now c.args.total)
     c.in-Ok.ensures.size c.in-Ok.ensures.bytes (e.size ∙ c.in-Ok.ensures.size)
