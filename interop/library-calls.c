@@ -457,11 +457,11 @@ int main(int count, char **words)
         return check_bytes(fd, offset, length, strcmp(words[5], "detached") == 0);
     else if (strcmp(words[1], "read") == 0 && count == 6)
         status = shows(fd, offset, length, strtoul(words[5], NULL, 10));
-    else if (strcmp(words[1], "edit") == 0 && count == 15)
+    else if (strcmp(words[1], "edit") == 0 && (count == 15 || count == 19))
         status = edits(fd, offset, length, words + 5);
-    else if (strcmp(words[1], "edit-by-name") == 0 && count == 15)
+    else if (strcmp(words[1], "edit-by-name") == 0 && (count == 15 || count == 19))
         status = edits_by_name(fd, offset, length, words + 5);
-    else if (strcmp(words[1], "format") == 0 && count == 11)
+    else if (strcmp(words[1], "format") == 0 && (count == 11 || count == 16))
         status = formats(fd, offset, length, words + 5);
     else if ((strcmp(words[1], "convert") == 0 || strncmp(words[1], "rebuild", 7) == 0) && count >= 8)
         status = makes_header(fd, offset, length, words[1], words + 5);
