@@ -10,7 +10,7 @@ use std::alloc::Global;
 pub fn aes(alloc: Global, words: &mut Words<'_>) -> Result<String, Malformed> {
     let key = words.bytes(alloc)?;
     let block = block_of(words.word()?)?;
-    let Some(key) = AesKey::new(&key) else {
+    let Some(key) = AesKey::of_any_size(&key) else {
         return Ok(String::from_str(alloc, "no key")?);
     };
     let sealed = key.encrypt(block);
