@@ -3,6 +3,7 @@ use crate::areas::{field, fit};
 use crate::argon2::{argon2, blake2b};
 use crate::ciphers::{aes, cbc, xts};
 use crate::derivation::{hash, hmac, name, names, pbkdf2};
+use crate::older_hashes::{ripemd160, whirlpool};
 use crate::splitter::{merge, split, take_in};
 use luks_vector_lines::{Functions, Malformed, Memory, Words};
 use std::alloc::Global;
@@ -33,6 +34,8 @@ impl ByteFunctions {
             "cbc" => cbc(alloc, words),
             "xts" => xts(alloc, words),
             "blake2b" => blake2b(alloc, words),
+            "ripemd160" => ripemd160(alloc, words),
+            "whirlpool" => whirlpool(alloc, words),
             "argon2" => argon2(alloc, self.memory, words),
             "fit" => fit(alloc, words),
             "field" => field(alloc, words),

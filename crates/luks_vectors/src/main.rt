@@ -7,6 +7,7 @@ mod argon2;
 mod ciphers;
 mod derivation;
 mod functions;
+mod older_hashes;
 mod splitter;
 
 use crate::functions::ByteFunctions;
