@@ -1,5 +1,5 @@
 -- What the words of a key give: AES under the key at their front.
-use Rattle.std.proofs.Common.{◌≡◌, ℕ, zero, suc, ◌+◌, ◌-◌, ◌*◌, ◌/◌, ◌≤◌, List, length, take, drop, sym, ap, ap₂, ◌∙◌, arith, ⊎_elim}
+use Rattle.std.proofs.Common.{◌≡◌, ◌⊎◌, ℕ, zero, suc, ◌+◌, ◌-◌, ◌*◌, ◌/◌, ◌≤◌, List, length, take, drop, sym, ap, ap₂, ◌∙◌, arith, ⊎_elim}
 use Rattle.std.proofs.lemmas.List.{length-take-le, take-take, drop-take, take-append-le, take_all, length-append}
 use Rattle.luks_aes.specs.Aes.{add_round_key, sub_bytes, shift_rows, mix_columns, inverse_sub_bytes, inverse_shift_rows, inverse_mix_columns, round_key, state_after, cipher, state_before, inverse_cipher, schedule, key_schedule, key_words, Aes, AesInverse}
 use Rattle.luks_aes.specs.Keys.{IsExpanded, key_bytes}
@@ -48,7 +48,7 @@ module _ (nk : ℕ) (words : List ℕ) (e : IsExpanded nk words) where
   length-key : length (key_bytes nk words) ≡ 4 * nk
   length-key =
       let long = e.long in
-      length-take-le (4 * nk) words (⊎_elim (λ (h : nk ≡ 4). omega arith) (λ (h : nk ≡ 8). omega arith) e.known_size)
+      length-take-le (4 * nk) words (⊎_elim (λ (h : nk ≡ 4). omega arith) (λ (t : (nk ≡ 6) ⊎ (nk ≡ 8)). ⊎_elim (λ (h : nk ≡ 6). omega arith) (λ (h : nk ≡ 8). omega arith) t) e.known_size)
 
   -- how many words they are
   pub words_of_key : key_words (key_bytes nk words) ≡ nk

@@ -115,14 +115,14 @@ inverse_cipher w n s =
     let last = add_round_key s (round_key w (n + 1)) in
     state_before w n (inverse_sub_bytes (inverse_shift_rows last))
 
--- the words of a key, 4 or 8 of them, and the whole schedule: 4 words for each of nk + 7 round keys
+-- the words of a key, 4, 6 or 8 of them, and the whole schedule: 4 words for each of nk + 7 round keys
 unfoldable pub key_words : List ℕ → ℕ
 key_words key = length key / 4
 
 unfoldable pub key_schedule : List ℕ → List ℕ
 key_schedule key = schedule (key_words key) key (3 * key_words key + 28)
 
--- AES of a block under a key of 16 or 32 bytes, 10 or 14 rounds (5, 5.1), and its inverse (5.3)
+-- AES of a block under a key of 16, 24 or 32 bytes, 10, 12 or 14 rounds (5, 5.1), and its inverse (5.3)
 unfoldable pub Aes : List ℕ → List ℕ → List ℕ
 Aes key block = cipher (key_schedule key) (key_words key + 5) block
 

@@ -9,7 +9,7 @@ key_bytes nk words = take (4 * nk) words
 
 -- the words are the whole schedule of the key at their front, of `nk` words
 pub record IsExpanded (nk : ℕ) (words : List ℕ) : Type 0 where
-  pub known_size : (nk ≡ 4) ⊎ (nk ≡ 8)
+  pub known_size : (nk ≡ 4) ⊎ ((nk ≡ 6) ⊎ (nk ≡ 8))
   pub long : length words ≡ 240
   pub bytes : (k : ℕ) → slice_index words k < 256
   pub expanded : take (16 * nk + 112) words ≡ schedule nk (key_bytes nk words) (3 * nk + 28)

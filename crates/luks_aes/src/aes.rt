@@ -40,16 +40,36 @@ impl AesKey {
         if key.len() != 16 && key.len() != 32 {
             return None;
         }
+        Some(AesKey::expanded(key))
+    }
+
+    /// The key of these bytes: 16 for AES-128, 24 for AES-192, 32 for AES-256 (FIPS 197, 5), and
+    /// None at every other length.
+    pub fn of_any_size(key: &[u8]) -> Option<AesKey>
+        ensures { SomeIff result
+            ((length key.now ≡ 16) ⊎ ((length key.now ≡ 24) ⊎ (length key.now ≡ 32))) key.now }
+    {
+        if key.len() != 24 {
+            return AesKey::new(key);
+        }
+        Some(AesKey::expanded(key))
+    }
+
+    /// The key of these bytes with its key schedule.
+    fn expanded(key: &[u8]) -> AesKey
+        requires { (length key.now ≡ 16) ⊎ ((length key.now ≡ 24) ⊎ (length key.now ≡ 32)) }
+        ensures { result ≡ key.now }
+    {
         let mut words = [0; 240];
         key_schedule::expand_key(&mut words, key);
-        Some(AesKey {
+        AesKey {
             words,
             key_words: key.len() / 4,
-        })
+        }
     }
 
     /// The block that the key encrypts this one to: `Cipher` of FIPS 197, 5.1, with 10 rounds under
-    /// a key of 16 bytes and 14 under one of 32.
+    /// a key of 16 bytes, 12 under one of 24 and 14 under one of 32.
     pub fn encrypt(&self, block: [u8; 16]) -> [u8; 16]
         ensures value { result ≡ Aes self.now block }
         ensures undone { AesInverse self.now result ≡ block }

@@ -20,7 +20,7 @@ fn sub_word(t: [u8; 4]) -> [u8; 4]
 
 // The standard's `temp` for word i, from the word before it, under a key of `key_words` words (Nk).
 fn temp_word(key_words: usize, i: usize, t: [u8; 4]) -> [u8; 4]
-    requires size { (key_words ≡ 4) ⊎ (key_words ≡ 8) }
+    requires size { (key_words ≡ 4) ⊎ ((key_words ≡ 6) ⊎ (key_words ≡ 8)) }
     requires first { key_words ≤ i }
     requires last { i < 4 * key_words + 28 }
     ensures { result ≡ temp_word key_words i t }
@@ -38,7 +38,7 @@ fn temp_word(key_words: usize, i: usize, t: [u8; 4]) -> [u8; 4]
 
 // Word i of the schedule, from the words before it, the last of which is `before`.
 fn next_word(words: &[u8], before: [u8; 4], key_words: usize, i: usize) -> [u8; 4]
-    requires size { (key_words ≡ 4) ⊎ (key_words ≡ 8) }
+    requires size { (key_words ≡ 4) ⊎ ((key_words ≡ 6) ⊎ (key_words ≡ 8)) }
     requires first { key_words ≤ i }
     requires last { i < 4 * key_words + 28 }
     requires written { 4 * i ≤ length words.now }
@@ -69,7 +69,7 @@ fn last_word(words: &[u8], count: usize) -> [u8; 4]
 
 // Writes the words after the key's own.
 fn add_words(words: &mut [u8], key_words: usize)
-    requires size { (key_words ≡ 4) ⊎ (key_words ≡ 8) }
+    requires size { (key_words ≡ 4) ⊎ ((key_words ≡ 6) ⊎ (key_words ≡ 8)) }
     requires room { length words.old ≡ 240 }
     ensures { take (16 * key_words + 112) words.new
         ≡ schedule key_words (take (4 * key_words) words.old) (3 * key_words + 28) }
@@ -82,9 +82,10 @@ fn add_words(words: &mut [u8], key_words: usize)
     }
 }
 
-// Writes the key and the words after it: 11 round keys for a key of 16 bytes, 15 for one of 32.
+// Writes the key and the words after it: 11 round keys for a key of 16 bytes, 13 for one
+// of 24, 15 for one of 32.
 pub(crate) fn expand_key(words: &mut [u8], key: &[u8])
-    requires key { (length key.now ≡ 16) ⊎ (length key.now ≡ 32) }
+    requires key { (length key.now ≡ 16) ⊎ ((length key.now ≡ 24) ⊎ (length key.now ≡ 32)) }
     requires room { length words.old ≡ 240 }
     ensures expanded { IsExpanded (length key.now / 4) words.new }
     ensures key { key_bytes (length key.now / 4) words.new ≡ key.now }

@@ -31,13 +31,14 @@ impl Model for CbcKey {
 }
 
 impl CbcKey {
-    /// The key of these bytes: 16 for AES-128, 32 for AES-256, and None at every other length. `ivs` is how
-    /// the IV of a sector is made.
+    /// The key of these bytes: 16 for AES-128, 24 for AES-192, 32 for AES-256, and None at every other
+    /// length. `ivs` is how the IV of a sector is made.
     pub fn new(key: &[u8], ivs: IvKind) -> Option<CbcKey>
-        ensures { SomeIff result ((length key.now ≡ 16) ⊎ (length key.now ≡ 32))
+        ensures { SomeIff result
+            ((length key.now ≡ 16) ⊎ ((length key.now ≡ 24) ⊎ (length key.now ≡ 32)))
             (record { bytes = key.now; ivs = ivs }) }
     {
-        let blocks = AesKey::new(key)?;
+        let blocks = AesKey::of_any_size(key)?;
         let ivs = Ivs::new(ivs, key);
         Some(CbcKey { blocks, ivs })
     }

@@ -4,12 +4,18 @@ use Rattle.luks_aes.specs.Aes.{schedule}
 use Rattle.luks_aes.proofs.KeyFacts.{schedule-front}
 use Rattle.luks_aes.proofs.key_schedule.expand_key.Goals as goal
 
+-- the lengths of keys
+abbrev IsKeySize : ℕ → Type 0
+IsKeySize n = (n ≡ 16) ⊎ ((n ≡ 24) ⊎ (n ≡ 32))
+
 -- the words of the key, and their bytes
-whole_words : (key : List ℕ) → ((length key ≡ 16) ⊎ (length key ≡ 32)) → 4 * (length key / 4) ≡ length key
-whole_words key size = ⊎_elim (λ (h : length key ≡ 16). omega arith) (λ (h : length key ≡ 32). omega arith) size
+whole_words : (key : List ℕ) → IsKeySize (length key) → 4 * (length key / 4) ≡ length key
+whole_words key size =
+    ⊎_elim (λ (h : length key ≡ 16). omega arith)
+    (λ (t : (length key ≡ 24) ⊎ (length key ≡ 32)). ⊎_elim (λ (h : length key ≡ 24). omega arith) (λ (h : length key ≡ 32). omega arith) t) size
 
 -- the key before its expansion
-key_written : (key part rest : List ℕ) → ((length key ≡ 16) ⊎ (length key ≡ 32)) → part ≡ key → take (4 * (length key / 4)) (part ++ rest) ≡ key
+key_written : (key part rest : List ℕ) → IsKeySize (length key) → part ≡ key → take (4 * (length key / 4)) (part ++ rest) ≡ key
 key_written key part rest size h =
     ap (λ (p : List ℕ). take (4 * (length key / 4)) (p ++ rest)) h ∙ take_at key rest (4 * (length key / 4)) (sym (whole_words key size))
 
@@ -36,7 +42,10 @@ returns-clause-expanded c =
     let written = key_written key c.copy_from_slice.new.self (drop (length key) c.args.words.now) c.requires.key c.copy_from_slice.ensures.after in
     let made = c.add_words.ensures ∙ ap (λ k. schedule n k (3 * n + 28)) written in
     record {
-      known_size = ⊎_elim (λ (h : length key ≡ 16). inl (omega arith)) (λ (h : length key ≡ 32). inr (omega arith)) c.requires.key;
+      known_size =
+          ⊎_elim (λ (h : length key ≡ 16). inl (omega arith))
+          (λ (t : (length key ≡ 24) ⊎ (length key ≡ 32)). inr (⊎_elim (λ (h : length key ≡ 24). inl (omega arith)) (λ (h : length key ≡ 32). inr (omega arith)) t))
+          c.requires.key;
       long = omega (arith, c.add_words.auto.words);
       bytes = λ k. (c.type_inv.words k).fits;
       expanded = made ∙ ap (λ k. schedule n k (3 * n + 28)) (sym (key_in_front n key c.add_words.new.words (whole_words key c.requires.key) made));
