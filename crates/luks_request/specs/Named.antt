@@ -7,17 +7,17 @@ use Rattle.luks_request.specs.declared.request.EditRequest.TheVariants.{Add, Cha
 
 -- the edits that open a keyslot need its passphrase
 abbrev pub edit_passphrase_of : EditRequest → Option (List ℕ)
-edit_passphrase_of (Add by_ passphrase memory new to iterations kdf) = Some passphrase.now
-edit_passphrase_of (Change slot passphrase memory new iterations kdf) = Some passphrase.now
-edit_passphrase_of (Remove slot by_ passphrase memory) = Some passphrase.now
+edit_passphrase_of (Add by_ passphrase memory older new to iterations kdf) = Some passphrase.now
+edit_passphrase_of (Change slot passphrase memory older new iterations kdf) = Some passphrase.now
+edit_passphrase_of (Remove slot by_ passphrase memory older) = Some passphrase.now
 edit_passphrase_of Repair = None
 edit_passphrase_of (Label text) = None
 
 -- and those that seal one the new passphrase
 abbrev pub edit_new_of : EditRequest → Option (List ℕ)
-edit_new_of (Add by_ passphrase memory new to iterations kdf) = Some new.now
-edit_new_of (Change slot passphrase memory new iterations kdf) = Some new.now
-edit_new_of (Remove slot by_ passphrase memory) = None
+edit_new_of (Add by_ passphrase memory older new to iterations kdf) = Some new.now
+edit_new_of (Change slot passphrase memory older new iterations kdf) = Some new.now
+edit_new_of (Remove slot by_ passphrase memory older) = None
 edit_new_of Repair = None
 edit_new_of (Label text) = None
 
@@ -25,7 +25,7 @@ edit_new_of (Label text) = None
 abbrev pub passphrase_of : Command → Option (List ℕ)
 passphrase_of (Check payload) = None
 passphrase_of (Show form) = None
-passphrase_of (Open passphrase slot memory) = Some passphrase.now
+passphrase_of (Open passphrase slot memory older) = Some passphrase.now
 passphrase_of (Edit editing) = edit_passphrase_of editing.request
 passphrase_of (Format making) = Some making.passphrase.now
 passphrase_of (Convert converting) = None

@@ -38,6 +38,8 @@ pub enum Command<'a> {
         slot: Option<u8>,
         /// How many MiB of memory Argon2 may take for a keyslot.
         memory: u32,
+        /// Whether ciphers and hashes of older disks are accepted.
+        older: bool,
     },
     /// Edit the volume's keyslots, its header or its label.
     Edit(Editing<'a>),
@@ -96,6 +98,8 @@ pub enum EditRequest<'a> {
         passphrase: &'a str,
         /// How many MiB of memory Argon2 may take for each passphrase.
         memory: u32,
+        /// Whether ciphers and hashes of older disks are accepted.
+        older: bool,
         /// The file of the new passphrase.
         new: &'a str,
         /// The number of the new keyslot, 0 to 31; without one the least that is free.
@@ -113,6 +117,8 @@ pub enum EditRequest<'a> {
         passphrase: &'a str,
         /// How many MiB of memory Argon2 may take for each passphrase.
         memory: u32,
+        /// Whether ciphers and hashes of older disks are accepted.
+        older: bool,
         /// The file of the new passphrase.
         new: &'a str,
         /// The iterations of its derivation, where that is PBKDF2.
@@ -130,6 +136,8 @@ pub enum EditRequest<'a> {
         passphrase: &'a str,
         /// How many MiB of memory Argon2 may take for it.
         memory: u32,
+        /// Whether ciphers and hashes of older disks are accepted.
+        older: bool,
     },
     /// Write both copies of the header anew.
     Repair,
