@@ -1,6 +1,8 @@
 -- What an edit asks for, whatever the version of the volume.
 use Rattle.std.specs.Prelude.{◌≡◌, ◌⊎◌, ℕ, ◌^◌, ◌<◌, ◌&&◌, nat_lt, if◌then◌else◌, List, [], length, true, Option, Some, None, IfSome, IsSomeAnd, ⊤}
 use Rattle.std.specs.Borrow.{Bor}
+use Rattle.luks_slot.specs.declared.allowed.Allowed.{Allowed}
+use Rattle.luks_slot.specs.Allowance.{none_allowed}
 use Rattle.luks_making.specs.Derivations.{asked_beyond, asked_few_turns, takes_memory}
 use Rattle.luks_edit.specs.declared.deed.Deed.{Deed}
 use Rattle.luks_edit.specs.declared.deed.Deed.TheVariants as deed
@@ -116,20 +118,23 @@ Wants e n = MatchDeed (deed_of e) (λ s. n ≡ s.opener.slot) (λ r. (n ≡ open
 abbrev pub NamesItself : Edit → Type 0
 NamesItself e = IsSomeAnd (removed_by e) (λ r. r.by_ ≡ Some r.slot)
 
--- how many KiB of memory Argon2 may take for the passphrase, and for a new one beside it: none where
--- one has 2^32 bytes or more, since Argon2 takes fewer (RFC 9106, 3.1)
-abbrev pub memory_for : Passphrase → List ℕ → ℕ
-memory_for old new = if nat_lt (length old.bytes.now) (2 ^ 32) && nat_lt (length new) (2 ^ 32) then old.memory else 0
+-- what may be spent on the passphrase, and on a new one beside it: no memory where one has 2^32 bytes
+-- or more, since Argon2 takes fewer (RFC 9106, 3.1)
+abbrev pub allowed_for : Passphrase → List ℕ → Allowed
+allowed_for old new = record {
+  memory = if nat_lt (length old.bytes.now) (2 ^ 32) && nat_lt (length new) (2 ^ 32) then old.allowed.memory else 0;
+  older = old.allowed.older;
+}
 
--- for the passphrase that opens, and the one that the key is sealed under
-abbrev pub memory_in : Deed → ℕ
-memory_in (deed.Seal s) = memory_for s.opener.passphrase s.passphrase.now
-memory_in (deed.Remove r) = memory_for r.passphrase []
-memory_in (deed.Rewrite label) = 0
+-- on the passphrase that opens, and the one that the key is sealed under
+abbrev pub allowed_in : Deed → Allowed
+allowed_in (deed.Seal s) = allowed_for s.opener.passphrase s.passphrase.now
+allowed_in (deed.Remove r) = allowed_for r.passphrase []
+allowed_in (deed.Rewrite label) = none_allowed
 
--- for each of the edit's passphrases
-abbrev pub allowed_memory : Edit → ℕ
-allowed_memory e = memory_in (deed_of e)
+-- on each of the edit's passphrases
+abbrev pub allowed_by : Edit → Allowed
+allowed_by e = allowed_in (deed_of e)
 
 -- the passphrases of the edit have fewer than 2^32 bytes
 abbrev pub AreShortIn : Deed → Type 0
@@ -146,7 +151,7 @@ HasFewIterations e = IsSomeAnd (sealed_by e) (λ s. asked_few_turns s.derivation
 
 -- it chooses an Argon2 that takes more memory than both of its passphrases may, or is outside the bounds
 abbrev pub IsBeyondMemory : Edit → Type 0
-IsBeyondMemory e = IsSomeAnd (sealed_by e) (λ s. asked_beyond (memory_for s.opener.passphrase s.passphrase.now) s.derivation ≡ true)
+IsBeyondMemory e = IsSomeAnd (sealed_by e) (λ s. asked_beyond (allowed_for s.opener.passphrase s.passphrase.now).memory s.derivation ≡ true)
 
 -- it chooses Argon2
 abbrev pub ChoosesArgon2 : Edit → Type 0

@@ -11,6 +11,7 @@ use Rattle.luks_head.specs.Selection.{luks1, luks2, Chosen}
 use Rattle.luks_rules.specs.declared.table.Section.TheVariants.{Keyslots}
 use Rattle.luks_rules.specs.Accepted.{HasObject}
 use Rattle.luks_rules.specs.MetaFault.{Json}
+use Rattle.luks_slot.specs.declared.allowed.Allowed.{Allowed}
 use Rattle.luks_reading.specs.declared.report.Data.{Data}
 use Rattle.luks_reading.specs.Answer.{AnswerWithin, Opened}
 use Rattle.luks_reading.specs.Checked.{AreaOf, WellFormed}
@@ -36,13 +37,13 @@ pub record IsKeyslot (v : List ℕ) (n : ℕ) (d : Value) : Type 0 where
   pub holds : Json (json_at v place) metadata
   pub is : HasObject metadata Keyslots n d
 
--- the keyslot `n` has its area, its entry or its value, and its answer to every passphrase, however
--- much memory Argon2 may take
+-- the keyslot `n` has its area, its entry or its value, and its answer to every passphrase, whatever
+-- is allowed
 pub record KeepsSlot (payload : Data) (n : ℕ) (v w : List ℕ) : Type 0 where
   pub area : KeepsArea payload (Slot n) v w
   pub entry : (bytes : List ℕ) → IsEntry v n bytes ↔ IsEntry w n bytes
   pub value : (d : Value) → IsKeyslot v n d ↔ IsKeyslot w n d
-  pub answers : (memory : ℕ) (p : List ℕ) (a : Opened) → AnswerWithin memory v n p a ↔ AnswerWithin memory w n p a
+  pub answers : (allowed : Allowed) (p : List ℕ) (a : Opened) → AnswerWithin allowed v n p a ↔ AnswerWithin allowed w n p a
 
 -- the volume `w` is as long as `v` and well formed, the segments are as they were, and so is each
 -- keyslot that isn't named

@@ -1,22 +1,21 @@
--- Why the keyslot that an edit opens doesn't open, where Argon2 may take the memory that the edit
--- allows.
+-- Why the keyslot that an edit opens doesn't open, where so much is allowed as the edit allows.
 use Rattle.std.specs.Prelude.{ℕ, List}
 use Rattle.luks_slot.specs.declared.fault.SlotFault.{SlotFault}
 use Rattle.luks_reading.specs.declared.open_fault.OpenFault.TheVariants.{Slot}
 use Rattle.luks_reading.specs.Answer.{AnswerWithin, no_key, refused}
 use Rattle.luks_edit.specs.declared.edit.Edit.{Edit}
-use Rattle.luks_edit.specs.Asked.{allowed_memory, OpensBy}
+use Rattle.luks_edit.specs.Asked.{allowed_by, OpensBy}
 
 -- its passphrase gives no key
 pub record IsLocked (v : List ℕ) (e : Edit) : Type 0 where
   pub slot : ℕ
   pub passphrase : List ℕ
   pub asked : OpensBy e slot passphrase
-  pub answer : AnswerWithin (allowed_memory e) v slot passphrase no_key
+  pub answer : AnswerWithin (allowed_by e) v slot passphrase no_key
 
 -- what the header or the metadata says of it is refused
 pub record IsShut (v : List ℕ) (e : Edit) (f : SlotFault) : Type 0 where
   pub slot : ℕ
   pub passphrase : List ℕ
   pub asked : OpensBy e slot passphrase
-  pub answer : AnswerWithin (allowed_memory e) v slot passphrase (refused (Slot f))
+  pub answer : AnswerWithin (allowed_by e) v slot passphrase (refused (Slot f))

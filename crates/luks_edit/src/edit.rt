@@ -1,18 +1,19 @@
 //! The edits of a volume.
 ghost use Rattle.std.specs.Prelude.{◌≡◌, ◌^◌, ℕ, List, MatchOption, length, nat_lt};
-ghost use Rattle.luks_edit.specs.Asked.{allowed_memory, deed_of, memory_for, opener_of, OpensBy};
+ghost use Rattle.luks_edit.specs.Asked.{allowed_by, allowed_for, deed_of, opener_of, OpensBy};
 
 use crate::deed::{Deed, Place, Removed, Sealed};
 use luks_making::{AskedDerivation, NewDerivation};
+use luks_slot::Allowed;
 
-/// A passphrase, and how much memory may be spent on it.
+/// A passphrase, and what may be spent on it.
 #[derive(Clone, Copy, Debug)]
 pub struct Passphrase<'a> {
     /// The passphrase: any bytes, or none.
     pub bytes: &'a [u8],
-    /// How many KiB of memory Argon2 may take; with 0 a keyslot is refused that derives by it. A
-    /// passphrase of 2^32 bytes or more allows none.
-    pub memory: u32,
+    /// How many KiB of memory Argon2 may take, of which a passphrase of 2^32 bytes or more allows none,
+    /// and whether the keyslot that it opens may have a cipher or a hash of older disks.
+    pub allowed: Allowed,
 }
 
 /// An edit of a volume's keyslots, header or label.
@@ -20,7 +21,7 @@ pub struct Passphrase<'a> {
 /// The keyslot that an edit names as `by_`, or else as `slot`, is the one that its old passphrase has
 /// to open.
 /// Keyslots are numbered 0 to 7 in LUKS1 and 0 to 31 in LUKS2. A passphrase is any bytes, and may
-/// be empty; the new one may take as much memory as the old one.
+/// be empty; for the new one as much is allowed as for the old one.
 #[derive(Clone, Copy, Debug)]
 pub enum Edit<'a> {
     /// Adds a keyslot in which a new passphrase opens the key that the old one opens.
@@ -172,27 +173,31 @@ pub fn opener_of(slot: u8, by_: Option<u8>) -> u8
 }
 
 impl Edit<'_> {
-    /// How many KiB of memory Argon2 may take for each of its passphrases: as many as the old one
-    /// allows, or none where a passphrase has 2^32 bytes or more.
-    pub fn allowed_memory(&self) -> u32
-        ensures { result ≡ allowed_memory self.now }
+    /// What may be spent on each of its passphrases: what the old one allows, but no memory where a
+    /// passphrase has 2^32 bytes or more; nothing where it opens no keyslot.
+    pub fn allowed(&self) -> Allowed
+        ensures { result ≡ allowed_by self.now }
     {
         match self.deed() {
-            Deed::Seal(sealed) => memory_for(&sealed.opener.passphrase, sealed.passphrase),
-            Deed::Remove(removed) => memory_for(&removed.passphrase, b""),
-            Deed::Rewrite { label: _ } => 0,
+            Deed::Seal(sealed) => allowed_for(&sealed.opener.passphrase, sealed.passphrase),
+            Deed::Remove(removed) => allowed_for(&removed.passphrase, b""),
+            Deed::Rewrite { label: _ } => Allowed::NOTHING,
         }
     }
 }
 
-/// The memory that the passphrase allows, for itself and a new one.
-fn memory_for(old: &Passphrase<'_>, new: &[u8]) -> u32
-    ensures { result ≡ memory_for old.now new.now }
+/// What the passphrase allows, for itself and a new one.
+fn allowed_for(old: &Passphrase<'_>, new: &[u8]) -> Allowed
+    ensures { result ≡ allowed_for old.now new.now }
 {
-    if is_short(old.bytes) && is_short(new) {
-        old.memory
+    let memory = if is_short(old.bytes) && is_short(new) {
+        old.allowed.memory
     } else {
         0
+    };
+    Allowed {
+        memory,
+        older: old.allowed.older,
     }
 }
 

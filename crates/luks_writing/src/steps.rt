@@ -10,7 +10,7 @@ ghost use Rattle.luks_slot.specs.Refusal.{slot_refusal, slot_refusal_within};
 ghost use Rattle.luks_slot.specs.Sealing.{IsReadyToSeal, IsSealed};
 
 use luks_area::{Area, Device, DeviceFault};
-use luks_slot::{Key, SlotFault, SlotPlan, seal, seal_within, wipe};
+use luks_slot::{Allowed, Key, SlotFault, SlotPlan, seal, seal_within, wipe};
 use std::alloc::Global;
 
 /// Writes the bytes from the place `at` on, and flushes.
@@ -83,23 +83,23 @@ pub fn seal_area<D: Device>(
     }
 }
 
-/// The same where Argon2 may take `memory` KiB, before the first write. `Memory` comes only of a plan
-/// that derives by Argon2 and isn't refused, and then no byte changes.
+/// The same where so much is allowed; Argon2 takes its memory before the first write. `Memory` comes
+/// only of a plan that derives by Argon2 and isn't refused, and then no byte changes.
 pub fn seal_area_within<D: Device>(
     alloc: Global,
     device: &mut D,
     plan: &SlotPlan<'_>,
     passphrase: &[u8],
-    memory: u32,
+    allowed: Allowed,
     key: &Key,
     random: &[u8],
 ) -> Result<(), SlotFault>
-    requires passphrase { 0 < memory → length passphrase.now < 2 ^ 32 }
+    requires passphrase { 0 < allowed.memory → length passphrase.now < 2 ^ 32 }
     requires ready { IsReadyToSeal plan.now key.now random.now (D.size device.old) }
     requires room { D.failed device.old + 1 < 2 ^ 64 }
     requires settled { D.tells → IsSettled D.unsettled device.old }
-    ensures refused { (f : TheFault) → slot_refusal_within memory plan.now ≡ Some f → result ≡ Err f }
-    ensures fault { IfErr result (IsAnsweredWithin memory plan.now) }
+    ensures refused { (f : TheFault) → slot_refusal_within allowed plan.now ≡ Some f → result ≡ Err f }
+    ensures fault { IfErr result (IsAnsweredWithin allowed plan.now) }
     ensures count { CountsFailure is_device_fault result
         (D.failed device.old) (D.failed device.new) }
     ensures size { D.size device.new ≡ D.size device.old }
@@ -113,7 +113,7 @@ pub fn seal_area_within<D: Device>(
         → SameBut (IsAt plan.now.area.start (rounded_to_sectors (stripe_bytes plan.now)))
         (D.bytes device.old) (D.bytes device.new) }
 {
-    seal_within(alloc, device, plan, passphrase, memory, key, random)?;
+    seal_within(alloc, device, plan, passphrase, allowed, key, random)?;
     device.flush()?;
     Ok(())
 }
