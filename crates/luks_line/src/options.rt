@@ -19,6 +19,7 @@ pub(crate) enum LongOption {
     OpenedSlot,
     To,
     Memory,
+    Older,
     Iterations,
     Version,
     Hash,
@@ -65,7 +66,7 @@ pub(crate) struct OptionRow {
 }
 
 /// In the order of `LongOption`.
-static OPTIONS: [OptionRow; 42] = [
+static OPTIONS: [OptionRow; 43] = [
     OptionRow {
         name: "detached",
         needed: false,
@@ -143,6 +144,12 @@ static OPTIONS: [OptionRow; 42] = [
         needed: false,
         help: "MiB for Argon2, 0 to 4194303",
         takes: Takes::Memory,
+    },
+    OptionRow {
+        name: "older",
+        needed: false,
+        help: "Accept ciphers and hashes of older disks",
+        takes: Takes::Nothing,
     },
     OptionRow {
         name: "iterations",

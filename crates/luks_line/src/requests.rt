@@ -75,6 +75,7 @@ fn opening_of<'a>(given: &ArgMatches<'a>) -> Option<Command<'a>> {
         passphrase: passphrase_of(given)?,
         slot: given.get_one::<u8>("slot"),
         memory: given.get_one::<u32>("memory")?,
+        older: given.get_flag("older"),
     })
 }
 
@@ -103,6 +104,7 @@ fn adding_of<'a>(given: &ArgMatches<'a>) -> Option<EditRequest<'a>> {
         by_: given.get_one::<u8>("slot")?,
         passphrase: passphrase_of(given)?,
         memory: given.get_one::<u32>("memory")?,
+        older: given.get_flag("older"),
         new: new_of(given)?,
         to: given.get_one::<u8>("to"),
         iterations: given.get_one::<u32>("iterations")?,
@@ -115,6 +117,7 @@ fn changing_of<'a>(given: &ArgMatches<'a>) -> Option<EditRequest<'a>> {
         slot: given.get_one::<u8>("slot")?,
         passphrase: passphrase_of(given)?,
         memory: given.get_one::<u32>("memory")?,
+        older: given.get_flag("older"),
         new: new_of(given)?,
         iterations: given.get_one::<u32>("iterations")?,
         kdf: kdf_of(given)?,
@@ -127,6 +130,7 @@ fn removing_of<'a>(given: &ArgMatches<'a>) -> Option<EditRequest<'a>> {
         by_: given.get_one::<u8>("by"),
         passphrase: passphrase_of(given)?,
         memory: given.get_one::<u32>("memory")?,
+        older: given.get_flag("older"),
     })
 }
 

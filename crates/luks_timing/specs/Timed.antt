@@ -35,10 +35,10 @@ IsTimedKdf allowed asked timed = ⊥
 
 -- an edit keeps all but the costs of a derivation that it asks for
 abbrev pub IsTimedEdit : EditRequest → EditRequest → Type 0
-IsTimedEdit (Add by_ passphrase memory new to iterations (Some kdf)) timed =
-    (chosen : AskedKdf) × IsTimedKdf memory kdf chosen × (timed ≡ Add by_ passphrase memory new to iterations (Some chosen))
-IsTimedEdit (Change slot passphrase memory new iterations (Some kdf)) timed =
-    (chosen : AskedKdf) × IsTimedKdf memory kdf chosen × (timed ≡ Change slot passphrase memory new iterations (Some chosen))
+IsTimedEdit (Add by_ passphrase memory older new to iterations (Some kdf)) timed =
+    (chosen : AskedKdf) × IsTimedKdf memory kdf chosen × (timed ≡ Add by_ passphrase memory older new to iterations (Some chosen))
+IsTimedEdit (Change slot passphrase memory older new iterations (Some kdf)) timed =
+    (chosen : AskedKdf) × IsTimedKdf memory kdf chosen × (timed ≡ Change slot passphrase memory older new iterations (Some chosen))
 IsTimedEdit request timed = timed ≡ request
 
 -- what keyslot 0 of a new volume is asked to derive by: without a word on it PBKDF2, by the digest's iterations
