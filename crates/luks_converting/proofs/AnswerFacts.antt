@@ -22,14 +22,16 @@ use Rattle.luks_rules.proofs.Deciding.{metadata_faultless}
 use Rattle.luks_making.specs.Conversions.{SaysSource}
 use Rattle.luks_making.specs.Keyslots.{slot_value}
 use Rattle.luks_slot.specs.declared.fault.SlotFault.{SlotFault}
+use Rattle.luks_slot.specs.declared.allowed.Allowed.{Allowed}
 use Rattle.luks_slot.specs.declared.plan.SlotPlan.{SlotPlan}
+use Rattle.luks_slot.specs.Allowance.{without_memory}
 use Rattle.luks_slot.specs.Opening.{stripe_bytes}
-use Rattle.luks_slot.specs.Refusal.{slot_refusal}
+use Rattle.luks_slot.specs.Refusal.{slot_refusal_within}
 use Rattle.luks_reading.specs.declared.open_fault.OpenFault.{OpenFault}
 use Rattle.luks_reading.specs.declared.open_fault.OpenFault.TheVariants.{Head, Meta, NoSuchSlot, SlotFree, Outside, Slot, Device, Memory}
 use Rattle.luks_reading.specs.Answer.{AnswerWithin, HasPlanAs, IsRefusalAsWithin, OpensWithin, open_key, refused}
 use Rattle.luks_reading.specs.Header.{json_at}
-use Rattle.luks_reading.specs.MemoryFacts.{accepted_within}
+use Rattle.luks_reading.specs.MemoryFacts.{still_accepted}
 use Rattle.luks_reading.specs.Plans.{HasLuks1Plan, HasLuks2Plan, IsLuks2Plan}
 use Rattle.luks_converting.specs.Copied.{HasSameSectors, IsCopiedPlan}
 use Rattle.luks_converting.specs.Converted.{new_size, new_start}
@@ -60,11 +62,11 @@ module _
     (was : Chosen v luks1) (has : HasRoom (part v 0 592)) (x : SaysSource (header_members (part v 0 592)) j) (new : HasHeader w j)
   where
     -- the faults that may stand of any keyslot
-    no_head : (memory n : ℕ) (f : HeadFault) → IsRefusalAsWithin memory w n (luks2 0 new.copies) (Head f) → ⊥
-    no_head memory n f z = uuid_sound (uuid_field (header_at w 0)) new.uuid f z
+    no_head : (allowed : Allowed) (n : ℕ) (f : HeadFault) → IsRefusalAsWithin allowed w n (luks2 0 new.copies) (Head f) → ⊥
+    no_head allowed n f z = uuid_sound (uuid_field (header_at w 0)) new.uuid f z
 
-    no_meta : (memory n : ℕ) (f : MetaFault) → IsRefusalAsWithin memory w n (luks2 0 new.copies) (Meta f) → ⊥
-    no_meta memory n f z = (metadata_faultless (json_at w 0)).1 (j, new.meta) f z
+    no_meta : (allowed : Allowed) (n : ℕ) (f : MetaFault) → IsRefusalAsWithin allowed w n (luks2 0 new.copies) (Meta f) → ⊥
+    no_meta allowed n f z = (metadata_faultless (json_at w 0)).1 (j, new.meta) f z
 
     module _ (n : ℕ) (on : is_enabled (part v 0 592) n ≡ true) where
       is_there : object_at j Keyslots n ≡ Some (slot_value (new_slot (part v 0 592) n))
@@ -81,18 +83,18 @@ module _
       -- what the old keyslot gave, the new one gives
       module _ (area_is : part w (new_start (part v 0 592) n) (new_size (part v 0 592) n)
           ≡ part v (source_start (part v 0 592) n) (source_size (part v 0 592) n) ++ replicate (new_size (part v 0 592) n - source_size (part v 0 592) n) 0)
-          (memory : ℕ) (p : List ℕ) (found : Option (List ℕ)) (o : OpensWithin memory v n p found) where
+          (allowed : Allowed) (p : List ℕ) (found : Option (List ℕ)) (o : OpensWithin allowed v n p found) where
         was_luks1 : o.choice ≡ luks1
         was_luks1 = choices_agree v o.choice luks1 o.chosen was
 
         old_plan : HasLuks1Plan (part v 0 592) n o.plan
         old_plan = subst (λ (c : Choice). HasPlanAs v n c o.plan) was_luks1 o.is
 
-        not_refused : (f : OpenFault) → IsRefusalAsWithin memory v n luks1 f → ⊥
-        not_refused f z = o.unrefused f (subst (λ (c : Choice). IsRefusalAsWithin memory v n c f) (sym was_luks1) z)
+        not_refused : (f : OpenFault) → IsRefusalAsWithin allowed v n luks1 f → ⊥
+        not_refused f z = o.unrefused f (subst (λ (c : Choice). IsRefusalAsWithin allowed v n c f) (sym was_luks1) z)
 
-        old_accepted : slot_refusal o.plan ≡ None
-        old_accepted = none_of (slot_refusal o.plan) (λ (f : SlotFault) is. not_refused (Slot f) (record { plan = o.plan; is = old_plan; refused = is }))
+        old_accepted : slot_refusal_within (without_memory allowed.older) o.plan ≡ None
+        old_accepted = none_of (slot_refusal_within (without_memory allowed.older) o.plan) (λ (f : SlotFault) is. not_refused (Slot f) (record { plan = o.plan; is = old_plan; refused = is }))
 
         old_inside : o.plan.area.start + o.plan.area.len ≤ length v
         old_inside = elim (cases_lt (length v) (o.plan.area.start + o.plan.area.len)) [
@@ -100,9 +102,9 @@ module _
           | inr inside ↦ omega (arith, inside)
         ]
 
-        unrefused : (f : OpenFault) → IsRefusalAsWithin memory w n (luks2 0 new.copies) f → ⊥
-        unrefused (Head f) z = no_head memory n f z
-        unrefused (Meta f) z = no_meta memory n f z
+        unrefused : (f : OpenFault) → IsRefusalAsWithin allowed w n (luks2 0 new.copies) f → ⊥
+        unrefused (Head f) z = no_head allowed n f z
+        unrefused (Meta f) z = no_meta allowed n f z
         unrefused NoSuchSlot z =
             let value : z.value ≡ j = one_value (json_at w 0) z.value j z.holds new.meta.json in
             let gone : object_at j Keyslots n ≡ None = subst (λ (k : Data). object_at k Keyslots n ≡ None) value (z.absent (let low = low_of (part v 0 592) n on in omega (arith, low))) in
@@ -118,7 +120,8 @@ module _
         unrefused (Slot f) z =
             let is = its_plan z.plan z.is in
             let copied = copied_plan (part v 0 592) j x n on o.plan z.plan old_plan.is is in
-            no_some f (sym (accepted_within memory z.plan (still_unrefused o.plan z.plan copied old_accepted)) ∙ z.refused)
+            let accepted = still_unrefused (without_memory allowed.older) o.plan z.plan copied old_accepted in
+            no_some f (sym (still_accepted (without_memory allowed.older) allowed z.plan (omega arith) (λ e. e) accepted) ∙ z.refused)
         unrefused other z = z
 
         plan : SlotPlan
@@ -154,7 +157,7 @@ module _
             ∙ sym (front_of (part v (source_start (part v 0 592) n) (source_size (part v 0 592) n)) (replicate (new_size (part v 0 592) n - source_size (part v 0 592) n) 0) k sectors_long)
             ∙ sym (ap (λ bytes. part bytes 0 k) (new_bytes ∙ area_is))
 
-        pub converted_opens : OpensWithin memory w n p found
+        pub converted_opens : OpensWithin allowed w n p found
         converted_opens = record {
           choice = luks2 0 new.copies;
           chosen = new.chosen;
@@ -169,16 +172,16 @@ module _
       gone : object_at j Keyslots n ≡ None
       gone = x.no_keyslot n (inr (slot_absent (part v 0 592) n off))
 
-      first_as : (memory : ℕ) (f : OpenFault) → IsRefusalAsWithin memory w n (luks2 0 new.copies) f → NotAfter (open_key NoSuchSlot) (open_key f)
-      first_as memory (Head f) z = absurd (no_head memory n f z)
-      first_as memory (Meta f) z = absurd (no_meta memory n f z)
-      first_as memory SlotFree z = absurd z
-      first_as memory Device z = absurd z
-      first_as memory Memory z = absurd z
-      first_as memory other z = (omega arith, λ e. tt)
+      first_as : (allowed : Allowed) (f : OpenFault) → IsRefusalAsWithin allowed w n (luks2 0 new.copies) f → NotAfter (open_key NoSuchSlot) (open_key f)
+      first_as allowed (Head f) z = absurd (no_head allowed n f z)
+      first_as allowed (Meta f) z = absurd (no_meta allowed n f z)
+      first_as allowed SlotFree z = absurd z
+      first_as allowed Device z = absurd z
+      first_as allowed Memory z = absurd z
+      first_as allowed other z = (omega arith, λ e. tt)
 
-      pub converted_absent : (memory : ℕ) (p : List ℕ) → AnswerWithin memory w n p (refused NoSuchSlot)
-      converted_absent memory p = (
+      pub converted_absent : (allowed : Allowed) (p : List ℕ) → AnswerWithin allowed w n p (refused NoSuchSlot)
+      converted_absent allowed p = (
         record { choice = luks2 0 new.copies; chosen = new.chosen; fault = record { value = j; holds = new.meta.json; absent = λ small. gone } },
-        λ g z. first_as memory g (subst (λ (c : Choice). IsRefusalAsWithin memory w n c g) (choices_agree w z.choice (luks2 0 new.copies) z.chosen new.chosen) z.fault),
+        λ g z. first_as allowed g (subst (λ (c : Choice). IsRefusalAsWithin allowed w n c g) (choices_agree w z.choice (luks2 0 new.copies) z.chosen new.chosen) z.fault),
       )

@@ -5,17 +5,17 @@ use Rattle.std.proofs.lemmas.Slice.Eq.{bytes_eq-Decides}
 use Rattle.luks_area.specs.Ranges.{part}
 use Rattle.luks_area.specs.RangeFacts.{part-part}
 use Rattle.luks_area.specs.Sectors.{sector_count}
-use Rattle.luks_kdf.specs.Names.{hash_named}
-use Rattle.luks_xts.specs.Xts.{XtsOpen}
+use Rattle.luks_kdf.specs.KeyslotNames.{keyslot_hash_named}
+use Rattle.luks_slot.specs.declared.allowed.Allowed.{Allowed}
 use Rattle.luks_slot.specs.declared.plan.AreaCipher.{AreaCipher}
 use Rattle.luks_slot.specs.declared.plan.AreaCipher.TheVariants.{Apart, Whole}
 use Rattle.luks_slot.specs.declared.plan.Derivation.{Derivation}
 use Rattle.luks_slot.specs.declared.plan.Derivation.TheVariants.{Pbkdf2, Argon2}
 use Rattle.luks_slot.specs.declared.plan.SlotPlan.{SlotPlan}
-use Rattle.luks_slot.specs.Opening.{area_key, area_key_by, candidate, opened_sector, opened_sectors, slot_key, stripes_from, stripes_in}
-use Rattle.luks_slot.specs.Refusal.{is_argon2, is_argon2_refused, is_known_derivation, is_open_cipher, slot_refusal}
+use Rattle.luks_slot.specs.Opening.{area_key, area_key_by, candidate, cipher_of, opened_sector, opened_sectors, sector_cipher_named, sector_opened, slot_key, stripes_from, stripes_in, AreaKeyOf}
+use Rattle.luks_slot.specs.Refusal.{is_allowed_cipher, is_argon2, is_argon2_refused, is_key_size, is_known_derivation, slot_refusal_within}
 use Rattle.luks_slot.specs.declared.fault.SlotFault.TheVariants.{Argon2 as Argon2Fault, Cipher}
-use Rattle.luks_reading.proofs.SamePlans.{same_key as same_plan_key, same_refusal, SameFields}
+use Rattle.luks_reading.proofs.SamePlans.{same_key as same_plan_key, same_refusal_within, SameFields}
 use Rattle.luks_converting.specs.Copied.{HasSameSectors, IsCopiedPlan, IsJoinedCipher, IsSameDerivation}
 
 -- ---- sectors
@@ -25,7 +25,7 @@ front_part : (a : List ℕ) (n i len : ℕ) → i + len ≤ n → part (part a 0
 front_part a n i len inside = part-part a 0 n i len inside ∙ ap (λ p. part a p len) (omega arith)
 
 -- what the front of an area decrypts to depends on that front alone
-same_sectors : (key a b : List ℕ) (n : ℕ) → part a 0 (512 * n) ≡ part b 0 (512 * n) → opened_sectors key a n ≡ opened_sectors key b n
+same_sectors : (key : AreaKeyOf) (a b : List ℕ) (n : ℕ) → part a 0 (512 * n) ≡ part b 0 (512 * n) → opened_sectors key a n ≡ opened_sectors key b n
 unfolding opened_sectors opened_sector
 same_sectors key a b zero same = refl
 same_sectors key a b (suc n) same =
@@ -34,7 +34,7 @@ same_sectors key a b (suc n) same =
     let last : part a (512 * n) 512 ≡ part b (512 * n) 512 =
     sym (front_part a (512 * suc n) (512 * n) 512 (omega arith)) ∙ ap (λ v. part v (512 * n) 512) same ∙ front_part b (512 * suc n) (512 * n) 512 (omega arith) in
     let before = same_sectors key a b n front in
-    ap (λ rows. rows ++ XtsOpen key n (part a (512 * n) 512)) before ∙ ap (λ sector. opened_sectors key b n ++ XtsOpen key n sector) last
+    ap (λ rows. rows ++ sector_opened key n (part a (512 * n) 512)) before ∙ ap (λ sector. opened_sectors key b n ++ sector_opened key n sector) last
 
 -- ---- the key
 
@@ -47,14 +47,14 @@ same_rows a area copy passphrase same = rw (same_sectors (area_key a passphrase)
 record Alike (a b : Derivation) : Type 0 where
   argon2 : is_argon2 a ≡ is_argon2 b
   argon2_refused : (memory : ℕ) → is_argon2_refused memory a ≡ is_argon2_refused memory b
-  known : is_known_derivation a ≡ is_known_derivation b
+  known : (older : Bool) → is_known_derivation older a ≡ is_known_derivation older b
   key : (n : ℕ) (p : List ℕ) → area_key_by a n p ≡ area_key_by b n p
 
 alike : (a b : Derivation) → IsSameDerivation a b → Alike a b
 alike (Pbkdf2 h i s) (Pbkdf2 k j t) x = record {
   argon2 = refl;
   argon2_refused = λ memory. refl;
-  known = ap (λ t. is_some (hash_named t)) x.0;
+  known = λ older. ap (λ t. is_some (keyslot_hash_named older t)) x.0;
   key = λ n p. simp (x.0, x.1, x.2);
 }
 alike (Pbkdf2 h i s) (Argon2 c) x = absurd x
@@ -72,7 +72,8 @@ same_fields a b x =
       argon2_refused = derivation.argon2_refused;
       known = derivation.known;
       key = derivation.key;
-      cipher = refl;
+      cipher = λ older. refl;
+      sector_cipher = refl;
       start = refl;
       len = refl;
       area_key_bytes = x.area_key_bytes;
@@ -85,14 +86,20 @@ same_fields a b x =
       digest_stored = x.digest.stored;
     }
 
--- cipher and area decide nothing of the key
-key_moved : (a b : SlotPlan) (area passphrase : List ℕ) → slot_key a area passphrase ≡ slot_key (moved a b) area passphrase
+-- the joined text names the cipher that the two texts name
+joined_cipher : (a b : AreaCipher) → IsJoinedCipher a b → cipher_of a ≡ cipher_of b
+joined_cipher (Apart n m) (Whole t) is = ap sector_cipher_named (sym is)
+joined_cipher (Apart n m) (Apart k l) is = absurd is
+joined_cipher (Whole t) b is = absurd is
+
+-- of cipher and area that cipher alone decides the key
+key_moved : (a b : SlotPlan) (area passphrase : List ℕ) → cipher_of a.cipher ≡ cipher_of b.cipher → slot_key a area passphrase ≡ slot_key (moved a b) area passphrase
 unfolding slot_key candidate area_key stripes_in
-key_moved a b area passphrase = refl
+key_moved a b area passphrase same = rw same refl
 
 pub same_key : (a b : SlotPlan) (area copy passphrase : List ℕ) → IsCopiedPlan a b → HasSameSectors a area copy → slot_key a area passphrase ≡ slot_key b copy passphrase
 same_key a b area copy passphrase x same =
-    same_rows a area copy passphrase same ∙ key_moved a b copy passphrase ∙ same_plan_key (moved a b) b copy passphrase (same_fields a b x)
+    same_rows a area copy passphrase same ∙ key_moved a b copy passphrase (joined_cipher a.cipher b.cipher x.cipher) ∙ same_plan_key (moved a b) b copy passphrase (same_fields a b x)
 
 -- ---- refusals
 
@@ -100,34 +107,30 @@ either : (p q : Bool) → (p || q) ≡ true → ((p ≡ true) ⊎ (q ≡ true))
 either true q e = inl refl
 either false q e = inr e
 
--- a cipher that opens by its two texts does so by the joined one
-joined_opens : (a b : AreaCipher) → IsJoinedCipher a b → is_open_cipher a ≡ true → is_open_cipher b ≡ true
-joined_opens (Apart n m) (Whole t) is open_ =
-    let parts = and_parts _ _ open_ in
-    let name : n.now ≡ codes "aes" = (bytes_eq-Decides n.now (codes "aes")).0 parts.0 in
-    elim (either _ _ parts.1) [
-      | inl e ↦ (let mode : m.now ≡ codes "xts-plain64" = (bytes_eq-Decides m.now (codes "xts-plain64")).0 e in rw (is, name, mode) refl)
-      | inr e ↦ (let mode : m.now ≡ codes "xts-plain" = (bytes_eq-Decides m.now (codes "xts-plain")).0 e in rw (is, name, mode) refl)
-    ]
-joined_opens (Apart n m) (Apart k l) is open_ = absurd is
-joined_opens (Whole t) b is open_ = absurd is
+-- a cipher that is allowed by its two texts is so by the joined one
+joined_allowed : (older : Bool) (a b : AreaCipher) → IsJoinedCipher a b → is_allowed_cipher older a ≡ true → is_allowed_cipher older b ≡ true
+joined_allowed older a b is was = ?
 
--- a plan that isn't refused derives by PBKDF2, and its cipher opens
-not_argon2 : (plan : SlotPlan) → slot_refusal plan ≡ None → (b : Bool) → is_argon2 plan.derivation ≡ b → b ≡ false
-not_argon2 plan none false is = refl
-not_argon2 plan none true is = let some : slot_refusal plan ≡ Some Argon2Fault = rw is refl in absurd (let both : Some Argon2Fault ≡ None = sym some ∙ none in cc)
+-- a plan that isn't refused: its derivation, and its cipher is allowed
+not_argon2 : (allowed : Allowed) (plan : SlotPlan) → slot_refusal_within allowed plan ≡ None → (b : Bool) → is_argon2_refused allowed.memory plan.derivation ≡ b → b ≡ false
+not_argon2 allowed plan none false is = refl
+not_argon2 allowed plan none true is = let some : slot_refusal_within allowed plan ≡ Some Argon2Fault = rw is refl in absurd (let both : Some Argon2Fault ≡ None = sym some ∙ none in cc)
 
-open_cipher : (plan : SlotPlan) → slot_refusal plan ≡ None → is_argon2 plan.derivation ≡ false → (b : Bool) → is_open_cipher plan.cipher ≡ b → b ≡ true
-open_cipher plan none derived true is = refl
-open_cipher plan none derived false is = let some : slot_refusal plan ≡ Some Cipher = rw (derived, is) refl in absurd (let both : Some Cipher ≡ None = sym some ∙ none in cc)
+allowed_cipher : (allowed : Allowed) (plan : SlotPlan) → slot_refusal_within allowed plan ≡ None → is_argon2_refused allowed.memory plan.derivation ≡ false
+    → (b : Bool) → is_allowed_cipher allowed.older plan.cipher ≡ b → b ≡ true
+allowed_cipher allowed plan none derived true is = refl
+allowed_cipher allowed plan none derived false is =
+    let some : slot_refusal_within allowed plan ≡ Some Cipher = rw (derived, is) refl in absurd (let both : Some Cipher ≡ None = sym some ∙ none in cc)
 
--- nor does the area of a refusal, or the cipher where both open
-refusal_moved : (a b : SlotPlan) → is_open_cipher a.cipher ≡ is_open_cipher b.cipher → slot_refusal a ≡ slot_refusal (moved a b)
-refusal_moved a b same = simp same
+-- nor does the area of a refusal, or the cipher where both are allowed
+refusal_moved : (allowed : Allowed) (a b : SlotPlan) → is_allowed_cipher allowed.older a.cipher ≡ is_allowed_cipher allowed.older b.cipher → cipher_of a.cipher ≡ cipher_of b.cipher
+    → slot_refusal_within allowed a ≡ slot_refusal_within allowed (moved a b)
+refusal_moved allowed a b same cipher = simp (same, cipher)
 
-pub still_unrefused : (a b : SlotPlan) → IsCopiedPlan a b → slot_refusal a ≡ None → slot_refusal b ≡ None
-still_unrefused a b x none =
-    let derived : is_argon2 a.derivation ≡ false = not_argon2 a none (is_argon2 a.derivation) refl in
-    let was : is_open_cipher a.cipher ≡ true = open_cipher a none derived (is_open_cipher a.cipher) refl in
-    let now : is_open_cipher b.cipher ≡ true = joined_opens a.cipher b.cipher x.cipher was in
-    sym (refusal_moved a b (was ∙ sym now) ∙ same_refusal (moved a b) b (same_fields a b x)) ∙ none
+pub still_unrefused : (allowed : Allowed) (a b : SlotPlan) → IsCopiedPlan a b → slot_refusal_within allowed a ≡ None → slot_refusal_within allowed b ≡ None
+still_unrefused allowed a b x none =
+    let derived = not_argon2 allowed a none (is_argon2_refused allowed.memory a.derivation) refl in
+    let was : is_allowed_cipher allowed.older a.cipher ≡ true = allowed_cipher allowed a none derived (is_allowed_cipher allowed.older a.cipher) refl in
+    let now : is_allowed_cipher allowed.older b.cipher ≡ true = joined_allowed allowed.older a.cipher b.cipher x.cipher was in
+    let cipher = joined_cipher a.cipher b.cipher x.cipher in
+    sym (refusal_moved allowed a b (was ∙ sym now) cipher ∙ same_refusal_within allowed (moved a b) b (same_fields a b x)) ∙ none

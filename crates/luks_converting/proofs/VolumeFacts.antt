@@ -14,6 +14,7 @@ use Rattle.luks_head.proofs.BinaryHeaderFacts.{written_in_step}
 use Rattle.luks_head.specs.declared.selection.Copies.TheVariants.{InStep}
 use Rattle.luks_rules.specs.Accepted.{IsContent, IsMeta}
 use Rattle.luks_rules.specs.Held.{IsHeld}
+use Rattle.luks_slot.specs.declared.allowed.Allowed.{Allowed}
 use Rattle.luks_reading.specs.Answer.{AnswerWithin, opened_to, refused}
 use Rattle.luks_reading.specs.Checked.{WellFormed}
 use Rattle.luks_reading.specs.Header.{json_at}
@@ -109,12 +110,12 @@ module _
       };
     }
 
-    pub opens_alike : Chosen v luks1 → (memory n : ℕ) (p : List ℕ) (found : Option (List ℕ)) → is_enabled (part v 0 592) n ≡ true
-        → AnswerWithin memory v n p (opened_to found) → AnswerWithin memory w n p (opened_to found)
-    opens_alike was memory n p None on o =
-        converted_opens v w (converted (header_members (part v 0 592))) was source.room says header n on (x.areas n on) memory p None o
-    opens_alike was memory n p (Some key) on o =
-        converted_opens v w (converted (header_members (part v 0 592))) was source.room says header n on (x.areas n on) memory p (Some key) o
+    pub opens_alike : Chosen v luks1 → (allowed : Allowed) (n : ℕ) (p : List ℕ) (found : Option (List ℕ)) → is_enabled (part v 0 592) n ≡ true
+        → AnswerWithin allowed v n p (opened_to found) → AnswerWithin allowed w n p (opened_to found)
+    opens_alike was allowed n p None on o =
+        converted_opens v w (converted (header_members (part v 0 592))) was source.room says header n on (x.areas n on) allowed p None o
+    opens_alike was allowed n p (Some key) on o =
+        converted_opens v w (converted (header_members (part v 0 592))) was source.room says header n on (x.areas n on) allowed p (Some key) o
 
-    pub absent : Chosen v luks1 → (memory n : ℕ) (p : List ℕ) → is_enabled (part v 0 592) n ≡ false → AnswerWithin memory w n p (refused NoSuchSlot)
-    absent was memory n p off = converted_absent v w (converted (header_members (part v 0 592))) was source.room says header n off memory p
+    pub absent : Chosen v luks1 → (allowed : Allowed) (n : ℕ) (p : List ℕ) → is_enabled (part v 0 592) n ≡ false → AnswerWithin allowed w n p (refused NoSuchSlot)
+    absent was allowed n p off = converted_absent v w (converted (header_members (part v 0 592))) was source.room says header n off allowed p

@@ -5,6 +5,7 @@ ghost use Rattle.luks_area.specs.Ranges.{part, SameBut};
 ghost use Rattle.luks1_header.specs.Header1.{luks1_size};
 ghost use Rattle.luks_making.specs.Converted.{converted};
 ghost use Rattle.luks_making.specs.WrittenArea.{IsWrittenArea};
+ghost use Rattle.luks_slot.specs.declared.allowed.Allowed.{Allowed};
 ghost use Rattle.luks_reading.specs.Answer.{AnswerWithin, opened_to, refused};
 ghost use Rattle.luks_reading.specs.Checked.{WellFormed};
 ghost use Rattle.luks_reading.specs.declared.open_fault.OpenFault.TheVariants.{NoSuchSlot};
@@ -82,19 +83,20 @@ pub fn convert<S: Device, T: Device>(
     ensures order { S.tells → T.tells → WritesFirstLast (S.bytes source.old) random.now
         (T.bytes target.old) (T.bytes target.new) }
 
-    // The header that was made: each enabled keyslot opens as it did, and there is no other.
+    // The header that was made: each enabled keyslot opens as it did, whatever is
+    // allowed, and there is no other.
     ensures converted { S.tells → T.tells → OnOk result
         (IsConverted (S.bytes source.old) random.now (T.bytes target.old) (T.bytes target.new)) }
     ensures well_formed { S.tells → T.tells
         → OnOk result (WellFormed (T.bytes target.new) Elsewhere) }
-    ensures opens { S.tells → T.tells → OnOk result ((memory n : ℕ) (p : List ℕ)
+    ensures opens { S.tells → T.tells → OnOk result ((allowed : Allowed) (n : ℕ) (p : List ℕ)
         (found : Option (List ℕ))
         → is_enabled (part (S.bytes source.old) 0 luks1_size) n ≡ true
-        → AnswerWithin memory (S.bytes source.old) n p (opened_to found)
-        → AnswerWithin memory (T.bytes target.new) n p (opened_to found)) }
-    ensures absent { S.tells → T.tells → OnOk result ((memory n : ℕ) (p : List ℕ)
+        → AnswerWithin allowed (S.bytes source.old) n p (opened_to found)
+        → AnswerWithin allowed (T.bytes target.new) n p (opened_to found)) }
+    ensures absent { S.tells → T.tells → OnOk result ((allowed : Allowed) (n : ℕ) (p : List ℕ)
         → is_enabled (part (S.bytes source.old) 0 luks1_size) n ≡ false
-        → AnswerWithin memory (T.bytes target.new) n p (refused NoSuchSlot)) }
+        → AnswerWithin allowed (T.bytes target.new) n p (refused NoSuchSlot)) }
 {
     let header = accepted_source(alloc, source, data_)?;
     judge(&header, target.len(), random)?;

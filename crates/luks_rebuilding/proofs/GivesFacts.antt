@@ -22,6 +22,7 @@ use Rattle.luks_rules.proofs.Deciding.{metadata_faultless}
 use Rattle.luks_meta.specs.Accepted.{IsMeta}
 use Rattle.luks_meta.specs.Reading.{decimal_in}
 use Rattle.luks_slot.specs.Opening.{slot_key}
+use Rattle.luks_slot.specs.declared.allowed.Allowed.{Allowed}
 use Rattle.luks_slot.specs.declared.plan.SlotPlan.{SlotPlan}
 use Rattle.luks_reading.specs.Answer.{opens, no_key, refused, AnswerWithin, HasNoKeyslot, HasPlanAs, HasRefusedPlanWithin, IsRefusalAsWithin, IsRefusalWithin, Opened, OpensWithin}
 use Rattle.luks_reading.specs.Checked.{WellFormed}
@@ -156,18 +157,18 @@ module _
     plan_here : (n : ℕ) (plan : SlotPlan) → HasLuks2Plan (json_at w 0) n plan → HasLuks2Plan (source.json) n plan
     plan_here n plan z = subst (λ (a : List ℕ). HasLuks2Plan a n plan) json_there z
 
-    module _ (memory n : ℕ) where
-      to_refusal : (f : OpenFault) → IsRefusedSlot memory (source.json) n f → IsRefusalAsWithin memory w n (luks2 0 InStep) f
+    module _ (allowed : Allowed) (n : ℕ) where
+      to_refusal : (f : OpenFault) → IsRefusedSlot allowed (source.json) n f → IsRefusalAsWithin allowed w n (luks2 0 InStep) f
       to_refusal (Head f) z = absurd z
       to_refusal (Meta f) z = absurd z
       to_refusal NoSuchSlot z = subst (λ (a : List ℕ). HasNoKeyslot a n) (sym json_there) z
       to_refusal SlotFree z = absurd z
       to_refusal Outside z = absurd z
-      to_refusal (Slot f) z = subst (λ (a : List ℕ). HasRefusedPlanWithin memory (HasLuks2Plan a n) f) (sym json_there) z
+      to_refusal (Slot f) z = subst (λ (a : List ℕ). HasRefusedPlanWithin allowed (HasLuks2Plan a n) f) (sym json_there) z
       to_refusal Device z = absurd z
       to_refusal Memory z = absurd z
 
-      from_refusal : (f : OpenFault) → IsRefusalAsWithin memory w n (luks2 0 InStep) f → IsRefusedSlot memory (source.json) n f
+      from_refusal : (f : OpenFault) → IsRefusalAsWithin allowed w n (luks2 0 InStep) f → IsRefusedSlot allowed (source.json) n f
       from_refusal (Head f) z = uuid_sound (uuid_field (header_at w 0)) field_is f z
       from_refusal (Meta f) z = (metadata_faultless (json_at w 0)).1 (j, meta_there) f z
       from_refusal NoSuchSlot z = subst (λ (a : List ℕ). HasNoKeyslot a n) json_there z
@@ -176,19 +177,19 @@ module _
           let inside = plan_inside n z.plan (plan_here n z.plan z.is) in
           let past = z.past in
           omega (arith, inside, past))
-      from_refusal (Slot f) z = subst (λ (a : List ℕ). HasRefusedPlanWithin memory (HasLuks2Plan a n) f) json_there z
+      from_refusal (Slot f) z = subst (λ (a : List ℕ). HasRefusedPlanWithin allowed (HasLuks2Plan a n) f) json_there z
       from_refusal Device z = z
       from_refusal Memory z = z
 
       -- there, by whatever counts
-      by_chosen : (f : OpenFault) → IsRefusalWithin memory w n f → IsRefusedSlot memory (source.json) n f
-      by_chosen f z = from_refusal f (subst (λ (c : Choice). IsRefusalAsWithin memory w n c f) (choices_agree w z.choice (luks2 0 InStep) z.chosen chosen) z.fault)
+      by_chosen : (f : OpenFault) → IsRefusalWithin allowed w n f → IsRefusedSlot allowed (source.json) n f
+      by_chosen f z = from_refusal f (subst (λ (c : Choice). IsRefusalAsWithin allowed w n c f) (choices_agree w z.choice (luks2 0 InStep) z.chosen chosen) z.fault)
 
-      refused_there : (f : OpenFault) → IsRefusedSlot memory (source.json) n f → IsRefusalWithin memory w n f
+      refused_there : (f : OpenFault) → IsRefusedSlot allowed (source.json) n f → IsRefusalWithin allowed w n f
       refused_there f z = record { choice = luks2 0 InStep; chosen = chosen; fault = to_refusal f z }
 
       module _ (p : List ℕ) where
-        key_there : (found : Option (List ℕ)) → GivesKey memory (source.json) v n p found → OpensWithin memory w n p found
+        key_there : (found : Option (List ℕ)) → GivesKey allowed (source.json) v n p found → OpensWithin allowed w n p found
         key_there found z = record {
           choice = luks2 0 InStep;
           chosen = chosen;
@@ -198,23 +199,23 @@ module _
           key = ap (λ (b : List ℕ). slot_key z.plan b p) (same_bytes n z.plan z.is) ∙ z.key;
         }
 
-        key_here : (found : Option (List ℕ)) → OpensWithin memory w n p found → GivesKey memory (source.json) v n p found
+        key_here : (found : Option (List ℕ)) → OpensWithin allowed w n p found → GivesKey allowed (source.json) v n p found
         key_here found z =
             let choice : z.choice ≡ luks2 0 InStep = choices_agree w z.choice (luks2 0 InStep) z.chosen chosen in
             let its = plan_here n z.plan (subst (λ (c : Choice). HasPlanAs w n c z.plan) choice z.is) in
             record {
               plan = z.plan;
               is = its;
-              unrefused = λ f bad. z.unrefused f (subst (λ (c : Choice). IsRefusalAsWithin memory w n c f) (sym choice) (to_refusal f bad));
+              unrefused = λ f bad. z.unrefused f (subst (λ (c : Choice). IsRefusalAsWithin allowed w n c f) (sym choice) (to_refusal f bad));
               key = ap (λ (b : List ℕ). slot_key z.plan b p) (sym (same_bytes n z.plan its)) ∙ z.key;
             }
 
-        pub gives_there : (a : Opened) → Gives memory (source.json) v n p a → AnswerWithin memory w n p a
+        pub gives_there : (a : Opened) → Gives allowed (source.json) v n p a → AnswerWithin allowed w n p a
         gives_there (refused f) z = (refused_there f z.0, λ g bad. z.1 g (by_chosen g bad))
         gives_there (opens k) z = key_there (Some k) z
         gives_there no_key z = key_there None z
 
-        pub gives_here : (a : Opened) → AnswerWithin memory w n p a → Gives memory (source.json) v n p a
+        pub gives_here : (a : Opened) → AnswerWithin allowed w n p a → Gives allowed (source.json) v n p a
         gives_here (refused f) z = (by_chosen f z.0, λ g bad. z.1 g (refused_there g bad))
         gives_here (opens k) z = key_here (Some k) z
         gives_here no_key z = key_here None z

@@ -4,6 +4,7 @@ ghost use Rattle.serde_json.specs.Data.{Data as Value};
 ghost use Rattle.luks_area.specs.Area.{Fit};
 ghost use Rattle.luks1_header.specs.Bytes.{IsUuid};
 ghost use Rattle.luks_meta.specs.Accepted.{IsMeta};
+ghost use Rattle.luks_slot.specs.declared.allowed.Allowed.{Allowed};
 ghost use Rattle.luks_reading.specs.Answer.{AnswerWithin, Opened};
 ghost use Rattle.luks_reading.specs.Checked.{WellFormed};
 ghost use Rattle.luks_reading.specs.Layout2.{Luks2Area};
@@ -21,8 +22,8 @@ pub fn one_candidate()
 {}
 
 /// The header that is made of the metadata at a place is well formed where the payload is elsewhere;
-/// and each of its keyslots answers by each passphrase and memory as the metadata's equations give of
-/// the bytes where its key areas stand in the source.
+/// and each of its keyslots answers by each passphrase, whatever is allowed, as the metadata's
+/// equations give of the bytes where its key areas stand in the source.
 pub fn rebuilt_header_opens_alike()
     ensures well_formed { (v random old w : List ℕ) (given : Option (List ℕ))
         (source : Source) (j : Value) → IsMeta source.json j → IsMade v given random old w source
@@ -34,6 +35,6 @@ pub fn rebuilt_header_opens_alike()
         → ((text : List ℕ) → given ≡ Some text → IsUuid text)
         → Fit (Luks2Area j source.size Elsewhere (length v)) (length v)
         → HasRegionInside j source.size (length w)
-        → (memory n : ℕ) (p : List ℕ) (a : Opened)
-        → Gives memory source.json v n p a ↔ AnswerWithin memory w n p a }
+        → (allowed : Allowed) (n : ℕ) (p : List ℕ) (a : Opened)
+        → Gives allowed source.json v n p a ↔ AnswerWithin allowed w n p a }
 {}

@@ -4,6 +4,7 @@ ghost use Rattle.luks_area.specs.Device.{IsSettled, IsUnchanged, is_failure};
 ghost use Rattle.luks_area.specs.Ranges.{SameBut};
 ghost use Rattle.luks_writing.specs.TwoDevices.{CountsEither};
 ghost use Rattle.luks_meta.specs.Content.{content};
+ghost use Rattle.luks_slot.specs.declared.allowed.Allowed.{Allowed};
 ghost use Rattle.luks_reading.specs.Answer.{AnswerWithin, Opened};
 ghost use Rattle.luks_reading.specs.Checked.{WellFormed};
 ghost use Rattle.luks_reading.specs.declared.report.Data.TheVariants.{Elsewhere};
@@ -87,15 +88,15 @@ pub fn rebuild<S: Device, T: Device>(
         (option_map (λ t. t.now) uuid.entry) random.now (T.bytes target.old) (T.bytes target.new) }
 
     // The header that was made: its metadata is the candidate's, and each keyslot gives by each
-    // passphrase and each memory what the equations give for that metadata and its key areas.
+    // passphrase, whatever is allowed, what the equations give for that metadata and its key areas.
     ensures rebuilt { S.tells → T.tells → OnOk result (IsRebuilt (S.bytes source.old) which
         (option_map (λ t. t.now) uuid.entry) random.now (T.bytes target.old) (T.bytes target.new)) }
     ensures well_formed { S.tells → T.tells
         → OnOk result (WellFormed (T.bytes target.new) Elsewhere) }
     ensures opens { S.tells → T.tells → OnOk result (OfTaken (S.bytes source.old) which
-        (λ taken. (memory n : ℕ) (p : List ℕ) (a : Opened)
-        → Gives memory taken.json (S.bytes source.old) n p a
-        ↔ AnswerWithin memory (T.bytes target.new) n p a)) }
+        (λ taken. (allowed : Allowed) (n : ℕ) (p : List ℕ) (a : Opened)
+        → Gives allowed taken.json (S.bytes source.old) n p a
+        ↔ AnswerWithin allowed (T.bytes target.new) n p a)) }
 {
     let found = find_candidate(alloc, source, which)?;
     judge(&found, source.len(), target.len(), uuid, random)?;

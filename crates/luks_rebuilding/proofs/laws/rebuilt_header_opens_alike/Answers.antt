@@ -5,5 +5,5 @@ pub returns-clause-well_formed : goal.returns-clause-well_formed
 returns-clause-well_formed c = well_formed
 
 pub returns-clause-opens : goal.returns-clause-opens
-returns-clause-opens c v random old w given source j meta x good fit region memory n p a =
-    (gives_there v random old w given source j meta x good fit region memory n p a, gives_here v random old w given source j meta x good fit region memory n p a)
+returns-clause-opens c v random old w given source j meta x good fit region allowed n p a =
+    (gives_there v random old w given source j meta x good fit region allowed n p a, gives_here v random old w given source j meta x good fit region allowed n p a)

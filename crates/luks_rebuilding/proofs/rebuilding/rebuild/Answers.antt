@@ -175,8 +175,8 @@ returns-clause-opens g c = λ source tells.
     record {
       source = source_of c.in_ok-found.found;
       taken = found.taken;
-      holds = λ memory n p a. (
-        gives_there v c.args.random.now old w (option_map (λ t. t.now) c.args.uuid) (source_of c.in_ok-found.found) (content c.in_ok-found.found.meta) meta made ready.uuid fit region memory n p a,
-        gives_here v c.args.random.now old w (option_map (λ t. t.now) c.args.uuid) (source_of c.in_ok-found.found) (content c.in_ok-found.found.meta) meta made ready.uuid fit region memory n p a,
+      holds = λ allowed n p a. (
+        gives_there v c.args.random.now old w (option_map (λ t. t.now) c.args.uuid) (source_of c.in_ok-found.found) (content c.in_ok-found.found.meta) meta made ready.uuid fit region allowed n p a,
+        gives_here v c.args.random.now old w (option_map (λ t. t.now) c.args.uuid) (source_of c.in_ok-found.found) (content c.in_ok-found.found.meta) meta made ready.uuid fit region allowed n p a,
       );
     }
