@@ -1,5 +1,5 @@
 -- The header of a LUKS1 volume that was accepted, and what is judged by it.
-use Rattle.std.specs.Prelude.{◌≡◌, ◌≢◌, ℕ, ◌<◌, ◌⊎◌, List, length, true, false, Option, Some, ⊤}
+use Rattle.std.specs.Prelude.{◌≡◌, ◌≢◌, ℕ, Bool, ◌<◌, ◌⊎◌, List, length, true, false, Option, Some, ⊤}
 use Rattle.luks_area.specs.Ranges.{part}
 use Rattle.luks1_header.specs.Header1.{luks1_size, IsLuks1}
 use Rattle.luks1_header.specs.declared.luks1.Luks1.{Luks1}
@@ -7,11 +7,12 @@ use Rattle.luks_head.specs.Selection.{luks1, Chosen}
 use Rattle.luks_making.specs.Derivations.{asked_few_turns, takes_memory}
 use Rattle.luks_making.specs.declared.derivation.AskedDerivation.{AskedDerivation}
 use Rattle.luks_slot.specs.declared.fault.SlotFault.{SlotFault}
+use Rattle.luks_slot.specs.Allowance.{without_memory}
 use Rattle.luks_slot.specs.declared.fault.SlotFault.TheVariants as slot
 use Rattle.luks_reading.specs.declared.check_fault.CheckFault.{CheckFault}
 use Rattle.luks_reading.specs.declared.open_fault.OpenFault.TheVariants as opening
 use Rattle.luks_reading.specs.declared.report.Data.{Data}
-use Rattle.luks_reading.specs.Answer.{Answer, no_key, opens, refused}
+use Rattle.luks_reading.specs.Answer.{AnswerWithin, no_key, opens, refused}
 use Rattle.luks_reading.specs.Checked.{First, IsFault, IsLuks1Volume, WellFormed}
 use Rattle.luks_edit.specs.declared.edit_fault.EditFault.{EditFault}
 use Rattle.luks_edit.specs.declared.edit_fault.EditFault.TheVariants as fault
@@ -45,30 +46,30 @@ abbrev pub IsUnaccepted : List ℕ → Data → EditFault → Type 0
 IsUnaccepted v payload (fault.NotAccepted f) = First v payload f
 IsUnaccepted v payload f = ⊥
 
--- ---- the keyslot that an edit opens
+-- ---- the keyslot that an edit opens, with ciphers and hashes of older disks where `older` says so
 
-pub record IsOpenedBy (v : List ℕ) (n : ℕ) (passphrase key : List ℕ) : Type 0 where
+pub record IsOpenedBy (older : Bool) (v : List ℕ) (n : ℕ) (passphrase key : List ℕ) : Type 0 where
   pub used : IsInUse v n
-  pub opened : Answer v n passphrase (opens key)
-  pub unlocked : Answer v n passphrase no_key → ⊥
-  pub unshut : (f : SlotFault) → Answer v n passphrase (refused (opening.Slot f)) → ⊥
+  pub opened : AnswerWithin (without_memory older) v n passphrase (opens key)
+  pub unlocked : AnswerWithin (without_memory older) v n passphrase no_key → ⊥
+  pub unshut : (f : SlotFault) → AnswerWithin (without_memory older) v n passphrase (refused (opening.Slot f)) → ⊥
 
-pub record IsLockedBy (v : List ℕ) (n : ℕ) (passphrase : List ℕ) : Type 0 where
+pub record IsLockedBy (older : Bool) (v : List ℕ) (n : ℕ) (passphrase : List ℕ) : Type 0 where
   pub used : IsInUse v n
-  pub answer : Answer v n passphrase no_key
+  pub answer : AnswerWithin (without_memory older) v n passphrase no_key
 
-pub record IsShutBy (v : List ℕ) (n : ℕ) (passphrase : List ℕ) (f : SlotFault) : Type 0 where
+pub record IsShutBy (older : Bool) (v : List ℕ) (n : ℕ) (passphrase : List ℕ) (f : SlotFault) : Type 0 where
   pub used : IsInUse v n
-  pub unlocked : Answer v n passphrase no_key → ⊥
-  pub answer : Answer v n passphrase (refused (opening.Slot f))
+  pub unlocked : AnswerWithin (without_memory older) v n passphrase no_key → ⊥
+  pub answer : AnswerWithin (without_memory older) v n passphrase (refused (opening.Slot f))
 
 -- why the keyslot doesn't open by the passphrase, unless the device failed
-abbrev pub IsUnopened : List ℕ → ℕ → List ℕ → EditFault → Type 0
-IsUnopened v n passphrase fault.NoSuchSlot = IsInUse v n → ⊥
-IsUnopened v n passphrase fault.Locked = IsLockedBy v n passphrase
-IsUnopened v n passphrase (fault.Slot f) = IsShutBy v n passphrase f
-IsUnopened v n passphrase fault.Device = ⊤
-IsUnopened v n passphrase f = ⊥
+abbrev pub IsUnopened : Bool → List ℕ → ℕ → List ℕ → EditFault → Type 0
+IsUnopened older v n passphrase fault.NoSuchSlot = IsInUse v n → ⊥
+IsUnopened older v n passphrase fault.Locked = IsLockedBy older v n passphrase
+IsUnopened older v n passphrase (fault.Slot f) = IsShutBy older v n passphrase f
+IsUnopened older v n passphrase fault.Device = ⊤
+IsUnopened older v n passphrase f = ⊥
 
 -- the fault of a keyslot, opened or sealed, as that of an edit
 abbrev pub keyslot_fault : SlotFault → EditFault
@@ -141,7 +142,7 @@ IsNewRefused v n asked random f = ⊥
 pub record IsSealedNew (payload : Data) (v : List ℕ) (s : Sealed) (random : List ℕ) (n : ℕ) (w : List ℕ) : Type 0 where
   pub used : IsInUse v s.opener.slot
   pub key : List ℕ
-  pub opened : Answer v s.opener.slot s.opener.passphrase.bytes.now (opens key)
+  pub opened : AnswerWithin (without_memory s.opener.passphrase.allowed.older) v s.opener.slot s.opener.passphrase.bytes.now (opens key)
   pub is_new : IsSealedIn v s n
   pub made : IsKeyslotMade v n (iterations_of s.derivation) s.passphrase.now key random w
   pub unrefused : (e : Edit) → deed_of e ≡ Seal s → IsUnrefused1 v payload e random

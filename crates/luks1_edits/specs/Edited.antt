@@ -1,14 +1,16 @@
 -- What an edit makes of a LUKS1 volume (LUKS1 On-Disk Format 1.2.3, 4.1 to 4.4).
-use Rattle.std.specs.Prelude.{◌≡◌, ℕ, ◌-◌, ◌*◌, ◌<◌, ◌≤◌, ◌⊎◌, List, length, take, drop, replicate, Option, Some, None, IfSome, IsSomeAnd, MatchOption}
+use Rattle.std.specs.Prelude.{◌≡◌, ℕ, Bool, ◌-◌, ◌*◌, ◌<◌, ◌≤◌, ◌⊎◌, List, length, take, drop, replicate, Option, Some, None, IfSome, IsSomeAnd, MatchOption}
 use Rattle.luks_area.specs.Ranges.{part, SameBut}
 use Rattle.luks1_header.specs.Header1.{active_word, disabled_word, enabled_word, entry, entry_iterations, entry_key_material_offset, entry_salt, entry_stripes, luks1_size}
 use Rattle.luks_making.specs.declared.derivation.AskedDerivation.{AskedDerivation}
 use Rattle.luks_making.specs.declared.derivation.NewDerivation.{NewDerivation}
 use Rattle.luks_making.specs.declared.derivation.NewDerivation.TheVariants.{Pbkdf2, Argon2i, Argon2id}
 use Rattle.luks_slot.specs.declared.plan.SlotPlan.{SlotPlan}
+use Rattle.luks_slot.specs.declared.allowed.Allowed.{Allowed}
+use Rattle.luks_slot.specs.Allowance.{without_memory}
 use Rattle.luks_slot.specs.Opening.{area_bytes}
 use Rattle.luks_slot.specs.Sealing.{IsSealed}
-use Rattle.luks_reading.specs.Answer.{Answer, opens}
+use Rattle.luks_reading.specs.Answer.{AnswerWithin, opens}
 use Rattle.luks_reading.specs.Plans.{HasLuks1Plan}
 use Rattle.luks_edit.specs.declared.edit.Edit.{Edit}
 use Rattle.luks_edit.specs.declared.deed.Place.{Place}
@@ -101,16 +103,17 @@ pub record IsRemoved (v : List ℕ) (slot : ℕ) (w : List ℕ) : Type 0 where
   pub freed : IsFreed (entry v slot) (entry w slot)
   pub wiped : IsWiped v slot w
 
--- a keyslot was made in which `new` opens the key that `old` opened in the keyslot `opener`, with a
--- salt and stripes of the random bytes, and nothing else changed
+-- a keyslot was made in which `new` opens the key that `old` opened in the keyslot `opener`, with ciphers
+-- and hashes of older disks where `older` says so, with a salt and stripes of the random bytes, and
+-- nothing else changed
 pub record IsAdded
-    (v : List ℕ) (opener : ℕ) (old new : List ℕ) (to : Option ℕ) (iterations : ℕ)
+    (older : Bool) (v : List ℕ) (opener : ℕ) (old new : List ℕ) (to : Option ℕ) (iterations : ℕ)
     (random w : List ℕ)
     : Type 0 where
   pub slot : ℕ
   pub is_new : IsNewKeyslot v to slot
   pub key : List ℕ
-  pub opened : Answer v opener old (opens key)
+  pub opened : AnswerWithin (without_memory older) v opener old (opens key)
   pub rest : SameBut (IsOfKeyslots v (IsEither slot slot)) v w
   pub made : IsMade (entry v slot) (entry w slot) iterations (take 32 random)
   pub holds : HoldsKey w slot new key (drop 32 random)
@@ -118,12 +121,12 @@ pub record IsAdded
 -- the least free keyslot was made, in which `new` opens the key that `old` opened in the keyslot
 -- `slot`, that one was removed, and nothing else changed
 pub record IsChanged
-    (v : List ℕ) (slot : ℕ) (old new : List ℕ) (iterations : ℕ) (random w : List ℕ)
+    (older : Bool) (v : List ℕ) (slot : ℕ) (old new : List ℕ) (iterations : ℕ) (random w : List ℕ)
     : Type 0 where
   pub fresh : ℕ
   pub is_free : IsLeastFree v fresh
   pub key : List ℕ
-  pub opened : Answer v slot old (opens key)
+  pub opened : AnswerWithin (without_memory older) v slot old (opens key)
   pub rest : SameBut (IsOfKeyslots v (IsEither slot fresh)) v w
   pub made : IsMade (entry v fresh) (entry w fresh) iterations (take 32 random)
   pub holds : HoldsKey w fresh new key (drop 32 random)
@@ -135,18 +138,19 @@ pub record IsChanged
 abbrev pub After1 : List ℕ → Edit → List ℕ → List ℕ → Type 0
 After1 v e random w = MatchDeed (deed_of e)
     (λ s. MatchPlace s.place
-    (λ to. IsAdded v s.opener.slot s.opener.passphrase.bytes.now s.passphrase.now to (iterations_of s.derivation) random w)
-    (IsChanged v s.opener.slot s.opener.passphrase.bytes.now s.passphrase.now (iterations_of s.derivation) random w))
+    (λ to. IsAdded s.opener.passphrase.allowed.older v s.opener.slot s.opener.passphrase.bytes.now s.passphrase.now to (iterations_of s.derivation) random w)
+    (IsChanged s.opener.passphrase.allowed.older v s.opener.slot s.opener.passphrase.bytes.now s.passphrase.now (iterations_of s.derivation) random w))
     (λ r. IsRemoved v r.slot w)
     (λ label. MatchOption label (w ≡ v) (λ text. ⊥))
 
 -- ---- what opens after an edit
 
--- a keyslot that the edit made opens by its new passphrase to the key that the old one opened
+-- a keyslot that the edit made opens by its new passphrase to the key that the old one opened, whatever is
+-- allowed
 abbrev pub OpensAfter1 : List ℕ → Edit → List ℕ → Type 0
-OpensAfter1 v e w = IfSome (sealed_by e) (λ s. (n : ℕ) (key : List ℕ) → IsSealedIn v s n
-    → Answer v s.opener.slot s.opener.passphrase.bytes.now (opens key)
-    → Answer w n s.passphrase.now (opens key))
+OpensAfter1 v e w = IfSome (sealed_by e) (λ s. (allowed : Allowed) (n : ℕ) (key : List ℕ) → IsSealedIn v s n
+    → AnswerWithin allowed v s.opener.slot s.opener.passphrase.bytes.now (opens key)
+    → AnswerWithin allowed w n s.passphrase.now (opens key))
 
 -- the keyslot that the edit removes
 abbrev pub Removes : Edit → ℕ → Type 0

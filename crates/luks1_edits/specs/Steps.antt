@@ -1,11 +1,12 @@
 -- What the steps of an edit of a LUKS1 volume leave, each of which writes one range.
-use Rattle.std.specs.Prelude.{◌≡◌, ℕ, List, drop, take, ⊤, Some}
+use Rattle.std.specs.Prelude.{◌≡◌, ℕ, Bool, List, drop, take, ⊤, Some}
 use Rattle.luks_area.specs.declared.area.Area.{Area}
 use Rattle.luks_area.specs.Ranges.{IsAt, SameBut}
 use Rattle.luks1_header.specs.Header1.{entry, entry_size, HoldsEntry}
 use Rattle.luks1_header.specs.declared.luks1.Luks1Slot.{Luks1Slot}
 use Rattle.luks_slot.specs.declared.plan.SlotPlan.{SlotPlan}
-use Rattle.luks_slot.specs.Refusal.{slot_refusal}
+use Rattle.luks_slot.specs.Allowance.{without_memory}
+use Rattle.luks_slot.specs.Refusal.{slot_refusal_within}
 use Rattle.luks_slot.specs.declared.fault.SlotFault.{SlotFault}
 use Rattle.luks_reading.specs.Plans.{IsLuks1Plan}
 use Rattle.luks_edit.specs.declared.edit_fault.EditFault.{EditFault}
@@ -29,15 +30,16 @@ pub record IsKeyslotMade
   pub made : IsMade (entry v n) (entry w n) iterations (take 32 random)
   pub holds : HoldsKey w n passphrase key (drop 32 random)
 
--- a keyslot of the header `h` has a plan that is refused by `f`
-pub record HasRefusedKeyslot (h : List ℕ) (f : SlotFault) : Type 0 where
+-- a keyslot of the header `h` has a plan that is refused by `f`, with ciphers and hashes of older disks
+-- where `older` says so
+pub record HasRefusedKeyslot (older : Bool) (h : List ℕ) (f : SlotFault) : Type 0 where
   pub plan : SlotPlan
   pub bytes : List ℕ
   pub is : IsLuks1Plan h bytes plan
-  pub refused : slot_refusal plan ≡ Some f
+  pub refused : slot_refusal_within (without_memory older) plan ≡ Some f
 
 -- why a keyslot isn't made, unless the device failed
-abbrev pub IsUnmade : List ℕ → EditFault → Type 0
-IsUnmade h (fault.Slot f) = HasRefusedKeyslot h f
-IsUnmade h fault.Device = ⊤
-IsUnmade h f = ⊥
+abbrev pub IsUnmade : Bool → List ℕ → EditFault → Type 0
+IsUnmade older h (fault.Slot f) = HasRefusedKeyslot older h f
+IsUnmade older h fault.Device = ⊤
+IsUnmade older h f = ⊥

@@ -4,6 +4,7 @@ ghost use Rattle.luks_area.specs.declared.area.Area.{Area as TheArea};
 ghost use Rattle.luks_area.specs.declared.area.AreaName.TheVariants.{Slot};
 ghost use Rattle.luks_area.specs.Ranges.{part, SameBut};
 ghost use Rattle.luks_head.specs.Selection.{Chosen, luks1};
+ghost use Rattle.luks_slot.specs.declared.allowed.Allowed.{Allowed as TheAllowed};
 ghost use Rattle.luks_reading.specs.Answer.{AnswerWithin, Opened};
 ghost use Rattle.luks_reading.specs.Checked.{AreaOf, WellFormed};
 ghost use Rattle.luks_reading.specs.declared.report.Data.{Data as Payload};
@@ -20,8 +21,8 @@ ghost use Rattle.luks1_edits.specs.Refused.{IsEditFault1, IsUnrefused1, Refusal1
 /// The answer of a keyslot of LUKS1 depends on the 208 bytes before the keyslots, its entry, its
 /// area and the volume's length alone.
 pub fn luks1_answer_is_local()
-    ensures { (memory n : ℕ) (v w p : List ℕ) (a : Opened) → Chosen v luks1 → HasSameKeyslot n v w
-        → AnswerWithin memory v n p a ↔ AnswerWithin memory w n p a }
+    ensures { (allowed : TheAllowed) (n : ℕ) (v w p : List ℕ) (a : Opened) → Chosen v luks1 → HasSameKeyslot n v w
+        → AnswerWithin allowed v n p a ↔ AnswerWithin allowed w n p a }
 {}
 
 /// After an edit of a well formed LUKS1 volume that nothing refused, the volume is a well formed
@@ -44,7 +45,7 @@ pub fn luks1_edit_keeps_volume()
 {}
 
 /// After an edit of a well formed LUKS1 volume that nothing refused, a keyslot that it made opens
-/// by its new passphrase to the key that the old one opened.
+/// by its new passphrase to the key that the old one opened, whatever is allowed.
 pub fn luks1_edit_opens()
     ensures { (payload : Payload) (e : TheEdit) (v random w : List ℕ)
         → Chosen v luks1 → WellFormed v payload → IsUnrefused1 v payload e random

@@ -4,21 +4,23 @@ ghost use Rattle.luks_area.specs.Device.{CountsFailure, IsSettled};
 ghost use Rattle.luks1_header.specs.Header1.{entry, key_bytes_of, HoldsEntry, HoldsSlots};
 ghost use Rattle.luks_edit.specs.EditFaults.{is_edit_failure};
 ghost use Rattle.luks1_edits.specs.Accepted.{IsAcceptedAt, IsHeaderOf};
-ghost use Rattle.luks1_edits.specs.Edited.{IsMade};
+ghost use Rattle.luks1_edits.specs.Edited.{iterations_of, IsMade};
 ghost use Rattle.luks1_edits.specs.Leftovers.{IsSealedFirst};
 ghost use Rattle.luks1_edits.specs.Refused.{keyslot_need};
 ghost use Rattle.luks1_edits.specs.Steps.{IsKeyslotMade, IsUnmade};
 
 use crate::accepted::AcceptedHeader;
 use crate::freeing::entry_bytes;
+use crate::keyslots::iterations_of;
 use crate::steps::write_entry;
 use crate::unlocking::keyslot_fault;
 use luks_area::Device;
-use luks_edit::EditFault;
+use luks_edit::{EditFault, Sealed};
 use luks_head::{Luks1, Luks1Slot, SlotState};
 use luks_reading::luks1_plan;
-use luks_slot::Key;
-use luks_writing::seal_area;
+use luks_slot::{Allowed, Key};
+use luks_writing::seal_area_within;
+use std::alloc::Global;
 
 /// The salt of a new keyslot: the first 32 of the random bytes.
 fn salt_in(random: &[u8]) -> [u8; 32]
@@ -55,19 +57,20 @@ fn new_slot(header: &Luks1, n: u8, iterations: u32, random: &[u8]) -> Luks1Slot
     }
 }
 
-/// Makes the keyslot `n`, in which the passphrase opens the key: the key is sealed in its area, and
-/// then its entry is written.
+/// Makes the keyslot `n`, in which the new passphrase opens the key: the key is sealed in its area, and
+/// then its entry is written. It has the volume's cipher and hash, which are accepted as those of the
+/// keyslot that was opened.
 pub(crate) fn make_keyslot<D: Device>(
+    alloc: Global,
     device: &mut D,
     header: &AcceptedHeader<'_>,
     n: u8,
-    passphrase: &[u8],
+    sealed: &Sealed<'_>,
     key: &Key,
-    iterations: u32,
     random: &[u8],
 ) -> Result<(), EditFault>
     requires numbered { n < 8 }
-    requires iterated { 1 ≤ iterations }
+    requires iterated { 1 ≤ iterations_of sealed.now.derivation }
     requires key_length { length key.now ≡ key_bytes_of header.now.bytes.now }
     requires random_length { length random.now ≡ keyslot_need header.now.bytes.now n }
     requires accepted { IsAcceptedAt header.now (D.size device.old) }
@@ -77,20 +80,28 @@ pub(crate) fn make_keyslot<D: Device>(
     ensures settled { D.tells → D.failed device.new ≡ D.failed device.old → IsSettled D.unsettled device.new }
     ensures count { CountsFailure is_edit_failure result
         (D.failed device.old) (D.failed device.new) }
-    ensures fault { IfErr result (IsUnmade header.now.bytes.now) }
+    ensures fault { IfErr result (IsUnmade sealed.now.opener.passphrase.allowed.older
+        header.now.bytes.now) }
     ensures made { D.tells
         → IsHeaderOf header.now.bytes.now header.now.data_ (D.bytes device.old)
-        → OnOk result (IsKeyslotMade (D.bytes device.old) n iterations passphrase.now key.now
-        random.now (D.bytes device.new)) }
+        → OnOk result (IsKeyslotMade (D.bytes device.old) n
+        (iterations_of sealed.now.derivation) sealed.now.passphrase.now key.now random.now
+        (D.bytes device.new)) }
     ensures torn { D.tells
         → IsHeaderOf header.now.bytes.now header.now.data_ (D.bytes device.old)
-        → OnErr result (IsSealedFirst (D.bytes device.old) n iterations passphrase.now key.now
-        random.now (D.bytes device.new)) }
+        → OnErr result (IsSealedFirst (D.bytes device.old) n
+        (iterations_of sealed.now.derivation) sealed.now.passphrase.now key.now random.now
+        (D.bytes device.new)) }
 {
-    let slot = new_slot(&header.fields, n, iterations, random);
+    let slot = new_slot(&header.fields, n, iterations_of(sealed.derivation), random);
     let entry = entry_bytes(&header.fields, n, slot);
     let plan = luks1_plan(&header.fields.common, &slot);
-    match seal_area(device, &plan, passphrase, key, stripes_in(random)) {
+    let allowed = Allowed {
+        memory: 0,
+        older: sealed.opener.passphrase.allowed.older,
+    };
+    let stripes = stripes_in(random);
+    match seal_area_within(alloc, device, &plan, sealed.passphrase, allowed, key, stripes) {
         Ok(()) => {}
         Err(fault) => return Err(keyslot_fault(fault)),
     }

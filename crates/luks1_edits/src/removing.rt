@@ -43,7 +43,7 @@ pub(crate) fn remove<D: Device>(
         device,
         header,
         opener_of(removed.slot, removed.by_),
-        removed.passphrase.bytes,
+        &removed.passphrase,
     )?;
     if is_last(&header.fields, removed.slot) {
         return Err(EditFault::LastSlot);

@@ -10,7 +10,7 @@ ghost use Rattle.luks1_edits.specs.Replies.{EndsBy1, Replies1};
 
 use crate::accepted::AcceptedHeader;
 use crate::freeing::free_keyslot;
-use crate::keyslots::{iterations_of, judge_new, new_keyslot, number_asked};
+use crate::keyslots::{judge_new, new_keyslot, number_asked};
 use crate::making::make_keyslot;
 use crate::unlocking::unlock;
 use luks_area::Device;
@@ -82,17 +82,9 @@ fn make<D: Device>(
         (D.bytes device.new)) }
 {
     let opener = sealed.opener;
-    let key = unlock(alloc, device, header, opener.slot, opener.passphrase.bytes)?;
+    let key = unlock(alloc, device, header, opener.slot, &opener.passphrase)?;
     let n = new_keyslot(&header.fields, number_asked(sealed.place))?;
     judge_new(&header.fields, n, sealed.derivation, random)?;
-    make_keyslot(
-        device,
-        header,
-        n,
-        sealed.passphrase,
-        &key,
-        iterations_of(sealed.derivation),
-        random,
-    )?;
+    make_keyslot(alloc, device, header, n, sealed, &key, random)?;
     Ok(n)
 }

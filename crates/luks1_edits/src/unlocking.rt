@@ -9,9 +9,9 @@ ghost use Rattle.luks1_edits.specs.Edited.{IsInUse};
 use crate::accepted::AcceptedHeader;
 use crate::keyslots::is_used;
 use luks_area::Device;
-use luks_edit::EditFault;
+use luks_edit::{EditFault, Passphrase};
 use luks_reading::luks1_plan;
-use luks_slot::{Key, SlotFault, open};
+use luks_slot::{Allowed, Key, SlotFault, open_within};
 use std::alloc::Global;
 
 /// The fault of a keyslot, opened or sealed, as that of an edit.
@@ -26,13 +26,14 @@ pub(crate) fn keyslot_fault(fault: SlotFault) -> EditFault
 }
 
 /// The key that the keyslot `n` opens to, or why it doesn't open: `NoSuchSlot`, `Locked`, `Slot`,
-/// or the device's failure.
+/// or the device's failure. Ciphers and hashes of older disks are accepted where the passphrase allows
+/// them.
 pub(crate) fn unlock<D: Device>(
     alloc: Global,
     device: &mut D,
     header: &AcceptedHeader<'_>,
     n: u8,
-    passphrase: &[u8],
+    passphrase: &Passphrase<'_>,
 ) -> Result<Key, EditFault>
     requires room { D.failed device.old + 1 < 2 ^ 64 }
     requires accepted { IsAcceptedAt header.now (D.size device.old) }
@@ -44,17 +45,23 @@ pub(crate) fn unlock<D: Device>(
     ensures length { IfOk result (λ key. length key ≡ key_bytes_of header.now.bytes.now) }
     ensures opened { D.tells
         → IsHeaderOf header.now.bytes.now header.now.data_ (D.bytes device.old)
-        → IfOk result (IsOpenedBy (D.bytes device.old) n passphrase.now) }
+        → IfOk result (IsOpenedBy passphrase.now.allowed.older (D.bytes device.old) n
+        passphrase.now.bytes.now) }
     ensures refused { D.tells
         → IsHeaderOf header.now.bytes.now header.now.data_ (D.bytes device.old)
-        → IfErr result (IsUnopened (D.bytes device.old) n passphrase.now) }
+        → IfErr result (IsUnopened passphrase.now.allowed.older (D.bytes device.old) n
+        passphrase.now.bytes.now) }
 {
     if n > 7 || !is_used(&header.fields, n) {
         return Err(EditFault::NoSuchSlot);
     }
     let slot = &header.fields.slots[n as usize];
     let plan = luks1_plan(&header.fields.common, slot);
-    match open(alloc, device, &plan, passphrase) {
+    let allowed = Allowed {
+        memory: 0,
+        older: passphrase.allowed.older,
+    };
+    match open_within(alloc, device, &plan, passphrase.bytes, allowed) {
         Ok(found) => match found {
             Some(key) => Ok(key),
             None => Err(EditFault::Locked),
