@@ -7,6 +7,7 @@ use Rattle.luks1_header.specs.declared.fault.HeadFault.{HeadFault}
 use Rattle.luks1_header.specs.Header1.{entry}
 use Rattle.luks_head.specs.Selection.{Choice, luks1, luks2, nothing}
 use Rattle.luks_head.proofs.ChoiceFacts.{choices_agree}
+use Rattle.luks_slot.specs.declared.allowed.Allowed.{Allowed}
 use Rattle.luks_slot.specs.declared.fault.SlotFault.{SlotFault}
 use Rattle.luks_slot.specs.declared.fault.SlotFault.TheVariants as fault
 use Rattle.luks_slot.specs.declared.plan.Derivation.{Derivation}
@@ -68,16 +69,16 @@ pub nothing_taken : (v : List ℕ) (n : ℕ) → TakesMemory 0 v n → ⊥
 nothing_taken v n x = taken_as v n x.choice x.plan x.is x.unrefused x.argon2
 
 -- none is taken of a volume that takes none
-none_taken_as : (memory : ℕ) (v : List ℕ) (n : ℕ) (x : TakesMemory memory v n) (c : Choice) → x.choice ≡ c → (f : HeadFault) → IsReadFaultAs v c (reading.Head f) → ⊥
-none_taken_as memory v n x luks1 is f fault_ = fault_
-none_taken_as memory v n x (luks2 o copies) is f fault_ = x.unrefused (Head f) (subst (λ d. IsRefusalAsWithin memory v n d (Head f)) (sym is) fault_)
-none_taken_as memory v n x nothing is f fault_ = subst (λ d. HasPlanAs v n d x.plan) is x.is
+none_taken_as : (allowed : Allowed) (v : List ℕ) (n : ℕ) (x : TakesMemory allowed v n) (c : Choice) → x.choice ≡ c → (f : HeadFault) → IsReadFaultAs v c (reading.Head f) → ⊥
+none_taken_as allowed v n x luks1 is f fault_ = fault_
+none_taken_as allowed v n x (luks2 o copies) is f fault_ = x.unrefused (Head f) (subst (λ d. IsRefusalAsWithin allowed v n d (Head f)) (sym is) fault_)
+none_taken_as allowed v n x nothing is f fault_ = subst (λ d. HasPlanAs v n d x.plan) is x.is
 
-pub none_taken : (memory : ℕ) (v : List ℕ) (n : ℕ) → TakesMemory memory v n → TakesNoMemory v → ⊥
-none_taken memory v n x (inl chosen) =
+pub none_taken : (allowed : Allowed) (v : List ℕ) (n : ℕ) → TakesMemory allowed v n → TakesNoMemory v → ⊥
+none_taken allowed v n x (inl chosen) =
     let is : HasLuks1Plan (part v 0 592) n x.plan = subst (λ d. HasPlanAs v n d x.plan) (choices_agree v x.choice luks1 x.chosen chosen) x.is in
     luks1_never (part v 0 592) (entry (part v 0 592) n) x.plan.derivation is.is.derivation x.argon2
-none_taken memory v n x (inr unread) = none_taken_as memory v n x unread.1.choice (choices_agree v x.choice unread.1.choice x.chosen unread.1.chosen) unread.0 unread.1.fault
+none_taken allowed v n x (inr unread) = none_taken_as allowed v n x unread.1.choice (choices_agree v x.choice unread.1.choice x.chosen unread.1.chosen) unread.0 unread.1.fault
 
 -- ---- more
 

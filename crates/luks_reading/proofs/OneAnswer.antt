@@ -8,6 +8,7 @@ use Rattle.luks_rules.specs.declared.fault.MetaFault.{MetaFault}
 use Rattle.luks_meta.specs.Accepted.{IsMeta}
 use Rattle.luks_meta.specs.MetaFault.{Json, IsMetaFault}
 use Rattle.luks_meta.specs.Naming.{IsDigestOf}
+use Rattle.luks_slot.specs.declared.allowed.Allowed.{Allowed}
 use Rattle.luks_slot.specs.declared.plan.SlotPlan.{SlotPlan}
 use Rattle.luks_reading.specs.declared.open_fault.OpenFault.{OpenFault}
 use Rattle.luks_reading.specs.declared.open_fault.OpenFault.TheVariants.{Meta, Device, Memory}
@@ -42,40 +43,40 @@ module _
     (metadata : (json : List ℕ) → ((f : MetaFault) → IsMetaFault json f → ⊥) ↔ ((j : Value) × IsMeta json j))
     (digest : (json : List ℕ) (j : Value) → IsMeta json j → (n m k : ℕ) → IsDigestOf j n m → IsDigestOf j n k → m ≡ k)
   where
-    one_plan : (memory : ℕ) (v : List ℕ) (n : ℕ) (c : Choice) (a b : SlotPlan) → HasPlanAs v n c a → HasPlanAs v n c b
-        → ((f : OpenFault) → IsRefusalAsWithin memory v n c f → ⊥) → SameFields a b
-    one_plan memory v n luks1 a b x y clear = one_luks1_plan (part v 0 592) n a b x y
-    one_plan memory v n (luks2 o copies) a b x y clear =
+    one_plan : (allowed : Allowed) (v : List ℕ) (n : ℕ) (c : Choice) (a b : SlotPlan) → HasPlanAs v n c a → HasPlanAs v n c b
+        → ((f : OpenFault) → IsRefusalAsWithin allowed v n c f → ⊥) → SameFields a b
+    one_plan allowed v n luks1 a b x y clear = one_luks1_plan (part v 0 592) n a b x y
+    one_plan allowed v n (luks2 o copies) a b x y clear =
         let json = json_at v o in
         let meta = (metadata json).0 (λ f is. clear (Meta f) is) in
         one_luks2_plan json meta.0 n a b (record {
           value = λ i holds. value json meta.0 i meta.1.json holds;
           digest = λ m k p q. digest json meta.0 meta.1 n m k p q;
         }) x y
-    one_plan memory v n nothing a b x y clear = absurd x
+    one_plan allowed v n nothing a b x y clear = absurd x
 
     -- the plans of a keyslot give one key
-    pub found_once : (memory : ℕ) (v : List ℕ) (n : ℕ) (p : List ℕ) (a b : Option (List ℕ)) → OpensWithin memory v n p a → OpensWithin memory v n p b → a ≡ b
-    found_once memory v n p a b x y =
+    pub found_once : (allowed : Allowed) (v : List ℕ) (n : ℕ) (p : List ℕ) (a b : Option (List ℕ)) → OpensWithin allowed v n p a → OpensWithin allowed v n p b → a ≡ b
+    found_once allowed v n p a b x y =
         let e : y.choice ≡ x.choice = one v y.choice x.choice y.chosen x.chosen in
         let plan = subst (λ c. HasPlanAs v n c y.plan) e y.is in
-        sym x.key ∙ same_answer x.plan y.plan v p (one_plan memory v n x.choice x.plan y.plan x.is plan x.unrefused) ∙ y.key
+        sym x.key ∙ same_answer x.plan y.plan v p (one_plan allowed v n x.choice x.plan y.plan x.is plan x.unrefused) ∙ y.key
 
     -- an answer that is a key or none rules out each refusal
-    clash : (memory : ℕ) (v : List ℕ) (n : ℕ) (p : List ℕ) (f : OpenFault) (found : Option (List ℕ)) → AnswerWithin memory v n p (refused f) → OpensWithin memory v n p found → ⊥
-    clash memory v n p f found x y =
-        y.unrefused f (subst (λ c. IsRefusalAsWithin memory v n c f) (one v x.0.choice y.choice x.0.chosen y.chosen) x.0.fault)
+    clash : (allowed : Allowed) (v : List ℕ) (n : ℕ) (p : List ℕ) (f : OpenFault) (found : Option (List ℕ)) → AnswerWithin allowed v n p (refused f) → OpensWithin allowed v n p found → ⊥
+    clash allowed v n p f found x y =
+        y.unrefused f (subst (λ c. IsRefusalAsWithin allowed v n c f) (one v x.0.choice y.choice x.0.chosen y.chosen) x.0.fault)
 
-    pub one_answer : (memory : ℕ) (v : List ℕ) (n : ℕ) (p : List ℕ) (a b : Opened) → AnswerWithin memory v n p a → AnswerWithin memory v n p b → IsSameAnswer a b
-    one_answer memory v n p (opens k) (opens l) x y = let same = found_once memory v n p (Some k) (Some l) x y in cc
-    one_answer memory v n p (opens k) no_key x y = let same = found_once memory v n p (Some k) None x y in absurd (cc)
-    one_answer memory v n p (opens k) (refused g) x y = clash memory v n p g (Some k) y x
-    one_answer memory v n p no_key (opens l) x y = let same = found_once memory v n p None (Some l) x y in absurd (cc)
-    one_answer memory v n p no_key no_key x y = tt
-    one_answer memory v n p no_key (refused g) x y = clash memory v n p g None y x
-    one_answer memory v n p (refused f) (opens l) x y = clash memory v n p f (Some l) x y
-    one_answer memory v n p (refused f) no_key x y = clash memory v n p f None x y
-    one_answer memory v n p (refused f) (refused g) x y = least_once open_key (IsRefusalWithin memory v n) f g x y
+    pub one_answer : (allowed : Allowed) (v : List ℕ) (n : ℕ) (p : List ℕ) (a b : Opened) → AnswerWithin allowed v n p a → AnswerWithin allowed v n p b → IsSameAnswer a b
+    one_answer allowed v n p (opens k) (opens l) x y = let same = found_once allowed v n p (Some k) (Some l) x y in cc
+    one_answer allowed v n p (opens k) no_key x y = let same = found_once allowed v n p (Some k) None x y in absurd (cc)
+    one_answer allowed v n p (opens k) (refused g) x y = clash allowed v n p g (Some k) y x
+    one_answer allowed v n p no_key (opens l) x y = let same = found_once allowed v n p None (Some l) x y in absurd (cc)
+    one_answer allowed v n p no_key no_key x y = tt
+    one_answer allowed v n p no_key (refused g) x y = clash allowed v n p g None y x
+    one_answer allowed v n p (refused f) (opens l) x y = clash allowed v n p f (Some l) x y
+    one_answer allowed v n p (refused f) no_key x y = clash allowed v n p f None x y
+    one_answer allowed v n p (refused f) (refused g) x y = least_once open_key (IsRefusalWithin allowed v n) f g x y
 
 -- ---- so a call's answer is the only one
 
@@ -103,7 +104,7 @@ memory_agrees (opens k) = tt
 memory_agrees no_key = tt
 memory_agrees (refused g) = tt
 
-pub err_agrees : (allowed : ℕ) (v : List ℕ) (n : ℕ) (p : List ℕ) → ((a b : Opened) → AnswerWithin allowed v n p a → AnswerWithin allowed v n p b → IsSameAnswer a b)
+pub err_agrees : (allowed : Allowed) (v : List ℕ) (n : ℕ) (p : List ℕ) → ((a b : Opened) → AnswerWithin allowed v n p a → AnswerWithin allowed v n p b → IsSameAnswer a b)
     → (f : OpenFault) → IsRefusedByWithin allowed v n p f → (a : Opened) → AnswerWithin allowed v n p a → Agrees a (Err f)
 err_agrees allowed v n p one f why a y = elim (ending f) [
   | inl device ↦ subst (λ g. Agrees a (Err g)) (sym device) (device_agrees a)
@@ -113,8 +114,8 @@ err_agrees allowed v n p one f why a y = elim (ending f) [
   ])
 ]
 
-pub agrees : (memory : ℕ) (v : List ℕ) (n : ℕ) (p : List ℕ) → ((a b : Opened) → AnswerWithin memory v n p a → AnswerWithin memory v n p b → IsSameAnswer a b)
-    → (r : Result (Option (List ℕ)) OpenFault) → IfOk r (λ found. AnswerWithin memory v n p (opened_to found)) → IfErr r (IsRefusedByWithin memory v n p)
-    → (a : Opened) → AnswerWithin memory v n p a → Agrees a r
-agrees memory v n p one (Ok found) gives why a y = ok_agrees found a (one a (opened_to found) y gives)
-agrees memory v n p one (Err f) gives why a y = err_agrees memory v n p one f why a y
+pub agrees : (allowed : Allowed) (v : List ℕ) (n : ℕ) (p : List ℕ) → ((a b : Opened) → AnswerWithin allowed v n p a → AnswerWithin allowed v n p b → IsSameAnswer a b)
+    → (r : Result (Option (List ℕ)) OpenFault) → IfOk r (λ found. AnswerWithin allowed v n p (opened_to found)) → IfErr r (IsRefusedByWithin allowed v n p)
+    → (a : Opened) → AnswerWithin allowed v n p a → Agrees a r
+agrees allowed v n p one (Ok found) gives why a y = ok_agrees found a (one a (opened_to found) y gives)
+agrees allowed v n p one (Err f) gives why a y = err_agrees allowed v n p one f why a y

@@ -4,6 +4,7 @@ use Rattle.std.proofs.lemmas.List.Elements.{All-head, All-tail}
 use Rattle.luks_head.specs.Selection.{Choice, luks1, luks2, nothing}
 use Rattle.luks_head.proofs.ChoiceFacts.{choices_agree}
 use Rattle.luks_rules.proofs.AreaFaults.{one_value}
+use Rattle.luks_slot.specs.declared.allowed.Allowed.{Allowed}
 use Rattle.luks_reading.specs.declared.open_fault.OpenFault.{OpenFault}
 use Rattle.luks_reading.specs.declared.open_fault.OpenFault.TheVariants.{Device, Memory}
 use Rattle.luks_reading.specs.Answer.{open_key, AnswerWithin, opens}
@@ -64,23 +65,23 @@ same_order v (luks2 o copies) a b x y =
     x.1.1 ∙ ap luks2_order (one_value (json_at v o) x.0 y.0 x.1.0 y.1.0) ∙ sym y.1.1
 same_order v nothing a b x y = absurd x
 
-unlocks_once : (memory : ℕ) (v p : List ℕ) (a b : Option (ℕ × List ℕ)) → Unlocks memory v p a → Unlocks memory v p b → a ≡ b
-unlocks_once memory v p a b x y =
+unlocks_once : (allowed : Allowed) (v p : List ℕ) (a b : Option (ℕ × List ℕ)) → Unlocks allowed v p a → Unlocks allowed v p b → a ≡ b
+unlocks_once allowed v p a b x y =
     let same : y.order ≡ x.order = same_order v x.choice y.order x.order
     (subst (λ c. IsOrderAs v c y.order) (choices_agree v y.choice x.choice y.chosen x.chosen) y.ordered) x.ordered in
-    gives_once (DoesNotOpen memory v p) (λ n k. AnswerWithin memory v n p (opens k)) x.order a b
-    (λ n k shut key. shut k key) (λ n k l f g. one_answer memory v n p (opens k) (opens l) f g)
-    x.gives (subst (λ order. GivesFirst (DoesNotOpen memory v p) (λ n k. AnswerWithin memory v n p (opens k)) order b) same y.gives)
+    gives_once (DoesNotOpen allowed v p) (λ n k. AnswerWithin allowed v n p (opens k)) x.order a b
+    (λ n k shut key. shut k key) (λ n k l f g. one_answer allowed v n p (opens k) (opens l) f g)
+    x.gives (subst (λ order. GivesFirst (DoesNotOpen allowed v p) (λ n k. AnswerWithin allowed v n p (opens k)) order b) same y.gives)
 
-clash : (memory : ℕ) (v p : List ℕ) (f : OpenFault) (found : Option (ℕ × List ℕ)) → UnlockAnswer memory v p (locked f) → Unlocks memory v p found → ⊥
-clash memory v p f found x y =
+clash : (allowed : Allowed) (v p : List ℕ) (f : OpenFault) (found : Option (ℕ × List ℕ)) → UnlockAnswer allowed v p (locked f) → Unlocks allowed v p found → ⊥
+clash allowed v p f found x y =
     y.unrefused f (subst (λ c. IsVolumeRefusalAs v c f) (choices_agree v x.0.choice y.choice x.0.chosen y.chosen) x.0.fault)
 
-pub one_unlocking : (memory : ℕ) (v p : List ℕ) (a b : Unlocked) → UnlockAnswer memory v p a → UnlockAnswer memory v p b → IsSameUnlocking a b
-one_unlocking memory v p (gives found) (gives other) x y = unlocks_once memory v p found other x y
-one_unlocking memory v p (gives found) (locked g) x y = clash memory v p g found y x
-one_unlocking memory v p (locked f) (gives other) x y = clash memory v p f other x y
-one_unlocking memory v p (locked f) (locked g) x y = least_once open_key (IsVolumeRefusal v) f g x y
+pub one_unlocking : (allowed : Allowed) (v p : List ℕ) (a b : Unlocked) → UnlockAnswer allowed v p a → UnlockAnswer allowed v p b → IsSameUnlocking a b
+one_unlocking allowed v p (gives found) (gives other) x y = unlocks_once allowed v p found other x y
+one_unlocking allowed v p (gives found) (locked g) x y = clash allowed v p g found y x
+one_unlocking allowed v p (locked f) (gives other) x y = clash allowed v p f other x y
+one_unlocking allowed v p (locked f) (locked g) x y = least_once open_key (IsVolumeRefusal v) f g x y
 
 -- ---- so a call's answer is the only one
 
@@ -100,16 +101,16 @@ ok_agrees : (found : Option (ℕ × List ℕ)) (a : Unlocked) → IsSameUnlockin
 ok_agrees found (gives other) e = sym e
 ok_agrees found (locked g) e = e
 
-pub err_agrees : (memory : ℕ) (v p : List ℕ) (f : OpenFault) → IsVolumeRefusedBy v f → (a : Unlocked) → UnlockAnswer memory v p a → AgreesUnlocked a (Err f)
-err_agrees memory v p f why a y = elim (ending f) [
+pub err_agrees : (allowed : Allowed) (v p : List ℕ) (f : OpenFault) → IsVolumeRefusedBy v f → (a : Unlocked) → UnlockAnswer allowed v p a → AgreesUnlocked a (Err f)
+err_agrees allowed v p f why a y = elim (ending f) [
   | inl device ↦ subst (λ g. AgreesUnlocked a (Err g)) (sym device) (device_agrees a)
   | inr other ↦ (elim other [
     | inl memory ↦ subst (λ g. AgreesUnlocked a (Err g)) (sym memory) (memory_agrees a)
-    | inr own ↦ own_agrees f a own (one_unlocking memory v p a (locked f) y (own.locked v why))
+    | inr own ↦ own_agrees f a own (one_unlocking allowed v p a (locked f) y (own.locked v why))
   ])
 ]
 
-pub agrees : (memory : ℕ) (v p : List ℕ) (r : Result (Option (ℕ × List ℕ)) OpenFault) → IfOk r (Unlocks memory v p) → IfErr r (IsVolumeRefusedBy v)
-    → (a : Unlocked) → UnlockAnswer memory v p a → AgreesUnlocked a r
-agrees memory v p (Ok found) opened why a y = ok_agrees found a (one_unlocking memory v p a (gives found) y opened)
-agrees memory v p (Err f) opened why a y = err_agrees memory v p f why a y
+pub agrees : (allowed : Allowed) (v p : List ℕ) (r : Result (Option (ℕ × List ℕ)) OpenFault) → IfOk r (Unlocks allowed v p) → IfErr r (IsVolumeRefusedBy v)
+    → (a : Unlocked) → UnlockAnswer allowed v p a → AgreesUnlocked a r
+agrees allowed v p (Ok found) opened why a y = ok_agrees found a (one_unlocking allowed v p a (gives found) y opened)
+agrees allowed v p (Err f) opened why a y = err_agrees allowed v p f why a y

@@ -2,6 +2,7 @@
 -- volume's own. By this no fact goes by all faults.
 use Rattle.std.proofs.Common.{◌≡◌, ◌≢◌, ℕ, List, true, false, Option, None, Result, Ok, Err, IfOk, IfErr, ◌⊎◌, inl, inr, refl, subst, sym}
 use Rattle.luks_area.specs.First.{IsLeast}
+use Rattle.luks_slot.specs.declared.allowed.Allowed.{Allowed}
 use Rattle.luks_reading.specs.declared.open_fault.OpenFault.{OpenFault}
 use Rattle.luks_reading.specs.declared.open_fault.OpenFault.TheVariants.{Device, Memory}
 use Rattle.luks_reading.specs.Agreement.{IsSameRefusal}
@@ -17,8 +18,8 @@ pub record IsOwn (f : OpenFault) : Type 0 where
   pub passed : passed_over f ≡ Ok None
   pub same : (g : OpenFault) → open_key g ≡ open_key f → IsSameRefusal g f
   pub own : is_own f ≡ true
-  pub refuses : (memory : ℕ) (v : List ℕ) (n : ℕ) (p : List ℕ) → AnswerWithin memory v n p (refused f) → IsRefusedByWithin memory v n p f
-  pub refused : (memory : ℕ) (v : List ℕ) (n : ℕ) (p : List ℕ) → IsRefusedByWithin memory v n p f → AnswerWithin memory v n p (refused f)
+  pub refuses : (allowed : Allowed) (v : List ℕ) (n : ℕ) (p : List ℕ) → AnswerWithin allowed v n p (refused f) → IsRefusedByWithin allowed v n p f
+  pub refused : (allowed : Allowed) (v : List ℕ) (n : ℕ) (p : List ℕ) → IsRefusedByWithin allowed v n p f → AnswerWithin allowed v n p (refused f)
   pub locks : (v : List ℕ) → IsLeast open_key (IsVolumeRefusal v) f → IsVolumeRefusedBy v f
   pub locked : (v : List ℕ) → IsVolumeRefusedBy v f → IsLeast open_key (IsVolumeRefusal v) f
 
@@ -28,7 +29,7 @@ Ending f = (f ≡ Device) ⊎ ((f ≡ Memory) ⊎ IsOwn f)
 pub ending : (f : OpenFault) → Ending f
 ending Device = inl refl
 ending Memory = inr (inl refl)
-ending other = inr (inr (record { no_failure = refl; passed = refl; same = λ g e. e; own = refl; refuses = λ memory v n p x. x; refused = λ memory v n p x. x; locks = λ v x. x; locked = λ v x. x }))
+ending other = inr (inr (record { no_failure = refl; passed = refl; same = λ g e. e; own = refl; refuses = λ allowed v n p x. x; refused = λ allowed v n p x. x; locks = λ v x. x; locked = λ v x. x }))
 
 -- the device's failure is one fault
 pub failed : (f : OpenFault) → is_open_failure f ≡ true → f ≡ Device
@@ -41,7 +42,7 @@ failed f x = elim (ending f) [
 ]
 
 -- the first refusal, unless the device failed or memory was refused
-pub refused_by : (allowed : ℕ) (v : List ℕ) (n : ℕ) (p : List ℕ) (f : OpenFault) → (is_own f ≡ true → AnswerWithin allowed v n p (refused f))
+pub refused_by : (allowed : Allowed) (v : List ℕ) (n : ℕ) (p : List ℕ) (f : OpenFault) → (is_own f ≡ true → AnswerWithin allowed v n p (refused f))
     → (f ≡ Memory → NeedsMetadata v) → IsRefusedByWithin allowed v n p f
 refused_by allowed v n p f first needs = elim (ending f) [
   | inl device ↦ subst (IsRefusedByWithin allowed v n p) (sym device) tt

@@ -9,6 +9,7 @@ use Rattle.luks_head.specs.declared.selection.Copies.{Copies}
 use Rattle.luks_head.specs.Header2.{header_at, uuid_field}
 use Rattle.luks_head.specs.Selection.{Choice, luks1, luks2, nothing, Chosen}
 use Rattle.luks_head.proofs.ChoiceFacts.{choices_agree}
+use Rattle.luks_slot.specs.declared.allowed.Allowed.{Allowed}
 use Rattle.luks_slot.specs.declared.plan.SlotPlan.{SlotPlan}
 use Rattle.luks_reading.specs.declared.open_fault.OpenFault.{OpenFault}
 use Rattle.luks_reading.specs.declared.open_fault.OpenFault.TheVariants.{Head, Meta, NoSuchSlot, SlotFree, Outside, Slot, Device, Memory}
@@ -62,17 +63,17 @@ luks1_locked v f chosen x =
 -- ---- a header that isn't read
 
 -- where the header isn't read, a refusal of the volume is one of each keyslot
-lockout_refuses : (memory : ℕ) (v : List ℕ) (n : ℕ) (c : Choice) (r : ReadFault) (f : OpenFault) → IsReadFaultAs v c r → IsVolumeRefusalAs v c f → IsRefusalAsWithin memory v n c f
-lockout_refuses memory v n luks1 r f unread x = absurd unread
-lockout_refuses memory v n (luks2 o copies) r (Head f) unread x = x
-lockout_refuses memory v n (luks2 o copies) r (Meta f) unread x = x
-lockout_refuses memory v n (luks2 o copies) r NoSuchSlot unread x = absurd x
-lockout_refuses memory v n (luks2 o copies) r SlotFree unread x = absurd x
-lockout_refuses memory v n (luks2 o copies) r Outside unread x = absurd x
-lockout_refuses memory v n (luks2 o copies) r (Slot f) unread x = absurd x
-lockout_refuses memory v n (luks2 o copies) r Device unread x = absurd x
-lockout_refuses memory v n (luks2 o copies) r Memory unread x = absurd x
-lockout_refuses memory v n nothing r f unread x = x
+lockout_refuses : (allowed : Allowed) (v : List ℕ) (n : ℕ) (c : Choice) (r : ReadFault) (f : OpenFault) → IsReadFaultAs v c r → IsVolumeRefusalAs v c f → IsRefusalAsWithin allowed v n c f
+lockout_refuses allowed v n luks1 r f unread x = absurd unread
+lockout_refuses allowed v n (luks2 o copies) r (Head f) unread x = x
+lockout_refuses allowed v n (luks2 o copies) r (Meta f) unread x = x
+lockout_refuses allowed v n (luks2 o copies) r NoSuchSlot unread x = absurd x
+lockout_refuses allowed v n (luks2 o copies) r SlotFree unread x = absurd x
+lockout_refuses allowed v n (luks2 o copies) r Outside unread x = absurd x
+lockout_refuses allowed v n (luks2 o copies) r (Slot f) unread x = absurd x
+lockout_refuses allowed v n (luks2 o copies) r Device unread x = absurd x
+lockout_refuses allowed v n (luks2 o copies) r Memory unread x = absurd x
+lockout_refuses allowed v n nothing r f unread x = x
 
 read_locks : (v : List ℕ) (c : Choice) (f : ReadFault) → IsReadFaultAs v c f → IsVolumeRefusalAs v c (unread_opened f)
 read_locks v luks1 f x = absurd x
@@ -104,43 +105,43 @@ unread_locked v reading.Memory one x = x
 -- ---- the keyslots
 
 -- the plan is the keyslot's, and nothing refuses it, by what counts
-pub record IsTaken (memory : ℕ) (v : List ℕ) (n : ℕ) (c : Choice) (plan : SlotPlan) : Type 0 where
+pub record IsTaken (allowed : Allowed) (v : List ℕ) (n : ℕ) (c : Choice) (plan : SlotPlan) : Type 0 where
   pub is : HasPlanAs v n c plan
-  pub unrefused : (f : OpenFault) → IsRefusalAsWithin memory v n c f → ⊥
+  pub unrefused : (f : OpenFault) → IsRefusalAsWithin allowed v n c f → ⊥
 
-taken : (memory : ℕ) (v : List ℕ) (n : ℕ) (p : List ℕ) (c : Choice) (k : List ℕ) → Chosen v c → (y : OpensWithin memory v n p (Some k)) → IsTaken memory v n c y.plan
-taken memory v n p c k chosen y =
+taken : (allowed : Allowed) (v : List ℕ) (n : ℕ) (p : List ℕ) (c : Choice) (k : List ℕ) → Chosen v c → (y : OpensWithin allowed v n p (Some k)) → IsTaken allowed v n c y.plan
+taken allowed v n p c k chosen y =
     let e : c ≡ y.choice = choices_agree v c y.choice chosen y.chosen in
     record {
       is = subst (λ d. HasPlanAs v n d y.plan) (sym e) y.is;
-      unrefused = λ f r. y.unrefused f (subst (λ d. IsRefusalAsWithin memory v n d f) e r);
+      unrefused = λ f r. y.unrefused f (subst (λ d. IsRefusalAsWithin allowed v n d f) e r);
     }
 
-luks1_stays_shut : (memory : ℕ) (v p : List ℕ) (n : ℕ) → Chosen v luks1 → Luks1DoesNotOpen (part v 0 592) v p n → DoesNotOpen memory v p n
-luks1_stays_shut memory v p n chosen shut k y =
-    let x = taken memory v n p luks1 k chosen y in
+luks1_stays_shut : (allowed : Allowed) (v p : List ℕ) (n : ℕ) → Chosen v luks1 → Luks1DoesNotOpen (part v 0 592) v p n → DoesNotOpen allowed v p n
+luks1_stays_shut allowed v p n chosen shut k y =
+    let x = taken allowed v n p luks1 k chosen y in
     shut k (record { plan = y.plan; is = x.is; unrefused = x.unrefused; key = y.key })
 
 not_locked : (h : List ℕ) (f : OpenFault) → ((g : HeadFault) → IsCommonFault h g → ⊥) → IsLuks1VolumeRefusal h f → ⊥
 not_locked h (Head f) clear x = clear f x
 not_locked h other clear x = x
 
-luks1_unlocks : (memory : ℕ) (v p : List ℕ) (found : Option (ℕ × List ℕ)) → Chosen v luks1
-    → ((g : HeadFault) → IsCommonFault (part v 0 592) g → ⊥) → Luks1Tries (part v 0 592) v p found → Unlocks memory v p found
-luks1_unlocks memory v p found chosen clear x = record {
+luks1_unlocks : (allowed : Allowed) (v p : List ℕ) (found : Option (ℕ × List ℕ)) → Chosen v luks1
+    → ((g : HeadFault) → IsCommonFault (part v 0 592) g → ⊥) → Luks1Tries (part v 0 592) v p found → Unlocks allowed v p found
+luks1_unlocks allowed v p found chosen clear x = record {
   choice = luks1;
   chosen = chosen;
   unrefused = λ f y. not_locked (part v 0 592) f clear y;
   order = luks1_order (part v 0 592);
   ordered = refl;
-  gives = gives_weaker (Luks1DoesNotOpen (part v 0 592) v p) (DoesNotOpen memory v p) (λ n k. Luks1Opens (part v 0 592) v n p (Some k)) (λ n k. OpensWithin memory v n p (Some k))
-      (luks1_order (part v 0 592)) found (λ n. luks1_stays_shut memory v p n chosen) (λ n k y. luks1_opens memory v n p (Some k) chosen y) x;
+  gives = gives_weaker (Luks1DoesNotOpen (part v 0 592) v p) (DoesNotOpen allowed v p) (λ n k. Luks1Opens (part v 0 592) v n p (Some k)) (λ n k. OpensWithin allowed v n p (Some k))
+      (luks1_order (part v 0 592)) found (λ n. luks1_stays_shut allowed v p n chosen) (λ n k y. luks1_opens allowed v n p (Some k) chosen y) x;
 }
 
-pub luks1_unlocks_as : (memory : ℕ) (v p : List ℕ) (r : Result (Option (ℕ × List ℕ)) OpenFault) → Chosen v luks1
-    → IfOk r (λ _. (g : HeadFault) → IsCommonFault (part v 0 592) g → ⊥) → IfOk r (Luks1Tries (part v 0 592) v p) → IfOk r (Unlocks memory v p)
-luks1_unlocks_as memory v p (Ok found) chosen clear x = luks1_unlocks memory v p found chosen clear x
-luks1_unlocks_as memory v p (Err f) chosen clear x = tt
+pub luks1_unlocks_as : (allowed : Allowed) (v p : List ℕ) (r : Result (Option (ℕ × List ℕ)) OpenFault) → Chosen v luks1
+    → IfOk r (λ _. (g : HeadFault) → IsCommonFault (part v 0 592) g → ⊥) → IfOk r (Luks1Tries (part v 0 592) v p) → IfOk r (Unlocks allowed v p)
+luks1_unlocks_as allowed v p (Ok found) chosen clear x = luks1_unlocks allowed v p found chosen clear x
+luks1_unlocks_as allowed v p (Err f) chosen clear x = tt
 
 pub cleared_not_locked : (b json : List ℕ) (j : Data) (f : OpenFault) → IsCleared (uuid_field b) json j → IsLuks2VolumeRefusal b json f → ⊥
 cleared_not_locked b json j (Head f) clear x = clear.uuid_faultless f x
@@ -152,41 +153,41 @@ unfolding luks2_order
 both_ranks j = refl
 
 -- a keyslot of priority 2 opens
-pub first_rank : (memory : ℕ) (b json v p : List ℕ) (j : Data) (found : ℕ × List ℕ)
-    → Luks2Tries memory b json v p (rank_order Preferred j) (Some found) → Luks2Tries memory b json v p (luks2_order j) (Some found)
-first_rank memory b json v p j found x =
-    subst (λ order. Luks2Tries memory b json v p order (Some found)) (both_ranks j)
-    (gives_left (Luks2DoesNotOpen memory b json v p) (λ n k. Luks2Opens memory b json v n p (Some k)) (rank_order Preferred j) (rank_order Normal j) found.0 found.1 x)
+pub first_rank : (allowed : Allowed) (b json v p : List ℕ) (j : Data) (found : ℕ × List ℕ)
+    → Luks2Tries allowed b json v p (rank_order Preferred j) (Some found) → Luks2Tries allowed b json v p (luks2_order j) (Some found)
+first_rank allowed b json v p j found x =
+    subst (λ order. Luks2Tries allowed b json v p order (Some found)) (both_ranks j)
+    (gives_left (Luks2DoesNotOpen allowed b json v p) (λ n k. Luks2Opens allowed b json v n p (Some k)) (rank_order Preferred j) (rank_order Normal j) found.0 found.1 x)
 
 -- none of them opens
-pub second_rank : (memory : ℕ) (b json v p : List ℕ) (j : Data) (found : Option (ℕ × List ℕ))
-    → Luks2Tries memory b json v p (rank_order Preferred j) None → Luks2Tries memory b json v p (rank_order Normal j) found → Luks2Tries memory b json v p (luks2_order j) found
-second_rank memory b json v p j found shut x =
-    subst (λ order. Luks2Tries memory b json v p order found) (both_ranks j)
-    (gives_right (Luks2DoesNotOpen memory b json v p) (λ n k. Luks2Opens memory b json v n p (Some k)) (rank_order Preferred j) (rank_order Normal j) found shut x)
+pub second_rank : (allowed : Allowed) (b json v p : List ℕ) (j : Data) (found : Option (ℕ × List ℕ))
+    → Luks2Tries allowed b json v p (rank_order Preferred j) None → Luks2Tries allowed b json v p (rank_order Normal j) found → Luks2Tries allowed b json v p (luks2_order j) found
+second_rank allowed b json v p j found shut x =
+    subst (λ order. Luks2Tries allowed b json v p order found) (both_ranks j)
+    (gives_right (Luks2DoesNotOpen allowed b json v p) (λ n k. Luks2Opens allowed b json v n p (Some k)) (rank_order Preferred j) (rank_order Normal j) found shut x)
 
-luks2_stays_shut : (memory : ℕ) (v p : List ℕ) (n o : ℕ) (copies : Copies) → Chosen v (luks2 o copies)
-    → Luks2DoesNotOpen memory (header_at v o) (json_at v o) v p n → DoesNotOpen memory v p n
-luks2_stays_shut memory v p n o copies chosen shut k y =
-    let x = taken memory v n p (luks2 o copies) k chosen y in
+luks2_stays_shut : (allowed : Allowed) (v p : List ℕ) (n o : ℕ) (copies : Copies) → Chosen v (luks2 o copies)
+    → Luks2DoesNotOpen allowed (header_at v o) (json_at v o) v p n → DoesNotOpen allowed v p n
+luks2_stays_shut allowed v p n o copies chosen shut k y =
+    let x = taken allowed v n p (luks2 o copies) k chosen y in
     shut k (record { plan = y.plan; is = x.is; unrefused = x.unrefused; key = y.key })
 
-luks2_key : (memory : ℕ) (v p : List ℕ) (n : ℕ) (k : List ℕ) (o : ℕ) (copies : Copies) → Chosen v (luks2 o copies)
-    → Luks2Opens memory (header_at v o) (json_at v o) v n p (Some k) → OpensWithin memory v n p (Some k)
-luks2_key memory v p n k o copies chosen x = record { choice = luks2 o copies; chosen = chosen; plan = x.plan; is = x.is; unrefused = x.unrefused; key = x.key }
+luks2_key : (allowed : Allowed) (v p : List ℕ) (n : ℕ) (k : List ℕ) (o : ℕ) (copies : Copies) → Chosen v (luks2 o copies)
+    → Luks2Opens allowed (header_at v o) (json_at v o) v n p (Some k) → OpensWithin allowed v n p (Some k)
+luks2_key allowed v p n k o copies chosen x = record { choice = luks2 o copies; chosen = chosen; plan = x.plan; is = x.is; unrefused = x.unrefused; key = x.key }
 
-pub luks2_unlocks : (memory : ℕ) (v p : List ℕ) (o : ℕ) (copies : Copies) (j : Data) (found : Option (ℕ × List ℕ)) → Chosen v (luks2 o copies)
+pub luks2_unlocks : (allowed : Allowed) (v p : List ℕ) (o : ℕ) (copies : Copies) (j : Data) (found : Option (ℕ × List ℕ)) → Chosen v (luks2 o copies)
     → IsCleared (uuid_field (header_at v o)) (json_at v o) j
-    → Luks2Tries memory (header_at v o) (json_at v o) v p (luks2_order j) found → Unlocks memory v p found
-luks2_unlocks memory v p o copies j found chosen clear x = record {
+    → Luks2Tries allowed (header_at v o) (json_at v o) v p (luks2_order j) found → Unlocks allowed v p found
+luks2_unlocks allowed v p o copies j found chosen clear x = record {
   choice = luks2 o copies;
   chosen = chosen;
   unrefused = λ f y. cleared_not_locked (header_at v o) (json_at v o) j f clear y;
   order = luks2_order j;
   ordered = (j, (clear.meta.json, refl));
-  gives = gives_weaker (Luks2DoesNotOpen memory (header_at v o) (json_at v o) v p) (DoesNotOpen memory v p)
-      (λ n k. Luks2Opens memory (header_at v o) (json_at v o) v n p (Some k)) (λ n k. OpensWithin memory v n p (Some k))
-      (luks2_order j) found (λ n. luks2_stays_shut memory v p n o copies chosen) (λ n k z. luks2_key memory v p n k o copies chosen z) x;
+  gives = gives_weaker (Luks2DoesNotOpen allowed (header_at v o) (json_at v o) v p) (DoesNotOpen allowed v p)
+      (λ n k. Luks2Opens allowed (header_at v o) (json_at v o) v n p (Some k)) (λ n k. OpensWithin allowed v n p (Some k))
+      (luks2_order j) found (λ n. luks2_stays_shut allowed v p n o copies chosen) (λ n k z. luks2_key allowed v p n k o copies chosen z) x;
 }
 
 -- ---- a failed device

@@ -8,6 +8,7 @@ use Rattle.luks_head.proofs.ChoiceFacts.{choice_exists, choices_agree, uuid_acce
 use Rattle.luks_rules.proofs.AreaFaults.{one_value}
 use Rattle.luks_rules.proofs.Deciding.{metadata_faultless}
 use Rattle.luks_meta.proofs.Namings.{one_digest}
+use Rattle.luks_slot.specs.declared.allowed.Allowed.{Allowed}
 use Rattle.luks_reading.specs.declared.check_fault.CheckFault.{CheckFault}
 use Rattle.luks_reading.specs.declared.report.Data.{Data}
 use Rattle.luks_reading.specs.Agreement.{IsSameAnswer}
@@ -18,7 +19,7 @@ use Rattle.luks_reading.proofs.OneAnswer.{one_answer as one_answer_by}
 use Rattle.luks_reading.proofs.WellFormedFacts.{fits_and_resolves, formed_sound, formed_without}
 
 -- a keyslot has one answer
-pub one_answer : (memory : ℕ) (v : List ℕ) (n : ℕ) (p : List ℕ) (a b : Opened) → AnswerWithin memory v n p a → AnswerWithin memory v n p b → IsSameAnswer a b
+pub one_answer : (allowed : Allowed) (v : List ℕ) (n : ℕ) (p : List ℕ) (a b : Opened) → AnswerWithin allowed v n p a → AnswerWithin allowed v n p b → IsSameAnswer a b
 one_answer = one_answer_by choices_agree one_value metadata_faultless one_digest
 
 -- a field has no fault exactly where it is that of a uuid

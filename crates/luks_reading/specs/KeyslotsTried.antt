@@ -2,6 +2,7 @@
 use Rattle.std.specs.Prelude.{◌≡◌, ℕ, List, filter, Bool, false, Option, Some, None, Result, Ok, Err}
 use Rattle.serde_json.specs.Data.{Data as Value}
 use Rattle.luks_area.specs.First.{IsLeast}
+use Rattle.luks_slot.specs.declared.allowed.Allowed.{Allowed}
 use Rattle.luks_reading.specs.declared.open_fault.OpenFault.{OpenFault}
 use Rattle.luks_reading.specs.declared.open_fault.OpenFault.TheVariants.{Head, Meta, NoSuchSlot, SlotFree, Outside, Slot, Device, Memory}
 use Rattle.luks_reading.specs.declared.unlocking.Rank.{Rank}
@@ -23,32 +24,33 @@ passed_over (Slot f) = Ok None
 passed_over Device = Err Device
 passed_over Memory = Err Memory
 
--- ---- LUKS1
+-- ---- LUKS1, with `older` ciphers and hashes or without
 
-abbrev pub Luks1DoesNotOpen : List ℕ → List ℕ → List ℕ → ℕ → Type 0
-Luks1DoesNotOpen h v p n = (k : List ℕ) → Luks1Opens h v n p (Some k) → ⊥
+abbrev pub Luks1DoesNotOpen : Bool → List ℕ → List ℕ → List ℕ → ℕ → Type 0
+Luks1DoesNotOpen older h v p n = (k : List ℕ) → Luks1Opens older h v n p (Some k) → ⊥
 
 -- the keyslot has been tried
-abbrev pub Luks1Tried : List ℕ → List ℕ → ℕ → List ℕ → Option (List ℕ) → Type 0
-Luks1Tried h v n p None = Luks1DoesNotOpen h v p n
-Luks1Tried h v n p (Some k) = Luks1Opens h v n p (Some k)
+abbrev pub Luks1Tried : Bool → List ℕ → List ℕ → ℕ → List ℕ → Option (List ℕ) → Type 0
+Luks1Tried older h v n p None = Luks1DoesNotOpen older h v p n
+Luks1Tried older h v n p (Some k) = Luks1Opens older h v n p (Some k)
 
 -- the keyslots of the header `h` have been tried in their order
-abbrev pub Luks1Tries : List ℕ → List ℕ → List ℕ → Option (ℕ × List ℕ) → Type 0
-Luks1Tries h v p found = GivesFirst (Luks1DoesNotOpen h v p) (λ n k. Luks1Opens h v n p (Some k)) (luks1_order h) found
+abbrev pub Luks1Tries : Bool → List ℕ → List ℕ → List ℕ → Option (ℕ × List ℕ) → Type 0
+Luks1Tries older h v p found =
+    GivesFirst (Luks1DoesNotOpen older h v p) (λ n k. Luks1Opens older h v n p (Some k)) (luks1_order h) found
 
 -- the header `h` refuses the volume, unless the device failed; no memory is taken
 abbrev pub Luks1VolumeRefused : List ℕ → OpenFault → Type 0
 Luks1VolumeRefused h f = is_open_failure f ≡ false → IsLeast open_key (IsLuks1VolumeRefusal h) f
 
--- ---- LUKS2, where Argon2 may take so many KiB of memory
+-- ---- LUKS2, where so much is allowed
 
-abbrev pub Luks2DoesNotOpen : ℕ → List ℕ → List ℕ → List ℕ → List ℕ → ℕ → Type 0
-Luks2DoesNotOpen memory b json v p n = (k : List ℕ) → Luks2Opens memory b json v n p (Some k) → ⊥
+abbrev pub Luks2DoesNotOpen : Allowed → List ℕ → List ℕ → List ℕ → List ℕ → ℕ → Type 0
+Luks2DoesNotOpen allowed b json v p n = (k : List ℕ) → Luks2Opens allowed b json v n p (Some k) → ⊥
 
-abbrev pub Luks2Tried : ℕ → List ℕ → List ℕ → List ℕ → ℕ → List ℕ → Option (List ℕ) → Type 0
-Luks2Tried memory b json v n p None = Luks2DoesNotOpen memory b json v p n
-Luks2Tried memory b json v n p (Some k) = Luks2Opens memory b json v n p (Some k)
+abbrev pub Luks2Tried : Allowed → List ℕ → List ℕ → List ℕ → ℕ → List ℕ → Option (List ℕ) → Type 0
+Luks2Tried allowed b json v n p None = Luks2DoesNotOpen allowed b json v p n
+Luks2Tried allowed b json v n p (Some k) = Luks2Opens allowed b json v n p (Some k)
 
 -- the keyslot is tried in this rank
 abbrev pub is_of_rank : Rank → Value → ℕ → Bool
@@ -60,10 +62,10 @@ abbrev pub rank_order : Rank → Value → List ℕ
 rank_order rank j = filter (λ n. is_of_rank rank j n) (numbers_below 32)
 
 -- the keyslots of the list have been tried in its order
-abbrev pub Luks2Tries : ℕ → List ℕ → List ℕ → List ℕ → List ℕ → List ℕ → Option (ℕ × List ℕ) → Type 0
-Luks2Tries memory b json v p order found =
-    GivesFirst (Luks2DoesNotOpen memory b json v p) (λ n k. Luks2Opens memory b json v n p (Some k)) order found
+abbrev pub Luks2Tries : Allowed → List ℕ → List ℕ → List ℕ → List ℕ → List ℕ → Option (ℕ × List ℕ) → Type 0
+Luks2Tries allowed b json v p order found =
+    GivesFirst (Luks2DoesNotOpen allowed b json v p) (λ n k. Luks2Opens allowed b json v n p (Some k)) order found
 
 -- memory was refused to a keyslot of these only
-abbrev pub Luks2LacksMemory : ℕ → List ℕ → List ℕ → ℕ → OpenFault → Type 0
-Luks2LacksMemory memory b json total f = f ≡ Memory → (n : ℕ) × Luks2TakesMemory memory b json total n
+abbrev pub Luks2LacksMemory : Allowed → List ℕ → List ℕ → ℕ → OpenFault → Type 0
+Luks2LacksMemory allowed b json total f = f ≡ Memory → (n : ℕ) × Luks2TakesMemory allowed b json total n

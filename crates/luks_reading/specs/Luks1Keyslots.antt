@@ -1,5 +1,5 @@
 -- What has been judged of a LUKS1 header on the way to a keyslot.
-use Rattle.std.specs.Prelude.{◌≡◌, ℕ, ◌<◌, ◌≤◌, List, length, false, Option}
+use Rattle.std.specs.Prelude.{◌≡◌, ℕ, ◌<◌, ◌≤◌, List, length, Bool, false, Option}
 use Rattle.luks_area.specs.First.{IsLeast}
 use Rattle.luks_area.specs.Ranges.{part}
 use Rattle.luks1_header.specs.declared.fault.HeadFault.{HeadFault}
@@ -41,14 +41,16 @@ EntryRefused h n (Slot f) = ⊥
 EntryRefused h n Device = ⊥
 EntryRefused h n Memory = ⊥
 
+-- ---- with `older` ciphers and hashes or without
+
 -- opening the keyslot `n` is refused by the header `h` in a volume of `total` bytes, unless the device
 -- failed; no memory is taken
-abbrev pub Luks1Refused : List ℕ → ℕ → ℕ → OpenFault → Type 0
-Luks1Refused h total n f = is_open_failure f ≡ false → IsLeast open_key (IsLuks1Refusal h total n) f
+abbrev pub Luks1Refused : Bool → List ℕ → ℕ → ℕ → OpenFault → Type 0
+Luks1Refused older h total n f = is_open_failure f ≡ false → IsLeast open_key (IsLuks1Refusal older h total n) f
 
 -- the keyslot `n` of the volume `v` with the header `h` opens to `found`
-pub record Luks1Opens (h v : List ℕ) (n : ℕ) (p : List ℕ) (found : Option (List ℕ)) : Type 0 where
+pub record Luks1Opens (older : Bool) (h v : List ℕ) (n : ℕ) (p : List ℕ) (found : Option (List ℕ)) : Type 0 where
   pub plan : SlotPlan
   pub is : HasLuks1Plan h n plan
-  pub unrefused : (f : OpenFault) → IsLuks1Refusal h (length v) n f → ⊥
+  pub unrefused : (f : OpenFault) → IsLuks1Refusal older h (length v) n f → ⊥
   pub key : slot_key plan (part v plan.area.start plan.area.len) p ≡ found

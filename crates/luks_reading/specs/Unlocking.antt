@@ -15,6 +15,7 @@ use Rattle.luks_meta.specs.Faults.{object_at}
 use Rattle.luks_meta.specs.MetaFault.{Json, IsMetaFault}
 use Rattle.luks_meta.specs.Reading.{Field, object, text, whole, absent, dynamic, bytes, names, reads}
 use Rattle.luks_meta.specs.Says.{member_at}
+use Rattle.luks_slot.specs.declared.allowed.Allowed.{Allowed}
 use Rattle.luks_reading.specs.declared.open_fault.OpenFault.{OpenFault}
 use Rattle.luks_reading.specs.declared.open_fault.OpenFault.TheVariants.{Head, Meta, NoSuchSlot, SlotFree, Outside, Slot, Device, Memory}
 use Rattle.luks_reading.specs.Answer.{open_key, opens, AnswerWithin, IsSelectRefusal}
@@ -107,11 +108,11 @@ IsVolumeRefusedBy v Device = ⊤
 IsVolumeRefusedBy v Memory = NeedsMetadata v
 IsVolumeRefusedBy v f = IsLeast open_key (IsVolumeRefusal v) f
 
--- ---- the answer, where Argon2 may take so many KiB of memory
+-- ---- the answer, where so much is allowed
 
 -- the keyslot n of the volume v doesn't open by the passphrase p, refused or not
-abbrev pub DoesNotOpen : ℕ → List ℕ → List ℕ → ℕ → Type 0
-DoesNotOpen memory v p n = (k : List ℕ) → AnswerWithin memory v n p (opens k) → ⊥
+abbrev pub DoesNotOpen : Allowed → List ℕ → List ℕ → ℕ → Type 0
+DoesNotOpen allowed v p n = (k : List ℕ) → AnswerWithin allowed v n p (opens k) → ⊥
 
 -- n is the first of the list that opens, and k its key
 pub record IsFirstOf (shut : ℕ → Type 0) (opens_to : ℕ → List ℕ → Type 0) (order : List ℕ) (n : ℕ) (k : List ℕ) : Type 0 where
@@ -127,13 +128,13 @@ GivesFirst shut opens_to order None = All shut order
 GivesFirst shut opens_to order (Some found) = IsFirstOf shut opens_to order found.0 found.1
 
 -- nothing refuses the volume, and trying its keyslots in their order gives `found`
-pub record Unlocks (memory : ℕ) (v p : List ℕ) (found : Option (ℕ × List ℕ)) : Type 0 where
+pub record Unlocks (allowed : Allowed) (v p : List ℕ) (found : Option (ℕ × List ℕ)) : Type 0 where
   pub choice : Choice
   pub chosen : Chosen v choice
   pub unrefused : (f : OpenFault) → IsVolumeRefusalAs v choice f → ⊥
   pub order : List ℕ
   pub ordered : IsOrderAs v choice order
-  pub gives : GivesFirst (DoesNotOpen memory v p) (λ n k. AnswerWithin memory v n p (opens k)) order found
+  pub gives : GivesFirst (DoesNotOpen allowed v p) (λ n k. AnswerWithin allowed v n p (opens k)) order found
 
 -- what opening a volume gives: a refusal of the volume itself, or a keyslot's number with its key, or
 -- that none opens
@@ -142,6 +143,6 @@ pub data Unlocked : Type 0 where
   gives : Option (ℕ × List ℕ) → Unlocked
 
 -- what opening the volume `v` by the passphrase `p` gives
-abbrev pub UnlockAnswer : ℕ → List ℕ → List ℕ → Unlocked → Type 0
-UnlockAnswer memory v p (locked f) = IsLeast open_key (IsVolumeRefusal v) f
-UnlockAnswer memory v p (gives found) = Unlocks memory v p found
+abbrev pub UnlockAnswer : Allowed → List ℕ → List ℕ → Unlocked → Type 0
+UnlockAnswer allowed v p (locked f) = IsLeast open_key (IsVolumeRefusal v) f
+UnlockAnswer allowed v p (gives found) = Unlocks allowed v p found

@@ -1,13 +1,15 @@
 //! Laws on the definitions of this crate. Each function does nothing; its contract is the law.
-ghost use Rattle.std.specs.Prelude.{◌≡◌, ◌≤◌, ◌↔◌, ℕ, List, Option, true};
+ghost use Rattle.std.specs.Prelude.{◌≡◌, ◌≤◌, ◌↔◌, ℕ, List, Option, Some, None, true};
 ghost use Rattle.luks_area.specs.declared.area.Area.{Area as TheArea};
 ghost use Rattle.luks_area.specs.declared.area.AreaName.{AreaName as TheName};
+ghost use Rattle.luks_slot.specs.declared.allowed.Allowed.{Allowed as TheAllowed};
 ghost use Rattle.luks_slot.specs.declared.plan.SlotPlan.{SlotPlan as ThePlan};
-ghost use Rattle.luks_slot.specs.Refusal.{is_argon2};
+ghost use Rattle.luks_slot.specs.Allowance.{none_allowed};
+ghost use Rattle.luks_slot.specs.Refusal.{is_argon2, slot_refusal};
 ghost use Rattle.luks_reading.specs.declared.read_fault.ReadFault.{ReadFault as TheReadFault};
 ghost use Rattle.luks_reading.specs.declared.report.Data.{Data as Payload};
 ghost use Rattle.luks_reading.specs.Agreement.{IsSameAnswer, IsSameUnlocking};
-ghost use Rattle.luks_reading.specs.Answer.{AnswerWithin, HasRefusedPlan, HasRefusedPlanWithin, Opened, OpensWithin, TakesMemory};
+ghost use Rattle.luks_reading.specs.Answer.{AnswerWithin, HasRefusedPlanWithin, Opened, OpensWithin, TakesMemory};
 ghost use Rattle.luks_reading.specs.Checked.{AreaOf, IsCheckRefusal, IsFault, WellFormed};
 ghost use Rattle.luks_reading.specs.Conversions.{unread_checked};
 ghost use Rattle.luks_reading.specs.FitsAndResolves.{FitsAndResolves};
@@ -43,33 +45,38 @@ pub fn one_area()
         → AreaOf v payload n b → a ≡ b }
 {}
 
-/// A keyslot of a volume has one answer at most by a passphrase and the memory that is allowed; of two
+/// A keyslot of a volume has one answer at most by a passphrase and what is allowed; of two
 /// refusals the key is one.
 pub fn one_answer()
-    ensures { (memory : ℕ) (v : List ℕ) (n : ℕ) (p : List ℕ) (a b : Opened)
-        → AnswerWithin memory v n p a → AnswerWithin memory v n p b → IsSameAnswer a b }
+    ensures { (allowed : TheAllowed) (v : List ℕ) (n : ℕ) (p : List ℕ) (a b : Opened)
+        → AnswerWithin allowed v n p a → AnswerWithin allowed v n p b → IsSameAnswer a b }
 {}
 
-/// Opening a volume has one answer at most by a passphrase and the memory that is allowed; of two
+/// Opening a volume has one answer at most by a passphrase and what is allowed; of two
 /// refusals the key is one.
 pub fn one_unlocking()
-    ensures { (memory : ℕ) (v p : List ℕ) (a b : Unlocked) → UnlockAnswer memory v p a
-        → UnlockAnswer memory v p b → IsSameUnlocking a b }
+    ensures { (allowed : TheAllowed) (v p : List ℕ) (a b : Unlocked) → UnlockAnswer allowed v p a
+        → UnlockAnswer allowed v p b → IsSameUnlocking a b }
 {}
 
-/// Where no memory is allowed, the plan of a keyslot of LUKS2 is refused exactly as it is without
-/// Argon2: `Argon2` stands exactly where it derives by that. And no keyslot takes memory.
+/// Where nothing is allowed, the plan of a keyslot is refused exactly as it is without Argon2 and
+/// without older ciphers and hashes: of LUKS2 `Argon2` stands exactly where it derives by that. What
+/// opens then is refused by none of these, and no keyslot takes memory.
 pub fn nothing_allowed_is_as_before()
-    ensures refusal { (json : List ℕ) (n : ℕ) (f : SlotFault)
-        → HasRefusedPlanWithin 0 (HasLuks2Plan json n) f ↔ HasRefusedPlan (HasLuks2Plan json n) f }
+    ensures refusal { (plans : ThePlan → Type 0) (f : SlotFault)
+        → HasRefusedPlanWithin none_allowed plans f
+        ↔ ((plan : ThePlan) × (plans plan × (slot_refusal plan ≡ Some f))) }
     ensures argon2 { (json : List ℕ) (n : ℕ)
-        → HasRefusedPlanWithin 0 (HasLuks2Plan json n) SlotFault.Argon2
+        → HasRefusedPlanWithin none_allowed (HasLuks2Plan json n) SlotFault.Argon2
         ↔ ((plan : ThePlan) × (HasLuks2Plan json n plan × (is_argon2 plan.derivation ≡ true))) }
-    ensures memory { (v : List ℕ) (n : ℕ) → TakesMemory 0 v n → ⊥ }
+    ensures opens { (v : List ℕ) (n : ℕ) (p : List ℕ) (found : Option (List ℕ))
+        → (x : OpensWithin none_allowed v n p found) → slot_refusal x.plan ≡ None }
+    ensures memory { (v : List ℕ) (n : ℕ) → TakesMemory none_allowed v n → ⊥ }
 {}
 
-/// What a keyslot opens to where so much memory is allowed, a key or none, it opens to where more is.
-pub fn more_memory_opens_alike()
-    ensures { (memory more : ℕ) (v : List ℕ) (n : ℕ) (p : List ℕ) (found : Option (List ℕ))
-        → memory ≤ more → OpensWithin memory v n p found → OpensWithin more v n p found }
+/// What a keyslot opens to where so much is allowed, a key or none, it opens to where more is.
+pub fn more_allowed_opens_alike()
+    ensures { (allowed more : TheAllowed) (v : List ℕ) (n : ℕ) (p : List ℕ) (found : Option (List ℕ))
+        → allowed.memory ≤ more.memory → (allowed.older ≡ true → more.older ≡ true)
+        → OpensWithin allowed v n p found → OpensWithin more v n p found }
 {}

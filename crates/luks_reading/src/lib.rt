@@ -26,7 +26,7 @@ pub use format::Format;
 pub use header::{ChosenCopy, Header, read_header};
 pub use judging::judge_luks1;
 pub use laws::{
-    more_memory_opens_alike, no_fault_is_well_formed, nothing_allowed_is_as_before, one_answer,
+    more_allowed_opens_alike, no_fault_is_well_formed, nothing_allowed_is_as_before, one_answer,
     one_area, one_unlocking, unread_volume_is_refused, well_formed_volume,
 };
 pub use layout::luks2_areas;
@@ -37,7 +37,7 @@ pub use luks_head::{Bin2, Copies, HeadFault, Luks1, Luks1Slot, Selected, SlotSta
 pub use luks_meta::{
     Config, Cost, Digest, Extent, Keyslot, Meta, MetaFault, Segment, SegmentKind, Token,
 };
-pub use luks_slot::Key;
+pub use luks_slot::{Allowed, Key};
 pub use nearest::Nearest;
 pub use open_fault::OpenFault;
 pub use opening::{open_header_slot, open_slot, try_header_slot};

@@ -27,7 +27,7 @@ use crate::plan::{luks1_plan, luks2_plan};
 use luks_area::Device;
 use luks_head::Luks1Common;
 use luks_meta::Meta;
-use luks_slot::{Key, SlotPlan, Tried, try_within};
+use luks_slot::{Allowed, Key, SlotPlan, Tried, try_within};
 use std::alloc::Global;
 
 /// Opens the keyslot `n` by the passphrase: its volume key, or None where the passphrase doesn't
@@ -40,32 +40,33 @@ use std::alloc::Global;
 /// keyslot's own entry and `SlotFree`, `Outside`, `Slot`. `Device` comes exactly where a device
 /// call failed.
 ///
-/// Argon2 may take `memory` KiB: with 0 every keyslot is refused that derives by it. Else memory is
-/// taken for the metadata of LUKS2 alone.
+/// Argon2 may take `allowed.memory` KiB: with 0 every keyslot is refused that derives by it. Else
+/// memory is taken for the metadata of LUKS2 alone. Older ciphers and hashes are refused where
+/// `allowed.older` isn't set.
 pub fn open_slot<D: Device>(
     alloc: Global,
     device: &mut D,
     n: u8,
     passphrase: &[u8],
-    memory: u32,
+    allowed: Allowed,
 ) -> Result<Option<Key>, OpenFault>
     requires room { D.failed device.old + 1 < 2 ^ 64 }
-    requires passphrase { 0 < memory → length passphrase.now < 2 ^ 32 }
+    requires passphrase { 0 < allowed.memory → length passphrase.now < 2 ^ 32 }
     ensures unchanged { IsUnchanged D.tells D.size D.bytes D.unsettled device.old device.new }
     ensures count { CountsFailure is_open_failure result
         (D.failed device.old) (D.failed device.new) }
     ensures opens { D.tells → IfOk result
-        (λ found. AnswerWithin memory (D.bytes device.old) n passphrase.now (opened_to found)) }
+        (λ found. AnswerWithin allowed (D.bytes device.old) n passphrase.now (opened_to found)) }
     ensures refused { D.tells
-        → IfErr result (IsRefusedByWithin memory (D.bytes device.old) n passphrase.now) }
+        → IfErr result (IsRefusedByWithin allowed (D.bytes device.old) n passphrase.now) }
     ensures memory { D.tells → TakesNoMemory (D.bytes device.old)
         → IfErr result (λ f. f ≢ OpenFault.Memory) }
     // There is no other answer.
     ensures only { D.tells → (a : Opened)
-        → AnswerWithin memory (D.bytes device.old) n passphrase.now a → Agrees a result }
+        → AnswerWithin allowed (D.bytes device.old) n passphrase.now a → Agrees a result }
 {
     let header = read_header(alloc, device)?;
-    open_header_slot(alloc, device, &header, n, passphrase, memory)
+    open_header_slot(alloc, device, &header, n, passphrase, allowed)
 }
 
 /// What `open_slot` answers of a volume with this header. It takes memory for Argon2 alone, where it
@@ -76,19 +77,19 @@ pub fn open_header_slot<D: Device>(
     header: &Header,
     n: u8,
     passphrase: &[u8],
-    memory: u32,
+    allowed: Allowed,
 ) -> Result<Option<Key>, OpenFault>
     requires room { D.failed device.old + 1 < 2 ^ 64 }
     requires accepted { IsAcceptedHeader header.now }
-    requires passphrase { 0 < memory → length passphrase.now < 2 ^ 32 }
+    requires passphrase { 0 < allowed.memory → length passphrase.now < 2 ^ 32 }
     ensures unchanged { IsUnchanged D.tells D.size D.bytes D.unsettled device.old device.new }
     ensures count { CountsFailure is_open_failure result
         (D.failed device.old) (D.failed device.new) }
-    ensures answers { IsSlotOpening D.tells (D.bytes device.old) header.now memory n passphrase.now
+    ensures answers { IsSlotOpening D.tells (D.bytes device.old) header.now allowed n passphrase.now
         result }
 {
     let mut nearest = None;
-    try_header_slot(alloc, device, header, n, passphrase, memory, &mut nearest)
+    try_header_slot(alloc, device, header, n, passphrase, allowed, &mut nearest)
 }
 
 /// What `open_header_slot` answers, which notes in `nearest` how near the passphrase came, where the
@@ -99,22 +100,30 @@ pub fn try_header_slot<D: Device>(
     header: &Header,
     n: u8,
     passphrase: &[u8],
-    memory: u32,
+    allowed: Allowed,
     nearest: &mut Option<Nearest>,
 ) -> Result<Option<Key>, OpenFault>
     requires room { D.failed device.old + 1 < 2 ^ 64 }
     requires accepted { IsAcceptedHeader header.now }
-    requires passphrase { 0 < memory → length passphrase.now < 2 ^ 32 }
+    requires passphrase { 0 < allowed.memory → length passphrase.now < 2 ^ 32 }
     ensures unchanged { IsUnchanged D.tells D.size D.bytes D.unsettled device.old device.new }
     ensures count { CountsFailure is_open_failure result
         (D.failed device.old) (D.failed device.new) }
-    ensures answers { IsSlotOpening D.tells (D.bytes device.old) header.now memory n passphrase.now
+    ensures answers { IsSlotOpening D.tells (D.bytes device.old) header.now allowed n passphrase.now
         result }
 {
     match header {
-        Header::Luks1(bytes) => open_luks1(alloc, device, bytes.as_slice(), n, passphrase, nearest),
+        Header::Luks1(bytes) => open_luks1(
+            alloc,
+            device,
+            bytes.as_slice(),
+            n,
+            passphrase,
+            allowed.older,
+            nearest,
+        ),
         Header::Luks2(copy) => open_luks2(
-            alloc, device, &copy.meta, n, passphrase, memory, nearest,
+            alloc, device, &copy.meta, n, passphrase, allowed, nearest,
         ),
     }
 }
@@ -126,6 +135,7 @@ fn open_luks1<D: Device>(
     header: &[u8],
     n: u8,
     passphrase: &[u8],
+    older: bool,
     nearest: &mut Option<Nearest>,
 ) -> Result<Option<Key>, OpenFault>
     requires room { D.failed device.old + 1 < 2 ^ 64 }
@@ -134,13 +144,15 @@ fn open_luks1<D: Device>(
     ensures count { CountsFailure is_open_failure result
         (D.failed device.old) (D.failed device.new) }
     ensures opens { D.tells
-        → IfOk result (Luks1Opens header.now (D.bytes device.old) n passphrase.now) }
-    ensures refused { IfErr result (Luks1Refused header.now (D.size device.old) n) }
+        → IfOk result (Luks1Opens older header.now (D.bytes device.old) n passphrase.now) }
+    ensures refused { IfErr result (Luks1Refused older header.now (D.size device.old) n) }
     ensures length { IfOk result
         (λ found. IfSome found (λ key. length key ≡ number_at header.now 108 4)) }
 {
     let common = luks1_common(header)?;
-    open_luks1_slot(alloc, device, header, &common, n, passphrase, nearest)
+    open_luks1_slot(
+        alloc, device, header, &common, n, passphrase, older, nearest,
+    )
 }
 
 /// What opening the keyslot `n` gives where nothing is wrong with what stands before the keyslots.
@@ -151,6 +163,7 @@ pub(crate) fn open_luks1_slot<D: Device>(
     common: &Luks1Common,
     n: u8,
     passphrase: &[u8],
+    older: bool,
     nearest: &mut Option<Nearest>,
 ) -> Result<Option<Key>, OpenFault>
     requires room { D.failed device.old + 1 < 2 ^ 64 }
@@ -161,14 +174,15 @@ pub(crate) fn open_luks1_slot<D: Device>(
     ensures count { CountsFailure is_open_failure result
         (D.failed device.old) (D.failed device.new) }
     ensures opens { D.tells
-        → IfOk result (Luks1Opens header.now (D.bytes device.old) n passphrase.now) }
-    ensures refused { IfErr result (Luks1Refused header.now (D.size device.old) n) }
+        → IfOk result (Luks1Opens older header.now (D.bytes device.old) n passphrase.now) }
+    ensures refused { IfErr result (Luks1Refused older header.now (D.size device.old) n) }
     ensures length { IfOk result
         (λ found. IfSome found (λ key. length key ≡ number_at header.now 108 4)) }
 {
     let slot = luks1_entry(header, n)?;
     let plan = luks1_plan(common, &slot);
-    open_planned(alloc, device, &plan, n, passphrase, 0, nearest)
+    let allowed = Allowed { memory: 0, older };
+    open_planned(alloc, device, &plan, n, passphrase, allowed, nearest)
 }
 
 /// What opening the keyslot `n` of a volume with this metadata gives.
@@ -178,22 +192,22 @@ pub(crate) fn open_luks2<D: Device>(
     meta: &Meta,
     n: u8,
     passphrase: &[u8],
-    memory: u32,
+    allowed: Allowed,
     nearest: &mut Option<Nearest>,
 ) -> Result<Option<Key>, OpenFault>
     requires room { D.failed device.old + 1 < 2 ^ 64 }
     requires accepted { IsAccepted (content meta.now) }
-    requires passphrase { 0 < memory → length passphrase.now < 2 ^ 32 }
+    requires passphrase { 0 < allowed.memory → length passphrase.now < 2 ^ 32 }
     ensures unchanged { IsUnchanged D.tells D.size D.bytes D.unsettled device.old device.new }
     ensures count { CountsFailure is_open_failure result
         (D.failed device.old) (D.failed device.new) }
     ensures opens { D.tells → (b json : List ℕ) → IsCleared (uuid_field b) json (content meta.now)
-        → IfOk result (Luks2Opens memory b json (D.bytes device.old) n passphrase.now) }
+        → IfOk result (Luks2Opens allowed b json (D.bytes device.old) n passphrase.now) }
     ensures refused { (b json : List ℕ) → IsCleared (uuid_field b) json (content meta.now)
-        → IfErr result (Luks2Refused memory b json (D.size device.old) n) }
+        → IfErr result (Luks2Refused allowed b json (D.size device.old) n) }
     ensures length { IfOk result
         (λ found. IfSome found (λ key. HasLuks2KeyBytes (content meta.now) n (length key))) }
-    ensures no_memory { memory ≡ 0 → IfErr result (λ f. f ≢ OpenFault.Memory) }
+    ensures no_memory { allowed.memory ≡ 0 → IfErr result (λ f. f ≢ OpenFault.Memory) }
 {
     if n > 31 {
         return Err(OpenFault::NoSuchSlot);
@@ -204,7 +218,7 @@ pub(crate) fn open_luks2<D: Device>(
     let number = meta.digest_of_keyslot(n).unwrap();
     let digest = meta.digest(number).unwrap();
     let plan = luks2_plan(&keyslot, &digest);
-    open_planned(alloc, device, &plan, n, passphrase, memory, nearest)
+    open_planned(alloc, device, &plan, n, passphrase, allowed, nearest)
 }
 
 /// What the plan of the keyslot `n` gives in the volume by the passphrase: its key, none, or why it is
@@ -215,25 +229,25 @@ fn open_planned<D: Device>(
     plan: &SlotPlan<'_>,
     n: u8,
     passphrase: &[u8],
-    memory: u32,
+    allowed: Allowed,
     nearest: &mut Option<Nearest>,
 ) -> Result<Option<Key>, OpenFault>
     requires room { D.failed device.old + 1 < 2 ^ 64 }
     requires judged { IsOpenable plan.now }
-    requires passphrase { 0 < memory → length passphrase.now < 2 ^ 32 }
+    requires passphrase { 0 < allowed.memory → length passphrase.now < 2 ^ 32 }
     ensures unchanged { IsUnchanged D.tells D.size D.bytes D.unsettled device.old device.new }
     ensures count { CountsFailure is_open_failure result
         (D.failed device.old) (D.failed device.new) }
     ensures opens { D.tells
-        → IfOk result (PlanOpens memory plan.now (D.bytes device.old) passphrase.now) }
-    ensures refused { IfErr result (PlanRefused memory plan.now (D.size device.old)) }
+        → IfOk result (PlanOpens allowed plan.now (D.bytes device.old) passphrase.now) }
+    ensures refused { IfErr result (PlanRefused allowed plan.now (D.size device.old)) }
     ensures length { IfOk result (λ found. IfSome found (λ key. length key ≡ plan.now.key_bytes)) }
-    ensures no_memory { memory ≡ 0 → IfErr result (λ f. f ≢ OpenFault.Memory) }
+    ensures no_memory { allowed.memory ≡ 0 → IfErr result (λ f. f ≢ OpenFault.Memory) }
 {
     if !plan.area.is_inside(device.len()) {
         return Err(OpenFault::Outside);
     }
-    match try_within(alloc, device, plan, passphrase, memory)? {
+    match try_within(alloc, device, plan, passphrase, allowed)? {
         Tried::Opens(key) => Ok(Some(key)),
         Tried::Differs(bits) => {
             note_distance(nearest, n, bits);

@@ -13,42 +13,46 @@ use crate::luks1_fields::{luks1_common, luks1_entry};
 use crate::open_fault::OpenFault;
 use crate::plan::{luks1_plan, luks2_plan};
 use luks_meta::Meta;
-use luks_slot::{SlotPlan, refusal_within};
+use luks_slot::{Allowed, SlotPlan, refusal_within};
 
 /// By what `open_header_slot` refuses the keyslot `n` of a volume of `total` bytes with this header
-/// where Argon2 may take `memory` KiB, or None where it tries the passphrase. It takes no memory.
-pub fn refused_slot(header: &Header, n: u8, total: u64, memory: u32) -> Option<OpenFault>
+/// where so much is allowed, or None where it tries the passphrase. It takes no memory.
+pub fn refused_slot(header: &Header, n: u8, total: u64, allowed: Allowed) -> Option<OpenFault>
     requires accepted { IsAcceptedHeader header.now }
     ensures { (v : List ℕ) → IsHeader v header.now → length v ≡ total
-        → FirstRefusal (IsRefusalWithin memory v n) result }
+        → FirstRefusal (IsRefusalWithin allowed v n) result }
 {
     match header {
-        Header::Luks1(bytes) => luks1_refusal(bytes.as_slice(), n, total),
-        Header::Luks2(copy) => luks2_refusal(&copy.meta, n, total, memory),
+        Header::Luks1(bytes) => luks1_refusal(bytes.as_slice(), n, total, allowed.older),
+        Header::Luks2(copy) => luks2_refusal(&copy.meta, n, total, allowed),
     }
 }
 
-/// By what a LUKS1 header, these 592 bytes, refuses the keyslot `n` in a volume of `total` bytes.
-fn luks1_refusal(header: &[u8], n: u8, total: u64) -> Option<OpenFault>
+/// By what a LUKS1 header, these 592 bytes, refuses the keyslot `n` in a volume of `total` bytes, where
+/// older ciphers and hashes are allowed, or not.
+fn luks1_refusal(header: &[u8], n: u8, total: u64, older: bool) -> Option<OpenFault>
     requires { length header.now ≡ 592 }
-    ensures { FirstRefusal (IsLuks1Refusal header.now total n) result }
+    ensures { FirstRefusal (IsLuks1Refusal older header.now total n) result }
 {
     let common = match luks1_common(header) {
         Ok(common) => common,
         Err(fault) => return Some(OpenFault::from(fault)),
     };
     match luks1_entry(header, n) {
-        Ok(slot) => plan_refusal(&luks1_plan(&common, &slot), total, 0),
+        Ok(slot) => plan_refusal(
+            &luks1_plan(&common, &slot),
+            total,
+            Allowed { memory: 0, older },
+        ),
         Err(fault) => Some(fault),
     }
 }
 
-/// By what this metadata refuses the keyslot `n` in a volume of `total` bytes, where Argon2 may take
-/// `memory` KiB.
-fn luks2_refusal(meta: &Meta, n: u8, total: u64, memory: u32) -> Option<OpenFault>
+/// By what this metadata refuses the keyslot `n` in a volume of `total` bytes, where so much is allowed.
+fn luks2_refusal(meta: &Meta, n: u8, total: u64, allowed: Allowed) -> Option<OpenFault>
     requires { IsAccepted (content meta.now) }
     ensures { (b json : List ℕ) → IsCleared (uuid_field b) json (content meta.now)
-        → FirstRefusal (IsLuks2RefusalWithin memory b json total n) result }
+        → FirstRefusal (IsLuks2RefusalWithin allowed b json total n) result }
 {
     if n > 31 {
         return Some(OpenFault::NoSuchSlot);
@@ -58,17 +62,17 @@ fn luks2_refusal(meta: &Meta, n: u8, total: u64, memory: u32) -> Option<OpenFaul
     };
     let number = meta.digest_of_keyslot(n).unwrap();
     let digest = meta.digest(number).unwrap();
-    plan_refusal(&luks2_plan(&keyslot, &digest), total, memory)
+    plan_refusal(&luks2_plan(&keyslot, &digest), total, allowed)
 }
 
 /// By what the plan is refused in a volume of `total` bytes: its area isn't inside, or it is refused
-/// itself where Argon2 may take `memory` KiB.
-fn plan_refusal(plan: &SlotPlan<'_>, total: u64, memory: u32) -> Option<OpenFault>
-    ensures refused { IfSome result (IsPlanRefusal memory plan.now total) }
-    ensures accepted { IsNone result → IsPlanAccepted memory plan.now total }
+/// itself where so much is allowed.
+fn plan_refusal(plan: &SlotPlan<'_>, total: u64, allowed: Allowed) -> Option<OpenFault>
+    ensures refused { IfSome result (IsPlanRefusal allowed plan.now total) }
+    ensures accepted { IsNone result → IsPlanAccepted allowed plan.now total }
 {
     if !plan.area.is_inside(total) {
         return Some(OpenFault::Outside);
     }
-    refusal_within(plan, memory).map(OpenFault::Slot)
+    refusal_within(plan, allowed).map(OpenFault::Slot)
 }

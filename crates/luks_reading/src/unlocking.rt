@@ -25,7 +25,7 @@ use crate::opening::{open_luks1_slot, open_luks2};
 use luks_area::Device;
 use luks_head::Luks1Common;
 use luks_meta::Meta;
-use luks_slot::Key;
+use luks_slot::{Allowed, Key};
 use std::alloc::Global;
 
 /// When a keyslot of LUKS2 is tried, by its priority.
@@ -44,30 +44,31 @@ pub(crate) enum Rank {
 /// A keyslot that is refused by a fault of its own is passed over. `Head` and `Meta` are those of
 /// the volume itself, the first of them. `Device` comes exactly where a device call failed.
 ///
-/// Argon2 may take `memory` KiB for each keyslot; one that takes more is passed over, and where
-/// memory is refused that a keyslot may take, the answer is `Memory`. Else memory is taken for the
-/// metadata of LUKS2 alone.
+/// Argon2 may take `allowed.memory` KiB for each keyslot; one that takes more is passed over, and
+/// where memory is refused that a keyslot may take, the answer is `Memory`. Else memory is taken for
+/// the metadata of LUKS2 alone. A keyslot with an older cipher or hash is passed over where
+/// `allowed.older` isn't set.
 pub fn unlock<D: Device>(
     alloc: Global,
     device: &mut D,
     passphrase: &[u8],
-    memory: u32,
+    allowed: Allowed,
 ) -> Result<Option<(u8, Key)>, OpenFault>
     requires room { D.failed device.old + 1 < 2 ^ 64 }
-    requires passphrase { 0 < memory → length passphrase.now < 2 ^ 32 }
+    requires passphrase { 0 < allowed.memory → length passphrase.now < 2 ^ 32 }
     ensures unchanged { IsUnchanged D.tells D.size D.bytes D.unsettled device.old device.new }
     ensures count { CountsFailure is_open_failure result
         (D.failed device.old) (D.failed device.new) }
-    ensures unlocks { D.tells → IfOk result (Unlocks memory (D.bytes device.old) passphrase.now) }
+    ensures unlocks { D.tells → IfOk result (Unlocks allowed (D.bytes device.old) passphrase.now) }
     ensures refused { D.tells → IfErr result (IsVolumeRefusedBy (D.bytes device.old)) }
     ensures memory { D.tells → TakesNoMemory (D.bytes device.old)
         → IfErr result (λ f. f ≢ OpenFault.Memory) }
     // There is no other answer.
     ensures only { D.tells → (a : Unlocked)
-        → UnlockAnswer memory (D.bytes device.old) passphrase.now a → AgreesUnlocked a result }
+        → UnlockAnswer allowed (D.bytes device.old) passphrase.now a → AgreesUnlocked a result }
 {
     let header = read_header(alloc, device)?;
-    unlock_header(alloc, device, &header, passphrase, memory)
+    unlock_header(alloc, device, &header, passphrase, allowed)
 }
 
 /// What `unlock` answers of a volume with this header. It takes memory for Argon2 alone, where it is
@@ -77,19 +78,19 @@ pub fn unlock_header<D: Device>(
     device: &mut D,
     header: &Header,
     passphrase: &[u8],
-    memory: u32,
+    allowed: Allowed,
 ) -> Result<Option<(u8, Key)>, OpenFault>
     requires room { D.failed device.old + 1 < 2 ^ 64 }
     requires accepted { IsAcceptedHeader header.now }
-    requires passphrase { 0 < memory → length passphrase.now < 2 ^ 32 }
+    requires passphrase { 0 < allowed.memory → length passphrase.now < 2 ^ 32 }
     ensures unchanged { IsUnchanged D.tells D.size D.bytes D.unsettled device.old device.new }
     ensures count { CountsFailure is_open_failure result
         (D.failed device.old) (D.failed device.new) }
-    ensures answers { IsHeaderUnlocking D.tells (D.bytes device.old) header.now memory passphrase.now
+    ensures answers { IsHeaderUnlocking D.tells (D.bytes device.old) header.now allowed passphrase.now
         result }
 {
     let mut nearest = None;
-    try_header(alloc, device, header, passphrase, memory, &mut nearest)
+    try_header(alloc, device, header, passphrase, allowed, &mut nearest)
 }
 
 /// What `unlock_header` answers, which notes in `nearest` how near the passphrase came, of the keyslots
@@ -99,21 +100,30 @@ pub fn try_header<D: Device>(
     device: &mut D,
     header: &Header,
     passphrase: &[u8],
-    memory: u32,
+    allowed: Allowed,
     nearest: &mut Option<Nearest>,
 ) -> Result<Option<(u8, Key)>, OpenFault>
     requires room { D.failed device.old + 1 < 2 ^ 64 }
     requires accepted { IsAcceptedHeader header.now }
-    requires passphrase { 0 < memory → length passphrase.now < 2 ^ 32 }
+    requires passphrase { 0 < allowed.memory → length passphrase.now < 2 ^ 32 }
     ensures unchanged { IsUnchanged D.tells D.size D.bytes D.unsettled device.old device.new }
     ensures count { CountsFailure is_open_failure result
         (D.failed device.old) (D.failed device.new) }
-    ensures answers { IsHeaderUnlocking D.tells (D.bytes device.old) header.now memory passphrase.now
+    ensures answers { IsHeaderUnlocking D.tells (D.bytes device.old) header.now allowed passphrase.now
         result }
 {
     match header {
-        Header::Luks1(bytes) => unlock_luks1(alloc, device, bytes.as_slice(), passphrase, nearest),
-        Header::Luks2(copy) => unlock_luks2(alloc, device, &copy.meta, passphrase, memory, nearest),
+        Header::Luks1(bytes) => unlock_luks1(
+            alloc,
+            device,
+            bytes.as_slice(),
+            passphrase,
+            allowed.older,
+            nearest,
+        ),
+        Header::Luks2(copy) => unlock_luks2(
+            alloc, device, &copy.meta, passphrase, allowed, nearest,
+        ),
     }
 }
 
@@ -122,6 +132,7 @@ fn unlock_luks1<D: Device>(
     device: &mut D,
     header: &[u8],
     passphrase: &[u8],
+    older: bool,
     nearest: &mut Option<Nearest>,
 ) -> Result<Option<(u8, Key)>, OpenFault>
     requires room { D.failed device.old + 1 < 2 ^ 64 }
@@ -131,14 +142,16 @@ fn unlock_luks1<D: Device>(
         (D.failed device.old) (D.failed device.new) }
     ensures unrefused { IfOk result (λ _. (f : TheFault) → IsCommonFault header.now f → ⊥) }
     ensures tries { D.tells
-        → IfOk result (Luks1Tries header.now (D.bytes device.old) passphrase.now) }
+        → IfOk result (Luks1Tries older header.now (D.bytes device.old) passphrase.now) }
     ensures refused { IfErr result (Luks1VolumeRefused header.now) }
     ensures length { IfOk result
         (λ found. IfSome found (λ opened. length opened.1 ≡ number_at header.now 108 4)) }
 {
     let common = luks1_common(header)?;
     for n in 0..8 {
-        match try_luks1(alloc, device, header, &common, n, passphrase, nearest) {
+        match try_luks1(
+            alloc, device, header, &common, n, passphrase, older, nearest,
+        ) {
             Ok(Some(key)) => return Ok(Some((n, key))),
             Ok(None) => {}
             Err(fault) => return Err(fault),
@@ -154,6 +167,7 @@ fn try_luks1<D: Device>(
     common: &Luks1Common,
     n: u8,
     passphrase: &[u8],
+    older: bool,
     nearest: &mut Option<Nearest>,
 ) -> Result<Option<Key>, OpenFault>
     requires room { D.failed device.old + 1 < 2 ^ 64 }
@@ -164,12 +178,12 @@ fn try_luks1<D: Device>(
     ensures count { CountsFailure is_open_failure result
         (D.failed device.old) (D.failed device.new) }
     ensures tried { D.tells
-        → IfOk result (Luks1Tried header.now (D.bytes device.old) n passphrase.now) }
+        → IfOk result (Luks1Tried older header.now (D.bytes device.old) n passphrase.now) }
     ensures kinds { IfErr result (λ f. is_open_failure f ≡ true) }
     ensures length { IfOk result
         (λ found. IfSome found (λ key. length key ≡ number_at header.now 108 4)) }
 {
-    match open_luks1_slot(alloc, device, header, common, n, passphrase, nearest) {
+    match open_luks1_slot(alloc, device, header, common, n, passphrase, older, nearest) {
         Ok(found) => Ok(found),
         Err(fault) => passed_over(fault),
     }
@@ -180,17 +194,17 @@ fn unlock_luks2<D: Device>(
     device: &mut D,
     meta: &Meta,
     passphrase: &[u8],
-    memory: u32,
+    allowed: Allowed,
     nearest: &mut Option<Nearest>,
 ) -> Result<Option<(u8, Key)>, OpenFault>
     requires room { D.failed device.old + 1 < 2 ^ 64 }
     requires accepted { IsAccepted (content meta.now) }
-    requires passphrase { 0 < memory → length passphrase.now < 2 ^ 32 }
+    requires passphrase { 0 < allowed.memory → length passphrase.now < 2 ^ 32 }
     ensures unchanged { IsUnchanged D.tells D.size D.bytes D.unsettled device.old device.new }
     ensures count { CountsFailure is_open_failure result
         (D.failed device.old) (D.failed device.new) }
-    ensures fails { Luks2Fails memory (D.size device.old) (content meta.now) result }
-    ensures answers { IsLuks2Unlocking D.tells (D.bytes device.old) (content meta.now) memory
+    ensures fails { Luks2Fails allowed (D.size device.old) (content meta.now) result }
+    ensures answers { IsLuks2Unlocking D.tells (D.bytes device.old) (content meta.now) allowed
         passphrase.now (luks2_order (content meta.now)) result }
 {
     match try_rank(
@@ -199,7 +213,7 @@ fn unlock_luks2<D: Device>(
         meta,
         Rank::Preferred,
         passphrase,
-        memory,
+        allowed,
         nearest,
     ) {
         Ok(Some(found)) => Ok(Some(found)),
@@ -209,7 +223,7 @@ fn unlock_luks2<D: Device>(
             meta,
             Rank::Normal,
             passphrase,
-            memory,
+            allowed,
             nearest,
         ),
         Err(fault) => Err(fault),
@@ -223,22 +237,22 @@ fn try_rank<D: Device>(
     meta: &Meta,
     rank: Rank,
     passphrase: &[u8],
-    memory: u32,
+    allowed: Allowed,
     nearest: &mut Option<Nearest>,
 ) -> Result<Option<(u8, Key)>, OpenFault>
     requires room { D.failed device.old + 1 < 2 ^ 64 }
     requires accepted { IsAccepted (content meta.now) }
-    requires passphrase { 0 < memory → length passphrase.now < 2 ^ 32 }
+    requires passphrase { 0 < allowed.memory → length passphrase.now < 2 ^ 32 }
     ensures unchanged { IsUnchanged D.tells D.size D.bytes D.unsettled device.old device.new }
     ensures count { CountsFailure is_open_failure result
         (D.failed device.old) (D.failed device.new) }
-    ensures fails { Luks2Fails memory (D.size device.old) (content meta.now) result }
-    ensures answers { IsLuks2Unlocking D.tells (D.bytes device.old) (content meta.now) memory
+    ensures fails { Luks2Fails allowed (D.size device.old) (content meta.now) result }
+    ensures answers { IsLuks2Unlocking D.tells (D.bytes device.old) (content meta.now) allowed
         passphrase.now (rank_order rank (content meta.now)) result }
 {
     for n in 0..32 {
         if is_of_rank(meta, rank, n) {
-            match try_luks2(alloc, device, meta, n, passphrase, memory, nearest) {
+            match try_luks2(alloc, device, meta, n, passphrase, allowed, nearest) {
                 Ok(Some(key)) => return Ok(Some((n, key))),
                 Ok(None) => {}
                 Err(fault) => return Err(fault),
@@ -268,22 +282,22 @@ fn try_luks2<D: Device>(
     meta: &Meta,
     n: u8,
     passphrase: &[u8],
-    memory: u32,
+    allowed: Allowed,
     nearest: &mut Option<Nearest>,
 ) -> Result<Option<Key>, OpenFault>
     requires room { D.failed device.old + 1 < 2 ^ 64 }
     requires accepted { IsAccepted (content meta.now) }
-    requires passphrase { 0 < memory → length passphrase.now < 2 ^ 32 }
+    requires passphrase { 0 < allowed.memory → length passphrase.now < 2 ^ 32 }
     ensures unchanged { IsUnchanged D.tells D.size D.bytes D.unsettled device.old device.new }
     ensures count { CountsFailure is_open_failure result
         (D.failed device.old) (D.failed device.new) }
     ensures tried { D.tells → (b json : List ℕ) → IsCleared (uuid_field b) json (content meta.now)
-        → IfOk result (Luks2Tried memory b json (D.bytes device.old) n passphrase.now) }
-    ensures fails { Luks2Fails memory (D.size device.old) (content meta.now) result }
+        → IfOk result (Luks2Tried allowed b json (D.bytes device.old) n passphrase.now) }
+    ensures fails { Luks2Fails allowed (D.size device.old) (content meta.now) result }
     ensures length { IfOk result
         (λ found. IfSome found (λ key. HasLuks2KeyBytes (content meta.now) n (length key))) }
 {
-    match open_luks2(alloc, device, meta, n, passphrase, memory, nearest) {
+    match open_luks2(alloc, device, meta, n, passphrase, allowed, nearest) {
         Ok(found) => Ok(found),
         Err(fault) => passed_over(fault),
     }

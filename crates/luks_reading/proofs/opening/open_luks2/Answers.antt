@@ -33,7 +33,7 @@ returns-clause-opens g c = λ tells b json clear.
     let has : HasLuks2Plan json c.args.n c.luks2_plan-plan.result =
     record { numbered = low; value = content c.args.meta.now; holds = clear.meta.json; object = slot.object; there = slot.is; is = plan } in
     IfOk-weaker c.open_planned.result _ _ (λ found opens.
-    plan_opens2 c.args.memory b json (g.D.Device.bytes c.args.device.now) c.args.n (content c.args.meta.now) c.luks2_plan-plan.result c.args.passphrase.now found
+    plan_opens2 c.args.allowed b json (g.D.Device.bytes c.args.device.now) c.args.n (content c.args.meta.now) c.luks2_plan-plan.result c.args.passphrase.now found
     clear only has opens)
     (c.open_planned.ensures.opens tells)
 
@@ -51,7 +51,7 @@ returns-clause-refused g c = λ b json clear.
     let has : HasLuks2Plan json c.args.n c.luks2_plan-plan.result =
     record { numbered = low; value = content c.args.meta.now; holds = clear.meta.json; object = slot.object; there = slot.is; is = plan } in
     IfErr-weaker c.open_planned.result _ _ (λ fault refused.
-    plan_refused2 c.args.memory b json (g.D.Device.size c.args.device.now) c.args.n (content c.args.meta.now) c.luks2_plan-plan.result fault clear only has refused)
+    plan_refused2 c.args.allowed b json (g.D.Device.size c.args.device.now) c.args.n (content c.args.meta.now) c.luks2_plan-plan.result fault clear only has refused)
     c.open_planned.ensures.refused
 
 pub returns-clause-length : goal.returns-clause-length

@@ -20,7 +20,7 @@ returns-in-Luks1-clause-answers g c = record {
       let p = c.args.passphrase.now in
       let chosen = subst (IsHeader v) c.in-Luks1.is is in
       IfOk-weaker c.open_luks1.result _ _ (λ found opens.
-      luks1_opens c.args.memory v n p found chosen.0 (subst (λ (h : List ℕ). Luks1Opens h v n p found) (c.as_slice.ensures ∙ chosen.1) opens))
+      luks1_opens c.args.allowed v n p found chosen.0 (subst (λ (h : List ℕ). Luks1Opens h v n p found) (c.as_slice.ensures ∙ chosen.1) opens))
       (c.open_luks1.ensures.opens tells);
   refused = λ tells is.
       let v = g.D.Device.bytes c.args.device.now in
@@ -28,7 +28,7 @@ returns-in-Luks1-clause-answers g c = record {
       let chosen = subst (IsHeader v) c.in-Luks1.is is in
       let long : g.D.Device.size c.args.device.now ≡ length v = sym (g.met.D.Device.sized c.args.device.now tells) in
       IfErr-weaker c.open_luks1.result _ _ (λ fault refused.
-      luks1_refused c.args.memory v n c.args.passphrase.now fault chosen.0
+      luks1_refused c.args.allowed v n c.args.passphrase.now fault chosen.0
       (subst (λ (h : List ℕ). Luks1Refused h (length v) n fault) (c.as_slice.ensures ∙ chosen.1)
       (subst (λ (m : ℕ). Luks1Refused c.as_slice.result.now m n fault) long refused)))
       c.open_luks1.ensures.refused;
@@ -51,7 +51,7 @@ returns-in-Luks2-clause-answers g c = record {
       let o = c.in-Luks2.copy.header.hdr_offset in
       let cleared = cleared_copy v c.in-Luks2.copy copy in
       IfOk-weaker c.open_luks2.result _ _ (λ found opens.
-      luks2_opens c.args.memory v c.args.n c.args.passphrase.now o c.in-Luks2.copy.copies found copy.chosen opens)
+      luks2_opens c.args.allowed v c.args.n c.args.passphrase.now o c.in-Luks2.copy.copies found copy.chosen opens)
       (c.open_luks2.ensures.opens tells (header_at v o) (json_at v o) cleared);
   refused = λ tells is.
       let v = g.D.Device.bytes c.args.device.now in
@@ -62,9 +62,9 @@ returns-in-Luks2-clause-answers g c = record {
       let cleared = cleared_copy v c.in-Luks2.copy copy in
       let long : g.D.Device.size c.args.device.now ≡ length v = sym (g.met.D.Device.sized c.args.device.now tells) in
       IfErr-weaker c.open_luks2.result _ _ (λ fault refused.
-      luks2_refused c.args.memory v n c.args.passphrase.now o copies fault copy.chosen
+      luks2_refused c.args.allowed v n c.args.passphrase.now o copies fault copy.chosen
       (record { place = o; copies = copies; chosen = copy.chosen; uuid = cleared.uuid_faultless })
-      (subst (λ (m : ℕ). Luks2Refused c.args.memory (header_at v o) (json_at v o) m n fault) long refused))
+      (subst (λ (m : ℕ). Luks2Refused c.args.allowed (header_at v o) (json_at v o) m n fault) long refused))
       (c.open_luks2.ensures.refused (header_at v o) (json_at v o) cleared);
   key_bytes =
       subst (λ h. IfOk c.open_luks2.result (λ found. IfSome found (λ key. HasKeyBytes h c.args.n (length key)))) (sym c.in-Luks2.is) c.open_luks2.ensures.length;
@@ -76,8 +76,8 @@ returns-in-Luks2-clause-answers g c = record {
       let cleared = cleared_copy v c.in-Luks2.copy copy in
       let long : g.D.Device.size c.args.device.now ≡ length v = sym (g.met.D.Device.sized c.args.device.now tells) in
       IfErr-weaker c.open_luks2.result _ _ (λ fault refused e.
-      luks2_takes c.args.memory v n o c.in-Luks2.copy.copies copy.chosen
-      (subst (λ (m : ℕ). Luks2TakesMemory c.args.memory (header_at v o) (json_at v o) m n) long (refused.1 e)))
+      luks2_takes c.args.allowed v n o c.in-Luks2.copy.copies copy.chosen
+      (subst (λ (m : ℕ). Luks2TakesMemory c.args.allowed (header_at v o) (json_at v o) m n) long (refused.1 e)))
       (c.open_luks2.ensures.refused (header_at v o) (json_at v o) cleared);
   no_memory = c.open_luks2.ensures.no_memory;
 }

@@ -20,5 +20,5 @@ returns c = λ b json clear.
     let plan = c.luks2_plan.ensures (content c.args.meta.now) c.args.n c.unwrap-number.result slot.object digest.object slot.tells_members naming digest.is digest.tells_members in
     let has : HasLuks2Plan json c.args.n c.luks2_plan.result =
     record { numbered = low; value = content c.args.meta.now; holds = clear.meta.json; object = slot.object; there = slot.is; is = plan } in
-    plan_judged2 c.args.memory b json c.args.total c.args.n (content c.args.meta.now) c.luks2_plan.result c.plan_refusal.result clear only has
+    plan_judged2 c.args.allowed b json c.args.total c.args.n (content c.args.meta.now) c.luks2_plan.result c.plan_refusal.result clear only has
     c.plan_refusal.ensures.refused c.plan_refusal.ensures.accepted

@@ -22,7 +22,7 @@ returns-in-Luks1-clause-answers g c = record {
       let p = c.args.passphrase.now in
       let chosen = subst (IsHeader v) c.in-Luks1.is is in
       let begins = c.as_slice.ensures ∙ chosen.1 in
-      luks1_unlocks_as c.args.memory v p c.unlock_luks1.result chosen.0
+      luks1_unlocks_as c.args.allowed v p c.unlock_luks1.result chosen.0
       (IfOk-weaker c.unlock_luks1.result _ _ (λ found clear. subst (λ (h : List ℕ). (f : HeadFault) → IsCommonFault h f → ⊥) begins clear) c.unlock_luks1.ensures.unrefused)
       (IfOk-weaker c.unlock_luks1.result _ _ (λ found tries. subst (λ (h : List ℕ). Luks1Tries h v p found) begins tries) (c.unlock_luks1.ensures.tries tells));
   refused = λ tells is.
@@ -51,7 +51,7 @@ returns-in-Luks2-clause-answers g c = record {
       let copies = c.in-Luks2.copy.copies in
       let cleared = cleared_copy v c.in-Luks2.copy copy in
       IfOk-weaker c.unlock_luks2.result _ _ (λ found tries.
-      luks2_unlocks c.args.memory v p o copies (content c.in-Luks2.copy.meta) found copy.chosen cleared tries)
+      luks2_unlocks c.args.allowed v p o copies (content c.in-Luks2.copy.meta) found copy.chosen cleared tries)
       (c.unlock_luks2.ensures.answers.tries tells (header_at v o) (json_at v o) cleared);
   refused = λ tells is.
       let v = g.D.Device.bytes c.args.device.now in
@@ -71,8 +71,8 @@ returns-in-Luks2-clause-answers g c = record {
       IfErr-weaker c.unlock_luks2.result _ _ (λ fault lacks e.
       let x = lacks e in (
         x.0,
-        luks2_takes c.args.memory v x.0 o c.in-Luks2.copy.copies copy.chosen
-            (subst (λ (m : ℕ). Luks2TakesMemory c.args.memory (header_at v o) (json_at v o) m x.0) long x.1),
+        luks2_takes c.args.allowed v x.0 o c.in-Luks2.copy.copies copy.chosen
+            (subst (λ (m : ℕ). Luks2TakesMemory c.args.allowed (header_at v o) (json_at v o) m x.0) long x.1),
       ))
       (c.unlock_luks2.ensures.fails.memory (header_at v o) (json_at v o) cleared);
   no_memory = c.unlock_luks2.ensures.fails.no_memory;

@@ -14,7 +14,7 @@ use Rattle.luks_reading.proofs.unlocking.try_luks2.Goals as goal
 pub returns-in-Ok-clause-tried : goal.returns-in-Ok-clause-tried
 returns-in-Ok-clause-tried g c = λ tells b json clear.
     let j = content c.args.meta.now in
-    luks2_tried c.args.memory b json (g.D.Device.bytes c.args.device.now) c.args.n c.args.passphrase.now j c.in-Ok.found
+    luks2_tried c.args.allowed b json (g.D.Device.bytes c.args.device.now) c.args.n c.args.passphrase.now j c.in-Ok.found
     (record { value = λ i holds. one_value json j i clear.meta.json holds; digest = one_digest json j clear.meta c.args.n })
     (c.in-Ok.ensures.opens tells b json clear)
 
@@ -23,15 +23,15 @@ returns-in-Err-clause-tried g c = λ tells b json clear.
     let v = g.D.Device.bytes c.args.device.now in
     let long : g.D.Device.size c.args.device.now ≡ length v = sym (g.met.D.Device.sized c.args.device.now tells) in
     rw c.passed_over.ensures
-    (luks2_refused_tried c.args.memory b json v c.args.n c.args.passphrase.now c.in-Err.fault
-    (subst (λ (m : ℕ). Luks2Refused c.args.memory b json m c.args.n c.in-Err.fault) long (c.in-Err.ensures.refused b json clear)))
+    (luks2_refused_tried c.args.allowed b json v c.args.n c.args.passphrase.now c.in-Err.fault
+    (subst (λ (m : ℕ). Luks2Refused c.args.allowed b json m c.args.n c.in-Err.fault) long (c.in-Err.ensures.refused b json clear)))
 
 pub returns-in-Err-clause-fails : goal.returns-in-Err-clause-fails
 returns-in-Err-clause-fails g c = record {
   kinds = rw c.passed_over.ensures (passed_ends IsOfDevice c.in-Err.fault (λ e. tt) (λ e. tt));
   memory = λ b json clear.
       rw c.passed_over.ensures
-      (passed_ends (Luks2LacksMemory c.args.memory b json (g.D.Device.size c.args.device.now)) c.in-Err.fault (λ e. λ other. absurd (cc))
+      (passed_ends (Luks2LacksMemory c.args.allowed b json (g.D.Device.size c.args.device.now)) c.in-Err.fault (λ e. λ other. absurd (cc))
       (λ e. λ other. (c.args.n, (c.in-Err.ensures.refused b json clear).1 e)));
   no_memory = λ none.
       rw c.passed_over.ensures

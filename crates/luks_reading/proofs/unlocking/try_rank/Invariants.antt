@@ -12,5 +12,5 @@ invariant-loop-n g l = record {
   unchanged : IsUnchanged g.D.Device.tells g.D.Device.size g.D.Device.bytes g.D.Device.unsettled l.initial.device l.device;
   count : g.D.Device.failed l.device ≡ g.D.Device.failed l.initial.device;
   shut : g.D.Device.tells → (b json : List ℕ) → IsCleared (uuid_field b) json (content l.meta)
-      → (m : ℕ) → m < l.n → is_of_rank l.rank (content l.meta) m ≡ true → Luks2DoesNotOpen l.memory b json (g.D.Device.bytes l.initial.device) l.passphrase m;
+      → (m : ℕ) → m < l.n → is_of_rank l.rank (content l.meta) m ≡ true → Luks2DoesNotOpen l.allowed b json (g.D.Device.bytes l.initial.device) l.passphrase m;
 }

@@ -14,8 +14,8 @@ returns-in-Ok-Some-clause-answers g c = record {
       let v = g.D.Device.bytes c.args.device.now in
       let p = c.args.passphrase.now in
       let j = content c.args.meta.now in
-      first_rank c.args.memory b json v p j c.in-Ok-Some.found
-      (subst (λ (o : Option (ℕ × List ℕ)). Luks2Tries c.args.memory b json v p (rank_order Preferred j) o) c.in-Ok-Some.field-0-is (c.in-Ok-Some.ensures.answers.tries tells b json clear));
+      first_rank c.args.allowed b json v p j c.in-Ok-Some.found
+      (subst (λ (o : Option (ℕ × List ℕ)). Luks2Tries c.args.allowed b json v p (rank_order Preferred j) o) c.in-Ok-Some.field-0-is (c.in-Ok-Some.ensures.answers.tries tells b json clear));
   key_bytes = subst (λ (o : Option (ℕ × List ℕ)). IfSome o (λ opened. HasLuks2KeyBytes (content c.args.meta.now) opened.0 (length opened.1))) c.in-Ok-Some.field-0-is c.in-Ok-Some.ensures.answers.key_bytes;
 }
 
@@ -25,9 +25,9 @@ returns-in-Ok-None-clause-answers g c = record {
       let v = g.D.Device.bytes c.args.device.now in
       let p = c.args.passphrase.now in
       let j = content c.args.meta.now in
-      let shut = subst (λ (o : Option (ℕ × List ℕ)). Luks2Tries c.args.memory b json v p (rank_order Preferred j) o) c.in-Ok-None.field-0-is (c.in-Ok-None.ensures.answers.tries tells b json clear) in
+      let shut = subst (λ (o : Option (ℕ × List ℕ)). Luks2Tries c.args.allowed b json v p (rank_order Preferred j) o) c.in-Ok-None.field-0-is (c.in-Ok-None.ensures.answers.tries tells b json clear) in
       IfOk-weaker c.try_rank-in-Ok-None.result _ _ (λ found tries.
-      second_rank c.args.memory b json v p j found shut (subst (λ (w : List ℕ). Luks2Tries c.args.memory b json w p (rank_order Normal j) found) (c.in-Ok-None.ensures.unchanged.same tells) tries))
+      second_rank c.args.allowed b json v p j found shut (subst (λ (w : List ℕ). Luks2Tries c.args.allowed b json w p (rank_order Normal j) found) (c.in-Ok-None.ensures.unchanged.same tells) tries))
       (c.try_rank-in-Ok-None.ensures.answers.tries tells b json clear);
   key_bytes = c.try_rank-in-Ok-None.ensures.answers.key_bytes;
 }
