@@ -1,5 +1,5 @@
 -- The header that is made is well formed, and its kept keyslots give what the source's equations give.
-use Rattle.std.proofs.Common.{◌≡◌, ℕ, ◌<◌, ◌≤◌, List, length, Option, Some, None, inl, inr, sym, ap, subst, ◌∙◌, arith, lit≤}
+use Rattle.std.proofs.Common.{◌≡◌, ℕ, Bool, ◌<◌, ◌≤◌, List, length, Option, Some, None, inl, inr, sym, ap, subst, ◌∙◌, arith, lit≤}
 use Rattle.byteorder.specs.Endian.{big_number}
 use Rattle.luks_area.specs.Ranges.{part}
 use Rattle.luks_area.specs.RangeFacts.{length-part, part-part}
@@ -20,6 +20,7 @@ use Rattle.luks1_mending.specs.declared.given.Given.{Given}
 use Rattle.luks1_mending.proofs.HeaderFacts.{common_held, made_header, text_there}
 use Rattle.luks_head.proofs.ChoiceFacts.{choices_agree}
 use Rattle.luks_head.specs.Selection.{Choice, luks1, Chosen}
+use Rattle.luks_slot.specs.declared.allowed.Allowed.{Allowed}
 use Rattle.luks_slot.specs.Opening.{slot_key}
 use Rattle.luks_slot.specs.declared.plan.SlotPlan.{SlotPlan}
 use Rattle.luks_reading.specs.Answer.{no_key, opens, refused, AnswerWithin, HasPlanAs, IsLuks1HeadRefusal, IsLuks1Refusal, IsRefusalAsWithin, IsRefusalWithin, Opened, OpensWithin}
@@ -110,64 +111,64 @@ module _ (v old w : List ℕ) (g : Given) (x : IsRebuilt v g old w) (formed : Is
     no_head (head.Iterations (of.Slot m)) y = no_entry (head.Iterations (of.Slot m)) y.1
     no_head f y = no_common f y
 
-    from_refusal : (f : OpenFault) → IsLuks1Refusal (part w 0 592) (length w) n f → IsRefusedKept v g n f
-    from_refusal (Head f) y = absurd (no_head f y)
-    from_refusal (Meta f) y = y
-    from_refusal NoSuchSlot y = absurd (let number = low in omega (arith, number, y))
-    from_refusal SlotFree y = absurd (let on = word_is in let off = y.1 in omega (arith, on, off))
-    from_refusal Outside y = absurd (
+    from_refusal : (older : Bool) (f : OpenFault) → IsLuks1Refusal older (part w 0 592) (length w) n f → IsRefusedKept older v g n f
+    from_refusal older (Head f) y = absurd (no_head f y)
+    from_refusal older (Meta f) y = y
+    from_refusal older NoSuchSlot y = absurd (let number = low in omega (arith, number, y))
+    from_refusal older SlotFree y = absurd (let on = word_is in let off = y.1 in omega (arith, on, off))
+    from_refusal older Outside y = absurd (
         let inside = formed.fit.inside (name.Slot n) y.plan.area (low, y.is.is.start, y.is.is.len) in
         let past = y.past in
         omega (arith, inside, past))
-    from_refusal (Slot f) y = record { plan = y.plan; is = plan_here says y.plan y.is; refused = y.refused }
-    from_refusal Device y = y
-    from_refusal Memory y = y
+    from_refusal older (Slot f) y = record { plan = y.plan; is = plan_here says y.plan y.is; refused = y.refused }
+    from_refusal older Device y = y
+    from_refusal older Memory y = y
 
-    to_refusal : (f : OpenFault) → IsRefusedKept v g n f → IsLuks1Refusal (part w 0 592) (length w) n f
-    to_refusal (Head f) y = absurd y
-    to_refusal (Meta f) y = y
-    to_refusal NoSuchSlot y = absurd y
-    to_refusal SlotFree y = absurd y
-    to_refusal Outside y = absurd y
-    to_refusal (Slot f) y = record { plan = y.plan; is = plan_there says y.plan y.is; refused = y.refused }
-    to_refusal Device y = y
-    to_refusal Memory y = y
+    to_refusal : (older : Bool) (f : OpenFault) → IsRefusedKept older v g n f → IsLuks1Refusal older (part w 0 592) (length w) n f
+    to_refusal older (Head f) y = absurd y
+    to_refusal older (Meta f) y = y
+    to_refusal older NoSuchSlot y = absurd y
+    to_refusal older SlotFree y = absurd y
+    to_refusal older Outside y = absurd y
+    to_refusal older (Slot f) y = record { plan = y.plan; is = plan_there says y.plan y.is; refused = y.refused }
+    to_refusal older Device y = y
+    to_refusal older Memory y = y
 
-    module _ (memory : ℕ) where
-      by_chosen : (f : OpenFault) → IsRefusalWithin memory w n f → IsRefusedKept v g n f
-      by_chosen f z = from_refusal f (subst (λ (c : Choice). IsRefusalAsWithin memory w n c f) (choices_agree w z.choice luks1 z.chosen chosen) z.fault)
+    module _ (allowed : Allowed) where
+      by_chosen : (f : OpenFault) → IsRefusalWithin allowed w n f → IsRefusedKept allowed.older v g n f
+      by_chosen f z = from_refusal allowed.older f (subst (λ (c : Choice). IsRefusalAsWithin allowed w n c f) (choices_agree w z.choice luks1 z.chosen chosen) z.fault)
 
-      refused_there : (f : OpenFault) → IsRefusedKept v g n f → IsRefusalWithin memory w n f
-      refused_there f z = record { choice = luks1; chosen = chosen; fault = to_refusal f z }
+      refused_there : (f : OpenFault) → IsRefusedKept allowed.older v g n f → IsRefusalWithin allowed w n f
+      refused_there f z = record { choice = luks1; chosen = chosen; fault = to_refusal allowed.older f z }
 
       module _ (p : List ℕ) where
-        key_there : (found : Option (List ℕ)) → GivesKept v g n p found → OpensWithin memory w n p found
+        key_there : (found : Option (List ℕ)) → GivesKept allowed.older v g n p found → OpensWithin allowed w n p found
         key_there found z = record {
           choice = luks1;
           chosen = chosen;
           plan = z.plan;
           is = plan_there says z.plan z.is;
-          unrefused = λ f bad. z.unrefused f (from_refusal f bad);
+          unrefused = λ f bad. z.unrefused f (from_refusal allowed.older f bad);
           key = ap (λ (b : List ℕ). slot_key z.plan b p) (same_bytes z.plan z.is) ∙ z.key;
         }
 
-        key_here : (found : Option (List ℕ)) → OpensWithin memory w n p found → GivesKept v g n p found
+        key_here : (found : Option (List ℕ)) → OpensWithin allowed w n p found → GivesKept allowed.older v g n p found
         key_here found z =
             let choice : z.choice ≡ luks1 = choices_agree w z.choice luks1 z.chosen chosen in
             let its = plan_here says z.plan (subst (λ (c : Choice). HasPlanAs w n c z.plan) choice z.is) in
             record {
               plan = z.plan;
               is = its;
-              unrefused = λ f bad. z.unrefused f (subst (λ (c : Choice). IsRefusalAsWithin memory w n c f) (sym choice) (to_refusal f bad));
+              unrefused = λ f bad. z.unrefused f (subst (λ (c : Choice). IsRefusalAsWithin allowed w n c f) (sym choice) (to_refusal allowed.older f bad));
               key = ap (λ (b : List ℕ). slot_key z.plan b p) (sym (same_bytes z.plan its)) ∙ z.key;
             }
 
-        pub gives_there : (a : Opened) → Gives v g n p a → AnswerWithin memory w n p a
+        pub gives_there : (a : Opened) → Gives allowed.older v g n p a → AnswerWithin allowed w n p a
         gives_there (refused f) z = (refused_there f z.0, λ e bad. z.1 e (by_chosen e bad))
         gives_there (opens k) z = key_there (Some k) z
         gives_there no_key z = key_there None z
 
-        pub gives_here : (a : Opened) → AnswerWithin memory w n p a → Gives v g n p a
+        pub gives_here : (a : Opened) → AnswerWithin allowed w n p a → Gives allowed.older v g n p a
         gives_here (refused f) z = (by_chosen f z.0, λ e bad. z.1 e (refused_there e bad))
         gives_here (opens k) z = key_here (Some k) z
         gives_here no_key z = key_here None z

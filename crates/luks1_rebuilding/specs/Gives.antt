@@ -1,12 +1,13 @@
 -- What the kept keyslots of the volume `v` give: the equations of LUKS1, of its entry, its area and its digest,
 -- with the texts and the key's length that are taken.
-use Rattle.std.specs.Prelude.{◌≡◌, ℕ, List, Option, Some, None}
+use Rattle.std.specs.Prelude.{◌≡◌, ℕ, Bool, List, Option, Some, None}
 use Rattle.luks_area.specs.First.{IsLeast}
 use Rattle.luks_area.specs.Ranges.{part}
 use Rattle.luks1_header.specs.Header1.{entry, entry_iterations, entry_salt, entry_stripes, mk_digest_iterations_of, mk_digest_of, mk_digest_salt_of}
 use Rattle.luks1_header.specs.declared.fault.TextField.TheVariants.{CipherMode, CipherName, HashSpec}
 use Rattle.luks_slot.specs.Opening.{slot_key}
-use Rattle.luks_slot.specs.Refusal.{slot_refusal}
+use Rattle.luks_slot.specs.Allowance.{without_memory}
+use Rattle.luks_slot.specs.Refusal.{slot_refusal_within}
 use Rattle.luks_slot.specs.declared.fault.SlotFault.{SlotFault}
 use Rattle.luks_slot.specs.declared.plan.AreaCipher.{AreaCipher}
 use Rattle.luks_slot.specs.declared.plan.AreaCipher.TheVariants.{Apart, Whole}
@@ -53,32 +54,32 @@ pub record IsKeptPlan (v : List ℕ) (g : Given) (n : ℕ) (plan : SlotPlan) : T
   pub splitter_hash : plan.splitter_hash.now ≡ taken_text (header_of v) g HashSpec
   pub digest : IsKeptDigest v g plan.digest
 
--- the plan is refused by this fault
-pub record HasRefusedPlan (v : List ℕ) (g : Given) (n : ℕ) (f : SlotFault) : Type 0 where
+-- the plan is refused by this fault, with ciphers and hashes of older disks where `older` says so
+pub record HasRefusedPlan (older : Bool) (v : List ℕ) (g : Given) (n : ℕ) (f : SlotFault) : Type 0 where
   pub plan : SlotPlan
   pub is : IsKeptPlan v g n plan
-  pub refused : slot_refusal plan ≡ Some f
+  pub refused : slot_refusal_within (without_memory older) plan ≡ Some f
 
 -- what refuses the keyslot `n`: its plan alone
-abbrev pub IsRefusedKept : List ℕ → Given → ℕ → OpenFault → Type 0
-IsRefusedKept v g n (Head f) = ⊥
-IsRefusedKept v g n (Meta f) = ⊥
-IsRefusedKept v g n NoSuchSlot = ⊥
-IsRefusedKept v g n SlotFree = ⊥
-IsRefusedKept v g n Outside = ⊥
-IsRefusedKept v g n (Slot f) = HasRefusedPlan v g n f
-IsRefusedKept v g n Device = ⊥
-IsRefusedKept v g n Memory = ⊥
+abbrev pub IsRefusedKept : Bool → List ℕ → Given → ℕ → OpenFault → Type 0
+IsRefusedKept older v g n (Head f) = ⊥
+IsRefusedKept older v g n (Meta f) = ⊥
+IsRefusedKept older v g n NoSuchSlot = ⊥
+IsRefusedKept older v g n SlotFree = ⊥
+IsRefusedKept older v g n Outside = ⊥
+IsRefusedKept older v g n (Slot f) = HasRefusedPlan older v g n f
+IsRefusedKept older v g n Device = ⊥
+IsRefusedKept older v g n Memory = ⊥
 
 -- nothing refuses it, and it gives `found` of the bytes of its area
-pub record GivesKept (v : List ℕ) (g : Given) (n : ℕ) (p : List ℕ) (found : Option (List ℕ)) : Type 0 where
+pub record GivesKept (older : Bool) (v : List ℕ) (g : Given) (n : ℕ) (p : List ℕ) (found : Option (List ℕ)) : Type 0 where
   pub plan : SlotPlan
   pub is : IsKeptPlan v g n plan
-  pub unrefused : (f : OpenFault) → IsRefusedKept v g n f → ⊥
+  pub unrefused : (f : OpenFault) → IsRefusedKept older v g n f → ⊥
   pub key : slot_key plan (part v plan.area.start plan.area.len) p ≡ found
 
 -- what the keyslot `n` gives by the passphrase `p`
-abbrev pub Gives : List ℕ → Given → ℕ → List ℕ → Opened → Type 0
-Gives v g n p (refused f) = IsLeast open_key (IsRefusedKept v g n) f
-Gives v g n p (opens k) = GivesKept v g n p (Some k)
-Gives v g n p no_key = GivesKept v g n p None
+abbrev pub Gives : Bool → List ℕ → Given → ℕ → List ℕ → Opened → Type 0
+Gives older v g n p (refused f) = IsLeast open_key (IsRefusedKept older v g n) f
+Gives older v g n p (opens k) = GivesKept older v g n p (Some k)
+Gives older v g n p no_key = GivesKept older v g n p None

@@ -4,6 +4,7 @@ ghost use Rattle.luks_area.specs.Device.{IsSettled, IsUnchanged, is_failure};
 ghost use Rattle.luks_area.specs.Ranges.{SameBut};
 ghost use Rattle.luks_writing.specs.TwoDevices.{CountsEither};
 ghost use Rattle.luks1_header.specs.Written.{WritesLuks1};
+ghost use Rattle.luks_slot.specs.declared.allowed.Allowed.{Allowed as TheAllowed};
 ghost use Rattle.luks_reading.specs.Answer.{AnswerWithin, Opened};
 ghost use Rattle.luks_reading.specs.Checked.{WellFormed};
 ghost use Rattle.luks_reading.specs.declared.report.Data.TheVariants.{Elsewhere};
@@ -80,10 +81,10 @@ pub fn rebuild1<S: Device, T: Device>(
         (T.bytes target.old) (T.bytes target.new)) }
     ensures well_formed { S.tells → T.tells
         → OnOk result (WellFormed (T.bytes target.new) Elsewhere) }
-    ensures opens { S.tells → T.tells → OnOk result ((memory n : ℕ) (p : List ℕ) (a : Opened)
+    ensures opens { S.tells → T.tells → OnOk result ((allowed : TheAllowed) (n : ℕ) (p : List ℕ) (a : Opened)
         → IsKeptInUse (S.bytes source.old) given.now n
-        → Gives (S.bytes source.old) given.now n p a
-        ↔ AnswerWithin memory (T.bytes target.new) n p a) }
+        → Gives allowed.older (S.bytes source.old) given.now n p a
+        ↔ AnswerWithin allowed (T.bytes target.new) n p a) }
 {
     let bytes = first_bytes(source)?;
     let header = judged_header(bytes.as_slice(), source.len(), given, target.len())?;

@@ -1,5 +1,5 @@
 -- Which keyslots of the headers that are made of the volume `v` a passphrase opens.
-use Rattle.std.specs.Prelude.{ℕ, ◌<◌, List, length}
+use Rattle.std.specs.Prelude.{ℕ, Bool, ◌<◌, List, length}
 use Rattle.luks1_header.specs.Written.{WritesLuks1}
 use Rattle.luks1_header.specs.declared.fault.HeadFault.{HeadFault}
 use Rattle.luks1_mending.specs.Made.{IsMade}
@@ -11,12 +11,13 @@ use Rattle.luks1_rebuilding.specs.KeyAreas.{header_of, IsKeptInUse}
 use Rattle.luks1_trying.specs.Combinations.{IsCombination}
 use Rattle.luks1_trying.specs.declared.opening.Opening.{Opening}
 
--- with what is given a header is made, and its keyslot `n` is kept, in use, and gives a key by the passphrase `p`
+-- with what is given a header is made, and its keyslot `n` is kept, in use, and gives a key by the passphrase `p`,
+-- whether or not ciphers and hashes of older disks are allowed
 pub record OpensBy (v : List ℕ) (g : Given) (p : List ℕ) (n : ℕ) : Type 0 where
   pub made : (f : HeadFault) → IsFieldFault (header_of v) g f → ⊥
   pub in_use : IsKeptInUse v g n
   pub key : List ℕ
-  pub gives : Gives v g n p (opens key)
+  pub gives : (older : Bool) → Gives older v g n p (opens key)
 
 -- no keyslot does
 pub record OpensNone (v : List ℕ) (g : Given) (p : List ℕ) : Type 0 where

@@ -17,6 +17,7 @@ use Rattle.luks_rules.proofs.AreaFaults.{one_value}
 use Rattle.luks_meta.specs.Reading.{decimal_in}
 use Rattle.luks_slot.specs.Opening.{slot_key}
 use Rattle.luks_slot.specs.declared.plan.SlotPlan.{SlotPlan}
+use Rattle.luks_slot.specs.declared.allowed.Allowed.{Allowed}
 use Rattle.luks_reading.specs.Answer.{opens, no_key, refused, AnswerWithin, HasPlanAs, IsLuks1Refusal, IsLuks2RefusalWithin, IsRefusalAsWithin, IsRefusalWithin, Opened, OpensWithin}
 use Rattle.luks_reading.specs.Checked.{HasLuks2Area, IsLuks1Volume, IsLuks2Volume}
 use Rattle.luks_reading.specs.Header.{json_at}
@@ -35,11 +36,11 @@ use Rattle.luks_keeping.proofs.KeptFacts.{fields_same, header_same, json_same}
 pub record AreAlike (v w : List ℕ) (c : Choice) : Type 0 where
   pub chosen : Chosen v c
   pub other_chosen : Chosen w c
-  pub refusals : (memory n : ℕ) (f : OpenFault) → IsRefusalAsWithin memory v n c f → IsRefusalAsWithin memory w n c f
-  pub refusals_back : (memory n : ℕ) (f : OpenFault) → IsRefusalAsWithin memory w n c f → IsRefusalAsWithin memory v n c f
+  pub refusals : (allowed : Allowed) (n : ℕ) (f : OpenFault) → IsRefusalAsWithin allowed v n c f → IsRefusalAsWithin allowed w n c f
+  pub refusals_back : (allowed : Allowed) (n : ℕ) (f : OpenFault) → IsRefusalAsWithin allowed w n c f → IsRefusalAsWithin allowed v n c f
   pub plans : (n : ℕ) (plan : SlotPlan) → HasPlanAs v n c plan → HasPlanAs w n c plan
   pub plans_back : (n : ℕ) (plan : SlotPlan) → HasPlanAs w n c plan → HasPlanAs v n c plan
-  pub bytes : (memory n : ℕ) (plan : SlotPlan) → HasPlanAs v n c plan → ((f : OpenFault) → IsRefusalAsWithin memory v n c f → ⊥)
+  pub bytes : (allowed : Allowed) (n : ℕ) (plan : SlotPlan) → HasPlanAs v n c plan → ((f : OpenFault) → IsRefusalAsWithin allowed v n c f → ⊥)
       → part w plan.area.start plan.area.len ≡ part v plan.area.start plan.area.len
 
 turned : (v w : List ℕ) (c : Choice) → AreAlike v w c → AreAlike w v c
@@ -50,48 +51,48 @@ turned v w c x = record {
   refusals_back = x.refusals;
   plans = x.plans_back;
   plans_back = x.plans;
-  bytes = λ memory n plan is free. sym (x.bytes memory n plan (x.plans_back n plan is) (λ f bad. free f (x.refusals memory n f bad)));
+  bytes = λ allowed n plan is free. sym (x.bytes allowed n plan (x.plans_back n plan is) (λ f bad. free f (x.refusals allowed n f bad)));
 }
 
-module _ (v w : List ℕ) (c : Choice) (x : AreAlike v w c) (memory n : ℕ) where
-  refused_there : (f : OpenFault) → IsRefusalWithin memory v n f → IsRefusalWithin memory w n f
+module _ (v w : List ℕ) (c : Choice) (x : AreAlike v w c) (allowed : Allowed) (n : ℕ) where
+  refused_there : (f : OpenFault) → IsRefusalWithin allowed v n f → IsRefusalWithin allowed w n f
   refused_there f z = record {
     choice = c;
     chosen = x.other_chosen;
-    fault = x.refusals memory n f (subst (λ (d : Choice). IsRefusalAsWithin memory v n d f) (choices_agree v z.choice c z.chosen x.chosen) z.fault);
+    fault = x.refusals allowed n f (subst (λ (d : Choice). IsRefusalAsWithin allowed v n d f) (choices_agree v z.choice c z.chosen x.chosen) z.fault);
   }
 
-  refused_here : (f : OpenFault) → IsRefusalWithin memory w n f → IsRefusalWithin memory v n f
+  refused_here : (f : OpenFault) → IsRefusalWithin allowed w n f → IsRefusalWithin allowed v n f
   refused_here f z = record {
     choice = c;
     chosen = x.chosen;
-    fault = x.refusals_back memory n f (subst (λ (d : Choice). IsRefusalAsWithin memory w n d f) (choices_agree w z.choice c z.chosen x.other_chosen) z.fault);
+    fault = x.refusals_back allowed n f (subst (λ (d : Choice). IsRefusalAsWithin allowed w n d f) (choices_agree w z.choice c z.chosen x.other_chosen) z.fault);
   }
 
-  opens_there : (p : List ℕ) (found : Option (List ℕ)) → OpensWithin memory v n p found → OpensWithin memory w n p found
+  opens_there : (p : List ℕ) (found : Option (List ℕ)) → OpensWithin allowed v n p found → OpensWithin allowed w n p found
   opens_there p found z =
       let same : z.choice ≡ c = choices_agree v z.choice c z.chosen x.chosen in
       let plan : HasPlanAs v n c z.plan = subst (λ (d : Choice). HasPlanAs v n d z.plan) same z.is in
-      let free : (f : OpenFault) → IsRefusalAsWithin memory v n c f → ⊥ = λ f bad. z.unrefused f (subst (λ (d : Choice). IsRefusalAsWithin memory v n d f) (sym same) bad) in
+      let free : (f : OpenFault) → IsRefusalAsWithin allowed v n c f → ⊥ = λ f bad. z.unrefused f (subst (λ (d : Choice). IsRefusalAsWithin allowed v n d f) (sym same) bad) in
       record {
         choice = c;
         chosen = x.other_chosen;
         plan = z.plan;
         is = x.plans n z.plan plan;
-        unrefused = λ f bad. free f (x.refusals_back memory n f bad);
-        key = ap (λ (b : List ℕ). slot_key z.plan b p) (x.bytes memory n z.plan plan free) ∙ z.key;
+        unrefused = λ f bad. free f (x.refusals_back allowed n f bad);
+        key = ap (λ (b : List ℕ). slot_key z.plan b p) (x.bytes allowed n z.plan plan free) ∙ z.key;
       }
 
-  answers_one_way : (p : List ℕ) (a : Opened) → AnswerWithin memory v n p a → AnswerWithin memory w n p a
+  answers_one_way : (p : List ℕ) (a : Opened) → AnswerWithin allowed v n p a → AnswerWithin allowed w n p a
   answers_one_way p (refused f) z = (refused_there f z.0, λ g bad. z.1 g (refused_here g bad))
   answers_one_way p (opens k) z = opens_there p (Some k) z
   answers_one_way p no_key z = opens_there p None z
 
-pub answers_there : (v w : List ℕ) (c : Choice) → AreAlike v w c → (memory n : ℕ) (p : List ℕ) (a : Opened) → AnswerWithin memory v n p a → AnswerWithin memory w n p a
-answers_there v w c x memory n p a z = answers_one_way v w c x memory n p a z
+pub answers_there : (v w : List ℕ) (c : Choice) → AreAlike v w c → (allowed : Allowed) (n : ℕ) (p : List ℕ) (a : Opened) → AnswerWithin allowed v n p a → AnswerWithin allowed w n p a
+answers_there v w c x allowed n p a z = answers_one_way v w c x allowed n p a z
 
-pub answers_here : (v w : List ℕ) (c : Choice) → AreAlike v w c → (memory n : ℕ) (p : List ℕ) (a : Opened) → AnswerWithin memory w n p a → AnswerWithin memory v n p a
-answers_here v w c x memory n p a z = answers_one_way w v c (turned v w c x) memory n p a z
+pub answers_here : (v w : List ℕ) (c : Choice) → AreAlike v w c → (allowed : Allowed) (n : ℕ) (p : List ℕ) (a : Opened) → AnswerWithin allowed w n p a → AnswerWithin allowed v n p a
+answers_here v w c x allowed n p a z = answers_one_way w v c (turned v w c x) allowed n p a z
 
 -- ---- LUKS1
 
@@ -123,13 +124,13 @@ module _ (v w : List ℕ) (payload other : Data) (x : Chosen v luks1) (y : Chose
   alike1 = record {
     chosen = x;
     other_chosen = y;
-    refusals = λ memory n f z. subst (λ (h : List ℕ). IsLuks1Refusal h (length w) n f) (sym same)
+    refusals = λ allowed n f z. subst (λ (h : List ℕ). IsLuks1Refusal h (length w) n f) (sym same)
         (moved1 (part v 0 592) n (length v) (length w) (plan1_inside (part v 0 592) payload (length v) n formed) f z);
-    refusals_back = λ memory n f z. subst (λ (h : List ℕ). IsLuks1Refusal h (length v) n f) same
+    refusals_back = λ allowed n f z. subst (λ (h : List ℕ). IsLuks1Refusal h (length v) n f) same
         (moved1 (part w 0 592) n (length w) (length v) (plan1_inside (part w 0 592) other (length w) n formed_w) f z);
     plans = λ n plan is. subst (λ (h : List ℕ). HasLuks1Plan h n plan) (sym same) is;
     plans_back = λ n plan is. subst (λ (h : List ℕ). HasLuks1Plan h n plan) same is;
-    bytes = λ memory n plan is free. kept.areas n plan.area (record {
+    bytes = λ allowed n plan is free. kept.areas n plan.area (record {
       area = (is.numbered, is.is.start, is.is.len);
       enabled = in_use (part v 0 592) n is.numbered formed.header (λ off. free SlotFree (is.numbered, off));
     });
@@ -137,10 +138,10 @@ module _ (v w : List ℕ) (payload other : Data) (x : Chosen v luks1) (y : Chose
 
 -- ---- LUKS2
 
-moved2 : (memory : ℕ) (b json : List ℕ) (n t u : ℕ) → ((plan : SlotPlan) → HasLuks2Plan json n plan → plan.area.start + plan.area.len ≤ t)
-    → (f : OpenFault) → IsLuks2RefusalWithin memory b json t n f → IsLuks2RefusalWithin memory b json u n f
-moved2 memory b json n t u inside Outside z = absurd (let within = inside z.plan z.is in let past = z.past in omega (arith, within, past))
-moved2 memory b json n t u inside other z = z
+moved2 : (allowed : Allowed) (b json : List ℕ) (n t u : ℕ) → ((plan : SlotPlan) → HasLuks2Plan json n plan → plan.area.start + plan.area.len ≤ t)
+    → (f : OpenFault) → IsLuks2RefusalWithin allowed b json t n f → IsLuks2RefusalWithin allowed b json u n f
+moved2 allowed b json n t u inside Outside z = absurd (let within = inside z.plan z.is in let past = z.past in omega (arith, within, past))
+moved2 allowed b json n t u inside other z = z
 
 plan_area : (b json : List ℕ) (n : ℕ) (plan : SlotPlan) → HasLuks2Plan json n plan → HasLuks2Area b json Elsewhere 0 (Slot n) plan.area
 plan_area b json n plan z = record {
@@ -167,17 +168,17 @@ module _ (v w : List ℕ) (payload other : Data) (o : ℕ) (copies : Copies) (x 
   j_same : json_at w o ≡ json_at v o
   j_same = json_same v w o copies x.1 kept.header
 
-  to_w : (memory n : ℕ) (f : OpenFault) → IsLuks2RefusalWithin memory (header_at v o) (json_at v o) (length v) n f → IsLuks2RefusalWithin memory (header_at w o) (json_at w o) (length w) n f
-  to_w memory n f z =
-      subst (λ (b : List ℕ). IsLuks2RefusalWithin memory b (json_at w o) (length w) n f) (sym b_same)
-      (subst (λ (j : List ℕ). IsLuks2RefusalWithin memory (header_at v o) j (length w) n f) (sym j_same)
-      (moved2 memory (header_at v o) (json_at v o) n (length v) (length w) (plan2_inside (header_at v o) (json_at v o) payload (length v) n formed) f z))
+  to_w : (allowed : Allowed) (n : ℕ) (f : OpenFault) → IsLuks2RefusalWithin allowed (header_at v o) (json_at v o) (length v) n f → IsLuks2RefusalWithin allowed (header_at w o) (json_at w o) (length w) n f
+  to_w allowed n f z =
+      subst (λ (b : List ℕ). IsLuks2RefusalWithin allowed b (json_at w o) (length w) n f) (sym b_same)
+      (subst (λ (j : List ℕ). IsLuks2RefusalWithin allowed (header_at v o) j (length w) n f) (sym j_same)
+      (moved2 allowed (header_at v o) (json_at v o) n (length v) (length w) (plan2_inside (header_at v o) (json_at v o) payload (length v) n formed) f z))
 
-  to_v : (memory n : ℕ) (f : OpenFault) → IsLuks2RefusalWithin memory (header_at w o) (json_at w o) (length w) n f → IsLuks2RefusalWithin memory (header_at v o) (json_at v o) (length v) n f
-  to_v memory n f z =
-      subst (λ (b : List ℕ). IsLuks2RefusalWithin memory b (json_at v o) (length v) n f) b_same
-      (subst (λ (j : List ℕ). IsLuks2RefusalWithin memory (header_at w o) j (length v) n f) j_same
-      (moved2 memory (header_at w o) (json_at w o) n (length w) (length v) (plan2_inside (header_at w o) (json_at w o) other (length w) n formed_w) f z))
+  to_v : (allowed : Allowed) (n : ℕ) (f : OpenFault) → IsLuks2RefusalWithin allowed (header_at w o) (json_at w o) (length w) n f → IsLuks2RefusalWithin allowed (header_at v o) (json_at v o) (length v) n f
+  to_v allowed n f z =
+      subst (λ (b : List ℕ). IsLuks2RefusalWithin allowed b (json_at v o) (length v) n f) b_same
+      (subst (λ (j : List ℕ). IsLuks2RefusalWithin allowed (header_at w o) j (length v) n f) j_same
+      (moved2 allowed (header_at w o) (json_at w o) n (length w) (length v) (plan2_inside (header_at w o) (json_at w o) other (length w) n formed_w) f z))
 
   pub alike2 : AreAlike v w (luks2 o copies)
   alike2 = record {
@@ -187,7 +188,7 @@ module _ (v w : List ℕ) (payload other : Data) (o : ℕ) (copies : Copies) (x 
     refusals_back = to_v;
     plans = λ n plan is. subst (λ (j : List ℕ). HasLuks2Plan j n plan) (sym j_same) is;
     plans_back = λ n plan is. subst (λ (j : List ℕ). HasLuks2Plan j n plan) j_same is;
-    bytes = λ memory n plan is free. kept.areas n plan.area (plan_area (header_at v o) (json_at v o) n plan is);
+    bytes = λ allowed n plan is free. kept.areas n plan.area (plan_area (header_at v o) (json_at v o) n plan is);
   }
 
 -- ---- whatever counts

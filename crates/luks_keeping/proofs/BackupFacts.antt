@@ -3,6 +3,7 @@ use Rattle.std.proofs.Common.{◌≡◌, ◌↔◌, ℕ, ◌<◌, ◌≤◌, Lis
 use Rattle.luks_area.specs.First.{NotAfter}
 use Rattle.luks_area.specs.Ranges.{part, IsAt, SameBut}
 use Rattle.luks_area.specs.RangeFacts.{same_but-wider}
+use Rattle.luks_slot.specs.declared.allowed.Allowed.{Allowed}
 use Rattle.luks_reading.proofs.VolumeLaws.{well_formed_faultless}
 use Rattle.luks_reading.specs.Answer.{AnswerWithin, Opened}
 use Rattle.luks_reading.specs.Checked.{check_key, IsCheckRefusal, IsFault, WellFormed}
@@ -72,10 +73,10 @@ module _ (v : List ℕ) (payload : Data) (header : Header) (places : Places) (si
   pub well_formed : WellFormed w Elsewhere
   well_formed = well_formed_there v w payload Elsewhere (choice_of header) (chosen_of v header x.is) x.kept x.well fits
 
-  pub answers_alike : (memory n : ℕ) (p : List ℕ) (a : Opened) → AnswerWithin memory v n p a ↔ AnswerWithin memory w n p a
-  answers_alike memory n p a = (
-    answer_there v w payload Elsewhere (choice_of header) (chosen_of v header x.is) x.kept x.well fits memory n p a,
-    answer_here v w payload Elsewhere (choice_of header) (chosen_of v header x.is) x.kept x.well fits memory n p a,
+  pub answers_alike : (allowed : Allowed) (n : ℕ) (p : List ℕ) (a : Opened) → AnswerWithin allowed v n p a ↔ AnswerWithin allowed w n p a
+  answers_alike allowed n p a = (
+    answer_there v w payload Elsewhere (choice_of header) (chosen_of v header x.is) x.kept x.well fits allowed n p a,
+    answer_here v w payload Elsewhere (choice_of header) (chosen_of v header x.is) x.kept x.well fits allowed n p a,
   )
 
 pub of_backup : (v : List ℕ) (payload : Data) (size : ℕ) → IsBackupSize v payload size → {u w : List ℕ} → SameBut (IsAt 0 size) u w → SameBut (IsOfBackup v payload) u w

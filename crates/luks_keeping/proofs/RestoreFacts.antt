@@ -10,6 +10,7 @@ use Rattle.luks_head.proofs.ChoiceFacts.{choices_agree}
 use Rattle.luks_head.specs.Header2.{hdr_size, header_at}
 use Rattle.luks_head.specs.Selection.{Choice, luks1, luks2, nothing}
 use Rattle.luks_rules.proofs.AreaFaults.{one_value}
+use Rattle.luks_slot.specs.declared.allowed.Allowed.{Allowed}
 use Rattle.luks_reading.specs.Answer.{AnswerWithin, Opened}
 use Rattle.luks_reading.specs.Checked.{WellFormed}
 use Rattle.luks_reading.specs.Header.{json_at, IsHeader}
@@ -107,8 +108,8 @@ module _ (b : List ℕ) (payload : Data) (header : Header) (places : Places) (t 
   pub well_formed : WellFormed w payload
   well_formed = well_formed_there b w Elsewhere payload (choice_of header) (chosen_of b header x.is) x.kept x.well x.fits
 
-  pub answers_alike : (memory n : ℕ) (p : List ℕ) (a : Opened) → AnswerWithin memory b n p a ↔ AnswerWithin memory w n p a
-  answers_alike memory n p a = (
-    answer_there b w Elsewhere payload (choice_of header) (chosen_of b header x.is) x.kept x.well x.fits memory n p a,
-    answer_here b w Elsewhere payload (choice_of header) (chosen_of b header x.is) x.kept x.well x.fits memory n p a,
+  pub answers_alike : (allowed : Allowed) (n : ℕ) (p : List ℕ) (a : Opened) → AnswerWithin allowed b n p a ↔ AnswerWithin allowed w n p a
+  answers_alike allowed n p a = (
+    answer_there b w Elsewhere payload (choice_of header) (chosen_of b header x.is) x.kept x.well x.fits allowed n p a,
+    answer_here b w Elsewhere payload (choice_of header) (chosen_of b header x.is) x.kept x.well x.fits allowed n p a,
   )

@@ -4,6 +4,7 @@ use Rattle.luks_area.specs.declared.area.AreaName.TheVariants.{Head1, Head2}
 use Rattle.luks_head.proofs.ChoiceFacts.{choices_agree}
 use Rattle.luks_head.specs.Header2.{hdr_size, header_at}
 use Rattle.luks_head.specs.Selection.{Choice, luks1, luks2, nothing, Chosen}
+use Rattle.luks_slot.specs.declared.allowed.Allowed.{Allowed}
 use Rattle.luks_reading.proofs.CheckFacts.{formed_as}
 use Rattle.luks_reading.specs.Answer.{AnswerWithin, Opened}
 use Rattle.luks_reading.specs.Checked.{WellFormed, WellFormedAs}
@@ -66,12 +67,12 @@ module _ (v w : List ℕ) (payload other : Data) (c : Choice) (x : Chosen v c) (
   pub well_formed_there : WellFormed w other
   well_formed_there = record { choice = c; chosen = counts_there; formed = of_own w other c formed_w }
 
-  module _ (memory n : ℕ) (p : List ℕ) (a : Opened) where
-    pub answer_there : AnswerWithin memory v n p a → AnswerWithin memory w n p a
-    answer_there z = answers_there v w c (alike v w payload other c x counts_there kept formed_v formed_w) memory n p a z
+  module _ (allowed : Allowed) (n : ℕ) (p : List ℕ) (a : Opened) where
+    pub answer_there : AnswerWithin allowed v n p a → AnswerWithin allowed w n p a
+    answer_there z = answers_there v w c (alike v w payload other c x counts_there kept formed_v formed_w) allowed n p a z
 
-    pub answer_here : AnswerWithin memory w n p a → AnswerWithin memory v n p a
-    answer_here z = answers_here v w c (alike v w payload other c x counts_there kept formed_v formed_w) memory n p a z
+    pub answer_here : AnswerWithin allowed w n p a → AnswerWithin allowed v n p a
+    answer_here z = answers_here v w c (alike v w payload other c x counts_there kept formed_v formed_w) allowed n p a z
 
 -- ---- a backup that was restored
 

@@ -3,6 +3,7 @@ ghost use Rattle.std.specs.Prelude.{◌≡◌, ◌↔◌, ◌+◌, ◌^◌, ◌<
 ghost use Rattle.luks_area.specs.Device.{CountsFailure, IsSettled, IsUnchanged, is_failure};
 ghost use Rattle.luks_area.specs.Ranges.{part, IsAt, SameBut};
 ghost use Rattle.luks_writing.specs.TwoDevices.{CountsEither};
+ghost use Rattle.luks_slot.specs.declared.allowed.Allowed.{Allowed as TheAllowed};
 ghost use Rattle.luks_reading.specs.Answer.{AnswerWithin, Opened};
 ghost use Rattle.luks_reading.specs.Checked.{WellFormed};
 ghost use Rattle.luks_reading.specs.Header.{IsAcceptedHeader, IsHeader};
@@ -75,9 +76,9 @@ pub fn backup<S: Device, T: Device>(
         (IsBackup (S.bytes source.old) data_ (T.bytes target.old) (T.bytes target.new)) }
     ensures well_formed { S.tells → T.tells
         → OnOk result (WellFormed (T.bytes target.new) Elsewhere) }
-    ensures answers { S.tells → T.tells → OnOk result ((memory n : ℕ) (p : List ℕ) (a : Opened)
-        → AnswerWithin memory (S.bytes source.old) n p a
-        ↔ AnswerWithin memory (T.bytes target.new) n p a) }
+    ensures answers { S.tells → T.tells → OnOk result ((allowed : TheAllowed) (n : ℕ) (p : List ℕ) (a : Opened)
+        → AnswerWithin allowed (S.bytes source.old) n p a
+        ↔ AnswerWithin allowed (T.bytes target.new) n p a) }
 {
     let header = accepted_header(alloc, source, data_)?;
     let size = fitting_size(&header, data_, target.len())?;

@@ -1,6 +1,7 @@
 //! Laws on the definitions of this crate. Each function does nothing; its contract is the law.
 ghost use Rattle.std.specs.Prelude.{◌↔◌, List, length, ℕ};
 ghost use Rattle.luks_head.specs.Selection.{Choice, Chosen};
+ghost use Rattle.luks_slot.specs.declared.allowed.Allowed.{Allowed as TheAllowed};
 ghost use Rattle.luks_reading.specs.Answer.{AnswerWithin, Opened};
 ghost use Rattle.luks_reading.specs.Checked.{WellFormed};
 ghost use Rattle.luks_reading.specs.declared.report.Data.{Data as Payload};
@@ -10,16 +11,16 @@ ghost use Rattle.luks_keeping.specs.Kept.{HasKept};
 ghost use Rattle.luks_keeping.specs.Restored.{IsRestored};
 
 /// Where all that is kept of a well formed volume stands on another device that is long enough, a
-/// volume is well formed there, and each of its keyslots answers each passphrase, however much memory
-/// Argon2 may take, as the volume's does.
+/// volume is well formed there, and each of its keyslots answers each passphrase, whatever is allowed,
+/// as the volume's does.
 pub fn kept_keyslots_answer_alike()
     ensures well_formed { (v w : List ℕ) (payload other : Payload) (c : Choice) → Chosen v c
         → HasKept v c w → WellFormed v payload → IsFormedOn v other (length w)
         → WellFormed w other }
     ensures answers { (v w : List ℕ) (payload other : Payload) (c : Choice) → Chosen v c
         → HasKept v c w → WellFormed v payload → IsFormedOn v other (length w)
-        → (memory n : ℕ) (p : List ℕ) (a : Opened)
-        → AnswerWithin memory v n p a ↔ AnswerWithin memory w n p a }
+        → (allowed : TheAllowed) (n : ℕ) (p : List ℕ) (a : Opened)
+        → AnswerWithin allowed v n p a ↔ AnswerWithin allowed w n p a }
 {}
 
 /// What has all that is kept of a backup has all that is kept of the volume.

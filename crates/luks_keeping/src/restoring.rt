@@ -6,6 +6,7 @@ ghost use Rattle.luks_area.specs.Ranges.{part, SameBut};
 ghost use Rattle.luks_area.specs.declared.area.Area.{Area as TheArea};
 ghost use Rattle.luks_writing.specs.TwoDevices.{CountsEither};
 ghost use Rattle.luks_head.specs.Selection.{Choice, Chosen};
+ghost use Rattle.luks_slot.specs.declared.allowed.Allowed.{Allowed as TheAllowed};
 ghost use Rattle.luks_reading.specs.Answer.{AnswerWithin, Opened};
 ghost use Rattle.luks_reading.specs.Checked.{WellFormed};
 ghost use Rattle.luks_reading.specs.Header.{IsAcceptedHeader, IsHeader};
@@ -78,9 +79,9 @@ pub fn restore<B: Device, T: Device>(
         (IsRestored (B.bytes backup.old) (T.bytes target.old) (T.bytes target.new)) }
     ensures well_formed { B.tells → T.tells
         → OnOk result (WellFormed (T.bytes target.new) data_) }
-    ensures answers { B.tells → T.tells → OnOk result ((memory n : ℕ) (p : List ℕ) (a : Opened)
-        → AnswerWithin memory (B.bytes backup.old) n p a
-        ↔ AnswerWithin memory (T.bytes target.new) n p a) }
+    ensures answers { B.tells → T.tells → OnOk result ((allowed : TheAllowed) (n : ℕ) (p : List ℕ) (a : Opened)
+        → AnswerWithin allowed (B.bytes backup.old) n p a
+        ↔ AnswerWithin allowed (T.bytes target.new) n p a) }
 {
     let header = accepted_header(alloc, backup, Data::Elsewhere)?;
     judge_fit(&header, data_, target.len())?;

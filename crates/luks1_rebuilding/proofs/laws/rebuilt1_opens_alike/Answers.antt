@@ -5,7 +5,7 @@ pub returns-clause-well_formed : goal.returns-clause-well_formed
 returns-clause-well_formed c = λ v old w g x formed. well_formed v old w g x formed
 
 pub returns-clause-opens : goal.returns-clause-opens
-returns-clause-opens c = λ v old w g x formed memory n p a used. (
-  gives_there v old w g x formed n used memory p a,
-  gives_here v old w g x formed n used memory p a,
+returns-clause-opens c = λ v old w g x formed allowed n p a used. (
+  gives_there v old w g x formed n used allowed p a,
+  gives_here v old w g x formed n used allowed p a,
 )

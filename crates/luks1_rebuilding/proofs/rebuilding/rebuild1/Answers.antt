@@ -212,7 +212,7 @@ returns-clause-opens g c = λ source tells.
     let end_ : c.len-2.result ≡ length w = c.len-2.ensures ∙ sym c.write_rebuilt.ensures.size ∙ sym (g.met.T.Device.sized c.write_rebuilt.new.target tells) in
     let formed : IsLuks1Volume (part w 0 592) Elsewhere (length w) =
     moved (λ h n. IsLuks1Volume h Elsewhere n) c.in_ok-header.header.bytes (part w 0 592) c.len-2.result (length w) (sym stands.header) end_ c.in_ok-header.ensures.fits in
-    λ memory n p a used. (
-      gives_there v old w given built formed n used memory p a,
-      gives_here v old w given built formed n used memory p a,
+    λ allowed n p a used. (
+      gives_there v old w given built formed n used allowed p a,
+      gives_here v old w given built formed n used allowed p a,
     )

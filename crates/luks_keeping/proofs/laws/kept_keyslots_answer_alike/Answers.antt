@@ -5,5 +5,5 @@ pub returns-clause-well_formed : goal.returns-clause-well_formed
 returns-clause-well_formed c v w payload other d x kept well fits = well_formed_there v w payload other d x kept well fits
 
 pub returns-clause-answers : goal.returns-clause-answers
-returns-clause-answers c v w payload other d x kept well fits memory n p a =
-    (answer_there v w payload other d x kept well fits memory n p a, answer_here v w payload other d x kept well fits memory n p a)
+returns-clause-answers c v w payload other d x kept well fits allowed n p a =
+    (answer_there v w payload other d x kept well fits allowed n p a, answer_here v w payload other d x kept well fits allowed n p a)
