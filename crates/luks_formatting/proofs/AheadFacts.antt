@@ -4,8 +4,9 @@ use Rattle.luks_area.specs.Ranges.{part, written}
 use Rattle.luks_area.specs.RangeFacts.{part-part, part-written, part-whole}
 use Rattle.luks_area.specs.Sectors.{sector_count}
 use Rattle.luks_area.specs.declared.area.Area.{Area}
-use Rattle.luks_xts.specs.Xts.{XtsOpen}
 use Rattle.luks_slot.specs.Opening.{area_bytes, area_key, opened_sector, opened_sectors, stripe_bytes, stripes_from, stripes_in}
+use Rattle.luks_slot.specs.Ciphers.{sector_opened}
+use Rattle.luks_slot.specs.declared.cipher.AreaKey.{AreaKey}
 use Rattle.luks_slot.specs.Sealing.{IsSealed}
 use Rattle.luks_slot.specs.declared.plan.SlotPlan.{SlotPlan}
 use Rattle.luks_formatting.specs.NewPlan.{IsSealedAhead}
@@ -15,7 +16,7 @@ front_part : (a : List ℕ) (n i len : ℕ) → i + len ≤ n → part (part a 0
 front_part a n i len inside = part-part a 0 n i len inside ∙ ap (λ p. part a p len) (omega arith)
 
 -- what the front of an area decrypts to depends on that front alone
-same_sectors : (key a b : List ℕ) (n : ℕ) → part a 0 (512 * n) ≡ part b 0 (512 * n) → opened_sectors key a n ≡ opened_sectors key b n
+same_sectors : (key : AreaKey) (a b : List ℕ) (n : ℕ) → part a 0 (512 * n) ≡ part b 0 (512 * n) → opened_sectors key a n ≡ opened_sectors key b n
 unfolding opened_sectors opened_sector
 same_sectors key a b zero same = refl
 same_sectors key a b (suc n) same =
@@ -24,7 +25,7 @@ same_sectors key a b (suc n) same =
     let last : part a (512 * n) 512 ≡ part b (512 * n) 512 =
     sym (front_part a (512 * suc n) (512 * n) 512 (omega arith)) ∙ ap (λ v. part v (512 * n) 512) same ∙ front_part b (512 * suc n) (512 * n) 512 (omega arith) in
     let before = same_sectors key a b n front in
-    ap (λ rows. rows ++ XtsOpen key n (part a (512 * n) 512)) before ∙ ap (λ sector. opened_sectors key b n ++ XtsOpen key n sector) last
+    ap (λ rows. rows ++ sector_opened key n (part a (512 * n) 512)) before ∙ ap (λ sector. opened_sectors key b n ++ sector_opened key n sector) last
 
 -- an area whose used sectors are those of a sealed one is sealed
 sealed_front : (plan : SlotPlan) (a b passphrase key random : List ℕ)

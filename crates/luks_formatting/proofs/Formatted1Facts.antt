@@ -1,9 +1,10 @@
 -- A volume that was formatted by LUKS1 is well formed, and its keyslot 0 opens.
-use Rattle.std.proofs.Common.{codes, slice_index_or, ◌≡◌, ℕ, ◌*◌, ◌-◌, ◌≤◌, List, length, Some, None, true, arith, refl, sym, ap, ◌∙◌, lit≤, lit<, if◌then◌else◌}
+use Rattle.std.proofs.Common.{codes, slice_index_or, ◌≡◌, ℕ, ◌*◌, ◌-◌, ◌≤◌, List, length, Some, None, true, false, arith, refl, sym, ap, ◌∙◌, lit≤, lit<, if◌then◌else◌}
 use Rattle.byteorder.specs.Endian.{big_number}
 use Rattle.luks_area.specs.Ranges.{part}
-use Rattle.luks_kdf.specs.Names.{digest_size_of, each_at_least, hash_of, length-digest, name_of}
-use Rattle.luks_kdf.specs.declared.hash_name.HashName.{HashName}
+use Rattle.luks_kdf.specs.Names.{name_of}
+use Rattle.luks_kdf.specs.KeyslotNames.{each_keyslot_at_least, keyslot_digest, keyslot_digest_size, length-keyslot_digest}
+use Rattle.luks_kdf.specs.declared.keyslot_hash.KeyslotHash.{KeyslotHash}
 use Rattle.luks_kdf.proofs.SplitterFacts.{merge-split}
 use Rattle.luks_area.specs.RangeFacts.{length-part_inside, part-part}
 use Rattle.luks_area.specs.declared.area.Area.{Area}
@@ -17,7 +18,9 @@ use Rattle.luks1_header.specs.declared.fault.IterationsOf.TheVariants as of
 use Rattle.luks1_header.specs.declared.luks1.Luks1Slot.{Luks1Slot}
 use Rattle.luks_head.specs.Selection.{luks1, Chosen}
 use Rattle.luks_slot.specs.Opening.{hash_by_name, meets_digest, slot_key}
-use Rattle.luks_slot.specs.Refusal.{is_open_cipher, slot_refusal}
+use Rattle.luks_slot.specs.Allowance.{without_memory}
+use Rattle.luks_slot.specs.Ciphers.{is_open_cipher}
+use Rattle.luks_slot.specs.Refusal.{slot_refusal_within}
 use Rattle.luks_slot.specs.Sealing.{IsSealed}
 use Rattle.luks_slot.proofs.SealingFacts.{sealed_opens}
 use Rattle.luks_slot.specs.declared.plan.AreaCipher.{AreaCipher}
@@ -27,6 +30,7 @@ use Rattle.luks_slot.specs.declared.plan.Derivation.TheVariants.{Pbkdf2, Argon2}
 use Rattle.luks_slot.specs.declared.plan.SlotPlan.{SlotPlan}
 use Rattle.luks_reading.specs.Answer.{Answer, IsLuks1HeadRefusal, IsLuks1Refusal, opens}
 use Rattle.luks_reading.specs.Checked.{WellFormed}
+use Rattle.luks_reading.specs.MemoryFacts.{refusal_at_zero}
 use Rattle.luks_reading.specs.Plans.{HasLuks1Plan, IsLuks1Cipher, IsLuks1Derivation}
 use Rattle.luks_reading.specs.declared.open_fault.OpenFault.{OpenFault}
 use Rattle.luks_reading.specs.declared.open_fault.OpenFault.TheVariants.{Head, Meta, NoSuchSlot, SlotFree, Outside, Slot, Device, Memory}
@@ -68,8 +72,9 @@ pub reopens : (plan : SlotPlan) (area passphrase key random : List ℕ) → 1 �
     → length random ≡ (plan.stripes - 1) * plan.key_bytes → IsSealed plan area passphrase key random
     → slot_key plan area passphrase ≡ (if meets_digest plan.digest key then Some key else None)
 reopens plan area passphrase key random some size counted =
-    let hash : HashName = hash_by_name plan.splitter_hash.now in
-    sealed_opens plan area passphrase key random some size counted (merge-split (hash_of hash) (digest_size_of hash) (length-digest hash) (each_at_least 1 digest_size_of refl hash))
+    let hash : KeyslotHash = hash_by_name plan.splitter_hash.now in
+    sealed_opens plan area passphrase key random some size counted
+    (merge-split (keyslot_digest hash) (keyslot_digest_size hash) (length-keyslot_digest hash) (each_keyslot_at_least 1 keyslot_digest_size refl hash))
 
 module _ (payload : Data) (format : Format) (passphrase random old new : List ℕ) (some : 1 ≤ format.iterations) (large : 2097152 ≤ length new)
     (x : IsFormatted1 payload format passphrase random old new) where
@@ -121,11 +126,11 @@ module _ (payload : Data) (format : Format) (passphrase random old new : List �
         };
       }
 
-  plan_unrefused : (plan : SlotPlan) → HasLuks1Plan (part new 0 592) 0 plan → slot_refusal plan ≡ None
+  plan_unrefused : (plan : SlotPlan) → HasLuks1Plan (part new 0 592) 0 plan → slot_refusal_within (without_memory false) plan ≡ None
   plan_unrefused plan y =
       let common_is = fields payload format random (part new 0 592) x.header x.fields x.written in
       let cipher = cipher_is (part new 0 592) plan.cipher (common_is.cipher_name ∙ x.fields.common.cipher_name) (common_is.cipher_mode ∙ x.fields.common.cipher_mode) y.is.cipher in
-      unrefused format (slot_salt slot_place1 random) area1 (digest_salt random) (key_digest format random 20) plan (new_plan plan y) (cipher_opens plan.cipher cipher)
+      refusal_at_zero plan ∙ unrefused format (slot_salt slot_place1 random) area1 (digest_salt random) (key_digest format random 20) plan (new_plan plan y) (cipher_opens plan.cipher cipher)
 
   no_common : (f : HeadFault) → IsCommonFault (part new 0 592) f → ⊥
   no_common = common_sound (part new 0 592) x.header.common (common payload format random (part new 0 592) x.header x.fields x.written some)
@@ -142,7 +147,7 @@ module _ (payload : Data) (format : Format) (passphrase random old new : List �
   no_head (fault.Iterations (of.Slot m)) y = no_entry (fault.Iterations (of.Slot m)) y.1
   no_head f y = no_common f y
 
-  none : (f : OpenFault) → IsLuks1Refusal (part new 0 592) (length new) 0 f → ⊥
+  none : (f : OpenFault) → IsLuks1Refusal false (part new 0 592) (length new) 0 f → ⊥
   none (Head f) y = no_head f y
   none (Meta f) y = y
   none NoSuchSlot y = absurd (omega (arith, y))

@@ -25,6 +25,7 @@ use Rattle.luks_rules.proofs.Deciding.{metadata_faultless}
 use Rattle.luks_making.specs.Formatted.{VolumeMembers}
 use Rattle.luks_making.specs.Keyslots.{slot_value}
 use Rattle.luks_slot.specs.Refusal.{slot_refusal_within}
+use Rattle.luks_slot.specs.declared.allowed.Allowed.{Allowed}
 use Rattle.luks_slot.specs.declared.plan.SlotPlan.{SlotPlan}
 use Rattle.luks_reading.specs.Answer.{AnswerWithin, IsLuks2RefusalWithin, opens}
 use Rattle.luks_reading.specs.Checked.{IsLuks2Volume, SegmentsFollow, WellFormed}
@@ -105,14 +106,14 @@ module _ (payload : Data) (format : Format) (chosen : Option NewDerivation) (pas
   new_plan = plan_is payload format chosen random some long fits x.json x.metadata.json
 
   -- where as much memory is allowed as the keyslot takes, its plan isn't refused
-  module _ (allowed memory : ℕ) (can : IfSome chosen (IsMakeable allowed)) (enough : memory_by (slot_derivation format chosen) ≤ memory) where
-    plan_unrefused : (plan : SlotPlan) → HasLuks2Plan x.json 0 plan → slot_refusal_within memory plan ≡ None
+  module _ (memory : ℕ) (allowed : Allowed) (can : IfSome chosen (IsMakeable memory)) (enough : memory_by (slot_derivation format chosen) ≤ allowed.memory) where
+    plan_unrefused : (plan : SlotPlan) → HasLuks2Plan x.json 0 plan → slot_refusal_within allowed plan ≡ None
     plan_unrefused plan y =
         let is = new_plan plan y in
         unrefused_chosen format chosen (slot_salt slot_place2 random) area2 (digest_salt random) (key_digest format random (digest_size_of format.hash)) plan is.0 (cipher_opens plan.cipher is.1)
-        memory (length-slot_salt random long) (makeable_enough format allowed memory chosen can enough)
+        allowed (length-slot_salt random long) (makeable_enough format memory allowed.memory chosen can enough)
 
-    none : (f : OpenFault) → IsLuks2RefusalWithin memory (header_at new 0) x.json (length new) 0 f → ⊥
+    none : (f : OpenFault) → IsLuks2RefusalWithin allowed (header_at new 0) x.json (length new) 0 f → ⊥
     none (Head f) y = uuid_sound (uuid_field (header_at new 0)) uuid f y
     none (Meta f) y = no_meta x.json (new_metadata payload format chosen random) meta f y
     none NoSuchSlot y =
@@ -131,7 +132,7 @@ module _ (payload : Data) (format : Format) (chosen : Option NewDerivation) (pas
     none Device y = y
     none Memory y = y
 
-    pub slot_opens : AnswerWithin memory new 0 passphrase (opens (volume_key random))
+    pub slot_opens : AnswerWithin allowed new 0 passphrase (opens (volume_key random))
     slot_opens =
         let plan = x.slot.plan in
         let is = (new_plan plan x.slot.is).0 in
@@ -145,7 +146,7 @@ module _ (payload : Data) (format : Format) (chosen : Option NewDerivation) (pas
           chosen = counts;
           plan = plan;
           is = subst (λ (a : List ℕ). HasLuks2Plan a 0 plan) (sym json_there) x.slot.is;
-          unrefused = subst (λ (a : List ℕ). (f : OpenFault) → IsLuks2RefusalWithin memory (header_at new 0) a (length new) 0 f → ⊥) (sym json_there) none;
+          unrefused = subst (λ (a : List ℕ). (f : OpenFault) → IsLuks2RefusalWithin allowed (header_at new 0) a (length new) 0 f → ⊥) (sym json_there) none;
           key = reopens plan (part new plan.area.start plan.area.len) passphrase (volume_key random) (random_stripes slot_place2 random) (omega (arith, stripes)) key_len random_len x.slot.sealed
               ∙ ap (λ b. if b then Some (volume_key random) else None) meets;
         }

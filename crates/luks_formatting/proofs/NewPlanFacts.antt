@@ -1,14 +1,17 @@
 -- The plan of keyslot 0 of a new volume: it isn't refused, and the volume key meets its digest.
-use Rattle.std.proofs.Common.{◌≡◌, ◌≤◌, ℕ, ◌*◌, ◌-◌, ◌^◌, List, length, true, false, true≢false, Option, None, Some, bytes_eq, refl, sym, ap, subst, ◌∙◌, arith}
-use Rattle.std.specs.Prelude.{◌||◌, nat_lt, IfSome}
-use Rattle.std.proofs.lemmas.Bool.{ltb-false}
+use Rattle.std.proofs.Common.{◌≡◌, ◌≤◌, ℕ, ◌*◌, ◌-◌, ◌^◌, List, length, true, false, true≢false, Option, None, Some, bytes_eq, refl, sym, ap, subst, ◌∙◌, arith, codes, inl, inr, ◌⊎◌}
+use Rattle.std.specs.Prelude.{◌||◌, nat_lt, Bool, IfSome}
+use Rattle.std.proofs.lemmas.Bool.{and_parts, ltb-false}
 use Rattle.std.proofs.lemmas.Bool.Decides.{nat_tests}
 use Rattle.std.proofs.lemmas.Slice.Eq.{bytes_eq-Decides}
 use Rattle.luks_area.specs.Text.{is_plain, text_of}
 use Rattle.luks_area.specs.declared.area.Area.{Area}
 use Rattle.luks_kdf.specs.Derivation.{pbkdf2}
-use Rattle.luks_kdf.specs.Names.{block_size_of, each_passes, hash_of, name_of, named}
+use Rattle.luks_kdf.specs.Names.{each_passes, name_of, named}
+use Rattle.luks_kdf.specs.KeyslotNames.{keyslot_block_size, keyslot_digest}
 use Rattle.luks_kdf.specs.declared.hash_name.HashName.{HashName}
+use Rattle.luks_kdf.specs.declared.keyslot_hash.KeyslotHash.{KeyslotHash}
+use Rattle.luks_kdf.specs.declared.keyslot_hash.KeyslotHash.TheVariants.{Standard}
 use Rattle.luks_making.specs.Keyslots.{by_pbkdf2}
 use Rattle.luks_making.specs.declared.derivation.Argon2Costs.{Argon2Costs}
 use Rattle.luks_slot.specs.declared.plan.Argon2Kind.{Argon2Kind}
@@ -17,8 +20,13 @@ use Rattle.luks_slot.specs.declared.plan.Derivation.{Derivation}
 use Rattle.luks_slot.specs.declared.plan.Derivation.TheVariants.{Pbkdf2, Argon2}
 use Rattle.luks_slot.specs.declared.plan.DigestPlan.{DigestPlan}
 use Rattle.luks_slot.specs.declared.plan.SlotPlan.{SlotPlan}
+use Rattle.luks_slot.specs.declared.allowed.Allowed.{Allowed}
+use Rattle.luks_slot.specs.declared.plan.AreaCipher.{AreaCipher}
+use Rattle.luks_slot.specs.declared.plan.AreaCipher.TheVariants.{Apart, Whole}
+use Rattle.luks_slot.specs.Ciphers.{is_key_size, is_open_cipher}
 use Rattle.luks_slot.specs.Opening.{derived, hash_by_name, meets_digest, HasIterations}
-use Rattle.luks_slot.specs.Refusal.{is_argon2, is_argon2_refused, is_known_derivation, is_open_cipher, slot_refusal, slot_refusal_within}
+use Rattle.luks_slot.specs.Refusal.{is_argon2, is_argon2_refused, is_known_derivation, slot_refusal, slot_refusal_within}
+use Rattle.luks_reading.specs.MemoryFacts.{still_accepted}
 use Rattle.luks_reading.specs.declared.format.Format.{Format}
 use Rattle.luks_making.specs.declared.derivation.NewDerivation.{NewDerivation}
 use Rattle.luks_making.specs.declared.derivation.NewDerivation.TheVariants as by
@@ -28,7 +36,7 @@ use Rattle.luks_formatting.specs.NewPlan.{key_digest, IsNewDerivation, IsNewDige
 use Rattle.luks_formatting.specs.RandomBytes.{digest_salt, volume_key}
 
 -- the names of the hashes
-pub by_name : (hash : HashName) → hash_by_name (name_of hash) ≡ hash
+pub by_name : (hash : HashName) → hash_by_name (name_of hash) ≡ Standard hash
 by_name hash = rw (named hash) refl
 
 pub name_plain : (hash : HashName) → is_plain (name_of hash) ≡ true
@@ -44,13 +52,31 @@ not_argon2 : (format : Format) (salt : List ℕ) (d : Derivation) → IsNewDeriv
 not_argon2 format salt (Pbkdf2 hash iterations own) is = refl
 not_argon2 format salt (Argon2 c) is = absurd is
 
-known : (format : Format) (salt : List ℕ) (d : Derivation) → IsNewDerivation format salt d → is_known_derivation d ≡ true
+known : (format : Format) (salt : List ℕ) (d : Derivation) → IsNewDerivation format salt d → is_known_derivation false d ≡ true
 known format salt (Pbkdf2 hash iterations own) is = rw (is.0, named format.hash) refl
 known format salt (Argon2 c) is = absurd is
 
 pub some_iterations : (format : Format) (salt : List ℕ) (d : Derivation) → 1 ≤ format.iterations → IsNewDerivation format salt d → HasIterations d
 some_iterations format salt (Pbkdf2 hash iterations own) some is = subst (λ (n : ℕ). 1 ≤ n) (sym is.1) some
 some_iterations format salt (Argon2 c) some is = absurd is
+
+-- the key of a cipher that opens may have 64 bytes
+one_of : (p q : Bool) → (p || q) ≡ true → (p ≡ true) ⊎ (q ≡ true)
+one_of true q e = inl refl
+one_of false q e = inr e
+
+open_size : (cipher : AreaCipher) → is_open_cipher cipher ≡ true → is_key_size cipher 64 ≡ true
+open_size (Apart n m) open_ =
+    let parts = and_parts _ _ open_ in
+    let name : n.now ≡ codes "aes" = (bytes_eq-Decides n.now (codes "aes")).0 parts.0 in
+    elim (one_of _ _ parts.1) [
+      | inl e ↦ (let mode : m.now ≡ codes "xts-plain64" = (bytes_eq-Decides m.now (codes "xts-plain64")).0 e in rw (name, mode) refl)
+      | inr e ↦ (let mode : m.now ≡ codes "xts-plain" = (bytes_eq-Decides m.now (codes "xts-plain")).0 e in rw (name, mode) refl)
+    ]
+open_size (Whole t) open_ = elim (one_of _ _ open_) [
+  | inl e ↦ (let text : t.now ≡ codes "aes-xts-plain64" = (bytes_eq-Decides t.now (codes "aes-xts-plain64")).0 e in rw text refl)
+  | inr e ↦ (let text : t.now ≡ codes "aes-xts-plain" = (bytes_eq-Decides t.now (codes "aes-xts-plain")).0 e in rw text refl)
+]
 
 module _ (format : Format) (salt : List ℕ) (area : Area) (digest stored : List ℕ) (plan : SlotPlan) (new : IsNewPlan format salt area digest stored plan) where
   -- a new plan whose cipher opens isn't refused
@@ -64,6 +90,7 @@ module _ (format : Format) (salt : List ℕ) (area : Area) (digest stored : List
         new.digest.hash,
         named format.hash,
         new.area_key_bytes,
+        open_size plan.cipher cipher,
       ) refl
 
 -- ---- of what is chosen
@@ -78,7 +105,7 @@ argon2_within : (allowed : ℕ) (kind : Argon2Kind) (costs : Argon2Costs) (salt 
 argon2_within allowed kind costs salt (Pbkdf2 hash iterations own) long ok is = absurd is
 argon2_within allowed kind costs salt (Argon2 c) long ok is = rw (is.memory, is.cpus, is.own_salt) (costs_within allowed costs.memory costs.cpus (length salt) long ok)
 
-argon2_known : (kind : Argon2Kind) (costs : Argon2Costs) (salt : List ℕ) (d : Derivation) → IsArgon2Plan kind costs salt d → is_known_derivation d ≡ true
+argon2_known : (kind : Argon2Kind) (costs : Argon2Costs) (salt : List ℕ) (d : Derivation) → IsArgon2Plan kind costs salt d → is_known_derivation false d ≡ true
 argon2_known kind costs salt (Pbkdf2 hash iterations own) is = absurd is
 argon2_known kind costs salt (Argon2 c) is = refl
 
@@ -105,12 +132,12 @@ pbkdf2_here : (h : List ℕ) (n : ℕ) (salt : List ℕ) (d : Derivation) → Is
 pbkdf2_here h n salt (Pbkdf2 hash iterations own) is = refl
 pbkdf2_here h n salt (Argon2 c) is = absurd is
 
-pbkdf2_known : (hash : HashName) (n : ℕ) (salt : List ℕ) (d : Derivation) → IsDerivedBy (by_pbkdf2 (name_of hash) n) salt d → is_known_derivation d ≡ true
+pbkdf2_known : (hash : HashName) (n : ℕ) (salt : List ℕ) (d : Derivation) → IsDerivedBy (by_pbkdf2 (name_of hash) n) salt d → is_known_derivation false d ≡ true
 pbkdf2_known hash n salt (Pbkdf2 own_hash iterations own) is = rw (is.0, named hash) refl
 pbkdf2_known hash n salt (Argon2 c) is = absurd is
 
 module _ (format : Format) (salt : List ℕ) (d : Derivation) where
-  chosen_known : (chosen : Option NewDerivation) → IsDerivedBy (slot_derivation format chosen) salt d → is_known_derivation d ≡ true
+  chosen_known : (chosen : Option NewDerivation) → IsDerivedBy (slot_derivation format chosen) salt d → is_known_derivation false d ≡ true
   chosen_known None is = pbkdf2_known format.hash format.iterations salt d is
   chosen_known (Some (by.Pbkdf2 n)) is = pbkdf2_known format.hash n salt d is
   chosen_known (Some (by.Argon2i costs)) is = argon2_known I costs salt d is
@@ -149,11 +176,15 @@ makeable_enough format allowed memory (Some (by.Pbkdf2 n)) can enough = record {
 makeable_enough format allowed memory (Some (by.Argon2i costs)) can enough = record { turns = can.turns; within = costs_enough allowed memory costs.memory costs.cpus enough can.within }
 makeable_enough format allowed memory (Some (by.Argon2id costs)) can enough = record { turns = can.turns; within = costs_enough allowed memory costs.memory costs.cpus enough can.within }
 
+-- so many KiB, and nothing else
+abbrev only : ℕ → Allowed
+only memory = record { memory = memory; older = false }
+
 module _ (format : Format) (chosen : Option NewDerivation) (salt : List ℕ) (area : Area) (digest stored : List ℕ) (plan : SlotPlan)
     (new : IsNewPlanBy (slot_derivation format chosen) format salt area digest stored plan) (cipher : is_open_cipher plan.cipher ≡ true) where
   -- a new plan whose cipher opens isn't refused where Argon2 isn't
-  pub unrefused_by : (allowed : ℕ) → is_argon2_refused allowed plan.derivation ≡ false → slot_refusal_within allowed plan ≡ None
-  unrefused_by allowed within =
+  unrefused_by : (memory : ℕ) → is_argon2_refused memory plan.derivation ≡ false → slot_refusal_within (only memory) plan ≡ None
+  unrefused_by memory within =
       rw (
         within,
         cipher,
@@ -162,17 +193,20 @@ module _ (format : Format) (chosen : Option NewDerivation) (salt : List ℕ) (ar
         new.digest.hash,
         named format.hash,
         new.area_key_bytes,
+        open_size plan.cipher cipher,
       ) refl
 
-  -- so where what is chosen may be made
-  pub unrefused_chosen : (allowed : ℕ) → length salt ≡ 32 → IfSome chosen (IsMakeable allowed) → slot_refusal_within allowed plan ≡ None
-  unrefused_chosen allowed long can = unrefused_by allowed (chosen_within format salt plan.derivation allowed long chosen can new.derivation)
+  -- so where what is chosen may be made, with older ciphers and hashes or without
+  pub unrefused_chosen : (allowed : Allowed) → length salt ≡ 32 → IfSome chosen (IsMakeable allowed.memory) → slot_refusal_within allowed plan ≡ None
+  unrefused_chosen allowed long can =
+      still_accepted (only allowed.memory) allowed plan (omega arith) (λ e. absurd (true≢false (sym e)))
+      (unrefused_by allowed.memory (chosen_within format salt plan.derivation allowed.memory long chosen can new.derivation))
 
   -- and a key of 64 bytes is sealed by it
-  pub sealable_chosen : (allowed : ℕ) → 1 ≤ format.iterations → length salt ≡ 32 → IfSome chosen (IsMakeable allowed) → IsSealableWithin allowed plan
+  pub sealable_chosen : (allowed : Allowed) → 1 ≤ format.iterations → length salt ≡ 32 → IfSome chosen (IsMakeable allowed.memory) → IsSealableWithin allowed plan
   sealable_chosen allowed some long can = record {
     unrefused = unrefused_chosen allowed long can;
-    iterations = chosen_turns format salt plan.derivation allowed long chosen some can new.derivation;
+    iterations = chosen_turns format salt plan.derivation allowed.memory long chosen some can new.derivation;
     key_bytes = new.key_bytes;
     stripes = new.stripes;
   }
@@ -189,6 +223,7 @@ module _ (format : Format) (chosen : Option NewDerivation) (salt : List ℕ) (ar
           new.digest.hash,
           named format.hash,
           new.area_key_bytes,
+          open_size plan.cipher cipher,
         ) refl;
     iterations = chosen_turns format salt plan.derivation allowed long chosen some can new.derivation;
     key_bytes = new.key_bytes;
@@ -201,5 +236,5 @@ pub key_meets : (format : Format) (random : List ℕ) (len : ℕ) (digest : Dige
 unfolding meets_digest
 key_meets format random len digest new long =
     let made : derived (name_of format.hash) (volume_key random) (digest_salt random) format.iterations len ≡ key_digest format random len =
-    ap (λ (h : HashName). pbkdf2 (hash_of h) (block_size_of h) (volume_key random) (digest_salt random) format.iterations len) (by_name format.hash) in
+    ap (λ (h : KeyslotHash). pbkdf2 (keyslot_digest h) (keyslot_block_size h) (volume_key random) (digest_salt random) format.iterations len) (by_name format.hash) in
     rw (new.hash, new.own_salt, new.iterations, new.own_stored, long, made) ((bytes_eq-Decides (key_digest format random len) (key_digest format random len)).1 refl)

@@ -4,6 +4,7 @@ use Rattle.luks_area.specs.declared.area.Area.{Area}
 use Rattle.luks_kdf.specs.Derivation.{pbkdf2}
 use Rattle.luks_kdf.specs.Names.{block_size_of, hash_of, name_of}
 use Rattle.luks_making.specs.Keyslots.{Deriving, by_pbkdf2}
+use Rattle.luks_slot.specs.declared.allowed.Allowed.{Allowed}
 use Rattle.luks_slot.specs.declared.plan.Derivation.{Derivation}
 use Rattle.luks_slot.specs.declared.plan.DigestPlan.{DigestPlan}
 use Rattle.luks_slot.specs.declared.plan.SlotPlan.{SlotPlan}
@@ -46,14 +47,14 @@ IsNewDerivation format = IsDerivedBy (by_pbkdf2 (name_of format.hash) format.ite
 abbrev pub IsNewPlan : Format → List ℕ → Area → List ℕ → List ℕ → SlotPlan → Type 0
 IsNewPlan format = IsNewPlanBy (by_pbkdf2 (name_of format.hash) format.iterations) format
 
--- a key of 64 bytes is sealed by the plan in 4000 stripes, where Argon2 may take so many KiB
-pub record IsSealableWithin (allowed : ℕ) (plan : SlotPlan) : Type 0 where
+-- a key of 64 bytes is sealed by the plan in 4000 stripes, where so much is allowed
+pub record IsSealableWithin (allowed : Allowed) (plan : SlotPlan) : Type 0 where
   pub unrefused : slot_refusal_within allowed plan ≡ None
   pub iterations : HasIterations plan.derivation
   pub key_bytes : plan.key_bytes ≡ 64
   pub stripes : plan.stripes ≡ 4000
 
--- where it may take none
+-- where nothing is
 pub record IsSealable (plan : SlotPlan) : Type 0 where
   pub unrefused : slot_refusal plan ≡ None
   pub iterations : HasIterations plan.derivation

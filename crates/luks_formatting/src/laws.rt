@@ -1,6 +1,7 @@
 //! Laws on the definitions of this crate. Each function does nothing; its contract is the law.
 ghost use Rattle.std.specs.Prelude.{◌≡◌, ◌≤◌, ℕ, List, length, Option, None, IfSome};
 ghost use Rattle.luks_making.specs.Formatted.{formatted};
+ghost use Rattle.luks_slot.specs.declared.allowed.Allowed.{Allowed};
 ghost use Rattle.luks_reading.specs.Answer.{Answer, AnswerWithin, opens};
 ghost use Rattle.luks_reading.specs.Checked.{WellFormed};
 ghost use Rattle.luks_reading.specs.declared.report.Data.{Data as Payload};
@@ -41,7 +42,7 @@ pub fn formatted2_opens()
 {}
 
 /// The same where a derivation was chosen: keyslot 0 opens wherever as much memory is allowed as it takes,
-/// if what was chosen may be made with some.
+/// with older ciphers and hashes or without, if what was chosen may be made with some.
 pub fn formatted2_by_opens()
     ensures well_formed { (payload : Payload) (format : TheFormat) (chosen : Option Chosen)
         (passphrase random old new : List ℕ) → 1 ≤ format.iterations → 16777216 ≤ length new
@@ -51,9 +52,9 @@ pub fn formatted2_by_opens()
         (passphrase random old new : List ℕ) → 1 ≤ format.iterations → 16777216 ≤ length new
         → length random ≡ 256208 → FitsMetadataBy payload format chosen random
         → IsFormatted2By payload format chosen passphrase random old new
-        → (allowed memory : ℕ) → IfSome chosen (IsMakeable allowed)
-        → memory_by (slot_derivation format chosen) ≤ memory
-        → AnswerWithin memory new 0 passphrase (opens (volume_key random)) }
+        → (memory : ℕ) (allowed : Allowed) → IfSome chosen (IsMakeable memory)
+        → memory_by (slot_derivation format chosen) ≤ allowed.memory
+        → AnswerWithin allowed new 0 passphrase (opens (volume_key random)) }
 {}
 
 /// Where no derivation is chosen, the metadata is that of a volume whose keyslot derives by PBKDF2, as the

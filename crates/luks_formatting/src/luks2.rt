@@ -3,6 +3,7 @@ ghost use Rattle.std.specs.Prelude.{◌≡◌, ◌+◌, ◌^◌, ◌<◌, ◌≤
 ghost use Rattle.luks_area.specs.Device.{CountsFailure, IsSettled};
 ghost use Rattle.luks_area.specs.Ranges.{SameBut};
 ghost use Rattle.luks_writing.specs.MadeInOrder.{ClearsFirst};
+ghost use Rattle.luks_slot.specs.declared.allowed.Allowed.{Allowed as TheAllowed};
 ghost use Rattle.luks_reading.specs.Answer.{Answer, AnswerWithin, opens};
 ghost use Rattle.luks_reading.specs.Checked.{WellFormed};
 ghost use Rattle.luks_making.specs.Derivations.{memory_by};
@@ -20,6 +21,7 @@ use luks_area::Device;
 use luks_edit::{Done, Passphrase};
 use luks_making::NewDerivation;
 use luks_reading::{Data, Format};
+use luks_slot::Allowed;
 use std::alloc::Global;
 
 /// How many random bytes `format2` takes.
@@ -86,7 +88,7 @@ pub fn format2<D: Device>(
         chosen: None,
         passphrase: Passphrase {
             bytes: passphrase,
-            memory: 0,
+            allowed: Allowed::NOTHING,
         },
         random,
     };
@@ -95,7 +97,7 @@ pub fn format2<D: Device>(
 
 /// The same with a keyslot that is derived as is chosen, and takes no more memory than the passphrase
 /// allows; where nothing is chosen it is `format2`. It opens wherever as much memory is allowed as it
-/// takes.
+/// takes, whether older ciphers and hashes are accepted or not.
 ///
 /// A key area by Argon2 is sealed in memory before the first write, so that want of memory changes no
 /// byte.
@@ -114,14 +116,14 @@ pub fn format2_by<D: Device>(
     // The first fault that stands, or want of memory, and then no byte changes; else the device's.
     ensures fault { IfErr result
         (IsAnsweredFaultOrMemory (IsFormat2FaultBy chosen
-        (allowed_for passphrase.now.memory passphrase.now.bytes.now)
+        (allowed_for passphrase.now.allowed.memory passphrase.now.bytes.now)
         (D.size device.old) format.now random.now)) }
     ensures faultless { OnOk result
         (HasNoFault (IsFormat2FaultBy chosen
-        (allowed_for passphrase.now.memory passphrase.now.bytes.now)
+        (allowed_for passphrase.now.allowed.memory passphrase.now.bytes.now)
         (D.size device.old) format.now random.now)) }
     ensures same { D.tells → (f : TheFault)
-        → IsFormat2FaultBy chosen (allowed_for passphrase.now.memory passphrase.now.bytes.now)
+        → IsFormat2FaultBy chosen (allowed_for passphrase.now.allowed.memory passphrase.now.bytes.now)
         (D.size device.old) format.now random.now f
         → D.bytes device.new ≡ D.bytes device.old }
     ensures memory { D.tells → result ≡ Err FormatFault.Memory
@@ -146,9 +148,9 @@ pub fn format2_by<D: Device>(
     ensures formatted { D.tells → OnOk result (IsFormatted2By data_ format.now chosen
         passphrase.now.bytes.now random.now (D.bytes device.old) (D.bytes device.new)) }
     ensures well_formed { D.tells → OnOk result (WellFormed (D.bytes device.new) data_) }
-    ensures opens { D.tells → OnOk result ((memory : ℕ)
-        → memory_by (slot_derivation format.now chosen) ≤ memory
-        → AnswerWithin memory (D.bytes device.new) 0 passphrase.now.bytes.now
+    ensures opens { D.tells → OnOk result ((allowed : TheAllowed)
+        → memory_by (slot_derivation format.now chosen) ≤ allowed.memory
+        → AnswerWithin allowed (D.bytes device.new) 0 passphrase.now.bytes.now
         (opens (volume_key random.now))) }
 {
     let volume = Volume {
@@ -157,7 +159,10 @@ pub fn format2_by<D: Device>(
         chosen,
         passphrase: Passphrase {
             bytes: passphrase.bytes,
-            memory: allowed_for(passphrase),
+            allowed: Allowed {
+                memory: allowed_for(passphrase),
+                older: false,
+            },
         },
         random,
     };

@@ -28,7 +28,7 @@ pub(crate) fn new_area(
     digest: &[u8],
 ) -> Result<Vec<u8>, AllocError>
     requires iterations { 1 ≤ volume.now.format.now.iterations }
-    requires makeable { IfSome volume.now.chosen (IsMakeable volume.now.passphrase.memory) }
+    requires makeable { IfSome volume.now.chosen (IsMakeable volume.now.passphrase.allowed.memory) }
     requires long { 272 ≤ length volume.now.random.now }
     requires digest { digest.now ≡ key_digest volume.now.format.now volume.now.random.now
         (digest_size_of volume.now.format.now.hash) }
@@ -51,7 +51,7 @@ pub(crate) fn new_area(
 // The same by what the metadata says.
 fn area_of(alloc: Global, volume: &Volume<'_>, like: &NewVolume<'_>) -> Result<Vec<u8>, AllocError>
     requires iterations { 1 ≤ volume.now.format.now.iterations }
-    requires makeable { IfSome volume.now.chosen (IsMakeable volume.now.passphrase.memory) }
+    requires makeable { IfSome volume.now.chosen (IsMakeable volume.now.passphrase.allowed.memory) }
     requires long { 272 ≤ length volume.now.random.now }
     requires members { volume_members like.now
         ≡ new_members volume.now.data_ volume.now.format.now volume.now.random.now }

@@ -61,8 +61,8 @@ pub(crate) fn sealed_ahead(
     key: &[u8],
     random: &[u8],
 ) -> Result<MemDevice, AllocError>
-    requires short { 0 < passphrase.now.memory → length passphrase.now.bytes.now < 2 ^ 32 }
-    requires sealable { IsSealableWithin passphrase.now.memory plan.now }
+    requires short { 0 < passphrase.now.allowed.memory → length passphrase.now.bytes.now < 2 ^ 32 }
+    requires sealable { IsSealableWithin passphrase.now.allowed plan.now }
     requires key_length { length key.now ≡ 64 }
     requires random_length { length random.now ≡ 255936 }
     ensures { IfOk result (λ d. IsSealedAhead plan.now passphrase.now.bytes.now
@@ -75,13 +75,13 @@ pub(crate) fn sealed_ahead(
         area: ALONE,
         ..*plan
     };
-    let (words, memory) = (passphrase.bytes, passphrase.memory);
+    let (words, allowed) = (passphrase.bytes, passphrase.allowed);
     match seal_area_within(
         alloc,
         &mut device,
         &alone,
         words,
-        memory,
+        allowed,
         &Key::new(key),
         random,
     ) {

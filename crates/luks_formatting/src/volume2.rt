@@ -4,6 +4,7 @@ ghost use Rattle.luks_area.specs.Device.{CountsFailure, IsSettled, is_failure};
 ghost use Rattle.luks_area.specs.Ranges.{SameBut};
 ghost use Rattle.luks_writing.specs.MadeInOrder.{ClearsFirst, WritesInTurn};
 ghost use Rattle.luks_kdf.specs.Names.{digest_size_of};
+ghost use Rattle.luks_slot.specs.declared.allowed.Allowed.{Allowed as TheAllowed};
 ghost use Rattle.luks_reading.specs.Answer.{AnswerWithin, opens};
 ghost use Rattle.luks_reading.specs.Checked.{WellFormed};
 ghost use Rattle.luks_making.specs.Derivations.{IsMakeable, memory_by, takes_memory};
@@ -61,19 +62,19 @@ pub(crate) fn make<D: Device>(
     device: &mut D,
     volume: &Volume<'_>,
 ) -> Result<Done, FormatFault>
-    requires short { 0 < volume.now.passphrase.memory → length volume.now.passphrase.bytes.now < 2 ^ 32 }
+    requires short { 0 < volume.now.passphrase.allowed.memory → length volume.now.passphrase.bytes.now < 2 ^ 32 }
     requires room { D.failed device.old + 1 < 2 ^ 64 }
     requires settled { D.tells → IsSettled D.unsettled device.old }
     ensures fault { IfErr result
         (IsAnsweredFaultOrMemory (IsFormat2FaultBy volume.now.chosen
-        volume.now.passphrase.memory
+        volume.now.passphrase.allowed.memory
         (D.size device.old) volume.now.format.now volume.now.random.now)) }
     ensures faultless { OnOk result
         (HasNoFault (IsFormat2FaultBy volume.now.chosen
-        volume.now.passphrase.memory
+        volume.now.passphrase.allowed.memory
         (D.size device.old) volume.now.format.now volume.now.random.now)) }
     ensures same { D.tells → (f : TheFault)
-        → IsFormat2FaultBy volume.now.chosen volume.now.passphrase.memory
+        → IsFormat2FaultBy volume.now.chosen volume.now.passphrase.allowed.memory
         (D.size device.old) volume.now.format.now volume.now.random.now f
         → D.bytes device.new ≡ D.bytes device.old }
     ensures memory { D.tells → result ≡ Err FormatFault.Memory
@@ -91,9 +92,9 @@ pub(crate) fn make<D: Device>(
     ensures slot { IfOk result (λ done. done.slot ≡ Some 0) }
     ensures formatted { D.tells → OnOk result (IsMade volume.now (D.bytes device.old) (D.bytes device.new)) }
     ensures well_formed { D.tells → OnOk result (WellFormed (D.bytes device.new) volume.now.data_) }
-    ensures opens { D.tells → OnOk result ((memory : ℕ)
-        → memory_by (slot_derivation volume.now.format.now volume.now.chosen) ≤ memory
-        → AnswerWithin memory (D.bytes device.new) 0 volume.now.passphrase.bytes.now
+    ensures opens { D.tells → OnOk result ((allowed : TheAllowed)
+        → memory_by (slot_derivation volume.now.format.now volume.now.chosen) ≤ allowed.memory
+        → AnswerWithin allowed (D.bytes device.new) 0 volume.now.passphrase.bytes.now
         (opens (volume_key volume.now.random.now))) }
 {
     let Volume {
@@ -102,7 +103,7 @@ pub(crate) fn make<D: Device>(
         random,
         ..
     } = *volume;
-    let memory = volume.passphrase.memory;
+    let memory = volume.passphrase.allowed.memory;
     judge(WANTED, device.len(), format, chosen, memory, random)?;
     let mut buffer = [0; 64];
     let digest = &mut buffer[..format.hash.digest_len()];
@@ -122,10 +123,10 @@ fn write_made<D: Device>(
     digest: &[u8],
     json: &[u8],
 ) -> Result<(), FormatFault>
-    requires short { 0 < volume.now.passphrase.memory
+    requires short { 0 < volume.now.passphrase.allowed.memory
         → length volume.now.passphrase.bytes.now < 2 ^ 32 }
     requires iterations { 1 ≤ volume.now.format.now.iterations }
-    requires makeable { IfSome volume.now.chosen (IsMakeable volume.now.passphrase.memory) }
+    requires makeable { IfSome volume.now.chosen (IsMakeable volume.now.passphrase.allowed.memory) }
     requires long { length volume.now.random.now ≡ 256208 }
     requires within { 16777216 ≤ D.size device.old }
     requires digest { digest.now ≡ key_digest volume.now.format.now volume.now.random.now
@@ -259,9 +260,9 @@ fn slot_plan<'a>(
     requires digest { digest.now
         ≡ key_digest format.now random.now (digest_size_of format.now.hash) }
     ensures plan { HasPlan format.now chosen random.now result }
-    ensures sealable { (allowed : ℕ) → IfSome chosen (IsMakeable allowed)
+    ensures sealable { (allowed : TheAllowed) → IfSome chosen (IsMakeable allowed.memory)
         → IsSealableWithin allowed result }
-    ensures here { (allowed : ℕ) → IfSome chosen (IsMakeable allowed)
+    ensures here { (memory : ℕ) → IfSome chosen (IsMakeable memory)
         → takes_memory chosen ≡ false → IsSealable result }
 {
     let cipher = AreaCipher::Whole("aes-xts-plain64");

@@ -1,4 +1,5 @@
 use Rattle.std.proofs.Common.{None, arith}
+use Rattle.luks_slot.specs.Allowance.{none_allowed}
 use Rattle.luks_formatting.proofs.Formatted2Facts.{slot_opens, well_formed}
 use Rattle.luks_formatting.proofs.laws.formatted2_opens.Goals as goal
 
@@ -7,4 +8,4 @@ returns-clause-well_formed c payload format = well_formed payload format None
 
 pub returns-clause-opens : goal.returns-clause-opens
 returns-clause-opens c payload format passphrase random old new some large counted fits x =
-    slot_opens payload format None passphrase random old new some large counted fits x 0 0 tt (omega arith)
+    slot_opens payload format None passphrase random old new some large counted fits x 0 none_allowed tt (omega arith)

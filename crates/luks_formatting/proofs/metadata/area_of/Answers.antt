@@ -23,7 +23,7 @@ written_area-requires c =
     let can : CanFormat (volume_members c.args.like.now) =
     subst CanFormat (sym members) (can_format volume.data_ volume.format.now volume.random.now c.requires.iterations c.requires.long digest) in
     let low : volume.format.now.iterations < 4294967296 = subst (λ (n : ℕ). n < 4294967296) (ap (λ (m : VolumeMembers). m.iterations) members) c.volume_fits.ensures.iterations in
-    let fits_own : FitsDerivation own = derivation_fits volume.format.now volume.passphrase.memory volume.chosen c.requires.iterations low c.requires.makeable c.chosen_fits.ensures in
+    let fits_own : FitsDerivation own = derivation_fits volume.format.now volume.passphrase.allowed.memory volume.chosen c.requires.iterations low c.requires.makeable c.chosen_fits.ensures in
     subst (λ (d : Data). IsHeld 12288 d) (sym c.in_ok-value.ensures) (held_by own (volume_members c.args.like.now) c.volume_fits.ensures can fits_own)
 
 short_text : (n m : ℕ) → 12288 ≤ n → n ≡ m → m < 12288 → ⊥

@@ -18,7 +18,7 @@ returns-clause-well_formed g c tells =
 
 pub returns-clause-opens :
     goal.returns-clause-opens
-returns-clause-opens g c tells memory enough =
+returns-clause-opens g c tells allowed enough =
     let volume = c.args.volume.now in
     let bytes = g.D.Device.bytes in
     let w = bytes c.write_made.new.device in
@@ -29,4 +29,4 @@ returns-clause-opens g c tells memory enough =
     let size : length w ≡ g.D.Device.size c.args.device.now = g.met.D.Device.sized c.write_made.new.device tells ∙ c.write_made.ensures.size in
     slot_opens volume.data_ volume.format.now volume.chosen volume.passphrase.bytes.now volume.random.now (bytes c.args.device.now) w
     (omega (arith, some)) (omega (arith, size, least, total)) ready.counted c.in-Ok.ensures.fits (c.in_ok-write_made.ensures.formatted tells)
-    volume.passphrase.memory memory ready.makeable enough
+    volume.passphrase.allowed.memory allowed ready.makeable enough
