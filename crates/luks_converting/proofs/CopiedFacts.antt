@@ -1,19 +1,20 @@
 -- A copied keyslot gives the key that it gave.
-use Rattle.std.proofs.Common.{◌≡◌, ℕ, zero, suc, ◌+◌, ◌*◌, ◌≤◌, List, ◌++◌, Bool, true, false, ◌||◌, ◌⊎◌, codes, Some, None, is_some, refl, sym, ap, ◌∙◌, arith, inl, inr}
-use Rattle.std.proofs.lemmas.Bool.{and_parts}
+use Rattle.std.proofs.Common.{◌≡◌, ℕ, zero, suc, ◌+◌, ◌*◌, ◌≤◌, List, ◌++◌, Bool, true, false, ◌||◌, ◌⊎◌, codes, Some, None, is_some, if◌then◌else◌, bytes_eq, true≢false, refl, sym, ap, subst, ◌∙◌, arith, inl, inr}
+use Rattle.std.proofs.lemmas.Bool.{and_parts, cases_Bool}
 use Rattle.std.proofs.lemmas.Slice.Eq.{bytes_eq-Decides}
 use Rattle.luks_area.specs.Ranges.{part}
 use Rattle.luks_area.specs.RangeFacts.{part-part}
 use Rattle.luks_area.specs.Sectors.{sector_count}
-use Rattle.luks_kdf.specs.KeyslotNames.{keyslot_hash_named}
 use Rattle.luks_slot.specs.declared.allowed.Allowed.{Allowed}
+use Rattle.luks_slot.specs.declared.cipher.AreaKey.{AreaKey}
 use Rattle.luks_slot.specs.declared.plan.AreaCipher.{AreaCipher}
 use Rattle.luks_slot.specs.declared.plan.AreaCipher.TheVariants.{Apart, Whole}
 use Rattle.luks_slot.specs.declared.plan.Derivation.{Derivation}
 use Rattle.luks_slot.specs.declared.plan.Derivation.TheVariants.{Pbkdf2, Argon2}
 use Rattle.luks_slot.specs.declared.plan.SlotPlan.{SlotPlan}
-use Rattle.luks_slot.specs.Opening.{area_key, area_key_by, candidate, cipher_of, opened_sector, opened_sectors, sector_cipher_named, sector_opened, slot_key, stripes_from, stripes_in, AreaKeyOf}
-use Rattle.luks_slot.specs.Refusal.{is_allowed_cipher, is_argon2, is_argon2_refused, is_key_size, is_known_derivation, slot_refusal_within}
+use Rattle.luks_slot.specs.Ciphers.{cipher_named, cipher_of, ivs_of_mode, sector_opened}
+use Rattle.luks_slot.specs.Opening.{area_key, area_key_by, candidate, opened_sector, opened_sectors, slot_key, stripes_from, stripes_in}
+use Rattle.luks_slot.specs.Refusal.{is_allowed_cipher, is_argon2, is_argon2_refused, is_known_derivation, is_known_hash, is_older_cipher, is_open_cipher, slot_refusal_within}
 use Rattle.luks_slot.specs.declared.fault.SlotFault.TheVariants.{Argon2 as Argon2Fault, Cipher}
 use Rattle.luks_reading.proofs.SamePlans.{same_key as same_plan_key, same_refusal_within, SameFields}
 use Rattle.luks_converting.specs.Copied.{HasSameSectors, IsCopiedPlan, IsJoinedCipher, IsSameDerivation}
@@ -25,7 +26,7 @@ front_part : (a : List ℕ) (n i len : ℕ) → i + len ≤ n → part (part a 0
 front_part a n i len inside = part-part a 0 n i len inside ∙ ap (λ p. part a p len) (omega arith)
 
 -- what the front of an area decrypts to depends on that front alone
-same_sectors : (key : AreaKeyOf) (a b : List ℕ) (n : ℕ) → part a 0 (512 * n) ≡ part b 0 (512 * n) → opened_sectors key a n ≡ opened_sectors key b n
+same_sectors : (key : AreaKey) (a b : List ℕ) (n : ℕ) → part a 0 (512 * n) ≡ part b 0 (512 * n) → opened_sectors key a n ≡ opened_sectors key b n
 unfolding opened_sectors opened_sector
 same_sectors key a b zero same = refl
 same_sectors key a b (suc n) same =
@@ -54,7 +55,7 @@ alike : (a b : Derivation) → IsSameDerivation a b → Alike a b
 alike (Pbkdf2 h i s) (Pbkdf2 k j t) x = record {
   argon2 = refl;
   argon2_refused = λ memory. refl;
-  known = λ older. ap (λ t. is_some (keyslot_hash_named older t)) x.0;
+  known = λ older. ap (is_known_hash older) x.0;
   key = λ n p. simp (x.0, x.1, x.2);
 }
 alike (Pbkdf2 h i s) (Argon2 c) x = absurd x
@@ -74,6 +75,7 @@ same_fields a b x =
       key = derivation.key;
       cipher = λ older. refl;
       sector_cipher = refl;
+      key_size = λ n. refl;
       start = refl;
       len = refl;
       area_key_bytes = x.area_key_bytes;
@@ -88,7 +90,7 @@ same_fields a b x =
 
 -- the joined text names the cipher that the two texts name
 joined_cipher : (a b : AreaCipher) → IsJoinedCipher a b → cipher_of a ≡ cipher_of b
-joined_cipher (Apart n m) (Whole t) is = ap sector_cipher_named (sym is)
+joined_cipher (Apart n m) (Whole t) is = ap cipher_named (sym is)
 joined_cipher (Apart n m) (Apart k l) is = absurd is
 joined_cipher (Whole t) b is = absurd is
 
@@ -107,9 +109,58 @@ either : (p q : Bool) → (p || q) ≡ true → ((p ≡ true) ⊎ (q ≡ true))
 either true q e = inl refl
 either false q e = inr e
 
--- a cipher that is allowed by its two texts is so by the joined one
+right : (p q : Bool) → q ≡ true → (p || q) ≡ true
+right true q e = refl
+right false q e = e
+
+-- a cipher that opens by its two texts does so by the joined one
+joined_opens : (a b : AreaCipher) → IsJoinedCipher a b → is_open_cipher a ≡ true → is_open_cipher b ≡ true
+joined_opens (Apart n m) (Whole t) is open_ =
+    let parts = and_parts _ _ open_ in
+    let name : n.now ≡ codes "aes" = (bytes_eq-Decides n.now (codes "aes")).0 parts.0 in
+    elim (either _ _ parts.1) [
+      | inl e ↦ (let mode : m.now ≡ codes "xts-plain64" = (bytes_eq-Decides m.now (codes "xts-plain64")).0 e in rw (is, name, mode) refl)
+      | inr e ↦ (let mode : m.now ≡ codes "xts-plain" = (bytes_eq-Decides m.now (codes "xts-plain")).0 e in rw (is, name, mode) refl)
+    ]
+joined_opens (Apart n m) (Apart k l) is open_ = absurd is
+joined_opens (Whole t) b is open_ = absurd is
+
+-- and so does one of older disks
+mode_of : (m : List ℕ) → is_some (ivs_of_mode m) ≡ true → (m ≡ codes "cbc-essiv:sha256") ⊎ ((m ≡ codes "cbc-plain") ⊎ (m ≡ codes "cbc-plain64"))
+mode_of m is = elim (cases_Bool (bytes_eq m (codes "cbc-essiv:sha256"))) [
+  | inl essiv ↦ inl ((bytes_eq-Decides m (codes "cbc-essiv:sha256")).0 essiv)
+  | inr not_essiv ↦ inr (elim (cases_Bool (bytes_eq m (codes "cbc-plain"))) [
+      | inl plain ↦ inl ((bytes_eq-Decides m (codes "cbc-plain")).0 plain)
+      | inr not_plain ↦ inr (elim (cases_Bool (bytes_eq m (codes "cbc-plain64"))) [
+          | inl long ↦ (bytes_eq-Decides m (codes "cbc-plain64")).0 long
+          | inr not_long ↦ absurd (let none : is_some (ivs_of_mode m) ≡ false = rw (not_essiv, not_plain, not_long) refl in true≢false (sym is ∙ none))
+        ])
+    ])
+]
+
+joined_older : (a b : AreaCipher) → IsJoinedCipher a b → is_older_cipher a ≡ true → is_older_cipher b ≡ true
+joined_older (Apart n m) (Whole t) is older = elim (cases_Bool (bytes_eq n.now (codes "aes"))) [
+  | inl aes ↦ (
+      let name : n.now ≡ codes "aes" = (bytes_eq-Decides n.now (codes "aes")).0 aes in
+      let known : is_some (ivs_of_mode m.now) ≡ true = subst (λ (b : Bool). is_some (if b then ivs_of_mode m.now else None) ≡ true) aes older in
+      elim (mode_of m.now known) [
+        | inl mode ↦ rw (is, name, mode) refl
+        | inr other ↦ elim other [
+            | inl mode ↦ rw (is, name, mode) refl
+            | inr mode ↦ rw (is, name, mode) refl
+          ]
+      ])
+  | inr other ↦ absurd (let none : is_older_cipher (Apart n m) ≡ false = rw other refl in true≢false (sym older ∙ none))
+]
+joined_older (Apart n m) (Apart k l) is older = absurd is
+joined_older (Whole t) b is older = absurd is
+
 joined_allowed : (older : Bool) (a b : AreaCipher) → IsJoinedCipher a b → is_allowed_cipher older a ≡ true → is_allowed_cipher older b ≡ true
-joined_allowed older a b is was = ?
+joined_allowed false a b is was = joined_opens a b is was
+joined_allowed true a b is was = elim (either _ _ was) [
+  | inl e ↦ rw (joined_opens a b is e) refl
+  | inr e ↦ right (is_open_cipher b) (is_older_cipher b) (joined_older a b is e)
+]
 
 -- a plan that isn't refused: its derivation, and its cipher is allowed
 not_argon2 : (allowed : Allowed) (plan : SlotPlan) → slot_refusal_within allowed plan ≡ None → (b : Bool) → is_argon2_refused allowed.memory plan.derivation ≡ b → b ≡ false

@@ -19,8 +19,7 @@ use Rattle.luks1_header.specs.declared.luks1.Luks1Slot.{Luks1Slot}
 use Rattle.luks_head.specs.Selection.{luks1, Chosen}
 use Rattle.luks_slot.specs.Opening.{hash_by_name, meets_digest, slot_key}
 use Rattle.luks_slot.specs.Allowance.{without_memory}
-use Rattle.luks_slot.specs.Ciphers.{is_open_cipher}
-use Rattle.luks_slot.specs.Refusal.{slot_refusal_within}
+use Rattle.luks_slot.specs.Refusal.{is_open_cipher, slot_refusal_within}
 use Rattle.luks_slot.specs.Sealing.{IsSealed}
 use Rattle.luks_slot.proofs.SealingFacts.{sealed_opens}
 use Rattle.luks_slot.specs.declared.plan.AreaCipher.{AreaCipher}

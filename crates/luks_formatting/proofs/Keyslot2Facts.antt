@@ -30,7 +30,7 @@ use Rattle.luks_making.specs.Unchanged.{SaysArgon2, SaysDerivation, SaysMembers,
 use Rattle.luks_making.specs.declared.derivation.Argon2Costs.{Argon2Costs}
 use Rattle.luks_meta.specs.Says.{small_at}
 use Rattle.luks_slot.specs.declared.plan.DigestPlan.{DigestPlan}
-use Rattle.luks_slot.specs.Ciphers.{is_open_cipher}
+use Rattle.luks_slot.specs.Refusal.{is_open_cipher}
 use Rattle.luks_slot.specs.declared.plan.AreaCipher.{AreaCipher}
 use Rattle.luks_slot.specs.declared.plan.AreaCipher.TheVariants.{Apart, Whole}
 use Rattle.luks_slot.specs.declared.plan.Argon2Kind.{Argon2Kind}

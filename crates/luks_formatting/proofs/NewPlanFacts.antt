@@ -23,9 +23,8 @@ use Rattle.luks_slot.specs.declared.plan.SlotPlan.{SlotPlan}
 use Rattle.luks_slot.specs.declared.allowed.Allowed.{Allowed}
 use Rattle.luks_slot.specs.declared.plan.AreaCipher.{AreaCipher}
 use Rattle.luks_slot.specs.declared.plan.AreaCipher.TheVariants.{Apart, Whole}
-use Rattle.luks_slot.specs.Ciphers.{is_key_size, is_open_cipher}
 use Rattle.luks_slot.specs.Opening.{derived, hash_by_name, meets_digest, HasIterations}
-use Rattle.luks_slot.specs.Refusal.{is_argon2, is_argon2_refused, is_known_derivation, slot_refusal, slot_refusal_within}
+use Rattle.luks_slot.specs.Refusal.{is_argon2, is_argon2_refused, is_key_size, is_known_derivation, is_open_cipher, slot_refusal, slot_refusal_within}
 use Rattle.luks_reading.specs.MemoryFacts.{still_accepted}
 use Rattle.luks_reading.specs.declared.format.Format.{Format}
 use Rattle.luks_making.specs.declared.derivation.NewDerivation.{NewDerivation}
@@ -90,7 +89,6 @@ module _ (format : Format) (salt : List ℕ) (area : Area) (digest stored : List
         new.digest.hash,
         named format.hash,
         new.area_key_bytes,
-        open_size plan.cipher cipher,
       ) refl
 
 -- ---- of what is chosen
@@ -223,7 +221,6 @@ module _ (format : Format) (chosen : Option NewDerivation) (salt : List ℕ) (ar
           new.digest.hash,
           named format.hash,
           new.area_key_bytes,
-          open_size plan.cipher cipher,
         ) refl;
     iterations = chosen_turns format salt plan.derivation allowed long chosen some can new.derivation;
     key_bytes = new.key_bytes;
