@@ -27,13 +27,14 @@ use Rattle.luks_making.proofs.KdfFacts.{unrefused_positive}
 use Rattle.luks_making.proofs.ChangeFacts.{held_changed, slot_renewed}
 use Rattle.luks_making.proofs.RemovalFacts.{held_left, slot_lost}
 use Rattle.luks_making.proofs.RoomFacts.{gained_added, held_added, room as has_room, says_members}
+use Rattle.luks_slot.specs.declared.allowed.Allowed.{Allowed}
 use Rattle.luks_reading.specs.declared.report.Data.{Data}
 use Rattle.luks_reading.specs.Answer.{opens, AnswerWithin}
 use Rattle.luks_reading.specs.Checked.{AreaOf, WellFormed}
 use Rattle.luks_reading.specs.Layout2.{slot_number}
 use Rattle.luks_edit.specs.declared.edit.Edit.{Edit}
 use Rattle.luks_edit.specs.declared.edit.Edit.TheVariants.{Add, Change, Remove, Repair, Label}
-use Rattle.luks_edit.specs.Asked.{memory_for}
+use Rattle.luks_edit.specs.Asked.{allowed_for}
 use Rattle.luks_edit.specs.declared.edit_fault.EditFault.TheVariants.{Argon2, Iterations, NoFreeSlot, RandomLength, SlotTaken}
 use Rattle.luks_edit.specs.Kept.{Keeps}
 use Rattle.luks2_edit_laws.specs.Edited.{keyslot_salt, members_of, After2, HasAdded, HasChanged, HasRangedDerivation, HasRanges, IsEdited, IsMadeIn, IsSealedBy, IsWiped, IsWipedBy, NamedKeyslots2}
@@ -102,10 +103,10 @@ abbrev pub asking : ℕ → Option NewDerivation → AskedDerivation
 asking n d = record { iterations = n; chosen = d }
 
 -- what no refusal says of an edit that seals a keyslot like the keyslot `n`
-pub record IsReady (memory : ℕ) (v : List ℕ) (o : ℕ) (j : Value) (n : ℕ) (asked : AskedDerivation) (random : List ℕ) : Type 0 where
-  pub opened : IsOpened memory v o j n
+pub record IsReady (allowed : Allowed) (v : List ℕ) (o : ℕ) (j : Value) (n : ℕ) (asked : AskedDerivation) (random : List ℕ) : Type 0 where
+  pub opened : IsOpened allowed v o j n
   pub turns : asked_few_turns asked ≡ false
-  pub within : asked_beyond memory asked ≡ false
+  pub within : asked_beyond allowed.memory asked ≡ false
   pub ranged : FitsAsked asked
   pub small : length v < 2 ^ 64
   pub random_bytes : IsBytes random
@@ -115,8 +116,8 @@ pub record IsReady (memory : ℕ) (v : List ℕ) (o : ℕ) (j : Value) (n : ℕ)
 above : {g h : ℕ} → g ≡ h → 16384 ≤ g → 4096 ≤ h
 above same least = omega (arith, same, least)
 
-module _ (memory : ℕ) (v : List ℕ) (o h : ℕ) (payload : Data) (random : List ℕ) (j k : Value) (before : HasCopy v o h j)
-    (layout : IsLayout h (length v) payload j) (n : ℕ) (asked : AskedDerivation) (ready : IsReady memory v o j n asked random) where
+module _ (allowed : Allowed) (v : List ℕ) (o h : ℕ) (payload : Data) (random : List ℕ) (j k : Value) (before : HasCopy v o h j)
+    (layout : IsLayout h (length v) payload j) (n : ℕ) (asked : AskedDerivation) (ready : IsReady allowed v o j n asked random) where
   head_size : 4096 ≤ h
   head_size =
       let least : 16384 ≤ hdr_size (header_at v o) = listed_at_least (hdr_size (header_at v o)) (copy_sound v o before.copies before.chosen).form.listed in
@@ -125,7 +126,7 @@ module _ (memory : ℕ) (v : List ℕ) (o h : ℕ) (payload : Data) (random : Li
 
   seals : (area : Area) → IsNewArea h (length v) payload j n area → CanSeal (h - 4096) j n (members_of asked (keyslot_salt random) area)
   seals area place =
-      can_seal h (length v) payload j n area place asked (keyslot_salt random) head_size (opened_there memory v o j n ready.opened) (unrefused_positive memory asked.iterations asked.chosen ready.turns ready.within)
+      can_seal h (length v) payload j n area place asked (keyslot_salt random) head_size (opened_there allowed v o j n ready.opened) (unrefused_positive allowed.memory asked.iterations asked.chosen ready.turns ready.within)
       (salt_length random (need_met j n random place.key_bytes place.stripes place.slot ready.met))
 
   -- the new salt is long enough for Argon2
@@ -201,8 +202,8 @@ module _ (memory : ℕ) (v : List ℕ) (o h : ℕ) (payload : Data) (random : Li
 
 -- the keyslot that the edit opens was opened
 abbrev pub WasOpened : List ℕ → Edit → Type 0
-WasOpened v (Add by_ old new to iterations d) = (key : List ℕ) × AnswerWithin (memory_for old new.now) v by_ old.bytes.now (opens key)
-WasOpened v (Change slot old new iterations d) = (key : List ℕ) × AnswerWithin (memory_for old new.now) v slot old.bytes.now (opens key)
+WasOpened v (Add by_ old new to iterations d) = (key : List ℕ) × AnswerWithin (allowed_for old new.now) v by_ old.bytes.now (opens key)
+WasOpened v (Change slot old new iterations d) = (key : List ℕ) × AnswerWithin (allowed_for old new.now) v slot old.bytes.now (opens key)
 WasOpened v (Remove slot by_ passphrase) = Unit {0}
 WasOpened v Repair = Unit {0}
 WasOpened v (Label text) = Unit {0}
@@ -220,8 +221,8 @@ pub edited_metadata : (v : List ℕ) (o : ℕ) (payload : Data) (e : Edit) (rand
     → IsLayout (hdr_size (header_at v o)) (length v) payload j
     → KeepsMetadata (hdr_size (header_at v o)) (length v) payload (NamedKeyslots2 v e) j k
 edited_metadata v o payload (Add by_ old new to iterations d) random j k m before ranges free sealed is layout =
-    let ready : IsReady (memory_for old new.now) v o j by_ (asking iterations d) random = record {
-      opened = opened_plan (memory_for old new.now) v o j by_ old.bytes.now sealed.0 m sealed.1;
+    let ready : IsReady (allowed_for old new.now) v o j by_ (asking iterations d) random = record {
+      opened = opened_plan (allowed_for old new.now) v o j by_ old.bytes.now sealed.0 m sealed.1;
       turns = false_from_ne_true _ (λ few. free.none Iterations few);
       within = false_from_ne_true _ (λ beyond. free.none Argon2 beyond);
       ranged = ranges.derivation;
@@ -229,13 +230,13 @@ edited_metadata v o payload (Add by_ old new to iterations d) random j k m befor
       random_bytes = ranges.random_bytes;
       met = λ need like other. free.none RandomLength (record { place = o; value = j; metadata = m; is = record { need = need; is = like; other = other } });
     } in
-    added_metadata (memory_for old new.now) v o (hdr_size (header_at v o)) payload random j k before layout by_ (asking iterations d) ready (λ n. IsMadeIn v to n) to
+    added_metadata (allowed_for old new.now) v o (hdr_size (header_at v o)) payload random j k before layout by_ (asking iterations d) ready (λ n. IsMadeIn v to n) to
     (λ taken. free.none SlotTaken (record { place = o; value = j; metadata = m; is = taken }))
     (λ none. free.none NoFreeSlot (record { place = o; value = j; metadata = m; is = none }))
     is (record { place = o; value = j; metadata = m; is_new = is.is_new })
 edited_metadata v o payload (Change slot old new iterations d) random j k m before ranges free sealed is layout =
-    let ready : IsReady (memory_for old new.now) v o j slot (asking iterations d) random = record {
-      opened = opened_plan (memory_for old new.now) v o j slot old.bytes.now sealed.0 m sealed.1;
+    let ready : IsReady (allowed_for old new.now) v o j slot (asking iterations d) random = record {
+      opened = opened_plan (allowed_for old new.now) v o j slot old.bytes.now sealed.0 m sealed.1;
       turns = false_from_ne_true _ (λ few. free.none Iterations few);
       within = false_from_ne_true _ (λ beyond. free.none Argon2 beyond);
       ranged = ranges.derivation;
@@ -243,7 +244,7 @@ edited_metadata v o payload (Change slot old new iterations d) random j k m befo
       random_bytes = ranges.random_bytes;
       met = λ need like other. free.none RandomLength (record { place = o; value = j; metadata = m; is = record { need = need; is = like; other = other } });
     } in
-    changed_metadata (memory_for old new.now) v o (hdr_size (header_at v o)) payload random j k before layout slot (asking iterations d) ready (λ n. n ≡ slot) is refl
+    changed_metadata (allowed_for old new.now) v o (hdr_size (header_at v o)) payload random j k before layout slot (asking iterations d) ready (λ n. n ≡ slot) is refl
 edited_metadata v o payload (Remove slot by_ passphrase) random j k m before ranges free sealed is layout =
     without_metadata (hdr_size (header_at v o)) (length v) payload (λ n. n ≡ slot) slot j k refl is layout
 edited_metadata v o payload Repair random j k m before ranges free sealed is layout =

@@ -5,7 +5,6 @@ use Rattle.std.specs.Prelude.{◌==◌, ◌&&◌, ◌||◌, if◌then◌else◌,
 use Rattle.std.proofs.lemmas.Bool.{and_parts}
 use Rattle.std.proofs.lemmas.Bool.Decides.{nat_tests}
 use Rattle.serde_json.specs.Data.{Data as Value}
-use Rattle.luks_kdf.specs.Names.{hash_named}
 use Rattle.luks_rules.specs.declared.table.Member.TheVariants as name
 use Rattle.luks_rules.specs.declared.table.Outer.TheVariants as outer
 use Rattle.luks_rules.specs.Faults.{member_at, type_at}
@@ -16,6 +15,7 @@ use Rattle.luks_making.specs.declared.derivation.NewDerivation.{NewDerivation}
 use Rattle.luks_making.specs.declared.derivation.NewDerivation.TheVariants as by
 use Rattle.luks_making.specs.Keyslots.{by_argon2i, by_argon2id, by_pbkdf2, derivation_by, Deriving, HasCosts, IsDerivedLike, IsDerivedOr, NewMembers}
 use Rattle.luks_making.specs.Unchanged.{KeepsDerivation, SaysArgon2, SaysAsked, SaysDerivation}
+use Rattle.luks_slot.specs.declared.allowed.Allowed.{Allowed}
 use Rattle.luks_slot.specs.declared.plan.Argon2Kind.{Argon2Kind}
 use Rattle.luks_slot.specs.declared.plan.Argon2Kind.TheVariants.{I, Id}
 use Rattle.luks_slot.specs.declared.plan.AreaCipher.{AreaCipher}
@@ -24,7 +24,7 @@ use Rattle.luks_slot.specs.declared.plan.Derivation.{Derivation}
 use Rattle.luks_slot.specs.declared.plan.Derivation.TheVariants.{Pbkdf2, Argon2}
 use Rattle.luks_slot.specs.declared.plan.SlotPlan.{SlotPlan}
 use Rattle.luks_slot.specs.declared.fault.SlotFault.TheVariants as refusal
-use Rattle.luks_slot.specs.Refusal.{are_known_hashes, is_argon2_refused, is_known_derivation, is_open_cipher, slot_refusal_within}
+use Rattle.luks_slot.specs.Refusal.{are_known_hashes, is_allowed_cipher, is_argon2_refused, is_key_size, is_known_derivation, is_known_hash, slot_refusal_within}
 use Rattle.luks_reading.specs.Plans.{kind_text, IsLuks2Cipher, IsLuks2Derivation, IsLuks2Plan}
 use Rattle.luks2_edit_laws.proofs.MetadataFacts.{some_same}
 use Rattle.luks2_edit_laws.proofs.SealFacts.{allowed_derivation}
@@ -37,16 +37,16 @@ IsDerivedAlike (Pbkdf2 h i s) (Argon2 d) = ⊥
 IsDerivedAlike (Argon2 c) (Pbkdf2 g k t) = ⊥
 IsDerivedAlike (Argon2 c) (Argon2 d) = (c.memory ≡ d.memory) × (c.cpus ≡ d.cpus) × (8 ≤ length d.salt.now)
 
--- the derivation `b` isn't refused where `a` isn't, beside a splitter of this hash, and so many KiB of
--- memory are allowed
-pub record OpensAlike (memory : ℕ) (splitter : List ℕ) (a b : Derivation) : Type 0 where
-  pub argon2 : is_argon2_refused memory a ≡ false → is_argon2_refused memory b ≡ false
-  pub known : is_some (hash_named splitter) ≡ true → is_known_derivation a ≡ true → is_known_derivation b ≡ true
+-- the derivation `b` isn't refused where `a` isn't, beside a splitter of this hash, where so much is
+-- allowed
+pub record OpensAlike (allowed : Allowed) (splitter : List ℕ) (a b : Derivation) : Type 0 where
+  pub argon2 : is_argon2_refused allowed.memory a ≡ false → is_argon2_refused allowed.memory b ≡ false
+  pub known : is_known_hash allowed.older splitter ≡ true → is_known_derivation allowed.older a ≡ true → is_known_derivation allowed.older b ≡ true
 
 -- the keyslot `new` says of its opening what the keyslot `old` says, but for how it derives
-pub record SaysLike (memory : ℕ) (old new : Value) : Type 0 where
+pub record SaysLike (allowed : Allowed) (old new : Value) : Type 0 where
   pub derived : (a b : Derivation) (hash : List ℕ) → IsLuks2Derivation old a → IsLuks2Derivation new b → text_of (member_at old outer.Af name.Hash) ≡ Some hash
-      → OpensAlike memory hash a b
+      → OpensAlike allowed hash a b
   pub encryption : text_of (member_at new outer.Area name.Encryption) ≡ text_of (member_at old outer.Area name.Encryption)
   pub area_key : number_in 1 128 (member_at new outer.Area name.KeySize) ≡ number_in 1 128 (member_at old outer.Area name.KeySize)
   pub splitter : text_of (member_at new outer.Af name.Hash) ≡ text_of (member_at old outer.Af name.Hash)
@@ -93,21 +93,21 @@ same_limits : (memory m c salt n k new : ℕ) → m ≡ n → c ≡ k → 8 ≤ 
     → (nat_lt memory n || nat_lt n (8 * k) || nat_lt k 1 || nat_lt (2 ^ 24 - 1) k || nat_lt new 8) ≡ false
 same_limits memory m c salt n k new one two long is = grind (arith, nat_tests)
 
-argon2_both : (memory : ℕ) (a b : Derivation) → IsDerivedAlike a b → is_argon2_refused memory a ≡ false → is_argon2_refused memory b ≡ false
-argon2_both memory (Pbkdf2 h i s) (Pbkdf2 g k t) alike off = refl
-argon2_both memory (Pbkdf2 h i s) (Argon2 d) alike off = absurd alike
-argon2_both memory (Argon2 c) (Pbkdf2 g k t) alike off = absurd alike
-argon2_both memory (Argon2 c) (Argon2 d) alike off = same_limits memory c.memory c.cpus (length c.salt.now) d.memory d.cpus (length d.salt.now) alike.0 alike.1 alike.2 off
+argon2_both : (allowed : Allowed) (a b : Derivation) → IsDerivedAlike a b → is_argon2_refused allowed.memory a ≡ false → is_argon2_refused allowed.memory b ≡ false
+argon2_both allowed (Pbkdf2 h i s) (Pbkdf2 g k t) alike off = refl
+argon2_both allowed (Pbkdf2 h i s) (Argon2 d) alike off = absurd alike
+argon2_both allowed (Argon2 c) (Pbkdf2 g k t) alike off = absurd alike
+argon2_both allowed (Argon2 c) (Argon2 d) alike off = same_limits allowed.memory c.memory c.cpus (length c.salt.now) d.memory d.cpus (length d.salt.now) alike.0 alike.1 alike.2 off
 
-known_both : (a b : Derivation) → IsDerivedAlike a b → is_known_derivation a ≡ is_known_derivation b
-known_both (Pbkdf2 h i s) (Pbkdf2 g k t) alike = ap (λ name. is_some (hash_named name)) alike
-known_both (Pbkdf2 h i s) (Argon2 d) alike = absurd alike
-known_both (Argon2 c) (Pbkdf2 g k t) alike = absurd alike
-known_both (Argon2 c) (Argon2 d) alike = refl
+known_both : (older : Bool) (a b : Derivation) → IsDerivedAlike a b → is_known_derivation older a ≡ is_known_derivation older b
+known_both older (Pbkdf2 h i s) (Pbkdf2 g k t) alike = ap (λ name. is_known_hash older name) alike
+known_both older (Pbkdf2 h i s) (Argon2 d) alike = absurd alike
+known_both older (Argon2 c) (Pbkdf2 g k t) alike = absurd alike
+known_both older (Argon2 c) (Argon2 d) alike = refl
 
 -- what is derived alike opens alike
-alike_opens : (memory : ℕ) (splitter : List ℕ) (a b : Derivation) → IsDerivedAlike a b → OpensAlike memory splitter a b
-alike_opens memory splitter a b alike = record { argon2 = argon2_both memory a b alike; known = λ other known. sym (known_both a b alike) ∙ known }
+alike_opens : (allowed : Allowed) (splitter : List ℕ) (a b : Derivation) → IsDerivedAlike a b → OpensAlike allowed splitter a b
+alike_opens allowed splitter a b alike = record { argon2 = argon2_both allowed a b alike; known = λ other known. sym (known_both allowed.older a b alike) ∙ known }
 
 -- limits that a chosen Argon2 keeps it keeps by a salt that is long enough
 chosen_limits : (memory m c salt n k : ℕ) → m ≡ n → c ≡ k → 8 ≤ salt → (nat_lt memory m || nat_lt m (8 * c) || nat_lt c 1 || nat_lt (2 ^ 24 - 1) c) ≡ false
@@ -115,59 +115,60 @@ chosen_limits : (memory m c salt n k : ℕ) → m ≡ n → c ≡ k → 8 ≤ sa
 chosen_limits memory m c salt n k one two long is = grind (arith, nat_tests)
 
 -- a keyslot that derives as is chosen, within the memory that is allowed, opens
-module _ (memory : ℕ) (hash salt : List ℕ) (f : Value) (said : bytes_in 1 128 (member_at f outer.Kdf name.Salt) ≡ Some salt) (long : 8 ≤ length salt) where
-  costs_open : (k : Argon2Kind) (costs : Argon2Costs) (a b : Derivation) → costs_beyond memory costs ≡ false → SaysArgon2 (kind_text k) costs f → IsLuks2Derivation f b → OpensAlike memory hash a b
+module _ (allowed : Allowed) (hash salt : List ℕ) (f : Value) (said : bytes_in 1 128 (member_at f outer.Kdf name.Salt) ≡ Some salt) (long : 8 ≤ length salt) where
+  costs_open : (k : Argon2Kind) (costs : Argon2Costs) (a b : Derivation) → costs_beyond allowed.memory costs ≡ false → SaysArgon2 (kind_text k) costs f → IsLuks2Derivation f b → OpensAlike allowed hash a b
   costs_open k costs a (Pbkdf2 g l t) within says y = absurd (other_kinds k (sym says.kind ∙ y.0))
   costs_open k costs a (Argon2 e) within says y = record {
     argon2 = λ off.
-        chosen_limits memory costs.memory costs.cpus (length e.salt.now) e.memory e.cpus (some_same costs.memory e.memory (sym says.memory ∙ y.2)) (some_same costs.cpus e.cpus (sym says.cpus ∙ y.3))
+        chosen_limits allowed.memory costs.memory costs.cpus (length e.salt.now) e.memory e.cpus (some_same costs.memory e.memory (sym says.memory ∙ y.2)) (some_same costs.cpus e.cpus (sym says.cpus ∙ y.3))
         (subst (λ s. 8 ≤ length s) (some_same salt e.salt.now (sym said ∙ y.4)) long) within;
     known = λ other known. refl;
   }
 
-  pub chosen_opens : (c : NewDerivation) (a b : Derivation) → beyond memory c ≡ false → SaysDerivation (derivation_by hash c) f → IsLuks2Derivation f b → OpensAlike memory hash a b
+  pub chosen_opens : (c : NewDerivation) (a b : Derivation) → beyond allowed.memory c ≡ false → SaysDerivation (derivation_by hash c) f → IsLuks2Derivation f b → OpensAlike allowed hash a b
   chosen_opens (by.Pbkdf2 iterations) a (Pbkdf2 g l t) within says y = record {
     argon2 = λ off. refl;
-    known = λ other known. subst (λ h. is_some (hash_named h) ≡ true) (some_same hash g.now (sym says.hash ∙ y.1)) other;
+    known = λ other known. subst (λ h. is_known_hash allowed.older h ≡ true) (some_same hash g.now (sym says.hash ∙ y.1)) other;
   }
   chosen_opens (by.Pbkdf2 iterations) a (Argon2 e) within says y = absurd (other_kinds e.kind (sym y.0 ∙ says.kind))
   chosen_opens (by.Argon2i costs) a b within says y = costs_open I costs a b within says y
   chosen_opens (by.Argon2id costs) a b within says y = costs_open Id costs a b within says y
 
 -- a keyslot that was made with the members of another, or derives as is chosen
-pub made_derived_or : (memory : ℕ) (d f : Value) (hash salt : List ℕ) → bytes_in 1 128 (member_at f outer.Kdf name.Salt) ≡ Some salt → 8 ≤ length salt → (n : ℕ) (chosen : Option NewDerivation)
-    (k : Deriving) (a b : Derivation) → chosen_beyond memory chosen ≡ false → IsDerivedOr d n hash chosen k → SaysDerivation k f → IsLuks2Derivation d a → IsLuks2Derivation f b
-    → OpensAlike memory hash a b
-made_derived_or memory d f hash salt said long n None k a b within is says x y = alike_opens memory hash a b (made_derived d f salt said long n k a b is says x y)
-made_derived_or memory d f hash salt said long n (Some c) k a b within is says x y =
-    chosen_opens memory hash salt f said long c a b within (subst (λ q. SaysDerivation q f) is says) y
+pub made_derived_or : (allowed : Allowed) (d f : Value) (hash salt : List ℕ) → bytes_in 1 128 (member_at f outer.Kdf name.Salt) ≡ Some salt → 8 ≤ length salt → (n : ℕ) (chosen : Option NewDerivation)
+    (k : Deriving) (a b : Derivation) → chosen_beyond allowed.memory chosen ≡ false → IsDerivedOr d n hash chosen k → SaysDerivation k f → IsLuks2Derivation d a → IsLuks2Derivation f b
+    → OpensAlike allowed hash a b
+made_derived_or allowed d f hash salt said long n None k a b within is says x y = alike_opens allowed hash a b (made_derived d f salt said long n k a b is says x y)
+made_derived_or allowed d f hash salt said long n (Some c) k a b within is says x y =
+    chosen_opens allowed hash salt f said long c a b within (subst (λ q. SaysDerivation q f) is says) y
 
 -- and one that was sealed again, whose splitter has the hash
-pub changed_derived_or : (memory : ℕ) (f : NewMembers) (was now : Value) (hash : List ℕ) → bytes_in 1 128 (member_at now outer.Kdf name.Salt) ≡ Some f.salt → 8 ≤ length f.salt
-    → text_of (member_at now outer.Af name.Hash) ≡ Some hash → (chosen : Option NewDerivation) (a b : Derivation) → chosen_beyond memory chosen ≡ false → SaysAsked f chosen was now
-    → IsLuks2Derivation was a → IsLuks2Derivation now b → OpensAlike memory hash a b
-changed_derived_or memory f was now hash said long splitter None a b within says x y = alike_opens memory hash a b (kept_derived f.derivation.iterations f.salt was now a b says said long x y)
-changed_derived_or memory f was now hash said long splitter (Some c) a b within says x y =
+pub changed_derived_or : (allowed : Allowed) (f : NewMembers) (was now : Value) (hash : List ℕ) → bytes_in 1 128 (member_at now outer.Kdf name.Salt) ≡ Some f.salt → 8 ≤ length f.salt
+    → text_of (member_at now outer.Af name.Hash) ≡ Some hash → (chosen : Option NewDerivation) (a b : Derivation) → chosen_beyond allowed.memory chosen ≡ false → SaysAsked f chosen was now
+    → IsLuks2Derivation was a → IsLuks2Derivation now b → OpensAlike allowed hash a b
+changed_derived_or allowed f was now hash said long splitter None a b within says x y = alike_opens allowed hash a b (kept_derived f.derivation.iterations f.salt was now a b says said long x y)
+changed_derived_or allowed f was now hash said long splitter (Some c) a b within says x y =
     let own : says.hash ≡ hash = some_same says.hash hash (sym says.splitter ∙ splitter) in
-    chosen_opens memory hash f.salt now said long c a b within (subst (λ h. SaysDerivation (derivation_by h c) now) own says.derivation) y
+    chosen_opens allowed hash f.salt now said long c a b within (subst (λ h. SaysDerivation (derivation_by h c) now) own says.derivation) y
 
-cipher_both : (d f : Value) (a b : AreaCipher) → text_of (member_at f outer.Area name.Encryption) ≡ text_of (member_at d outer.Area name.Encryption)
-    → IsLuks2Cipher d a → IsLuks2Cipher f b → is_open_cipher a ≡ is_open_cipher b
-cipher_both d f (Apart n m) b same x y = absurd x
-cipher_both d f (Whole t) (Apart n m) same x y = absurd y
-cipher_both d f (Whole t) (Whole u) same x y = let text : t.now ≡ u.now = some_same t.now u.now (sym x ∙ sym same ∙ y) in simp text
+-- and the cipher of an area that is said alike is allowed alike, for keys of one length
+cipher_both : (older : Bool) (n m : ℕ) (d f : Value) (a b : AreaCipher) → n ≡ m → text_of (member_at f outer.Area name.Encryption) ≡ text_of (member_at d outer.Area name.Encryption)
+    → IsLuks2Cipher d a → IsLuks2Cipher f b → (is_allowed_cipher older a ≡ is_allowed_cipher older b) × (is_key_size a n ≡ is_key_size b m)
+cipher_both older n m d f (Apart c e) b size same x y = absurd x
+cipher_both older n m d f (Whole t) (Apart c e) size same x y = absurd y
+cipher_both older n m d f (Whole t) (Whole u) size same x y = let text : t.now ≡ u.now = some_same t.now u.now (sym x ∙ sym same ∙ y) in (simp text, simp (text, size))
 
 -- what decides whether two plans are refused is the same
-record SameTerms (memory : ℕ) (a b : SlotPlan) : Type 0 where
-  argon2 : is_argon2_refused memory a.derivation ≡ is_argon2_refused memory b.derivation
-  known : is_known_derivation a.derivation ≡ is_known_derivation b.derivation
-  cipher : is_open_cipher a.cipher ≡ is_open_cipher b.cipher
-  area_key_bytes : a.area_key_bytes ≡ b.area_key_bytes
+record SameTerms (allowed : Allowed) (a b : SlotPlan) : Type 0 where
+  argon2 : is_argon2_refused allowed.memory a.derivation ≡ is_argon2_refused allowed.memory b.derivation
+  known : is_known_derivation allowed.older a.derivation ≡ is_known_derivation allowed.older b.derivation
+  cipher : is_allowed_cipher allowed.older a.cipher ≡ is_allowed_cipher allowed.older b.cipher
+  size : is_key_size a.cipher a.area_key_bytes ≡ is_key_size b.cipher b.area_key_bytes
   splitter_hash : a.splitter_hash.now ≡ b.splitter_hash.now
   digest_hash : a.digest.hash.now ≡ b.digest.hash.now
 
-same_refusal : (memory : ℕ) (a b : SlotPlan) → SameTerms memory a b → slot_refusal_within memory a ≡ slot_refusal_within memory b
-same_refusal memory a b s = simp (s.argon2, s.known, s.cipher, s.area_key_bytes, s.splitter_hash, s.digest_hash)
+same_refusal : (allowed : Allowed) (a b : SlotPlan) → SameTerms allowed a b → slot_refusal_within allowed a ≡ slot_refusal_within allowed b
+same_refusal allowed a b s = simp (s.argon2, s.known, s.cipher, s.size, s.splitter_hash, s.digest_hash)
 
 -- where a plan isn't refused, its hashes are known
 open_hashes : (test cipher known size : Bool)
@@ -178,20 +179,22 @@ open_hashes false false known size is = absurd cc
 open_hashes false true false size is = absurd cc
 open_hashes false true true size is = refl
 
-pub alike_refusal : {j k d f : Value} {m n : ℕ} (memory : ℕ) (a b : SlotPlan) → SaysLike memory d f → slot_refusal_within memory a ≡ None → IsLuks2Plan j m d a → IsLuks2Plan k n f b
-    → a.digest.hash.now ≡ b.digest.hash.now → slot_refusal_within memory a ≡ slot_refusal_within memory b
-alike_refusal {j} {k} {d} {f} {m} {n} memory a b like open_ x y hash =
-    let off : is_argon2_refused memory a.derivation ≡ false = allowed_derivation memory a open_ (is_argon2_refused memory a.derivation) refl in
-    let hashes : are_known_hashes a ≡ true =
-    open_hashes (is_argon2_refused memory a.derivation) (is_open_cipher a.cipher) (are_known_hashes a) (a.area_key_bytes == 32 || a.area_key_bytes == 64) open_ in
-    let both = and_parts (is_known_derivation a.derivation && is_some (hash_named a.splitter_hash.now)) (is_some (hash_named a.digest.hash.now)) hashes in
-    let own = and_parts (is_known_derivation a.derivation) (is_some (hash_named a.splitter_hash.now)) both.0 in
+pub alike_refusal : {j k d f : Value} {m n : ℕ} (allowed : Allowed) (a b : SlotPlan) → SaysLike allowed d f → slot_refusal_within allowed a ≡ None → IsLuks2Plan j m d a → IsLuks2Plan k n f b
+    → a.digest.hash.now ≡ b.digest.hash.now → slot_refusal_within allowed a ≡ slot_refusal_within allowed b
+alike_refusal {j} {k} {d} {f} {m} {n} allowed a b like open_ x y hash =
+    let off : is_argon2_refused allowed.memory a.derivation ≡ false = allowed_derivation allowed a open_ (is_argon2_refused allowed.memory a.derivation) refl in
+    let hashes : are_known_hashes allowed.older a ≡ true =
+    open_hashes (is_argon2_refused allowed.memory a.derivation) (is_allowed_cipher allowed.older a.cipher) (are_known_hashes allowed.older a) (is_key_size a.cipher a.area_key_bytes) open_ in
+    let both = and_parts (is_known_derivation allowed.older a.derivation && is_known_hash allowed.older a.splitter_hash.now) (is_known_hash allowed.older a.digest.hash.now) hashes in
+    let own = and_parts (is_known_derivation allowed.older a.derivation) (is_known_hash allowed.older a.splitter_hash.now) both.0 in
     let alike = like.derived a.derivation b.derivation a.splitter_hash.now x.derivation y.derivation x.splitter_hash in
-    same_refusal memory a b (record {
+    let size : a.area_key_bytes ≡ b.area_key_bytes = some_same a.area_key_bytes b.area_key_bytes (sym x.area_key_bytes ∙ sym like.area_key ∙ y.area_key_bytes) in
+    let cipher = cipher_both allowed.older a.area_key_bytes b.area_key_bytes d f a.cipher b.cipher size like.encryption x.cipher y.cipher in
+    same_refusal allowed a b (record {
       argon2 = off ∙ sym (alike.argon2 off);
       known = own.0 ∙ sym (alike.known own.1 own.0);
-      cipher = cipher_both d f a.cipher b.cipher like.encryption x.cipher y.cipher;
-      area_key_bytes = some_same a.area_key_bytes b.area_key_bytes (sym x.area_key_bytes ∙ sym like.area_key ∙ y.area_key_bytes);
+      cipher = cipher.0;
+      size = cipher.1;
       splitter_hash = some_same a.splitter_hash.now b.splitter_hash.now (sym x.splitter_hash ∙ sym like.splitter ∙ y.splitter_hash);
       digest_hash = hash;
     })

@@ -16,7 +16,7 @@ use Rattle.luks_reading.specs.Checked.{WellFormed}
 use Rattle.luks_edit.specs.declared.deed.Place.TheVariants.{New, Opened}
 use Rattle.luks_edit.specs.declared.edit.Edit.{Edit}
 use Rattle.luks_edit.specs.declared.edit.Edit.TheVariants.{Add, Change, Remove, Repair, Label}
-use Rattle.luks_edit.specs.Asked.{memory_for}
+use Rattle.luks_edit.specs.Asked.{allowed_for}
 use Rattle.luks_edit.specs.declared.edit_fault.EditFault.TheVariants.{Argon2, Iterations, NoFreeSlot, RandomLength, SlotTaken}
 use Rattle.luks2_edit_laws.specs.Derived.{DerivesAs, IsDerivedBy}
 use Rattle.luks2_edit_laws.specs.Edited.{keyslot_salt, members_of, After2, HasRanges}
@@ -54,8 +54,8 @@ module _ (v : List ℕ) (payload : Data) (random w : List ℕ) (well : WellForme
       let e : Edit = Add by_ old new to iterations d in
       let first = before v payload e random w well ranges free a in
       let whole = layout v payload e random w well ranges free a in
-      let ready : IsReady (memory_for old new.now) v a.place a.value by_ (asking iterations d) random = record {
-        opened = opened_plan (memory_for old new.now) v a.place a.value by_ old.bytes.now a.sealed.key a.metadata a.sealed.opened;
+      let ready : IsReady (allowed_for old new.now) v a.place a.value by_ (asking iterations d) random = record {
+        opened = opened_plan (allowed_for old new.now) v a.place a.value by_ old.bytes.now a.sealed.key a.metadata a.sealed.opened;
         turns = false_from_ne_true _ (λ few. free.none Iterations few);
         within = false_from_ne_true _ (λ beyond. free.none Argon2 beyond);
         ranged = ranges.derivation;
@@ -65,8 +65,8 @@ module _ (v : List ℕ) (payload : Data) (random w : List ℕ) (well : WellForme
       } in
       let taken = λ (x : IsNumberTaken a.value to). free.none SlotTaken (record { place = a.place; value = a.value; metadata = a.metadata; is = x }) in
       let none = λ (x : HasNoNumber a.value to). free.none NoFreeSlot (record { place = a.place; value = a.value; metadata = a.metadata; is = x }) in
-      let gains = added_gains (memory_for old new.now) v a.place (hdr_size (header_at v a.place)) payload random a.value a.new first whole by_ (asking iterations d) ready to taken none a.edited in
-      let says = added_says (memory_for old new.now) v a.place (hdr_size (header_at v a.place)) payload random a.value a.new first whole by_ (asking iterations d) ready to taken none a.edited in
+      let gains = added_gains (allowed_for old new.now) v a.place (hdr_size (header_at v a.place)) payload random a.value a.new first whole by_ (asking iterations d) ready to taken none a.edited in
+      let says = added_says (allowed_for old new.now) v a.place (hdr_size (header_at v a.place)) payload random a.value a.new first whole by_ (asking iterations d) ready to taken none a.edited in
       let value : is.value ≡ a.value = one_metadata v a.place is.place a.metadata.copies is.metadata.copies a.value is.value
       a.metadata.chosen a.metadata.holds is.metadata.chosen is.metadata.holds in
       let here : IsNewKeyslot a.value to n = subst (λ j. IsNewKeyslot j to n) value is.is_new in
@@ -80,8 +80,8 @@ module _ (v : List ℕ) (payload : Data) (random w : List ℕ) (well : WellForme
       let e : Edit = Change slot old new iterations d in
       let first = before v payload e random w well ranges free a in
       let whole = layout v payload e random w well ranges free a in
-      let ready : IsReady (memory_for old new.now) v a.place a.value slot (asking iterations d) random = record {
-        opened = opened_plan (memory_for old new.now) v a.place a.value slot old.bytes.now a.sealed.key a.metadata a.sealed.opened;
+      let ready : IsReady (allowed_for old new.now) v a.place a.value slot (asking iterations d) random = record {
+        opened = opened_plan (allowed_for old new.now) v a.place a.value slot old.bytes.now a.sealed.key a.metadata a.sealed.opened;
         turns = false_from_ne_true _ (λ few. free.none Iterations few);
         within = false_from_ne_true _ (λ beyond. free.none Argon2 beyond);
         ranged = ranges.derivation;
@@ -89,7 +89,7 @@ module _ (v : List ℕ) (payload : Data) (random w : List ℕ) (well : WellForme
         random_bytes = ranges.random_bytes;
         met = λ need like other. free.none RandomLength (record { place = a.place; value = a.value; metadata = a.metadata; is = record { need = need; is = like; other = other } });
       } in
-      let c = changed_changes (memory_for old new.now) v a.place (hdr_size (header_at v a.place)) payload random a.value a.new first whole slot (asking iterations d) ready a.edited in
+      let c = changed_changes (allowed_for old new.now) v a.place (hdr_size (header_at v a.place)) payload random a.value a.new first whole slot (asking iterations d) ready a.edited in
       let f : NewMembers = members_of (asking iterations d) (keyslot_salt random) a.edited.area in
       let object : renewed_slot f c.was ≡ o = some_same (renewed_slot f c.was) o (sym c.is ∙ ap (object_at a.new Keyslots) (sym is) ∙ there.is) in
       let opener : c.was ≡ from = some_same c.was from (sym c.there.is ∙ was.is) in

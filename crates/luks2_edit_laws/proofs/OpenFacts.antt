@@ -3,7 +3,7 @@ use Rattle.std.proofs.Common.{◌≡◌, ℕ, ◌+◌, ◌<◌, ◌≤◌, List,
 use Rattle.std.specs.Prelude.{if◌then◌else◌}
 use Rattle.serde_json.specs.Data.{Data as Value}
 use Rattle.luks_area.specs.declared.area.AreaName.TheVariants as area
-use Rattle.luks_kdf.specs.Names.{digest_size_of, each_at_least, hash_of, length-digest}
+use Rattle.luks_kdf.specs.KeyslotNames.{each_keyslot_at_least, keyslot_digest, keyslot_digest_size, length-keyslot_digest}
 use Rattle.luks_kdf.proofs.SplitterFacts.{merge-split}
 use Rattle.luks_head.specs.Header2.{header_at, uuid_field}
 use Rattle.luks_head.specs.Selection.{luks2}
@@ -14,6 +14,7 @@ use Rattle.luks_rules.specs.Faults.{member_at, object_at}
 use Rattle.luks_rules.specs.Reading.{bytes_in, number_in, text_of}
 use Rattle.luks_rules.proofs.AreaFaults.{one_value}
 use Rattle.luks_making.specs.Naming.{IsDigestOf}
+use Rattle.luks_slot.specs.declared.allowed.Allowed.{Allowed}
 use Rattle.luks_slot.specs.declared.plan.DigestPlan.{DigestPlan}
 use Rattle.luks_slot.specs.declared.plan.SlotPlan.{SlotPlan}
 use Rattle.luks_slot.specs.Opening.{area_bytes, hash_by_name, meets_digest, slot_key}
@@ -60,9 +61,9 @@ same_meeting a b key s = simp (s.hash, s.iterations, s.salt, s.stored)
 -- ---- the answer
 
 module _
-    (memory : ℕ) (v w : List ℕ) (payload : Data) (o p h : ℕ) (j k : Value) (opener n : ℕ) (new key random : List ℕ)
-    (x : IsOpened memory v o j opener) (meets : meets_digest x.plan.digest key ≡ true) (after : HasCopy w p h k) (layout : IsLayout h (length w) payload k)
-    (y : HoldsKey w k n new key random) (like : SaysLike memory x.object y.object)
+    (allowed : Allowed) (v w : List ℕ) (payload : Data) (o p h : ℕ) (j k : Value) (opener n : ℕ) (new key random : List ℕ)
+    (x : IsOpened allowed v o j opener) (meets : meets_digest x.plan.digest key ≡ true) (after : HasCopy w p h k) (layout : IsLayout h (length w) payload k)
+    (y : HoldsKey w k n new key random) (like : SaysLike allowed x.object y.object)
     (one : (m l : ℕ) → IsDigestOf k n m → IsDigestOf k n l → m ≡ l) (digest : IsLuks2Digest k n x.plan.digest)
   where
     plan_is : (plan : SlotPlan) → HasLuks2Plan (json_at w p) n plan → IsLuks2Plan k n y.object plan
@@ -76,7 +77,7 @@ module _
     met_as : (plan : SlotPlan) → IsLuks2Plan k n y.object plan → SameDigest x.plan.digest plan.digest
     met_as plan is = one_plan k n x.plan.digest plan.digest one digest is.digest
 
-    unrefused : (f : OpenFault) → IsRefusalAsWithin memory w n (luks2 p after.copies) f → ⊥
+    unrefused : (f : OpenFault) → IsRefusalAsWithin allowed w n (luks2 p after.copies) f → ⊥
     unrefused (Head g) z = (uuid_faultless (uuid_field (header_at w p))).1 after.uuid g z
     unrefused (Meta g) z = copy_faultless w p h k after layout.held g z
     unrefused NoSuchSlot z =
@@ -92,19 +93,19 @@ module _
         absurd (omega (arith, inside, past))
     unrefused (Slot g) z =
         let is : IsLuks2Plan k n y.object z.plan = plan_is z.plan z.is in
-        let same : slot_refusal_within memory x.plan ≡ slot_refusal_within memory z.plan = alike_refusal memory x.plan z.plan like x.refused x.is is (met_as z.plan is).hash in
+        let same : slot_refusal_within allowed x.plan ≡ slot_refusal_within allowed z.plan = alike_refusal allowed x.plan z.plan like x.refused x.is is (met_as z.plan is).hash in
         absurd (let both : None ≡ Some g = sym x.refused ∙ same ∙ z.refused in cc)
     unrefused Device z = z
     unrefused Memory z = z
 
     -- the keyslot opens to the key
-    pub holds_opens : AnswerWithin memory w n new (opens key)
+    pub holds_opens : AnswerWithin allowed w n new (opens key)
     holds_opens =
         let met : meets_digest y.plan.digest key ≡ true = sym (same_meeting x.plan.digest y.plan.digest key (met_as y.plan y.is)) ∙ meets in
         let hash = hash_by_name y.plan.splitter_hash.now in
         let open_ : slot_key y.plan (area_bytes w y.plan.area) new ≡ (if meets_digest y.plan.digest key then Some key else None) =
         sealed_opens y.plan (area_bytes w y.plan.area) new key random (in_between 1 4294967295 y.plan.stripes (member_at y.object outer.Af name.Stripes) y.is.stripes).from y.key_length y.random_length
-        (merge-split (hash_of hash) (digest_size_of hash) (length-digest hash) (each_at_least 1 digest_size_of refl hash)) y.sealed in
+        (merge-split (keyslot_digest hash) (keyslot_digest_size hash) (length-keyslot_digest hash) (each_keyslot_at_least 1 keyslot_digest_size refl hash)) y.sealed in
         record {
           choice = luks2 p after.copies;
           chosen = after.chosen;

@@ -19,6 +19,7 @@ use Rattle.luks_rules.proofs.AreaFaults.{one_value}
 use Rattle.luks_making.specs.Conditions.{CanSeal, FitsNew, IsThere}
 use Rattle.luks_making.specs.Derivations.{FitsAsked, IsPositive}
 use Rattle.luks_making.specs.declared.derivation.AskedDerivation.{AskedDerivation}
+use Rattle.luks_slot.specs.declared.allowed.Allowed.{Allowed}
 use Rattle.luks_slot.specs.declared.fault.SlotFault.TheVariants.{Argon2}
 use Rattle.luks_slot.specs.declared.plan.SlotPlan.{SlotPlan}
 use Rattle.luks_slot.specs.Opening.{meets_digest}
@@ -55,19 +56,19 @@ salt_length random enough = let long : length (part random 128 32) ≡ min 32 (l
 -- ---- the keyslot that was opened
 
 -- the keyslot that a passphrase opened, by the metadata that count
-pub record IsOpened (memory : ℕ) (v : List ℕ) (o : ℕ) (j : Value) (n : ℕ) : Type 0 where
+pub record IsOpened (allowed : Allowed) (v : List ℕ) (o : ℕ) (j : Value) (n : ℕ) : Type 0 where
   pub numbered : n < 32
   pub plan : SlotPlan
   pub object : Value
   pub there : object_at j Keyslots n ≡ Some object
   pub is : IsLuks2Plan j n object plan
-  pub refused : slot_refusal_within memory plan ≡ None
+  pub refused : slot_refusal_within allowed plan ≡ None
 
 -- where a plan isn't refused, so isn't its derivation
-pub allowed_derivation : (memory : ℕ) (plan : SlotPlan) → slot_refusal_within memory plan ≡ None → (b : Bool) → is_argon2_refused memory plan.derivation ≡ b → b ≡ false
-allowed_derivation memory plan none false is = refl
-allowed_derivation memory plan none true is =
-    let some : slot_refusal_within memory plan ≡ Some Argon2 = ap (λ test. first_refusal test plan) is in
+pub allowed_derivation : (allowed : Allowed) (plan : SlotPlan) → slot_refusal_within allowed plan ≡ None → (b : Bool) → is_argon2_refused allowed.memory plan.derivation ≡ b → b ≡ false
+allowed_derivation allowed plan none false is = refl
+allowed_derivation allowed plan none true is =
+    let some : slot_refusal_within allowed plan ≡ Some Argon2 = ap (λ test. first_refusal test allowed.older plan) is in
     absurd (let both : Some Argon2 ≡ None = sym some ∙ none in cc)
 
 -- what is no value is none
@@ -76,8 +77,8 @@ none_of None h = refl
 none_of (Some a) h = absurd (h a refl)
 
 -- a keyslot that was opened has a plan that isn't refused
-pub opened_plan : (memory : ℕ) (v : List ℕ) (o : ℕ) (j : Value) (n : ℕ) (p key : List ℕ) → HasMetadata v o j → AnswerWithin memory v n p (opens key) → IsOpened memory v o j n
-opened_plan memory v o j n p key m a =
+pub opened_plan : (allowed : Allowed) (v : List ℕ) (o : ℕ) (j : Value) (n : ℕ) (p key : List ℕ) → HasMetadata v o j → AnswerWithin allowed v n p (opens key) → IsOpened allowed v o j n
+opened_plan allowed v o j n p key m a =
     let choice = choices_agree v a.choice (luks2 o m.copies) a.chosen m.chosen in
     let is : HasLuks2Plan (json_at v o) n a.plan = subst (λ c. HasPlanAs v n c a.plan) choice a.is in
     let same : is.value ≡ j = one_value (json_at v o) is.value j is.holds m.holds in
@@ -87,19 +88,19 @@ opened_plan memory v o j n p key m a =
       object = is.object;
       there = rw same at is.there;
       is = rw same at is.is;
-      refused = none_of (slot_refusal_within memory a.plan) (λ f refused.
-          a.unrefused (opening.Slot f) (subst (λ c. IsRefusalAsWithin memory v n c (opening.Slot f)) (sym choice) (record { plan = a.plan; is = is; refused = refused })));
+      refused = none_of (slot_refusal_within allowed a.plan) (λ f refused.
+          a.unrefused (opening.Slot f) (subst (λ c. IsRefusalAsWithin allowed v n c (opening.Slot f)) (sym choice) (record { plan = a.plan; is = is; refused = refused })));
     }
 
 -- its key meets the digest
-pub opened_meets : (memory : ℕ) (v : List ℕ) (o : ℕ) (j : Value) (n : ℕ) (p key : List ℕ) (m : HasMetadata v o j) (a : AnswerWithin memory v n p (opens key))
-    → meets_digest (opened_plan memory v o j n p key m a).plan.digest key ≡ true
+pub opened_meets : (allowed : Allowed) (v : List ℕ) (o : ℕ) (j : Value) (n : ℕ) (p key : List ℕ) (m : HasMetadata v o j) (a : AnswerWithin allowed v n p (opens key))
+    → meets_digest (opened_plan allowed v o j n p key m a).plan.digest key ≡ true
 unfolding opened_plan
-opened_meets memory v o j n p key m a = found_meets a.plan (part v a.plan.area.start a.plan.area.len) p key a.key
+opened_meets allowed v o j n p key m a = found_meets a.plan (part v a.plan.area.start a.plan.area.len) p key a.key
 
 -- it is there
-pub opened_there : (memory : ℕ) (v : List ℕ) (o : ℕ) (j : Value) (n : ℕ) → IsOpened memory v o j n → IsThere j n
-opened_there memory v o j n x = record {
+pub opened_there : (allowed : Allowed) (v : List ℕ) (o : ℕ) (j : Value) (n : ℕ) → IsOpened allowed v o j n → IsThere j n
+opened_there allowed v o j n x = record {
   object = x.object;
   there = record { numbered = refl; named = x.numbered; is = x.there };
 }

@@ -23,7 +23,7 @@ use Rattle.luks_reading.specs.Header.{json_at}
 use Rattle.luks_reading.proofs.VolumeLaws.{one_answer}
 use Rattle.luks_edit.specs.declared.edit.Edit.{Edit}
 use Rattle.luks_edit.specs.declared.edit.Edit.TheVariants.{Add, Change, Remove, Repair, Label}
-use Rattle.luks_edit.specs.Asked.{memory_for}
+use Rattle.luks_edit.specs.Asked.{allowed_for}
 use Rattle.luks_edit.specs.Kept.{Keeps}
 use Rattle.luks_edit.specs.declared.edit_fault.EditFault.TheVariants.{Argon2, Iterations, RandomLength}
 use Rattle.luks2_edit_laws.specs.Copies.{other_place, IsRenewed}
@@ -205,8 +205,8 @@ opens_written v payload (Change slot old new iterations d) random w well ranges 
     } in
     let now : IsLayout h (length w) payload a.new = subst (λ n. IsLayout h n payload a.new) (sym long)
     (edited_metadata v a.place payload e random a.value a.new a.metadata before ranges free (sealed.key, sealed.opened) a.edited layout).layout in
-    let ready : IsReady (memory_for old new.now) v a.place a.value slot (asking iterations d) random = record {
-      opened = opened_plan (memory_for old new.now) v a.place a.value slot old.bytes.now sealed.key a.metadata sealed.opened;
+    let ready : IsReady (allowed_for old new.now) v a.place a.value slot (asking iterations d) random = record {
+      opened = opened_plan (allowed_for old new.now) v a.place a.value slot old.bytes.now sealed.key a.metadata sealed.opened;
       turns = false_from_ne_true _ (λ few. free.none Iterations few);
       within = false_from_ne_true _ (λ beyond. free.none Argon2 beyond);
       ranged = ranges.derivation;
@@ -214,19 +214,19 @@ opens_written v payload (Change slot old new iterations d) random w well ranges 
       random_bytes = ranges.random_bytes;
       met = λ need like other. free.none RandomLength (record { place = a.place; value = a.value; metadata = a.metadata; is = record { need = need; is = like; other = other } });
     } in
-    let changes = changed_changes (memory_for old new.now) v a.place h payload random a.value a.new before layout slot (asking iterations d) ready a.edited in
+    let changes = changed_changes (allowed_for old new.now) v a.place h payload random a.value a.new before layout slot (asking iterations d) ready a.edited in
     let same : k ≡ a.new = changed_once h (length v) payload slot (asking iterations d) (keyslot_salt random) a.value k a.new edited a.edited in
     let there : HoldsKey w k slot new.now sealed.key (stripes_random random) =
     subst (λ n. HoldsKey w k n new.now sealed.key (stripes_random random)) sealed.is_made sealed.holds in
     let holds : HoldsKey w a.new slot new.now sealed.key (stripes_random random) = subst (λ i. HoldsKey w i slot new.now sealed.key (stripes_random random)) same there in
-    let opened : AnswerWithin (memory_for old new.now) w slot new.now (opens sealed.key) =
-    changed_opens (memory_for old new.now) v w payload a.place p h a.value a.new slot slot old.bytes.now new.now sealed.key (stripes_random random)
+    let opened : AnswerWithin (allowed_for old new.now) w slot new.now (opens sealed.key) =
+    changed_opens (allowed_for old new.now) v w payload a.place p h a.value a.new slot slot old.bytes.now new.now sealed.key (stripes_random random)
     a.metadata sealed.opened before layout after now holds
     (members_of (asking iterations d) (keyslot_salt random) a.edited.area) refl
-    (long_salt (memory_for old new.now) v a.place h payload random a.value a.new before layout slot (asking iterations d) ready a.edited.area a.edited.place) ready.within changes in
+    (long_salt (allowed_for old new.now) v a.place h payload random a.value a.new before layout slot (asking iterations d) ready a.edited.area a.edited.place) ready.within changes in
     λ key was.
-    (let key_same : sealed.key ≡ key = one_answer (memory_for old new.now) v slot old.bytes.now (opens sealed.key) (opens key) sealed.opened was in
-    inr (subst (λ x. AnswerWithin (memory_for old new.now) w slot new.now (opens x)) key_same opened))
+    (let key_same : sealed.key ≡ key = one_answer (allowed_for old new.now) v slot old.bytes.now (opens sealed.key) (opens key) sealed.opened was in
+    inr (subst (λ x. AnswerWithin (allowed_for old new.now) w slot new.now (opens x)) key_same opened))
 opens_written v payload (Remove slot by_ passphrase) random w well ranges free long j k p b chosen a edited sealed = tt
 opens_written v payload Repair random w well ranges free long j k p b chosen a edited sealed = tt
 opens_written v payload (Label text) random w well ranges free long j k p b chosen a edited sealed = tt
@@ -262,7 +262,7 @@ opens_before v payload (Change slot old new iterations d) random w well ranges o
     let kept : Keeps payload (λ n. ⊥) v w =
     kept_before v payload (Change slot old new iterations d) random w well ranges rest.length_same (λ n. ⊥) (Add slot old new None iterations d) (λ n lost. lost)
     o j m b chosen same all in
-    inl (((kept.slots slot (λ x. x)).answers (memory_for old new.now) old.bytes.now (opens key)).0 was))
+    inl (((kept.slots slot (λ x. x)).answers (allowed_for old new.now) old.bytes.now (opens key)).0 was))
 opens_before v payload (Remove slot by_ passphrase) random w well ranges o j m b chosen same rest = tt
 opens_before v payload Repair random w well ranges o j m b chosen same rest = tt
 opens_before v payload (Label text) random w well ranges o j m b chosen same rest = tt

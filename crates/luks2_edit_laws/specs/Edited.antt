@@ -13,6 +13,7 @@ use Rattle.luks_making.specs.declared.derivation.AskedDerivation.{AskedDerivatio
 use Rattle.luks_making.specs.Keyslots.{NewMembers}
 use Rattle.luks_making.specs.With.{IsAdded}
 use Rattle.luks_making.specs.Without.{without_slot}
+use Rattle.luks_slot.specs.declared.allowed.Allowed.{Allowed}
 use Rattle.luks_slot.specs.declared.plan.SlotPlan.{SlotPlan}
 use Rattle.luks_slot.specs.Opening.{area_bytes}
 use Rattle.luks_slot.specs.Sealing.{IsSealed}
@@ -21,7 +22,7 @@ use Rattle.luks_reading.specs.Answer.{AnswerWithin, opens}
 use Rattle.luks_reading.specs.Plans.{IsLuks2Plan}
 use Rattle.luks_edit.specs.declared.edit.Edit.{Edit}
 use Rattle.luks_edit.specs.declared.deed.Sealed.{Sealed}
-use Rattle.luks_edit.specs.Asked.{deed_of, lost_by, MatchDeed, MatchPlace, memory_for, sealed_by}
+use Rattle.luks_edit.specs.Asked.{deed_of, lost_by, MatchDeed, MatchPlace, allowed_for, sealed_by}
 use Rattle.luks2_edit_laws.specs.Copies.{IsWrittenAnew}
 use Rattle.luks2_edit_laws.specs.Metadata.{HasMetadata, IsKeyArea, IsNewKeyslot}
 use Rattle.luks2_edit_laws.specs.Places.{IsNewArea, IsTouched}
@@ -111,14 +112,14 @@ pub record HoldsKey (w : List ℕ) (j : Value) (n : ℕ) (passphrase key random 
   pub sealed : IsSealed plan (area_bytes w plan.area) passphrase key random
 
 -- a keyslot of the set `made` holds under `new`, by the metadata `j`, the key that `old` opens in the
--- keyslot `opener` of the volume `v`, where Argon2 may take so many KiB of memory
+-- keyslot `opener` of the volume `v`, where so much is allowed
 pub record HoldsOpened
-    (memory : ℕ) (v : List ℕ) (opener : ℕ) (old new : List ℕ) (made : ℕ → Type 0) (random w : List ℕ) (j : Value)
+    (allowed : Allowed) (v : List ℕ) (opener : ℕ) (old new : List ℕ) (made : ℕ → Type 0) (random w : List ℕ) (j : Value)
     : Type 0 where
   pub slot : ℕ
   pub is_made : made slot
   pub key : List ℕ
-  pub opened : AnswerWithin memory v opener old (opens key)
+  pub opened : AnswerWithin allowed v opener old (opens key)
   pub holds : HoldsKey w j slot new key (stripes_random random)
 
 -- the keyslot that a key is sealed in by the metadata `j`
@@ -128,7 +129,7 @@ IsSealedBeside j s n = MatchPlace s.place (λ to. IsNewKeyslot j to n) (n ≡ s.
 -- the keyslot that the edit makes of the metadata `j`, or seals again, holds the key that was opened
 abbrev pub IsSealedBy : List ℕ → Edit → List ℕ → Value → List ℕ → Value → Type 0
 IsSealedBy v e random j w k = IfSome (sealed_by e) (λ s.
-    HoldsOpened (memory_for s.opener.passphrase s.passphrase.now) v s.opener.slot s.opener.passphrase.bytes.now s.passphrase.now (IsSealedBeside j s) random w k)
+    HoldsOpened (allowed_for s.opener.passphrase s.passphrase.now) v s.opener.slot s.opener.passphrase.bytes.now s.passphrase.now (IsSealedBeside j s) random w k)
 
 -- the area that the keyslot `n` has by the metadata `j` is zeros
 abbrev pub IsWiped : Value → ℕ → List ℕ → Type 0
@@ -158,11 +159,11 @@ pub record After2 (v : List ℕ) (payload : Data) (e : Edit) (random w : List �
 -- ---- what opens after an edit
 
 -- a keyslot that the edit made or sealed again opens by its new passphrase to the key that the old one
--- opened, where Argon2 may take the same memory
+-- opened, where as much is allowed
 abbrev pub OpensAfter2 : List ℕ → Edit → List ℕ → Type 0
 OpensAfter2 v e w = IfSome (sealed_by e) (λ s. MatchPlace s.place
     (λ to. (n : ℕ) (key : List ℕ) → IsMadeIn v to n
-    → AnswerWithin (memory_for s.opener.passphrase s.passphrase.now) v s.opener.slot s.opener.passphrase.bytes.now (opens key)
-    → AnswerWithin (memory_for s.opener.passphrase s.passphrase.now) w n s.passphrase.now (opens key))
-    ((key : List ℕ) → AnswerWithin (memory_for s.opener.passphrase s.passphrase.now) v s.opener.slot s.opener.passphrase.bytes.now (opens key)
-    → AnswerWithin (memory_for s.opener.passphrase s.passphrase.now) w s.opener.slot s.passphrase.now (opens key)))
+    → AnswerWithin (allowed_for s.opener.passphrase s.passphrase.now) v s.opener.slot s.opener.passphrase.bytes.now (opens key)
+    → AnswerWithin (allowed_for s.opener.passphrase s.passphrase.now) w n s.passphrase.now (opens key))
+    ((key : List ℕ) → AnswerWithin (allowed_for s.opener.passphrase s.passphrase.now) v s.opener.slot s.opener.passphrase.bytes.now (opens key)
+    → AnswerWithin (allowed_for s.opener.passphrase s.passphrase.now) w s.opener.slot s.passphrase.now (opens key)))

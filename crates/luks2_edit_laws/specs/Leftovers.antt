@@ -11,7 +11,7 @@ use Rattle.luks_head.specs.Sizes.{IsListed}
 use Rattle.luks_reading.specs.declared.report.Data.{Data}
 use Rattle.luks_reading.specs.Answer.{opens, AnswerWithin}
 use Rattle.luks_edit.specs.declared.edit.Edit.{Edit}
-use Rattle.luks_edit.specs.Asked.{again_by, memory_for}
+use Rattle.luks_edit.specs.Asked.{again_by, allowed_for}
 use Rattle.luks2_edit_laws.specs.Copies.{other_place, IsRenewed, IsWrittenAnew}
 use Rattle.luks2_edit_laws.specs.Edited.{keyslot_salt, IsEdited, IsSealedBy}
 use Rattle.luks2_edit_laws.specs.Metadata.{HasMetadata}
@@ -104,9 +104,9 @@ pub record CountsAsAfter (v : List ℕ) (payload : Data) (e : Edit) (random w : 
   pub written : IsAllowed v payload e random w place
 
 -- a keyslot that was to be sealed again opens by the old passphrase or by the new one, to the same key,
--- where Argon2 may take the same memory
+-- where as much is allowed
 abbrev pub OpensEither2 : List ℕ → Edit → List ℕ → Type 0
 OpensEither2 v e w = IfSome (again_by e) (λ s. (key : List ℕ)
-    → AnswerWithin (memory_for s.opener.passphrase s.passphrase.now) v s.opener.slot s.opener.passphrase.bytes.now (opens key)
-    → AnswerWithin (memory_for s.opener.passphrase s.passphrase.now) w s.opener.slot s.opener.passphrase.bytes.now (opens key)
-    ⊎ AnswerWithin (memory_for s.opener.passphrase s.passphrase.now) w s.opener.slot s.passphrase.now (opens key))
+    → AnswerWithin (allowed_for s.opener.passphrase s.passphrase.now) v s.opener.slot s.opener.passphrase.bytes.now (opens key)
+    → AnswerWithin (allowed_for s.opener.passphrase s.passphrase.now) w s.opener.slot s.opener.passphrase.bytes.now (opens key)
+    ⊎ AnswerWithin (allowed_for s.opener.passphrase s.passphrase.now) w s.opener.slot s.passphrase.now (opens key))

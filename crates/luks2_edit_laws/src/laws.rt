@@ -5,6 +5,7 @@ ghost use Rattle.luks_area.specs.declared.area.Area.{Area as TheArea};
 ghost use Rattle.luks_area.specs.declared.area.AreaName.TheVariants.{Slot};
 ghost use Rattle.luks_area.specs.Ranges.{part, SameBut};
 ghost use Rattle.luks_head.specs.Selection.{luks2, Chosen};
+ghost use Rattle.luks_slot.specs.declared.allowed.Allowed.{Allowed as TheAllowed};
 ghost use Rattle.luks_reading.specs.Answer.{AnswerWithin, Opened};
 ghost use Rattle.luks_reading.specs.Checked.{AreaOf, WellFormed};
 ghost use Rattle.luks_reading.specs.declared.report.Data.{Data as Payload};
@@ -22,11 +23,11 @@ ghost use Rattle.luks_edit.specs.declared.edit_fault.EditFault.{EditFault as The
 use luks_head::Copies;
 
 /// A keyslot that a change of a LUKS2 volume leaves as it was has the same answer for every
-/// passphrase and every memory that is allowed: the same key, none, or the same refusals.
+/// passphrase, whatever is allowed: the same key, none, or the same refusals.
 pub fn alike_slots_answer_alike()
     ensures { (v w : List ℕ) (m : ℕ) → HasSameKeyslot v w m
-        → (memory : ℕ) (p : List ℕ) (a : Opened)
-        → AnswerWithin memory v m p a ↔ AnswerWithin memory w m p a }
+        → (allowed : TheAllowed) (p : List ℕ) (a : Opened)
+        → AnswerWithin allowed v m p a ↔ AnswerWithin allowed w m p a }
 {}
 
 /// After an edit of a well formed LUKS2 volume that nothing refused, the volume is well formed, and

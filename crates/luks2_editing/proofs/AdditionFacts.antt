@@ -17,6 +17,7 @@ use Rattle.luks_making.specs.Keyslots.{slot_value}
 use Rattle.luks_making.specs.Naming.{IsDigestOf}
 use Rattle.luks_meta.specs.Content.{content}
 use Rattle.luks_meta.proofs.Namings.{one_digest}
+use Rattle.luks_slot.specs.declared.allowed.Allowed.{Allowed}
 use Rattle.luks_slot.specs.declared.fault.SlotFault.{SlotFault}
 use Rattle.luks_reading.specs.declared.header.ChosenCopy.{ChosenCopy}
 use Rattle.luks_reading.specs.declared.report.Data.{Data}
@@ -24,7 +25,7 @@ use Rattle.luks_reading.specs.Answer.{opens, AnswerWithin}
 use Rattle.luks_reading.specs.Checked.{WellFormed}
 use Rattle.luks_reading.specs.Header.{json_at, IsChosenCopy}
 use Rattle.luks_edit.specs.declared.edit.Edit.TheVariants.{Add}
-use Rattle.luks_edit.specs.Asked.{memory_for}
+use Rattle.luks_edit.specs.Asked.{allowed_for}
 use Rattle.luks_edit.specs.declared.edit.Passphrase.{Passphrase}
 use Rattle.luks2_edit_laws.specs.Edited.{keyslot_salt, members_of, stripes_random, After2, HoldsKey, HoldsOpened, IsEdited, IsMadeIn}
 use Rattle.luks2_edit_laws.specs.Metadata.{HasStripes, IsKeyArea, IsNewKeyslot}
@@ -74,11 +75,11 @@ module _ (j k : Value) (slot like : ℕ) (derivation : AskedDerivation) (salt : 
   -- ---- its plan
 
   -- it says of its opening what the other says
-  made_like : (memory : ℕ) → 8 ≤ length salt → asked_beyond memory derivation ≡ false → SaysLike memory x.added.from (slot_value x.added.slot)
-  made_like memory long within = record {
+  made_like : (allowed : Allowed) → 8 ≤ length salt → asked_beyond allowed.memory derivation ≡ false → SaysLike allowed x.added.from (slot_value x.added.slot)
+  made_like allowed long within = record {
     derived = λ a b hash was now splitter.
-        subst (λ h. OpensAlike memory h a b) (same_Some x.added.slot.splitter_hash hash (sym x.added.made.splitter_hash ∙ splitter))
-        (made_derived_or memory x.added.from (slot_value x.added.slot) x.added.slot.splitter_hash x.added.slot.salt x.says.salt (rw x.added.made.salt long) derivation.iterations derivation.chosen
+        subst (λ h. OpensAlike allowed h a b) (same_Some x.added.slot.splitter_hash hash (sym x.added.made.splitter_hash ∙ splitter))
+        (made_derived_or allowed x.added.from (slot_value x.added.slot) x.added.slot.splitter_hash x.added.slot.salt x.says.salt (rw x.added.made.salt long) derivation.iterations derivation.chosen
         x.added.slot.derivation a b within x.added.made.derivation x.says.derivation was now);
     encryption = x.says.encryption ∙ sym x.added.made.encryption;
     area_key = x.says.area_key_size ∙ sym x.added.made.area_key_size;
@@ -86,13 +87,13 @@ module _ (j k : Value) (slot like : ℕ) (derivation : AskedDerivation) (salt : 
   }
 
   -- where the other was opened, its plan isn't refused
-  made_unrefused : {memory : ℕ} {v : List ℕ} {o : ℕ} (g : SlotFault) → 8 ≤ length salt → asked_beyond memory derivation ≡ false → IsOpened memory v o j like → ((n m : ℕ) → IsDigestOf j like n → IsDigestOf j like m → n ≡ m)
-      → HasRefusedKeyslot memory k slot g → ⊥
-  made_unrefused {memory} g long within open_ once bad =
+  made_unrefused : {allowed : Allowed} {v : List ℕ} {o : ℕ} (g : SlotFault) → 8 ≤ length salt → asked_beyond allowed.memory derivation ≡ false → IsOpened allowed v o j like → ((n m : ℕ) → IsDigestOf j like n → IsDigestOf j like m → n ≡ m)
+      → HasRefusedKeyslot allowed k slot g → ⊥
+  made_unrefused {allowed} g long within open_ once bad =
       let was : open_.object ≡ x.added.from = same_Some open_.object x.added.from (sym open_.there ∙ x.added.there.is) in
       let now : bad.object ≡ slot_value x.added.slot = same_Some bad.object (slot_value x.added.slot) (sym bad.there.is ∙ x.gains.there) in
       like_unrefused j k like slot g open_ bad
-      (subst (λ d. SaysLike memory d bad.object) (sym was) (subst (λ d. SaysLike memory x.added.from d) (sym now) (made_like memory long within)))
+      (subst (λ d. SaysLike allowed d bad.object) (sym was) (subst (λ d. SaysLike allowed x.added.from d) (sym now) (made_like allowed long within)))
       (λ m names. subst (λ i. IsDigestOf k slot i) (once x.added.digest m x.added.names names) x.gains.names)
       x.gains.rest.digests
 
@@ -103,7 +104,7 @@ pub record IsJudgedAddition (v : List ℕ) (payload : Data) (copy : ChosenCopy) 
   pub chosen : IsChosenCopy v copy
   pub well : WellFormed v payload
   pub before : HasNoFaultBefore 13 v payload (Add addition.by_ old new to addition.derivation.iterations addition.derivation.chosen) random
-  pub opened : AnswerWithin (memory_for old new.now) v addition.by_ old.bytes.now (opens key)
+  pub opened : AnswerWithin (allowed_for old new.now) v addition.by_ old.bytes.now (opens key)
   pub is_new : IsNewKeyslot (content copy.meta) to addition.made
   pub place : IsNewArea (hdr_size (header_at v copy.header.hdr_offset)) (length v) payload (content copy.meta) addition.by_ addition.area
 
@@ -134,17 +135,17 @@ module _ (v : List ℕ) (payload : Data) (copy : ChosenCopy) (addition : Additio
         (hdr_size (header_at v copy.header.hdr_offset)) (length v) payload p x.place at
 
     sealed_in : (w : List ℕ) → HoldsKey w k addition.made new.now key (stripes_random random)
-        → HoldsOpened (memory_for old new.now) v addition.by_ old.bytes.now new.now (IsNewKeyslot (content copy.meta) to) random w k
+        → HoldsOpened (allowed_for old new.now) v addition.by_ old.bytes.now new.now (IsNewKeyslot (content copy.meta) to) random w k
     sealed_in w holds = record { slot = addition.made; is_made = x.is_new; key = key; opened = x.opened; holds = holds }
 
     pub addition_sealing : IsSealing v payload (Add addition.by_ old new to addition.derivation.iterations addition.derivation.chosen) random copy.header.hdr_offset (content copy.meta) k addition.made new.now key
     addition_sealing = record { sealed = sealed_in; place = place_in }
 
     -- its plan isn't refused
-    pub addition_fine : 160 ≤ length random → asked_beyond (memory_for old new.now) addition.derivation ≡ false → (g : SlotFault) → HasRefusedKeyslot (memory_for old new.now) k addition.made g → ⊥
+    pub addition_fine : 160 ≤ length random → asked_beyond (allowed_for old new.now).memory addition.derivation ≡ false → (g : SlotFault) → HasRefusedKeyslot (allowed_for old new.now) k addition.made g → ⊥
     addition_fine enough within g bad = made_unrefused (content copy.meta) k addition.made addition.by_ addition.derivation (keyslot_salt random) addition.area gained small g
         (long_salt random enough) within
-        (opened_plan (memory_for old new.now) v copy.header.hdr_offset (content copy.meta) addition.by_ old.bytes.now key (metadata_here v payload copy x.chosen x.well) x.opened)
+        (opened_plan (allowed_for old new.now) v copy.header.hdr_offset (content copy.meta) addition.by_ old.bytes.now key (metadata_here v payload copy x.chosen x.well) x.opened)
         (one_digest (json_at v copy.header.hdr_offset) (content copy.meta) x.chosen.metadata addition.by_) bad
 
     module _ (edited : IsEdited (hdr_size (header_at v copy.header.hdr_offset)) (length v) payload (Add addition.by_ old new to addition.derivation.iterations addition.derivation.chosen) (keyslot_salt random) (content copy.meta) k)

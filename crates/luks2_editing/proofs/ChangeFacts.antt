@@ -24,7 +24,7 @@ use Rattle.luks_reading.specs.Answer.{AnswerWithin, opens}
 use Rattle.luks_reading.specs.Checked.{WellFormed}
 use Rattle.luks_reading.specs.Header.{IsChosenCopy}
 use Rattle.luks_edit.specs.declared.edit.Edit.TheVariants.{Change}
-use Rattle.luks_edit.specs.Asked.{memory_for}
+use Rattle.luks_edit.specs.Asked.{allowed_for}
 use Rattle.luks_edit.specs.declared.edit.Passphrase.{Passphrase}
 use Rattle.luks2_edit_laws.specs.Edited.{keyslot_salt, members_of, stripes_random, After2, HoldsKey, IsEdited}
 use Rattle.luks2_edit_laws.specs.Leftovers.{Leftover2}
@@ -77,7 +77,7 @@ module _ (j k : Value) (slot : ℕ) (derivation : AskedDerivation) (salt : List 
 -- what an edit that seals it again seals, once its rows up to that of the label were judged
 pub renewal_seals : (v : List ℕ) (payload : Data) (copy : ChosenCopy) (r : Renewal) (old : Passphrase) (new : Bor (List ℕ)) (key random : List ℕ)
     → IsChosenCopy v copy → WellFormed v payload → HasNoFaultBefore 13 v payload (Change r.slot old new r.derivation.iterations r.derivation.chosen) random
-    → AnswerWithin (memory_for old new.now) v r.slot old.bytes.now (opens key)
+    → AnswerWithin (allowed_for old new.now) v r.slot old.bytes.now (opens key)
     → IsNewArea (hdr_size (header_at v copy.header.hdr_offset)) (length v) payload (content copy.meta) r.slot r.area
     → IsSealingEdit v payload (Change r.slot old new r.derivation.iterations r.derivation.chosen) random copy (record { keyslot = Renewed r.slot; derivation = r.derivation; area = r.area })
 renewal_seals v payload copy r old new key random x well before opened place = record {
@@ -93,7 +93,7 @@ renewal_seals v payload copy r old new key random x well before opened place = r
 
 module _ (v : List ℕ) (payload : Data) (copy : ChosenCopy) (x : IsChosenCopy v copy) (well : WellFormed v payload)
     (slot : ℕ) (old : Passphrase) (new : Bor (List ℕ)) (derivation : AskedDerivation) (key random : List ℕ) (area : Area) (k : Value)
-    (opened : AnswerWithin (memory_for old new.now) v slot old.bytes.now (opens key))
+    (opened : AnswerWithin (allowed_for old new.now) v slot old.bytes.now (opens key))
     (place : IsNewArea (hdr_size (header_at v copy.header.hdr_offset)) (length v) payload (content copy.meta) slot area)
     (made : IsSealedAgain slot (members_of derivation (keyslot_salt random) area) (content copy.meta) k) where
   -- what is sealed is of the edit
@@ -105,17 +105,17 @@ module _ (v : List ℕ) (payload : Data) (copy : ChosenCopy) (x : IsChosenCopy v
   }
 
   -- its plan isn't refused
-  pub renewed_unrefused : 160 ≤ length random → asked_beyond (memory_for old new.now) derivation ≡ false → (g : SlotFault) → HasRefusedKeyslot (memory_for old new.now) k slot g → ⊥
+  pub renewed_unrefused : 160 ≤ length random → asked_beyond (allowed_for old new.now).memory derivation ≡ false → (g : SlotFault) → HasRefusedKeyslot (allowed_for old new.now) k slot g → ⊥
   renewed_unrefused enough within g y =
       let j : Value = content copy.meta in
-      let was : IsOpened (memory_for old new.now) v copy.header.hdr_offset j slot = opened_plan (memory_for old new.now) v copy.header.hdr_offset j slot old.bytes.now key (metadata_here v payload copy x well) opened in
+      let was : IsOpened (allowed_for old new.now) v copy.header.hdr_offset j slot = opened_plan (allowed_for old new.now) v copy.header.hdr_offset j slot old.bytes.now key (metadata_here v payload copy x well) opened in
       let now : renewed_slot (members_of derivation (keyslot_salt random) area) made.changes.was ≡ y.object =
       same_Some (renewed_slot (members_of derivation (keyslot_salt random) area) made.changes.was) y.object (sym made.changes.is ∙ y.there.is) in
       let object : made.changes.was ≡ was.object = same_Some made.changes.was was.object (sym made.changes.there.is ∙ was.there) in
-      let like : SaysLike (memory_for old new.now) made.changes.was (renewed_slot (members_of derivation (keyslot_salt random) area) made.changes.was) =
-      like_changed (memory_for old new.now) made.changes.was (renewed_slot (members_of derivation (keyslot_salt random) area) made.changes.was)
+      let like : SaysLike (allowed_for old new.now) made.changes.was (renewed_slot (members_of derivation (keyslot_salt random) area) made.changes.was) =
+      like_changed (allowed_for old new.now) made.changes.was (renewed_slot (members_of derivation (keyslot_salt random) area) made.changes.was)
       (members_of derivation (keyslot_salt random) area) made.changes.says (long_salt random enough) within in
-      like_unrefused j k slot slot g was y (subst (λ d. SaysLike (memory_for old new.now) d y.object) object (subst (λ d. SaysLike (memory_for old new.now) made.changes.was d) now like))
+      like_unrefused j k slot slot g was y (subst (λ d. SaysLike (allowed_for old new.now) d y.object) object (subst (λ d. SaysLike (allowed_for old new.now) made.changes.was d) now like))
       (λ m is. (made.changes.naming slot m).0 is) made.changes.rest.digests
 
   module _ (free : IsUnrefused2 v payload (Change slot old new derivation.iterations derivation.chosen) random)

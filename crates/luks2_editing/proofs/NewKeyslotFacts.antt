@@ -11,6 +11,7 @@ use Rattle.luks_rules.specs.declared.table.Outer.TheVariants as outer
 use Rattle.luks_rules.specs.Reading.{number_in}
 use Rattle.luks_rules.specs.Sizes.{inside_at}
 use Rattle.luks_meta.specs.Content.{content}
+use Rattle.luks_slot.specs.declared.allowed.Allowed.{Allowed}
 use Rattle.luks_slot.specs.declared.fault.SlotFault.{SlotFault}
 use Rattle.luks_reading.specs.declared.header.ChosenCopy.{ChosenCopy}
 use Rattle.luks_reading.specs.declared.report.Data.{Data}
@@ -108,9 +109,9 @@ module _ (v : List ℕ) (payload : Data) (copy : ChosenCopy) (x : IsChosenCopy v
   )
 
   -- how it ends, where the keyslot's plan isn't refused
-  pub unsealed_ends : (memory n : ℕ) → ((g : SlotFault) → HasRefusedKeyslot memory k n g → ⊥) → IsTornAt v payload e random copy.header.hdr_offset (content copy.meta) k w
-      → (f : EditFault) → (f ≢ fault.Device → w ≡ v) → IsUnsealed memory k n f → EndsBy2 payload v e random f w
-  unsealed_ends memory n fine torn fault.Device same why = torn_leftover torn
-  unsealed_ends memory n fine torn fault.Memory same why = same memory_is_own
-  unsealed_ends memory n fine torn (fault.Slot g) same why = absurd (fine g why)
-  unsealed_ends memory n fine torn f same why = absurd why
+  pub unsealed_ends : (allowed : Allowed) (n : ℕ) → ((g : SlotFault) → HasRefusedKeyslot allowed k n g → ⊥) → IsTornAt v payload e random copy.header.hdr_offset (content copy.meta) k w
+      → (f : EditFault) → (f ≢ fault.Device → w ≡ v) → IsUnsealed allowed k n f → EndsBy2 payload v e random f w
+  unsealed_ends allowed n fine torn fault.Device same why = torn_leftover torn
+  unsealed_ends allowed n fine torn fault.Memory same why = same memory_is_own
+  unsealed_ends allowed n fine torn (fault.Slot g) same why = absurd (fine g why)
+  unsealed_ends allowed n fine torn f same why = absurd why

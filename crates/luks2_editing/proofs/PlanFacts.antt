@@ -12,6 +12,7 @@ use Rattle.luks_making.specs.Derivations.{asked_beyond}
 use Rattle.luks_making.specs.Naming.{IsDigestOf}
 use Rattle.luks_making.specs.Unchanged.{KeepsObjects, SaysNew}
 use Rattle.luks_making.specs.Keyslots.{NewMembers}
+use Rattle.luks_slot.specs.declared.allowed.Allowed.{Allowed}
 use Rattle.luks_slot.specs.declared.fault.SlotFault.{SlotFault}
 use Rattle.luks_slot.specs.Refusal.{slot_refusal_within}
 use Rattle.luks_reading.specs.Plans.{IsLuks2Digest}
@@ -27,10 +28,10 @@ long_salt random enough = let long : length (keyslot_salt random) ≡ 32 = salt_
 -- ---- a keyslot that says of its opening what another says
 
 -- one that was changed
-pub like_changed : (memory : ℕ) (was now : Value) (f : NewMembers) → SaysNew f was now → 8 ≤ length f.salt → asked_beyond memory f.derivation ≡ false → SaysLike memory was now
-like_changed memory was now f says long within = record {
+pub like_changed : (allowed : Allowed) (was now : Value) (f : NewMembers) → SaysNew f was now → 8 ≤ length f.salt → asked_beyond allowed.memory f.derivation ≡ false → SaysLike allowed was now
+like_changed allowed was now f says long within = record {
   derived = λ a b hash x y splitter.
-      changed_derived_or memory f was now hash says.salt long (ap (λ a. text_of (option_and_then (get (codes "hash")) a)) (says.members (codes "af") refl) ∙ splitter)
+      changed_derived_or allowed f was now hash says.salt long (ap (λ a. text_of (option_and_then (get (codes "hash")) a)) (says.members (codes "af") refl) ∙ splitter)
       f.derivation.chosen a b within says.derivation x y;
   encryption = ap text_of (says.area (codes "encryption") refl);
   area_key = ap (number_in 1 128) (says.area (codes "key_size") refl);
@@ -39,9 +40,9 @@ like_changed memory was now f says long within = record {
 
 -- where a keyslot was opened, a new one that says the same, by a digest that says the same, isn't
 -- refused
-pub like_unrefused : {memory : ℕ} {v : List ℕ} {o : ℕ} (j k : Value) (opener n : ℕ) (g : SlotFault) (x : IsOpened memory v o j opener) (y : HasRefusedKeyslot memory k n g) → SaysLike memory x.object y.object
+pub like_unrefused : {allowed : Allowed} {v : List ℕ} {o : ℕ} (j k : Value) (opener n : ℕ) (g : SlotFault) (x : IsOpened allowed v o j opener) (y : HasRefusedKeyslot allowed k n g) → SaysLike allowed x.object y.object
     → ((m : ℕ) → IsDigestOf j opener m → IsDigestOf k n m) → KeepsObjects (codes "keyslots" ∷ []) Digests j k → ⊥
-like_unrefused {memory} j k opener n g x y like names keeps =
+like_unrefused {allowed} j k opener n g x y like names keeps =
     let was : IsLuks2Digest j opener x.plan.digest = x.is.digest in
     let now : IsLuks2Digest k n y.plan.digest = y.is.digest in
     let number : was.number ≡ now.number = y.one was.number (names was.number was.names) in
@@ -49,7 +50,7 @@ like_unrefused {memory} j k opener n g x y like names keeps =
     let object : there.0 ≡ now.object = same_Some there.0 now.object (sym there.1 ∙ ap (object_at k Digests) number ∙ now.there) in
     let hash : text_of (member_at now.object outer.Top name.Hash) ≡ text_of (member_at was.object outer.Top name.Hash) =
     ap (λ d. text_of (member_at d outer.Top name.Hash)) (sym object) ∙ ap text_of (there.2 (codes "hash") refl) in
-    let same : slot_refusal_within memory x.plan ≡ slot_refusal_within memory y.plan = alike_refusal memory x.plan y.plan like x.refused x.is y.is
+    let same : slot_refusal_within allowed x.plan ≡ slot_refusal_within allowed y.plan = alike_refusal allowed x.plan y.plan like x.refused x.is y.is
     (same_Some x.plan.digest.hash.now y.plan.digest.hash.now (sym was.hash ∙ sym hash ∙ now.hash)) in
     let both : None ≡ Some g = sym x.refused ∙ same ∙ y.refused in
     absurd (cc)

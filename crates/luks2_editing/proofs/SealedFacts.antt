@@ -12,6 +12,7 @@ use Rattle.luks_rules.specs.Accepted.{HasObject}
 use Rattle.luks_rules.specs.Faults.{member_at}
 use Rattle.luks_rules.specs.Reading.{number_in}
 use Rattle.luks_making.specs.Naming.{IsDigestOf}
+use Rattle.luks_slot.specs.declared.allowed.Allowed.{Allowed}
 use Rattle.luks_slot.specs.declared.plan.SlotPlan.{SlotPlan}
 use Rattle.luks_slot.specs.Opening.{area_bytes}
 use Rattle.luks_slot.specs.Sealing.{IsSealed}
@@ -117,11 +118,11 @@ module _ (h total : ℕ) (k : Value) (n : ℕ) (key random : List ℕ) (x : IsSe
   }
 
   -- why it isn't sealed
-  pub plan_unsealed : (memory : ℕ) (f : EditFault) → IsPlanFault memory plan f → IsUnsealed memory k n f
-  plan_unsealed memory (fault.Slot f) refused = record { object = p.object; there = p.there; plan = plan; is = p.is; one = p.one; refused = refused }
-  plan_unsealed memory fault.Memory x = tt
-  plan_unsealed memory fault.Device x = tt
-  plan_unsealed memory f x = absurd x
+  pub plan_unsealed : (allowed : Allowed) (f : EditFault) → IsPlanFault allowed plan f → IsUnsealed allowed k n f
+  plan_unsealed allowed (fault.Slot f) refused = record { object = p.object; there = p.there; plan = plan; is = p.is; one = p.one; refused = refused }
+  plan_unsealed allowed fault.Memory x = tt
+  plan_unsealed allowed fault.Device x = tt
+  plan_unsealed allowed f x = absurd x
 
   module _ (v : List ℕ) (o : ℕ) (e : Edit) (passphrase w : List ℕ) where
     -- all was written

@@ -4,6 +4,7 @@ use Rattle.serde_json.specs.Data.{Data as Value}
 use Rattle.luks_area.specs.declared.area.Area.{Area}
 use Rattle.luks_area.specs.Ranges.{SameBut}
 use Rattle.luks_area.specs.RangeFacts.{part-same_but, same_but-either}
+use Rattle.luks_slot.specs.declared.allowed.Allowed.{Allowed}
 use Rattle.luks_slot.specs.declared.fault.SlotFault.{SlotFault}
 use Rattle.luks_slot.specs.declared.fault.SlotFault.TheVariants as sealing
 use Rattle.luks_slot.specs.declared.plan.SlotPlan.{SlotPlan}
@@ -19,13 +20,13 @@ use Rattle.luks2_editing.specs.Sealed.{unsealed, IsOfStripes, IsPlanFault, MayBe
 -- ---- the fault of sealing
 
 -- it is that of the plan
-pub unsealed_fault : (memory : ℕ) (plan : SlotPlan) (f : SlotFault) → IsAnsweredWithin memory plan f → IsPlanFault memory plan (unsealed f)
-unsealed_fault memory plan sealing.Argon2 x = x
-unsealed_fault memory plan sealing.Cipher x = x
-unsealed_fault memory plan sealing.Hash x = x
-unsealed_fault memory plan sealing.KeySize x = x
-unsealed_fault memory plan sealing.Device x = tt
-unsealed_fault memory plan sealing.Memory x = x.1
+pub unsealed_fault : (allowed : Allowed) (plan : SlotPlan) (f : SlotFault) → IsAnsweredWithin allowed plan f → IsPlanFault allowed plan (unsealed f)
+unsealed_fault allowed plan sealing.Argon2 x = x
+unsealed_fault allowed plan sealing.Cipher x = x
+unsealed_fault allowed plan sealing.Hash x = x
+unsealed_fault allowed plan sealing.KeySize x = x
+unsealed_fault allowed plan sealing.Device x = tt
+unsealed_fault allowed plan sealing.Memory x = x.1
 
 -- where it isn't, nor was it
 pub unsealed_own : (f : SlotFault) → unsealed f ≢ fault.Device → is_device_fault f ≡ false

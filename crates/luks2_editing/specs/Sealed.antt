@@ -5,6 +5,7 @@ use Rattle.serde_json.specs.Data.{Data as Value}
 use Rattle.luks_area.specs.Ranges.{IsAt, IsOfEither, SameBut}
 use Rattle.luks_area.specs.Sectors.{rounded_to_sectors}
 use Rattle.luks_head.specs.Header2.{hdr_size, header_at}
+use Rattle.luks_slot.specs.declared.allowed.Allowed.{Allowed}
 use Rattle.luks_slot.specs.declared.fault.SlotFault.{SlotFault}
 use Rattle.luks_slot.specs.declared.fault.SlotFault.TheVariants as sealing
 use Rattle.luks_slot.specs.declared.plan.SlotPlan.{SlotPlan}
@@ -34,13 +35,13 @@ unsealed sealing.Device = fault.Device
 unsealed sealing.Memory = fault.Memory
 unsealed f = fault.Slot f
 
--- why the key isn't sealed, where Argon2 may take so many KiB of memory: the plan is refused, memory was
+-- why the key isn't sealed, where so much is allowed: the plan is refused, memory was
 -- refused to Argon2, or the device failed
-abbrev pub IsPlanFault : ℕ → SlotPlan → EditFault → Type 0
-IsPlanFault memory plan (fault.Slot f) = slot_refusal_within memory plan ≡ Some f
-IsPlanFault memory plan fault.Memory = is_argon2 plan.derivation ≡ true
-IsPlanFault memory plan fault.Device = ⊤
-IsPlanFault memory plan f = ⊥
+abbrev pub IsPlanFault : Allowed → SlotPlan → EditFault → Type 0
+IsPlanFault allowed plan (fault.Slot f) = slot_refusal_within allowed plan ≡ Some f
+IsPlanFault allowed plan fault.Memory = is_argon2 plan.derivation ≡ true
+IsPlanFault allowed plan fault.Device = ⊤
+IsPlanFault allowed plan f = ⊥
 
 -- the key is sealed, and the copy of `v` that stands at the place `o` is as it was
 pub record IsOtherTorn

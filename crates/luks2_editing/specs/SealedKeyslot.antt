@@ -10,6 +10,7 @@ use Rattle.luks_head.specs.Header2.{hdr_size, header_at}
 use Rattle.luks_rules.specs.declared.table.Section.TheVariants.{Keyslots}
 use Rattle.luks_rules.specs.Accepted.{HasObject}
 use Rattle.luks_making.specs.Naming.{IsDigestOf}
+use Rattle.luks_slot.specs.declared.allowed.Allowed.{Allowed}
 use Rattle.luks_slot.specs.declared.fault.SlotFault.{SlotFault}
 use Rattle.luks_slot.specs.declared.plan.SlotPlan.{SlotPlan}
 use Rattle.luks_slot.specs.Refusal.{slot_refusal_within}
@@ -61,22 +62,22 @@ pub record IsSealing
 
 -- ---- what is answered
 
--- the keyslot `n`, which one digest names, has a plan that is refused by `f`, where Argon2 may take so
--- many KiB of memory
-pub record HasRefusedKeyslot (memory : ℕ) (k : Value) (n : ℕ) (f : SlotFault) : Type 0 where
+-- the keyslot `n`, which one digest names, has a plan that is refused by `f`, where so much
+-- is allowed
+pub record HasRefusedKeyslot (allowed : Allowed) (k : Value) (n : ℕ) (f : SlotFault) : Type 0 where
   pub object : Value
   pub there : HasObject k Keyslots n object
   pub plan : SlotPlan
   pub is : IsLuks2Plan k n object plan
   pub one : (m : ℕ) → IsDigestOf k n m → m ≡ is.digest.number
-  pub refused : slot_refusal_within memory plan ≡ Some f
+  pub refused : slot_refusal_within allowed plan ≡ Some f
 
 -- why the key isn't sealed in it, memory being refused to Argon2, or not all was written
-abbrev pub IsUnsealed : ℕ → Value → ℕ → EditFault → Type 0
-IsUnsealed memory k n (fault.Slot f) = HasRefusedKeyslot memory k n f
-IsUnsealed memory k n fault.Memory = ⊤
-IsUnsealed memory k n fault.Device = ⊤
-IsUnsealed memory k n f = ⊥
+abbrev pub IsUnsealed : Allowed → Value → ℕ → EditFault → Type 0
+IsUnsealed allowed k n (fault.Slot f) = HasRefusedKeyslot allowed k n f
+IsUnsealed allowed k n fault.Memory = ⊤
+IsUnsealed allowed k n fault.Device = ⊤
+IsUnsealed allowed k n f = ⊥
 
 -- the keyslot `n` of the metadata `k` holds the key, both copies of `w` take the place of the copy
 -- of `v` at `o` with that metadata, and nothing else changed

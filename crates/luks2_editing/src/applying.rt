@@ -50,7 +50,7 @@ pub fn apply_luks2<D: Device>(
     ensures replies { D.tells → IsHeader (D.bytes device.old) header
         → Replies2 data_ (D.bytes device.old) edit.now random.now result (D.bytes device.new) }
 {
-    let memory = edit.allowed_memory();
+    let allowed = edit.allowed();
     let judged = judge_luks2(alloc, device, header, data_, edit)?;
     let copy = judged.copy;
     match judged.edit {
@@ -59,7 +59,7 @@ pub fn apply_luks2<D: Device>(
             key,
             passphrase,
         } => {
-            let secrets = Secrets::new(&key, passphrase, memory, random);
+            let secrets = Secrets::new(&key, passphrase, allowed, random);
             add(alloc, device, copy, &addition, &secrets)
         }
         JudgedEdit::Change {
@@ -67,7 +67,7 @@ pub fn apply_luks2<D: Device>(
             key,
             passphrase,
         } => {
-            let secrets = Secrets::new(&key, passphrase, memory, random);
+            let secrets = Secrets::new(&key, passphrase, allowed, random);
             change(alloc, device, copy, &renewal, &secrets)
         }
         JudgedEdit::Remove { slot, area } => remove(alloc, device, copy, slot, area, random),

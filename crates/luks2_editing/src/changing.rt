@@ -8,7 +8,7 @@ ghost use Rattle.luks_reading.specs.Answer.{opens, AnswerWithin};
 ghost use Rattle.luks_reading.specs.Checked.{WellFormed};
 ghost use Rattle.luks_reading.specs.Header.{IsChosenCopy};
 ghost use Rattle.luks_reading.specs.Plans.{HasLuks2KeyBytes};
-ghost use Rattle.luks_edit.specs.Asked.{deed_of, memory_for};
+ghost use Rattle.luks_edit.specs.Asked.{allowed_for, deed_of};
 ghost use Rattle.luks_edit.specs.EditFaults.{is_edit_failure};
 ghost use Rattle.luks_edit.specs.declared.deed.Deed.TheVariants.{Seal};
 ghost use Rattle.luks_edit.specs.declared.deed.Place.TheVariants.{Opened};
@@ -47,8 +47,8 @@ pub(crate) fn change<D: Device>(
     requires room { D.failed device.old + 1 < 2 ^ 64 }
     requires settled { D.tells → IsSettled D.unsettled device.old }
     requires there { IsInUse (content copy.meta) renewal.now.slot }
-    requires passphrase { 0 < secrets.now.memory → length secrets.now.passphrase.now < 2 ^ 32 }
-    requires allowed { IsAllowed secrets.now.memory renewal.now.derivation }
+    requires passphrase { 0 < secrets.now.allowed.memory → length secrets.now.passphrase.now < 2 ^ 32 }
+    requires allowed { IsAllowed secrets.now.allowed.memory renewal.now.derivation }
     requires key_length { HasLuks2KeyBytes (content copy.meta) renewal.now.slot
         (length secrets.now.key.now) }
     requires placed { IsPlaced (area_len copy.meta) (content copy.meta)
@@ -65,8 +65,8 @@ pub(crate) fn change<D: Device>(
         renewal.now.derivation)
         → IsChosenCopy (D.bytes device.old) copy → WellFormed (D.bytes device.old) payload
         → HasNoFaultBefore 13 (D.bytes device.old) payload e secrets.now.random.now
-        → memory_for old secrets.now.passphrase.now ≡ secrets.now.memory
-        → AnswerWithin (memory_for old secrets.now.passphrase.now) (D.bytes device.old) renewal.now.slot old.bytes.now
+        → allowed_for old secrets.now.passphrase.now ≡ secrets.now.allowed
+        → AnswerWithin (allowed_for old secrets.now.passphrase.now) (D.bytes device.old) renewal.now.slot old.bytes.now
         (opens secrets.now.key.now)
         → IsNewArea (hdr_size (header_at (D.bytes device.old) copy.header.hdr_offset))
         (length (D.bytes device.old)) payload (content copy.meta) renewal.now.slot

@@ -39,7 +39,7 @@ pub(crate) fn write_keyslot<D: Device>(
 ) -> Result<(), EditFault>
     requires room { D.failed device.old + 1 < 2 ^ 64 }
     requires settled { D.tells → IsSettled D.unsettled device.old }
-    requires passphrase { 0 < secrets.now.memory → length secrets.now.passphrase.now < 2 ^ 32 }
+    requires passphrase { 0 < secrets.now.allowed.memory → length secrets.now.passphrase.now < 2 ^ 32 }
     requires numbered { chosen.now.seqid + 1 < 2 ^ 64 }
     requires json { IsWrittenArea (area_len made.now.meta) (content made.now.meta)
         made.now.json.items }
@@ -51,7 +51,7 @@ pub(crate) fn write_keyslot<D: Device>(
         → IsSettled D.unsettled device.new }
     ensures count { CountsFailure is_edit_failure result
         (D.failed device.old) (D.failed device.new) }
-    ensures fault { IfErr result (IsUnsealed secrets.now.memory (content made.now.meta) n) }
+    ensures fault { IfErr result (IsUnsealed secrets.now.allowed (content made.now.meta) n) }
     ensures same { D.tells → IfErr result (λ f. f ≢ EditFault.Device
         → D.bytes device.new ≡ D.bytes device.old) }
     ensures written { D.tells → (e : TheEdit)

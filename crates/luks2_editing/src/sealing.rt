@@ -36,7 +36,7 @@ pub(crate) fn write_sealed<D: Device>(
     secrets: &Secrets<'_>,
     json: &[u8],
 ) -> Result<(), EditFault>
-    requires passphrase { 0 < secrets.now.memory → length secrets.now.passphrase.now < 2 ^ 32 }
+    requires passphrase { 0 < secrets.now.allowed.memory → length secrets.now.passphrase.now < 2 ^ 32 }
     requires ready { IsReadyPlan chosen.now.hdr_size plan.now secrets.now.key.now
         secrets.now.random.now (D.size device.old) }
     requires number { chosen.now.seqid + 1 < 2 ^ 64 }
@@ -49,7 +49,7 @@ pub(crate) fn write_sealed<D: Device>(
         → IsSettled D.unsettled device.new }
     ensures count { CountsFailure is_edit_failure result
         (D.failed device.old) (D.failed device.new) }
-    ensures fault { IfErr result (IsPlanFault secrets.now.memory plan.now) }
+    ensures fault { IfErr result (IsPlanFault secrets.now.allowed plan.now) }
     ensures same { D.tells → IfErr result (λ f. f ≢ EditFault.Device
         → D.bytes device.new ≡ D.bytes device.old) }
     ensures sealed { D.tells → OnOk result
@@ -94,7 +94,7 @@ fn seal<D: Device>(
     secrets: &Secrets<'_>,
     stripes: &[u8],
 ) -> Result<(), EditFault>
-    requires passphrase { 0 < secrets.now.memory → length secrets.now.passphrase.now < 2 ^ 32 }
+    requires passphrase { 0 < secrets.now.allowed.memory → length secrets.now.passphrase.now < 2 ^ 32 }
     requires ready { IsReadyToSeal plan.now secrets.now.key.now stripes.now (D.size device.old) }
     requires room { D.failed device.old + 1 < 2 ^ 64 }
     requires settled { D.tells → IsSettled D.unsettled device.old }
@@ -103,7 +103,7 @@ fn seal<D: Device>(
         → IsSettled D.unsettled device.new }
     ensures count { CountsFailure is_edit_failure result
         (D.failed device.old) (D.failed device.new) }
-    ensures fault { IfErr result (IsPlanFault secrets.now.memory plan.now) }
+    ensures fault { IfErr result (IsPlanFault secrets.now.allowed plan.now) }
     ensures same { D.tells → IfErr result (λ f. f ≢ EditFault.Device
         → D.bytes device.new ≡ D.bytes device.old) }
     ensures sealed { D.tells → OnOk result
@@ -117,7 +117,7 @@ fn seal<D: Device>(
         device,
         plan,
         secrets.passphrase,
-        secrets.memory,
+        secrets.allowed,
         secrets.key,
         stripes,
     ) {

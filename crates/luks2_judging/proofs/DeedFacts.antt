@@ -10,7 +10,7 @@ use Rattle.luks_edit.specs.declared.deed.Place.TheVariants.{New, Opened}
 use Rattle.luks_edit.specs.declared.deed.Sealed.{Sealed}
 use Rattle.luks_edit.specs.declared.edit.Edit.{Edit}
 use Rattle.luks_edit.specs.declared.edit.Edit.TheVariants.{Add, Change, Remove, Repair, Label}
-use Rattle.luks_edit.specs.Asked.{allowed_memory, deed_of, memory_for, memory_in}
+use Rattle.luks_edit.specs.Asked.{allowed_by, deed_of, allowed_for, allowed_in}
 use Rattle.luks2_judging.specs.Judging.{sealing}
 
 abbrev pub edit_at : Place → Sealed → Edit
@@ -49,9 +49,9 @@ pub sealed_as : (e : Edit) (s : Sealed) (place : Place) (n : ℕ) (asked : Asked
     → deed_of e ≡ deed.Seal (sealing n s.opener.passphrase place s.passphrase asked)
 sealed_as e s place n asked is at like same = rw (like, same, ← at) is
 
--- the memory that it allows
-pub sealed_memory : (e : Edit) (s : Sealed) → deed_of e ≡ deed.Seal s → allowed_memory e ≡ memory_for s.opener.passphrase s.passphrase.now
-sealed_memory e s is = ap memory_in is
+-- what it allows
+pub sealed_allowed : (e : Edit) (s : Sealed) → deed_of e ≡ deed.Seal s → allowed_by e ≡ allowed_for s.opener.passphrase s.passphrase.now
+sealed_allowed e s is = ap allowed_in is
 
 -- one that rewrites the header, by its label
 pub rewritten : (e : Edit) (label is : Option (Bor (List ℕ))) → deed.Rewrite label ≡ deed_of e → label ≡ is → deed_of e ≡ deed.Rewrite is

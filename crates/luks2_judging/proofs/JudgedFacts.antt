@@ -17,7 +17,7 @@ use Rattle.luks_edit.specs.declared.edit_fault.EditFault.{EditFault}
 use Rattle.luks_edit.specs.declared.edit_fault.EditFault.TheVariants as fault
 use Rattle.luks_making.specs.Derivations.{asked_beyond, asked_few_turns}
 use Rattle.luks_making.specs.declared.derivation.AskedDerivation.{AskedDerivation}
-use Rattle.luks_edit.specs.Asked.{allowed_memory, HasFewIterations, IsBeyondMemory, memory_for, NamesItself, OpensBy}
+use Rattle.luks_edit.specs.Asked.{allowed_by, HasFewIterations, IsBeyondMemory, allowed_for, NamesItself, OpensBy}
 use Rattle.luks_edit.specs.Opener.{IsShut}
 use Rattle.luks_edit.specs.RowFacts.{after_check, after_plan, first_of_check, first_of_plan, first_of_row, next, not_before, passed_from, Passed}
 use Rattle.luks2_edit_laws.specs.Metadata.{HasMetadata}
@@ -56,9 +56,9 @@ module _ (v : List ℕ) (payload : Data) (e : Edit) where
   least_shut : (f g : SlotFault) → IsFirstShut v e f → IsShut v e g → slot_row f ≤ slot_row g
   least_shut f g x y =
       let one = opens_once e x.slot y.slot x.passphrase y.passphrase x.asked y.asked in
-      let answer : AnswerWithin (allowed_memory e) v x.slot x.passphrase (refused (opening.Slot g)) =
-      subst (λ m. AnswerWithin (allowed_memory e) v m x.passphrase (refused (opening.Slot g))) one.0
-      (subst (λ q. AnswerWithin (allowed_memory e) v y.slot q (refused (opening.Slot g))) one.1 y.answer) in
+      let answer : AnswerWithin (allowed_by e) v x.slot x.passphrase (refused (opening.Slot g)) =
+      subst (λ m. AnswerWithin (allowed_by e) v m x.passphrase (refused (opening.Slot g))) one.0
+      (subst (λ q. AnswerWithin (allowed_by e) v y.slot q (refused (opening.Slot g))) one.1 y.answer) in
       ((x.answer.1 (opening.Slot g) answer.0).1 refl).0
 
   shut_first : (random : List ℕ) (f : SlotFault) → IsPast 4 v payload e random → IsFirstShut v e f → Refusal2 v payload e random (fault.Slot f)
@@ -172,21 +172,21 @@ module _ (v : List ℕ) (payload : Data) (e : Edit) (random : List ℕ) where
   past_label passed not = next (IsEditFault2 v payload e random) fault.BadLabel refl passed not
 
 -- a keyslot is sealed like the keyslot `like`, and derives as is asked: the rows `NoRoom` to `BadLabel`
-module _ (v : List ℕ) (payload : Data) (o : ℕ) (j : Value) (m : HasMetadata v o j) (e : Edit) (like allowed : ℕ) (asked : AskedDerivation)
+module _ (v : List ℕ) (payload : Data) (o : ℕ) (j : Value) (m : HasMetadata v o j) (e : Edit) (like memory : ℕ) (asked : AskedDerivation)
     (rooms : HasNoRoom (hdr_size (header_at v o)) (length v) payload j e ↔ HasNoNewArea (hdr_size (header_at v o)) (length v) payload j like)
-    (few : HasFewIterations e ↔ (asked_few_turns asked ≡ true)) (large : IsBeyondMemory e ↔ (asked_beyond allowed asked ≡ true)) (kept : IsLast j e → ⊥) (good : IsBadLabel e → ⊥)
+    (few : HasFewIterations e ↔ (asked_few_turns asked ≡ true)) (large : IsBeyondMemory e ↔ (asked_beyond memory asked ≡ true)) (kept : IsLast j e → ⊥) (good : IsBadLabel e → ⊥)
     (eight : (random : List ℕ) → IsPast 8 v payload e random) where
   past_area : (HasNoNewArea (hdr_size (header_at v o)) (length v) payload j like → ⊥) → (random : List ℕ) → IsPast 10 v payload e random
   past_area room random = past_last v payload o j m e random (past_room v payload o j m e random (eight random) (λ bad. room (rooms.0 bad))) kept
 
-  pub unsealed_first : (f : EditFault) → IsUnsealable (hdr_size (header_at v o)) (length v) payload j like allowed asked f → IsRefusedEarly v payload e f
+  pub unsealed_first : (f : EditFault) → IsUnsealable (hdr_size (header_at v o)) (length v) payload j like memory asked f → IsRefusedEarly v payload e f
   unsealed_first fault.NoRoom bad = λ random. roomless_first v payload o j m e random (eight random) (rooms.1 bad)
   unsealed_first fault.Iterations bad = λ random. few_first v payload e random (past_area bad.room random) (few.1 bad.turns)
   unsealed_first fault.Argon2 bad =
       λ random. large_first v payload e random (past_few v payload e random (past_area bad.room random) (λ quick. both_ways _ bad.turns (few.0 quick))) (large.1 bad.beyond)
   unsealed_first f bad = absurd bad
 
-  pub sealed_past : (HasNoNewArea (hdr_size (header_at v o)) (length v) payload j like → ⊥) → IsAllowed allowed asked → (random : List ℕ)
+  pub sealed_past : (HasNoNewArea (hdr_size (header_at v o)) (length v) payload j like → ⊥) → IsAllowed memory asked → (random : List ℕ)
       → HasNoFaultBefore 13 v payload e random
   sealed_past room enough random = before_of 13 v payload e random
       (past_label v payload e random
@@ -206,13 +206,13 @@ module _ (v : List ℕ) (payload : Data) (o : ℕ) (j : Value) (m : HasMetadata 
     eight : (random : List ℕ) → IsPast 8 v payload (Add by_ old new to asked.iterations asked.chosen) random
     eight random = past_number v payload o j m (Add by_ old new to asked.iterations asked.chosen) random (past random) (new_untaken j to made number) (new_numbered j to made number)
 
-    pub unadded_first : (f : EditFault) → IsUnsealable (hdr_size (header_at v o)) (length v) payload j by_ (memory_for old new.now) asked f
+    pub unadded_first : (f : EditFault) → IsUnsealable (hdr_size (header_at v o)) (length v) payload j by_ (allowed_for old new.now).memory asked f
         → IsRefusedEarly v payload (Add by_ old new to asked.iterations asked.chosen) f
-    unadded_first f bad = unsealed_first v payload o j m (Add by_ old new to asked.iterations asked.chosen) by_ (memory_for old new.now) asked (λ x. x, λ x. x) (λ x. x, λ x. x) (λ x. x, λ x. x) (λ x. x) (λ x. x) eight f bad
+    unadded_first f bad = unsealed_first v payload o j m (Add by_ old new to asked.iterations asked.chosen) by_ (allowed_for old new.now).memory asked (λ x. x, λ x. x) (λ x. x, λ x. x) (λ x. x, λ x. x) (λ x. x) (λ x. x) eight f bad
 
-    pub added_past : (HasNoNewArea (hdr_size (header_at v o)) (length v) payload j by_ → ⊥) → IsAllowed (memory_for old new.now) asked → (random : List ℕ)
+    pub added_past : (HasNoNewArea (hdr_size (header_at v o)) (length v) payload j by_ → ⊥) → IsAllowed (allowed_for old new.now).memory asked → (random : List ℕ)
         → HasNoFaultBefore 13 v payload (Add by_ old new to asked.iterations asked.chosen) random
-    added_past = sealed_past v payload o j m (Add by_ old new to asked.iterations asked.chosen) by_ (memory_for old new.now) asked (λ x. x, λ x. x) (λ x. x, λ x. x) (λ x. x, λ x. x) (λ x. x) (λ x. x) eight
+    added_past = sealed_past v payload o j m (Add by_ old new to asked.iterations asked.chosen) by_ (allowed_for old new.now).memory asked (λ x. x, λ x. x) (λ x. x, λ x. x) (λ x. x, λ x. x) (λ x. x) (λ x. x) eight
 
 -- ---- the other edits
 
@@ -221,13 +221,13 @@ module _ (v : List ℕ) (payload : Data) (o : ℕ) (j : Value) (m : HasMetadata 
   change_eight : (random : List ℕ) → IsPast 8 v payload (Change slot old new asked.iterations asked.chosen) random
   change_eight random = past_number v payload o j m (Change slot old new asked.iterations asked.chosen) random (past random) (λ x. x) (λ x. x)
 
-  pub unchanged_first : (f : EditFault) → IsUnsealable (hdr_size (header_at v o)) (length v) payload j slot (memory_for old new.now) asked f
+  pub unchanged_first : (f : EditFault) → IsUnsealable (hdr_size (header_at v o)) (length v) payload j slot (allowed_for old new.now).memory asked f
       → IsRefusedEarly v payload (Change slot old new asked.iterations asked.chosen) f
-  unchanged_first f bad = unsealed_first v payload o j m (Change slot old new asked.iterations asked.chosen) slot (memory_for old new.now) asked (λ x. x, λ x. x) (λ x. x, λ x. x) (λ x. x, λ x. x) (λ x. x) (λ x. x) change_eight f bad
+  unchanged_first f bad = unsealed_first v payload o j m (Change slot old new asked.iterations asked.chosen) slot (allowed_for old new.now).memory asked (λ x. x, λ x. x) (λ x. x, λ x. x) (λ x. x, λ x. x) (λ x. x) (λ x. x) change_eight f bad
 
-  pub changed_past : (HasNoNewArea (hdr_size (header_at v o)) (length v) payload j slot → ⊥) → IsAllowed (memory_for old new.now) asked → (random : List ℕ)
+  pub changed_past : (HasNoNewArea (hdr_size (header_at v o)) (length v) payload j slot → ⊥) → IsAllowed (allowed_for old new.now).memory asked → (random : List ℕ)
       → HasNoFaultBefore 13 v payload (Change slot old new asked.iterations asked.chosen) random
-  changed_past = sealed_past v payload o j m (Change slot old new asked.iterations asked.chosen) slot (memory_for old new.now) asked (λ x. x, λ x. x) (λ x. x, λ x. x) (λ x. x, λ x. x) (λ x. x) (λ x. x) change_eight
+  changed_past = sealed_past v payload o j m (Change slot old new asked.iterations asked.chosen) slot (allowed_for old new.now).memory asked (λ x. x, λ x. x) (λ x. x, λ x. x) (λ x. x, λ x. x) (λ x. x) (λ x. x) change_eight
 
 module _ (v : List ℕ) (payload : Data) (o : ℕ) (j : Value) (m : HasMetadata v o j) (slot : ℕ) (by_ : Option ℕ) (passphrase : Passphrase)
     (past : (random : List ℕ) → IsPast 6 v payload (Remove slot by_ passphrase) random) where

@@ -24,7 +24,7 @@ use Rattle.luks_reading.proofs.VolumeLaws.{one_answer, uuid_faultless}
 use Rattle.luks_edit.specs.declared.edit.Edit.{Edit}
 use Rattle.luks_edit.specs.declared.edit.Edit.TheVariants.{Add, Change, Remove, Repair, Label}
 use Rattle.luks_edit.specs.declared.edit_fault.EditFault.TheVariants as edit_fault
-use Rattle.luks_edit.specs.Asked.{allowed_memory, OpensBy}
+use Rattle.luks_edit.specs.Asked.{allowed_by, OpensBy}
 use Rattle.luks_edit.specs.Opener.{IsLocked, IsShut}
 use Rattle.luks2_edit_laws.specs.Metadata.{HasMetadata, IsInUse}
 use Rattle.luks2_edit_laws.specs.Refused.{HasSaid, IsAbsent}
@@ -55,27 +55,27 @@ wanting_of n opening.Device wants = absurd (cc)
 wanting_of n opening.Memory wants = refl
 
 module _ (v : List ℕ) (e : Edit) (n : ℕ) (p : List ℕ) (asked : OpensBy e n p) where
-  locked_here : IsLocked v e → AnswerWithin (allowed_memory e) v n p no_key
+  locked_here : IsLocked v e → AnswerWithin (allowed_by e) v n p no_key
   locked_here bad =
       let one = opens_once e n bad.slot p bad.passphrase asked bad.asked in
-      subst (λ m. AnswerWithin (allowed_memory e) v m p no_key) one.0 (subst (λ q. AnswerWithin (allowed_memory e) v bad.slot q no_key) one.1 bad.answer)
+      subst (λ m. AnswerWithin (allowed_by e) v m p no_key) one.0 (subst (λ q. AnswerWithin (allowed_by e) v bad.slot q no_key) one.1 bad.answer)
 
-  shut_here : (f : SlotFault) → IsShut v e f → AnswerWithin (allowed_memory e) v n p (refused (opening.Slot f))
+  shut_here : (f : SlotFault) → IsShut v e f → AnswerWithin (allowed_by e) v n p (refused (opening.Slot f))
   shut_here f bad =
       let one = opens_once e n bad.slot p bad.passphrase asked bad.asked in
-      subst (λ m. AnswerWithin (allowed_memory e) v m p (refused (opening.Slot f))) one.0 (subst (λ q. AnswerWithin (allowed_memory e) v bad.slot q (refused (opening.Slot f))) one.1 bad.answer)
+      subst (λ m. AnswerWithin (allowed_by e) v m p (refused (opening.Slot f))) one.0 (subst (λ q. AnswerWithin (allowed_by e) v bad.slot q (refused (opening.Slot f))) one.1 bad.answer)
 
-  pub opens_by : (key : List ℕ) → AnswerWithin (allowed_memory e) v n p (opens key) → Opens v e key
+  pub opens_by : (key : List ℕ) → AnswerWithin (allowed_by e) v n p (opens key) → Opens v e key
   opens_by key opened = record {
     gives = λ m q other. (let one = opens_once e n m p q asked other in
-        subst (λ k. AnswerWithin (allowed_memory e) v k q (opens key)) (sym one.0) (subst (λ r. AnswerWithin (allowed_memory e) v n r (opens key)) (sym one.1) opened));
+        subst (λ k. AnswerWithin (allowed_by e) v k q (opens key)) (sym one.0) (subst (λ r. AnswerWithin (allowed_by e) v n r (opens key)) (sym one.1) opened));
     past = record {
-      unlocked = λ bad. one_answer (allowed_memory e) v n p (opens key) no_key opened (locked_here bad);
-      unshut = λ f bad. one_answer (allowed_memory e) v n p (opens key) (refused (opening.Slot f)) opened (shut_here f bad);
+      unlocked = λ bad. one_answer (allowed_by e) v n p (opens key) no_key opened (locked_here bad);
+      unshut = λ f bad. one_answer (allowed_by e) v n p (opens key) (refused (opening.Slot f)) opened (shut_here f bad);
     };
   }
 
-  pub locked_by : AnswerWithin (allowed_memory e) v n p no_key → IsLocked v e
+  pub locked_by : AnswerWithin (allowed_by e) v n p no_key → IsLocked v e
   locked_by answer = record { slot = n; passphrase = p; asked = asked; answer = answer }
 
   module _ (o : ℕ) (j : Value) (m : HasMetadata v o j) (payload : Data) (well : WellFormed v payload)
@@ -83,8 +83,8 @@ module _ (v : List ℕ) (e : Edit) (n : ℕ) (p : List ℕ) (asked : OpensBy e n
     volume : IsLuks2Volume (header_at v o) (json_at v o) payload (length v)
     volume = subst (λ b. WellFormedAs v payload b) (choices_agree v well.choice (luks2 o m.copies) well.chosen m.chosen) well.formed
 
-    as_luks2 : (f : OpenFault) → AnswerWithin (allowed_memory e) v n p (refused f) → IsLuks2RefusalWithin (allowed_memory e) (header_at v o) (json_at v o) (length v) n f
-    as_luks2 f is = subst (λ c. IsRefusalAsWithin (allowed_memory e) v n c f) (choices_agree v is.0.choice (luks2 o m.copies) is.0.chosen m.chosen) is.0.fault
+    as_luks2 : (f : OpenFault) → AnswerWithin (allowed_by e) v n p (refused f) → IsLuks2RefusalWithin (allowed_by e) (header_at v o) (json_at v o) (length v) n f
+    as_luks2 f is = subst (λ c. IsRefusalAsWithin (allowed_by e) v n c f) (choices_agree v is.0.choice (luks2 o m.copies) is.0.chosen m.chosen) is.0.fault
 
     used : IsInUse j n
     used = used_of j e n p asked (λ absent. there (say v o j m (λ q i. IsAbsent i e) absent))
@@ -92,7 +92,7 @@ module _ (v : List ℕ) (e : Edit) (n : ℕ) (p : List ℕ) (asked : OpensBy e n
     same_value : (i : Value) → Json (json_at v o) i → i ≡ j
     same_value i holds = one_value (json_at v o) i j holds m.holds
 
-    not_outside : IsLuks2RefusalWithin (allowed_memory e) (header_at v o) (json_at v o) (length v) n opening.Outside → ⊥
+    not_outside : IsLuks2RefusalWithin (allowed_by e) (header_at v o) (json_at v o) (length v) n opening.Outside → ⊥
     not_outside out =
         let layout = volume.layout.1 in
         let same : out.is.value ≡ volume.layout.0 = one_value (json_at v o) out.is.value volume.layout.0 out.is.holds layout.metadata.json in
@@ -106,7 +106,7 @@ module _ (v : List ℕ) (e : Edit) (n : ℕ) (p : List ℕ) (asked : OpensBy e n
         omega (arith, past, inside)
 
     -- a keyslot of a well formed volume is refused by its plan alone, and memory only where it takes it
-    pub unopened_by : (f : OpenFault) → IsRefusedByWithin (allowed_memory e) v n p f → (f ≡ opening.Memory → TakesMemory (allowed_memory e) v n) → IsUnopened v e (unopened n f)
+    pub unopened_by : (f : OpenFault) → IsRefusedByWithin (allowed_by e) v n p f → (f ≡ opening.Memory → TakesMemory (allowed_by e) v n) → IsUnopened v e (unopened n f)
     unopened_by (opening.Head f) is other = (uuid_faultless (uuid_field (header_at v o))).1 volume.uuid f (as_luks2 (opening.Head f) is)
     unopened_by (opening.Meta f) is other = (metadata_faultless (json_at v o)).1 (volume.layout.0, volume.layout.1.metadata) f (as_luks2 (opening.Meta f) is)
     unopened_by opening.NoSuchSlot is other =
@@ -117,7 +117,7 @@ module _ (v : List ℕ) (e : Edit) (n : ℕ) (p : List ℕ) (asked : OpensBy e n
     unopened_by opening.SlotFree is other = as_luks2 opening.SlotFree is
     unopened_by opening.Outside is other = not_outside (as_luks2 opening.Outside is)
     unopened_by (opening.Slot f) is other = record {
-      unlocked = λ bad. one_answer (allowed_memory e) v n p (refused (opening.Slot f)) no_key is (locked_here bad);
+      unlocked = λ bad. one_answer (allowed_by e) v n p (refused (opening.Slot f)) no_key is (locked_here bad);
       slot = n;
       passphrase = p;
       asked = asked;

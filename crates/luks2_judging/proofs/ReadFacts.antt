@@ -16,7 +16,7 @@ use Rattle.luks_making.specs.declared.derivation.AskedDerivation.{AskedDerivatio
 use Rattle.luks_edit.specs.declared.edit.Passphrase.{Passphrase}
 use Rattle.luks_edit.specs.declared.edit_fault.EditFault.{EditFault}
 use Rattle.luks_edit.specs.declared.edit_fault.EditFault.TheVariants as fault
-use Rattle.luks_edit.specs.Asked.{memory_for, OpensBy}
+use Rattle.luks_edit.specs.Asked.{allowed_for, OpensBy}
 use Rattle.luks2_edit_laws.specs.Metadata.{HasMetadata}
 use Rattle.luks2_edit_laws.specs.Places.{IsNewArea}
 use Rattle.luks2_edit_laws.specs.Refused.{HasSaid, IsAbsent, IsBadLabel, IsOnlyOne}
@@ -77,15 +77,15 @@ module _ {v : List ℕ} {payload : Data} {e : Edit} {o : ℕ} {meta : Meta} {ent
 
     -- a keyslot is added
     module _ {by_ : ℕ} {old : Passphrase} {new : Bor (List ℕ)} {to : Option ℕ} (asked : AskedDerivation) (is : e ≡ Add by_ old new to asked.iterations asked.chosen) where
-      pub unadded_refused : (f : EditFault) → IsUnadded (area_len meta + 4096) total payload (content meta) by_ to (memory_for old new.now) asked f
+      pub unadded_refused : (f : EditFault) → IsUnadded (area_len meta + 4096) total payload (content meta) by_ to (allowed_for old new.now).memory asked f
           → IsRefusedEarly v payload e f
       unadded_refused f (inl bad) = subst (λ y. IsRefusedEarly v payload y f) (sym is)
           (number_first v payload o (content meta) r.metadata by_ old new to asked (six_of (Add by_ old new to asked.iterations asked.chosen) is) f bad)
       unadded_refused f (inr bad) = subst (λ y. IsRefusedEarly v payload y f) (sym is)
           (unadded_first v payload o (content meta) r.metadata by_ old new to asked (six_of (Add by_ old new to asked.iterations asked.chosen) is)
-          bad.0.number bad.0.is f (said_of (λ h t. IsUnsealable h t payload (content meta) by_ (memory_for old new.now) asked f) bad.1))
+          bad.0.number bad.0.is f (said_of (λ h t. IsUnsealable h t payload (content meta) by_ (allowed_for old new.now).memory asked f) bad.1))
 
-      pub added_passed : {made : ℕ} {a : Area} → IsNewNumber (content meta) to made → IsAllowed (memory_for old new.now) asked
+      pub added_passed : {made : ℕ} {a : Area} → IsNewNumber (content meta) to made → IsAllowed (allowed_for old new.now).memory asked
           → IsNewArea (area_len meta + 4096) total payload (content meta) by_ a → (random : List ℕ) → HasNoFaultBefore 13 v payload e random
       added_passed {made} {a} number enough place random = subst (λ y. HasNoFaultBefore 13 v payload y random) (sym is)
           (added_past v payload o (content meta) r.metadata by_ old new to asked (six_of (Add by_ old new to asked.iterations asked.chosen) is) made number
@@ -93,13 +93,13 @@ module _ {v : List ℕ} {payload : Data} {e : Edit} {o : ℕ} {meta : Meta} {ent
 
     -- one is sealed again
     module _ {slot : ℕ} {old : Passphrase} {new : Bor (List ℕ)} (asked : AskedDerivation) (is : e ≡ Change slot old new asked.iterations asked.chosen) where
-      pub unchanged_refused : (f : EditFault) → IsUnsealable (area_len meta + 4096) total payload (content meta) slot (memory_for old new.now) asked f
+      pub unchanged_refused : (f : EditFault) → IsUnsealable (area_len meta + 4096) total payload (content meta) slot (allowed_for old new.now).memory asked f
           → IsRefusedEarly v payload e f
       unchanged_refused f bad = subst (λ y. IsRefusedEarly v payload y f) (sym is)
           (unchanged_first v payload o (content meta) r.metadata slot old new asked (six_of (Change slot old new asked.iterations asked.chosen) is)
-          f (said_of (λ h t. IsUnsealable h t payload (content meta) slot (memory_for old new.now) asked f) bad))
+          f (said_of (λ h t. IsUnsealable h t payload (content meta) slot (allowed_for old new.now).memory asked f) bad))
 
-      pub changed_passed : {a : Area} → IsAllowed (memory_for old new.now) asked → IsNewArea (area_len meta + 4096) total payload (content meta) slot a
+      pub changed_passed : {a : Area} → IsAllowed (allowed_for old new.now).memory asked → IsNewArea (area_len meta + 4096) total payload (content meta) slot a
           → (random : List ℕ) → HasNoFaultBefore 13 v payload e random
       changed_passed {a} enough place random = subst (λ y. HasNoFaultBefore 13 v payload y random) (sym is)
           (changed_past v payload o (content meta) r.metadata slot old new asked (six_of (Change slot old new asked.iterations asked.chosen) is)

@@ -26,7 +26,7 @@ use Rattle.luks_edit.specs.declared.deed.Removed.{Removed}
 use Rattle.luks_edit.specs.declared.deed.Sealed.{Sealed}
 use Rattle.luks_edit.specs.declared.edit.Passphrase.{Passphrase}
 use Rattle.luks_edit.specs.declared.edit_fault.EditFault.{EditFault}
-use Rattle.luks_edit.specs.Asked.{deed_of, memory_for}
+use Rattle.luks_edit.specs.Asked.{deed_of, allowed_for}
 use Rattle.luks_edit.specs.Endings.{EndsBy}
 use Rattle.luks2_edit_laws.specs.Metadata.{IsInUse, IsKeyArea}
 use Rattle.luks2_edit_laws.specs.Places.{IsNewArea}
@@ -68,7 +68,7 @@ pub record IsAddition
   pub number : IsNewNumber j to a.made
   pub key_length : HasLuks2KeyBytes j a.by_ (length key)
   pub placed : IsPlaced len j total a.by_ a.area
-  pub allowed : IsAllowed (memory_for old passphrase.now) a.derivation
+  pub allowed : IsAllowed (allowed_for old passphrase.now).memory a.derivation
 
 -- it seals this keyslot again, for the key under the passphrase
 pub record IsRenewal
@@ -80,7 +80,7 @@ pub record IsRenewal
   pub key_length : HasLuks2KeyBytes j r.slot (length key)
   pub placed : IsPlaced len j total r.slot r.area
   pub lost : IsLostArea j total r.slot r.lost
-  pub allowed : IsAllowed (memory_for old passphrase.now) r.derivation
+  pub allowed : IsAllowed (allowed_for old passphrase.now).memory r.derivation
 
 -- it removes this keyslot, and its area with it
 pub record IsRemoval (j : Value) (total : ℕ) (e : Edit) (slot : ℕ) (area : Area) : Type 0 where

@@ -10,12 +10,12 @@ use Rattle.luks_reading.specs.Answer.{AnswerWithin, opens, refused, TakesMemory}
 use Rattle.luks_edit.specs.declared.edit.Edit.{Edit}
 use Rattle.luks_edit.specs.declared.edit_fault.EditFault.{EditFault}
 use Rattle.luks_edit.specs.declared.edit_fault.EditFault.TheVariants as fault
-use Rattle.luks_edit.specs.Asked.{allowed_memory, OpensBy}
+use Rattle.luks_edit.specs.Asked.{allowed_by, OpensBy}
 use Rattle.luks_edit.specs.Opener.{IsLocked, IsShut}
 
 -- the keyslot that the edit opens opens to the key
 abbrev pub IsOpenedTo : List ℕ → Edit → List ℕ → Type 0
-IsOpenedTo v e key = (n : ℕ) (p : List ℕ) → OpensBy e n p → AnswerWithin (allowed_memory e) v n p (opens key)
+IsOpenedTo v e key = (n : ℕ) (p : List ℕ) → OpensBy e n p → AnswerWithin (allowed_by e) v n p (opens key)
 
 -- the edit is past the opening of its keyslot, if it opens one
 pub record IsUnlocked (v : List ℕ) (e : Edit) : Type 0 where
@@ -33,14 +33,14 @@ pub record IsFirstShut (v : List ℕ) (e : Edit) (f : SlotFault) : Type 0 where
   pub slot : ℕ
   pub passphrase : List ℕ
   pub asked : OpensBy e slot passphrase
-  pub answer : AnswerWithin (allowed_memory e) v slot passphrase (refused (opening.Slot f))
+  pub answer : AnswerWithin (allowed_by e) v slot passphrase (refused (opening.Slot f))
 
 -- it isn't refused, and derives by Argon2, which takes memory
 pub record TakesMemoryToOpen (v : List ℕ) (e : Edit) : Type 0 where
   pub slot : ℕ
   pub passphrase : List ℕ
   pub asked : OpensBy e slot passphrase
-  pub takes : TakesMemory (allowed_memory e) v slot
+  pub takes : TakesMemory (allowed_by e) v slot
 
 -- why it doesn't open, unless the device failed
 abbrev pub IsUnopened : List ℕ → Edit → EditFault → Type 0

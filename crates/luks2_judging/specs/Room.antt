@@ -39,9 +39,9 @@ pub record IsPlaced (len : ℕ) (j : Value) (total n : ℕ) (area : Area) : Type
 
 -- what is asked has enough iterations or passes, and Argon2 that is chosen takes no more than so many
 -- KiB, in its bounds
-pub record IsAllowed (allowed : ℕ) (asked : AskedDerivation) : Type 0 where
+pub record IsAllowed (memory : ℕ) (asked : AskedDerivation) : Type 0 where
   pub turns : asked_few_turns asked ≡ false
-  pub within : asked_beyond allowed asked ≡ false
+  pub within : asked_beyond memory asked ≡ false
 
 -- there is room for the area of a keyslot that is sealed like the keyslot `n`, but its key would be
 -- derived with too few iterations or passes
@@ -50,15 +50,15 @@ pub record IsTooQuick (h total : ℕ) (payload : Data) (j : Value) (n : ℕ) (as
   pub turns : asked_few_turns asked ≡ true
 
 -- it wouldn't, but by an Argon2 that takes too much memory, or is outside its bounds
-pub record IsTooLarge (h total : ℕ) (payload : Data) (j : Value) (n allowed : ℕ) (asked : AskedDerivation) : Type 0 where
+pub record IsTooLarge (h total : ℕ) (payload : Data) (j : Value) (n memory : ℕ) (asked : AskedDerivation) : Type 0 where
   pub room : HasNoNewArea h total payload j n → ⊥
   pub turns : asked_few_turns asked ≡ false
-  pub beyond : asked_beyond allowed asked ≡ true
+  pub beyond : asked_beyond memory asked ≡ true
 
 -- why no keyslot is sealed like the keyslot `n` that derives as is asked, where Argon2 may take so many
 -- KiB
 abbrev pub IsUnsealable : ℕ → ℕ → Data → Value → ℕ → ℕ → AskedDerivation → EditFault → Type 0
-IsUnsealable h total payload j n allowed asked fault.NoRoom = HasNoNewArea h total payload j n
-IsUnsealable h total payload j n allowed asked fault.Iterations = IsTooQuick h total payload j n asked
-IsUnsealable h total payload j n allowed asked fault.Argon2 = IsTooLarge h total payload j n allowed asked
-IsUnsealable h total payload j n allowed asked f = ⊥
+IsUnsealable h total payload j n memory asked fault.NoRoom = HasNoNewArea h total payload j n
+IsUnsealable h total payload j n memory asked fault.Iterations = IsTooQuick h total payload j n asked
+IsUnsealable h total payload j n memory asked fault.Argon2 = IsTooLarge h total payload j n memory asked
+IsUnsealable h total payload j n memory asked f = ⊥

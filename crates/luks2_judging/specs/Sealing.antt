@@ -15,5 +15,5 @@ pub record HasNewNumber (j : Value) (to : Option ℕ) : Type 0 where
 -- none is added with the members of the keyslot `by_`, by the metadata `j` of a volume of `total` bytes
 -- whose header has `h`: there is no number for it, or there is and it can't be sealed
 abbrev pub IsUnadded : ℕ → ℕ → Data → Value → ℕ → Option ℕ → ℕ → AskedDerivation → EditFault → Type 0
-IsUnadded h total payload j by_ to allowed asked f =
-    IsNumberFault j to f ⊎ (HasNewNumber j to × IsUnsealable h total payload j by_ allowed asked f)
+IsUnadded h total payload j by_ to memory asked f =
+    IsNumberFault j to f ⊎ (HasNewNumber j to × IsUnsealable h total payload j by_ memory asked f)

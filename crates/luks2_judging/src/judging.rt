@@ -15,7 +15,7 @@ ghost use Rattle.luks_reading.specs.Listing.{Lists};
 ghost use Rattle.luks2_edit_laws.specs.Metadata.{IsInUse, IsKeyArea};
 ghost use Rattle.luks2_edit_laws.specs.Places.{IsNewArea};
 ghost use Rattle.luks_reading.specs.Header.{IsAcceptedHeader, IsHeader};
-ghost use Rattle.luks_edit.specs.Asked.{allowed_memory, deed_of};
+ghost use Rattle.luks_edit.specs.Asked.{allowed_by, deed_of};
 ghost use Rattle.luks_edit.specs.declared.deed.Deed.TheVariants.{Remove as RemovesKeyslot, Seal as SealsKey};
 ghost use Rattle.luks_edit.specs.EditFaults.{is_edit_failure};
 ghost use Rattle.luks2_edit_laws.specs.Refused.{IsAbsent, Refusal2};
@@ -82,7 +82,7 @@ pub fn judge_luks2<'a, D: Device>(
     ensures unchanged { IsUnchanged D.tells D.size D.bytes D.unsettled device.old device.new }
     ensures count { CountsFailure is_edit_failure result
         (D.failed device.old) (D.failed device.new) }
-    ensures no_memory { allowed_memory edit.now ≡ 0 → IfErr result (λ f. f ≢ EditFault.Memory) }
+    ensures no_memory { (allowed_by edit.now).memory ≡ 0 → IfErr result (λ f. f ≢ EditFault.Memory) }
     ensures judged { IfOk result (IsJudged header (D.size device.old) edit.now) }
     ensures unrefused { D.tells → IsHeader (D.bytes device.old) header
         → IfOk result (IsUnrefusedSoFar (D.bytes device.old) data_ edit.now) }
@@ -110,7 +110,7 @@ fn taken_by<'a, D: Device>(
     ensures unchanged { IsUnchanged D.tells D.size D.bytes D.unsettled device.old device.new }
     ensures count { CountsFailure is_edit_failure result
         (D.failed device.old) (D.failed device.new) }
-    ensures no_memory { allowed_memory edit.now ≡ 0 → IfErr result (λ f. f ≢ EditFault.Memory) }
+    ensures no_memory { (allowed_by edit.now).memory ≡ 0 → IfErr result (λ f. f ≢ EditFault.Memory) }
     ensures judged { IfOk result (IsTakenOf header.now (D.size device.old) edit.now) }
     ensures unrefused { D.tells → IsHeader (D.bytes device.old) header.now
         → IfOk result (IsUnrefusedOf header.now (D.bytes device.old) data_ edit.now) }
@@ -167,7 +167,7 @@ fn judge_with_key<'a, D: Device>(
     ensures unchanged { IsUnchanged D.tells D.size D.bytes D.unsettled device.old device.new }
     ensures count { CountsFailure is_edit_failure result
         (D.failed device.old) (D.failed device.new) }
-    ensures no_memory { allowed_memory edit.now ≡ 0 → IfErr result (λ f. f ≢ EditFault.Memory) }
+    ensures no_memory { (allowed_by edit.now).memory ≡ 0 → IfErr result (λ f. f ≢ EditFault.Memory) }
     ensures takes { let meta = accepted.now.copy.now.meta in
         IfOk result (Takes (area_len meta) (content meta) (D.size device.old) edit.now) }
     ensures seals { D.tells → IsHeader (D.bytes device.old) header.now → (payload : Payload)
@@ -216,7 +216,7 @@ fn judge_sealing_of<'a, D: Device>(
     ensures unchanged { IsUnchanged D.tells D.size D.bytes D.unsettled device.old device.new }
     ensures count { CountsFailure is_edit_failure result
         (D.failed device.old) (D.failed device.new) }
-    ensures no_memory { allowed_memory edit.now ≡ 0 → IfErr result (λ f. f ≢ EditFault.Memory) }
+    ensures no_memory { (allowed_by edit.now).memory ≡ 0 → IfErr result (λ f. f ≢ EditFault.Memory) }
     ensures takes { let meta = accepted.now.copy.now.meta in
         IfOk result (Takes (area_len meta) (content meta) (D.size device.old) edit.now) }
     ensures seals { D.tells → IsHeader (D.bytes device.old) header.now → (payload : Payload)
@@ -237,7 +237,7 @@ fn judge_sealing_of<'a, D: Device>(
         → IfErr result (IsRefusedEarly (D.bytes device.old) payload edit.now) }
 {
     let room = accepted.room();
-    let memory = edit.allowed_memory();
+    let allowed = edit.allowed();
     let opener = sealed.opener;
     let passphrase = sealed.passphrase;
     let key = unlock(
@@ -246,11 +246,17 @@ fn judge_sealing_of<'a, D: Device>(
         header,
         opener.slot,
         opener.passphrase.bytes,
-        memory,
+        allowed,
     )?;
     match sealed.place {
         Place::New { to } => {
-            let addition = judge_addition(&room, opener.slot, to, sealed.derivation, memory)?;
+            let addition = judge_addition(
+                &room,
+                opener.slot,
+                to,
+                sealed.derivation,
+                allowed.memory,
+            )?;
             Ok(JudgedEdit::Add {
                 addition,
                 key,
@@ -258,7 +264,7 @@ fn judge_sealing_of<'a, D: Device>(
             })
         }
         Place::Opened => {
-            let renewal = judge_renewal(&room, opener.slot, sealed.derivation, memory)?;
+            let renewal = judge_renewal(&room, opener.slot, sealed.derivation, allowed.memory)?;
             Ok(JudgedEdit::Change {
                 renewal,
                 key,
@@ -286,7 +292,7 @@ fn judge_removal_of<'a, D: Device>(
     ensures unchanged { IsUnchanged D.tells D.size D.bytes D.unsettled device.old device.new }
     ensures count { CountsFailure is_edit_failure result
         (D.failed device.old) (D.failed device.new) }
-    ensures no_memory { allowed_memory edit.now ≡ 0 → IfErr result (λ f. f ≢ EditFault.Memory) }
+    ensures no_memory { (allowed_by edit.now).memory ≡ 0 → IfErr result (λ f. f ≢ EditFault.Memory) }
     ensures takes { let meta = accepted.now.copy.now.meta in
         IfOk result (Takes (area_len meta) (content meta) (D.size device.old) edit.now) }
     ensures seals { D.tells → IsHeader (D.bytes device.old) header.now → (payload : Payload)
@@ -307,7 +313,7 @@ fn judge_removal_of<'a, D: Device>(
         → IfErr result (IsRefusedEarly (D.bytes device.old) payload edit.now) }
 {
     let room = accepted.room();
-    let memory = edit.allowed_memory();
+    let allowed = edit.allowed();
     let slot = removed.slot;
     let opener = opener_of(slot, removed.by_);
     let _key = unlock(
@@ -316,7 +322,7 @@ fn judge_removal_of<'a, D: Device>(
         header,
         opener,
         removed.passphrase.bytes,
-        memory,
+        allowed,
     )?;
     let area = judge_removal(room.meta, slot)?;
     Ok(JudgedEdit::Remove { slot, area })
@@ -330,7 +336,7 @@ fn judge_addition(
     by_: u8,
     to: Option<u8>,
     derivation: AskedDerivation,
-    allowed: u32,
+    memory: u32,
 ) -> Result<Addition, EditFault>
     requires there { IsInUse (content room.now.meta.now) by_ }
     requires ends { (m : AreaName) (a : TheArea) → HasArea room.now.entries.now m a
@@ -339,7 +345,7 @@ fn judge_addition(
     ensures memory { IfErr result (λ f. f ≢ EditFault.Memory) }
     ensures like { IfOk result (λ a. a.by_ ≡ by_) }
     ensures derivation { IfOk result (λ a. a.derivation ≡ derivation) }
-    ensures allowed { IfOk result (λ a. IsAllowed allowed a.derivation) }
+    ensures allowed { IfOk result (λ a. IsAllowed memory a.derivation) }
     ensures number { IfOk result (λ a. IsNewNumber (content room.now.meta.now) to a.made) }
     ensures placed { IfOk result (λ a.
         IsPlaced (area_len room.now.meta.now) (content room.now.meta.now) room.now.total a.by_ a.area) }
@@ -350,14 +356,14 @@ fn judge_addition(
     ensures refused { (payload : Payload) → Lists room.now.entries.now
         (Luks2Area (content room.now.meta.now) (area_len room.now.meta.now + 4096) payload room.now.total)
         → IfErr result (IsUnadded (area_len room.now.meta.now + 4096) room.now.total payload
-        (content room.now.meta.now) by_ to allowed derivation) }
+        (content room.now.meta.now) by_ to memory derivation) }
 {
     // Not by `?`: the kit makes no proof of it where no parameter holds a fault of the metadata.
     let made = match new_number(room.meta, to) {
         Ok(made) => made,
         Err(fault) => return Err(fault),
     };
-    match judge_sealing(room, by_, derivation, allowed) {
+    match judge_sealing(room, by_, derivation, memory) {
         Ok(area) => Ok(Addition {
             by_,
             derivation,
@@ -373,7 +379,7 @@ fn judge_renewal(
     room: &Room<'_>,
     slot: u8,
     derivation: AskedDerivation,
-    allowed: u32,
+    memory: u32,
 ) -> Result<Renewal, EditFault>
     requires there { IsInUse (content room.now.meta.now) slot }
     requires ends { (m : AreaName) (a : TheArea) → HasArea room.now.entries.now m a
@@ -382,7 +388,7 @@ fn judge_renewal(
     ensures memory { IfErr result (λ f. f ≢ EditFault.Memory) }
     ensures slot { IfOk result (λ r. r.slot ≡ slot) }
     ensures derivation { IfOk result (λ r. r.derivation ≡ derivation) }
-    ensures allowed { IfOk result (λ r. IsAllowed allowed r.derivation) }
+    ensures allowed { IfOk result (λ r. IsAllowed memory r.derivation) }
     ensures placed { IfOk result (λ r.
         IsPlaced (area_len room.now.meta.now) (content room.now.meta.now) room.now.total r.slot r.area) }
     ensures area { (payload : Payload) → Lists room.now.entries.now
@@ -393,9 +399,9 @@ fn judge_renewal(
     ensures refused { (payload : Payload) → Lists room.now.entries.now
         (Luks2Area (content room.now.meta.now) (area_len room.now.meta.now + 4096) payload room.now.total)
         → IfErr result (IsUnsealable (area_len room.now.meta.now + 4096) room.now.total payload
-        (content room.now.meta.now) slot allowed derivation) }
+        (content room.now.meta.now) slot memory derivation) }
 {
-    match judge_sealing(room, slot, derivation, allowed) {
+    match judge_sealing(room, slot, derivation, memory) {
         Ok(area) => Ok(Renewal {
             slot,
             derivation,

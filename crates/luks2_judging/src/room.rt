@@ -50,14 +50,14 @@ pub(crate) fn judge_sealing(
     room: &Room<'_>,
     n: u8,
     derivation: AskedDerivation,
-    allowed: u32,
+    memory: u32,
 ) -> Result<Area, EditFault>
     requires there { IsInUse (content room.now.meta.now) n }
     requires ends { (m : AreaName) (a : TheArea) → HasArea room.now.entries.now m a
         → IsInside a (2 ^ 64 - 1) }
     ensures own { IfErr result (λ f. is_edit_failure f ≡ false) }
     ensures memory { IfErr result (λ f. f ≢ EditFault.Memory) }
-    ensures allowed { OnOk result (IsAllowed allowed derivation) }
+    ensures allowed { OnOk result (IsAllowed memory derivation) }
     ensures placed { IfOk result (IsPlaced (area_len room.now.meta.now) (content room.now.meta.now) room.now.total n) }
     ensures area { (payload : Payload) → Lists room.now.entries.now
         (Luks2Area (content room.now.meta.now) (area_len room.now.meta.now + 4096) payload room.now.total)
@@ -65,7 +65,7 @@ pub(crate) fn judge_sealing(
     ensures refused { (payload : Payload) → Lists room.now.entries.now
         (Luks2Area (content room.now.meta.now) (area_len room.now.meta.now + 4096) payload room.now.total)
         → IfErr result
-        (IsUnsealable (area_len room.now.meta.now + 4096) room.now.total payload (content room.now.meta.now) n allowed derivation) }
+        (IsUnsealable (area_len room.now.meta.now + 4096) room.now.total payload (content room.now.meta.now) n memory derivation) }
 {
     let Some(area) = new_area(room.meta, room.entries, room.total, n) else {
         return Err(EditFault::NoRoom);
@@ -73,7 +73,7 @@ pub(crate) fn judge_sealing(
     if derivation.has_few_turns() {
         return Err(EditFault::Iterations);
     }
-    if derivation.is_beyond(allowed) {
+    if derivation.is_beyond(memory) {
         return Err(EditFault::Argon2);
     }
     Ok(area)

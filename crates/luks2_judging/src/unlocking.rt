@@ -1,7 +1,7 @@
 //! Opening the keyslot that an edit of a LUKS2 volume names.
 ghost use Rattle.std.specs.Prelude.{◌≡◌, ◌≢◌, ◌+◌, ◌^◌, ◌<◌, length, IfOk, IfErr};
 ghost use Rattle.luks_area.specs.Device.{CountsFailure, IsUnchanged};
-ghost use Rattle.luks_edit.specs.Asked.{OpensBy, allowed_memory};
+ghost use Rattle.luks_edit.specs.Asked.{OpensBy, allowed_by};
 ghost use Rattle.luks_edit.specs.EditFaults.{is_edit_failure};
 ghost use Rattle.luks_edit.specs.declared.edit.Edit.{Edit as TheEdit};
 ghost use Rattle.luks_reading.specs.Answer.{TakesMemory};
@@ -16,7 +16,7 @@ ghost use Rattle.luks2_judging.specs.Opened.{IsUnopened, Opens, unopened};
 use luks_area::{AreaFault, AreaName, Device};
 use luks_edit::EditFault;
 use luks_reading::{CheckFault, Header, OpenFault, open_header_slot};
-use luks_slot::Key;
+use luks_slot::{Allowed, Key};
 use std::alloc::Global;
 
 /// The fault of opening the keyslot `n` as that of an edit.
@@ -37,38 +37,38 @@ fn unopened(n: u8, fault: OpenFault) -> EditFault
 }
 
 /// The key that the keyslot `n` opens to, which an edit opens; or why it doesn't open: `Locked`,
-/// `Slot`, or the device's failure. Argon2 may take `memory` KiB; else no memory is taken.
+/// `Slot`, or the device's failure. Argon2 may take as much memory as is allowed; else none is taken.
 pub(crate) fn unlock<D: Device>(
     alloc: Global,
     device: &mut D,
     header: &Header,
     n: u8,
     passphrase: &[u8],
-    memory: u32,
+    allowed: Allowed,
 ) -> Result<Key, EditFault>
     requires room { D.failed device.old + 1 < 2 ^ 64 }
     requires accepted { IsAcceptedHeader header.now }
     requires luks2 { IsOfLuks2 header.now }
-    requires passphrase { 0 < memory → length passphrase.now < 2 ^ 32 }
+    requires passphrase { 0 < allowed.memory → length passphrase.now < 2 ^ 32 }
     ensures unchanged { IsUnchanged D.tells D.size D.bytes D.unsettled device.old device.new }
     ensures count { CountsFailure is_edit_failure result
         (D.failed device.old) (D.failed device.new) }
     // Memory is refused only to a keyslot that takes it, and to none where none is allowed.
     ensures memory { D.tells → IsHeader (D.bytes device.old) header.now
         → IfErr result (λ f. f ≡ EditFault.Memory
-        → TakesMemory memory (D.bytes device.old) n) }
-    ensures no_memory { memory ≡ 0 → IfErr result (λ f. f ≢ EditFault.Memory) }
+        → TakesMemory allowed (D.bytes device.old) n) }
+    ensures no_memory { allowed.memory ≡ 0 → IfErr result (λ f. f ≢ EditFault.Memory) }
     ensures length { IfOk result (λ key. HasKeyBytes header.now n (length key)) }
     ensures opened { D.tells → IsHeader (D.bytes device.old) header.now
-        → (e : TheEdit) → allowed_memory e ≡ memory → OpensBy e n passphrase.now
+        → (e : TheEdit) → allowed_by e ≡ allowed → OpensBy e n passphrase.now
         → IfOk result (Opens (D.bytes device.old) e) }
     ensures refused { D.tells → IsHeader (D.bytes device.old) header.now
         → (payload : Payload) (e : TheEdit) → WellFormed (D.bytes device.old) payload
-        → allowed_memory e ≡ memory → OpensBy e n passphrase.now
+        → allowed_by e ≡ allowed → OpensBy e n passphrase.now
         → (HasSaid (D.bytes device.old) (λ o j. IsAbsent j e) → ⊥)
         → IfErr result (IsUnopened (D.bytes device.old) e) }
 {
-    match open_header_slot(alloc, device, header, n, passphrase, memory) {
+    match open_header_slot(alloc, device, header, n, passphrase, allowed) {
         Ok(found) => match found {
             Some(key) => Ok(key),
             None => Err(EditFault::Locked),

@@ -1,7 +1,7 @@
 //! Judges a volume, and tries a passphrase on it.
 #![tactic(auto)]
 
-use luks_volume::{Data, FileDevice, check, unlock};
+use luks_volume::{Allowed, Data, FileDevice, check, unlock};
 use std::fs::File;
 use std::io;
 use std::process::ExitCode;
@@ -21,7 +21,7 @@ fn look<R: AllocGlobal + Files<File = File> + Print>(
         println!(rt; "refused {fault}")?;
         return Ok(1);
     }
-    match unlock(rt.alloc(), &mut device, passphrase, 0) {
+    match unlock(rt.alloc(), &mut device, passphrase, Allowed::NOTHING) {
         Ok(Some((slot, _key))) => println!(rt; "slot {slot} opens")?,
         Ok(None) => println!(rt; "no slot opens")?,
         Err(fault) => println!(rt; "refused {fault}")?,

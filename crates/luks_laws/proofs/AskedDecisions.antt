@@ -5,6 +5,7 @@ use Rattle.luks1_header.specs.declared.fault.HeadFault.{HeadFault}
 use Rattle.luks1_header.specs.declared.fault.HeadFault.TheVariants as head
 use Rattle.luks1_header.specs.declared.fault.IterationsOf.TheVariants as of
 use Rattle.luks_making.specs.Derivations.{asked_beyond, asked_few_turns, takes_memory}
+use Rattle.luks_slot.specs.declared.allowed.Allowed.{Allowed}
 use Rattle.luks_slot.specs.declared.fault.SlotFault.{SlotFault}
 use Rattle.luks_slot.specs.declared.fault.SlotFault.TheVariants as slot
 use Rattle.luks_reading.specs.declared.open_fault.OpenFault.{OpenFault}
@@ -17,7 +18,7 @@ use Rattle.luks_edit.specs.declared.deed.Deed.{Deed}
 use Rattle.luks_edit.specs.declared.deed.Deed.TheVariants as deed
 use Rattle.luks_edit.specs.declared.deed.Removed.{Removed}
 use Rattle.luks_edit.specs.declared.deed.Sealed.{Sealed}
-use Rattle.luks_edit.specs.Asked.{allowed_memory, ChoosesArgon2, deed_of, HasFewIterations, IsBeyondMemory, MatchDeed, memory_for, NamesItself, opener_in, opener_of, OpensBy, removed_by, sealed_by, Wants}
+use Rattle.luks_edit.specs.Asked.{allowed_by, ChoosesArgon2, deed_of, HasFewIterations, IsBeyondMemory, MatchDeed, allowed_for, NamesItself, opener_in, opener_of, OpensBy, removed_by, sealed_by, Wants}
 use Rattle.luks_edit.specs.Opener.{IsLocked, IsShut}
 use Rattle.luks_laws.proofs.DecidedFacts.{alike_decided, Decided, one_decided, true_decided}
 use Rattle.luks_laws.proofs.SearchFacts.{some_decided, some_same}
@@ -30,8 +31,8 @@ few_decided e = some_decided Sealed (sealed_by e) (λ s. asked_few_turns s.deriv
 
 -- it chooses an Argon2 that is beyond its memory, or it doesn't
 pub beyond_decided : (e : Edit) → Decided (IsBeyondMemory e)
-beyond_decided e = some_decided Sealed (sealed_by e) (λ s. asked_beyond (memory_for s.opener.passphrase s.passphrase.now) s.derivation ≡ true)
-    (λ s. true_decided (asked_beyond (memory_for s.opener.passphrase s.passphrase.now) s.derivation))
+beyond_decided e = some_decided Sealed (sealed_by e) (λ s. asked_beyond (allowed_for s.opener.passphrase s.passphrase.now).memory s.derivation ≡ true)
+    (λ s. true_decided (asked_beyond (allowed_for s.opener.passphrase s.passphrase.now).memory s.derivation))
 
 -- it chooses Argon2, or it doesn't
 pub argon2_decided : (e : Edit) → Decided (ChoosesArgon2 e)
@@ -131,7 +132,7 @@ head_apart f e = omega (arith, e)
 
 -- ---- answers
 
-module _ (m : ℕ) (v : List ℕ) (n : ℕ) (p : List ℕ) where
+module _ (m : Allowed) (v : List ℕ) (n : ℕ) (p : List ℕ) where
   -- an answer is that there is no key, or it isn't
   no_key_as : (a : Opened) → AnswerWithin m v n p a → Decided (AnswerWithin m v n p no_key)
   no_key_as (refused f) x = inr (λ y. one_answer m v n p (refused f) no_key x y)
@@ -156,15 +157,15 @@ module _ (m : ℕ) (v : List ℕ) (n : ℕ) (p : List ℕ) where
 
 -- ---- the answer of the keyslot that it opens
 
-module _ (v : List ℕ) (answer : (m n : ℕ) (p : List ℕ) → (a : Opened) × AnswerWithin m v n p a) (e : Edit) where
+module _ (v : List ℕ) (answer : (m : Allowed) (n : ℕ) (p : List ℕ) → (a : Opened) × AnswerWithin m v n p a) (e : Edit) where
   -- the passphrase gives no key, or it does, or the keyslot is refused
   pub locked_decided : Decided (IsLocked v e)
-  locked_decided = alike_decided ((n : ℕ) × (p : List ℕ) × OpensBy e n p × AnswerWithin (allowed_memory e) v n p no_key) (IsLocked v e)
+  locked_decided = alike_decided ((n : ℕ) × (p : List ℕ) × OpensBy e n p × AnswerWithin (allowed_by e) v n p no_key) (IsLocked v e)
       (λ x. record { slot = x.0; passphrase = x.1; asked = x.2; answer = x.3 }) (λ x. (x.slot, x.passphrase, x.asked, x.answer))
-      (opener_decided e (λ n p. AnswerWithin (allowed_memory e) v n p no_key) (λ n p. no_key_as (allowed_memory e) v n p (answer (allowed_memory e) n p).0 (answer (allowed_memory e) n p).1))
+      (opener_decided e (λ n p. AnswerWithin (allowed_by e) v n p no_key) (λ n p. no_key_as (allowed_by e) v n p (answer (allowed_by e) n p).0 (answer (allowed_by e) n p).1))
 
   -- the keyslot is refused by a plan's fault, or it isn't
   pub shut_decided : (f : SlotFault) → Decided (IsShut v e f)
-  shut_decided f = alike_decided ((n : ℕ) × (p : List ℕ) × OpensBy e n p × AnswerWithin (allowed_memory e) v n p (refused (opening.Slot f))) (IsShut v e f)
+  shut_decided f = alike_decided ((n : ℕ) × (p : List ℕ) × OpensBy e n p × AnswerWithin (allowed_by e) v n p (refused (opening.Slot f))) (IsShut v e f)
       (λ x. record { slot = x.0; passphrase = x.1; asked = x.2; answer = x.3 }) (λ x. (x.slot, x.passphrase, x.asked, x.answer))
-      (opener_decided e (λ n p. AnswerWithin (allowed_memory e) v n p (refused (opening.Slot f))) (λ n p. shut_as (allowed_memory e) v n p f (answer (allowed_memory e) n p).0 (answer (allowed_memory e) n p).1))
+      (opener_decided e (λ n p. AnswerWithin (allowed_by e) v n p (refused (opening.Slot f))) (λ n p. shut_as (allowed_by e) v n p f (answer (allowed_by e) n p).0 (answer (allowed_by e) n p).1))

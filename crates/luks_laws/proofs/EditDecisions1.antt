@@ -1,5 +1,6 @@
 -- Each fault of an edit of an accepted LUKS1 volume stands, or it doesn't.
 use Rattle.std.proofs.Common.{ℕ, List, inr}
+use Rattle.luks_slot.specs.declared.allowed.Allowed.{Allowed}
 use Rattle.luks_reading.specs.declared.check_fault.CheckFault.{CheckFault}
 use Rattle.luks_reading.specs.declared.report.Data.{Data}
 use Rattle.luks_reading.specs.Answer.{AnswerWithin, Opened}
@@ -12,7 +13,7 @@ use Rattle.luks_laws.proofs.AskedDecisions.{argon2_decided, few_decided, itself_
 use Rattle.luks_laws.proofs.DecidedFacts.{Decided}
 use Rattle.luks_laws.proofs.RowDecisions1.{absent_decided, label_decided, last_decided, miscounted_decided, no_free_decided, taken_decided}
 
-module _ (v : List ℕ) (payload : Data) (answer : (m n : ℕ) (p : List ℕ) → (a : Opened) × AnswerWithin m v n p a) (sound : (f : CheckFault) → IsFault v payload f → ⊥) (e : Edit) (r : List ℕ) where
+module _ (v : List ℕ) (payload : Data) (answer : (m : Allowed) (n : ℕ) (p : List ℕ) → (a : Opened) × AnswerWithin m v n p a) (sound : (f : CheckFault) → IsFault v payload f → ⊥) (e : Edit) (r : List ℕ) where
   -- by the entries, the answer and the edit itself
   pub fault1_decided : (f : EditFault) → Decided (IsEditFault1 v payload e r f)
   fault1_decided (edit.NotAccepted f) = inr (sound f)

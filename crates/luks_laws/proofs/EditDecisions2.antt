@@ -8,6 +8,7 @@ use Rattle.luks_area.specs.declared.area.Area.{Area}
 use Rattle.luks_head.specs.Header2.{hdr_size, header_at, seqid}
 use Rattle.luks_making.specs.Naming.{IsDigestOf}
 use Rattle.luks_meta.specs.Requirements.{has_requirements}
+use Rattle.luks_slot.specs.declared.allowed.Allowed.{Allowed}
 use Rattle.luks_reading.specs.declared.check_fault.CheckFault.{CheckFault}
 use Rattle.luks_reading.specs.declared.report.Data.{Data}
 use Rattle.luks_reading.specs.Answer.{AnswerWithin, Opened}
@@ -47,7 +48,7 @@ said_decided v payload c says (inr isnt) = inr (λ x. let same = c.only x.place 
 
 -- ---- the edit
 
-module _ (v : List ℕ) (payload : Data) (answer : (m n : ℕ) (p : List ℕ) → (a : Opened) × AnswerWithin m v n p a) (sound : (f : CheckFault) → IsFault v payload f → ⊥) (e : Edit) (r : List ℕ) where
+module _ (v : List ℕ) (payload : Data) (answer : (m : Allowed) (n : ℕ) (p : List ℕ) → (a : Opened) × AnswerWithin m v n p a) (sound : (f : CheckFault) → IsFault v payload f → ⊥) (e : Edit) (r : List ℕ) where
   -- where metadata counts
   fault_of_counting : Counting v payload → (f : EditFault) → Decided (IsEditFault2 v payload e r f)
   fault_of_counting c (edit.NotAccepted f) = inr (sound f)

@@ -6,6 +6,7 @@ use Rattle.luks_head.specs.Selection.{Choice, Chosen, luks1, luks2, nothing}
 use Rattle.luks_head.proofs.ChoiceFacts.{choices_agree, choice_exists}
 use Rattle.luks_rules.specs.Accepted.{IsMeta}
 use Rattle.luks_meta.proofs.Namings.{one_digest}
+use Rattle.luks_slot.specs.declared.allowed.Allowed.{Allowed}
 use Rattle.luks_reading.specs.declared.check_fault.CheckFault.{CheckFault}
 use Rattle.luks_reading.specs.declared.report.Data.{Data}
 use Rattle.luks_reading.specs.Answer.{AnswerWithin, Opened}
@@ -67,7 +68,7 @@ module _ (v : List ℕ) (payload : Data) where
 
   -- ---- the edit
 
-  module _ (checked : ((f : CheckFault) × First v payload f) ⊎ WellFormed v payload) (answer : (m n : ℕ) (p : List ℕ) → (a : Opened) × AnswerWithin m v n p a)
+  module _ (checked : ((f : CheckFault) × First v payload f) ⊎ WellFormed v payload) (answer : (m : Allowed) (n : ℕ) (p : List ℕ) → (a : Opened) × AnswerWithin m v n p a)
       (e : Edit) (r : List ℕ) where
     sound : WellFormed v payload → (f : CheckFault) → IsFault v payload f → ⊥
     sound = well_formed_faultless v payload

@@ -17,6 +17,7 @@ use Rattle.luks_rules.specs.declared.table.Section.TheVariants.{Keyslots}
 use Rattle.luks_rules.specs.Accepted.{IsMeta}
 use Rattle.luks_rules.specs.Faults.{Among, object_at}
 use Rattle.luks_rules.specs.MetaFault.{IsMetaFault, meta_key}
+use Rattle.luks_slot.specs.declared.allowed.Allowed.{Allowed}
 use Rattle.luks_reading.specs.declared.open_fault.OpenFault.{OpenFault}
 use Rattle.luks_reading.specs.declared.open_fault.OpenFault.TheVariants as opening
 use Rattle.luks_reading.specs.Answer.{HasNoKeyslot, head_step, IsLuks2RefusalWithin, open_key}
@@ -36,10 +37,10 @@ first_step text (head.Stripes n) bad = absurd bad
 first_step text (head.Iterations (of.Slot n)) bad = absurd bad
 first_step text f bad = refl
 
-module _ (memory : ℕ) (b json : List ℕ) (total n : ℕ) where
+module _ (allowed : Allowed) (b json : List ℕ) (total n : ℕ) where
   -- a fault of the uuid stands before all refusals but the uuid's
   before_all : (f : HeadFault) → IsLeast {F = HeadFault} head_key (IsUuidFault (uuid_field b)) f
-      → (g : OpenFault) → IsLuks2RefusalWithin memory b json total n g → NotAfter (head_step f ∷ head_key f) (open_key g)
+      → (g : OpenFault) → IsLuks2RefusalWithin allowed b json total n g → NotAfter (head_step f ∷ head_key f) (open_key g)
   before_all f least (opening.Head g) bad =
       let one = first_step (uuid_field b) f least.0 in
       let other = first_step (uuid_field b) g bad in
@@ -48,7 +49,7 @@ module _ (memory : ℕ) (b json : List ℕ) (total n : ℕ) where
 
   -- where the uuid has no fault, one of the metadata stands before all refusals but the metadata's
   before_others : ((f : HeadFault) → IsUuidFault (uuid_field b) f → ⊥) → (f : MetaFault) → IsLeast {F = MetaFault} meta_key (IsMetaFault json) f
-      → (g : OpenFault) → IsLuks2RefusalWithin memory b json total n g → NotAfter (2 ∷ meta_key f) (open_key g)
+      → (g : OpenFault) → IsLuks2RefusalWithin allowed b json total n g → NotAfter (2 ∷ meta_key f) (open_key g)
   before_others none f least (opening.Head g) bad = absurd (none g bad)
   before_others none f least (opening.Meta g) bad = (omega arith, λ _. least.1 g bad)
   before_others none f least g bad = (omega arith, λ same. absurd (omega (arith, same)))
@@ -83,20 +84,20 @@ module _ (says : (text : List ℕ) (n : ℕ) → number_of text ≡ Some n → (
     | inr high ↦ inr (λ plan x. let low = x.numbered in absurd (omega (arith, low, high)))
   ]
 
-  module _ (memory : ℕ) (b : List ℕ) (total : ℕ) (head_none : (f : HeadFault) → IsUuidFault (uuid_field b) f → ⊥) (meta_none : (f : MetaFault) → IsMetaFault json f → ⊥) where
+  module _ (allowed : Allowed) (b : List ℕ) (total : ℕ) (head_none : (f : HeadFault) → IsUuidFault (uuid_field b) f → ⊥) (meta_none : (f : MetaFault) → IsMetaFault json f → ⊥) where
     -- each refusal stands or not
-    refusal_decided : (f : OpenFault) → Decided (IsLuks2RefusalWithin memory b json total n f)
+    refusal_decided : (f : OpenFault) → Decided (IsLuks2RefusalWithin allowed b json total n f)
     refusal_decided (opening.Head f) = inr (head_none f)
     refusal_decided (opening.Meta f) = inr (meta_none f)
     refusal_decided opening.NoSuchSlot = no_keyslot_decided
     refusal_decided opening.SlotFree = inr (λ bad. bad)
     refusal_decided opening.Outside = area_past_decided (HasLuks2Plan json n) find_plan (alike_plans json j n value digest) total
-    refusal_decided (opening.Slot f) = refused_within_decided (HasLuks2Plan json n) find_plan (alike_plans json j n value digest) memory f
+    refusal_decided (opening.Slot f) = refused_within_decided (HasLuks2Plan json n) find_plan (alike_plans json j n value digest) allowed f
     refusal_decided opening.Device = inr (λ bad. bad)
     refusal_decided opening.Memory = inr (λ bad. bad)
 
     -- those that may stand
-    among_refusals : (f : OpenFault) → IsLuks2RefusalWithin memory b json total n f → Among f of_keyslot
+    among_refusals : (f : OpenFault) → IsLuks2RefusalWithin allowed b json total n f → Among f of_keyslot
     unfolding of_keyslot
     among_refusals (opening.Head f) bad = absurd (head_none f bad)
     among_refusals (opening.Meta f) bad = absurd (meta_none f bad)
@@ -108,8 +109,8 @@ module _ (says : (text : List ℕ) (n : ℕ) → number_of text ≡ Some n → (
     among_refusals opening.Memory bad = absurd bad
 
     -- a keyslot of accepted metadata has a first refusal or none
-    accepted_refusal_or_none : LeastOrNone OpenFault open_key (IsLuks2RefusalWithin memory b json total n)
-    accepted_refusal_or_none = least_or_none OpenFault open_key (IsLuks2RefusalWithin memory b json total n) refusal_decided of_keyslot among_refusals
+    accepted_refusal_or_none : LeastOrNone OpenFault open_key (IsLuks2RefusalWithin allowed b json total n)
+    accepted_refusal_or_none = least_or_none OpenFault open_key (IsLuks2RefusalWithin allowed b json total n) refusal_decided of_keyslot among_refusals
 
 -- ---- any keyslot
 
@@ -120,18 +121,18 @@ module _ (kinds : (json : List ℕ) → ((j : Value) × Json json j) ⊎ IsBadJs
     (metadata : (json : List ℕ) → ((f : MetaFault) → IsMetaFault json f → ⊥) ↔ ((j : Value) × IsMeta json j))
     (digest : (json : List ℕ) (j : Value) → IsMeta json j → (n m k : ℕ) → IsDigestOf j n m → IsDigestOf j n k → m ≡ k) where
   -- the metadata's first fault, or by accepted metadata
-  by_metadata : (memory : ℕ) (b json : List ℕ) (total n : ℕ) → ((f : HeadFault) → IsUuidFault (uuid_field b) f → ⊥) → LeastOrNone MetaFault meta_key (IsMetaFault json)
-      → LeastOrNone OpenFault open_key (IsLuks2RefusalWithin memory b json total n)
-  by_metadata memory b json total n head_none (inl first) = inl (opening.Meta first.0, (first.1.0, before_others memory b json total n head_none first.0 first.1))
-  by_metadata memory b json total n head_none (inr meta_none) =
+  by_metadata : (allowed : Allowed) (b json : List ℕ) (total n : ℕ) → ((f : HeadFault) → IsUuidFault (uuid_field b) f → ⊥) → LeastOrNone MetaFault meta_key (IsMetaFault json)
+      → LeastOrNone OpenFault open_key (IsLuks2RefusalWithin allowed b json total n)
+  by_metadata allowed b json total n head_none (inl first) = inl (opening.Meta first.0, (first.1.0, before_others allowed b json total n head_none first.0 first.1))
+  by_metadata allowed b json total n head_none (inr meta_none) =
       let j = (metadata json).0 meta_none in
-      accepted_refusal_or_none says json j.0 j.1 (λ i holds. one json i j.0 holds j.1.json) n (digest json j.0 j.1 n) memory b total head_none meta_none
+      accepted_refusal_or_none says json j.0 j.1 (λ i holds. one json i j.0 holds j.1.json) n (digest json j.0 j.1 n) allowed b total head_none meta_none
 
   -- the uuid's first fault, or by the metadata
-  by_uuid : (memory : ℕ) (b json : List ℕ) (total n : ℕ) → LeastOrNone HeadFault head_key (IsUuidFault (uuid_field b)) → LeastOrNone OpenFault open_key (IsLuks2RefusalWithin memory b json total n)
-  by_uuid memory b json total n (inl first) = inl (opening.Head first.0, (first.1.0, before_all memory b json total n first.0 first.1))
-  by_uuid memory b json total n (inr none) = by_metadata memory b json total n none (meta_fault_or_none kinds good one json)
+  by_uuid : (allowed : Allowed) (b json : List ℕ) (total n : ℕ) → LeastOrNone HeadFault head_key (IsUuidFault (uuid_field b)) → LeastOrNone OpenFault open_key (IsLuks2RefusalWithin allowed b json total n)
+  by_uuid allowed b json total n (inl first) = inl (opening.Head first.0, (first.1.0, before_all allowed b json total n first.0 first.1))
+  by_uuid allowed b json total n (inr none) = by_metadata allowed b json total n none (meta_fault_or_none kinds good one json)
 
   -- a keyslot of a copy has a first refusal or none
-  pub luks2_refusal_or_none : (memory : ℕ) (b json : List ℕ) (total n : ℕ) → LeastOrNone OpenFault open_key (IsLuks2RefusalWithin memory b json total n)
-  luks2_refusal_or_none memory b json total n = by_uuid memory b json total n (uuid_fault_or_none (uuid_field b))
+  pub luks2_refusal_or_none : (allowed : Allowed) (b json : List ℕ) (total n : ℕ) → LeastOrNone OpenFault open_key (IsLuks2RefusalWithin allowed b json total n)
+  luks2_refusal_or_none allowed b json total n = by_uuid allowed b json total n (uuid_fault_or_none (uuid_field b))

@@ -1,13 +1,14 @@
 -- The plan of a keyslot lies past the volume's end or not, and is refused or not.
 use Rattle.std.proofs.Common.{◌≡◌, ◌⊎◌, ℕ, ◌+◌, List, [], ◌∷◌, map, Option, Some, None, refl, ap, ◌∙◌, arith, inl, inr}
 use Rattle.luks_rules.specs.Faults.{Among}
+use Rattle.luks_slot.specs.declared.allowed.Allowed.{Allowed}
 use Rattle.luks_slot.specs.declared.fault.SlotFault.{SlotFault}
 use Rattle.luks_slot.specs.declared.fault.SlotFault.TheVariants as slot
 use Rattle.luks_slot.specs.declared.plan.SlotPlan.{SlotPlan}
-use Rattle.luks_slot.specs.Refusal.{slot_refusal, slot_refusal_within}
+use Rattle.luks_slot.specs.Refusal.{slot_refusal_within}
 use Rattle.luks_reading.specs.declared.open_fault.OpenFault.{OpenFault}
 use Rattle.luks_reading.specs.declared.open_fault.OpenFault.TheVariants as opening
-use Rattle.luks_reading.specs.Answer.{HasAreaPast, HasRefusedPlan, HasRefusedPlanWithin}
+use Rattle.luks_reading.specs.Answer.{HasAreaPast, HasRefusedPlanWithin}
 use Rattle.luks_laws.proofs.DecidedFacts.{Decided, less_decided}
 
 -- ---- the faults of a plan
@@ -50,8 +51,7 @@ is_fault_decided (Some g) f = elim (same_fault_decided g f) [ inl same ↦ inl (
 pub record AreAlike (a b : SlotPlan) : Type 0 where
   pub start : a.area.start ≡ b.area.start
   pub len : a.area.len ≡ b.area.len
-  pub refusal : slot_refusal a ≡ slot_refusal b
-  pub refusal_within : (memory : ℕ) → slot_refusal_within memory a ≡ slot_refusal_within memory b
+  pub refusal_within : (allowed : Allowed) → slot_refusal_within allowed a ≡ slot_refusal_within allowed b
 
 -- a set of plans has a member or none
 abbrev pub PlanOrNone : (SlotPlan → Type 0) → Type 0
@@ -73,22 +73,12 @@ module _ (plans : SlotPlan → Type 0) (find : PlanOrNone plans) (alike : (a b :
     | inr none ↦ inr (λ x. none x.plan x.is)
   ]
 
-  -- a plan of the set decides whether one is refused so
-  pub refused_plan_decided : (f : SlotFault) → Decided (HasRefusedPlan plans f)
-  refused_plan_decided f = elim find [
-    | inl own ↦ elim (is_fault_decided (slot_refusal own.0) f) [
+  -- a plan of the set decides whether one is refused so, whatever is allowed
+  pub refused_within_decided : (allowed : Allowed) (f : SlotFault) → Decided (HasRefusedPlanWithin allowed plans f)
+  refused_within_decided allowed f = elim find [
+    | inl own ↦ elim (is_fault_decided (slot_refusal_within allowed own.0) f) [
       | inl bad ↦ inl (record { plan = own.0; is = own.1; refused = bad })
-      | inr good ↦ inr (λ x. good ((alike own.0 x.plan own.1 x.is).refusal ∙ x.refused))
-    ]
-    | inr none ↦ inr (λ x. none x.plan x.is)
-  ]
-
-  -- so it does where Argon2 may take some memory
-  pub refused_within_decided : (memory : ℕ) (f : SlotFault) → Decided (HasRefusedPlanWithin memory plans f)
-  refused_within_decided memory f = elim find [
-    | inl own ↦ elim (is_fault_decided (slot_refusal_within memory own.0) f) [
-      | inl bad ↦ inl (record { plan = own.0; is = own.1; refused = bad })
-      | inr good ↦ inr (λ x. good ((alike own.0 x.plan own.1 x.is).refusal_within memory ∙ x.refused))
+      | inr good ↦ inr (λ x. good ((alike own.0 x.plan own.1 x.is).refusal_within allowed ∙ x.refused))
     ]
     | inr none ↦ inr (λ x. none x.plan x.is)
   ]

@@ -1,5 +1,5 @@
 -- The plans of a keyslot of LUKS2 are alike.
-use Rattle.std.proofs.Common.{◌≡◌, ℕ, List, refl, subst, Some}
+use Rattle.std.proofs.Common.{◌≡◌, Bool, ℕ, List, refl, subst, Some}
 use Rattle.serde_json.specs.Data.{Data}
 use Rattle.luks_json.specs.AreaText.{Json}
 use Rattle.luks_making.specs.Naming.{IsDigestOf}
@@ -9,13 +9,14 @@ use Rattle.luks_rules.specs.declared.table.Section.TheVariants.{Digests, Keyslot
 use Rattle.luks_rules.specs.Faults.{member_at, object_at}
 use Rattle.luks_rules.specs.Reading.{bytes_in, decimal_in, number_in, text_of}
 use Rattle.luks_meta.specs.Says.{small_at}
+use Rattle.luks_slot.specs.declared.allowed.Allowed.{Allowed}
 use Rattle.luks_slot.specs.declared.plan.AreaCipher.{AreaCipher}
 use Rattle.luks_slot.specs.declared.plan.AreaCipher.TheVariants.{Apart, Whole}
 use Rattle.luks_slot.specs.declared.plan.Derivation.{Derivation}
 use Rattle.luks_slot.specs.declared.plan.Derivation.TheVariants.{Argon2, Pbkdf2}
 use Rattle.luks_slot.specs.declared.plan.DigestPlan.{DigestPlan}
 use Rattle.luks_slot.specs.declared.plan.SlotPlan.{SlotPlan}
-use Rattle.luks_slot.specs.Refusal.{is_argon2, is_argon2_refused, is_known_derivation, is_open_cipher, slot_refusal, slot_refusal_within}
+use Rattle.luks_slot.specs.Refusal.{is_allowed_cipher, is_argon2_refused, is_key_size, is_known_derivation, slot_refusal_within}
 use Rattle.luks_reading.specs.PlanFacts.{no_pbkdf2}
 use Rattle.luks_reading.specs.Plans.{HasLuks2Plan, IsLuks2Cipher, IsLuks2Derivation, IsLuks2Digest, IsLuks2Plan}
 use Rattle.luks_laws.proofs.DecidedFacts.{some_same}
@@ -23,15 +24,8 @@ use Rattle.luks_laws.proofs.PlanDecisions.{AreAlike}
 
 -- ---- the parts of a plan
 
--- both derivations are Argon2, or neither is
-same_argon2 : (d : Data) (a b : Derivation) → IsLuks2Derivation d a → IsLuks2Derivation d b → is_argon2 a ≡ is_argon2 b
-same_argon2 d (Pbkdf2 k i s) (Pbkdf2 l j t) x y = refl
-same_argon2 d (Pbkdf2 k i s) (Argon2 c) x y = absurd (no_pbkdf2 d c y x.0)
-same_argon2 d (Argon2 c) (Pbkdf2 k i s) x y = absurd (no_pbkdf2 d c x y.0)
-same_argon2 d (Argon2 c) (Argon2 f) x y = refl
-
--- Argon2 is refused of both where some memory is allowed, or of neither
-same_refused : (d : Data) (a b : Derivation) (allowed : ℕ) → IsLuks2Derivation d a → IsLuks2Derivation d b → is_argon2_refused allowed a ≡ is_argon2_refused allowed b
+-- Argon2 is refused of both where so much is allowed, or of neither
+same_refused : (d : Data) (a b : Derivation) (allowed : Allowed) → IsLuks2Derivation d a → IsLuks2Derivation d b → is_argon2_refused allowed.memory a ≡ is_argon2_refused allowed.memory b
 same_refused d (Pbkdf2 k i s) (Pbkdf2 l j t) allowed x y = refl
 same_refused d (Pbkdf2 k i s) (Argon2 c) allowed x y = absurd (no_pbkdf2 d c y x.0)
 same_refused d (Argon2 c) (Pbkdf2 k i s) allowed x y = absurd (no_pbkdf2 d c x y.0)
@@ -42,17 +36,18 @@ same_refused d (Argon2 c) (Argon2 f) allowed x y =
     simp (memory, cpus, salt)
 
 -- the hashes of both derivations are known, or neither is
-same_known : (d : Data) (a b : Derivation) → IsLuks2Derivation d a → IsLuks2Derivation d b → is_known_derivation a ≡ is_known_derivation b
-same_known d (Pbkdf2 k i s) (Pbkdf2 l j t) x y = let hash = some_same (text_of (member_at d outer.Kdf name.Hash)) k.now l.now x.1 y.1 in simp hash
-same_known d (Pbkdf2 k i s) (Argon2 c) x y = absurd (no_pbkdf2 d c y x.0)
-same_known d (Argon2 c) (Pbkdf2 k i s) x y = absurd (no_pbkdf2 d c x y.0)
-same_known d (Argon2 c) (Argon2 f) x y = refl
+same_known : (older : Bool) (d : Data) (a b : Derivation) → IsLuks2Derivation d a → IsLuks2Derivation d b → is_known_derivation older a ≡ is_known_derivation older b
+same_known older d (Pbkdf2 k i s) (Pbkdf2 l j t) x y = let hash = some_same (text_of (member_at d outer.Kdf name.Hash)) k.now l.now x.1 y.1 in simp hash
+same_known older d (Pbkdf2 k i s) (Argon2 c) x y = absurd (no_pbkdf2 d c y x.0)
+same_known older d (Argon2 c) (Pbkdf2 k i s) x y = absurd (no_pbkdf2 d c x y.0)
+same_known older d (Argon2 c) (Argon2 f) x y = refl
 
--- both ciphers open, or neither does
-same_cipher : (d : Data) (a b : AreaCipher) → IsLuks2Cipher d a → IsLuks2Cipher d b → is_open_cipher a ≡ is_open_cipher b
-same_cipher d (Apart n m) b x y = absurd x
-same_cipher d (Whole t) (Apart n m) x y = absurd y
-same_cipher d (Whole t) (Whole u) x y = let text = some_same (text_of (member_at d outer.Area name.Encryption)) t.now u.now x y in simp text
+-- both ciphers open, or neither does, and keys of one length are of their size
+same_cipher : (older : Bool) (n m : ℕ) (d : Data) (a b : AreaCipher) → n ≡ m → IsLuks2Cipher d a → IsLuks2Cipher d b
+    → (is_allowed_cipher older a ≡ is_allowed_cipher older b) × (is_key_size a n ≡ is_key_size b m)
+same_cipher older n m d (Apart c e) b size x y = absurd x
+same_cipher older n m d (Whole t) (Apart c e) size x y = absurd y
+same_cipher older n m d (Whole t) (Whole u) size x y = let text = some_same (text_of (member_at d outer.Area name.Encryption)) t.now u.now x y in (simp text, simp (text, size))
 
 -- a keyslot has one digest, and so one name of its hash
 same_digest_hash : (j : Data) (n : ℕ) (a b : DigestPlan) → ((m k : ℕ) → IsDigestOf j n m → IsDigestOf j n k → m ≡ k)
@@ -69,18 +64,21 @@ alike_in : (j : Data) (n : ℕ) (d : Data) (a b : SlotPlan) → ((m k : ℕ) →
     → IsLuks2Plan j n d a → IsLuks2Plan j n d b → AreAlike a b
 alike_in j n d a b one x y =
     let argon2 = same_argon2 d a.derivation b.derivation x.derivation y.derivation in
-    let known = same_known d a.derivation b.derivation x.derivation y.derivation in
-    let cipher = same_cipher d a.cipher b.cipher x.cipher y.cipher in
     let size = some_same (number_in 1 128 (member_at d outer.Area name.KeySize)) a.area_key_bytes b.area_key_bytes x.area_key_bytes y.area_key_bytes in
     let splitter = some_same (text_of (member_at d outer.Af name.Hash)) a.splitter_hash.now b.splitter_hash.now x.splitter_hash y.splitter_hash in
     let digest = same_digest_hash j n a.digest b.digest one x.digest y.digest in
-    let refusal : slot_refusal a ≡ slot_refusal b = simp (argon2, known, cipher, size, splitter, digest) in
-    let refusal_within : (allowed : ℕ) → slot_refusal_within allowed a ≡ slot_refusal_within allowed b =
-    λ allowed. (let refused = same_refused d a.derivation b.derivation allowed x.derivation y.derivation in simp (refused, known, cipher, size, splitter, digest)) in
+    let known = λ (older : Bool). same_known older d a.derivation b.derivation x.derivation y.derivation in
+    let cipher = λ (older : Bool). same_cipher older a.area_key_bytes b.area_key_bytes d a.cipher b.cipher size x.cipher y.cipher in
+    let refusal_within : (allowed : Allowed) → slot_refusal_within allowed a ≡ slot_refusal_within allowed b =
+    λ allowed. (
+    let refused = same_refused d a.derivation b.derivation allowed x.derivation y.derivation in
+    let names = known allowed.older in
+    let ciphers = (cipher allowed.older).0 in
+    let sizes = (cipher allowed.older).1 in
+    simp (refused, names, ciphers, sizes, splitter, digest)) in
     record {
       start = some_same (decimal_in (member_at d outer.Area name.Offset)) a.area.start b.area.start x.start y.start;
       len = some_same (decimal_in (member_at d outer.Area name.Size)) a.area.len b.area.len x.len y.len;
-      refusal = refusal;
       refusal_within = refusal_within;
     }
 

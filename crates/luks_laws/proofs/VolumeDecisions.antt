@@ -11,6 +11,7 @@ use Rattle.luks_making.specs.Naming.{IsDigestOf}
 use Rattle.luks_rules.specs.declared.fault.MetaFault.{MetaFault}
 use Rattle.luks_rules.specs.Accepted.{IsMeta}
 use Rattle.luks_rules.specs.MetaFault.{IsMetaFault}
+use Rattle.luks_slot.specs.declared.allowed.Allowed.{Allowed}
 use Rattle.luks_reading.specs.declared.check_fault.CheckFault.{CheckFault}
 use Rattle.luks_reading.specs.declared.open_fault.OpenFault.{OpenFault}
 use Rattle.luks_reading.specs.declared.report.Data.{Data}
@@ -54,21 +55,21 @@ module _ (kinds : (json : List ℕ) → ((j : Value) × Json json j) ⊎ IsBadJs
       (metadata : (json : List ℕ) → ((f : MetaFault) → IsMetaFault json f → ⊥) ↔ ((j : Value) × IsMeta json j))
       (digest : (json : List ℕ) (j : Value) → IsMeta json j → (n m k : ℕ) → IsDigestOf j n m → IsDigestOf j n k → m ≡ k) where
     -- by what counts of a volume a keyslot has a first refusal or none
-    refusal_as : (memory : ℕ) (v : List ℕ) (n : ℕ) (c : Choice) → Chosen v c → LeastOrNone OpenFault open_key (IsRefusalAsWithin memory v n c)
-    refusal_as memory v n luks1 chosen = luks1_refusal_or_none (part v 0 592) (length v) n
-    refusal_as memory v n (luks2 o copies) chosen = luks2_refusal_or_none kinds good one says metadata digest memory (header_at v o) (json_at v o) (length v) n
-    refusal_as memory v n nothing chosen = select_refusal_or_none v chosen
+    refusal_as : (allowed : Allowed) (v : List ℕ) (n : ℕ) (c : Choice) → Chosen v c → LeastOrNone OpenFault open_key (IsRefusalAsWithin allowed v n c)
+    refusal_as allowed v n luks1 chosen = luks1_refusal_or_none allowed.older (part v 0 592) (length v) n
+    refusal_as allowed v n (luks2 o copies) chosen = luks2_refusal_or_none kinds good one says metadata digest allowed (header_at v o) (json_at v o) (length v) n
+    refusal_as allowed v n nothing chosen = select_refusal_or_none v chosen
 
     -- a keyslot has a first refusal or none
-    refusal_or_none : (memory : ℕ) (v : List ℕ) (n : ℕ) → LeastOrNone OpenFault open_key (IsRefusalWithin memory v n)
-    refusal_or_none memory v n =
+    refusal_or_none : (allowed : Allowed) (v : List ℕ) (n : ℕ) → LeastOrNone OpenFault open_key (IsRefusalWithin allowed v n)
+    refusal_or_none allowed v n =
         let c = some v in
-        carry_least OpenFault open_key (IsRefusalAsWithin memory v n c.0) (IsRefusalWithin memory v n) (λ f is. record { choice = c.0; chosen = c.1; fault = is })
-        (λ f x. subst (λ d. IsRefusalAsWithin memory v n d f) (only v x.choice c.0 x.chosen c.1) x.fault) (refusal_as memory v n c.0 c.1)
+        carry_least OpenFault open_key (IsRefusalAsWithin allowed v n c.0) (IsRefusalWithin allowed v n) (λ f is. record { choice = c.0; chosen = c.1; fault = is })
+        (λ f x. subst (λ d. IsRefusalAsWithin allowed v n d f) (only v x.choice c.0 x.chosen c.1) x.fault) (refusal_as allowed v n c.0 c.1)
 
     -- the first refusal, or what the plan gives
-    pub some_answer : (memory : ℕ) (v : List ℕ) (n : ℕ) (p : List ℕ) → (a : Opened) × AnswerWithin memory v n p a
-    some_answer memory v n p = elim (refusal_or_none memory v n) [
+    pub some_answer : (allowed : Allowed) (v : List ℕ) (n : ℕ) (p : List ℕ) → (a : Opened) × AnswerWithin allowed v n p a
+    some_answer allowed v n p = elim (refusal_or_none allowed v n) [
       | inl first ↦ (refused first.0, first.1)
-      | inr none ↦ (let x = answer_unrefused says metadata some memory v n p none in (opened_to x.0, x.1))
+      | inr none ↦ (let x = answer_unrefused says metadata some allowed v n p none in (opened_to x.0, x.1))
     ]

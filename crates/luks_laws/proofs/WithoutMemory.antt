@@ -1,11 +1,25 @@
--- An edit that allows no memory opens its keyslot as without Argon2.
-use Rattle.std.proofs.Common.{◌≡◌, ℕ, List, Bool, true, false, refl, sym, subst}
+-- An edit that allows no memory opens its keyslot as without Argon2, and one that allows nothing as before.
+use Rattle.std.proofs.Common.{◌≡◌, ◌∙◌, ℕ, List, Bool, true, false, Some, refl, sym, subst, ap}
 use Rattle.std.specs.Prelude.{◌&&◌, ◌↔◌, ◌^◌, nat_lt, if◌then◌else◌, length}
-use Rattle.luks_reading.specs.Answer.{Answer, AnswerWithin, Opened, TakesMemory}
-use Rattle.luks_edit.specs.Asked.{allowed_memory, memory_for}
+use Rattle.luks_area.specs.Ranges.{part}
+use Rattle.luks_head.specs.Selection.{Choice, luks1, luks2, nothing}
+use Rattle.luks_slot.specs.Allowance.{none_allowed, without_memory}
+use Rattle.luks_slot.specs.Refusal.{slot_refusal}
+use Rattle.luks_slot.specs.declared.allowed.Allowed.{Allowed}
+use Rattle.luks_slot.specs.declared.fault.SlotFault.{SlotFault}
+use Rattle.luks_slot.specs.declared.plan.SlotPlan.{SlotPlan}
+use Rattle.luks_reading.specs.declared.open_fault.OpenFault.TheVariants.{Slot}
+use Rattle.luks_reading.specs.Answer.{AnswerWithin, HasPlanAs, HasRefusedPlanWithin, IsRefusalAs, Opened, TakesMemory}
+use Rattle.luks_reading.specs.Header.{json_at}
+use Rattle.luks_reading.specs.Plans.{HasLuks1Plan, HasLuks2Plan}
+use Rattle.luks_edit.specs.Asked.{allowed_by, allowed_for}
 use Rattle.luks_edit.specs.declared.edit.Edit.{Edit}
 use Rattle.luks_edit.specs.declared.edit.Passphrase.{Passphrase}
 use Rattle.luks2_judging.specs.Opened.{TakesMemoryToOpen}
+
+-- so much memory, and whether older ciphers and hashes
+abbrev allowing : ℕ → Bool → Allowed
+allowing m older = record { memory = m; older = older }
 
 -- nothing or nothing is nothing
 none_either : (b : Bool) (m : ℕ) → m ≡ 0 → (if b then m else 0) ≡ 0
@@ -13,13 +27,30 @@ none_either true m zero = zero
 none_either false m zero = refl
 
 -- a passphrase without memory allows none
-pub none_allowed : (old : Passphrase) (new : List ℕ) → old.memory ≡ 0 → memory_for old new ≡ 0
-none_allowed old new zero = none_either (nat_lt (length old.bytes.now) (2 ^ 32) && nat_lt (length new) (2 ^ 32)) old.memory zero
+pub memoryless : (old : Passphrase) (new : List ℕ) → old.allowed.memory ≡ 0 → allowed_for old new ≡ without_memory old.allowed.older
+memoryless old new zero =
+    ap (λ (m : ℕ). allowing m old.allowed.older) (none_either (nat_lt (length old.bytes.now) (2 ^ 32) && nat_lt (length new) (2 ^ 32)) old.allowed.memory zero)
 
--- with none allowed an answer is one without Argon2
-pub answers_alike : (v : List ℕ) (m n : ℕ) (p : List ℕ) (a : Opened) → m ≡ 0 → (AnswerWithin m v n p a ↔ Answer v n p a)
-answers_alike v m n p a zero = (λ x. subst (λ k. AnswerWithin k v n p a) zero x, λ x. subst (λ k. AnswerWithin k v n p a) (sym zero) x)
+-- where no memory is allowed, what is allowed is told by the older ciphers and hashes
+pub allowance_alone : (allowed : Allowed) → allowed.memory ≡ 0 → allowed ≡ without_memory allowed.older
+allowance_alone allowed zero = ap (λ (m : ℕ). allowing m allowed.older) zero
 
--- and no keyslot takes memory
-pub none_taken : ((v : List ℕ) (n : ℕ) → TakesMemory 0 v n → ⊥) → (v : List ℕ) (e : Edit) → allowed_memory e ≡ 0 → TakesMemoryToOpen v e → ⊥
-none_taken nothing v e zero x = nothing v x.slot (subst (λ m. TakesMemory m v x.slot) zero x.takes)
+-- what is allowed alike has one answer
+pub answers_alike : (v : List ℕ) (a b : Allowed) (n : ℕ) (p : List ℕ) (o : Opened) → a ≡ b → (AnswerWithin a v n p o ↔ AnswerWithin b v n p o)
+answers_alike v a b n p o same = (λ x. subst (λ k. AnswerWithin k v n p o) same x, λ x. subst (λ k. AnswerWithin k v n p o) (sym same) x)
+
+-- a passphrase to which nothing is allowed allows nothing
+pub nothing_for : (old : Passphrase) (new : List ℕ) → old.allowed ≡ none_allowed → allowed_for old new ≡ none_allowed
+nothing_for old new same = memoryless old new (ap (λ (a : Allowed). a.memory) same) ∙ ap (λ (a : Allowed). without_memory a.older) same
+
+-- where nothing is allowed, the plan of a keyslot is refused as before, whatever counts of the volume
+pub refused_alone : ((plans : SlotPlan → Type 0) (f : SlotFault) → HasRefusedPlanWithin none_allowed plans f ↔ ((plan : SlotPlan) × (plans plan × (slot_refusal plan ≡ Some f))))
+    → (v : List ℕ) (n : ℕ) (c : Choice) (f : SlotFault) → IsRefusalAs v n c (Slot f) ↔ ((plan : SlotPlan) × (HasPlanAs v n c plan × (slot_refusal plan ≡ Some f)))
+refused_alone refusal v n luks1 f = refusal (HasLuks1Plan (part v 0 592) n) f
+refused_alone refusal v n (luks2 o copies) f = refusal (HasLuks2Plan (json_at v o) n) f
+refused_alone refusal v n nothing f = (λ bad. absurd bad, λ x. absurd x.1.0)
+
+-- and no keyslot takes memory where none is allowed
+pub none_taken : ((allowed : Allowed) (v : List ℕ) (n : ℕ) → allowed.memory ≡ 0 → TakesMemory allowed v n → ⊥)
+    → (v : List ℕ) (e : Edit) → (allowed_by e).memory ≡ 0 → TakesMemoryToOpen v e → ⊥
+none_taken nothing_is v e zero x = nothing_is (allowed_by e) v x.slot zero x.takes

@@ -1,9 +1,14 @@
 //! Laws on why an edit is refused.
-ghost use Rattle.std.specs.Prelude.{◌≡◌, ◌↔◌, ◌⊎◌, ℕ, List};
-ghost use Rattle.luks_head.specs.Selection.{luks1, Chosen};
-ghost use Rattle.luks_reading.specs.Answer.{Answer, AnswerWithin, Opened};
+ghost use Rattle.std.specs.Prelude.{◌≡◌, ◌↔◌, ◌⊎◌, ℕ, List, Some};
+ghost use Rattle.luks_head.specs.Selection.{luks1, Choice, Chosen};
+ghost use Rattle.luks_slot.specs.Allowance.{none_allowed, without_memory};
+ghost use Rattle.luks_slot.specs.Refusal.{slot_refusal};
+ghost use Rattle.luks_slot.specs.declared.allowed.Allowed.{Allowed as TheAllowed};
+ghost use Rattle.luks_slot.specs.declared.plan.SlotPlan.{SlotPlan as ThePlan};
+ghost use Rattle.luks_reading.specs.Answer.{Answer, AnswerWithin, HasPlanAs, IsRefusalAs, Opened};
+ghost use Rattle.luks_reading.specs.declared.open_fault.OpenFault.TheVariants.{Slot as SlotRefusal};
 ghost use Rattle.luks_reading.specs.declared.report.Data.{Data as Payload};
-ghost use Rattle.luks_edit.specs.Asked.{allowed_memory, memory_for};
+ghost use Rattle.luks_edit.specs.Asked.{allowed_by, allowed_for};
 ghost use Rattle.luks_edit.specs.declared.edit.Edit.{Edit as TheEdit};
 ghost use Rattle.luks_edit.specs.declared.edit.Passphrase.{Passphrase as ThePassphrase};
 ghost use Rattle.luks1_edits.specs.Refused.{IsUnrefused1, Refusal1};
@@ -14,6 +19,7 @@ ghost use Rattle.luks_volume.specs.Edits.{IsUnrefused, Refusal};
 use crate::{every_keyslot_has_an_answer, first_fault_or_well_formed};
 use luks_edit::EditFault;
 use luks_reading::nothing_allowed_is_as_before;
+use luks_slot::SlotFault;
 
 /// An edit of a volume has a first refusal, or it is refused by nothing: by the rules of either
 /// version, and by those of what counts of the volume.
@@ -29,18 +35,29 @@ pub fn first_refusal_or_unrefused()
     every_keyslot_has_an_answer();
 }
 
-/// A passphrase without memory allows none to an edit; where none is allowed, a keyslot answers the
-/// edit exactly as it does without Argon2, and takes none. A keyslot of LUKS1 answers alike whatever
-/// is allowed.
-pub fn no_memory_is_as_before()
-    ensures allowed { (old : ThePassphrase) (new : List ℕ) → old.memory ≡ 0
-        → memory_for old new ≡ 0 }
+/// A passphrase without memory allows none to an edit, and one to which nothing is allowed nothing.
+/// Where no memory is allowed, a keyslot answers the edit exactly as it does without Argon2, and takes
+/// none; where nothing is, the plan of a keyslot of either version is refused as it is without older
+/// ciphers and hashes too. A keyslot of LUKS1 answers alike whatever memory is allowed.
+pub fn nothing_allowed_edits_as_before()
+    ensures memoryless { (old : ThePassphrase) (new : List ℕ) → old.allowed.memory ≡ 0
+        → allowed_for old new ≡ without_memory old.allowed.older }
+    ensures allowed { (old : ThePassphrase) (new : List ℕ) → old.allowed ≡ none_allowed
+        → allowed_for old new ≡ none_allowed }
     ensures answer { (v : List ℕ) (e : TheEdit) (n : ℕ) (p : List ℕ) (a : Opened)
-        → allowed_memory e ≡ 0
-        → (AnswerWithin (allowed_memory e) v n p a ↔ Answer v n p a) }
-    ensures taken { (v : List ℕ) (e : TheEdit) → allowed_memory e ≡ 0
+        → (allowed_by e).memory ≡ 0
+        → (AnswerWithin (allowed_by e) v n p a
+        ↔ AnswerWithin (without_memory (allowed_by e).older) v n p a) }
+    ensures as_before { (v : List ℕ) (e : TheEdit) (n : ℕ) (p : List ℕ) (a : Opened)
+        → allowed_by e ≡ none_allowed
+        → (AnswerWithin (allowed_by e) v n p a ↔ Answer v n p a) }
+    ensures refused { (v : List ℕ) (n : ℕ) (c : Choice) (f : SlotFault)
+        → (IsRefusalAs v n c (SlotRefusal f)
+        ↔ ((plan : ThePlan) × (HasPlanAs v n c plan × (slot_refusal plan ≡ Some f)))) }
+    ensures taken { (v : List ℕ) (e : TheEdit) → (allowed_by e).memory ≡ 0
         → TakesMemoryToOpen v e → ⊥ }
-    ensures luks1 { (v : List ℕ) → Chosen v luks1 → (less more n : ℕ) (p : List ℕ) (a : Opened)
+    ensures luks1 { (v : List ℕ) → Chosen v luks1 → (less more : TheAllowed) (n : ℕ)
+        → less.older ≡ more.older → (p : List ℕ) (a : Opened)
         → AnswerWithin less v n p a → AnswerWithin more v n p a }
 {
     nothing_allowed_is_as_before();

@@ -1,6 +1,7 @@
 //! Laws that something always stands. The logic has no excluded middle: each fault that may stand is
 //! decided, and so the one or the other is told.
 ghost use Rattle.std.specs.Prelude.{◌⊎◌, ℕ, List};
+ghost use Rattle.luks_slot.specs.declared.allowed.Allowed.{Allowed as TheAllowed};
 ghost use Rattle.luks_reading.specs.declared.report.Data.{Data as Payload};
 ghost use Rattle.luks_reading.specs.Answer.{AnswerWithin, Opened};
 ghost use Rattle.luks_reading.specs.Checked.{First, WellFormed};
@@ -21,11 +22,11 @@ pub fn first_fault_or_well_formed()
     no_fault_is_well_formed();
 }
 
-/// Of each volume each keyslot has an answer by each passphrase, however much memory Argon2 may take: a
+/// Of each volume each keyslot has an answer by each passphrase, whatever is allowed: a
 /// key, none, or the first refusal.
 pub fn every_keyslot_has_an_answer()
-    ensures { (memory : ℕ) (v : List ℕ) (n : ℕ) (p : List ℕ)
-        → (a : Opened) × AnswerWithin memory v n p a }
+    ensures { (allowed : TheAllowed) (v : List ℕ) (n : ℕ) (p : List ℕ)
+        → (a : Opened) × AnswerWithin allowed v n p a }
 {
     one_kind_of_area();
     one_value();

@@ -6,6 +6,6 @@ mod edit_laws;
 mod gaps;
 mod laws;
 
-pub use edit_laws::{first_refusal_or_unrefused, no_memory_is_as_before};
+pub use edit_laws::{first_refusal_or_unrefused, nothing_allowed_edits_as_before};
 pub use gaps::area_or_no_room;
 pub use laws::{every_keyslot_has_an_answer, first_fault_or_well_formed};

@@ -1,17 +1,14 @@
 -- What an edit brings about in a well formed volume, by what is proved of each version.
-use Rattle.std.proofs.Common.{◌≡◌, ℕ, List, Some, Ok, Err, subst, arith}
+use Rattle.std.proofs.Common.{◌≡◌, ℕ, List, Some, Ok, Err, subst}
 use Rattle.std.specs.Prelude.{OnOk}
 use Rattle.luks_head.specs.declared.selection.Copies.{Copies}
 use Rattle.luks_head.specs.Selection.{Choice, luks1, luks2, nothing, Chosen}
 use Rattle.luks_head.proofs.ChoiceFacts.{choices_agree}
 use Rattle.luks_reading.specs.declared.report.Data.{Data}
-use Rattle.luks_reading.specs.Answer.{Answer, AnswerWithin, opens}
-use Rattle.luks_reading.proofs.AllowedMemory.{opens_alike}
-use Rattle.luks_edit.proofs.AllowedMemory.{luks1_answers_alike}
 use Rattle.luks_reading.specs.Checked.{WellFormed, WellFormedAs}
 use Rattle.luks_edit.specs.declared.edit.Edit.{Edit}
 use Rattle.luks_edit.specs.declared.edit.Edit.TheVariants.{Add, Change, Remove, Repair, Label}
-use Rattle.luks_edit.specs.Asked.{memory_for}
+use Rattle.luks_edit.specs.Asked.{allowed_for}
 use Rattle.luks_edit.specs.declared.edit_fault.EditFault.{EditFault}
 use Rattle.luks_edit.specs.declared.edit_fault.EditFault.TheVariants as fault
 use Rattle.luks_edit.specs.Ran.{Reply, IsFailure}
@@ -52,17 +49,11 @@ unrefused2 v payload e r o copies chosen fine = record { none = λ f is. fine.no
 makes_by : (v : List ℕ) (e : Edit) (c : Choice) (n : ℕ) → Chosen v c → Makes v e n → MakesAs v e c n
 makes_by v e c n chosen x = subst (λ d. MakesAs v e d n) (choices_agree v x.choice c x.chosen chosen) x.makes
 
--- what a keyslot opens to without memory it opens to with it
-allowed_more : (memory : ℕ) (w : List ℕ) (n : ℕ) (p key : List ℕ) → Answer w n p (opens key) → AnswerWithin memory w n p (opens key)
-allowed_more memory w n p key x = opens_alike 0 memory w n p (Some key) (omega arith) x
-
 opens_by1 : (v : List ℕ) (e : Edit) (w : List ℕ) → Chosen v luks1 → OpensAfter1 v e w → OpensMade v e w
 opens_by1 v (Add by_ old new to iterations d) w chosen x = λ n key made opened.
-    allowed_more (memory_for old new.now) w n new.now key (x n key (makes_by v (Add by_ old new to iterations d) luks1 n chosen made)
-    (luks1_answers_alike v chosen (memory_for old new.now) 0 by_ old.bytes.now (opens key) opened))
+    x (allowed_for old new.now) n key (makes_by v (Add by_ old new to iterations d) luks1 n chosen made) opened
 opens_by1 v (Change slot old new iterations d) w chosen x = λ n key made opened.
-    allowed_more (memory_for old new.now) w n new.now key (x n key (makes_by v (Change slot old new iterations d) luks1 n chosen made)
-    (luks1_answers_alike v chosen (memory_for old new.now) 0 slot old.bytes.now (opens key) opened))
+    x (allowed_for old new.now) n key (makes_by v (Change slot old new iterations d) luks1 n chosen made) opened
 opens_by1 v (Remove slot by_ passphrase) w chosen x = tt
 opens_by1 v Repair w chosen x = tt
 opens_by1 v (Label text) w chosen x = tt

@@ -21,7 +21,7 @@ slot_then payload n v u w x y = record {
   area = area_then payload (Slot n) v u w x.area y.area;
   entry = λ b. ((λ is. (y.entry b).0 ((x.entry b).0 is)), (λ is. (x.entry b).1 ((y.entry b).1 is)));
   value = λ d. ((λ is. (y.value d).0 ((x.value d).0 is)), (λ is. (x.value d).1 ((y.value d).1 is)));
-  answers = λ memory p a. ((λ is. (y.answers memory p a).0 ((x.answers memory p a).0 is)), (λ is. (x.answers memory p a).1 ((y.answers memory p a).1 is)));
+  answers = λ allowed p a. ((λ is. (y.answers allowed p a).0 ((x.answers allowed p a).0 is)), (λ is. (x.answers allowed p a).1 ((y.answers allowed p a).1 is)));
 }
 
 area_same : (payload : Data) (n : AreaName) (v : List ℕ) → KeepsArea payload n v v
@@ -32,7 +32,7 @@ slot_same payload n v = record {
   area = area_same payload (Slot n) v;
   entry = λ b. ((λ is. is), (λ is. is));
   value = λ d. ((λ is. is), (λ is. is));
-  answers = λ memory p a. ((λ is. is), (λ is. is));
+  answers = λ allowed p a. ((λ is. is), (λ is. is));
 }
 
 -- a volume keeps itself

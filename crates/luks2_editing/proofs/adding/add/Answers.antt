@@ -34,7 +34,7 @@ returns-in_err-made-clause-replies g c = λ tells payload e_ old to asked chosen
 pub new_metadata-requires-clause-positive : goal.new_metadata-requires-clause-positive
 new_metadata-requires-clause-positive g c =
     let derivation = c.args.addition.now.derivation in
-    unrefused_positive c.args.secrets.now.memory derivation.iterations derivation.chosen c.requires.allowed.turns c.requires.allowed.within
+    unrefused_positive c.args.secrets.now.allowed.memory derivation.iterations derivation.chosen c.requires.allowed.turns c.requires.allowed.within
 
 pub write_keyslot-requires-clause-sealable : goal.write_keyslot-requires-clause-sealable
 write_keyslot-requires-clause-sealable g c =
@@ -67,7 +67,7 @@ returns-in_err-write_keyslot-clause-replies g c = λ tells payload e_ old to ask
     let p = err_from_is_err_and c.from_residual-in_err-write_keyslot.result c.from_residual-in_err-write_keyslot.ensures.1 in
     rw (p.1, p.2, is)
     (unsealed_ends v payload copy chosen well e random k (c.in_ok-made.ensures.unrefused v payload e seals total) (c.in_ok-made.ensures.edited v payload e seals total)
-    (g.D.Device.bytes c.write_keyslot.new.device) c.args.secrets.now.memory addition.made (subst (λ m. (g : SlotFault) → HasRefusedKeyslot m k addition.made g → ⊥) same
+    (g.D.Device.bytes c.write_keyslot.new.device) c.args.secrets.now.allowed addition.made (subst (λ m. (g : SlotFault) → HasRefusedKeyslot m k addition.made g → ⊥) same
     (addition_fine v payload copy addition old new to key random x c.requires.free.small k c.in_ok-made.ensures.made
     (enough_random (content copy.meta) addition.by_ (length random) c.in_ok-made.ensures.counted)
     (subst (λ m. asked_beyond m addition.derivation ≡ false) (sym same) c.requires.allowed.within)))

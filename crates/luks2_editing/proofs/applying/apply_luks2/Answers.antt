@@ -3,7 +3,7 @@ use Rattle.std.proofs.lemmas.Result.{err_from_is_err_and}
 use Rattle.luks_head.specs.Header2.{hdr_size, header_at}
 use Rattle.luks_meta.specs.Content.{area_len, content}
 use Rattle.luks_edit.proofs.AllowedMemory.{short_where_allowed}
-use Rattle.luks_edit.specs.Asked.{allowed_memory, HasShortPassphrases}
+use Rattle.luks_edit.specs.Asked.{allowed_by, HasShortPassphrases}
 use Rattle.luks_edit.specs.declared.edit.Edit.{Edit}
 use Rattle.luks_edit.specs.declared.edit.Edit.TheVariants.{Add, Change, Remove, Repair, Label}
 use Rattle.luks2_judging.specs.Judging.{IsLostArea, Seals, Takes}
@@ -66,7 +66,7 @@ returns-in-Change-clause-replies g c = λ tells is.
     let seals = subst (λ t. Seals (hdr_size (header_at v copy.header.hdr_offset)) v c.args.data_ (content copy.meta) e t) c.in-Change.is judged.seals in
     let replies = rw (c.new-secrets-in-Change.ensures, c.in-Change.is) at (c.change.ensures.replies tells c.args.data_) in
     replied same (edit_is c.args.edit.now _ takes.asked) c.args.data_ c.args.random.now _ _ (replies e takes.old refl judged.chosen judged.well (judged.none c.args.random.now)
-    (sym (c.allowed_memory-memory.ensures ∙ ap allowed_memory (edit_is c.args.edit.now _ takes.asked))) (seals.0 c.in-Change.renewal.slot takes.old.bytes.now (refl, refl)) seals.1)
+    (sym (c.allowed-allowed.ensures ∙ ap allowed_by (edit_is c.args.edit.now _ takes.asked))) (seals.0 c.in-Change.renewal.slot takes.old.bytes.now (refl, refl)) seals.1)
 
 pub returns-in-Add-clause-replies : goal.returns-in-Add-clause-replies
 returns-in-Add-clause-replies g c = λ tells is.
@@ -79,30 +79,30 @@ returns-in-Add-clause-replies g c = λ tells is.
     let seals = subst (λ t. Seals (hdr_size (header_at v copy.header.hdr_offset)) v c.args.data_ (content copy.meta) e t) c.in-Add.is judged.seals in
     let replies = rw (c.new-secrets.ensures, c.in-Add.is) at (c.add.ensures.replies tells c.args.data_) in
     replied same (edit_is c.args.edit.now _ takes.asked) c.args.data_ c.args.random.now _ _ (replies e takes.old takes.to refl judged.chosen judged.well (judged.none c.args.random.now)
-    (sym (c.allowed_memory-memory.ensures ∙ ap allowed_memory (edit_is c.args.edit.now _ takes.asked))) (seals.0 c.in-Add.addition.by_ takes.old.bytes.now (refl, refl)) takes.number.is_new seals.1)
+    (sym (c.allowed-allowed.ensures ∙ ap allowed_by (edit_is c.args.edit.now _ takes.asked))) (seals.0 c.in-Add.addition.by_ takes.old.bytes.now (refl, refl)) takes.number.is_new seals.1)
 
 pub add-requires-clause-passphrase : goal.add-requires-clause-passphrase
 add-requires-clause-passphrase g c =
     let copy = c.in_ok-judged.judged.copy in
     let takes = subst (λ t. Takes (area_len copy.meta) (content copy.meta) (g.D.Device.size c.args.device.now) c.args.edit.now t) c.in-Add.is c.in_ok-judged.ensures.judged.takes in
     rw (c.new-secrets.ensures, c.in-Add.is)
-    (λ some. (subst HasShortPassphrases (edit_is c.args.edit.now _ takes.asked) (short_where_allowed c.args.edit.now (subst (λ m. 0 < m) c.allowed_memory-memory.ensures some))).1)
+    (λ some. (subst HasShortPassphrases (edit_is c.args.edit.now _ takes.asked) (short_where_allowed c.args.edit.now (subst (λ (m : Allowed). 0 < m.memory) c.allowed-allowed.ensures some))).1)
 
 pub change-requires-clause-passphrase : goal.change-requires-clause-passphrase
 change-requires-clause-passphrase g c =
     let copy = c.in_ok-judged.judged.copy in
     let takes = subst (λ t. Takes (area_len copy.meta) (content copy.meta) (g.D.Device.size c.args.device.now) c.args.edit.now t) c.in-Change.is c.in_ok-judged.ensures.judged.takes in
     rw (c.new-secrets-in-Change.ensures, c.in-Change.is)
-    (λ some. (subst HasShortPassphrases (edit_is c.args.edit.now _ takes.asked) (short_where_allowed c.args.edit.now (subst (λ m. 0 < m) c.allowed_memory-memory.ensures some))).1)
+    (λ some. (subst HasShortPassphrases (edit_is c.args.edit.now _ takes.asked) (short_where_allowed c.args.edit.now (subst (λ (m : Allowed). 0 < m.memory) c.allowed-allowed.ensures some))).1)
 
 pub add-requires-clause-allowed : goal.add-requires-clause-allowed
 add-requires-clause-allowed g c =
     let copy = c.in_ok-judged.judged.copy in
     let takes = subst (λ t. Takes (area_len copy.meta) (content copy.meta) (g.D.Device.size c.args.device.now) c.args.edit.now t) c.in-Add.is c.in_ok-judged.ensures.judged.takes in
-    rw c.new-secrets.ensures (subst (λ (m : ℕ). IsAllowed m c.in-Add.addition.derivation) (sym (c.allowed_memory-memory.ensures ∙ ap allowed_memory (edit_is c.args.edit.now _ takes.asked))) takes.allowed)
+    rw c.new-secrets.ensures (subst (λ (m : Allowed). IsAllowed m.memory c.in-Add.addition.derivation) (sym (c.allowed-allowed.ensures ∙ ap allowed_by (edit_is c.args.edit.now _ takes.asked))) takes.allowed)
 
 pub change-requires-clause-allowed : goal.change-requires-clause-allowed
 change-requires-clause-allowed g c =
     let copy = c.in_ok-judged.judged.copy in
     let takes = subst (λ t. Takes (area_len copy.meta) (content copy.meta) (g.D.Device.size c.args.device.now) c.args.edit.now t) c.in-Change.is c.in_ok-judged.ensures.judged.takes in
-    rw c.new-secrets-in-Change.ensures (subst (λ (m : ℕ). IsAllowed m c.in-Change.renewal.derivation) (sym (c.allowed_memory-memory.ensures ∙ ap allowed_memory (edit_is c.args.edit.now _ takes.asked))) takes.allowed)
+    rw c.new-secrets-in-Change.ensures (subst (λ (m : Allowed). IsAllowed m.memory c.in-Change.renewal.derivation) (sym (c.allowed-allowed.ensures ∙ ap allowed_by (edit_is c.args.edit.now _ takes.asked))) takes.allowed)

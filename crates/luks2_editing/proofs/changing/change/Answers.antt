@@ -34,7 +34,7 @@ returns-in_err-made-clause-replies g c = λ tells payload e_ old asked x well be
 pub new_metadata-requires-clause-positive : goal.new_metadata-requires-clause-positive
 new_metadata-requires-clause-positive g c =
     let derivation = c.args.renewal.now.derivation in
-    unrefused_positive c.args.secrets.now.memory derivation.iterations derivation.chosen c.requires.allowed.turns c.requires.allowed.within
+    unrefused_positive c.args.secrets.now.allowed.memory derivation.iterations derivation.chosen c.requires.allowed.turns c.requires.allowed.within
 
 pub write_keyslot-requires-clause-sealable : goal.write_keyslot-requires-clause-sealable
 write_keyslot-requires-clause-sealable g c =
@@ -69,7 +69,7 @@ returns-in_err-write_keyslot-clause-replies g c = λ tells payload e_ old asked 
     let p = err_from_is_err_and c.from_residual-in_err-write_keyslot.result c.from_residual-in_err-write_keyslot.ensures.1 in
     rw (p.1, p.2, is)
     (unsealed_ends v payload copy x well e random k free edited (g.D.Device.bytes c.write_keyslot.new.device)
-    c.args.secrets.now.memory r.slot
+    c.args.secrets.now.allowed r.slot
     (subst (λ m. (g : SlotFault) → HasRefusedKeyslot m k r.slot g → ⊥) same (renewed_unrefused v payload copy x well r.slot old new r.derivation key random r.area k opened place made.made
     (enough_random (content copy.meta) r.slot (length random) made.counted)
     (subst (λ m. asked_beyond m r.derivation ≡ false) (sym same) c.requires.allowed.within)))

@@ -45,7 +45,7 @@ returns-clause-fault g c =
       is = is;
       one = λ m names. (let this = c.digest_of_keyslot.ensures.only m names in let that = c.digest_of_keyslot.ensures.only is.digest.number is.digest.names in cc (this, that));
     } in
-    IfErr-weaker c.write_sealed.result _ _ (plan_unsealed h total k n c.args.secrets.now.key.now c.args.secrets.now.random.now c.requires.sealable plan p c.args.secrets.now.memory) c.write_sealed.ensures.fault
+    IfErr-weaker c.write_sealed.result _ _ (plan_unsealed h total k n c.args.secrets.now.key.now c.args.secrets.now.random.now c.requires.sealable plan p c.args.secrets.now.allowed) c.write_sealed.ensures.fault
 
 pub returns-clause-torn : goal.returns-clause-torn
 returns-clause-torn g c = λ tells payload e j renews seals.

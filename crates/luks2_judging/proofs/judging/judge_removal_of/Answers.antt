@@ -4,6 +4,7 @@ use Rattle.luks_area.specs.Area.{IsInside}
 use Rattle.luks_meta.specs.Content.{content}
 use Rattle.luks_edit.proofs.AllowedMemory.{short_where_allowed}
 use Rattle.luks_meta.specs.declared.meta.Meta.{Meta}
+use Rattle.luks_slot.specs.declared.allowed.Allowed.{Allowed}
 use Rattle.luks2_edit_laws.specs.Metadata.{IsInUse, IsKeyArea}
 use Rattle.luks2_judging.proofs.DeedFacts.{edit_is}
 use Rattle.luks2_judging.proofs.KeyslotFacts.{removed_opens, removed_short, removed_used}
@@ -16,7 +17,7 @@ returns-in_err-_key-clause-refused g c = λ tells is payload well judged.
     (g.met.D.Device.sized c.args.device.now tells ∙ sym c.requires.total ∙ sym c.room-room.ensures.total) judged in
     let p = err_from_is_err_and c.from_residual.result c.from_residual.ensures.1 in
     rw (p.1, p.2)
-    (unopened_refused read c.in_err-_key.field-0.0 (c.in_err-_key.ensures.refused tells is payload c.args.edit.now well (sym c.allowed_memory-memory.ensures)
+    (unopened_refused read c.in_err-_key.field-0.0 (c.in_err-_key.ensures.refused tells is payload c.args.edit.now well (sym c.allowed-allowed.ensures)
     (removed_opens c.args.edit.now c.args.removed.now c.opener_of-opener.result c.requires.asked c.opener_of-opener.ensures)))
 
 pub returns-in_err-area-clause-refused : goal.returns-in_err-area-clause-refused
@@ -26,7 +27,7 @@ returns-in_err-area-clause-refused g c = λ tells is payload well judged.
     let p = err_from_is_err_and c.from_residual-in_err-area.result c.from_residual-in_err-area.ensures.1 in
     rw (p.1, p.2)
     rw c.in_err-area.ensures.row.0
-    (last_refused read (c.in_ok-_key.ensures.opened tells is c.args.edit.now (sym c.allowed_memory-memory.ensures) (removed_opens c.args.edit.now c.args.removed.now c.opener_of-opener.result c.requires.asked c.opener_of-opener.ensures)).past (edit_is c.args.edit.now _ c.requires.asked) c.in_err-area.ensures.row.1)
+    (last_refused read (c.in_ok-_key.ensures.opened tells is c.args.edit.now (sym c.allowed-allowed.ensures) (removed_opens c.args.edit.now c.args.removed.now c.opener_of-opener.result c.requires.asked c.opener_of-opener.ensures)).past (edit_is c.args.edit.now _ c.requires.asked) c.in_err-area.ensures.row.1)
 
 pub returns-clause-takes : goal.returns-clause-takes
 returns-clause-takes g c =
@@ -49,9 +50,9 @@ pub returns-clause-passed : goal.returns-clause-passed
 returns-clause-passed g c = λ tells is payload judged.
     let read = read_as c.room-room.ensures.meta c.room-room.ensures.entries
     (g.met.D.Device.sized c.args.device.now tells ∙ sym c.requires.total ∙ sym c.room-room.ensures.total) judged in
-    removed_passed read (c.in_ok-_key.ensures.opened tells is c.args.edit.now (sym c.allowed_memory-memory.ensures) (removed_opens c.args.edit.now c.args.removed.now c.opener_of-opener.result c.requires.asked c.opener_of-opener.ensures)).past
+    removed_passed read (c.in_ok-_key.ensures.opened tells is c.args.edit.now (sym c.allowed-allowed.ensures) (removed_opens c.args.edit.now c.args.removed.now c.opener_of-opener.result c.requires.asked c.opener_of-opener.ensures)).past
     (edit_is c.args.edit.now _ c.requires.asked) c.in_ok-area.ensures.row
 
 pub unlock-requires-clause-passphrase : goal.unlock-requires-clause-passphrase
 unlock-requires-clause-passphrase g c = λ some.
-    removed_short c.args.edit.now c.args.removed.now c.requires.asked (short_where_allowed c.args.edit.now (subst (λ m. 0 < m) c.allowed_memory-memory.ensures some))
+    removed_short c.args.edit.now c.args.removed.now c.requires.asked (short_where_allowed c.args.edit.now (subst (λ (m : Allowed). 0 < m.memory) c.allowed-allowed.ensures some))

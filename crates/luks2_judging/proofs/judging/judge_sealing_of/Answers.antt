@@ -7,12 +7,13 @@ use Rattle.luks_edit.specs.declared.edit.Edit.TheVariants.{Add, Change}
 use Rattle.luks_edit.proofs.AllowedMemory.{short_where_allowed}
 use Rattle.luks_meta.specs.declared.meta.Meta.{Meta}
 use Rattle.luks2_edit_laws.specs.Metadata.{IsInUse, IsKeyArea}
+use Rattle.luks_slot.specs.declared.allowed.Allowed.{Allowed}
 use Rattle.luks_reading.specs.declared.header.Header.{Header}
 use Rattle.luks_reading.specs.Plans.{HasKeyBytes, HasLuks2KeyBytes}
 use Rattle.luks2_judging.specs.Judged.{IsNewNumber}
 use Rattle.luks2_judging.specs.Room.{IsAllowed, IsPlaced, IsUnsealable}
 use Rattle.luks2_judging.specs.Sealing.{IsUnadded}
-use Rattle.luks2_judging.proofs.DeedFacts.{added_is, changed_is, sealed_as, sealed_memory}
+use Rattle.luks2_judging.proofs.DeedFacts.{added_is, changed_is, sealed_as, sealed_allowed}
 use Rattle.luks2_judging.proofs.KeyslotFacts.{sealed_opens, sealed_short, used_of}
 use Rattle.luks2_judging.proofs.ReadFacts.{added_passed, changed_passed, placed_of, read_as, unadded_refused, unchanged_refused, unopened_refused}
 use Rattle.luks2_judging.proofs.judging.judge_sealing_of.Goals as goal
@@ -23,7 +24,7 @@ returns-in_err-key-clause-refused g c = λ tells is payload well judged.
     (g.met.D.Device.sized c.args.device.now tells ∙ sym c.requires.total ∙ sym c.room-room.ensures.total) judged in
     let p = err_from_is_err_and c.from_residual.result c.from_residual.ensures.1 in
     rw (p.1, p.2)
-    (unopened_refused read c.in_err-key.field-0.0 (c.in_err-key.ensures.refused tells is payload c.args.edit.now well (sym c.allowed_memory-memory.ensures)
+    (unopened_refused read c.in_err-key.field-0.0 (c.in_err-key.ensures.refused tells is payload c.args.edit.now well (sym c.allowed-allowed.ensures)
     (sealed_opens c.args.edit.now c.args.sealed.now c.requires.asked)))
 
 pub judge_addition-requires-clause-there : goal.judge_addition-requires-clause-there
@@ -37,9 +38,9 @@ returns-in_err-addition-in-New-clause-refused g c = λ tells is payload well jud
     (g.met.D.Device.sized c.args.device.now tells ∙ sym c.requires.total ∙ sym c.room-room.ensures.total) judged in
     let p = err_from_is_err_and c.from_residual-in_err-addition-in-New.result c.from_residual-in_err-addition-in-New.ensures.1 in
     rw (p.1, p.2)
-    (unadded_refused read (c.in_ok-key.ensures.opened tells is c.args.edit.now (sym c.allowed_memory-memory.ensures) (sealed_opens c.args.edit.now c.args.sealed.now c.requires.asked)).past c.args.sealed.now.derivation (added_is c.args.edit.now c.args.sealed.now c.in-New.to c.requires.asked c.in-New.is) c.in_err-addition-in-New.field-0.0
-    (subst (λ k. IsUnadded (area_len c.room-room.result.meta.now + 4096) c.room-room.result.total payload (content c.room-room.result.meta.now) c.args.sealed.now.opener.slot c.in-New.to k c.args.sealed.now.derivation c.in_err-addition-in-New.field-0.0)
-    (c.allowed_memory-memory.ensures ∙ sealed_memory c.args.edit.now c.args.sealed.now c.requires.asked) (c.in_err-addition-in-New.ensures.refused payload read.lists)))
+    (unadded_refused read (c.in_ok-key.ensures.opened tells is c.args.edit.now (sym c.allowed-allowed.ensures) (sealed_opens c.args.edit.now c.args.sealed.now c.requires.asked)).past c.args.sealed.now.derivation (added_is c.args.edit.now c.args.sealed.now c.in-New.to c.requires.asked c.in-New.is) c.in_err-addition-in-New.field-0.0
+    (subst (λ (k : Allowed). IsUnadded (area_len c.room-room.result.meta.now + 4096) c.room-room.result.total payload (content c.room-room.result.meta.now) c.args.sealed.now.opener.slot c.in-New.to k.memory c.args.sealed.now.derivation c.in_err-addition-in-New.field-0.0)
+    (c.allowed-allowed.ensures ∙ sealed_allowed c.args.edit.now c.args.sealed.now c.requires.asked) (c.in_err-addition-in-New.ensures.refused payload read.lists)))
 
 pub judge_renewal-requires-clause-there : goal.judge_renewal-requires-clause-there
 judge_renewal-requires-clause-there g c =
@@ -52,15 +53,15 @@ returns-in_err-renewal-in-Opened-clause-refused g c = λ tells is payload well j
     (g.met.D.Device.sized c.args.device.now tells ∙ sym c.requires.total ∙ sym c.room-room.ensures.total) judged in
     let p = err_from_is_err_and c.from_residual-in_err-renewal-in-Opened.result c.from_residual-in_err-renewal-in-Opened.ensures.1 in
     rw (p.1, p.2)
-    (unchanged_refused read (c.in_ok-key.ensures.opened tells is c.args.edit.now (sym c.allowed_memory-memory.ensures) (sealed_opens c.args.edit.now c.args.sealed.now c.requires.asked)).past c.args.sealed.now.derivation (changed_is c.args.edit.now c.args.sealed.now c.requires.asked c.in-Opened.is) c.in_err-renewal-in-Opened.field-0.0
-    (subst (λ k. IsUnsealable (area_len c.room-room.result.meta.now + 4096) c.room-room.result.total payload (content c.room-room.result.meta.now) c.args.sealed.now.opener.slot k c.args.sealed.now.derivation c.in_err-renewal-in-Opened.field-0.0)
-    (c.allowed_memory-memory.ensures ∙ sealed_memory c.args.edit.now c.args.sealed.now c.requires.asked) (c.in_err-renewal-in-Opened.ensures.refused payload read.lists)))
+    (unchanged_refused read (c.in_ok-key.ensures.opened tells is c.args.edit.now (sym c.allowed-allowed.ensures) (sealed_opens c.args.edit.now c.args.sealed.now c.requires.asked)).past c.args.sealed.now.derivation (changed_is c.args.edit.now c.args.sealed.now c.requires.asked c.in-Opened.is) c.in_err-renewal-in-Opened.field-0.0
+    (subst (λ (k : Allowed). IsUnsealable (area_len c.room-room.result.meta.now + 4096) c.room-room.result.total payload (content c.room-room.result.meta.now) c.args.sealed.now.opener.slot k.memory c.args.sealed.now.derivation c.in_err-renewal-in-Opened.field-0.0)
+    (c.allowed-allowed.ensures ∙ sealed_allowed c.args.edit.now c.args.sealed.now c.requires.asked) (c.in_err-renewal-in-Opened.ensures.refused payload read.lists)))
 
 pub returns-in_ok-addition-in-New-clause-seals : goal.returns-in_ok-addition-in-New-clause-seals
 returns-in_ok-addition-in-New-clause-seals g c = λ tells is payload judged.
     let read = read_as c.room-room.ensures.meta c.room-room.ensures.entries
     (g.met.D.Device.sized c.args.device.now tells ∙ sym c.requires.total ∙ sym c.room-room.ensures.total) judged in (
-      (c.in_ok-key.ensures.opened tells is c.args.edit.now (sym c.allowed_memory-memory.ensures) (sealed_opens c.args.edit.now c.args.sealed.now c.requires.asked)).gives,
+      (c.in_ok-key.ensures.opened tells is c.args.edit.now (sym c.allowed-allowed.ensures) (sealed_opens c.args.edit.now c.args.sealed.now c.requires.asked)).gives,
       placed_of read c.room-room.ensures.meta (c.in_ok-addition-in-New.ensures.area payload read.lists),
     )
 
@@ -71,16 +72,16 @@ returns-in_ok-addition-in-New-clause-passed g c = λ tells is payload judged.
     let added = c.in_ok-addition-in-New.addition in
     let asked : c.args.edit.now ≡ Add added.by_ c.args.sealed.now.opener.passphrase c.args.sealed.now.passphrase c.in-New.to added.derivation.iterations added.derivation.chosen =
     rw (c.in_ok-addition-in-New.ensures.like, c.in_ok-addition-in-New.ensures.derivation) (added_is c.args.edit.now c.args.sealed.now c.in-New.to c.requires.asked c.in-New.is) in
-    added_passed read (c.in_ok-key.ensures.opened tells is c.args.edit.now (sym c.allowed_memory-memory.ensures) (sealed_opens c.args.edit.now c.args.sealed.now c.requires.asked)).past added.derivation asked
+    added_passed read (c.in_ok-key.ensures.opened tells is c.args.edit.now (sym c.allowed-allowed.ensures) (sealed_opens c.args.edit.now c.args.sealed.now c.requires.asked)).past added.derivation asked
     c.in_ok-addition-in-New.ensures.number
-    (subst (λ k. IsAllowed k added.derivation) (c.allowed_memory-memory.ensures ∙ sealed_memory c.args.edit.now c.args.sealed.now c.requires.asked) c.in_ok-addition-in-New.ensures.allowed)
+    (subst (λ (k : Allowed). IsAllowed k.memory added.derivation) (c.allowed-allowed.ensures ∙ sealed_allowed c.args.edit.now c.args.sealed.now c.requires.asked) c.in_ok-addition-in-New.ensures.allowed)
     (c.in_ok-addition-in-New.ensures.area payload read.lists)
 
 pub returns-in_ok-renewal-in-Opened-clause-seals : goal.returns-in_ok-renewal-in-Opened-clause-seals
 returns-in_ok-renewal-in-Opened-clause-seals g c = λ tells is payload judged.
     let read = read_as c.room-room.ensures.meta c.room-room.ensures.entries
     (g.met.D.Device.sized c.args.device.now tells ∙ sym c.requires.total ∙ sym c.room-room.ensures.total) judged in (
-      (c.in_ok-key.ensures.opened tells is c.args.edit.now (sym c.allowed_memory-memory.ensures) (sealed_opens c.args.edit.now c.args.sealed.now c.requires.asked)).gives,
+      (c.in_ok-key.ensures.opened tells is c.args.edit.now (sym c.allowed-allowed.ensures) (sealed_opens c.args.edit.now c.args.sealed.now c.requires.asked)).gives,
       placed_of read c.room-room.ensures.meta (c.in_ok-renewal-in-Opened.ensures.area payload read.lists),
     )
 
@@ -100,7 +101,7 @@ returns-in_ok-renewal-in-Opened-clause-takes g c =
           (subst (λ (h : Header). HasKeyBytes h c.args.sealed.now.opener.slot (length key)) c.requires.own.is c.in_ok-key.ensures.length);
       placed = subst (λ (t : ℕ). IsPlaced (area_len meta) (content meta) t r.slot r.area) (c.room-room.ensures.total ∙ c.requires.total)
           (subst (λ (m : Meta). IsPlaced (area_len m) (content m) c.room-room.result.total r.slot r.area) c.room-room.ensures.meta said.placed);
-      allowed = subst (λ k. IsAllowed k r.derivation) (c.allowed_memory-memory.ensures ∙ sealed_memory c.args.edit.now c.args.sealed.now c.requires.asked) said.allowed;
+      allowed = subst (λ (k : Allowed). IsAllowed k.memory r.derivation) (c.allowed-allowed.ensures ∙ sealed_allowed c.args.edit.now c.args.sealed.now c.requires.asked) said.allowed;
       lost = record { is = is; inside = subst (λ (t : ℕ). IsInside r.lost t) c.requires.total (c.requires.own.key_areas r.slot r.lost is) };
     }
 
@@ -111,13 +112,13 @@ returns-in_ok-renewal-in-Opened-clause-passed g c = λ tells is payload judged.
     let renewed = c.in_ok-renewal-in-Opened.renewal in
     let asked : c.args.edit.now ≡ Change renewed.slot c.args.sealed.now.opener.passphrase c.args.sealed.now.passphrase renewed.derivation.iterations renewed.derivation.chosen =
     rw (c.in_ok-renewal-in-Opened.ensures.slot, c.in_ok-renewal-in-Opened.ensures.derivation) (changed_is c.args.edit.now c.args.sealed.now c.requires.asked c.in-Opened.is) in
-    changed_passed read (c.in_ok-key.ensures.opened tells is c.args.edit.now (sym c.allowed_memory-memory.ensures) (sealed_opens c.args.edit.now c.args.sealed.now c.requires.asked)).past renewed.derivation asked
-    (subst (λ k. IsAllowed k renewed.derivation) (c.allowed_memory-memory.ensures ∙ sealed_memory c.args.edit.now c.args.sealed.now c.requires.asked) c.in_ok-renewal-in-Opened.ensures.allowed)
+    changed_passed read (c.in_ok-key.ensures.opened tells is c.args.edit.now (sym c.allowed-allowed.ensures) (sealed_opens c.args.edit.now c.args.sealed.now c.requires.asked)).past renewed.derivation asked
+    (subst (λ (k : Allowed). IsAllowed k.memory renewed.derivation) (c.allowed-allowed.ensures ∙ sealed_allowed c.args.edit.now c.args.sealed.now c.requires.asked) c.in_ok-renewal-in-Opened.ensures.allowed)
     (c.in_ok-renewal-in-Opened.ensures.area payload read.lists)
 
 pub unlock-requires-clause-passphrase : goal.unlock-requires-clause-passphrase
 unlock-requires-clause-passphrase g c = λ some.
-    sealed_short c.args.edit.now c.args.sealed.now c.requires.asked (short_where_allowed c.args.edit.now (subst (λ m. 0 < m) c.allowed_memory-memory.ensures some))
+    sealed_short c.args.edit.now c.args.sealed.now c.requires.asked (short_where_allowed c.args.edit.now (subst (λ (m : Allowed). 0 < m.memory) c.allowed-allowed.ensures some))
 
 pub returns-in_ok-addition-in-New-clause-takes : goal.returns-in_ok-addition-in-New-clause-takes
 returns-in_ok-addition-in-New-clause-takes g c =
@@ -134,5 +135,5 @@ returns-in_ok-addition-in-New-clause-takes g c =
           (subst (λ (h : Header). HasKeyBytes h c.args.sealed.now.opener.slot (length key)) c.requires.own.is c.in_ok-key.ensures.length);
       placed = subst (λ (t : ℕ). IsPlaced (area_len meta) (content meta) t a.by_ a.area) (c.room-room.ensures.total ∙ c.requires.total)
           (subst (λ (m : Meta). IsPlaced (area_len m) (content m) c.room-room.result.total a.by_ a.area) c.room-room.ensures.meta said.placed);
-      allowed = subst (λ k. IsAllowed k a.derivation) (c.allowed_memory-memory.ensures ∙ sealed_memory c.args.edit.now c.args.sealed.now c.requires.asked) said.allowed;
+      allowed = subst (λ (k : Allowed). IsAllowed k.memory a.derivation) (c.allowed-allowed.ensures ∙ sealed_allowed c.args.edit.now c.args.sealed.now c.requires.asked) said.allowed;
     }

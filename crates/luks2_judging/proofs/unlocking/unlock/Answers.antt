@@ -11,7 +11,7 @@ returns-in-Some-clause-opened g c = λ tells is e same asked.
     let v = g.D.Device.bytes c.args.device.now in
     opens_by v e c.args.n c.args.passphrase.now asked c.in-Some.key
     (subst (λ m. AnswerWithin m v c.args.n c.args.passphrase.now (opens c.in-Some.key)) (sym same)
-    (subst (λ o. AnswerWithin c.args.memory v c.args.n c.args.passphrase.now (opened_to o)) c.in-Some.is (c.in-Ok.ensures.answers.opens tells is)))
+    (subst (λ o. AnswerWithin c.args.allowed v c.args.n c.args.passphrase.now (opened_to o)) c.in-Some.is (c.in-Ok.ensures.answers.opens tells is)))
 
 pub returns-in-Err-clause-refused : goal.returns-in-Err-clause-refused
 returns-in-Err-clause-refused g c = λ tells is payload e well same asked there.
