@@ -1,21 +1,22 @@
 -- The faults that opening and sealing a keyslot answer, and how they are written.
 use Rattle.std.specs.Prelude.{◌≡◌, ℕ, List, Bool, true, false, Some, None, codes}
+use Rattle.luks_slot.specs.declared.allowed.Allowed.{Allowed}
 use Rattle.luks_slot.specs.declared.fault.SlotFault.{SlotFault}
 use Rattle.luks_slot.specs.declared.fault.SlotFault.TheVariants.{Argon2, Cipher, Hash, KeySize, Device, Memory}
 use Rattle.luks_slot.specs.declared.plan.SlotPlan.{SlotPlan}
 use Rattle.luks_slot.specs.Refusal.{is_argon2, slot_refusal, slot_refusal_within}
 
--- where so many KiB of memory are allowed: a fault of the plan is its first refusal; the device fails
--- only where the plan isn't refused; so is memory refused, which Argon2 alone takes
-abbrev pub IsAnsweredWithin : ℕ → SlotPlan → SlotFault → Type 0
-IsAnsweredWithin memory plan Argon2 = slot_refusal_within memory plan ≡ Some Argon2
-IsAnsweredWithin memory plan Cipher = slot_refusal_within memory plan ≡ Some Cipher
-IsAnsweredWithin memory plan Hash = slot_refusal_within memory plan ≡ Some Hash
-IsAnsweredWithin memory plan KeySize = slot_refusal_within memory plan ≡ Some KeySize
-IsAnsweredWithin memory plan Device = slot_refusal_within memory plan ≡ None
-IsAnsweredWithin memory plan Memory = (slot_refusal_within memory plan ≡ None) × (is_argon2 plan.derivation ≡ true)
+-- where so much is allowed: a fault of the plan is its first refusal; the device fails only where the
+-- plan isn't refused; so is memory refused, which Argon2 alone takes
+abbrev pub IsAnsweredWithin : Allowed → SlotPlan → SlotFault → Type 0
+IsAnsweredWithin allowed plan Argon2 = slot_refusal_within allowed plan ≡ Some Argon2
+IsAnsweredWithin allowed plan Cipher = slot_refusal_within allowed plan ≡ Some Cipher
+IsAnsweredWithin allowed plan Hash = slot_refusal_within allowed plan ≡ Some Hash
+IsAnsweredWithin allowed plan KeySize = slot_refusal_within allowed plan ≡ Some KeySize
+IsAnsweredWithin allowed plan Device = slot_refusal_within allowed plan ≡ None
+IsAnsweredWithin allowed plan Memory = (slot_refusal_within allowed plan ≡ None) × (is_argon2 plan.derivation ≡ true)
 
--- where none is allowed, memory is never refused, since none is taken
+-- where nothing is allowed, memory is never refused, since none is taken
 abbrev pub IsAnsweredFault : SlotPlan → SlotFault → Type 0
 IsAnsweredFault plan Argon2 = slot_refusal plan ≡ Some Argon2
 IsAnsweredFault plan Cipher = slot_refusal plan ≡ Some Cipher

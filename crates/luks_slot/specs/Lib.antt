@@ -1,3 +1,5 @@
+pub mod Allowance
+pub mod Ciphers
 pub mod Refusal
 pub mod Opening
 pub mod Distance

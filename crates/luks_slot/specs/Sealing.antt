@@ -3,7 +3,7 @@
 use Rattle.std.specs.Prelude.{◌≡◌, ◌≤◌, ℕ, ◌-◌, ◌*◌, List, drop, length, replicate}
 use Rattle.luks_area.specs.Area.{IsInside}
 use Rattle.luks_area.specs.Sectors.{rounded_to_sectors, sector_count}
-use Rattle.luks_kdf.specs.Names.{hash_of, digest_size_of}
+use Rattle.luks_kdf.specs.KeyslotNames.{keyslot_digest, keyslot_digest_size}
 use Rattle.luks_kdf.specs.Splitter.{split}
 use Rattle.luks_slot.specs.declared.plan.SlotPlan.{SlotPlan}
 use Rattle.luks_slot.specs.Opening.{hash_by_name, area_key, opened_sectors, stripe_bytes, stripes_in, HasIterations}
@@ -11,8 +11,8 @@ use Rattle.luks_slot.specs.Opening.{hash_by_name, area_key, opened_sectors, stri
 -- the stripes that hold the key, all but the last of them random
 abbrev pub stripes_of : SlotPlan → List ℕ → List ℕ → List ℕ
 stripes_of plan key random =
-    split (hash_of (hash_by_name plan.splitter_hash.now))
-    (digest_size_of (hash_by_name plan.splitter_hash.now)) key plan.stripes random
+    split (keyslot_digest (hash_by_name plan.splitter_hash.now))
+    (keyslot_digest_size (hash_by_name plan.splitter_hash.now)) key plan.stripes random
 
 -- what sealing demands of its caller: key and random bytes have the lengths that the plan wants, and the area, which lies in a
 -- volume of `total` bytes, has room for the sectors of the stripes

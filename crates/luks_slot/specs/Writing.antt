@@ -1,6 +1,7 @@
 -- Writing the bytes of an area in a row, encrypted, with one run of eight sectors held at a time.
 use Rattle.std.specs.Prelude.{◌≡◌, ◌≢◌, ℕ, ◌+◌, ◌-◌, ◌*◌, ◌/◌, ◌%◌, ◌<◌, List, ◌++◌, length, replicate, slice_index}
 use Rattle.luks_slot.specs.declared.area_writer.AreaWriter.{AreaWriter}
+use Rattle.luks_slot.specs.declared.cipher.AreaKey.{AreaKey}
 use Rattle.luks_slot.specs.Opening.{area_bytes}
 use Rattle.luks_slot.specs.Reading.{plain_byte}
 
@@ -10,7 +11,7 @@ pub record ArePlaced (wanted : List ℕ) (from : ℕ) (bytes : List ℕ) : Type 
 
 -- of the wanted bytes up to a place of an area of so many bytes the whole runs are stored in the
 -- area, at its end all of them, and the others are in the run that is held
-pub record HoldsWanted (key area : List ℕ) (len : ℕ) (wanted : List ℕ) (place : ℕ) (run : List ℕ) : Type 0 where
+pub record HoldsWanted (key : AreaKey) (area : List ℕ) (len : ℕ) (wanted : List ℕ) (place : ℕ) (run : List ℕ) : Type 0 where
   pub stored : ℕ
   pub inside : place ≢ len → stored ≡ 4096 * (place / 4096)
   pub end : place ≡ len → stored ≡ place

@@ -6,12 +6,12 @@ ghost use Rattle.luks_area.specs.Device.{CountsFailure, IsUnchanged, is_failure}
 ghost use Rattle.luks_area.specs.Ranges.{part};
 ghost use Rattle.luks_area.specs.Sectors.{rounded_to_sectors};
 ghost use Rattle.luks_xts.specs.Units.{AreMade};
-ghost use Rattle.luks_xts.specs.Xts.{XtsOpen};
+ghost use Rattle.luks_slot.specs.Ciphers.{sector_opened};
 ghost use Rattle.luks_slot.specs.Opening.{area_bytes};
 ghost use Rattle.luks_slot.specs.Reading.{plain_byte, run_length, ArePlain, HoldsRun, IsReading};
 
+use crate::cipher::AreaKey;
 use luks_area::{Area, Device, DeviceFault, SECTOR};
-use luks_xts::XtsKey;
 
 // The length of a sector as that of an array.
 pub(crate) const SECTOR_BYTES: usize = SECTOR as usize;
@@ -38,7 +38,7 @@ pub(crate) fn run_length(len: u64, number: u64) -> usize
 // them, the first under the number `first`.
 fn read_run<D: Device>(
     device: &mut D,
-    key: &XtsKey,
+    key: &AreaKey,
     at: u64,
     first: u64,
     len: usize,
@@ -52,7 +52,7 @@ fn read_run<D: Device>(
     ensures count { CountsFailure is_failure result
         (D.failed device.old) (D.failed device.new) }
     ensures unchanged { IsUnchanged D.tells D.size D.bytes D.unsettled device.old device.new }
-    ensures value { D.tells → OnOk result (AreMade (XtsOpen key.now) first
+    ensures value { D.tells → OnOk result (AreMade (sector_opened key.now) first
         (part (D.bytes device.old) at len) (take len run.new)) }
 {
     let sectors = &mut run[..len];
@@ -65,13 +65,13 @@ fn read_run<D: Device>(
 #[derive(Drop)]
 pub(crate) struct AreaReader {
     pub(crate) area: Area,
-    pub(crate) key: XtsKey,
+    pub(crate) key: AreaKey,
     pub(crate) run: [u8; RUN_BYTES],
 }
 
 impl AreaReader {
     // Before the first byte of the area.
-    pub(crate) fn new(area: Area, key: XtsKey) -> AreaReader
+    pub(crate) fn new(area: Area, key: AreaKey) -> AreaReader
         ensures area { result.area ≡ area }
         ensures key { result.key ≡ key }
     {

@@ -5,20 +5,20 @@ ghost use Rattle.luks_area.specs.Area.{IsInside};
 ghost use Rattle.luks_area.specs.Device.{CountsFailure, Touches, is_failure};
 ghost use Rattle.luks_area.specs.Ranges.{written, IsAt, SameBut};
 ghost use Rattle.luks_xts.specs.Units.{AreMade};
-ghost use Rattle.luks_xts.specs.Xts.{XtsOpen};
+ghost use Rattle.luks_slot.specs.Ciphers.{sector_opened};
 ghost use Rattle.luks_slot.specs.Opening.{area_bytes};
 ghost use Rattle.luks_slot.specs.Reading.{HoldsRun};
 ghost use Rattle.luks_slot.specs.Writing.{ArePlaced, IsWriting};
 
 use crate::area_reader::{RUN, RUN_BYTES, RUN_SECTORS, run_length};
+use crate::cipher::AreaKey;
 use luks_area::{Area, Device, DeviceFault};
-use luks_xts::XtsKey;
 
 // Encrypts sectors of so many bytes in the front of a run, the first under the number `first`, and
 // writes them to a place of the device.
 fn write_run<D: Device>(
     device: &mut D,
-    key: &XtsKey,
+    key: &AreaKey,
     at: u64,
     first: u64,
     len: usize,
@@ -32,7 +32,7 @@ fn write_run<D: Device>(
     ensures count { CountsFailure is_failure result
         (D.failed device.old) (D.failed device.new) }
     ensures size { D.size device.new ≡ D.size device.old }
-    ensures sealed { AreMade (XtsOpen key.now) first (take len run.new) (take len run.old) }
+    ensures sealed { AreMade (sector_opened key.now) first (take len run.new) (take len run.old) }
     ensures wrote { D.tells → OnOk result
         (D.bytes device.new ≡ written (D.bytes device.old) at (take len run.new)) }
     ensures touches { D.tells → Touches D.bytes D.unsettled (IsAt at len) device.old device.new }
@@ -47,13 +47,13 @@ fn write_run<D: Device>(
 #[derive(Drop)]
 pub(crate) struct AreaWriter {
     pub(crate) area: Area,
-    pub(crate) key: XtsKey,
+    pub(crate) key: AreaKey,
     pub(crate) run: [u8; RUN_BYTES],
 }
 
 impl AreaWriter {
     // Before the first byte of the area.
-    pub(crate) fn new(area: Area, key: XtsKey) -> AreaWriter
+    pub(crate) fn new(area: Area, key: AreaKey) -> AreaWriter
         ensures area { result.area ≡ area }
         ensures key { result.key ≡ key }
     {

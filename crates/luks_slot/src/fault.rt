@@ -11,11 +11,14 @@ pub enum SlotFault {
     /// The area's key is derived by Argon2, whose memory isn't allowed or whose costs are outside its
     /// limits.
     Argon2,
-    /// The area's cipher is another than aes with `xts-plain64` or `xts-plain`.
+    /// The area's cipher is another than aes with `xts-plain64` or `xts-plain`, or, where older ones
+    /// are allowed, with `cbc-essiv:sha256`, `cbc-plain` or `cbc-plain64`.
     Cipher,
-    /// The hash of the derivation, of the splitter or of the digest isn't known.
+    /// The hash of the derivation, of the splitter or of the digest isn't known, or is an older one
+    /// that isn't allowed.
     Hash,
-    /// The area's key has neither 32 nor 64 bytes.
+    /// The area's key hasn't a length of its cipher's keys: 32 or 64 bytes for xts, and 16, 24 or 32
+    /// for cbc.
     KeySize,
     /// The device failed; its count of failures rose.
     Device,

@@ -1,6 +1,7 @@
 //! What PBKDF2 and Argon2 derive for a keyslot.
 
-ghost use Rattle.std.specs.Prelude.{◌≡◌, ◌≢◌, ◌*◌, ◌^◌, ◌<◌, ◌≤◌, ◌⊎◌, length, true, false, count_ones, sum_by, IfErr, IfOk, IfNone};
+ghost use Rattle.std.specs.Prelude.{◌≡◌, ◌≢◌, ◌*◌, ◌^◌, ◌<◌, ◌≤◌, length, true, false, count_ones, sum_by, IfErr, IfOk, IfNone};
+ghost use Rattle.luks_slot.specs.Ciphers.{is_size_of, keyed};
 ghost use Rattle.luks_slot.specs.Opening.{area_key, derived_by_argon2, hash_by_name, meets_digest, variant_of, HasIterations};
 ghost use Rattle.luks_slot.specs.Distance.{digest_distance};
 ghost use Rattle.luks_slot.specs.Parameters.{derived_by_pbkdf2, AreParameters};
@@ -8,12 +9,12 @@ ghost use Rattle.luks_slot.specs.Refusal.{is_argon2};
 ghost use Rattle.luks_slot.specs.declared.fault.SlotFault.{SlotFault as TheFault};
 ghost use Rattle.luks_argon2.specs.Memory.{variant_number};
 
+use crate::cipher::{AreaKey, SectorCipher};
 use crate::fault::SlotFault;
 use crate::parameters::{KeyDerivation, Parameters, Pbkdf2Costs};
 use crate::plan::{Argon2Kind, Argon2Plan, DigestPlan, SlotPlan};
 use luks_argon2::{Variant, argon2};
-use luks_kdf::{HashName, xor_into};
-use luks_xts::XtsKey;
+use luks_kdf::{KeyslotHash, xor_into};
 use std::alloc::Global;
 
 // The key of the area. Argon2 alone takes memory, before it computes anything.
@@ -22,7 +23,7 @@ pub(crate) fn area_key(
     plan: &SlotPlan<'_>,
     parameters: &Parameters<'_>,
     passphrase: &[u8],
-) -> Result<XtsKey, SlotFault>
+) -> Result<AreaKey, SlotFault>
     requires parameters { AreParameters plan.now parameters.now }
     requires iterations { HasIterations plan.now.derivation }
     requires passphrase { is_argon2 plan.now.derivation ≡ true → length passphrase.now < 2 ^ 32 }
@@ -30,41 +31,50 @@ pub(crate) fn area_key(
     ensures memory { IfErr result (λ f. f ≡ TheFault.Memory) }
     ensures argon2 { IfErr result (λ _. is_argon2 plan.now.derivation ≡ true) }
 {
+    let cipher = parameters.cipher;
+    let len = plan.area_key_bytes;
     match parameters.derivation {
-        KeyDerivation::Pbkdf2(costs) => Ok(pbkdf2_key(plan.area_key_bytes, &costs, passphrase)),
-        KeyDerivation::Argon2(costs) => argon2_key(alloc, plan.area_key_bytes, &costs, passphrase),
+        KeyDerivation::Pbkdf2(costs) => Ok(pbkdf2_key(cipher, len, &costs, passphrase)),
+        KeyDerivation::Argon2(costs) => argon2_key(alloc, cipher, len, &costs, passphrase),
     }
 }
 
 // The key of `len` bytes that PBKDF2 derives.
-pub(crate) fn pbkdf2_key(len: usize, costs: &Pbkdf2Costs<'_>, passphrase: &[u8]) -> XtsKey
-    requires key_size { (len ≡ 32) ⊎ (len ≡ 64) }
+pub(crate) fn pbkdf2_key(
+    cipher: SectorCipher,
+    len: usize,
+    costs: &Pbkdf2Costs<'_>,
+    passphrase: &[u8],
+) -> AreaKey
+    requires key_size { is_size_of cipher len ≡ true }
     requires iterations { 1 ≤ costs.now.iterations }
-    ensures { result ≡ derived_by_pbkdf2 costs.now len passphrase.now }
+    ensures { result ≡ keyed cipher (derived_by_pbkdf2 costs.now len passphrase.now) }
 {
     let mut buffer = [0u8; 64];
     let bytes = &mut buffer[..len];
     costs
         .hash
         .pbkdf2(bytes, passphrase, costs.salt, costs.iterations);
-    XtsKey::new(bytes).unwrap()
+    AreaKey::new(cipher, bytes)
 }
 
 // The key of `len` bytes that Argon2 derives.
 fn argon2_key(
     alloc: Global,
+    cipher: SectorCipher,
     len: usize,
     costs: &Argon2Plan<'_>,
     passphrase: &[u8],
-) -> Result<XtsKey, SlotFault>
-    requires key_size { (len ≡ 32) ⊎ (len ≡ 64) }
+) -> Result<AreaKey, SlotFault>
+    requires key_size { is_size_of cipher len ≡ true }
     requires some_pass { 1 ≤ costs.now.time }
     requires salt { length costs.now.salt.now ≤ 128 }
     requires some_lane { 1 ≤ costs.now.cpus }
     requires few_lanes { costs.now.cpus < 2 ^ 24 }
     requires enough_memory { 8 * costs.now.cpus ≤ costs.now.memory }
     requires passphrase { length passphrase.now < 2 ^ 32 }
-    ensures key { IfOk result (λ key. key ≡ derived_by_argon2 costs.now len passphrase.now) }
+    ensures key { IfOk result (λ key. key
+        ≡ keyed cipher (derived_by_argon2 costs.now len passphrase.now)) }
     ensures memory { IfErr result (λ f. f ≡ TheFault.Memory) }
 {
     let mut buffer = [0u8; 64];
@@ -80,7 +90,7 @@ fn argon2_key(
         costs.memory,
         costs.cpus,
     )?;
-    Ok(XtsKey::new(bytes).unwrap())
+    Ok(AreaKey::new(cipher, bytes))
 }
 
 fn variant_of(kind: Argon2Kind) -> Variant
@@ -94,7 +104,7 @@ fn variant_of(kind: Argon2Kind) -> Variant
 
 // In how many bits what the key gives differs from the stored digest. All bytes are compared, whatever
 // the first of them are.
-pub(crate) fn digest_distance(digest: &DigestPlan<'_>, hash: HashName, key: &[u8]) -> u32
+pub(crate) fn digest_distance(digest: &DigestPlan<'_>, hash: KeyslotHash, key: &[u8]) -> u32
     requires hash { hash_by_name digest.now.hash.now ≡ hash }
     requires iterations { 1 ≤ digest.now.iterations }
     requires at_most_64 { length digest.now.stored.now ≤ 64 }
@@ -107,7 +117,7 @@ pub(crate) fn digest_distance(digest: &DigestPlan<'_>, hash: HashName, key: &[u8
 }
 
 // The same, with room for what is to be compared.
-fn distance_in(room: &mut [u8], digest: &DigestPlan<'_>, hash: HashName, key: &[u8]) -> u32
+fn distance_in(room: &mut [u8], digest: &DigestPlan<'_>, hash: KeyslotHash, key: &[u8]) -> u32
     requires hash { hash_by_name digest.now.hash.now ≡ hash }
     requires iterations { 1 ≤ digest.now.iterations }
     requires at_most_64 { length digest.now.stored.now ≤ 64 }

@@ -1,6 +1,8 @@
 //! Laws on the definitions of this crate. Each function changes nothing; its contract is the law.
 
 ghost use Rattle.std.specs.Prelude.{◌≡◌, ◌-◌, ◌*◌, ◌≤◌, ℕ, List, length, Some, None, true, if◌then◌else◌};
+ghost use Rattle.luks_slot.specs.Allowance.{none_allowed};
+ghost use Rattle.luks_slot.specs.declared.allowed.Allowed.{Allowed as WhatIsAllowed};
 ghost use Rattle.luks_slot.specs.declared.plan.SlotPlan.{SlotPlan as ThePlan};
 ghost use Rattle.luks_slot.specs.declared.fault.SlotFault.{SlotFault as TheFault};
 ghost use Rattle.luks_slot.specs.Fault.{IsAnsweredFault, IsAnsweredWithin};
@@ -8,7 +10,7 @@ ghost use Rattle.luks_slot.specs.Opening.{meets_digest, slot_key};
 ghost use Rattle.luks_slot.specs.Refusal.{is_argon2, slot_refusal, slot_refusal_within};
 ghost use Rattle.luks_slot.specs.Sealing.{IsSealed};
 
-use luks_kdf::HashName;
+use luks_kdf::KeyslotHash;
 
 /// Where an area holds what sealing a key leaves, opening it by the same passphrase answers that
 /// key where the key meets the plan's digest, and none where it doesn't.
@@ -20,17 +22,24 @@ pub fn sealed_area_opens()
         → slot_key plan area passphrase
         ≡ (if meets_digest plan.digest key then Some key else None) }
 {
-    HashName::merge_undoes_split();
+    KeyslotHash::merge_undoes_split();
 }
 
-/// Where no memory is allowed, a keyslot is refused exactly as it is without Argon2, for the same
-/// reason, and what is answered then is the same.
+/// Where nothing is allowed, a keyslot is refused exactly as it is without Argon2 and without older
+/// ciphers, hashes and lengths of keys, for the same reason, and what is answered then is the same.
 pub fn nothing_allowed_is_as_before()
-    ensures refusal { (plan : ThePlan) → slot_refusal_within 0 plan ≡ slot_refusal plan }
+    ensures refusal { (plan : ThePlan) → slot_refusal_within none_allowed plan ≡ slot_refusal plan }
     ensures fault { (plan : ThePlan) (f : TheFault)
-        → IsAnsweredWithin 0 plan f → IsAnsweredFault plan f }
+        → IsAnsweredWithin none_allowed plan f → IsAnsweredFault plan f }
     ensures argon2 { (plan : ThePlan) → is_argon2 plan.derivation ≡ true
-        → slot_refusal_within 0 plan ≡ Some TheFault.Argon2 }
+        → slot_refusal_within none_allowed plan ≡ Some TheFault.Argon2 }
+{}
+
+/// A keyslot that isn't refused where less is allowed isn't refused where more is.
+pub fn more_allowed_opens_as_much()
+    ensures { (allowed more : WhatIsAllowed) (plan : ThePlan) → allowed.memory ≤ more.memory
+        → (allowed.older ≡ true → more.older ≡ true)
+        → slot_refusal_within allowed plan ≡ None → slot_refusal_within more plan ≡ None }
 {}
 
 /// What a keyslot opens to by a passphrase meets the plan's digest.

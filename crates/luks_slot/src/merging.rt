@@ -4,19 +4,19 @@ ghost use Rattle.std.specs.Prelude.{◌≡◌, ◌+◌, ◌*◌, ◌^◌, ◌<�
 ghost use Rattle.luks_area.specs.Area.{IsInside};
 ghost use Rattle.luks_area.specs.Device.{CountsFailure, IsUnchanged, is_failure};
 ghost use Rattle.luks_area.specs.Sectors.{rounded_to_sectors};
-ghost use Rattle.luks_kdf.specs.Names.{hash_of, digest_size_of};
+ghost use Rattle.luks_kdf.specs.KeyslotNames.{keyslot_digest, keyslot_digest_size};
 ghost use Rattle.luks_kdf.specs.Splitter.{merge};
 ghost use Rattle.luks_slot.specs.Opening.{area_bytes, stripes_from};
 
 use crate::area_reader::AreaReader;
 use luks_area::{Device, DeviceFault};
-use luks_kdf::{HashName, xor_into};
+use luks_kdf::{KeyslotHash, xor_into};
 
 // What the stripes of the area hold, by the hash of the splitter.
 pub(crate) fn read_candidate<D: Device>(
     device: &mut D,
     reader: &mut AreaReader,
-    hash: HashName,
+    hash: KeyslotHash,
     stripes: u32,
     out: &mut [u8],
 ) -> Result<(), DeviceFault>
@@ -30,7 +30,7 @@ pub(crate) fn read_candidate<D: Device>(
         (D.failed device.old) (D.failed device.new) }
     ensures unchanged { IsUnchanged D.tells D.size D.bytes D.unsettled device.old device.new }
     ensures value { D.tells → OnOk result (out.new
-        ≡ merge (hash_of hash) (digest_size_of hash) (length out.old) stripes
+        ≡ merge (keyslot_digest hash) (keyslot_digest_size hash) (length out.old) stripes
         (stripes_from reader.old.key (area_bytes (D.bytes device.old) reader.old.area)
         (length out.old) stripes)) }
 {
@@ -45,7 +45,7 @@ pub(crate) fn read_candidate<D: Device>(
 fn merge_stripes<D: Device>(
     device: &mut D,
     reader: &mut AreaReader,
-    hash: HashName,
+    hash: KeyslotHash,
     stripes: u32,
     stripe: &mut [u8],
     block: &mut [u8],
@@ -62,7 +62,7 @@ fn merge_stripes<D: Device>(
         (D.failed device.old) (D.failed device.new) }
     ensures unchanged { IsUnchanged D.tells D.size D.bytes D.unsettled device.old device.new }
     ensures value { D.tells → OnOk result (block.new
-        ≡ merge (hash_of hash) (digest_size_of hash) (length block.old) stripes
+        ≡ merge (keyslot_digest hash) (keyslot_digest_size hash) (length block.old) stripes
         (stripes_from reader.old.key (area_bytes (D.bytes device.old) reader.old.area)
         (length block.old) stripes)) }
 {

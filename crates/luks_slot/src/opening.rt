@@ -10,6 +10,7 @@ ghost use Rattle.luks_slot.specs.Opening.{area_bytes, hash_by_name, meets_digest
 ghost use Rattle.luks_slot.specs.Refusal.{slot_refusal, slot_refusal_within};
 ghost use Rattle.luks_slot.specs.declared.fault.SlotFault.{SlotFault as TheFault};
 
+use crate::allowed::Allowed;
 use crate::area_reader::AreaReader;
 use crate::fault::SlotFault;
 use crate::hashing::{area_key, digest_distance};
@@ -18,15 +19,15 @@ use crate::merging::read_candidate;
 use crate::parameters::parameters_within;
 use crate::plan::{DigestPlan, SlotPlan};
 use luks_area::{Area, Device, rounded_to_sectors};
-use luks_kdf::HashName;
+use luks_kdf::KeyslotHash;
 use std::alloc::Global;
 
 /// The volume key that the passphrase opens the keyslot to, or None where the stored digest isn't
 /// met; an empty passphrase is a passphrase (LUKS1 On-Disk Format 1.2.3, 4.3; LUKS2 On-Disk Format
 /// 1.1, 4.3).
 ///
-/// No memory is allowed to Argon2, so that a refusal is of the plan alone, the first of `Argon2`,
-/// `Cipher`, `Hash` and `KeySize`. `Device` comes exactly where the device failed. Of the area the
+/// Nothing is allowed, so that a refusal is of the plan alone, the first of `Argon2`, `Cipher`, `Hash`
+/// and `KeySize`. `Device` comes exactly where the device failed. Of the area the
 /// sectors of the stripes are read, eight of 512 bytes at a time, and no memory is taken from the
 /// allocator.
 pub fn open<D: Device>(
@@ -58,11 +59,11 @@ pub fn open<D: Device>(
         (D.failed device.old) (D.failed device.new) }
     ensures unchanged { IsUnchanged D.tells D.size D.bytes D.unsettled device.old device.new }
 {
-    open_within(alloc, device, plan, passphrase, 0)
+    open_within(alloc, device, plan, passphrase, Allowed::NOTHING)
 }
 
-/// The same where Argon2 may take `memory` KiB, at once and before the area is read: then Argon2
-/// keyslots open too that take no more (`refusal_within`).
+/// The same where so much is allowed (`refusal_within`): Argon2 takes its memory at once and before
+/// the area is read.
 ///
 /// `Memory` comes only of an Argon2 keyslot that isn't refused, where the allocator refuses it.
 pub fn open_within<D: Device>(
@@ -70,10 +71,10 @@ pub fn open_within<D: Device>(
     device: &mut D,
     plan: &SlotPlan<'_>,
     passphrase: &[u8],
-    memory: u32,
+    allowed: Allowed,
 ) -> Result<Option<Key>, SlotFault>
     requires iterations { HasIterations plan.now.derivation }
-    requires passphrase { 0 < memory → length passphrase.now < 2 ^ 32 }
+    requires passphrase { 0 < allowed.memory → length passphrase.now < 2 ^ 32 }
     requires digest_iterations { 1 ≤ plan.now.digest.iterations }
     requires digest_length { length plan.now.digest.stored.now ≤ 64 }
     requires some_bytes { 1 ≤ plan.now.key_bytes }
@@ -84,9 +85,9 @@ pub fn open_within<D: Device>(
     requires room { D.failed device.old + 1 < 2 ^ 64 }
 
     // The plan is refused, the device failed, memory was refused, or there is an answer.
-    ensures refused { (f : TheFault) → slot_refusal_within memory plan.now ≡ Some f → result ≡ Err f }
-    ensures fault { IfErr result (IsAnsweredWithin memory plan.now) }
-    ensures accepted { OnOk result (slot_refusal_within memory plan.now ≡ None) }
+    ensures refused { (f : TheFault) → slot_refusal_within allowed plan.now ≡ Some f → result ≡ Err f }
+    ensures fault { IfErr result (IsAnsweredWithin allowed plan.now) }
+    ensures accepted { OnOk result (slot_refusal_within allowed plan.now ≡ None) }
     ensures length { IfOk result (λ found. IfSome found (λ k. length k ≡ plan.now.key_bytes)) }
     ensures value { D.tells → IfOk result (λ found. found
         ≡ slot_key plan.now (area_bytes (D.bytes device.old) plan.now.area) passphrase.now) }
@@ -96,7 +97,7 @@ pub fn open_within<D: Device>(
         (D.failed device.old) (D.failed device.new) }
     ensures unchanged { IsUnchanged D.tells D.size D.bytes D.unsettled device.old device.new }
 {
-    match try_within(alloc, device, plan, passphrase, memory)? {
+    match try_within(alloc, device, plan, passphrase, allowed)? {
         Tried::Opens(key) => Ok(Some(key)),
         Tried::Differs(_) => Ok(None),
     }
@@ -119,10 +120,10 @@ pub fn try_within<D: Device>(
     device: &mut D,
     plan: &SlotPlan<'_>,
     passphrase: &[u8],
-    memory: u32,
+    allowed: Allowed,
 ) -> Result<Tried, SlotFault>
     requires iterations { HasIterations plan.now.derivation }
-    requires passphrase { 0 < memory → length passphrase.now < 2 ^ 32 }
+    requires passphrase { 0 < allowed.memory → length passphrase.now < 2 ^ 32 }
     requires digest_iterations { 1 ≤ plan.now.digest.iterations }
     requires digest_length { length plan.now.digest.stored.now ≤ 64 }
     requires some_bytes { 1 ≤ plan.now.key_bytes }
@@ -133,9 +134,9 @@ pub fn try_within<D: Device>(
     requires room { D.failed device.old + 1 < 2 ^ 64 }
 
     // The plan is refused, the device failed, memory was refused, or there is an answer.
-    ensures refused { (f : TheFault) → slot_refusal_within memory plan.now ≡ Some f → result ≡ Err f }
-    ensures fault { IfErr result (IsAnsweredWithin memory plan.now) }
-    ensures accepted { OnOk result (slot_refusal_within memory plan.now ≡ None) }
+    ensures refused { (f : TheFault) → slot_refusal_within allowed plan.now ≡ Some f → result ≡ Err f }
+    ensures fault { IfErr result (IsAnsweredWithin allowed plan.now) }
+    ensures accepted { OnOk result (slot_refusal_within allowed plan.now ≡ None) }
     ensures length { IfOk result
         (λ tried. IfSome (found_by tried) (λ k. length k ≡ plan.now.key_bytes)) }
     ensures value { D.tells → IfOk result (λ tried. found_by tried
@@ -148,7 +149,7 @@ pub fn try_within<D: Device>(
         (D.failed device.old) (D.failed device.new) }
     ensures unchanged { IsUnchanged D.tells D.size D.bytes D.unsettled device.old device.new }
 {
-    let parameters = parameters_within(plan, memory)?;
+    let parameters = parameters_within(plan, allowed)?;
     let key = area_key(alloc, plan, &parameters, passphrase)?;
     let mut reader = AreaReader::new(stripes_area(plan), key);
     let mut buffer = [0u8; 128];
@@ -172,7 +173,7 @@ fn stripes_area(plan: &SlotPlan<'_>) -> Area
 }
 
 // The candidate where it is the key, or how far it is from the digest.
-fn tested(digest: &DigestPlan<'_>, hash: HashName, candidate: &[u8]) -> Tried
+fn tested(digest: &DigestPlan<'_>, hash: KeyslotHash, candidate: &[u8]) -> Tried
     requires hash { hash_by_name digest.now.hash.now ≡ hash }
     requires iterations { 1 ≤ digest.now.iterations }
     requires at_most_64 { length digest.now.stored.now ≤ 64 }

@@ -2,16 +2,20 @@
 
 ghost use Rattle.std.specs.Prelude.{◌≡◌, ◌==◌, is_some, MatchResult, Some, None, IfErr, IfOk, IfSome, IsTrue, OnOk};
 ghost use Rattle.luks_slot.specs.Parameters.{AreParameters, IsDerivation};
-ghost use Rattle.luks_slot.specs.Refusal.{is_argon2_refused, is_known_derivation, is_open_cipher, slot_refusal, slot_refusal_within};
+ghost use Rattle.luks_slot.specs.Ciphers.{cipher_of, is_size_of, ivs_of_mode, older_ivs};
+ghost use Rattle.luks_slot.specs.Refusal.{is_allowed_cipher, is_argon2_refused, is_known_derivation, is_open_cipher, slot_refusal, slot_refusal_within};
 
+use crate::allowed::Allowed;
+use crate::cipher::SectorCipher;
 use crate::fault::SlotFault;
 use crate::plan::{AreaCipher, Argon2Plan, Derivation, SlotPlan};
-use luks_kdf::HashName;
+use luks_cbc::IvKind;
+use luks_kdf::KeyslotHash;
 
 // What PBKDF2 derives by.
 #[derive(Clone, Copy)]
 pub(crate) struct Pbkdf2Costs<'a> {
-    pub(crate) hash: HashName,
+    pub(crate) hash: KeyslotHash,
     pub(crate) iterations: u32,
     pub(crate) salt: &'a [u8],
 }
@@ -23,59 +27,62 @@ pub(crate) enum KeyDerivation<'a> {
     Argon2(Argon2Plan<'a>),
 }
 
-// The parameters of a plan that isn't refused: its hashes, and how the area's key is derived.
+// The parameters of a plan that isn't refused: its hashes, its cipher, and how the area's key is derived.
 #[derive(Clone, Copy)]
 pub(crate) struct Parameters<'a> {
     pub(crate) derivation: KeyDerivation<'a>,
-    pub(crate) splitter_hash: HashName,
-    pub(crate) digest_hash: HashName,
+    pub(crate) cipher: SectorCipher,
+    pub(crate) splitter_hash: KeyslotHash,
+    pub(crate) digest_hash: KeyslotHash,
 }
 
-/// Why a keyslot of this plan can neither be opened nor sealed where no memory is allowed: the first
+/// Why a keyslot of this plan can neither be opened nor sealed where nothing is allowed: the first
 /// of `Argon2`, `Cipher`, `Hash` and `KeySize`, or None. `open` and `seal` refuse exactly these
 /// plans, by the same judging.
 pub fn refusal(plan: &SlotPlan<'_>) -> Option<SlotFault>
     ensures { result ≡ slot_refusal plan.now }
 {
-    refusal_within(plan, 0)
+    refusal_within(plan, Allowed::NOTHING)
 }
 
-/// The same where `memory` KiB are allowed, as `open_within` and `seal_within` refuse: `Argon2`
-/// where Argon2 takes more, or less than 8 KiB for each lane, or has not 1 to 2^24 - 1 lanes, or a
+/// The same where so much is allowed, as `open_within` and `seal_within` refuse: `Argon2` where
+/// Argon2 takes more memory, or less than 8 KiB for each lane, or has not 1 to 2^24 - 1 lanes, or a
 /// salt of fewer than 8 bytes.
-pub fn refusal_within(plan: &SlotPlan<'_>, memory: u32) -> Option<SlotFault>
-    ensures { result ≡ slot_refusal_within memory plan.now }
+pub fn refusal_within(plan: &SlotPlan<'_>, allowed: Allowed) -> Option<SlotFault>
+    ensures { result ≡ slot_refusal_within allowed plan.now }
 {
-    parameters_within(plan, memory).err()
+    parameters_within(plan, allowed).err()
 }
 
 // The parameters of the plan, or its first refusal.
 pub(crate) fn parameters_within<'a>(
     plan: &SlotPlan<'a>,
-    memory: u32,
+    allowed: Allowed,
 ) -> Result<Parameters<'a>, SlotFault>
-    ensures refused { IfErr result (λ f. slot_refusal_within memory plan.now ≡ Some f) }
-    ensures accepted { OnOk result (slot_refusal_within memory plan.now ≡ None) }
+    ensures refused { IfErr result (λ f. slot_refusal_within allowed plan.now ≡ Some f) }
+    ensures accepted { OnOk result (slot_refusal_within allowed plan.now ≡ None) }
     ensures are { IfOk result (λ parameters. AreParameters plan.now parameters) }
 {
-    if is_argon2_refused(&plan.derivation, memory) {
+    if is_argon2_refused(&plan.derivation, allowed.memory) {
         return Err(SlotFault::Argon2);
     }
-    if !is_open_cipher(&plan.cipher) {
+    if !is_allowed_cipher(&plan.cipher, allowed.older) {
         return Err(SlotFault::Cipher);
     }
     let (Some(derivation), Some(splitter_hash), Some(digest_hash)) = (
-        derivation_of(&plan.derivation),
-        HashName::parse(plan.splitter_hash),
-        HashName::parse(plan.digest.hash),
+        derivation_of(&plan.derivation, allowed.older),
+        KeyslotHash::parse(plan.splitter_hash, allowed.older),
+        KeyslotHash::parse(plan.digest.hash, allowed.older),
     ) else {
         return Err(SlotFault::Hash);
     };
-    if plan.area_key_bytes != 32 && plan.area_key_bytes != 64 {
+    let cipher = cipher_of(&plan.cipher);
+    if !is_key_size(cipher, plan.area_key_bytes) {
         return Err(SlotFault::KeySize);
     }
     Ok(Parameters {
         derivation,
+        cipher,
         splitter_hash,
         digest_hash,
     })
@@ -98,8 +105,8 @@ fn is_argon2_refused(derivation: &Derivation<'_>, memory: u32) -> bool
 }
 
 // The derivation, where its hash is known.
-fn derivation_of<'a>(derivation: &Derivation<'a>) -> Option<KeyDerivation<'a>>
-    ensures known { is_some result ≡ is_known_derivation derivation.now }
+fn derivation_of<'a>(derivation: &Derivation<'a>, older: bool) -> Option<KeyDerivation<'a>>
+    ensures known { is_some result ≡ is_known_derivation older derivation.now }
     ensures is { IfSome result (λ known. IsDerivation derivation.now known) }
 {
     match *derivation {
@@ -108,7 +115,7 @@ fn derivation_of<'a>(derivation: &Derivation<'a>) -> Option<KeyDerivation<'a>>
             iterations,
             salt,
         } => {
-            let hash = HashName::parse(hash)?;
+            let hash = KeyslotHash::parse(hash, older)?;
             Some(KeyDerivation::Pbkdf2(Pbkdf2Costs {
                 hash,
                 iterations,
@@ -119,6 +126,12 @@ fn derivation_of<'a>(derivation: &Derivation<'a>) -> Option<KeyDerivation<'a>>
     }
 }
 
+fn is_allowed_cipher(cipher: &AreaCipher<'_>, older: bool) -> bool
+    ensures { result ≡ is_allowed_cipher older cipher.now }
+{
+    is_open_cipher(cipher) || older && older_ivs(cipher).is_some()
+}
+
 fn is_open_cipher(cipher: &AreaCipher<'_>) -> bool
     ensures { result ≡ is_open_cipher cipher.now }
 {
@@ -127,5 +140,50 @@ fn is_open_cipher(cipher: &AreaCipher<'_>) -> bool
             name == "aes" && (mode == "xts-plain64" || mode == "xts-plain")
         }
         AreaCipher::Whole(text) => text == "aes-xts-plain64" || text == "aes-xts-plain",
+    }
+}
+
+// What decrypts the sectors of the area.
+fn cipher_of(cipher: &AreaCipher<'_>) -> SectorCipher
+    ensures { result ≡ cipher_of cipher.now }
+{
+    match older_ivs(cipher) {
+        None => SectorCipher::Xts,
+        Some(ivs) => SectorCipher::Cbc(ivs),
+    }
+}
+
+// The kind of the IVs of a cipher of older disks.
+fn older_ivs(cipher: &AreaCipher<'_>) -> Option<IvKind>
+    ensures { result ≡ older_ivs cipher.now }
+{
+    match *cipher {
+        AreaCipher::Apart { name: "aes", mode } => ivs_of_mode(mode),
+        AreaCipher::Apart { .. } => None,
+        AreaCipher::Whole("aes-cbc-essiv:sha256") => Some(IvKind::Essiv),
+        AreaCipher::Whole("aes-cbc-plain") => Some(IvKind::Plain),
+        AreaCipher::Whole("aes-cbc-plain64") => Some(IvKind::Plain64),
+        AreaCipher::Whole(_) => None,
+    }
+}
+
+fn ivs_of_mode(mode: &str) -> Option<IvKind>
+    ensures { result ≡ ivs_of_mode mode.now }
+{
+    match mode {
+        "cbc-essiv:sha256" => Some(IvKind::Essiv),
+        "cbc-plain" => Some(IvKind::Plain),
+        "cbc-plain64" => Some(IvKind::Plain64),
+        _ => None,
+    }
+}
+
+// Whether a key of the cipher can have so many bytes.
+fn is_key_size(cipher: SectorCipher, len: usize) -> bool
+    ensures { result ≡ is_size_of cipher len }
+{
+    match cipher {
+        SectorCipher::Xts => len == 32 || len == 64,
+        SectorCipher::Cbc(_) => len == 16 || len == 24 || len == 32,
     }
 }

@@ -12,8 +12,10 @@ ghost use Rattle.luks_slot.specs.Sealing.{IsReadyToSeal, IsSealed};
 ghost use Rattle.luks_slot.specs.Writing.{filled};
 ghost use Rattle.luks_slot.specs.declared.fault.SlotFault.{SlotFault as TheFault};
 
+use crate::allowed::Allowed;
 use crate::area_reader::SECTOR_BYTES;
 use crate::area_writer::AreaWriter;
+use crate::cipher::AreaKey;
 use crate::fault::SlotFault;
 use crate::hashing::{area_key, pbkdf2_key};
 use crate::key::Key;
@@ -21,8 +23,7 @@ use crate::parameters::{KeyDerivation, parameters_within};
 use crate::plan::SlotPlan;
 use crate::splitting::write_last_stripe;
 use luks_area::{Area, Device, DeviceFault, rounded_to_sectors};
-use luks_kdf::HashName;
-use luks_xts::XtsKey;
+use luks_kdf::KeyslotHash;
 use std::alloc::Global;
 
 /// Seals the key in the keyslot's area under the passphrase: the stripes that hold it, of which all
@@ -31,8 +32,8 @@ use std::alloc::Global;
 /// those of these sectors changes, and those that were unsettled where the device fails. Nothing is
 /// flushed.
 ///
-/// No memory is allowed to Argon2, so that a refusal is of the plan alone, the first of `Argon2`,
-/// `Cipher`, `Hash` and `KeySize`, and then no byte changes. `Device` comes exactly where the device
+/// Nothing is allowed, so that a refusal is of the plan alone, the first of `Argon2`, `Cipher`, `Hash`
+/// and `KeySize`, and then no byte changes. `Device` comes exactly where the device
 /// failed. Eight sectors are held and written at a time, and no memory is taken from an allocator.
 pub fn seal<D: Device>(
     device: &mut D,
@@ -67,11 +68,12 @@ pub fn seal<D: Device>(
         (IsAt plan.now.area.start (rounded_to_sectors (stripe_bytes plan.now)))
         device.old device.new }
 {
-    let parameters = parameters_within(plan, 0)?;
+    let parameters = parameters_within(plan, Allowed::NOTHING)?;
     let KeyDerivation::Pbkdf2(costs) = parameters.derivation else {
         return Err(SlotFault::Argon2);
     };
-    let cipher_key = pbkdf2_key(plan.area_key_bytes, &costs, passphrase);
+    let cipher = parameters.cipher;
+    let cipher_key = pbkdf2_key(cipher, plan.area_key_bytes, &costs, passphrase);
     seal_under(
         device,
         plan,
@@ -83,8 +85,8 @@ pub fn seal<D: Device>(
     Ok(())
 }
 
-/// The same where Argon2 may take `memory` KiB, at once and before the first write: then Argon2
-/// keyslots are sealed too that take no more (`refusal_within`).
+/// The same where so much is allowed (`refusal_within`): Argon2 takes its memory at once and before
+/// the first write.
 ///
 /// `Memory` comes only of an Argon2 keyslot that isn't refused, where the allocator refuses it, and
 /// then no byte has changed.
@@ -93,19 +95,19 @@ pub fn seal_within<D: Device>(
     device: &mut D,
     plan: &SlotPlan<'_>,
     passphrase: &[u8],
-    memory: u32,
+    allowed: Allowed,
     key: &Key,
     random: &[u8],
 ) -> Result<(), SlotFault>
-    requires passphrase { 0 < memory → length passphrase.now < 2 ^ 32 }
+    requires passphrase { 0 < allowed.memory → length passphrase.now < 2 ^ 32 }
     requires ready { IsReadyToSeal plan.now key.now random.now (D.size device.old) }
     requires room { D.failed device.old + 1 < 2 ^ 64 }
 
     // The plan is refused, the device failed, memory was refused, or the area holds the key and
     // opens to it.
-    ensures refused { (f : TheFault) → slot_refusal_within memory plan.now ≡ Some f → result ≡ Err f }
-    ensures fault { IfErr result (IsAnsweredWithin memory plan.now) }
-    ensures accepted { OnOk result (slot_refusal_within memory plan.now ≡ None) }
+    ensures refused { (f : TheFault) → slot_refusal_within allowed plan.now ≡ Some f → result ≡ Err f }
+    ensures fault { IfErr result (IsAnsweredWithin allowed plan.now) }
+    ensures accepted { OnOk result (slot_refusal_within allowed plan.now ≡ None) }
     ensures sealed { D.tells → OnOk result
         (IsSealed plan.now (area_bytes (D.bytes device.new) plan.now.area)
         passphrase.now key.now random.now) }
@@ -119,13 +121,13 @@ pub fn seal_within<D: Device>(
     ensures size { D.size device.new ≡ D.size device.old }
     ensures untouched { IsErr result → D.failed device.new ≡ D.failed device.old
         → device.new ≡ device.old }
-    ensures same { D.tells → (f : TheFault) → slot_refusal_within memory plan.now ≡ Some f
+    ensures same { D.tells → (f : TheFault) → slot_refusal_within allowed plan.now ≡ Some f
         → D.bytes device.new ≡ D.bytes device.old }
     ensures touches { D.tells → Touches D.bytes D.unsettled
         (IsAt plan.now.area.start (rounded_to_sectors (stripe_bytes plan.now)))
         device.old device.new }
 {
-    let parameters = parameters_within(plan, memory)?;
+    let parameters = parameters_within(plan, allowed)?;
     let cipher_key = area_key(alloc, plan, &parameters, passphrase)?;
     seal_under(
         device,
@@ -142,8 +144,8 @@ pub fn seal_within<D: Device>(
 fn seal_under<D: Device>(
     device: &mut D,
     plan: &SlotPlan<'_>,
-    hash: HashName,
-    cipher_key: XtsKey,
+    hash: KeyslotHash,
+    cipher_key: AreaKey,
     key: &Key,
     random: &[u8],
 ) -> Result<(), DeviceFault>
@@ -177,7 +179,7 @@ fn seal_under<D: Device>(
 fn write_stripes<D: Device>(
     device: &mut D,
     start: u64,
-    key: XtsKey,
+    key: AreaKey,
     random: &[u8],
     last: &[u8],
 ) -> Result<(), DeviceFault>
