@@ -1,5 +1,5 @@
 -- How a keyslot derives by Argon2, and what is said of the memory that it takes.
-use Rattle.std.specs.Prelude.{◌≡◌, ◌⊎◌, ◌↔◌, ℕ, ◌+◌, ◌<◌, ◌≤◌, ◌/◌, List, [], ◌∷◌, ◌++◌, codes, Bool, false, Option, Some, None, IsNone, IsTrue, length}
+use Rattle.std.specs.Prelude.{◌≡◌, ◌⊎◌, ◌↔◌, ℕ, ◌+◌, ◌<◌, ◌≤◌, ◌/◌, List, [], ◌∷◌, ◌++◌, codes, Bool, true, false, Option, Some, None, IsNone, IsTrue, length}
 use Rattle.std.specs.Fmt.{decimal}
 use Rattle.serde_json.specs.Data.{Data}
 use Rattle.luks_rules.specs.declared.table.Outer.TheVariants as outer
@@ -8,6 +8,7 @@ use Rattle.luks_rules.specs.declared.table.Section.TheVariants.{Keyslots}
 use Rattle.luks_rules.specs.Faults.{object_at, type_at}
 use Rattle.luks_meta.specs.Content.{content}
 use Rattle.luks_meta.specs.Says.{small_at}
+use Rattle.luks_slot.specs.declared.allowed.Allowed.{Allowed}
 use Rattle.luks_reading.specs.declared.header.Header.{Header}
 use Rattle.luks_reading.specs.declared.header.Header.TheVariants.{Luks1, Luks2}
 use Rattle.luks_reading.specs.declared.open_fault.OpenFault.{OpenFault}
@@ -32,19 +33,19 @@ DerivesBy (Luks2 copy) n kind kib = (object : Data) × (object_at (content copy.
 abbrev pub NeverDerives : Header → ℕ → Type 0
 NeverDerives header n = (kind : List ℕ) (kib : ℕ) → n < 32 → DerivesBy header n kind kib → ⊥
 
--- whether a volume of `total` bytes with this header tries the keyslot where Argon2 may take `memory` KiB
-abbrev pub IsTried : Header → ℕ → ℕ → ℕ → Bool → Type 0
-IsTried header n total memory tried = (v : List ℕ) → IsHeader v header → length v ≡ total
-    → (refusal : Option OpenFault) × FirstRefusal (IsRefusalWithin memory v n) refusal × (IsTrue tried ↔ IsNone refusal)
+-- whether a volume of `total` bytes with this header tries the keyslot where so much is allowed
+abbrev pub IsTried : Header → ℕ → ℕ → Allowed → Bool → Type 0
+IsTried header n total allowed tried = (v : List ℕ) → IsHeader v header → length v ≡ total
+    → (refusal : Option OpenFault) × FirstRefusal (IsRefusalWithin allowed v n) refusal × (IsTrue tried ↔ IsNone refusal)
 
 -- what is noted of it
-pub record IsMemoryNote (header : Header) (n total memory : ℕ) (note : MemoryNote) : Type 0 where
+pub record IsMemoryNote (header : Header) (n total : ℕ) (allowed : Allowed) (note : MemoryNote) : Type 0 where
   pub slot : note.slot ≡ n
   pub derives : DerivesBy header n note.kind.now note.kib
-  pub tried : IsTried header n total memory note.is_tried
-  -- it takes more than is allowed, and would be tried with as much
-  pub more : memory < note.kib → IsTried header n total note.kib note.wants_more
-  pub enough : note.kib ≤ memory → note.wants_more ≡ false
+  pub tried : IsTried header n total allowed note.is_tried
+  -- it takes more than is allowed, and would be tried with as much, were ciphers and hashes of older disks accepted
+  pub more : allowed.memory < note.kib → IsTried header n total (record { memory = note.kib; older = true }) note.wants_more
+  pub enough : note.kib ≤ allowed.memory → note.wants_more ≡ false
 
 -- ---- the lines
 

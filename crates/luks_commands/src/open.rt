@@ -5,10 +5,11 @@ ghost use Rattle.luks_area.specs.Device.{IsUnchanged};
 ghost use Rattle.luks_commands.specs.Answer.{answer_status, Prints};
 ghost use Rattle.luks_commands.specs.Exit.{IsExitStatus};
 ghost use Rattle.luks_commands.specs.Files.{IsLong, IsUnread, IsWhole, KeepsVolume};
-ghost use Rattle.luks_commands.specs.OpenAnswers.{any_answer, AnswersOpen, IsAnyAnswer, IsOneAnswer, IsOpenAnswer, kib_of, one_answer};
+ghost use Rattle.luks_commands.specs.OpenAnswers.{any_answer, AnswersOpen, IsAnyAnswer, IsOneAnswer, IsOpenAnswer, allowed_of, kib_of, one_answer};
 
 mod almost_met;
 mod memory_notes;
+mod older_notes;
 mod passed_over;
 
 use crate::answers::{Answer, Refusal, Status, end, unread};
@@ -17,9 +18,11 @@ use crate::passphrase_file::{PassphraseFault, passphrase};
 use crate::printer::Printer;
 pub use almost_met::note_line_feed;
 use almost_met::note_unopened;
-use luks_reading::{Device, Key, OpenFault, read_header, try_header, try_header_slot};
+use luks_reading::{Allowed, Device, Key, OpenFault, read_header, try_header, try_header_slot};
 pub use memory_notes::{MemoryNote, memory_note};
 use memory_notes::{note_all_wanting, note_refused, note_wanting};
+use older_notes::note_older;
+pub use older_notes::{OlderNote, older_note};
 use passed_over::note_passed_over;
 use std::alloc::Global;
 use std::io::{Read, Write};
@@ -35,6 +38,8 @@ pub struct Tried<'a> {
     pub slot: Option<u8>,
     /// How many MiB of memory Argon2 may take for a keyslot.
     pub memory: u32,
+    /// Whether ciphers and hashes of older disks are accepted.
+    pub older: bool,
 }
 
 /// Prints whether the passphrase opens the keyslot that is tried, or without one which is the first
@@ -53,7 +58,7 @@ pub fn run<D: Device, R: Read, N: Read, P: Printer, E: Write>(
     ensures status { IsExitStatus result }
     ensures kinds { result ≢ 3 }
     ensures unread { IfErr inputs.old.volume (λ _. result ≢ 0) }
-    ensures answers { Prints (AnswersOpen D.tells D.bytes D.failed (kib_of tried.now.memory) tried.now.slot
+    ensures answers { Prints (AnswersOpen D.tells D.bytes D.failed (allowed_of tried.now.memory tried.now.older) tried.now.slot
         (IsWhole R.remaining inputs.old.passphrase) (IsLong R.remaining inputs.old.passphrase)
         (IsUnread inputs.old.passphrase) inputs.old.volume inputs.new.volume)
         (P.failures out.old) (P.failures out.new) (P.printed out.old) (P.printed out.new) result }
@@ -76,7 +81,7 @@ pub fn answer<D: Device, R: Read, N: Read, E: Write>(
     ensures target { inputs.new.target ≡ inputs.old.target }
     ensures kinds { answer_status result ≢ Status.NotInStep }
     ensures unread { IfErr inputs.old.volume (λ _. answer_status result ≢ Status.Done) }
-    ensures answers { AnswersOpen D.tells D.bytes D.failed (kib_of tried.now.memory) tried.now.slot
+    ensures answers { AnswersOpen D.tells D.bytes D.failed (allowed_of tried.now.memory tried.now.older) tried.now.slot
         (IsWhole R.remaining inputs.old.passphrase) (IsLong R.remaining inputs.old.passphrase)
         (IsUnread inputs.old.passphrase) inputs.old.volume inputs.new.volume result }
 {
@@ -102,13 +107,24 @@ fn open_device<D: Device, E: Write>(
     requires passphrase { length passphrase.now < 2 ^ 32 }
     ensures unchanged { IsUnchanged D.tells D.size D.bytes D.unsettled device.old device.new }
     ensures kinds { answer_status result ≢ Status.NotInStep }
-    ensures answers { IsOpenAnswer D.tells (kib_of tried.now.memory) (D.bytes device.old)
+    ensures answers { IsOpenAnswer D.tells (allowed_of tried.now.memory tried.now.older) (D.bytes device.old)
         tried.now.slot passphrase.now (D.failed device.old) (D.failed device.new) result }
 {
-    let memory = kib_of(tried.memory);
+    let allowed = allowed_of(tried.memory, tried.older);
     match tried.slot {
-        Some(n) => open_one(alloc, device, tried.volume, n, passphrase, memory, err),
-        None => open_any(alloc, device, tried.volume, passphrase, memory, err),
+        Some(n) => open_one(alloc, device, tried.volume, n, passphrase, allowed, err),
+        None => open_any(alloc, device, tried.volume, passphrase, allowed, err),
+    }
+}
+
+/// What a command line allows: so many MiB of memory for Argon2, and ciphers and hashes of older disks
+/// or not.
+pub fn allowed_of(mib: u32, older: bool) -> Allowed
+    ensures { result ≡ allowed_of mib older }
+{
+    Allowed {
+        memory: kib_of(mib),
+        older,
     }
 }
 
@@ -125,14 +141,14 @@ fn open_one<D: Device, E: Write>(
     volume: &str,
     n: u8,
     passphrase: &[u8],
-    memory: u32,
+    allowed: Allowed,
     err: &mut E,
 ) -> Answer
     requires room { D.failed device.old + 1 < 2 ^ 64 }
     requires passphrase { length passphrase.now < 2 ^ 32 }
     ensures unchanged { IsUnchanged D.tells D.size D.bytes D.unsettled device.old device.new }
     ensures kinds { answer_status result ≢ Status.NotInStep }
-    ensures answers { IsOneAnswer D.tells memory (D.bytes device.old) n passphrase.now
+    ensures answers { IsOneAnswer D.tells allowed (D.bytes device.old) n passphrase.now
         (D.failed device.old) (D.failed device.new) result }
 {
     let header = match read_header(alloc, device) {
@@ -144,11 +160,14 @@ fn open_one<D: Device, E: Write>(
         }
     };
     let mut nearest = None;
-    let opened = try_header_slot(alloc, device, &header, n, passphrase, memory, &mut nearest);
+    let opened = try_header_slot(alloc, device, &header, n, passphrase, allowed, &mut nearest);
     match &opened {
         Ok(None) => note_unopened(nearest, passphrase, err),
-        Err(OpenFault::Slot(_)) => note_refused(&header, n, device.len(), memory, err),
-        Err(OpenFault::Memory) => note_wanting(&header, n, device.len(), memory, err),
+        Err(OpenFault::Slot(_)) => {
+            note_refused(&header, n, device.len(), allowed, err);
+            note_older(&header, n, device.len(), allowed, err);
+        }
+        Err(OpenFault::Memory) => note_wanting(&header, n, device.len(), allowed, err),
         _ => {}
     }
     let answer = one_answer(n, &opened);
@@ -172,14 +191,14 @@ fn open_any<D: Device, E: Write>(
     device: &mut D,
     volume: &str,
     passphrase: &[u8],
-    memory: u32,
+    allowed: Allowed,
     err: &mut E,
 ) -> Answer
     requires room { D.failed device.old + 1 < 2 ^ 64 }
     requires passphrase { length passphrase.now < 2 ^ 32 }
     ensures unchanged { IsUnchanged D.tells D.size D.bytes D.unsettled device.old device.new }
     ensures kinds { answer_status result ≢ Status.NotInStep }
-    ensures answers { IsAnyAnswer D.tells memory (D.bytes device.old) passphrase.now
+    ensures answers { IsAnyAnswer D.tells allowed (D.bytes device.old) passphrase.now
         (D.failed device.old) (D.failed device.new) result }
 {
     let header = match read_header(alloc, device) {
@@ -191,13 +210,13 @@ fn open_any<D: Device, E: Write>(
         }
     };
     let mut nearest = None;
-    let opened = try_header(alloc, device, &header, passphrase, memory, &mut nearest);
+    let opened = try_header(alloc, device, &header, passphrase, allowed, &mut nearest);
     match &opened {
         Ok(None) => {
             note_unopened(nearest, passphrase, err);
-            note_passed_over(&header, device.len(), memory, err);
+            note_passed_over(&header, device.len(), allowed, err);
         }
-        Err(OpenFault::Memory) => note_all_wanting(&header, device.len(), memory, err),
+        Err(OpenFault::Memory) => note_all_wanting(&header, device.len(), allowed, err),
         _ => {}
     }
     let answer = any_answer(&opened);

@@ -52,7 +52,7 @@ slot_same payload n v = record {
   area = area_same payload (Slot n) v;
   entry = λ b. ((λ is. is), (λ is. is));
   value = λ d. ((λ is. is), (λ is. is));
-  answers = λ memory p a. ((λ is. is), (λ is. is));
+  answers = λ allowed p a. ((λ is. is), (λ is. is));
 }
 
 -- a volume keeps itself
@@ -300,16 +300,16 @@ spared_edit payload v u w over e has_random unchanged count random needs taken f
 -- the passphrases are those that the files have, where the edit needs them
 pub asked_of : (request : EditRequest) (IsOld IsNew : List ℕ → Type 0) (p q : List ℕ) (e : Edit) → IfSome (edit_passphrase_of request) (λ name. IsOld p)
     → IfSome (edit_new_of request) (λ name. IsNew q) → IsAsked request (λ x. x ≡ p) (λ x. x ≡ q) e → IsAsked request IsOld IsNew e
-asked_of (Add by_ passphrase memory new to iterations kdf) IsOld IsNew p q (edit.Add b o n t i d) old fresh is =
+asked_of (Add by_ passphrase memory older new to iterations kdf) IsOld IsNew p q (edit.Add b o n t i d) old fresh is =
     (is.0, subst IsOld (sym is.1) old, is.2, subst IsNew (sym is.3) fresh, is.4, is.5, is.6)
-asked_of (Change slot passphrase memory new iterations kdf) IsOld IsNew p q (edit.Change s o n i d) old fresh is =
+asked_of (Change slot passphrase memory older new iterations kdf) IsOld IsNew p q (edit.Change s o n i d) old fresh is =
     (is.0, subst IsOld (sym is.1) old, is.2, subst IsNew (sym is.3) fresh, is.4, is.5)
-asked_of (Remove slot by_ passphrase memory) IsOld IsNew p q (edit.Remove s b o) old fresh is = (is.0, is.1, subst IsOld (sym is.2) old, is.3)
+asked_of (Remove slot by_ passphrase memory older) IsOld IsNew p q (edit.Remove s b o) old fresh is = (is.0, is.1, subst IsOld (sym is.2) old, is.3)
 asked_of Repair IsOld IsNew p q edit.Repair old fresh is = is
 asked_of (Label text) IsOld IsNew p q (edit.Label t) old fresh is = is
-asked_of (Add by_ passphrase memory new to iterations kdf) IsOld IsNew p q e old fresh is = absurd is
-asked_of (Change slot passphrase memory new iterations kdf) IsOld IsNew p q e old fresh is = absurd is
-asked_of (Remove slot by_ passphrase memory) IsOld IsNew p q e old fresh is = absurd is
+asked_of (Add by_ passphrase memory older new to iterations kdf) IsOld IsNew p q e old fresh is = absurd is
+asked_of (Change slot passphrase memory older new iterations kdf) IsOld IsNew p q e old fresh is = absurd is
+asked_of (Remove slot by_ passphrase memory older) IsOld IsNew p q e old fresh is = absurd is
 asked_of Repair IsOld IsNew p q e old fresh is = absurd is
 asked_of (Label text) IsOld IsNew p q e old fresh is = absurd is
 
@@ -321,14 +321,14 @@ some_as {A} {B} f (Some x) named P is held = subst (λ (x : Option B). IfSome x 
 -- whatever they are
 pub asked_somehow : (request : EditRequest) (IsOld IsNew : List ℕ → Type 0) (e : Edit) → IsAsked request IsOld IsNew e
     → IsAsked request (λ p. Unit {0}) (λ p. Unit {0}) e
-asked_somehow (Add by_ passphrase memory new to iterations kdf) IsOld IsNew (edit.Add b o n t i d) is = (is.0, tt, is.2, tt, is.4, is.5, is.6)
-asked_somehow (Change slot passphrase memory new iterations kdf) IsOld IsNew (edit.Change s o n i d) is = (is.0, tt, is.2, tt, is.4, is.5)
-asked_somehow (Remove slot by_ passphrase memory) IsOld IsNew (edit.Remove s b o) is = (is.0, is.1, tt, is.3)
+asked_somehow (Add by_ passphrase memory older new to iterations kdf) IsOld IsNew (edit.Add b o n t i d) is = (is.0, tt, is.2, tt, is.4, is.5, is.6)
+asked_somehow (Change slot passphrase memory older new iterations kdf) IsOld IsNew (edit.Change s o n i d) is = (is.0, tt, is.2, tt, is.4, is.5)
+asked_somehow (Remove slot by_ passphrase memory older) IsOld IsNew (edit.Remove s b o) is = (is.0, is.1, tt, is.3)
 asked_somehow Repair IsOld IsNew edit.Repair is = is
 asked_somehow (Label text) IsOld IsNew (edit.Label t) is = is
-asked_somehow (Add by_ passphrase memory new to iterations kdf) IsOld IsNew e is = absurd is
-asked_somehow (Change slot passphrase memory new iterations kdf) IsOld IsNew e is = absurd is
-asked_somehow (Remove slot by_ passphrase memory) IsOld IsNew e is = absurd is
+asked_somehow (Add by_ passphrase memory older new to iterations kdf) IsOld IsNew e is = absurd is
+asked_somehow (Change slot passphrase memory older new iterations kdf) IsOld IsNew e is = absurd is
+asked_somehow (Remove slot by_ passphrase memory older) IsOld IsNew e is = absurd is
 asked_somehow Repair IsOld IsNew e is = absurd is
 asked_somehow (Label text) IsOld IsNew e is = absurd is
 

@@ -24,21 +24,21 @@ use Rattle.luks_commands.specs.declared.inputs.InputFault.{InputFault}
 use Rattle.luks_commands.specs.declared.inputs.Inputs.{Inputs}
 use Rattle.luks_request.specs.Named.{edit_new_of, edit_passphrase_of}
 use Rattle.luks_commands.specs.Chosen.{chosen_of}
-use Rattle.luks_commands.specs.OpenAnswers.{kib_of}
+use Rattle.luks_commands.specs.OpenAnswers.{allowed_of}
 use Rattle.luks_commands.specs.Files.{AreFirstBytes, IsLong, IsUnread, IsUnreadRandom, IsWhole, OfNamed}
 use Rattle.luks_edit_commands.specs.OtherUses.{Bars}
 
 -- ---- what is asked for
 
--- the edit is the one that the command line asks for, with the memory that it allows to Argon2 and the
--- derivation that it chooses, its passphrases being such bytes
+-- the edit is the one that the command line asks for, with what it allows and the derivation that it
+-- chooses, its passphrases being such bytes
 abbrev pub IsAsked : EditRequest → (List ℕ → Type 0) → (List ℕ → Type 0) → Edit → Type 0
-IsAsked (Add by_ passphrase memory new to iterations kdf) IsOld IsNew (edit.Add b o n t i d) =
-    (b ≡ by_) × IsOld o.bytes.now × (o.memory ≡ kib_of memory) × IsNew n.now × (t ≡ to) × (i ≡ iterations) × (d ≡ chosen_of kdf)
-IsAsked (Change slot passphrase memory new iterations kdf) IsOld IsNew (edit.Change s o n i d) =
-    (s ≡ slot) × IsOld o.bytes.now × (o.memory ≡ kib_of memory) × IsNew n.now × (i ≡ iterations) × (d ≡ chosen_of kdf)
-IsAsked (Remove slot by_ passphrase memory) IsOld IsNew (edit.Remove s b p) =
-    (s ≡ slot) × (b ≡ by_) × IsOld p.bytes.now × (p.memory ≡ kib_of memory)
+IsAsked (Add by_ passphrase memory older new to iterations kdf) IsOld IsNew (edit.Add b o n t i d) =
+    (b ≡ by_) × IsOld o.bytes.now × (o.allowed ≡ allowed_of memory older) × IsNew n.now × (t ≡ to) × (i ≡ iterations) × (d ≡ chosen_of kdf)
+IsAsked (Change slot passphrase memory older new iterations kdf) IsOld IsNew (edit.Change s o n i d) =
+    (s ≡ slot) × IsOld o.bytes.now × (o.allowed ≡ allowed_of memory older) × IsNew n.now × (i ≡ iterations) × (d ≡ chosen_of kdf)
+IsAsked (Remove slot by_ passphrase memory older) IsOld IsNew (edit.Remove s b p) =
+    (s ≡ slot) × (b ≡ by_) × IsOld p.bytes.now × (p.allowed ≡ allowed_of memory older)
 IsAsked Repair IsOld IsNew edit.Repair = ⊤
 IsAsked (Label text) IsOld IsNew (edit.Label t) = t.now ≡ text.now
 IsAsked request IsOld IsNew e = ⊥

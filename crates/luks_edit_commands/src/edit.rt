@@ -20,7 +20,7 @@ mod words;
 
 use applying::apply_of_header;
 use asked::edit_of;
-use luks_commands::open::MemoryNote;
+use luks_commands::open::{MemoryNote, OlderNote};
 use luks_commands::{
     Answer, InputFault, Inputs, Printer, RandomBytes, Refusal, Status, device_fault, end,
     few_random_bytes, random_bytes, unread,
@@ -186,7 +186,7 @@ fn edit_device<D: Device, N: Read, E: Write>(
                 needed: seen.needed,
                 bytes: random.as_slice(),
             };
-            not_done(fault, seen.argon2, name, &random, err)
+            not_done(fault, seen.argon2, seen.older, name, &random, err)
         }
     }
 }
@@ -204,12 +204,13 @@ fn not_begun<E: Write>(unseen: Unseen, name: &str, err: &mut E) -> Answer
     }
 }
 
-/// What is answered where a fault ended it when it was run with these random bytes, and what is said of a
-/// keyslot of Argon2 then.
+/// What is answered where a fault ended it when it was run with these random bytes, and what is said of the
+/// keyslot that it opens then.
 #[tactic(auto, using(crate::proofs::EditAnswerFacts::edit_kinds))]
 fn not_done<E: Write>(
     fault: EditFault,
     argon2: Option<MemoryNote>,
+    older: Option<OlderNote>,
     name: &str,
     random: &RandomBytes<'_>,
     err: &mut E,
@@ -221,7 +222,7 @@ fn not_done<E: Write>(
         EditFault::Device => device_fault(name, EDIT_FAILED, err),
         EditFault::RandomLength => few_random_bytes(Refusal::Edit(fault), random, err),
         EditFault::Slot(_) => {
-            note_refused(argon2, err);
+            note_refused(argon2, older, err);
             Answer::from(fault)
         }
         EditFault::Memory => {

@@ -13,7 +13,7 @@ ghost use Rattle.luks_commands.specs.Files.{AreFirstBytes, IsLong, IsUnread, IsU
 ghost use Rattle.luks_commands.specs.Files.{KeepsVolume, LeavesSettled, LeavesVolume, UnlessWriter};
 ghost use Rattle.luks_commands.specs.FormatAnswers.{AnswersFormat, IsUnreadEither};
 ghost use Rattle.luks_commands.specs.Formatting.{needed, SaysFormat, WhereFormat};
-ghost use Rattle.luks_commands.specs.OpenAnswers.{AnswersOpen, kib_of, WhereOpen};
+ghost use Rattle.luks_commands.specs.OpenAnswers.{AnswersOpen, WhereOpen};
 ghost use Rattle.luks_show_command.specs.ShowAnswers.{AnswersShow, WhereShow};
 ghost use Rattle.luks_header_commands.specs.Converting.{AnswersConvert, KeepsRest, random_count, WhereConvert};
 ghost use Rattle.luks_header_commands.specs.Rebuilding.{random_count as rebuild_count, WhereRebuild};
@@ -181,8 +181,8 @@ pub fn execute<D: Device, R: Read, N: Read, P: Printer, E: Write, G: Progress>(
     ensures shown { WhereShow line.now.command (λ form. Prints
         (AnswersShow form D.tells D.bytes D.failed inputs.old.volume inputs.new.volume)
         (P.failures out.old) (P.failures out.new) (P.printed out.old) (P.printed out.new) result) }
-    ensures opened { WhereOpen line.now.command (λ slot memory. Prints
-        (AnswersOpen D.tells D.bytes D.failed (kib_of memory) slot
+    ensures opened { WhereOpen line.now.command (λ slot allowed. Prints
+        (AnswersOpen D.tells D.bytes D.failed allowed slot
         (IsWhole R.remaining inputs.old.passphrase) (IsLong R.remaining inputs.old.passphrase)
         (IsUnread inputs.old.passphrase) inputs.old.volume inputs.new.volume)
         (P.failures out.old) (P.failures out.new) (P.printed out.old) (P.printed out.new) result) }
@@ -212,12 +212,14 @@ pub fn execute<D: Device, R: Read, N: Read, P: Printer, E: Write, G: Progress>(
             passphrase,
             slot,
             memory,
+            older,
         } => {
             let tried = Tried {
                 volume: name,
                 passphrase,
                 slot,
                 memory,
+                older,
             };
             open::run(alloc, inputs, &tried, out, err)
         }

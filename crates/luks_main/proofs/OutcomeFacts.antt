@@ -20,7 +20,8 @@ use Rattle.luks_commands.specs.Answer.{line, line_of, Prints}
 use Rattle.luks_answer_json.specs.AnswerValue.{IsAnswerText}
 use Rattle.luks_commands.specs.Checked.{WhereCheck}
 use Rattle.luks_commands.specs.Formatting.{WhereFormat}
-use Rattle.luks_commands.specs.OpenAnswers.{WhereOpen}
+use Rattle.luks_slot.specs.declared.allowed.Allowed.{Allowed}
+use Rattle.luks_commands.specs.OpenAnswers.{allowed_of, WhereOpen}
 use Rattle.luks_show_command.specs.ShowAnswers.{WhereShow}
 use Rattle.luks_header_commands.specs.Converting.{AnswersConvert, WhereConvert}
 use Rattle.luks_header_commands.specs.Rebuilding.{WhereRebuild}
@@ -64,13 +65,13 @@ pub commands_print : {D : Type 0} (tells : Type 0) (size : D → ℕ) (bytes : D
     (unread : InputFault → Type 0) (HasRandom : List ℕ → Type 0) (X Y Z V W : Type 0) (c : Command) (name : List ℕ) (before after : ℕ) (held holds : Option (List ℕ)) (n : ℕ)
     (Checks : Data → Answer → Type 0) → ((payload : Data) (a : Answer) → Checks payload a → EndsCheck a (own a))
     → (Shows : ShowAs → Answer → Type 0) → ((shown_as : ShowAs) (a : Answer) → Shows shown_as a → EndsShow shown_as a (own a))
-    → (Opens : Option ℕ → ℕ → Answer → Type 0) → ((slot : Option ℕ) (memory : ℕ) (a : Answer) → Opens slot memory a → EndsOpen slot a (own a))
+    → (Opens : Option ℕ → Allowed → Answer → Type 0) → ((slot : Option ℕ) (allowed : Allowed) (a : Answer) → Opens slot allowed a → EndsOpen slot a (own a))
     → (Edits : Editing → Answer → Type 0) → ((editing : Editing) (a : Answer) → Edits editing a → EndsEdit a (own a))
     → (Formats : Making → Answer → Type 0) → ((making : Making) (a : Answer) → Formats making a → EndsFormat a (own a))
     → (Rebuilds : Rebuilding → Answer → Type 0) → ((rebuilding : Rebuilding) (a : Answer) → Rebuilds rebuilding a → EndsRebuild rebuilding.passphrase a (own a))
     → WhereCheck c (λ payload. Prints (Checks payload) before after held holds n)
     → WhereShow c (λ shown_as. Prints (Shows shown_as) before after held holds n)
-    → WhereOpen c (λ slot memory. Prints (Opens slot memory) before after held holds n)
+    → WhereOpen c (λ slot allowed. Prints (Opens slot allowed) before after held holds n)
     → WhereEdit c (λ editing. Prints (Edits editing) before after held holds n)
     → WhereFormat c (λ making. Prints (Formats making) before after held holds n)
     → WhereConvert c (λ converting. AreOneFile name converting.target.now target → X × Prints IsSameFile before after held holds n)
@@ -92,8 +93,8 @@ commands_print tells size bytes failures volume volume_new target target_new unr
     prints_as (Checks payload) _ (of_check payload) before after held holds n check
 commands_print tells size bytes failures volume volume_new target target_new unread HasRandom X Y Z V W (command.Show shown_as) name before after held holds n Checks of_check Shows of_show Opens of_open Edits of_edit Formats of_format Rebuilds of_rebuild check show open_ edit format same_c convert same_r rebuild same_b back same_s restore same_m compare =
     prints_as (Shows shown_as) _ (of_show shown_as) before after held holds n show
-commands_print tells size bytes failures volume volume_new target target_new unread HasRandom X Y Z V W (command.Open passphrase slot memory) name before after held holds n Checks of_check Shows of_show Opens of_open Edits of_edit Formats of_format Rebuilds of_rebuild check show open_ edit format same_c convert same_r rebuild same_b back same_s restore same_m compare =
-    prints_as (Opens slot memory) _ (of_open slot memory) before after held holds n open_
+commands_print tells size bytes failures volume volume_new target target_new unread HasRandom X Y Z V W (command.Open passphrase slot memory older) name before after held holds n Checks of_check Shows of_show Opens of_open Edits of_edit Formats of_format Rebuilds of_rebuild check show open_ edit format same_c convert same_r rebuild same_b back same_s restore same_m compare =
+    prints_as (Opens slot (allowed_of memory older)) _ (of_open slot (allowed_of memory older)) before after held holds n open_
 commands_print tells size bytes failures volume volume_new target target_new unread HasRandom X Y Z V W (command.Edit editing) name before after held holds n Checks of_check Shows of_show Opens of_open Edits of_edit Formats of_format Rebuilds of_rebuild check show open_ edit format same_c convert same_r rebuild same_b back same_s restore same_m compare =
     prints_as (Edits editing) _ (of_edit editing) before after held holds n edit
 commands_print tells size bytes failures volume volume_new target target_new unread HasRandom X Y Z V W (command.Format making) name before after held holds n Checks of_check Shows of_show Opens of_open Edits of_edit Formats of_format Rebuilds of_rebuild check show open_ edit format same_c convert same_r rebuild same_b back same_s restore same_m compare =
@@ -196,7 +197,7 @@ timed_ends (command.Edit editing) timed status is ends = subst (λ (x : Command)
 timed_ends (command.Format making) timed status is ends = subst (λ (x : Command). MayEnd x status) is.2 ends
 timed_ends (command.Check payload) timed status is ends = subst (λ (x : Command). MayEnd x status) is ends
 timed_ends (command.Show shown_as) timed status is ends = subst (λ (x : Command). MayEnd x status) is ends
-timed_ends (command.Open passphrase slot memory) timed status is ends = subst (λ (x : Command). MayEnd x status) is ends
+timed_ends (command.Open passphrase slot memory older) timed status is ends = subst (λ (x : Command). MayEnd x status) is ends
 timed_ends (command.Convert converting) timed status is ends = subst (λ (x : Command). MayEnd x status) is ends
 timed_ends (command.Rebuild rebuilding) timed status is ends = subst (λ (x : Command). MayEnd x status) is ends
 timed_ends (command.Backup backing_up) timed status is ends = subst (λ (x : Command). MayEnd x status) is ends

@@ -22,6 +22,7 @@ use Rattle.luks_commands.specs.declared.inputs.Reason.TheVariants as reason
 use Rattle.luks_commands.specs.Answer.{answer_status, current_status, IsWordless, Prints, unread_answer}
 use Rattle.luks_commands.specs.Exit.{exit_status}
 use Rattle.luks_commands.specs.CheckAnswers.{AnswersCheck, IsCheckAnswer}
+use Rattle.luks_slot.specs.declared.allowed.Allowed.{Allowed}
 use Rattle.luks_commands.specs.OpenAnswers.{AnswersOpen, IsAnyAnswer, IsOneAnswer, IsOpenAnswer}
 use Rattle.luks_commands.specs.FormatAnswers.{AnswersFormat, IsFormatAnswer}
 use Rattle.luks_rebuilding.specs.declared.place.Which.{Which}
@@ -151,25 +152,25 @@ show_ends shown_as tells bytes failed (Err fault) new a said = show_unread shown
 
 -- ---- `open`
 
-one_there : (tells : Type 0) (memory : ℕ) (v : List ℕ) (n : ℕ) (p : List ℕ) (before after : ℕ) (a : Answer) → IsOneAnswer tells memory v n p before after a → EndsOpen (Some n) a (own a)
-one_there tells memory v n p before after (Opens m) said = (said.1, refl)
-one_there tells memory v n p before after (Closed m) said = (said.1, refl)
-one_there tells memory v n p before after (Refused (refusal.Open f)) said = refl
-one_there tells memory v n p before after DeviceFault said = refl
-one_there tells memory v n p before after NoMemory said = refl
-one_there tells memory v n p before after a said = absurd said
+one_there : (tells : Type 0) (allowed : Allowed) (v : List ℕ) (n : ℕ) (p : List ℕ) (before after : ℕ) (a : Answer) → IsOneAnswer tells allowed v n p before after a → EndsOpen (Some n) a (own a)
+one_there tells allowed v n p before after (Opens m) said = (said.1, refl)
+one_there tells allowed v n p before after (Closed m) said = (said.1, refl)
+one_there tells allowed v n p before after (Refused (refusal.Open f)) said = refl
+one_there tells allowed v n p before after DeviceFault said = refl
+one_there tells allowed v n p before after NoMemory said = refl
+one_there tells allowed v n p before after a said = absurd said
 
-any_there : (tells : Type 0) (memory : ℕ) (v p : List ℕ) (before after : ℕ) (a : Answer) → IsAnyAnswer tells memory v p before after a → EndsOpen None a (own a)
-any_there tells memory v p before after (Opens n) said = refl
-any_there tells memory v p before after NoneOpens said = refl
-any_there tells memory v p before after (Refused (refusal.Open f)) said = refl
-any_there tells memory v p before after DeviceFault said = refl
-any_there tells memory v p before after NoMemory said = refl
-any_there tells memory v p before after a said = absurd said
+any_there : (tells : Type 0) (allowed : Allowed) (v p : List ℕ) (before after : ℕ) (a : Answer) → IsAnyAnswer tells allowed v p before after a → EndsOpen None a (own a)
+any_there tells allowed v p before after (Opens n) said = refl
+any_there tells allowed v p before after NoneOpens said = refl
+any_there tells allowed v p before after (Refused (refusal.Open f)) said = refl
+any_there tells allowed v p before after DeviceFault said = refl
+any_there tells allowed v p before after NoMemory said = refl
+any_there tells allowed v p before after a said = absurd said
 
-open_there : (tells : Type 0) (memory : ℕ) (v : List ℕ) (slot : Option ℕ) (p : List ℕ) (before after : ℕ) (a : Answer) → IsOpenAnswer tells memory v slot p before after a → EndsOpen slot a (own a)
-open_there tells memory v (Some n) p before after a said = one_there tells memory v n p before after a said
-open_there tells memory v None p before after a said = any_there tells memory v p before after a said
+open_there : (tells : Type 0) (allowed : Allowed) (v : List ℕ) (slot : Option ℕ) (p : List ℕ) (before after : ℕ) (a : Answer) → IsOpenAnswer tells allowed v slot p before after a → EndsOpen slot a (own a)
+open_there tells allowed v (Some n) p before after a said = one_there tells allowed v n p before after a said
+open_there tells allowed v None p before after a said = any_there tells allowed v p before after a said
 
 open_wordless : (slot : Option ℕ) (is_long : Type 0) (unread : InputFault → Type 0) (a : Answer) → IsWordless is_long unread a → EndsOpen slot a (own a)
 open_wordless None is_long unread a said = wordless_ends (EndsOpen None) refl refl refl is_long unread a said
@@ -179,13 +180,13 @@ open_unread : (slot : Option ℕ) (f : InputFault) (a : Answer) → a ≡ unread
 open_unread None f a is = unread_ends (EndsOpen None) refl refl f a is
 open_unread (Some n) f a is = unread_ends (EndsOpen (Some n)) refl refl f a is
 
-pub open_ends : {D : Type 0} (tells : Type 0) (bytes : D → List ℕ) (failed : D → ℕ) (memory : ℕ) (slot : Option ℕ) (HasWords : List ℕ → Type 0) (is_long : Type 0) (unread : InputFault → Type 0)
-    (old new : Result D InputFault) (a : Answer) → AnswersOpen tells bytes failed memory slot HasWords is_long unread old new a → EndsOpen slot a (own a)
-open_ends tells bytes failed memory slot HasWords is_long unread (Ok old) (Ok new) a (inl said) = open_wordless slot is_long unread a said.0
-open_ends tells bytes failed memory slot HasWords is_long unread (Ok old) (Ok new) a (inr said) = open_there tells memory (bytes old) slot said.passphrase (failed old) (failed new) a said.is
-open_ends tells bytes failed memory slot HasWords is_long unread (Ok old) (Err fault) a said = absurd said
-open_ends tells bytes failed memory slot HasWords is_long unread (Err fault) new a (inl said) = open_wordless slot is_long unread a said
-open_ends tells bytes failed memory slot HasWords is_long unread (Err fault) new a (inr said) = open_unread slot fault a said
+pub open_ends : {D : Type 0} (tells : Type 0) (bytes : D → List ℕ) (failed : D → ℕ) (allowed : Allowed) (slot : Option ℕ) (HasWords : List ℕ → Type 0) (is_long : Type 0) (unread : InputFault → Type 0)
+    (old new : Result D InputFault) (a : Answer) → AnswersOpen tells bytes failed allowed slot HasWords is_long unread old new a → EndsOpen slot a (own a)
+open_ends tells bytes failed allowed slot HasWords is_long unread (Ok old) (Ok new) a (inl said) = open_wordless slot is_long unread a said.0
+open_ends tells bytes failed allowed slot HasWords is_long unread (Ok old) (Ok new) a (inr said) = open_there tells allowed (bytes old) slot said.passphrase (failed old) (failed new) a said.is
+open_ends tells bytes failed allowed slot HasWords is_long unread (Ok old) (Err fault) a said = absurd said
+open_ends tells bytes failed allowed slot HasWords is_long unread (Err fault) new a (inl said) = open_wordless slot is_long unread a said
+open_ends tells bytes failed allowed slot HasWords is_long unread (Err fault) new a (inr said) = open_unread slot fault a said
 
 -- ---- the commands that edit
 

@@ -121,7 +121,7 @@ EndsFind status = (status ≡ 0) ⊎ (status ≡ 1) ⊎ (status ≡ 4)
 abbrev pub EndsWith : Command → Answer → ℕ → Type 0
 EndsWith (command.Check payload) answer status = EndsCheck answer status
 EndsWith (command.Show shown_as) answer status = EndsShow shown_as answer status
-EndsWith (command.Open passphrase slot memory) answer status = EndsOpen slot answer status
+EndsWith (command.Open passphrase slot memory older) answer status = EndsOpen slot answer status
 EndsWith (command.Edit editing) answer status = EndsEdit answer status
 EndsWith (command.Format making) answer status = EndsFormat answer status
 EndsWith (command.Convert converting) answer status = EndsConvert answer status

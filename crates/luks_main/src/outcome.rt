@@ -172,12 +172,14 @@ pub(crate) fn outcome_of<R: Files<File = File>, G: Progress>(
             passphrase,
             slot,
             memory,
+            older,
         } if manner.json => {
             let tried = Tried {
                 volume: line.volume,
                 passphrase,
                 slot,
                 memory,
+                older,
             };
             object_of_open(alloc, &tried, inputs)
         }
@@ -234,7 +236,8 @@ fn object_of_open<R: Files<File = File>>(
     inputs: &mut Inputs<Volume, &[u8], LazyFile<'_, R>>,
 ) -> Outcome
     requires { IfOk inputs.old.volume (λ device. cached_failures device ≡ 0) }
-    ensures { IsOutcome (Command.Open tried.now.passphrase tried.now.slot tried.now.memory) result }
+    ensures { IsOutcome (Command.Open tried.now.passphrase tried.now.slot tried.now.memory
+        tried.now.older) result }
 {
     let mut notes = Vec::new(alloc);
     let answer = open::answer(alloc, inputs, tried, &mut notes);

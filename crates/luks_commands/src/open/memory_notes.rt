@@ -6,7 +6,7 @@ ghost use Rattle.luks_commands.specs.MemoryNotes.{CanBeAllowed, DerivesBy, IsMem
 ghost use Rattle.luks_commands.specs.MemoryNotes.{allowing_text, derived_of, derived_text, mib_of, refused_line, wanting_line};
 
 use crate::open::passed_over::is_unasked;
-use luks_reading::{Cost, Header, refused_slot};
+use luks_reading::{Allowed, Cost, Header, refused_slot};
 use std::fmt;
 use std::io::{self, Write};
 
@@ -22,9 +22,10 @@ pub struct MemoryNote {
     kind: &'static str,
     /// The memory that it takes, in KiB.
     kib: u32,
-    /// It takes more than is allowed, and its passphrase is tried where that much is.
+    /// It takes more than is allowed, and its passphrase is tried where that much is, and ciphers and
+    /// hashes of older disks are accepted.
     wants_more: bool,
-    /// It isn't refused where Argon2 may take what is allowed.
+    /// It isn't refused where so much is allowed.
     is_tried: bool,
 }
 
@@ -123,16 +124,21 @@ fn note_want<E: Write>(derived: Derived, mib: u64, err: &mut E) -> io::Result<()
     writeln!(err, "luks: {derived}, which asks for {mib} MiB of memory")
 }
 
-/// How the keyslot `n` of a volume of `total` bytes derives by Argon2, where that may take `memory`
-/// KiB; None where the keyslot isn't there, or derives otherwise.
-pub fn memory_note(header: &Header, n: u8, total: u64, memory: u32) -> Option<MemoryNote>
+/// How the keyslot `n` of a volume of `total` bytes derives by Argon2, where so much is allowed;
+/// None where the keyslot isn't there, or derives otherwise.
+pub fn memory_note(header: &Header, n: u8, total: u64, allowed: Allowed) -> Option<MemoryNote>
     requires { IsAcceptedHeader header.now }
-    ensures some { IfSome result (IsMemoryNote header.now n total memory) }
+    ensures some { IfSome result (IsMemoryNote header.now n total allowed) }
     ensures none { result ≡ None → NeverDerives header.now n }
 {
     let argon2 = argon2_of(header, n)?;
-    let wants_more = argon2.kib > memory && refused_slot(header, n, total, argon2.kib).is_none();
-    let is_tried = refused_slot(header, n, total, memory).is_none();
+    let wanted = Allowed {
+        memory: argon2.kib,
+        older: true,
+    };
+    let wants_more = argon2.kib > allowed.memory
+        && refused_slot(header, n, total, wanted).is_none();
+    let is_tried = refused_slot(header, n, total, allowed).is_none();
     Some(MemoryNote {
         slot: n,
         kind: argon2.kind,
@@ -149,32 +155,44 @@ struct ByArgon2 {
     kib: u32,
 }
 
-/// Says of the keyslot `n` of a volume of `total` bytes, which was refused where Argon2 may take
-/// `memory` KiB, how much would have to be allowed.
-pub(crate) fn note_refused<E: Write>(header: &Header, n: u8, total: u64, memory: u32, err: &mut E)
+/// Says of the keyslot `n` of a volume of `total` bytes, which was refused where so much is
+/// allowed, how much memory would have to be.
+pub(crate) fn note_refused<E: Write>(
+    header: &Header,
+    n: u8,
+    total: u64,
+    allowed: Allowed,
+    err: &mut E,
+)
     requires { IsAcceptedHeader header.now }
 {
-    if let Some(note) = memory_note(header, n, total, memory) {
+    if let Some(note) = memory_note(header, n, total, allowed) {
         let _ = note.say_refused(err);
     }
 }
 
-/// Says of the keyslot `n` how much memory it asked for, where it may take `memory` KiB.
-pub(crate) fn note_wanting<E: Write>(header: &Header, n: u8, total: u64, memory: u32, err: &mut E)
+/// Says of the keyslot `n` how much memory it asked for, where so much is allowed.
+pub(crate) fn note_wanting<E: Write>(
+    header: &Header,
+    n: u8,
+    total: u64,
+    allowed: Allowed,
+    err: &mut E,
+)
     requires { IsAcceptedHeader header.now }
 {
-    if let Some(note) = memory_note(header, n, total, memory) {
+    if let Some(note) = memory_note(header, n, total, allowed) {
         let _ = note.say_wanting(err);
     }
 }
 
 /// The same of each keyslot that is tried.
-pub(crate) fn note_all_wanting<E: Write>(header: &Header, total: u64, memory: u32, err: &mut E)
+pub(crate) fn note_all_wanting<E: Write>(header: &Header, total: u64, allowed: Allowed, err: &mut E)
     requires { IsAcceptedHeader header.now }
 {
     for n in 0..32 {
         if !is_unasked(header, n) {
-            note_wanting(header, n, total, memory, err);
+            note_wanting(header, n, total, allowed, err);
         }
     }
 }

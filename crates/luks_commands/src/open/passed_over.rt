@@ -3,16 +3,17 @@ ghost use Rattle.std.specs.Prelude.{◌<◌};
 ghost use Rattle.luks_reading.specs.Header.{IsAcceptedHeader};
 
 use crate::open::memory_notes::note_refused;
-use luks_reading::{Header, OpenFault, refused_slot};
+use crate::open::older_notes::note_older;
+use luks_reading::{Allowed, Header, OpenFault, refused_slot};
 use std::io::Write;
 
 /// Says which keyslots of a volume of `total` bytes were passed over and why, after the passphrase
 /// opened none.
 ///
-/// The reason is that of the keyslot's own refusal where Argon2 may take `memory` KiB, with the memory
-/// that would let it be tried. One of priority 0 is passed over whatever it says, and one that isn't
+/// The reason is that of the keyslot's own refusal where so much is allowed, with what would let it be
+/// tried. One of priority 0 is passed over whatever it says, and one that isn't
 /// there or isn't in use isn't spoken of.
-pub(crate) fn note_passed_over<E: Write>(header: &Header, total: u64, memory: u32, err: &mut E)
+pub(crate) fn note_passed_over<E: Write>(header: &Header, total: u64, allowed: Allowed, err: &mut E)
     requires { IsAcceptedHeader header.now }
 {
     for n in 0..32 {
@@ -20,11 +21,12 @@ pub(crate) fn note_passed_over<E: Write>(header: &Header, total: u64, memory: u3
             let _ = writeln!(err, "luks: keyslot {n} was passed over: priority 0");
             continue;
         }
-        match refused_slot(header, n, total, memory) {
+        match refused_slot(header, n, total, allowed) {
             None | Some(OpenFault::NoSuchSlot | OpenFault::SlotFree) => {}
             Some(fault) => {
                 let _ = writeln!(err, "luks: keyslot {n} was passed over: {fault}");
-                note_refused(header, n, total, memory, err);
+                note_refused(header, n, total, allowed, err);
+                note_older(header, n, total, allowed, err);
             }
         }
     }

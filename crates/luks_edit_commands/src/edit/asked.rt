@@ -1,12 +1,13 @@
 //! The edit that a command line asks for.
 ghost use Rattle.std.specs.Prelude.{◌≡◌};
 ghost use Rattle.luks_commands.specs.Chosen.{chosen_of};
-ghost use Rattle.luks_commands.specs.OpenAnswers.{kib_of};
+ghost use Rattle.luks_commands.specs.OpenAnswers.{allowed_of};
+ghost use Rattle.luks_edit.specs.declared.edit.Edit.{Edit};
 ghost use Rattle.luks_edit_commands.specs.Editing.{IsAsked};
 
 use luks_commands::chosen_of;
-use luks_commands::open::kib_of;
-use luks_request::EditRequest;
+use luks_commands::open::allowed_of;
+use luks_request::{AskedKdf, EditRequest};
 use luks_volume::{Edit, Passphrase};
 
 /// The edit, with the bytes of its passphrases in the place of their files.
@@ -16,43 +17,31 @@ pub(super) fn edit_of<'a>(request: &EditRequest<'a>, old: &'a [u8], new: &'a [u8
     match *request {
         EditRequest::Add {
             by_,
-            passphrase: _,
             memory,
-            new: _,
+            older,
             to,
             iterations,
             kdf,
-        } => Edit::Add {
-            by_,
-            old: allowed(old, memory),
-            new,
-            to,
-            iterations,
-            derivation: chosen_of(kdf),
-        },
+            ..
+        } => adding(by_, allowed(old, memory, older), new, to, iterations, kdf),
         EditRequest::Change {
             slot,
-            passphrase: _,
             memory,
-            new: _,
+            older,
             iterations,
             kdf,
-        } => Edit::Change {
-            slot,
-            old: allowed(old, memory),
-            new,
-            iterations,
-            derivation: chosen_of(kdf),
-        },
+            ..
+        } => changing(slot, allowed(old, memory, older), new, iterations, kdf),
         EditRequest::Remove {
             slot,
             by_,
-            passphrase: _,
             memory,
+            older,
+            ..
         } => Edit::Remove {
             slot,
             by_,
-            passphrase: allowed(old, memory),
+            passphrase: allowed(old, memory, older),
         },
         EditRequest::Repair => Edit::Repair,
         EditRequest::Label { text } => Edit::Label {
@@ -61,12 +50,50 @@ pub(super) fn edit_of<'a>(request: &EditRequest<'a>, old: &'a [u8], new: &'a [u8
     }
 }
 
-/// The passphrase with so many MiB of memory.
-fn allowed(bytes: &[u8], mib: u32) -> Passphrase<'_>
-    ensures { result ≡ record { bytes = bytes.entry; memory = kib_of mib } }
+fn adding<'a>(
+    by_: u8,
+    old: Passphrase<'a>,
+    new: &'a [u8],
+    to: Option<u8>,
+    iterations: u32,
+    kdf: Option<AskedKdf>,
+) -> Edit<'a>
+    ensures { result ≡ Edit.Add by_ old new.entry to iterations (chosen_of kdf) }
+{
+    Edit::Add {
+        by_,
+        old,
+        new,
+        to,
+        iterations,
+        derivation: chosen_of(kdf),
+    }
+}
+
+fn changing<'a>(
+    slot: u8,
+    old: Passphrase<'a>,
+    new: &'a [u8],
+    iterations: u32,
+    kdf: Option<AskedKdf>,
+) -> Edit<'a>
+    ensures { result ≡ Edit.Change slot old new.entry iterations (chosen_of kdf) }
+{
+    Edit::Change {
+        slot,
+        old,
+        new,
+        iterations,
+        derivation: chosen_of(kdf),
+    }
+}
+
+/// The passphrase with so many MiB of memory, and ciphers and hashes of older disks or not.
+fn allowed(bytes: &[u8], mib: u32, older: bool) -> Passphrase<'_>
+    ensures { result ≡ record { bytes = bytes.entry; allowed = allowed_of mib older } }
 {
     Passphrase {
         bytes,
-        memory: kib_of(mib),
+        allowed: allowed_of(mib, older),
     }
 }

@@ -6,7 +6,7 @@ ghost use Rattle.luks_volume.specs.Needed.{NeedsRandom};
 ghost use Rattle.luks_edit_commands.specs.OtherUses.{is_unseen_failure, IsUnseen, SeesBarred};
 
 use crate::other_use::barring_use;
-use luks_commands::open::{MemoryNote, memory_note};
+use luks_commands::open::{MemoryNote, OlderNote, memory_note, older_note};
 use luks_edit::NewDerivation;
 use luks_request::Editing;
 use luks_signatures::OtherUse;
@@ -27,6 +27,8 @@ pub(super) struct Seen {
     pub(super) weaker: Option<Weaker>,
     /// The keyslot that it opens, where that derives by Argon2.
     pub(super) argon2: Option<MemoryNote>,
+    /// The keyslot that it opens, where ciphers and hashes of older disks would have to be accepted.
+    pub(super) older: Option<OlderNote>,
     /// Whether it takes away the last keyslot by PBKDF2, by the passphrase of one by Argon2.
     pub(super) leaves_argon2: bool,
 }
@@ -99,12 +101,14 @@ pub(super) fn see<D: Device>(
     let needed = needed_of_header(&header, editing.data_, device.len(), edit)?;
     let weaker = weaker_keyslot(&header, edit);
     let argon2 = argon2_keyslot(&header, device.len(), edit);
+    let older = older_keyslot(&header, device.len(), edit);
     let leaves_argon2 = leaves_argon2(&header, edit);
     Ok(Seen {
         header,
         needed,
         weaker,
         argon2,
+        older,
         leaves_argon2,
     })
 }
@@ -170,7 +174,16 @@ fn argon2_keyslot(header: &Header, total: u64, edit: &Edit<'_>) -> Option<Memory
     requires { IsAcceptedHeader header.now }
 {
     let opener = edit.opener()?;
-    memory_note(header, opener.slot, total, edit.allowed_memory())
+    memory_note(header, opener.slot, total, edit.allowed())
+}
+
+/// The keyslot that the edit opens in a volume of `total` bytes with this header, where ciphers and hashes of
+/// older disks would have to be accepted.
+fn older_keyslot(header: &Header, total: u64, edit: &Edit<'_>) -> Option<OlderNote>
+    requires { IsAcceptedHeader header.now }
+{
+    let opener = edit.opener()?;
+    older_note(header, opener.slot, total, edit.allowed())
 }
 
 /// Whether the edit removes, by the passphrase of another keyslot, the last one by PBKDF2 of a volume with
@@ -199,10 +212,18 @@ pub(super) fn note_leaving_argon2<E: Write>(leaves_argon2: bool, err: &mut E) {
     }
 }
 
-/// Says of the keyslot that was refused how much memory would have to be allowed, where that helps.
-pub(super) fn note_refused<E: Write>(argon2: Option<MemoryNote>, err: &mut E) {
+/// Says of the keyslot that was refused what would have to be allowed, where that helps: so much memory,
+/// ciphers and hashes of older disks, or both.
+pub(super) fn note_refused<E: Write>(
+    argon2: Option<MemoryNote>,
+    older: Option<OlderNote>,
+    err: &mut E,
+) {
     if let Some(note) = argon2 {
         let _ = note.say_refused(err);
+    }
+    if let Some(note) = older {
+        let _ = note.say(err);
     }
 }
 

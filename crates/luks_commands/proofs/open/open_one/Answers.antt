@@ -9,8 +9,8 @@ use Rattle.luks_commands.proofs.open.open_one.Goals as goal
 pub returns-clause-answers : goal.returns-clause-answers
 returns-clause-answers g c =
     let v = g.D.Device.bytes c.args.device.now in
-    subst (IsOneAnswer g.D.Device.tells c.args.memory v c.args.n c.args.passphrase.now _ _) (sym c.one_answer-answer.ensures)
-    (answers_one g.D.Device.tells c.args.memory v c.args.n c.args.passphrase.now _ _ c.try_header_slot-opened.result
+    subst (IsOneAnswer g.D.Device.tells c.args.allowed v c.args.n c.args.passphrase.now _ _) (sym c.one_answer-answer.ensures)
+    (answers_one g.D.Device.tells c.args.allowed v c.args.n c.args.passphrase.now _ _ c.try_header_slot-opened.result
     (rw c.in-Ok.ensures.count at c.try_header_slot-opened.ensures.count)
     (λ tells. rw (c.read_header.ensures.unchanged.same tells) at
     (c.try_header_slot-opened.ensures.answers.opens tells (rw (c.read_header.ensures.unchanged.same tells) (c.in-Ok.ensures.read tells))))
@@ -20,6 +20,6 @@ returns-clause-answers g c =
 pub returns-in-Err-clause-answers : goal.returns-in-Err-clause-answers
 returns-in-Err-clause-answers g c =
     let v = g.D.Device.bytes c.args.device.now in
-    subst (IsOneAnswer g.D.Device.tells c.args.memory v c.args.n c.args.passphrase.now _ _) (sym (c.from-answer.ensures ∙ ap open_fault_answer c.from.ensures))
-    (one_unread_header g.D.Device.tells c.args.memory v c.args.n c.args.passphrase.now _ _ c.in-Err.fault c.in-Err.ensures.count
-    (λ tells. unread_refused c.args.memory v c.args.n c.args.passphrase.now c.in-Err.fault (choices_agree v) (c.in-Err.ensures.refused tells)))
+    subst (IsOneAnswer g.D.Device.tells c.args.allowed v c.args.n c.args.passphrase.now _ _) (sym (c.from-answer.ensures ∙ ap open_fault_answer c.from.ensures))
+    (one_unread_header g.D.Device.tells c.args.allowed v c.args.n c.args.passphrase.now _ _ c.in-Err.fault c.in-Err.ensures.count
+    (λ tells. unread_refused c.args.allowed v c.args.n c.args.passphrase.now c.in-Err.fault (choices_agree v) (c.in-Err.ensures.refused tells)))
