@@ -42,13 +42,13 @@ first_as allowed v n c None chosen x = λ f is. x f (subst (λ d. IsRefusalAsWit
 
 -- so is a refusal by the header, unless the device failed
 pub luks1_refused : (allowed : Allowed) (v : List ℕ) (n : ℕ) (p : List ℕ) (f : OpenFault) → Chosen v luks1
-    → Luks1Refused (part v 0 592) (length v) n f → IsRefusedByWithin allowed v n p f
+    → Luks1Refused allowed.older (part v 0 592) (length v) n f → IsRefusedByWithin allowed v n p f
 luks1_refused allowed v n p f chosen x =
     refused_by allowed v n p f (λ own. refused_as allowed v n p luks1 f chosen (λ d. choices_agree v luks1 d chosen) (x (own_fault f own)))
-    (λ e. absurd (subst (Luks1Refused (part v 0 592) (length v) n) e x refl).0)
+    (λ e. absurd (subst (Luks1Refused allowed.older (part v 0 592) (length v) n) e x refl).0)
 
 pub luks1_opens : (allowed : Allowed) (v : List ℕ) (n : ℕ) (p : List ℕ) (found : Option (List ℕ)) → Chosen v luks1
-    → Luks1Opens (part v 0 592) v n p found → AnswerWithin allowed v n p (opened_to found)
+    → Luks1Opens allowed.older (part v 0 592) v n p found → AnswerWithin allowed v n p (opened_to found)
 luks1_opens allowed v n p (Some k) chosen x = record { choice = luks1; chosen = chosen; plan = x.plan; is = x.is; unrefused = x.unrefused; key = x.key }
 luks1_opens allowed v n p None chosen x = record { choice = luks1; chosen = chosen; plan = x.plan; is = x.is; unrefused = x.unrefused; key = x.key }
 

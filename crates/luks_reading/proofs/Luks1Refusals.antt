@@ -1,6 +1,6 @@
 -- The refusals of a LUKS1 keyslot, step by step: the first of a step is the first of all, where no
 -- earlier step has any.
-use Rattle.std.proofs.Common.{◌≡◌, ℕ, ◌<◌, List, [], ◌∷◌, length, ◌⊎◌, inl, inr, refl, sym, ap, subst, ◌∙◌, arith, Option, Some, None, IfSome, IsNone}
+use Rattle.std.proofs.Common.{◌≡◌, ℕ, ◌<◌, List, [], ◌∷◌, length, ◌⊎◌, inl, inr, refl, sym, ap, subst, ◌∙◌, arith, Bool, Option, Some, None, IfSome, IsNone}
 use Rattle.luks_area.specs.First.{NotAfter, IsLeast}
 use Rattle.luks1_header.specs.declared.fault.HeadFault.{HeadFault}
 use Rattle.luks1_header.specs.declared.fault.HeadFault.TheVariants as head
@@ -10,17 +10,17 @@ use Rattle.luks1_header.specs.Faults.{head_key, IsCommonFault, IsEntryFault}
 use Rattle.luks1_header.specs.Header1.{active_word, disabled_word, entry}
 use Rattle.luks_slot.specs.declared.fault.SlotFault.{SlotFault}
 use Rattle.luks_slot.specs.declared.plan.SlotPlan.{SlotPlan}
-use Rattle.luks_slot.specs.Refusal.{slot_refusal}
+use Rattle.luks_slot.specs.Allowance.{without_memory}
+use Rattle.luks_slot.specs.Refusal.{slot_refusal_within}
 use Rattle.luks_reading.specs.declared.open_fault.OpenFault.{OpenFault}
 use Rattle.luks_reading.specs.declared.open_fault.OpenFault.TheVariants.{Head, NoSuchSlot, SlotFree, Outside, Slot}
 use Rattle.luks_reading.specs.Answer.{open_key, head_step, slot_row, FirstRefusal, IsLuks1HeadRefusal, IsLuks1Refusal}
 use Rattle.luks_reading.specs.declared.read_fault.ReadFault.TheVariants as reading
 use Rattle.luks_reading.specs.Conversions.{head_unread, unread_opened}
 use Rattle.luks_reading.specs.Luks1Keyslots.{IsEnabled, EntryRefused, Luks1Opens}
-use Rattle.luks_reading.specs.MemoryFacts.{refusal_at_zero}
 use Rattle.luks_reading.specs.PlanAnswers.{IsPlanAccepted, IsPlanRefusal, PlanOpens}
 use Rattle.luks_reading.specs.Plans.{HasLuks1Plan}
-use Rattle.luks_reading.proofs.SamePlans.{same_refusal}
+use Rattle.luks_reading.proofs.SamePlans.{same_refusal_within}
 use Rattle.luks_reading.proofs.Luks1Plans.{one_luks1_plan}
 use Rattle.luks_reading.proofs.ReadFaults.{own_head}
 
@@ -65,14 +65,14 @@ pub common_own : (h : List ℕ) (f : HeadFault) → IsLeast head_key (IsCommonFa
 common_own h f least =
     own_head f (λ e. let no = subst (IsCommonFault h) e least.0 in no.0) (λ e. let no = subst (IsCommonFault h) e least.0 in no.0)
 
-pub common_first : (h : List ℕ) (total n : ℕ) (f : HeadFault) → IsLeast head_key (IsCommonFault h) f
-    → IsLeast open_key (IsLuks1Refusal h total n) (Head f)
-common_first h total n f least = (refuses.0, after)
+pub common_first : (older : Bool) (h : List ℕ) (total n : ℕ) (f : HeadFault) → IsLeast head_key (IsCommonFault h) f
+    → IsLeast open_key (IsLuks1Refusal older h total n) (Head f)
+common_first older h total n f least = (refuses.0, after)
   where
     refuses : IsLuks1HeadRefusal h n f × (head_step f ≡ 1)
     refuses = common_refuses h n f least.0
 
-    after : (g : OpenFault) → IsLuks1Refusal h total n g → NotAfter (open_key (Head f)) (open_key g)
+    after : (g : OpenFault) → IsLuks1Refusal older h total n g → NotAfter (open_key (Head f)) (open_key g)
     after (Head g) is = elim (which h n g is) [
       | inl x ↦ together (head_step f) (head_step g) (head_key f) (head_key g) (refuses.1 ∙ sym x.step) (least.1 g x.fault)
       | inr x ↦ let here = refuses.1 in let there = x.step in sooner (head_step f) (head_step g) (head_key f) (head_key g) (omega (arith, here, there))
@@ -84,21 +84,21 @@ common_first h total n f least = (refuses.0, after)
     after other is = absurd is
 
 -- in the words of an opening
-pub common_refused : (h : List ℕ) (total n : ℕ) (f : HeadFault) → IsLeast head_key (IsCommonFault h) f
-    → IsLeast open_key (IsLuks1Refusal h total n) (unread_opened (head_unread f))
-common_refused h total n f least =
-    subst (λ r. IsLeast open_key (IsLuks1Refusal h total n) (unread_opened r)) (sym (common_own h f least)) (common_first h total n f least)
+pub common_refused : (older : Bool) (h : List ℕ) (total n : ℕ) (f : HeadFault) → IsLeast head_key (IsCommonFault h) f
+    → IsLeast open_key (IsLuks1Refusal older h total n) (unread_opened (head_unread f))
+common_refused older h total n f least =
+    subst (λ r. IsLeast open_key (IsLuks1Refusal older h total n) (unread_opened r)) (sym (common_own h f least)) (common_first older h total n f least)
 
 -- ---- the keyslot's number and its entry
 
-pub entry_first : (h : List ℕ) (total n : ℕ) (f : OpenFault) → ((g : HeadFault) → IsCommonFault h g → ⊥)
-    → EntryRefused h n f → IsLeast open_key (IsLuks1Refusal h total n) f
-entry_first h total n (Head f) clear x = (refuses.0, after)
+pub entry_first : (older : Bool) (h : List ℕ) (total n : ℕ) (f : OpenFault) → ((g : HeadFault) → IsCommonFault h g → ⊥)
+    → EntryRefused h n f → IsLeast open_key (IsLuks1Refusal older h total n) f
+entry_first older h total n (Head f) clear x = (refuses.0, after)
   where
     refuses : IsLuks1HeadRefusal h n f × (head_step f ≡ 4)
     refuses = entry_refuses h n f x.numbered x.least.0
 
-    after : (g : OpenFault) → IsLuks1Refusal h total n g → NotAfter (open_key (Head f)) (open_key g)
+    after : (g : OpenFault) → IsLuks1Refusal older h total n g → NotAfter (open_key (Head f)) (open_key g)
     after (Head g) is = elim (which h n g is) [
       | inl y ↦ absurd (clear g y.fault)
       | inr y ↦ together (head_step f) (head_step g) (head_key f) (head_key g) (refuses.1 ∙ sym y.step) (x.least.1 g y.fault)
@@ -108,9 +108,9 @@ entry_first h total n (Head f) clear x = (refuses.0, after)
     after Outside is = let here = refuses.1 in sooner (head_step f) 6 (head_key f) [] (omega (arith, here))
     after (Slot g) is = let here = refuses.1 in sooner (head_step f) 7 (head_key f) (slot_row g ∷ []) (omega (arith, here))
     after other is = absurd is
-entry_first h total n NoSuchSlot clear x = (x, after)
+entry_first older h total n NoSuchSlot clear x = (x, after)
   where
-    after : (g : OpenFault) → IsLuks1Refusal h total n g → NotAfter (open_key NoSuchSlot) (open_key g)
+    after : (g : OpenFault) → IsLuks1Refusal older h total n g → NotAfter (open_key NoSuchSlot) (open_key g)
     after (Head g) is = elim (which h n g is) [
       | inl y ↦ absurd (clear g y.fault)
       | inr y ↦ let there = y.step in sooner 3 (head_step g) [] (head_key g) (omega (arith, there))
@@ -120,9 +120,9 @@ entry_first h total n NoSuchSlot clear x = (x, after)
     after Outside is = sooner 3 6 [] [] (omega arith)
     after (Slot g) is = sooner 3 7 [] (slot_row g ∷ []) (omega arith)
     after other is = absurd is
-entry_first h total n SlotFree clear x = ((x.numbered, x.disabled), after)
+entry_first older h total n SlotFree clear x = ((x.numbered, x.disabled), after)
   where
-    after : (g : OpenFault) → IsLuks1Refusal h total n g → NotAfter (open_key SlotFree) (open_key g)
+    after : (g : OpenFault) → IsLuks1Refusal older h total n g → NotAfter (open_key SlotFree) (open_key g)
     after (Head g) is = elim (which h n g is) [
       | inl y ↦ absurd (clear g y.fault)
       | inr y ↦ absurd (x.faultless g y.fault)
@@ -132,13 +132,13 @@ entry_first h total n SlotFree clear x = ((x.numbered, x.disabled), after)
     after Outside is = sooner 5 6 [] [] (omega arith)
     after (Slot g) is = sooner 5 7 [] (slot_row g ∷ []) (omega arith)
     after other is = absurd is
-entry_first h total n other clear x = absurd x
+entry_first older h total n other clear x = absurd x
 
 -- ---- the keyslot's plan
 
-same_slot : (h : List ℕ) (n : ℕ) (a b : SlotPlan) (f g : SlotFault) → HasLuks1Plan h n a → HasLuks1Plan h n b
-    → slot_refusal a ≡ Some f → slot_refusal b ≡ Some g → f ≡ g
-same_slot h n a b f g x y p q = let same = same_refusal a b (one_luks1_plan h n a b x y) in cc
+same_slot : (older : Bool) (h : List ℕ) (n : ℕ) (a b : SlotPlan) (f g : SlotFault) → HasLuks1Plan h n a → HasLuks1Plan h n b
+    → slot_refusal_within (without_memory older) a ≡ Some f → slot_refusal_within (without_memory older) b ≡ Some g → f ≡ g
+same_slot older h n a b f g x y p q = let same = same_refusal_within (without_memory older) a b (one_luks1_plan h n a b x y) in cc
 
 -- a refusal that isn't of the plan is out, where the header and the entry are cleared
 not_of_head : (h : List ℕ) (n : ℕ) (s : Luks1Slot) (g : HeadFault) → ((f : HeadFault) → IsCommonFault h f → ⊥) → IsEnabled h n s
@@ -148,21 +148,21 @@ not_of_head h n s g clear on is = elim (which h n g is) [ inl y ↦ clear g y.fa
 in_use : (h : List ℕ) (n : ℕ) (s : Luks1Slot) → IsEnabled h n s → active_word (entry h n) ≡ disabled_word → ⊥
 in_use h n s on off = let is = on.enabled in omega (arith, is, off)
 
-pub plan_first : (h : List ℕ) (total n : ℕ) (s : Luks1Slot) (plan : SlotPlan) (f : OpenFault) → ((g : HeadFault) → IsCommonFault h g → ⊥)
-    → IsEnabled h n s → HasLuks1Plan h n plan → IsPlanRefusal 0 plan total f
-    → IsLeast open_key (IsLuks1Refusal h total n) f
-plan_first h total n s plan Outside clear on is x = (record { plan = plan; is = is; past = x }, after)
+pub plan_first : (older : Bool) (h : List ℕ) (total n : ℕ) (s : Luks1Slot) (plan : SlotPlan) (f : OpenFault) → ((g : HeadFault) → IsCommonFault h g → ⊥)
+    → IsEnabled h n s → HasLuks1Plan h n plan → IsPlanRefusal (without_memory older) plan total f
+    → IsLeast open_key (IsLuks1Refusal older h total n) f
+plan_first older h total n s plan Outside clear on is x = (record { plan = plan; is = is; past = x }, after)
   where
-    after : (g : OpenFault) → IsLuks1Refusal h total n g → NotAfter (open_key Outside) (open_key g)
+    after : (g : OpenFault) → IsLuks1Refusal older h total n g → NotAfter (open_key Outside) (open_key g)
     after (Head g) y = absurd (not_of_head h n s g clear on y)
     after NoSuchSlot y = let lt = on.numbered in absurd (omega (arith, lt, y))
     after SlotFree y = absurd (in_use h n s on y.1)
     after Outside y = together 6 6 [] [] refl tt
     after (Slot g) y = sooner 6 7 [] (slot_row g ∷ []) (omega arith)
     after other y = absurd y
-plan_first h total n s plan (Slot f) clear on is x = (record { plan = plan; is = is; refused = sym (refusal_at_zero plan) ∙ x.1 }, after)
+plan_first older h total n s plan (Slot f) clear on is x = (record { plan = plan; is = is; refused = x.1 }, after)
   where
-    after : (g : OpenFault) → IsLuks1Refusal h total n g → NotAfter (open_key (Slot f)) (open_key g)
+    after : (g : OpenFault) → IsLuks1Refusal older h total n g → NotAfter (open_key (Slot f)) (open_key g)
     after (Head g) y = absurd (not_of_head h n s g clear on y)
     after NoSuchSlot y = let lt = on.numbered in absurd (omega (arith, lt, y))
     after SlotFree y = absurd (in_use h n s on y.1)
@@ -174,43 +174,43 @@ plan_first h total n s plan (Slot f) clear on is x = (record { plan = plan; is =
         let past = y.past in
         absurd (omega (arith, start, len, inside, past))
     after (Slot g) y =
-        let e : f ≡ g = same_slot h n plan y.plan f g is y.is (sym (refusal_at_zero plan) ∙ x.1) y.refused in
+        let e : f ≡ g = same_slot older h n plan y.plan f g is y.is x.1 y.refused in
         together 7 7 (slot_row f ∷ []) (slot_row g ∷ []) refl (together (slot_row f) (slot_row g) [] [] (ap slot_row e) tt)
     after other y = absurd y
-plan_first h total n s plan other clear on is x = absurd x
+plan_first older h total n s plan other clear on is x = absurd x
 
 -- nothing refuses a keyslot whose plan is accepted
-pub plan_unrefused : (h : List ℕ) (total n : ℕ) (s : Luks1Slot) (plan : SlotPlan) → ((g : HeadFault) → IsCommonFault h g → ⊥)
-    → IsEnabled h n s → HasLuks1Plan h n plan → IsPlanAccepted 0 plan total → (f : OpenFault) → IsLuks1Refusal h total n f → ⊥
-plan_unrefused h total n s plan clear on is x (Head g) y = not_of_head h n s g clear on y
-plan_unrefused h total n s plan clear on is x NoSuchSlot y = let lt = on.numbered in omega (arith, lt, y)
-plan_unrefused h total n s plan clear on is x SlotFree y = in_use h n s on y.1
-plan_unrefused h total n s plan clear on is x Outside y =
+pub plan_unrefused : (older : Bool) (h : List ℕ) (total n : ℕ) (s : Luks1Slot) (plan : SlotPlan) → ((g : HeadFault) → IsCommonFault h g → ⊥)
+    → IsEnabled h n s → HasLuks1Plan h n plan → IsPlanAccepted (without_memory older) plan total → (f : OpenFault) → IsLuks1Refusal older h total n f → ⊥
+plan_unrefused older h total n s plan clear on is x (Head g) y = not_of_head h n s g clear on y
+plan_unrefused older h total n s plan clear on is x NoSuchSlot y = let lt = on.numbered in omega (arith, lt, y)
+plan_unrefused older h total n s plan clear on is x SlotFree y = in_use h n s on y.1
+plan_unrefused older h total n s plan clear on is x Outside y =
     let same = one_luks1_plan h n plan y.plan is y.is in
     let start = same.start in
     let len = same.len in
     let inside = x.inside in
     let past = y.past in
     omega (arith, start, len, inside, past)
-plan_unrefused h total n s plan clear on is x (Slot g) y =
-    let same = same_refusal plan y.plan (one_luks1_plan h n plan y.plan is y.is) in
-    let accepted = sym (refusal_at_zero plan) ∙ x.accepted in
+plan_unrefused older h total n s plan clear on is x (Slot g) y =
+    let same = same_refusal_within (without_memory older) plan y.plan (one_luks1_plan h n plan y.plan is y.is) in
+    let accepted = x.accepted in
     let refused = y.refused in
     absurd (cc)
-plan_unrefused h total n s plan clear on is x other y = y
+plan_unrefused older h total n s plan clear on is x other y = y
 
-pub plan_opens : (h v : List ℕ) (n : ℕ) (s : Luks1Slot) (plan : SlotPlan) (p : List ℕ) (found : Option (List ℕ)) → ((g : HeadFault) → IsCommonFault h g → ⊥)
-    → IsEnabled h n s → HasLuks1Plan h n plan → PlanOpens 0 plan v p found → Luks1Opens h v n p found
-plan_opens h v n s plan p found clear on is x = record {
+pub plan_opens : (older : Bool) (h v : List ℕ) (n : ℕ) (s : Luks1Slot) (plan : SlotPlan) (p : List ℕ) (found : Option (List ℕ)) → ((g : HeadFault) → IsCommonFault h g → ⊥)
+    → IsEnabled h n s → HasLuks1Plan h n plan → PlanOpens (without_memory older) plan v p found → Luks1Opens older h v n p found
+plan_opens older h v n s plan p found clear on is x = record {
   plan = plan;
   is = is;
-  unrefused = plan_unrefused h (length v) n s plan clear on is (record { inside = x.inside; accepted = x.accepted });
+  unrefused = plan_unrefused older h (length v) n s plan clear on is (record { inside = x.inside; accepted = x.accepted });
   key = sym x.is;
 }
 
 -- what the plan is refused by is what the keyslot is refused by
-pub plan_judged : (h : List ℕ) (total n : ℕ) (s : Luks1Slot) (plan : SlotPlan) (r : Option OpenFault) → ((g : HeadFault) → IsCommonFault h g → ⊥)
-    → IsEnabled h n s → HasLuks1Plan h n plan → IfSome r (IsPlanRefusal 0 plan total) → (IsNone r → IsPlanAccepted 0 plan total)
-    → FirstRefusal (IsLuks1Refusal h total n) r
-plan_judged h total n s plan (Some f) clear on is refused accepted = plan_first h total n s plan f clear on is refused
-plan_judged h total n s plan None clear on is refused accepted = plan_unrefused h total n s plan clear on is (accepted refl)
+pub plan_judged : (older : Bool) (h : List ℕ) (total n : ℕ) (s : Luks1Slot) (plan : SlotPlan) (r : Option OpenFault) → ((g : HeadFault) → IsCommonFault h g → ⊥)
+    → IsEnabled h n s → HasLuks1Plan h n plan → IfSome r (IsPlanRefusal (without_memory older) plan total) → (IsNone r → IsPlanAccepted (without_memory older) plan total)
+    → FirstRefusal (IsLuks1Refusal older h total n) r
+plan_judged older h total n s plan (Some f) clear on is refused accepted = plan_first older h total n s plan f clear on is refused
+plan_judged older h total n s plan None clear on is refused accepted = plan_unrefused older h total n s plan clear on is (accepted refl)

@@ -1,5 +1,5 @@
 -- A keyslot of LUKS2 has one plan.
-use Rattle.std.proofs.Common.{◌≡◌, ℕ, List, refl, sym, ap, ◌∙◌, subst, Option, Some, unwrap_or}
+use Rattle.std.proofs.Common.{◌≡◌, ℕ, List, Bool, true, false, refl, sym, ap, ◌∙◌, subst, Option, Some, unwrap_or}
 use Rattle.serde_json.specs.Data.{Data}
 use Rattle.luks_rules.specs.declared.table.Member.TheVariants as name
 use Rattle.luks_rules.specs.declared.table.Outer.TheVariants as outer
@@ -18,7 +18,8 @@ use Rattle.luks_slot.specs.declared.plan.Derivation.TheVariants.{Pbkdf2, Argon2}
 use Rattle.luks_slot.specs.declared.plan.DigestPlan.{DigestPlan}
 use Rattle.luks_slot.specs.declared.plan.SlotPlan.{SlotPlan}
 use Rattle.luks_slot.specs.Opening.{area_key_by}
-use Rattle.luks_slot.specs.Refusal.{is_argon2, is_argon2_refused, is_known_derivation, is_open_cipher}
+use Rattle.luks_slot.specs.Ciphers.{cipher_of, is_size_of}
+use Rattle.luks_slot.specs.Refusal.{is_allowed_cipher, is_argon2, is_argon2_refused, is_key_size, is_known_derivation, is_known_hash}
 use Rattle.luks_reading.specs.PlanFacts.{no_pbkdf2}
 use Rattle.luks_reading.specs.Plans.{kind_text, IsLuks2Cipher, IsLuks2Derivation, IsLuks2Digest, IsLuks2Plan, HasLuks2Plan}
 use Rattle.luks_reading.proofs.SamePlans.{SameFields}
@@ -45,21 +46,21 @@ argon2_of d (Pbkdf2 k i s) (Argon2 c) x y = absurd (no_pbkdf2 d c y x.0)
 argon2_of d (Argon2 c) (Pbkdf2 k i s) x y = absurd (no_pbkdf2 d c x y.0)
 argon2_of d (Argon2 c) (Argon2 f) x y = refl
 
-refused_of : (d : Data) (a b : Derivation) (allowed : ℕ) → IsLuks2Derivation d a → IsLuks2Derivation d b → is_argon2_refused allowed a ≡ is_argon2_refused allowed b
-refused_of d (Pbkdf2 k i s) (Pbkdf2 l j t) allowed x y = refl
-refused_of d (Pbkdf2 k i s) (Argon2 c) allowed x y = absurd (no_pbkdf2 d c y x.0)
-refused_of d (Argon2 c) (Pbkdf2 k i s) allowed x y = absurd (no_pbkdf2 d c x y.0)
-refused_of d (Argon2 c) (Argon2 f) allowed x y =
+refused_of : (d : Data) (a b : Derivation) (kib : ℕ) → IsLuks2Derivation d a → IsLuks2Derivation d b → is_argon2_refused kib a ≡ is_argon2_refused kib b
+refused_of d (Pbkdf2 k i s) (Pbkdf2 l j t) kib x y = refl
+refused_of d (Pbkdf2 k i s) (Argon2 c) kib x y = absurd (no_pbkdf2 d c y x.0)
+refused_of d (Argon2 c) (Pbkdf2 k i s) kib x y = absurd (no_pbkdf2 d c x y.0)
+refused_of d (Argon2 c) (Argon2 f) kib x y =
     let memory = same_number (small_at d outer.Kdf name.Memory) c.memory f.memory x.2 y.2 in
     let cpus = same_number (small_at d outer.Kdf name.Cpus) c.cpus f.cpus x.3 y.3 in
     let salt = same_text (bytes_in 1 128 (member_at d outer.Kdf name.Salt)) c.salt.now f.salt.now x.4 y.4 in
     simp (memory, cpus, salt)
 
-known_of : (d : Data) (a b : Derivation) → IsLuks2Derivation d a → IsLuks2Derivation d b → is_known_derivation a ≡ is_known_derivation b
-known_of d (Pbkdf2 k i s) (Pbkdf2 l j t) x y = let hash = same_text (text_of (member_at d outer.Kdf name.Hash)) k.now l.now x.1 y.1 in simp hash
-known_of d (Pbkdf2 k i s) (Argon2 c) x y = absurd (no_pbkdf2 d c y x.0)
-known_of d (Argon2 c) (Pbkdf2 k i s) x y = absurd (no_pbkdf2 d c x y.0)
-known_of d (Argon2 c) (Argon2 f) x y = refl
+known_of : (d : Data) (a b : Derivation) → IsLuks2Derivation d a → IsLuks2Derivation d b → (older : Bool) → is_known_derivation older a ≡ is_known_derivation older b
+known_of d (Pbkdf2 k i s) (Pbkdf2 l j t) x y older = ap (is_known_hash older) (same_text (text_of (member_at d outer.Kdf name.Hash)) k.now l.now x.1 y.1)
+known_of d (Pbkdf2 k i s) (Argon2 c) x y older = absurd (no_pbkdf2 d c y x.0)
+known_of d (Argon2 c) (Pbkdf2 k i s) x y older = absurd (no_pbkdf2 d c x y.0)
+known_of d (Argon2 c) (Argon2 f) x y older = refl
 
 key_of : (d : Data) (a b : Derivation) → IsLuks2Derivation d a → IsLuks2Derivation d b
     → (n : ℕ) (p : List ℕ) → area_key_by a n p ≡ area_key_by b n p
@@ -78,10 +79,19 @@ key_of d (Argon2 c) (Argon2 f) x y n p =
     let salt = same_text (bytes_in 1 128 (member_at d outer.Kdf name.Salt)) c.salt.now f.salt.now x.4 y.4 in
     simp (kind, time, memory, cpus, salt)
 
-cipher_of : (d : Data) (a b : AreaCipher) → IsLuks2Cipher d a → IsLuks2Cipher d b → is_open_cipher a ≡ is_open_cipher b
-cipher_of d (Apart n m) b x y = absurd x
-cipher_of d (Whole t) (Apart n m) x y = absurd y
-cipher_of d (Whole t) (Whole u) x y = let text = same_text (text_of (member_at d outer.Area name.Encryption)) t.now u.now x y in simp text
+allowed_of : (d : Data) (a b : AreaCipher) → IsLuks2Cipher d a → IsLuks2Cipher d b → (older : Bool) → is_allowed_cipher older a ≡ is_allowed_cipher older b
+allowed_of d (Apart n m) b x y older = absurd x
+allowed_of d (Whole t) (Apart n m) x y older = absurd y
+allowed_of d (Whole t) (Whole u) x y false = let text = same_text (text_of (member_at d outer.Area name.Encryption)) t.now u.now x y in simp text
+allowed_of d (Whole t) (Whole u) x y true = let text = same_text (text_of (member_at d outer.Area name.Encryption)) t.now u.now x y in simp text
+
+sector_cipher_of : (d : Data) (a b : AreaCipher) → IsLuks2Cipher d a → IsLuks2Cipher d b → cipher_of a ≡ cipher_of b
+sector_cipher_of d (Apart n m) b x y = absurd x
+sector_cipher_of d (Whole t) (Apart n m) x y = absurd y
+sector_cipher_of d (Whole t) (Whole u) x y = let text = same_text (text_of (member_at d outer.Area name.Encryption)) t.now u.now x y in simp text
+
+key_size_of : (d : Data) (a b : AreaCipher) → IsLuks2Cipher d a → IsLuks2Cipher d b → (n : ℕ) → is_key_size a n ≡ is_key_size b n
+key_size_of d a b x y n = ap (λ c. is_size_of c n) (sector_cipher_of d a b x y)
 
 -- the digest of a keyslot is one
 same_digest_object : (j : Data) (n : ℕ) (a b : DigestPlan) → ((m k : ℕ) → IsDigestOf j n m → IsDigestOf j n k → m ≡ k)
@@ -97,10 +107,12 @@ same_fields j n d a b one x y =
     let same : y.digest.object ≡ o = sym (same_digest_object j n a.digest b.digest one x.digest y.digest) in
     record {
       argon2 = argon2_of d a.derivation b.derivation x.derivation y.derivation;
-      argon2_refused = λ allowed. refused_of d a.derivation b.derivation allowed x.derivation y.derivation;
+      argon2_refused = λ kib. refused_of d a.derivation b.derivation kib x.derivation y.derivation;
       known = known_of d a.derivation b.derivation x.derivation y.derivation;
       key = key_of d a.derivation b.derivation x.derivation y.derivation;
-      cipher = cipher_of d a.cipher b.cipher x.cipher y.cipher;
+      cipher = allowed_of d a.cipher b.cipher x.cipher y.cipher;
+      sector_cipher = sector_cipher_of d a.cipher b.cipher x.cipher y.cipher;
+      key_size = key_size_of d a.cipher b.cipher x.cipher y.cipher;
       start = same_number (decimal_in (member_at d outer.Area name.Offset)) a.area.start b.area.start x.start y.start;
       len = same_number (decimal_in (member_at d outer.Area name.Size)) a.area.len b.area.len x.len y.len;
       area_key_bytes = same_number (number_in 1 128 (member_at d outer.Area name.KeySize)) a.area_key_bytes b.area_key_bytes x.area_key_bytes y.area_key_bytes;

@@ -1,17 +1,22 @@
 -- Two plans that say the same are refused alike and open alike.
-use Rattle.std.proofs.Common.{◌≡◌, ℕ, List, ap, ◌∙◌}
+use Rattle.std.proofs.Common.{◌≡◌, ℕ, List, Bool, ap, ◌∙◌}
 use Rattle.luks_area.specs.Ranges.{part}
+use Rattle.luks_slot.specs.declared.allowed.Allowed.{Allowed}
+use Rattle.luks_slot.specs.declared.cipher.AreaKey.{AreaKey}
 use Rattle.luks_slot.specs.declared.plan.SlotPlan.{SlotPlan}
+use Rattle.luks_slot.specs.Ciphers.{cipher_of, keyed}
 use Rattle.luks_slot.specs.Opening.{slot_key, candidate, stripes_in, area_key, area_key_by, meets_digest}
-use Rattle.luks_slot.specs.Refusal.{slot_refusal, slot_refusal_within, is_argon2, is_argon2_refused, is_known_derivation, is_open_cipher}
+use Rattle.luks_slot.specs.Refusal.{slot_refusal_within, is_allowed_cipher, is_argon2, is_argon2_refused, is_key_size, is_known_derivation}
 
 -- the two plans say the same of what decides
 pub record SameFields (a b : SlotPlan) : Type 0 where
   pub argon2 : is_argon2 a.derivation ≡ is_argon2 b.derivation
   pub argon2_refused : (memory : ℕ) → is_argon2_refused memory a.derivation ≡ is_argon2_refused memory b.derivation
-  pub known : is_known_derivation a.derivation ≡ is_known_derivation b.derivation
+  pub known : (older : Bool) → is_known_derivation older a.derivation ≡ is_known_derivation older b.derivation
   pub key : (n : ℕ) (p : List ℕ) → area_key_by a.derivation n p ≡ area_key_by b.derivation n p
-  pub cipher : is_open_cipher a.cipher ≡ is_open_cipher b.cipher
+  pub cipher : (older : Bool) → is_allowed_cipher older a.cipher ≡ is_allowed_cipher older b.cipher
+  pub sector_cipher : cipher_of a.cipher ≡ cipher_of b.cipher
+  pub key_size : (n : ℕ) → is_key_size a.cipher n ≡ is_key_size b.cipher n
   pub start : a.area.start ≡ b.area.start
   pub len : a.area.len ≡ b.area.len
   pub area_key_bytes : a.area_key_bytes ≡ b.area_key_bytes
@@ -23,20 +28,21 @@ pub record SameFields (a b : SlotPlan) : Type 0 where
   pub digest_salt : a.digest.salt.now ≡ b.digest.salt.now
   pub digest_stored : a.digest.stored.now ≡ b.digest.stored.now
 
-pub same_refusal : (a b : SlotPlan) → SameFields a b → slot_refusal a ≡ slot_refusal b
-same_refusal a b s =
-    simp (s.argon2, s.known, s.cipher, s.area_key_bytes, s.splitter_hash, s.digest_hash)
-
-pub same_refusal_within : (memory : ℕ) (a b : SlotPlan) → SameFields a b → slot_refusal_within memory a ≡ slot_refusal_within memory b
-same_refusal_within memory a b s =
-    let argon2 = s.argon2_refused memory in
-    simp (argon2, s.known, s.cipher, s.area_key_bytes, s.splitter_hash, s.digest_hash)
+pub same_refusal_within : (allowed : Allowed) (a b : SlotPlan) → SameFields a b → slot_refusal_within allowed a ≡ slot_refusal_within allowed b
+same_refusal_within allowed a b s =
+    let argon2 = s.argon2_refused allowed.memory in
+    let known = s.known allowed.older in
+    let cipher = s.cipher allowed.older in
+    let size = ap (is_key_size a.cipher) s.area_key_bytes ∙ s.key_size b.area_key_bytes in
+    simp (argon2, known, cipher, size, s.splitter_hash, s.digest_hash)
 
 same_area_key : (a b : SlotPlan) (p : List ℕ) → SameFields a b → area_key a p ≡ area_key b p
 unfolding area_key
-same_area_key a b p s = ap (λ n. area_key_by a.derivation n p) s.area_key_bytes ∙ s.key b.area_key_bytes p
+same_area_key a b p s =
+    ap (λ bytes. keyed (cipher_of a.cipher) bytes) (ap (λ n. area_key_by a.derivation n p) s.area_key_bytes ∙ s.key b.area_key_bytes p)
+    ∙ ap (λ cipher. keyed cipher (area_key_by b.derivation b.area_key_bytes p)) s.sector_cipher
 
-same_stripes : (a b : SlotPlan) (key area : List ℕ) → SameFields a b → stripes_in a key area ≡ stripes_in b key area
+same_stripes : (a b : SlotPlan) (key : AreaKey) (area : List ℕ) → SameFields a b → stripes_in a key area ≡ stripes_in b key area
 unfolding stripes_in
 same_stripes a b key area s = simp (s.key_bytes, s.stripes)
 

@@ -117,7 +117,7 @@ taken allowed v n p c k chosen y =
       unrefused = λ f r. y.unrefused f (subst (λ d. IsRefusalAsWithin allowed v n d f) e r);
     }
 
-luks1_stays_shut : (allowed : Allowed) (v p : List ℕ) (n : ℕ) → Chosen v luks1 → Luks1DoesNotOpen (part v 0 592) v p n → DoesNotOpen allowed v p n
+luks1_stays_shut : (allowed : Allowed) (v p : List ℕ) (n : ℕ) → Chosen v luks1 → Luks1DoesNotOpen allowed.older (part v 0 592) v p n → DoesNotOpen allowed v p n
 luks1_stays_shut allowed v p n chosen shut k y =
     let x = taken allowed v n p luks1 k chosen y in
     shut k (record { plan = y.plan; is = x.is; unrefused = x.unrefused; key = y.key })
@@ -127,19 +127,19 @@ not_locked h (Head f) clear x = clear f x
 not_locked h other clear x = x
 
 luks1_unlocks : (allowed : Allowed) (v p : List ℕ) (found : Option (ℕ × List ℕ)) → Chosen v luks1
-    → ((g : HeadFault) → IsCommonFault (part v 0 592) g → ⊥) → Luks1Tries (part v 0 592) v p found → Unlocks allowed v p found
+    → ((g : HeadFault) → IsCommonFault (part v 0 592) g → ⊥) → Luks1Tries allowed.older (part v 0 592) v p found → Unlocks allowed v p found
 luks1_unlocks allowed v p found chosen clear x = record {
   choice = luks1;
   chosen = chosen;
   unrefused = λ f y. not_locked (part v 0 592) f clear y;
   order = luks1_order (part v 0 592);
   ordered = refl;
-  gives = gives_weaker (Luks1DoesNotOpen (part v 0 592) v p) (DoesNotOpen allowed v p) (λ n k. Luks1Opens (part v 0 592) v n p (Some k)) (λ n k. OpensWithin allowed v n p (Some k))
+  gives = gives_weaker (Luks1DoesNotOpen allowed.older (part v 0 592) v p) (DoesNotOpen allowed v p) (λ n k. Luks1Opens allowed.older (part v 0 592) v n p (Some k)) (λ n k. OpensWithin allowed v n p (Some k))
       (luks1_order (part v 0 592)) found (λ n. luks1_stays_shut allowed v p n chosen) (λ n k y. luks1_opens allowed v n p (Some k) chosen y) x;
 }
 
 pub luks1_unlocks_as : (allowed : Allowed) (v p : List ℕ) (r : Result (Option (ℕ × List ℕ)) OpenFault) → Chosen v luks1
-    → IfOk r (λ _. (g : HeadFault) → IsCommonFault (part v 0 592) g → ⊥) → IfOk r (Luks1Tries (part v 0 592) v p) → IfOk r (Unlocks allowed v p)
+    → IfOk r (λ _. (g : HeadFault) → IsCommonFault (part v 0 592) g → ⊥) → IfOk r (Luks1Tries allowed.older (part v 0 592) v p) → IfOk r (Unlocks allowed v p)
 luks1_unlocks_as allowed v p (Ok found) chosen clear x = luks1_unlocks allowed v p found chosen clear x
 luks1_unlocks_as allowed v p (Err f) chosen clear x = tt
 

@@ -1,10 +1,9 @@
 -- How what is allowed decides whether a plan is refused: with nothing it is refused as it is without
 -- Argon2 and without older ciphers and hashes, and with more it isn't refused where it wasn't.
-use Rattle.std.proofs.Common.{◌≡◌, ◌∙◌, ◌≤◌, ℕ, List, ◌*◌, ◌-◌, ◌^◌, length, true, false, Option, Some, None, refl, ap, sym, arith}
+use Rattle.std.proofs.Common.{◌≡◌, ◌∙◌, ◌≤◌, ℕ, List, ◌*◌, ◌-◌, ◌^◌, length, true, false, Option, Some, None, refl, ap, arith}
 use Rattle.std.specs.Prelude.{◌||◌, ◌&&◌, nat_lt, not, Bool, is_some, if◌then◌else◌}
 use Rattle.std.proofs.lemmas.Bool.Decides.{nat_tests}
-use Rattle.luks_kdf.specs.declared.keyslot_hash.KeyslotHash.{KeyslotHash}
-use Rattle.luks_kdf.specs.KeyslotNames.{keyslot_hash_named, named_with_older}
+use Rattle.luks_kdf.specs.KeyslotNames.{older_hash_named}
 use Rattle.luks_slot.specs.declared.allowed.Allowed.{Allowed}
 use Rattle.luks_slot.specs.declared.fault.SlotFault.TheVariants as fault
 use Rattle.luks_slot.specs.declared.plan.AreaCipher.{AreaCipher}
@@ -12,17 +11,11 @@ use Rattle.luks_slot.specs.declared.plan.Derivation.{Derivation}
 use Rattle.luks_slot.specs.declared.plan.Derivation.TheVariants.{Pbkdf2, Argon2}
 use Rattle.luks_slot.specs.declared.plan.SlotPlan.{SlotPlan}
 use Rattle.luks_slot.specs.Allowance.{none_allowed}
-use Rattle.luks_slot.specs.Refusal.{are_known_hashes, first_refusal, is_allowed_cipher, is_argon2, is_argon2_refused, is_key_size, is_known_derivation, is_known_hash, is_older_cipher, slot_refusal, slot_refusal_within}
-
-refused_at_zero : (m c salt : ℕ) → (nat_lt 0 m || nat_lt m (8 * c) || nat_lt c 1 || nat_lt (2 ^ 24 - 1) c || nat_lt salt 8) ≡ true
-refused_at_zero m c salt = grind (arith, nat_tests)
-
-without_argon2 : (d : Derivation) → is_argon2_refused 0 d ≡ is_argon2 d
-without_argon2 (Pbkdf2 h i s) = refl
-without_argon2 (Argon2 a) = refused_at_zero a.memory a.cpus (length a.salt.now)
+use Rattle.luks_slot.proofs.DerivationFacts as Slots
+use Rattle.luks_slot.specs.Refusal.{are_known_hashes, is_allowed_cipher, is_argon2_refused, is_key_size, is_known_derivation, is_known_hash, is_older_cipher, slot_refusal, slot_refusal_within}
 
 pub refusal_at_zero : (plan : SlotPlan) → slot_refusal_within none_allowed plan ≡ slot_refusal plan
-refusal_at_zero plan = ap (λ b. first_refusal b false plan) (without_argon2 plan.derivation)
+refusal_at_zero = Slots.refusal_at_zero
 
 -- ---- more memory
 
@@ -43,12 +36,8 @@ still_cipher true true c le is = is
 still_cipher false true c le is = ap (λ b. b || is_older_cipher c) is
 still_cipher true false c le is = let off = le refl in absurd (cc)
 
-still_some : (o p : Option KeyslotHash) → ((h : KeyslotHash) → o ≡ Some h → p ≡ Some h) → is_some o ≡ true → is_some p ≡ true
-still_some None p more is = absurd (cc)
-still_some (Some h) p more is = ap is_some (more h refl)
-
 still_hash : (t : List ℕ) → is_known_hash false t ≡ true → is_known_hash true t ≡ true
-still_hash t is = still_some (keyslot_hash_named false t) (keyslot_hash_named true t) (named_with_older t) is
+still_hash t is = ap (λ b. b || is_some (older_hash_named t)) is
 
 still_derivation : (d : Derivation) → is_known_derivation false d ≡ true → is_known_derivation true d ≡ true
 still_derivation (Pbkdf2 h i s) is = still_hash h.now is

@@ -1,4 +1,4 @@
-use Rattle.luks_reading.proofs.AllowedMemory.{as_before, by_argon2, nothing_taken}
+use Rattle.luks_reading.proofs.AllowedMemory.{as_before, by_argon2, nothing_taken, opens_as_before}
 use Rattle.luks_reading.proofs.laws.nothing_allowed_is_as_before.Goals as goal
 
 pub returns-clause-refusal : goal.returns-clause-refusal
@@ -6,6 +6,9 @@ returns-clause-refusal c = as_before
 
 pub returns-clause-argon2 : goal.returns-clause-argon2
 returns-clause-argon2 c = by_argon2
+
+pub returns-clause-opens : goal.returns-clause-opens
+returns-clause-opens c = opens_as_before
 
 pub returns-clause-memory : goal.returns-clause-memory
 returns-clause-memory c = nothing_taken

@@ -12,7 +12,7 @@ pub returns-in_err-slot-clause-refused : goal.returns-in_err-slot-clause-refused
 returns-in_err-slot-clause-refused g c =
     let p = err_from_is_err_and c.from_residual.result c.from_residual.ensures.1 in
     rw (p.1, p.2)
-    (λ own. entry_first c.args.header.now (g.D.Device.size c.args.device.now) c.args.n c.in_err-slot.field-0.0
+    (λ own. entry_first c.args.older c.args.header.now (g.D.Device.size c.args.device.now) c.args.n c.in_err-slot.field-0.0
     c.requires.faultless c.in_err-slot.ensures.refused)
 
 pub open_planned-requires-clause-judged : goal.open_planned-requires-clause-judged
@@ -26,7 +26,7 @@ returns-clause-opens g c = λ tells.
     let has : HasLuks1Plan c.args.header.now c.args.n c.luks1_plan-plan.result =
     record { numbered = on.numbered; is = c.luks1_plan-plan.ensures.is c.args.header.now (entry c.args.header.now c.args.n) c.requires.common on.says } in
     IfOk-weaker c.open_planned.result _ _ (λ found opens.
-    plan_opens c.args.header.now (g.D.Device.bytes c.args.device.now) c.args.n c.in_ok-slot.slot c.luks1_plan-plan.result
+    plan_opens c.args.older c.args.header.now (g.D.Device.bytes c.args.device.now) c.args.n c.in_ok-slot.slot c.luks1_plan-plan.result
     c.args.passphrase.now found c.requires.faultless on has opens)
     (c.open_planned.ensures.opens tells)
 
@@ -36,7 +36,7 @@ returns-clause-refused g c =
     let has : HasLuks1Plan c.args.header.now c.args.n c.luks1_plan-plan.result =
     record { numbered = on.numbered; is = c.luks1_plan-plan.ensures.is c.args.header.now (entry c.args.header.now c.args.n) c.requires.common on.says } in
     both_errs c.open_planned.result _ _ _ (λ fault refused no_memory own.
-    plan_first c.args.header.now (g.D.Device.size c.args.device.now) c.args.n c.in_ok-slot.slot c.luks1_plan-plan.result
+    plan_first c.args.older c.args.header.now (g.D.Device.size c.args.device.now) c.args.n c.in_ok-slot.slot c.luks1_plan-plan.result
     fault c.requires.faultless on has (refused.0 (own_of fault own no_memory)))
     c.open_planned.ensures.refused (c.open_planned.ensures.no_memory refl)
 

@@ -12,8 +12,8 @@ pub returns-in-Luks1 : goal.returns-in-Luks1
 returns-in-Luks1 c = λ v is long.
     let chosen = subst (IsHeader v) c.in-Luks1.is is in
     first_as c.args.allowed v c.args.n luks1 c.luks1_refusal.result chosen.0
-    (subst (λ (h : List ℕ). FirstRefusal (IsLuks1Refusal h (length v) c.args.n) c.luks1_refusal.result) (c.as_slice.ensures ∙ chosen.1)
-    (subst (λ (m : ℕ). FirstRefusal (IsLuks1Refusal c.as_slice.result.now m c.args.n) c.luks1_refusal.result) (sym long) c.luks1_refusal.ensures))
+    (subst (λ (h : List ℕ). FirstRefusal (IsLuks1Refusal c.args.allowed.older h (length v) c.args.n) c.luks1_refusal.result) (c.as_slice.ensures ∙ chosen.1)
+    (subst (λ (m : ℕ). FirstRefusal (IsLuks1Refusal c.args.allowed.older c.as_slice.result.now m c.args.n) c.luks1_refusal.result) (sym long) c.luks1_refusal.ensures))
 
 pub returns-in-Luks2 : goal.returns-in-Luks2
 returns-in-Luks2 c = λ v is long.

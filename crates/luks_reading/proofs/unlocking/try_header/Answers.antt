@@ -24,7 +24,7 @@ returns-in-Luks1-clause-answers g c = record {
       let begins = c.as_slice.ensures ∙ chosen.1 in
       luks1_unlocks_as c.args.allowed v p c.unlock_luks1.result chosen.0
       (IfOk-weaker c.unlock_luks1.result _ _ (λ found clear. subst (λ (h : List ℕ). (f : HeadFault) → IsCommonFault h f → ⊥) begins clear) c.unlock_luks1.ensures.unrefused)
-      (IfOk-weaker c.unlock_luks1.result _ _ (λ found tries. subst (λ (h : List ℕ). Luks1Tries h v p found) begins tries) (c.unlock_luks1.ensures.tries tells));
+      (IfOk-weaker c.unlock_luks1.result _ _ (λ found tries. subst (λ (h : List ℕ). Luks1Tries c.args.allowed.older h v p found) begins tries) (c.unlock_luks1.ensures.tries tells));
   refused = λ tells is.
       let v = g.D.Device.bytes c.args.device.now in
       let chosen = subst (IsHeader v) c.in-Luks1.is is in

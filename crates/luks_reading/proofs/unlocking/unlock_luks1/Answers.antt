@@ -24,11 +24,11 @@ returns-in-Ok-Some-clause-tries g c = λ tells.
     let p = c.args.passphrase.now in
     let n = c.loop-n.n in
     let k = c.in-Ok-Some.key in
-    let tried = subst (λ (o : Option (List ℕ)). Luks1Tried h (g.D.Device.bytes c.loop-n.device) n p o) c.in-Ok-Some.field-0-is (c.in-Ok-Some.ensures.tried tells) in
-    let opens = subst (λ (w : List ℕ). Luks1Opens h w n p (Some k)) (c.loop-n.invariant.unchanged.same tells) tried in
+    let tried = subst (λ (o : Option (List ℕ)). Luks1Tried c.args.older h (g.D.Device.bytes c.loop-n.device) n p o) c.in-Ok-Some.field-0-is (c.in-Ok-Some.ensures.tried tells) in
+    let opens = subst (λ (w : List ℕ). Luks1Opens c.args.older h w n p (Some k)) (c.loop-n.invariant.unchanged.same tells) tried in
     let low : n < 8 = omega arith in
-    first_shut (Luks1DoesNotOpen h v p) (λ m l. Luks1Opens h v m p (Some l)) (λ m. active_word (entry h m) == enabled_word) 8 n k low
-    (opened_in_use h v n p (Some k) opens) opens (λ m lt on. c.loop-n.invariant.shut tells m lt)
+    first_shut (Luks1DoesNotOpen c.args.older h v p) (λ m l. Luks1Opens c.args.older h v m p (Some l)) (λ m. active_word (entry h m) == enabled_word) 8 n k low
+    (opened_in_use c.args.older h v n p (Some k) opens) opens (λ m lt on. c.loop-n.invariant.shut tells m lt)
 
 pub loop-n-preserved : goal.loop-n-preserved
 loop-n-preserved g c = record {
@@ -38,13 +38,13 @@ loop-n-preserved g c = record {
       let h = c.args.header.now in
       let v = g.D.Device.bytes c.args.device.now in
       let p = c.args.passphrase.now in
-      let tried = subst (λ (o : Option (List ℕ)). Luks1Tried h (g.D.Device.bytes c.loop-n.device) c.loop-n.n p o) c.in-Ok-None.field-0-is (c.in-Ok-None.ensures.tried t) in
-      let here = subst (λ (w : List ℕ). Luks1DoesNotOpen h w p c.loop-n.n) (c.loop-n.invariant.unchanged.same t) tried in
-      below_more (λ m. Luks1DoesNotOpen h v p m) c.loop-n.n (c.loop-n.invariant.shut t) here;
+      let tried = subst (λ (o : Option (List ℕ)). Luks1Tried c.args.older h (g.D.Device.bytes c.loop-n.device) c.loop-n.n p o) c.in-Ok-None.field-0-is (c.in-Ok-None.ensures.tried t) in
+      let here = subst (λ (w : List ℕ). Luks1DoesNotOpen c.args.older h w p c.loop-n.n) (c.loop-n.invariant.unchanged.same t) tried in
+      below_more (λ m. Luks1DoesNotOpen c.args.older h v p m) c.loop-n.n (c.loop-n.invariant.shut t) here;
 }
 
 pub returns-clause-tries : goal.returns-clause-tries
 unfolding luks1_order
 returns-clause-tries g c = λ tells.
-    all_shut (Luks1DoesNotOpen c.args.header.now (g.D.Device.bytes c.args.device.now) c.args.passphrase.now)
+    all_shut (Luks1DoesNotOpen c.args.older c.args.header.now (g.D.Device.bytes c.args.device.now) c.args.passphrase.now)
     (λ m. active_word (entry c.args.header.now m) == enabled_word) 8 (λ m lt on. c.loop-n.invariant.shut tells m (omega arith))
