@@ -14,13 +14,13 @@ use Rattle.luks_slot.specs.declared.plan.Derivation.{Derivation}
 use Rattle.luks_slot.specs.declared.plan.Derivation.TheVariants.{Pbkdf2, Argon2}
 use Rattle.luks_slot.specs.declared.plan.SlotPlan.{SlotPlan}
 use Rattle.luks_slot.specs.Allowance.{none_allowed, without_memory}
-use Rattle.luks_slot.specs.Refusal.{are_known_hashes, is_argon2, is_open_cipher, slot_refusal, slot_refusal_within}
+use Rattle.luks_slot.specs.Refusal.{are_known_hashes, is_argon2, is_argon2_refused, is_open_cipher, slot_refusal, slot_refusal_within}
 use Rattle.luks_reading.specs.declared.open_fault.OpenFault.{OpenFault}
 use Rattle.luks_reading.specs.declared.open_fault.OpenFault.TheVariants.{Head, Meta, NoSuchSlot, SlotFree, Outside, Slot, Device, Memory}
 use Rattle.luks_reading.specs.Answer.{HasPlanAs, HasRefusedPlanWithin, IsRefusalAsWithin, OpensWithin, TakesMemory}
 use Rattle.luks_reading.specs.declared.read_fault.ReadFault.TheVariants as reading
 use Rattle.luks_reading.specs.Header.{json_at, IsReadFaultAs, TakesNoMemory}
-use Rattle.luks_reading.specs.MemoryFacts.{refusal_at_zero, still_accepted}
+use Rattle.luks_reading.specs.MemoryFacts.{argon2_at_zero, refusal_at_zero, still_accepted}
 use Rattle.luks_reading.specs.Plans.{HasLuks1Plan, HasLuks2Plan, IsLuks1Derivation}
 
 -- ---- none
@@ -63,7 +63,7 @@ unrefused_as : (v : List ℕ) (n : ℕ) (c : Choice) (plan : SlotPlan) → HasPl
     → (f : SlotFault) → slot_refusal_within none_allowed plan ≡ Some f → ⊥
 unrefused_as v n luks1 plan is clear f refused = clear (Slot f) (record { plan = plan; is = is; refused = refused })
 unrefused_as v n (luks2 o copies) plan is clear f refused = clear (Slot f) (record { plan = plan; is = is; refused = refused })
-unrefused_as v n nothing plan is clear f refused = is
+unrefused_as v n nothing plan is clear f refused = absurd is
 
 -- what opens is refused by none of them
 pub opens_as_before : (v : List ℕ) (n : ℕ) (p : List ℕ) (found : Option (List ℕ)) (x : OpensWithin none_allowed v n p found) → slot_refusal x.plan ≡ None
@@ -74,14 +74,18 @@ luks1_never : (h e : List ℕ) (d : Derivation) → IsLuks1Derivation h e d → 
 luks1_never h e (Pbkdf2 k i s) x is = cc
 luks1_never h e (Argon2 c) x is = x
 
-taken_as : (v : List ℕ) (n : ℕ) (c : Choice) (plan : SlotPlan) → HasPlanAs v n c plan → ((f : OpenFault) → IsRefusalAsWithin none_allowed v n c f → ⊥)
-    → is_argon2 plan.derivation ≡ true → ⊥
-taken_as v n luks1 plan is clear argon2 = luks1_never (part v 0 592) (entry (part v 0 592) n) plan.derivation is.is.derivation argon2
-taken_as v n (luks2 o copies) plan is clear argon2 = unrefused_as v n (luks2 o copies) plan is clear fault.Argon2 (refusal_at_zero plan ∙ stands plan argon2)
-taken_as v n nothing plan is clear argon2 = is
+stands_within : (allowed : Allowed) (plan : SlotPlan) → allowed.memory ≡ 0 → is_argon2 plan.derivation ≡ true → slot_refusal_within allowed plan ≡ Some fault.Argon2
+stands_within allowed plan none is = let refused = ap (λ kib. is_argon2_refused kib plan.derivation) none ∙ argon2_at_zero plan.derivation is in simp refused
 
-pub nothing_taken : (v : List ℕ) (n : ℕ) → TakesMemory none_allowed v n → ⊥
-nothing_taken v n x = taken_as v n x.choice x.plan x.is x.unrefused x.argon2
+taken_as : (allowed : Allowed) (v : List ℕ) (n : ℕ) (c : Choice) (plan : SlotPlan) → HasPlanAs v n c plan → ((f : OpenFault) → IsRefusalAsWithin allowed v n c f → ⊥)
+    → allowed.memory ≡ 0 → is_argon2 plan.derivation ≡ true → ⊥
+taken_as allowed v n luks1 plan is clear none argon2 = luks1_never (part v 0 592) (entry (part v 0 592) n) plan.derivation is.is.derivation argon2
+taken_as allowed v n (luks2 o copies) plan is clear none argon2 =
+    clear (Slot fault.Argon2) (record { plan = plan; is = is; refused = stands_within allowed plan none argon2 })
+taken_as allowed v n nothing plan is clear none argon2 = is
+
+pub nothing_taken : (allowed : Allowed) (v : List ℕ) (n : ℕ) → allowed.memory ≡ 0 → TakesMemory allowed v n → ⊥
+nothing_taken allowed v n none x = taken_as allowed v n x.choice x.plan x.is x.unrefused none x.argon2
 
 -- none is taken of a volume that takes none
 none_taken_as : (allowed : Allowed) (v : List ℕ) (n : ℕ) (x : TakesMemory allowed v n) (c : Choice) → x.choice ≡ c → (f : HeadFault) → IsReadFaultAs v c (reading.Head f) → ⊥

@@ -12,10 +12,18 @@ use Rattle.luks_slot.specs.declared.plan.Derivation.TheVariants.{Pbkdf2, Argon2}
 use Rattle.luks_slot.specs.declared.plan.SlotPlan.{SlotPlan}
 use Rattle.luks_slot.specs.Allowance.{none_allowed}
 use Rattle.luks_slot.proofs.DerivationFacts as Slots
-use Rattle.luks_slot.specs.Refusal.{are_known_hashes, is_allowed_cipher, is_argon2_refused, is_key_size, is_known_derivation, is_known_hash, is_older_cipher, slot_refusal, slot_refusal_within}
+use Rattle.luks_slot.specs.Refusal.{are_known_hashes, is_allowed_cipher, is_argon2, is_argon2_refused, is_key_size, is_known_derivation, is_known_hash, is_older_cipher, slot_refusal, slot_refusal_within}
 
 pub refusal_at_zero : (plan : SlotPlan) → slot_refusal_within none_allowed plan ≡ slot_refusal plan
 refusal_at_zero = Slots.refusal_at_zero
+
+refused_at_zero : (m c salt : ℕ) → (nat_lt 0 m || nat_lt m (8 * c) || nat_lt c 1 || nat_lt (2 ^ 24 - 1) c || nat_lt salt 8) ≡ true
+refused_at_zero m c salt = grind (arith, nat_tests)
+
+-- without memory no derivation is by Argon2 that isn't refused
+pub argon2_at_zero : (d : Derivation) → is_argon2 d ≡ true → is_argon2_refused 0 d ≡ true
+argon2_at_zero (Pbkdf2 h i s) is = absurd (cc)
+argon2_at_zero (Argon2 a) is = refused_at_zero a.memory a.cpus (length a.salt.now)
 
 -- ---- more memory
 

@@ -61,7 +61,7 @@ pub fn one_unlocking()
 
 /// Where nothing is allowed, the plan of a keyslot is refused exactly as it is without Argon2 and
 /// without older ciphers and hashes: of LUKS2 `Argon2` stands exactly where it derives by that. What
-/// opens then is refused by none of these, and no keyslot takes memory.
+/// opens then is refused by none of these. No keyslot takes memory where none is allowed.
 pub fn nothing_allowed_is_as_before()
     ensures refusal { (plans : ThePlan → Type 0) (f : SlotFault)
         → HasRefusedPlanWithin none_allowed plans f
@@ -71,7 +71,8 @@ pub fn nothing_allowed_is_as_before()
         ↔ ((plan : ThePlan) × (HasLuks2Plan json n plan × (is_argon2 plan.derivation ≡ true))) }
     ensures opens { (v : List ℕ) (n : ℕ) (p : List ℕ) (found : Option (List ℕ))
         → (x : OpensWithin none_allowed v n p found) → slot_refusal x.plan ≡ None }
-    ensures memory { (v : List ℕ) (n : ℕ) → TakesMemory none_allowed v n → ⊥ }
+    ensures memory { (allowed : TheAllowed) (v : List ℕ) (n : ℕ) → allowed.memory ≡ 0
+        → TakesMemory allowed v n → ⊥ }
 {}
 
 /// What a keyslot opens to where so much is allowed, a key or none, it opens to where more is.
