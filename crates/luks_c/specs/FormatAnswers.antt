@@ -3,6 +3,7 @@ use Rattle.std.specs.Prelude.{◌≡◌, ℕ, ◌≤◌, List, Option}
 use Rattle.luks_area.specs.First.{IsLeast}
 use Rattle.luks_kdf.specs.declared.hash_name.HashName.{HashName}
 use Rattle.luks_kdf.specs.declared.hash_name.HashName.TheVariants.{Sha1, Sha256, Sha512}
+use Rattle.luks_slot.specs.declared.allowed.Allowed.{Allowed}
 use Rattle.luks_reading.specs.declared.format.Format.{Format}
 use Rattle.luks_making.specs.Derivations.{memory_by}
 use Rattle.luks_making.specs.declared.derivation.NewDerivation.{NewDerivation}
@@ -44,11 +45,12 @@ pub record IsMade1 (payload : Data) (format : Format) (passphrase random old : L
   pub opened : Answer w 0 passphrase (opens (volume_key random))
   pub slot : number ≡ 0
 
--- one of LUKS2, whose keyslot 0 is derived as is chosen, and opens wherever as much memory is allowed as it takes
+-- one of LUKS2, whose keyslot 0 is derived as is chosen, and opens wherever as much memory is allowed as it takes, with
+-- older ciphers and hashes or without
 pub record IsMade2 (payload : Data) (format : Format) (chosen : Option NewDerivation) (passphrase random old : List ℕ) (number : ℕ) (w : List ℕ) : Type 0 where
   pub is : IsFormatted2By payload format chosen passphrase random old w
   pub well_formed : WellFormed w payload
-  pub opened : (memory : ℕ) → memory_by (slot_derivation format chosen) ≤ memory → AnswerWithin memory w 0 passphrase (opens (volume_key random))
+  pub opened : (allowed : Allowed) → memory_by (slot_derivation format chosen) ≤ allowed.memory → AnswerWithin allowed w 0 passphrase (opens (volume_key random))
   pub slot : number ≡ 0
 
 -- the first of the faults has this number

@@ -1,5 +1,6 @@
 -- What `luks_unlock_bytes` and `luks_open_bytes` answer.
 use Rattle.std.specs.Prelude.{◌≡◌, ◌≢◌, ℕ, ◌≤◌, ◌<◌, List, ◌⊎◌, length, Some, None}
+use Rattle.luks_slot.specs.declared.allowed.Allowed.{Allowed}
 use Rattle.luks_reading.specs.declared.open_fault.OpenFault.{OpenFault}
 use Rattle.luks_reading.specs.Answer.{AnswerWithin, IsRefusedByWithin, no_key, opens}
 use Rattle.luks_reading.specs.Unlocking.{IsVolumeRefusedBy, Unlocks}
@@ -36,9 +37,9 @@ pub record Answers (opens_by : ℕ → List ℕ → Type 0) (shut : Type 0) (ref
   pub kept : number ≢ 0 → new ≡ old
 
 -- of the volume `v`, opened by the first keyslot that opens
-abbrev pub AnswersUnlock : ℕ → List ℕ → List ℕ → List ℕ → List ℕ → LuksOpened → ℕ → Type 0
-AnswersUnlock memory v p old new opened number = Answers (λ n key. Unlocks memory v p (Some (n, key))) (Unlocks memory v p None) (IsVolumeRefusedBy v) old new opened number
+abbrev pub AnswersUnlock : Allowed → List ℕ → List ℕ → List ℕ → List ℕ → LuksOpened → ℕ → Type 0
+AnswersUnlock allowed v p old new opened number = Answers (λ n key. Unlocks allowed v p (Some (n, key))) (Unlocks allowed v p None) (IsVolumeRefusedBy v) old new opened number
 
 -- of its keyslot `n`
-abbrev pub AnswersOpen : ℕ → List ℕ → ℕ → List ℕ → List ℕ → List ℕ → LuksOpened → ℕ → Type 0
-AnswersOpen memory v n p old new opened number = Answers (λ slot key. (slot ≡ n) × AnswerWithin memory v n p (opens key)) (AnswerWithin memory v n p no_key) (IsRefusedByWithin memory v n p) old new opened number
+abbrev pub AnswersOpen : Allowed → List ℕ → ℕ → List ℕ → List ℕ → List ℕ → LuksOpened → ℕ → Type 0
+AnswersOpen allowed v n p old new opened number = Answers (λ slot key. (slot ≡ n) × AnswerWithin allowed v n p (opens key)) (AnswerWithin allowed v n p no_key) (IsRefusedByWithin allowed v n p) old new opened number

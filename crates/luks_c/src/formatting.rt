@@ -14,6 +14,7 @@ use luks_c_answers::{
 use luks_formatting::format2_by;
 use luks_given::Given;
 use luks_planned::PlannedCall;
+use luks_reading::Allowed;
 use luks_volume::{Data, Format, FormatFault, HashName, NewDerivation, Passphrase, format1};
 use std::alloc::Global;
 use std::marker::Brand;
@@ -90,7 +91,10 @@ pub extern "C" fn luks_format2_bytes(
     };
     let by_ = Passphrase {
         bytes: passphrase,
-        memory,
+        allowed: Allowed {
+            memory,
+            older: false,
+        },
     };
     match format_of(first, total, hash, iterations) {
         Some(format) => make2::<Brand>(
@@ -152,7 +156,7 @@ fn make2<K: Given>(
     requires slot { told.old.slot ≡ 0 }
     ensures own { result ≢ 101 }
     ensures answers { AnswersFormat2 first.now total data_ format.now chosen
-        passphrase.now.memory passphrase.now.bytes.now random.now
+        passphrase.now.allowed.memory passphrase.now.bytes.now random.now
         (record { calls = calls.old; bytes = bytes.old })
         (record { calls = calls.new; bytes = bytes.new }) told.new result }
     ensures more { result ≡ 102 → length first.now < told.new.beyond }

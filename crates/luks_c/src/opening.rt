@@ -1,11 +1,12 @@
 //! Opening keyslots.
 ghost use Rattle.std.specs.Prelude.{◌≡◌, ◌≤◌, ◌<◌, ◌^◌, length};
 ghost use Rattle.luks_given.specs.Volume.{volume};
+ghost use Rattle.luks_c_answers.specs.Asked.{allowed_of};
 ghost use Rattle.luks_c.specs.OpenAnswers.{AnswersOpen, AnswersUnlock, IsGiven};
 
-use luks_c_answers::{BEYOND, DONE, ROOM, SHUT, USAGE, fill_front, open_number};
+use luks_c_answers::{BEYOND, DONE, ROOM, SHUT, USAGE, allowed_of, fill_front, open_number};
 use luks_given::{FirstBytes, Given};
-use luks_reading::{Key, OpenFault, open_slot, unlock};
+use luks_reading::{Allowed, Key, OpenFault, open_slot, unlock};
 use std::alloc::Global;
 use std::marker::Brand;
 
@@ -24,8 +25,9 @@ pub struct LuksOpened {
 /// Opens the volume of `total` bytes that begins with these, by the first keyslot that the passphrase
 /// opens. The volume key is put into `key`, where that has any byte.
 ///
-/// Argon2 may take `memory` KiB for each keyslot; one that takes more is passed over. Else memory is
-/// taken for the metadata of LUKS2 alone.
+/// Argon2 may take `memory` KiB for each keyslot; one that takes more is passed over, and so is one with
+/// a cipher or a hash of older disks where `older` is 0. Else memory is taken for the metadata of LUKS2
+/// alone.
 #[unsafe(no_mangle)]
 pub extern "C" fn luks_unlock_bytes(
     alloc: Global,
@@ -33,13 +35,14 @@ pub extern "C" fn luks_unlock_bytes(
     total: u64,
     passphrase: &[u8],
     memory: u32,
+    older: u32,
     key: &mut [u8],
     opened: &mut LuksOpened,
 ) -> u32
     ensures usage { total < length first.now → result ≡ 101 }
     ensures long { 2 ^ 32 ≤ length passphrase.now → result ≡ 101 }
     ensures answers { length first.now ≤ total → length passphrase.now < 2 ^ 32
-        → AnswersUnlock memory (volume first.now total) passphrase.now
+        → AnswersUnlock (allowed_of memory older) (volume first.now total) passphrase.now
         key.old key.new opened.new result }
     ensures more { result ≡ 102 → length first.now < opened.new.beyond }
     ensures within { result ≡ 102 → opened.new.beyond ≤ total }
@@ -48,7 +51,8 @@ pub extern "C" fn luks_unlock_bytes(
     if first.len() as u64 > total || passphrase.len() as u64 >= 0x1_0000_0000 {
         return USAGE;
     }
-    unlock_given::<Brand>(alloc, first, total, passphrase, memory, key, opened)
+    let allowed = allowed_of(memory, older);
+    unlock_given::<Brand>(alloc, first, total, passphrase, allowed, key, opened)
 }
 
 /// The same where not more bytes are given than there are, and the passphrase is short.
@@ -57,19 +61,19 @@ fn unlock_given<K: Given>(
     first: &[u8],
     total: u64,
     passphrase: &[u8],
-    memory: u32,
+    allowed: Allowed,
     key: &mut [u8],
     opened: &mut LuksOpened,
 ) -> u32
     requires within { length first.now ≤ total }
     requires given { K.bytes ≡ first.now }
     requires passphrase { length passphrase.now < 2 ^ 32 }
-    ensures answers { AnswersUnlock memory (volume first.now total) passphrase.now key.old key.new opened.new result }
+    ensures answers { AnswersUnlock allowed (volume first.now total) passphrase.now key.old key.new opened.new result }
     ensures more { result ≡ 102 → length first.now < opened.new.beyond }
     ensures inside { result ≡ 102 → opened.new.beyond ≤ total }
 {
     let mut device: FirstBytes<'_, K> = FirstBytes::new(first, total);
-    match unlock(alloc, &mut device, passphrase, memory) {
+    match unlock(alloc, &mut device, passphrase, allowed) {
         Ok(Some((slot, found))) => give_key(u32::from(slot), &found, key, opened),
         Ok(None) => SHUT,
         Err(OpenFault::Device) => {
@@ -90,13 +94,14 @@ pub extern "C" fn luks_open_bytes(
     n: u8,
     passphrase: &[u8],
     memory: u32,
+    older: u32,
     key: &mut [u8],
     opened: &mut LuksOpened,
 ) -> u32
     ensures usage { total < length first.now → result ≡ 101 }
     ensures long { 2 ^ 32 ≤ length passphrase.now → result ≡ 101 }
     ensures answers { length first.now ≤ total → length passphrase.now < 2 ^ 32
-        → AnswersOpen memory (volume first.now total) n passphrase.now
+        → AnswersOpen (allowed_of memory older) (volume first.now total) n passphrase.now
         key.old key.new opened.new result }
     ensures more { result ≡ 102 → length first.now < opened.new.beyond }
     ensures within { result ≡ 102 → opened.new.beyond ≤ total }
@@ -105,7 +110,8 @@ pub extern "C" fn luks_open_bytes(
     if first.len() as u64 > total || passphrase.len() as u64 >= 0x1_0000_0000 {
         return USAGE;
     }
-    open_given::<Brand>(alloc, first, total, n, passphrase, memory, key, opened)
+    let allowed = allowed_of(memory, older);
+    open_given::<Brand>(alloc, first, total, n, passphrase, allowed, key, opened)
 }
 
 /// The same where not more bytes are given than there are, and the passphrase is short.
@@ -115,19 +121,19 @@ fn open_given<K: Given>(
     total: u64,
     n: u8,
     passphrase: &[u8],
-    memory: u32,
+    allowed: Allowed,
     key: &mut [u8],
     opened: &mut LuksOpened,
 ) -> u32
     requires within { length first.now ≤ total }
     requires given { K.bytes ≡ first.now }
     requires passphrase { length passphrase.now < 2 ^ 32 }
-    ensures answers { AnswersOpen memory (volume first.now total) n passphrase.now key.old key.new opened.new result }
+    ensures answers { AnswersOpen allowed (volume first.now total) n passphrase.now key.old key.new opened.new result }
     ensures more { result ≡ 102 → length first.now < opened.new.beyond }
     ensures inside { result ≡ 102 → opened.new.beyond ≤ total }
 {
     let mut device: FirstBytes<'_, K> = FirstBytes::new(first, total);
-    match open_slot(alloc, &mut device, n, passphrase, memory) {
+    match open_slot(alloc, &mut device, n, passphrase, allowed) {
         Ok(Some(found)) => give_key(u32::from(n), &found, key, opened),
         Ok(None) => SHUT,
         Err(OpenFault::Device) => {

@@ -3,6 +3,7 @@ use Rattle.std.specs.Prelude.{◌≡◌, ℕ, ◌<◌, List, Option, Some, None}
 use Rattle.luks_edit.specs.declared.edit.Edit.{Edit}
 use Rattle.luks_edit.specs.declared.edit.Edit.TheVariants.{Add, Change, Remove, Repair, Label}
 use Rattle.luks_edit.specs.declared.edit.Passphrase.{Passphrase}
+use Rattle.luks_c_answers.specs.Asked.{allowed_of}
 use Rattle.luks_c_answers.specs.ChoiceAsked.{IsChoice}
 use Rattle.luks_c_answers.specs.declared.asking.LuksEdit.{LuksEdit}
 
@@ -15,18 +16,18 @@ abbrev pub IsMaybeSlot : ℕ → Option ℕ → Type 0
 IsMaybeSlot number None = number ≡ 4294967295
 IsMaybeSlot number (Some n) = IsSlot number n
 
--- the passphrase has these bytes, and allows so many KiB
-abbrev pub IsPassphrase : List ℕ → ℕ → Passphrase → Type 0
-IsPassphrase bytes memory p = (p.bytes.now ≡ bytes) × (p.memory ≡ memory)
+-- the passphrase has these bytes, and allows what the edit's numbers say
+abbrev pub IsPassphrase : List ℕ → LuksEdit → Passphrase → Type 0
+IsPassphrase bytes asked p = (p.bytes.now ≡ bytes) × (p.allowed ≡ allowed_of asked.memory asked.older)
 
 -- the edit is asked for, with these bytes as its old passphrase, and those as the new one or as the label
 abbrev pub IsAsked : LuksEdit → List ℕ → List ℕ → Edit → Type 0
-IsAsked asked words text (Add by_ old new to iterations derivation) = (asked.kind ≡ 1) × IsSlot asked.by_ by_ × IsPassphrase words asked.memory old
+IsAsked asked words text (Add by_ old new to iterations derivation) = (asked.kind ≡ 1) × IsSlot asked.by_ by_ × IsPassphrase words asked old
     × (new.now ≡ text) × IsMaybeSlot asked.to to × (iterations ≡ asked.iterations) × IsChoice asked.derivation derivation
-IsAsked asked words text (Change slot old new iterations derivation) = (asked.kind ≡ 2) × IsSlot asked.slot slot × IsPassphrase words asked.memory old
+IsAsked asked words text (Change slot old new iterations derivation) = (asked.kind ≡ 2) × IsSlot asked.slot slot × IsPassphrase words asked old
     × (new.now ≡ text) × (iterations ≡ asked.iterations) × IsChoice asked.derivation derivation
 IsAsked asked words text (Remove slot by_ passphrase) = (asked.kind ≡ 3) × IsSlot asked.slot slot × IsMaybeSlot asked.by_ by_
-    × IsPassphrase words asked.memory passphrase
+    × IsPassphrase words asked passphrase
 IsAsked asked words text Repair = asked.kind ≡ 4
 IsAsked asked words text (Label label) = (asked.kind ≡ 5) × (label.now ≡ text)
 

@@ -1,12 +1,12 @@
 //! What a caller asks for by numbers.
 ghost use Rattle.std.specs.Prelude.{◌≡◌, ℕ, Option, MatchResult};
 ghost use Rattle.luks_edit.specs.declared.edit.Edit.{Edit as TheEdit};
-ghost use Rattle.luks_c_answers.specs.Asked.{payload_of};
+ghost use Rattle.luks_c_answers.specs.Asked.{allowed_of, payload_of};
 ghost use Rattle.luks_c_answers.specs.ChoiceAsked.{IsChoice, IsNoChoice};
 ghost use Rattle.luks_c_answers.specs.EditAsked.{IsAsked, IsMaybeSlot, IsPassphrase, IsSlot};
 
 use luks_edit::{Argon2Costs, Edit, NewDerivation, Passphrase};
-use luks_reading::Data;
+use luks_reading::{Allowed, Data};
 
 /// The number that names no keyslot.
 const NO_SLOT: u32 = 0xFFFF_FFFF;
@@ -45,6 +45,9 @@ pub struct LuksEdit {
     pub iterations: u32,
     /// How many KiB of memory Argon2 may take.
     pub memory: u32,
+    /// Whether the ciphers and hashes of older disks are accepted of the keyslot that the passphrase
+    /// opens; 0: no.
+    pub older: u32,
     /// Of an addition and a change the new keyslot's derivation.
     pub derivation: LuksDerivation,
 }
@@ -64,7 +67,7 @@ pub fn edit_of<'a>(
 {
     let old = Passphrase {
         bytes: passphrase,
-        memory: asked.memory,
+        allowed: allowed_of(asked.memory, asked.older),
     };
     match asked.kind {
         1 => Ok(Edit::Add {
@@ -90,6 +93,16 @@ pub fn edit_of<'a>(
         4 => Ok(Edit::Repair),
         5 => Ok(Edit::Label { text }),
         _ => Err(Unasked),
+    }
+}
+
+/// What is allowed to a passphrase: so many KiB, and older ciphers and hashes where the number isn't 0.
+pub fn allowed_of(memory: u32, older: u32) -> Allowed
+    ensures { result ≡ allowed_of memory older }
+{
+    Allowed {
+        memory,
+        older: older != 0,
     }
 }
 

@@ -9,7 +9,9 @@ mod plans;
 mod texts;
 mod uses;
 
-pub use asking::{LuksDerivation, LuksEdit, Unasked, chosen_of, data_of, edit_of, number_of_slot};
+pub use asking::{
+    LuksDerivation, LuksEdit, Unasked, allowed_of, chosen_of, data_of, edit_of, number_of_slot,
+};
 pub use buffers::fill_front;
 pub use numbers::{
     BEYOND, DONE, MEMORY, ROOM, SHUT, USAGE, backup_number, check_number, convert_number,

@@ -3,6 +3,7 @@ use Rattle.std.specs.Prelude.{◌≡◌, ℕ, List, Option, true, false}
 use Rattle.luks_area.specs.First.{IsLeast}
 use Rattle.luks_area.specs.Ranges.{part}
 use Rattle.luks1_header.specs.Header1.{luks1_size}
+use Rattle.luks_slot.specs.declared.allowed.Allowed.{Allowed}
 use Rattle.luks_reading.specs.Answer.{AnswerWithin, opened_to, refused}
 use Rattle.luks_reading.specs.Checked.{WellFormed}
 use Rattle.luks_reading.specs.declared.open_fault.OpenFault.TheVariants.{NoSuchSlot}
@@ -23,9 +24,9 @@ use Rattle.luks_c_answers.specs.Plans.{AnswersPlan, Buffers}
 pub record IsConvertedTo (v random old w : List ℕ) : Type 0 where
   pub converted : IsConverted v random old w
   pub well_formed : WellFormed w Elsewhere
-  pub opens : (memory n : ℕ) (p : List ℕ) (found : Option (List ℕ)) → is_enabled (part v 0 luks1_size) n ≡ true
-      → AnswerWithin memory v n p (opened_to found) → AnswerWithin memory w n p (opened_to found)
-  pub absent : (memory n : ℕ) (p : List ℕ) → is_enabled (part v 0 luks1_size) n ≡ false → AnswerWithin memory w n p (refused NoSuchSlot)
+  pub opens : (allowed : Allowed) (n : ℕ) (p : List ℕ) (found : Option (List ℕ)) → is_enabled (part v 0 luks1_size) n ≡ true
+      → AnswerWithin allowed v n p (opened_to found) → AnswerWithin allowed w n p (opened_to found)
+  pub absent : (allowed : Allowed) (n : ℕ) (p : List ℕ) → is_enabled (part v 0 luks1_size) n ≡ false → AnswerWithin allowed w n p (refused NoSuchSlot)
 
 -- the first of the faults has this number
 pub record IsUnconvertedBy (v : List ℕ) (payload : Data) (total : ℕ) (random : List ℕ) (number : ℕ) : Type 0 where

@@ -3,6 +3,7 @@ use Rattle.std.specs.Prelude.{◌≡◌, ◌≢◌, ◌⊎◌, ◌↔◌, ℕ, �
 use Rattle.luks_area.specs.First.{IsLeast}
 use Rattle.luks_area.specs.Ranges.{part}
 use Rattle.luks_area.specs.declared.area.Area.{Area}
+use Rattle.luks_slot.specs.declared.allowed.Allowed.{Allowed}
 use Rattle.luks_reading.specs.Answer.{AnswerWithin, Opened}
 use Rattle.luks_reading.specs.Checked.{IsCheckRefusal, WellFormed}
 use Rattle.luks_reading.specs.declared.check_fault.CheckFault.{CheckFault}
@@ -33,7 +34,7 @@ use Rattle.luks_c_answers.specs.Plans.{AnswersPlan, Buffers}
 pub record IsBackedUpTo (v : List ℕ) (payload : Data) (old w : List ℕ) : Type 0 where
   pub backup : IsBackup v payload old w
   pub well_formed : WellFormed w Elsewhere
-  pub answers : (memory n : ℕ) (p : List ℕ) (a : Opened) → AnswerWithin memory v n p a ↔ AnswerWithin memory w n p a
+  pub answers : (allowed : Allowed) (n : ℕ) (p : List ℕ) (a : Opened) → AnswerWithin allowed v n p a ↔ AnswerWithin allowed w n p a
 
 -- the first of the faults has this number
 pub record IsUnkeptBy (v : List ℕ) (payload : Data) (total number : ℕ) : Type 0 where
@@ -58,7 +59,7 @@ over_asked false = SameVolume
 pub record IsRestoredTo (b : List ℕ) (payload : Data) (total : ℕ) (old w : List ℕ) : Type 0 where
   pub restored : IsRestored b old w
   pub well_formed : WellFormed w payload
-  pub answers : (memory n : ℕ) (p : List ℕ) (a : Opened) → AnswerWithin memory b n p a ↔ AnswerWithin memory w n p a
+  pub answers : (allowed : Allowed) (n : ℕ) (p : List ℕ) (a : Opened) → AnswerWithin allowed b n p a ↔ AnswerWithin allowed w n p a
   pub segments : (n : ℕ) (a : Area) → IsSegmentOn b payload total n a → part w a.start a.len ≡ part old a.start a.len
 
 -- the first of the faults has this number

@@ -2,6 +2,7 @@
 use Rattle.std.specs.Prelude.{◌≡◌, ◌≢◌, ◌↔◌, ◌==◌, ℕ, ◌<◌, ◌≤◌, List, length, if◌then◌else◌, Bool, true, false, Option, None, Some, IsUtf8}
 use Rattle.arrayvec.specs.ArrayString.{ArrayString}
 use Rattle.luks_area.specs.First.{IsLeast}
+use Rattle.luks_slot.specs.declared.allowed.Allowed.{Allowed}
 use Rattle.luks_reading.specs.Answer.{AnswerWithin, Opened}
 use Rattle.luks_reading.specs.Checked.{WellFormed}
 use Rattle.luks_reading.specs.declared.report.Data.TheVariants.{Elsewhere}
@@ -46,7 +47,7 @@ IsNoText bytes = (text : Option (List ℕ)) → IsMaybeText bytes text → ⊥
 pub record IsRebuiltTo (v : List ℕ) (which : Which) (given : Option (List ℕ)) (random old w : List ℕ) : Type 0 where
   pub rebuilt : IsRebuilt v which given random old w
   pub well_formed : WellFormed w Elsewhere
-  pub opens : OfTaken v which (λ taken. (memory n : ℕ) (p : List ℕ) (a : Opened) → Gives memory taken.json v n p a ↔ AnswerWithin memory w n p a)
+  pub opens : OfTaken v which (λ taken. (allowed : Allowed) (n : ℕ) (p : List ℕ) (a : Opened) → Gives allowed taken.json v n p a ↔ AnswerWithin allowed w n p a)
 
 -- the first of the faults has this number
 pub record IsUnbuiltBy (v : List ℕ) (which : Which) (given : Option (List ℕ)) (total : ℕ) (random : List ℕ) (number : ℕ) : Type 0 where
@@ -96,7 +97,7 @@ IsNoneGivenBy cipher_name cipher_mode hash uuid key_bytes payload =
 pub record IsRebuilt1To (v : List ℕ) (given : Given) (old w : List ℕ) : Type 0 where
   pub rebuilt : IsRebuilt1 v given old w
   pub well_formed : WellFormed w Elsewhere
-  pub opens : (memory n : ℕ) (p : List ℕ) (a : Opened) → IsKeptInUse v given n → GivesKept v given n p a ↔ AnswerWithin memory w n p a
+  pub opens : (allowed : Allowed) (n : ℕ) (p : List ℕ) (a : Opened) → IsKeptInUse v given n → GivesKept allowed.older v given n p a ↔ AnswerWithin allowed w n p a
 
 -- the first of the faults has this number
 pub record IsUnbuilt1By (v : List ℕ) (given : Given) (total number : ℕ) : Type 0 where

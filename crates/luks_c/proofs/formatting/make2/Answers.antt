@@ -14,7 +14,7 @@ returns-in-Ok-format2_by-clause-answers g c =
     let device = c.format2_by.new.device in
     let e = c.in-Ok-format2_by.ensures in
     let both = of_volume
-    (λ (n : ℕ) (o : List ℕ) (m : ℕ). HasNoFault (IsFormat2FaultBy c.args.chosen (allowed_for c.args.passphrase.now.memory c.args.passphrase.now.bytes.now) n c.args.format.now c.args.random.now)
+    (λ (n : ℕ) (o : List ℕ) (m : ℕ). HasNoFault (IsFormat2FaultBy c.args.chosen (allowed_for c.args.passphrase.now.allowed.memory c.args.passphrase.now.bytes.now) n c.args.format.now c.args.random.now)
     × IsMade2 c.args.data_ c.args.format.now c.args.chosen c.args.passphrase.now.bytes.now c.args.random.now o
     c.give_plan.new.told.slot (volume (planned_first device) m))
     (planned_size c.in-Ok.device) c.args.total (planned_size device) (planned_bytes c.in-Ok.device) (volume c.args.first.now c.args.total)
