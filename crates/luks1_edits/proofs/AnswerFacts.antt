@@ -1,6 +1,6 @@
 -- The answer of a keyslot of LUKS1 depends on the fields before the keyslots, its entry, its area and
 -- the volume's length alone.
-use Rattle.std.proofs.Common.{◌≡◌, ℕ, ◌+◌, ◌*◌, ◌<◌, ◌≤◌, ◌⊎◌, List, length, subst, sym, ap, ◌∙◌, Option, Some, None, inl, inr, lit≤}
+use Rattle.std.proofs.Common.{◌≡◌, ℕ, ◌+◌, ◌*◌, ◌<◌, ◌≤◌, ◌⊎◌, List, length, subst, sym, ap, ◌∙◌, Option, Some, None, inl, inr, lit≤, Bool}
 use Rattle.luks_area.specs.Ranges.{part}
 use Rattle.luks_area.specs.Sectors.{rounded_to_sectors}
 use Rattle.luks1_header.specs.Bytes.{number_at, text_at}
@@ -10,6 +10,7 @@ use Rattle.luks1_header.specs.declared.fault.HeadFault.{HeadFault}
 use Rattle.luks1_header.specs.declared.fault.HeadFault.TheVariants as head
 use Rattle.luks1_header.specs.declared.fault.IterationsOf.TheVariants as of
 use Rattle.luks_head.specs.Selection.{luks1, Choice, Chosen}
+use Rattle.luks_slot.specs.declared.allowed.Allowed.{Allowed}
 use Rattle.luks_slot.specs.declared.plan.AreaCipher.{AreaCipher}
 use Rattle.luks_slot.specs.declared.plan.AreaCipher.TheVariants.{Apart, Whole}
 use Rattle.luks_slot.specs.declared.plan.Derivation.{Derivation}
@@ -19,7 +20,7 @@ use Rattle.luks_slot.specs.Opening.{slot_key}
 use Rattle.luks_head.proofs.ChoiceFacts.{choices_agree}
 use Rattle.luks_reading.specs.declared.open_fault.OpenFault.{OpenFault}
 use Rattle.luks_reading.specs.declared.open_fault.OpenFault.TheVariants.{Head, Meta, NoSuchSlot, SlotFree, Outside, Slot, Device, Memory}
-use Rattle.luks_reading.specs.Answer.{Answer, AnswerWithin, IsLuks1HeadRefusal, IsLuks1Refusal, IsRefusalAs, IsRefusalWithin, IsRefusalAsWithin, HasPlanAs, Opened, Opens, refused, opens, no_key, OpensWithin}
+use Rattle.luks_reading.specs.Answer.{AnswerWithin, IsLuks1HeadRefusal, IsLuks1Refusal, IsRefusalWithin, IsRefusalAsWithin, HasPlanAs, Opened, refused, opens, no_key, OpensWithin}
 use Rattle.luks_reading.specs.Plans.{HasLuks1Plan, IsLuks1Cipher, IsLuks1Derivation, IsLuks1Plan}
 use Rattle.luks_reading.proofs.Luks1Plans.{one_luks1_plan}
 use Rattle.luks_reading.proofs.SamePlans.{same_answer}
@@ -98,16 +99,16 @@ head_moves h g n (head.Stripes m) common at x = (x.0, subst (λ e. IsEntryFault 
 head_moves h g n (head.Iterations (of.Slot m)) common at x = (x.0, subst (λ e. IsEntryFault n e (head.Iterations (of.Slot m))) (at x.0) x.1)
 head_moves h g n f common at x = common x
 
-refusal_moves : (h g : List ℕ) (total n : ℕ) (f : OpenFault) → SameFront h g → ((f : HeadFault) → IsCommonFault h f → IsCommonFault g f)
-    → (n < 8 → entry h n ≡ entry g n) → IsLuks1Refusal h total n f → IsLuks1Refusal g total n f
-refusal_moves h g total n (Head f) same common at x = head_moves h g n f (common f) at x
-refusal_moves h g total n (Meta f) same common at x = x
-refusal_moves h g total n NoSuchSlot same common at x = x
-refusal_moves h g total n SlotFree same common at x = (x.0, ap active_word (sym (at x.0)) ∙ x.1)
-refusal_moves h g total n Outside same common at x = record { plan = x.plan; is = has_plan_moves h g n x.plan same at x.is; past = x.past }
-refusal_moves h g total n (Slot f) same common at x = record { plan = x.plan; is = has_plan_moves h g n x.plan same at x.is; refused = x.refused }
-refusal_moves h g total n Device same common at x = x
-refusal_moves h g total n Memory same common at x = x
+refusal_moves : (older : Bool) (h g : List ℕ) (total n : ℕ) (f : OpenFault) → SameFront h g → ((f : HeadFault) → IsCommonFault h f → IsCommonFault g f)
+    → (n < 8 → entry h n ≡ entry g n) → IsLuks1Refusal older h total n f → IsLuks1Refusal older g total n f
+refusal_moves older h g total n (Head f) same common at x = head_moves h g n f (common f) at x
+refusal_moves older h g total n (Meta f) same common at x = x
+refusal_moves older h g total n NoSuchSlot same common at x = x
+refusal_moves older h g total n SlotFree same common at x = (x.0, ap active_word (sym (at x.0)) ∙ x.1)
+refusal_moves older h g total n Outside same common at x = record { plan = x.plan; is = has_plan_moves h g n x.plan same at x.is; past = x.past }
+refusal_moves older h g total n (Slot f) same common at x = record { plan = x.plan; is = has_plan_moves h g n x.plan same at x.is; refused = x.refused }
+refusal_moves older h g total n Device same common at x = x
+refusal_moves older h g total n Memory same common at x = x
 
 -- ---- volumes
 
@@ -130,21 +131,21 @@ same_keyslot_back n v w same = record {
 }
 
 -- what refuses the keyslot in one of the headers does in the other
-luks1_refusal_moves : (n : ℕ) (v w : List ℕ) (f : OpenFault) → HasSameKeyslot n v w
-    → IsLuks1Refusal (part v 0 592) (length v) n f → IsLuks1Refusal (part w 0 592) (length w) n f
-luks1_refusal_moves n v w f same x =
-    subst (λ t. IsLuks1Refusal (part w 0 592) t n f) (sym same.length_same)
-    (refusal_moves (part v 0 592) (part w 0 592) (length v) n f (same_front v w same.common) (common_moves v w same.common) (entries_same n v w same) x)
+luks1_refusal_moves : (older : Bool) (n : ℕ) (v w : List ℕ) (f : OpenFault) → HasSameKeyslot n v w
+    → IsLuks1Refusal older (part v 0 592) (length v) n f → IsLuks1Refusal older (part w 0 592) (length w) n f
+luks1_refusal_moves older n v w f same x =
+    subst (λ t. IsLuks1Refusal older (part w 0 592) t n f) (sym same.length_same)
+    (refusal_moves older (part v 0 592) (part w 0 592) (length v) n f (same_front v w same.common) (common_moves v w same.common) (entries_same n v w same) x)
 
-is_refusal_moves : (memory n : ℕ) (v w : List ℕ) (f : OpenFault) → Chosen v luks1 → HasSameKeyslot n v w → IsRefusalWithin memory v n f → IsRefusalWithin memory w n f
-is_refusal_moves memory n v w f chosen same x = record {
+is_refusal_moves : (allowed : Allowed) (n : ℕ) (v w : List ℕ) (f : OpenFault) → Chosen v luks1 → HasSameKeyslot n v w → IsRefusalWithin allowed v n f → IsRefusalWithin allowed w n f
+is_refusal_moves allowed n v w f chosen same x = record {
   choice = luks1;
   chosen = chosen_moves v w same.length_same same.common chosen;
-  fault = luks1_refusal_moves n v w f same (subst (λ c. IsRefusalAsWithin memory v n c f) (choices_agree v x.choice luks1 x.chosen chosen) x.fault);
+  fault = luks1_refusal_moves allowed.older n v w f same (subst (λ c. IsRefusalAsWithin allowed v n c f) (choices_agree v x.choice luks1 x.chosen chosen) x.fault);
 }
 
-opens_moves : (memory n : ℕ) (v w p : List ℕ) (found : Option (List ℕ)) → Chosen v luks1 → HasSameKeyslot n v w → OpensWithin memory v n p found → OpensWithin memory w n p found
-opens_moves memory n v w p found chosen same x =
+opens_moves : (allowed : Allowed) (n : ℕ) (v w p : List ℕ) (found : Option (List ℕ)) → Chosen v luks1 → HasSameKeyslot n v w → OpensWithin allowed v n p found → OpensWithin allowed w n p found
+opens_moves allowed n v w p found chosen same x =
     let one = choices_agree v x.choice luks1 x.chosen chosen in
     let there : HasLuks1Plan (part v 0 592) n x.plan = subst (λ c. HasPlanAs v n c x.plan) one x.is in
     let start : x.plan.area.start ≡ area_start v n = there.is.start ∙ start_is v n there.numbered in
@@ -157,36 +158,36 @@ opens_moves memory n v w p found chosen same x =
       chosen = chosen_moves v w same.length_same same.common chosen;
       plan = x.plan;
       is = has_plan_moves (part v 0 592) (part w 0 592) n x.plan (same_front v w same.common) (entries_same n v w same) there;
-      unrefused = λ f y. x.unrefused f (subst (λ c. IsRefusalAsWithin memory v n c f) (sym one) (luks1_refusal_moves n w v f (same_keyslot_back n v w same) y));
+      unrefused = λ f y. x.unrefused f (subst (λ c. IsRefusalAsWithin allowed v n c f) (sym one) (luks1_refusal_moves allowed.older n w v f (same_keyslot_back n v w same) y));
       key = ap (λ b. slot_key x.plan b p) bytes ∙ x.key;
     }
 
 -- the answer depends on these bytes alone
-pub answer_moves : (memory n : ℕ) (v w p : List ℕ) (a : Opened) → Chosen v luks1 → HasSameKeyslot n v w → AnswerWithin memory v n p a → AnswerWithin memory w n p a
-answer_moves memory n v w p (refused f) chosen same x = (
-  is_refusal_moves memory n v w f chosen same x.0,
-  λ g y. x.1 g (is_refusal_moves memory n w v g (chosen_moves v w same.length_same same.common chosen) (same_keyslot_back n v w same) y),
+pub answer_moves : (allowed : Allowed) (n : ℕ) (v w p : List ℕ) (a : Opened) → Chosen v luks1 → HasSameKeyslot n v w → AnswerWithin allowed v n p a → AnswerWithin allowed w n p a
+answer_moves allowed n v w p (refused f) chosen same x = (
+  is_refusal_moves allowed n v w f chosen same x.0,
+  λ g y. x.1 g (is_refusal_moves allowed n w v g (chosen_moves v w same.length_same same.common chosen) (same_keyslot_back n v w same) y),
 )
-answer_moves memory n v w p (opens k) chosen same x = opens_moves memory n v w p (Some k) chosen same x
-answer_moves memory n v w p no_key chosen same x = opens_moves memory n v w p None chosen same x
+answer_moves allowed n v w p (opens k) chosen same x = opens_moves allowed n v w p (Some k) chosen same x
+answer_moves allowed n v w p no_key chosen same x = opens_moves allowed n v w p None chosen same x
 
 -- and so it does the other way round
-pub answer_returns : (memory n : ℕ) (v w p : List ℕ) (a : Opened) → Chosen v luks1 → HasSameKeyslot n v w → AnswerWithin memory w n p a → AnswerWithin memory v n p a
-answer_returns memory n v w p a chosen same x =
-    answer_moves memory n w v p a (chosen_moves v w same.length_same same.common chosen) (same_keyslot_back n v w same) x
+pub answer_returns : (allowed : Allowed) (n : ℕ) (v w p : List ℕ) (a : Opened) → Chosen v luks1 → HasSameKeyslot n v w → AnswerWithin allowed w n p a → AnswerWithin allowed v n p a
+answer_returns allowed n v w p a chosen same x =
+    answer_moves allowed n w v p a (chosen_moves v w same.length_same same.common chosen) (same_keyslot_back n v w same) x
 
 -- ---- one answer
 
 luks1_plan_of : (v : List ℕ) (n : ℕ) (c : Choice) (plan : SlotPlan) → Chosen v luks1 → Chosen v c → HasPlanAs v n c plan → HasLuks1Plan (part v 0 592) n plan
 luks1_plan_of v n c plan chosen counts is = subst (λ d. HasPlanAs v n d plan) (choices_agree v c luks1 counts chosen) is
 
--- a keyslot gives one key or none
-pub found_once : (v : List ℕ) → Chosen v luks1 → (n : ℕ) (p : List ℕ) (a b : Option (List ℕ)) → Opens v n p a → Opens v n p b → a ≡ b
-found_once v chosen n p a b x y =
+-- a keyslot gives one key or none, whatever is allowed
+pub found_once : (v : List ℕ) → Chosen v luks1 → (less more : Allowed) (n : ℕ) (p : List ℕ) (a b : Option (List ℕ)) → OpensWithin less v n p a → OpensWithin more v n p b → a ≡ b
+found_once v chosen less more n p a b x y =
     sym x.key
     ∙ same_answer x.plan y.plan v p (one_luks1_plan (part v 0 592) n x.plan y.plan (luks1_plan_of v n x.choice x.plan chosen x.chosen x.is) (luks1_plan_of v n y.choice y.plan chosen y.chosen y.is))
     ∙ y.key
 
 -- and then no refusal
-pub found_unrefused : (v : List ℕ) (n : ℕ) (p : List ℕ) (found : Option (List ℕ)) (f : OpenFault) → Opens v n p found → Answer v n p (refused f) → ⊥
-found_unrefused v n p found f x y = x.unrefused f (subst (λ c. IsRefusalAs v n c f) (choices_agree v y.0.choice x.choice y.0.chosen x.chosen) y.0.fault)
+pub found_unrefused : (allowed : Allowed) (v : List ℕ) (n : ℕ) (p : List ℕ) (found : Option (List ℕ)) (f : OpenFault) → OpensWithin allowed v n p found → AnswerWithin allowed v n p (refused f) → ⊥
+found_unrefused allowed v n p found f x y = x.unrefused f (subst (λ c. IsRefusalAsWithin allowed v n c f) (choices_agree v y.0.choice x.choice y.0.chosen x.chosen) y.0.fault)

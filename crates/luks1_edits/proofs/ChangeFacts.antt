@@ -1,5 +1,5 @@
 -- A change: after a keyslot was made, another one is removed.
-use Rattle.std.proofs.Common.{◌≡◌, ℕ, ◌*◌, ◌<◌, List, length, replicate, take, drop, subst, refl, sym, ap, ◌∙◌, arith, inl, inr, lit≤}
+use Rattle.std.proofs.Common.{◌≡◌, ℕ, ◌*◌, ◌<◌, List, length, replicate, take, drop, subst, refl, sym, ap, ◌∙◌, arith, inl, inr, lit≤, Bool}
 use Rattle.luks_area.specs.declared.area.Area.{Area}
 use Rattle.luks_area.specs.Area.{Fit}
 use Rattle.luks_area.specs.Ranges.{part, IsAt, SameBut}
@@ -8,9 +8,10 @@ use Rattle.luks_area.specs.Sectors.{rounded_to_sectors}
 use Rattle.luks1_header.specs.Bytes.{number_at}
 use Rattle.luks1_header.specs.Header1.{entry, entry_stripes, HoldsEntry}
 use Rattle.luks1_header.specs.declared.luks1.Luks1Slot.{Luks1Slot}
+use Rattle.luks_slot.specs.Allowance.{without_memory}
 use Rattle.luks_slot.specs.Sealing.{IsSealed}
 use Rattle.luks_reading.specs.declared.report.Data.{Data}
-use Rattle.luks_reading.specs.Answer.{Answer, opens}
+use Rattle.luks_reading.specs.Answer.{AnswerWithin, opens}
 use Rattle.luks_reading.specs.Layout1.{Luks1Area}
 use Rattle.luks1_edits.specs.Accepted.{IsHeaderOf}
 use Rattle.luks1_edits.specs.Edited.{HoldsKey, IsChanged, IsFreed, IsInUse, IsLeastFree, IsMade, IsRemoved, IsWiped}
@@ -139,7 +140,7 @@ module _ (h : List ℕ) (payload : Data) (v : List ℕ) (of : IsHeaderOf h paylo
         (subst (λ s. part w s (area_len u slot) ≡ replicate (area_len u slot) 0) start_same x.wiped)
 
   -- after both
-  pub changed : (old w : List ℕ) → Answer v slot old (opens key) → IsRemoved u slot w → IsChanged v slot old p iterations random w
+  pub changed : {older : Bool} (old w : List ℕ) → AnswerWithin (without_memory older) v slot old (opens key) → IsRemoved u slot w → IsChanged older v slot old p iterations random w
   changed old w opened x = record {
     fresh = n;
     is_free = least;
@@ -153,7 +154,7 @@ module _ (h : List ℕ) (payload : Data) (v : List ℕ) (of : IsHeaderOf h paylo
   }
 
   -- while the other one was removed
-  pub half_changed : (old w : List ℕ) → Answer v slot old (opens key) → IsHalfRemoved u slot w → IsHalfChanged v slot old p iterations random w
+  pub half_changed : {older : Bool} (old w : List ℕ) → AnswerWithin (without_memory older) v slot old (opens key) → IsHalfRemoved u slot w → IsHalfChanged older v slot old p iterations random w
   half_changed old w opened x = record {
     fresh = n;
     is_free = least;

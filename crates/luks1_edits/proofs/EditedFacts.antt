@@ -1,5 +1,5 @@
 -- What holds of a LUKS1 volume after an edit that nothing refused, done or ended by the device.
-use Rattle.std.proofs.Common.{◌≡◌, ℕ, ◌<◌, ◌≤◌, ◌⊎◌, List, length, true, replicate, take, drop, subst, refl, sym, ap, ◌∙◌, arith, inl, inr, Option, Some, None}
+use Rattle.std.proofs.Common.{◌≡◌, ℕ, ◌<◌, ◌≤◌, ◌⊎◌, List, length, true, replicate, take, drop, subst, refl, sym, ap, ◌∙◌, arith, inl, inr, Option, Some, None, Bool}
 use Rattle.std.proofs.lemmas.Bool.{cases_lt, cases_eq, false_from_ne_true, ltb-false}
 use Rattle.std.proofs.lemmas.Option.{same_Some}
 use Rattle.luks_area.specs.declared.area.Area.{Area}
@@ -14,8 +14,10 @@ use Rattle.luks_head.specs.Selection.{luks1, Chosen}
 use Rattle.luks_making.specs.Derivations.{few_turns_or, takes_memory}
 use Rattle.luks_making.specs.declared.derivation.NewDerivation.{NewDerivation}
 use Rattle.luks_making.specs.declared.derivation.NewDerivation.TheVariants.{Pbkdf2, Argon2i, Argon2id}
+use Rattle.luks_slot.specs.declared.allowed.Allowed.{Allowed}
+use Rattle.luks_slot.specs.Allowance.{without_memory}
 use Rattle.luks_reading.specs.declared.report.Data.{Data}
-use Rattle.luks_reading.specs.Answer.{Answer, opens}
+use Rattle.luks_reading.specs.Answer.{AnswerWithin, opens}
 use Rattle.luks_reading.specs.Checked.{AreaOf, WellFormed}
 use Rattle.luks_reading.specs.Layout1.{Luks1Area}
 use Rattle.luks_edit.specs.declared.edit.Edit.{Edit}
@@ -184,36 +186,36 @@ module _ (payload : Data) (v : List ℕ) (chosen : Chosen v luks1) (well : WellF
 
   -- ---- what opens
 
-  -- a keyslot that was made opens to each key that the opener opened to
-  made_to : (opener : ℕ) (old : List ℕ) (fresh iterations : ℕ) (salt new key other random w : List ℕ) → fresh < 8 → 1000 ≤ iterations
+  -- a keyslot that was made opens to each key that the opener opened to, whatever is allowed
+  made_to : (older : Bool) (allowed : Allowed) (opener : ℕ) (old : List ℕ) (fresh iterations : ℕ) (salt new key other random w : List ℕ) → fresh < 8 → 1000 ≤ iterations
       → (a b : ℕ) → a < 8 → b < 8 → SameBut (IsOfKeyslots v (IsEither a b)) v w
       → IsMade (entry v fresh) (entry w fresh) iterations salt → HoldsKey w fresh new key random
-      → Answer v opener old (opens key) → Answer v opener old (opens other) → Answer w fresh new (opens other)
-  made_to opener old fresh iterations salt new key other random w lt many a b lta ltb rest made holds opened again =
-      let same = same_Some key other (found_once v chosen opener old (Some key) (Some other) opened again) in
-      let x : IsMadeFrom payload v opener old fresh iterations salt new key random w = record {
+      → AnswerWithin (without_memory older) v opener old (opens key) → AnswerWithin allowed v opener old (opens other) → AnswerWithin allowed w fresh new (opens other)
+  made_to older allowed opener old fresh iterations salt new key other random w lt many a b lta ltb rest made holds opened again =
+      let same = same_Some key other (found_once v chosen (without_memory older) allowed opener old (Some key) (Some other) opened again) in
+      let x : IsMadeFrom allowed payload v opener old fresh iterations salt new key random w = record {
         chosen = chosen;
         well = well;
         length_same = rest.length_same;
         common = kept_common v payload (volume_of v payload chosen well).fit w (IsEither a b) (either_keyslots a b lta ltb) rest;
-        opened = opened;
+        opened = subst (λ k. AnswerWithin allowed v opener old (opens k)) (sym same) again;
         numbered = lt;
         iterated = omega (arith, many);
         made = made;
         holds = holds;
       } in
-      subst (λ k. Answer w fresh new (opens k)) same (made_opens payload v opener old fresh iterations salt new key random w x)
+      subst (λ k. AnswerWithin allowed w fresh new (opens k)) same (made_opens allowed payload v opener old fresh iterations salt new key random w x)
 
   pub opens_after : (e : Edit) (r w : List ℕ) → IsUnrefused1 v payload e r → After1 v e r w → OpensAfter1 v e w
-  opens_after (Add by_ old new to iterations d) r w free x = λ n key is opened.
+  opens_after (Add by_ old new to iterations d) r w free x = λ allowed n key is opened.
       let lt : x.slot < 8 = named_numbered v payload (Add by_ old new to iterations d) r free x.slot x.is_new in
-      subst (λ k. Answer w k new.now (opens key)) (new_once v to x.slot n x.is_new is)
-      (made_to by_ old.bytes.now x.slot (iterations_or iterations d) (take 32 r) new.now x.key key (drop 32 r) w lt (enough iterations d (λ few. free.none fault.Iterations few) (λ argon2. free.none fault.Argon2 argon2))
+      subst (λ k. AnswerWithin allowed w k new.now (opens key)) (new_once v to x.slot n x.is_new is)
+      (made_to old.allowed.older allowed by_ old.bytes.now x.slot (iterations_or iterations d) (take 32 r) new.now x.key key (drop 32 r) w lt (enough iterations d (λ few. free.none fault.Iterations few) (λ argon2. free.none fault.Argon2 argon2))
       x.slot x.slot lt lt x.rest x.made x.holds x.opened opened)
-  opens_after (Change slot old new iterations d) r w free x = λ n key is opened.
+  opens_after (Change slot old new iterations d) r w free x = λ allowed n key is opened.
       let used : slot < 8 = named_numbered v payload (Change slot old new iterations d) r free slot (inl refl) in
-      subst (λ k. Answer w k new.now (opens key)) (least_free_once v x.fresh n x.is_free is)
-      (made_to slot old.bytes.now x.fresh (iterations_or iterations d) (take 32 r) new.now x.key key (drop 32 r) w x.is_free.free.0 (enough iterations d (λ few. free.none fault.Iterations few) (λ argon2. free.none fault.Argon2 argon2))
+      subst (λ k. AnswerWithin allowed w k new.now (opens key)) (least_free_once v x.fresh n x.is_free is)
+      (made_to old.allowed.older allowed slot old.bytes.now x.fresh (iterations_or iterations d) (take 32 r) new.now x.key key (drop 32 r) w x.is_free.free.0 (enough iterations d (λ few. free.none fault.Iterations few) (λ argon2. free.none fault.Argon2 argon2))
       slot x.fresh used x.is_free.free.0 x.rest x.made x.holds x.opened opened)
   opens_after (Remove slot by_ passphrase) r w free x = tt
   opens_after Repair r w free x = tt
@@ -223,22 +225,22 @@ module _ (payload : Data) (v : List ℕ) (chosen : Chosen v luks1) (well : WellF
 
   opens_either : (e : Edit) (r w : List ℕ) → IsUnrefused1 v payload e r → IsTorn1 v e r w → OpensEither1 v e w
   opens_either (Add by_ old new to iterations d) r w free x = tt
-  opens_either (Change slot old new iterations d) r w free (inl x) = λ key opened.
+  opens_either (Change slot old new iterations d) r w free (inl x) = λ allowed key opened.
       let used = in_use v slot (λ not. free.none fault.NoSuchSlot (record { slot = slot; wanted = refl; unused = not })) in
       let lt : x.slot < 8 = x.is_new.free.0 in
       let other : IsEither x.slot x.slot slot → ⊥ = λ either.
       let one : slot ≡ x.slot = elim either [ inl y ↦ y | inr y ↦ y ] in
       let two : enabled_word ≡ disabled_word = sym used.1 ∙ ap (λ k. active_word (entry v k)) one ∙ x.is_new.free.1 in
       omega (arith, two) in
-      inl (answer_moves 0 slot v w old.bytes.now (opens key) chosen
+      inl (answer_moves allowed slot v w old.bytes.now (opens key) chosen
       (same_keyslot v payload (volume_of v payload chosen well).fit w (IsEither x.slot x.slot) (either_keyslots x.slot x.slot lt lt) (half_made_rest x.order) slot other) opened)
-  opens_either (Change slot old new iterations d) r w free (inr x) = λ key opened.
+  opens_either (Change slot old new iterations d) r w free (inr x) = λ allowed key opened.
       let used : slot < 8 = named_numbered v payload (Change slot old new iterations d) r free slot (inl refl) in
       inr (
         x.fresh,
         (
           x.is_free,
-          made_to slot old.bytes.now x.fresh (iterations_or iterations d) (take 32 r) new.now x.key key (drop 32 r) w x.is_free.free.0 (enough iterations d (λ few. free.none fault.Iterations few) (λ argon2. free.none fault.Argon2 argon2))
+          made_to old.allowed.older allowed slot old.bytes.now x.fresh (iterations_or iterations d) (take 32 r) new.now x.key key (drop 32 r) w x.is_free.free.0 (enough iterations d (λ few. free.none fault.Iterations few) (λ argon2. free.none fault.Argon2 argon2))
               slot x.fresh used x.is_free.free.0 x.rest x.made x.holds x.opened opened,
         ),
       )
@@ -248,7 +250,7 @@ module _ (payload : Data) (v : List ℕ) (chosen : Chosen v luks1) (well : WellF
 
   same_opens : (e : Edit) → OpensEither1 v e v
   same_opens (Add by_ old new to iterations d) = tt
-  same_opens (Change slot old new iterations d) = λ key opened. inl opened
+  same_opens (Change slot old new iterations d) = λ allowed key opened. inl opened
   same_opens (Remove slot by_ passphrase) = tt
   same_opens Repair = tt
   same_opens (Label text) = tt

@@ -191,7 +191,7 @@ module _ (payload : Data) (named : ℕ → Type 0) (v w : List ℕ) (x : Changes
           λ is. absurd (no_value v x.chosen is.place is.copies is.chosen),
           λ is. absurd (no_value w luks1_after is.place is.copies is.chosen),
         );
-        answers = λ memory p a. (answer_moves memory n v w p a x.chosen same, answer_returns memory n v w p a x.chosen same);
+        answers = λ allowed p a. (answer_moves allowed n v w p a x.chosen same, answer_returns allowed n v w p a x.chosen same);
       }
 
   pub keeps_others : KeepsOthers payload named v w

@@ -1,5 +1,5 @@
 -- A keyslot that was made opens by its passphrase to the key that another one opened.
-use Rattle.std.proofs.Common.{◌≡◌, ℕ, ◌*◌, ◌<◌, ◌≤◌, List, length, subst, refl, sym, ap, ◌∙◌, arith, inl, inr, true, Bool, Some, None, lit≤}
+use Rattle.std.proofs.Common.{◌≡◌, ℕ, ◌*◌, ◌<◌, ◌≤◌, List, length, subst, refl, sym, ap, ◌∙◌, arith, inl, inr, true, false, Bool, Some, None, lit≤}
 use Rattle.std.specs.Prelude.{if◌then◌else◌}
 use Rattle.std.proofs.lemmas.Bool.{cases_eq}
 use Rattle.luks_area.specs.Ranges.{part}
@@ -17,8 +17,10 @@ use Rattle.luks_slot.specs.declared.plan.Derivation.{Derivation}
 use Rattle.luks_slot.specs.declared.plan.Derivation.TheVariants.{Pbkdf2, Argon2}
 use Rattle.luks_slot.specs.declared.plan.SlotPlan.{SlotPlan}
 use Rattle.luks_slot.specs.Opening.{meets_digest, slot_key}
-use Rattle.luks_slot.specs.Refusal.{is_argon2, is_known_derivation, is_open_cipher, slot_refusal}
-use Rattle.luks_kdf.specs.Names.{digest_size_of, each_at_least, hash_of, length-digest}
+use Rattle.luks_slot.specs.declared.allowed.Allowed.{Allowed}
+use Rattle.luks_slot.specs.Allowance.{without_memory}
+use Rattle.luks_slot.specs.Refusal.{is_allowed_cipher, is_argon2, is_argon2_refused, is_key_size, is_known_derivation, is_known_hash, slot_refusal_within}
+use Rattle.luks_kdf.specs.KeyslotNames.{each_keyslot_at_least, keyslot_digest, keyslot_digest_size, length-keyslot_digest}
 use Rattle.luks_kdf.proofs.SplitterFacts.{merge-split}
 use Rattle.luks_slot.specs.Opening.{hash_by_name}
 use Rattle.luks_slot.proofs.OpeningFacts.{found_meets}
@@ -27,7 +29,7 @@ use Rattle.luks_head.proofs.ChoiceFacts.{choices_agree}
 use Rattle.luks_reading.specs.declared.open_fault.OpenFault.{OpenFault}
 use Rattle.luks_reading.specs.declared.open_fault.OpenFault.TheVariants.{Head, Meta, NoSuchSlot, SlotFree, Outside, Slot, Device, Memory}
 use Rattle.luks_reading.specs.declared.report.Data.{Data}
-use Rattle.luks_reading.specs.Answer.{Answer, HasPlanAs, IsLuks1Refusal, IsRefusalAs, opens}
+use Rattle.luks_reading.specs.Answer.{AnswerWithin, HasPlanAs, IsLuks1Refusal, IsRefusalAsWithin, opens}
 use Rattle.luks_reading.specs.Checked.{IsLuks1Volume, WellFormed}
 use Rattle.luks_reading.specs.Plans.{HasLuks1Plan, IsLuks1Cipher, IsLuks1Derivation, IsLuks1Plan}
 use Rattle.luks1_edits.specs.Edited.{HoldsKey, IsMade}
@@ -38,9 +40,10 @@ use Rattle.luks1_edits.proofs.KeptFacts.{area_inside}
 
 -- what two plans share whose headers say the same before the keyslots
 pub record SameTerms (a b : SlotPlan) : Type 0 where
-  pub argon2 : is_argon2 a.derivation ≡ is_argon2 b.derivation
-  pub known : is_known_derivation a.derivation ≡ is_known_derivation b.derivation
-  pub cipher : is_open_cipher a.cipher ≡ is_open_cipher b.cipher
+  pub argon2 : (memory : ℕ) → is_argon2_refused memory a.derivation ≡ is_argon2_refused memory b.derivation
+  pub known : (older : Bool) → is_known_derivation older a.derivation ≡ is_known_derivation older b.derivation
+  pub cipher : (older : Bool) → is_allowed_cipher older a.cipher ≡ is_allowed_cipher older b.cipher
+  pub key_size : (n : ℕ) → is_key_size a.cipher n ≡ is_key_size b.cipher n
   pub area_key_bytes : a.area_key_bytes ≡ b.area_key_bytes
   pub splitter_hash : a.splitter_hash.now ≡ b.splitter_hash.now
   pub digest_hash : a.digest.hash.now ≡ b.digest.hash.now
@@ -48,32 +51,39 @@ pub record SameTerms (a b : SlotPlan) : Type 0 where
   pub digest_salt : a.digest.salt.now ≡ b.digest.salt.now
   pub digest_stored : a.digest.stored.now ≡ b.digest.stored.now
 
-argon2_both : (h g e f : List ℕ) (a b : Derivation) → IsLuks1Derivation h e a → IsLuks1Derivation g f b → is_argon2 a ≡ is_argon2 b
-argon2_both h g e f (Pbkdf2 k i s) (Pbkdf2 l j t) x y = refl
-argon2_both h g e f (Pbkdf2 k i s) (Argon2 c) x y = absurd y
-argon2_both h g e f (Argon2 c) b x y = absurd x
+argon2_both : (h g e f : List ℕ) (a b : Derivation) (memory : ℕ) → IsLuks1Derivation h e a → IsLuks1Derivation g f b → is_argon2_refused memory a ≡ is_argon2_refused memory b
+argon2_both h g e f (Pbkdf2 k i s) (Pbkdf2 l j t) memory x y = refl
+argon2_both h g e f (Pbkdf2 k i s) (Argon2 c) memory x y = absurd y
+argon2_both h g e f (Argon2 c) b memory x y = absurd x
 
-known_both : (h g e f : List ℕ) (a b : Derivation) → text_at h 72 32 ≡ text_at g 72 32 → IsLuks1Derivation h e a → IsLuks1Derivation g f b → is_known_derivation a ≡ is_known_derivation b
-known_both h g e f (Pbkdf2 k i s) (Pbkdf2 l j t) same x y = let hash = x.0 ∙ same ∙ sym y.0 in simp hash
-known_both h g e f (Pbkdf2 k i s) (Argon2 c) same x y = absurd y
-known_both h g e f (Argon2 c) b same x y = absurd x
+known_both : (h g e f : List ℕ) (a b : Derivation) (older : Bool) → text_at h 72 32 ≡ text_at g 72 32 → IsLuks1Derivation h e a → IsLuks1Derivation g f b
+    → is_known_derivation older a ≡ is_known_derivation older b
+known_both h g e f (Pbkdf2 k i s) (Pbkdf2 l j t) older same x y = ap (is_known_hash older) (x.0 ∙ same ∙ sym y.0)
+known_both h g e f (Pbkdf2 k i s) (Argon2 c) older same x y = absurd y
+known_both h g e f (Argon2 c) b older same x y = absurd x
 
-cipher_both : (h g : List ℕ) (a b : AreaCipher) → text_at h 8 32 ≡ text_at g 8 32 → text_at h 40 32 ≡ text_at g 40 32 → IsLuks1Cipher h a → IsLuks1Cipher g b → is_open_cipher a ≡ is_open_cipher b
-cipher_both h g (Apart n m) (Apart k l) names modes x y =
-    let name = x.0 ∙ names ∙ sym y.0 in
-    let mode = x.1 ∙ modes ∙ sym y.1 in
-    simp (name, mode)
-cipher_both h g (Apart n m) (Whole t) names modes x y = absurd y
-cipher_both h g (Whole t) b names modes x y = absurd x
+-- so their ciphers say the same
+module _ (h g : List ℕ) (names : text_at h 8 32 ≡ text_at g 8 32) (modes : text_at h 40 32 ≡ text_at g 40 32) where
+  cipher_both : (a b : AreaCipher) (older : Bool) → IsLuks1Cipher h a → IsLuks1Cipher g b → is_allowed_cipher older a ≡ is_allowed_cipher older b
+  cipher_both (Apart n m) (Apart k l) false x y = let name = x.0 ∙ names ∙ sym y.0 in let mode = x.1 ∙ modes ∙ sym y.1 in simp (name, mode)
+  cipher_both (Apart n m) (Apart k l) true x y = let name = x.0 ∙ names ∙ sym y.0 in let mode = x.1 ∙ modes ∙ sym y.1 in simp (name, mode)
+  cipher_both (Apart n m) (Whole t) older x y = absurd y
+  cipher_both (Whole t) b older x y = absurd x
+
+  key_size_both : (a b : AreaCipher) (size : ℕ) → IsLuks1Cipher h a → IsLuks1Cipher g b → is_key_size a size ≡ is_key_size b size
+  key_size_both (Apart n m) (Apart k l) size x y = let name = x.0 ∙ names ∙ sym y.0 in let mode = x.1 ∙ modes ∙ sym y.1 in simp (name, mode)
+  key_size_both (Apart n m) (Whole t) size x y = absurd y
+  key_size_both (Whole t) b size x y = absurd x
 
 pub same_terms : (h g e f : List ℕ) (a b : SlotPlan) → SameFront h g → IsLuks1Plan h e a → IsLuks1Plan g f b → SameTerms a b
 same_terms h g e f a b same x y =
     let hash : text_at h 72 32 ≡ text_at g 72 32 = text_moves h g same 72 32 (lit≤ tt) in
     let key : number_at h 108 4 ≡ number_at g 108 4 = number_moves h g same 108 4 (lit≤ tt) in
     record {
-      argon2 = argon2_both h g e f a.derivation b.derivation x.derivation y.derivation;
-      known = known_both h g e f a.derivation b.derivation hash x.derivation y.derivation;
-      cipher = cipher_both h g a.cipher b.cipher (text_moves h g same 8 32 (lit≤ tt)) (text_moves h g same 40 32 (lit≤ tt)) x.cipher y.cipher;
+      argon2 = λ memory. argon2_both h g e f a.derivation b.derivation memory x.derivation y.derivation;
+      known = λ older. known_both h g e f a.derivation b.derivation older hash x.derivation y.derivation;
+      cipher = λ older. cipher_both h g (text_moves h g same 8 32 (lit≤ tt)) (text_moves h g same 40 32 (lit≤ tt)) a.cipher b.cipher older x.cipher y.cipher;
+      key_size = λ size. key_size_both h g (text_moves h g same 8 32 (lit≤ tt)) (text_moves h g same 40 32 (lit≤ tt)) a.cipher b.cipher size x.cipher y.cipher;
       area_key_bytes = x.area_key_bytes ∙ key ∙ sym y.area_key_bytes;
       splitter_hash = x.splitter_hash ∙ hash ∙ sym y.splitter_hash;
       digest_hash = x.digest.hash ∙ hash ∙ sym y.digest.hash;
@@ -82,8 +92,19 @@ same_terms h g e f a b same x y =
       digest_stored = x.digest.stored ∙ same.parts 112 20 (lit≤ tt) ∙ sym y.digest.stored;
     }
 
-pub same_refusal : (a b : SlotPlan) → SameTerms a b → slot_refusal a ≡ slot_refusal b
-same_refusal a b s = simp (s.argon2, s.known, s.cipher, s.area_key_bytes, s.splitter_hash, s.digest_hash)
+-- so they are refused alike, whatever is allowed
+pub same_refusal : (allowed : Allowed) (a b : SlotPlan) → SameTerms a b → slot_refusal_within allowed a ≡ slot_refusal_within allowed b
+same_refusal allowed a b s =
+    let argon2 = s.argon2 allowed.memory in
+    let known = s.known allowed.older in
+    let cipher = s.cipher allowed.older in
+    let size = s.key_size a.area_key_bytes in
+    simp (argon2, known, cipher, size, s.area_key_bytes, s.splitter_hash, s.digest_hash)
+
+-- a keyslot of LUKS1 never derives by Argon2
+pub no_argon2 : (h e : List ℕ) (d : Derivation) → IsLuks1Derivation h e d → is_argon2 d ≡ true → ⊥
+no_argon2 h e (Pbkdf2 k i s) is bad = absurd (cc)
+no_argon2 h e (Argon2 c) is bad = is
 
 same_digest : (a b : SlotPlan) (key : List ℕ) → SameTerms a b → meets_digest a.digest key ≡ meets_digest b.digest key
 unfolding meets_digest
@@ -95,19 +116,19 @@ some n not = elim (cases_eq n 0) [ inl zero ↦ absurd (not zero) | inr other �
 
 -- the keyslot `n` of the volume `w` was made, of a well formed volume `v` with the same front in which
 -- the keyslot `opener` opens to the key
-pub record IsMadeFrom (payload : Data) (v : List ℕ) (opener : ℕ) (old : List ℕ) (n iterations : ℕ) (salt new key random w : List ℕ) : Type 0 where
+pub record IsMadeFrom (allowed : Allowed) (payload : Data) (v : List ℕ) (opener : ℕ) (old : List ℕ) (n iterations : ℕ) (salt new key random w : List ℕ) : Type 0 where
   pub chosen : Chosen v luks1
   pub well : WellFormed v payload
   pub length_same : length w ≡ length v
   pub common : part w 0 208 ≡ part v 0 208
-  pub opened : Answer v opener old (opens key)
+  pub opened : AnswerWithin allowed v opener old (opens key)
   pub numbered : n < 8
   pub iterated : 1 ≤ iterations
   pub made : IsMade (entry v n) (entry w n) iterations salt
   pub holds : HoldsKey w n new key random
 
-module _ (payload : Data) (v : List ℕ) (opener : ℕ) (old : List ℕ) (n iterations : ℕ) (salt new key random w : List ℕ)
-    (x : IsMadeFrom payload v opener old n iterations salt new key random w) where
+module _ (allowed : Allowed) (payload : Data) (v : List ℕ) (opener : ℕ) (old : List ℕ) (n iterations : ℕ) (salt new key random w : List ℕ)
+    (x : IsMadeFrom allowed payload v opener old n iterations salt new key random w) where
   whole : IsLuks1Volume (part v 0 592) payload (length v)
   whole = volume_of v payload x.chosen x.well
 
@@ -120,8 +141,8 @@ module _ (payload : Data) (v : List ℕ) (opener : ℕ) (old : List ℕ) (n iter
   there : HasLuks1Plan (part v 0 592) opener x.opened.plan
   there = subst (λ c. HasPlanAs v opener c x.opened.plan) (choices_agree v x.opened.choice luks1 x.opened.chosen x.chosen) x.opened.is
 
-  unrefused_before : (f : OpenFault) → IsLuks1Refusal (part v 0 592) (length v) opener f → ⊥
-  unrefused_before f y = x.opened.unrefused f (subst (λ c. IsRefusalAs v opener c f) (sym (choices_agree v x.opened.choice luks1 x.opened.chosen x.chosen)) y)
+  unrefused_before : (f : OpenFault) → IsLuks1Refusal allowed.older (part v 0 592) (length v) opener f → ⊥
+  unrefused_before f y = x.opened.unrefused f (subst (λ c. IsRefusalAsWithin allowed v opener c f) (sym (choices_agree v x.opened.choice luks1 x.opened.chosen x.chosen)) y)
 
   terms : (b : SlotPlan) → HasLuks1Plan (part w 0 592) n b → SameTerms x.opened.plan b
   terms b is = same_terms (part v 0 592) (part w 0 592) (entry (part v 0 592) opener) (entry (part w 0 592) n) x.opened.plan b front there.is is.is
@@ -143,7 +164,7 @@ module _ (payload : Data) (v : List ℕ) (opener : ℕ) (old : List ℕ) (n iter
   found : slot_key x.holds.plan (part w x.holds.plan.area.start x.holds.plan.area.len) new ≡ Some key
   found = let hash = hash_by_name x.holds.plan.splitter_hash.now in
       sealed_opens x.holds.plan (part w x.holds.plan.area.start x.holds.plan.area.len) new key random striped x.holds.key_length x.holds.random_length
-      (merge-split (hash_of hash) (digest_size_of hash) (length-digest hash) (each_at_least 1 digest_size_of refl hash)) x.holds.sealed
+      (merge-split (keyslot_digest hash) (keyslot_digest_size hash) (length-keyslot_digest hash) (each_keyslot_at_least 1 keyslot_digest_size refl hash)) x.holds.sealed
       ∙ ap (λ (b : Bool). if b then Some key else None) meets
 
   -- the new entry has no fault
@@ -167,7 +188,7 @@ module _ (payload : Data) (v : List ℕ) (opener : ℕ) (old : List ℕ) (n iter
         ∙ ap (λ s. rounded_to_sectors (number_at v 108 4 * s)) x.made.stripes,
   )
 
-  unrefused : (f : OpenFault) → IsLuks1Refusal (part w 0 592) (length w) n f → ⊥
+  unrefused : (f : OpenFault) → IsLuks1Refusal allowed.older (part w 0 592) (length w) n f → ⊥
   unrefused (Head f) y = elim (common_or_entry (part w 0 592) n f y) [
     | inl z ↦ clear f (common_moves w v (sym x.common) f z).1
     | inr z ↦ entry_clear f z.fault
@@ -185,11 +206,11 @@ module _ (payload : Data) (v : List ℕ) (opener : ℕ) (old : List ℕ) (n iter
       let size = x.length_same in
       omega (arith, past, start, len, within, size)
   unrefused (Slot s) y = unrefused_before (Slot s)
-      (record { plan = x.opened.plan; is = there; refused = same_refusal x.opened.plan y.plan (terms y.plan y.is) ∙ y.refused })
+      (record { plan = x.opened.plan; is = there; refused = same_refusal (without_memory allowed.older) x.opened.plan y.plan (terms y.plan y.is) ∙ y.refused })
   unrefused Device y = y
   unrefused Memory y = y
 
-  pub made_opens : Answer w n new (opens key)
+  pub made_opens : AnswerWithin allowed w n new (opens key)
   made_opens = record {
     choice = luks1;
     chosen = chosen_moves v w x.length_same x.common x.chosen;

@@ -1,5 +1,5 @@
 -- A keyslot that is made: its area is sealed, then its entry is written.
-use Rattle.std.proofs.Common.{◌≡◌, ℕ, ◌+◌, ◌-◌, ◌*◌, ◌<◌, ◌≤◌, List, length, take, drop, subst, refl, sym, ap, ◌∙◌, arith, inl, inr, length-drop}
+use Rattle.std.proofs.Common.{◌≡◌, ℕ, ◌+◌, ◌-◌, ◌*◌, ◌<◌, ◌≤◌, List, length, take, drop, subst, refl, sym, ap, ◌∙◌, arith, inl, inr, length-drop, Bool}
 use Rattle.luks_area.specs.declared.area.AreaName.TheVariants.{Slot}
 use Rattle.luks_area.specs.Ranges.{part, written, IsAt, SameBut}
 use Rattle.luks_area.specs.RangeFacts.{part-same_but, same_but-then, same_but-wider, same_outside-written}
@@ -9,10 +9,11 @@ use Rattle.luks1_header.specs.Header1.{active_word, enabled_word, entry, entry_i
 use Rattle.luks1_header.specs.Written.{WritesEntry}
 use Rattle.luks1_header.specs.declared.luks1.Luks1.{Luks1}
 use Rattle.luks1_header.specs.declared.luks1.Luks1Slot.{Luks1Slot}
+use Rattle.luks_slot.specs.Allowance.{without_memory}
 use Rattle.luks_slot.specs.declared.fault.SlotFault.{SlotFault}
 use Rattle.luks_slot.specs.declared.fault.SlotFault.TheVariants as sealing
 use Rattle.luks_slot.specs.declared.plan.SlotPlan.{SlotPlan}
-use Rattle.luks_slot.specs.Fault.{IsAnsweredFault}
+use Rattle.luks_slot.specs.Fault.{IsAnsweredWithin}
 use Rattle.luks_slot.specs.Opening.{area_bytes, stripe_bytes}
 use Rattle.luks_slot.specs.Sealing.{IsSealed}
 use Rattle.luks_reading.specs.declared.report.Data.{Data}
@@ -26,6 +27,7 @@ use Rattle.luks1_edits.specs.Leftovers.{IsMadeButEntry}
 use Rattle.luks1_edits.specs.Places.{area_len, area_start, entry_place, IsOfKeyslots}
 use Rattle.luks1_edits.specs.Refused.{keyslot_need}
 use Rattle.luks1_edits.specs.Steps.{IsKeyslotMade, IsUnmade}
+use Rattle.luks1_edits.proofs.MadeKeyslotFacts.{no_argon2}
 use Rattle.luks1_edits.proofs.AnswerFacts.{SameFront, plan_moves}
 use Rattle.luks1_edits.proofs.HeaderFacts.{entry_is, header_moves, key_is, volume_of}
 use Rattle.luks1_edits.proofs.KeptFacts.{header_apart, kept_common}
@@ -156,7 +158,7 @@ pub sealed_rest : (plan : SlotPlan) {v u : List ℕ} → rounded_to_sectors (str
 sealed_rest plan fits same = same_but-wider (λ p at. (at.0, (let high = at.1 in omega (arith, high, fits)))) same
 
 -- why sealing failed
-pub unsealed_unmade : (h e : List ℕ) (plan : SlotPlan) (f : SlotFault) → IsLuks1Plan h e plan → IsAnsweredFault plan f → IsUnmade h (keyslot_fault f)
-unsealed_unmade h e plan sealing.Device is x = tt
-unsealed_unmade h e plan sealing.Memory is x = x
-unsealed_unmade h e plan f is x = record { plan = plan; bytes = e; is = is; refused = x }
+pub unsealed_unmade : (older : Bool) (h e : List ℕ) (plan : SlotPlan) (f : SlotFault) → IsLuks1Plan h e plan → IsAnsweredWithin (without_memory older) plan f → IsUnmade older h (keyslot_fault f)
+unsealed_unmade older h e plan sealing.Device is x = tt
+unsealed_unmade older h e plan sealing.Memory is x = absurd (no_argon2 h e plan.derivation is.derivation x.1)
+unsealed_unmade older h e plan f is x = record { plan = plan; bytes = e; is = is; refused = x }

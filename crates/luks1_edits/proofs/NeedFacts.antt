@@ -1,5 +1,5 @@
 -- How many random bytes an edit takes, and the first fault that is seen without opening a keyslot.
-use Rattle.std.proofs.Common.{◌≡◌, ℕ, List, subst, refl, sym, inl, inr, Option, Result, Ok, Err, MatchResult}
+use Rattle.std.proofs.Common.{◌≡◌, ℕ, List, subst, refl, sym, inl, inr, Option, Result, Ok, Err, MatchResult, Bool}
 use Rattle.std.specs.Borrow.{Bor}
 use Rattle.luks_area.specs.First.{IsLeast}
 use Rattle.luks_reading.specs.declared.check_fault.CheckFault.{CheckFault}
@@ -64,7 +64,7 @@ module _ (v : List ℕ) (payload : Data) (e : Edit) (accepted : (f : CheckFault)
       let s = IsNeedFault1 v payload e in
       after_plan s (next s fault.Locked refl (next s fault.SameSlot refl (next s fault.NoSuchSlot refl past_requirements (there_of v e all)) all.other) (λ bad. bad)) (λ f bad. bad)
 
-  module _ (slot : ℕ) (by_ : Option ℕ) (p r : List ℕ) (is : IsRemoval v e slot by_ p r) where
+  module _ (slot : ℕ) (by_ : Option ℕ) (p r : List ℕ) {older : Bool} (is : IsRemoval older v e slot by_ p r) where
     removal_need_refused : (f : EditFault) → IsUnremovable v slot by_ f → IsLeast edit_key (IsNeedFault1 v payload e) f
     removal_need_refused fault.NoSuchSlot (inl unused) = need_absent (opener_of slot by_) is.wants_opener unused
     removal_need_refused fault.NoSuchSlot (inr unused) = need_absent slot is.wants_removed unused
@@ -75,7 +75,7 @@ module _ (v : List ℕ) (payload : Data) (e : Edit) (accepted : (f : CheckFault)
     removal_need_tells (Ok k) x = told k (removable_there is x.1) is.untaken is.some_free (subst (λ m. Need1 v e m) (sym x.0) is.need)
     removal_need_tells (Err f) x = removal_need_refused f x
 
-  module _ (opener : ℕ) (p : List ℕ) (to : Option ℕ) (asked : AskedDerivation) (is : IsMaking v e opener p to asked) where
+  module _ (opener : ℕ) (p : List ℕ) (to : Option ℕ) (asked : AskedDerivation) {older : Bool} (is : IsMaking older v e opener p to asked) where
     need_refused : (f : EditFault) → IsNewNeedFault v opener to f → IsLeast edit_key (IsNeedFault1 v payload e) f
     need_refused fault.NoSuchSlot bad = need_absent opener is.opening.wanted bad
     need_refused fault.SlotTaken bad = first_of_row (IsNeedFault1 v payload e) fault.SlotTaken refl (past_opener (is.opening.all bad.used)) (is.taken_is bad.is)

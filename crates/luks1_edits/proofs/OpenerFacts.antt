@@ -1,5 +1,5 @@
 -- The keyslot that an edit opens: what opening it says of a well formed LUKS1 volume.
-use Rattle.std.proofs.Common.{◌≡◌, ℕ, List, length, subst, refl, sym, ap, ◌∙◌, arith, inl, inr, Option, Some, None, slice_index_or}
+use Rattle.std.proofs.Common.{◌≡◌, ℕ, List, length, subst, refl, sym, ap, ◌∙◌, arith, inl, inr, Option, Some, None, slice_index_or, Bool, ◌≢◌}
 use Rattle.luks_area.specs.declared.area.AreaName.TheVariants as area_name
 use Rattle.std.proofs.lemmas.Option.{same_Some}
 use Rattle.luks_area.specs.First.{NotAfter}
@@ -14,20 +14,22 @@ use Rattle.luks_head.proofs.ChoiceFacts.{choices_agree}
 use Rattle.luks_slot.specs.declared.fault.SlotFault.{SlotFault}
 use Rattle.luks_slot.specs.declared.fault.SlotFault.TheVariants as slot
 use Rattle.luks_slot.specs.declared.plan.SlotPlan.{SlotPlan}
-use Rattle.luks_slot.specs.Fault.{IsAnsweredFault}
+use Rattle.luks_slot.specs.Fault.{IsAnsweredWithin}
 use Rattle.luks_slot.specs.Opening.{slot_key}
-use Rattle.luks_slot.specs.Refusal.{slot_refusal}
+use Rattle.luks_slot.specs.Allowance.{without_memory}
+use Rattle.luks_slot.specs.Refusal.{slot_refusal_within}
 use Rattle.luks_reading.specs.declared.open_fault.OpenFault.{OpenFault}
 use Rattle.luks_reading.specs.declared.open_fault.OpenFault.TheVariants as opening
 use Rattle.luks_reading.specs.declared.report.Data.{Data}
-use Rattle.luks_reading.specs.Answer.{Answer, HasRefusedPlan, IsLuks1Refusal, IsRefusal, IsRefusalAs, open_key, Opens, opens, refused}
+use Rattle.luks_reading.specs.Answer.{AnswerWithin, HasRefusedPlanWithin, IsLuks1Refusal, IsRefusalWithin, IsRefusalAsWithin, no_key, open_key, OpensWithin, opens, refused}
 use Rattle.luks_reading.specs.Checked.{IsLuks1Volume}
 use Rattle.luks_reading.specs.PlanAnswers.{IsOpenable}
 use Rattle.luks_reading.specs.Plans.{HasLuks1Plan, IsLuks1Plan}
+use Rattle.luks_edit.specs.declared.edit_fault.EditFault.TheVariants as fault
 use Rattle.luks1_edits.specs.Accepted.{IsHeaderOf, IsLockedBy, IsOpenedBy, IsUnopened, keyslot_fault}
 use Rattle.luks1_edits.specs.Edited.{IsFree, IsInUse}
 use Rattle.luks1_edits.proofs.AnswerFacts.{common_or_entry, found_once, found_unrefused, same_front}
-use Rattle.luks1_edits.proofs.MadeKeyslotFacts.{same_refusal, same_terms}
+use Rattle.luks1_edits.proofs.MadeKeyslotFacts.{no_argon2, same_refusal, same_terms}
 use Rattle.luks1_edits.proofs.HeaderFacts.{entry_fault, entry_is, header_clear, volume_of}
 
 -- the keyslots of the header are those of the volume
@@ -57,76 +59,87 @@ module _ (h : List ℕ) (payload : Data) (v : List ℕ) (x : IsHeaderOf h payloa
   clear = header_clear v payload x.chosen x.well
 
   -- a keyslot in use of a well formed volume is refused by its plan alone
-  plan_alone : (f : OpenFault) → IsLuks1Refusal (part v 0 592) (length v) n f → (s : SlotFault) × ((f ≡ opening.Slot s) × HasRefusedPlan (HasLuks1Plan (part v 0 592) n) s)
-  plan_alone (opening.Head f) is = elim (common_or_entry (part v 0 592) n f is) [
+  plan_alone : (older : Bool) (f : OpenFault) → IsLuks1Refusal older (part v 0 592) (length v) n f
+      → (s : SlotFault) × ((f ≡ opening.Slot s) × HasRefusedPlanWithin (without_memory older) (HasLuks1Plan (part v 0 592) n) s)
+  plan_alone older older (opening.Head f) is = elim (common_or_entry (part v 0 592) n f is) [
     | inl y ↦ absurd (clear f y.1)
     | inr y ↦ absurd (clear f (entry_fault (part v 0 592) n f y.numbered y.fault))
   ]
-  plan_alone opening.NoSuchSlot over = absurd (let lt = used.0 in omega (arith, over, lt))
-  plan_alone opening.SlotFree off = absurd (
+  plan_alone older opening.NoSuchSlot over = absurd (let lt = used.0 in omega (arith, over, lt))
+  plan_alone older opening.SlotFree off = absurd (
       let two : disabled_word ≡ enabled_word = sym off.1 ∙ ap active_word (entry_is v n off.0) ∙ used.1 in
       omega (arith, two)
       )
-  plan_alone opening.Outside out = absurd (
+  plan_alone older opening.Outside out = absurd (
       let past = out.past in
       let within = whole.fit.inside (area_name.Slot n) out.plan.area (out.is.numbered, out.is.is.start, out.is.is.len) in
       omega (arith, past, within)
       )
-  plan_alone (opening.Slot s) is = (s, (refl, is))
-  plan_alone f is = absurd is
+  plan_alone older older (opening.Slot s) is = (s, (refl, is))
+  plan_alone older f is = absurd is
 
-  module _ (plan : SlotPlan) (there : HasLuks1Plan h n plan) where
+  module _ (plan : SlotPlan) (there : HasLuks1Plan h n plan) (older : Bool) where
     at : HasLuks1Plan (part v 0 592) n plan
     at = subst (λ b. HasLuks1Plan b n plan) x.begins there
 
     -- each plan of it is refused alike
-    refused_alike : (s : SlotFault) → HasRefusedPlan (HasLuks1Plan (part v 0 592) n) s → slot_refusal plan ≡ Some s
+    refused_alike : (s : SlotFault) → HasRefusedPlanWithin (without_memory older) (HasLuks1Plan (part v 0 592) n) s → slot_refusal_within (without_memory older) plan ≡ Some s
     refused_alike s y =
-        same_refusal plan y.plan
+        same_refusal (without_memory older) plan y.plan
         (same_terms (part v 0 592) (part v 0 592) (entry (part v 0 592) n) (entry (part v 0 592) n) plan y.plan (same_front v v refl) at.is y.is.is) ∙ y.refused
 
-    planned : (p : List ℕ) (found : Option (List ℕ)) → slot_refusal plan ≡ None → slot_key plan (part v plan.area.start plan.area.len) p ≡ found → Opens v n p found
+    planned : (p : List ℕ) (found : Option (List ℕ)) → slot_refusal_within (without_memory older) plan ≡ None → slot_key plan (part v plan.area.start plan.area.len) p ≡ found → OpensWithin (without_memory older) v n p found
     planned p found fine is = record {
       choice = luks1;
       chosen = x.chosen;
       plan = plan;
       is = at;
       unrefused = λ f bad.
-          let y = plan_alone f bad in
+          let y = plan_alone older f bad in
           let two : None ≡ Some y.0 = sym fine ∙ refused_alike y.0 y.1.1 in
           cc;
       key = is;
     }
 
-    shut : (p : List ℕ) (s : SlotFault) → slot_refusal plan ≡ Some s → Answer v n p (refused (opening.Slot s))
+    shut : (p : List ℕ) (s : SlotFault) → slot_refusal_within (without_memory older) plan ≡ Some s → AnswerWithin (without_memory older) v n p (refused (opening.Slot s))
     shut p s why = (record { choice = luks1; chosen = x.chosen; fault = record { plan = plan; is = at; refused = why } }, least)
       where
-        least : (g : OpenFault) → IsRefusal v n g → NotAfter (open_key (opening.Slot s)) (open_key g)
+        least : (g : OpenFault) → IsRefusalWithin (without_memory older) v n g → NotAfter (open_key (opening.Slot s)) (open_key g)
         least g bad =
-            let y = plan_alone g (subst (λ c. IsRefusalAs v n c g) (choices_agree v bad.choice luks1 bad.chosen x.chosen) bad.fault) in
+            let y = plan_alone older g (subst (λ c. IsRefusalAsWithin (without_memory older) v n c g) (choices_agree v bad.choice luks1 bad.chosen x.chosen) bad.fault) in
             let same : s ≡ y.0 = same_Some s y.0 (sym why ∙ refused_alike y.0 y.1.1) in
             rw y.1.0 (subst (λ t. NotAfter (open_key (opening.Slot s)) (open_key (opening.Slot t))) same (omega arith, λ _. (omega arith, λ _. tt)))
 
     module _ (p : List ℕ) where
-      pub opened_by : (key : List ℕ) (found : Option (List ℕ)) → slot_refusal plan ≡ None → found ≡ slot_key plan (part v plan.area.start plan.area.len) p → found ≡ Some key → IsOpenedBy v n p key
+      pub opened_by : (key : List ℕ) (found : Option (List ℕ)) → slot_refusal_within (without_memory older) plan ≡ None → found ≡ slot_key plan (part v plan.area.start plan.area.len) p → found ≡ Some key → IsOpenedBy older v n p key
       opened_by key found fine is some =
-          let opened : Answer v n p (opens key) = planned p (Some key) fine (sym is ∙ some) in
+          let opened : AnswerWithin (without_memory older) v n p (opens key) = planned p (Some key) fine (sym is ∙ some) in
           record {
             used = used;
             opened = opened;
-            unlocked = λ locked. let two = found_once v x.chosen n p (Some key) None opened locked in cc;
-            unshut = λ f y. found_unrefused v n p (Some key) (opening.Slot f) opened y;
+            unlocked = λ locked. let two = found_once v x.chosen (without_memory older) (without_memory older) n p (Some key) None opened locked in cc;
+            unshut = λ f y. found_unrefused (without_memory older) v n p (Some key) (opening.Slot f) opened y;
           }
 
-      pub locked_by : (found : Option (List ℕ)) → slot_refusal plan ≡ None → found ≡ slot_key plan (part v plan.area.start plan.area.len) p → found ≡ None → IsLockedBy v n p
+      pub locked_by : (found : Option (List ℕ)) → slot_refusal_within (without_memory older) plan ≡ None → found ≡ slot_key plan (part v plan.area.start plan.area.len) p → found ≡ None → IsLockedBy older v n p
       locked_by found fine is none = record { used = used; answer = planned p None fine (sym is ∙ none) }
 
       -- or the device failed
-      pub unopened_by : (f : SlotFault) → IsAnsweredFault plan f → IsUnopened v n p (keyslot_fault f)
+      pub unopened_by : (f : SlotFault) → IsAnsweredWithin (without_memory older) plan f → IsUnopened older v n p (keyslot_fault f)
       unopened_by slot.Device is = tt
-      unopened_by slot.Memory is = absurd is
+      unopened_by slot.Memory is = absurd (no_argon2 (part v 0 592) (entry (part v 0 592) n) plan.derivation at.is.derivation is.1)
       unopened_by f is = record {
         used = used;
-        unlocked = λ locked. found_unrefused v n p None (opening.Slot f) locked (shut p f is);
+        unlocked = λ locked. found_unrefused (without_memory older) v n p None (opening.Slot f) locked (shut p f is);
         answer = shut p f is;
       }
+
+-- what a plan of LUKS1 answers isn't want of memory, which Argon2 alone takes
+pub never_memory : (older : Bool) (h : List ℕ) (n : ℕ) (plan : SlotPlan) → HasLuks1Plan h n plan → (f : SlotFault) → IsAnsweredWithin (without_memory older) plan f
+    → keyslot_fault f ≢ fault.Memory
+never_memory older h n plan there slot.Memory is same = no_argon2 h (entry h n) plan.derivation there.is.derivation is.1
+never_memory older h n plan there slot.Argon2 is same = absurd (cc)
+never_memory older h n plan there slot.Cipher is same = absurd (cc)
+never_memory older h n plan there slot.Hash is same = absurd (cc)
+never_memory older h n plan there slot.KeySize is same = absurd (cc)
+never_memory older h n plan there slot.Device is same = absurd (cc)

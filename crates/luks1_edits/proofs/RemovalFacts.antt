@@ -1,5 +1,5 @@
 -- What a removal replies, from what was judged of it.
-use Rattle.std.proofs.Common.{◌≡◌, ◌≢◌, ◌⊎◌, ℕ, List, length, subst, refl, sym, ◌∙◌, inl, inr, Option, Some, None}
+use Rattle.std.proofs.Common.{◌≡◌, ◌≢◌, ◌⊎◌, ℕ, List, length, subst, refl, sym, ◌∙◌, inl, inr, Option, Some, None, Bool}
 use Rattle.luks_reading.specs.declared.check_fault.CheckFault.{CheckFault}
 use Rattle.luks_reading.specs.declared.report.Data.{Data}
 use Rattle.luks_reading.specs.Checked.{IsFault}
@@ -8,7 +8,7 @@ use Rattle.luks_edit.specs.declared.deed.Deed.TheVariants.{Remove}
 use Rattle.luks_edit.specs.declared.deed.Removed.{Removed}
 use Rattle.luks_edit.specs.declared.edit_fault.EditFault.TheVariants as fault
 use Rattle.luks_edit.specs.declared.edit_fault.EditFault.{EditFault}
-use Rattle.luks_edit.specs.Asked.{ChoosesArgon2, deed_of, HasFewIterations, NamesItself, opener_of, OpensBy, Wants}
+use Rattle.luks_edit.specs.Asked.{allowed_by, ChoosesArgon2, deed_of, HasFewIterations, NamesItself, opener_of, OpensBy, Wants}
 use Rattle.luks_edit.specs.RowFacts.{Passed, first_of_row}
 use Rattle.luks1_edits.specs.Accepted.{HasOther, IsHeaderOf, IsNamedTwice, IsOpenedBy, IsRemovable, IsUnremovable}
 use Rattle.luks1_edits.specs.Edited.{After1, IsInUse, IsRemoved}
@@ -17,9 +17,11 @@ use Rattle.luks1_edits.specs.Refused.{HasNoFree, IsEditFault1, IsLabel, IsLast, 
 use Rattle.luks1_edits.specs.Replies.{EndsBy1, IsDone1, Tells1}
 use Rattle.luks1_edits.proofs.RowFacts.{absent_refused, AreAllThere, IsOpener, itself_refused, opener_passed, past_label, past_new, unrefused}
 
--- the edit removes the keyslot `slot`, and opens by the passphrase the one that it opens for that
-pub record IsRemoval (v : List ℕ) (e : Edit) (slot : ℕ) (by_ : Option ℕ) (p r : List ℕ) : Type 0 where
+-- the edit removes the keyslot `slot`, and opens by the passphrase the one that it opens for that, with ciphers and
+-- hashes of older disks where `older` says so
+pub record IsRemoval (older : Bool) (v : List ℕ) (e : Edit) (slot : ℕ) (by_ : Option ℕ) (p r : List ℕ) : Type 0 where
   pub asked : OpensBy e (opener_of slot by_) p
+  pub allowed : (allowed_by e).older ≡ older
   pub wants_opener : Wants e (opener_of slot by_)
   pub wants_removed : Wants e slot
   pub wants_only : (n : ℕ) → Wants e n → (n ≡ opener_of slot by_) ⊎ (n ≡ slot)
@@ -39,9 +41,10 @@ pub record IsRemoval (v : List ℕ) (e : Edit) (slot : ℕ) (by_ : Option ℕ) (
   pub told : Tells1 v e None
 
 -- each edit does that removes one
-pub removal : (v : List ℕ) (e : Edit) (d : Removed) (r : List ℕ) → deed_of e ≡ Remove d → IsRemoval v e d.slot d.by_ d.passphrase.bytes.now r
+pub removal : (v : List ℕ) (e : Edit) (d : Removed) (r : List ℕ) → deed_of e ≡ Remove d → IsRemoval d.passphrase.allowed.older v e d.slot d.by_ d.passphrase.bytes.now r
 removal v e d r is = record {
   asked = rw is (refl, refl);
+  allowed = rw is refl;
   wants_opener = rw is (inl refl);
   wants_removed = rw is (inr refl);
   wants_only = λ n y. rw is at y;
@@ -62,22 +65,22 @@ removal v e d r is = record {
 }
 
 -- both of its keyslots are there
-both_there : {v : List ℕ} {e : Edit} {slot : ℕ} {by_ : Option ℕ} {p r : List ℕ} → IsRemoval v e slot by_ p r → IsInUse v (opener_of slot by_) → IsInUse v slot → (n : ℕ) → Wants e n → IsInUse v n
-both_there {v} is opener removed n wants = elim (is.wants_only n wants) [
+both_there : {older : Bool} {v : List ℕ} {e : Edit} {slot : ℕ} {by_ : Option ℕ} {p r : List ℕ} → IsRemoval older v e slot by_ p r → IsInUse v (opener_of slot by_) → IsInUse v slot → (n : ℕ) → Wants e n → IsInUse v n
+both_there {v = v} is opener removed n wants = elim (is.wants_only n wants) [
   | inl y ↦ subst (λ k. IsInUse v k) (sym y) opener
   | inr y ↦ subst (λ k. IsInUse v k) (sym y) removed
 ]
 
-pub removable_there : {v : List ℕ} {e : Edit} {slot : ℕ} {by_ : Option ℕ} {p r : List ℕ} → IsRemoval v e slot by_ p r → IsRemovable v slot by_ → AreAllThere v e
+pub removable_there : {older : Bool} {v : List ℕ} {e : Edit} {slot : ℕ} {by_ : Option ℕ} {p r : List ℕ} → IsRemoval older v e slot by_ p r → IsRemovable v slot by_ → AreAllThere v e
 removable_there is x = record { there = both_there is x.opener x.removed; other = λ bad. x.other (is.itself_only bad) }
 
 -- they are one
-pub twice_there : {v : List ℕ} {e : Edit} {slot : ℕ} {by_ : Option ℕ} {p r : List ℕ} → IsRemoval v e slot by_ p r → IsNamedTwice v slot by_ → (n : ℕ) → Wants e n → IsInUse v n
+pub twice_there : {older : Bool} {v : List ℕ} {e : Edit} {slot : ℕ} {by_ : Option ℕ} {p r : List ℕ} → IsRemoval older v e slot by_ p r → IsNamedTwice v slot by_ → (n : ℕ) → Wants e n → IsInUse v n
 twice_there {v} {slot = slot} {by_ = by_} is x =
     let opener : IsInUse v (opener_of slot by_) = subst (λ b. IsInUse v (opener_of slot b)) (sym x.same) x.removed in
     both_there is opener x.removed
 
-module _ (v : List ℕ) (payload : Data) (e : Edit) (r : List ℕ) (slot : ℕ) (by_ : Option ℕ) (p : List ℕ) (is : IsRemoval v e slot by_ p r) where
+module _ (v : List ℕ) (payload : Data) (e : Edit) (r : List ℕ) (slot : ℕ) (by_ : Option ℕ) (p : List ℕ) {older : Bool} (is : IsRemoval older v e slot by_ p r) where
   -- a keyslot isn't there, or it is named twice
   pub unremovable_ends : ((f : CheckFault) → IsFault v payload f → ⊥) → (f : EditFault) → IsUnremovable v slot by_ f → EndsBy1 payload v e r f v
   unremovable_ends accepted fault.NoSuchSlot (inl unused) = (absent_refused v payload e r accepted (record { slot = opener_of slot by_; wanted = is.wants_opener; unused = unused }), refl)
@@ -86,11 +89,11 @@ module _ (v : List ℕ) (payload : Data) (e : Edit) (r : List ℕ) (slot : ℕ) 
   unremovable_ends accepted f bad = absurd bad
 
   -- the keyslot that it opens
-  pub removal_opener : IsRemovable v slot by_ → (n : ℕ) → n ≡ opener_of slot by_ → IsOpener v e n p
-  removal_opener x n same = subst (λ k. IsOpener v e k p) (sym same) (record { asked = is.asked; wanted = is.wants_opener; all = λ used. removable_there is x })
+  pub removal_opener : IsRemovable v slot by_ → (n : ℕ) → n ≡ opener_of slot by_ → IsOpener older v e n p
+  removal_opener x n same = subst (λ k. IsOpener older v e k p) (sym same) (record { asked = is.asked; wanted = is.wants_opener; all = λ used. removable_there is x; allowed = is.allowed })
 
-module _ (v : List ℕ) (payload : Data) (e : Edit) (r : List ℕ) (slot : ℕ) (by_ : Option ℕ) (p key : List ℕ) (is : IsRemoval v e slot by_ p r)
-    (h : List ℕ) (of : IsHeaderOf h payload v) (able : IsRemovable v slot by_) (n : ℕ) (same : n ≡ opener_of slot by_) (opened : IsOpenedBy v n p key) where
+module _ (v : List ℕ) (payload : Data) (e : Edit) (r : List ℕ) (slot : ℕ) (by_ : Option ℕ) (p key : List ℕ) {older : Bool} (is : IsRemoval older v e slot by_ p r)
+    (h : List ℕ) (of : IsHeaderOf h payload v) (able : IsRemovable v slot by_) (n : ℕ) (same : n ≡ opener_of slot by_) (opened : IsOpenedBy older v n p key) where
   passed : Passed (IsEditFault1 v payload e r) 9
   passed = past_new v payload e r (opener_passed v payload e r of.faultless of.chosen n p (removal_opener v payload e r slot by_ p is able n same) key opened) is.untaken is.some_free
 

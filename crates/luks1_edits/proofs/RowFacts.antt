@@ -1,20 +1,21 @@
 -- The first refusal of an edit, row by row.
-use Rattle.std.proofs.Common.{◌≡◌, ℕ, List, subst, refl, sym, ◌∙◌, inl, Option, Some, None}
+use Rattle.std.proofs.Common.{◌≡◌, ℕ, List, subst, refl, sym, ◌∙◌, inl, Option, Some, None, Bool}
 use Rattle.std.specs.Prelude.{IsSomeAnd}
 use Rattle.std.specs.Borrow.{Bor}
+use Rattle.luks_slot.specs.Allowance.{without_memory}
 use Rattle.luks_slot.specs.declared.fault.SlotFault.{SlotFault}
 use Rattle.luks_reading.specs.declared.check_fault.CheckFault.{CheckFault}
 use Rattle.luks_reading.specs.declared.open_fault.OpenFault.TheVariants as opening
 use Rattle.luks_reading.specs.declared.report.Data.{Data}
 use Rattle.luks_head.specs.Selection.{luks1, Chosen}
-use Rattle.luks_reading.specs.Answer.{Answer, AnswerWithin, no_key, Opened, refused}
+use Rattle.luks_reading.specs.Answer.{AnswerWithin, no_key, Opened, refused}
 use Rattle.luks_reading.specs.Checked.{IsFault}
 use Rattle.luks_edit.specs.declared.edit.Edit.{Edit}
 use Rattle.luks_edit.specs.declared.deed.Deed.TheVariants as deed
 use Rattle.luks_edit.specs.declared.edit.Opener.{Opener}
 use Rattle.luks_edit.specs.declared.edit_fault.EditFault.{EditFault}
 use Rattle.luks_edit.specs.declared.edit_fault.EditFault.TheVariants as fault
-use Rattle.luks_edit.specs.Asked.{allowed_memory, ChoosesArgon2, deed_of, HasFewIterations, NamesItself, opener_in, OpensBy, Wants}
+use Rattle.luks_edit.specs.Asked.{allowed_by, ChoosesArgon2, deed_of, HasFewIterations, NamesItself, opener_in, OpensBy, Wants}
 use Rattle.luks_edit.specs.Opener.{IsLocked, IsShut}
 use Rattle.luks_edit.proofs.AllowedMemory.{luks1_answers_alike}
 use Rattle.luks_edit.specs.RowFacts.{Passed, after_check, after_plan, first_of_plan, first_of_row, next, none_at_all}
@@ -37,11 +38,13 @@ pub record AreAllThere (v : List ℕ) (e : Edit) : Type 0 where
   pub there : (n : ℕ) → Wants e n → IsInUse v n
   pub other : NamesItself e → ⊥
 
--- the edit opens the keyslot by the passphrase, and once that one is there, all are that it wants
-pub record IsOpener (v : List ℕ) (e : Edit) (n : ℕ) (p : List ℕ) : Type 0 where
+-- the edit opens the keyslot by the passphrase, with ciphers and hashes of older disks where `older` says so, and
+-- once that one is there, all are that it wants
+pub record IsOpener (older : Bool) (v : List ℕ) (e : Edit) (n : ℕ) (p : List ℕ) : Type 0 where
   pub asked : OpensBy e n p
   pub wanted : Wants e n
   pub all : IsInUse v n → AreAllThere v e
+  pub allowed : (allowed_by e).older ≡ older
 
 -- the edit opens no keyslot and wants none
 pub record OpensNone (e : Edit) : Type 0 where
@@ -54,11 +57,13 @@ pub opens_none : (e : Edit) (label : Option (Bor (List ℕ))) → deed_of e ≡ 
 opens_none e label is = record { opens = λ n p x. rw is at x; wants = λ n x. rw is at x; other = λ x. rw is at x }
 
 -- it wants none but the one that it opens
-pub alone : (v : List ℕ) (e : Edit) (n : ℕ) (p : List ℕ) → OpensBy e n p → Wants e n → ((m : ℕ) → Wants e m → m ≡ n) → (NamesItself e → ⊥) → IsOpener v e n p
-alone v e n p asked wanted only other = record {
+pub alone : (older : Bool) (v : List ℕ) (e : Edit) (n : ℕ) (p : List ℕ) → OpensBy e n p → Wants e n → ((m : ℕ) → Wants e m → m ≡ n) → (NamesItself e → ⊥)
+    → (allowed_by e).older ≡ older → IsOpener older v e n p
+alone older v e n p asked wanted only other allowed = record {
   asked = asked;
   wanted = wanted;
   all = λ used. record { there = λ m wants. subst (λ k. IsInUse v k) (sym (only m wants)) used; other = other };
+  allowed = allowed;
 }
 
 pub none_wanted : (v : List ℕ) (e : Edit) → OpensNone e → AreAllThere v e
@@ -118,30 +123,30 @@ module _ (v : List ℕ) (payload : Data) (e : Edit) (r : List ℕ) where
     pub none_to_open : OpensNone e → Passed (IsEditFault1 v payload e r) 6
     none_to_open none = past_opener (none_wanted v e none) (λ bad. none.opens bad.slot bad.passphrase bad.asked) (λ f bad. none.opens bad.slot bad.passphrase bad.asked)
 
-    module _ (chosen : Chosen v luks1) (n : ℕ) (p : List ℕ) (opener : IsOpener v e n p) where
+    module _ (chosen : Chosen v luks1) (n : ℕ) (p : List ℕ) {older : Bool} (opener : IsOpener older v e n p) where
       -- what is said where the edit's memory is allowed is said where none is, and so the other way round
-      without : (m : ℕ) (q : List ℕ) (a : Opened) → AnswerWithin (allowed_memory e) v m q a → Answer v m q a
-      without m q a x = luks1_answers_alike v chosen (allowed_memory e) 0 m q a x
+      without : (m : ℕ) (q : List ℕ) (a : Opened) → AnswerWithin (allowed_by e) v m q a → AnswerWithin (without_memory older) v m q a
+      without m q a x = luks1_answers_alike v chosen (allowed_by e) (without_memory older) m opener.allowed q a x
 
-      within : (a : Opened) → Answer v n p a → AnswerWithin (allowed_memory e) v n p a
-      within a x = luks1_answers_alike v chosen 0 (allowed_memory e) n p a x
+      within : (a : Opened) → AnswerWithin (without_memory older) v n p a → AnswerWithin (allowed_by e) v n p a
+      within a x = luks1_answers_alike v chosen (without_memory older) (allowed_by e) n (sym opener.allowed) p a x
 
-      unlocked_of : (Answer v n p no_key → ⊥) → IsLocked v e → ⊥
+      unlocked_of : (AnswerWithin (without_memory older) v n p no_key → ⊥) → IsLocked v e → ⊥
       unlocked_of not bad =
           let one = opens_once e n bad.slot p bad.passphrase opener.asked bad.asked in
-          not (subst (λ m. Answer v m p no_key) one.0 (subst (λ q. Answer v bad.slot q no_key) one.1 (without bad.slot bad.passphrase no_key bad.answer)))
+          not (subst (λ m. AnswerWithin (without_memory older) v m p no_key) one.0 (subst (λ q. AnswerWithin (without_memory older) v bad.slot q no_key) one.1 (without bad.slot bad.passphrase no_key bad.answer)))
 
-      shut_here : (f : SlotFault) → IsShut v e f → Answer v n p (refused (opening.Slot f))
+      shut_here : (f : SlotFault) → IsShut v e f → AnswerWithin (without_memory older) v n p (refused (opening.Slot f))
       shut_here f bad =
           let one = opens_once e n bad.slot p bad.passphrase opener.asked bad.asked in
-          subst (λ m. Answer v m p (refused (opening.Slot f))) one.0 (subst (λ q. Answer v bad.slot q (refused (opening.Slot f))) one.1 (without bad.slot bad.passphrase (refused (opening.Slot f)) bad.answer))
+          subst (λ m. AnswerWithin (without_memory older) v m p (refused (opening.Slot f))) one.0 (subst (λ q. AnswerWithin (without_memory older) v bad.slot q (refused (opening.Slot f))) one.1 (without bad.slot bad.passphrase (refused (opening.Slot f)) bad.answer))
 
       -- it opens
-      pub opener_passed : (key : List ℕ) → IsOpenedBy v n p key → Passed (IsEditFault1 v payload e r) 6
+      pub opener_passed : (key : List ℕ) → IsOpenedBy older v n p key → Passed (IsEditFault1 v payload e r) 6
       opener_passed key x = past_opener (opener.all x.used) (unlocked_of x.unlocked) (λ f bad. x.unshut f (shut_here f bad))
 
       -- it doesn't open
-      pub unopened_ends : (w : List ℕ) (f : EditFault) → w ≡ v → IsUnopened v n p f → EndsBy1 payload v e r f w
+      pub unopened_ends : (w : List ℕ) (f : EditFault) → w ≡ v → IsUnopened older v n p f → EndsBy1 payload v e r f w
       unopened_ends w fault.NoSuchSlot same bad = (absent_refused (record { slot = n; wanted = opener.wanted; unused = bad }), same)
       unopened_ends w fault.Locked same bad = (
         let s = IsEditFault1 v payload e r in

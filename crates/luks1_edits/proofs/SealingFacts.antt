@@ -18,15 +18,15 @@ use Rattle.luks1_edits.proofs.ChangeFacts.{changed, half_changed, still_at}
 
 -- while its keyslot was made
 torn_at : (v : List ℕ) (s : Sealed) (r w : List ℕ) (place : Place)
-    → IsHalfMade v s.opener.slot s.opener.passphrase.bytes.now s.passphrase.now (number_asked place) (iterations_of s.derivation) r w
-    → MatchPlace place (λ to. IsHalfMade v s.opener.slot s.opener.passphrase.bytes.now s.passphrase.now to (iterations_of s.derivation) r w)
-    (IsHalfMade v s.opener.slot s.opener.passphrase.bytes.now s.passphrase.now None (iterations_of s.derivation) r w
-    ⊎ IsHalfChanged v s.opener.slot s.opener.passphrase.bytes.now s.passphrase.now (iterations_of s.derivation) r w)
+    → IsHalfMade s.opener.passphrase.allowed.older v s.opener.slot s.opener.passphrase.bytes.now s.passphrase.now (number_asked place) (iterations_of s.derivation) r w
+    → MatchPlace place (λ to. IsHalfMade s.opener.passphrase.allowed.older v s.opener.slot s.opener.passphrase.bytes.now s.passphrase.now to (iterations_of s.derivation) r w)
+    (IsHalfMade s.opener.passphrase.allowed.older v s.opener.slot s.opener.passphrase.bytes.now s.passphrase.now None (iterations_of s.derivation) r w
+    ⊎ IsHalfChanged s.opener.passphrase.allowed.older v s.opener.slot s.opener.passphrase.bytes.now s.passphrase.now (iterations_of s.derivation) r w)
 torn_at v s r w (New to) x = x
 torn_at v s r w Opened x = inl x
 
 pub half_made : (v : List ℕ) (e : Edit) (s : Sealed) (r w : List ℕ) → deed_of e ≡ Seal s
-    → IsHalfMade v s.opener.slot s.opener.passphrase.bytes.now s.passphrase.now (number_asked s.place) (iterations_of s.derivation) r w → IsTorn1 v e r w
+    → IsHalfMade s.opener.passphrase.allowed.older v s.opener.slot s.opener.passphrase.bytes.now s.passphrase.now (number_asked s.place) (iterations_of s.derivation) r w → IsTorn1 v e r w
 half_made v e s r w is x = rw is (torn_at v s r w s.place x)
 
 module _ (payload : Data) (v : List ℕ) (e : Edit) (s : Sealed) (r : List ℕ) (n : ℕ) (u : List ℕ) (is : deed_of e ≡ Seal s) (x : IsSealedNew payload v s r n u) where

@@ -4,8 +4,6 @@ use Rattle.std.proofs.lemmas.Result.{err_from_is_err_and}
 use Rattle.luks_area.specs.DeviceFacts.{settled_unchanged}
 use Rattle.luks1_edits.specs.Accepted.{IsNewFault, IsNewFree}
 use Rattle.luks1_edits.specs.Edited.{number_asked}
-use Rattle.luks1_edits.specs.Leftovers.{IsSealedFirst}
-use Rattle.luks1_edits.specs.Steps.{IsKeyslotMade}
 use Rattle.luks1_edits.proofs.EditedFacts.{enough}
 use Rattle.luks1_edits.proofs.KeyslotPlaces.{key_bytes_in}
 use Rattle.luks1_edits.proofs.NewKeyslotFacts.{header_of_same, made_same, making, making_unrefused, new_refused, none_made, torn_same, unmade_ends}
@@ -55,8 +53,7 @@ make_keyslot-requires-clause-iterated g c =
     let d = c.args.sealed.now.derivation in
     let x = c.in_ok-judge_new.ensures.iterated in
     let many = enough d.iterations d.chosen (both_ways _ x.turns) (both_ways _ x.own) in
-    let same = c.iterations_of.ensures in
-    omega (arith, many, same)
+    omega (arith, many)
 
 pub returns-in_err-make_keyslot-clause-refused : goal.returns-in_err-make_keyslot-clause-refused
 returns-in_err-make_keyslot-clause-refused g c = λ tells e is x.
@@ -68,8 +65,7 @@ returns-in_err-make_keyslot-clause-refused g c = λ tells e is x.
     let new = subst (λ t. IsNewFree v t c.in_ok-n.n) c.number_asked.ensures (c.in_ok-n.ensures.new v slots) in
     let w = g.D.Device.bytes c.make_keyslot.new.device in
     let same = c.unlock.ensures.unchanged.same tells in
-    let torn = subst (λ k. IsSealedFirst v c.in_ok-n.n k s.passphrase.now c.in_ok-key.key c.args.random.now w) c.iterations_of.ensures
-    (torn_same same (c.in_err-make_keyslot.ensures.torn tells (header_of_same same x))) in
+    let torn = torn_same same (c.in_err-make_keyslot.ensures.torn tells (header_of_same same x)) in
     let p = err_from_is_err_and c.from_residual-in_err-make_keyslot.result c.from_residual-in_err-make_keyslot.ensures.1 in
     rw (p.1, p.2)
     (unmade_ends v a.data_ e c.args.random.now s.opener.slot s.opener.passphrase.bytes.now c.in_ok-key.key (number_asked s.place) s.derivation (making v e s is) a.bytes.now x (c.in_ok-key.ensures.opened tells x)
@@ -90,8 +86,7 @@ returns-clause-made g c = λ tells x.
       key = c.in_ok-key.key;
       opened = opened.opened;
       is_new = new.is_new;
-      made = subst (λ k. IsKeyslotMade v c.in_ok-n.n k s.passphrase.now c.in_ok-key.key c.args.random.now (g.D.Device.bytes c.make_keyslot.new.device)) c.iterations_of.ensures
-          (made_same same (c.in_ok-make_keyslot.ensures.made tells (header_of_same same x)));
+      made = made_same same (c.in_ok-make_keyslot.ensures.made tells (header_of_same same x));
       unrefused = λ e is.
           making_unrefused v a.data_ e c.args.random.now s.opener.slot s.opener.passphrase.bytes.now c.in_ok-key.key (number_asked s.place) s.derivation (making v e s is) a.bytes.now x opened
           c.in_ok-n.n new c.in_ok-judge_new.ensures.iterated (c.in_ok-judge_new.ensures.counted v slots (key_bytes_in a.bytes.now a.fields a.data_ v x c.requires.accepted.fields));

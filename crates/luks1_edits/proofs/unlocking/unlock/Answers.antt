@@ -1,6 +1,6 @@
 use Rattle.std.proofs.Common.{◌≡◌, IfSome, length, refl, subst, ◌∙◌, arith, rules}
 use Rattle.luks_area.specs.declared.area.AreaName.TheVariants.{Slot}
-use Rattle.luks1_edits.proofs.OpenerFacts.{locked_by, opened_by, plan_openable, plan_there, slots_in, unopened_by, used_or_free}
+use Rattle.luks1_edits.proofs.OpenerFacts.{locked_by, never_memory, opened_by, plan_openable, plan_there, slots_in, unopened_by, used_or_free}
 use Rattle.luks1_edits.proofs.unlocking.unlock.Goals as goal
 use Rattle.luks1_edits.proofs.unlocking.unlock.Goals.{then-n-gt7-via-then-n-gt7, then-n-gt7-via-else-n-gt7+then-not-is_used}
 
@@ -13,14 +13,15 @@ returns-then-n-gt7-clause-refused g c = λ tells x used. elim c.then-n-gt7.branc
       (slots_in c.args.header.now.bytes.now c.args.header.now.data_ (g.D.Device.bytes c.args.device.now) c.args.header.now.fields.slots x c.requires.accepted.fields.slots))
 ]
 
-pub open-requires : goal.open-requires
-open-requires g c =
+pub open_within-requires : goal.open_within-requires
+open_within-requires g c =
     let a = c.args.header.now in
     let used = c.if-not-is_used.ensures.used refl in
     let ready = plan_openable a.bytes.now a.fields c.args.n _ c.luks1_plan-plan.result c.requires.accepted.fields used c.luks1_plan-plan.ensures.judged in
     let there = plan_there a.bytes.now a.fields c.args.n _ c.luks1_plan-plan.result c.requires.accepted.fields used c.luks1_plan-plan.ensures.is in
     record {
       room = search rules;
+      passphrase = λ some. absurd (omega (arith, some));
       iterations = ready.turns;
       digest_iterations = ready.digest_turns;
       digest_length = ready.digest_length;
@@ -43,7 +44,7 @@ returns-in-Some-clause-opened g c = λ tells x.
     let a = c.args.header.now in
     let there = plan_there a.bytes.now a.fields c.args.n _ c.luks1_plan-plan.result c.requires.accepted.fields (c.if-not-is_used.ensures.used refl) c.luks1_plan-plan.ensures.is in
     let used = c.if-not-is_used.ensures.used refl v (slots_in a.bytes.now a.data_ v a.fields.slots x c.requires.accepted.fields.slots) in
-    opened_by a.bytes.now a.data_ v x c.args.n used c.luks1_plan-plan.result there c.args.passphrase.now c.in-Some.key c.in-Ok.found
+    opened_by a.bytes.now a.data_ v x c.args.n used c.luks1_plan-plan.result there c.args.passphrase.now.allowed.older c.args.passphrase.now.bytes.now c.in-Some.key c.in-Ok.found
     c.in-Ok.ensures.accepted (c.in-Ok.ensures.value tells) c.in-Some.is
 
 pub returns-in-None-clause-refused : goal.returns-in-None-clause-refused
@@ -52,7 +53,7 @@ returns-in-None-clause-refused g c = λ tells x.
     let a = c.args.header.now in
     let there = plan_there a.bytes.now a.fields c.args.n _ c.luks1_plan-plan.result c.requires.accepted.fields (c.if-not-is_used.ensures.used refl) c.luks1_plan-plan.ensures.is in
     let used = c.if-not-is_used.ensures.used refl v (slots_in a.bytes.now a.data_ v a.fields.slots x c.requires.accepted.fields.slots) in
-    locked_by a.bytes.now a.data_ v x c.args.n used c.luks1_plan-plan.result there c.args.passphrase.now c.in-Ok.found
+    locked_by a.bytes.now a.data_ v x c.args.n used c.luks1_plan-plan.result there c.args.passphrase.now.allowed.older c.args.passphrase.now.bytes.now c.in-Ok.found
     c.in-Ok.ensures.accepted (c.in-Ok.ensures.value tells) c.in-None.is
 
 pub returns-in-Err-clause-refused : goal.returns-in-Err-clause-refused
@@ -62,4 +63,10 @@ returns-in-Err-clause-refused g c = λ tells x.
     let there = plan_there a.bytes.now a.fields c.args.n _ c.luks1_plan-plan.result c.requires.accepted.fields (c.if-not-is_used.ensures.used refl) c.luks1_plan-plan.ensures.is in
     let used = c.if-not-is_used.ensures.used refl v (slots_in a.bytes.now a.data_ v a.fields.slots x c.requires.accepted.fields.slots) in
     rw c.keyslot_fault.ensures
-    (unopened_by a.bytes.now a.data_ v x c.args.n used c.luks1_plan-plan.result there c.args.passphrase.now c.in-Err.fault c.in-Err.ensures.fault)
+    (unopened_by a.bytes.now a.data_ v x c.args.n used c.luks1_plan-plan.result there c.args.passphrase.now.allowed.older c.args.passphrase.now.bytes.now c.in-Err.fault c.in-Err.ensures.fault)
+
+pub returns-in-Err-clause-memory : goal.returns-in-Err-clause-memory
+returns-in-Err-clause-memory g c =
+    let a = c.args.header.now in
+    let there = plan_there a.bytes.now a.fields c.args.n _ c.luks1_plan-plan.result c.requires.accepted.fields (c.if-not-is_used.ensures.used refl) c.luks1_plan-plan.ensures.is in
+    rw c.keyslot_fault.ensures (never_memory c.args.passphrase.now.allowed.older a.bytes.now c.args.n c.luks1_plan-plan.result there c.in-Err.fault c.in-Err.ensures.fault)
