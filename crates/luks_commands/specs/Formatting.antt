@@ -2,6 +2,7 @@
 use Rattle.std.specs.Prelude.{◌≡◌, ℕ, ◌≤◌, List}
 use Rattle.luks_area.specs.Ranges.{SameBut}
 use Rattle.luks_reading.specs.declared.report.Data.{Data}
+use Rattle.luks_slot.specs.declared.allowed.Allowed.{Allowed}
 use Rattle.luks_reading.specs.Answer.{Answer, AnswerWithin, opens}
 use Rattle.luks_reading.specs.Checked.{WellFormed}
 use Rattle.luks_making.specs.Derivations.{memory_by}
@@ -36,7 +37,7 @@ IsFormatted Luks2 making = IsFormatted2By making.data_ making.format (chosen_of 
 abbrev pub OpensNew : NewVersion → Making → List ℕ → List ℕ → List ℕ → Type 0
 OpensNew Luks1 making new passphrase key = Answer new 0 passphrase (opens key)
 OpensNew Luks2 making new passphrase key =
-    (memory : ℕ) → memory_by (slot_derivation making.format (chosen_of making.kdf)) ≤ memory → AnswerWithin memory new 0 passphrase (opens key)
+    (allowed : Allowed) → memory_by (slot_derivation making.format (chosen_of making.kdf)) ≤ allowed.memory → AnswerWithin allowed new 0 passphrase (opens key)
 
 -- what is made of the volume `old` for this passphrase and these random bytes: `new`
 pub record IsNewVolume (making : Making) (passphrase random old new : List ℕ) : Type 0 where

@@ -13,7 +13,7 @@ ghost use Rattle.luks_commands.specs.Formatting.{IsOfNewVolume, IsNewVolume, nee
 use crate::answers::{Answer, Refusal, Status, device_fault, end, unread};
 use crate::chosen::chosen_of;
 use crate::inputs::Inputs;
-use crate::open::kib_of;
+use crate::open::allowed_of;
 use crate::passphrase_file::{PassphraseFault, passphrase};
 use crate::printer::Printer;
 use crate::random_file::{RandomBytes, few_random_bytes, random_bytes};
@@ -203,7 +203,7 @@ fn make<D: Device>(
             let chosen = chosen_of(making.kdf);
             let allowed = Passphrase {
                 bytes: passphrase,
-                memory: kib_of(making.memory),
+                allowed: allowed_of(making.memory, false),
             };
             format2_by(
                 alloc,

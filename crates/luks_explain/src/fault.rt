@@ -60,11 +60,11 @@ pub enum Fault {
     SlotFree,
     /// The keyslot derives by Argon2, with more memory than is allowed.
     Argon2,
-    /// The key area's cipher isn't aes-xts-plain64 or aes-xts-plain.
+    /// The key area's cipher isn't aes-xts-plain64 or aes-xts-plain, nor one of older disks that is accepted.
     Cipher,
-    /// One of the keyslot's hashes isn't sha1, sha256 or sha512.
+    /// One of the keyslot's hashes isn't sha1, sha256 or sha512, nor one of older disks that is accepted.
     Hash,
-    /// The key of the key area's cipher hasn't 32 or 64 bytes.
+    /// The key of the key area's cipher hasn't a length of that cipher.
     KeySize,
     /// The passphrase doesn't open the keyslot.
     Locked,

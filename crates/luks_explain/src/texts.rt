@@ -30,9 +30,9 @@ pub(crate) fn means(fault: Fault) -> &'static str {
         Fault::SameSlot => "of remove: the keyslot of --by is that of --slot",
         Fault::SlotFree => "LUKS1: the keyslot is disabled",
         Fault::Argon2 => "the keyslot derives by Argon2, with more memory than is allowed",
-        Fault::Cipher => "the key area's cipher isn't aes-xts-plain64 or aes-xts-plain",
-        Fault::Hash => "one of the keyslot's hashes isn't sha1, sha256 or sha512",
-        Fault::KeySize => "the key of the key area's cipher hasn't 32 or 64 bytes",
+        Fault::Cipher => "the key area's cipher isn't aes-xts-plain64, nor one of --older",
+        Fault::Hash => "a hash of the keyslot isn't of sha1, sha256, sha512 or of --older",
+        Fault::KeySize => "the key of the key area's cipher hasn't a length of that cipher",
         Fault::Locked => "the passphrase doesn't open the keyslot",
         Fault::Passphrase => "a passphrase's file has more than 65536 bytes",
         Fault::Requirements => "the metadata names requirements, as of a reencryption",
@@ -103,8 +103,15 @@ pub(crate) fn place(fault: Fault) -> &'static str {
             "Overlap(NAME,NAME): Head1 and Head2 (the header), Slot(N) (the area of
        keyslot N), Segment(N) (the data)"
         }
-        Fault::NoSuchSlot | Fault::Cipher | Fault::KeySize => {
-            "open, add, change and remove: the keyslot of --slot or --by"
+        Fault::NoSuchSlot => "open, add, change and remove: the keyslot of --slot or --by",
+        Fault::Cipher => {
+            "open, add, change and remove: the keyslot of --slot or --by; accepted are
+       also aes-xts-plain, and by --older aes-cbc-plain, aes-cbc-plain64 and
+       aes-cbc-essiv:sha256"
+        }
+        Fault::KeySize => {
+            "open, add, change and remove: the keyslot of --slot or --by; the key of xts
+       has 32 or 64 bytes, that of cbc 16, 24 or 32"
         }
         Fault::SameSlot => "remove: the keyslots of --by and --slot",
         Fault::SlotFree => "open: the keyslot of --slot",
@@ -115,7 +122,8 @@ pub(crate) fn place(fault: Fault) -> &'static str {
         }
         Fault::Hash => {
             "open, add, change and remove: the hash of the derivation, the splitter or
-       the digest of the keyslot of --slot or --by"
+       the digest of the keyslot of --slot or --by; accepted by --older are also
+       sha224, sha384, ripemd160, whirlpool and blake2b-512"
         }
         Fault::Locked => "add, change and remove: the keyslot of --slot or --by",
         Fault::Passphrase => "the file of --passphrase or --new",
@@ -245,8 +253,9 @@ pub(crate) fn safe(fault: Fault) -> &'static str {
         | Fault::OtherVolume
         | Fault::OtherUse => { "everything: nothing was written" }
         Fault::Argon2 => { "everything: the passphrase goes through Argon2, which takes memory" }
-        Fault::Cipher | Fault::KeySize => "everything: luks doesn't decrypt such a key area",
-        Fault::Hash => "everything: luks doesn't know such a hash",
+        Fault::Cipher | Fault::Hash | Fault::KeySize => {
+            "everything: no passphrase was tried, and nothing was written"
+        }
     }
 }
 
@@ -340,9 +349,11 @@ pub(crate) fn next(fault: Fault) -> &'static str {
        of the header; for a new keyslot a smaller --kdf-memory, in LUKS1 --kdf
        pbkdf2"
         }
-        Fault::Cipher | Fault::Hash | Fault::KeySize => {
-            "try it by cryptsetup open --test-passphrase, on a copy of the header"
+        Fault::Cipher | Fault::Hash => {
+            "the same command with --older, where standard error says that it allows
+       it; else cryptsetup open --test-passphrase, on a copy of the header"
         }
+        Fault::KeySize => { "try it by cryptsetup open --test-passphrase, on a copy of the header" }
         Fault::Locked => {
             "luks open tells which keyslot it opens; a newline at the end of its file
        is a part of it, unless --passphrase-line leaves it out"

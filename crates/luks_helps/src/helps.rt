@@ -126,6 +126,10 @@ than --memory allows, of another cipher than aes-xts-plain64 or aes-xts-plain,
 of another hash than format takes, or damaged. Where none opens, standard error
 names them.
 
+With --older the ciphers and hashes of older disks are accepted too:
+aes-cbc-plain, aes-cbc-plain64 and aes-cbc-essiv:sha256; sha224, sha384,
+ripemd160, whirlpool and blake2b-512. Standard error says where that would help.
+
 The header names the memory of Argon2, 1024 MiB for most volumes, and anybody
 may have written it: so none is taken but by --memory. Standard error says how
 much a keyslot takes that was refused.
@@ -180,7 +184,8 @@ passes; where 4 take longer, it takes less memory, but at least 64 MiB. Standard
 error says what it chose.
 
 Memory is taken for Argon2 by --memory alone, once to open the one and once to
-seal the other; standard error says how much.
+seal the other; standard error says how much. --older accepts a cipher and hashes
+of older disks, as open does; the new keyslot has them too.
 
 Where only the second copy of a LUKS2 header is sound and another use of the
 disk, as a file system or a partition table, stands in the place of the first,
@@ -239,7 +244,8 @@ takes that long on this machine, in place of --iterations or --passes: at least
 least 64 MiB. Standard error says what it chose.
 
 Memory is taken for Argon2 by --memory alone, once to open it and once to seal
-it; standard error says how much.
+it; standard error says how much. --older accepts a cipher and hashes of older
+disks, as open does; the keyslot keeps them.
 
 Where only the second copy of a LUKS2 header is sound and another use of the
 disk, as a file system or a partition table, stands in the place of the first,
@@ -290,6 +296,7 @@ copy of the header that doesn't count and the one that does; then the zeros. Of
 LUKS2 the salts are the first 128 bytes of the random file; LUKS1 takes none.
 
 Memory is taken for Argon2 by --memory alone; standard error says how much.
+--older accepts a cipher and hashes of older disks, as open does.
 
 Where only the second copy of a LUKS2 header is sound and another use of the
 disk, as a file system or a partition table, stands in the place of the first,

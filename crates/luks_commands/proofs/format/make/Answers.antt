@@ -8,6 +8,7 @@ use Rattle.luks_formatting.specs.RandomBytes.{volume_key}
 use Rattle.luks_making.specs.declared.derivation.NewDerivation.{NewDerivation}
 use Rattle.luks_commands.specs.Chosen.{chosen_of}
 use Rattle.luks_commands.specs.Formatting.{OpensNew}
+use Rattle.luks_slot.specs.declared.allowed.Allowed.{Allowed}
 use Rattle.luks_commands.specs.OpenAnswers.{kib_of}
 use Rattle.luks_commands.proofs.FormatFacts.{made, made_fault, same_by, same_or_memory_by}
 use Rattle.luks_request.specs.declared.request.NewVersion.TheVariants.{Luks1, Luks2}
@@ -31,7 +32,7 @@ returns-in-Luks2-clause-made g c = λ tells.
     let formatted : OnOk c.format2_by.result (IsFormatted2By making.data_ making.format (chosen_of making.kdf) p random old new) =
     subst (λ (chosen : Option NewDerivation). OnOk c.format2_by.result (IsFormatted2By making.data_ making.format chosen p random old new)) c.chosen_of-chosen.ensures (c.format2_by.ensures.formatted tells) in
     let opened : OnOk c.format2_by.result (OpensNew Luks2 making new p (volume_key random)) =
-    subst (λ (chosen : Option NewDerivation). OnOk c.format2_by.result ((memory : ℕ) → memory_by (slot_derivation making.format chosen) ≤ memory → AnswerWithin memory new 0 p (opens (volume_key random))))
+    subst (λ (chosen : Option NewDerivation). OnOk c.format2_by.result ((allowed : Allowed) → memory_by (slot_derivation making.format chosen) ≤ allowed.memory → AnswerWithin allowed new 0 p (opens (volume_key random))))
     c.chosen_of-chosen.ensures (c.format2_by.ensures.opens tells) in
     made c.format2_by.result making Luks2 p random old new c.in-Luks2.is formatted (c.format2_by.ensures.well_formed tells) opened
 
@@ -46,7 +47,7 @@ returns-in-Luks2-clause-fault g c =
     let random = c.args.random.now in
     let total = g.D.Device.size c.args.device.now in
     let allowed : IfErr c.format2_by.result (IsAnsweredFaultOrMemory (IsFormat2FaultBy c.chosen_of-chosen.result (allowed_for (kib_of making.memory) p) total making.format random)) =
-    subst (λ (n : ℕ). IfErr c.format2_by.result (IsAnsweredFaultOrMemory (IsFormat2FaultBy c.chosen_of-chosen.result (allowed_for n p) total making.format random))) c.kib_of.ensures c.format2_by.ensures.fault in
+    subst (λ (a : Allowed). IfErr c.format2_by.result (IsAnsweredFaultOrMemory (IsFormat2FaultBy c.chosen_of-chosen.result (allowed_for a.memory p) total making.format random))) c.allowed_of.ensures c.format2_by.ensures.fault in
     let held : IfErr c.format2_by.result (IsAnsweredFaultOrMemory (IsFormat2FaultBy (chosen_of making.kdf) (allowed_for (kib_of making.memory) p) total making.format random)) =
     subst (λ (chosen : Option NewDerivation). IfErr c.format2_by.result (IsAnsweredFaultOrMemory (IsFormat2FaultBy chosen (allowed_for (kib_of making.memory) p) total making.format random))) c.chosen_of-chosen.ensures allowed in
     made_fault c.format2_by.result making p total random c.in-Luks2.is held
