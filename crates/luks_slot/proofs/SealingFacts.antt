@@ -6,8 +6,8 @@ use Rattle.std.proofs.Math.Seq.{take-append_seam, drop-append_seam}
 use Rattle.luks_area.specs.RangeFacts.{part-part}
 use Rattle.luks_area.specs.Ranges.{part, IsAt, SameBut}
 use Rattle.luks_area.specs.Sectors.{rounded_to_sectors, sector_count}
-use Rattle.luks_kdf.specs.declared.hash_name.HashName.{HashName}
-use Rattle.luks_kdf.specs.Names.{hash_of, digest_size_of}
+use Rattle.luks_kdf.specs.declared.keyslot_hash.KeyslotHash.{KeyslotHash}
+use Rattle.luks_kdf.specs.KeyslotNames.{keyslot_digest, keyslot_digest_size}
 use Rattle.luks_kdf.specs.Splitter.{merge, split}
 use Rattle.luks_xts.specs.Xts.{XtsOpen}
 use Rattle.luks_slot.specs.declared.plan.SlotPlan.{SlotPlan}
@@ -107,10 +107,10 @@ sealed_area plan area passphrase key random stripes size is opened =
     }
 
 -- the same of what was written over the first sectors of a plan's area
-pub sealed_by : (plan : SlotPlan) (w passphrase key random last cipher_key : List ℕ) (hash : HashName)
+pub sealed_by : (plan : SlotPlan) (w passphrase key random last cipher_key : List ℕ) (hash : KeyslotHash)
     → 1 ≤ plan.stripes → length random + length last ≡ stripe_bytes plan
     → rounded_to_sectors (stripe_bytes plan) ≤ plan.area.len
-    → random ++ last ≡ split (hash_of hash) (digest_size_of hash) key ((plan.stripes - 1) + 1) random
+    → random ++ last ≡ split (keyslot_digest hash) (keyslot_digest_size hash) key ((plan.stripes - 1) + 1) random
     → hash_by_name plan.splitter_hash.now ≡ hash → cipher_key ≡ area_key plan passphrase
     → (let used = length random + length last in
     opened_sectors cipher_key (part w plan.area.start (rounded_to_sectors used)) (sector_count used)
@@ -123,8 +123,8 @@ sealed_by plan w passphrase key random last cipher_key hash some size fits is_sp
     let there : opened_sectors cipher_key (part w start (n * 512)) n ≡ filled (n * 512) (random ++ last) =
     subst (λ (b : ℕ). opened_sectors cipher_key (part w start (rounded_to_sectors b)) (sector_count b) ≡ filled (rounded_to_sectors b) (random ++ last)) size written in
     let stripes : random ++ last ≡ stripes_of plan key random =
-    is_split ∙ ap (λ m. split (hash_of hash) (digest_size_of hash) key m random) more
-    ∙ ap (λ (h : HashName). split (hash_of h) (digest_size_of h) key plan.stripes random) (sym is_hash) in
+    is_split ∙ ap (λ m. split (keyslot_digest hash) (keyslot_digest_size hash) key m random) more
+    ∙ ap (λ (h : KeyslotHash). split (keyslot_digest h) (keyslot_digest_size h) key plan.stripes random) (sym is_hash) in
     sealed_area plan (area_bytes w plan.area) passphrase key random (random ++ last) (length-append random last ∙ size) stripes
     (ap (λ k. opened_sectors k (area_bytes w plan.area) n) (sym is_key)
     ∙ sym (opened_sectors-shorter cipher_key w start (n * 512) plan.area.len n fits (omega arith)) ∙ there)
@@ -135,29 +135,29 @@ same_sectors v w start m n is same = subst (λ (k : ℕ). SameBut (IsAt start (r
 
 -- a sealed area opens to the key that its stripes hold, where that meets the digest
 stripes_open : (plan : SlotPlan) (area passphrase key random : List ℕ) → IsSealed plan area passphrase key random
-    → merge (hash_of (hash_by_name plan.splitter_hash.now)) (digest_size_of (hash_by_name plan.splitter_hash.now))
+    → merge (keyslot_digest (hash_by_name plan.splitter_hash.now)) (keyslot_digest_size (hash_by_name plan.splitter_hash.now))
     plan.key_bytes plan.stripes (stripes_of plan key random) ≡ key
     → slot_key plan area passphrase ≡ (if meets_digest plan.digest key then Some key else None)
 stripes_open plan area passphrase key random x merges =
     let hash = hash_by_name plan.splitter_hash.now in
-    let merged : merge (hash_of hash) (digest_size_of hash) plan.key_bytes plan.stripes (stripes_in plan (area_key plan passphrase) area) ≡ key =
-    ap (merge (hash_of hash) (digest_size_of hash) plan.key_bytes plan.stripes) x.stripes ∙ merges in
+    let merged : merge (keyslot_digest hash) (keyslot_digest_size hash) plan.key_bytes plan.stripes (stripes_in plan (area_key plan passphrase) area) ≡ key =
+    ap (merge (keyslot_digest hash) (keyslot_digest_size hash) plan.key_bytes plan.stripes) x.stripes ∙ merges in
     sym (opens_to plan area passphrase (area_key plan passphrase) key hash (sym merged) refl refl)
 
 -- merging undoes splitting by this hash
-abbrev pub UndoesSplitting : HashName → Type 0
+abbrev pub UndoesSplitting : KeyslotHash → Type 0
 UndoesSplitting hash =
     (key random : List ℕ) (n : ℕ) → length random ≡ n * length key
-    → merge (hash_of hash) (digest_size_of hash) (length key) (n + 1) (split (hash_of hash) (digest_size_of hash) key (n + 1) random) ≡ key
+    → merge (keyslot_digest hash) (keyslot_digest_size hash) (length key) (n + 1) (split (keyslot_digest hash) (keyslot_digest_size hash) key (n + 1) random) ≡ key
 
 -- what merging the stripes gives, by the plan's numbers
-merge-split : (hash : HashName) (k n : ℕ) (key random : List ℕ) → 1 ≤ n → length key ≡ k
-    → merge (hash_of hash) (digest_size_of hash) (length key) ((n - 1) + 1) (split (hash_of hash) (digest_size_of hash) key ((n - 1) + 1) random) ≡ key
-    → merge (hash_of hash) (digest_size_of hash) k n (split (hash_of hash) (digest_size_of hash) key n random) ≡ key
+merge-split : (hash : KeyslotHash) (k n : ℕ) (key random : List ℕ) → 1 ≤ n → length key ≡ k
+    → merge (keyslot_digest hash) (keyslot_digest_size hash) (length key) ((n - 1) + 1) (split (keyslot_digest hash) (keyslot_digest_size hash) key ((n - 1) + 1) random) ≡ key
+    → merge (keyslot_digest hash) (keyslot_digest_size hash) k n (split (keyslot_digest hash) (keyslot_digest_size hash) key n random) ≡ key
 merge-split hash k n key random some is merges =
     let more : (n - 1) + 1 ≡ n = omega (arith, some) in
     let Merges : ℕ → ℕ → Type 0 =
-    λ l m. merge (hash_of hash) (digest_size_of hash) l m (split (hash_of hash) (digest_size_of hash) key m random) ≡ key in
+    λ l m. merge (keyslot_digest hash) (keyslot_digest_size hash) l m (split (keyslot_digest hash) (keyslot_digest_size hash) key m random) ≡ key in
     subst (λ l. Merges l n) is (subst (Merges (length key)) more merges)
 
 -- a sealed area opens to its key, where merging undoes splitting
@@ -171,16 +171,16 @@ sealed_opens plan area passphrase key random some is whole undoes sealed =
     (undoes key random (plan.stripes - 1) (whole ∙ ap (λ k. (plan.stripes - 1) * k) (sym is))))
 
 -- the same of the stripes that were written
-pub written_opens : (plan : SlotPlan) (area passphrase key bytes random row : List ℕ) (hash : HashName) → 1 ≤ plan.stripes
+pub written_opens : (plan : SlotPlan) (area passphrase key bytes random row : List ℕ) (hash : KeyslotHash) → 1 ≤ plan.stripes
     → bytes ≡ key → length key ≡ plan.key_bytes → hash_by_name plan.splitter_hash.now ≡ hash
-    → row ≡ split (hash_of hash) (digest_size_of hash) bytes ((plan.stripes - 1) + 1) random
-    → merge (hash_of hash) (digest_size_of hash) (length bytes) ((plan.stripes - 1) + 1) row ≡ bytes
+    → row ≡ split (keyslot_digest hash) (keyslot_digest_size hash) bytes ((plan.stripes - 1) + 1) random
+    → merge (keyslot_digest hash) (keyslot_digest_size hash) (length bytes) ((plan.stripes - 1) + 1) row ≡ bytes
     → IsSealed plan area passphrase key random
     → slot_key plan area passphrase ≡ (if meets_digest plan.digest key then Some key else None)
 written_opens plan area passphrase key bytes random row hash some same is is_hash is_split merges sealed =
-    let Merges : HashName → List ℕ → Type 0 =
-    λ h k. merge (hash_of h) (digest_size_of h) (length k) ((plan.stripes - 1) + 1) (split (hash_of h) (digest_size_of h) k ((plan.stripes - 1) + 1) random) ≡ k in
-    let there : Merges hash bytes = ap (merge (hash_of hash) (digest_size_of hash) (length bytes) ((plan.stripes - 1) + 1)) (sym is_split) ∙ merges in
+    let Merges : KeyslotHash → List ℕ → Type 0 =
+    λ h k. merge (keyslot_digest h) (keyslot_digest_size h) (length k) ((plan.stripes - 1) + 1) (split (keyslot_digest h) (keyslot_digest_size h) k ((plan.stripes - 1) + 1) random) ≡ k in
+    let there : Merges hash bytes = ap (merge (keyslot_digest hash) (keyslot_digest_size hash) (length bytes) ((plan.stripes - 1) + 1)) (sym is_split) ∙ merges in
     stripes_open plan area passphrase key random sealed
     (merge-split (hash_by_name plan.splitter_hash.now) plan.key_bytes plan.stripes key random some is
     (subst (Merges (hash_by_name plan.splitter_hash.now)) same (subst (λ h. Merges h bytes) (sym is_hash) there)))

@@ -20,14 +20,18 @@ ivs_of_mode mode =
     else if bytes_eq mode (codes "cbc-plain64") then Some Plain64
     else None
 
+-- the same of a whole text
+abbrev pub ivs_of_text : List ℕ → Option IvKind
+ivs_of_text text =
+    if bytes_eq text (codes "aes-cbc-essiv:sha256") then Some Essiv
+    else if bytes_eq text (codes "aes-cbc-plain") then Some Plain
+    else if bytes_eq text (codes "aes-cbc-plain64") then Some Plain64
+    else None
+
 -- the same of a cipher of older disks: aes in cbc mode
 abbrev pub older_ivs : AreaCipher → Option IvKind
 older_ivs (Apart name mode) = if bytes_eq name.now (codes "aes") then ivs_of_mode mode.now else None
-older_ivs (Whole text) =
-    if bytes_eq text.now (codes "aes-cbc-essiv:sha256") then Some Essiv
-    else if bytes_eq text.now (codes "aes-cbc-plain") then Some Plain
-    else if bytes_eq text.now (codes "aes-cbc-plain64") then Some Plain64
-    else None
+older_ivs (Whole text) = ivs_of_text text.now
 
 -- what decrypts the sectors of an area (one with another cipher is refused)
 abbrev pub cipher_by : Option IvKind → SectorCipher

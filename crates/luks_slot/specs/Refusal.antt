@@ -1,5 +1,5 @@
 -- When a keyslot is refused: its plan and what is allowed decide.
-use Rattle.std.specs.Prelude.{ℕ, ◌-◌, ◌*◌, ◌^◌, ◌==◌, ◌&&◌, ◌||◌, nat_lt, length, not, Bool, true, false, Option, Some, None, is_some, codes, if◌then◌else◌}
+use Rattle.std.specs.Prelude.{ℕ, ◌-◌, ◌*◌, ◌^◌, ◌==◌, ◌&&◌, ◌||◌, nat_lt, List, length, not, Bool, true, false, Option, Some, None, is_some, codes, if◌then◌else◌}
 use Rattle.std.specs.Str.{bytes_eq}
 use Rattle.luks_kdf.specs.KeyslotNames.{older_hash_named}
 use Rattle.luks_kdf.specs.Names.{hash_named}

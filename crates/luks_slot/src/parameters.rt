@@ -2,7 +2,7 @@
 
 ghost use Rattle.std.specs.Prelude.{◌≡◌, ◌==◌, is_some, MatchResult, Some, None, IfErr, IfOk, IfSome, IsTrue, OnOk};
 ghost use Rattle.luks_slot.specs.Parameters.{AreParameters, IsDerivation};
-ghost use Rattle.luks_slot.specs.Ciphers.{cipher_of, is_size_of, ivs_of_mode, older_ivs};
+ghost use Rattle.luks_slot.specs.Ciphers.{cipher_of, is_size_of, ivs_of_mode, ivs_of_text, older_ivs};
 ghost use Rattle.luks_slot.specs.Refusal.{is_allowed_cipher, is_argon2_refused, is_known_derivation, is_open_cipher, slot_refusal, slot_refusal_within};
 
 use crate::allowed::Allowed;
@@ -160,10 +160,7 @@ fn older_ivs(cipher: &AreaCipher<'_>) -> Option<IvKind>
     match *cipher {
         AreaCipher::Apart { name: "aes", mode } => ivs_of_mode(mode),
         AreaCipher::Apart { .. } => None,
-        AreaCipher::Whole("aes-cbc-essiv:sha256") => Some(IvKind::Essiv),
-        AreaCipher::Whole("aes-cbc-plain") => Some(IvKind::Plain),
-        AreaCipher::Whole("aes-cbc-plain64") => Some(IvKind::Plain64),
-        AreaCipher::Whole(_) => None,
+        AreaCipher::Whole(text) => ivs_of_text(text),
     }
 }
 
@@ -174,6 +171,17 @@ fn ivs_of_mode(mode: &str) -> Option<IvKind>
         "cbc-essiv:sha256" => Some(IvKind::Essiv),
         "cbc-plain" => Some(IvKind::Plain),
         "cbc-plain64" => Some(IvKind::Plain64),
+        _ => None,
+    }
+}
+
+fn ivs_of_text(text: &str) -> Option<IvKind>
+    ensures { result ≡ ivs_of_text text.now }
+{
+    match text {
+        "aes-cbc-essiv:sha256" => Some(IvKind::Essiv),
+        "aes-cbc-plain" => Some(IvKind::Plain),
+        "aes-cbc-plain64" => Some(IvKind::Plain64),
         _ => None,
     }
 }

@@ -1,6 +1,6 @@
 use Rattle.std.proofs.Common.{◌≡◌, ◌+◌, ◌-◌, ◌*◌, ◌<◌, ◌∙◌, length, arith, ap, refl, rules, subst}
 use Rattle.luks_area.specs.Device.{unchanged-then}
-use Rattle.luks_kdf.specs.Names.{digest_size_of, hash_of}
+use Rattle.luks_kdf.specs.KeyslotNames.{keyslot_digest, keyslot_digest_size}
 use Rattle.luks_kdf.specs.Splitter.{mixed}
 use Rattle.luks_slot.specs.Opening.{area_bytes, stripes_from}
 use Rattle.luks_slot.specs.Reading.{IsReading}
@@ -62,5 +62,5 @@ returns-clause-value g c tells =
     (c.loop-i.invariant.unchanged.same tells) c.loop-i.invariant.same_key c.loop-i.invariant.same_area
     (ap (λ m. m * k) last) (c.read-2.auto.out ∙ stripe_len) (omega (arith, more)) c.requires.sectors
     (omega (arith, long, c.requires.within)) (c.in_ok-read-2.ensures.value tells) in
-    merges (hash_of c.args.hash) (digest_size_of c.args.hash) k n i (stripes_from reader.key (area_bytes before reader.area) k n)
+    merges (keyslot_digest c.args.hash) (keyslot_digest_size c.args.hash) k n i (stripes_from reader.key (area_bytes before reader.area) k n)
     _ _ _ more (c.loop-i.invariant.block tells) stripe c.xor_into.ensures

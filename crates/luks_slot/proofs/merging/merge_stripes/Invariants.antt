@@ -1,6 +1,6 @@
 use Rattle.std.proofs.Common.{◌≡◌, ◌*◌}
 use Rattle.luks_area.specs.Device.{IsUnchanged}
-use Rattle.luks_kdf.specs.Names.{digest_size_of, hash_of}
+use Rattle.luks_kdf.specs.KeyslotNames.{keyslot_digest, keyslot_digest_size}
 use Rattle.luks_kdf.specs.Splitter.{mixed}
 use Rattle.luks_slot.specs.Opening.{area_bytes, stripes_from}
 use Rattle.luks_slot.specs.Reading.{IsReading}
@@ -14,6 +14,6 @@ invariant-loop-i g l = record {
   same_area : l.reader.area ≡ l.initial.reader.area;
   same_key : l.reader.key ≡ l.initial.reader.key;
   reading : g.D.Device.tells → IsReading l.reader (g.D.Device.bytes l.device) (l.i * l.len);
-  block : g.D.Device.tells → l.block ≡ mixed (hash_of l.hash) (digest_size_of l.hash) l.len
+  block : g.D.Device.tells → l.block ≡ mixed (keyslot_digest l.hash) (keyslot_digest_size l.hash) l.len
       (stripes_from l.initial.reader.key (area_bytes (g.D.Device.bytes l.initial.device) l.initial.reader.area) l.len l.stripes) l.i;
 }

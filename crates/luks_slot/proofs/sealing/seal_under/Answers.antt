@@ -1,5 +1,5 @@
 use Rattle.std.proofs.Common.{◌≡◌, ◌+◌, ◌-◌, ◌*◌, ◌++◌, ◌∙◌, length, ap, sym}
-use Rattle.luks_kdf.specs.Names.{hash_of, digest_size_of}
+use Rattle.luks_kdf.specs.KeyslotNames.{keyslot_digest, keyslot_digest_size}
 use Rattle.luks_kdf.specs.Splitter.{split}
 use Rattle.luks_slot.specs.Opening.{area_bytes}
 use Rattle.luks_area.specs.DeviceFacts.{touches-range}
@@ -18,7 +18,7 @@ returns-clause-sealed g c tells passphrase is_key =
     let all = length-stripes plan random last c.requires.ready.some_stripes c.requires.ready.random_length (c.write_last_stripe.ensures.len ∙ key_size) in
     let row : length random ≡ (plan.stripes - 1) * length bytes = c.requires.ready.random_length ∙ ap (λ k. (plan.stripes - 1) * k) (sym key_size) in
     let whole = c.write_last_stripe.ensures.whole (plan.stripes - 1) row
-    ∙ ap (λ k. split (hash_of hash) (digest_size_of hash) k ((plan.stripes - 1) + 1) random) c.as_bytes-bytes.ensures.value in
+    ∙ ap (λ k. split (keyslot_digest hash) (keyslot_digest_size hash) k ((plan.stripes - 1) + 1) random) c.as_bytes-bytes.ensures.value in
     sealed_by plan (g.D.Device.bytes c.write_stripes.new.device) passphrase c.args.key.now random last c.args.cipher_key hash
     c.requires.ready.some_stripes all c.requires.ready.sectors whole c.requires.hash is_key
     (c.in_ok-write_stripes.ensures.value tells)

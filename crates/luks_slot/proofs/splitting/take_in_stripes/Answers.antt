@@ -1,5 +1,5 @@
 use Rattle.std.proofs.Common.{◌≡◌, ◌∙◌, ap, arith, length}
-use Rattle.luks_kdf.specs.Names.{digest_size_of, hash_of}
+use Rattle.luks_kdf.specs.KeyslotNames.{keyslot_digest, keyslot_digest_size}
 use Rattle.luks_kdf.specs.Splitter.{mixed}
 use Rattle.luks_slot.proofs.SplittingFacts.{count-stripes, stripe_at-cut}
 use Rattle.luks_slot.proofs.splitting.take_in_stripes.Goals as goal
@@ -22,4 +22,4 @@ returns-clause-value c n whole =
     let count = count-stripes k (length row) n c.requires.some_bytes whole in
     let turns : c.loop-i.i ≡ n = omega (arith, c.loop-i-test.false, c.loop-i.auto.i-end, count) in
     c.loop-i.invariant.block
-    ∙ ap (mixed (hash_of c.args.hash) (digest_size_of c.args.hash) k row) turns
+    ∙ ap (mixed (keyslot_digest c.args.hash) (keyslot_digest_size c.args.hash) k row) turns
