@@ -130,12 +130,12 @@ mode_of : (m : List ℕ) → is_some (ivs_of_mode m) ≡ true → (m ≡ codes "
 mode_of m is = elim (cases_Bool (bytes_eq m (codes "cbc-essiv:sha256"))) [
   | inl essiv ↦ inl ((bytes_eq-Decides m (codes "cbc-essiv:sha256")).0 essiv)
   | inr not_essiv ↦ inr (elim (cases_Bool (bytes_eq m (codes "cbc-plain"))) [
-      | inl plain ↦ inl ((bytes_eq-Decides m (codes "cbc-plain")).0 plain)
-      | inr not_plain ↦ inr (elim (cases_Bool (bytes_eq m (codes "cbc-plain64"))) [
-          | inl long ↦ (bytes_eq-Decides m (codes "cbc-plain64")).0 long
-          | inr not_long ↦ absurd (let none : is_some (ivs_of_mode m) ≡ false = rw (not_essiv, not_plain, not_long) refl in true≢false (sym is ∙ none))
-        ])
+    | inl plain ↦ inl ((bytes_eq-Decides m (codes "cbc-plain")).0 plain)
+    | inr not_plain ↦ inr (elim (cases_Bool (bytes_eq m (codes "cbc-plain64"))) [
+      | inl long ↦ (bytes_eq-Decides m (codes "cbc-plain64")).0 long
+      | inr not_long ↦ absurd (let none : is_some (ivs_of_mode m) ≡ false = rw (not_essiv, not_plain, not_long) refl in true≢false (sym is ∙ none))
     ])
+  ])
 ]
 
 joined_older : (a b : AreaCipher) → IsJoinedCipher a b → is_older_cipher a ≡ true → is_older_cipher b ≡ true
@@ -146,9 +146,9 @@ joined_older (Apart n m) (Whole t) is older = elim (cases_Bool (bytes_eq n.now (
       elim (mode_of m.now known) [
         | inl mode ↦ rw (is, name, mode) refl
         | inr other ↦ elim other [
-            | inl mode ↦ rw (is, name, mode) refl
-            | inr mode ↦ rw (is, name, mode) refl
-          ]
+          | inl mode ↦ rw (is, name, mode) refl
+          | inr mode ↦ rw (is, name, mode) refl
+        ]
       ])
   | inr other ↦ absurd (let none : is_older_cipher (Apart n m) ≡ false = rw other refl in true≢false (sym older ∙ none))
 ]
