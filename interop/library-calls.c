@@ -40,8 +40,14 @@ static int check(int fd, uint64_t offset, uint64_t length, bool is_detached)
     return 0;
 }
 
+/* Whether the word for what is allowed ends with it: MIB, or MIB,older. */
+static uint32_t is_older(const char *allowed)
+{
+    return strstr(allowed, ",older") != NULL;
+}
+
 /* The keyslot is a number, or `any`; where `room` is given, the key is printed behind the answer. */
-static int opens(int fd, uint64_t offset, uint64_t length, const char *slot, const char *file, const char *mib, const char *room)
+static int opens(int fd, uint64_t offset, uint64_t length, const char *slot, const char *file, const char *allowed, const char *room)
 {
     struct luks_opened opened;
     size_t words_room = 65537, key_room = room ? strtoul(room, NULL, 10) : 0;
@@ -51,9 +57,10 @@ static int opens(int fd, uint64_t offset, uint64_t length, const char *slot, con
     uint8_t *exact = malloc(bytes ? bytes : 1);
     memcpy(exact, words, bytes);
     fclose(from);
-    uint32_t memory = (uint32_t)strtoul(mib, NULL, 10) * 1024;
-    uint32_t answer = strcmp(slot, "any") == 0 ? luks_unlock(fd, offset, length, bytes ? exact : NULL, bytes, memory, key, key_room, &opened)
-                                               : luks_open(fd, offset, length, (uint8_t)strtoul(slot, NULL, 10), exact, bytes, memory, key, key_room, &opened);
+    uint32_t memory = (uint32_t)strtoul(allowed, NULL, 10) * 1024, older = is_older(allowed);
+    uint32_t answer = strcmp(slot, "any") == 0 ? luks_unlock(fd, offset, length, bytes ? exact : NULL, bytes, memory, older, key, key_room, &opened)
+                                               : luks_open(fd, offset, length, (uint8_t)strtoul(slot, NULL, 10), exact, bytes, memory, older, key, key_room,
+                                                           &opened);
     int status = 0;
     if (answer == LUKS_DONE)
         printf("slot %u opens\n", opened.slot);
@@ -159,11 +166,12 @@ static struct luks_derivation derivation_of(char **words)
     return (struct luks_derivation){.kind = number(words[0]), .turns = number(words[1]), .memory = number(words[2]), .lanes = number(words[3])};
 }
 
-/* An edit: KIND SLOT BY TO ITERATIONS MIB PASSPHRASE TEXT RANDOM PLACE [KDF TURNS KIB LANES]; RANDOM is a file, or `system`. */
+/* An edit: KIND SLOT BY TO ITERATIONS MIB[,older] PASSPHRASE TEXT RANDOM PLACE [KDF TURNS KIB LANES]; RANDOM is a file, or `system`. */
 static int edits(int fd, uint64_t offset, uint64_t length, char **words)
 {
     struct luks_edit edit = {.kind = number(words[0]), .slot = number(words[1]), .by = number(words[2]), .to = number(words[3]),
-                             .iterations = number(words[4]), .memory = number(words[5]) * 1024, .derivation = derivation_of(words + 10)};
+                             .iterations = number(words[4]), .memory = number(words[5]) * 1024, .older = is_older(words[5]),
+                             .derivation = derivation_of(words + 10)};
     size_t old_bytes, text_bytes, random_bytes = 0;
     bool is_detached = strcmp(words[9], "detached") == 0;
     uint8_t *old = file_of(words[6], 65537, &old_bytes), *text = file_of(words[7], 65537, &text_bytes), *random = NULL;
@@ -187,17 +195,18 @@ static int edits(int fd, uint64_t offset, uint64_t length, char **words)
 static int edits_by_name(int fd, uint64_t offset, uint64_t length, char **words)
 {
     uint32_t kind = number(words[0]), slot = number(words[1]), by = number(words[2]), iterations = number(words[4]), memory = number(words[5]) * 1024;
+    uint32_t older = is_older(words[5]);
     size_t old_bytes, text_bytes;
     bool is_detached = strcmp(words[9], "detached") == 0;
     uint8_t *old = file_of(words[6], 65537, &old_bytes), *text = file_of(words[7], 65537, &text_bytes);
     struct luks_derivation derivation = derivation_of(words + 10), *chosen = words[10] != NULL ? &derivation : NULL;
     uint32_t made = LUKS_NO_SLOT, answer = LUKS_USAGE;
     if (kind == LUKS_ADD)
-        answer = luks_add(fd, offset, length, is_detached, by, old, old_bytes, text, text_bytes, number(words[3]), iterations, chosen, memory, &made);
+        answer = luks_add(fd, offset, length, is_detached, by, old, old_bytes, text, text_bytes, number(words[3]), iterations, chosen, memory, older, &made);
     else if (kind == LUKS_CHANGE)
-        answer = luks_change(fd, offset, length, is_detached, slot, old, old_bytes, text, text_bytes, iterations, chosen, memory, &made);
+        answer = luks_change(fd, offset, length, is_detached, slot, old, old_bytes, text, text_bytes, iterations, chosen, memory, older, &made);
     else if (kind == LUKS_REMOVE)
-        answer = luks_remove(fd, offset, length, is_detached, slot, by, old, old_bytes, memory);
+        answer = luks_remove(fd, offset, length, is_detached, slot, by, old, old_bytes, memory, older);
     else if (kind == LUKS_REPAIR)
         answer = luks_repair(fd, offset, length, is_detached);
     else if (kind == LUKS_LABEL)
@@ -334,12 +343,13 @@ static int wrong(int fd)
     struct luks_report report;
     struct luks_opened opened;
     uint8_t byte = 0;
-    printf("%u %u %u %u\n", luks_check(fd, 0, LUKS_TO_END, false, NULL), luks_unlock(fd, 0, LUKS_TO_END, NULL, 1, 0, NULL, 0, &opened),
-           luks_unlock(fd, 0, LUKS_TO_END, &byte, 1, 0, NULL, 1, &opened), luks_check_bytes(&byte, 1, 0, false, &report));
+    printf("%u %u %u %u\n", luks_check(fd, 0, LUKS_TO_END, false, NULL), luks_unlock(fd, 0, LUKS_TO_END, NULL, 1, 0, 0, NULL, 0, &opened),
+           luks_unlock(fd, 0, LUKS_TO_END, &byte, 1, 0, 0, NULL, 1, &opened), luks_check_bytes(&byte, 1, 0, false, &report));
     printf("%zu %zu %zu\n", luks_fault_name(98, &byte, 0), luks_fault_text(1, 0, &byte, 0), luks_fault_text(1, 5, &byte, 1));
     size_t long_one = (size_t)1 << 32;
     uint8_t *words = mmap(NULL, long_one, PROT_READ, MAP_PRIVATE | MAP_ANONYMOUS | MAP_NORESERVE, -1, 0);
-    printf("%u %u\n", luks_unlock_bytes(&byte, 1, 1, words, long_one, 0, &byte, 0, &opened), luks_open_bytes(&byte, 1, 1, 0, words, long_one, 0, &byte, 0, &opened));
+    printf("%u %u\n", luks_unlock_bytes(&byte, 1, 1, words, long_one, 0, 0, &byte, 0, &opened),
+           luks_open_bytes(&byte, 1, 1, 0, words, long_one, 0, 0, &byte, 0, &opened));
     munmap(words, long_one);
     struct luks_edit edit = {.kind = LUKS_ADD, .to = LUKS_NO_SLOT, .iterations = 1000}, no_edit = {.kind = 9}, no_slot = {.kind = LUKS_REMOVE, .slot = 256};
     uint64_t needed;
@@ -407,11 +417,11 @@ static void *many(void *given)
     struct one *one = given;
     int fd = open(one->volume, O_RDWR);
     uint32_t slot = LUKS_NO_SLOT;
-    one->added = luks_add(fd, 0, LUKS_TO_END, false, 0, "one", 3, "thread", 6, LUKS_NO_SLOT, 1000, NULL, 0, &slot);
-    one->removed = luks_remove(fd, 0, LUKS_TO_END, false, slot, LUKS_NO_SLOT, "thread", 6, 0);
+    one->added = luks_add(fd, 0, LUKS_TO_END, false, 0, "one", 3, "thread", 6, LUKS_NO_SLOT, 1000, NULL, 0, 0, &slot);
+    one->removed = luks_remove(fd, 0, LUKS_TO_END, false, slot, LUKS_NO_SLOT, "thread", 6, 0, 0);
     for (int i = 0; i < 16; i++) {
         struct luks_opened opened;
-        one->answers[i] = luks_unlock(fd, 0, LUKS_TO_END, "one", 3, 0, NULL, 0, &opened);
+        one->answers[i] = luks_unlock(fd, 0, LUKS_TO_END, "one", 3, 0, 0, NULL, 0, &opened);
     }
     close(fd);
     return NULL;

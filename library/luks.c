@@ -168,7 +168,7 @@ uint32_t luks_read(int fd, uint64_t offset, uint64_t length, char *json, size_t 
 
 /* What is asked of a passphrase: the keyslot `n`, or of any where it is -1. */
 static uint32_t open_one(int fd, uint64_t offset, uint64_t length, int n, const void *passphrase, size_t passphrase_bytes, uint32_t memory,
-                         void *key, size_t key_room, struct luks_opened *opened)
+                         uint32_t older, void *key, size_t key_room, struct luks_opened *opened)
 {
     static const uint8_t nothing = 0;
     uint8_t nowhere = 0;
@@ -181,8 +181,9 @@ static uint32_t open_one(int fd, uint64_t offset, uint64_t length, int n, const 
     uint32_t answer = begin(&held, fd, offset, length, WITH_KEY_AREAS);
     if (answer == LUKS_DONE)
         do {
-            answer = n < 0 ? luks_unlock_bytes(held.bytes, held.count, held.total, words, passphrase_bytes, memory, into, key_room, opened)
-                           : luks_open_bytes(held.bytes, held.count, held.total, (uint8_t)n, words, passphrase_bytes, memory, into, key_room, opened);
+            answer = n < 0 ? luks_unlock_bytes(held.bytes, held.count, held.total, words, passphrase_bytes, memory, older, into, key_room, opened)
+                           : luks_open_bytes(held.bytes, held.count, held.total, (uint8_t)n, words, passphrase_bytes, memory, older, into, key_room,
+                                             opened);
             if (answer == LUKS_BEYOND)
                 answer = hold_more(&held, opened->beyond);
         } while (answer == LUKS_BEYOND);
@@ -192,15 +193,15 @@ static uint32_t open_one(int fd, uint64_t offset, uint64_t length, int n, const 
 }
 
 uint32_t luks_unlock(int fd, uint64_t offset, uint64_t length, const void *passphrase, size_t passphrase_bytes, uint32_t memory,
-                     void *key, size_t key_room, struct luks_opened *opened)
+                     uint32_t older, void *key, size_t key_room, struct luks_opened *opened)
 {
-    return open_one(fd, offset, length, -1, passphrase, passphrase_bytes, memory, key, key_room, opened);
+    return open_one(fd, offset, length, -1, passphrase, passphrase_bytes, memory, older, key, key_room, opened);
 }
 
 uint32_t luks_open(int fd, uint64_t offset, uint64_t length, uint8_t n, const void *passphrase, size_t passphrase_bytes, uint32_t memory,
-                   void *key, size_t key_room, struct luks_opened *opened)
+                   uint32_t older, void *key, size_t key_room, struct luks_opened *opened)
 {
-    return open_one(fd, offset, length, n, passphrase, passphrase_bytes, memory, key, key_room, opened);
+    return open_one(fd, offset, length, n, passphrase, passphrase_bytes, memory, older, key, key_room, opened);
 }
 
 /* ---- calls that write ---- */
@@ -493,26 +494,26 @@ static struct luks_derivation choice_of(const struct luks_derivation *derivation
 
 uint32_t luks_add(int fd, uint64_t offset, uint64_t length, bool is_detached, uint32_t by, const void *passphrase, size_t passphrase_bytes,
                   const void *added, size_t added_bytes, uint32_t to, uint32_t iterations, const struct luks_derivation *derivation,
-                  uint32_t memory, uint32_t *slot)
+                  uint32_t memory, uint32_t older, uint32_t *slot)
 {
-    struct luks_edit edit = {.kind = LUKS_ADD, .by = by, .to = to, .iterations = iterations, .memory = memory,
+    struct luks_edit edit = {.kind = LUKS_ADD, .by = by, .to = to, .iterations = iterations, .memory = memory, .older = older,
                              .derivation = choice_of(derivation)};
     return luks_apply(fd, offset, length, is_detached, &edit, passphrase, passphrase_bytes, added, added_bytes, NULL, 0, slot);
 }
 
 uint32_t luks_change(int fd, uint64_t offset, uint64_t length, bool is_detached, uint32_t slot, const void *passphrase, size_t passphrase_bytes,
                      const void *changed, size_t changed_bytes, uint32_t iterations, const struct luks_derivation *derivation,
-                     uint32_t memory, uint32_t *made)
+                     uint32_t memory, uint32_t older, uint32_t *made)
 {
-    struct luks_edit edit = {.kind = LUKS_CHANGE, .slot = slot, .iterations = iterations, .memory = memory,
+    struct luks_edit edit = {.kind = LUKS_CHANGE, .slot = slot, .iterations = iterations, .memory = memory, .older = older,
                              .derivation = choice_of(derivation)};
     return luks_apply(fd, offset, length, is_detached, &edit, passphrase, passphrase_bytes, changed, changed_bytes, NULL, 0, made);
 }
 
 uint32_t luks_remove(int fd, uint64_t offset, uint64_t length, bool is_detached, uint32_t slot, uint32_t by, const void *passphrase,
-                     size_t passphrase_bytes, uint32_t memory)
+                     size_t passphrase_bytes, uint32_t memory, uint32_t older)
 {
-    struct luks_edit edit = {.kind = LUKS_REMOVE, .slot = slot, .by = by, .memory = memory};
+    struct luks_edit edit = {.kind = LUKS_REMOVE, .slot = slot, .by = by, .memory = memory, .older = older};
     return luks_apply(fd, offset, length, is_detached, &edit, passphrase, passphrase_bytes, NULL, 0, NULL, 0, NULL);
 }
 

@@ -85,6 +85,7 @@ struct luks_edit {
     uint32_t to;         /* add: the new keyslot, LUKS_NO_SLOT for the least that is free */
     uint32_t iterations; /* add, change: of the new keyslot's derivation by PBKDF2, at least 1000, where none is chosen */
     uint32_t memory;     /* how many KiB Argon2 may take */
+    uint32_t older;      /* whether the passphrase may open a keyslot of an older disk, as of luks_unlock; 0: no */
     struct luks_derivation derivation; /* add, change: the new keyslot's; of kind 0 as that of the keyslot that the passphrase opens */
 };
 
@@ -168,14 +169,16 @@ uint32_t luks_check(int fd, uint64_t offset, uint64_t length, bool is_detached, 
  * behind it; `json_bytes` tells how many bytes it has, also with LUKS_ROOM. */
 uint32_t luks_read(int fd, uint64_t offset, uint64_t length, char *json, size_t json_room, uint64_t *json_bytes);
 
-/* The first keyslot that the passphrase opens, with Argon2 taking up to `memory` KiB for each. The
- * volume key is put into `key`, where `key_room` isn't 0; 128 bytes hold any. */
+/* The first keyslot that the passphrase opens, with Argon2 taking up to `memory` KiB for each. Where `older` isn't 0 the ciphers
+ * and hashes of older disks are accepted (docs/PROFILE.md): key areas in aes-cbc-essiv:sha256, aes-cbc-plain and aes-cbc-plain64,
+ * and sha224, sha384, ripemd160, whirlpool and blake2b-512; else such keyslots are passed over. The volume key is put into `key`,
+ * where `key_room` isn't 0; 128 bytes hold any. */
 uint32_t luks_unlock(int fd, uint64_t offset, uint64_t length, const void *passphrase, size_t passphrase_bytes, uint32_t memory,
-                     void *key, size_t key_room, struct luks_opened *opened);
+                     uint32_t older, void *key, size_t key_room, struct luks_opened *opened);
 
 /* The same of the keyslot `n` alone; its own faults are answered. */
 uint32_t luks_open(int fd, uint64_t offset, uint64_t length, uint8_t n, const void *passphrase, size_t passphrase_bytes, uint32_t memory,
-                   void *key, size_t key_room, struct luks_opened *opened);
+                   uint32_t older, void *key, size_t key_room, struct luks_opened *opened);
 
 /* What the signatures among the first `within` bytes show that the disk is used for: 0, or a number whose name
  * luks_signature_name has: a partition table, a file system, swap and so on, as libblkid knows them. LUKS is none. */
@@ -216,17 +219,18 @@ uint32_t luks_apply(int fd, uint64_t offset, uint64_t length, bool is_detached, 
 /* The edits by name, with random bytes of getrandom. The first adds a keyslot in which the new passphrase opens
  * what the old one opens, the second puts the new passphrase in the old one's place, the third removes the
  * keyslot `slot` by its own passphrase, or by that of the keyslot `by`. The new keyslot derives by `derivation`, or
- * where it is NULL as the one that is opened, PBKDF2 by `iterations`; Argon2 takes up to `memory` KiB for either. */
+ * where it is NULL as the one that is opened, PBKDF2 by `iterations`; Argon2 takes up to `memory` KiB for either.
+ * Where `older` isn't 0 the passphrase may open a keyslot of an older disk, as of luks_unlock; the new keyslot is like it. */
 uint32_t luks_add(int fd, uint64_t offset, uint64_t length, bool is_detached, uint32_t by, const void *passphrase, size_t passphrase_bytes,
                   const void *added, size_t added_bytes, uint32_t to, uint32_t iterations,
-                  const struct luks_derivation *derivation, uint32_t memory, uint32_t *slot);
+                  const struct luks_derivation *derivation, uint32_t memory, uint32_t older, uint32_t *slot);
 
 uint32_t luks_change(int fd, uint64_t offset, uint64_t length, bool is_detached, uint32_t slot, const void *passphrase, size_t passphrase_bytes,
                      const void *changed, size_t changed_bytes, uint32_t iterations, const struct luks_derivation *derivation, uint32_t memory,
-                     uint32_t *made);
+                     uint32_t older, uint32_t *made);
 
 uint32_t luks_remove(int fd, uint64_t offset, uint64_t length, bool is_detached, uint32_t slot, uint32_t by, const void *passphrase,
-                     size_t passphrase_bytes, uint32_t memory);
+                     size_t passphrase_bytes, uint32_t memory, uint32_t older);
 
 /* LUKS2: writes both copies of the header anew from the one that counts. LUKS1: nothing. */
 uint32_t luks_repair(int fd, uint64_t offset, uint64_t length, bool is_detached);
@@ -290,10 +294,10 @@ uint32_t luks_check_bytes(const uint8_t *first, size_t first_bytes, uint64_t tot
 uint32_t luks_read_bytes(const uint8_t *first, size_t first_bytes, uint64_t total, uint8_t *json, size_t json_room, struct luks_read *read);
 
 uint32_t luks_unlock_bytes(const uint8_t *first, size_t first_bytes, uint64_t total, const uint8_t *passphrase, size_t passphrase_bytes,
-                           uint32_t memory, uint8_t *key, size_t key_room, struct luks_opened *opened);
+                           uint32_t memory, uint32_t older, uint8_t *key, size_t key_room, struct luks_opened *opened);
 
 uint32_t luks_open_bytes(const uint8_t *first, size_t first_bytes, uint64_t total, uint8_t n, const uint8_t *passphrase, size_t passphrase_bytes,
-                         uint32_t memory, uint8_t *key, size_t key_room, struct luks_opened *opened);
+                         uint32_t memory, uint32_t older, uint8_t *key, size_t key_room, struct luks_opened *opened);
 
 uint32_t luks_needed_bytes(const uint8_t *first, size_t first_bytes, uint64_t total, bool is_detached, const struct luks_edit *edit,
                            const uint8_t *passphrase, size_t passphrase_bytes, const uint8_t *text, size_t text_bytes, struct luks_needed *needed);

@@ -71,7 +71,7 @@ class _Derivation(ctypes.Structure):
 
 
 class _Edit(ctypes.Structure):
-    _fields_ = [*((name, ctypes.c_uint32) for name in ("kind", "slot", "by", "to", "iterations", "memory")), ("derivation", _Derivation)]
+    _fields_ = [*((name, ctypes.c_uint32) for name in ("kind", "slot", "by", "to", "iterations", "memory", "older")), ("derivation", _Derivation)]
 
 
 class _Fields(ctypes.Structure):
@@ -82,7 +82,7 @@ def _loaded() -> ctypes.CDLL:
     library = ctypes.CDLL(os.environ.get("LIBLUKS", "libluks.so.0"), use_errno=True)
     window = [ctypes.c_int, ctypes.c_uint64, ctypes.c_uint64]
     given = [ctypes.c_char_p, ctypes.c_size_t]
-    tried = [*given, ctypes.c_uint32, ctypes.c_void_p, ctypes.c_size_t, ctypes.POINTER(_Opened)]
+    tried = [*given, ctypes.c_uint32, ctypes.c_uint32, ctypes.c_void_p, ctypes.c_size_t, ctypes.POINTER(_Opened)]
     edited = [*window, ctypes.c_bool, ctypes.POINTER(_Edit), *given, *given]
     numbers = [*window, ctypes.c_bool, ctypes.c_uint32, ctypes.c_uint32]
     for name, takes, gives in (
@@ -320,54 +320,59 @@ class Volume:
         self._done(answer)
         return json.loads(text.raw[: bytes_.value])
 
-    def unlock(self, passphrase: bytes, memory: int = 0) -> int | None:
-        """The first keyslot that the passphrase opens, or None. Argon2 may take `memory` MiB; a keyslot that takes more is passed over."""
-        found = self._opened(_LIBRARY.luks_unlock, (), passphrase, memory, 0)
+    def unlock(self, passphrase: bytes, memory: int = 0, older: bool = False) -> int | None:
+        """The first keyslot that the passphrase opens, or None. Argon2 may take `memory` MiB; a keyslot that takes more is passed over.
+
+        So is one with a cipher or a hash of older disks, as aes-cbc-essiv:sha256 or ripemd160, unless `older` says that they are accepted.
+        """
+        found = self._opened(_LIBRARY.luks_unlock, (), passphrase, memory, older, 0)
         return None if found is None else found[0]
 
-    def open(self, slot: int, passphrase: bytes, memory: int = 0) -> bool:
+    def open(self, slot: int, passphrase: bytes, memory: int = 0, older: bool = False) -> bool:
         """Whether the passphrase opens this keyslot; a fault of its own is raised."""
-        return self._opened(_LIBRARY.luks_open, (slot,), passphrase, memory, 0) is not None
+        return self._opened(_LIBRARY.luks_open, (slot,), passphrase, memory, older, 0) is not None
 
-    def key(self, passphrase: bytes, memory: int = 0) -> bytes | None:
+    def key(self, passphrase: bytes, memory: int = 0, older: bool = False) -> bytes | None:
         """The volume key, by the first keyslot that the passphrase opens, or None. It is secret, and stays in Python's memory."""
-        found = self._opened(_LIBRARY.luks_unlock, (), passphrase, memory, KEY_ROOM)
+        found = self._opened(_LIBRARY.luks_unlock, (), passphrase, memory, older, KEY_ROOM)
         return None if found is None else found[1]
 
     def add(self, by: int, passphrase: bytes, added: bytes, to: int | None = None, iterations: int = 100000, memory: int = 0,
-            derivation: Derivation | None = None) -> int:
+            derivation: Derivation | None = None, older: bool = False) -> int:
         """Adds a keyslot, the least that is free or `to`, in which the passphrase `added` opens what `passphrase` opens in the keyslot `by`.
 
         It derives by the `derivation`, or where there is none as that keyslot does: by Argon2 of the same costs, or by PBKDF2 with so many
-        iterations. Argon2 may take `memory` MiB, of either keyslot. Returns the new keyslot.
+        iterations. Argon2 may take `memory` MiB, of either keyslot. Where `older` is so, the keyslot `by` may be one of an older disk, and
+        the new one has the same cipher and hash. Returns the new keyslot.
         """
         edit = _Edit(kind=ADD, by=_slot(by), to=_slot_or_none(to), iterations=_iterations(iterations), derivation=_choice(derivation))
-        slot = self._edited(edit, passphrase, added, memory)
+        slot = self._edited(edit, passphrase, added, memory, older)
         assert slot is not None
         return slot
 
     def change(self, slot: int, passphrase: bytes, changed: bytes, iterations: int = 100000, memory: int = 0,
-               derivation: Derivation | None = None) -> int:
+               derivation: Derivation | None = None, older: bool = False) -> int:
         """Puts the passphrase `changed` in the place of the one that opens the keyslot. Returns its number, which LUKS1 changes.
 
-        From then on it derives by the `derivation`, or where there is none as before. Argon2 may take `memory` MiB.
+        From then on it derives by the `derivation`, or where there is none as before. Argon2 may take `memory` MiB,
+        and where `older` is so, the keyslot may be one of an older disk: it keeps its cipher and hash.
         """
         edit = _Edit(kind=CHANGE, slot=_slot(slot), iterations=_iterations(iterations), derivation=_choice(derivation))
-        made = self._edited(edit, passphrase, changed, memory)
+        made = self._edited(edit, passphrase, changed, memory, older)
         assert made is not None
         return made
 
-    def remove(self, slot: int, passphrase: bytes, by: int | None = None, memory: int = 0) -> None:
+    def remove(self, slot: int, passphrase: bytes, by: int | None = None, memory: int = 0, older: bool = False) -> None:
         """Removes the keyslot and wipes its area, by its own passphrase or by that of the keyslot `by`."""
-        self._edited(_Edit(kind=REMOVE, slot=_slot(slot), by=_slot_or_none(by)), passphrase, b"", memory)
+        self._edited(_Edit(kind=REMOVE, slot=_slot(slot), by=_slot_or_none(by)), passphrase, b"", memory, older)
 
     def repair(self) -> None:
         """LUKS2: writes both copies of the header anew from the one that counts. LUKS1: nothing."""
-        self._edited(_Edit(kind=REPAIR), b"", b"", 0)
+        self._edited(_Edit(kind=REPAIR), b"", b"")
 
     def label(self, text: str) -> None:
         """LUKS2: sets the label, at most 47 bytes that can be printed."""
-        self._edited(_Edit(kind=LABEL), b"", text.encode(), 0)
+        self._edited(_Edit(kind=LABEL), b"", text.encode())
 
     def format(self, version: int, passphrase: bytes, hash: str = "sha256", iterations: int = 100000, force: bool = False, *,
                derivation: Derivation | None = None, memory: int = 0) -> None:
@@ -491,8 +496,8 @@ class Volume:
         if shown.get("copies") == "second-only" and os.pread(self._fd, 6, self._window[0]) != b"LUKS\xba\xbe":
             self._refuse_use(self.signature(shown["sizes"]["header"]))
 
-    def _edited(self, edit: _Edit, passphrase: bytes, text: bytes, memory: int) -> int | None:
-        edit.memory = _kib(memory)
+    def _edited(self, edit: _Edit, passphrase: bytes, text: bytes, memory: int = 0, older: bool = False) -> int | None:
+        edit.memory, edit.older = _kib(memory), bool(older)
         if not self._over:
             self._refuse_other_use()
         slot = ctypes.c_uint32(NO_SLOT)
@@ -500,9 +505,10 @@ class Volume:
                                        bytes(text), len(text), None, 0, ctypes.byref(slot)))
         return None if slot.value == NO_SLOT else slot.value
 
-    def _opened(self, call, slot: tuple[int, ...], passphrase: bytes, memory: int, room: int) -> tuple[int, bytes] | None:
+    def _opened(self, call, slot: tuple[int, ...], passphrase: bytes, memory: int, older: bool, room: int) -> tuple[int, bytes] | None:
         opened, key = _Opened(), ctypes.create_string_buffer(max(room, 1))
-        answer = call(self._fd, *self._window, *map(_slot, slot), bytes(passphrase), len(passphrase), _kib(memory), key, room, ctypes.byref(opened))
+        answer = call(self._fd, *self._window, *map(_slot, slot), bytes(passphrase), len(passphrase), _kib(memory), bool(older), key, room,
+                      ctypes.byref(opened))
         if answer == SHUT:
             return None
         self._done(answer)
