@@ -110,8 +110,8 @@ pub(crate) fn place(fault: Fault) -> &'static str {
        aes-cbc-essiv:sha256"
         }
         Fault::KeySize => {
-            "open, add, change and remove: the keyslot of --slot or --by; the key of xts
-       has 32 or 64 bytes, that of cbc 16, 24 or 32"
+            "open, add, change and remove: the keyslot of --slot or --by; the key of
+       xts has 32 or 64 bytes, that of cbc 16, 24 or 32"
         }
         Fault::SameSlot => "remove: the keyslots of --by and --slot",
         Fault::SlotFree => "open: the keyslot of --slot",

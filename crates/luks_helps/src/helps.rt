@@ -184,8 +184,8 @@ passes; where 4 take longer, it takes less memory, but at least 64 MiB. Standard
 error says what it chose.
 
 Memory is taken for Argon2 by --memory alone, once to open the one and once to
-seal the other; standard error says how much. --older accepts a cipher and hashes
-of older disks, as open does; the new keyslot has them too.
+seal the other; standard error says how much. --older accepts a cipher and
+hashes of older disks, as open does; the new keyslot has them too.
 
 Where only the second copy of a LUKS2 header is sound and another use of the
 disk, as a file system or a partition table, stands in the place of the first,
