@@ -6,7 +6,6 @@ use Rattle.luks_area.specs.Ranges.{part}
 use Rattle.luks_area.specs.RangeFacts.{part-part}
 use Rattle.luks_area.specs.Sectors.{sector_count}
 use Rattle.luks_slot.specs.declared.allowed.Allowed.{Allowed}
-use Rattle.luks_slot.specs.declared.cipher.AreaKey.{AreaKey}
 use Rattle.luks_slot.specs.declared.plan.AreaCipher.{AreaCipher}
 use Rattle.luks_slot.specs.declared.plan.AreaCipher.TheVariants.{Apart, Whole}
 use Rattle.luks_slot.specs.declared.plan.Derivation.{Derivation}
@@ -26,23 +25,23 @@ front_part : (a : List ℕ) (n i len : ℕ) → i + len ≤ n → part (part a 0
 front_part a n i len inside = part-part a 0 n i len inside ∙ ap (λ p. part a p len) (omega arith)
 
 -- what the front of an area decrypts to depends on that front alone
-same_sectors : (key : AreaKey) (a b : List ℕ) (n : ℕ) → part a 0 (512 * n) ≡ part b 0 (512 * n) → opened_sectors key a n ≡ opened_sectors key b n
+same_sectors : (plan : SlotPlan) (p a b : List ℕ) (n : ℕ) → part a 0 (512 * n) ≡ part b 0 (512 * n) → opened_sectors (area_key plan p) a n ≡ opened_sectors (area_key plan p) b n
 unfolding opened_sectors opened_sector
-same_sectors key a b zero same = refl
-same_sectors key a b (suc n) same =
+same_sectors plan p a b zero same = refl
+same_sectors plan p a b (suc n) same =
     let front : part a 0 (512 * n) ≡ part b 0 (512 * n) =
     sym (front_part a (512 * suc n) 0 (512 * n) (omega arith)) ∙ ap (λ v. part v 0 (512 * n)) same ∙ front_part b (512 * suc n) 0 (512 * n) (omega arith) in
     let last : part a (512 * n) 512 ≡ part b (512 * n) 512 =
     sym (front_part a (512 * suc n) (512 * n) 512 (omega arith)) ∙ ap (λ v. part v (512 * n) 512) same ∙ front_part b (512 * suc n) (512 * n) 512 (omega arith) in
-    let before = same_sectors key a b n front in
-    ap (λ rows. rows ++ sector_opened key n (part a (512 * n) 512)) before ∙ ap (λ sector. opened_sectors key b n ++ sector_opened key n sector) last
+    let before = same_sectors plan p a b n front in
+    ap (λ rows. rows ++ sector_opened (area_key plan p) n (part a (512 * n) 512)) before ∙ ap (λ sector. opened_sectors (area_key plan p) b n ++ sector_opened (area_key plan p) n sector) last
 
 -- ---- the key
 
 -- the sectors that a plan takes decide what it gives
 same_rows : (a : SlotPlan) (area copy passphrase : List ℕ) → HasSameSectors a area copy → slot_key a area passphrase ≡ slot_key a copy passphrase
 unfolding slot_key candidate stripes_in stripes_from
-same_rows a area copy passphrase same = rw (same_sectors (area_key a passphrase) area copy (sector_count (a.key_bytes * a.stripes)) same) refl
+same_rows a area copy passphrase same = rw (same_sectors a passphrase area copy (sector_count (a.key_bytes * a.stripes)) same) refl
 
 -- derivations that say the same
 record Alike (a b : Derivation) : Type 0 where

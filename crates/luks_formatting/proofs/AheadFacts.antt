@@ -6,7 +6,6 @@ use Rattle.luks_area.specs.Sectors.{sector_count}
 use Rattle.luks_area.specs.declared.area.Area.{Area}
 use Rattle.luks_slot.specs.Opening.{area_bytes, area_key, opened_sector, opened_sectors, stripe_bytes, stripes_from, stripes_in}
 use Rattle.luks_slot.specs.Ciphers.{sector_opened}
-use Rattle.luks_slot.specs.declared.cipher.AreaKey.{AreaKey}
 use Rattle.luks_slot.specs.Sealing.{IsSealed}
 use Rattle.luks_slot.specs.declared.plan.SlotPlan.{SlotPlan}
 use Rattle.luks_formatting.specs.NewPlan.{IsSealedAhead}
@@ -16,16 +15,16 @@ front_part : (a : List ℕ) (n i len : ℕ) → i + len ≤ n → part (part a 0
 front_part a n i len inside = part-part a 0 n i len inside ∙ ap (λ p. part a p len) (omega arith)
 
 -- what the front of an area decrypts to depends on that front alone
-same_sectors : (key : AreaKey) (a b : List ℕ) (n : ℕ) → part a 0 (512 * n) ≡ part b 0 (512 * n) → opened_sectors key a n ≡ opened_sectors key b n
+same_sectors : (plan : SlotPlan) (p a b : List ℕ) (n : ℕ) → part a 0 (512 * n) ≡ part b 0 (512 * n) → opened_sectors (area_key plan p) a n ≡ opened_sectors (area_key plan p) b n
 unfolding opened_sectors opened_sector
-same_sectors key a b zero same = refl
-same_sectors key a b (suc n) same =
+same_sectors plan p a b zero same = refl
+same_sectors plan p a b (suc n) same =
     let front : part a 0 (512 * n) ≡ part b 0 (512 * n) =
     sym (front_part a (512 * suc n) 0 (512 * n) (omega arith)) ∙ ap (λ v. part v 0 (512 * n)) same ∙ front_part b (512 * suc n) 0 (512 * n) (omega arith) in
     let last : part a (512 * n) 512 ≡ part b (512 * n) 512 =
     sym (front_part a (512 * suc n) (512 * n) 512 (omega arith)) ∙ ap (λ v. part v (512 * n) 512) same ∙ front_part b (512 * suc n) (512 * n) 512 (omega arith) in
-    let before = same_sectors key a b n front in
-    ap (λ rows. rows ++ sector_opened key n (part a (512 * n) 512)) before ∙ ap (λ sector. opened_sectors key b n ++ sector_opened key n sector) last
+    let before = same_sectors plan p a b n front in
+    ap (λ rows. rows ++ sector_opened (area_key plan p) n (part a (512 * n) 512)) before ∙ ap (λ sector. opened_sectors (area_key plan p) b n ++ sector_opened (area_key plan p) n sector) last
 
 -- an area whose used sectors are those of a sealed one is sealed
 sealed_front : (plan : SlotPlan) (a b passphrase key random : List ℕ)
@@ -33,7 +32,7 @@ sealed_front : (plan : SlotPlan) (a b passphrase key random : List ℕ)
     → IsSealed plan a passphrase key random → IsSealed plan b passphrase key random
 unfolding stripes_in stripes_from
 sealed_front plan a b passphrase key random same x =
-    let rows = same_sectors (area_key plan passphrase) a b (sector_count (stripe_bytes plan)) same in
+    let rows = same_sectors plan passphrase a b (sector_count (stripe_bytes plan)) same in
     record {
       stripes = ap (λ (r : List ℕ). take (plan.key_bytes * plan.stripes) r) (sym rows) ∙ x.stripes;
       zeros = ap (λ (r : List ℕ). drop (plan.key_bytes * plan.stripes) r) (sym rows) ∙ x.zeros;
