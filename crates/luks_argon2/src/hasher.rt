@@ -3,9 +3,11 @@
 ghost use Rattle.std.specs.Prelude.{◌≡◌, ℕ, ◌≤◌, ◌<◌, ◌+◌, ◌++◌, List, [], ◌∷◌, length};
 
 use crate::blake2b_compression::{INITIAL, compress, digest_of, padded};
+use std::alloc::AllocError;
 
 /// BLAKE2b of a message that comes piece by piece. It takes no memory. A contract sees it by the
-/// message that it holds; the last block is held back until the message ends.
+/// message that it holds; the last block is held back until the message ends. Its clone holds the same
+/// message.
 #[derive(Drop)]
 pub struct Blake2b {
     h: [u64; 8],
@@ -13,6 +15,23 @@ pub struct Blake2b {
     used: usize,
     total: u128,
     ghost in_buffer: { used ≤ 128 },
+}
+
+impl Clone for Blake2b {
+    ghost use Rattle.std.specs.Prelude.{⊤};
+
+    ghost is_clone = { λ x y. y ≡ x };
+
+    ghost is_infallible = { λ _. ⊤ };
+
+    fn clone(&self) -> Result<Blake2b, AllocError> {
+        Ok(Blake2b {
+            h: self.h,
+            buffer: self.buffer,
+            used: self.used,
+            total: self.total,
+        })
+    }
 }
 
 impl Blake2b {

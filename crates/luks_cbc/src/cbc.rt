@@ -4,6 +4,7 @@ ghost use Rattle.std.specs.Prelude.{◌≡◌, ◌⊎◌, ◌*◌, ◌/◌, ◌%
 ghost use Rattle.luks_cbc.specs.Cbc.{CbcOpen, CbcSeal, opened_from, sealed_from};
 ghost use Rattle.luks_aes.specs.Aes.{Aes, AesInverse};
 ghost use Rattle.luks_aes.specs.States.{AreBytes};
+ghost use Rattle.luks_xts.specs.Units.{AreMade};
 ghost use Rattle.luks_xts.specs.Xts.{xor_block};
 
 use crate::vectors::{IvKind, Ivs};
@@ -63,6 +64,33 @@ impl CbcKey {
     {
         let iv = self.ivs.of_sector(sector);
         open_from(&self.blocks, iv, bytes);
+    }
+
+    /// Encrypts a run of sectors of 512 bytes in place, each as `seal_sector` does: the first under the
+    /// number `first`, and each other under the number after that of the sector before. After the highest
+    /// number comes 0, as the IVs have it.
+    pub fn seal_units(&self, first: u64, bytes: &mut [u8])
+        requires { length bytes.old % 512 ≡ 0 }
+        ensures value { AreMade (CbcSeal self.now) first bytes.old bytes.new }
+        ensures undone { AreMade (CbcOpen self.now) first bytes.new bytes.old }
+    {
+        for u in 0..bytes.len() / 512 {
+            let sector = first.wrapping_add(u as u64);
+            self.seal_sector(sector, &mut bytes[512 * u..512 * u + 512]);
+        }
+    }
+
+    /// Decrypts a run of sectors of 512 bytes in place, each as `open_sector` does: what `seal_units` did
+    /// under the same number is undone.
+    pub fn open_units(&self, first: u64, bytes: &mut [u8])
+        requires { length bytes.old % 512 ≡ 0 }
+        ensures value { AreMade (CbcOpen self.now) first bytes.old bytes.new }
+        ensures undone { AreMade (CbcSeal self.now) first bytes.new bytes.old }
+    {
+        for u in 0..bytes.len() / 512 {
+            let sector = first.wrapping_add(u as u64);
+            self.open_sector(sector, &mut bytes[512 * u..512 * u + 512]);
+        }
     }
 }
 

@@ -4,3 +4,4 @@ pub mod Splitter
 pub mod Turns
 pub mod Lengths
 pub mod Names
+pub mod KeyslotNames
