@@ -2,7 +2,6 @@
 use Rattle.std.proofs.Common.{◌≡◌, ℕ, List, Bool, ap, ◌∙◌}
 use Rattle.luks_area.specs.Ranges.{part}
 use Rattle.luks_slot.specs.declared.allowed.Allowed.{Allowed}
-use Rattle.luks_slot.specs.declared.cipher.AreaKey.{AreaKey}
 use Rattle.luks_slot.specs.declared.plan.SlotPlan.{SlotPlan}
 use Rattle.luks_slot.specs.Ciphers.{cipher_of, keyed}
 use Rattle.luks_slot.specs.Opening.{slot_key, candidate, stripes_in, area_key, area_key_by, meets_digest}
@@ -42,15 +41,15 @@ same_area_key a b p s =
     ap (λ bytes. keyed (cipher_of a.cipher) bytes) (ap (λ n. area_key_by a.derivation n p) s.area_key_bytes ∙ s.key b.area_key_bytes p)
     ∙ ap (λ cipher. keyed cipher (area_key_by b.derivation b.area_key_bytes p)) s.sector_cipher
 
-same_stripes : (a b : SlotPlan) (key : AreaKey) (area : List ℕ) → SameFields a b → stripes_in a key area ≡ stripes_in b key area
+same_stripes : (a b : SlotPlan) (p area : List ℕ) → SameFields a b → stripes_in a (area_key b p) area ≡ stripes_in b (area_key b p) area
 unfolding stripes_in
-same_stripes a b key area s = simp (s.key_bytes, s.stripes)
+same_stripes a b p area s = simp (s.key_bytes, s.stripes)
 
 same_candidate : (a b : SlotPlan) (area p : List ℕ) → SameFields a b → candidate a area p ≡ candidate b area p
 unfolding candidate
 same_candidate a b area p s =
     let keys = same_area_key a b p s in
-    let stripes = same_stripes a b (area_key b p) area s in
+    let stripes = same_stripes a b p area s in
     simp (keys, stripes, s.splitter_hash, s.key_bytes, s.stripes)
 
 same_digest : (a b : SlotPlan) (key : List ℕ) → SameFields a b → meets_digest a.digest key ≡ meets_digest b.digest key

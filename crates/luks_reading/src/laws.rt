@@ -14,7 +14,7 @@ ghost use Rattle.luks_reading.specs.Checked.{AreaOf, IsCheckRefusal, IsFault, We
 ghost use Rattle.luks_reading.specs.Conversions.{unread_checked};
 ghost use Rattle.luks_reading.specs.FitsAndResolves.{FitsAndResolves};
 ghost use Rattle.luks_reading.specs.Header.{IsUnread};
-ghost use Rattle.luks_reading.specs.Plans.{HasLuks2Plan};
+ghost use Rattle.luks_reading.specs.Plans.{HasLuks1Plan, HasLuks2Plan};
 ghost use Rattle.luks_reading.specs.Unlocking.{Unlocked, UnlockAnswer};
 
 use crate::check_fault::CheckFault;
@@ -63,9 +63,12 @@ pub fn one_unlocking()
 /// without older ciphers and hashes: of LUKS2 `Argon2` stands exactly where it derives by that. What
 /// opens then is refused by none of these. No keyslot takes memory where none is allowed.
 pub fn nothing_allowed_is_as_before()
-    ensures refusal { (plans : ThePlan → Type 0) (f : SlotFault)
-        → HasRefusedPlanWithin none_allowed plans f
-        ↔ ((plan : ThePlan) × (plans plan × (slot_refusal plan ≡ Some f))) }
+    ensures refusal1 { (h : List ℕ) (n : ℕ) (f : SlotFault)
+        → HasRefusedPlanWithin none_allowed (HasLuks1Plan h n) f
+        ↔ ((plan : ThePlan) × (HasLuks1Plan h n plan × (slot_refusal plan ≡ Some f))) }
+    ensures refusal2 { (json : List ℕ) (n : ℕ) (f : SlotFault)
+        → HasRefusedPlanWithin none_allowed (HasLuks2Plan json n) f
+        ↔ ((plan : ThePlan) × (HasLuks2Plan json n plan × (slot_refusal plan ≡ Some f))) }
     ensures argon2 { (json : List ℕ) (n : ℕ)
         → HasRefusedPlanWithin none_allowed (HasLuks2Plan json n) SlotFault.Argon2
         ↔ ((plan : ThePlan) × (HasLuks2Plan json n plan × (is_argon2 plan.derivation ≡ true))) }
