@@ -156,7 +156,8 @@ cipher_both : (older : Bool) (n m : ℕ) (d f : Value) (a b : AreaCipher) → n 
     → IsLuks2Cipher d a → IsLuks2Cipher f b → (is_allowed_cipher older a ≡ is_allowed_cipher older b) × (is_key_size a n ≡ is_key_size b m)
 cipher_both older n m d f (Apart c e) b size same x y = absurd x
 cipher_both older n m d f (Whole t) (Apart c e) size same x y = absurd y
-cipher_both older n m d f (Whole t) (Whole u) size same x y = let text : t.now ≡ u.now = some_same t.now u.now (sym x ∙ sym same ∙ y) in (simp text, simp (text, size))
+cipher_both false n m d f (Whole t) (Whole u) size same x y = let text : t.now ≡ u.now = some_same t.now u.now (sym x ∙ sym same ∙ y) in (simp text, simp (text, size))
+cipher_both true n m d f (Whole t) (Whole u) size same x y = let text : t.now ≡ u.now = some_same t.now u.now (sym x ∙ sym same ∙ y) in (simp text, simp (text, size))
 
 -- what decides whether two plans are refused is the same
 record SameTerms (allowed : Allowed) (a b : SlotPlan) : Type 0 where

@@ -2,6 +2,7 @@
 use Rattle.std.proofs.Common.{◌≡◌, ℕ, ◌↔◌, List, Option, Some, None, sym, ap, subst, ◌∙◌}
 use Rattle.luks_head.specs.Header2.{IsUuidFault}
 use Rattle.luks_head.specs.Selection.{Choice, luks2, Chosen}
+use Rattle.luks_slot.specs.declared.allowed.Allowed.{Allowed}
 use Rattle.luks_slot.specs.Opening.{slot_key}
 use Rattle.luks_reading.specs.declared.open_fault.OpenFault.{OpenFault}
 use Rattle.luks_reading.specs.declared.open_fault.OpenFault.TheVariants.{Head, Meta, NoSuchSlot, SlotFree, Outside, Slot, Device, Memory}
@@ -26,7 +27,7 @@ kept_back v w m k = record {
 }
 
 -- each refusal is kept
-refused_as : (allowed : ℕ) (v w : List ℕ) (m : ℕ) (k : HasSameKeyslot v w m) (f : OpenFault)
+refused_as : (allowed : Allowed) (v w : List ℕ) (m : ℕ) (k : HasSameKeyslot v w m) (f : OpenFault)
     → IsRefusalAsWithin allowed v m (luks2 k.old_place k.old_copies) f → IsRefusalAsWithin allowed w m (luks2 k.new_place k.new_copies) f
 refused_as allowed v w m k (Head g) h = subst (λ u. IsUuidFault u g) (sym k.uuid) h
 refused_as allowed v w m k (Meta g) h = absurd (k.old_faultless g h)
@@ -38,7 +39,7 @@ refused_as allowed v w m k Device h = h
 refused_as allowed v w m k Memory h = h
 
 module _ (one : (v : List ℕ) (b c : Choice) → Chosen v b → Chosen v c → b ≡ c) where
-  still_refused : (allowed : ℕ) (v w : List ℕ) (m : ℕ) → HasSameKeyslot v w m → (f : OpenFault) → IsRefusalWithin allowed v m f → IsRefusalWithin allowed w m f
+  still_refused : (allowed : Allowed) (v w : List ℕ) (m : ℕ) → HasSameKeyslot v w m → (f : OpenFault) → IsRefusalWithin allowed v m f → IsRefusalWithin allowed w m f
   still_refused allowed v w m k f r =
       let same : r.choice ≡ luks2 k.old_place k.old_copies = one v r.choice (luks2 k.old_place k.old_copies) r.chosen k.old_chosen in
       record {
@@ -47,7 +48,7 @@ module _ (one : (v : List ℕ) (b c : Choice) → Chosen v b → Chosen v c → 
         fault = refused_as allowed v w m k f (subst (λ c. IsRefusalAsWithin allowed v m c f) same r.fault);
       }
 
-  still_opens : (allowed : ℕ) (v w : List ℕ) (m : ℕ) → HasSameKeyslot v w m → (p : List ℕ) (found : Option (List ℕ)) → OpensWithin allowed v m p found → OpensWithin allowed w m p found
+  still_opens : (allowed : Allowed) (v w : List ℕ) (m : ℕ) → HasSameKeyslot v w m → (p : List ℕ) (found : Option (List ℕ)) → OpensWithin allowed v m p found → OpensWithin allowed w m p found
   unfolding kept_back
   still_opens allowed v w m k p found o =
       let same : o.choice ≡ luks2 k.old_place k.old_copies = one v o.choice (luks2 k.old_place k.old_copies) o.chosen k.old_chosen in
@@ -62,11 +63,11 @@ module _ (one : (v : List ℕ) (b c : Choice) → Chosen v b → Chosen v c → 
       }
 
   -- the answer is kept
-  answer_kept : (v w : List ℕ) (m : ℕ) → HasSameKeyslot v w m → (allowed : ℕ) (p : List ℕ) (a : Opened) → AnswerWithin allowed v m p a → AnswerWithin allowed w m p a
+  answer_kept : (v w : List ℕ) (m : ℕ) → HasSameKeyslot v w m → (allowed : Allowed) (p : List ℕ) (a : Opened) → AnswerWithin allowed v m p a → AnswerWithin allowed w m p a
   answer_kept v w m k allowed p (refused f) h = (still_refused allowed v w m k f h.0, λ g r. h.1 g (still_refused allowed w v m (kept_back v w m k) g r))
   answer_kept v w m k allowed p (opens key) h = still_opens allowed v w m k p (Some key) h
   answer_kept v w m k allowed p no_key h = still_opens allowed v w m k p None h
 
   -- the keyslot has the answers that it had, and no others
-  pub answers_kept : (v w : List ℕ) (m : ℕ) → HasSameKeyslot v w m → (allowed : ℕ) (p : List ℕ) (a : Opened) → AnswerWithin allowed v m p a ↔ AnswerWithin allowed w m p a
+  pub answers_kept : (v w : List ℕ) (m : ℕ) → HasSameKeyslot v w m → (allowed : Allowed) (p : List ℕ) (a : Opened) → AnswerWithin allowed v m p a ↔ AnswerWithin allowed w m p a
   answers_kept v w m k allowed p a = (answer_kept v w m k allowed p a, answer_kept w v m (kept_back v w m k) allowed p a)

@@ -1,5 +1,5 @@
 -- A keyslot of a LUKS1 volume has a refusal or none.
-use Rattle.std.proofs.Common.{◌≡◌, Bool, ℕ, List, [], ◌∷◌, ◌++◌, map, refl, sym, ap, ◌∙◌, arith, inl, inr}
+use Rattle.std.proofs.Common.{◌≡◌, Bool, true, false, ℕ, List, [], ◌∷◌, ◌++◌, map, refl, sym, ap, ◌∙◌, arith, inl, inr}
 use Rattle.std.proofs.lemmas.Bool.{cases_eq, cases_lt}
 use Rattle.luks1_header.specs.declared.fault.HeadFault.{HeadFault}
 use Rattle.luks1_header.specs.declared.fault.HeadFault.TheVariants as head
@@ -13,7 +13,7 @@ use Rattle.luks_slot.specs.declared.plan.AreaCipher.TheVariants.{Apart, Whole}
 use Rattle.luks_slot.specs.declared.plan.Derivation.{Derivation}
 use Rattle.luks_slot.specs.declared.plan.Derivation.TheVariants.{Argon2, Pbkdf2}
 use Rattle.luks_slot.specs.declared.plan.SlotPlan.{SlotPlan}
-use Rattle.luks_slot.specs.Refusal.{is_allowed_cipher, is_argon2_refused, is_key_size, is_known_derivation, slot_refusal_within}
+use Rattle.luks_slot.specs.Refusal.{is_allowed_cipher, is_argon2_refused, is_key_size, is_known_derivation, is_known_hash, slot_refusal_within}
 use Rattle.luks_reading.specs.declared.open_fault.OpenFault.{OpenFault}
 use Rattle.luks_reading.specs.declared.open_fault.OpenFault.TheVariants as opening
 use Rattle.luks_reading.specs.Answer.{IsLuks1HeadRefusal, IsLuks1Refusal, open_key}
@@ -79,13 +79,14 @@ same_refused h e (Pbkdf2 k i s) (Argon2 c) allowed x y = absurd y
 same_refused h e (Argon2 c) b allowed x y = absurd x
 
 same_known : (older : Bool) (h e : List ℕ) (a b : Derivation) → IsLuks1Derivation h e a → IsLuks1Derivation h e b → is_known_derivation older a ≡ is_known_derivation older b
-same_known older h e (Pbkdf2 k i s) (Pbkdf2 l j t) x y = let hash = x.0 ∙ sym y.0 in simp hash
+same_known older h e (Pbkdf2 k i s) (Pbkdf2 l j t) x y = ap (λ name. is_known_hash older name) (x.0 ∙ sym y.0)
 same_known older h e (Pbkdf2 k i s) (Argon2 c) x y = absurd y
 same_known older h e (Argon2 c) b x y = absurd x
 
 same_cipher : (older : Bool) (n m : ℕ) (h : List ℕ) (a b : AreaCipher) → n ≡ m → IsLuks1Cipher h a → IsLuks1Cipher h b
     → (is_allowed_cipher older a ≡ is_allowed_cipher older b) × (is_key_size a n ≡ is_key_size b m)
-same_cipher older n m h (Apart c e) (Apart k l) size x y = let name = x.0 ∙ sym y.0 in let mode = x.1 ∙ sym y.1 in (simp (name, mode), simp (name, mode, size))
+same_cipher false n m h (Apart c e) (Apart k l) size x y = let name = x.0 ∙ sym y.0 in let mode = x.1 ∙ sym y.1 in (simp (name, mode), simp (name, mode, size))
+same_cipher true n m h (Apart c e) (Apart k l) size x y = let name = x.0 ∙ sym y.0 in let mode = x.1 ∙ sym y.1 in (simp (name, mode), simp (name, mode, size))
 same_cipher older n m h (Apart c e) (Whole t) size x y = absurd y
 same_cipher older n m h (Whole t) b size x y = absurd x
 

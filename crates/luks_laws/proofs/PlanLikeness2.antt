@@ -1,5 +1,5 @@
 -- The plans of a keyslot of LUKS2 are alike.
-use Rattle.std.proofs.Common.{◌≡◌, Bool, ℕ, List, refl, subst, Some}
+use Rattle.std.proofs.Common.{◌≡◌, Bool, ℕ, List, true, false, refl, ap, subst, Some}
 use Rattle.serde_json.specs.Data.{Data}
 use Rattle.luks_json.specs.AreaText.{Json}
 use Rattle.luks_making.specs.Naming.{IsDigestOf}
@@ -16,7 +16,7 @@ use Rattle.luks_slot.specs.declared.plan.Derivation.{Derivation}
 use Rattle.luks_slot.specs.declared.plan.Derivation.TheVariants.{Argon2, Pbkdf2}
 use Rattle.luks_slot.specs.declared.plan.DigestPlan.{DigestPlan}
 use Rattle.luks_slot.specs.declared.plan.SlotPlan.{SlotPlan}
-use Rattle.luks_slot.specs.Refusal.{is_allowed_cipher, is_argon2_refused, is_key_size, is_known_derivation, slot_refusal_within}
+use Rattle.luks_slot.specs.Refusal.{is_allowed_cipher, is_argon2_refused, is_key_size, is_known_derivation, is_known_hash, slot_refusal_within}
 use Rattle.luks_reading.specs.PlanFacts.{no_pbkdf2}
 use Rattle.luks_reading.specs.Plans.{HasLuks2Plan, IsLuks2Cipher, IsLuks2Derivation, IsLuks2Digest, IsLuks2Plan}
 use Rattle.luks_laws.proofs.DecidedFacts.{some_same}
@@ -37,7 +37,7 @@ same_refused d (Argon2 c) (Argon2 f) allowed x y =
 
 -- the hashes of both derivations are known, or neither is
 same_known : (older : Bool) (d : Data) (a b : Derivation) → IsLuks2Derivation d a → IsLuks2Derivation d b → is_known_derivation older a ≡ is_known_derivation older b
-same_known older d (Pbkdf2 k i s) (Pbkdf2 l j t) x y = let hash = some_same (text_of (member_at d outer.Kdf name.Hash)) k.now l.now x.1 y.1 in simp hash
+same_known older d (Pbkdf2 k i s) (Pbkdf2 l j t) x y = ap (λ name. is_known_hash older name) (some_same (text_of (member_at d outer.Kdf name.Hash)) k.now l.now x.1 y.1)
 same_known older d (Pbkdf2 k i s) (Argon2 c) x y = absurd (no_pbkdf2 d c y x.0)
 same_known older d (Argon2 c) (Pbkdf2 k i s) x y = absurd (no_pbkdf2 d c x y.0)
 same_known older d (Argon2 c) (Argon2 f) x y = refl
@@ -47,7 +47,8 @@ same_cipher : (older : Bool) (n m : ℕ) (d : Data) (a b : AreaCipher) → n ≡
     → (is_allowed_cipher older a ≡ is_allowed_cipher older b) × (is_key_size a n ≡ is_key_size b m)
 same_cipher older n m d (Apart c e) b size x y = absurd x
 same_cipher older n m d (Whole t) (Apart c e) size x y = absurd y
-same_cipher older n m d (Whole t) (Whole u) size x y = let text = some_same (text_of (member_at d outer.Area name.Encryption)) t.now u.now x y in (simp text, simp (text, size))
+same_cipher false n m d (Whole t) (Whole u) size x y = let text = some_same (text_of (member_at d outer.Area name.Encryption)) t.now u.now x y in (simp text, simp (text, size))
+same_cipher true n m d (Whole t) (Whole u) size x y = let text = some_same (text_of (member_at d outer.Area name.Encryption)) t.now u.now x y in (simp text, simp (text, size))
 
 -- a keyslot has one digest, and so one name of its hash
 same_digest_hash : (j : Data) (n : ℕ) (a b : DigestPlan) → ((m k : ℕ) → IsDigestOf j n m → IsDigestOf j n k → m ≡ k)
