@@ -107,6 +107,7 @@ standard_named true text hash is =
 -- what is known where older ones are refused is known where they are accepted
 kept_by : (o : Option KeyslotHash) (p : Option KeyslotHash) (hash : KeyslotHash) → o ≡ Some hash → option_or o p ≡ Some hash
 kept_by (Some h) p hash is = is
+kept_by None p hash is = absurd (cc)
 
 pub named_with_older : (text : List ℕ) (hash : KeyslotHash) → keyslot_hash_named false text ≡ Some hash
     → keyslot_hash_named true text ≡ Some hash

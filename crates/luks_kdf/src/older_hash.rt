@@ -53,10 +53,14 @@ impl OlderHash {
         ensures value { result ≡ older_hash_named text.now }
         ensures exact { (name : ThisHash) → (result ≡ Some name) ↔ (text.now ≡ older_name_of name) }
     {
-        OlderHash::ALL
-            .iter()
-            .copied()
-            .find(|name| text == name.text())
+        match text {
+            "sha224" => Some(OlderHash::Sha224),
+            "sha384" => Some(OlderHash::Sha384),
+            "ripemd160" => Some(OlderHash::Ripemd160),
+            "whirlpool" => Some(OlderHash::Whirlpool),
+            "blake2b-512" => Some(OlderHash::Blake2b512),
+            _ => None,
+        }
     }
 
     // Does the work by the function that the name stands for.
