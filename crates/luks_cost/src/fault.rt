@@ -17,6 +17,10 @@ pub enum CostFault {
 }
 
 impl From<io::Error> for CostFault {
+    ghost use Rattle.luks_cost.specs.declared.fault.CostFault.{CostFault};
+
+    ghost from_gives = { λ error fault. fault ≡ CostFault.Clock error };
+
     fn from(error: io::Error) -> CostFault {
         CostFault::Clock(error)
     }

@@ -1,6 +1,8 @@
 -- A command with costs of its new keyslot that take a wanted time, in the place of those that it is given. Which time they take no definition
 -- says; all else is as it was, and the costs lie within bounds.
-use Rattle.std.specs.Prelude.{◌≡◌, ℕ, ◌≤◌, min, Option, None, Some}
+use Rattle.std.specs.Prelude.{◌≡◌, ℕ, ◌≤◌, min, Option, None, Some, ⊤}
+use Rattle.luks_cost.specs.declared.fault.CostFault.{CostFault}
+use Rattle.luks_cost.specs.declared.fault.CostFault.TheVariants.{Clock, Memory}
 use Rattle.luks_request.specs.declared.derivation.AskedArgon2.{AskedArgon2}
 use Rattle.luks_request.specs.declared.derivation.AskedKdf.{AskedKdf}
 use Rattle.luks_request.specs.declared.derivation.AskedKdf.TheVariants.{Pbkdf2, Argon2}
@@ -68,3 +70,37 @@ IsTimed (Edit editing) timed =
     × (timed ≡ Edit (record { request = request; random = editing.random; data_ = editing.data_; over = editing.over }))
 IsTimed (Format making) timed = (made : Making) × IsTimedMaking making made × (timed ≡ Format made)
 IsTimed command timed = timed ≡ command
+
+-- ---- why no costs are found
+
+-- the costs of this derivation are timed: by the clock, and of Argon2 with memory
+abbrev pub TimesArgon2 : ℕ → AskedKdf → Type 0
+TimesArgon2 allowed (Pbkdf2 iterations) = ⊥
+TimesArgon2 allowed (Argon2 asked) = CanBeTimed allowed asked
+
+abbrev pub TimesKdf : ℕ → AskedKdf → Type 0
+TimesKdf allowed (Pbkdf2 iterations) = ⊤
+TimesKdf allowed (Argon2 asked) = CanBeTimed allowed asked
+
+-- the clock's fault comes only where something is timed, and want of memory where Argon2 is
+abbrev pub IsKdfFault : ℕ → AskedKdf → CostFault → Type 0
+IsKdfFault allowed kdf (Clock error) = TimesKdf allowed kdf
+IsKdfFault allowed kdf Memory = TimesArgon2 allowed kdf
+
+-- of an edit: none where it asks for no derivation
+abbrev pub IsEditCostFault : EditRequest → CostFault → Type 0
+IsEditCostFault (Add by_ passphrase memory older new to iterations (Some kdf)) f = IsKdfFault memory kdf f
+IsEditCostFault (Change slot passphrase memory older new iterations (Some kdf)) f = IsKdfFault memory kdf f
+IsEditCostFault request f = ⊥
+
+-- of a new volume, of which the iterations of a digest are timed always
+abbrev pub IsMakingCostFault : NewVersion → Making → CostFault → Type 0
+IsMakingCostFault version making (Clock error) = ⊤
+IsMakingCostFault Luks1 making Memory = ⊥
+IsMakingCostFault Luks2 making Memory = TimesArgon2 making.memory (kdf_or making.format.iterations making.kdf)
+
+-- of a command: none where it makes no keyslot
+abbrev pub IsCostFault : Command → CostFault → Type 0
+IsCostFault (Edit editing) f = IsEditCostFault editing.request f
+IsCostFault (Format making) f = IsMakingCostFault making.version making f
+IsCostFault command f = ⊥

@@ -1,6 +1,9 @@
 //! Costs of a new keyslot that take a wanted time on this machine.
-ghost use Rattle.std.specs.Prelude.{◌≡◌, ◌≤◌, IfOk};
+ghost use Rattle.std.specs.Prelude.{◌≡◌, ◌≤◌, IfOk, IfErr};
 ghost use Rattle.luks_timing.specs.Timed.{AreTimed, IsTimed, IsTimedEdit, IsTimedKdf, IsTimedMaking};
+ghost use Rattle.luks_timing.specs.Timed.{IsCostFault, IsEditCostFault, IsKdfFault, IsMakingCostFault};
+ghost use Rattle.luks_cost.specs.declared.fault.CostFault.{CostFault};
+ghost use Rattle.std.specs.Prelude.{◌≢◌};
 
 use luks_argon2::Variant;
 use luks_cost::{Argon2Costs, CostFault, Sample, argon2_costs_in, iterations_in};
@@ -40,10 +43,12 @@ impl<C: Clock> Timing<'_, C> {
     /// What the line asks for, with costs that take the wanted time, which are told to `err` as they are
     /// chosen. The volume isn't read for it: an edit's PBKDF2 is timed by SHA-256.
     ///
-    /// `Memory` where the memory of Argon2 is refused, `Clock` where the clock can't be read.
+    /// `Memory` where the memory of Argon2 is refused, `Clock` where the clock can't be read: where nothing is
+    /// timed neither comes.
     pub fn line<'b, E: Write>(&self, line: &Line<'b>, err: &mut E) -> Result<Line<'b>, CostFault>
         ensures volume { IfOk result (λ timed. (timed.volume ≡ line.now.volume) × (timed.place ≡ line.now.place)) }
         ensures command { IfOk result (λ timed. IsTimed line.now.command timed.command) }
+        ensures fault { IfErr result (IsCostFault line.now.command) }
     {
         Ok(Line {
             volume: line.volume,
@@ -57,7 +62,8 @@ impl<C: Clock> Timing<'_, C> {
         command: Command<'b>,
         err: &mut E,
     ) -> Result<Command<'b>, CostFault>
-        ensures { IfOk result (IsTimed command.entry) }
+        ensures timed { IfOk result (IsTimed command.entry) }
+        ensures fault { IfErr result (IsCostFault command.entry) }
     {
         match command {
             Command::Edit(editing) => Ok(Command::Edit(Editing {
@@ -76,7 +82,8 @@ impl<C: Clock> Timing<'_, C> {
         request: EditRequest<'b>,
         err: &mut E,
     ) -> Result<EditRequest<'b>, CostFault>
-        ensures { IfOk result (IsTimedEdit request.entry) }
+        ensures timed { IfOk result (IsTimedEdit request.entry) }
+        ensures fault { IfErr result (IsEditCostFault request.entry) }
     {
         match request {
             EditRequest::Add {
@@ -120,7 +127,8 @@ impl<C: Clock> Timing<'_, C> {
     }
 
     fn making<'b, E: Write>(&self, making: Making<'b>, err: &mut E) -> Result<Making<'b>, CostFault>
-        ensures { IfOk result (IsTimedMaking making.entry) }
+        ensures timed { IfOk result (IsTimedMaking making.entry) }
+        ensures fault { IfErr result (IsMakingCostFault making.entry.version making.entry) }
     {
         let hash = making.format.hash;
         let (kdf, iterations) = match making.version {
@@ -153,7 +161,8 @@ impl<C: Clock> Timing<'_, C> {
         hash: HashName,
         err: &mut E,
     ) -> Result<AskedKdf, CostFault>
-        ensures { IfOk result (IsTimedKdf allowed asked) }
+        ensures timed { IfOk result (IsTimedKdf allowed asked) }
+        ensures fault { IfErr result (IsKdfFault allowed asked) }
     {
         match asked {
             AskedKdf::Pbkdf2 { iterations: _ } => Ok(AskedKdf::Pbkdf2 {
@@ -171,7 +180,8 @@ impl<C: Clock> Timing<'_, C> {
 
     /// The iterations of a keyslot by PBKDF2.
     fn iterations<E: Write>(&self, hash: HashName, err: &mut E) -> Result<u32, CostFault>
-        ensures { IfOk result (λ n. 1000 ≤ n) }
+        ensures least { IfOk result (λ n. 1000 ≤ n) }
+        ensures fault { IfErr result (λ f. f ≢ CostFault.Memory) }
     {
         let (iterations, sample) = iterations_in(self.clock, hash, KEY_BYTES, self.milliseconds)?;
         let took = milliseconds_of(sample, u64::from(iterations));
@@ -184,7 +194,8 @@ impl<C: Clock> Timing<'_, C> {
 
     /// The iterations of the digest of a volume key.
     fn digest<E: Write>(&self, hash: HashName, err: &mut E) -> Result<u32, CostFault>
-        ensures { IfOk result (λ n. 1000 ≤ n) }
+        ensures least { IfOk result (λ n. 1000 ≤ n) }
+        ensures fault { IfErr result (λ f. f ≢ CostFault.Memory) }
     {
         let milliseconds = self.milliseconds / DIGEST_PART;
         let (iterations, sample) = iterations_in(self.clock, hash, DIGEST_BYTES, milliseconds)?;
