@@ -1,7 +1,8 @@
--- How the key of an area is derived, and when Argon2 is refused.
+-- How the key of an area is derived, and which refusals are answered.
 use Rattle.std.proofs.Common.{◌≡◌, ℕ, ◌*◌, ◌-◌, ◌^◌, ◌≤◌, List, length, refl, ap, sym, subst, arith, true, false, Some, None}
 use Rattle.std.specs.Prelude.{◌==◌, ◌||◌, nat_lt, not, if◌then◌else◌, Bool}
 use Rattle.std.proofs.lemmas.Bool.Decides.{nat_tests}
+use Rattle.luks_slot.specs.declared.allowed.Allowed.{Allowed}
 use Rattle.luks_slot.specs.declared.fault.SlotFault.{SlotFault}
 use Rattle.luks_slot.specs.declared.fault.SlotFault.TheVariants as fault
 use Rattle.luks_slot.specs.declared.plan.Argon2Plan.{Argon2Plan}
@@ -13,7 +14,7 @@ use Rattle.luks_slot.specs.declared.parameters.Pbkdf2Costs.{Pbkdf2Costs}
 use Rattle.luks_slot.specs.Fault.{IsAnsweredWithin}
 use Rattle.luks_slot.specs.Opening.{area_key_by, derived_by_argon2, HasIterations}
 use Rattle.luks_slot.specs.Parameters.{derived_by_pbkdf2, IsDerivation}
-use Rattle.luks_slot.specs.Refusal.{are_known_hashes, first_refusal, is_argon2, is_argon2_refused, is_open_cipher, slot_refusal, slot_refusal_within}
+use Rattle.luks_slot.specs.Refusal.{are_known_hashes, is_allowed_cipher, is_argon2_refused, is_key_size, slot_refusal_within}
 
 -- what PBKDF2 derives by the costs of a plan is what the plan derives
 pub by_pbkdf2 : (d : Derivation) (costs : Pbkdf2Costs) (n : ℕ) (p : List ℕ) → IsDerivation d (known.Pbkdf2 costs)
@@ -37,17 +38,6 @@ pub passed : (d : Derivation) (costs : Argon2Plan) → HasIterations d → IsDer
 passed (Pbkdf2 h i s) costs some is = absurd is
 passed (Argon2 a) costs some is = subst (λ c. (1 ≤ c.time) × (length c.salt.now ≤ 128)) is some
 
--- where no memory is allowed, Argon2 is refused whatever its costs are
-refused_at_zero : (m c salt : ℕ) → (nat_lt 0 m || nat_lt m (8 * c) || nat_lt c 1 || nat_lt (2 ^ 24 - 1) c || nat_lt salt 8) ≡ true
-refused_at_zero m c salt = grind (arith, nat_tests)
-
-pub none_allowed : (d : Derivation) → is_argon2_refused 0 d ≡ is_argon2 d
-none_allowed (Pbkdf2 h i s) = refl
-none_allowed (Argon2 a) = refused_at_zero a.memory a.cpus (length a.salt.now)
-
-pub refusal_at_zero : (plan : SlotPlan) → slot_refusal_within 0 plan ≡ slot_refusal plan
-refusal_at_zero plan = ap (λ b. first_refusal b plan) (none_allowed plan.derivation)
-
 -- a refusal is of the plan, and so neither of these
 unfailing : (t cipher hashes size : Bool) (f : SlotFault)
     → (if t then Some fault.Argon2 else if not cipher then Some fault.Cipher else if not hashes then Some fault.Hash else if not size then Some fault.KeySize else None)
@@ -59,12 +49,12 @@ unfailing false true true false f same = (λ d. cc, λ m. cc)
 unfailing false true true true f same = absurd (cc)
 
 -- a refusal is answered
-pub refusal_answered : (memory : ℕ) (plan : SlotPlan) (f : SlotFault) → slot_refusal_within memory plan ≡ Some f → IsAnsweredWithin memory plan f
-refusal_answered memory plan fault.Argon2 is = is
-refusal_answered memory plan fault.Cipher is = is
-refusal_answered memory plan fault.Hash is = is
-refusal_answered memory plan fault.KeySize is = is
-refusal_answered memory plan fault.Device is = absurd ((unfailing (is_argon2_refused memory plan.derivation) (is_open_cipher plan.cipher) (are_known_hashes plan)
-    (plan.area_key_bytes == 32 || plan.area_key_bytes == 64) fault.Device is).0 refl)
-refusal_answered memory plan fault.Memory is = absurd ((unfailing (is_argon2_refused memory plan.derivation) (is_open_cipher plan.cipher) (are_known_hashes plan)
-    (plan.area_key_bytes == 32 || plan.area_key_bytes == 64) fault.Memory is).1 refl)
+pub refusal_answered : (allowed : Allowed) (plan : SlotPlan) (f : SlotFault) → slot_refusal_within allowed plan ≡ Some f → IsAnsweredWithin allowed plan f
+refusal_answered allowed plan fault.Argon2 is = is
+refusal_answered allowed plan fault.Cipher is = is
+refusal_answered allowed plan fault.Hash is = is
+refusal_answered allowed plan fault.KeySize is = is
+refusal_answered allowed plan fault.Device is = absurd ((unfailing (is_argon2_refused allowed.memory plan.derivation) (is_allowed_cipher allowed.older plan.cipher)
+    (are_known_hashes allowed.older plan) (is_key_size plan.cipher plan.area_key_bytes) fault.Device is).0 refl)
+refusal_answered allowed plan fault.Memory is = absurd ((unfailing (is_argon2_refused allowed.memory plan.derivation) (is_allowed_cipher allowed.older plan.cipher)
+    (are_known_hashes allowed.older plan) (is_key_size plan.cipher plan.area_key_bytes) fault.Memory is).1 refl)

@@ -7,26 +7,27 @@ use Rattle.luks_area.specs.Sectors.{rounded_to_sectors}
 use Rattle.luks_kdf.specs.declared.keyslot_hash.KeyslotHash.{KeyslotHash}
 use Rattle.luks_kdf.specs.KeyslotNames.{keyslot_digest, keyslot_digest_size}
 use Rattle.luks_kdf.specs.Splitter.{merge}
+use Rattle.luks_slot.specs.declared.cipher.AreaKey.{AreaKey}
 use Rattle.luks_slot.specs.declared.plan.SlotPlan.{SlotPlan}
 use Rattle.luks_slot.specs.Distance.{digest_distance, slot_distance}
 use Rattle.luks_slot.specs.Opening.{slot_key, candidate, area_bytes, area_key, stripe_bytes, stripes_from, stripes_in, hash_by_name, meets_digest}
 use Rattle.luks_slot.proofs.AreaFacts.{stripes_from-shorter}
 
 -- what the stripes hold, by the hash and the key that the plan names, is the candidate
-candidate_is : (plan : SlotPlan) (area passphrase key merged : List ℕ) (hash : KeyslotHash)
+candidate_is : (plan : SlotPlan) (area passphrase : List ℕ) (key : AreaKey) (merged : List ℕ) (hash : KeyslotHash)
     → merged ≡ merge (keyslot_digest hash) (keyslot_digest_size hash) plan.key_bytes plan.stripes (stripes_in plan key area)
     → key ≡ area_key plan passphrase → hash_by_name plan.splitter_hash.now ≡ hash
     → merged ≡ candidate plan area passphrase
 unfolding candidate
 candidate_is plan area passphrase key merged hash is_merged is_key is_hash =
-    let with_key = ap (λ (k : List ℕ). merge (keyslot_digest hash) (keyslot_digest_size hash) plan.key_bytes plan.stripes (stripes_in plan k area)) is_key in
+    let with_key = ap (λ (k : AreaKey). merge (keyslot_digest hash) (keyslot_digest_size hash) plan.key_bytes plan.stripes (stripes_in plan k area)) is_key in
     let with_hash =
     ap (λ (h : KeyslotHash). merge (keyslot_digest h) (keyslot_digest_size h) plan.key_bytes plan.stripes (stripes_in plan (area_key plan passphrase) area))
     (sym is_hash) in
     is_merged ∙ with_key ∙ with_hash
 
 -- the keyslot opens to it where it meets the digest
-pub opens_to : (plan : SlotPlan) (area passphrase key merged : List ℕ) (hash : KeyslotHash)
+pub opens_to : (plan : SlotPlan) (area passphrase : List ℕ) (key : AreaKey) (merged : List ℕ) (hash : KeyslotHash)
     → merged ≡ merge (keyslot_digest hash) (keyslot_digest_size hash) plan.key_bytes plan.stripes (stripes_in plan key area)
     → key ≡ area_key plan passphrase → hash_by_name plan.splitter_hash.now ≡ hash
     → (if meets_digest plan.digest merged then Some merged else None) ≡ slot_key plan area passphrase
@@ -36,7 +37,7 @@ opens_to plan area passphrase key merged hash is_merged is_key is_hash =
     (candidate_is plan area passphrase key merged hash is_merged is_key is_hash)
 
 -- what was read: so many bytes, from the sectors of the stripes in a volume
-pub candidate_read : (plan : SlotPlan) (volume passphrase key merged : List ℕ) (area : Area) (k : ℕ) (hash : KeyslotHash)
+pub candidate_read : (plan : SlotPlan) (volume passphrase : List ℕ) (key : AreaKey) (merged : List ℕ) (area : Area) (k : ℕ) (hash : KeyslotHash)
     → merged ≡ merge (keyslot_digest hash) (keyslot_digest_size hash) k plan.stripes (stripes_from key (area_bytes volume area) k plan.stripes)
     → k ≡ plan.key_bytes → area.start ≡ plan.area.start → area.len ≡ rounded_to_sectors (stripe_bytes plan) → rounded_to_sectors (stripe_bytes plan) ≤ plan.area.len
     → key ≡ area_key plan passphrase → hash_by_name plan.splitter_hash.now ≡ hash

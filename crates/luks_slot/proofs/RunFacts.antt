@@ -4,13 +4,14 @@ use Rattle.std.proofs.lemmas.List.{get_or-take, get_or-drop}
 use Rattle.luks_area.specs.declared.area.Area.{Area}
 use Rattle.luks_area.specs.RangeFacts.{length-part_inside, part-part}
 use Rattle.luks_area.specs.Ranges.{part}
-use Rattle.luks_xts.specs.Xts.{XtsOpen}
 use Rattle.luks_xts.specs.Units.{unit_at, AreMade}
+use Rattle.luks_slot.specs.declared.cipher.AreaKey.{AreaKey}
+use Rattle.luks_slot.specs.Ciphers.{sector_opened}
 use Rattle.luks_slot.specs.Opening.{area_bytes, opened_sector}
 use Rattle.luks_slot.specs.Reading.{plain_byte, run_length, HoldsRun}
 
 -- a byte of a run that is held
-pub plain_in_run : (key area run : List ℕ) (len place : ℕ) → HoldsRun key area len (place / 4096) run → 512 * (place / 512 + 1) ≤ len
+pub plain_in_run : (key : AreaKey) (area run : List ℕ) (len place : ℕ) → HoldsRun key area len (place / 4096) run → 512 * (place / 512 + 1) ≤ len
     → get_or run (place % 4096) 0 ≡ plain_byte key area place
 unfolding plain_byte
 plain_in_run key area run len place holds room =
@@ -30,8 +31,8 @@ part-front run n i room =
     sym (part-part run 0 n (512 * i) 512 room ∙ ap (λ (k : ℕ). part run k 512) here)
 
 -- the sectors of a run that were read and opened
-pub run_opened : (key v run : List ℕ) (area : Area) (number : ℕ) → 4096 * number + 512 ≤ area.len → area.start + area.len ≤ length v
-    → (let n = run_length area.len number in AreMade (XtsOpen key) (8 * number) (part v (area.start + 4096 * number) n) (take n run))
+pub run_opened : (key : AreaKey) (v run : List ℕ) (area : Area) (number : ℕ) → 4096 * number + 512 ≤ area.len → area.start + area.len ≤ length v
+    → (let n = run_length area.len number in AreMade (sector_opened key) (8 * number) (part v (area.start + 4096 * number) n) (take n run))
     → HoldsRun key (area_bytes v area) area.len number run
 unfolding opened_sector unit_at
 run_opened key v run area number room within opened = record {
@@ -45,5 +46,5 @@ run_opened key v run area number room within opened = record {
       let place : at + 512 * i ≡ area.start + 512 * m = omega arith in
       part-front run len i inside
       ∙ opened.each i (omega (arith, inside, long))
-      ∙ ap (XtsOpen key m) (part-part v at len (512 * i) 512 inside ∙ ap (λ (k : ℕ). part v k 512) place ∙ sym whole);
+      ∙ ap (sector_opened key m) (part-part v at len (512 * i) 512 inside ∙ ap (λ (k : ℕ). part v k 512) place ∙ sym whole);
 }

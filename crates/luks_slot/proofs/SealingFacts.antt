@@ -9,7 +9,7 @@ use Rattle.luks_area.specs.Sectors.{rounded_to_sectors, sector_count}
 use Rattle.luks_kdf.specs.declared.keyslot_hash.KeyslotHash.{KeyslotHash}
 use Rattle.luks_kdf.specs.KeyslotNames.{keyslot_digest, keyslot_digest_size}
 use Rattle.luks_kdf.specs.Splitter.{merge, split}
-use Rattle.luks_xts.specs.Xts.{XtsOpen}
+use Rattle.luks_slot.specs.declared.cipher.AreaKey.{AreaKey}
 use Rattle.luks_slot.specs.declared.plan.SlotPlan.{SlotPlan}
 use Rattle.luks_slot.specs.Opening.{area_bytes, area_key, hash_by_name, meets_digest, opened_sector, opened_sectors, slot_key, stripe_bytes, stripes_from, stripes_in}
 use Rattle.luks_slot.specs.Sealing.{stripes_of, IsSealed}
@@ -72,7 +72,7 @@ placed_zeros a b zeros m are fits = record {
 }
 
 -- all that is wanted was put
-pub all_put : (key area wanted run : List ℕ) (n len place : ℕ) → place ≡ 512 * n → place ≡ len → length wanted ≡ 512 * n → length area ≡ 512 * n
+pub all_put : (key : AreaKey) (area wanted run : List ℕ) (n len place : ℕ) → place ≡ 512 * n → place ≡ len → length wanted ≡ 512 * n → length area ≡ 512 * n
     → HoldsWanted key area len wanted place run → opened_sectors key area n ≡ wanted
 all_put key area wanted run n len place is end wanted_length area_length begun =
     let fits : 512 * n ≤ length area = omega (arith, area_length) in
@@ -107,7 +107,7 @@ sealed_area plan area passphrase key random stripes size is opened =
     }
 
 -- the same of what was written over the first sectors of a plan's area
-pub sealed_by : (plan : SlotPlan) (w passphrase key random last cipher_key : List ℕ) (hash : KeyslotHash)
+pub sealed_by : (plan : SlotPlan) (w passphrase key random last : List ℕ) (cipher_key : AreaKey) (hash : KeyslotHash)
     → 1 ≤ plan.stripes → length random + length last ≡ stripe_bytes plan
     → rounded_to_sectors (stripe_bytes plan) ≤ plan.area.len
     → random ++ last ≡ split (keyslot_digest hash) (keyslot_digest_size hash) key ((plan.stripes - 1) + 1) random

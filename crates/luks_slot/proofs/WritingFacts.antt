@@ -4,17 +4,18 @@ use Rattle.std.proofs.lemmas.Bool.{cases_lt}
 use Rattle.luks_area.specs.declared.area.Area.{Area}
 use Rattle.luks_area.specs.RangeFacts.{at-inside, part-part, part-same_but_at, part-written, same_but-same_outside, same_but-wider, same_outside-written}
 use Rattle.luks_area.specs.Ranges.{part, written, IsAt, SameBut}
-use Rattle.luks_xts.specs.Xts.{XtsOpen}
 use Rattle.luks_xts.specs.Units.{AreMade}
+use Rattle.luks_slot.specs.declared.cipher.AreaKey.{AreaKey}
+use Rattle.luks_slot.specs.Ciphers.{sector_opened}
 use Rattle.luks_slot.specs.Opening.{area_bytes, opened_sector}
 use Rattle.luks_slot.specs.Reading.{plain_byte, run_length, HoldsRun}
 use Rattle.luks_slot.specs.Writing.{HoldsWanted}
 use Rattle.luks_slot.proofs.RunFacts.{plain_in_run, run_opened}
 
 -- a run that was encrypted and written decrypts to what it was
-pub run_stored : (v w key sealed run : List ℕ) (area : Area) (number : ℕ) → 4096 * number + 512 ≤ area.len → area.start + area.len ≤ length v
+pub run_stored : (v w : List ℕ) (key : AreaKey) (sealed run : List ℕ) (area : Area) (number : ℕ) → 4096 * number + 512 ≤ area.len → area.start + area.len ≤ length v
     → length sealed ≡ run_length area.len number → length w ≡ length v
-    → w ≡ written v (area.start + 4096 * number) sealed → AreMade (XtsOpen key) (8 * number) sealed (take (run_length area.len number) run)
+    → w ≡ written v (area.start + 4096 * number) sealed → AreMade (sector_opened key) (8 * number) sealed (take (run_length area.len number) run)
     → HoldsRun key (area_bytes w area) area.len number run
 run_stored v w key sealed run area number room within size same is undone =
     let at = area.start + 4096 * number in
@@ -23,7 +24,7 @@ run_stored v w key sealed run area number room within size same is undone =
     sym (part-written v at sealed (omega (arith, room, within, size)))
     ∙ ap (λ u. part u at (length sealed)) (sym is)
     ∙ ap (part w at) size in
-    run_opened key w run area number room (omega (arith, within, same)) (subst (λ (s : List ℕ). AreMade (XtsOpen key) (8 * number) s (take n run)) there undone)
+    run_opened key w run area number room (omega (arith, within, same)) (subst (λ (s : List ℕ). AreMade (sector_opened key) (8 * number) s (take n run)) there undone)
 
 -- a write of a run changes that run alone
 pub run_alone : (v w sealed : List ℕ) (at : ℕ) → length sealed ≤ 4096 → at + length sealed ≤ length v → w ≡ written v at sealed → SameBut (IsAt at 4096) v w
@@ -34,7 +35,7 @@ run_alone v w sealed at short inside wrote =
     (subst (λ (u : List ℕ). SameBut (IsAt at (length sealed)) v u) (sym wrote) same)
 
 -- a sector of another run of the area is as before
-opened_sector-same : (v w key : List ℕ) (start len n i : ℕ) → 512 * (i + 1) ≤ len → i < 8 * n → SameBut (IsAt (start + 4096 * n) 4096) v w
+opened_sector-same : (v w : List ℕ) (key : AreaKey) (start len n i : ℕ) → 512 * (i + 1) ≤ len → i < 8 * n → SameBut (IsAt (start + 4096 * n) 4096) v w
     → opened_sector key (part w start len) i ≡ opened_sector key (part v start len) i
 unfolding opened_sector
 opened_sector-same v w key start len n i fits before same =
@@ -42,10 +43,10 @@ opened_sector-same v w key start len n i fits before same =
     let there_v : part (part v start len) (512 * i) 512 ≡ part v (start + 512 * i) 512 = part-part v start len (512 * i) 512 (omega (arith, fits)) in
     let kept : part w (start + 512 * i) 512 ≡ part v (start + 512 * i) 512 =
     part-same_but_at (start + 4096 * n) 4096 (start + 512 * i) 512 same (inl (omega (arith, before))) in
-    ap (XtsOpen key i) (there_w ∙ kept ∙ sym there_v)
+    ap (sector_opened key i) (there_w ∙ kept ∙ sym there_v)
 
 -- before the first byte
-pub nothing_wanted : (key area : List ℕ) (len : ℕ) (wanted run : List ℕ) → HoldsWanted key area len wanted 0 run
+pub nothing_wanted : (key : AreaKey) (area : List ℕ) (len : ℕ) (wanted run : List ℕ) → HoldsWanted key area len wanted 0 run
 nothing_wanted key area len wanted run = record {
   stored = 0;
   inside = λ other. refl;
@@ -55,7 +56,7 @@ nothing_wanted key area len wanted run = record {
 }
 
 -- the held bytes with one more
-front_more : (key area wanted run : List ℕ) (len place byte : ℕ) → (begun : HoldsWanted key area len wanted place run) → byte ≡ get_or wanted place 0 → length run ≡ 4096
+front_more : (key : AreaKey) (area wanted run : List ℕ) (len place byte : ℕ) → (begun : HoldsWanted key area len wanted place run) → byte ≡ get_or wanted place 0 → length run ≡ 4096
     → place < len → (k : ℕ) → 4096 * (place / 4096) + k < place + 1 → get_or (set run (place % 4096) byte) k 0 ≡ get_or wanted (4096 * (place / 4096) + k) 0
 front_more key area wanted run len place byte begun is size before k lt =
     let base : begun.stored ≡ 4096 * (place / 4096) = begun.inside (λ e. omega (arith, e, before)) in
@@ -73,7 +74,7 @@ front_more key area wanted run len place byte begun is size before k lt =
     ]
 
 -- a byte more, where the run was stored with it
-byte_stored : (v w key wanted run after : List ℕ) (start len place byte : ℕ) → HoldsWanted key (part v start len) len wanted place run
+byte_stored : (v w : List ℕ) (key : AreaKey) (wanted run after : List ℕ) (start len place byte : ℕ) → HoldsWanted key (part v start len) len wanted place run
     → byte ≡ get_or wanted place 0 → length run ≡ 4096 → 512 * (place / 512 + 1) ≤ len → (place % 4096 ≡ 4095) ⊎ (place + 1 ≡ len)
     → HoldsRun key (part w start len) len (place / 4096) (set run (place % 4096) byte)
     → SameBut (IsAt (start + 4096 * (place / 4096)) 4096) v w → HoldsWanted key (part w start len) len wanted (place + 1) after
@@ -104,7 +105,7 @@ byte_stored v w key wanted run after start len place byte begun is size fits ful
     }
 
 -- the same where the writer stays at its area with its key
-pub byte_written : (v w key now wanted run after : List ℕ) (area at : Area) (place byte : ℕ)
+pub byte_written : (v w : List ℕ) (key now : AreaKey) (wanted run after : List ℕ) (area at : Area) (place byte : ℕ)
     → now ≡ key → at ≡ area → HoldsWanted key (area_bytes v area) area.len wanted place run
     → byte ≡ get_or wanted place 0 → length run ≡ 4096 → 512 * (place / 512 + 1) ≤ area.len → (place % 4096 ≡ 4095) ⊎ (place + 1 ≡ area.len)
     → HoldsRun key (area_bytes w area) area.len (place / 4096) (set run (place % 4096) byte)

@@ -116,13 +116,13 @@ derivation_still older more (Argon2 a) more_too is = refl
 
 pub hashes_still : (older more : Bool) (plan : SlotPlan) → (older ≡ true → more ≡ true) → are_known_hashes older plan ≡ true → are_known_hashes more plan ≡ true
 hashes_still older more plan more_too is =
-    let first = and_parts (is_known_derivation older plan.derivation)
-    (is_known_hash older plan.splitter_hash.now && is_known_hash older plan.digest.hash.now) is in
-    let rest = and_parts (is_known_hash older plan.splitter_hash.now) (is_known_hash older plan.digest.hash.now) first.1 in
-    and_from (is_known_derivation more plan.derivation) (is_known_hash more plan.splitter_hash.now && is_known_hash more plan.digest.hash.now)
-    (derivation_still older more plan.derivation more_too first.0)
-    (and_from (is_known_hash more plan.splitter_hash.now) (is_known_hash more plan.digest.hash.now)
-    (hash_still older more plan.splitter_hash.now more_too rest.0) (hash_still older more plan.digest.hash.now more_too rest.1))
+    let first = and_parts (is_known_derivation older plan.derivation && is_known_hash older plan.splitter_hash.now)
+    (is_known_hash older plan.digest.hash.now) is in
+    let front = and_parts (is_known_derivation older plan.derivation) (is_known_hash older plan.splitter_hash.now) first.0 in
+    and_from (is_known_derivation more plan.derivation && is_known_hash more plan.splitter_hash.now) (is_known_hash more plan.digest.hash.now)
+    (and_from (is_known_derivation more plan.derivation) (is_known_hash more plan.splitter_hash.now)
+    (derivation_still older more plan.derivation more_too front.0) (hash_still older more plan.splitter_hash.now more_too front.1))
+    (hash_still older more plan.digest.hash.now more_too first.1)
 
 -- where more is allowed, a plan isn't refused where it wasn't
 pub still_accepted : (allowed more : Allowed) (plan : SlotPlan) → allowed.memory ≤ more.memory

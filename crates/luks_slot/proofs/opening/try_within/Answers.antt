@@ -36,4 +36,4 @@ returns-clause-distance g c tells =
 pub returns-in_err-parameters-clause-fault : goal.returns-in_err-parameters-clause-fault
 returns-in_err-parameters-clause-fault g c =
     let p = err_from_is_err_and c.from_residual.result c.from_residual.ensures.1 in
-    rw (p.1, p.2) (refusal_answered c.args.memory c.args.plan.now c.in_err-parameters.field-0.0 c.in_err-parameters.ensures.refused)
+    rw (p.1, p.2) (refusal_answered c.args.allowed c.args.plan.now c.in_err-parameters.field-0.0 c.in_err-parameters.ensures.refused)

@@ -3,7 +3,7 @@ use Rattle.std.proofs.lemmas.List.{length-take-le}
 use Rattle.luks_area.specs.DeviceFacts.{touches-wider}
 use Rattle.luks_area.specs.RangeFacts.{at-inside}
 use Rattle.luks_xts.specs.Units.{AreMade}
-use Rattle.luks_xts.specs.Xts.{XtsOpen}
+use Rattle.luks_slot.specs.Ciphers.{sector_opened}
 use Rattle.luks_slot.proofs.WritingFacts.{run_alone, run_stored}
 use Rattle.luks_slot.proofs.area_writer.AreaWriter.store.Goals as goal
 
@@ -21,7 +21,7 @@ returns-clause-value g c tells =
     let short : len ≤ length run = omega arith in
     run_stored v w writer.key (take len run) writer.run writer.area number c.requires.in_area (omega (arith, size, c.requires.within))
     (length-take-le len run short ∙ is) (omega (arith, size, after, c.write_run.ensures.size)) (c.in_ok-write_run.ensures.wrote tells)
-    (subst (λ (n : ℕ). AreMade (XtsOpen writer.key) (8 * number) (take len run) (take n writer.run)) is c.write_run.ensures.sealed)
+    (subst (λ (n : ℕ). AreMade (sector_opened writer.key) (8 * number) (take len run) (take n writer.run)) is c.write_run.ensures.sealed)
 
 pub returns-clause-alone : goal.returns-clause-alone
 returns-clause-alone g c tells =
