@@ -1,3 +1,4 @@
 pub mod LoopFacts
 pub mod UndoneFacts
 pub mod VectorFacts
+pub mod SectorFacts

@@ -1,5 +1,5 @@
 -- The hash functions of older headers, and all that a keyslot may name.
-use Rattle.std.proofs.Common.{◌≡◌, ◌≤◌, ◌&&◌, ap, ℕ, List, Option, Some, None, Bool, true, false, T, codes, leb→le, length, nat_le, refl, subst, sym, ◌∙◌, if◌then◌else◌}
+use Rattle.std.proofs.Common.{◌≡◌, ◌≤◌, ◌&&◌, ap, ℕ, List, Option, Some, None, Bool, true, false, T, codes, leb→le, length, nat_le, refl, subst, sym, if◌then◌else◌}
 use Rattle.std.specs.Option.{option_or}
 use Rattle.std.specs.Prelude.{option_map}
 use Rattle.std.specs.Str.{bytes_eq}
