@@ -1,5 +1,5 @@
 -- How the key of an area is derived, and which refusals are answered.
-use Rattle.std.proofs.Common.{◌≡◌, ℕ, ◌*◌, ◌-◌, ◌^◌, ◌≤◌, List, length, refl, ap, sym, subst, arith, true, false, Some, None}
+use Rattle.std.proofs.Common.{◌≡◌, ℕ, ◌*◌, ◌-◌, ◌^◌, ◌≤◌, List, length, refl, ap, sym, ◌∙◌, subst, arith, true, false, Some, None}
 use Rattle.std.specs.Prelude.{◌==◌, ◌||◌, nat_lt, not, if◌then◌else◌, Bool}
 use Rattle.std.proofs.lemmas.Bool.Decides.{nat_tests}
 use Rattle.luks_slot.specs.declared.allowed.Allowed.{Allowed}
@@ -11,10 +11,12 @@ use Rattle.luks_slot.specs.declared.plan.Derivation.TheVariants.{Pbkdf2, Argon2}
 use Rattle.luks_slot.specs.declared.plan.SlotPlan.{SlotPlan}
 use Rattle.luks_slot.specs.declared.parameters.KeyDerivation.TheVariants as known
 use Rattle.luks_slot.specs.declared.parameters.Pbkdf2Costs.{Pbkdf2Costs}
-use Rattle.luks_slot.specs.Fault.{IsAnsweredWithin}
+use Rattle.luks_slot.specs.Allowance.{none_allowed}
+use Rattle.luks_slot.specs.Fault.{IsAnsweredFault, IsAnsweredWithin}
 use Rattle.luks_slot.specs.Opening.{area_key_by, derived_by_argon2, HasIterations}
 use Rattle.luks_slot.specs.Parameters.{derived_by_pbkdf2, IsDerivation}
-use Rattle.luks_slot.specs.Refusal.{are_known_hashes, is_allowed_cipher, is_argon2_refused, is_key_size, slot_refusal_within}
+use Rattle.luks_slot.specs.Refusal.{are_known_hashes, is_allowed_cipher, is_argon2, is_argon2_refused, is_key_size, is_open_cipher, slot_refusal, slot_refusal_within}
+use Rattle.luks_slot.specs.RefusalFacts.{refusal_at_none}
 
 -- what PBKDF2 derives by the costs of a plan is what the plan derives
 pub by_pbkdf2 : (d : Derivation) (costs : Pbkdf2Costs) (n : ℕ) (p : List ℕ) → IsDerivation d (known.Pbkdf2 costs)
@@ -58,3 +60,25 @@ refusal_answered allowed plan fault.Device is = absurd ((unfailing (is_argon2_re
     (are_known_hashes allowed.older plan) (is_key_size plan.cipher plan.area_key_bytes) fault.Device is).0 refl)
 refusal_answered allowed plan fault.Memory is = absurd ((unfailing (is_argon2_refused allowed.memory plan.derivation) (is_allowed_cipher allowed.older plan.cipher)
     (are_known_hashes allowed.older plan) (is_key_size plan.cipher plan.area_key_bytes) fault.Memory is).1 refl)
+
+-- where nothing is allowed, a plan is refused as before
+pub refusal_at_zero : (plan : SlotPlan) → slot_refusal_within none_allowed plan ≡ slot_refusal plan
+refusal_at_zero = refusal_at_none
+
+-- Argon2 is refused then
+argon2_stands : (plan : SlotPlan) → is_argon2 plan.derivation ≡ true → slot_refusal plan ≡ None → ⊥
+argon2_stands plan on none =
+    let refused : slot_refusal plan ≡ Some fault.Argon2 =
+    ap (λ b. if b then Some fault.Argon2 else if not (is_open_cipher plan.cipher) then Some fault.Cipher
+    else if not (are_known_hashes false plan) then Some fault.Hash
+    else if not (plan.area_key_bytes == 32 || plan.area_key_bytes == 64) then Some fault.KeySize else None) on in
+    cc
+
+-- and what is answered is as before
+pub answered_before : (plan : SlotPlan) (f : SlotFault) → IsAnsweredWithin none_allowed plan f → IsAnsweredFault plan f
+answered_before plan fault.Argon2 is = sym (refusal_at_none plan) ∙ is
+answered_before plan fault.Cipher is = sym (refusal_at_none plan) ∙ is
+answered_before plan fault.Hash is = sym (refusal_at_none plan) ∙ is
+answered_before plan fault.KeySize is = sym (refusal_at_none plan) ∙ is
+answered_before plan fault.Device is = sym (refusal_at_none plan) ∙ is
+answered_before plan fault.Memory is = argon2_stands plan is.1 (sym (refusal_at_none plan) ∙ is.0)

@@ -7,3 +7,4 @@ pub mod OpeningFacts
 pub mod WritingFacts
 pub mod SplittingFacts
 pub mod SealingFacts
+pub mod HashFacts

@@ -1,5 +1,5 @@
 -- The ciphers of key areas, and what they make of a sector.
-use Rattle.std.specs.Prelude.{ℕ, ◌==◌, ◌||◌, List, Bool, Option, Some, None, codes, if◌then◌else◌}
+use Rattle.std.specs.Prelude.{ℕ, ◌==◌, ◌||◌, List, ◌++◌, Bool, Option, Some, None, codes, if◌then◌else◌}
 use Rattle.std.specs.Str.{bytes_eq}
 use Rattle.luks_cbc.specs.declared.vectors.IvKind.{IvKind}
 use Rattle.luks_cbc.specs.declared.vectors.IvKind.TheVariants.{Plain, Plain64, Essiv}
@@ -33,13 +33,18 @@ abbrev pub older_ivs : AreaCipher → Option IvKind
 older_ivs (Apart name mode) = if bytes_eq name.now (codes "aes") then ivs_of_mode mode.now else None
 older_ivs (Whole text) = ivs_of_text text.now
 
--- what decrypts the sectors of an area (one with another cipher is refused)
+-- what decrypts the sectors of an area, by the text that names the cipher; a name and a mode are one
+-- text with a hyphen between them (an area with another cipher is refused)
 abbrev pub cipher_by : Option IvKind → SectorCipher
 cipher_by None = Xts
 cipher_by (Some ivs) = Cbc ivs
 
+abbrev pub cipher_named : List ℕ → SectorCipher
+cipher_named text = cipher_by (ivs_of_text text)
+
 abbrev pub cipher_of : AreaCipher → SectorCipher
-cipher_of cipher = cipher_by (older_ivs cipher)
+cipher_of (Apart name mode) = cipher_named (name.now ++ codes "-" ++ mode.now)
+cipher_of (Whole text) = cipher_named text.now
 
 -- the lengths in bytes of its keys: two keys of AES-128 or AES-256 (IEEE 1619, 5.1), or one of AES-128,
 -- AES-192 or AES-256

@@ -1,6 +1,6 @@
 -- How what is allowed decides whether a plan is refused: where nothing is, it is refused as before, and
 -- where more is, it isn't refused where it wasn't.
-use Rattle.std.proofs.Common.{◌≡◌, ◌∙◌, ◌≤◌, ℕ, ◌*◌, ◌-◌, ◌^◌, List, length, true, false, Some, None, inl, inr, refl, ap, sym, arith, codes}
+use Rattle.std.proofs.Common.{◌≡◌, ◌∙◌, ◌≤◌, ℕ, ◌*◌, ◌-◌, ◌^◌, List, ◌++◌, length, true, false, Some, None, inl, inr, refl, ap, sym, arith, codes}
 use Rattle.std.specs.Prelude.{◌==◌, ◌&&◌, ◌||◌, nat_lt, not, if◌then◌else◌, Bool, Option, is_some}
 use Rattle.std.specs.Str.{bytes_eq}
 use Rattle.std.proofs.lemmas.Bool.{and_from, and_parts, cases_Bool, or_left, true≢false, false≢true}
@@ -10,6 +10,8 @@ use Rattle.luks_cbc.specs.declared.vectors.IvKind.{IvKind}
 use Rattle.luks_kdf.specs.KeyslotNames.{older_hash_named}
 use Rattle.luks_kdf.specs.Names.{hash_named}
 use Rattle.luks_slot.specs.declared.allowed.Allowed.{Allowed}
+use Rattle.luks_slot.specs.declared.cipher.SectorCipher.{SectorCipher}
+use Rattle.luks_slot.specs.declared.cipher.SectorCipher.TheVariants.{Xts, Cbc}
 use Rattle.luks_slot.specs.declared.fault.SlotFault.{SlotFault}
 use Rattle.luks_slot.specs.declared.fault.SlotFault.TheVariants as fault
 use Rattle.luks_slot.specs.declared.plan.AreaCipher.{AreaCipher}
@@ -18,7 +20,7 @@ use Rattle.luks_slot.specs.declared.plan.Derivation.{Derivation}
 use Rattle.luks_slot.specs.declared.plan.Derivation.TheVariants.{Pbkdf2, Argon2}
 use Rattle.luks_slot.specs.declared.plan.SlotPlan.{SlotPlan}
 use Rattle.luks_slot.specs.Allowance.{none_allowed}
-use Rattle.luks_slot.specs.Ciphers.{cipher_by, is_size_of, ivs_of_mode, ivs_of_text, older_ivs}
+use Rattle.luks_slot.specs.Ciphers.{cipher_by, cipher_named, cipher_of, is_size_of, ivs_of_mode, ivs_of_text, older_ivs}
 use Rattle.luks_slot.specs.Refusal.{are_known_hashes, first_refusal, is_allowed_cipher, is_argon2, is_argon2_refused, is_key_size, is_known_derivation, is_known_hash, is_open_cipher, slot_refusal, slot_refusal_within}
 
 -- where no memory is allowed, Argon2 is refused whatever its costs are
@@ -29,25 +31,49 @@ pub argon2_at_zero : (d : Derivation) → is_argon2_refused 0 d ≡ is_argon2 d
 argon2_at_zero (Pbkdf2 h i s) = refl
 argon2_at_zero (Argon2 a) = refused_at_zero a.memory a.cpus (length a.salt.now)
 
--- a text that is one of two, where neither names IVs
-names_none : (f : List ℕ → Option IvKind) (t a b : List ℕ) → (bytes_eq t a || bytes_eq t b) ≡ true → f a ≡ None → f b ≡ None → f t ≡ None
-names_none f t a b same first second = elim (cases_Bool (bytes_eq t a)) [
+-- a text that is one of two, which both name XTS
+names_xts : (f : List ℕ → SectorCipher) (t a b : List ℕ) → (bytes_eq t a || bytes_eq t b) ≡ true → f a ≡ Xts → f b ≡ Xts → f t ≡ Xts
+names_xts f t a b same first second = elim (cases_Bool (bytes_eq t a)) [
   | inl is ↦ ap f ((bytes_eq-Decides t a).0 is) ∙ first
   | inr other ↦ ap f ((bytes_eq-Decides t b).0 (rw other at same)) ∙ second
 ]
 
--- a cipher that is open to everyone has no IVs of older disks
-pub open_has_no_ivs : (c : AreaCipher) → is_open_cipher c ≡ true → older_ivs c ≡ None
-open_has_no_ivs (Apart name mode) is =
-    let both = and_parts (bytes_eq name.now (codes "aes")) (bytes_eq mode.now (codes "xts-plain64") || bytes_eq mode.now (codes "xts-plain")) is in
-    ap (λ b. if b then ivs_of_mode mode.now else None) both.0
-    ∙ names_none ivs_of_mode mode.now (codes "xts-plain64") (codes "xts-plain") both.1 refl refl
-open_has_no_ivs (Whole text) is =
-    names_none ivs_of_text text.now (codes "aes-xts-plain64") (codes "aes-xts-plain") is refl refl
+-- the text of a name and a mode
+joined : List ℕ → List ℕ → List ℕ
+joined name mode = name ++ codes "-" ++ mode
 
--- so its keys have the lengths of XTS
+-- a cipher that is open to everyone is XTS
+pub open_is_xts : (c : AreaCipher) → is_open_cipher c ≡ true → cipher_of c ≡ Xts
+unfolding joined
+open_is_xts (Apart name mode) is =
+    let both = and_parts (bytes_eq name.now (codes "aes")) (bytes_eq mode.now (codes "xts-plain64") || bytes_eq mode.now (codes "xts-plain")) is in
+    ap (λ n. cipher_named (joined n mode.now)) ((bytes_eq-Decides name.now (codes "aes")).0 both.0)
+    ∙ names_xts (λ m. cipher_named (joined (codes "aes") m)) mode.now (codes "xts-plain64") (codes "xts-plain") both.1 refl refl
+open_is_xts (Whole text) is =
+    names_xts cipher_named text.now (codes "aes-xts-plain64") (codes "aes-xts-plain") is refl refl
+
+-- the IVs of a mode of aes are those of the text
+mode_in_text : (mode : List ℕ) → ivs_of_text (joined (codes "aes") mode) ≡ ivs_of_mode mode
+unfolding joined
+mode_in_text mode = refl
+
+-- the name is aes where there are IVs
+named_aes : (test : Bool) (o : Option IvKind) (ivs : IvKind) → (if test then o else None) ≡ Some ivs → (test ≡ true) × (o ≡ Some ivs)
+named_aes true o ivs is = (refl, is)
+named_aes false o ivs is = absurd (cc)
+
+-- a cipher of older disks is CBC with its IVs
+pub older_is_cbc : (c : AreaCipher) (ivs : IvKind) → older_ivs c ≡ Some ivs → cipher_of c ≡ Cbc ivs
+unfolding joined
+older_is_cbc (Apart name mode) ivs is =
+    let both = named_aes (bytes_eq name.now (codes "aes")) (ivs_of_mode mode.now) ivs is in
+    ap (λ n. cipher_named (joined n mode.now)) ((bytes_eq-Decides name.now (codes "aes")).0 both.0)
+    ∙ ap cipher_by (mode_in_text mode.now ∙ both.1)
+older_is_cbc (Whole text) ivs is = ap cipher_by is
+
+-- so the keys of an open cipher have the lengths of XTS
 pub open_key_size : (c : AreaCipher) (n : ℕ) → is_open_cipher c ≡ true → is_key_size c n ≡ (n == 32 || n == 64)
-open_key_size c n is = ap (λ o. is_size_of (cipher_by o) n) (open_has_no_ivs c is)
+open_key_size c n is = ap (λ k. is_size_of k n) (open_is_xts c is)
 
 -- the refusals in their order
 abbrev chain : Bool → Bool → Bool → Bool → Option SlotFault

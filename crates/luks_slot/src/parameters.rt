@@ -2,8 +2,9 @@
 
 ghost use Rattle.std.specs.Prelude.{◌≡◌, ◌==◌, is_some, MatchResult, Some, None, IfErr, IfOk, IfSome, IsTrue, OnOk};
 ghost use Rattle.luks_slot.specs.Parameters.{AreParameters, IsDerivation};
+ghost use Rattle.luks_slot.specs.Opening.{hash_by_name};
 ghost use Rattle.luks_slot.specs.Ciphers.{cipher_of, is_size_of, ivs_of_mode, ivs_of_text, older_ivs};
-ghost use Rattle.luks_slot.specs.Refusal.{is_allowed_cipher, is_argon2_refused, is_known_derivation, is_open_cipher, slot_refusal, slot_refusal_within};
+ghost use Rattle.luks_slot.specs.Refusal.{is_allowed_cipher, is_argon2_refused, is_known_derivation, is_known_hash, is_open_cipher, slot_refusal, slot_refusal_within};
 
 use crate::allowed::Allowed;
 use crate::cipher::SectorCipher;
@@ -66,17 +67,16 @@ pub(crate) fn parameters_within<'a>(
     if is_argon2_refused(&plan.derivation, allowed.memory) {
         return Err(SlotFault::Argon2);
     }
-    if !is_allowed_cipher(&plan.cipher, allowed.older) {
+    let Some(cipher) = cipher_of(&plan.cipher, allowed.older) else {
         return Err(SlotFault::Cipher);
-    }
+    };
     let (Some(derivation), Some(splitter_hash), Some(digest_hash)) = (
         derivation_of(&plan.derivation, allowed.older),
-        KeyslotHash::parse(plan.splitter_hash, allowed.older),
-        KeyslotHash::parse(plan.digest.hash, allowed.older),
+        known_hash(plan.splitter_hash, allowed.older),
+        known_hash(plan.digest.hash, allowed.older),
     ) else {
         return Err(SlotFault::Hash);
     };
-    let cipher = cipher_of(&plan.cipher);
     if !is_key_size(cipher, plan.area_key_bytes) {
         return Err(SlotFault::KeySize);
     }
@@ -115,7 +115,7 @@ fn derivation_of<'a>(derivation: &Derivation<'a>, older: bool) -> Option<KeyDeri
             iterations,
             salt,
         } => {
-            let hash = KeyslotHash::parse(hash, older)?;
+            let hash = known_hash(hash, older)?;
             Some(KeyDerivation::Pbkdf2(Pbkdf2Costs {
                 hash,
                 iterations,
@@ -126,10 +126,27 @@ fn derivation_of<'a>(derivation: &Derivation<'a>, older: bool) -> Option<KeyDeri
     }
 }
 
-fn is_allowed_cipher(cipher: &AreaCipher<'_>, older: bool) -> bool
-    ensures { result ≡ is_allowed_cipher older cipher.now }
+// The hash that the text names, where it is accepted.
+fn known_hash(text: &str, older: bool) -> Option<KeyslotHash>
+    ensures known { is_some result ≡ is_known_hash older text.now }
+    ensures is { IfSome result (λ hash. hash_by_name text.now ≡ hash) }
 {
-    is_open_cipher(cipher) || older && older_ivs(cipher).is_some()
+    KeyslotHash::parse(text, older)
+}
+
+// What decrypts the sectors of the area, where its cipher is accepted.
+fn cipher_of(cipher: &AreaCipher<'_>, older: bool) -> Option<SectorCipher>
+    ensures allowed { is_some result ≡ is_allowed_cipher older cipher.now }
+    ensures is { IfSome result (λ known. cipher_of cipher.now ≡ known) }
+{
+    if is_open_cipher(cipher) {
+        return Some(SectorCipher::Xts);
+    }
+    if !older {
+        return None;
+    }
+    let ivs = older_ivs(cipher)?;
+    Some(SectorCipher::Cbc(ivs))
 }
 
 fn is_open_cipher(cipher: &AreaCipher<'_>) -> bool
@@ -140,16 +157,6 @@ fn is_open_cipher(cipher: &AreaCipher<'_>) -> bool
             name == "aes" && (mode == "xts-plain64" || mode == "xts-plain")
         }
         AreaCipher::Whole(text) => text == "aes-xts-plain64" || text == "aes-xts-plain",
-    }
-}
-
-// What decrypts the sectors of the area.
-fn cipher_of(cipher: &AreaCipher<'_>) -> SectorCipher
-    ensures { result ≡ cipher_of cipher.now }
-{
-    match older_ivs(cipher) {
-        None => SectorCipher::Xts,
-        Some(ivs) => SectorCipher::Cbc(ivs),
     }
 }
 
