@@ -3,7 +3,7 @@ use arrayvec::ArrayString;
 use luks_area::MemDevice;
 use luks_head::TextField;
 use luks_kdf::HashName;
-use luks_reading::open_slot;
+use luks_reading::{Allowed, open_slot};
 use luks_test_devices::{VOLUME_KEY, old_bytes, put, small1};
 use luks1_rebuilding::{Given, Rebuild1Fault, rebuild1};
 use std::alloc::Global;
@@ -36,7 +36,7 @@ fn opens_after(alloc: Global, at: usize, damage: &[u8], given: &Given) -> Result
     let mut source = MemDevice::new(volume);
     let mut made = MemDevice::new(old_bytes(alloc, LEN)?);
     match rebuild1(&mut source, &mut made, given) {
-        Ok(()) => match open_slot(alloc, &mut made, 0, b"one", 0) {
+        Ok(()) => match open_slot(alloc, &mut made, 0, b"one", Allowed::NOTHING) {
             Ok(Some(key)) => Ok(key.as_bytes() == VOLUME_KEY.as_slice()),
             _ => Ok(false),
         },

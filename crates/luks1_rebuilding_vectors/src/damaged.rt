@@ -1,7 +1,7 @@
 //! A volume in memory that may be damaged further, and what is made of it.
 use crate::given::give_all;
 use luks_area::MemDevice;
-use luks_reading::open_slot;
+use luks_reading::{Allowed, open_slot};
 use luks_test_devices::old_bytes;
 use luks_vector_lines::{Functions, Malformed, Words, demand};
 use luks1_rebuilding::{Given, Rebuild1Fault, rebuild1};
@@ -100,7 +100,7 @@ impl Damaged {
 
 /// Whether this keyslot opens.
 fn opens(alloc: Global, target: &mut MemDevice, slot: u8, passphrase: &[u8]) -> &'static str {
-    match open_slot(alloc, target, slot, passphrase, 0) {
+    match open_slot(alloc, target, slot, passphrase, Allowed::NOTHING) {
         Ok(Some(_)) => "opens",
         Ok(None) => "shut",
         Err(_) => "refused",

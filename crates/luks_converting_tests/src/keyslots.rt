@@ -3,7 +3,7 @@ use crate::sources::{LEAST, RANDOM, two_keyslots};
 use luks_area::MemDevice;
 use luks_converting::convert;
 use luks_edit::Edit;
-use luks_reading::{Data, OpenFault, check, open_slot};
+use luks_reading::{Allowed, Data, OpenFault, check, open_slot};
 use luks_test_devices::{VOLUME_KEY, add, counted, old_bytes, part};
 use luks_volume::apply;
 use std::alloc::Global;
@@ -22,7 +22,7 @@ fn converted(alloc: Global) -> Result<MemDevice, Fail> {
 
 /// Whether the keyslot opens by the passphrase to the volume key.
 fn opens(alloc: Global, header: &mut MemDevice, n: u8, passphrase: &[u8]) -> bool {
-    match open_slot(alloc, header, n, passphrase, 0) {
+    match open_slot(alloc, header, n, passphrase, Allowed::NOTHING) {
         Ok(Some(key)) => key.as_bytes() == VOLUME_KEY.as_slice(),
         _ => false,
     }
@@ -31,7 +31,7 @@ fn opens(alloc: Global, header: &mut MemDevice, n: u8, passphrase: &[u8]) -> boo
 /// Whether there is no keyslot of this number.
 fn is_absent(alloc: Global, header: &mut MemDevice, n: u8) -> bool {
     matches!(
-        open_slot(alloc, header, n, b"one", 0),
+        open_slot(alloc, header, n, b"one", Allowed::NOTHING),
         Err(OpenFault::NoSuchSlot)
     )
 }

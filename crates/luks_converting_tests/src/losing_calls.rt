@@ -4,7 +4,7 @@ use crate::sources::{LEAST, RANDOM};
 use luks_area::{Device, MemDevice};
 use luks_converting::{ConvertFault, convert};
 use luks_kdf::HashName;
-use luks_reading::{Data, check, open_slot};
+use luks_reading::{Allowed, Data, check, open_slot};
 use luks_test_devices::{KEPT, LosingDevice, Loss, counted, old_bytes, part, put, small1, small2};
 use std::alloc::Global;
 use std::process::Abort;
@@ -36,7 +36,7 @@ fn opens_where_accepted(alloc: Global, left: &mut Lengthened<MemDevice>) -> bool
     if check(alloc, left, Data::Elsewhere).is_err() {
         return true;
     }
-    open_slot(alloc, left, 0, b"one", 0).is_ok_and(|key| key.is_some())
+    open_slot(alloc, left, 0, b"one", Allowed::NOTHING).is_ok_and(|key| key.is_some())
 }
 
 /// What converting comes to where the call of this number fails and no later one does anything. The source

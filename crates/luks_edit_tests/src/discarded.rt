@@ -4,7 +4,7 @@ use crate::answers::line_of;
 use luks_area::MemDevice;
 use luks_edit::Edit;
 use luks_kdf::HashName;
-use luks_reading::{Data, open_slot};
+use luks_reading::{Allowed, Data, open_slot};
 use luks_test_devices::{VOLUME_KEY, add, counted, part, put, remove, small1, two_keyslots};
 use luks_volume::apply;
 use std::alloc::Global;
@@ -34,7 +34,7 @@ fn answer(
 
 /// Whether keyslot 0 opens by `one` to the volume key.
 fn opens(alloc: Global, device: &mut MemDevice) -> bool {
-    match open_slot(alloc, device, 0, b"one", 0) {
+    match open_slot(alloc, device, 0, b"one", Allowed::NOTHING) {
         Ok(Some(key)) => key.as_bytes() == VOLUME_KEY.as_slice(),
         _ => false,
     }

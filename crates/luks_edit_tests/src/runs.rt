@@ -9,7 +9,7 @@ use luks_area::{Device, FaultyDevice, Leave, MemDevice};
 use luks_edit::{Done, Edit, EditFault, Step};
 use luks_formatting::{Format, format2};
 use luks_kdf::HashName;
-use luks_reading::{Copies, Data, Version, check, open_slot};
+use luks_reading::{Allowed, Copies, Data, Version, check, open_slot};
 use luks_test_devices::{VOLUME_KEY, add, counted, is_sum, remove, small1, small2};
 use luks_volume::run;
 use std::alloc::Global;
@@ -134,7 +134,7 @@ fn key_of(
     n: u8,
     passphrase: &[u8],
 ) -> Result<Vec<u8>, Fail> {
-    match open_slot(alloc, device, n, passphrase, 0) {
+    match open_slot(alloc, device, n, passphrase, Allowed::NOTHING) {
         Ok(Some(key)) => Ok(key.as_bytes().to_vec(alloc)?),
         _ => Err("no key".into()),
     }
@@ -215,7 +215,7 @@ fn end_of(alloc: Global, call: u64) -> Result<End, Fail> {
 
 /// The keyslot that the first addition made opens, whatever is left of the second.
 fn second_end(alloc: Global, left: &mut MemDevice) -> End {
-    match open_slot(alloc, left, 1, b"two", 0) {
+    match open_slot(alloc, left, 1, b"two", Allowed::NOTHING) {
         Ok(Some(key)) if key.as_bytes() == VOLUME_KEY.as_slice() => End::Second,
         _ => End::Other,
     }

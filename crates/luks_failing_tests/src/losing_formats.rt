@@ -6,7 +6,7 @@ use luks_area::{Device, MemDevice};
 use luks_edit::Done;
 use luks_formatting::{FORMAT1_RANDOM, FORMAT2_RANDOM, Format, FormatFault, format1, format2};
 use luks_kdf::HashName;
-use luks_reading::{Data, check, open_slot};
+use luks_reading::{Allowed, Data, check, open_slot};
 use luks_test_devices::{LosingDevice, Loss, counted, part, put, small1, small2};
 use std::alloc::Global;
 use std::process::Abort;
@@ -65,7 +65,7 @@ fn opens_where_accepted(alloc: Global, left: &mut MemDevice) -> bool {
     if check(alloc, left, Data::Here).is_err() {
         return true;
     }
-    open_slot(alloc, left, 0, b"one", 0).is_ok_and(|key| key.is_some())
+    open_slot(alloc, left, 0, b"one", Allowed::NOTHING).is_ok_and(|key| key.is_some())
 }
 
 /// Formats by the version of LUKS over what begins with these bytes, with each loss and at these calls.

@@ -3,7 +3,7 @@
 use luks_area::MemDevice;
 use luks_head::{Copies, Selected, select};
 use luks_kdf::HashName;
-use luks_reading::{Data, check, open_slot};
+use luks_reading::{Allowed, Data, check, open_slot};
 use luks_test_devices::{Fields, TEXT, UUID, copy_of, key_area, part, put};
 use std::alloc::Global;
 use std::test::Fail;
@@ -77,7 +77,9 @@ fn bytes_of_a_torn_write_count(rt: HostRuntime) -> Result<(), Fail> {
     let found = counting(alloc, &mut device);
     assert!(rt; found == Some((0, 32768, Copies::InStep)), "the volume");
     assert!(rt; check(alloc, &mut device, Data::Here).is_ok(), "accepted");
-    let opened = open_slot(alloc, &mut device, 0, b"one", 0).is_ok_and(|key| key.is_some());
+    let opened = open_slot(alloc, &mut device, 0, b"one", Allowed::NOTHING).is_ok_and(
+        |key| key.is_some(),
+    );
     assert!(rt; opened, "its keyslot");
     let mut device = MemDevice::new(torn);
     let found = counting(alloc, &mut device);
@@ -85,7 +87,9 @@ fn bytes_of_a_torn_write_count(rt: HostRuntime) -> Result<(), Fail> {
         found == Some((16384, 16384, Copies::SecondOnly)),
         "what counts"
     );
-    let opened = open_slot(alloc, &mut device, 0, b"one", 0).is_ok_and(|key| key.is_some());
+    let opened = open_slot(alloc, &mut device, 0, b"one", Allowed::NOTHING).is_ok_and(
+        |key| key.is_some(),
+    );
     assert!(rt; !opened, "the keyslot");
     Ok(())
 }

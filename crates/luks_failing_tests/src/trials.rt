@@ -3,7 +3,7 @@
 use luks_area::MemDevice;
 use luks_edit::Edit;
 use luks_kdf::HashName;
-use luks_reading::{Data, open_slot};
+use luks_reading::{Allowed, Data, open_slot};
 use luks_samples::{ARGON2I_1, ARGON2ID_0, STRIPE_BY_ARGON2I, roomy_luks2, roomy_text};
 use luks_test_devices::{VOLUME_KEY, add, change, counted, label, put, remove, small1};
 use luks_volume::{Passphrase, apply};
@@ -110,7 +110,7 @@ pub(crate) const LUKS2: [Trial; 6] = [
 /// The passphrase of a keyslot of Argon2i, with the 64 KiB that it takes.
 const OF_ARGON2: Passphrase<'static> = Passphrase {
     bytes: b"one",
-    memory: ALLOWED,
+    allowed: ALLOWED,
 };
 
 /// Edits of the LUKS2 volume with keyslots of Argon2, by its keyslot 1; the last by its keyslot 2, with
@@ -194,15 +194,22 @@ pub(crate) fn two_luks1_keyslots(alloc: Global) -> Result<Vec<u8>, Fail> {
     }
 }
 
-/// The memory that is allowed to each keyslot, in KiB.
-const ALLOWED: u32 = 64;
+/// What is allowed to each keyslot.
+const ALLOWED: Allowed = Allowed {
+    memory: 64,
+    older: false,
+};
 
 /// Whether the keyslot opens by the passphrase to the volume key.
 pub(crate) fn opens(alloc: Global, device: &mut MemDevice, opening: Opening) -> bool {
     let (n, passphrase) = opening;
     // Argon2 takes no passphrase of 2^32 bytes.
-    let memory = if passphrase.len() < 16 { ALLOWED } else { 0 };
-    match open_slot(alloc, device, n, passphrase, memory) {
+    let allowed = if passphrase.len() < 16 {
+        ALLOWED
+    } else {
+        Allowed::NOTHING
+    };
+    match open_slot(alloc, device, n, passphrase, allowed) {
         Ok(Some(key)) => key.as_bytes() == VOLUME_KEY.as_slice(),
         _ => false,
     }

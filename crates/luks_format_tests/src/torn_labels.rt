@@ -5,7 +5,7 @@ use luks_edit::{Edit, EditFault};
 use luks_formatting::{Format, format2};
 use luks_head::{Copies, Selected, select};
 use luks_kdf::HashName;
-use luks_reading::{Data, Version, check, open_slot};
+use luks_reading::{Allowed, Data, Version, check, open_slot};
 use luks_test_devices::{Call, Front, Recording, counted};
 use luks_volume::apply;
 use std::alloc::Global;
@@ -148,7 +148,9 @@ fn leave_an_accepted_volume(rt: HostRuntime) -> Result<(), Fail> {
         let found = standing(alloc, &mut left);
         assert!(rt; found == Some((copies, seqid)), "row {i}: the copies");
         assert!(rt; has_label(alloc, &mut left, first), "row {i}: the label");
-        let opened = open_slot(alloc, &mut left, 0, b"one", 0).is_ok_and(|key| key.is_some());
+        let opened = open_slot(alloc, &mut left, 0, b"one", Allowed::NOTHING).is_ok_and(
+            |key| key.is_some(),
+        );
         assert!(rt; opened, "row {i}: the keyslot");
         let again = apply(alloc, &mut left, Data::Here, &Edit::Repair, &random);
         assert!(rt; again.is_ok(), "row {i}: the repair");

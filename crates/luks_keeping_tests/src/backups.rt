@@ -3,7 +3,7 @@ use crate::sources::{LEN, SIZE, backup_of};
 use luks_area::{Device, MemDevice};
 use luks_kdf::HashName;
 use luks_keeping::{BackupFault, backup, backup_length};
-use luks_reading::{Data, open_slot};
+use luks_reading::{Allowed, Data, open_slot};
 use luks_test_devices::{old_bytes, part, put, small1, small2, two_keyslots};
 use std::alloc::Global;
 use std::process::Abort;
@@ -38,7 +38,7 @@ fn of_luks1(rt: HostRuntime) -> Result<(), Fail> {
     assert!(rt; is_cleared(part(made, 592, 4096)), "between");
     assert!(rt; is_cleared(part(made, 6656, SIZE)), "behind");
     assert!(rt; is_alike(made, &old, SIZE, LEN), "the rest");
-    let key = open_slot(rt.alloc(), &mut target, 0, b"one", 0)?;
+    let key = open_slot(rt.alloc(), &mut target, 0, b"one", Allowed::NOTHING)?;
     assert!(rt; key.is_some(), "it opens");
     Ok(())
 }
@@ -55,7 +55,7 @@ fn of_luks2(rt: HostRuntime) -> Result<(), Fail> {
     assert!(rt; is_alike(&made, &image, 36864, 39424), "the other key area");
     assert!(rt; is_cleared(part(&made, 40960, SIZE)), "behind");
     let mut device = MemDevice::new(made);
-    let key = open_slot(rt.alloc(), &mut device, 1, b"two", 0)?;
+    let key = open_slot(rt.alloc(), &mut device, 1, b"two", Allowed::NOTHING)?;
     assert!(rt; key.is_some(), "it opens");
     Ok(())
 }

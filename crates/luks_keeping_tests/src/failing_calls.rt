@@ -3,7 +3,7 @@ use crate::sources::{LEN, SIZE, backup_of};
 use luks_area::{Device, FaultyDevice, Leave, MemDevice};
 use luks_kdf::HashName;
 use luks_keeping::{Over, RestoreFault, restore};
-use luks_reading::{Data, check, open_slot};
+use luks_reading::{Allowed, Data, check, open_slot};
 use luks_test_devices::{part, small1, two_keyslots};
 use std::alloc::Global;
 use std::process::Abort;
@@ -48,7 +48,7 @@ fn end_of(
 /// Whether the header that is left is refused, or its keyslot opens.
 fn opens_where_accepted(alloc: Global, left: &mut MemDevice) -> bool {
     check(alloc, left, Data::Here).is_err()
-        || open_slot(alloc, left, 0, b"one", 0).is_ok_and(|key| key.is_some())
+        || open_slot(alloc, left, 0, b"one", Allowed::NOTHING).is_ok_and(|key| key.is_some())
 }
 
 /// Whichever call fails, it is told, the payload stays, a header that counts opens, and the backup is

@@ -3,7 +3,7 @@ use crate::sources::{LEN, SIZE, backup_of, demand, renamed, wiped};
 use luks_area::{Device, MemDevice};
 use luks_kdf::HashName;
 use luks_keeping::{Over, restore};
-use luks_reading::{Data, check, open_slot};
+use luks_reading::{Allowed, Data, check, open_slot};
 use luks_test_devices::{part, put, small1, small2, two_keyslots};
 use std::alloc::Global;
 use std::process::Abort;
@@ -41,7 +41,7 @@ fn gives_back(
         "the key area"
     );
     check(alloc, &mut left, Data::Here)?;
-    let key = open_slot(alloc, &mut left, 0, b"one", 0)?;
+    let key = open_slot(alloc, &mut left, 0, b"one", Allowed::NOTHING)?;
     assert!(rt; key.is_some(), "it opens");
     Ok(())
 }
@@ -56,7 +56,7 @@ fn over_nothing(rt: HostRuntime) -> Result<(), Fail> {
 
 /// Whether the keyslot of this volume opens.
 fn opens(alloc: Global, volume: &mut MemDevice, n: u8, passphrase: &[u8]) -> bool {
-    open_slot(alloc, volume, n, passphrase, 0).is_ok_and(|key| key.is_some())
+    open_slot(alloc, volume, n, passphrase, Allowed::NOTHING).is_ok_and(|key| key.is_some())
 }
 
 #[test]

@@ -1,7 +1,7 @@
 //! What opens by the header that is made, and what is found before it is made.
 use crate::sources::{LEN, RANDOM};
 use luks_area::MemDevice;
-use luks_reading::{OpenFault, open_slot};
+use luks_reading::{Allowed, OpenFault, open_slot};
 use luks_rebuilding::{Which, find_candidate, rebuild};
 use luks_test_devices::{VOLUME_KEY, counted, damaged, old_bytes};
 use std::alloc::Global;
@@ -20,7 +20,7 @@ fn rebuilt(alloc: Global) -> Result<MemDevice, Fail> {
 
 /// Whether the keyslot opens by the passphrase to the volume key.
 fn opens(alloc: Global, header: &mut MemDevice, n: u8, passphrase: &[u8]) -> bool {
-    match open_slot(alloc, header, n, passphrase, 0) {
+    match open_slot(alloc, header, n, passphrase, Allowed::NOTHING) {
         Ok(Some(key)) => key.as_bytes() == VOLUME_KEY.as_slice(),
         _ => false,
     }
@@ -33,7 +33,7 @@ fn opening(rt: HostRuntime) -> Result<(), Fail> {
     assert!(rt; opens(alloc, &mut header, 0, b"one"), "keyslot 0");
     assert!(rt; opens(alloc, &mut header, 1, b"two"), "keyslot 1");
     assert!(rt; !opens(alloc, &mut header, 1, b"one"), "by another one's");
-    let absent = open_slot(alloc, &mut header, 2, b"one", 0);
+    let absent = open_slot(alloc, &mut header, 2, b"one", Allowed::NOTHING);
     assert!(rt; matches!(absent, Err(OpenFault::NoSuchSlot)), "keyslot 2");
     Ok(())
 }

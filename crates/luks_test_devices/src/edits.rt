@@ -1,5 +1,5 @@
 //! Short words for edits, so that a table has one in a line; macros, since a table calls no function.
-//! Where one is used, `Edit` and the crate `luks_volume` have to be at hand. No memory is allowed.
+//! Where one is used, `Edit` and the crate `luks_volume` have to be at hand. Nothing is allowed beside the passphrase.
 
 /// Adds a keyslot: the one that opens, the old passphrase, the new one, the new keyslot's number, and
 /// the iterations where they aren't 1000.
@@ -13,7 +13,7 @@ macro_rules! add {
             by_: $by,
             old: luks_volume::Passphrase {
                 bytes: $old,
-                memory: 0,
+                allowed: luks_volume::Allowed::NOTHING,
             },
             new: $new,
             to: $to,
@@ -35,7 +35,7 @@ macro_rules! change {
             slot: $slot,
             old: luks_volume::Passphrase {
                 bytes: $old,
-                memory: 0,
+                allowed: luks_volume::Allowed::NOTHING,
             },
             new: $new,
             iterations: $iterations,
@@ -53,7 +53,7 @@ macro_rules! remove {
             by_: None,
             passphrase: luks_volume::Passphrase {
                 bytes: $passphrase,
-                memory: 0,
+                allowed: luks_volume::Allowed::NOTHING,
             },
         }
     };
@@ -63,7 +63,7 @@ macro_rules! remove {
             by_: Some($by),
             passphrase: luks_volume::Passphrase {
                 bytes: $passphrase,
-                memory: 0,
+                allowed: luks_volume::Allowed::NOTHING,
             },
         }
     };

@@ -4,7 +4,7 @@ ghost use Rattle.std.specs.Prelude.{◌≡◌, ◌<◌, ◌^◌, length};
 use crate::printing::print_hex;
 use luks_test_devices::TakenMemory;
 use luks_transcript_volumes::{Disk, Fault, Kept, Oddity, parted};
-use luks_volume::{Area, Data, Key, OpenFault, check, open_slot, unlock};
+use luks_volume::{Allowed, Area, Data, Key, OpenFault, check, open_slot, unlock};
 use std::alloc::Global;
 use std::io::Write;
 
@@ -21,10 +21,10 @@ pub struct Question {
 enum What {
     /// The areas of the volume, with its payload in it.
     Areas,
-    /// The key of the keyslot of this number, by so many KiB of memory.
-    Open(u8, u32),
-    /// The keyslot that opens, and its key, by so many KiB of memory.
-    Unlock(u32),
+    /// The key of the keyslot of this number, where so much is allowed.
+    Open(u8, Allowed),
+    /// The keyslot that opens, and its key, where so much is allowed.
+    Unlock(Allowed),
 }
 
 /// The step of this word and of what follows it.
@@ -43,10 +43,23 @@ fn what_of(word: &str, rest: &str) -> Option<What> {
     let (first, later) = parted(rest);
     Some(match word {
         "areas" if rest.is_empty() => What::Areas,
-        "open" => What::Open(first.parse::<u8>().ok()?, later.parse::<u32>().ok()?),
-        "unlock" => What::Unlock(rest.parse::<u32>().ok()?),
+        "open" => What::Open(first.parse::<u8>().ok()?, allowed_of(later)?),
+        "unlock" => What::Unlock(allowed_of(rest)?),
         _ => return None,
     })
+}
+
+/// `KIB`, or `KIB older`.
+fn allowed_of(words: &str) -> Option<Allowed> {
+    let (kib, later) = parted(words);
+    let memory = kib.parse::<u32>().ok()?;
+    match later {
+        "" | "older" => Some(Allowed {
+            memory,
+            older: later == "older",
+        }),
+        _ => None,
+    }
 }
 
 /// The most bytes of a passphrase.
@@ -59,13 +72,20 @@ fn disk_of(alloc: Global, kept: Kept) -> Disk
     Disk::new(alloc, kept, Oddity::NONE)
 }
 
-/// Whether the keyslot of this number opens by the passphrase.
+/// What is allowed to a keyslot of which it is asked whether it opens.
+const OLDER: Allowed = Allowed {
+    memory: 0,
+    older: true,
+};
+
+/// Whether the keyslot of this number opens by the passphrase; ciphers and hashes of older disks are
+/// accepted.
 pub fn opens(alloc: Global, volume: &mut Option<Kept>, slot: u8, passphrase: &[u8]) -> bool {
     let Some(kept) = volume.take() else {
         return false;
     };
     let mut disk = disk_of(alloc, kept);
-    let opens = open_slot(alloc, &mut disk, slot, passphrase, 0).is_ok_and(|key| key.is_some());
+    let opens = open_slot(alloc, &mut disk, slot, passphrase, OLDER).is_ok_and(|key| key.is_some());
     let (kept, _record) = disk.into_parts();
     *volume = Some(kept);
     opens
@@ -96,10 +116,12 @@ impl What {
     {
         match self {
             What::Areas => print_areas(alloc, disk, out),
-            What::Open(slot, memory) => {
-                print_key(open_slot(alloc, disk, slot, passphrase, memory), out)
+            What::Open(slot, allowed) => {
+                print_key(open_slot(alloc, disk, slot, passphrase, allowed), out)
             }
-            What::Unlock(memory) => { print_unlocked(unlock(alloc, disk, passphrase, memory), out) }
+            What::Unlock(allowed) => {
+                print_unlocked(unlock(alloc, disk, passphrase, allowed), out)
+            }
         }
     }
 }

@@ -60,7 +60,8 @@
 //!
 //!     each DEVICE LEFT $ WORDS     over copies of the volumes, while each call of the device fails in turn, and
 //!                                   then while none does
-//!     probe N PASSPHRASE     in the next `each` this is printed where keyslot N opens so after a run
+//!     probe N PASSPHRASE     in the next `each` this is printed where keyslot N opens so after a run, older
+//!                            ciphers and hashes being accepted
 //!     memory LEN $ WORDS     with no memory, and then one block of 256 bytes more at a time, so many at most,
 //!                            until it isn't refused memory. All runs that are refused it are printed as one: with
 //!                            what one of them says, but for the file that there was no memory to read
@@ -68,8 +69,9 @@
 //! `library`, what no command prints, by the passphrase:
 //!
 //!     areas                  the areas of the volume
-//!     open N KIB             the key of keyslot N, which may take so much memory
-//!     unlock KIB             the keyslot that opens, and its key
+//!     open N KIB             the key of keyslot N, which may take so much memory; with `older` behind it its cipher
+//!                            and hashes may be those of older disks
+//!     unlock KIB             the keyslot that opens, and its key; likewise
 //!     starved ..             one of these, while there is no memory
 //!
 //! `looks`, the volume as it is, and the last command:

@@ -55,12 +55,14 @@ fn answered(
             passphrase,
             slot,
             memory,
+            older,
         } => {
             let tried = Tried {
                 volume,
                 passphrase,
                 slot,
                 memory,
+                older,
             };
             Some(open::answer(alloc, inputs, &tried, notes))
         }

@@ -5,10 +5,10 @@ ghost use Rattle.luks_slot.specs.Opening.{HasIterations};
 use crate::volume::Volume;
 use luks_area::{Area, Device};
 use luks_slot::{
-    AreaCipher, Argon2Kind, Argon2Plan, Derivation, DigestPlan, Key, SlotFault, SlotPlan, open,
-    open_within, refusal, refusal_within, seal, seal_within, wipe,
+    Allowed, AreaCipher, Argon2Kind, Argon2Plan, Derivation, DigestPlan, Key, SlotFault, SlotPlan,
+    open, open_within, refusal, refusal_within, seal, seal_within, wipe,
 };
-use luks_vector_lines::{Malformed, Memory, Words, demand, done};
+use luks_vector_lines::{Malformed, Memory, Words, demand, done, number_of};
 use std::alloc::Global;
 
 /// The hash, the iterations and the salt of PBKDF2.
@@ -199,12 +199,27 @@ impl Keyslot {
     }
 }
 
-/// The KiB that Argon2 may take, where a word says it.
-fn allowed(words: &mut Words<'_>) -> Result<Option<u32>, Malformed> {
-    if words.is_empty() {
-        return Ok(None);
+/// What is allowed, where words say it: `KIB`, as many as Argon2 may take, or `older`, or both.
+fn allowed(words: &mut Words<'_>) -> Result<Option<Allowed>, Malformed> {
+    let (memory, rest) = match words.take_left() {
+        "" => return Ok(None),
+        "older" => (0, "older"),
+        left => match left.split_once(' ') {
+            Some((kib, rest)) => (number32_of(kib)?, rest),
+            None => (number32_of(left)?, ""),
+        },
+    };
+    match rest {
+        "" | "older" => Ok(Some(Allowed {
+            memory,
+            older: rest == "older",
+        })),
+        _ => Err(Malformed::Name),
     }
-    Ok(Some(words.number32()?))
+}
+
+fn number32_of(word: &str) -> Result<u32, Malformed> {
+    u32::try_from(number_of(word)?).ok().ok_or(Malformed::Number)
 }
 
 /// Whether the derivation has an iteration.
@@ -217,15 +232,14 @@ fn has_iterations(derivation: &Derivation<'_>) -> bool
     }
 }
 
-/// `refusal`, or `refusal KIB` where Argon2 may take so many: the first fault of what the keyslot says,
-/// or `none`.
+/// `refusal`, or with what is allowed behind it: the first fault of what the keyslot says, or `none`.
 pub fn refused(
     alloc: Global,
     plan: &SlotPlan<'_>,
     words: &mut Words<'_>,
 ) -> Result<String, Malformed> {
     let found = match allowed(words)? {
-        Some(memory) => refusal_within(plan, memory),
+        Some(allowed) => refusal_within(plan, allowed),
         None => refusal(plan),
     };
     match found {
@@ -234,8 +248,7 @@ pub fn refused(
     }
 }
 
-/// `open PASSPHRASE`, or `open PASSPHRASE KIB` where Argon2 may take so many: the volume key, `none`, or
-/// the fault.
+/// `open PASSPHRASE`, or with what is allowed behind it: the volume key, `none`, or the fault.
 pub fn opened(
     alloc: Global,
     volume: &mut Volume,
@@ -261,7 +274,7 @@ fn open_by(
     volume: &mut Volume,
     plan: &SlotPlan<'_>,
     passphrase: &[u8],
-    allowed: Option<u32>,
+    allowed: Option<Allowed>,
 ) -> Result<Result<Option<Key>, SlotFault>, Malformed> {
     demand(has_iterations(&plan.derivation) && passphrase.len() <= 512)?;
     demand(plan.digest.iterations >= 1 && plan.digest.stored.len() <= 64)?;
@@ -274,13 +287,12 @@ fn open_by(
     demand(plan.area.is_inside(volume.len()))?;
     demand(volume.failures() < u64::MAX)?;
     Ok(match allowed {
-        Some(memory) => open_within(alloc, volume, plan, passphrase, memory),
+        Some(allowed) => open_within(alloc, volume, plan, passphrase, allowed),
         None => open(alloc, volume, plan, passphrase),
     })
 }
 
-/// `seal PASSPHRASE KEY RANDOM`, or `seal PASSPHRASE KEY RANDOM KIB` where Argon2 may take so many:
-/// `done`, or the fault.
+/// `seal PASSPHRASE KEY RANDOM`, or with what is allowed behind it: `done`, or the fault.
 pub fn sealed(
     alloc: Global,
     volume: &mut Volume,
@@ -308,7 +320,7 @@ fn seal_by(
     passphrase: &[u8],
     key: &Key,
     random: &[u8],
-    allowed: Option<u32>,
+    allowed: Option<Allowed>,
 ) -> Result<Result<(), SlotFault>, Malformed> {
     demand(has_iterations(&plan.derivation) && passphrase.len() <= 512)?;
     demand(plan.stripes >= 1)?;
@@ -326,7 +338,7 @@ fn seal_by(
     demand(plan.area.is_inside(volume.len()))?;
     demand(volume.failures() < u64::MAX)?;
     Ok(match allowed {
-        Some(memory) => seal_within(alloc, volume, plan, passphrase, memory, key, random),
+        Some(allowed) => seal_within(alloc, volume, plan, passphrase, allowed, key, random),
         None => seal(volume, plan, passphrase, key, random),
     })
 }
