@@ -1,11 +1,18 @@
 //! What is said of keyslots with ciphers and hashes of older disks.
-ghost use Rattle.std.specs.Prelude.{◌≡◌, ◌++◌, ◌<◌, ⊥, ℕ, List, None, Some, IfSome, OnOk, codes, false, length};
+ghost use Rattle.std.specs.Prelude.{◌≡◌, ◌⊎◌, ◌++◌, ◌<◌, ℕ, List, None, Some, IfOk, IfSome, OnOk, codes, false, length};
 ghost use Rattle.std.specs.Io.KnownBytes.{Appends};
+ghost use Rattle.serde_json.specs.Data.{Data};
+ghost use Rattle.luks_area.specs.Ranges.{part};
+ghost use Rattle.luks1_header.specs.Header1.{IsCommon};
+ghost use Rattle.luks_rules.specs.declared.table.Outer.TheVariants as outer;
 ghost use Rattle.luks_meta.specs.Content.{content};
+ghost use Rattle.luks_meta.specs.Says.{TellsKeyslot};
 ghost use Rattle.luks_reading.specs.Header.{IsAcceptedHeader, IsHeader};
-ghost use Rattle.luks_commands.specs.OlderNotes.{all_memory, IsLuks1Part, IsLuks2Part, IsOlder, IsOlderNote, IsOlderPart, older_line, older_text};
+ghost use Rattle.luks_commands.specs.OlderNotes.{all_memory, IsLuks1Part, IsLuks2Part, IsOlder, IsOlderNote, IsOlderPart};
+ghost use Rattle.luks_commands.specs.OlderNotes.{DigestNames, NamesHash, older_line, older_text};
 
-use luks_reading::{Allowed, Cost, Header, Keyslot, Luks1, Meta, refused_slot};
+use luks_head::{HeadFault, Luks1, Luks1Common};
+use luks_reading::{Allowed, Cost, Header, Keyslot, Meta, refused_slot};
 use std::fmt;
 use std::io::{self, Write};
 
@@ -121,13 +128,32 @@ fn luks1_part(header: &[u8]) -> OlderPart
     requires { length header.now ≡ 592 }
     ensures { IsLuks1Part header.now result }
 {
-    let Ok(common) = Luks1::common(&header[..208]) else {
+    let Ok(common) = luks1_common(header) else {
         return OlderPart::Untold;
     };
     if let Some(cipher) = older_apart(common.cipher_name.as_str(), common.cipher_mode.as_str()) {
         return OlderPart::Cipher(cipher);
     }
-    part_of_hash(older_hash(common.hash_spec.as_str()))
+    match older_hash(common.hash_spec.as_str()) {
+        Some(hash) => OlderPart::Hash(hash),
+        None => OlderPart::Untold,
+    }
+}
+
+/// The fields of a LUKS1 header before its keyslots.
+fn luks1_common(header: &[u8]) -> Result<Luks1Common, HeadFault>
+    requires { length header.now ≡ 592 }
+    ensures { IfOk result (IsCommon header.now) }
+{
+    Luks1::common(bytes_before_keyslots(header))
+}
+
+fn bytes_before_keyslots(header: &[u8]) -> &[u8]
+    requires { length header.now ≡ 592 }
+    ensures value { result.now ≡ part header.now 0 208 }
+    ensures length { length result.now ≡ 208 }
+{
+    &header[..208]
 }
 
 /// The same of LUKS2's metadata.
@@ -140,30 +166,35 @@ fn luks2_part(meta: &Meta, n: u8) -> OlderPart
     if let Some(cipher) = older_whole(keyslot.area.encryption) {
         return OlderPart::Cipher(cipher);
     }
-    part_of_hash(slot_hash(&keyslot).or(digest_hash(meta, n)))
-}
-
-/// The hash of the derivation or the splitter of a keyslot, where it is of older disks.
-fn slot_hash(keyslot: &Keyslot<'_>) -> Option<&'static str> {
-    let derivation = match keyslot.kdf.cost {
-        Cost::Pbkdf2(cost) => older_hash(cost.hash),
-        Cost::Argon2i(_) | Cost::Argon2id(_) => None,
-    };
-    derivation.or(older_hash(keyslot.af.hash))
-}
-
-/// The hash of the digest of the keyslot `n`, where it is of older disks.
-fn digest_hash(meta: &Meta, n: u8) -> Option<&'static str> {
-    let number = meta.digest_of_keyslot(n)?;
-    older_hash(meta.digest(number)?.hash)
-}
-
-/// A hash that is of older disks, or not told.
-fn part_of_hash(hash: Option<&'static str>) -> OlderPart {
-    match hash {
+    if let Some(hash) = slot_hash(&keyslot) {
+        return OlderPart::Hash(hash);
+    }
+    match digest_hash(meta, n) {
         Some(hash) => OlderPart::Hash(hash),
         None => OlderPart::Untold,
     }
+}
+
+/// The hash of the derivation of a keyslot, or else of its splitter, that is of older disks.
+fn slot_hash(keyslot: &Keyslot<'_>) -> Option<&'static str>
+    ensures { IfSome result (λ name. (object : Data) → TellsKeyslot object keyslot.now
+        → NamesHash object outer.Kdf name.now ⊎ NamesHash object outer.Af name.now) }
+{
+    if let Cost::Pbkdf2(cost) = keyslot.kdf.cost {
+        if let Some(hash) = older_hash(cost.hash) {
+            return Some(hash);
+        }
+    }
+    older_hash(keyslot.af.hash)
+}
+
+/// The hash of the digest of the keyslot `n`, where it is of older disks.
+fn digest_hash(meta: &Meta, n: u8) -> Option<&'static str>
+    ensures { IfSome result (λ name. DigestNames (content meta.now) n name.now) }
+{
+    let number = meta.digest_of_keyslot(n)?;
+    let digest = meta.digest(number)?;
+    older_hash(digest.hash)
 }
 
 /// The cipher of older disks with this name and mode, as LUKS1 writes them.
