@@ -43,21 +43,21 @@ IsLuks1Part h (Cipher text) = text.now ≡ header_text h field.CipherName ++ cod
 IsLuks1Part h (Hash text) = text.now ≡ header_text h field.HashSpec
 IsLuks1Part h Untold = Unit {0}
 
--- a keyslot or a digest of LUKS2 names this hash there
+-- an object of LUKS2, a keyslot or a digest, names this hash there
 abbrev pub NamesHash : Data → Outer → List ℕ → Type 0
-NamesHash object place text = text_of (member_at object place name.Hash) ≡ Some text
+NamesHash d place text = text_of (member_at d place name.Hash) ≡ Some text
 
 -- the digest of the keyslot `n` of LUKS2's metadata does
 abbrev pub DigestNames : Data → ℕ → List ℕ → Type 0
-DigestNames j n text = (m : ℕ) × IsDigestOf j n m × ((object : Data) × (object_at j Digests m ≡ Some object) × NamesHash object outer.Top text)
+DigestNames j n text = (m : ℕ) × IsDigestOf j n m × ((d : Data) × (object_at j Digests m ≡ Some d) × NamesHash d outer.Top text)
 
 -- the derivation of that keyslot, its splitter or its digest does
 abbrev pub IsLuks2Hash : Data → ℕ → List ℕ → Type 0
 IsLuks2Hash j n text =
-    ((object : Data) × (object_at j Keyslots n ≡ Some object) × (NamesHash object outer.Kdf text ⊎ NamesHash object outer.Af text)) ⊎ DigestNames j n text
+    ((d : Data) × (object_at j Keyslots n ≡ Some d) × (NamesHash d outer.Kdf text ⊎ NamesHash d outer.Af text)) ⊎ DigestNames j n text
 
 abbrev pub IsLuks2Part : Data → ℕ → OlderPart → Type 0
-IsLuks2Part j n (Cipher text) = (object : Data) × (object_at j Keyslots n ≡ Some object) × (text_of (member_at object outer.Area name.Encryption) ≡ Some text.now)
+IsLuks2Part j n (Cipher text) = (d : Data) × (object_at j Keyslots n ≡ Some d) × (text_of (member_at d outer.Area name.Encryption) ≡ Some text.now)
 IsLuks2Part j n (Hash text) = IsLuks2Hash j n text.now
 IsLuks2Part j n Untold = Unit {0}
 

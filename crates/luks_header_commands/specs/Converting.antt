@@ -5,6 +5,7 @@ use Rattle.luks1_header.specs.Header1.{luks1_size}
 use Rattle.luks_reading.specs.declared.report.Data.{Data}
 use Rattle.luks_reading.specs.declared.report.Data.TheVariants.{Elsewhere}
 use Rattle.luks_reading.specs.declared.open_fault.OpenFault.TheVariants.{NoSuchSlot}
+use Rattle.luks_slot.specs.declared.allowed.Allowed.{Allowed}
 use Rattle.luks_reading.specs.Answer.{AnswerWithin as Opening, opened_to, refused}
 use Rattle.luks_reading.specs.Checked.{WellFormed}
 use Rattle.luks_converting.specs.declared.convert_fault.ConvertFault.TheVariants as fault
@@ -32,11 +33,11 @@ random_count = 128
 pub record IsNewHeader (v random old new : List ℕ) : Type 0 where
   pub converted : IsConverted v random old new
   pub well_formed : WellFormed new Elsewhere
-  -- each enabled keyslot opens as it did, or as it didn't, however much memory Argon2 may take
-  pub opens : (memory n : ℕ) (p : List ℕ) (found : Option (List ℕ)) → is_enabled (part v 0 luks1_size) n ≡ true
-      → Opening memory v n p (opened_to found) → Opening memory new n p (opened_to found)
+  -- each enabled keyslot opens as it did, or as it didn't, whatever is allowed
+  pub opens : (allowed : Allowed) (n : ℕ) (p : List ℕ) (found : Option (List ℕ)) → is_enabled (part v 0 luks1_size) n ≡ true
+      → Opening allowed v n p (opened_to found) → Opening allowed new n p (opened_to found)
   -- and there is no other
-  pub absent : (memory n : ℕ) (p : List ℕ) → is_enabled (part v 0 luks1_size) n ≡ false → Opening memory new n p (refused NoSuchSlot)
+  pub absent : (allowed : Allowed) (n : ℕ) (p : List ℕ) → is_enabled (part v 0 luks1_size) n ≡ false → Opening allowed new n p (refused NoSuchSlot)
 
 -- which bytes of the target may have changed, whatever is answered: those of both copies of the header
 -- and of the areas of the volume's enabled keyslots

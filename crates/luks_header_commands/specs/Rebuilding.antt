@@ -5,6 +5,7 @@ use Rattle.luks_area.specs.Ranges.{SameBut}
 use Rattle.luks_writing.specs.TwoDevices.{IsOneFailure}
 use Rattle.luks1_header.specs.Header1.{luks1_size, version_of, HasMagic}
 use Rattle.luks_reading.specs.declared.report.Data.TheVariants.{Elsewhere}
+use Rattle.luks_slot.specs.declared.allowed.Allowed.{Allowed}
 use Rattle.luks_reading.specs.Answer.{AnswerWithin as Opening, Opened}
 use Rattle.luks_reading.specs.Checked.{WellFormed}
 use Rattle.luks_rebuilding.specs.Candidates.{OfTaken}
@@ -75,7 +76,7 @@ pub record IsNewHeader (v : List ℕ) (which : Which) (given : Option (List ℕ)
   pub rebuilt : IsRebuilt v which given random old new
   pub well_formed : WellFormed new Elsewhere
   -- each keyslot gives what the equations give for that metadata and the bytes of its key areas
-  pub opens : OfTaken v which (λ taken. (memory n : ℕ) (p : List ℕ) (a : Opened) → Gives memory taken.json v n p a ↔ Opening memory new n p a)
+  pub opens : OfTaken v which (λ taken. (allowed : Allowed) (n : ℕ) (p : List ℕ) (a : Opened) → Gives allowed taken.json v n p a ↔ Opening allowed new n p a)
 
 -- which bytes of the target may have changed, whatever is answered: those of both copies of the header
 -- and of its key areas
@@ -102,7 +103,7 @@ pub record IsNewHeader1 (v : List ℕ) (given : Given) (old new : List ℕ) : Ty
   pub rebuilt : IsRebuilt1 v given old new
   pub well_formed : WellFormed new Elsewhere
   -- each kept keyslot that is in use gives what the equations give for its entry, its area and the digest
-  pub opens : (memory n : ℕ) (p : List ℕ) (a : Opened) → IsKeptInUse v given n → GivesKept v given n p a ↔ Opening memory new n p a
+  pub opens : (allowed : Allowed) (n : ℕ) (p : List ℕ) (a : Opened) → IsKeptInUse v given n → GivesKept allowed.older v given n p a ↔ Opening allowed new n p a
 
 -- which bytes may have changed: those of the header, of the first sector of an older second copy, and of the key areas that
 -- are kept

@@ -2,6 +2,7 @@
 use Rattle.std.specs.Prelude.{◌≡◌, ◌⊎◌, ◌↔◌, ℕ, ◌+◌, List, None, Result, Ok, Err}
 use Rattle.luks_area.specs.Ranges.{SameBut}
 use Rattle.luks_writing.specs.TwoDevices.{IsOneFailure}
+use Rattle.luks_slot.specs.declared.allowed.Allowed.{Allowed}
 use Rattle.luks_reading.specs.Answer.{AnswerWithin, Opened}
 use Rattle.luks_reading.specs.Checked.{WellFormed}
 use Rattle.luks_reading.specs.Header.{NeedsMetadata}
@@ -29,7 +30,7 @@ pub record IsNewBackup (v : List ℕ) (payload : Data) (old new : List ℕ) : Ty
   pub backup : IsBackup v payload old new
   pub well_formed : WellFormed new Elsewhere
   -- each keyslot answers each passphrase as it did
-  pub answers : (memory n : ℕ) (p : List ℕ) (a : Opened) → AnswerWithin memory v n p a ↔ AnswerWithin memory new n p a
+  pub answers : (allowed : Allowed) (n : ℕ) (p : List ℕ) (a : Opened) → AnswerWithin allowed v n p a ↔ AnswerWithin allowed new n p a
 
 -- which bytes of the file may have changed, whatever is answered: those of the backup
 abbrev pub KeepsRest : Data → List ℕ → List ℕ → List ℕ → Type 0

@@ -4,6 +4,7 @@ use Rattle.luks_area.specs.Ranges.{part, SameBut}
 use Rattle.luks_area.specs.declared.area.Area.{Area}
 use Rattle.luks_writing.specs.TwoDevices.{IsOneFailure}
 use Rattle.luks_head.specs.Selection.{Choice, Chosen}
+use Rattle.luks_slot.specs.declared.allowed.Allowed.{Allowed}
 use Rattle.luks_reading.specs.Answer.{AnswerWithin, Opened}
 use Rattle.luks_reading.specs.Checked.{WellFormed}
 use Rattle.luks_reading.specs.declared.report.Data.{Data}
@@ -34,7 +35,7 @@ pub record IsNewVolume (payload : Data) (b old new : List ℕ) : Type 0 where
   pub restored : IsRestored b old new
   pub well_formed : WellFormed new payload
   -- each keyslot answers each passphrase as the backup's does
-  pub answers : (memory n : ℕ) (p : List ℕ) (a : Opened) → AnswerWithin memory b n p a ↔ AnswerWithin memory new n p a
+  pub answers : (allowed : Allowed) (n : ℕ) (p : List ℕ) (a : Opened) → AnswerWithin allowed b n p a ↔ AnswerWithin allowed new n p a
 
 -- whatever is answered, after a failed call too: no byte has changed but those of the backup's header and key
 -- areas, and none of a segment; and what is left is of a time at which the backup was put back in its order

@@ -4,7 +4,7 @@ ghost use Rattle.luks_area.specs.Device.{IsUnchanged};
 ghost use Rattle.luks_reading.specs.Header.{IsAcceptedHeader};
 
 use luks_area::Device;
-use luks_reading::{Header, OpenFault, read_header, refused_slot};
+use luks_reading::{Allowed, Header, OpenFault, read_header, refused_slot};
 use std::alloc::Global;
 use std::io::Write;
 
@@ -35,7 +35,7 @@ fn has_no_keyslot(header: &Header, total: u64) -> bool
     requires { IsAcceptedHeader header.now }
 {
     for n in 0..32 {
-        match refused_slot(header, n, total, 0) {
+        match refused_slot(header, n, total, Allowed::NOTHING) {
             Some(OpenFault::NoSuchSlot | OpenFault::SlotFree) => {}
             _ => return false,
         }

@@ -177,8 +177,8 @@ fn luks2_part(meta: &Meta, n: u8) -> OlderPart
 
 /// The hash of the derivation of a keyslot, or else of its splitter, that is of older disks.
 fn slot_hash(keyslot: &Keyslot<'_>) -> Option<&'static str>
-    ensures { IfSome result (λ name. (object : Data) → TellsKeyslot object keyslot.now
-        → NamesHash object outer.Kdf name.now ⊎ NamesHash object outer.Af name.now) }
+    ensures { IfSome result (λ name. (d : Data) → TellsKeyslot d keyslot.now
+        → NamesHash d outer.Kdf name.now ⊎ NamesHash d outer.Af name.now) }
 {
     if let Cost::Pbkdf2(cost) = keyslot.kdf.cost {
         if let Some(hash) = older_hash(cost.hash) {
