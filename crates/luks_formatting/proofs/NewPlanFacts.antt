@@ -1,7 +1,7 @@
 -- The plan of keyslot 0 of a new volume: it isn't refused, and the volume key meets its digest.
-use Rattle.std.proofs.Common.{◌≡◌, ◌≤◌, ℕ, ◌*◌, ◌-◌, ◌^◌, List, length, true, false, true≢false, Option, None, Some, bytes_eq, refl, sym, ap, subst, ◌∙◌, arith, codes, inl, inr, ◌⊎◌}
-use Rattle.std.specs.Prelude.{◌||◌, nat_lt, Bool, IfSome}
-use Rattle.std.proofs.lemmas.Bool.{and_parts, ltb-false}
+use Rattle.std.proofs.Common.{◌≡◌, ◌≤◌, ℕ, ◌*◌, ◌-◌, ◌^◌, List, length, true, false, true≢false, Option, None, Some, bytes_eq, refl, sym, ap, subst, ◌∙◌, arith}
+use Rattle.std.specs.Prelude.{◌||◌, nat_lt, IfSome}
+use Rattle.std.proofs.lemmas.Bool.{ltb-false}
 use Rattle.std.proofs.lemmas.Bool.Decides.{nat_tests}
 use Rattle.std.proofs.lemmas.Slice.Eq.{bytes_eq-Decides}
 use Rattle.luks_area.specs.Text.{is_plain, text_of}
@@ -21,10 +21,9 @@ use Rattle.luks_slot.specs.declared.plan.Derivation.TheVariants.{Pbkdf2, Argon2}
 use Rattle.luks_slot.specs.declared.plan.DigestPlan.{DigestPlan}
 use Rattle.luks_slot.specs.declared.plan.SlotPlan.{SlotPlan}
 use Rattle.luks_slot.specs.declared.allowed.Allowed.{Allowed}
-use Rattle.luks_slot.specs.declared.plan.AreaCipher.{AreaCipher}
-use Rattle.luks_slot.specs.declared.plan.AreaCipher.TheVariants.{Apart, Whole}
 use Rattle.luks_slot.specs.Opening.{derived, hash_by_name, meets_digest, HasIterations}
-use Rattle.luks_slot.specs.Refusal.{is_argon2, is_argon2_refused, is_key_size, is_known_derivation, is_open_cipher, slot_refusal, slot_refusal_within}
+use Rattle.luks_slot.specs.RefusalFacts.{open_key_size}
+use Rattle.luks_slot.specs.Refusal.{is_argon2, is_argon2_refused, is_known_derivation, is_open_cipher, slot_refusal, slot_refusal_within}
 use Rattle.luks_reading.specs.MemoryFacts.{still_accepted}
 use Rattle.luks_reading.specs.declared.format.Format.{Format}
 use Rattle.luks_making.specs.declared.derivation.NewDerivation.{NewDerivation}
@@ -58,24 +57,6 @@ known format salt (Argon2 c) is = absurd is
 pub some_iterations : (format : Format) (salt : List ℕ) (d : Derivation) → 1 ≤ format.iterations → IsNewDerivation format salt d → HasIterations d
 some_iterations format salt (Pbkdf2 hash iterations own) some is = subst (λ (n : ℕ). 1 ≤ n) (sym is.1) some
 some_iterations format salt (Argon2 c) some is = absurd is
-
--- the key of a cipher that opens may have 64 bytes
-one_of : (p q : Bool) → (p || q) ≡ true → (p ≡ true) ⊎ (q ≡ true)
-one_of true q e = inl refl
-one_of false q e = inr e
-
-open_size : (cipher : AreaCipher) → is_open_cipher cipher ≡ true → is_key_size cipher 64 ≡ true
-open_size (Apart n m) open_ =
-    let parts = and_parts _ _ open_ in
-    let name : n.now ≡ codes "aes" = (bytes_eq-Decides n.now (codes "aes")).0 parts.0 in
-    elim (one_of _ _ parts.1) [
-      | inl e ↦ (let mode : m.now ≡ codes "xts-plain64" = (bytes_eq-Decides m.now (codes "xts-plain64")).0 e in rw (name, mode) refl)
-      | inr e ↦ (let mode : m.now ≡ codes "xts-plain" = (bytes_eq-Decides m.now (codes "xts-plain")).0 e in rw (name, mode) refl)
-    ]
-open_size (Whole t) open_ = elim (one_of _ _ open_) [
-  | inl e ↦ (let text : t.now ≡ codes "aes-xts-plain64" = (bytes_eq-Decides t.now (codes "aes-xts-plain64")).0 e in rw text refl)
-  | inr e ↦ (let text : t.now ≡ codes "aes-xts-plain" = (bytes_eq-Decides t.now (codes "aes-xts-plain")).0 e in rw text refl)
-]
 
 module _ (format : Format) (salt : List ℕ) (area : Area) (digest stored : List ℕ) (plan : SlotPlan) (new : IsNewPlan format salt area digest stored plan) where
   -- a new plan whose cipher opens isn't refused
@@ -191,7 +172,7 @@ module _ (format : Format) (chosen : Option NewDerivation) (salt : List ℕ) (ar
         new.digest.hash,
         named format.hash,
         new.area_key_bytes,
-        open_size plan.cipher cipher,
+        open_key_size plan.cipher 64 cipher,
       ) refl
 
   -- so where what is chosen may be made, with older ciphers and hashes or without
