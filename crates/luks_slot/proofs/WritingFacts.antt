@@ -111,6 +111,6 @@ pub byte_written : (v w : List ℕ) (key now : AreaKey) (wanted run after : List
     → HoldsRun key (area_bytes w area) area.len (place / 4096) (set run (place % 4096) byte)
     → SameBut (IsAt (area.start + 4096 * (place / 4096)) 4096) v w → HoldsWanted now (area_bytes w at) at.len wanted (place + 1) after
 byte_written v w key now wanted run after area at place byte same_key same_area begun is size fits full stored same =
-    subst (λ (k : List ℕ). HoldsWanted k (area_bytes w at) at.len wanted (place + 1) after) (sym same_key)
+    subst (λ (k : AreaKey). HoldsWanted k (area_bytes w at) at.len wanted (place + 1) after) (sym same_key)
     (subst (λ (a : Area). HoldsWanted key (area_bytes w a) a.len wanted (place + 1) after) (sym same_area)
     (byte_stored v w key wanted run after area.start area.len place byte begun is size fits full stored same))
