@@ -98,7 +98,7 @@ same_refusal allowed a b s =
     let argon2 = s.argon2 allowed.memory in
     let known = s.known allowed.older in
     let cipher = s.cipher allowed.older in
-    let size = s.key_size a.area_key_bytes in
+    let size = s.key_size b.area_key_bytes in
     simp (argon2, known, cipher, size, s.area_key_bytes, s.splitter_hash, s.digest_hash)
 
 -- a keyslot of LUKS1 never derives by Argon2
