@@ -44,11 +44,12 @@ pub nothing_for : (old : Passphrase) (new : List ℕ) → old.allowed ≡ none_a
 nothing_for old new same = memoryless old new (ap (λ (a : Allowed). a.memory) same) ∙ ap (λ (a : Allowed). without_memory a.older) same
 
 -- where nothing is allowed, the plan of a keyslot is refused as before, whatever counts of the volume
-pub refused_alone : ((plans : SlotPlan → Type 0) (f : SlotFault) → HasRefusedPlanWithin none_allowed plans f ↔ ((plan : SlotPlan) × (plans plan × (slot_refusal plan ≡ Some f))))
+pub refused_alone : ((h : List ℕ) (n : ℕ) (f : SlotFault) → HasRefusedPlanWithin none_allowed (HasLuks1Plan h n) f ↔ ((plan : SlotPlan) × (HasLuks1Plan h n plan × (slot_refusal plan ≡ Some f))))
+    → ((json : List ℕ) (n : ℕ) (f : SlotFault) → HasRefusedPlanWithin none_allowed (HasLuks2Plan json n) f ↔ ((plan : SlotPlan) × (HasLuks2Plan json n plan × (slot_refusal plan ≡ Some f))))
     → (v : List ℕ) (n : ℕ) (c : Choice) (f : SlotFault) → IsRefusalAs v n c (Slot f) ↔ ((plan : SlotPlan) × (HasPlanAs v n c plan × (slot_refusal plan ≡ Some f)))
-refused_alone refusal v n luks1 f = refusal (HasLuks1Plan (part v 0 592) n) f
-refused_alone refusal v n (luks2 o copies) f = refusal (HasLuks2Plan (json_at v o) n) f
-refused_alone refusal v n nothing f = (λ bad. absurd bad, λ x. absurd x.1.0)
+refused_alone refusal1 refusal2 v n luks1 f = refusal1 (part v 0 592) n f
+refused_alone refusal1 refusal2 v n (luks2 o copies) f = refusal2 (json_at v o) n f
+refused_alone refusal1 refusal2 v n nothing f = (λ bad. absurd bad, λ x. absurd x.1.0)
 
 -- and no keyslot takes memory where none is allowed
 pub none_taken : ((allowed : Allowed) (v : List ℕ) (n : ℕ) → allowed.memory ≡ 0 → TakesMemory allowed v n → ⊥)

@@ -17,7 +17,7 @@ pub returns-clause-as_before : goal.returns-clause-as_before
 returns-clause-as_before c = λ v e n p a same. answers_alike v (allowed_by e) none_allowed n p a same
 
 pub returns-clause-refused : goal.returns-clause-refused
-returns-clause-refused c = refused_alone c.nothing_allowed_is_as_before.ensures.refusal
+returns-clause-refused c = refused_alone c.nothing_allowed_is_as_before.ensures.refusal1 c.nothing_allowed_is_as_before.ensures.refusal2
 
 pub returns-clause-taken : goal.returns-clause-taken
 returns-clause-taken c = none_taken c.nothing_allowed_is_as_before.ensures.memory
