@@ -9,7 +9,8 @@ use std::rt::{Clock, Env, Files};
 use std::time::Duration;
 
 /// What a command is run on: another runtime, whose files it takes by their names in the folder. A name that
-/// begins with a slash is that. The clock stands still, and no pause is made.
+/// begins with a slash is that. The clock goes on by a second each time that it is read, and no pause is
+/// made.
 #[derive(Drop)]
 pub struct Trial<'a, R> {
     rt: &'a R,
@@ -20,6 +21,7 @@ pub struct Trial<'a, R> {
     out: Cell<Vec<u8>>,
     err: Cell<Vec<u8>>,
     opened: Cell<Vec<u8>>,
+    seconds: Cell<u64>,
 }
 
 /// Writes a text behind what is kept.
@@ -47,6 +49,7 @@ impl<'a, R: AllocGlobal + Files<File = File>> Trial<'a, R> {
             out: Cell::new(Vec::new(rt.alloc())),
             err: Cell::new(Vec::new(rt.alloc())),
             opened: Cell::new(Vec::new(rt.alloc())),
+            seconds: Cell::new(0),
         }
     }
 
@@ -152,7 +155,9 @@ impl<R> Env for Trial<'_, R> {
 
 impl<R> Clock for Trial<'_, R> {
     fn monotonic(&self) -> io::Result<Duration> {
-        Ok(Duration::from_millis(0))
+        let seconds = self.seconds.replace(0);
+        self.seconds.set(seconds.saturating_add(1));
+        Ok(Duration::from_secs(seconds))
     }
 
     fn since_1970(&self) -> io::Result<Duration> {
