@@ -1,7 +1,7 @@
 //! The words of a line.
 use crate::bytes::bytes_of;
 use crate::malformed::Malformed;
-use luks_kdf::HashName;
+use luks_kdf::KeyslotHash;
 use std::alloc::Global;
 use std::str;
 
@@ -70,9 +70,9 @@ impl<'a> Words<'a> {
         Ok(String::from_str(alloc, text)?)
     }
 
-    /// The hash that the next word names.
-    pub fn hash(&mut self) -> Result<HashName, Malformed> {
-        HashName::parse(self.word()?).ok_or(Malformed::Name)
+    /// The hash that the next word names, older ones too.
+    pub fn hash(&mut self) -> Result<KeyslotHash, Malformed> {
+        KeyslotHash::parse(self.word()?, true).ok_or(Malformed::Name)
     }
 
     /// Whether all words were read.

@@ -1,5 +1,8 @@
 //! Hashes, HMAC and PBKDF2.
-use luks_kdf::{HashFn, HashName, Sha1Fn, Sha256Fn, Sha512Fn};
+use luks_kdf::{
+    Blake2b512Fn, HashFn, HashName, KeyslotHash, OlderHash, Ripemd160Fn, Sha1Fn, Sha224Fn, Sha256Fn,
+    Sha384Fn, Sha512Fn, WhirlpoolFn,
+};
 use luks_vector_lines::{Malformed, Words, demand};
 use std::alloc::Global;
 
@@ -8,9 +11,14 @@ pub fn hash(alloc: Global, words: &mut Words<'_>) -> Result<String, Malformed> {
     let name = words.hash()?;
     let message = words.bytes(alloc)?;
     match name {
-        HashName::Sha1 => digest::<Sha1Fn>(alloc, &message),
-        HashName::Sha256 => digest::<Sha256Fn>(alloc, &message),
-        HashName::Sha512 => digest::<Sha512Fn>(alloc, &message),
+        KeyslotHash::Standard(HashName::Sha1) => digest::<Sha1Fn>(alloc, &message),
+        KeyslotHash::Standard(HashName::Sha256) => digest::<Sha256Fn>(alloc, &message),
+        KeyslotHash::Standard(HashName::Sha512) => digest::<Sha512Fn>(alloc, &message),
+        KeyslotHash::Older(OlderHash::Sha224) => digest::<Sha224Fn>(alloc, &message),
+        KeyslotHash::Older(OlderHash::Sha384) => digest::<Sha384Fn>(alloc, &message),
+        KeyslotHash::Older(OlderHash::Ripemd160) => digest::<Ripemd160Fn>(alloc, &message),
+        KeyslotHash::Older(OlderHash::Whirlpool) => digest::<WhirlpoolFn>(alloc, &message),
+        KeyslotHash::Older(OlderHash::Blake2b512) => digest::<Blake2b512Fn>(alloc, &message),
     }
 }
 
@@ -56,6 +64,25 @@ pub fn name(alloc: Global, words: &mut Words<'_>) -> Result<String, Malformed> {
         Some(hash) => Ok(format!(in alloc; "{} {}", hash.text(), hash.digest_len())?),
         None => Ok(String::from_str(alloc, "none")?),
     }
+}
+
+/// `keyslot-name older|standard TEXT`: the hash of this name where older ones are accepted, or only those of
+/// a new header, and the length of its digest; `none` for any other text.
+pub fn keyslot_name(alloc: Global, words: &mut Words<'_>) -> Result<String, Malformed> {
+    let older = match words.word()? {
+        "older" => true,
+        "standard" => false,
+        _ => return Err(Malformed::Name),
+    };
+    let text = words.text(alloc)?;
+    let Some(hash) = KeyslotHash::parse(text.as_str(), older) else {
+        return Ok(String::from_str(alloc, "none")?);
+    };
+    let name = match hash {
+        KeyslotHash::Standard(hash) => hash.text(),
+        KeyslotHash::Older(hash) => hash.text(),
+    };
+    Ok(format!(in alloc; "{name} {}", hash.digest_len())?)
 }
 
 /// `names`: the names of all hashes, those that are offered, and the sentence that lists these.

@@ -1,8 +1,8 @@
 //! The functions by their names.
 use crate::areas::{field, fit};
 use crate::argon2::{argon2, blake2b};
-use crate::ciphers::{aes, cbc, xts};
-use crate::derivation::{hash, hmac, name, names, pbkdf2};
+use crate::ciphers::{aes, cbc, cbc_run, xts};
+use crate::derivation::{hash, hmac, keyslot_name, name, names, pbkdf2};
 use crate::older_hashes::{ripemd160, whirlpool};
 use crate::splitter::{merge, split, take_in};
 use luks_vector_lines::{Functions, Malformed, Memory, Words};
@@ -32,6 +32,7 @@ impl ByteFunctions {
         match function {
             "aes" => aes(alloc, words),
             "cbc" => cbc(alloc, words),
+            "cbc-run" => cbc_run(alloc, words),
             "xts" => xts(alloc, words),
             "blake2b" => blake2b(alloc, words),
             "ripemd160" => ripemd160(alloc, words),
@@ -53,6 +54,7 @@ impl ByteFunctions {
         match function {
             "name" => name(alloc, words),
             "names" => names(alloc),
+            "keyslot-name" => keyslot_name(alloc, words),
             "hash" => hash(alloc, words),
             "hmac" => hmac(alloc, words),
             "pbkdf2" => pbkdf2(alloc, words),
