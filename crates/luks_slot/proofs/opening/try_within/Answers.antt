@@ -2,7 +2,7 @@ use Rattle.std.proofs.Common.{rules, ◌∙◌, ap, subst}
 use Rattle.std.proofs.lemmas.Result.{err_from_is_err_and}
 use Rattle.luks_slot.specs.Distance.{IsTriedAt}
 use Rattle.luks_slot.specs.Opening.{area_bytes}
-use Rattle.luks_slot.proofs.DerivationFacts.{refusal_answered}
+use Rattle.luks_slot.proofs.DerivationFacts.{refusal_answered, uncounted}
 use Rattle.luks_slot.proofs.OpeningFacts.{candidate_read, distance_read, opens_read}
 use Rattle.luks_slot.proofs.opening.try_within.Goals as goal
 
@@ -37,3 +37,8 @@ pub returns-in_err-parameters-clause-fault : goal.returns-in_err-parameters-clau
 returns-in_err-parameters-clause-fault g c =
     let p = err_from_is_err_and c.from_residual.result c.from_residual.ensures.1 in
     rw (p.1, p.2) (refusal_answered c.args.allowed c.args.plan.now c.in_err-parameters.field-0.0 c.in_err-parameters.ensures.refused)
+
+pub returns-in_err-parameters-clause-count : goal.returns-in_err-parameters-clause-count
+returns-in_err-parameters-clause-count g c =
+    let p = err_from_is_err_and c.from_residual.result c.from_residual.ensures.1 in
+    rw (p.1, p.2) (uncounted c.args.allowed c.args.plan.now c.in_err-parameters.field-0.0 (g.D.Device.failed c.args.device.now) c.in_err-parameters.ensures.refused)
