@@ -22,7 +22,9 @@ use Rattle.luks1_mending.specs.declared.given.Given.{Given}
 use Rattle.luks1_mending.proofs.HeaderFacts.{common_held, made_header, text_there}
 use Rattle.luks_slot.specs.Fault.{IsAnsweredFault}
 use Rattle.luks_slot.specs.Opening.{area_bytes, slot_key}
+use Rattle.luks_slot.specs.Allowance.{without_memory}
 use Rattle.luks_slot.specs.Refusal.{slot_refusal}
+use Rattle.luks_slot.specs.RefusalFacts.{accepted_within, refusal_at_none}
 use Rattle.luks_slot.specs.declared.fault.SlotFault.{SlotFault}
 use Rattle.luks_slot.specs.declared.fault.SlotFault.TheVariants as slot
 use Rattle.luks_slot.specs.declared.plan.SlotPlan.{SlotPlan}
@@ -31,7 +33,7 @@ use Rattle.luks_reading.specs.Plans.{HasLuks1Plan, IsLuks1Plan}
 use Rattle.luks_reading.specs.declared.open_fault.OpenFault.{OpenFault}
 use Rattle.luks_reading.specs.declared.open_fault.OpenFault.TheVariants.{Head, Meta, NoSuchSlot, SlotFree, Outside, Slot, Device, Memory}
 use Rattle.luks_reading.proofs.Luks1Plans.{one_luks1_plan}
-use Rattle.luks_reading.proofs.SamePlans.{same_answer, same_refusal, SameFields}
+use Rattle.luks_reading.proofs.SamePlans.{same_answer, same_refusal_within, SameFields}
 use Rattle.luks1_rebuilding.proofs.GivesFacts.{kept_entry}
 use Rattle.luks1_rebuilding.proofs.MadeFacts.{kept_used, used_kept}
 use Rattle.luks1_rebuilding.proofs.PlanFacts.{plan_here, plan_there, SaysKept}
@@ -67,35 +69,37 @@ module _ {v : List ℕ} {g : Given} {n : ℕ} {b : List ℕ} (says : SaysKept v 
   same : (other : SlotPlan) → IsKeptPlan v g n other → SameFields plan other
   same other kept = one_luks1_plan b n plan other is (plan_there says other kept)
 
-  accepted : slot_refusal plan ≡ None → (f : OpenFault) → IsRefusedKept v g n f → ⊥
-  accepted none (Head f) bad = bad
-  accepted none (Meta f) bad = bad
-  accepted none NoSuchSlot bad = bad
-  accepted none SlotFree bad = bad
-  accepted none Outside bad = bad
-  accepted none (Slot f) bad =
-      let alike = same_refusal plan bad.plan (same bad.plan bad.is) in
+  accepted : slot_refusal plan ≡ None → (older : Bool) (f : OpenFault) → IsRefusedKept older v g n f → ⊥
+  accepted none older (Head f) bad = bad
+  accepted none older (Meta f) bad = bad
+  accepted none older NoSuchSlot bad = bad
+  accepted none older SlotFree bad = bad
+  accepted none older Outside bad = bad
+  accepted none older (Slot f) bad =
+      let alike = same_refusal_within (without_memory older) plan bad.plan (same bad.plan bad.is) in
+      let fine = accepted_within (without_memory older) plan none in
       let refused = bad.refused in
       absurd (cc)
-  accepted none Device bad = bad
-  accepted none Memory bad = bad
+  accepted none older Device bad = bad
+  accepted none older Memory bad = bad
 
   found : (k : List ℕ) → slot_refusal plan ≡ None → slot_key plan (part v plan.area.start plan.area.len) p ≡ Some k → OpensBy v g p n
   found k none key = record {
     made = made;
     in_use = used;
     key = k;
-    gives = record { plan = plan; is = plan_here says plan is; unrefused = accepted none; key = key };
+    gives = λ older. record { plan = plan; is = plan_here says plan is; unrefused = accepted none older; key = key };
   }
 
   only : OpensBy v g p n → (k : List ℕ) → slot_key plan (part v plan.area.start plan.area.len) p ≡ None → ⊥
   only x k none =
-      let alike = same_answer plan x.gives.plan v p (same x.gives.plan x.gives.is) in
-      let key = x.gives.key in
+      let gives = x.gives false in
+      let alike = same_answer plan gives.plan v p (same gives.plan gives.is) in
+      let key = gives.key in
       absurd (cc)
 
   refused : (f : SlotFault) → slot_refusal plan ≡ Some f → OpensBy v g p n → ⊥
-  refused f bad x = x.gives.unrefused (Slot f) (record { plan = plan; is = plan_here says plan is; refused = bad })
+  refused f bad x = (x.gives false).unrefused (Slot f) (record { plan = plan; is = plan_here says plan is; refused = refusal_at_none plan ∙ bad })
 
   abbrev pub Answer : Result Bool DeviceFault → Type 0
   Answer q = IfOk q (λ is. IsTrue is ↔ OpensBy v g p n)

@@ -1,5 +1,5 @@
 -- Where a volume's header and key areas stand byte by byte, each keyslot answers as it does in the volume.
-use Rattle.std.proofs.Common.{◌≡◌, ℕ, ◌+◌, ◌≤◌, ◌<◌, List, [], codes, length, Option, Some, None, option_and_then, sym, ap, subst, ◌∙◌, arith}
+use Rattle.std.proofs.Common.{◌≡◌, ℕ, ◌+◌, ◌≤◌, ◌<◌, List, [], codes, length, Option, Some, None, option_and_then, sym, ap, subst, ◌∙◌, arith, Bool}
 use Rattle.serde_json.specs.Data.{Data as Value}
 use Rattle.serde_json.specs.Find.{get}
 use Rattle.luks_area.specs.Ranges.{part}
@@ -97,9 +97,9 @@ answers_here v w c x allowed n p a z = answers_one_way w v c (turned v w c x) al
 -- ---- LUKS1
 
 -- a keyslot whose plan lies inside is refused alike whatever the length
-moved1 : (h : List ℕ) (n t u : ℕ) → ((plan : SlotPlan) → HasLuks1Plan h n plan → plan.area.start + plan.area.len ≤ t) → (f : OpenFault) → IsLuks1Refusal h t n f → IsLuks1Refusal h u n f
-moved1 h n t u inside Outside z = absurd (let within = inside z.plan z.is in let past = z.past in omega (arith, within, past))
-moved1 h n t u inside other z = z
+moved1 : (older : Bool) (h : List ℕ) (n t u : ℕ) → ((plan : SlotPlan) → HasLuks1Plan h n plan → plan.area.start + plan.area.len ≤ t) → (f : OpenFault) → IsLuks1Refusal older h t n f → IsLuks1Refusal older h u n f
+moved1 older h n t u inside Outside z = absurd (let within = inside z.plan z.is in let past = z.past in omega (arith, within, past))
+moved1 older h n t u inside other z = z
 
 plan1_inside : (h : List ℕ) (payload : Data) (total n : ℕ) → IsLuks1Volume h payload total → (plan : SlotPlan) → HasLuks1Plan h n plan → plan.area.start + plan.area.len ≤ total
 plan1_inside h payload total n formed plan is = formed.fit.inside (Slot n) plan.area (is.numbered, is.is.start, is.is.len)
@@ -124,10 +124,10 @@ module _ (v w : List ℕ) (payload other : Data) (x : Chosen v luks1) (y : Chose
   alike1 = record {
     chosen = x;
     other_chosen = y;
-    refusals = λ allowed n f z. subst (λ (h : List ℕ). IsLuks1Refusal h (length w) n f) (sym same)
-        (moved1 (part v 0 592) n (length v) (length w) (plan1_inside (part v 0 592) payload (length v) n formed) f z);
-    refusals_back = λ allowed n f z. subst (λ (h : List ℕ). IsLuks1Refusal h (length v) n f) same
-        (moved1 (part w 0 592) n (length w) (length v) (plan1_inside (part w 0 592) other (length w) n formed_w) f z);
+    refusals = λ allowed n f z. subst (λ (h : List ℕ). IsLuks1Refusal allowed.older h (length w) n f) (sym same)
+        (moved1 allowed.older (part v 0 592) n (length v) (length w) (plan1_inside (part v 0 592) payload (length v) n formed) f z);
+    refusals_back = λ allowed n f z. subst (λ (h : List ℕ). IsLuks1Refusal allowed.older h (length v) n f) same
+        (moved1 allowed.older (part w 0 592) n (length w) (length v) (plan1_inside (part w 0 592) other (length w) n formed_w) f z);
     plans = λ n plan is. subst (λ (h : List ℕ). HasLuks1Plan h n plan) (sym same) is;
     plans_back = λ n plan is. subst (λ (h : List ℕ). HasLuks1Plan h n plan) same is;
     bytes = λ allowed n plan is free. kept.areas n plan.area (record {
