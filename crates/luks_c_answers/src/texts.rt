@@ -1,5 +1,5 @@
 //! What is said of a number.
-ghost use Rattle.std.specs.Prelude.{◌≡◌, IfSome};
+ghost use Rattle.std.specs.Prelude.{◌≡◌, ◌≢◌, ◌<◌, [], IfSome, None};
 ghost use Rattle.luks_explain.specs.Names.{name_of};
 ghost use Rattle.luks_c_answers.specs.Numbers.{fault_numbered};
 
@@ -17,8 +17,13 @@ pub fn number_name(number: u32) -> &'static str
 }
 
 /// What is said of the number: by `part` 1 what it means, 2 where it can stand, 3 what is still safe, 4
-/// what to try next. Where nothing is said, it has no byte.
-pub fn number_text(number: u32, part: u32) -> &'static str {
+/// what to try next. Where nothing is said, it has no byte: by another part, and by the last three of a
+/// number that is no fault's.
+pub fn number_text(number: u32, part: u32) -> &'static str
+    ensures none { part ≡ 0 → result.now ≡ [] }
+    ensures behind { 4 < part → result.now ≡ [] }
+    ensures other { fault_numbered number ≡ None → part ≢ 1 → result.now ≡ [] }
+{
     match fault_of(number) {
         Some(fault) => {
             let said = fault.explanation();
