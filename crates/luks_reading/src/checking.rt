@@ -3,15 +3,16 @@ ghost use Rattle.std.specs.Prelude.{◌≡◌, ◌≢◌, ◌+◌, ◌^◌, ◌<
 ghost use Rattle.luks_area.specs.Area.{Fit};
 ghost use Rattle.luks_area.specs.Device.{CountsFailure, IsUnchanged};
 ghost use Rattle.luks_area.specs.Names.{HasArea};
+ghost use Rattle.luks_reading.specs.declared.header.Header.TheVariants.{Luks2 as OfLuks2};
 ghost use Rattle.luks_reading.specs.Checked.{First, IsCheckRefusal, WellFormed};
 ghost use Rattle.luks_reading.specs.Failures.{is_check_failure};
-ghost use Rattle.luks_reading.specs.Header.{IsAcceptedHeader, IsHeader, TakesNoMemory};
+ghost use Rattle.luks_reading.specs.Header.{IsAcceptedHeader, IsChosenCopy, IsHeader, TakesNoMemory};
 ghost use Rattle.luks_reading.specs.FitsAndResolves.{FitsAndResolves};
 ghost use Rattle.luks_reading.specs.Listing.{Lists};
 ghost use Rattle.luks_reading.specs.Reported.{HeaderArea, IsFromOutside, Reports};
 
 use crate::check_fault::CheckFault;
-use crate::header::{Header, read_header};
+use crate::header::{ChosenCopy, Header, read_header};
 use crate::judging::{judge_layout, judge_luks1};
 use crate::report::{Data, Report, Version};
 use luks_area::Device;
@@ -61,15 +62,30 @@ pub fn check_header(header: &Header, data_: Data, total: u64) -> Result<Report, 
                 areas,
             })
         }
-        Header::Luks2(copy) => {
-            let areas = judge_layout(&copy.meta, &copy.header, data_, total)?;
-            Ok(Report {
-                version: Version::Luks2 {
-                    copies: copy.copies,
-                    seqid: copy.header.seqid,
-                },
-                areas,
-            })
-        }
+        Header::Luks2(copy) => check_copy(copy, data_, total),
     }
+}
+
+/// What `check_header` answers of a volume with this LUKS2 copy. It takes no memory.
+pub fn check_copy(copy: &ChosenCopy, data_: Data, total: u64) -> Result<Report, CheckFault>
+    ensures accepted { (v : List ℕ) → IsChosenCopy v copy.now → length v ≡ total
+        → OnOk result (WellFormed v data_) }
+    ensures fits { IfOk result (λ report. Fit (HasArea report.areas) total) }
+    ensures listed { IfOk result (λ report.
+        Lists report.areas (HeaderArea (OfLuks2 copy.now) data_ total)) }
+    ensures report { (v : List ℕ) → IsChosenCopy v copy.now → length v ≡ total
+        → IfOk result (Reports v data_) }
+    ensures refused { (v : List ℕ) → IsChosenCopy v copy.now → length v ≡ total
+        → IfErr result (First v data_) }
+    ensures device { IfErr result (λ f. f ≢ CheckFault.Device) }
+    ensures memory { IfErr result (λ f. f ≢ CheckFault.Memory) }
+{
+    let areas = judge_layout(&copy.meta, &copy.header, data_, total)?;
+    Ok(Report {
+        version: Version::Luks2 {
+            copies: copy.copies,
+            seqid: copy.header.seqid,
+        },
+        areas,
+    })
 }

@@ -21,7 +21,7 @@ mod report;
 mod unlocking;
 
 pub use check_fault::CheckFault;
-pub use checking::{check, check_header};
+pub use checking::{check, check_copy, check_header};
 pub use format::Format;
 pub use header::{ChosenCopy, Header, read_header};
 pub use judging::judge_luks1;
@@ -40,7 +40,7 @@ pub use luks_meta::{
 pub use luks_slot::{Allowed, Key};
 pub use nearest::Nearest;
 pub use open_fault::OpenFault;
-pub use opening::{open_header_slot, open_slot, try_header_slot};
+pub use opening::{open_header_slot, open_slot, try_copy_slot, try_header_slot};
 pub use plan::{luks1_area, luks1_plan, luks2_plan};
 pub use read_fault::ReadFault;
 pub use refusing::refused_slot;

@@ -8,18 +8,19 @@ ghost use Rattle.luks1_header.specs.Header1.{IsCommon};
 ghost use Rattle.luks_head.specs.Header2.{uuid_field};
 ghost use Rattle.luks_meta.specs.Content.{content};
 ghost use Rattle.luks_meta.specs.Objects.{IsAccepted};
+ghost use Rattle.luks_reading.specs.declared.header.Header.TheVariants.{Luks2 as OfLuks2};
 ghost use Rattle.luks_reading.specs.Agreement.{Agrees};
 ghost use Rattle.luks_reading.specs.Answer.{AnswerWithin, IsRefusedByWithin, Opened, opened_to};
 ghost use Rattle.luks_reading.specs.ChosenCopies.{IsCleared};
 ghost use Rattle.luks_reading.specs.Luks1Keyslots.{Luks1Opens, Luks1Refused};
 ghost use Rattle.luks_reading.specs.Luks2Keyslots.{Luks2Opens, Luks2Refused};
 ghost use Rattle.luks_reading.specs.Failures.{is_open_failure};
-ghost use Rattle.luks_reading.specs.Header.{IsAcceptedHeader, TakesNoMemory};
+ghost use Rattle.luks_reading.specs.Header.{IsAcceptedCopy, IsAcceptedHeader, TakesNoMemory};
 ghost use Rattle.luks_reading.specs.HeaderAnswers.{IsSlotOpening};
 ghost use Rattle.luks_reading.specs.PlanAnswers.{IsOpenable, PlanOpens, PlanRefused};
 ghost use Rattle.luks_reading.specs.Plans.{HasLuks2KeyBytes};
 
-use crate::header::{Header, read_header};
+use crate::header::{ChosenCopy, Header, read_header};
 use crate::luks1_fields::{luks1_common, luks1_entry};
 use crate::nearest::{Nearest, note_distance};
 use crate::open_fault::OpenFault;
@@ -122,10 +123,30 @@ pub fn try_header_slot<D: Device>(
             allowed.older,
             nearest,
         ),
-        Header::Luks2(copy) => open_luks2(
-            alloc, device, &copy.meta, n, passphrase, allowed, nearest,
-        ),
+        Header::Luks2(copy) => try_copy_slot(alloc, device, copy, n, passphrase, allowed, nearest),
     }
+}
+
+/// What `try_header_slot` answers of a volume with this LUKS2 copy.
+pub fn try_copy_slot<D: Device>(
+    alloc: Global,
+    device: &mut D,
+    copy: &ChosenCopy,
+    n: u8,
+    passphrase: &[u8],
+    allowed: Allowed,
+    nearest: &mut Option<Nearest>,
+) -> Result<Option<Key>, OpenFault>
+    requires room { D.failed device.old + 1 < 2 ^ 64 }
+    requires accepted { IsAcceptedCopy copy.now }
+    requires passphrase { 0 < allowed.memory → length passphrase.now < 2 ^ 32 }
+    ensures unchanged { IsUnchanged D.tells D.size D.bytes D.unsettled device.old device.new }
+    ensures count { CountsFailure is_open_failure result
+        (D.failed device.old) (D.failed device.new) }
+    ensures answers { IsSlotOpening D.tells (D.bytes device.old) (OfLuks2 copy.now) allowed n
+        passphrase.now result }
+{
+    open_luks2(alloc, device, &copy.meta, n, passphrase, allowed, nearest)
 }
 
 /// What opening the keyslot `n` of a volume with these 592 bytes of a LUKS1 header gives.

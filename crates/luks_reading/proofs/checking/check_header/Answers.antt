@@ -1,14 +1,11 @@
 -- What was judged of the header that counts holds of the volume.
-use Rattle.std.proofs.Common.{ℕ, List, subst, sym, ◌∙◌}
+use Rattle.std.proofs.Common.{ℕ, List, IfOk, subst, sym, ◌∙◌}
 use Rattle.std.proofs.lemmas.Result.{err_from_is_err_and}
-use Rattle.luks_head.proofs.ChoiceFacts.{uuid_sound}
-use Rattle.luks_rules.proofs.Deciding.{metadata_faultless}
-use Rattle.luks_meta.specs.Content.{content}
-use Rattle.luks_reading.specs.Header.{json_at, IsAcceptedHeader, IsHeader}
+use Rattle.luks_reading.specs.Header.{IsAcceptedHeader, IsHeader}
 use Rattle.luks_reading.specs.Layout1.{Luks1Area}
 use Rattle.luks_reading.specs.Listing.{Lists}
 use Rattle.luks_reading.specs.Reported.{HeaderArea}
-use Rattle.luks_reading.proofs.CheckFacts.{luks1_first, luks2_accepted, luks2_areas_are, luks2_first}
+use Rattle.luks_reading.proofs.CheckFacts.{luks1_first}
 use Rattle.luks_reading.proofs.WellFormedFacts.{luks1_areas_are}
 use Rattle.luks_reading.proofs.checking.check_header.Goals as goal
 
@@ -35,42 +32,15 @@ returns-in_ok-areas-in-Luks1-clause-listed c =
     subst (λ h. Lists areas (HeaderArea h c.args.data_ c.args.total)) (sym c.in-Luks1.is)
     (subst (λ (b : List ℕ). Lists areas (Luks1Area b c.args.data_ c.args.total)) c.as_slice.ensures c.in_ok-areas-in-Luks1.ensures.areas)
 
-pub returns-in_ok-areas-in-Luks2-clause-listed : goal.returns-in_ok-areas-in-Luks2-clause-listed
-returns-in_ok-areas-in-Luks2-clause-listed c =
-    subst (λ h. Lists c.in_ok-areas-in-Luks2.areas (HeaderArea h c.args.data_ c.args.total)) (sym c.in-Luks2.is) c.in_ok-areas-in-Luks2.ensures.listed
+pub returns-in-Luks2-clause-accepted : goal.returns-in-Luks2-clause-accepted
+returns-in-Luks2-clause-accepted c = λ v is long. c.check_copy.ensures.accepted v (subst (IsHeader v) c.in-Luks2.is is) long
 
-pub returns-in_err-areas-in-Luks2-clause-refused : goal.returns-in_err-areas-in-Luks2-clause-refused
-returns-in_err-areas-in-Luks2-clause-refused c = λ v is long.
-    let copy = subst (IsHeader v) c.in-Luks2.is is in
-    let h = c.in-Luks2.copy.header in
-    let json = json_at v h.hdr_offset in
-    let p = err_from_is_err_and c.from_residual-in_err-areas-in-Luks2.result c.from_residual-in_err-areas-in-Luks2.ensures.1 in
-    rw (p.1, p.2)
-    (luks2_first v c.args.data_ h.hdr_offset c.in-Luks2.copy.copies _ c.in_err-areas-in-Luks2.field-0.0 copy.chosen long
-    (c.in_err-areas-in-Luks2.ensures.refused _ json copy.header (record { accepted = copy.metadata; len = copy.area_len }) (record {
-      uuid = uuid_sound _ copy.uuid;
-      metadata = (metadata_faultless json).1 (content c.in-Luks2.copy.meta, copy.metadata);
-    })))
+pub returns-in-Luks2-clause-listed : goal.returns-in-Luks2-clause-listed
+returns-in-Luks2-clause-listed c =
+    subst (λ h. IfOk c.check_copy.result (λ report. Lists report.areas (HeaderArea h c.args.data_ c.args.total))) (sym c.in-Luks2.is) c.check_copy.ensures.listed
 
-pub returns-in_ok-areas-in-Luks2-clause-accepted : goal.returns-in_ok-areas-in-Luks2-clause-accepted
-returns-in_ok-areas-in-Luks2-clause-accepted c = λ v is long.
-    let copy = subst (IsHeader v) c.in-Luks2.is is in
-    let h = c.in-Luks2.copy.header in
-    luks2_accepted v c.args.data_ h.hdr_offset c.in-Luks2.copy.copies _ copy.chosen long
-    (record {
-      uuid = copy.uuid;
-      layout = (
-        content c.in-Luks2.copy.meta,
-        c.in_ok-areas-in-Luks2.ensures.accepted _ (json_at v h.hdr_offset) copy.header (record { accepted = copy.metadata; len = copy.area_len }),
-      );
-    })
+pub returns-in-Luks2-clause-report : goal.returns-in-Luks2-clause-report
+returns-in-Luks2-clause-report c = λ v is long. c.check_copy.ensures.report v (subst (IsHeader v) c.in-Luks2.is is) long
 
-pub returns-in_ok-areas-in-Luks2-clause-report : goal.returns-in_ok-areas-in-Luks2-clause-report
-returns-in_ok-areas-in-Luks2-clause-report c = λ v is long.
-    let copy = subst (IsHeader v) c.in-Luks2.is is in
-    let h = c.in-Luks2.copy.header in
-    record {
-      version = (h.hdr_offset, (copy.chosen, copy.header.seqid));
-      areas = luks2_areas_are v c.args.data_ h.hdr_offset c.in-Luks2.copy.copies _ _ copy.chosen long
-          (c.in_ok-areas-in-Luks2.ensures.areas _ (json_at v h.hdr_offset) copy.header (record { accepted = copy.metadata; len = copy.area_len }));
-    }
+pub returns-in-Luks2-clause-refused : goal.returns-in-Luks2-clause-refused
+returns-in-Luks2-clause-refused c = λ v is long. c.check_copy.ensures.refused v (subst (IsHeader v) c.in-Luks2.is is) long

@@ -2,13 +2,11 @@
 use Rattle.std.proofs.Common.{ℕ, List, length, subst, sym, IfOk, IfSome, ◌≡◌, ◌∙◌}
 use Rattle.std.proofs.lemmas.Result.{IfErr-weaker, IfOk-weaker}
 use Rattle.luks1_header.specs.Bytes.{number_at}
-use Rattle.luks_head.specs.Header2.{header_at}
 use Rattle.luks_reading.specs.Luks1Keyslots.{Luks1Opens, Luks1Refused}
-use Rattle.luks_reading.specs.Luks2Keyslots.{Luks2Refused, Luks2TakesMemory}
-use Rattle.luks_reading.specs.Header.{json_at, IsHeader}
+use Rattle.luks_reading.specs.Header.{IsHeader}
+use Rattle.luks_reading.specs.HeaderAnswers.{IsSlotOpening}
 use Rattle.luks_reading.specs.Plans.{HasKeyBytes}
-use Rattle.luks_reading.proofs.KeyslotAnswers.{luks1_opens, luks1_refused, luks2_opens, luks2_refused, luks2_takes}
-use Rattle.luks_reading.proofs.ReadFaults.{cleared_copy}
+use Rattle.luks_reading.proofs.KeyslotAnswers.{luks1_opens, luks1_refused}
 use Rattle.luks_reading.proofs.TriedKeyslots.{luks1_own}
 use Rattle.luks_reading.proofs.opening.try_header_slot.Goals as goal
 
@@ -44,40 +42,6 @@ returns-in-Luks1-clause-answers g c = record {
 }
 
 pub returns-in-Luks2-clause-answers : goal.returns-in-Luks2-clause-answers
-returns-in-Luks2-clause-answers g c = record {
-  opens = λ tells is.
-      let v = g.D.Device.bytes c.args.device.now in
-      let copy = subst (IsHeader v) c.in-Luks2.is is in
-      let o = c.in-Luks2.copy.header.hdr_offset in
-      let cleared = cleared_copy v c.in-Luks2.copy copy in
-      IfOk-weaker c.open_luks2.result _ _ (λ found opens.
-      luks2_opens c.args.allowed v c.args.n c.args.passphrase.now o c.in-Luks2.copy.copies found copy.chosen opens)
-      (c.open_luks2.ensures.opens tells (header_at v o) (json_at v o) cleared);
-  refused = λ tells is.
-      let v = g.D.Device.bytes c.args.device.now in
-      let n = c.args.n in
-      let copy = subst (IsHeader v) c.in-Luks2.is is in
-      let o = c.in-Luks2.copy.header.hdr_offset in
-      let copies = c.in-Luks2.copy.copies in
-      let cleared = cleared_copy v c.in-Luks2.copy copy in
-      let long : g.D.Device.size c.args.device.now ≡ length v = sym (g.met.D.Device.sized c.args.device.now tells) in
-      IfErr-weaker c.open_luks2.result _ _ (λ fault refused.
-      luks2_refused c.args.allowed v n c.args.passphrase.now o copies fault copy.chosen
-      (record { place = o; copies = copies; chosen = copy.chosen; uuid = cleared.uuid_faultless })
-      (subst (λ (m : ℕ). Luks2Refused c.args.allowed (header_at v o) (json_at v o) m n fault) long refused))
-      (c.open_luks2.ensures.refused (header_at v o) (json_at v o) cleared);
-  key_bytes =
-      subst (λ h. IfOk c.open_luks2.result (λ found. IfSome found (λ key. HasKeyBytes h c.args.n (length key)))) (sym c.in-Luks2.is) c.open_luks2.ensures.length;
-  memory = λ tells is.
-      let v = g.D.Device.bytes c.args.device.now in
-      let n = c.args.n in
-      let copy = subst (IsHeader v) c.in-Luks2.is is in
-      let o = c.in-Luks2.copy.header.hdr_offset in
-      let cleared = cleared_copy v c.in-Luks2.copy copy in
-      let long : g.D.Device.size c.args.device.now ≡ length v = sym (g.met.D.Device.sized c.args.device.now tells) in
-      IfErr-weaker c.open_luks2.result _ _ (λ fault refused e.
-      luks2_takes c.args.allowed v n o c.in-Luks2.copy.copies copy.chosen
-      (subst (λ (m : ℕ). Luks2TakesMemory c.args.allowed (header_at v o) (json_at v o) m n) long (refused.1 e)))
-      (c.open_luks2.ensures.refused (header_at v o) (json_at v o) cleared);
-  no_memory = c.open_luks2.ensures.no_memory;
-}
+returns-in-Luks2-clause-answers g c =
+    let v = g.D.Device.bytes c.args.device.now in
+    subst (λ h. IsSlotOpening g.D.Device.tells v h c.args.allowed c.args.n c.args.passphrase.now c.try_copy_slot.result) (sym c.in-Luks2.is) c.try_copy_slot.ensures.answers
