@@ -19,8 +19,8 @@ returns-in_err-areas-clause-refused c = λ v copy long.
       metadata = (metadata_faultless json).1 (content c.args.copy.now.meta, copy.metadata);
     })))
 
-pub returns-in_ok-areas-clause-accepted : goal.returns-in_ok-areas-clause-accepted
-returns-in_ok-areas-clause-accepted c = λ v copy long.
+pub returns-clause-accepted : goal.returns-clause-accepted
+returns-clause-accepted c = λ v copy long.
     let h = c.args.copy.now.header in
     luks2_accepted v c.args.data_ h.hdr_offset c.args.copy.now.copies _ copy.chosen long
     (record {
@@ -31,8 +31,8 @@ returns-in_ok-areas-clause-accepted c = λ v copy long.
       );
     })
 
-pub returns-in_ok-areas-clause-report : goal.returns-in_ok-areas-clause-report
-returns-in_ok-areas-clause-report c = λ v copy long.
+pub returns-clause-report : goal.returns-clause-report
+returns-clause-report c = λ v copy long.
     let h = c.args.copy.now.header in
     record {
       version = (h.hdr_offset, (copy.chosen, copy.header.seqid));
