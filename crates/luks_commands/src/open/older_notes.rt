@@ -1,5 +1,5 @@
 //! What is said of keyslots with ciphers and hashes of older disks.
-ghost use Rattle.std.specs.Prelude.{◌≡◌, ◌⊎◌, ◌++◌, ◌<◌, ℕ, List, None, Some, IfOk, IfSome, OnOk, codes, false, length};
+ghost use Rattle.std.specs.Prelude.{◌≡◌, ◌⊎◌, ◌+◌, ◌++◌, ◌<◌, ◌≤◌, ℕ, List, None, Some, IfOk, IfSome, OnOk, codes, false, length};
 ghost use Rattle.std.specs.Io.KnownBytes.{Appends};
 ghost use Rattle.serde_json.specs.Data.{Data};
 ghost use Rattle.luks_area.specs.Ranges.{part};
@@ -15,6 +15,9 @@ use luks_head::{HeadFault, Luks1, Luks1Common};
 use luks_reading::{Allowed, Cost, Header, Keyslot, Meta, refused_slot};
 use std::fmt;
 use std::io::{self, Write};
+
+/// The bytes of a LUKS1 header before its keyslots.
+const COMMON_SIZE: usize = 208;
 
 /// A keyslot that is refused, and whose passphrase is tried where ciphers and hashes of older disks are
 /// accepted.
@@ -145,15 +148,16 @@ fn luks1_common(header: &[u8]) -> Result<Luks1Common, HeadFault>
     requires { length header.now ≡ 592 }
     ensures { IfOk result (IsCommon header.now) }
 {
-    Luks1::common(bytes_before_keyslots(header))
+    Luks1::common(bytes_at(header, 0, COMMON_SIZE))
 }
 
-fn bytes_before_keyslots(header: &[u8]) -> &[u8]
-    requires { length header.now ≡ 592 }
-    ensures value { result.now ≡ part header.now 0 208 }
-    ensures length { length result.now ≡ 208 }
+/// The `len` bytes at the place `at`.
+fn bytes_at(bytes: &[u8], at: usize, len: usize) -> &[u8]
+    requires { at + len ≤ length bytes.now }
+    ensures value { result.now ≡ part bytes.now at len }
+    ensures length { length result.now ≡ len }
 {
-    &header[..208]
+    &bytes[at..at + len]
 }
 
 /// The same of LUKS2's metadata.

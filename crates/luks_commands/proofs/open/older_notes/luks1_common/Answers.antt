@@ -9,5 +9,5 @@ pub returns : goal.returns
 returns c =
     let v = c.args.header.now in
     IfOk-weaker c.common.result _ _ (λ common found.
-    common_moves 208 (part v 0 208) v common (lit≤ tt) (first_of v 208) (subst (λ (b : List ℕ). IsCommon b common) c.bytes_before_keyslots.ensures.value found))
+    common_moves 208 (part v 0 208) v common (lit≤ tt) (first_of v 208) (subst (λ (b : List ℕ). IsCommon b common) c.bytes_at.ensures.value found))
     c.common.ensures.found
