@@ -1,5 +1,5 @@
 -- What an edit brings about in a well formed volume, by what is proved of each version.
-use Rattle.std.proofs.Common.{◌≡◌, ℕ, List, Some, Ok, Err, subst}
+use Rattle.std.proofs.Common.{◌≡◌, ℕ, List, Ok, Err, subst}
 use Rattle.std.specs.Prelude.{OnOk}
 use Rattle.luks_head.specs.declared.selection.Copies.{Copies}
 use Rattle.luks_head.specs.Selection.{Choice, luks1, luks2, nothing, Chosen}
