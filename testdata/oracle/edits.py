@@ -1,6 +1,6 @@
 """Edits of a volume in Python: the first refusal, or the volume that is left, byte for byte, of the old one and the random bytes.
 
-An edit's `memory` is how many KiB Argon2 may take; its `kdf` is what a new keyslot is to derive by, the members of the metadata that say so, and none where
+An edit's `memory` is how many KiB Argon2 may take, its `older` whether ciphers and hashes of older disks are accepted; its `kdf` is what a new keyslot is to derive by, the members of the metadata that say so, and none where
 that is as of the keyslot that opens. An edit is a list of writes, each followed by a flush, so that what a failing call leaves can be told too (`left`).
 """
 from dataclasses import dataclass, replace
@@ -26,6 +26,7 @@ class Add:
     iterations: int = 1000
     memory: int = 0
     kdf: dict = None
+    older: bool = False
 
 
 @dataclass(frozen=True)
@@ -36,6 +37,7 @@ class Change:
     iterations: int = 1000
     memory: int = 0
     kdf: dict = None
+    older: bool = False
 
 
 @dataclass(frozen=True)
@@ -45,6 +47,7 @@ class Remove:
     passphrase: bytes
     by: int = None
     memory: int = 0
+    older: bool = False
 
 
 @dataclass(frozen=True)
@@ -78,8 +81,8 @@ class Volume1:
         self.entries = [Entry(*fields) for fields in self.d["slots"]]
         self.used = [n for n in range(8) if self.entries[n].active == ENABLED]
 
-    def plan(self, n, memory):
-        return reader.plan1(self.volume, self.d, n)
+    def plan(self, n, edit):
+        return reader.plan1(self.volume, self.d, n, edit.older)
 
     def takes_a_free_slot(self, edit):
         return isinstance(edit, (Add, Change))
@@ -119,7 +122,8 @@ class Volume1:
             return []
         to, drawn, name = place_of(self, edit), Drawn(random), self.d["hash"].decode()
         salt = drawn.take(32)
-        area = sealed_area(name, pbkdf2(name, edit.new, salt, iterations_of(edit), self.d["key_bytes"]), key, drawn.rest())
+        slot_key, cipher = pbkdf2(name, edit.new, salt, iterations_of(edit), self.d["key_bytes"]), b"-".join((self.d["cipher"], self.d["mode"])).decode()
+        area = sealed_area(name, slot_key, key, drawn.rest(), cipher)
         new = replace(self.entries[to], active=ENABLED, iterations=iterations_of(edit), salt=salt)
         return [(self.area(to)[0], area), self.entry(to, new)] + (self.disabling(edit.slot) if isinstance(edit, Change) else [])
 
@@ -138,8 +142,8 @@ class Volume2:
         self.value = reader.metadata(self.copy)
         self.used = sorted(map(int, self.value["keyslots"]))
 
-    def plan(self, n, memory):
-        return reader.plan2(self.volume, self.value, n, memory)
+    def plan(self, n, edit):
+        return reader.plan2(self.volume, self.value, n, edit.memory, edit.older)
 
     def keyslot(self, n):
         return self.value["keyslots"][str(n)]
@@ -221,7 +225,7 @@ class Volume2:
             old = self.keyslot(opened_by(edit)[0])
             kdf = makers.derivation(old, edit.iterations, salt, edit.kdf)
             slot_key = derived(kdf, edit, salt, old["area"]["key_size"])
-            areas.append((self.gap(edit), sealed_area(old["af"]["hash"], slot_key, key, drawn.rest())))
+            areas.append((self.gap(edit), sealed_area(old["af"]["hash"], slot_key, key, drawn.rest(), old["area"]["encryption"])))
         wiped = []
         if isinstance(edit, (Change, Remove)):
             start, length = reader.slot_area2(self.keyslot(edit.slot))
@@ -295,7 +299,7 @@ def key_of(v, edit):
     if opened_by(edit) is None:
         return None
     slot, passphrase = opened_by(edit)
-    key = reader.opened(v.plan(slot, edit.memory), passphrase)
+    key = reader.opened(v.plan(slot, edit), passphrase)
     if key is None:
         raise Fault("Locked")
     return key

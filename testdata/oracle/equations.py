@@ -1,4 +1,6 @@
 """The equations of docs/PROFILE.md in Python, over hashlib and the AES of `cryptography`; no code is shared with the program."""
+import ctypes
+import ctypes.util
 import hashlib
 import struct
 
@@ -13,6 +15,15 @@ SECTOR = 512
 
 # The hashes of FIPS 180-4 that open.
 HASHES = ("sha1", "sha256", "sha512")
+
+# Those that open where ciphers and hashes of older disks are accepted. hashlib has Whirlpool once OpenSSL's legacy provider is loaded.
+OLDER_HASHES = ("sha224", "sha384", "ripemd160", "whirlpool", "blake2b-512")
+for provider in (b"default", b"legacy"):
+    ctypes.CDLL(ctypes.util.find_library("crypto")).OSSL_PROVIDER_load(None, provider)
+
+XTS = "aes-xts-plain64"
+# The ciphers of such disks, with the number's bytes in the initial vector, and whether it is encrypted under the key's SHA-256.
+CBC = {"aes-cbc-plain": (4, False), "aes-cbc-plain64": (8, False), "aes-cbc-essiv:sha256": (8, True)}
 
 
 def pbkdf2(hash_name, passphrase, salt, iterations, length):
@@ -84,17 +95,34 @@ def xts_units(key, data, seals):
     return b"".join(xts(key, unit, data[at:at + SECTOR], seals) for unit, at in enumerate(range(0, len(data), SECTOR)))
 
 
+def cbc(cipher, key, unit, data, seals):
+    """A sector by one of the ciphers of older disks (NIST SP 800-38A, 6.2; its initial vector as dm-crypt's names say)."""
+    size, is_hashed = CBC[cipher]
+    vector = (unit % 256**size).to_bytes(16, "little")
+    if is_hashed:
+        vector = Cipher(algorithms.AES(hashlib.sha256(key).digest()), modes.ECB()).encryptor().update(vector)
+    mode = Cipher(algorithms.AES(key), modes.CBC(vector))
+    return (mode.encryptor() if seals else mode.decryptor()).update(data)
+
+
+def units(cipher, key, data, seals):
+    """The sectors of a key area by this cipher."""
+    if cipher not in CBC:
+        return xts_units(key, data, seals)
+    return b"".join(cbc(cipher, key, unit, data[at:at + SECTOR], seals) for unit, at in enumerate(range(0, len(data), SECTOR)))
+
+
 def round_up(n, to):
     return -(-n // to) * to
 
 
-def sealed_area(hash_name, slot_key, key, random):
+def sealed_area(hash_name, slot_key, key, random, cipher=XTS):
     """The sectors of a key area that holds `key`: its stripes, zeros to the sector's end, encrypted."""
     material = split(hash_name, key, random)
-    return xts_units(slot_key, material.ljust(round_up(len(material), SECTOR), b"\0"), True)
+    return units(cipher, slot_key, material.ljust(round_up(len(material), SECTOR), b"\0"), True)
 
 
-def opened_area(hash_name, slot_key, area, length, stripes):
+def opened_area(hash_name, slot_key, area, length, stripes, cipher=XTS):
     """The candidate for the key that a key area holds."""
     used = length * stripes
-    return merge(hash_name, xts_units(slot_key, area[:round_up(used, SECTOR)], False)[:used], length)
+    return merge(hash_name, units(cipher, slot_key, area[:round_up(used, SECTOR)], False)[:used], length)

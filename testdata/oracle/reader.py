@@ -5,7 +5,7 @@ import json
 import re
 import struct
 
-from equations import HASHES, argon2, opened_area, pbkdf2, round_up
+from equations import CBC, HASHES, OLDER_HASHES, argon2, opened_area, pbkdf2, round_up
 
 FIRST_MAGIC, SECOND_MAGIC = b"LUKS\xba\xbe", b"SKUL\xba\xbe"
 ENABLED, DISABLED = 0x00AC71F3, 0x0000DEAD
@@ -535,8 +535,8 @@ def json_segment(n, it):
 
 # --- opening
 
-def plan1(volume, d, n):
-    """What opening slot n of LUKS1 needs, or its refusal."""
+def plan1(volume, d, n, older=False):
+    """What opening slot n of LUKS1 needs, or its refusal; `older`: ciphers and hashes of older disks are accepted."""
     active, iterations, salt, _, stripes = d["slots"][n]
     if active not in (ENABLED, DISABLED):
         raise Fault(f"SlotState({n})")
@@ -547,10 +547,10 @@ def plan1(volume, d, n):
     if active == DISABLED:
         raise Fault("SlotFree")
     return known(volume, slot_area1(d, n), b"-".join((d["cipher"], d["mode"])), d["key_bytes"], d["key_bytes"], stripes,
-                 [name.decode() for name in (d["hash"],) * 3], (salt, iterations), (d["salt"], d["iterations"], d["digest"]))
+                 [name.decode() for name in (d["hash"],) * 3], (salt, iterations), (d["salt"], d["iterations"], d["digest"]), older)
 
 
-def plan2(volume, value, n, memory=0):
+def plan2(volume, value, n, memory=0, older=False):
     """The same of keyslot n of LUKS2, where Argon2 may take so many KiB."""
     slot = value["keyslots"][str(n)]
     digest = next(it for it in value["digests"].values() if str(n) in it["keyslots"])
@@ -558,7 +558,7 @@ def plan2(volume, value, n, memory=0):
     hashes = [kdf["hash"] if kdf["type"] == "pbkdf2" else digest["hash"], slot["af"]["hash"], digest["hash"]]
     derivation = derivation2(kdf, memory)
     return known(volume, slot_area2(slot), slot["area"]["encryption"].encode(), slot["area"]["key_size"], slot["key_size"], slot["af"]["stripes"], hashes,
-                 derivation, (base64.b64decode(digest["salt"]), digest["iterations"], base64.b64decode(digest["digest"])))
+                 derivation, (base64.b64decode(digest["salt"]), digest["iterations"], base64.b64decode(digest["digest"])), older)
 
 
 def derivation2(kdf, memory):
@@ -570,18 +570,24 @@ def derivation2(kdf, memory):
     return (salt, kdf) if 8 * lanes <= kdf["memory"] <= memory and lanes < 1 << 24 and len(salt) >= 8 else None
 
 
-def known(volume, area, cipher, cipher_key, length, stripes, hashes, derivation, digest):
+def known(volume, area, cipher, cipher_key, length, stripes, hashes, derivation, digest, older):
     if area[0] + area[1] > len(volume):
         raise Fault("Outside")
     if derivation is None:
         raise Fault("Argon2")
-    if cipher not in (b"aes-xts-plain64", b"aes-xts-plain"):
-        raise Fault("Cipher")
-    if any(name not in HASHES for name in hashes):
-        raise Fault("Hash")
-    if cipher_key not in (32, 64):
-        raise Fault("KeySize")
-    return volume[area[0]:sum(area)], cipher_key, length, stripes, hashes, derivation, digest
+    fault = refusal(cipher.decode(), hashes, cipher_key, older)
+    if fault:
+        raise Fault(fault)
+    return volume[area[0]:sum(area)], cipher.decode(), cipher_key, length, stripes, hashes, derivation, digest
+
+
+def refusal(cipher, hashes, cipher_key, older):
+    """The fault of a cipher, of hashes or of a key's length."""
+    if cipher not in ("aes-xts-plain64", "aes-xts-plain", *(CBC if older else ())):
+        return "Cipher"
+    if any(name not in (*HASHES, *(OLDER_HASHES if older else ())) for name in hashes):
+        return "Hash"
+    return None if cipher_key in ((16, 24, 32) if cipher in CBC else (32, 64)) else "KeySize"
 
 
 def opened(plan, passphrase):
@@ -592,9 +598,9 @@ def opened(plan, passphrase):
 
 def candidate(plan, passphrase):
     """What the stripes hold under the passphrase, and what that gives in place of the digest."""
-    area, cipher_key, length, stripes, hashes, (salt, cost), (digest_salt, digest_iterations, digest) = plan
+    area, cipher, cipher_key, length, stripes, hashes, (salt, cost), (digest_salt, digest_iterations, digest) = plan
     slot_key = argon2(cost, passphrase, salt, cipher_key) if isinstance(cost, dict) else pbkdf2(hashes[0], passphrase, salt, cost, cipher_key)
-    key = opened_area(hashes[1], slot_key, area, length, stripes)
+    key = opened_area(hashes[1], slot_key, area, length, stripes, cipher)
     return key, pbkdf2(hashes[2], key, digest_salt, digest_iterations, len(digest))
 
 
@@ -603,29 +609,29 @@ def distance(plan, passphrase):
     return (int.from_bytes(candidate(plan, passphrase)[1], "big") ^ int.from_bytes(plan[-1][2], "big")).bit_count()
 
 
-def open_volume(volume, passphrase, slot=None, memory=0):
-    """(status, line) and the key where one was found; Argon2 may take so many KiB."""
+def open_volume(volume, passphrase, slot=None, memory=0, older=False):
+    """(status, line) and the key where one was found; Argon2 may take so many KiB, and `older` accepts ciphers and hashes of older disks."""
     try:
-        return open_found(volume, passphrase, slot, memory)
+        return open_found(volume, passphrase, slot, memory, older)
     except Fault as fault:
         return 1, f"refused {fault}\n", None
 
 
-def openable(volume, memory):
+def openable(volume, memory, older):
     """Of a volume whose header is accepted so far: the plan of a keyslot, whether there can be one of a number, and the order in which they are tried."""
     chosen = select(volume)
     if chosen == 1:
         d = common1(volume)
-        return (lambda n: plan1(volume, d, n)), (lambda n: n < 8), range(8)
+        return (lambda n: plan1(volume, d, n, older)), (lambda n: n < 8), range(8)
     checked_uuid(chosen[0]["uuid"])
     value = metadata(chosen[0])
     numbered = [(it.get("priority", 1), n) for n, it in by_number(value["keyslots"])]
     order = [n for wanted in (2, 1) for priority, n in numbered if priority == wanted]
-    return (lambda n: plan2(volume, value, n, memory)), (lambda n: str(n) in value["keyslots"]), order
+    return (lambda n: plan2(volume, value, n, memory, older)), (lambda n: str(n) in value["keyslots"]), order
 
 
-def open_found(volume, passphrase, slot, memory):
-    plan, exists, order = openable(volume, memory)
+def open_found(volume, passphrase, slot, memory, older):
+    plan, exists, order = openable(volume, memory, older)
     if slot is not None:
         if not exists(slot):
             raise Fault("NoSuchSlot")
@@ -641,9 +647,9 @@ def open_found(volume, passphrase, slot, memory):
     return 1, "no slot opens\n", None
 
 
-def almost_met(volume, passphrase, slot=None, memory=0):
+def almost_met(volume, passphrase, slot=None, memory=0, older=False):
     """What standard error says of the keyslot that is almost met, of a volume where the passphrase opens none that is tried; or nothing."""
-    plan, _, order = openable(volume, memory)
+    plan, _, order = openable(volume, memory, older)
     distances = []
     for n in order if slot is None else [slot]:
         try:
