@@ -9,5 +9,3 @@ pub mod Chosen
 pub mod Formatting
 pub mod OpenAnswers
 pub mod FormatAnswers
-pub mod MemoryNotes
-pub mod OlderNotes

@@ -8,9 +8,6 @@ ghost use Rattle.luks_commands.specs.Files.{IsLong, IsUnread, IsWhole, KeepsVolu
 ghost use Rattle.luks_commands.specs.OpenAnswers.{any_answer, AnswersOpen, IsAnyAnswer, IsOneAnswer, IsOpenAnswer, allowed_of, kib_of, one_answer};
 
 mod almost_met;
-mod memory_notes;
-mod older_notes;
-mod passed_over;
 
 use crate::answers::{Answer, Refusal, Status, end, unread};
 use crate::inputs::Inputs;
@@ -18,12 +15,8 @@ use crate::passphrase_file::{PassphraseFault, passphrase};
 use crate::printer::Printer;
 pub use almost_met::note_line_feed;
 use almost_met::note_unopened;
+use luks_keyslot_notes::{note_all_wanting, note_passed_over, note_refused, note_wanting};
 use luks_reading::{Allowed, Device, Key, OpenFault, read_header, try_header, try_header_slot};
-pub use memory_notes::{MemoryNote, memory_note};
-use memory_notes::{note_all_wanting, note_refused, note_wanting};
-use older_notes::note_older;
-pub use older_notes::{OlderNote, older_note};
-use passed_over::note_passed_over;
 use std::alloc::Global;
 use std::io::{Read, Write};
 
@@ -163,10 +156,7 @@ fn open_one<D: Device, E: Write>(
     let opened = try_header_slot(alloc, device, &header, n, passphrase, allowed, &mut nearest);
     match &opened {
         Ok(None) => note_unopened(nearest, passphrase, err),
-        Err(OpenFault::Slot(_)) => {
-            note_refused(&header, n, device.len(), allowed, err);
-            note_older(&header, n, device.len(), allowed, err);
-        }
+        Err(OpenFault::Slot(_)) => note_refused(&header, n, device.len(), allowed, err),
         Err(OpenFault::Memory) => note_wanting(&header, n, device.len(), allowed, err),
         _ => {}
     }

@@ -20,11 +20,11 @@ mod words;
 
 use applying::apply_of_header;
 use asked::edit_of;
-use luks_commands::open::{MemoryNote, OlderNote};
 use luks_commands::{
     Answer, InputFault, Inputs, Printer, RandomBytes, Refusal, Status, device_fault, end,
     few_random_bytes, random_bytes, unread,
 };
+use luks_keyslot_notes::{MemoryNote, OlderNote};
 use luks_request::Editing;
 use luks_volume::{Device, Edit, EditFault};
 use seen::{Unseen, note_leaving_argon2, note_refused, note_wanting, note_weaker, see};

@@ -6,8 +6,8 @@ ghost use Rattle.luks_volume.specs.Needed.{NeedsRandom};
 ghost use Rattle.luks_edit_commands.specs.OtherUses.{is_unseen_failure, IsUnseen, SeesBarred};
 
 use crate::other_use::barring_use;
-use luks_commands::open::{MemoryNote, OlderNote, memory_note, older_note};
 use luks_edit::NewDerivation;
+use luks_keyslot_notes::{MemoryNote, OlderNote, memory_note, older_note};
 use luks_request::Editing;
 use luks_signatures::OtherUse;
 use luks_volume::{

@@ -8,8 +8,8 @@ ghost use Rattle.luks_rules.specs.declared.table.Outer.TheVariants as outer;
 ghost use Rattle.luks_meta.specs.Content.{content};
 ghost use Rattle.luks_meta.specs.Says.{TellsKeyslot};
 ghost use Rattle.luks_reading.specs.Header.{IsAcceptedHeader, IsHeader};
-ghost use Rattle.luks_commands.specs.OlderNotes.{all_memory, IsLuks1Part, IsLuks2Part, IsOlder, IsOlderNote, IsOlderPart};
-ghost use Rattle.luks_commands.specs.OlderNotes.{DigestNames, NamesHash, older_line, older_text};
+ghost use Rattle.luks_keyslot_notes.specs.OlderNotes.{all_memory, IsLuks1Part, IsLuks2Part, IsOlder, IsOlderNote, IsOlderPart};
+ghost use Rattle.luks_keyslot_notes.specs.OlderNotes.{DigestNames, NamesHash, older_line, older_text};
 
 use luks_head::{HeadFault, Luks1, Luks1Common};
 use luks_reading::{Allowed, Cost, Header, Keyslot, Meta, refused_slot};
@@ -96,22 +96,6 @@ fn all_memory(older: bool) -> Allowed
     Allowed {
         memory: u32::MAX,
         older,
-    }
-}
-
-/// Says of the keyslot `n` of a volume of `total` bytes, which was refused where so much is allowed, that
-/// ciphers and hashes of older disks would have to be accepted.
-pub(crate) fn note_older<E: Write>(
-    header: &Header,
-    n: u8,
-    total: u64,
-    allowed: Allowed,
-    err: &mut E,
-)
-    requires { IsAcceptedHeader header.now }
-{
-    if let Some(note) = older_note(header, n, total, allowed) {
-        let _ = note.say(err);
     }
 }
 

@@ -2,8 +2,7 @@
 ghost use Rattle.std.specs.Prelude.{◌<◌};
 ghost use Rattle.luks_reading.specs.Header.{IsAcceptedHeader};
 
-use crate::open::memory_notes::note_refused;
-use crate::open::older_notes::note_older;
+use crate::telling::note_refused;
 use luks_reading::{Allowed, Header, OpenFault, refused_slot};
 use std::io::Write;
 
@@ -13,7 +12,7 @@ use std::io::Write;
 /// The reason is that of the keyslot's own refusal where so much is allowed, with what would let it be
 /// tried. One of priority 0 is passed over whatever it says, and one that isn't
 /// there or isn't in use isn't spoken of.
-pub(crate) fn note_passed_over<E: Write>(header: &Header, total: u64, allowed: Allowed, err: &mut E)
+pub fn note_passed_over<E: Write>(header: &Header, total: u64, allowed: Allowed, err: &mut E)
     requires { IsAcceptedHeader header.now }
 {
     for n in 0..32 {
@@ -26,7 +25,6 @@ pub(crate) fn note_passed_over<E: Write>(header: &Header, total: u64, allowed: A
             Some(fault) => {
                 let _ = writeln!(err, "luks: keyslot {n} was passed over: {fault}");
                 note_refused(header, n, total, allowed, err);
-                note_older(header, n, total, allowed, err);
             }
         }
     }

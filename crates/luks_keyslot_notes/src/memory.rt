@@ -2,10 +2,9 @@
 ghost use Rattle.std.specs.Prelude.{◌≡◌, ◌≤◌, ◌<◌, ◌+◌, ◌/◌, None, Some, IfSome, IsOk, IsTrue, OnOk};
 ghost use Rattle.std.specs.Io.KnownBytes.{Appends};
 ghost use Rattle.luks_reading.specs.Header.{IsAcceptedHeader};
-ghost use Rattle.luks_commands.specs.MemoryNotes.{CanBeAllowed, DerivesBy, IsMemoryNote, NeverDerives};
-ghost use Rattle.luks_commands.specs.MemoryNotes.{allowing_text, derived_of, derived_text, mib_of, refused_line, wanting_line};
+ghost use Rattle.luks_keyslot_notes.specs.MemoryNotes.{CanBeAllowed, DerivesBy, IsMemoryNote, NeverDerives};
+ghost use Rattle.luks_keyslot_notes.specs.MemoryNotes.{allowing_text, derived_of, derived_text, mib_of, refused_line, wanting_line};
 
-use crate::open::passed_over::is_unasked;
 use luks_reading::{Allowed, Cost, Header, refused_slot};
 use std::fmt;
 use std::io::{self, Write};
@@ -153,48 +152,6 @@ pub fn memory_note(header: &Header, n: u8, total: u64, allowed: Allowed) -> Opti
 struct ByArgon2 {
     kind: &'static str,
     kib: u32,
-}
-
-/// Says of the keyslot `n` of a volume of `total` bytes, which was refused where so much is
-/// allowed, how much memory would have to be.
-pub(crate) fn note_refused<E: Write>(
-    header: &Header,
-    n: u8,
-    total: u64,
-    allowed: Allowed,
-    err: &mut E,
-)
-    requires { IsAcceptedHeader header.now }
-{
-    if let Some(note) = memory_note(header, n, total, allowed) {
-        let _ = note.say_refused(err);
-    }
-}
-
-/// Says of the keyslot `n` how much memory it asked for, where so much is allowed.
-pub(crate) fn note_wanting<E: Write>(
-    header: &Header,
-    n: u8,
-    total: u64,
-    allowed: Allowed,
-    err: &mut E,
-)
-    requires { IsAcceptedHeader header.now }
-{
-    if let Some(note) = memory_note(header, n, total, allowed) {
-        let _ = note.say_wanting(err);
-    }
-}
-
-/// The same of each keyslot that is tried.
-pub(crate) fn note_all_wanting<E: Write>(header: &Header, total: u64, allowed: Allowed, err: &mut E)
-    requires { IsAcceptedHeader header.now }
-{
-    for n in 0..32 {
-        if !is_unasked(header, n) {
-            note_wanting(header, n, total, allowed, err);
-        }
-    }
 }
 
 /// How the keyslot `n` derives by Argon2, or None where it isn't there or derives otherwise.

@@ -18,9 +18,9 @@ use Rattle.luks_reading.specs.declared.header.Header.TheVariants.{Luks1, Luks2}
 use Rattle.luks_reading.specs.declared.open_fault.OpenFault.{OpenFault}
 use Rattle.luks_reading.specs.Answer.{FirstRefusal, IsRefusalWithin}
 use Rattle.luks_reading.specs.Header.{IsHeader}
-use Rattle.luks_commands.specs.declared.open.older_notes.OlderNote.{OlderNote}
-use Rattle.luks_commands.specs.declared.open.older_notes.OlderPart.{OlderPart}
-use Rattle.luks_commands.specs.declared.open.older_notes.OlderPart.TheVariants.{Cipher, Hash, Untold}
+use Rattle.luks_keyslot_notes.specs.declared.older.OlderNote.{OlderNote}
+use Rattle.luks_keyslot_notes.specs.declared.older.OlderPart.{OlderPart}
+use Rattle.luks_keyslot_notes.specs.declared.older.OlderPart.TheVariants.{Cipher, Hash, Untold}
 
 -- ---- where it helps to accept them
 

@@ -1,7 +1,7 @@
 use Rattle.std.proofs.Common.{rules, arith, refl, sym, subst}
-use Rattle.luks_commands.specs.MemoryNotes.{IsTried}
-use Rattle.luks_commands.proofs.open.memory_notes.memory_note.Goals as goal
-use Rattle.luks_commands.proofs.open.memory_notes.memory_note.Goals.{then-argon2-memory, else-argon2-memory}
+use Rattle.luks_keyslot_notes.specs.MemoryNotes.{IsTried}
+use Rattle.luks_keyslot_notes.proofs.memory.memory_note.Goals as goal
+use Rattle.luks_keyslot_notes.proofs.memory.memory_note.Goals.{then-argon2-memory, else-argon2-memory}
 
 pub returns-clause-some : goal.returns-clause-some
 returns-clause-some c = record {

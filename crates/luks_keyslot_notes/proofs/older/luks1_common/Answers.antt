@@ -3,7 +3,7 @@ use Rattle.std.proofs.lemmas.Result.{IfOk-weaker}
 use Rattle.luks_area.specs.Ranges.{part}
 use Rattle.luks1_header.specs.Header1.{IsCommon}
 use Rattle.luks1_header.proofs.Luks1HeaderFacts.{common_moves, first_of}
-use Rattle.luks_commands.proofs.open.older_notes.luks1_common.Goals as goal
+use Rattle.luks_keyslot_notes.proofs.older.luks1_common.Goals as goal
 
 pub returns : goal.returns
 returns c =

@@ -14,8 +14,8 @@ use Rattle.luks_reading.specs.declared.header.Header.TheVariants.{Luks1, Luks2}
 use Rattle.luks_reading.specs.declared.open_fault.OpenFault.{OpenFault}
 use Rattle.luks_reading.specs.Answer.{FirstRefusal, IsRefusalWithin}
 use Rattle.luks_reading.specs.Header.{IsHeader}
-use Rattle.luks_commands.specs.declared.open.memory_notes.Derived.{Derived}
-use Rattle.luks_commands.specs.declared.open.memory_notes.MemoryNote.{MemoryNote}
+use Rattle.luks_keyslot_notes.specs.declared.memory.Derived.{Derived}
+use Rattle.luks_keyslot_notes.specs.declared.memory.MemoryNote.{MemoryNote}
 
 -- ---- how it derives
 

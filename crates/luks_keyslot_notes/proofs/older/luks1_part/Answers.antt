@@ -1,7 +1,7 @@
 use Rattle.std.proofs.Common.{ap, sym, ◌∙◌, List, ℕ, ◌++◌, [], ◌∷◌}
 use Rattle.luks1_header.specs.declared.fault.TextField.TheVariants as field
 use Rattle.luks1_header.specs.Header1.{header_text}
-use Rattle.luks_commands.proofs.open.older_notes.luks1_part.Goals as goal
+use Rattle.luks_keyslot_notes.proofs.older.luks1_part.Goals as goal
 
 pub returns-in-Some : goal.returns-in-Some
 returns-in-Some c =

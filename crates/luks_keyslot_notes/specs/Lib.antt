@@ -1,0 +1,2 @@
+pub mod MemoryNotes
+pub mod OlderNotes
