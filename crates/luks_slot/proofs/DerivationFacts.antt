@@ -1,7 +1,6 @@
 -- How the key of an area is derived, and which refusals are answered.
-use Rattle.std.proofs.Common.{◌≡◌, ℕ, ◌*◌, ◌-◌, ◌^◌, ◌≤◌, List, length, refl, ap, sym, ◌∙◌, subst, arith, true, false, Some, None}
-use Rattle.std.specs.Prelude.{◌==◌, ◌||◌, nat_lt, not, if◌then◌else◌, Bool, Result, Ok, Err, IfErr}
-use Rattle.std.proofs.lemmas.Bool.Decides.{nat_tests}
+use Rattle.std.proofs.Common.{◌≡◌, ℕ, ◌≤◌, List, length, refl, ap, sym, ◌∙◌, subst, true, false, Some, None}
+use Rattle.std.specs.Prelude.{◌==◌, ◌||◌, not, if◌then◌else◌, Bool, Result, Ok, Err, IfErr}
 use Rattle.luks_area.specs.Device.{count_after}
 use Rattle.luks_slot.specs.declared.allowed.Allowed.{Allowed}
 use Rattle.luks_slot.specs.declared.cipher.SectorCipher.{SectorCipher}

@@ -1,5 +1,5 @@
 -- Runs of eight sectors of an area.
-use Rattle.std.proofs.Common.{◌≡◌, ℕ, ◌+◌, ◌-◌, ◌*◌, ◌/◌, ◌%◌, ◌<◌, ◌≤◌, List, length, take, drop, get_or, ap, sym, ◌∙◌, arith}
+use Rattle.std.proofs.Common.{◌≡◌, ℕ, ◌+◌, ◌*◌, ◌/◌, ◌%◌, ◌≤◌, List, length, take, drop, get_or, ap, sym, ◌∙◌, arith}
 use Rattle.std.proofs.lemmas.List.{get_or-take, get_or-drop}
 use Rattle.luks_area.specs.declared.area.Area.{Area}
 use Rattle.luks_area.specs.RangeFacts.{length-part_inside, part-part}

@@ -1,9 +1,8 @@
 -- An area whose stripes were written is sealed, and a sealed one opens.
-use Rattle.std.proofs.Common.{◌≡◌, ℕ, zero, suc, ◌+◌, ◌-◌, ◌*◌, ◌<◌, ◌≤◌, List, ◌++◌, length, get_or, min, replicate, take, drop, refl, ap, sym, ◌∙◌, subst, arith, length-append, Some, None}
+use Rattle.std.proofs.Common.{◌≡◌, ℕ, ◌+◌, ◌-◌, ◌*◌, ◌<◌, ◌≤◌, List, ◌++◌, length, get_or, min, replicate, take, drop, refl, ap, sym, ◌∙◌, subst, arith, length-append, Some, None}
 use Rattle.std.specs.Prelude.{if◌then◌else◌}
 use Rattle.std.proofs.lemmas.List.{ext_get_or, get_or-append_right, get_or_append_left, get_or-replicate, get_or-take, length-replicate, length-take}
 use Rattle.std.proofs.Math.Seq.{take-append_seam, drop-append_seam}
-use Rattle.luks_area.specs.RangeFacts.{part-part}
 use Rattle.luks_area.specs.Ranges.{part, IsAt, SameBut}
 use Rattle.luks_area.specs.Sectors.{rounded_to_sectors, sector_count}
 use Rattle.luks_kdf.specs.declared.keyslot_hash.KeyslotHash.{KeyslotHash}
@@ -11,7 +10,7 @@ use Rattle.luks_kdf.specs.KeyslotNames.{keyslot_digest, keyslot_digest_size}
 use Rattle.luks_kdf.specs.Splitter.{merge, split}
 use Rattle.luks_slot.specs.declared.cipher.AreaKey.{AreaKey}
 use Rattle.luks_slot.specs.declared.plan.SlotPlan.{SlotPlan}
-use Rattle.luks_slot.specs.Opening.{area_bytes, area_key, hash_by_name, meets_digest, opened_sector, opened_sectors, slot_key, stripe_bytes, stripes_from, stripes_in}
+use Rattle.luks_slot.specs.Opening.{area_bytes, area_key, hash_by_name, meets_digest, opened_sectors, slot_key, stripe_bytes, stripes_from, stripes_in}
 use Rattle.luks_slot.specs.Sealing.{stripes_of, IsSealed}
 use Rattle.luks_slot.specs.Writing.{ArePlaced, HoldsWanted, filled}
 use Rattle.luks_slot.proofs.AreaFacts.{length-opened_sectors, opened_sectors-shorter, plain_at}

@@ -1,9 +1,9 @@
 -- How what is allowed decides whether a plan is refused: where nothing is, it is refused as before, and
 -- where more is, it isn't refused where it wasn't.
-use Rattle.std.proofs.Common.{◌≡◌, ◌∙◌, ◌≤◌, ℕ, ◌*◌, ◌-◌, ◌^◌, List, ◌++◌, length, true, false, Some, None, inl, inr, refl, ap, sym, arith, codes}
+use Rattle.std.proofs.Common.{◌≡◌, ◌∙◌, ◌≤◌, ℕ, ◌*◌, ◌-◌, ◌^◌, List, ◌++◌, length, true, false, Some, None, inl, inr, refl, ap, arith, codes}
 use Rattle.std.specs.Prelude.{◌==◌, ◌&&◌, ◌||◌, nat_lt, not, if◌then◌else◌, Bool, Option, is_some}
 use Rattle.std.specs.Str.{bytes_eq}
-use Rattle.std.proofs.lemmas.Bool.{and_from, and_parts, cases_Bool, or_left, true≢false, false≢true}
+use Rattle.std.proofs.lemmas.Bool.{and_from, and_parts, cases_Bool, or_left, false≢true}
 use Rattle.std.proofs.lemmas.Bool.Decides.{nat_tests}
 use Rattle.std.proofs.lemmas.Slice.Eq.{bytes_eq-Decides}
 use Rattle.luks_cbc.specs.declared.vectors.IvKind.{IvKind}

@@ -1,5 +1,5 @@
 -- Writing the bytes of an area in a row, encrypted, with one run of eight sectors held at a time.
-use Rattle.std.specs.Prelude.{◌≡◌, ◌≢◌, ℕ, ◌+◌, ◌-◌, ◌*◌, ◌/◌, ◌%◌, ◌<◌, List, ◌++◌, length, replicate, slice_index}
+use Rattle.std.specs.Prelude.{◌≡◌, ◌≢◌, ℕ, ◌+◌, ◌-◌, ◌*◌, ◌/◌, ◌<◌, List, ◌++◌, length, replicate, slice_index}
 use Rattle.luks_slot.specs.declared.area_writer.AreaWriter.{AreaWriter}
 use Rattle.luks_slot.specs.declared.cipher.AreaKey.{AreaKey}
 use Rattle.luks_slot.specs.Opening.{area_bytes}
