@@ -101,7 +101,15 @@ pub(crate) fn make_keyslot<D: Device>(
         older: sealed.opener.passphrase.allowed.older,
     };
     let stripes = stripes_in(random);
-    match seal_area_within(alloc, device, &plan, sealed.passphrase, allowed, key, stripes) {
+    match seal_area_within(
+        alloc,
+        device,
+        &plan,
+        sealed.passphrase,
+        allowed,
+        key,
+        stripes,
+    ) {
         Ok(()) => {}
         Err(fault) => return Err(keyslot_fault(fault)),
     }
