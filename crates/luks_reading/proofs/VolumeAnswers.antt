@@ -11,6 +11,7 @@ use Rattle.luks_head.specs.Selection.{Choice, luks1, luks2, nothing, Chosen}
 use Rattle.luks_head.proofs.ChoiceFacts.{choices_agree}
 use Rattle.luks_slot.specs.declared.allowed.Allowed.{Allowed}
 use Rattle.luks_slot.specs.declared.plan.SlotPlan.{SlotPlan}
+use Rattle.luks_slot.specs.Allowance.{none_allowed}
 use Rattle.luks_reading.specs.declared.open_fault.OpenFault.{OpenFault}
 use Rattle.luks_reading.specs.declared.open_fault.OpenFault.TheVariants.{Head, Meta, NoSuchSlot, SlotFree, Outside, Slot, Device, Memory}
 use Rattle.luks_reading.specs.declared.read_fault.ReadFault.{ReadFault}
@@ -93,7 +94,7 @@ unread_locks v f one least =
     let c = counted.choice in
     locked_as v c (unread_opened f) counted.chosen (λ d. one c d counted.chosen) (
       read_locks v c f counted.least.0,
-      λ g is. (unread_first 0 v 0 c f counted.least).1 g (lockout_refuses 0 v 0 c f g counted.least.0 is),
+      λ g is. (unread_first none_allowed v 0 c f counted.least).1 g (lockout_refuses none_allowed v 0 c f g counted.least.0 is),
     )
 
 pub unread_locked : (v : List ℕ) (f : ReadFault) → ((b c : Choice) → Chosen v b → Chosen v c → b ≡ c) → IsUnread v f → IsVolumeRefusedBy v (unread_opened f)
