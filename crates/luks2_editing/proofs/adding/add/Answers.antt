@@ -4,6 +4,7 @@ use Rattle.luks_edit.specs.declared.edit.Edit.TheVariants.{Add}
 use Rattle.luks_making.specs.Derivations.{asked_beyond}
 use Rattle.luks_making.proofs.KdfFacts.{unrefused_positive}
 use Rattle.luks_meta.specs.Content.{area_len, content}
+use Rattle.luks_slot.specs.declared.allowed.Allowed.{Allowed}
 use Rattle.luks_slot.specs.declared.fault.SlotFault.{SlotFault}
 use Rattle.luks2_judging.proofs.DeedFacts.{edit_is}
 use Rattle.luks2_editing.specs.SealedKeyslot.{HasRefusedKeyslot}
@@ -67,10 +68,10 @@ returns-in_err-write_keyslot-clause-replies g c = λ tells payload e_ old to ask
     let p = err_from_is_err_and c.from_residual-in_err-write_keyslot.result c.from_residual-in_err-write_keyslot.ensures.1 in
     rw (p.1, p.2, is)
     (unsealed_ends v payload copy chosen well e random k (c.in_ok-made.ensures.unrefused v payload e seals total) (c.in_ok-made.ensures.edited v payload e seals total)
-    (g.D.Device.bytes c.write_keyslot.new.device) c.args.secrets.now.allowed addition.made (subst (λ m. (g : SlotFault) → HasRefusedKeyslot m k addition.made g → ⊥) same
+    (g.D.Device.bytes c.write_keyslot.new.device) c.args.secrets.now.allowed addition.made (subst (λ (m : Allowed). (g : SlotFault) → HasRefusedKeyslot m k addition.made g → ⊥) same
     (addition_fine v payload copy addition old new to key random x c.requires.free.small k c.in_ok-made.ensures.made
     (enough_random (content copy.meta) addition.by_ (length random) c.in_ok-made.ensures.counted)
-    (subst (λ m. asked_beyond m addition.derivation ≡ false) (sym same) c.requires.allowed.within)))
+    (subst (λ (m : Allowed). asked_beyond m.memory addition.derivation ≡ false) (sym same) c.requires.allowed.within)))
     (c.write_keyslot.ensures.torn tells payload e (content copy.meta) renews (addition_sealing v payload copy addition old new to key random x c.requires.free.small k c.in_ok-made.ensures.made))
     c.in_err-write_keyslot.field-0.0 (c.in_err-write_keyslot.ensures.same tells) c.in_err-write_keyslot.ensures.fault)
 

@@ -5,6 +5,7 @@ use Rattle.luks_edit.specs.declared.edit.Edit.TheVariants.{Change}
 use Rattle.luks_making.specs.Derivations.{asked_beyond}
 use Rattle.luks_making.proofs.KdfFacts.{unrefused_positive}
 use Rattle.luks_meta.specs.Content.{area_len, content}
+use Rattle.luks_slot.specs.declared.allowed.Allowed.{Allowed}
 use Rattle.luks_slot.specs.declared.fault.SlotFault.{SlotFault}
 use Rattle.luks2_judging.proofs.DeedFacts.{edit_is}
 use Rattle.luks2_editing.specs.SealedKeyslot.{HasRefusedKeyslot}
@@ -70,9 +71,9 @@ returns-in_err-write_keyslot-clause-replies g c = λ tells payload e_ old asked 
     rw (p.1, p.2, is)
     (unsealed_ends v payload copy x well e random k free edited (g.D.Device.bytes c.write_keyslot.new.device)
     c.args.secrets.now.allowed r.slot
-    (subst (λ m. (g : SlotFault) → HasRefusedKeyslot m k r.slot g → ⊥) same (renewed_unrefused v payload copy x well r.slot old new r.derivation key random r.area k opened place made.made
+    (subst (λ (m : Allowed). (g : SlotFault) → HasRefusedKeyslot m k r.slot g → ⊥) same (renewed_unrefused v payload copy x well r.slot old new r.derivation key random r.area k opened place made.made
     (enough_random (content copy.meta) r.slot (length random) made.counted)
-    (subst (λ m. asked_beyond m r.derivation ≡ false) (sym same) c.requires.allowed.within)))
+    (subst (λ (m : Allowed). asked_beyond m.memory r.derivation ≡ false) (sym same) c.requires.allowed.within)))
     (c.write_keyslot.ensures.torn tells payload e (content copy.meta) renews
     (change_sealing v payload copy x well r.slot old new r.derivation key random r.area k opened place made.made))
     c.in_err-write_keyslot.field-0.0 (c.in_err-write_keyslot.ensures.same tells) c.in_err-write_keyslot.ensures.fault)
