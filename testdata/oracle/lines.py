@@ -71,6 +71,7 @@ def words(edit, detached):
     """The command of an edit; none where a line can't say it."""
     end = " --detached" if detached else ""
     memory = f" --memory={edit.memory // 1024}" if getattr(edit, "memory", 0) else ""
+    memory += " --older" if getattr(edit, "older", False) else ""
     name = type(edit).__name__.lower()
     if name == "add":
         if edit.to is not None and edit.to > 31:
