@@ -64,7 +64,6 @@ same_digest_hash j n a b one x y =
 alike_in : (j : Data) (n : ℕ) (d : Data) (a b : SlotPlan) → ((m k : ℕ) → IsDigestOf j n m → IsDigestOf j n k → m ≡ k)
     → IsLuks2Plan j n d a → IsLuks2Plan j n d b → AreAlike a b
 alike_in j n d a b one x y =
-    let argon2 = same_argon2 d a.derivation b.derivation x.derivation y.derivation in
     let size = some_same (number_in 1 128 (member_at d outer.Area name.KeySize)) a.area_key_bytes b.area_key_bytes x.area_key_bytes y.area_key_bytes in
     let splitter = some_same (text_of (member_at d outer.Af name.Hash)) a.splitter_hash.now b.splitter_hash.now x.splitter_hash y.splitter_hash in
     let digest = same_digest_hash j n a.digest b.digest one x.digest y.digest in
