@@ -1,6 +1,6 @@
 -- How what is allowed decides whether a plan is refused: with nothing it is refused as it is without
 -- Argon2 and without older ciphers and hashes, and with more it isn't refused where it wasn't.
-use Rattle.std.proofs.Common.{◌≡◌, ◌∙◌, ◌≤◌, ℕ, List, ◌*◌, ◌-◌, ◌^◌, length, true, false, Some, None, refl, ap, arith}
+use Rattle.std.proofs.Common.{◌≡◌, ◌∙◌, ◌≤◌, ℕ, List, ◌*◌, ◌-◌, ◌^◌, length, true, false, Option, Some, None, refl, ap, arith}
 use Rattle.std.specs.Prelude.{◌||◌, ◌&&◌, nat_lt, not, Bool, is_some, if◌then◌else◌}
 use Rattle.std.proofs.lemmas.Bool.Decides.{nat_tests}
 use Rattle.luks_kdf.specs.KeyslotNames.{older_hash_named}
