@@ -1,5 +1,5 @@
 -- A new LUKS2 volume that is to be made, in the words of what is left.
-use Rattle.std.specs.Prelude.{◌≡◌, ℕ, List, Option, MatchOption}
+use Rattle.std.specs.Prelude.{ℕ, List, Option, MatchOption}
 use Rattle.std.specs.Borrow.{Bor}
 use Rattle.luks_kdf.specs.Names.{digest_size_of}
 use Rattle.luks_making.specs.WrittenArea.{IsWrittenArea}

@@ -1,4 +1,4 @@
-use Rattle.std.proofs.Common.{◌≡◌, ◌≤◌, ◌+◌, ℕ, List, length, Option, Some, MatchOption, Bor, arith, subst}
+use Rattle.std.proofs.Common.{◌≡◌, ◌≤◌, ◌+◌, ℕ, List, length, Option, MatchOption, Bor, arith, subst}
 use Rattle.std.proofs.lemmas.Result.{on_ok_weaker}
 use Rattle.luks_area.specs.Ranges.{IsAt, SameBut}
 use Rattle.luks_area.specs.RangeFacts.{same_but-same_outside}

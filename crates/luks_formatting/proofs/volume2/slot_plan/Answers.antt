@@ -6,7 +6,7 @@ use Rattle.luks_formatting.specs.RandomBytes.{digest_salt, slot_place2, slot_sal
 use Rattle.luks_formatting.specs.Volume2.{HasPlan}
 use Rattle.luks_formatting.proofs.Keyslot2Facts.{cipher_opens}
 use Rattle.luks_formatting.proofs.MetadataFacts.{length-slot_salt}
-use Rattle.luks_formatting.proofs.NewPlanFacts.{sealable_chosen, sealable_here}
+use Rattle.luks_formatting.proofs.NewPlanFacts.{sealable_chosen}
 use Rattle.luks_formatting.proofs.volume2.slot_plan.Goals as goal
 
 pub returns-clause-sealable : goal.returns-clause-sealable
