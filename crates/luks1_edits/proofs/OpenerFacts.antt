@@ -61,7 +61,7 @@ module _ (h : List ℕ) (payload : Data) (v : List ℕ) (x : IsHeaderOf h payloa
   -- a keyslot in use of a well formed volume is refused by its plan alone
   plan_alone : (older : Bool) (f : OpenFault) → IsLuks1Refusal older (part v 0 592) (length v) n f
       → (s : SlotFault) × ((f ≡ opening.Slot s) × HasRefusedPlanWithin (without_memory older) (HasLuks1Plan (part v 0 592) n) s)
-  plan_alone older older (opening.Head f) is = elim (common_or_entry (part v 0 592) n f is) [
+  plan_alone older (opening.Head f) is = elim (common_or_entry (part v 0 592) n f is) [
     | inl y ↦ absurd (clear f y.1)
     | inr y ↦ absurd (clear f (entry_fault (part v 0 592) n f y.numbered y.fault))
   ]
@@ -75,7 +75,7 @@ module _ (h : List ℕ) (payload : Data) (v : List ℕ) (x : IsHeaderOf h payloa
       let within = whole.fit.inside (area_name.Slot n) out.plan.area (out.is.numbered, out.is.is.start, out.is.is.len) in
       omega (arith, past, within)
       )
-  plan_alone older older (opening.Slot s) is = (s, (refl, is))
+  plan_alone older (opening.Slot s) is = (s, (refl, is))
   plan_alone older f is = absurd is
 
   module _ (plan : SlotPlan) (there : HasLuks1Plan h n plan) (older : Bool) where

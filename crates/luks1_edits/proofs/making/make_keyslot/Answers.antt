@@ -3,6 +3,8 @@ use Rattle.luks1_edits.proofs.KeptFacts.{header_inside}
 use Rattle.luks1_edits.proofs.MakingFacts.{area_torn, entry_torn, IsNewPlan, keyslot_made, new_plan, plan_inside, plan_key_length, plan_random_length, sealed_rest, unsealed_unmade}
 use Rattle.luks_slot.specs.Opening.{area_bytes}
 use Rattle.luks_slot.specs.Sealing.{IsSealed}
+use Rattle.luks1_edits.specs.Leftovers.{IsMadeButEntry}
+use Rattle.luks1_edits.specs.Steps.{IsKeyslotMade}
 use Rattle.luks1_edits.proofs.making.make_keyslot.Goals as goal
 
 pub seal_area_within-requires-clause-ready : goal.seal_area_within-requires-clause-ready
@@ -52,9 +54,12 @@ returns-in-Ok-write_entry-clause-made g c = λ tells x.
     c.requires.accepted.fields c.requires.numbered (subst (λ k. 1 ≤ k) (sym c.iterations_of.ensures) c.requires.iterated) c.new_slot-slot.ensures c.entry_bytes-entry.ensures c.luks1_plan-plan.ensures.is c.luks1_plan-plan.ensures.judged in
     let sealed = c.in-Ok.ensures.sealed tells in
     let same = c.stripes_in-stripes.ensures in
-    keyslot_made h c.args.n c.entry_bytes-entry.result c.iterations_of.result (take 32 c.args.random.now) c.luks1_plan-plan.result p c.args.header.now.data_ (g.D.Device.bytes c.args.device.now) x c.requires.numbered (g.D.Device.bytes c.seal_area_within.new.device) (g.D.Device.bytes c.write_entry.new.device)
+    let v = g.D.Device.bytes c.args.device.now in
+    let w = g.D.Device.bytes c.write_entry.new.device in
+    subst (λ k. IsKeyslotMade v c.args.n k c.args.sealed.now.passphrase.now c.args.key.now c.args.random.now w) c.iterations_of.ensures
+    (keyslot_made h c.args.n c.entry_bytes-entry.result c.iterations_of.result (take 32 c.args.random.now) c.luks1_plan-plan.result p c.args.header.now.data_ (g.D.Device.bytes c.args.device.now) x c.requires.numbered (g.D.Device.bytes c.seal_area_within.new.device) (g.D.Device.bytes c.write_entry.new.device)
     c.args.sealed.now.passphrase.now c.args.key.now c.args.random.now refl c.requires.key_length c.requires.random_length (sealed_rest c.luks1_plan-plan.result p.openable.sectors (c.seal_area_within.ensures.rest tells)) (subst (λ r. IsSealed c.luks1_plan-plan.result (area_bytes (g.D.Device.bytes c.seal_area_within.new.device) c.luks1_plan-plan.result.area) c.args.sealed.now.passphrase.now c.args.key.now r) same sealed)
-    (c.write_entry.ensures.rest tells) (c.in-Ok-write_entry.ensures.entry tells)
+    (c.write_entry.ensures.rest tells) (c.in-Ok-write_entry.ensures.entry tells))
 
 pub returns-in-Err-write_entry-clause-torn : goal.returns-in-Err-write_entry-clause-torn
 returns-in-Err-write_entry-clause-torn g c = λ tells x.
@@ -64,6 +69,9 @@ returns-in-Err-write_entry-clause-torn g c = λ tells x.
     c.requires.accepted.fields c.requires.numbered (subst (λ k. 1 ≤ k) (sym c.iterations_of.ensures) c.requires.iterated) c.new_slot-slot.ensures c.entry_bytes-entry.ensures c.luks1_plan-plan.ensures.is c.luks1_plan-plan.ensures.judged in
     let sealed = c.in-Ok.ensures.sealed tells in
     let same = c.stripes_in-stripes.ensures in
-    inr (entry_torn h c.args.n c.entry_bytes-entry.result c.iterations_of.result (take 32 c.args.random.now) c.luks1_plan-plan.result p c.args.header.now.data_ (g.D.Device.bytes c.args.device.now) x c.requires.numbered (g.D.Device.bytes c.seal_area_within.new.device) (g.D.Device.bytes c.write_entry.new.device)
+    let v = g.D.Device.bytes c.args.device.now in
+    let w = g.D.Device.bytes c.write_entry.new.device in
+    inr (subst (λ k. IsMadeButEntry v c.args.n k c.args.sealed.now.passphrase.now c.args.key.now c.args.random.now w) c.iterations_of.ensures
+    (entry_torn h c.args.n c.entry_bytes-entry.result c.iterations_of.result (take 32 c.args.random.now) c.luks1_plan-plan.result p c.args.header.now.data_ (g.D.Device.bytes c.args.device.now) x c.requires.numbered (g.D.Device.bytes c.seal_area_within.new.device) (g.D.Device.bytes c.write_entry.new.device)
     c.args.sealed.now.passphrase.now c.args.key.now c.args.random.now refl c.requires.key_length c.requires.random_length c.entry_bytes-entry.ensures.long (sealed_rest c.luks1_plan-plan.result p.openable.sectors (c.seal_area_within.ensures.rest tells)) (subst (λ r. IsSealed c.luks1_plan-plan.result (area_bytes (g.D.Device.bytes c.seal_area_within.new.device) c.luks1_plan-plan.result.area) c.args.sealed.now.passphrase.now c.args.key.now r) same sealed)
-    (c.write_entry.ensures.rest tells))
+    (c.write_entry.ensures.rest tells)))
