@@ -58,7 +58,7 @@ fn adding<'a>(
     iterations: u32,
     kdf: Option<AskedKdf>,
 ) -> Edit<'a>
-    ensures { result ≡ Edit.Add by_ old new.entry to iterations (chosen_of kdf) }
+    ensures { result ≡ Edit.Add by_ old.entry new.entry to iterations (chosen_of kdf) }
 {
     Edit::Add {
         by_,
@@ -77,7 +77,7 @@ fn changing<'a>(
     iterations: u32,
     kdf: Option<AskedKdf>,
 ) -> Edit<'a>
-    ensures { result ≡ Edit.Change slot old new.entry iterations (chosen_of kdf) }
+    ensures { result ≡ Edit.Change slot old.entry new.entry iterations (chosen_of kdf) }
 {
     Edit::Change {
         slot,
