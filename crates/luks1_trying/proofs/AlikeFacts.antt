@@ -153,14 +153,14 @@ low_named : (name : List ℕ) → ivs_of_text (name ++ codes "-" ++ codes "xts-p
 low_named name = xts_by (name ++ codes "-") (codes "xts-plain") refl refl refl
 
 -- the texts decide
-allowed_by : (older : Bool) (name m : Bor (List ℕ)) (text : List ℕ) → m.now ≡ text → is_allowed_cipher older (Apart name m) ≡ is_allowed_cipher older (Apart name (record m { now = text }))
+pub allowed_by : (older : Bool) (name m : Bor (List ℕ)) (text : List ℕ) → m.now ≡ text → is_allowed_cipher older (Apart name m) ≡ is_allowed_cipher older (Apart name (record m { now = text }))
 allowed_by older name m text is = ap (λ t. is_allowed_cipher older (Apart name (record m { now = t }))) is
 
 alike_by : (older : Bool) (name m : Bor (List ℕ)) → is_allowed_cipher older (Apart name (record m { now = codes "xts-plain64" })) ≡ is_allowed_cipher older (Apart name (record m { now = codes "xts-plain" }))
 alike_by false name m = refl
 alike_by true name m = refl
 
-sectors_by : (name m : Bor (List ℕ)) (text : List ℕ) → m.now ≡ text → cipher_of (Apart name m) ≡ cipher_named (name.now ++ codes "-" ++ text)
+pub sectors_by : (name m : Bor (List ℕ)) (text : List ℕ) → m.now ≡ text → cipher_of (Apart name m) ≡ cipher_named (name.now ++ codes "-" ++ text)
 sectors_by name m text is = ap (λ t. cipher_named (name.now ++ codes "-" ++ t)) is
 
 to_whole : (v : List ℕ) (whole low : Given) → TakesPlain v whole low → AreAlike v low whole

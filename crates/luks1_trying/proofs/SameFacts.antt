@@ -1,5 +1,5 @@
 -- A combination opens the same, whichever of its texts stand for it.
-use Rattle.std.proofs.Common.{◌≡◌, ◌≤◌, ℕ, zero, suc, List, length, Option, Some, None, Result, Ok, Err, IfOk, IfNone, IfSome, ◌||◌, bytes_eq, codes, option_map, unwrap_or, refl, sym, ap, subst, ◌∙◌}
+use Rattle.std.proofs.Common.{◌≡◌, ◌≤◌, ℕ, zero, suc, List, length, Option, Some, None, Result, Ok, Err, IfOk, IfNone, IfSome, option_map, unwrap_or, refl, sym, ap, subst, ◌∙◌}
 use Rattle.arrayvec.specs.declared.array_string.ArrayString.{ArrayString}
 use Rattle.luks_area.specs.declared.device.DeviceFault.{DeviceFault}
 use Rattle.luks1_header.specs.Header1.{header_text, key_bytes_of}
@@ -18,7 +18,7 @@ use Rattle.luks1_trying.specs.Combinations.{IsCombination, IsLengthAt, IsTextAt}
 use Rattle.luks1_trying.specs.Openings.{IsFirstSlot, IsOpeningAt, OpensBy, OpensNone, OpensNoneAt}
 use Rattle.luks1_trying.specs.Tried.{IsOpeningBy}
 use Rattle.luks1_trying.specs.declared.opening.Opening.{Opening}
-use Rattle.luks1_trying.proofs.AlikeFacts.{gives_there, refused_there, AreAlike}
+use Rattle.luks1_trying.proofs.AlikeFacts.{allowed_by, gives_there, refused_there, sectors_by, AreAlike}
 
 -- the two give the same texts and length
 record AreSame (c d : Given) : Type 0 where
@@ -42,7 +42,8 @@ module _ (v : List ℕ) (c d : Given) (x : AreSame c d) where
     cipher_name = taken CipherName;
     hash = taken HashSpec;
     key_bytes = key;
-    alike = λ text is. ap (λ t. bytes_eq t (codes "xts-plain64") || bytes_eq t (codes "xts-plain")) (is ∙ taken CipherMode);
+    alike = λ older name m is. allowed_by older name m (taken_text (header_of v) d CipherMode) (is ∙ taken CipherMode);
+    sectors = λ name m is. sectors_by name m (taken_text (header_of v) d CipherMode) (is ∙ taken CipherMode);
   }
 
   fault_there : (f : HeadFault) → IsFieldFault (header_of v) c f → IsFieldFault (header_of v) d f
@@ -70,7 +71,7 @@ opens_same v c d x p n y =
         enabled = y.in_use.enabled;
       };
       key = y.key;
-      gives = gives_there (alike v c d x) n (refused_there (alike v d c back) n) p (opens y.key) y.gives;
+      gives = λ older. gives_there (alike v c d x) n older (refused_there (alike v d c back) n older) p (opens y.key) (y.gives older);
     }
 
 -- ---- a combination has one of each
