@@ -1,13 +1,12 @@
--- An edit that was judged by the header that was read: how it ends where it is refused, and what is
+-- An edit that was judged by the copy that was read: how it ends where it is refused, and what is
 -- known of it where it isn't.
 use Rattle.std.proofs.Common.{◌≡◌, ℕ, List, Result, inl, subst, sym}
 use Rattle.luks_head.specs.Header2.{hdr_size, header_at}
 use Rattle.luks_meta.specs.Content.{content}
-use Rattle.luks_reading.specs.declared.header.Header.{Header}
-use Rattle.luks_reading.specs.declared.header.Header.TheVariants.{Luks2}
+use Rattle.luks_reading.specs.declared.header.ChosenCopy.{ChosenCopy}
 use Rattle.luks_reading.specs.declared.report.Data.{Data}
 use Rattle.luks_reading.specs.Checked.{WellFormed}
-use Rattle.luks_reading.specs.Header.{IsChosenCopy, IsHeader}
+use Rattle.luks_reading.specs.Header.{IsChosenCopy}
 use Rattle.luks_edit.specs.declared.edit.Done.{Done}
 use Rattle.luks_edit.specs.declared.edit.Edit.{Edit}
 use Rattle.luks_edit.specs.declared.edit_fault.EditFault.{EditFault}
@@ -34,13 +33,13 @@ pub record IsJudgedEdit (v : List ℕ) (payload : Data) (it : Edit) (judged : Ju
   pub seals : Seals (hdr_size (header_at v judged.copy.header.hdr_offset)) v payload (content judged.copy.meta) it judged.edit
 
 module _ {u v : List ℕ} {e it : Edit} (same : v ≡ u) (asked : e ≡ it) where
-  pub judged_edit : {payload : Data} {header : Header} {judged : Judged} → header ≡ Luks2 judged.copy → IsHeader u header
+  pub judged_edit : {payload : Data} {copy : ChosenCopy} {judged : Judged} → judged.copy ≡ copy → IsChosenCopy u copy
       → IsUnrefusedSoFar u payload e judged → IsJudgedEdit v payload it judged
-  judged_edit {payload} {header} {judged} copy is x =
+  judged_edit {payload} {copy} {judged} kept is x =
       let there : IsUnrefusedSoFar v payload it judged =
       subst (λ y. IsUnrefusedSoFar v payload y judged) asked (subst (λ b. IsUnrefusedSoFar b payload e judged) (sym same) x) in
       record {
-        chosen = subst (λ h. IsHeader v h) copy (subst (λ b. IsHeader b header) (sym same) is);
+        chosen = subst (λ c. IsChosenCopy v c) (sym kept) (subst (λ b. IsChosenCopy b copy) (sym same) is);
         well = there.well;
         none = there.none;
         seals = there.seals;

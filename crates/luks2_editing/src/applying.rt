@@ -2,8 +2,7 @@
 ghost use Rattle.std.specs.Prelude.{◌≡◌, ◌+◌, ◌^◌, ◌<◌};
 ghost use Rattle.luks_area.specs.Device.{CountsFailure, IsSettled};
 ghost use Rattle.luks_edit.specs.EditFaults.{is_edit_failure};
-ghost use Rattle.luks_reading.specs.Header.{IsAcceptedHeader, IsHeader};
-ghost use Rattle.luks2_judging.specs.Header.{IsOfLuks2};
+ghost use Rattle.luks_reading.specs.Header.{IsAcceptedCopy, IsChosenCopy};
 ghost use Rattle.luks2_editing.specs.Replies.{Replies2};
 
 use crate::adding::add;
@@ -14,16 +13,16 @@ use crate::repairing::repair;
 use crate::secrets::Secrets;
 use luks_area::Device;
 use luks_edit::{Done, Edit, EditFault};
-use luks_reading::{Data, Header};
+use luks_reading::{ChosenCopy, Data};
 use luks2_judging::{JudgedEdit, judge_luks2};
 use std::alloc::Global;
 
-/// Applies the edit to the LUKS2 volume with this header, with as many random bytes as
+/// Applies the edit to the LUKS2 volume with this copy, with as many random bytes as
 /// `needed_luks2` tells: the salts of both copies of the header, 64 bytes each, and for a keyslot
 /// that is sealed its salt, 32 bytes, and its stripes but the last.
 ///
 /// The first refusal is answered, or `Memory`, and then no byte changes: all memory is taken before
-/// the first write, that of Argon2 too. The header is given up, so that the old metadata doesn't live beside the new. What
+/// the first write, that of Argon2 too. The copy is given up, so that the old metadata doesn't live beside the new. What
 /// is written is written in this order, each range with a flush: the area of the keyslot that is made
 /// or sealed again, the copy of the header that didn't count, the one that did, and zeros over the
 /// area that a keyslot lost. `Device` comes exactly where a device call failed; what that leaves, the
@@ -33,25 +32,24 @@ use std::alloc::Global;
 pub fn apply_luks2<D: Device>(
     alloc: Global,
     device: &mut D,
-    header: Header,
+    copy: ChosenCopy,
     data_: Data,
     edit: &Edit<'_>,
     random: &[u8],
 ) -> Result<Done, EditFault>
     requires room { D.failed device.old + 1 < 2 ^ 64 }
     requires settled { D.tells → IsSettled D.unsettled device.old }
-    requires accepted { IsAcceptedHeader header }
-    requires luks2 { IsOfLuks2 header }
+    requires accepted { IsAcceptedCopy copy }
     ensures size { D.size device.new ≡ D.size device.old }
     ensures settled { D.tells → D.failed device.new ≡ D.failed device.old
         → IsSettled D.unsettled device.new }
     ensures count { CountsFailure is_edit_failure result
         (D.failed device.old) (D.failed device.new) }
-    ensures replies { D.tells → IsHeader (D.bytes device.old) header
+    ensures replies { D.tells → IsChosenCopy (D.bytes device.old) copy
         → Replies2 data_ (D.bytes device.old) edit.now random.now result (D.bytes device.new) }
 {
     let allowed = edit.allowed();
-    let judged = judge_luks2(alloc, device, header, data_, edit)?;
+    let judged = judge_luks2(alloc, device, copy, data_, edit)?;
     let copy = judged.copy;
     match judged.edit {
         JudgedEdit::Add {

@@ -1,5 +1,5 @@
--- What the header that was read says of the volume.
-use Rattle.std.proofs.Common.{◌≡◌, ℕ, List, ap, refl, subst}
+-- What the copy that was read says of the volume.
+use Rattle.std.proofs.Common.{◌≡◌, ℕ, List, ap, subst}
 use Rattle.serde_json.specs.Data.{Data as Value}
 use Rattle.luks_head.specs.Selection.{Choice, luks1, luks2, nothing}
 use Rattle.luks_head.proofs.ChoiceFacts.{choices_agree}
@@ -7,20 +7,14 @@ use Rattle.luks_rules.specs.MetaFault.{Json}
 use Rattle.luks_rules.proofs.AreaFaults.{one_value}
 use Rattle.luks_meta.specs.Content.{content}
 use Rattle.luks_reading.specs.declared.header.ChosenCopy.{ChosenCopy}
-use Rattle.luks_reading.specs.declared.header.Header.{Header}
-use Rattle.luks_reading.specs.declared.header.Header.TheVariants.{Luks1, Luks2}
-use Rattle.luks_reading.specs.Header.{json_at, IsChosenCopy, IsHeader}
+use Rattle.luks_reading.specs.Header.{json_at, IsChosenCopy}
 use Rattle.luks2_edit_laws.specs.Metadata.{HasMetadata}
 use Rattle.luks2_edit_laws.specs.Refused.{HasSaid}
-use Rattle.luks2_judging.specs.Header.{IsOfLuks2}
 
 abbrev place_of : Choice → ℕ
 place_of luks1 = 0
 place_of (luks2 o copies) = o
 place_of nothing = 0
-
-pub copy_in : (v : List ℕ) (h : Header) (c : ChosenCopy) → h ≡ Luks2 c → IsHeader v h → IsChosenCopy v c
-copy_in v h c same x = subst (λ k. IsHeader v k) same x
 
 pub metadata_of : (v : List ℕ) (c : ChosenCopy) → IsChosenCopy v c → HasMetadata v c.header.hdr_offset (content c.meta)
 metadata_of v c x = record { copies = c.copies; chosen = x.chosen; holds = x.metadata.json }
@@ -35,8 +29,3 @@ module _ (v : List ℕ) (o : ℕ) (j : Value) (m : HasMetadata v o j) where
 
   pub say : (says : ℕ → Value → Type 0) → says o j → HasSaid v says
   say says x = record { place = o; value = j; metadata = m; is = x }
-
--- a header of LUKS2 is that of a copy
-pub copy_of_header : (h : Header) → IsOfLuks2 h → (c : ChosenCopy) × (h ≡ Luks2 c)
-copy_of_header (Luks1 bytes) x = absurd x
-copy_of_header (Luks2 c) x = (c, refl)

@@ -23,7 +23,7 @@ use Rattle.luks_edit.specs.RowFacts.{after_check, after_plan, first_of_check, fi
 use Rattle.luks2_edit_laws.specs.Metadata.{HasMetadata}
 use Rattle.luks2_edit_laws.specs.Places.{HasNoNewArea}
 use Rattle.luks2_edit_laws.specs.Refused.{HasNoFree, HasNoRoom, IsAbsent, IsBadLabel, IsEditFault2, IsLast, IsOnlyOne, IsTaken, Refusal2}
-use Rattle.luks2_judging.specs.Header.{IsUnaccepted}
+use Rattle.luks2_judging.specs.Accepted.{IsUnaccepted}
 use Rattle.luks2_judging.specs.Judged.{IsNewNumber, IsNumberFault}
 use Rattle.luks2_judging.specs.Judging.{IsRefusedEarly}
 use Rattle.luks2_judging.specs.Opened.{IsFirstShut, IsUnlocked, IsUnopened}

@@ -6,11 +6,9 @@ use Rattle.luks_meta.specs.Content.{content}
 use Rattle.luks_meta.specs.Requirements.{has_requirements}
 use Rattle.luks_reading.specs.declared.check_fault.CheckFault.{CheckFault}
 use Rattle.luks_reading.specs.declared.header.ChosenCopy.{ChosenCopy}
-use Rattle.luks_reading.specs.declared.header.Header.{Header}
-use Rattle.luks_reading.specs.declared.header.Header.TheVariants.{Luks2}
 use Rattle.luks_reading.specs.declared.report.Data.{Data}
 use Rattle.luks_reading.specs.Checked.{IsFault, WellFormed}
-use Rattle.luks_reading.specs.Header.{IsHeader}
+use Rattle.luks_reading.specs.Header.{IsChosenCopy}
 use Rattle.luks_reading.proofs.VolumeLaws.{well_formed_faultless}
 use Rattle.luks_making.specs.declared.derivation.AskedDerivation.{AskedDerivation}
 use Rattle.luks_edit.specs.declared.edit.Edit.{Edit}
@@ -23,10 +21,10 @@ use Rattle.luks_edit.specs.EditFaults.{edit_key}
 use Rattle.luks_edit.specs.RowFacts.{after_check, after_plan, first_of_check, first_of_row, next, none_at_all, Passed}
 use Rattle.luks2_edit_laws.specs.Metadata.{HasMetadata}
 use Rattle.luks2_edit_laws.specs.Refused.{HasNoFree, IsAbsent, IsTaken, Need2}
-use Rattle.luks2_judging.specs.Header.{IsUnaccepted}
+use Rattle.luks2_judging.specs.Accepted.{IsUnaccepted}
 use Rattle.luks2_judging.specs.Judged.{IsNumberFault}
 use Rattle.luks2_judging.specs.Needed.{IsNeedFault2, NeedsRandom}
-use Rattle.luks2_judging.proofs.ChosenFacts.{copy_in, metadata_of, said, say}
+use Rattle.luks2_judging.proofs.ChosenFacts.{metadata_of, said, say}
 use Rattle.luks2_judging.proofs.NumberFacts.{unnumbered_untaken}
 
 -- the volume isn't accepted
@@ -104,16 +102,16 @@ need_unnumbered v payload o j m by_ old new to asked accepted unrequired there f
     need_unfree v payload o j m (Add by_ old new to asked.iterations asked.chosen) accepted unrequired there (λ x. x) (unnumbered_untaken j to bad) bad
 need_unnumbered v payload o j m by_ old new to asked accepted unrequired there f bad = absurd bad
 
--- ---- by the header that was read
+-- ---- by the copy that was read
 
 -- a volume that was accepted, with the copy that counts
 pub record IsAcceptedCopy (v : List ℕ) (payload : Data) (copy : ChosenCopy) : Type 0 where
   pub metadata : HasMetadata v copy.header.hdr_offset (content copy.meta)
   pub accepted : (f : CheckFault) → IsFault v payload f → ⊥
 
-pub accepted_copy : {v : List ℕ} {payload : Data} {header : Header} {copy : ChosenCopy} → header ≡ Luks2 copy → IsHeader v header → WellFormed v payload
+pub accepted_copy : {v : List ℕ} {payload : Data} {copy : ChosenCopy} → IsChosenCopy v copy → WellFormed v payload
     → IsAcceptedCopy v payload copy
-accepted_copy {v} {payload} {header} {copy} read is well = record { metadata = metadata_of v copy (copy_in v header copy read is); accepted = well_formed_faultless v payload well }
+accepted_copy {v} {payload} {copy} is well = record { metadata = metadata_of v copy is; accepted = well_formed_faultless v payload well }
 
 -- how many random bytes the edit takes that was read as `it`
 pub need_as : {v : List ℕ} {payload : Data} {copy : ChosenCopy} {e it : Edit} → e ≡ it → IsAcceptedCopy v payload copy

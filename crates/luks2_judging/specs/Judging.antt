@@ -11,8 +11,6 @@ use Rattle.luks_head.specs.Header2.{hdr_size, header_at}
 use Rattle.luks_meta.specs.Content.{area_len, content}
 use Rattle.luks_making.specs.declared.derivation.AskedDerivation.{AskedDerivation}
 use Rattle.luks_reading.specs.declared.header.ChosenCopy.{ChosenCopy}
-use Rattle.luks_reading.specs.declared.header.Header.{Header}
-use Rattle.luks_reading.specs.declared.header.Header.TheVariants.{Luks2}
 use Rattle.luks_reading.specs.declared.report.Data.{Data}
 use Rattle.luks_reading.specs.Checked.{AreaOf, WellFormed}
 use Rattle.luks_reading.specs.Header.{IsChosenCopy}
@@ -103,19 +101,14 @@ Takes len j total e (judged.Remove slot area) = IsRemoval j total e slot area
 Takes len j total e judged.Repair = deed_of e ≡ deed.Rewrite None
 Takes len j total e (judged.Label field_) = IsLabelling e field_
 
--- by the header that was read
-pub record IsJudged (header : Header) (total : ℕ) (e : Edit) (it : Judged) : Type 0 where
-  pub copy : header ≡ Luks2 it.copy
+-- by the copy that was read
+pub record IsJudged (copy : ChosenCopy) (total : ℕ) (e : Edit) (it : Judged) : Type 0 where
+  pub is : it.copy ≡ copy
   pub takes : Takes (area_len it.copy.meta) (content it.copy.meta) total e it.edit
 
--- the same of any copy that the header is
-abbrev pub IsTakenOf : Header → ℕ → Edit → JudgedEdit → Type 0
-IsTakenOf header total e it = (copy : ChosenCopy) → header ≡ Luks2 copy → Takes (area_len copy.meta) (content copy.meta) total e it
-
--- the header is of this copy, whose areas and key areas lie inside `total` bytes, and which has the
--- keyslots that the edit opens and removes
-pub record IsAcceptedFor (header : Header) (copy : ChosenCopy) (areas : List Entry) (total : ℕ) (e : Edit) : Type 0 where
-  pub is : header ≡ Luks2 copy
+-- the areas and the key areas of the copy lie inside `total` bytes, and it has the keyslots that the edit
+-- opens and removes
+pub record IsAcceptedFor (copy : ChosenCopy) (areas : List Entry) (total : ℕ) (e : Edit) : Type 0 where
   pub there : IsAbsent (content copy.meta) e → ⊥
   pub inside : (m : AreaName) (a : Area) → HasArea areas m a → IsInside a total
   pub key_areas : (n : ℕ) (a : Area) → IsKeyArea (content copy.meta) n a → IsInside a total
@@ -135,10 +128,10 @@ pub record IsUnrefusedSoFar (v : List ℕ) (payload : Data) (e : Edit) (it : Jud
   pub seals : Seals (hdr_size (header_at v it.copy.header.hdr_offset)) v payload (content it.copy.meta) e it.edit
   pub none : (random : List ℕ) → HasNoFaultBefore 13 v payload e random
 
--- the same of any copy that the header is
-pub record IsUnrefusedOf (header : Header) (v : List ℕ) (payload : Data) (e : Edit) (it : JudgedEdit) : Type 0 where
+-- the same, by the copy that counts
+pub record IsUnrefusedOf (copy : ChosenCopy) (v : List ℕ) (payload : Data) (e : Edit) (it : JudgedEdit) : Type 0 where
   pub well : WellFormed v payload
-  pub seals : (copy : ChosenCopy) → header ≡ Luks2 copy → Seals (hdr_size (header_at v copy.header.hdr_offset)) v payload (content copy.meta) e it
+  pub seals : Seals (hdr_size (header_at v copy.header.hdr_offset)) v payload (content copy.meta) e it
   pub none : (random : List ℕ) → HasNoFaultBefore 13 v payload e random
 
 -- one of them does, whatever the random bytes are; or memory was refused that opening its keyslot

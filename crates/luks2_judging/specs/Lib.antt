@@ -1,4 +1,4 @@
-pub mod Header
+pub mod Accepted
 pub mod Judged
 pub mod Judging
 pub mod Needed

@@ -7,26 +7,24 @@ ghost use Rattle.luks_area.specs.Device.{CountsFailure, IsUnchanged};
 ghost use Rattle.luks_area.specs.Names.{HasArea};
 ghost use Rattle.luks_head.specs.Header2.{hdr_size, header_at};
 ghost use Rattle.luks_meta.specs.Content.{area_len, content};
-ghost use Rattle.luks_reading.specs.declared.header.Header.TheVariants.{Luks2 as OfLuks2};
 ghost use Rattle.luks_reading.specs.declared.report.Data.{Data as Payload};
 ghost use Rattle.luks_reading.specs.Checked.{WellFormed};
 ghost use Rattle.luks_reading.specs.Layout2.{Luks2Area};
 ghost use Rattle.luks_reading.specs.Listing.{Lists};
 ghost use Rattle.luks2_edit_laws.specs.Metadata.{IsInUse, IsKeyArea};
 ghost use Rattle.luks2_edit_laws.specs.Places.{IsNewArea};
-ghost use Rattle.luks_reading.specs.Header.{IsAcceptedHeader, IsHeader};
+ghost use Rattle.luks_reading.specs.Header.{IsAcceptedCopy, IsChosenCopy};
 ghost use Rattle.luks_edit.specs.Asked.{allowed_by, deed_of};
 ghost use Rattle.luks_edit.specs.declared.deed.Deed.TheVariants.{Remove as RemovesKeyslot, Seal as SealsKey};
 ghost use Rattle.luks_edit.specs.EditFaults.{is_edit_failure};
-ghost use Rattle.luks2_edit_laws.specs.Refused.{IsAbsent, Refusal2};
-ghost use Rattle.luks2_judging.specs.Header.{IsOfLuks2};
+ghost use Rattle.luks2_edit_laws.specs.Refused.{Refusal2};
 ghost use Rattle.luks2_judging.specs.Judged.{IsNewNumber};
-ghost use Rattle.luks2_judging.specs.Judging.{IsAcceptedFor, IsJudged, IsJudgedTo, IsRefusedEarly, IsTakenOf, IsUnrefusedOf, IsUnrefusedSoFar, Seals, Takes};
+ghost use Rattle.luks2_judging.specs.Judging.{IsAcceptedFor, IsJudged, IsJudgedTo, IsRefusedEarly, IsUnrefusedOf, IsUnrefusedSoFar, Seals, Takes};
 ghost use Rattle.luks2_judging.specs.Room.{IsAllowed, IsPlaced, IsUnsealable};
 ghost use Rattle.luks2_judging.specs.Rows.{HasNoFaultBefore};
 ghost use Rattle.luks2_judging.specs.Sealing.{IsUnadded};
 
-use crate::accepted::{accepted_areas, copy_of, into_copy};
+use crate::accepted::accepted_areas;
 use crate::judged::{Addition, Judged, JudgedEdit, Renewal};
 use crate::keyslots::{judge_opener, judge_requirements, judge_wanted, key_area, new_number};
 use crate::labels::judge_label;
@@ -35,7 +33,7 @@ use crate::rows::judge_removal;
 use crate::unlocking::unlock;
 use luks_area::{Areas, Device};
 use luks_edit::{AskedDerivation, Deed, Edit, EditFault, Place, Removed, Sealed, opener_of};
-use luks_reading::{ChosenCopy, Data, Header};
+use luks_reading::{ChosenCopy, Data};
 use std::alloc::Global;
 
 /// An accepted volume without requirements that has the keyslots that the edit opens and removes.
@@ -62,92 +60,87 @@ impl Accepted<'_> {
     }
 }
 
-/// Judges the edit of the LUKS2 volume with this header by the rows `NotAccepted` to `BadLabel` of
+/// Judges the edit of the LUKS2 volume with this copy by the rows `NotAccepted` to `BadLabel` of
 /// the table of its faults, in their order: what the edit takes, or the first fault.
 ///
 /// The rows `SeqExhausted`, `MetadataFull` and `RandomLength` are left to the edit itself. A
 /// keyslot is opened at most, and no byte is written. Memory is taken for Argon2 alone, where the edit
 /// allows it: `Memory` comes only of a keyslot that derives by it. `Device` comes exactly where a device
-/// call failed. The header is given up for the copy of it that counts.
+/// call failed. The copy is given up, and given back where the edit
+/// is taken.
 pub fn judge_luks2<'a, D: Device>(
     alloc: Global,
     device: &mut D,
-    header: Header,
+    copy: ChosenCopy,
     data_: Data,
     edit: &Edit<'a>,
 ) -> Result<Judged<'a>, EditFault>
     requires room { D.failed device.old + 1 < 2 ^ 64 }
-    requires accepted { IsAcceptedHeader header }
-    requires luks2 { IsOfLuks2 header }
+    requires accepted { IsAcceptedCopy copy }
     ensures unchanged { IsUnchanged D.tells D.size D.bytes D.unsettled device.old device.new }
     ensures count { CountsFailure is_edit_failure result
         (D.failed device.old) (D.failed device.new) }
     ensures no_memory { (allowed_by edit.now).memory ≡ 0 → IfErr result (λ f. f ≢ EditFault.Memory) }
-    ensures judged { IfOk result (IsJudged header (D.size device.old) edit.now) }
-    ensures unrefused { D.tells → IsHeader (D.bytes device.old) header
+    ensures judged { IfOk result (IsJudged copy (D.size device.old) edit.now) }
+    ensures unrefused { D.tells → IsChosenCopy (D.bytes device.old) copy
         → IfOk result (IsUnrefusedSoFar (D.bytes device.old) data_ edit.now) }
-    ensures refused { D.tells → IsHeader (D.bytes device.old) header
+    ensures refused { D.tells → IsChosenCopy (D.bytes device.old) copy
         → IfErr result (IsRefusedEarly (D.bytes device.old) data_ edit.now) }
 {
-    let taken = taken_by(alloc, device, &header, data_, edit)?;
-    Ok(Judged {
-        copy: into_copy(header),
-        edit: taken,
-    })
+    let taken = taken_by(alloc, device, &copy, data_, edit)?;
+    Ok(Judged { copy, edit: taken })
 }
 
-/// What the edit takes of the volume with this header, or the first fault.
+/// What the edit takes of the volume with this copy, or the first fault.
 fn taken_by<'a, D: Device>(
     alloc: Global,
     device: &mut D,
-    header: &Header,
+    copy: &ChosenCopy,
     data_: Data,
     edit: &Edit<'a>,
 ) -> Result<JudgedEdit<'a>, EditFault>
     requires room { D.failed device.old + 1 < 2 ^ 64 }
-    requires accepted { IsAcceptedHeader header.now }
-    requires luks2 { IsOfLuks2 header.now }
+    requires accepted { IsAcceptedCopy copy.now }
     ensures unchanged { IsUnchanged D.tells D.size D.bytes D.unsettled device.old device.new }
     ensures count { CountsFailure is_edit_failure result
         (D.failed device.old) (D.failed device.new) }
     ensures no_memory { (allowed_by edit.now).memory ≡ 0 → IfErr result (λ f. f ≢ EditFault.Memory) }
-    ensures judged { IfOk result (IsTakenOf header.now (D.size device.old) edit.now) }
-    ensures unrefused { D.tells → IsHeader (D.bytes device.old) header.now
-        → IfOk result (IsUnrefusedOf header.now (D.bytes device.old) data_ edit.now) }
-    ensures refused { D.tells → IsHeader (D.bytes device.old) header.now
+    ensures takes { IfOk result
+        (Takes (area_len copy.now.meta) (content copy.now.meta) (D.size device.old) edit.now) }
+    ensures unrefused { D.tells → IsChosenCopy (D.bytes device.old) copy.now
+        → IfOk result (IsUnrefusedOf copy.now (D.bytes device.old) data_ edit.now) }
+    ensures refused { D.tells → IsChosenCopy (D.bytes device.old) copy.now
         → IfErr result (IsRefusedEarly (D.bytes device.old) data_ edit.now) }
 {
-    let accepted = judge_without_key(header, data_, device.len(), edit)?;
-    judge_with_key(alloc, device, header, &accepted, edit)
+    let total = device.len();
+    let areas = judge_without_key(copy, data_, total, edit)?;
+    let accepted = Accepted { copy, areas, total };
+    judge_with_key(alloc, device, &accepted, edit)
 }
 
-/// The rows before the opening of a keyslot: `NotAccepted`, `Requirements`, `NoSuchSlot`, `SameSlot`.
-fn judge_without_key<'a>(
-    header: &'a Header,
+/// The rows before the opening of a keyslot, `NotAccepted`, `Requirements`, `NoSuchSlot` and `SameSlot`,
+/// or the volume's areas.
+fn judge_without_key(
+    copy: &ChosenCopy,
     data_: Data,
     total: u64,
     edit: &Edit<'_>,
-) -> Result<Accepted<'a>, EditFault>
-    requires accepted { IsAcceptedHeader header.now }
-    requires luks2 { IsOfLuks2 header.now }
+) -> Result<Areas, EditFault>
     ensures own { IfErr result (λ f. is_edit_failure f ≡ false) }
     ensures memory { IfErr result (λ f. f ≢ EditFault.Memory) }
-    ensures total { IfOk result (λ a. a.total ≡ total) }
-    ensures accepted { IfOk result
-        (λ a. IsAcceptedFor header.now a.copy.now a.areas a.total edit.now) }
-    ensures well { (v : List ℕ) → IsHeader v header.now → length v ≡ total
+    ensures accepted { IfOk result (λ areas. IsAcceptedFor copy.now areas total edit.now) }
+    ensures well { (v : List ℕ) → IsChosenCopy v copy.now → length v ≡ total
         → OnOk result (WellFormed v data_) }
-    ensures passed { (v random : List ℕ) → IsHeader v header.now → length v ≡ total
-        → IfOk result (λ a. IsJudgedTo 4 a.copy.now a.areas v data_ edit.now random) }
-    ensures refused { (v random : List ℕ) → IsHeader v header.now → length v ≡ total
+    ensures passed { (v random : List ℕ) → IsChosenCopy v copy.now → length v ≡ total
+        → IfOk result (λ areas. IsJudgedTo 4 copy.now areas v data_ edit.now random) }
+    ensures refused { (v random : List ℕ) → IsChosenCopy v copy.now → length v ≡ total
         → IfErr result (Refusal2 v data_ edit.now random) }
 {
-    let areas = accepted_areas(header, data_, total)?;
-    let copy = copy_of(header);
+    let areas = accepted_areas(copy, data_, total)?;
     judge_requirements(&copy.meta)?;
     judge_wanted(&copy.meta, edit)?;
     judge_opener(edit)?;
-    Ok(Accepted { copy, areas, total })
+    Ok(areas)
 }
 
 /// The rows from the opening of a keyslot on: `Locked`, `Slot`, `SlotTaken`, `NoFreeSlot`, `NoRoom`,
@@ -155,41 +148,42 @@ fn judge_without_key<'a>(
 fn judge_with_key<'a, D: Device>(
     alloc: Global,
     device: &mut D,
-    header: &Header,
     accepted: &Accepted<'_>,
     edit: &Edit<'a>,
 ) -> Result<JudgedEdit<'a>, EditFault>
     requires room { D.failed device.old + 1 < 2 ^ 64 }
-    requires accepted { IsAcceptedHeader header.now }
+    requires accepted { IsAcceptedCopy accepted.now.copy.now }
     requires total { accepted.now.total ≡ D.size device.old }
-    requires own { IsAcceptedFor header.now accepted.now.copy.now accepted.now.areas
-        accepted.now.total edit.now }
+    requires own { IsAcceptedFor accepted.now.copy.now accepted.now.areas accepted.now.total edit.now }
     ensures unchanged { IsUnchanged D.tells D.size D.bytes D.unsettled device.old device.new }
     ensures count { CountsFailure is_edit_failure result
         (D.failed device.old) (D.failed device.new) }
     ensures no_memory { (allowed_by edit.now).memory ≡ 0 → IfErr result (λ f. f ≢ EditFault.Memory) }
     ensures takes { let meta = accepted.now.copy.now.meta in
         IfOk result (Takes (area_len meta) (content meta) (D.size device.old) edit.now) }
-    ensures seals { D.tells → IsHeader (D.bytes device.old) header.now → (payload : Payload)
+    ensures seals { D.tells → IsChosenCopy (D.bytes device.old) accepted.now.copy.now
+        → (payload : Payload)
         → ((random : List ℕ) → IsJudgedTo 4 accepted.now.copy.now accepted.now.areas
         (D.bytes device.old) payload edit.now random)
         → let copy = accepted.now.copy.now in
         IfOk result (Seals (hdr_size (header_at (D.bytes device.old) copy.header.hdr_offset))
         (D.bytes device.old) payload (content copy.meta) edit.now) }
-    ensures passed { D.tells → IsHeader (D.bytes device.old) header.now → (payload : Payload)
+    ensures passed { D.tells → IsChosenCopy (D.bytes device.old) accepted.now.copy.now
+        → (payload : Payload)
         → ((random : List ℕ) → IsJudgedTo 4 accepted.now.copy.now accepted.now.areas
         (D.bytes device.old) payload edit.now random)
         → OnOk result
         ((random : List ℕ) → HasNoFaultBefore 13 (D.bytes device.old) payload edit.now random) }
-    ensures refused { D.tells → IsHeader (D.bytes device.old) header.now → (payload : Payload)
+    ensures refused { D.tells → IsChosenCopy (D.bytes device.old) accepted.now.copy.now
+        → (payload : Payload)
         → WellFormed (D.bytes device.old) payload
         → ((random : List ℕ) → IsJudgedTo 4 accepted.now.copy.now accepted.now.areas
         (D.bytes device.old) payload edit.now random)
         → IfErr result (IsRefusedEarly (D.bytes device.old) payload edit.now) }
 {
     match edit.deed() {
-        Deed::Seal(sealed) => judge_sealing_of(alloc, device, header, accepted, edit, &sealed),
-        Deed::Remove(removed) => judge_removal_of(alloc, device, header, accepted, edit, &removed),
+        Deed::Seal(sealed) => judge_sealing_of(alloc, device, accepted, edit, &sealed),
+        Deed::Remove(removed) => judge_removal_of(alloc, device, accepted, edit, &removed),
         Deed::Rewrite { label } => match label {
             None => Ok(JudgedEdit::Repair),
             Some(text) => judge_label(text),
@@ -202,16 +196,14 @@ fn judge_with_key<'a, D: Device>(
 fn judge_sealing_of<'a, D: Device>(
     alloc: Global,
     device: &mut D,
-    header: &Header,
     accepted: &Accepted<'_>,
     edit: &Edit<'a>,
     sealed: &Sealed<'a>,
 ) -> Result<JudgedEdit<'a>, EditFault>
     requires room { D.failed device.old + 1 < 2 ^ 64 }
-    requires accepted { IsAcceptedHeader header.now }
+    requires accepted { IsAcceptedCopy accepted.now.copy.now }
     requires total { accepted.now.total ≡ D.size device.old }
-    requires own { IsAcceptedFor header.now accepted.now.copy.now accepted.now.areas
-        accepted.now.total edit.now }
+    requires own { IsAcceptedFor accepted.now.copy.now accepted.now.areas accepted.now.total edit.now }
     requires asked { deed_of edit.now ≡ SealsKey sealed.now }
     ensures unchanged { IsUnchanged D.tells D.size D.bytes D.unsettled device.old device.new }
     ensures count { CountsFailure is_edit_failure result
@@ -219,18 +211,21 @@ fn judge_sealing_of<'a, D: Device>(
     ensures no_memory { (allowed_by edit.now).memory ≡ 0 → IfErr result (λ f. f ≢ EditFault.Memory) }
     ensures takes { let meta = accepted.now.copy.now.meta in
         IfOk result (Takes (area_len meta) (content meta) (D.size device.old) edit.now) }
-    ensures seals { D.tells → IsHeader (D.bytes device.old) header.now → (payload : Payload)
+    ensures seals { D.tells → IsChosenCopy (D.bytes device.old) accepted.now.copy.now
+        → (payload : Payload)
         → ((random : List ℕ) → IsJudgedTo 4 accepted.now.copy.now accepted.now.areas
         (D.bytes device.old) payload edit.now random)
         → let copy = accepted.now.copy.now in
         IfOk result (Seals (hdr_size (header_at (D.bytes device.old) copy.header.hdr_offset))
         (D.bytes device.old) payload (content copy.meta) edit.now) }
-    ensures passed { D.tells → IsHeader (D.bytes device.old) header.now → (payload : Payload)
+    ensures passed { D.tells → IsChosenCopy (D.bytes device.old) accepted.now.copy.now
+        → (payload : Payload)
         → ((random : List ℕ) → IsJudgedTo 4 accepted.now.copy.now accepted.now.areas
         (D.bytes device.old) payload edit.now random)
         → OnOk result
         ((random : List ℕ) → HasNoFaultBefore 13 (D.bytes device.old) payload edit.now random) }
-    ensures refused { D.tells → IsHeader (D.bytes device.old) header.now → (payload : Payload)
+    ensures refused { D.tells → IsChosenCopy (D.bytes device.old) accepted.now.copy.now
+        → (payload : Payload)
         → WellFormed (D.bytes device.old) payload
         → ((random : List ℕ) → IsJudgedTo 4 accepted.now.copy.now accepted.now.areas
         (D.bytes device.old) payload edit.now random)
@@ -243,7 +238,7 @@ fn judge_sealing_of<'a, D: Device>(
     let key = unlock(
         alloc,
         device,
-        header,
+        accepted.copy,
         opener.slot,
         opener.passphrase.bytes,
         allowed,
@@ -278,16 +273,14 @@ fn judge_sealing_of<'a, D: Device>(
 fn judge_removal_of<'a, D: Device>(
     alloc: Global,
     device: &mut D,
-    header: &Header,
     accepted: &Accepted<'_>,
     edit: &Edit<'a>,
     removed: &Removed<'a>,
 ) -> Result<JudgedEdit<'a>, EditFault>
     requires room { D.failed device.old + 1 < 2 ^ 64 }
-    requires accepted { IsAcceptedHeader header.now }
+    requires accepted { IsAcceptedCopy accepted.now.copy.now }
     requires total { accepted.now.total ≡ D.size device.old }
-    requires own { IsAcceptedFor header.now accepted.now.copy.now accepted.now.areas
-        accepted.now.total edit.now }
+    requires own { IsAcceptedFor accepted.now.copy.now accepted.now.areas accepted.now.total edit.now }
     requires asked { deed_of edit.now ≡ RemovesKeyslot removed.now }
     ensures unchanged { IsUnchanged D.tells D.size D.bytes D.unsettled device.old device.new }
     ensures count { CountsFailure is_edit_failure result
@@ -295,18 +288,21 @@ fn judge_removal_of<'a, D: Device>(
     ensures no_memory { (allowed_by edit.now).memory ≡ 0 → IfErr result (λ f. f ≢ EditFault.Memory) }
     ensures takes { let meta = accepted.now.copy.now.meta in
         IfOk result (Takes (area_len meta) (content meta) (D.size device.old) edit.now) }
-    ensures seals { D.tells → IsHeader (D.bytes device.old) header.now → (payload : Payload)
+    ensures seals { D.tells → IsChosenCopy (D.bytes device.old) accepted.now.copy.now
+        → (payload : Payload)
         → ((random : List ℕ) → IsJudgedTo 4 accepted.now.copy.now accepted.now.areas
         (D.bytes device.old) payload edit.now random)
         → let copy = accepted.now.copy.now in
         IfOk result (Seals (hdr_size (header_at (D.bytes device.old) copy.header.hdr_offset))
         (D.bytes device.old) payload (content copy.meta) edit.now) }
-    ensures passed { D.tells → IsHeader (D.bytes device.old) header.now → (payload : Payload)
+    ensures passed { D.tells → IsChosenCopy (D.bytes device.old) accepted.now.copy.now
+        → (payload : Payload)
         → ((random : List ℕ) → IsJudgedTo 4 accepted.now.copy.now accepted.now.areas
         (D.bytes device.old) payload edit.now random)
         → OnOk result
         ((random : List ℕ) → HasNoFaultBefore 13 (D.bytes device.old) payload edit.now random) }
-    ensures refused { D.tells → IsHeader (D.bytes device.old) header.now → (payload : Payload)
+    ensures refused { D.tells → IsChosenCopy (D.bytes device.old) accepted.now.copy.now
+        → (payload : Payload)
         → WellFormed (D.bytes device.old) payload
         → ((random : List ℕ) → IsJudgedTo 4 accepted.now.copy.now accepted.now.areas
         (D.bytes device.old) payload edit.now random)
@@ -319,7 +315,7 @@ fn judge_removal_of<'a, D: Device>(
     let _key = unlock(
         alloc,
         device,
-        header,
+        accepted.copy,
         opener,
         removed.passphrase.bytes,
         allowed,

@@ -2,17 +2,16 @@
 ghost use Rattle.std.specs.Prelude.{◌≡◌, ◌≢◌, ◌+◌, ◌-◌, ◌*◌, ℕ, List, false, length, IfErr};
 ghost use Rattle.luks_edit.specs.EditFaults.{is_edit_failure};
 ghost use Rattle.luks_meta.specs.Content.{content};
-ghost use Rattle.luks_reading.specs.Header.{IsAcceptedHeader, IsHeader};
+ghost use Rattle.luks_reading.specs.Header.{IsChosenCopy};
 ghost use Rattle.luks2_edit_laws.specs.Metadata.{IsInUse};
 ghost use Rattle.luks2_edit_laws.specs.Refused.{NeedsLike};
-ghost use Rattle.luks2_judging.specs.Header.{IsOfLuks2};
 ghost use Rattle.luks2_judging.specs.Needed.{TellsNeed2};
 
-use crate::accepted::accepted_copy;
+use crate::accepted::accepted_areas;
 use crate::keyslots::{judge_opener, judge_requirements, judge_wanted, new_number};
 use luks_edit::{Deed, Edit, EditFault, Place};
 use luks_meta::Meta;
-use luks_reading::{Data, Header};
+use luks_reading::{ChosenCopy, Data};
 
 /// The salts of both copies of the header.
 const COPY_SALTS: u64 = 128;
@@ -20,26 +19,24 @@ const COPY_SALTS: u64 = 128;
 /// The salt of a keyslot.
 const KEYSLOT_SALT: u64 = 32;
 
-/// How many random bytes the edit takes of the LUKS2 volume of `total` bytes with this header, or
+/// How many random bytes the edit takes of the LUKS2 volume of `total` bytes with this copy, or
 /// the first of `NotAccepted`, `Requirements`, `NoSuchSlot`, `SameSlot`, `SlotTaken` and `NoFreeSlot`.
 ///
 /// Each edit takes 64 for the salt of each copy of the header; one that seals a keyslot takes 32
 /// more for its salt, and for each of its stripes but the last as many as the volume key has. No
 /// keyslot is opened, and no memory is taken.
 pub fn needed_luks2(
-    header: &Header,
+    copy: &ChosenCopy,
     data_: Data,
     total: u64,
     edit: &Edit<'_>,
 ) -> Result<u64, EditFault>
-    requires accepted { IsAcceptedHeader header.now }
-    requires luks2 { IsOfLuks2 header.now }
     ensures own { IfErr result (λ f. is_edit_failure f ≡ false) }
     ensures memory { IfErr result (λ f. f ≢ EditFault.Memory) }
-    ensures tells { (v : List ℕ) → IsHeader v header.now → length v ≡ total
+    ensures tells { (v : List ℕ) → IsChosenCopy v copy.now → length v ≡ total
         → TellsNeed2 data_ v edit.now result }
 {
-    let copy = accepted_copy(header, data_, total)?;
+    let _areas = accepted_areas(copy, data_, total)?;
     judge_requirements(&copy.meta)?;
     judge_wanted(&copy.meta, edit)?;
     judge_opener(edit)?;

@@ -6,16 +6,16 @@ ghost use Rattle.luks_edit.specs.EditFaults.{is_edit_failure};
 ghost use Rattle.luks_edit.specs.declared.edit.Edit.{Edit as TheEdit};
 ghost use Rattle.luks_reading.specs.Answer.{TakesMemory};
 ghost use Rattle.luks_reading.specs.Checked.{WellFormed};
-ghost use Rattle.luks_reading.specs.Header.{IsAcceptedHeader, IsHeader};
-ghost use Rattle.luks_reading.specs.Plans.{HasKeyBytes};
+ghost use Rattle.luks_meta.specs.Content.{content};
+ghost use Rattle.luks_reading.specs.Header.{IsAcceptedCopy, IsChosenCopy};
+ghost use Rattle.luks_reading.specs.Plans.{HasLuks2KeyBytes};
 ghost use Rattle.luks_reading.specs.declared.report.Data.{Data as Payload};
 ghost use Rattle.luks2_edit_laws.specs.Refused.{HasSaid, IsAbsent};
-ghost use Rattle.luks2_judging.specs.Header.{IsOfLuks2};
 ghost use Rattle.luks2_judging.specs.Opened.{IsUnopened, Opens, unopened};
 
 use luks_area::{AreaFault, AreaName, Device};
 use luks_edit::EditFault;
-use luks_reading::{CheckFault, Header, OpenFault, open_header_slot};
+use luks_reading::{CheckFault, ChosenCopy, OpenFault, try_copy_slot};
 use luks_slot::{Allowed, Key};
 use std::alloc::Global;
 
@@ -41,34 +41,34 @@ fn unopened(n: u8, fault: OpenFault) -> EditFault
 pub(crate) fn unlock<D: Device>(
     alloc: Global,
     device: &mut D,
-    header: &Header,
+    copy: &ChosenCopy,
     n: u8,
     passphrase: &[u8],
     allowed: Allowed,
 ) -> Result<Key, EditFault>
     requires room { D.failed device.old + 1 < 2 ^ 64 }
-    requires accepted { IsAcceptedHeader header.now }
-    requires luks2 { IsOfLuks2 header.now }
+    requires accepted { IsAcceptedCopy copy.now }
     requires passphrase { 0 < allowed.memory → length passphrase.now < 2 ^ 32 }
     ensures unchanged { IsUnchanged D.tells D.size D.bytes D.unsettled device.old device.new }
     ensures count { CountsFailure is_edit_failure result
         (D.failed device.old) (D.failed device.new) }
     // Memory is refused only to a keyslot that takes it, and to none where none is allowed.
-    ensures memory { D.tells → IsHeader (D.bytes device.old) header.now
+    ensures memory { D.tells → IsChosenCopy (D.bytes device.old) copy.now
         → IfErr result (λ f. f ≡ EditFault.Memory
         → TakesMemory allowed (D.bytes device.old) n) }
     ensures no_memory { allowed.memory ≡ 0 → IfErr result (λ f. f ≢ EditFault.Memory) }
-    ensures length { IfOk result (λ key. HasKeyBytes header.now n (length key)) }
-    ensures opened { D.tells → IsHeader (D.bytes device.old) header.now
+    ensures length { IfOk result (λ key. HasLuks2KeyBytes (content copy.now.meta) n (length key)) }
+    ensures opened { D.tells → IsChosenCopy (D.bytes device.old) copy.now
         → (e : TheEdit) → allowed_by e ≡ allowed → OpensBy e n passphrase.now
         → IfOk result (Opens (D.bytes device.old) e) }
-    ensures refused { D.tells → IsHeader (D.bytes device.old) header.now
+    ensures refused { D.tells → IsChosenCopy (D.bytes device.old) copy.now
         → (payload : Payload) (e : TheEdit) → WellFormed (D.bytes device.old) payload
         → allowed_by e ≡ allowed → OpensBy e n passphrase.now
         → (HasSaid (D.bytes device.old) (λ o j. IsAbsent j e) → ⊥)
         → IfErr result (IsUnopened (D.bytes device.old) e) }
 {
-    match open_header_slot(alloc, device, header, n, passphrase, allowed) {
+    let mut nearest = None;
+    match try_copy_slot(alloc, device, copy, n, passphrase, allowed, &mut nearest) {
         Ok(found) => match found {
             Some(key) => Ok(key),
             None => Err(EditFault::Locked),

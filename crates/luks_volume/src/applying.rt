@@ -78,7 +78,7 @@ pub fn apply_of_header<D: Device>(
     derivation_has_32_bits(edit);
     match header {
         Header::Luks1(bytes) => apply_luks1(alloc, device, &bytes, data_, edit, random),
-        Header::Luks2(_) => apply_luks2(alloc, device, header, data_, edit, random),
+        Header::Luks2(copy) => apply_luks2(alloc, device, copy, data_, edit, random),
     }
 }
 

@@ -51,6 +51,6 @@ pub fn needed_of_header(
 {
     match header {
         Header::Luks1(bytes) => needed_luks1(bytes, data_, total, edit),
-        Header::Luks2(_) => needed_luks2(header, data_, total, edit),
+        Header::Luks2(copy) => needed_luks2(copy, data_, total, edit),
     }
 }

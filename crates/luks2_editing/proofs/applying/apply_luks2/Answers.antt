@@ -37,7 +37,7 @@ returns-in-Repair-clause-replies g c = λ tells is.
     let copy = c.in_ok-judged.judged.copy in
     let takes = subst (λ t. Takes (area_len copy.meta) (content copy.meta) (g.D.Device.size c.args.device.now) c.args.edit.now t) c.in-Repair.is c.in_ok-judged.ensures.judged.takes in
     let same = c.judge_luks2.ensures.unchanged.same tells in
-    let judged = judged_edit same (edit_is c.args.edit.now _ takes) c.in_ok-judged.ensures.judged.copy is (c.in_ok-judged.ensures.unrefused tells is) in
+    let judged = judged_edit same (edit_is c.args.edit.now _ takes) c.in_ok-judged.ensures.judged.is is (c.in_ok-judged.ensures.unrefused tells is) in
     replied same (edit_is c.args.edit.now _ takes) c.args.data_ c.args.random.now _ _ (c.repair.ensures.replies tells c.args.data_ Repair refl judged.chosen judged.well (judged.none c.args.random.now))
 
 pub returns-in-Remove-clause-replies : goal.returns-in-Remove-clause-replies
@@ -45,7 +45,7 @@ returns-in-Remove-clause-replies g c = λ tells is.
     let copy = c.in_ok-judged.judged.copy in
     let takes = subst (λ t. Takes (area_len copy.meta) (content copy.meta) (g.D.Device.size c.args.device.now) c.args.edit.now t) c.in-Remove.is c.in_ok-judged.ensures.judged.takes in
     let same = c.judge_luks2.ensures.unchanged.same tells in
-    let judged = judged_edit same (edit_is c.args.edit.now _ takes.asked) c.in_ok-judged.ensures.judged.copy is (c.in_ok-judged.ensures.unrefused tells is) in
+    let judged = judged_edit same (edit_is c.args.edit.now _ takes.asked) c.in_ok-judged.ensures.judged.is is (c.in_ok-judged.ensures.unrefused tells is) in
     replied same (edit_is c.args.edit.now _ takes.asked) c.args.data_ c.args.random.now _ _ (c.remove.ensures.replies tells c.args.data_ (Remove c.in-Remove.slot takes.by_ takes.passphrase) takes.by_ takes.passphrase refl judged.chosen judged.well (judged.none c.args.random.now))
 
 pub returns-in-Label-clause-replies : goal.returns-in-Label-clause-replies
@@ -53,7 +53,7 @@ returns-in-Label-clause-replies g c = λ tells is.
     let copy = c.in_ok-judged.judged.copy in
     let takes = subst (λ t. Takes (area_len copy.meta) (content copy.meta) (g.D.Device.size c.args.device.now) c.args.edit.now t) c.in-Label.is c.in_ok-judged.ensures.judged.takes in
     let same = c.judge_luks2.ensures.unchanged.same tells in
-    let judged = judged_edit same (edit_is c.args.edit.now _ takes.asked) c.in_ok-judged.ensures.judged.copy is (c.in_ok-judged.ensures.unrefused tells is) in
+    let judged = judged_edit same (edit_is c.args.edit.now _ takes.asked) c.in_ok-judged.ensures.judged.is is (c.in_ok-judged.ensures.unrefused tells is) in
     replied same (edit_is c.args.edit.now _ takes.asked) c.args.data_ c.args.random.now _ _ (c.set_label.ensures.replies tells c.args.data_ (Label takes.text) takes.text refl judged.chosen judged.well (judged.none c.args.random.now) takes.is)
 
 pub returns-in-Change-clause-replies : goal.returns-in-Change-clause-replies
@@ -61,7 +61,7 @@ returns-in-Change-clause-replies g c = λ tells is.
     let copy = c.in_ok-judged.judged.copy in
     let takes = subst (λ t. Takes (area_len copy.meta) (content copy.meta) (g.D.Device.size c.args.device.now) c.args.edit.now t) c.in-Change.is c.in_ok-judged.ensures.judged.takes in
     let same = c.judge_luks2.ensures.unchanged.same tells in
-    let judged = judged_edit same (edit_is c.args.edit.now _ takes.asked) c.in_ok-judged.ensures.judged.copy is (c.in_ok-judged.ensures.unrefused tells is) in
+    let judged = judged_edit same (edit_is c.args.edit.now _ takes.asked) c.in_ok-judged.ensures.judged.is is (c.in_ok-judged.ensures.unrefused tells is) in
     let v = g.D.Device.bytes c.judge_luks2.new.device in
     let e : Edit = Change c.in-Change.renewal.slot takes.old c.in-Change.passphrase c.in-Change.renewal.derivation.iterations c.in-Change.renewal.derivation.chosen in
     let seals = subst (λ t. Seals (hdr_size (header_at v copy.header.hdr_offset)) v c.args.data_ (content copy.meta) e t) c.in-Change.is judged.seals in
@@ -74,7 +74,7 @@ returns-in-Add-clause-replies g c = λ tells is.
     let copy = c.in_ok-judged.judged.copy in
     let takes = subst (λ t. Takes (area_len copy.meta) (content copy.meta) (g.D.Device.size c.args.device.now) c.args.edit.now t) c.in-Add.is c.in_ok-judged.ensures.judged.takes in
     let same = c.judge_luks2.ensures.unchanged.same tells in
-    let judged = judged_edit same (edit_is c.args.edit.now _ takes.asked) c.in_ok-judged.ensures.judged.copy is (c.in_ok-judged.ensures.unrefused tells is) in
+    let judged = judged_edit same (edit_is c.args.edit.now _ takes.asked) c.in_ok-judged.ensures.judged.is is (c.in_ok-judged.ensures.unrefused tells is) in
     let v = g.D.Device.bytes c.judge_luks2.new.device in
     let e : Edit = Add c.in-Add.addition.by_ takes.old c.in-Add.passphrase takes.to c.in-Add.addition.derivation.iterations c.in-Add.addition.derivation.chosen in
     let seals = subst (λ t. Seals (hdr_size (header_at v copy.header.hdr_offset)) v c.args.data_ (content copy.meta) e t) c.in-Add.is judged.seals in

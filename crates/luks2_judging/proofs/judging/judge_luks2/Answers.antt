@@ -1,3 +1,4 @@
+use Rattle.std.proofs.Common.{refl}
 use Rattle.std.proofs.lemmas.Result.{err_from_is_err_and}
 use Rattle.luks2_judging.proofs.judging.judge_luks2.Goals as goal
 
@@ -7,16 +8,9 @@ returns-in_err-taken-clause-refused g c = λ tells is.
     rw (p.1, p.2) (c.in_err-taken.ensures.refused tells is)
 
 pub returns-clause-judged : goal.returns-clause-judged
-returns-clause-judged g c = record {
-  copy = c.into_copy.ensures;
-  takes = c.in_ok-taken.ensures.judged c.into_copy.result c.into_copy.ensures;
-}
+returns-clause-judged g c = record { is = refl; takes = c.in_ok-taken.ensures.takes }
 
 pub returns-clause-unrefused : goal.returns-clause-unrefused
 returns-clause-unrefused g c = λ tells is.
     let known = c.in_ok-taken.ensures.unrefused tells is in
-    record {
-      well = known.well;
-      seals = known.seals c.into_copy.result c.into_copy.ensures;
-      none = known.none;
-    }
+    record { well = known.well; seals = known.seals; none = known.none }

@@ -8,8 +8,7 @@ use Rattle.luks_edit.proofs.AllowedMemory.{short_where_allowed}
 use Rattle.luks_meta.specs.declared.meta.Meta.{Meta}
 use Rattle.luks2_edit_laws.specs.Metadata.{IsInUse, IsKeyArea}
 use Rattle.luks_slot.specs.declared.allowed.Allowed.{Allowed}
-use Rattle.luks_reading.specs.declared.header.Header.{Header}
-use Rattle.luks_reading.specs.Plans.{HasKeyBytes, HasLuks2KeyBytes}
+use Rattle.luks_reading.specs.Plans.{HasLuks2KeyBytes}
 use Rattle.luks2_judging.specs.Judged.{IsNewNumber}
 use Rattle.luks2_judging.specs.Room.{IsAllowed, IsPlaced, IsUnsealable}
 use Rattle.luks2_judging.specs.Sealing.{IsUnadded}
@@ -97,8 +96,7 @@ returns-in_ok-renewal-in-Opened-clause-takes g c =
       old = c.args.sealed.now.opener.passphrase;
       asked = sealed_as c.args.edit.now c.args.sealed.now Opened r.slot r.derivation c.requires.asked c.in-Opened.is said.slot said.derivation;
       there = subst (λ (n : ℕ). IsInUse (content meta) n) (sym said.slot) used;
-      key_length = subst (λ (n : ℕ). HasLuks2KeyBytes (content meta) n (length key)) (sym said.slot)
-          (subst (λ (h : Header). HasKeyBytes h c.args.sealed.now.opener.slot (length key)) c.requires.own.is c.in_ok-key.ensures.length);
+      key_length = subst (λ (n : ℕ). HasLuks2KeyBytes (content meta) n (length key)) (sym said.slot) c.in_ok-key.ensures.length;
       placed = subst (λ (t : ℕ). IsPlaced (area_len meta) (content meta) t r.slot r.area) (c.room-room.ensures.total ∙ c.requires.total)
           (subst (λ (m : Meta). IsPlaced (area_len m) (content m) c.room-room.result.total r.slot r.area) c.room-room.ensures.meta said.placed);
       allowed = subst (λ (k : Allowed). IsAllowed k.memory r.derivation) (c.allowed-allowed.ensures ∙ sealed_allowed c.args.edit.now c.args.sealed.now c.requires.asked) said.allowed;
@@ -131,8 +129,7 @@ returns-in_ok-addition-in-New-clause-takes g c =
       to = c.in-New.to;
       asked = sealed_as c.args.edit.now c.args.sealed.now (New c.in-New.to) a.by_ a.derivation c.requires.asked c.in-New.is said.like said.derivation;
       number = subst (λ (m : Meta). IsNewNumber (content m) c.in-New.to a.made) c.room-room.ensures.meta said.number;
-      key_length = subst (λ (n : ℕ). HasLuks2KeyBytes (content meta) n (length key)) (sym said.like)
-          (subst (λ (h : Header). HasKeyBytes h c.args.sealed.now.opener.slot (length key)) c.requires.own.is c.in_ok-key.ensures.length);
+      key_length = subst (λ (n : ℕ). HasLuks2KeyBytes (content meta) n (length key)) (sym said.like) c.in_ok-key.ensures.length;
       placed = subst (λ (t : ℕ). IsPlaced (area_len meta) (content meta) t a.by_ a.area) (c.room-room.ensures.total ∙ c.requires.total)
           (subst (λ (m : Meta). IsPlaced (area_len m) (content m) c.room-room.result.total a.by_ a.area) c.room-room.ensures.meta said.placed);
       allowed = subst (λ (k : Allowed). IsAllowed k.memory a.derivation) (c.allowed-allowed.ensures ∙ sealed_allowed c.args.edit.now c.args.sealed.now c.requires.asked) said.allowed;

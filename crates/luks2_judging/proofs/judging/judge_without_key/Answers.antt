@@ -2,12 +2,9 @@ use Rattle.std.proofs.Common.{subst, sym}
 use Rattle.std.proofs.lemmas.Result.{err_from_is_err_and}
 use Rattle.luks_area.specs.declared.area.AreaName.TheVariants.{Slot}
 use Rattle.luks_meta.specs.Content.{content}
-use Rattle.luks_reading.specs.Header.{IsChosenCopy}
-use Rattle.luks_reading.specs.Listing.{Lists}
-use Rattle.luks_reading.specs.Reported.{HeaderArea}
 use Rattle.luks_reading.proofs.VolumeLaws.{well_formed_faultless}
 use Rattle.luks2_edit_laws.specs.Refused.{Refusal2}
-use Rattle.luks2_judging.proofs.ChosenFacts.{copy_in, metadata_of}
+use Rattle.luks2_judging.proofs.ChosenFacts.{metadata_of}
 use Rattle.luks2_judging.proofs.JudgedFacts.{absent_first, before_of, past_absent, past_check, past_required, past_same, required_first, same_first, unaccepted_first}
 use Rattle.luks2_judging.proofs.judging.judge_without_key.Goals as goal
 
@@ -19,41 +16,38 @@ returns-in_err-areas-clause-refused c = λ v random is size.
 
 pub returns-in_err-judge_requirements-clause-refused : goal.returns-in_err-judge_requirements-clause-refused
 returns-in_err-judge_requirements-clause-refused c = λ v random is size.
-    let copy = c.copy_of-copy.result.now in
-    let x : IsChosenCopy v copy = copy_in v c.args.header.now copy c.copy_of-copy.ensures is in
+    let copy = c.args.copy.now in
     let e = c.args.edit.now in
     let accepted = well_formed_faultless v c.args.data_ (c.in_ok-areas.ensures.well v is size) in
-    let past = past_check v c.args.data_ copy.header.hdr_offset (content copy.meta) (metadata_of v copy x) e random accepted in
+    let past = past_check v c.args.data_ copy.header.hdr_offset (content copy.meta) (metadata_of v copy is) e random accepted in
     let p = err_from_is_err_and c.from_residual-in_err-judge_requirements.result c.from_residual-in_err-judge_requirements.ensures.1 in
     let judged = c.in_err-judge_requirements.ensures in
     rw (p.1, p.2)
     (subst (λ f. Refusal2 v c.args.data_ e random f) (sym judged.0)
-    (required_first v c.args.data_ copy.header.hdr_offset (content copy.meta) (metadata_of v copy x) e random past judged.1))
+    (required_first v c.args.data_ copy.header.hdr_offset (content copy.meta) (metadata_of v copy is) e random past judged.1))
 
 pub returns-in_err-judge_wanted-clause-refused : goal.returns-in_err-judge_wanted-clause-refused
 returns-in_err-judge_wanted-clause-refused c = λ v random is size.
-    let copy = c.copy_of-copy.result.now in
-    let x : IsChosenCopy v copy = copy_in v c.args.header.now copy c.copy_of-copy.ensures is in
+    let copy = c.args.copy.now in
     let e = c.args.edit.now in
     let accepted = well_formed_faultless v c.args.data_ (c.in_ok-areas.ensures.well v is size) in
-    let past1 = past_check v c.args.data_ copy.header.hdr_offset (content copy.meta) (metadata_of v copy x) e random accepted in
-    let past2 = past_required v c.args.data_ copy.header.hdr_offset (content copy.meta) (metadata_of v copy x) e random past1 c.in_ok-judge_requirements.ensures in
+    let past1 = past_check v c.args.data_ copy.header.hdr_offset (content copy.meta) (metadata_of v copy is) e random accepted in
+    let past2 = past_required v c.args.data_ copy.header.hdr_offset (content copy.meta) (metadata_of v copy is) e random past1 c.in_ok-judge_requirements.ensures in
     let p = err_from_is_err_and c.from_residual-in_err-judge_wanted.result c.from_residual-in_err-judge_wanted.ensures.1 in
     let judged = c.in_err-judge_wanted.ensures in
     rw (p.1, p.2)
     (subst (λ f. Refusal2 v c.args.data_ e random f) (sym judged.0)
-    (absent_first v c.args.data_ copy.header.hdr_offset (content copy.meta) (metadata_of v copy x) e random past2 judged.1))
+    (absent_first v c.args.data_ copy.header.hdr_offset (content copy.meta) (metadata_of v copy is) e random past2 judged.1))
 
 pub returns-in_err-judge_opener-clause-refused : goal.returns-in_err-judge_opener-clause-refused
 returns-in_err-judge_opener-clause-refused c = λ v random is size.
-    let copy = c.copy_of-copy.result.now in
-    let x : IsChosenCopy v copy = copy_in v c.args.header.now copy c.copy_of-copy.ensures is in
+    let copy = c.args.copy.now in
     let e = c.args.edit.now in
     let accepted = well_formed_faultless v c.args.data_ (c.in_ok-areas.ensures.well v is size) in
-    let past1 = past_check v c.args.data_ copy.header.hdr_offset (content copy.meta) (metadata_of v copy x) e random accepted in
-    let past2 = past_required v c.args.data_ copy.header.hdr_offset (content copy.meta) (metadata_of v copy x) e random past1 c.in_ok-judge_requirements.ensures in
+    let past1 = past_check v c.args.data_ copy.header.hdr_offset (content copy.meta) (metadata_of v copy is) e random accepted in
+    let past2 = past_required v c.args.data_ copy.header.hdr_offset (content copy.meta) (metadata_of v copy is) e random past1 c.in_ok-judge_requirements.ensures in
     let p = err_from_is_err_and c.from_residual-in_err-judge_opener.result c.from_residual-in_err-judge_opener.ensures.1 in
-    let past3 = past_absent v c.args.data_ copy.header.hdr_offset (content copy.meta) (metadata_of v copy x) e random past2 c.in_ok-judge_wanted.ensures in
+    let past3 = past_absent v c.args.data_ copy.header.hdr_offset (content copy.meta) (metadata_of v copy is) e random past2 c.in_ok-judge_wanted.ensures in
     let judged = c.in_err-judge_opener.ensures in
     rw (p.1, p.2)
     (subst (λ f. Refusal2 v c.args.data_ e random f) (sym judged.0)
@@ -61,22 +55,18 @@ returns-in_err-judge_opener-clause-refused c = λ v random is size.
 
 pub returns-clause-passed : goal.returns-clause-passed
 returns-clause-passed c = λ v random is size.
-    let copy = c.copy_of-copy.result.now in
-    let x : IsChosenCopy v copy = copy_in v c.args.header.now copy c.copy_of-copy.ensures is in
+    let copy = c.args.copy.now in
     let e = c.args.edit.now in
     let accepted = well_formed_faultless v c.args.data_ (c.in_ok-areas.ensures.well v is size) in
-    let past1 = past_check v c.args.data_ copy.header.hdr_offset (content copy.meta) (metadata_of v copy x) e random accepted in
-    let past2 = past_required v c.args.data_ copy.header.hdr_offset (content copy.meta) (metadata_of v copy x) e random past1 c.in_ok-judge_requirements.ensures in
-    let past3 = past_absent v c.args.data_ copy.header.hdr_offset (content copy.meta) (metadata_of v copy x) e random past2 c.in_ok-judge_wanted.ensures in
+    let past1 = past_check v c.args.data_ copy.header.hdr_offset (content copy.meta) (metadata_of v copy is) e random accepted in
+    let past2 = past_required v c.args.data_ copy.header.hdr_offset (content copy.meta) (metadata_of v copy is) e random past1 c.in_ok-judge_requirements.ensures in
+    let past3 = past_absent v c.args.data_ copy.header.hdr_offset (content copy.meta) (metadata_of v copy is) e random past2 c.in_ok-judge_wanted.ensures in
     let past4 = past_same v c.args.data_ e random past3 c.in_ok-judge_opener.ensures in
-    record { chosen = x; lists = c.in_ok-areas.ensures.areas v is size; passed = before_of 4 v c.args.data_ e random past4 }
+    record { chosen = is; lists = c.in_ok-areas.ensures.areas v is size; passed = before_of 4 v c.args.data_ e random past4 }
 
 pub returns-clause-accepted : goal.returns-clause-accepted
-returns-clause-accepted c =
-    let listed = subst (λ h. Lists c.in_ok-areas.areas (HeaderArea h c.args.data_ c.args.total)) c.copy_of-copy.ensures c.in_ok-areas.ensures.listed in
-    record {
-      is = c.copy_of-copy.ensures;
-      there = c.in_ok-judge_wanted.ensures;
-      inside = c.in_ok-areas.ensures.inside;
-      key_areas = λ n a is. c.in_ok-areas.ensures.inside (Slot n) a (listed.all (Slot n) a is);
-    }
+returns-clause-accepted c = record {
+  there = c.in_ok-judge_wanted.ensures;
+  inside = c.in_ok-areas.ensures.inside;
+  key_areas = λ n a is. c.in_ok-areas.ensures.inside (Slot n) a (c.in_ok-areas.ensures.listed.all (Slot n) a is);
+}

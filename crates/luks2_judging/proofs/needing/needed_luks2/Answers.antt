@@ -15,8 +15,8 @@ use Rattle.luks2_judging.proofs.needing.needed_luks2.Goals as goal
 
 pub returns-in_err-judge_requirements-clause-tells : goal.returns-in_err-judge_requirements-clause-tells
 returns-in_err-judge_requirements-clause-tells c = λ v is size.
-    let copy = c.in_ok-copy.copy.now in
-    let a = accepted_copy c.in_ok-copy.ensures.copy is (c.in_ok-copy.ensures.well v is size) in
+    let copy = c.args.copy.now in
+    let a = accepted_copy is (c.in_ok-_areas.ensures.well v is size) in
     let p = err_from_is_err_and c.from_residual-in_err-judge_requirements.result c.from_residual-in_err-judge_requirements.ensures.1 in
     rw (p.1, p.2)
     (subst (λ f. IsLeast edit_key (IsNeedFault2 v c.args.data_ c.args.edit.now) f) (sym c.in_err-judge_requirements.ensures.0)
@@ -24,8 +24,8 @@ returns-in_err-judge_requirements-clause-tells c = λ v is size.
 
 pub returns-in_err-judge_wanted-clause-tells : goal.returns-in_err-judge_wanted-clause-tells
 returns-in_err-judge_wanted-clause-tells c = λ v is size.
-    let copy = c.in_ok-copy.copy.now in
-    let a = accepted_copy c.in_ok-copy.ensures.copy is (c.in_ok-copy.ensures.well v is size) in
+    let copy = c.args.copy.now in
+    let a = accepted_copy is (c.in_ok-_areas.ensures.well v is size) in
     let p = err_from_is_err_and c.from_residual-in_err-judge_wanted.result c.from_residual-in_err-judge_wanted.ensures.1 in
     rw (p.1, p.2)
     (subst (λ f. IsLeast edit_key (IsNeedFault2 v c.args.data_ c.args.edit.now) f) (sym c.in_err-judge_wanted.ensures.0)
@@ -33,8 +33,8 @@ returns-in_err-judge_wanted-clause-tells c = λ v is size.
 
 pub returns-in_err-judge_opener-clause-tells : goal.returns-in_err-judge_opener-clause-tells
 returns-in_err-judge_opener-clause-tells c = λ v is size.
-    let copy = c.in_ok-copy.copy.now in
-    let a = accepted_copy c.in_ok-copy.ensures.copy is (c.in_ok-copy.ensures.well v is size) in
+    let copy = c.args.copy.now in
+    let a = accepted_copy is (c.in_ok-_areas.ensures.well v is size) in
     let p = err_from_is_err_and c.from_residual-in_err-judge_opener.result c.from_residual-in_err-judge_opener.ensures.1 in
     rw (p.1, p.2)
     (subst (λ f. IsLeast edit_key (IsNeedFault2 v c.args.data_ c.args.edit.now) f) (sym c.in_err-judge_opener.ensures.0)
@@ -42,8 +42,8 @@ returns-in_err-judge_opener-clause-tells c = λ v is size.
 
 pub returns-in_err-new_number-in-New-clause-tells : goal.returns-in_err-new_number-in-New-clause-tells
 returns-in_err-new_number-in-New-clause-tells c = λ v is size.
-    let copy = c.in_ok-copy.copy.now in
-    let a = accepted_copy c.in_ok-copy.ensures.copy is (c.in_ok-copy.ensures.well v is size) in
+    let copy = c.args.copy.now in
+    let a = accepted_copy is (c.in_ok-_areas.ensures.well v is size) in
     let p = err_from_is_err_and c.from_residual-in_err-new_number-in-New.result c.from_residual-in_err-new_number-in-New.ensures.1 in
     let s = c.in-Seal.sealed in
     let asked = added_is c.args.edit.now s c.in-New.to (sym c.in-Seal.ensures) c.in-New.is in
@@ -55,8 +55,8 @@ returns-in_err-new_number-in-New-clause-tells c = λ v is size.
 
 pub returns-in_ok-new_number-in-New-clause-tells : goal.returns-in_ok-new_number-in-New-clause-tells
 returns-in_ok-new_number-in-New-clause-tells c = λ v is size.
-    let copy = c.in_ok-copy.copy.now in
-    let a = accepted_copy c.in_ok-copy.ensures.copy is (c.in_ok-copy.ensures.well v is size) in
+    let copy = c.args.copy.now in
+    let a = accepted_copy is (c.in_ok-_areas.ensures.well v is size) in
     let s = c.in-Seal.sealed in
     need_as (added_is c.args.edit.now s c.in-New.to (sym c.in-Seal.ensures) c.in-New.is) a c.in_ok-judge_requirements.ensures c.in_ok-judge_wanted.ensures c.in_ok-judge_opener.ensures c.sealed_need.result
     (new_untaken (content copy.meta) c.in-New.to c.in_ok-new_number-in-New.field-0 c.in_ok-new_number-in-New.ensures)
@@ -66,8 +66,8 @@ returns-in_ok-new_number-in-New-clause-tells c = λ v is size.
 
 pub returns-in-Opened-clause-tells : goal.returns-in-Opened-clause-tells
 returns-in-Opened-clause-tells c = λ v is size.
-    let copy = c.in_ok-copy.copy.now in
-    let a = accepted_copy c.in_ok-copy.ensures.copy is (c.in_ok-copy.ensures.well v is size) in
+    let copy = c.args.copy.now in
+    let a = accepted_copy is (c.in_ok-_areas.ensures.well v is size) in
     let s = c.in-Seal.sealed in
     need_as (changed_is c.args.edit.now s (sym c.in-Seal.ensures) c.in-Opened.is) a c.in_ok-judge_requirements.ensures c.in_ok-judge_wanted.ensures c.in_ok-judge_opener.ensures c.sealed_need-in-Opened.result (λ x. x) (λ x. x)
     (λ there. c.sealed_need-in-Opened.ensures (used_of (content copy.meta) (Change s.opener.slot s.opener.passphrase s.passphrase s.derivation.iterations s.derivation.chosen)
@@ -75,10 +75,10 @@ returns-in-Opened-clause-tells c = λ v is size.
 
 pub returns-in-Remove-clause-tells : goal.returns-in-Remove-clause-tells
 returns-in-Remove-clause-tells c = λ v is size.
-    idle_need (ap sealed_in (sym c.in-Remove.ensures)) (accepted_copy c.in_ok-copy.ensures.copy is (c.in_ok-copy.ensures.well v is size))
+    idle_need (ap sealed_in (sym c.in-Remove.ensures)) (accepted_copy is (c.in_ok-_areas.ensures.well v is size))
     c.in_ok-judge_requirements.ensures c.in_ok-judge_wanted.ensures c.in_ok-judge_opener.ensures
 
 pub returns-in-Rewrite-clause-tells : goal.returns-in-Rewrite-clause-tells
 returns-in-Rewrite-clause-tells c = λ v is size.
-    idle_need (ap sealed_in (sym c.in-Rewrite.ensures)) (accepted_copy c.in_ok-copy.ensures.copy is (c.in_ok-copy.ensures.well v is size))
+    idle_need (ap sealed_in (sym c.in-Rewrite.ensures)) (accepted_copy is (c.in_ok-_areas.ensures.well v is size))
     c.in_ok-judge_requirements.ensures c.in_ok-judge_wanted.ensures c.in_ok-judge_opener.ensures

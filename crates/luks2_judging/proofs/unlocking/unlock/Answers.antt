@@ -2,7 +2,7 @@ use Rattle.std.proofs.Common.{◌≡◌, ◌∙◌, subst, sym}
 use Rattle.luks_meta.specs.Content.{content}
 use Rattle.luks_reading.specs.declared.open_fault.OpenFault.TheVariants.{Memory}
 use Rattle.luks_reading.specs.Answer.{AnswerWithin, IsRefusedByWithin, opened_to, opens, TakesMemory}
-use Rattle.luks2_judging.proofs.ChosenFacts.{copy_in, copy_of_header, metadata_of}
+use Rattle.luks2_judging.proofs.ChosenFacts.{metadata_of}
 use Rattle.luks2_judging.proofs.OpenerFacts.{opens_by, unopened_by, wanting_of}
 use Rattle.luks2_judging.proofs.unlocking.unlock.Goals as goal
 
@@ -16,10 +16,9 @@ returns-in-Some-clause-opened g c = λ tells is e same asked.
 pub returns-in-Err-clause-refused : goal.returns-in-Err-clause-refused
 returns-in-Err-clause-refused g c = λ tells is payload e well same asked there.
     let v = g.D.Device.bytes c.args.device.now in
-    let h = copy_of_header c.args.header.now c.requires.luks2 in
-    let x = copy_in v c.args.header.now h.0 h.1 is in
+    let copy = c.args.copy.now in
     rw c.unopened.ensures
-    (unopened_by v e c.args.n c.args.passphrase.now asked h.0.header.hdr_offset (content h.0.meta) (metadata_of v h.0 x) payload well there
+    (unopened_by v e c.args.n c.args.passphrase.now asked copy.header.hdr_offset (content copy.meta) (metadata_of v copy is) payload well there
     c.in-Err.fault (subst (λ m. IsRefusedByWithin m v c.args.n c.args.passphrase.now c.in-Err.fault) (sym same) (c.in-Err.ensures.answers.refused tells is))
     (subst (λ m. c.in-Err.fault ≡ Memory → TakesMemory m v c.args.n) (sym same) (c.in-Err.ensures.answers.memory tells is)))
 

@@ -25,12 +25,12 @@ returns-in-Luks2-clause-applied g c = λ tells.
     c.derivation_has_32_bits.ensures (λ k. (c.type_inv.random k).fits) in
     applied_by c.args.data_ v c.args.edit.now c.args.random.now c.apply_luks2.result w ranges
     (replies_by2 v c.args.data_ c.args.edit.now c.args.random.now w
-    c.in-Luks2.field-0.header.hdr_offset c.in-Luks2.field-0.copies copy.chosen
-    (needs_of v c.in-Luks2.field-0 copy) ranges c.apply_luks2.result
-    (c.apply_luks2.ensures.replies tells read))
+    c.in-Luks2.copy.header.hdr_offset c.in-Luks2.copy.copies copy.chosen
+    (needs_of v c.in-Luks2.copy copy) ranges c.apply_luks2.result
+    (c.apply_luks2.ensures.replies tells copy))
 
 pub returns-in-Luks2-clause-memory : goal.returns-in-Luks2-clause-memory
 returns-in-Luks2-clause-memory g c = λ tells free.
     let v = g.D.Device.bytes c.args.device.now in
     let copy = rw c.in-Luks2.is at (c.requires.read tells) in
-    absurd (takes_none v free (needs_of v c.in-Luks2.field-0 copy))
+    absurd (takes_none v free (needs_of v c.in-Luks2.copy copy))

@@ -12,5 +12,5 @@ returns-in-Luks1-clause-tells c = λ v is long.
 pub returns-in-Luks2-clause-tells : goal.returns-in-Luks2-clause-tells
 returns-in-Luks2-clause-tells c = λ v is long.
     let copy = subst (IsHeader v) c.in-Luks2.is is in
-    tells_need2 v c.args.data_ c.args.edit.now c.in-Luks2.field-0.header.hdr_offset c.in-Luks2.field-0.copies copy.chosen c.needed_luks2.result
-    (c.needed_luks2.ensures.tells v is long)
+    tells_need2 v c.args.data_ c.args.edit.now c.in-Luks2.copy.header.hdr_offset c.in-Luks2.copy.copies copy.chosen c.needed_luks2.result
+    (c.needed_luks2.ensures.tells v copy long)
