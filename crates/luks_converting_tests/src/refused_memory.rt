@@ -10,6 +10,7 @@ use std::alloc::Global;
 use std::test::Fail;
 
 /// A volume that is converted, and the target beside what it held.
+#[derive(Drop)]
 struct Conversion<'a> {
     source: MemDevice,
     made: Front,

@@ -9,6 +9,7 @@ use std::alloc::Global;
 use std::test::Fail;
 
 /// A device that is formatted, each of its bytes 0xA5 before.
+#[derive(Drop)]
 struct Formatting<'a> {
     device: MemDevice,
     random: &'a [u8],

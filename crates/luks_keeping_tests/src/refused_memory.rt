@@ -9,6 +9,7 @@ use std::alloc::Global;
 use std::test::Fail;
 
 /// A volume that is backed up, and the backup's device beside what it held.
+#[derive(Drop)]
 struct BackingUp<'a> {
     source: MemDevice,
     target: MemDevice,
@@ -28,6 +29,7 @@ impl Work for BackingUp<'_> {
 }
 
 /// A backup that is restored, and the volume beside what it held.
+#[derive(Drop)]
 struct Restoring<'a> {
     backup: MemDevice,
     target: MemDevice,

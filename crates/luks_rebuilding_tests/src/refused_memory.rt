@@ -7,6 +7,7 @@ use std::alloc::Global;
 use std::test::Fail;
 
 /// A volume whose header is rebuilt, and the target beside what it held.
+#[derive(Drop)]
 struct Rebuilding<'a> {
     source: MemDevice,
     made: MemDevice,

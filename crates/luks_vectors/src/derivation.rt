@@ -1,7 +1,7 @@
 //! Hashes, HMAC and PBKDF2.
 use luks_kdf::{
-    Blake2b512Fn, HashFn, HashName, KeyslotHash, OlderHash, Ripemd160Fn, Sha1Fn, Sha224Fn, Sha256Fn,
-    Sha384Fn, Sha512Fn, WhirlpoolFn,
+    Blake2b512Fn, HashFn, HashName, KeyslotHash, OlderHash, Ripemd160Fn, Sha1Fn, Sha224Fn,
+    Sha256Fn, Sha384Fn, Sha512Fn, WhirlpoolFn,
 };
 use luks_vector_lines::{Malformed, Words, demand};
 use std::alloc::Global;

@@ -219,7 +219,9 @@ fn allowed(words: &mut Words<'_>) -> Result<Option<Allowed>, Malformed> {
 }
 
 fn number32_of(word: &str) -> Result<u32, Malformed> {
-    u32::try_from(number_of(word)?).ok().ok_or(Malformed::Number)
+    u32::try_from(number_of(word)?)
+        .ok()
+        .ok_or(Malformed::Number)
 }
 
 /// Whether the derivation has an iteration.
