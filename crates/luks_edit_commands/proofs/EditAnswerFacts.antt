@@ -27,7 +27,7 @@ use Rattle.luks_commands.specs.Files.{OfNamed}
 use Rattle.luks_commands.proofs.EndFacts.{unread_is_fault}
 use Rattle.luks_edit_commands.proofs.EditFacts.{replied_as, run_replied}
 
-module _ (tells : Type 0) (payload : Data) (lacks : Lacking) {v w : List ℕ} {before after : ℕ} where
+module _ (tells : Type 0) (payload : Data) (lacks : Lacking) (v w : List ℕ) (before after : ℕ) where
   -- what lacking a file is answered by
   abbrev Lacks : Given → InputFault → Type 0
   Lacks given f = (a : Answer) → unread_answer f ≡ a → LacksFile tells payload given lacks v a
@@ -58,12 +58,12 @@ module _ (tells : Type 0) (payload : Data) (lacks : Lacking) {v w : List ℕ} {b
     answers_unseen (Used found) count same is = (count, λ t. (same t, is t))
 
     -- the random bytes can't be read
-    pub answers_randomless : {count : ℕ} → (tells → NeedsRandom v payload e count) → (f : InputFault) (a : Answer) → a ≡ unread_answer f → after ≡ before
+    pub answers_randomless : (count : ℕ) → (tells → NeedsRandom v payload e count) → (f : InputFault) (a : Answer) → a ≡ unread_answer f → after ≡ before
         → (tells → w ≡ v) → lacks.random count f → IsEditAnswer tells payload (given_edit over e has_random) lacks v w before after a
-    answers_randomless {count} needs f a is counted same unread = answers_unread (given_edit over e has_random) f a is counted same (λ said answered.
+    answers_randomless count needs f a is counted same unread = answers_unread (given_edit over e has_random) f a is counted same (λ said answered.
         inr (λ t. record { edit = e; asked = refl; count = count; needs = needs t; fault = f; unread = unread; answered = answered }))
 
-    module _ {u : List ℕ} (unchanged : tells → u ≡ v) {count : ℕ} {random : List ℕ} (needs : tells → NeedsRandom v payload e count) (taken : has_random count random) where
+    module _ (u : List ℕ) (unchanged : tells → u ≡ v) (count : ℕ) (random : List ℕ) (needs : tells → NeedsRandom v payload e count) (taken : has_random count random) where
       -- a fault ended it
       pub answers_fault : (f : EditFault) → after ≡ count_after (is_edit_failure f) before → (tells → Replies payload u e random (Err f) w)
           → IsEditAnswer tells payload (given_edit over e has_random) lacks v w before after (edit_fault_answer f)
@@ -174,16 +174,16 @@ unseen_kinds (Untold f) = edit_kinds f
 unseen_kinds (Used found) = λ e. cc
 
 -- where a device call failed, the command ends as at a fault
-pub edit_fails : {before after : ℕ} (f : EditFault) (a : Answer) → a ≡ edit_fault_answer f → after ≡ count_after (is_edit_failure f) before
+pub edit_fails : (before after : ℕ) (f : EditFault) (a : Answer) → a ≡ edit_fault_answer f → after ≡ count_after (is_edit_failure f) before
     → (after ≡ before → ⊥) → answer_status a ≡ Fault
-edit_fails fault.Memory a is count apart = ap answer_status is
-edit_fails fault.Device a is count apart = ap answer_status is
-edit_fails f a is count apart = absurd (apart count)
+edit_fails before after fault.Memory a is count apart = ap answer_status is
+edit_fails before after fault.Device a is count apart = ap answer_status is
+edit_fails before after f a is count apart = absurd (apart count)
 
-pub unseen_fails : {before after : ℕ} (unseen : Unseen) (a : Answer) → a ≡ unseen_answer unseen → after ≡ count_after (is_unseen_failure unseen) before
+pub unseen_fails : (before after : ℕ) (unseen : Unseen) (a : Answer) → a ≡ unseen_answer unseen → after ≡ count_after (is_unseen_failure unseen) before
     → (after ≡ before → ⊥) → answer_status a ≡ Fault
-unseen_fails (Untold f) a is count apart = edit_fails f a is count apart
-unseen_fails (Used found) a is count apart = absurd (apart count)
+unseen_fails before after (Untold f) a is count apart = edit_fails before after f a is count apart
+unseen_fails before after (Used found) a is count apart = absurd (apart count)
 
 -- ---- another use of the disk
 
@@ -203,13 +203,13 @@ holds_back_wordless {D} tells bytes over A U (Ok d) a is = λ t not u has. (refl
 holds_back_wordless {D} tells bytes over A U (Err f) a is = tt
 
 -- an edit of which something was seen isn't barred
-pub unbarred : {over : Bool} {v w : List ℕ} {a : Answer} → Bars over v None → HoldsBack over v w a
-unbarred none = λ not u has. absurd (none not u has)
+pub unbarred : (over : Bool) (v w : List ℕ) (a : Answer) → Bars over v None → HoldsBack over v w a
+unbarred over v w a none = λ not u has. absurd (none not u has)
 
 -- one of which nothing was seen answers why
-pub holds_back_unseen : (over : Bool) {v w : List ℕ} (unseen : Unseen) (a : Answer) → a ≡ unseen_answer unseen → w ≡ v
+pub holds_back_unseen : (over : Bool) (v w : List ℕ) (unseen : Unseen) (a : Answer) → a ≡ unseen_answer unseen → w ≡ v
     → (over ≡ false → (u : OtherUse) → HasOtherUse v u → IsBarred u (unseen_answer unseen)) → HoldsBack over v w a
-holds_back_unseen over unseen a is same barred = λ not u has. (same, subst (IsBarred u) (sym is) (barred not u has))
+holds_back_unseen over v w unseen a is same barred = λ not u has. (same, subst (IsBarred u) (sym is) (barred not u has))
 
 -- a command without a passphrase isn't done
 pub wordless_undone : (A : Type 0) (U : InputFault → Type 0) (a : Answer) → IsWordless A U a → answer_status a ≢ Done

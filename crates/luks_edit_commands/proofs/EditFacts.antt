@@ -71,17 +71,17 @@ unfailed (Err fault.Device) f f' count same is = let rises : f' ≡ f + 1 = coun
 unfailed (Err g) f f' count same is = is
 
 -- an edit in which the device didn't fail keeps what it doesn't name
-pub kept_once : (payload : Data) {v w : List ℕ} (e : Edit) (reply : Reply) {f f' : ℕ} → CountsFailure is_edit_failure reply f f' → f' ≡ f
+pub kept_once : (payload : Data) (v w : List ℕ) (e : Edit) (reply : Reply) (f f' : ℕ) → CountsFailure is_edit_failure reply f f' → f' ≡ f
     → ((IsFailure reply → ⊥) → Keeps payload (λ n. IsCompleted reply × NamedSlots v e n) v w) → Keeps payload (NamedSlots v e) v w
-kept_once payload {v} {w} e reply {f} {f'} count same keeps =
+kept_once payload v w e reply f f' count same keeps =
     keeps_fewer payload (λ n. IsCompleted reply × NamedSlots v e n) (NamedSlots v e) v w (λ n is. is.1) (keeps (unfailed reply f f' count same))
 
 -- one in which it failed says so, and what it left is what it spares
-pub spared_once : (payload : Data) {v w : List ℕ} (e : Edit) {random : List ℕ} (reply : Reply) {f f' : ℕ} → CountsFailure is_edit_failure reply f f'
+pub spared_once : (payload : Data) (v w : List ℕ) (e : Edit) (random : List ℕ) (reply : Reply) (f f' : ℕ) → CountsFailure is_edit_failure reply f f'
     → (f' ≡ f → ⊥) → (IsFailure reply → Spares v payload e random w) → (reply ≡ Err fault.Device) × Spares v payload e random w
-spared_once payload e (Ok made) count apart spares = absurd (apart count)
-spared_once payload e (Err fault.Device) count apart spares = (refl, spares tt)
-spared_once payload e (Err g) count apart spares = absurd (apart count)
+spared_once payload v w e random (Ok made) f f' count apart spares = absurd (apart count)
+spared_once payload v w e random (Err fault.Device) f f' count apart spares = (refl, spares tt)
+spared_once payload v w e random (Err g) f f' count apart spares = absurd (apart count)
 
 -- ---- how the edit ended
 
@@ -144,7 +144,7 @@ run_replied payload v w over e has_random u unchanged count random needs taken r
   replies = subst (λ x. Replies payload x e random reply w) unchanged is;
 }
 
-module _ (payload : Data) {v w : List ℕ} (ended : Status) where
+module _ (payload : Data) (v w : List ℕ) (ended : Status) where
   -- a file couldn't be read
   pub says_unread : (given : Given) → w ≡ v → ended ≡ Fault → SaysEdit payload given v w (ended ≡ Done) (ended ≡ Refused)
   says_unread given same told = record {
@@ -181,7 +181,7 @@ module _ (payload : Data) {v w : List ℕ} (ended : Status) where
       rest = inl same;
     }
 
-    module _ {u : List ℕ} (unchanged : u ≡ v) {count : ℕ} {random : List ℕ} (needs : NeedsRandom v payload e count) (taken : has_random count random) where
+    module _ (u : List ℕ) (unchanged : u ≡ v) (count : ℕ) (random : List ℕ) (needs : NeedsRandom v payload e count) (taken : has_random count random) where
       replied : (reply : Reply) → Replies payload u e random reply w → IsReplied payload (given_edit over e has_random) v w reply
       replied reply is = run_replied payload v w over e has_random u unchanged count random needs taken reply is
 
@@ -223,16 +223,16 @@ says_wordless payload given unread v w a same (inl x) = record {
   refused = λ e. (same, inl x.1);
   rest = inl same;
 }
-says_wordless payload given unread v w a same (inr x) = says_unread payload (answer_status a) given same (ap answer_status x.2 ∙ unread_is_fault x.0)
+says_wordless payload given unread v w a same (inr x) = says_unread payload v w (answer_status a) given same (ap answer_status x.2 ∙ unread_is_fault x.0)
 
 -- the random bytes are the first of their file
 abbrev pub AreFirstOf : {N : Type 0} → (N → Option (List ℕ)) → Result N InputFault → ℕ → List ℕ → Type 0
 AreFirstOf remaining random = λ count. AreFirstBytes count remaining random
 
 -- a slice of them is too
-pub taken_as : {N : Type 0} (remaining : N → Option (List ℕ)) (random : Result N InputFault) {count : ℕ} {slice bytes : List ℕ} → slice ≡ bytes
+pub taken_as : {N : Type 0} (remaining : N → Option (List ℕ)) (random : Result N InputFault) (count : ℕ) {slice bytes : List ℕ} → slice ≡ bytes
     → AreFirstBytes count remaining random bytes → AreFirstOf remaining random count slice
-taken_as remaining random {count} is taken = subst (AreFirstOf remaining random count) (sym is) taken
+taken_as remaining random count is taken = subst (AreFirstOf remaining random count) (sym is) taken
 
 -- what is told of an edit that is given so, is told of one that is given otherwise
 pub replied_as : (payload : Data) (given other : Given) (v w : List ℕ) (reply : Reply) → ((e : Edit) → given.asks e → other.asks e)
@@ -288,10 +288,10 @@ spared_as payload given other v w asks has (inl same) = inl same
 spared_as payload given other v w asks has (inr x) = inr (record { replied = replied_as payload given other v w (Err fault.Device) asks has x.replied; spares = x.spares })
 
 -- where the device failed in the edit that was run, its reply and what it spares are those of the command
-pub spared_edit : (payload : Data) {v u w : List ℕ} (over : Bool) (e : Edit) (has_random : ℕ → List ℕ → Type 0) → u ≡ v → {count : ℕ} {random : List ℕ}
+pub spared_edit : (payload : Data) (v u w : List ℕ) (over : Bool) (e : Edit) (has_random : ℕ → List ℕ → Type 0) → u ≡ v → (count : ℕ) (random : List ℕ)
     → NeedsRandom v payload e count → has_random count random → (f : EditFault) → Replies payload u e random (Err f) w
     → (ended_in f ≡ Err fault.Device) × Spares u payload e random w → SparesEdit payload (given_edit over e has_random) v w
-spared_edit payload {v} {u} {w} over e has_random unchanged {count} {random} needs taken f by x = inr (record {
+spared_edit payload v u w over e has_random unchanged count random needs taken f by x = inr (record {
   replied = record {
     edit = e;
     asked = refl;
