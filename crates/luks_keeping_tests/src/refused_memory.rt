@@ -4,93 +4,99 @@ use luks_area::MemDevice;
 use luks_kdf::HashName;
 use luks_keeping::{BackupFault, Over, RestoreFault, backup, restore};
 use luks_reading::Data;
-use luks_test_devices::{End, Work, ends_with_little_memory, old_bytes, small2};
+use luks_test_devices::{BLOCKS, TakenMemory, old_bytes, small2};
 use std::alloc::Global;
 use std::test::Fail;
 
-/// A volume that is backed up, and the backup's device beside what it held.
-#[derive(Drop)]
-struct BackingUp<'a> {
-    source: MemDevice,
-    target: MemDevice,
-    old: &'a [u8],
+/// How it ended.
+#[derive(Debug, Clone, Copy, PartialEq, Eq)]
+enum End {
+    Done,
+    /// It told that memory was refused, and no byte has changed.
+    Memory,
+    Other,
 }
 
-impl Work for BackingUp<'_> {
-    fn end(&mut self, alloc: Global) -> End {
-        let answer = backup(alloc, &mut self.source, Data::Here, &mut self.target);
-        let same = self.target.contents() == self.old;
-        match answer {
-            Ok(()) => End::Done,
-            Err(BackupFault::Memory) if same => End::Memory,
-            Err(_) => End::Other,
-        }
-    }
-}
-
-/// A backup that is restored, and the volume beside what it held.
-#[derive(Drop)]
-struct Restoring<'a> {
-    backup: MemDevice,
-    target: MemDevice,
-    old: &'a [u8],
-}
-
-impl Work for Restoring<'_> {
-    fn end(&mut self, alloc: Global) -> End {
+/// How restoring ended, and how many blocks had to be given back until then: with all memory taken, and
+/// given back in blocks of 256 bytes, it is refused memory at one place after another.
+fn restoring_with_little_memory(alloc: Global) -> Result<(End, usize), Fail> {
+    let image = small2(alloc, HashName::Sha256)?;
+    let kept = backup_of(alloc, &image)?;
+    let old = wiped(alloc, &image)?;
+    let mut backup = MemDevice::new(kept.to_vec(alloc)?);
+    let mut target = MemDevice::new(old.to_vec(alloc)?);
+    let mut taken = TakenMemory::take(alloc)?;
+    let mut end = End::Memory;
+    let mut given = 0;
+    for turn in 0..BLOCKS {
         let answer = restore(
             alloc,
-            &mut self.backup,
-            &mut self.target,
+            &mut backup,
+            &mut target,
             Data::Here,
             Over::SameVolume,
         );
-        let same = self.target.contents() == self.old;
-        match answer {
+        let same = target.contents() == old.as_slice();
+        end = match answer {
             Ok(()) => End::Done,
             Err(RestoreFault::Memory) if same => End::Memory,
             Err(_) => End::Other,
+        };
+        given = turn;
+        if end != End::Memory {
+            break;
         }
+        taken.give_back();
     }
+    drop(taken);
+    if backup.contents() != kept.as_slice() {
+        end = End::Other;
+    }
+    Ok((end, given))
+}
+
+/// The same of making a backup.
+fn backing_up_with_little_memory(alloc: Global) -> Result<(End, usize), Fail> {
+    let image = small2(alloc, HashName::Sha256)?;
+    let old = old_bytes(alloc, SIZE)?;
+    let mut source = MemDevice::new(image.to_vec(alloc)?);
+    let mut target = MemDevice::new(old.to_vec(alloc)?);
+    let mut taken = TakenMemory::take(alloc)?;
+    let mut end = End::Memory;
+    let mut given = 0;
+    for turn in 0..BLOCKS {
+        let answer = backup(alloc, &mut source, Data::Here, &mut target);
+        let same = target.contents() == old.as_slice();
+        end = match answer {
+            Ok(()) => End::Done,
+            Err(BackupFault::Memory) if same => End::Memory,
+            Err(_) => End::Other,
+        };
+        given = turn;
+        if end != End::Memory {
+            break;
+        }
+        taken.give_back();
+    }
+    drop(taken);
+    if source.contents() != image.as_slice() {
+        end = End::Other;
+    }
+    Ok((end, given))
 }
 
 #[test]
 fn each_allocation_of_a_backup(rt: HostRuntime) -> Result<(), Fail> {
-    let alloc = rt.alloc();
-    let image = small2(alloc, HashName::Sha256)?;
-    let old = old_bytes(alloc, SIZE)?;
-    let mut backing_up = BackingUp {
-        source: MemDevice::new(image.to_vec(alloc)?),
-        target: MemDevice::new(old.to_vec(alloc)?),
-        old: &old,
-    };
-    let (end, given) = ends_with_little_memory(alloc, &mut backing_up)?;
+    let (end, given) = backing_up_with_little_memory(rt.alloc())?;
     assert!(rt; end == End::Done, "done in the end");
     assert!(rt; 1 < given, "{given} blocks");
-    assert!(rt;
-        backing_up.source.contents() == image.as_slice(),
-        "the source"
-    );
     Ok(())
 }
 
 #[test]
 fn each_allocation_of_restoring(rt: HostRuntime) -> Result<(), Fail> {
-    let alloc = rt.alloc();
-    let image = small2(alloc, HashName::Sha256)?;
-    let kept = backup_of(alloc, &image)?;
-    let old = wiped(alloc, &image)?;
-    let mut restoring = Restoring {
-        backup: MemDevice::new(kept.to_vec(alloc)?),
-        target: MemDevice::new(old.to_vec(alloc)?),
-        old: &old,
-    };
-    let (end, given) = ends_with_little_memory(alloc, &mut restoring)?;
+    let (end, given) = restoring_with_little_memory(rt.alloc())?;
     assert!(rt; end == End::Done, "done in the end");
     assert!(rt; 1 < given, "{given} blocks");
-    assert!(rt;
-        restoring.backup.contents() == kept.as_slice(),
-        "the backup"
-    );
     Ok(())
 }
