@@ -5,7 +5,7 @@ ghost use Rattle.luks1_mending.specs.Taken.{IsNothing};
 use arrayvec::ArrayString;
 
 /// What is given of a header's fields: each wins over what stands in the source.
-#[derive(Debug, Clone, Copy, PartialEq, Eq)]
+#[derive(Clone, Copy, PartialEq, Eq)]
 pub struct Given {
     /// The name of the cipher.
     pub cipher_name: Option<ArrayString<32>>,

@@ -21,7 +21,7 @@ pub(crate) const COMBINATIONS: u8 = 64;
 const KEY_BYTES: usize = 108;
 
 /// A place of a list that isn't tried.
-#[derive(Debug, Clone, Copy, PartialEq, Eq)]
+#[derive(Clone, Copy, PartialEq, Eq)]
 pub(crate) struct LeftOut;
 
 /// What is given, completed by the combination of this number.

@@ -17,7 +17,7 @@ use luks1_mending::{Given, mended_header};
 use std::alloc::Global;
 
 /// A combination by which a keyslot opens.
-#[derive(Debug, Clone, Copy, PartialEq, Eq, Drop)]
+#[derive(Clone, Copy, PartialEq, Eq, Drop)]
 pub struct Opening {
     /// What was given, completed by the combination: where it has nothing, what stands is taken.
     pub given: Given,

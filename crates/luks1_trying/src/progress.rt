@@ -8,7 +8,7 @@ pub trait Progress {
 }
 
 /// Tells nobody.
-#[derive(Debug, Clone, Copy, PartialEq, Eq)]
+#[derive(Clone, Copy, PartialEq, Eq)]
 pub struct Untold;
 
 impl Progress for Untold {

@@ -7,7 +7,7 @@ use std::fmt;
 /// A range of bytes of a volume: `len` bytes from the byte place `start` on.
 ///
 /// The end, `start + len`, is a whole number and may be larger than any `u64`.
-#[derive(Debug, Clone, Copy, PartialEq, Eq, Default)]
+#[derive(Clone, Copy, PartialEq, Eq, Default)]
 pub struct Area {
     /// The first byte place, in bytes from the volume's start.
     pub start: u64,

@@ -6,7 +6,7 @@ use std::marker::Model;
 pub const MOST_AREAS: usize = 66;
 
 /// An area with its name.
-#[derive(Debug, Clone, Copy, PartialEq, Eq, Default)]
+#[derive(Clone, Copy, PartialEq, Eq, Default)]
 pub struct Entry {
     /// What the area is for.
     pub name: AreaName,
@@ -17,7 +17,7 @@ pub struct Entry {
 /// The areas of a volume, at most 66, in the order of their names, each name once.
 ///
 /// They are held in place: no call takes memory.
-#[derive(Debug, Clone, Drop)]
+#[derive(Clone, Drop)]
 pub struct Areas {
     entries: ArrayVec<Entry, MOST_AREAS>,
 }

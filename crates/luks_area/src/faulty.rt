@@ -7,7 +7,7 @@ use crate::device::{Device, DeviceFault};
 use crate::filling::fill;
 
 /// What the failing write leaves in its range.
-#[derive(Debug, Clone, Copy, PartialEq, Eq)]
+#[derive(Clone, Copy, PartialEq, Eq)]
 pub enum Leave {
     /// The bytes that stood there.
     Old,

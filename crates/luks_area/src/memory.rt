@@ -5,7 +5,7 @@ use crate::device::{Device, DeviceFault};
 
 /// A device in memory, such as a whole image that was read. It tells its bytes, and no call of it
 /// fails.
-#[derive(Debug, Drop)]
+#[derive(Drop)]
 pub struct MemDevice {
     contents: Vec<u8>,
     ghost fits: { length contents.items < 2 ^ 64 },

@@ -16,7 +16,7 @@ use std::marker::Brand;
 
 /// What `luks_backup_length_bytes` tells.
 #[repr(C)]
-#[derive(Debug, Clone, Copy, Drop, Default)]
+#[derive(Clone, Copy, Drop, Default)]
 pub struct LuksLength {
     /// How many bytes the backup has.
     pub bytes: u64,

@@ -13,7 +13,7 @@ use std::marker::Brand;
 /// What `luks_check_bytes` tells of a volume that it accepts; of another each number is 0, but
 /// `beyond`.
 #[repr(C)]
-#[derive(Debug, Clone, Copy, Drop, Default)]
+#[derive(Clone, Copy, Drop, Default)]
 pub struct LuksReport {
     /// 1 or 2.
     pub version: u32,

@@ -11,7 +11,7 @@ use std::marker::Brand;
 
 /// What `luks_find_bytes` tells.
 #[repr(C)]
-#[derive(Debug, Clone, Copy, Drop, Default)]
+#[derive(Clone, Copy, Drop, Default)]
 pub struct LuksFound {
     /// How many volumes begin there.
     pub count: u64,

@@ -13,7 +13,7 @@ use std::marker::Brand;
 
 /// What `luks_needed_bytes` tells.
 #[repr(C)]
-#[derive(Debug, Clone, Copy, Drop, Default)]
+#[derive(Clone, Copy, Drop, Default)]
 pub struct LuksNeeded {
     /// How many random bytes the edit takes.
     pub random: u64,

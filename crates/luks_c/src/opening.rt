@@ -12,7 +12,7 @@ use std::marker::Brand;
 
 /// What opening a keyslot tells.
 #[repr(C)]
-#[derive(Debug, Clone, Copy, Drop, Default)]
+#[derive(Clone, Copy, Drop, Default)]
 pub struct LuksOpened {
     /// The keyslot that opens.
     pub slot: u32,

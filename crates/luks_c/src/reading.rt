@@ -13,7 +13,7 @@ use std::marker::Brand;
 
 /// What `luks_read_bytes` tells.
 #[repr(C)]
-#[derive(Debug, Clone, Copy, Drop, Default)]
+#[derive(Clone, Copy, Drop, Default)]
 pub struct LuksRead {
     /// How many bytes the text has; 0 where there is none.
     pub json_bytes: u64,

@@ -14,7 +14,7 @@ use std::marker::Brand;
 
 /// What `luks_signature_bytes` tells.
 #[repr(C)]
-#[derive(Debug, Clone, Copy, Drop, Default)]
+#[derive(Clone, Copy, Drop, Default)]
 pub struct LuksSignature {
     /// The use that is shown, by its number; 0 where none is.
     pub shows: u32,

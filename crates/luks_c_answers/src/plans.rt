@@ -15,7 +15,7 @@ use std::alloc::{AllocError, Global};
 
 /// What a call tells that writes.
 #[repr(C)]
-#[derive(Debug, Clone, Copy, Drop, Default)]
+#[derive(Clone, Copy, Drop, Default)]
 pub struct LuksPlan {
     /// How many calls the plan has.
     pub calls: u64,

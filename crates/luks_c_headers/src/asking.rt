@@ -12,7 +12,7 @@ use std::str;
 const NO_NUMBER: u32 = 0xFFFF_FFFF;
 
 /// A text that isn't one.
-#[derive(Debug, Clone, Copy)]
+#[derive(Clone, Copy)]
 pub struct NoText;
 
 /// The copies that are asked for.

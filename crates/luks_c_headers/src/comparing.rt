@@ -11,7 +11,7 @@ use std::alloc::Global;
 
 /// What `luks_compare_bytes` tells beside the keyslots.
 #[repr(C)]
-#[derive(Debug, Clone, Copy, Drop, Default)]
+#[derive(Clone, Copy, Drop, Default)]
 pub struct LuksCompared {
     /// 1 where a digest of the backup's volume key is one of the volume's, else 0.
     pub same_key: u32,

@@ -9,7 +9,7 @@ use luks_aes::AesKey;
 use sha2::{Digest, Sha256};
 
 /// How a sector's IV is made of the sector's number.
-#[derive(Debug, Clone, Copy, PartialEq, Eq)]
+#[derive(Clone, Copy, PartialEq, Eq)]
 pub enum IvKind {
     /// `plain`: the number in 32 bits, lowest byte first; of a higher number the lowest 32 bits.
     Plain,

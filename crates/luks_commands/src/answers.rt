@@ -22,7 +22,7 @@ use std::io::Write;
 
 /// How a command ends; the numbers are the program's exit statuses. Status 2, for a wrong command
 /// line, is given before any command runs.
-#[derive(Debug, Clone, Copy, PartialEq, Eq)]
+#[derive(Clone, Copy, PartialEq, Eq)]
 pub enum Status {
     /// Accepted, shown, opened or done.
     Done = 0,
@@ -35,7 +35,7 @@ pub enum Status {
 }
 
 /// Why a command is refused.
-#[derive(Debug, Clone, Copy, Drop)]
+#[derive(Clone, Copy, Drop)]
 pub enum Refusal {
     /// The passphrase's file has more bytes than a passphrase may have.
     LongPassphrase,

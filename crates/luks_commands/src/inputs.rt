@@ -6,7 +6,7 @@ use std::io::ErrorKind;
 use std::{fmt, io};
 
 /// Why a file can't be opened or read, where the system tells a reason that helps.
-#[derive(Debug, Clone, Copy, PartialEq, Eq)]
+#[derive(Clone, Copy, PartialEq, Eq)]
 pub enum Reason {
     /// There is none of this name.
     NotFound,
@@ -46,7 +46,7 @@ impl fmt::Display for Reason {
 }
 
 /// Why a file that a command may need can't be read.
-#[derive(Debug, Clone, Copy, PartialEq, Eq)]
+#[derive(Clone, Copy, PartialEq, Eq)]
 pub enum InputFault {
     /// The command line names none.
     Absent,
@@ -72,7 +72,7 @@ impl From<io::Error> for InputFault {
 }
 
 /// The files of a command line: the volume's device and the readers of the others.
-#[derive(Debug, Drop)]
+#[derive(Drop)]
 pub struct Inputs<D, R, N> {
     /// The volume.
     pub volume: Result<D, InputFault>,

@@ -21,7 +21,7 @@ use std::alloc::Global;
 use std::io::{Read, Write};
 
 /// What is tried, by the words of the command line.
-#[derive(Debug, Clone, Copy)]
+#[derive(Clone, Copy)]
 pub struct Tried<'a> {
     /// The file of the volume.
     pub volume: &'a str,

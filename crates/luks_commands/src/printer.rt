@@ -7,7 +7,7 @@ use std::fmt::Display;
 use std::io::Write;
 
 /// A text wasn't printed, or not to its end.
-#[derive(Debug, Clone, Copy, PartialEq, Eq)]
+#[derive(Clone, Copy, PartialEq, Eq)]
 pub struct Unprinted;
 
 /// What prints texts, and counts the prints that failed.
@@ -30,7 +30,7 @@ pub trait Printer {
 }
 
 /// A printer that prints to this writer.
-#[derive(Debug, Drop)]
+#[derive(Drop)]
 pub struct CountingPrinter<W> {
     /// The writer.
     pub writer: W,

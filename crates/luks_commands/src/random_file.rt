@@ -11,7 +11,7 @@ use std::alloc::Global;
 use std::io::{Read, Write};
 
 /// The random bytes that a command needs, and those that it has.
-#[derive(Debug, Clone, Copy)]
+#[derive(Clone, Copy)]
 pub struct RandomBytes<'a> {
     /// Their file, where the command line names one.
     pub file: Option<&'a str>,

@@ -19,7 +19,7 @@ const LOSSES: [Loss; 5] = [
 ];
 
 /// How converting ended.
-#[derive(Debug, Clone, Copy, PartialEq, Eq)]
+#[derive(Clone, Copy, PartialEq, Eq)]
 enum End {
     /// It is done, and all that it wrote is flushed.
     Done,

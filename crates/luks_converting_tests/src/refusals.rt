@@ -12,7 +12,7 @@ use std::alloc::Global;
 use std::test::Fail;
 
 /// A volume that is converted, or isn't.
-#[derive(Debug, Clone, Copy)]
+#[derive(Clone, Copy)]
 enum Source {
     /// LUKS1, keyslots 0 and 3 in use.
     Two,

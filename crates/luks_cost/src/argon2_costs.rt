@@ -16,7 +16,7 @@ const LEAST_PASSES: u32 = 4;
 const LEAST_MEMORY: u32 = 65536;
 
 /// The costs of Argon2 that are chosen by time.
-#[derive(Clone, Copy, Debug)]
+#[derive(Clone, Copy)]
 pub struct Argon2Costs {
     /// How many passes over the memory, at least 4.
     pub passes: u32,

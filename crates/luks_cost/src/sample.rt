@@ -5,7 +5,7 @@ ghost use Rattle.luks_cost.specs.Costs.{IsMost};
 use std::time::Duration;
 
 /// Work that was done on this machine, and how long it took.
-#[derive(Clone, Copy, Debug)]
+#[derive(Clone, Copy)]
 pub struct Sample {
     /// How many units of work: iterations, or KiB times passes.
     pub work: u64,

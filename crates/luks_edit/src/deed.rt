@@ -9,7 +9,7 @@ use luks_making::AskedDerivation;
 ///
 /// The rules of both versions are said over these parts, so that each of them is a rule of every edit
 /// that has the part.
-#[derive(Clone, Copy, Debug)]
+#[derive(Clone, Copy)]
 pub enum Deed<'a> {
     /// The key that a keyslot opens to is sealed under a new passphrase.
     Seal(Sealed<'a>),
@@ -23,7 +23,7 @@ pub enum Deed<'a> {
 }
 
 /// A key that an edit seals.
-#[derive(Clone, Copy, Debug)]
+#[derive(Clone, Copy)]
 pub struct Sealed<'a> {
     /// The keyslot that opens to it.
     pub opener: Opener<'a>,
@@ -36,7 +36,7 @@ pub struct Sealed<'a> {
 }
 
 /// The keyslot that a key is sealed in.
-#[derive(Clone, Copy, Debug)]
+#[derive(Clone, Copy)]
 pub enum Place {
     /// A new one.
     New {
@@ -49,7 +49,7 @@ pub enum Place {
 }
 
 /// A keyslot that an edit removes.
-#[derive(Clone, Copy, Debug)]
+#[derive(Clone, Copy)]
 pub struct Removed<'a> {
     /// The keyslot.
     pub slot: u8,

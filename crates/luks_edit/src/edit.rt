@@ -7,7 +7,7 @@ use luks_making::{AskedDerivation, NewDerivation};
 use luks_slot::Allowed;
 
 /// A passphrase, and what may be spent on it.
-#[derive(Clone, Copy, Debug)]
+#[derive(Clone, Copy)]
 pub struct Passphrase<'a> {
     /// The passphrase: any bytes, or none.
     pub bytes: &'a [u8],
@@ -22,7 +22,7 @@ pub struct Passphrase<'a> {
 /// to open.
 /// Keyslots are numbered 0 to 7 in LUKS1 and 0 to 31 in LUKS2. A passphrase is any bytes, and may
 /// be empty; for the new one as much is allowed as for the old one.
-#[derive(Clone, Copy, Debug)]
+#[derive(Clone, Copy)]
 pub enum Edit<'a> {
     /// Adds a keyslot in which a new passphrase opens the key that the old one opens.
     ///
@@ -80,7 +80,7 @@ pub enum Edit<'a> {
 }
 
 /// The keyslot that an edit opens, and by which passphrase.
-#[derive(Clone, Copy, Debug)]
+#[derive(Clone, Copy)]
 pub struct Opener<'a> {
     /// The keyslot.
     pub slot: u8,
@@ -209,14 +209,14 @@ fn is_short(passphrase: &[u8]) -> bool
 }
 
 /// What a completed edit made.
-#[derive(Clone, Copy, Debug, PartialEq, Eq, Drop)]
+#[derive(Clone, Copy, PartialEq, Eq, Drop)]
 pub struct Done {
     /// The keyslot that was made or changed; none after a removal, a repair and a new label.
     pub slot: Option<u8>,
 }
 
 /// An edit with its random bytes, one of a list.
-#[derive(Clone, Copy, Debug)]
+#[derive(Clone, Copy)]
 pub struct Step<'a> {
     /// The edit.
     pub edit: Edit<'a>,

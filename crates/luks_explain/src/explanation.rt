@@ -5,7 +5,7 @@ use std::fmt;
 
 /// What is said of a fault. Each text stands as it is printed: where it goes on, on a line of its own
 /// behind seven spaces, so that no line has more than 80 columns.
-#[derive(Debug, Clone, Copy)]
+#[derive(Clone, Copy)]
 pub struct Explanation {
     /// The fault's name, without what it prints in brackets.
     pub name: &'static str,

@@ -14,7 +14,7 @@ use std::process::Abort;
 use std::test::Fail;
 
 /// How an edit ended.
-#[derive(Debug, Clone, Copy, PartialEq, Eq)]
+#[derive(Clone, Copy, PartialEq, Eq)]
 enum End {
     Done,
     /// The device's fault was told.

@@ -10,7 +10,7 @@ use std::alloc::Global;
 use std::test::Fail;
 
 /// How a call ended.
-#[derive(Debug, Clone, Copy, PartialEq, Eq)]
+#[derive(Clone, Copy, PartialEq, Eq)]
 enum End {
     Done,
     /// It told that memory was refused, and no byte has changed.
@@ -44,7 +44,7 @@ fn end_of(
 
 /// How an edit ended, and how many blocks had to be given back until its need was told, and until it
 /// was done.
-#[derive(Debug, Clone, Copy)]
+#[derive(Clone, Copy)]
 struct Ended {
     need: End,
     end: End,

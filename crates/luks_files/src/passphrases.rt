@@ -74,7 +74,7 @@ fn ends_command(read: &Result<Secret, InputFault>) -> bool
 }
 
 /// What of its file is a passphrase.
-#[derive(Debug, Clone, Copy, PartialEq, Eq)]
+#[derive(Clone, Copy, PartialEq, Eq)]
 enum Part {
     Whole,
     FirstLine,

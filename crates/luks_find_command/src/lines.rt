@@ -22,7 +22,7 @@ impl fmt::Display for StartLine {
 }
 
 /// No volume was found.
-#[derive(Debug, Clone, Copy)]
+#[derive(Clone, Copy)]
 pub(crate) struct NoneFound;
 
 impl fmt::Display for NoneFound {

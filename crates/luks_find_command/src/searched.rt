@@ -1,7 +1,7 @@
 //! The file that is searched.
 
 /// The file that is searched.
-#[derive(Debug, Clone, Copy)]
+#[derive(Clone, Copy)]
 pub(crate) struct Searched<'a> {
     /// Its name.
     pub(crate) name: &'a str,

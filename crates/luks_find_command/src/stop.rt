@@ -3,7 +3,7 @@
 use luks_finding::FindFault;
 
 /// Why a search stops before the end of its device.
-#[derive(Debug, Clone, Copy, PartialEq, Eq)]
+#[derive(Clone, Copy, PartialEq, Eq)]
 pub(crate) enum Stop {
     /// A device call failed.
     Device,

@@ -19,7 +19,7 @@ const MOST: usize = 2048;
 const FEWEST: usize = 8;
 
 /// What a step of a search comes to.
-#[derive(Debug, Clone, Copy, PartialEq, Eq)]
+#[derive(Clone, Copy, PartialEq, Eq)]
 pub enum Step {
     /// A volume begins at this place, in bytes from the disk's start.
     Start(u64),

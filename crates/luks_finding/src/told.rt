@@ -1,7 +1,7 @@
 //! What a place of a disk tells.
 
 /// The starts of the volumes whose first sign stands at one place of a disk.
-#[derive(Debug, Clone, Copy, PartialEq, Eq)]
+#[derive(Clone, Copy, PartialEq, Eq)]
 pub(crate) enum Told {
     /// There is none.
     Nothing,

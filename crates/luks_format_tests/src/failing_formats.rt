@@ -78,7 +78,7 @@ fn calls_of(version: u8) -> u64 {
 }
 
 /// How formatting ended.
-#[derive(Debug, Clone, Copy, PartialEq, Eq)]
+#[derive(Clone, Copy, PartialEq, Eq)]
 enum End {
     Done,
     /// The device's fault was told.

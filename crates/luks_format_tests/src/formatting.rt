@@ -14,7 +14,7 @@ use std::alloc::Global;
 use std::test::Fail;
 
 /// How a volume of so many bytes 0xA5 is formatted with so many random bytes, by the passphrase `one`.
-#[derive(Clone, Copy, Debug)]
+#[derive(Clone, Copy)]
 pub(crate) struct Asked {
     /// The version of LUKS, 1 or 2.
     pub(crate) version: u8,

@@ -39,7 +39,7 @@ fn new_front(alloc: Global) -> Result<Vec<u8>, Fail> {
 }
 
 /// Which call fails: the write or the flush of this number, counted from 0.
-#[derive(Debug, Clone, Copy)]
+#[derive(Clone, Copy)]
 enum Failing {
     Write(usize),
     Flush(usize),

@@ -37,7 +37,7 @@ pub enum Copies {
 }
 
 /// The chosen header.
-#[derive(Debug, Clone, Copy, PartialEq, Eq)]
+#[derive(Clone, Copy, PartialEq, Eq)]
 pub enum Selected {
     /// The 592 bytes of a LUKS1 header, of which its version alone was judged.
     V1([u8; 592]),

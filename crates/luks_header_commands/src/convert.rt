@@ -69,7 +69,7 @@ pub fn run<D: Device, R: Read, N: Read, P: Printer, E: Write>(
 }
 
 /// The conversion of a volume with this payload, by these files.
-#[derive(Debug, Clone, Copy)]
+#[derive(Clone, Copy)]
 struct Conversion<'a> {
     files: &'a HeaderFiles<'a>,
     data_: Data,

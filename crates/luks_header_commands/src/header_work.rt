@@ -25,7 +25,7 @@ pub(crate) const TARGET_FAILED: &str =
     "reading or writing failed, the new header may be unfinished";
 
 /// The files of such a command.
-#[derive(Debug, Clone, Copy)]
+#[derive(Clone, Copy)]
 pub(crate) struct HeaderFiles<'a> {
     /// The volume.
     pub(crate) volume: &'a str,

@@ -127,7 +127,7 @@ fn answer<D: Device, R: Read, N: Read, E: Write, G: Progress>(
 }
 
 /// The making of a header as this asks, by these files.
-#[derive(Debug, Clone, Copy)]
+#[derive(Clone, Copy)]
 pub(crate) struct Making<'a> {
     /// The files.
     pub(crate) files: &'a HeaderFiles<'a>,

@@ -10,7 +10,7 @@ use std::alloc::{AllocError, Global};
 use std::io::Write;
 
 /// A question: SHA-256 of all that commands answer over hostile volumes.
-#[derive(Debug, Clone, Copy)]
+#[derive(Clone, Copy)]
 enum Hostile {
     /// LUKS1, cut in its header and about each area's end.
     CutLuks1,
@@ -40,7 +40,7 @@ fn hostile_of(word: &str, rest: &str) -> Option<Hostile> {
 }
 
 /// Takes the steps, of which each stands alone.
-#[derive(Debug, Clone, Copy)]
+#[derive(Clone, Copy)]
 pub struct Asking(pub Global);
 
 impl Steps for Asking {

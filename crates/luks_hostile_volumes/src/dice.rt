@@ -2,7 +2,7 @@
 use std::alloc::{AllocError, Global};
 
 /// SplitMix64.
-#[derive(Debug, Clone, Copy)]
+#[derive(Clone, Copy)]
 pub struct Dice {
     state: u64,
 }

@@ -12,7 +12,7 @@ use sha1::Sha1;
 use sha2::{Digest, Sha256, Sha512};
 
 /// A hash function that keys are derived, split and checked with, by its name in a header.
-#[derive(Clone, Copy, Debug, PartialEq, Eq)]
+#[derive(Debug, Clone, Copy, PartialEq, Eq)]
 pub enum HashName {
     /// SHA-1 (FIPS 180-4, 6.1), `sha1` in a header.
     Sha1,

@@ -12,7 +12,7 @@ use crate::hash_work::{DigestLen, HashWork, Hmac, Merge, Pbkdf2, Split, TakeIn};
 use crate::older_hash::OlderHash;
 
 /// A hash function that a keyslot is derived and split with, by its name in a header.
-#[derive(Clone, Copy, Debug, PartialEq, Eq)]
+#[derive(Clone, Copy, PartialEq, Eq)]
 pub enum KeyslotHash {
     /// One that a new header may name.
     Standard(HashName),

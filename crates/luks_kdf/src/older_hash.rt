@@ -11,7 +11,7 @@ use crate::older_sha2::{Sha224Fn, Sha384Fn};
 
 /// A hash function that keyslots of older volumes are derived and split with, by its name in a header.
 /// No new header names one.
-#[derive(Clone, Copy, Debug, PartialEq, Eq)]
+#[derive(Clone, Copy, PartialEq, Eq)]
 pub enum OlderHash {
     /// SHA-224 (FIPS 180-4, 6.3), `sha224` in a header.
     Sha224,

@@ -7,7 +7,7 @@ use std::fmt;
 
 /// How a keyslot of a backup stands to that of a volume with the same number: by their salts, of which
 /// each keyslot gets a new one when it is made.
-#[derive(Debug, Clone, Copy, PartialEq, Eq)]
+#[derive(Clone, Copy, PartialEq, Eq)]
 pub enum Keeping {
     /// Neither has it.
     Absent,

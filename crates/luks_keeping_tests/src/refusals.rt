@@ -10,7 +10,7 @@ use std::process::Abort;
 use std::test::Fail;
 
 /// How restoring ended.
-#[derive(Debug, Clone, Copy, PartialEq, Eq)]
+#[derive(Clone, Copy, PartialEq, Eq)]
 enum End {
     Done,
     NotAccepted,

@@ -13,7 +13,7 @@ use std::io::{self, Write};
 const MOST_MIB: u64 = 4194303;
 
 /// How a keyslot derives by Argon2, and whether it is refused.
-#[derive(Debug, Clone, Copy, PartialEq, Eq)]
+#[derive(Clone, Copy, PartialEq, Eq)]
 pub struct MemoryNote {
     /// The keyslot.
     slot: u8,
@@ -29,7 +29,7 @@ pub struct MemoryNote {
 }
 
 /// By what a keyslot derives, as it is said.
-#[derive(Debug, Clone, Copy)]
+#[derive(Clone, Copy)]
 struct Derived {
     /// The keyslot.
     slot: u8,
@@ -47,7 +47,7 @@ impl fmt::Display for Derived {
 }
 
 /// How many MiB it takes, and how a command line allows them.
-#[derive(Debug, Clone, Copy)]
+#[derive(Clone, Copy)]
 struct Allowing {
     mib: u64,
 }

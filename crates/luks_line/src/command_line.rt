@@ -10,7 +10,7 @@ use luks_request::Line;
 use std::alloc::Global;
 
 /// What a command line asks for.
-#[derive(Debug, Clone, Copy, PartialEq, Eq)]
+#[derive(Clone, Copy, PartialEq, Eq)]
 pub enum Asked<'a> {
     /// To explain a fault, which is named as it is printed or by its name alone; without one to list
     /// them all. No file is read for it.

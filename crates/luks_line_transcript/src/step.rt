@@ -1,7 +1,7 @@
 //! What a line asks for.
 
 /// A step of the transcript.
-#[derive(Debug, Clone, Copy)]
+#[derive(Clone, Copy)]
 pub enum Step<'a> {
     /// A line that is only printed.
     Note,
@@ -22,7 +22,7 @@ pub enum Step<'a> {
 }
 
 /// The most bytes of what is said of a fault.
-#[derive(Debug, Clone, Copy)]
+#[derive(Clone, Copy)]
 pub struct Widths {
     /// Of a line of its explanation.
     pub line: usize,

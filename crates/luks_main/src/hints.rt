@@ -23,7 +23,7 @@ use std::io::Write;
 use std::rt::{Clock, Files};
 
 /// How a command has ended.
-#[derive(Debug, Clone, Copy)]
+#[derive(Clone, Copy)]
 pub(crate) struct Ended<'a> {
     /// Its exit status.
     status: u8,
@@ -49,7 +49,7 @@ impl<'a> Ended<'a> {
 }
 
 /// What is looked at once more.
-#[derive(Debug, Clone, Copy)]
+#[derive(Clone, Copy)]
 struct Looked<'a> {
     /// Its file.
     file: &'a str,

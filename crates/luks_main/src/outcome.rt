@@ -39,7 +39,7 @@ pub(crate) struct Outcome {
 }
 
 /// What is printed for standard output.
-#[derive(Debug, Clone, Copy)]
+#[derive(Clone, Copy)]
 pub(crate) enum Printed<'a> {
     /// The answer's lines.
     Lines(&'a str),

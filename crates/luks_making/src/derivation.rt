@@ -7,7 +7,7 @@ ghost use Rattle.luks_making.specs.Derivations.{FitsAsked, FitsCosts, FitsNewDer
 pub const LEAST_ITERATIONS: u32 = 1000;
 
 /// What Argon2 costs.
-#[derive(Clone, Copy, Debug)]
+#[derive(Clone, Copy)]
 pub struct Argon2Costs {
     /// How many passes over the memory.
     pub time: u32,
@@ -31,7 +31,7 @@ impl Argon2Costs {
 }
 
 /// A derivation that is chosen for a keyslot.
-#[derive(Clone, Copy, Debug)]
+#[derive(Clone, Copy)]
 pub enum NewDerivation {
     /// PBKDF2, by the hash of the keyslot's splitter.
     Pbkdf2 {
@@ -69,7 +69,7 @@ impl NewDerivation {
 }
 
 /// How the key of a keyslot is to be derived that is sealed again, or made with the members of another.
-#[derive(Clone, Copy, Debug)]
+#[derive(Clone, Copy)]
 pub struct AskedDerivation {
     /// The iterations where nothing is chosen: then the keyslot derives as the other one does, PBKDF2 by
     /// so many. Argon2 has none.

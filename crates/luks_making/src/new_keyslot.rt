@@ -12,7 +12,7 @@ use serde_json::{Value, json};
 use std::alloc::{AllocError, Global};
 
 /// What is new of a keyslot that is sealed again, or made with the members of another.
-#[derive(Clone, Copy, Debug)]
+#[derive(Clone, Copy)]
 pub struct New<'a> {
     /// How the key of the area is derived.
     pub derivation: AskedDerivation,
@@ -25,7 +25,7 @@ pub struct New<'a> {
 }
 
 /// How the key of a keyslot's area is derived, but for the salt.
-#[derive(Clone, Copy, Debug)]
+#[derive(Clone, Copy)]
 pub enum KeyslotDerivation<'a> {
     /// The type `pbkdf2`.
     Pbkdf2 {
@@ -54,7 +54,7 @@ impl<'a> KeyslotDerivation<'a> {
 }
 
 /// The members of a keyslot that is made, without a priority.
-#[derive(Clone, Copy, Debug)]
+#[derive(Clone, Copy)]
 pub struct NewKeyslot<'a> {
     /// The length of the volume key in bytes.
     pub key_size: u8,

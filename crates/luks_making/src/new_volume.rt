@@ -13,7 +13,7 @@ use serde_json::{Value, json};
 use std::alloc::{AllocError, Global};
 
 /// What the metadata of a new volume says.
-#[derive(Clone, Copy, Debug)]
+#[derive(Clone, Copy)]
 pub struct NewVolume<'a> {
     /// The hash of the derivation, the splitter and the digest.
     pub hash: &'a str,

@@ -17,7 +17,7 @@ use serde_json::Value;
 use std::alloc::{AllocError, Global};
 
 /// What an enabled keyslot of a LUKS1 header says, but for where its key material lies.
-#[derive(Clone, Copy, Debug)]
+#[derive(Clone, Copy)]
 pub struct SourceSlot {
     /// The derivation's iterations.
     pub iterations: u32,
@@ -28,7 +28,7 @@ pub struct SourceSlot {
 }
 
 /// What a LUKS1 header says, but for its uuid, which isn't a member of the metadata.
-#[derive(Clone, Copy, Debug)]
+#[derive(Clone, Copy)]
 pub struct SourceVolume<'a> {
     /// The hash of the derivation, the splitter and the digest.
     pub hash: &'a str,

@@ -17,7 +17,7 @@ const MOST_ROWS: usize = 68;
 pub(crate) type Rows = ArrayVec<Row, MOST_ROWS>;
 
 /// The map of a header's areas, in the order of their places; it prints as its lines.
-#[derive(Debug, Drop)]
+#[derive(Drop)]
 pub struct HeaderMap {
     rows: Rows,
     total: u64,

@@ -11,7 +11,7 @@ use luks_rules::{Member, Outer};
 use serde_json::Value;
 
 /// The members of `config`.
-#[derive(Clone, Copy, Debug, PartialEq, Eq)]
+#[derive(Clone, Copy, PartialEq, Eq)]
 pub struct Config {
     /// The length of the JSON area in bytes.
     pub json_size: u64,

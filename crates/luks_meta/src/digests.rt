@@ -14,7 +14,7 @@ use luks_rules::{Member, Outer};
 use serde_json::Value;
 
 /// The members of a digest, which is of the type `pbkdf2`.
-#[derive(Debug, Drop)]
+#[derive(Drop)]
 pub struct Digest<'a> {
     /// The numbers of the keyslots that it names, in the order of its array.
     pub keyslots: ArrayVec<u8, 32>,

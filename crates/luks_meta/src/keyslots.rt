@@ -14,7 +14,7 @@ use luks_rules::{Member, Outer};
 use serde_json::Value;
 
 /// How the key is split over its area.
-#[derive(Clone, Copy, Debug)]
+#[derive(Clone, Copy)]
 pub struct Splitter<'a> {
     /// How many stripes the volume key is split into, at least 1.
     pub stripes: u32,
@@ -23,7 +23,7 @@ pub struct Splitter<'a> {
 }
 
 /// The area of a keyslot.
-#[derive(Clone, Copy, Debug)]
+#[derive(Clone, Copy)]
 pub struct KeyArea<'a> {
     /// Where it begins, in bytes.
     pub offset: u64,
@@ -36,7 +36,7 @@ pub struct KeyArea<'a> {
 }
 
 /// The cost of PBKDF2.
-#[derive(Clone, Copy, Debug)]
+#[derive(Clone, Copy)]
 pub struct Pbkdf2<'a> {
     /// The name of the hash, as the metadata writes it.
     pub hash: &'a str,
@@ -45,7 +45,7 @@ pub struct Pbkdf2<'a> {
 }
 
 /// The cost of Argon2.
-#[derive(Clone, Copy, Debug, PartialEq, Eq)]
+#[derive(Clone, Copy, PartialEq, Eq)]
 pub struct Argon2 {
     /// How many passes over the memory, at least 1.
     pub time: u32,
@@ -56,7 +56,7 @@ pub struct Argon2 {
 }
 
 /// Which derivation gives the area's key, and at what cost.
-#[derive(Clone, Copy, Debug)]
+#[derive(Clone, Copy)]
 pub enum Cost<'a> {
     /// The type `pbkdf2`.
     Pbkdf2(Pbkdf2<'a>),
@@ -67,7 +67,7 @@ pub enum Cost<'a> {
 }
 
 /// How a passphrase gives the area's key.
-#[derive(Debug, Drop)]
+#[derive(Drop)]
 pub struct Derivation<'a> {
     /// The salt, 1 to 128 bytes.
     pub salt: ArrayVec<u8, 128>,
@@ -76,7 +76,7 @@ pub struct Derivation<'a> {
 }
 
 /// The members of a keyslot.
-#[derive(Debug, Drop)]
+#[derive(Drop)]
 pub struct Keyslot<'a> {
     /// The length of the volume key in bytes.
     pub key_size: u8,

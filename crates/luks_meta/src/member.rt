@@ -17,7 +17,7 @@ use luks_rules::{Member, Outer, member_at, sector_size_in, type_at};
 use serde_json::Value;
 
 /// How far a segment goes.
-#[derive(Clone, Copy, Debug, PartialEq, Eq)]
+#[derive(Clone, Copy, PartialEq, Eq)]
 pub enum Extent {
     /// So many bytes.
     Fixed(u64),

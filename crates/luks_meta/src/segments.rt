@@ -11,7 +11,7 @@ use luks_rules::{Member, Outer};
 use serde_json::Value;
 
 /// How a segment's payload is encrypted.
-#[derive(Clone, Copy, Debug)]
+#[derive(Clone, Copy)]
 pub struct Encryption<'a> {
     /// The number of the segment's first sector.
     pub iv_tweak: u64,
@@ -22,7 +22,7 @@ pub struct Encryption<'a> {
 }
 
 /// What a segment is.
-#[derive(Clone, Copy, Debug)]
+#[derive(Clone, Copy)]
 pub enum SegmentKind<'a> {
     /// The type `crypt`: its payload is encrypted (LUKS2 On-Disk Format 1.1, 3.3).
     Crypt(Encryption<'a>),
@@ -31,7 +31,7 @@ pub enum SegmentKind<'a> {
 }
 
 /// The members of a segment.
-#[derive(Clone, Copy, Debug)]
+#[derive(Clone, Copy)]
 pub struct Segment<'a> {
     /// Where it begins, in bytes.
     pub offset: u64,

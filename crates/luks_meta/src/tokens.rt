@@ -14,7 +14,7 @@ use luks_rules::{Member, Outer};
 use serde_json::Value;
 
 /// The members of a token.
-#[derive(Debug, Drop)]
+#[derive(Drop)]
 pub struct Token<'a> {
     /// Its type, any text.
     pub kind: &'a str,

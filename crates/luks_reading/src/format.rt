@@ -1,7 +1,7 @@
 use luks_kdf::HashName;
 
 /// How a new volume is made; all else is fixed.
-#[derive(Clone, Copy, Debug, PartialEq, Eq)]
+#[derive(Debug, Clone, Copy, PartialEq, Eq)]
 pub struct Format {
     /// The hash of the derivation, the splitter and the digest.
     pub hash: HashName,

@@ -2,7 +2,7 @@
 
 /// Of the keyslots that were tried and didn't open, the first of those whose digest differed in the
 /// fewest bits. A wrong passphrase differs in about half of them.
-#[derive(Clone, Copy, Debug)]
+#[derive(Clone, Copy)]
 pub struct Nearest {
     /// The keyslot.
     pub slot: u8,

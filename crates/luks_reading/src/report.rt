@@ -11,7 +11,7 @@ pub enum Data {
 }
 
 /// The format of a volume.
-#[derive(Debug, Clone, Copy, PartialEq, Eq)]
+#[derive(Clone, Copy, PartialEq, Eq)]
 pub enum Version {
     /// LUKS1 On-Disk Format.
     Luks1,
@@ -25,7 +25,7 @@ pub enum Version {
 }
 
 /// What `check` says of a volume that it accepts.
-#[derive(Debug, Drop)]
+#[derive(Drop)]
 pub struct Report {
     /// The volume's format.
     pub version: Version,

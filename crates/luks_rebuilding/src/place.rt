@@ -4,7 +4,7 @@ ghost use Rattle.luks_rebuilding.specs.Found.{place_of};
 ghost use Rattle.luks_rebuilding.specs.Rebuilt.{other_at};
 
 /// The place of a copy of a LUKS2 header (LUKS2 On-Disk Format 1.1, 2.1).
-#[derive(Debug, Clone, Copy, PartialEq, Eq)]
+#[derive(Clone, Copy, PartialEq, Eq)]
 pub struct Place {
     /// The length of the copy in bytes, binary header and JSON area together: one of the nine that
     /// the standard lists.
@@ -14,7 +14,7 @@ pub struct Place {
 }
 
 /// Which copies' metadata may be taken.
-#[derive(Debug, Clone, Copy, PartialEq, Eq)]
+#[derive(Clone, Copy, PartialEq, Eq)]
 pub enum Which {
     /// Any: first copies by their size, then second copies by their size. No header may count.
     Any,
@@ -27,7 +27,7 @@ pub enum Which {
 }
 
 /// The first copies, or the second.
-#[derive(Debug, Clone, Copy, PartialEq, Eq)]
+#[derive(Clone, Copy, PartialEq, Eq)]
 pub(crate) enum Half {
     /// Those at the volume's start.
     First,

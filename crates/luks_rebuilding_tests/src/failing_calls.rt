@@ -9,14 +9,14 @@ use std::process::Abort;
 use std::test::Fail;
 
 /// Which call of which device fails, counted from 0.
-#[derive(Debug, Clone, Copy)]
+#[derive(Clone, Copy)]
 enum Failing {
     Source(u64),
     Target(u64),
 }
 
 /// How rebuilding ended.
-#[derive(Debug, Clone, Copy, PartialEq, Eq)]
+#[derive(Clone, Copy, PartialEq, Eq)]
 enum End {
     Done,
     /// A failure was told, and this device alone has counted one.

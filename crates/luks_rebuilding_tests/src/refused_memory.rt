@@ -7,7 +7,7 @@ use std::alloc::Global;
 use std::test::Fail;
 
 /// How rebuilding ended.
-#[derive(Debug, Clone, Copy, PartialEq, Eq)]
+#[derive(Clone, Copy, PartialEq, Eq)]
 enum End {
     Done,
     /// It told that memory was refused, and no byte has changed.

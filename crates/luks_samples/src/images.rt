@@ -41,7 +41,7 @@ pub fn luks1(alloc: Global) -> Result<Vec<u8>, AllocError> {
 }
 
 /// The fields of a copy of a LUKS2 header that differ among the volumes here.
-#[derive(Debug, Clone, Copy)]
+#[derive(Clone, Copy)]
 pub struct Fields<'a> {
     /// The bytes of each copy.
     pub size: u32,

@@ -8,7 +8,7 @@ use luks_meta::{Argon2, Cost, Encryption};
 use std::fmt;
 
 /// What the derivation of the keyslot of this number costs; it prints as its line. Memory is in KiB.
-#[derive(Debug, Clone, Copy)]
+#[derive(Clone, Copy)]
 pub struct CostsLine<'a>(pub u8, pub Cost<'a>);
 
 impl fmt::Display for CostsLine<'_> {
@@ -46,7 +46,7 @@ fn write_argon2<W: fmt::Write>(
 }
 
 /// How the segment of this number is encrypted; it prints as its line.
-#[derive(Debug, Clone, Copy)]
+#[derive(Clone, Copy)]
 pub struct EncryptionLine<'a>(pub u8, pub Encryption<'a>);
 
 impl fmt::Display for EncryptionLine<'_> {

@@ -7,7 +7,7 @@ use std::fmt;
 
 /// A text of which each byte outside 0x20 to 0x7E, and the backslash, is shown as a backslash and
 /// two lower hexadecimal digits.
-#[derive(Debug, Clone, Copy)]
+#[derive(Clone, Copy)]
 pub(crate) struct Escaped<'a>(pub(crate) &'a [u8]);
 
 impl fmt::Display for Escaped<'_> {
@@ -22,7 +22,7 @@ impl fmt::Display for Escaped<'_> {
 }
 
 /// One byte of such a text.
-#[derive(Debug, Clone, Copy)]
+#[derive(Clone, Copy)]
 struct EscapedByte(u8);
 
 impl fmt::Display for EscapedByte {

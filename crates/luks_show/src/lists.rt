@@ -2,7 +2,7 @@
 use std::fmt;
 
 /// Numbers joined by commas, or a hyphen where there is none.
-#[derive(Debug, Clone, Copy)]
+#[derive(Clone, Copy)]
 pub(crate) struct Numbers<'a>(pub(crate) &'a [u8]);
 
 impl fmt::Display for Numbers<'_> {

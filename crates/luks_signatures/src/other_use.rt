@@ -4,7 +4,7 @@ ghost use Rattle.luks_signatures.specs.UseTexts.{use_text};
 use std::fmt;
 
 /// What a disk is used for that isn't a LUKS volume.
-#[derive(Debug, Clone, Copy, PartialEq, Eq)]
+#[derive(Clone, Copy, PartialEq, Eq)]
 pub enum OtherUse {
     /// A GUID partition table.
     Gpt,

@@ -1,5 +1,5 @@
 /// What may be spent on a passphrase, and what is accepted of the keyslot that it opens.
-#[derive(Clone, Copy, Debug, PartialEq, Eq)]
+#[derive(Clone, Copy, PartialEq, Eq)]
 pub struct Allowed {
     /// How many KiB Argon2 may take; 0: it is refused.
     pub memory: u32,

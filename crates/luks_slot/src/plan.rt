@@ -3,7 +3,7 @@
 use luks_area::Area;
 
 /// How the key of a keyslot's area is derived from a passphrase.
-#[derive(Clone, Copy, Debug)]
+#[derive(Clone, Copy)]
 pub enum Derivation<'a> {
     /// PBKDF2 with this hash, named as the header writes it, by at least one iteration.
     Pbkdf2 {
@@ -19,7 +19,7 @@ pub enum Derivation<'a> {
 }
 
 /// The kinds of Argon2 that LUKS2 has (LUKS2 On-Disk Format 1.1, 3.2; RFC 9106, 3.1).
-#[derive(Clone, Copy, Debug)]
+#[derive(Clone, Copy)]
 pub enum Argon2Kind {
     /// `argon2i`, Argon2i.
     I,
@@ -28,7 +28,7 @@ pub enum Argon2Kind {
 }
 
 /// What Argon2 derives by, as the header writes it.
-#[derive(Clone, Copy, Debug)]
+#[derive(Clone, Copy)]
 pub struct Argon2Plan<'a> {
     /// The kind of Argon2.
     pub kind: Argon2Kind,
@@ -43,7 +43,7 @@ pub struct Argon2Plan<'a> {
 }
 
 /// The cipher of a keyslot's area, as the header writes it.
-#[derive(Clone, Copy, Debug)]
+#[derive(Clone, Copy)]
 pub enum AreaCipher<'a> {
     /// A name and a mode, as LUKS1 writes them: `aes` and `xts-plain64`.
     Apart {
@@ -57,7 +57,7 @@ pub enum AreaCipher<'a> {
 }
 
 /// By what a volume key is known to be the right one: PBKDF2 of it.
-#[derive(Clone, Copy, Debug)]
+#[derive(Clone, Copy)]
 pub struct DigestPlan<'a> {
     /// The hash's name, as the header writes it.
     pub hash: &'a str,
@@ -70,7 +70,7 @@ pub struct DigestPlan<'a> {
 }
 
 /// All that it takes to open or seal a keyslot with a passphrase, of either version.
-#[derive(Clone, Copy, Debug)]
+#[derive(Clone, Copy)]
 pub struct SlotPlan<'a> {
     /// How the key of the area is derived.
     pub derivation: Derivation<'a>,

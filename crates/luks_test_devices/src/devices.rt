@@ -7,7 +7,7 @@ use std::alloc::{AllocError, Global};
 
 /// A disk of which the front alone is kept: bytes beyond it are zeros, a write that reaches beyond it
 /// is only counted, and no call fails.
-#[derive(Debug, Drop)]
+#[derive(Drop)]
 pub struct Front {
     /// What is kept.
     pub front: MemDevice,
@@ -82,7 +82,7 @@ pub fn target(alloc: Global, len: u64) -> Result<Front, AllocError> {
 }
 
 /// A call of a device.
-#[derive(Debug, Clone, Copy, PartialEq, Eq)]
+#[derive(Clone, Copy, PartialEq, Eq)]
 pub enum Call {
     Read,
     /// A write from the place `at` on, of so many bytes.

@@ -3,7 +3,7 @@ use crate::memory::{BLOCKS, TakenMemory};
 use std::alloc::{AllocError, Global};
 
 /// How work ended.
-#[derive(Debug, Clone, Copy, PartialEq, Eq)]
+#[derive(Clone, Copy, PartialEq, Eq)]
 pub enum End {
     Done,
     /// It told that memory was refused, and no byte has changed.

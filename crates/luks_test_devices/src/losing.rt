@@ -9,7 +9,7 @@ use luks_area::{Device, DeviceFault};
 use std::alloc::{AllocError, Global};
 
 /// What a failing call leaves of the bytes that were written and not flushed, and of its own range.
-#[derive(Debug, Clone, Copy, PartialEq, Eq)]
+#[derive(Clone, Copy, PartialEq, Eq)]
 pub enum Loss {
     /// What was written before is lost, and what the call writes is there: writes out of order.
     OutOfOrder,
@@ -38,7 +38,7 @@ impl Loss {
 }
 
 /// What a call comes to.
-#[derive(Debug, Clone, Copy, PartialEq, Eq)]
+#[derive(Clone, Copy, PartialEq, Eq)]
 enum Turn {
     /// It does what it is to do.
     Done,
@@ -54,7 +54,7 @@ enum Turn {
 /// Of its calls `read_at`, `write_at` and `flush`, counted from 0, the one of a given number fails; it
 /// loses what was written and not flushed, as `Loss` says, but a read loses nothing. Where the device
 /// dies with that call, each later one fails and does nothing; else all later ones are done.
-#[derive(Debug, Drop)]
+#[derive(Drop)]
 pub struct LosingDevice {
     present: Vec<u8>,
     settled: Vec<u8>,

@@ -51,7 +51,7 @@ const SHA512: &str = concat!(
 );
 
 /// The fields of a copy of a LUKS2 header that differ among the volumes of the tests.
-#[derive(Debug, Clone, Copy)]
+#[derive(Clone, Copy)]
 pub struct Fields<'a> {
     /// The bytes of the copy.
     pub size: u32,

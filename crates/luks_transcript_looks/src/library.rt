@@ -9,7 +9,7 @@ use std::alloc::Global;
 use std::io::Write;
 
 /// A question to the library.
-#[derive(Debug, Clone, Copy)]
+#[derive(Clone, Copy)]
 pub struct Question {
     what: What,
     /// Whether it is asked while there is no memory.
@@ -17,7 +17,7 @@ pub struct Question {
 }
 
 /// What the library is asked.
-#[derive(Debug, Clone, Copy)]
+#[derive(Clone, Copy)]
 enum What {
     /// The areas of the volume, with its payload in it.
     Areas,

@@ -8,7 +8,7 @@ use std::alloc::Global;
 use std::io::Write;
 
 /// A question.
-#[derive(Debug, Clone, Copy)]
+#[derive(Clone, Copy)]
 pub enum Look<'a> {
     /// SHA-256 of a part of the volume.
     Sum(Part),
@@ -37,7 +37,7 @@ pub enum Look<'a> {
 }
 
 /// The part of the volume from one place up to another.
-#[derive(Debug, Clone, Copy)]
+#[derive(Clone, Copy)]
 pub struct Part {
     from: usize,
     to: usize,

@@ -8,7 +8,7 @@ use std::alloc::{AllocError, Global};
 use std::io::Write;
 
 /// A look.
-#[derive(Debug, Clone, Copy)]
+#[derive(Clone, Copy)]
 pub enum Written {
     /// SHA-256 of the target's bytes from a place up to another.
     TargetSum(usize, usize),

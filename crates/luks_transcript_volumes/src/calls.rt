@@ -5,7 +5,7 @@ use luks_area::Leave;
 use luks_test_devices::Loss;
 
 /// A call of a device.
-#[derive(Debug, Clone, Copy, PartialEq, Eq)]
+#[derive(Clone, Copy, PartialEq, Eq)]
 pub enum Call {
     Read,
     /// A write from the place `at` on, of so many bytes.
@@ -14,7 +14,7 @@ pub enum Call {
 }
 
 /// Which call of a device fails.
-#[derive(Debug, Clone, Copy, PartialEq, Eq)]
+#[derive(Clone, Copy, PartialEq, Eq)]
 pub enum When {
     /// That of this number, counted from 0.
     Call(u64),
@@ -25,7 +25,7 @@ pub enum When {
 }
 
 /// What a failing call leaves.
-#[derive(Debug, Clone, Copy)]
+#[derive(Clone, Copy)]
 pub enum Left {
     /// A write leaves this in its range; later calls are done.
     InRange(Leave),
@@ -34,7 +34,7 @@ pub enum Left {
 }
 
 /// A failing call.
-#[derive(Debug, Clone, Copy)]
+#[derive(Clone, Copy)]
 pub struct Failing {
     /// Which call it is.
     pub when: When,
@@ -43,7 +43,7 @@ pub struct Failing {
 }
 
 /// The part of a disk from one place up to another.
-#[derive(Debug, Clone, Copy)]
+#[derive(Clone, Copy)]
 pub struct Span {
     pub from: u64,
     pub to: u64,
@@ -57,7 +57,7 @@ impl Span {
 }
 
 /// What may be read of a device that isn't to be written.
-#[derive(Debug, Clone, Copy)]
+#[derive(Clone, Copy)]
 pub struct Readable {
     /// How many bytes in all.
     pub most: u64,
@@ -66,7 +66,7 @@ pub struct Readable {
 }
 
 /// How a device is other than a sound one.
-#[derive(Debug, Clone, Copy)]
+#[derive(Clone, Copy)]
 pub struct Oddity {
     /// The call that fails.
     pub failing: Option<Failing>,
@@ -86,7 +86,7 @@ impl Oddity {
 }
 
 /// What a disk was asked for.
-#[derive(Debug, Drop)]
+#[derive(Drop)]
 pub struct Record {
     /// The calls, where they are listed.
     pub calls: Vec<Call>,
@@ -99,7 +99,7 @@ pub struct Record {
 }
 
 /// What was asked of the files of a command.
-#[derive(Debug, Drop)]
+#[derive(Drop)]
 pub struct Asked {
     pub volume: Option<Record>,
     pub target: Option<Record>,

@@ -9,7 +9,7 @@ use luks_test_devices::Loss;
 use std::alloc::Global;
 
 /// A disk of which the front is kept: bytes behind it are zeros, and a write there is only counted.
-#[derive(Debug, Drop)]
+#[derive(Drop)]
 pub struct Disk {
     alloc: Global,
     kept: Kept,

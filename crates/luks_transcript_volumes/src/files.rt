@@ -6,7 +6,7 @@ use std::io;
 use std::io::{ErrorKind, Read};
 
 /// A file of a command.
-#[derive(Debug, Clone, Copy, PartialEq, Eq)]
+#[derive(Clone, Copy, PartialEq, Eq)]
 pub enum Name {
     Volume,
     Target,
@@ -29,14 +29,14 @@ pub fn name_of(word: &str) -> Option<Name> {
 }
 
 /// The bytes of a file that is no volume.
-#[derive(Debug, Clone, Copy)]
+#[derive(Clone, Copy)]
 pub struct Filing<'a> {
     name: Name,
     bytes: Bytes<'a>,
 }
 
 /// Bytes of a file.
-#[derive(Debug, Clone, Copy)]
+#[derive(Clone, Copy)]
 enum Bytes<'a> {
     /// Those of a text with escapes.
     Text(&'a str),
@@ -103,7 +103,7 @@ fn counted(alloc: Global, from: usize, len: usize, modulus: usize) -> Result<Vec
 }
 
 /// The files of the commands that are no volumes, as far as they are there.
-#[derive(Debug, Drop)]
+#[derive(Drop)]
 pub struct Files {
     pub passphrase: Option<Vec<u8>>,
     pub new: Option<Vec<u8>>,
@@ -142,7 +142,7 @@ impl Filing<'_> {
 }
 
 /// A reader of the bytes of a file. Where it fails behind them, it gives them one by one.
-#[derive(Debug, Drop)]
+#[derive(Drop)]
 pub struct Source<'a> {
     /// What is left to be read.
     pub left: &'a [u8],

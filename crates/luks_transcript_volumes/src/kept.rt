@@ -4,7 +4,7 @@ ghost use Rattle.std.specs.Prelude.{◌≡◌};
 use std::alloc::{AllocError, Global};
 
 /// The bytes of a disk that are kept: its first ones, and those of a part further back.
-#[derive(Debug, Drop)]
+#[derive(Drop)]
 pub struct Kept {
     /// The first ones.
     pub bytes: Vec<u8>,
@@ -15,7 +15,7 @@ pub struct Kept {
 }
 
 /// A part of a disk that is kept behind its first bytes.
-#[derive(Debug, Drop)]
+#[derive(Drop)]
 pub struct Back {
     /// Where it begins.
     pub at: u64,

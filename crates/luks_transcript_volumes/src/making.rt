@@ -13,7 +13,7 @@ use luks_samples::{
 use std::alloc::{AllocError, Global};
 
 /// A step that makes the volume, or what it is made of.
-#[derive(Debug, Clone, Copy)]
+#[derive(Clone, Copy)]
 pub enum Making<'a> {
     /// A new header with the metadata of this name.
     Text(&'a str),
@@ -40,7 +40,7 @@ pub enum Making<'a> {
 }
 
 /// A change of the volume.
-#[derive(Debug, Clone, Copy)]
+#[derive(Clone, Copy)]
 pub enum Change<'a> {
     /// Where a copy of the header is put.
     Header(u32),
@@ -57,7 +57,7 @@ pub enum Change<'a> {
 }
 
 /// A field of a header that holds bytes.
-#[derive(Debug, Clone, Copy)]
+#[derive(Clone, Copy)]
 pub enum Field {
     Label,
     Subsystem,

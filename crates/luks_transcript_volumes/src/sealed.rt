@@ -11,7 +11,7 @@ use luks_test_devices::{
 use std::alloc::Global;
 
 /// A step that makes a volume or a target, or changes the volume.
-#[derive(Debug, Clone, Copy)]
+#[derive(Clone, Copy)]
 pub enum Sealing<'a> {
     /// The small volume of this name.
     Small(&'a str),

@@ -3,7 +3,7 @@ use crate::kept::Back;
 use luks_test_devices::Loss;
 
 /// What stood where a write since the last flush was made.
-#[derive(Debug, Drop)]
+#[derive(Drop)]
 pub struct Before {
     pub at: u64,
     pub bytes: Vec<u8>,

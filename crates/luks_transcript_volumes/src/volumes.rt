@@ -3,7 +3,7 @@ use crate::kept::Kept;
 use std::alloc::{AllocError, Global};
 
 /// The volumes of the commands, as far as they are there.
-#[derive(Debug, Drop)]
+#[derive(Drop)]
 pub struct Volumes {
     pub volume: Option<Kept>,
     pub target: Option<Kept>,

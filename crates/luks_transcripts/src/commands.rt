@@ -11,7 +11,7 @@ use std::alloc::{AllocError, Global};
 use std::io::{Cursor, Write};
 
 /// A command: its words, which single spaces part.
-#[derive(Debug, Clone, Copy)]
+#[derive(Clone, Copy)]
 pub struct Command<'a>(pub &'a str);
 
 /// The step of this word and of what follows it.
@@ -23,7 +23,7 @@ pub fn command_of<'a>(word: &'a str, rest: &'a str) -> Option<Command<'a>> {
 }
 
 /// What a command printed on standard output and on standard error, and its status.
-#[derive(Debug, Drop)]
+#[derive(Drop)]
 pub struct Told {
     out: Vec<u8>,
     printed: usize,

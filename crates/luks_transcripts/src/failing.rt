@@ -8,7 +8,7 @@ use luks_transcript_volumes::{
 use std::io::ErrorKind;
 
 /// A step after which something fails in the next command.
-#[derive(Debug, Clone, Copy)]
+#[derive(Clone, Copy)]
 pub enum Failure {
     /// The file isn't read.
     Unread(Name, InputFault),
@@ -25,7 +25,7 @@ pub enum Failure {
 }
 
 /// A standard stream.
-#[derive(Debug, Clone, Copy)]
+#[derive(Clone, Copy)]
 pub enum Stream {
     Output,
     Error,
@@ -134,7 +134,7 @@ pub fn left_of(word: &str) -> Option<Left> {
 }
 
 /// What fails of a file.
-#[derive(Debug, Clone, Copy)]
+#[derive(Clone, Copy)]
 pub struct Trouble {
     /// Why it isn't read.
     pub unread: Option<InputFault>,
@@ -154,14 +154,14 @@ impl Trouble {
 }
 
 /// How many bytes standard output and standard error take.
-#[derive(Debug, Clone, Copy)]
+#[derive(Clone, Copy)]
 pub struct Room {
     pub out: usize,
     pub err: usize,
 }
 
 /// What fails in a command.
-#[derive(Debug, Clone, Copy)]
+#[derive(Clone, Copy)]
 pub struct Troubles {
     pub volume: Trouble,
     pub target: Trouble,

@@ -13,7 +13,7 @@ use std::alloc::Global;
 use std::io::Write;
 
 /// A step of runs that are judged.
-#[derive(Debug, Clone, Copy)]
+#[derive(Clone, Copy)]
 pub enum Repeated<'a> {
     /// Each call of a device fails in turn.
     Torn(Torn<'a>),
@@ -22,7 +22,7 @@ pub enum Repeated<'a> {
 }
 
 /// A command of which each call of a device fails in turn, and what a failing write leaves.
-#[derive(Debug, Clone, Copy)]
+#[derive(Clone, Copy)]
 pub struct Torn<'a> {
     name: Name,
     leave: Leave,

@@ -7,7 +7,7 @@ use luks_transcript_looks::{Look, Question, Written, look_of, question_of, writt
 use luks_transcript_volumes::{Filing, Making, Sealing, filing_of, making_of, parted, sealing_of};
 
 /// A step, by its family.
-#[derive(Debug, Clone, Copy)]
+#[derive(Clone, Copy)]
 pub enum Step<'a> {
     /// A line that is only printed.
     Note,

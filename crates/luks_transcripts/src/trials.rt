@@ -12,7 +12,7 @@ use std::alloc::{AllocError, Global};
 use std::io::Write;
 
 /// A step of repeated runs.
-#[derive(Debug, Clone, Copy)]
+#[derive(Clone, Copy)]
 pub enum Trial<'a> {
     /// The keyslot of this number is tried with this passphrase after each run of the next `each`.
     Probe(u8, &'a str),

@@ -19,7 +19,7 @@ pub fn bytes_of(alloc: Global, word: &str) -> Result<Vec<u8>, Malformed> {
 }
 
 /// Bytes by their places.
-#[derive(Debug, Clone, Copy)]
+#[derive(Clone, Copy)]
 enum Pattern {
     /// The same byte everywhere.
     Same(u8),

@@ -5,7 +5,7 @@ use luks_test_devices::TakenMemory;
 use std::alloc::{AllocError, Global};
 
 /// How much memory a function has.
-#[derive(Debug, Clone, Copy)]
+#[derive(Clone, Copy)]
 pub enum Memory {
     /// All that there is.
     Free,

@@ -6,7 +6,7 @@ use std::alloc::Global;
 use std::str;
 
 /// The words of a line that weren't read yet.
-#[derive(Debug, Clone, Copy)]
+#[derive(Clone, Copy)]
 pub struct Words<'a> {
     left: &'a str,
 }

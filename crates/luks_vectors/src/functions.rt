@@ -9,7 +9,7 @@ use luks_vector_lines::{Functions, Malformed, Memory, Words};
 use std::alloc::Global;
 
 /// The functions, and the memory of those to come.
-#[derive(Debug, Clone, Copy)]
+#[derive(Clone, Copy)]
 pub struct ByteFunctions {
     memory: Memory,
 }

@@ -12,7 +12,7 @@ use luks_vector_lines::{Malformed, Memory, Words, demand, done, number_of};
 use std::alloc::Global;
 
 /// The hash, the iterations and the salt of PBKDF2.
-#[derive(Debug, Drop)]
+#[derive(Drop)]
 struct Pbkdf2 {
     hash: String,
     iterations: u32,
@@ -20,7 +20,7 @@ struct Pbkdf2 {
 }
 
 /// What Argon2 derives by.
-#[derive(Debug, Drop)]
+#[derive(Drop)]
 struct Argon2 {
     kind: Argon2Kind,
     time: u32,
@@ -30,14 +30,14 @@ struct Argon2 {
 }
 
 /// How the key of a keyslot's area is derived.
-#[derive(Debug, Drop)]
+#[derive(Drop)]
 enum Kdf {
     Pbkdf2(Pbkdf2),
     Argon2(Argon2),
 }
 
 /// What a keyslot says.
-#[derive(Debug, Drop)]
+#[derive(Drop)]
 pub struct Keyslot {
     kdf: Kdf,
     cipher: String,

@@ -34,7 +34,7 @@ pub(super) struct Seen {
 }
 
 /// A keyslot that is made with fewer iterations than the one that opens has.
-#[derive(Debug, Clone, Copy)]
+#[derive(Clone, Copy)]
 pub(super) struct Weaker {
     /// The iterations of the new keyslot.
     iterations: u32,
@@ -45,7 +45,7 @@ pub(super) struct Weaker {
 }
 
 /// Why nothing is seen of an edit.
-#[derive(Debug, Clone, Copy)]
+#[derive(Clone, Copy)]
 pub(super) enum Unseen {
     /// The first of the faults that are seen without opening a keyslot.
     Untold(EditFault),
