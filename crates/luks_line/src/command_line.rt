@@ -1,3 +1,5 @@
+use crate::command_name::CommandName;
+use crate::commands::command_named;
 use crate::derivation::wrong_derivation;
 use crate::fields::wrong_field;
 use crate::manner::{Manner, manner_of};
@@ -7,10 +9,10 @@ use crate::search::Search;
 use clap::error::ErrorKind;
 use clap::{ArgMatches, Error};
 use luks_request::Line;
-use std::alloc::Global;
+use std::alloc::{AllocError, Global};
 
 /// What a command line asks for.
-#[derive(Clone, Copy, PartialEq, Eq)]
+#[derive(Clone, Copy)]
 pub enum Asked<'a> {
     /// To explain a fault, which is named as it is printed or by its name alone; without one to list
     /// them all. No file is read for it.
@@ -26,32 +28,14 @@ pub enum Asked<'a> {
 /// The fault is that of `clap`: a mistake in the words, a request for help, or memory that was
 /// refused. No clause says what words mean: `luks_line_transcript` tests it, and of `line` likewise.
 pub fn parse<'a>(alloc: Global, words: &'a [&'a str]) -> Result<Asked<'a>, Error> {
-    let mut program = program(alloc, true)?;
-    let matches = match program.try_get_matches_from_mut(words) {
-        Ok(matches) => matches,
-        Err(fault) => {
-            if fault.kind() == ErrorKind::InvalidSubcommand {
-                try_without_overwriting(alloc, words)?;
-            }
-            return Err(fault);
-        }
-    };
+    let matches = matches_of(alloc, words)?;
     if let Some(text) = mistake_in(&matches) {
-        return Err(program.error(ErrorKind::ValueValidation, text)?);
+        return Err(mistake(alloc, ErrorKind::ValueValidation, text)?);
     }
     match asked_by(&matches) {
         Some(asked) => Ok(asked),
-        None => Err(program.error(ErrorKind::MissingSubcommand, "no command was given")?),
+        None => Err(mistake(alloc, ErrorKind::MissingSubcommand, "no command was given")?),
     }
-}
-
-/// Reads words as if there were neither `format` nor `restore`. Where no command has the name that they
-/// begin with, the fault is told so: what overwrites a volume without a question is suggested for no
-/// other word.
-fn try_without_overwriting(alloc: Global, words: &[&str]) -> Result<(), Error> {
-    let mut program = program(alloc, false)?;
-    let _ = program.try_get_matches_from_mut(words)?;
-    Ok(())
 }
 
 /// Reads a command line that names a volume, as `parse` does. One that names none is a mistake in the
@@ -60,26 +44,60 @@ pub fn line<'a>(alloc: Global, words: &'a [&'a str]) -> Result<Line<'a>, Error> 
     match parse(alloc, words)? {
         Asked::Volume(line, _) => Ok(line),
         Asked::Explain(_) | Asked::Find(..) => {
-            let mut program = program(alloc, true)?;
-            Err(program.error(ErrorKind::InvalidSubcommand, "no volume was named")?)
+            Err(mistake(alloc, ErrorKind::InvalidSubcommand, "no volume was named")?)
         }
     }
 }
 
+/// A mistake in the words, told as `clap` tells those that it finds.
+fn mistake(alloc: Global, kind: ErrorKind, text: &str) -> Result<Error, AllocError> {
+    let mut program = program(alloc, true)?;
+    program.error(kind, text)
+}
+
+/// The words as `clap` tells them apart.
+fn matches_of<'a>(alloc: Global, words: &'a [&'a str]) -> Result<ArgMatches<'a>, Error> {
+    let program = program(alloc, true)?;
+    match program.try_get_matches_from(words) {
+        Ok(matches) => Ok(matches),
+        Err(fault) => Err(without_overwriting(alloc, words, fault)),
+    }
+}
+
+/// The fault as it is told. Where no command has the name that the words begin with, it is told as if there
+/// were neither `format` nor `restore`: what overwrites a volume without a question is suggested for no
+/// other word.
+fn without_overwriting(alloc: Global, words: &[&str], fault: Error) -> Error {
+    if fault.kind() == ErrorKind::InvalidSubcommand {
+        if let Err(told) = try_without_overwriting(alloc, words) {
+            return told;
+        }
+    }
+    fault
+}
+
+fn try_without_overwriting(alloc: Global, words: &[&str]) -> Result<(), Error> {
+    let program = program(alloc, false)?;
+    let _ = program.try_get_matches_from(words)?;
+    Ok(())
+}
+
 /// What is wrong in the words of a command, beside what `clap` judges.
 fn mistake_in(matches: &ArgMatches<'_>) -> Option<&'static str> {
-    match matches.subcommand()? {
-        ("rebuild", given) => wrong_field(given),
-        ("format" | "add" | "change", given) => wrong_derivation(given),
+    let (name, given) = matches.subcommand()?;
+    match command_named(name)? {
+        CommandName::Rebuild => wrong_field(given),
+        CommandName::Format | CommandName::Add | CommandName::Change => wrong_derivation(given),
         _ => None,
     }
 }
 
 fn asked_by<'a>(matches: &ArgMatches<'a>) -> Option<Asked<'a>> {
     let (name, given) = matches.subcommand()?;
+    let name = command_named(name)?;
     match name {
-        "explain" => Some(Asked::Explain(given.get_str("FAULT"))),
-        "find" => Some(Asked::Find(search_of(given)?, manner_of(name, given))),
+        CommandName::Explain => Some(Asked::Explain(given.get_str("FAULT"))),
+        CommandName::Find => Some(Asked::Find(search_of(given)?, manner_of(name, given))),
         _ => Some(Asked::Volume(line_of(name, given)?, manner_of(name, given))),
     }
 }

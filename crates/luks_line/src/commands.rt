@@ -1,42 +1,45 @@
-//! The commands, in the order of the help, and which words may follow the name of each; those that find volumes and on header
-//! backups, and the last, stand in `rescue_commands`.
+//! The commands, in the order of the help, and which words may follow the name of each.
 
 use crate::choices::Choice;
+use crate::command_name::CommandName;
 use crate::operands::Operand;
 use crate::options::LongOption;
-use luks_helps::helps;
 
-/// A command: its name, its help, and what may follow its name.
+/// A command: its name, and what may follow it.
 #[derive(Clone, Copy)]
 pub(crate) struct Described {
     pub(crate) name: &'static str,
+    /// The command that has this name.
+    pub(crate) command: CommandName,
     /// Whether it writes over what stands there without a question, so that it is suggested for no
     /// other word.
     pub(crate) overwrites: bool,
-    /// What it does, in a line.
-    pub(crate) about: &'static str,
-    /// Its usage where that isn't `clap`'s.
-    pub(crate) usage: Option<&'static str>,
-    /// What its help has after its words.
-    pub(crate) more: &'static str,
     pub(crate) operands: &'static [Operand],
     pub(crate) options: &'static [LongOption],
     /// Of the options of each, exactly one has to be given.
     pub(crate) choices: &'static [Choice],
 }
 
-/// The first commands.
+/// All commands.
 pub(crate) fn commands() -> &'static [Described] {
     &COMMANDS
 }
 
-static COMMANDS: [Described; 11] = [
+/// The command of this name.
+pub(crate) fn command_named(name: &str) -> Option<CommandName> {
+    for described in commands().iter() {
+        if described.name == name {
+            return Some(described.command);
+        }
+    }
+    None
+}
+
+static COMMANDS: [Described; 16] = [
     Described {
         name: "check",
+        command: CommandName::Check,
         overwrites: false,
-        about: helps::CHECK,
-        usage: None,
-        more: helps::CHECK_MORE,
         operands: &[Operand::Volume],
         options: &[
             LongOption::Detached,
@@ -49,10 +52,8 @@ static COMMANDS: [Described; 11] = [
     },
     Described {
         name: "show",
+        command: CommandName::Show,
         overwrites: false,
-        about: helps::SHOW,
-        usage: None,
-        more: helps::SHOW_MORE,
         operands: &[Operand::Volume],
         options: &[
             LongOption::All,
@@ -66,10 +67,8 @@ static COMMANDS: [Described; 11] = [
     },
     Described {
         name: "open",
+        command: CommandName::Open,
         overwrites: false,
-        about: helps::OPEN,
-        usage: Some(helps::OPEN_USAGE),
-        more: helps::OPEN_MORE,
         operands: &[Operand::Volume],
         options: &[
             LongOption::Passphrase,
@@ -86,10 +85,8 @@ static COMMANDS: [Described; 11] = [
     },
     Described {
         name: "add",
+        command: CommandName::Add,
         overwrites: false,
-        about: helps::ADD,
-        usage: Some(helps::ADD_USAGE),
-        more: helps::ADD_MORE,
         operands: &[Operand::Volume],
         options: &[
             LongOption::OpenedSlot,
@@ -117,10 +114,8 @@ static COMMANDS: [Described; 11] = [
     },
     Described {
         name: "change",
+        command: CommandName::Change,
         overwrites: false,
-        about: helps::CHANGE,
-        usage: Some(helps::CHANGE_USAGE),
-        more: helps::CHANGE_MORE,
         operands: &[Operand::Volume],
         options: &[
             LongOption::OpenedSlot,
@@ -147,10 +142,8 @@ static COMMANDS: [Described; 11] = [
     },
     Described {
         name: "remove",
+        command: CommandName::Remove,
         overwrites: false,
-        about: helps::REMOVE,
-        usage: Some(helps::REMOVE_USAGE),
-        more: helps::REMOVE_MORE,
         operands: &[Operand::Volume],
         options: &[
             LongOption::RemovedSlot,
@@ -170,10 +163,8 @@ static COMMANDS: [Described; 11] = [
     },
     Described {
         name: "repair",
+        command: CommandName::Repair,
         overwrites: false,
-        about: helps::REPAIR,
-        usage: None,
-        more: helps::REPAIR_MORE,
         operands: &[Operand::Volume],
         options: &[
             LongOption::Random,
@@ -187,10 +178,8 @@ static COMMANDS: [Described; 11] = [
     },
     Described {
         name: "label",
+        command: CommandName::Label,
         overwrites: false,
-        about: helps::LABEL,
-        usage: None,
-        more: helps::LABEL_MORE,
         operands: &[Operand::Volume, Operand::Text],
         options: &[
             LongOption::NeededRandom,
@@ -204,10 +193,8 @@ static COMMANDS: [Described; 11] = [
     },
     Described {
         name: "format",
+        command: CommandName::Format,
         overwrites: true,
-        about: helps::FORMAT,
-        usage: Some(helps::FORMAT_USAGE),
-        more: helps::FORMAT_MORE,
         operands: &[Operand::Volume],
         options: &[
             LongOption::Passphrase,
@@ -231,10 +218,8 @@ static COMMANDS: [Described; 11] = [
     },
     Described {
         name: "convert",
+        command: CommandName::Convert,
         overwrites: false,
-        about: helps::CONVERT,
-        usage: None,
-        more: helps::CONVERT_MORE,
         operands: &[Operand::Source, Operand::Target],
         options: &[
             LongOption::NeededRandom,
@@ -247,10 +232,8 @@ static COMMANDS: [Described; 11] = [
     },
     Described {
         name: "rebuild",
+        command: CommandName::Rebuild,
         overwrites: false,
-        about: helps::REBUILD,
-        usage: None,
-        more: helps::REBUILD_MORE,
         operands: &[Operand::DamagedSource, Operand::RebuiltTarget],
         options: &[
             LongOption::NeededRandom,
@@ -267,6 +250,63 @@ static COMMANDS: [Described; 11] = [
             LongOption::Length,
             LongOption::Quiet,
         ],
+        choices: &[],
+    },
+    Described {
+        name: "find",
+        command: CommandName::Find,
+        overwrites: false,
+        operands: &[Operand::Device],
+        options: &[LongOption::Offset, LongOption::Length, LongOption::Quiet],
+        choices: &[],
+    },
+    Described {
+        name: "backup",
+        command: CommandName::Backup,
+        overwrites: false,
+        operands: &[Operand::Volume, Operand::NewBackup],
+        options: &[
+            LongOption::OverFile,
+            LongOption::Detached,
+            LongOption::Offset,
+            LongOption::Length,
+            LongOption::Quiet,
+        ],
+        choices: &[],
+    },
+    Described {
+        name: "restore",
+        command: CommandName::Restore,
+        overwrites: true,
+        operands: &[Operand::Backup, Operand::Volume],
+        options: &[
+            LongOption::Other,
+            LongOption::Detached,
+            LongOption::Offset,
+            LongOption::Length,
+            LongOption::Quiet,
+        ],
+        choices: &[],
+    },
+    Described {
+        name: "compare",
+        command: CommandName::Compare,
+        overwrites: false,
+        operands: &[Operand::Backup, Operand::Volume],
+        options: &[
+            LongOption::Detached,
+            LongOption::Offset,
+            LongOption::Length,
+            LongOption::Quiet,
+        ],
+        choices: &[],
+    },
+    Described {
+        name: "explain",
+        command: CommandName::Explain,
+        overwrites: false,
+        operands: &[Operand::Fault],
+        options: &[],
         choices: &[],
     },
 ];

@@ -3,6 +3,7 @@
 
 mod choices;
 mod command_line;
+mod command_name;
 mod commands;
 mod derivation;
 mod fields;
@@ -11,7 +12,6 @@ mod operands;
 mod options;
 mod program;
 mod requests;
-mod rescue_commands;
 mod search;
 mod takes;
 

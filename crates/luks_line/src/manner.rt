@@ -1,9 +1,10 @@
 //! How a command's answer is told, how the passphrases' files are read, and by what costs are chosen.
 
+use crate::command_name::CommandName;
 use clap::ArgMatches;
 
 /// How a command's answer is told, how the passphrases' files are read, and by what costs are chosen.
-#[derive(Debug, Clone, Copy, PartialEq, Eq)]
+#[derive(Debug, Clone, Copy)]
 pub struct Manner {
     /// As one JSON object in place of the line, which `check` and `open` can. How `show` lists a
     /// header its command says.
@@ -19,10 +20,10 @@ pub struct Manner {
     pub iter_time: Option<u32>,
 }
 
-/// How the answer of the command of this name is to be told, and its files are to be read.
-pub(crate) fn manner_of(name: &str, given: &ArgMatches<'_>) -> Manner {
+/// How the answer of the command is to be told, and its files are to be read.
+pub(crate) fn manner_of(name: CommandName, given: &ArgMatches<'_>) -> Manner {
     Manner {
-        json: matches!(name, "check" | "open") && given.get_flag("json"),
+        json: matches!(name, CommandName::Check | CommandName::Open) && given.get_flag("json"),
         quiet: given.get_flag("quiet"),
         passphrase_line: given.get_str("passphrase-line").is_some(),
         new_line: given.get_str("new-line").is_some(),

@@ -1,10 +1,9 @@
 //! The program and its commands, as `clap` reads them.
 
-use crate::choices::ChoiceRow;
+use crate::choices::{Choice, ChoiceRow};
 use crate::commands::{Described, commands};
-use crate::operands::OperandRow;
-use crate::options::OptionRow;
-use crate::rescue_commands::rescue_commands;
+use crate::operands::{Operand, OperandRow};
+use crate::options::{LongOption, OptionRow};
 use crate::takes::Takes;
 use clap::{Arg, ArgGroup, Command};
 use luks_helps::helps;
@@ -12,33 +11,8 @@ use std::alloc::{AllocError, Global};
 
 /// The program, with the commands that overwrite or without them.
 pub(crate) fn program<'a>(alloc: Global, overwriting: bool) -> Result<Command<'a>, AllocError> {
-    let program = bare_program(alloc);
-    let program = with_commands(alloc, program, commands(), overwriting)?;
-    with_commands(alloc, program, rescue_commands(), overwriting)
-}
-
-fn with_commands<'a>(
-    alloc: Global,
-    mut program: Command<'a>,
-    commands: &[Described],
-    overwriting: bool,
-) -> Result<Command<'a>, AllocError> {
-    for described in commands.iter() {
-        program = with_command(alloc, program, described, overwriting)?;
-    }
-    Ok(program)
-}
-
-fn with_command<'a>(
-    alloc: Global,
-    program: Command<'a>,
-    described: &Described,
-    overwriting: bool,
-) -> Result<Command<'a>, AllocError> {
-    if described.overwrites && !overwriting {
-        return Ok(program);
-    }
-    program.subcommand(command(alloc, described)?)
+    let commands = commands_of(alloc, overwriting)?;
+    bare_program(alloc).subcommands(commands)
 }
 
 fn bare_program<'a>(alloc: Global) -> Command<'a> {
@@ -49,38 +23,55 @@ fn bare_program<'a>(alloc: Global) -> Command<'a> {
         .subcommand_required(true)
 }
 
+fn commands_of<'a>(alloc: Global, overwriting: bool) -> Result<Vec<Command<'a>>, AllocError> {
+    let mut made = Vec::new(alloc);
+    for described in commands().iter() {
+        if overwriting || !described.overwrites {
+            made.push(command(alloc, described)?)?;
+        }
+    }
+    Ok(made)
+}
+
 fn command<'a>(alloc: Global, described: &Described) -> Result<Command<'a>, AllocError> {
-    let mut command = with_options(alloc, described)?;
-    for choice in described.choices.iter() {
-        command = command.group(group(alloc, choice.row())?)?;
-    }
-    Ok(command)
-}
-
-fn with_options<'a>(alloc: Global, described: &Described) -> Result<Command<'a>, AllocError> {
-    let mut command = with_operands(alloc, described)?;
-    for option in described.options.iter() {
-        command = command.arg(long_option(alloc, option.row())?)?;
-    }
-    Ok(command)
-}
-
-fn with_operands<'a>(alloc: Global, described: &Described) -> Result<Command<'a>, AllocError> {
-    let mut command = bare_command(alloc, described);
-    for operand in described.operands.iter() {
-        command = command.arg(positional(alloc, operand.row()))?;
-    }
-    Ok(command)
+    let args = args_of(alloc, described)?;
+    let groups = groups_of(alloc, described.choices)?;
+    bare_command(alloc, described).args(args)?.groups(groups)
 }
 
 fn bare_command<'a>(alloc: Global, described: &Described) -> Command<'a> {
+    let name = described.command;
     let command = Command::new(alloc, described.name)
-        .about(described.about)
-        .after_help(described.more);
-    match described.usage {
+        .about(name.about())
+        .after_help(name.more());
+    match name.usage() {
         Some(usage) => command.override_usage(usage),
         None => command,
     }
+}
+
+fn args_of<'a>(alloc: Global, described: &Described) -> Result<Vec<Arg<'a>>, AllocError> {
+    let mut args = positionals_of(alloc, described.operands)?;
+    for option in described.options.iter() {
+        args.push(long_option(alloc, option.row())?)?;
+    }
+    Ok(args)
+}
+
+fn positionals_of<'a>(alloc: Global, operands: &[Operand]) -> Result<Vec<Arg<'a>>, AllocError> {
+    let mut args = Vec::new(alloc);
+    for operand in operands.iter() {
+        args.push(positional(alloc, operand.row()))?;
+    }
+    Ok(args)
+}
+
+fn groups_of<'a>(alloc: Global, choices: &[Choice]) -> Result<Vec<ArgGroup<'a>>, AllocError> {
+    let mut groups = Vec::new(alloc);
+    for choice in choices.iter() {
+        groups.push(group(alloc, choice.row())?)?;
+    }
+    Ok(groups)
 }
 
 /// One of the options is needed, and no two of them are taken.

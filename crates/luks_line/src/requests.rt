@@ -1,5 +1,6 @@
 //! What the words of a command line ask for, once `clap` has told them apart.
 
+use crate::command_name::CommandName;
 use crate::derivation::{argon2_of, kdf_of};
 use crate::fields::fields_of;
 use crate::search::Search;
@@ -11,8 +12,8 @@ use luks_request::{
     Place, Rebuilding, Restoring, ShowAs,
 };
 
-/// What the command of this name asks for, of a volume.
-pub(crate) fn line_of<'a>(name: &str, given: &ArgMatches<'a>) -> Option<Line<'a>> {
+/// What the command asks for, of a volume.
+pub(crate) fn line_of<'a>(name: CommandName, given: &ArgMatches<'a>) -> Option<Line<'a>> {
     Some(Line {
         volume: volume_of(given)?,
         place: place_of(given)?,
@@ -41,20 +42,18 @@ fn place_of(given: &ArgMatches<'_>) -> Option<Place> {
     })
 }
 
-fn command_of<'a>(name: &str, given: &ArgMatches<'a>) -> Option<Command<'a>> {
+fn command_of<'a>(name: CommandName, given: &ArgMatches<'a>) -> Option<Command<'a>> {
     match name {
-        "check" => Some(Command::Check {
-            data_: data_of(given),
-        }),
-        "show" => Some(Command::Show(form_of(given))),
-        "open" => opening_of(given),
-        "format" => Some(Command::Format(making_of(given)?)),
-        "convert" => Some(Command::Convert(converting_of(given)?)),
-        "rebuild" => Some(Command::Rebuild(rebuilding_of(given)?)),
-        "backup" => Some(Command::Backup(backing_up_of(given)?)),
-        "restore" => Some(Command::Restore(restoring_of(given)?)),
-        "compare" => Some(Command::Compare(comparing_of(given)?)),
-        _ => Some(Command::Edit(editing_of(name, given)?)),
+        CommandName::Check => Some(checking_of(given)),
+        CommandName::Show => Some(showing_of(given)),
+        CommandName::Open => opening_of(given),
+        CommandName::Format => formatting_of(given),
+        CommandName::Convert => converting_of(given),
+        CommandName::Rebuild => rebuilding_of(given),
+        CommandName::Backup => backing_up_of(given),
+        CommandName::Restore => restoring_of(given),
+        CommandName::Compare => comparing_of(given),
+        _ => editing_of(name, given),
     }
 }
 
@@ -70,6 +69,16 @@ fn new_of<'a>(given: &ArgMatches<'a>) -> Option<&'a str> {
     given.get_str("new").or(given.get_str("new-line"))
 }
 
+fn checking_of<'a>(given: &ArgMatches<'a>) -> Command<'a> {
+    Command::Check {
+        data_: data_of(given),
+    }
+}
+
+fn showing_of<'a>(given: &ArgMatches<'a>) -> Command<'a> {
+    Command::Show(form_of(given))
+}
+
 fn opening_of<'a>(given: &ArgMatches<'a>) -> Option<Command<'a>> {
     Some(Command::Open {
         passphrase: passphrase_of(given)?,
@@ -79,22 +88,22 @@ fn opening_of<'a>(given: &ArgMatches<'a>) -> Option<Command<'a>> {
     })
 }
 
-fn editing_of<'a>(name: &str, given: &ArgMatches<'a>) -> Option<Editing<'a>> {
-    Some(Editing {
+fn editing_of<'a>(name: CommandName, given: &ArgMatches<'a>) -> Option<Command<'a>> {
+    Some(Command::Edit(Editing {
         request: edit_of(name, given)?,
         random: given.get_str("random"),
         data_: data_of(given),
         over: given.get_flag("over"),
-    })
+    }))
 }
 
-fn edit_of<'a>(name: &str, given: &ArgMatches<'a>) -> Option<EditRequest<'a>> {
+fn edit_of<'a>(name: CommandName, given: &ArgMatches<'a>) -> Option<EditRequest<'a>> {
     match name {
-        "add" => adding_of(given),
-        "change" => changing_of(given),
-        "remove" => removing_of(given),
-        "repair" => Some(EditRequest::Repair),
-        "label" => labelling_of(given),
+        CommandName::Add => adding_of(given),
+        CommandName::Change => changing_of(given),
+        CommandName::Remove => removing_of(given),
+        CommandName::Repair => Some(EditRequest::Repair),
+        CommandName::Label => labelling_of(given),
         _ => None,
     }
 }
@@ -140,8 +149,8 @@ fn labelling_of<'a>(given: &ArgMatches<'a>) -> Option<EditRequest<'a>> {
     })
 }
 
-fn making_of<'a>(given: &ArgMatches<'a>) -> Option<Making<'a>> {
-    Some(Making {
+fn formatting_of<'a>(given: &ArgMatches<'a>) -> Option<Command<'a>> {
+    Some(Command::Format(Making {
         passphrase: passphrase_of(given)?,
         random: given.get_str("random")?,
         version: version_of(given)?,
@@ -152,7 +161,7 @@ fn making_of<'a>(given: &ArgMatches<'a>) -> Option<Making<'a>> {
         kdf: argon2_of(given)?,
         memory: given.get_one::<u32>("memory")?,
         data_: data_of(given),
-    })
+    }))
 }
 
 fn version_of(given: &ArgMatches<'_>) -> Option<NewVersion> {
@@ -162,16 +171,16 @@ fn version_of(given: &ArgMatches<'_>) -> Option<NewVersion> {
     }
 }
 
-fn converting_of<'a>(given: &ArgMatches<'a>) -> Option<Converting<'a>> {
-    Some(Converting {
+fn converting_of<'a>(given: &ArgMatches<'a>) -> Option<Command<'a>> {
+    Some(Command::Convert(Converting {
         target: given.get_str("TARGET")?,
         random: given.get_str("random")?,
         data_: data_of(given),
-    })
+    }))
 }
 
-fn rebuilding_of<'a>(given: &ArgMatches<'a>) -> Option<Rebuilding<'a>> {
-    Some(Rebuilding {
+fn rebuilding_of<'a>(given: &ArgMatches<'a>) -> Option<Command<'a>> {
+    Some(Command::Rebuild(Rebuilding {
         target: given.get_str("TARGET")?,
         random: given.get_str("random")?,
         passphrase: passphrase_of(given),
@@ -179,30 +188,30 @@ fn rebuilding_of<'a>(given: &ArgMatches<'a>) -> Option<Rebuilding<'a>> {
         size: given.get_one::<u64>("size"),
         uuid: given.get_str("uuid"),
         luks1: fields_of(given),
-    })
+    }))
 }
 
-fn backing_up_of<'a>(given: &ArgMatches<'a>) -> Option<BackingUp<'a>> {
-    Some(BackingUp {
+fn backing_up_of<'a>(given: &ArgMatches<'a>) -> Option<Command<'a>> {
+    Some(Command::Backup(BackingUp {
         target: given.get_str("FILE")?,
         data_: data_of(given),
         over: given.get_flag("over"),
-    })
+    }))
 }
 
-fn restoring_of<'a>(given: &ArgMatches<'a>) -> Option<Restoring<'a>> {
-    Some(Restoring {
+fn restoring_of<'a>(given: &ArgMatches<'a>) -> Option<Command<'a>> {
+    Some(Command::Restore(Restoring {
         backup: given.get_str("FILE")?,
         data_: data_of(given),
         other: given.get_flag("other"),
-    })
+    }))
 }
 
-fn comparing_of<'a>(given: &ArgMatches<'a>) -> Option<Comparing<'a>> {
-    Some(Comparing {
+fn comparing_of<'a>(given: &ArgMatches<'a>) -> Option<Command<'a>> {
+    Some(Command::Compare(Comparing {
         backup: given.get_str("FILE")?,
         data_: data_of(given),
-    })
+    }))
 }
 
 fn data_of(given: &ArgMatches<'_>) -> Data {

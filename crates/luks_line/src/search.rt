@@ -3,7 +3,7 @@
 use luks_request::Place;
 
 /// Which disk is searched for volumes.
-#[derive(Debug, Clone, Copy, PartialEq, Eq)]
+#[derive(Debug, Clone, Copy)]
 pub struct Search<'a> {
     /// The file of the disk, the partition or the image.
     pub disk: &'a str,
