@@ -98,14 +98,17 @@ pub fn open_volumes<R: AllocGlobal + Clock + Files<File = File>>(
         return Volumes::unopened(InputFault::Unreadable(Reason::Exists));
     }
     let volume = open_volume(rt, openings.volume, openings.place, notes);
-    let beside = match &volume {
+    let BackupFile {
+        volume: target,
+        made,
+    } = match &volume {
         Ok(_) => open_beside(rt, line, beside, notes),
         Err(_) => BackupFile::missed(InputFault::Absent),
     };
     Volumes {
         volume,
-        target: beside.volume,
-        made: beside.made,
+        target,
+        made,
     }
 }
 

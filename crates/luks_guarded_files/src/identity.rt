@@ -47,7 +47,7 @@ pub fn have_common_bytes<S: System>(
     other: Stretch<'_>,
     folder: &str,
 ) -> Result<bool, AllocError>
-    ensures { one.name.now ≡ other.name.now → result ≡ Ok true }
+    ensures { one.entry.name.now ≡ other.entry.name.now → result ≡ Ok true }
 {
     if is_same_file(system, one.name, other.name) {
         return Ok(true);

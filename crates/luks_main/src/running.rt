@@ -261,7 +261,11 @@ fn inputs_of<'a, R: Files<File = File>>(
     ensures random_name { IfSome openings.now.random (λ opening.
         IfOk result.random (λ file. file_name file ≡ opening.name.now)) }
 {
-    let Volumes { volume, target, .. } = volumes;
+    let Volumes {
+        volume,
+        target,
+        made: _,
+    } = volumes;
     Inputs {
         volume,
         target,
