@@ -4,11 +4,15 @@
 
 mod backup_file;
 mod openings;
+mod output;
 mod passphrases;
 mod typing;
+mod volume;
 mod volumes;
 
+pub use backup_file::take_away;
 pub use openings::{Opening, Openings};
 pub use passphrases::{Passphrases, reader};
 pub use typing::{ERROR, is_terminal};
-pub use volumes::{Volume, Volumes, WHOLE, has_changed, open_volume, open_volumes, reopened};
+pub use volume::{Volume, WHOLE};
+pub use volumes::{Volumes, has_changed, open_volume, open_volumes, reopened};

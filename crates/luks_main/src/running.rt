@@ -10,10 +10,12 @@ use crate::outcome::{Outcome, outcome_of};
 use crate::searching::search;
 use crate::told::{device_fault, explain, list_faults, no_memory, tell_untimed, tell_usage};
 use crate::trial::TrialLines;
-use crate::{FAULT, USAGE};
+use crate::{FAULT, TOLD, USAGE};
 use luks_edit_commands::{CountingPrinter, InputFault, Inputs, Line, OtherUse, Unprinted};
-use luks_files::{Openings, Passphrases, Volume, Volumes, has_changed, open_volumes, reader};
-use luks_guarded_files::LazyFile;
+use luks_files::{
+    Openings, Passphrases, Volume, Volumes, has_changed, open_volumes, reader, take_away,
+};
+use luks_guarded_files::{Found, LazyFile};
 use luks_line::{Asked, Manner, parse};
 use luks_timing::Timing;
 use luks_wiping::wipe_stack;
@@ -168,6 +170,7 @@ fn run_read<R: AllocGlobal + Clock + Files<File = File> + Input + Print + Eprint
     let ended = passphrases.end_command();
     let standing = if ended { None } else { use_before(rt, line) };
     let volumes = open_volumes(rt, line, openings, ended, &mut noticed);
+    let made = volumes.made;
     let mut inputs = inputs_of(rt, volumes, passphrases, openings);
     let mut trial = TrialLines::new(rt, line, manner.quiet);
     let mut outcome = outcome_of(rt.alloc(), line, manner, &mut inputs, &mut trial);
@@ -178,6 +181,7 @@ fn run_read<R: AllocGlobal + Clock + Files<File = File> + Input + Print + Eprint
     let mut out = CountingPrinter::new(io::writer(rt));
     let printed = outcome.print_lines(&mut out);
     let has_changed = has_changed(&inputs.volume);
+    take_unfinished(rt, line, made, outcome.status);
     drop(inputs);
     note_ended(rt, line, standing, has_changed, &mut outcome);
     if is_noted {
@@ -186,6 +190,20 @@ fn run_read<R: AllocGlobal + Clock + Files<File = File> + Input + Print + Eprint
     match printed {
         Ok(()) => outcome.print_object(rt.alloc(), noticed.as_slice(), &mut out),
         Err(Unprinted) => FAULT,
+    }
+}
+
+/// Takes away the file that was made for a backup, where that ended with another status than 0.
+fn take_unfinished<R: Clock + Files<File = File>>(
+    rt: &R,
+    line: &Line<'_>,
+    made: Option<Found>,
+    status: u8,
+) {
+    if let (Some(made), Some(name)) = (made, line.target()) {
+        if status != TOLD {
+            take_away(rt, name, &made);
+        }
     }
 }
 
@@ -243,7 +261,11 @@ fn inputs_of<'a, R: Files<File = File>>(
     ensures random_name { IfSome openings.now.random (λ opening.
         IfOk result.random (λ file. file_name file ≡ opening.name.now)) }
 {
-    let Volumes { volume, target } = volumes;
+    let Volumes {
+        volume,
+        target,
+        made: _,
+    } = volumes;
     Inputs {
         volume,
         target,
