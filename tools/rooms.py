@@ -220,8 +220,8 @@ class Plan:
         return not set(lows).isdisjoint(proofs) or any(task.crate in crates.below(self.uses, it.crate) for it in self.running)
 
     def begun(self):
-        """The tasks that start now, each with its jobs and its niceness: the processors are shared, and the first of the longest chain has a
-        job more."""
+        """The tasks that start now, each with its jobs and its niceness. Each has one job, since one that is cut into several loads its libraries in
+        each; where fewer run than there are places, they share what is free."""
         ready = []
         for task in list(self.left):
             if len(self.running) < self.places and not self.waits(task):
@@ -229,17 +229,13 @@ class Plan:
                 self.running.append(task)
                 self.began[task.crate] = time.monotonic()
                 ready.append(task)
-        share = -(-self.places // max(1, len(self.running)))
-        return [(task, share + self.leads(task), self.niceness(task)) for task in ready]
+        share = max(1, self.places // max(1, len(self.running)))
+        return [(task, share, self.niceness(task)) for task in ready]
 
     def niceness(self, task):
         """How far a task gives way to the others: 0 for the longest chain of all that run or are left, and more for shorter ones."""
         most = max(self.longest[it.crate] for it in [*self.left, *self.running])
         return round(15 * (1 - self.longest[task.crate] / most))
-
-    def leads(self, task):
-        """Whether the task is of the longest chain of several that run."""
-        return len(self.running) > 1 and task is max(self.running, key=lambda it: self.longest[it.crate])
 
     def minutes(self):
         """About how long it takes until all is done, by the table of times: each crate on one processor, once what it stands on is done."""
