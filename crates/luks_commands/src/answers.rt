@@ -22,7 +22,7 @@ use std::io::Write;
 
 /// How a command ends; the numbers are the program's exit statuses. Status 2, for a wrong command
 /// line, is given before any command runs.
-#[derive(Clone, Copy, PartialEq, Eq)]
+#[derive(Clone, Copy)]
 pub enum Status {
     /// Accepted, shown, opened or done.
     Done = 0,

@@ -6,7 +6,7 @@ use std::io::ErrorKind;
 use std::{fmt, io};
 
 /// Why a file can't be opened or read, where the system tells a reason that helps.
-#[derive(Clone, Copy, PartialEq, Eq)]
+#[derive(Clone, Copy)]
 pub enum Reason {
     /// There is none of this name.
     NotFound,
@@ -46,7 +46,7 @@ impl fmt::Display for Reason {
 }
 
 /// Why a file that a command may need can't be read.
-#[derive(Clone, Copy, PartialEq, Eq)]
+#[derive(Clone, Copy)]
 pub enum InputFault {
     /// The command line names none.
     Absent,

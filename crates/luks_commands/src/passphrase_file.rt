@@ -13,7 +13,7 @@ use std::io::{BufRead, BufReader, Read};
 const MOST_BYTES: usize = 65536;
 
 /// Why there is no passphrase.
-#[derive(Clone, Copy, PartialEq, Eq)]
+#[derive(Clone, Copy)]
 pub enum PassphraseFault {
     /// The file has more bytes than a passphrase may have.
     TooLong,

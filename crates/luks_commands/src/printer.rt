@@ -7,7 +7,7 @@ use std::fmt::Display;
 use std::io::Write;
 
 /// A text wasn't printed, or not to its end.
-#[derive(Clone, Copy, PartialEq, Eq)]
+#[derive(Clone, Copy)]
 pub struct Unprinted;
 
 /// What prints texts, and counts the prints that failed.

@@ -5,7 +5,7 @@ ghost use Rattle.luks_files.specs.Opened.{beside_of};
 use luks_request::{Line, Place};
 
 /// A file that a command line names, and whether it is opened to be written too; else only to be read.
-#[derive(Clone, Copy, PartialEq, Eq)]
+#[derive(Clone, Copy)]
 pub struct Opening<'a> {
     /// Its name, as the command line has it.
     pub name: &'a str,
@@ -14,7 +14,7 @@ pub struct Opening<'a> {
 }
 
 /// Which files a command line opens, each as what.
-#[derive(Clone, Copy, PartialEq, Eq)]
+#[derive(Clone, Copy)]
 pub struct Openings<'a> {
     /// The volume, or its detached header. Beside a target it is only read.
     pub volume: Opening<'a>,

@@ -74,7 +74,7 @@ fn ends_command(read: &Result<Secret, InputFault>) -> bool
 }
 
 /// What of its file is a passphrase.
-#[derive(Clone, Copy, PartialEq, Eq)]
+#[derive(Clone, Copy)]
 enum Part {
     Whole,
     FirstLine,

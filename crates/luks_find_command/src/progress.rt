@@ -10,7 +10,7 @@ pub trait Progress {
 }
 
 /// Tells nobody.
-#[derive(Clone, Copy, PartialEq, Eq)]
+#[derive(Clone, Copy)]
 pub struct Untold;
 
 impl Progress for Untold {

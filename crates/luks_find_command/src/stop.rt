@@ -3,7 +3,7 @@
 use luks_finding::FindFault;
 
 /// Why a search stops before the end of its device.
-#[derive(Clone, Copy, PartialEq, Eq)]
+#[derive(Clone, Copy)]
 pub(crate) enum Stop {
     /// A device call failed.
     Device,

@@ -13,7 +13,7 @@ use std::io::{self, Write};
 const MOST_MIB: u64 = 4194303;
 
 /// How a keyslot derives by Argon2, and whether it is refused.
-#[derive(Clone, Copy, PartialEq, Eq)]
+#[derive(Clone, Copy)]
 pub struct MemoryNote {
     /// The keyslot.
     slot: u8,

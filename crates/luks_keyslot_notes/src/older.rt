@@ -21,7 +21,7 @@ const COMMON_SIZE: usize = 208;
 
 /// A keyslot that is refused, and whose passphrase is tried where ciphers and hashes of older disks are
 /// accepted.
-#[derive(Clone, Copy, PartialEq, Eq)]
+#[derive(Clone, Copy)]
 pub struct OlderNote {
     /// The keyslot.
     slot: u8,
@@ -30,7 +30,7 @@ pub struct OlderNote {
 }
 
 /// What of a keyslot is of older disks.
-#[derive(Clone, Copy, PartialEq, Eq)]
+#[derive(Clone, Copy)]
 pub enum OlderPart {
     /// The cipher of its area, with its mode.
     Cipher(&'static str),

@@ -8,7 +8,7 @@ use luks_reading::SlotState;
 use std::fmt;
 
 /// What an area of a volume is; it prints as its row says it.
-#[derive(Clone, Copy, PartialEq, Eq)]
+#[derive(Clone, Copy)]
 pub enum Part {
     /// The header of LUKS1.
     Luks1Header,

@@ -6,7 +6,7 @@ use crate::part::Part;
 use luks_area::Area;
 
 /// A row of a map. Places are in bytes.
-#[derive(Clone, Copy, PartialEq, Eq)]
+#[derive(Clone, Copy)]
 pub enum Row {
     /// An area of the volume.
     Area(Part, Area),

@@ -11,7 +11,7 @@ use std::alloc::{AllocError, Global};
 const MOST: u64 = 0x80_0000;
 
 /// Why a volume's front couldn't be read.
-#[derive(Clone, Copy, PartialEq, Eq)]
+#[derive(Clone, Copy)]
 pub enum FrontFault {
     /// Reading failed.
     Device,

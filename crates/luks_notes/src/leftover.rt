@@ -11,7 +11,7 @@ use std::alloc::{AllocError, Global};
 use std::fmt;
 
 /// What was left on a volume, of what stood there before it was made.
-#[derive(Clone, Copy, PartialEq, Eq)]
+#[derive(Clone, Copy)]
 pub enum Leftover {
     /// The sound second copy of a LUKS2 header, and the byte where it begins. It counts again where the
     /// header that was made is lost.

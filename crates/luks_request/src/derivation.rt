@@ -1,7 +1,7 @@
 //! What a new keyslot is asked to derive by.
 
 /// What a new keyslot is asked to derive by.
-#[derive(Debug, Clone, Copy, PartialEq, Eq)]
+#[derive(Debug, Clone, Copy)]
 pub enum AskedKdf {
     /// PBKDF2.
     Pbkdf2 {
@@ -13,7 +13,7 @@ pub enum AskedKdf {
 }
 
 /// Argon2 that is asked for, by its costs.
-#[derive(Debug, Clone, Copy, PartialEq, Eq)]
+#[derive(Debug, Clone, Copy)]
 pub struct AskedArgon2 {
     /// Of which kind it is.
     pub kind: AskedKind,
@@ -26,7 +26,7 @@ pub struct AskedArgon2 {
 }
 
 /// A kind of Argon2.
-#[derive(Debug, Clone, Copy, PartialEq, Eq)]
+#[derive(Debug, Clone, Copy)]
 pub enum AskedKind {
     /// Argon2i.
     Argon2i,

@@ -3,7 +3,7 @@
 use luks_reading::Data;
 
 /// Which backup of the volume's header is made, and of which file.
-#[derive(Debug, Clone, Copy, PartialEq, Eq)]
+#[derive(Debug, Clone, Copy)]
 pub struct BackingUp<'a> {
     /// The file that the backup is written to.
     pub target: &'a str,
@@ -14,7 +14,7 @@ pub struct BackingUp<'a> {
 }
 
 /// Which backup is put back onto the volume.
-#[derive(Debug, Clone, Copy, PartialEq, Eq)]
+#[derive(Debug, Clone, Copy)]
 pub struct Restoring<'a> {
     /// The file of the backup.
     pub backup: &'a str,
@@ -25,7 +25,7 @@ pub struct Restoring<'a> {
 }
 
 /// Which backup is compared with the volume.
-#[derive(Debug, Clone, Copy, PartialEq, Eq)]
+#[derive(Debug, Clone, Copy)]
 pub struct Comparing<'a> {
     /// The file of the backup.
     pub backup: &'a str,

@@ -1,7 +1,7 @@
 //! Where in its file a volume lies.
 
 /// Which bytes of a file or device are the volume.
-#[derive(Debug, Clone, Copy, PartialEq, Eq)]
+#[derive(Debug, Clone, Copy)]
 pub struct Place {
     /// The byte of the file that is the volume's first.
     pub offset: u64,

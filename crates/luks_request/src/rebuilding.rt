@@ -3,7 +3,7 @@ ghost use Rattle.std.specs.Prelude.{◌≡◌, ◌↔◌, IsTrue, true};
 ghost use Rattle.luks_request.specs.Meant.{meant_by, names_field, names_place};
 
 /// What is made by rebuilding, and of which files.
-#[derive(Debug, Clone, Copy, PartialEq, Eq)]
+#[derive(Debug, Clone, Copy)]
 pub struct Rebuilding<'a> {
     /// The file that the detached header is written to.
     pub target: &'a str,
@@ -23,7 +23,7 @@ pub struct Rebuilding<'a> {
 }
 
 /// What is given of a LUKS1 header's fields, beside the uuid: each wins over what stands.
-#[derive(Debug, Clone, Copy, PartialEq, Eq)]
+#[derive(Debug, Clone, Copy)]
 pub struct Luks1Fields<'a> {
     /// The name of the cipher.
     pub cipher_name: Option<&'a str>,
@@ -38,7 +38,7 @@ pub struct Luks1Fields<'a> {
 }
 
 /// Of which version the header is that is meant.
-#[derive(Debug, Clone, Copy, PartialEq, Eq)]
+#[derive(Debug, Clone, Copy)]
 pub enum Meant {
     /// LUKS1: a field that it alone has is given, or a passphrase, which is tried on it alone.
     Luks1,

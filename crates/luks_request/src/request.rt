@@ -9,7 +9,7 @@ use crate::rebuilding::Rebuilding;
 use luks_reading::{Data, Format};
 
 /// What a command line asks for. Its files are named as the command line names them.
-#[derive(Debug, Clone, Copy, PartialEq, Eq)]
+#[derive(Debug, Clone, Copy)]
 pub struct Line<'a> {
     /// The file of the volume, or of its detached header.
     pub volume: &'a str,
@@ -21,7 +21,7 @@ pub struct Line<'a> {
 }
 
 /// A command of the program.
-#[derive(Debug, Clone, Copy, PartialEq, Eq)]
+#[derive(Debug, Clone, Copy)]
 pub enum Command<'a> {
     /// Check the volume's header.
     Check {
@@ -59,7 +59,7 @@ pub enum Command<'a> {
 }
 
 /// In which form a header is shown.
-#[derive(Debug, Clone, Copy, PartialEq, Eq)]
+#[derive(Debug, Clone, Copy)]
 pub enum ShowAs {
     /// Line by line, for who reads them.
     Lines,
@@ -72,7 +72,7 @@ pub enum ShowAs {
 }
 
 /// An edit of the volume, and of which files.
-#[derive(Debug, Clone, Copy, PartialEq, Eq)]
+#[derive(Debug, Clone, Copy)]
 pub struct Editing<'a> {
     /// What is edited.
     pub request: EditRequest<'a>,
@@ -88,7 +88,7 @@ pub struct Editing<'a> {
 ///
 /// The keyslot that an edit names as `by_`, or else as `slot`, 0 to 31, is the one that the file
 /// `passphrase` opens.
-#[derive(Debug, Clone, Copy, PartialEq, Eq)]
+#[derive(Debug, Clone, Copy)]
 pub enum EditRequest<'a> {
     /// Add a keyslot for a new passphrase.
     Add {
@@ -173,7 +173,7 @@ impl<'a> EditRequest<'a> {
 }
 
 /// What is made by formatting, and of which files.
-#[derive(Debug, Clone, Copy, PartialEq, Eq)]
+#[derive(Debug, Clone, Copy)]
 pub struct Making<'a> {
     /// The file of the passphrase of keyslot 0.
     pub passphrase: &'a str,
@@ -192,7 +192,7 @@ pub struct Making<'a> {
 }
 
 /// What is made by converting, and of which files.
-#[derive(Debug, Clone, Copy, PartialEq, Eq)]
+#[derive(Debug, Clone, Copy)]
 pub struct Converting<'a> {
     /// The file that the detached header is written to.
     pub target: &'a str,
@@ -203,7 +203,7 @@ pub struct Converting<'a> {
 }
 
 /// The version of LUKS that a new volume has.
-#[derive(Debug, Clone, Copy, PartialEq, Eq)]
+#[derive(Debug, Clone, Copy)]
 pub enum NewVersion {
     /// LUKS1.
     Luks1,

@@ -6,7 +6,7 @@ use luks_reading::{Cost, Digest, Extent, Keyslot, Meta, Segment, SegmentKind, To
 use std::fmt;
 
 /// How many lines a keyslot has, and a segment that is encrypted.
-#[derive(Clone, Copy, PartialEq, Eq)]
+#[derive(Clone, Copy)]
 pub(crate) enum Lines {
     One,
     Two,
