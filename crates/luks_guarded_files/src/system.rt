@@ -8,7 +8,7 @@ use std::fs::File;
 use std::io;
 
 /// How a lock is held.
-#[derive(Clone, Copy)]
+#[derive(Clone, Copy, PartialEq, Eq)]
 pub enum Share {
     /// With others that hold it so.
     Shared,
@@ -17,7 +17,7 @@ pub enum Share {
 }
 
 /// What the system answered when a lock was asked for.
-#[derive(Clone, Copy)]
+#[derive(Clone, Copy, PartialEq, Eq)]
 pub enum Answer {
     /// It is held.
     Held,
@@ -28,7 +28,7 @@ pub enum Answer {
 }
 
 /// How a lock was asked for, and what was answered.
-#[derive(Clone, Copy)]
+#[derive(Clone, Copy, PartialEq, Eq)]
 pub struct Asked {
     /// How it was asked for.
     pub share: Share,
@@ -37,7 +37,7 @@ pub struct Asked {
 }
 
 /// Of which kind a file is.
-#[derive(Clone, Copy)]
+#[derive(Clone, Copy, PartialEq, Eq)]
 pub enum Kind {
     /// A regular file.
     Regular,
@@ -52,7 +52,7 @@ pub enum Kind {
 }
 
 /// What the system tells of a file.
-#[derive(Clone, Copy)]
+#[derive(Clone, Copy, PartialEq, Eq)]
 pub struct Found {
     /// Its kind.
     pub kind: Kind,
@@ -80,7 +80,7 @@ impl Found {
 }
 
 /// For what a file is opened.
-#[derive(Clone, Copy)]
+#[derive(Clone, Copy, PartialEq, Eq)]
 pub enum Access {
     /// To be read.
     Read,
