@@ -488,13 +488,14 @@ class Volume:
             raise Fault(OTHER_USE, use)
 
     def _refuse_other_use(self) -> None:
-        """Refuses to write over what stands in the place of a first copy that isn't sound."""
+        """Refuses to write over what stands in the place of a copy that isn't sound."""
         try:
             shown = self.show()
         except Fault:
             return
-        if shown.get("copies") == "second-only" and os.pread(self._fd, 6, self._window[0]) != b"LUKS\xba\xbe":
-            self._refuse_use(self.signature(shown["sizes"]["header"]))
+        if shown.get("copies") in ("first-only", "second-only"):
+            places = 1 if shown["copies"] == "second-only" else 2
+            self._refuse_use(self.signature(places * shown["sizes"]["header"]))
 
     def _edited(self, edit: _Edit, passphrase: bytes, text: bytes, memory: int = 0, older: bool = False) -> int | None:
         edit.memory, edit.older = _kib(memory), bool(older)

@@ -174,11 +174,7 @@ fn tell_instead<R: AllocGlobal + Clock + Files<File = File>>(
     notes: &mut Vec<u8>,
 ) {
     match refused {
-        Some(Fault::NotLuks) => {
-            tell_reencrypted(rt, looked, notes);
-            tell_standing(rt, looked, u64::MAX, notes);
-        }
-        Some(Fault::NoSoundCopy) => tell_standing(rt, looked, u64::MAX, notes),
+        Some(Fault::NotLuks | Fault::NoSoundCopy) => tell_standing(rt, looked, u64::MAX, notes),
         Some(Fault::SlotState | Fault::Stripes) => tell_standing(rt, looked, HEADER, notes),
         _ => {}
     }
@@ -187,25 +183,8 @@ fn tell_instead<R: AllocGlobal + Clock + Files<File = File>>(
 /// The bytes of a LUKS1 header.
 const HEADER: u64 = 592;
 
-/// Notes that a volume is of LUKS1, and being reencrypted.
-fn tell_reencrypted<R: AllocGlobal + Clock + Files<File = File>>(
-    rt: &R,
-    looked: Looked<'_>,
-    notes: &mut Vec<u8>,
-) {
-    let Some(mut device) = reopened(rt, looked.file, looked.place) else {
-        return;
-    };
-    if let Ok(true) = is_reencrypted(&mut device) {
-        let file = looked.file;
-        let _ = writeln!(
-            notes,
-            "luks: {file}: cryptsetup is in the midst of reencrypting this LUKS1 volume: luks explain Reencrypting"
-        );
-    }
-}
-
-/// Notes by its signature what stands among the first bytes of a volume, of so many at most.
+/// Notes that a volume is of LUKS1 and being reencrypted, or what stands there by a signature among its first
+/// bytes, of so many at most.
 fn tell_standing<R: AllocGlobal + Clock + Files<File = File>>(
     rt: &R,
     looked: Looked<'_>,
@@ -215,9 +194,25 @@ fn tell_standing<R: AllocGlobal + Clock + Files<File = File>>(
     let Some(mut device) = reopened(rt, looked.file, looked.place) else {
         return;
     };
+    let file = looked.file;
+    match is_reencrypted(&mut device) {
+        Ok(true) => {
+            let _ = writeln!(
+                notes,
+                "luks: {file}: cryptsetup is in the midst of reencrypting this LUKS1 volume: luks explain Reencrypting"
+            );
+        }
+        Ok(false) => tell_signature(&mut device, most, file, notes),
+        Err(_) => {}
+    }
+}
+
+/// Notes what stands there by its signature.
+fn tell_signature(device: &mut Volume, most: u64, file: &str, notes: &mut Vec<u8>)
+    requires { cached_failures device.old ≡ 0 }
+{
     let len = device.len().min(most);
-    if let Ok(Some(found)) = first_use(&mut device, len) {
-        let file = looked.file;
+    if let Ok(Some(found)) = first_use(device, len) {
         let _ = writeln!(notes, "luks: {file}: what stands there is {found}");
     }
 }
