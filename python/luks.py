@@ -239,8 +239,8 @@ class Volume:
     that the caller opened and locks. A name whose volume another program edits, or uses where it `writes`, raises BlockingIOError.
     `is_detached` says that it is a header alone, and its data lies on another device.
 
-    Where only the second copy of a LUKS2 header is sound, and something else stands in the place of the first by now, an edit is refused
-    by OtherUse, unless it may write `over` that.
+    Where only one copy of a LUKS2 header is sound, and something else stands in the place of the other by now, an edit is refused by
+    OtherUse, unless it may write `over` that.
     """
 
     def __init__(self, volume: str | os.PathLike[str] | int, offset: int = 0, length: int | None = None, *, writes: bool = False,
