@@ -204,8 +204,8 @@ uint32_t luks_backup_length(int fd, uint64_t offset, uint64_t length, bool is_de
  * read. Where a fault refuses the call, nothing is written. `is_detached`: the volume is a header alone, and
  * its data lies elsewhere. `random` are bytes that nobody can guess, as many as luks_needed tells, or NULL:
  * then they are taken by getrandom. No call asks what else the disk is used for: before luks_format1 and so on ask
- * luks_signature of the whole, and before an edit of a volume of which luks_check tells that only the second copy is
- * sound of the first 16384 bytes, where something else may stand by now. */
+ * luks_signature of the whole, and before an edit of a volume of which luks_check tells that one copy alone is sound of
+ * the places of both, which are twice the header's size: something else may stand in that of the other by now. */
 
 /* How many random bytes the edit takes; or its first fault, of those that are seen without opening a keyslot.
  * `text` is the new passphrase, or the label. It writes nothing. */

@@ -39,8 +39,8 @@ AsksBefore v place FirstNewer end = ⊥
 AsksBefore v place SecondNewer end = ⊥
 
 -- One copy alone of a LUKS2 header is sound in the volume `v`, and the table of signatures finds this use before the end of
--- the other one's place, whatever magic stands there. (In LUKS1 the header is no copy: where a partition table was made,
--- no keyslot 4 has its stripes, and `check` refuses it.)
+-- the other one's place, whatever magic stands there. (A LUKS1 header has no copy: where a partition table was made, the
+-- words of keyslots 5 and 6 are those of no state, and `check` refuses it.)
 pub record HasOtherUse (v : List ℕ) (found : OtherUse) : Type 0 where
   pub place : ℕ
   pub copies : Copies

@@ -55,6 +55,7 @@ pub(crate) fn means(fault: Fault) -> &'static str {
         Fault::DoesNotFit => "of restore: check would refuse VOLUME with this header",
         Fault::OtherVolume => "of restore: the header on VOLUME is another volume's",
         Fault::OtherUse => "LUKS2: the disk has another use, in the place of the first copy",
+        Fault::Reencrypting => "cryptsetup is in the midst of reencrypting the volume",
     }
 }
 
@@ -175,6 +176,11 @@ pub(crate) fn place(fault: Fault) -> &'static str {
             "OtherUse(NAME), of add, change, remove, repair and label: its signature
        before the second copy, which alone is sound"
         }
+        Fault::Reencrypting => {
+            "LUKS1, of rebuild: the header begins with LUKS and the bytes DE AD, which
+       cryptsetup writes there until it is done; LUKS2, of restore: a keyslot
+       of type reencrypt, or a requirement of that kind"
+        }
     }
 }
 
@@ -251,7 +257,8 @@ pub(crate) fn safe(fault: Fault) -> &'static str {
         | Fault::NotAccepted
         | Fault::DoesNotFit
         | Fault::OtherVolume
-        | Fault::OtherUse => { "everything: nothing was written" }
+        | Fault::OtherUse
+        | Fault::Reencrypting => { "everything: nothing was written" }
         Fault::Argon2 => { "everything: the passphrase goes through Argon2, which takes memory" }
         Fault::Cipher | Fault::Hash | Fault::KeySize => {
             "everything: no passphrase was tried, and nothing was written"
@@ -417,6 +424,14 @@ pub(crate) fn next(fault: Fault) -> &'static str {
         Fault::OtherUse => {
             "if the other use counts, leave it: luks open and show work as ever; else
        the same command with --over takes it away"
+        }
+        Fault::Reencrypting => {
+            "let cryptsetup go on. LUKS1: in the folder where it was begun, with the
+       files LUKS-UUID.log, .org and .new, by the same cryptsetup reencrypt;
+       .log has how far it is, .org and .new the old and the new header: copy
+       the three and lose none. LUKS2: cryptsetup repair, then cryptsetup
+       reencrypt --resume-only; a backup from before it loses what is done, and
+       restore takes it by --over-reencryption alone"
         }
     }
 }
