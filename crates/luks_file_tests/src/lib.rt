@@ -4,6 +4,8 @@
 #![tactic(auto)]
 
 #[cfg(test)]
+mod backup_files;
+#[cfg(test)]
 mod commands;
 #[cfg(test)]
 mod failing_writes;
