@@ -150,7 +150,10 @@ fn watch_of<R: AllocGlobal + Clock + Files<File = File>>(
     let Ok(told) = is_source.clone() else {
         return Err(InputFault::NoMemory);
     };
-    Ok((Watch::new(rt.alloc(), file, source.at, told)?, is_source))
+    match Watch::new(rt.alloc(), file, source.at, told) {
+        Ok(watch) => Ok((watch, is_source)),
+        Err(_) => Err(InputFault::NoMemory),
+    }
 }
 
 /// The volume over the target's file, which is open.

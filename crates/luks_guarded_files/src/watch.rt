@@ -2,7 +2,7 @@
 ghost use Rattle.std.specs.Prelude.{◌≤◌, IfOk, length};
 ghost use Rattle.std.specs.Io.{WritesAtMost};
 
-use std::alloc::Global;
+use std::alloc::{AllocError, Global};
 use std::cell::Cell;
 use std::fs::File;
 use std::io::{self, ErrorKind};
@@ -28,16 +28,19 @@ pub struct Watch {
 
 impl Watch {
     /// That of the source which begins at this place of its file. `is_source` becomes true where the
-    /// target turns out to be it.
+    /// target turns out to be it. Bytes that can't be read, as of a failing disk, count as zeros.
     pub fn new(
         alloc: Global,
         source: File,
         at: u64,
         is_source: Rc<Cell<bool>>,
-    ) -> io::Result<Self> {
+    ) -> Result<Self, AllocError> {
         let mut seen = vec![in alloc; 0u8; HEAD]?;
-        let count = read_front(&source, &mut seen, at)?;
-        seen.truncate(count);
+        let mut place = at;
+        for piece in seen.chunks_mut(PIECE) {
+            read_piece(&source, piece, place);
+            place = place.saturating_add(PIECE as u64);
+        }
         Ok(Watch {
             source,
             at,
@@ -55,17 +58,17 @@ impl Watch {
     {
         let piece = &from[..from.len().min(PIECE)];
         let mut room = [0; PIECE];
-        let before = read_front(target, &mut room[..piece.len()], at)?;
-        let before = &room[..before];
+        let count = read_front(target, &mut room[..piece.len()], at).unwrap_or(0);
+        let before = &room[..count];
         if *before == *piece {
             target.write_all_at(piece, at)?;
             return Ok(piece.len());
         }
         self.is_over.set(true);
-        let beside = self.beside(at)?;
+        let beside = self.beside(at);
         target.write_all_at(piece, at)?;
         target.sync_all()?;
-        if self.is_as_seen()? && self.beside(at)? == beside {
+        if self.is_as_seen() && self.beside(at) == beside {
             return Ok(piece.len());
         }
         self.is_source.set(true);
@@ -80,26 +83,30 @@ impl Watch {
         self.is_over.get()
     }
 
-    /// The bytes of the source at a place of its own, with zeros where it ends.
-    fn beside(&self, at: u64) -> io::Result<[u8; PIECE]> {
+    /// The bytes of the source at a place of its own.
+    fn beside(&self, at: u64) -> [u8; PIECE] {
         let mut bytes = [0; PIECE];
-        let _count = read_front(&self.source, &mut bytes, self.at.saturating_add(at))?;
-        Ok(bytes)
+        read_piece(&self.source, &mut bytes, self.at.saturating_add(at));
+        bytes
     }
 
     /// Whether the source begins as it did.
-    fn is_as_seen(&self) -> io::Result<bool> {
+    fn is_as_seen(&self) -> bool {
         let mut at = 0;
         for piece in self.seen.chunks(PIECE) {
-            let mut now = [0; PIECE];
-            let now = &mut now[..piece.len().min(PIECE)];
-            let count = read_front(&self.source, now, self.at.saturating_add(at))?;
-            if count != piece.len() || *now != *piece {
-                return Ok(false);
+            if self.beside(at).as_slice() != piece {
+                return false;
             }
             at = at.saturating_add(PIECE as u64);
         }
-        Ok(true)
+        true
+    }
+}
+
+/// Reads the bytes of the file from the place on, with zeros where it ends or can't be read.
+fn read_piece(file: &File, into: &mut [u8], at: u64) {
+    if read_front(file, into, at).is_err() {
+        into.fill(0);
     }
 }
 
