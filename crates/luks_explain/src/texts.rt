@@ -149,7 +149,8 @@ pub(crate) fn place(fault: Fault) -> &'static str {
         Fault::NotLuks1 => "convert: SOURCE",
         Fault::SameFile => {
             "convert and rebuild, and backup, restore and compare: one file or device,
-       by the same words or two names"
+       by the same words or two names, or one that has bytes of the other, as a
+       loop device of its file"
         }
         Fault::Counts => "rebuild: SOURCE",
         Fault::NoMetadata => {

@@ -5,9 +5,9 @@ ghost use Rattle.luks_guarded_files.specs.Locked.{lock_of, share_for};
 ghost use Rattle.luks_files.specs.Opened.{beside_of};
 ghost use Rattle.luks_window.specs.Windows.{behind};
 
-use crate::backup_file::{BackupFile, is_taken};
 use crate::openings::{Opening, Openings};
 use crate::output::refused_name;
+use crate::target::{Shape, Source, Target, is_taken};
 use crate::volume::{Volume, WHOLE, told, volume_of};
 use luks_commands::{InputFault, Reason};
 use luks_guarded_files::{
@@ -17,7 +17,9 @@ use luks_keeping::{BackupFault, backup_length};
 use luks_request::{BackingUp, Command, Line, Place};
 use luks_window::Window;
 use std::alloc::AllocError;
+use std::cell::Cell;
 use std::fs::File;
+use std::rc::Rc;
 use std::rt::{Clock, Files};
 
 /// The volumes of a command line.
@@ -29,6 +31,9 @@ pub struct Volumes {
     /// What the target is, where it was made for a backup; the command takes it away where the backup
     /// isn't done.
     pub made: Option<Found>,
+    /// Whether the target has turned out to be the volume, by a name of which the system tells nothing; it
+    /// is told by a write that fails, and that write's bytes were put back.
+    pub is_source: Option<Rc<Cell<bool>>>,
 }
 
 impl Volumes {
@@ -41,6 +46,7 @@ impl Volumes {
             volume: Err(InputFault::Absent),
             target: Err(target),
             made: None,
+            is_source: None,
         }
     }
 
@@ -53,6 +59,7 @@ impl Volumes {
             volume: Err(InputFault::NoMemory),
             target: Err(InputFault::NoMemory),
             made: None,
+            is_source: None,
         }
     }
 }
@@ -87,6 +94,7 @@ pub fn open_volumes<R: AllocGlobal + Clock + Files<File = File>>(
             volume: open_volume(rt, openings.volume, openings.place, notes),
             target: Err(InputFault::Absent),
             made: None,
+            is_source: None,
         };
     };
     match are_one(rt, openings, beside) {
@@ -98,17 +106,19 @@ pub fn open_volumes<R: AllocGlobal + Clock + Files<File = File>>(
         return Volumes::unopened(InputFault::Unreadable(Reason::Exists));
     }
     let volume = open_volume(rt, openings.volume, openings.place, notes);
-    let BackupFile {
+    let Target {
         volume: target,
         made,
+        is_source,
     } = match &volume {
-        Ok(_) => open_beside(rt, line, beside, notes),
-        Err(_) => BackupFile::missed(InputFault::Absent),
+        Ok(_) => open_beside(rt, line, openings, beside, notes),
+        Err(_) => Target::missed(InputFault::Absent),
     };
     Volumes {
         volume,
         target,
         made,
+        is_source,
     }
 }
 
@@ -150,24 +160,42 @@ fn holds_something<R: Files<File = File>>(rt: &R, line: &Line<'_>) -> bool {
 fn open_beside<R: AllocGlobal + Clock + Files<File = File>>(
     rt: &R,
     line: &Line<'_>,
+    openings: &Openings<'_>,
     beside: Opening<'_>,
     notes: &mut Vec<u8>,
-) -> BackupFile
+) -> Target
     ensures count { IfOk result.volume (λ device. cached_failures device ≡ 0) }
     ensures share { IfOk result.volume (λ device.
         (lock_of (behind (device_behind device))).share ≡ share_for beside.entry.writes) }
 {
-    match line.command {
-        Command::Backup(backing_up) if beside.writes => {
-            match length_of_backup(rt, line, &backing_up) {
-                Ok(length) => BackupFile::open(rt, &backing_up, length, notes),
-                Err(fault) => BackupFile::missed(fault),
-            }
-        }
-        _ => BackupFile {
+    if !beside.writes {
+        return Target {
             volume: open_volume(rt, beside, WHOLE, notes),
             made: None,
-        },
+            is_source: None,
+        };
+    }
+    let source = Source {
+        name: openings.volume.name,
+        at: openings.place.offset,
+    };
+    match shape_of(rt, line) {
+        Ok(shape) => Target::open(rt, source, beside.name, shape, notes),
+        Err(fault) => Target::missed(fault),
+    }
+}
+
+/// As what the command's target is opened.
+fn shape_of<R: AllocGlobal + Clock + Files<File = File>>(
+    rt: &R,
+    line: &Line<'_>,
+) -> Result<Shape, InputFault> {
+    match line.command {
+        Command::Backup(backing_up) => Ok(Shape::Backup {
+            length: length_of_backup(rt, line, &backing_up)?,
+            over: backing_up.over,
+        }),
+        _ => Ok(Shape::AsItIs),
     }
 }
 

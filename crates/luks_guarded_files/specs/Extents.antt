@@ -1,5 +1,5 @@
 -- Ranges of bytes of disks and files, and which have a byte in common.
-use Rattle.std.specs.Prelude.{◌≡◌, ◌⊎◌, ◌+◌, ◌<◌, ◌≤◌, ℕ, Bool, true, false, min}
+use Rattle.std.specs.Prelude.{◌≡◌, ◌⊎◌, ◌+◌, ◌<◌, ◌≤◌, ℕ, true, min}
 use Rattle.luks_guarded_files.specs.declared.extent.Extent.{Extent}
 use Rattle.luks_guarded_files.specs.declared.extent.Holder.{Holder}
 

@@ -1,15 +1,18 @@
+use crate::watch::Watch;
 use std::cell::Cell;
 use std::fs::{File, Metadata, OpenFile};
 use std::io::{self, Seek, SeekFrom};
 use std::os::unix::fs::FileExt;
 
-/// A file that gets its length with the first write to it, and is as it was till then. It tells that
+/// A file that gets its length with the first write that changes it, and is as it was till then. It tells that
 /// length from the start.
 #[derive(Drop)]
 pub struct FittedFile {
     file: File,
     /// The length that it is still to get.
     length: Cell<Option<u64>>,
+    /// The source whose target it is, until a byte of it was changed.
+    watch: Cell<Option<Watch>>,
 }
 
 impl FittedFile {
@@ -18,6 +21,7 @@ impl FittedFile {
         FittedFile {
             file,
             length: Cell::new(None),
+            watch: Cell::new(None),
         }
     }
 
@@ -26,7 +30,14 @@ impl FittedFile {
         FittedFile {
             file,
             length: Cell::new(Some(length)),
+            watch: Cell::new(None),
         }
+    }
+
+    /// The same, as a target: the first write that changes a byte fails where it turns out to be its source.
+    pub fn watching(self, watch: Watch) -> Self {
+        self.watch.set(Some(watch));
+        self
     }
 
     fn fit(&self) -> io::Result<()> {
@@ -53,6 +64,15 @@ impl FileExt for FittedFile {
     }
 
     fn write_at(&self, buf: &[u8], offset: u64) -> io::Result<usize> {
+        if let Some(watch) = self.watch.replace(None) {
+            let count = watch.write(&self.file, buf, offset)?;
+            if watch.is_over() {
+                self.fit()?;
+            } else {
+                self.watch.set(Some(watch));
+            }
+            return Ok(count);
+        }
         self.fit()?;
         self.file.write_at(buf, offset)
     }

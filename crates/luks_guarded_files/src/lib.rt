@@ -23,6 +23,7 @@ mod once;
 mod opening;
 mod read_only;
 mod system;
+mod watch;
 
 pub use beginning::begins_with;
 pub use cached::{CachedDevice, ROOM};
@@ -37,5 +38,6 @@ pub use names::{Named, hold_name};
 pub use node::Node;
 pub use notice::Notice;
 pub use once::open_or_make;
-pub use opening::{FOLDER, OpenFault, open_locked, take_lock};
+pub use opening::{FOLDER, OpenFault, open_file, open_locked, take_lock};
 pub use system::{Access, Answer, Asked, Found, Kind, Share, System};
+pub use watch::Watch;

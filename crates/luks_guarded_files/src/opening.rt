@@ -68,13 +68,21 @@ pub fn open_locked<S: System>(
     ensures answered { IfOk result (λ device. IsAnswered (lock_of device) (S.last system.new)) }
     ensures count { IfOk result (λ device. file_failures (device_inside device) ≡ 0) }
 {
+    let file = open_file(system, path, writes)?;
+    let lock = take_lock(alloc, system, &file, writes, folder)?;
+    Ok(LockedDevice::new(FileDevice::new(FittedFile::new(file))?, lock))
+}
+
+/// Opens the file of a volume for reading, or for writing too; its lock isn't taken yet. As `open_locked`
+/// says, one of another kind isn't opened.
+pub fn open_file<S: System>(system: &mut S, path: &str, writes: bool) -> Result<File, OpenFault>
+    ensures { S.last system.new ≡ S.last system.old }
+{
     let kind = system.stat(path)?.kind;
     if kind != Kind::Regular && kind != Kind::Block {
         return Err(OpenFault::NoVolume);
     }
-    let file = system.open(path, access_for(writes))?;
-    let lock = take_lock(alloc, system, &file, writes, folder)?;
-    Ok(LockedDevice::new(FileDevice::new(FittedFile::new(file))?, lock))
+    Ok(system.open(path, access_for(writes))?)
 }
 
 /// Takes the lock of a volume's file, which is open for reading, or for writing too; what is to be
