@@ -7,6 +7,7 @@ pub mod JudgedFacts
 pub mod SlotFacts
 pub mod LaidFacts
 pub mod ErasedFacts
+pub mod ClearFacts
 pub mod SizeFacts
 pub mod BackupFacts
 pub mod EndFacts
