@@ -1,11 +1,13 @@
 -- What clearing the first sectors of places leaves.
-use Rattle.std.proofs.Common.{◌≡◌, ◌⊎◌, ℕ, ◌+◌, ◌-◌, ◌*◌, ◌/◌, ◌%◌, ◌<◌, ◌≤◌, ◌==◌, nat_le, List, length, min, replicate, get_or, Bool, true, false, refl, sym, ap, ◌∙◌, arith, inl, inr, subst}
-use Rattle.std.proofs.lemmas.Bool.{cases_lt, eqb-true, leb-true, false≢true}
+use Rattle.std.proofs.Common.{◌≡◌, ◌⊎◌, ℕ, ◌+◌, ◌-◌, ◌*◌, ◌/◌, ◌%◌, ◌<◌, ◌≤◌, ◌==◌, nat_le, List, length, min, replicate, get_or, if◌then◌else◌, Bool, true, false, refl, sym, ap, ◌∙◌, arith, inl, inr, subst}
+use Rattle.std.proofs.lemmas.Bool.{cases_lt, eqb-true, leb-true, ne_eqb, false≢true}
 use Rattle.std.proofs.lemmas.Grind.{same_number_lists}
 use Rattle.std.proofs.lemmas.List.{get_or-replicate, length-replicate}
 use Rattle.luks_area.specs.Ranges.{part, written, IsAt, IsOfEither, SameBut}
-use Rattle.luks_area.specs.RangeFacts.{get_or-part, length-part_inside, part-same_but, same_but-either, same_but-same_outside, same_but-then, same_but-wider, same_outside-written}
+use Rattle.luks_area.specs.RangeFacts.{get_or-part, length-part_inside, part-part, part-same_but, same_but-either, same_but-same_outside, same_but-then, same_but-wider, same_outside-written}
 use Rattle.luks_head.proofs.CopyFacts.{among_pass, listed_at_least}
+use Rattle.luks1_header.specs.Header1.{luks_magic}
+use Rattle.luks_head.specs.Header2.{magic_of, second_magic, IsSound}
 use Rattle.luks_head.specs.Sizes.{is_listed, listed_sizes, IsListed}
 use Rattle.luks_writing.specs.Cleared.{IsCleared}
 use Rattle.luks_keeping.proofs.ErasedFacts.{zeros_stand}
@@ -62,6 +64,16 @@ to_clear_listed EachCopy v o is = is.listed
 pub to_clear_same : (which : Which) (u v : List ℕ) (o n : ℕ) → o + 6 ≤ n → part v 0 n ≡ part u 0 n → IsToClear which u o → IsToClear which v o
 to_clear_same EachPlace u v o n inside same is = is
 to_clear_same EachCopy u v o n inside same is = record { listed = is.listed; magic = inside_stays u v o 6 n inside same ∙ is.magic }
+
+-- a listed place isn't the first copy's
+other_magic : (o : ℕ) → 16384 ≤ o → magic_of o ≡ second_magic
+other_magic o large = ap (λ (b : Bool). if b then luks_magic else second_magic) (ne_eqb o 0 (λ (is : o ≡ 0). omega (arith, is, large)))
+
+pub sound_begins : (v : List ℕ) (o : ℕ) → IsListed o → IsSound v o → BeginsCopy v o
+sound_begins v o listed sound =
+    let there : o + 0 ≡ o = omega arith in
+    let six : part (part v o 4096) 0 6 ≡ part v o 6 = part-part v o 4096 0 6 (omega arith) ∙ ap (λ k. part v k 6) there in
+    record { listed = listed; magic = sym six ∙ sound.form.magic ∙ other_magic o (listed_at_least o listed) }
 
 -- ---- one place after another, the last one first
 

@@ -19,4 +19,5 @@ pub mod TurnFacts
 pub mod KeyFacts
 pub mod OtherFacts
 pub mod SaltFacts
+pub mod CompareFacts
 pub mod ComparisonFacts

@@ -136,8 +136,10 @@ fn is_piece_alike<B: Device, T: Device>(
         ↔ (part (B.bytes backup.old) here len ≡ part (T.bytes target.old) there len)) }
 {
     let mut kept = [0u8; 512];
-    backup.read_at(here, &mut kept[..len])?;
+    let here_piece = &mut kept[..len];
+    backup.read_at(here, here_piece)?;
     let mut stands = [0u8; 512];
-    target.read_at(there, &mut stands[..len])?;
-    Ok(kept[..len] == stands[..len])
+    let there_piece = &mut stands[..len];
+    target.read_at(there, there_piece)?;
+    Ok(&*here_piece == &*there_piece)
 }
