@@ -1,4 +1,4 @@
-use Rattle.std.proofs.Common.{rules, ◌≡◌, ℕ, ◌*◌, ◌≤◌, List, min, sym, ap, subst, ◌∙◌, arith}
+use Rattle.std.proofs.Common.{rules, ◌≡◌, ℕ, ◌*◌, ◌≤◌, List, min, sym, ap, subst, refl, ◌∙◌, arith}
 use Rattle.luks1_header.specs.Header1.{payload_offset_of, IsLuks1}
 use Rattle.luks_reading.specs.Header.{IsHeader}
 use Rattle.luks_reading.specs.declared.header.Header.{Header}
@@ -36,7 +36,7 @@ returns-in-Some-clause-start c = λ v is.
 pub returns-in-None-clause-start : goal.returns-in-None-clause-start
 returns-in-None-clause-start c = λ v is.
     let it : IsHeader v (Luks2 c.in-Luks2.field-0) = subst (IsHeader v) c.in-Luks2.is is in
-    let lacks = c.in-None.ensures.none v is tt in
+    let lacks = c.in-None.ensures.none v is refl in
     let long : 18446744073709551616 ≤ lacks.size = lacks.long in
     let sized : IsSizeAs v c.args.data_ (choice_of (Luks2 c.in-Luks2.field-0)) lacks.size =
     size_by v c.args.data_ (choice_of (Luks2 c.in-Luks2.field-0)) lacks.size (chosen_of v (Luks2 c.in-Luks2.field-0) it) lacks.is_size in
