@@ -13,7 +13,7 @@ use Rattle.luks_writing.specs.Cleared.{IsCleared}
 use Rattle.luks_keeping.proofs.ErasedFacts.{zeros_stand}
 use Rattle.luks_keeping.proofs.OverFacts.{inside_stays}
 use Rattle.luks_keeping.specs.Clearing.{IsBetween, IsOfFronts, IsOfOne, IsToClear, KeepsZeros, WipesInTurn}
-use Rattle.luks_keeping.specs.SecondPlaces.{AreZeros, BeginsCopy, IsOfFirst, IsOfListed}
+use Rattle.luks_keeping.specs.SecondPlaces.{AreZeros, BeginsCopy, IsOfCopies, IsOfFirst, IsOfListed}
 use Rattle.luks_keeping.specs.declared.second_places.Which.{Which}
 use Rattle.luks_keeping.specs.declared.second_places.Which.TheVariants.{EachPlace, EachCopy}
 
@@ -183,6 +183,16 @@ all_zeros w n size small room first listed between =
     ] ∙ sym (get_or-replicate size p 0 0 below))
 
 -- ---- in turn
+
+-- the places where a copy begins are listed
+copies_within : (v : List ℕ) (size p : ℕ) → IsOfCopies v size p → IsOfListed size p
+copies_within v size p x = record { place = x.place; is = x.is.listed; within = x.within; at = x.at }
+
+pub copies_listed : (u v : List ℕ) (size : ℕ) → SameBut (IsOfCopies u size) u v → SameBut (IsOfListed size) u v
+copies_listed u v size same = same_but-wider (copies_within u size) same
+
+pub places_cleared : (u v w : List ℕ) (size : ℕ) → SameBut (IsOfCopies u size) u v → SameBut (IsOfListed size) v w → SameBut (IsOfListed size) u w
+places_cleared u v w size copies places = same_but-then (copies_listed u v size copies) places
 
 listed_below : (size p : ℕ) → IsOfListed size p → IsAt 0 size p
 listed_below size p x = (omega arith, let within = x.within in let high = x.at.1 in omega (arith, within, high))

@@ -10,9 +10,10 @@ use crate::second_places::{Which, clear_places, wipe_between};
 use crate::writing_over::sector_within;
 use luks_area::{Area, Device, DeviceFault};
 
-/// Writes zeros over the first `size` bytes: first over the sector at 0, then over the first sectors of the
-/// places where a second copy may stand, a flush after each, and then over all others. An older header
-/// there would still count while its key areas are overwritten.
+/// Writes zeros over the first `size` bytes: first over the sector at 0, then over the first sector of each
+/// second copy that begins there, then over those of all places where one may, a flush after each, and
+/// then over all others. An older header would still count while its key areas are overwritten; such a
+/// place may lie in one.
 pub(crate) fn wipe<T: Device>(target: &mut T, size: u64) -> Result<(), DeviceFault>
     requires within { size ≤ T.size target.old }
     requires room { T.failed target.old + 1 < 2 ^ 64 }
@@ -31,6 +32,7 @@ pub(crate) fn wipe<T: Device>(target: &mut T, size: u64) -> Result<(), DeviceFau
         len: sector_within(size),
     };
     erase(target, first)?;
+    clear_places(target, Which::EachCopy, size)?;
     clear_places(target, Which::EachPlace, size)?;
     wipe_between(target, size)
 }

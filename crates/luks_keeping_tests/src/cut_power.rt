@@ -12,8 +12,6 @@ use std::alloc::Global;
 use std::process::Abort;
 use std::test::Fail;
 
-const LOSSES: [Loss; 3] = [Loss::OutOfOrder, Loss::EvenSectors, Loss::OddSectors];
-
 /// Whether the passphrase opens the keyslot 0.
 fn opens_by(alloc: Global, device: &mut MemDevice, passphrase: &[u8]) -> bool {
     open_slot(alloc, device, 0, passphrase, Allowed::NOTHING).is_ok_and(|key| key.is_some())
@@ -52,10 +50,8 @@ fn backs_up(
 fn a_backup_over_an_older_one(rt: HostRuntime) -> Result<(), Fail> {
     let volume = two_keyslots(rt.alloc())?;
     let file = backup_of(rt.alloc(), &small2(rt.alloc(), HashName::Sha512)?)?;
-    for loss in LOSSES {
-        let calls = backs_up(&rt, rt.alloc(), &volume, &file, loss)?;
-        assert!(rt; 128 < calls, "{calls} calls");
-    }
+    let calls = backs_up(&rt, rt.alloc(), &volume, &file, Loss::OutOfOrder)?;
+    assert!(rt; 128 < calls, "{calls} calls");
     Ok(())
 }
 
@@ -94,7 +90,7 @@ fn with_far_area(alloc: Global) -> Result<Vec<u8>, Fail> {
 fn luks1_over_luks2(rt: HostRuntime) -> Result<(), Fail> {
     let kept = backup_of(rt.alloc(), &with_far_area(rt.alloc())?)?;
     let volume = small2(rt.alloc(), HashName::Sha512)?;
-    for loss in LOSSES {
+    for loss in [Loss::OutOfOrder, Loss::EvenSectors] {
         let calls = restores(&rt, rt.alloc(), &kept, &volume, loss)?;
         assert!(rt; 8 < calls, "{calls} calls");
     }
@@ -151,9 +147,7 @@ fn large_backup(alloc: Global, volume: &[u8]) -> Result<Vec<u8>, Fail> {
 fn small_copies_over_larger_ones(rt: HostRuntime) -> Result<(), Fail> {
     let kept = large_backup(rt.alloc(), &with_copies(rt.alloc(), 16384, SMALL, b"one")?)?;
     let volume = with_copies(rt.alloc(), 32768, LARGER, b"two")?;
-    for loss in LOSSES {
-        let calls = restores(&rt, rt.alloc(), &kept, &volume, loss)?;
-        assert!(rt; 8 < calls, "{calls} calls");
-    }
+    let calls = restores(&rt, rt.alloc(), &kept, &volume, Loss::OutOfOrder)?;
+    assert!(rt; 8 < calls, "{calls} calls");
     Ok(())
 }
