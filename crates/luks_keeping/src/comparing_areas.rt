@@ -107,7 +107,13 @@ fn are_alike<B: Device, T: Device>(
     let mut done = 0;
     while done < here.len {
         let len = (here.len - done).min(512);
-        if !is_piece_alike(backup, here.start + done, target, there.start + done, len as usize)? {
+        if !is_piece_alike(
+            backup,
+            here.start + done,
+            target,
+            there.start + done,
+            len as usize,
+        )? {
             return Ok(false);
         }
         done += len;

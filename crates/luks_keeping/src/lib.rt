@@ -30,7 +30,8 @@ pub use comparing::compare;
 pub use comparing_areas::compare_areas;
 pub use comparison::{Comparison, Keeping};
 pub use laws::{
-    kept_keyslots_answer_alike, kept_of_kept_is_kept, restored_backup_gives_back, sound_copies_begin,
+    kept_keyslots_answer_alike, kept_of_kept_is_kept, restored_backup_gives_back,
+    sound_copies_begin,
 };
 pub use over::Over;
 pub use restore_fault::RestoreFault;

@@ -41,7 +41,9 @@ pub(crate) fn data_start(header: &Header, data_: Data, total: u64) -> u64
     match data_ {
         Data::Elsewhere => total,
         Data::Here => match header {
-            Header::Luks1(bytes) => total.min(payload_place(&Luks1::read(bytes.as_slice()).unwrap())),
+            Header::Luks1(bytes) => total.min(payload_place(&Luks1::read(
+                bytes.as_slice(),
+            ).unwrap())),
             Header::Luks2(_) => match backup_size(header, data_) {
                 Some(size) => total.min(size),
                 None => total,

@@ -6,7 +6,8 @@ use luks_kdf::HashName;
 use luks_keeping::{Over, backup, restore};
 use luks_reading::{Allowed, Data, check, open_slot};
 use luks_test_devices::{
-    Fields, LosingDevice, Loss, TEXT, UUID, copy_of, key_area, part, put, small1, small2, two_keyslots,
+    Fields, LosingDevice, Loss, TEXT, UUID, copy_of, key_area, part, put, small1, small2,
+    two_keyslots,
 };
 use std::alloc::Global;
 use std::process::Abort;
@@ -26,8 +27,8 @@ fn opens_where_accepted(alloc: Global, left: &[u8]) -> Result<bool, Fail> {
     Ok(opens_by(alloc, &mut device, b"one") || opens_by(alloc, &mut device, b"two"))
 }
 
-/// At whichever call of the file the power is cut, nothing is accepted that doesn't open. How many calls
-/// there were until the backup was made.
+/// At whichever third call of the file the power is cut, nothing is accepted that doesn't open. How many
+/// calls there were until the backup was made.
 fn backs_up(
     rt: &impl Abort,
     alloc: Global,
@@ -35,13 +36,17 @@ fn backs_up(
     file: &[u8],
     loss: Loss,
 ) -> Result<u64, Fail> {
-    for call in 0..1024 {
+    for turn in 0..256 {
+        let call = turn * 3;
         let mut source = MemDevice::new(volume.to_vec(alloc)?);
         let mut target = LosingDevice::new(alloc, file, call, loss, true)?;
         if backup(alloc, &mut source, Data::Here, &mut target).is_ok() {
             return Ok(call);
         }
-        assert!(rt; opens_where_accepted(alloc, target.contents())?, "call {call}");
+        assert!(rt;
+            opens_where_accepted(alloc, target.contents())?,
+            "call {call}"
+        );
     }
     Ok(0)
 }
@@ -63,14 +68,18 @@ fn restores(
     volume: &[u8],
     loss: Loss,
 ) -> Result<u64, Fail> {
-    for call in 0..1024 {
+    for turn in 0..256 {
+        let call = turn * 3;
         let mut backup = MemDevice::new(kept.to_vec(alloc)?);
         let mut target = LosingDevice::new(alloc, volume, call, loss, true)?;
         let answer = restore(alloc, &mut backup, &mut target, Data::Here, Over::AnyVolume);
         if answer.is_ok() {
             return Ok(call);
         }
-        assert!(rt; opens_where_accepted(alloc, target.contents())?, "call {call}");
+        assert!(rt;
+            opens_where_accepted(alloc, target.contents())?,
+            "call {call}"
+        );
     }
     Ok(0)
 }
@@ -118,20 +127,30 @@ fn with_copies(
     let mut volume = vec![in alloc; 0u8; LARGE_LEN]?;
     put(&mut volume, 0, &copy_of(alloc, 0, &fields)?);
     put(&mut volume, size as usize, &copy_of(alloc, size, &fields)?);
-    put(&mut volume, 65536, &key_area(alloc, HashName::Sha256, passphrase)?);
+    put(
+        &mut volume,
+        65536,
+        &key_area(alloc, HashName::Sha256, passphrase)?,
+    );
     Ok(volume)
 }
 
 const SMALL: &[(&str, &str)] = &[
     (r#""keyslots_size":"32768""#, r#""keyslots_size":"98304""#),
-    (r#""iv_tweak":"0","offset":"65536""#, r#""iv_tweak":"0","offset":"131072""#),
+    (
+        r#""iv_tweak":"0","offset":"65536""#,
+        r#""iv_tweak":"0","offset":"131072""#,
+    ),
     (r#""offset":"32768""#, r#""offset":"65536""#),
 ];
 
 const LARGER: &[(&str, &str)] = &[
     (r#""json_size":"12288""#, r#""json_size":"28672""#),
     (r#""keyslots_size":"32768""#, r#""keyslots_size":"65536""#),
-    (r#""iv_tweak":"0","offset":"65536""#, r#""iv_tweak":"0","offset":"131072""#),
+    (
+        r#""iv_tweak":"0","offset":"65536""#,
+        r#""iv_tweak":"0","offset":"131072""#,
+    ),
     (r#""offset":"32768""#, r#""offset":"65536""#),
 ];
 

@@ -20,10 +20,10 @@ returns-clause-rest g c = λ tells.
 
 pub returns-clause-order : goal.returns-clause-order
 returns-clause-order g c = λ source tells large. inr (
-    stays_gone c.args.places.now (IsOfListed c.args.size) (g.T.Device.bytes c.wipe.new.target) (g.T.Device.bytes c.copy_places.new.target) c.requires.lead
-        (listed_zeros (g.T.Device.bytes c.wipe.new.target) c.args.size (c.in_ok-wipe.ensures.zeros tells)) (c.copy_places.ensures.rest tells),
-    cleared_then c.args.places.now _ _ _ (zeros_cleared c.args.places.now (g.T.Device.bytes c.wipe.new.target) c.args.size c.requires.within.header (c.in_ok-wipe.ensures.zeros tells))
-        (c.copy_places.ensures.order source tells),
+  stays_gone c.args.places.now (IsOfListed c.args.size) (g.T.Device.bytes c.wipe.new.target) (g.T.Device.bytes c.copy_places.new.target) c.requires.lead
+      (listed_zeros (g.T.Device.bytes c.wipe.new.target) c.args.size (c.in_ok-wipe.ensures.zeros tells)) (c.copy_places.ensures.rest tells),
+  cleared_then c.args.places.now _ _ _ (zeros_cleared c.args.places.now (g.T.Device.bytes c.wipe.new.target) c.args.size c.requires.within.header (c.in_ok-wipe.ensures.zeros tells))
+      (c.copy_places.ensures.order source tells),
 )
 
 pub returns-clause-zeros : goal.returns-clause-zeros

@@ -12,8 +12,7 @@ returns-then-here-there-clause-told g c = λ source tells.
     let backup : length v ≡ g.B.Device.size c.args.backup.now = g.met.B.Device.sized c.args.backup.now source in
     let size : length w ≡ g.T.Device.size c.args.target.now = g.met.T.Device.sized c.args.target.now tells in
     let here = c.requires.here in
-    let there = c.requires.there in
-    (
+    let there = c.requires.there in (
       λ e. absurd (false≢true e),
       λ alike. absurd (other_length c.args.here c.args.there v w (omega (arith, backup, here)) (omega (arith, size, there)) (λ e. omega (arith, e)) alike),
     )
@@ -27,13 +26,12 @@ returns-then-not-branch-clause-told g c = λ source tells.
     let m : ℕ = c.loop-done.done in
     let n : ℕ = c.min-len.result in
     let same_len : c.args.there.len ≡ c.args.here.len = omega arith in
-    let no : IsTrue c.in_ok-is_piece_alike.field-0 → ⊥ = search rules in
-    (
+    let no : IsTrue c.in_ok-is_piece_alike.field-0 → ⊥ = search rules in (
       λ e. absurd (false≢true e),
       λ alike. absurd (no ((c.in_ok-is_piece_alike.ensures.told source tells).1
-      (subst (λ (l : List ℕ). part l (i + m) n ≡ part (g.T.Device.bytes c.loop-done.target) (k + m) n) (sym (c.loop-done.invariant.kept.same source))
-      (subst (λ (l : List ℕ). part v (i + m) n ≡ part l (k + m) n) (sym (c.loop-done.invariant.unchanged.same tells))
-      (piece_alike v w i k c.args.here.len m n (omega arith) (subst (λ (x : ℕ). part v i c.args.here.len ≡ part w k x) same_len alike)))))),
+          (subst (λ (l : List ℕ). part l (i + m) n ≡ part (g.T.Device.bytes c.loop-done.target) (k + m) n) (sym (c.loop-done.invariant.kept.same source))
+          (subst (λ (l : List ℕ). part v (i + m) n ≡ part l (k + m) n) (sym (c.loop-done.invariant.unchanged.same tells))
+          (piece_alike v w i k c.args.here.len m n (omega arith) (subst (λ (x : ℕ). part v i c.args.here.len ≡ part w k x) same_len alike)))))),
     )
 
 pub loop-done-preserved : goal.loop-done-preserved
