@@ -311,7 +311,7 @@ static int keeps(int fd, uint64_t offset, uint64_t length, const char *call, cha
     errno = kept;
     if (answer != LUKS_DONE || strcmp(call, "compare") != 0)
         return done(answer, LUKS_NO_SLOT);
-    static const char *const STATES[] = {"absent", "same", "older", "missing", "removed"};
+    static const char *const STATES[] = {"absent", "same", "older", "missing", "removed", "damaged"};
     bool is_current = true;
     for (int n = 0; n < LUKS_KEYSLOTS; n++)
         is_current = is_current && keyslots[n] <= LUKS_SAME;

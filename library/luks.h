@@ -114,8 +114,9 @@ struct luks_fields {
 };
 
 /* How a keyslot of a backup stands to that of the volume with the same number, by their salts, of which each keyslot gets a new
- * one when it is made: neither has it; both have it, with one salt or with two; the volume alone has it; the backup alone. */
-enum { LUKS_ABSENT = 0, LUKS_SAME = 1, LUKS_OLDER = 2, LUKS_MISSING = 3, LUKS_REMOVED = 4 };
+ * one when it is made: neither has it; both have it, with one salt or with two; the volume alone has it; the backup alone; both have
+ * it, with one salt, and their key areas differ, so that one of the two is damaged. */
+enum { LUKS_ABSENT = 0, LUKS_SAME = 1, LUKS_OLDER = 2, LUKS_MISSING = 3, LUKS_REMOVED = 4, LUKS_DAMAGED = 5 };
 
 /* How many keyslots a volume may have. */
 #define LUKS_KEYSLOTS 32
@@ -189,8 +190,8 @@ uint32_t luks_signature(int fd, uint64_t offset, uint64_t length, uint64_t withi
  * held. */
 uint32_t luks_find(int fd, uint64_t offset, uint64_t length, uint64_t from, uint64_t *place);
 
-/* How the keyslots of a backup, which is the first descriptor's, stand to those of the volume; `is_same_key`, where it isn't NULL,
- * tells whether a digest of the volume keys is one. The backup is current where each keyslot is LUKS_ABSENT or LUKS_SAME.
+/* How the keyslots of a backup, which is the first descriptor's, stand to those of the volume, by their salts and key areas;
+ * `is_same_key`, where it isn't NULL, tells whether a digest of the volume keys is one. The backup is current where each keyslot is LUKS_ABSENT or LUKS_SAME.
  * Nothing is written. */
 uint32_t luks_compare(int backup_fd, uint64_t backup_offset, uint64_t backup_length, int fd, uint64_t offset, uint64_t length, bool is_detached,
                       uint8_t keyslots[LUKS_KEYSLOTS], bool *is_same_key);

@@ -54,7 +54,7 @@ KINDS = (None, "pbkdf2", "argon2i", "argon2id")
 LOCKS = "/run/cryptsetup"
 KEY_ROOM = 128
 KEYSLOTS = 32
-KEEPINGS = ("absent", "same", "older", "missing", "removed")
+KEEPINGS = ("absent", "same", "older", "missing", "removed", "damaged")
 COPIES = (None, "in-step", "first-newer", "second-newer", "first-only", "second-only")
 
 
@@ -223,8 +223,8 @@ class Comparison:
     is_same_key: bool
     """Whether a digest of the backup's volume key is one of the volume's."""
     keyslots: dict[int, str]
-    """How each keyslot of either stands, by its number: same, older (it was made anew since), missing (the volume alone has it) or removed
-    (the backup alone has it)."""
+    """How each keyslot of either stands, by its number: same, older (it was made anew since), missing (the volume alone has it), removed
+    (the backup alone has it) or damaged (their key areas differ)."""
 
     @property
     def is_current(self) -> bool:
