@@ -72,10 +72,13 @@ pub fn compare_given<S: Given, K: Given>(
     if is_other_volume(&here, &there) {
         return restore_number(&RestoreFault::OtherVolume);
     }
-    let Ok(found) = compare_areas(&mut kept, &here, &mut device, &there) else {
-        told.backup_beyond = kept.reached();
-        told.beyond = device.reached();
-        return BEYOND;
+    let found = match compare_areas(&mut kept, &here, &mut device, &there) {
+        Ok(found) => found,
+        Err(_) => {
+            told.backup_beyond = kept.reached();
+            told.beyond = device.reached();
+            return BEYOND;
+        }
     };
     told.same_key = number_of_key(found.same_key);
     tell_keyslots(&found, keyslots);

@@ -1,5 +1,7 @@
 use Rattle.std.proofs.Common.{◌≡◌, ◌≢◌, ◌<◌, inl, inr, length, ℕ, List, None, IsTrue, false, refl, ◌∙◌, arith, rules, subst, sym}
+use Rattle.luks_given.specs.Given.{given_bytes}
 use Rattle.luks_given.specs.Volume.{volume}
+use Rattle.luks_keeping.specs.Compared.{IsComparedInFull}
 use Rattle.luks_keeping.specs.SameVolume.{IsOtherVolume}
 use Rattle.luks_reading.specs.Checked.{IsCheckRefusal, WellFormed}
 use Rattle.luks_reading.specs.Failures.{is_check_failure}
@@ -47,13 +49,21 @@ returns-clause-answers g c =
     let kept = subst (λ (v : List ℕ). WellFormed v Elsewhere) c.new-kept.ensures.bytes (c.in-Ok.ensures.formed tt) in
     let formed = subst (λ (v : List ℕ). WellFormed v c.args.data_) c.new-device.ensures.bytes (c.in-Ok-accepted_header.ensures.formed tt) in
     let none : IsTrue c.is_other_volume.result → ⊥ = search rules in
+    let backup = c.in-Ok.ensures.unchanged.same tt in
+    let volume_ = c.in-Ok-accepted_header.ensures.unchanged.same tt in
+    let compared : IsComparedInFull b t c.in-Ok-compare_areas.found =
+    subst (λ (v : List ℕ). IsComparedInFull v t c.in-Ok-compare_areas.found) (backup ∙ c.new-kept.ensures.bytes)
+    (subst (λ (v : List ℕ). IsComparedInFull (given_bytes c.accepted_header.new.device) v c.in-Ok-compare_areas.found) (volume_ ∙ c.new-device.ensures.bytes)
+    (c.in-Ok-compare_areas.ensures.compared tt tt
+    (subst (λ (v : List ℕ). IsHeader v c.in-Ok.header) (sym backup) (c.in-Ok.ensures.read tt))
+    (subst (λ (v : List ℕ). IsHeader v c.in-Ok-accepted_header.header) (sym volume_) (c.in-Ok-accepted_header.ensures.read tt)))) in
     record {
       told = λ zero. record {
         kept = kept;
         formed = formed;
         own = λ other. none ((c.is_other_volume.ensures b t here there).1 other);
-        comparison = c.compare-found.result;
-        compared = c.compare-found.ensures b t here there;
+        comparison = c.in-Ok-compare_areas.found;
+        compared = compared;
         key = c.number_of_key-told.ensures;
         keyslots = c.tell_keyslots.ensures;
       };
