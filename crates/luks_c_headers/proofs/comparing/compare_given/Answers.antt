@@ -70,3 +70,25 @@ returns-clause-answers g c =
       untold = λ other. absurd (other refl);
       kept = λ other. absurd (other refl);
     }
+
+-- ---- a key area wasn't given
+
+pub returns-in-Err-compare_areas-clause-more : goal.returns-in-Err-compare_areas-clause-more
+returns-in-Err-compare_areas-clause-more g c =
+    let e = c.in-Err-compare_areas.ensures in
+    let kept : c.compare_areas.new.backup.refused ≡ None =
+    none_still _ _ (none_still _ _ c.new-kept.ensures.unwritten (c.in-Ok.ensures.unchanged.unsettled tt)) (e.kept.unsettled tt) in
+    let stands : c.compare_areas.new.target.refused ≡ None =
+    none_still _ _ (none_still _ _ c.new-device.ensures.unwritten (c.in-Ok-accepted_header.ensures.unchanged.unsettled tt)) (e.unchanged.unsettled tt) in
+    let backup = c.requires.backup_given in
+    let all = c.requires.given in
+    λ asked. elim e.count [
+      | inl first ↦ (
+          let grown = first.0 in
+          let far = c.reached-told-in-Err-compare_areas.ensures.far kept (λ (z : c.compare_areas.new.backup.failures ≡ 0). omega (arith, grown, z)) in
+          inl (subst (λ (l : List ℕ). length l < c.reached-told-in-Err-compare_areas.result) backup far))
+      | inr second ↦ (
+          let grown = second.1 in
+          let far = c.reached-told-in-Err-compare_areas-2.ensures.far stands (λ (z : c.compare_areas.new.target.failures ≡ 0). omega (arith, grown, z)) in
+          inr (subst (λ (l : List ℕ). length l < c.reached-told-in-Err-compare_areas-2.result) all far))
+    ]
