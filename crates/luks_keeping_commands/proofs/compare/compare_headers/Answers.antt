@@ -24,8 +24,7 @@ pub returns-in-Ok-compare_areas-clause-answers : goal.returns-in-Ok-compare_area
 returns-in-Ok-compare_areas-clause-answers g c =
     let b : List ℕ = g.D.Device.bytes c.args.backup.now in
     let t : List ℕ = g.D.Device.bytes c.args.volume.now in
-    let none : IsTrue c.is_other_volume.result → ⊥ = search rules in
-    (
+    let none : IsTrue c.is_other_volume.result → ⊥ = search rules in (
       (c.in-Ok-compare_areas.ensures.count.0 ∙ c.in-Ok.ensures.count, c.in-Ok-compare_areas.ensures.count.1 ∙ c.in-Ok-accepted_header.ensures.count),
       λ told. record { backup = c.in-Ok.ensures.formed told; volume = c.in-Ok-accepted_header.ensures.formed told },
       λ told other. none ((c.is_other_volume.ensures b t (c.in-Ok.ensures.read told) (c.in-Ok-accepted_header.ensures.read told)).1 other),
