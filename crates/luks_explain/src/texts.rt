@@ -179,8 +179,8 @@ pub(crate) fn place(fault: Fault) -> &'static str {
         }
         Fault::Reencrypting => {
             "LUKS1, of rebuild: the header begins with LUKS and the bytes DE AD, which
-       cryptsetup writes there until it is done; LUKS2, of restore: a keyslot
-       of type reencrypt, or a requirement of that kind"
+       cryptsetup writes there until it is done; LUKS2, of restore: a keyslot of
+       type reencrypt, or a requirement of that kind"
         }
     }
 }
