@@ -1,4 +1,4 @@
-use Rattle.std.proofs.Common.{List, ℕ, sym, subst, inr}
+use Rattle.std.proofs.Common.{List, ℕ, sym, subst, inl, inr}
 use Rattle.luks_commands.specs.Files.{AreFirstBytes}
 use Rattle.luks_header_commands.proofs.header_work.make_header.Goals as goal
 
@@ -7,4 +7,4 @@ returns-clause-answers g c =
     let HasRandom : List ℕ → Type 0 = AreFirstBytes c.args.files.now.needed g.N.Read.remaining c.args.inputs.now.random in
     let taken : HasRandom c.as_slice.result.now = subst HasRandom (sym c.as_slice.ensures.value) c.in-Ok-random_bytes.ensures.taken in
     rw c.in-Ok.is (rw c.in-Ok-target.is (λ apart.
-    inr (record { random = c.as_slice.result.now; taken = taken; is = c.run.ensures.answers })))
+    inr (record { clear = ?; is = inr (record { random = c.as_slice.result.now; taken = taken; is = c.run.ensures.answers _ ? }) })))
