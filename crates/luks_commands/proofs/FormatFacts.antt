@@ -168,7 +168,7 @@ pub format_holds : {D : Type 0} (tells : Type 0) (size : D → ℕ) (bytes : D �
 format_holds {D} tells size bytes failed making HasWords is_long unread HasRandom (Ok old) (Ok new) a (inl said) = λ told is stands.
     (said.2 told, wordless_answers (HasOther None (bytes old)) (bytes old) is_long unread a said.0)
 format_holds {D} tells size bytes failed making HasWords is_long unread HasRandom (Ok old) (Ok new) a (inr (inl held)) = λ told is stands.
-    (held.same told, subst (IsBarAnswer (HasOther None (bytes old)) (bytes old)) (sym held.is) (bar_answers making.over (HasOther None (bytes old)) (bytes old) held.bar (held.barred told)))
+    (held.same told, subst (IsBarAnswer (HasOther None (bytes old)) (bytes old)) (sym held.is) (bar_answers tells told making.over (HasOther None (bytes old)) (bytes old) held.bar held.barred))
 format_holds {D} tells size bytes failed making HasWords is_long unread HasRandom (Ok old) (Ok new) a (inr (inr said)) = λ told is stands.
     clear_none making.over (HasOther None (bytes old)) (bytes old) (said.clear told) is stands
 format_holds {D} tells size bytes failed making HasWords is_long unread HasRandom (Ok old) (Err fault) a said = tt

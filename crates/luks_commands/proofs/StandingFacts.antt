@@ -30,28 +30,31 @@ use Rattle.luks_commands.specs.declared.answers.Status.TheVariants.{Done, NotInS
 use Rattle.luks_commands.specs.declared.inputs.InputFault.{InputFault}
 use Rattle.luks_commands.specs.declared.inputs.InputFault.TheVariants.{Absent, Unreadable, NoMemory}
 use Rattle.luks_commands.specs.declared.standing.Bar.{Bar}
-use Rattle.luks_commands.specs.declared.standing.Bar.TheVariants.{OtherUse, OtherVolume, Memory, Device}
+use Rattle.luks_commands.specs.declared.standing.Bar.TheVariants.{OtherUse, OtherVolume, Reencrypting, Memory, Device}
 
 -- ---- how it ends
 
 pub bar_kinds : (b : Bar) → answer_status (bar_answer b) ≢ NotInStep
 bar_kinds (OtherUse found) = λ e. cc
 bar_kinds OtherVolume = λ e. cc
+bar_kinds Reencrypting = λ e. cc
 bar_kinds Memory = λ e. cc
 bar_kinds Device = λ e. cc
 
 pub bar_undone : (b : Bar) → answer_status (bar_answer b) ≢ Done
 bar_undone (OtherUse found) = λ e. cc
 bar_undone OtherVolume = λ e. cc
+bar_undone Reencrypting = λ e. cc
 bar_undone Memory = λ e. cc
 bar_undone Device = λ e. cc
 
 -- what bars a command is answered
-pub bar_answers : (over : Bool) (Other : Type 0) (v : List ℕ) (b : Bar) → IsBar over Other v b → IsBarAnswer Other v (bar_answer b)
-bar_answers over Other v (OtherUse found) is = is.1
-bar_answers over Other v OtherVolume is = is.1
-bar_answers over Other v Memory is = tt
-bar_answers over Other v Device is = tt
+pub bar_answers : (tells : Type 0) → tells → (over : Bool) (Other : Type 0) (v : List ℕ) (b : Bar) → IsBar tells over Other v b → IsBarAnswer Other v (bar_answer b)
+bar_answers tells told over Other v (OtherUse found) is = is.1 told
+bar_answers tells told over Other v OtherVolume is = is.1 told
+bar_answers tells told over Other v Reencrypting is = absurd is
+bar_answers tells told over Other v Memory is = tt
+bar_answers tells told over Other v Device is = tt
 
 -- and so is that a file can't be read, or a passphrase is too long
 unread_answers : (Other : Type 0) (v : List ℕ) (f : InputFault) → IsBarAnswer Other v (unread_answer f)

@@ -13,7 +13,7 @@ use Rattle.luks_commands.specs.declared.answers.Answer.TheVariants.{Refused, Dev
 use Rattle.luks_commands.specs.declared.answers.Refusal.TheVariants as refusal
 use Rattle.luks_commands.specs.declared.inputs.InputFault.{InputFault}
 use Rattle.luks_commands.specs.declared.standing.Bar.{Bar}
-use Rattle.luks_commands.specs.declared.standing.Bar.TheVariants.{OtherUse, OtherVolume, Memory, Device}
+use Rattle.luks_commands.specs.declared.standing.Bar.TheVariants.{OtherUse, OtherVolume, Reencrypting, Memory, Device}
 
 -- the table of signatures finds this use of the disk `v`
 abbrev pub HasUse : List ℕ → Use → Type 0
@@ -38,6 +38,7 @@ pub record HasOther (field_ : Option (List ℕ)) (v : List ℕ) : Type 0 where
 abbrev pub is_bar_failure : Bar → Bool
 is_bar_failure (OtherUse found) = false
 is_bar_failure OtherVolume = false
+is_bar_failure Reencrypting = false
 is_bar_failure Memory = false
 is_bar_failure Device = true
 
@@ -45,22 +46,24 @@ is_bar_failure Device = true
 abbrev pub bar_answer : Bar → Answer
 bar_answer (OtherUse found) = Refused (refusal.OtherUse found)
 bar_answer OtherVolume = Refused refusal.OtherVolume
+bar_answer Reencrypting = Refused refusal.Reencrypting
 bar_answer Memory = NoMemory
 bar_answer Device = DeviceFault
 
 -- what bars a command that would write over the disk `v`, unless it may: another volume, where `Other` says that one stands
 -- there, or another use; memory is taken for the metadata of LUKS2 alone
-abbrev pub IsBar : Bool → Type 0 → List ℕ → Bar → Type 0
-IsBar over Other v (OtherUse found) = (over ≡ false) × HasUse v found
-IsBar over Other v OtherVolume = (over ≡ false) × Other
-IsBar over Other v Memory = (over ≡ false) × NeedsMetadata v
-IsBar over Other v Device = ⊤
+abbrev pub IsBar : Type 0 → Bool → Type 0 → List ℕ → Bar → Type 0
+IsBar tells over Other v (OtherUse found) = (over ≡ false) × (tells → HasUse v found)
+IsBar tells over Other v OtherVolume = (over ≡ false) × (tells → Other)
+IsBar tells over Other v Reencrypting = ⊥
+IsBar tells over Other v Memory = (over ≡ false) × (tells → NeedsMetadata v)
+IsBar tells over Other v Device = ⊤
 
 -- why it isn't told whether an accepted header stands on the disk `v`: a word of private contracts
-abbrev pub IsUnasked : List ℕ → Bar → Type 0
-IsUnasked v Memory = NeedsMetadata v
-IsUnasked v Device = ⊤
-IsUnasked v bar = ⊥
+abbrev pub IsUnasked : Type 0 → List ℕ → Bar → Type 0
+IsUnasked tells v Memory = tells → NeedsMetadata v
+IsUnasked tells v Device = ⊤
+IsUnasked tells v bar = ⊥
 
 -- nothing does
 pub record IsClear (over : Bool) (Other : Type 0) (v : List ℕ) : Type 0 where
@@ -73,7 +76,7 @@ pub record IsClear (over : Bool) (Other : Type 0) (v : List ℕ) : Type 0 where
 -- as `new`; `counts` says which calls failed, by whether the bar is a failure.
 pub record IsHeldBack (tells : Type 0) (Bars : Bar → Type 0) (counts : Bool → Type 0) (old new : List ℕ) (a : Answer) : Type 0 where
   pub bar : Bar
-  pub barred : tells → Bars bar
+  pub barred : Bars bar
   pub counted : counts (is_bar_failure bar)
   pub same : tells → new ≡ old
   pub is : a ≡ bar_answer bar

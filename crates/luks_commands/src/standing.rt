@@ -28,6 +28,8 @@ pub enum Bar {
     OtherUse(OtherUse),
     /// Another volume's header stands there.
     OtherVolume,
+    /// The metadata of a reencryption stands there.
+    Reencrypting,
     /// Memory was refused, for its metadata.
     Memory,
     /// A device call failed.
@@ -51,6 +53,7 @@ impl From<Bar> for Answer {
         match bar {
             Bar::OtherUse(found) => Answer::Refused(Refusal::OtherUse(found)),
             Bar::OtherVolume => Answer::Refused(Refusal::OtherVolume),
+            Bar::Reencrypting => Answer::Refused(Refusal::Reencrypting),
             Bar::Memory => Answer::NoMemory,
             Bar::Device => Answer::DeviceFault,
         }
@@ -85,8 +88,8 @@ pub fn judge_standing<D: Device>(
     ensures unchanged { IsUnchanged D.tells D.size D.bytes D.unsettled device.old device.new }
     ensures count { CountsFailure is_bar_failure result
         (D.failed device.old) (D.failed device.new) }
-    ensures barred { D.tells → IfErr result
-        (IsBar over (HasOther uuid (D.bytes device.old)) (D.bytes device.old)) }
+    ensures barred { IfErr result
+        (IsBar D.tells over (HasOther uuid (D.bytes device.old)) (D.bytes device.old)) }
     ensures clear { D.tells → OnOk result
         (IsClear over (HasOther uuid (D.bytes device.old)) (D.bytes device.old)) }
 {
@@ -125,8 +128,7 @@ fn has_other<D: Device>(
         (D.failed device.old) (D.failed device.new) }
     ensures has { D.tells → IfOk result (λ has.
         IsTrue has ↔ HasOther uuid (D.bytes device.old)) }
-    ensures fault { D.tells → IfErr result
-        (IsUnasked (D.bytes device.old)) }
+    ensures fault { IfErr result (IsUnasked D.tells (D.bytes device.old)) }
 {
     match accepted_header(alloc, device, Data::Elsewhere) {
         Ok(header) => Ok(!has_uuid(&header, uuid)),

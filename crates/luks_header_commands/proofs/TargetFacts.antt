@@ -78,7 +78,7 @@ bytes_later tells d e says later said told =
 holds_barred : (tells : Type 0) (over : Bool) (d : Pair) (a : Answer) → IsBarredHeader tells over d a
     → tells → HoldsBack over (IsOtherTarget d.volume d.old) d.old d.new a
 holds_barred tells over d a held told = λ is stands.
-    (held.same told, subst (IsBarAnswer (IsOtherTarget d.volume d.old) d.old) (sym held.is) (bar_answers over (IsOtherTarget d.volume d.old) d.old held.bar (held.barred told)))
+    (held.same told, subst (IsBarAnswer (IsOtherTarget d.volume d.old) d.old) (sym held.is) (bar_answers tells told over (IsOtherTarget d.volume d.old) d.old held.bar held.barred))
 
 holds_unbarred : (tells : Type 0) (over : Bool) (says : List ℕ → Pair → Answer → Type 0) (unread : InputFault → Type 0) (HasRandom : List ℕ → Type 0) (d : Pair) (a : Answer)
     → IsUnbarredHeader tells over says unread HasRandom d a → tells → HoldsBack over (IsOtherTarget d.volume d.old) d.old d.new a

@@ -100,7 +100,7 @@ IsOtherTarget v t = (field_ : Option (List ℕ)) × IsUuidOf v field_ × HasOthe
 -- what stands on the target bars the command, and nothing was done
 abbrev pub IsBarredHeader : Type 0 → Bool → Pair → Answer → Type 0
 IsBarredHeader tells over d a =
-    IsHeldBack tells (IsBar over (IsOtherTarget d.volume d.old) d.old) (λ is_failure. CountsAfter is_failure d.volume_before d.volume_after d.before d.after) d.old d.new a
+    IsHeldBack tells (IsBar tells over (IsOtherTarget d.volume d.old) d.old) (λ is_failure. CountsAfter is_failure d.volume_before d.volume_after d.before d.after) d.old d.new a
 
 -- nothing bars it, and the random bytes can't be read, or this is answered with them
 pub record IsUnbarredHeader (tells : Type 0) (over : Bool) (says : List ℕ → Pair → Answer → Type 0) (unread : InputFault → Type 0) (HasRandom : List ℕ → Type 0) (d : Pair) (a : Answer)

@@ -164,7 +164,7 @@ fn judge_target<D: Device>(
     ensures unchanged { IsUnchanged D.tells D.size D.bytes D.unsettled target.old target.new }
     ensures count { CountsEither is_bar_failure result (D.failed volume.old)
         (D.failed volume.new) (D.failed target.old) (D.failed target.new) }
-    ensures barred { D.tells → IfErr result (IsBar over
+    ensures barred { IfErr result (IsBar D.tells over
         (IsOtherTarget (D.bytes volume.old) (D.bytes target.old)) (D.bytes target.old)) }
     ensures clear { D.tells → OnOk result (IsClear over
         (IsOtherTarget (D.bytes volume.old) (D.bytes target.old)) (D.bytes target.old)) }

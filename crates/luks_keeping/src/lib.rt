@@ -29,4 +29,4 @@ pub use laws::{kept_keyslots_answer_alike, kept_of_kept_is_kept, restored_backup
 pub use over::Over;
 pub use restore_fault::RestoreFault;
 pub use restoring::restore;
-pub use same_volume::is_other_volume;
+pub use same_volume::{counts_same_volume, is_other_volume};
