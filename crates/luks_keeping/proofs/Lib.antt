@@ -19,3 +19,4 @@ pub mod KeyFacts
 pub mod OtherFacts
 pub mod SaltFacts
 pub mod ComparisonFacts
+pub mod SameFacts
