@@ -54,11 +54,13 @@ pub fn counts_same_volume<T: Device>(
     }
     match judge_other(alloc, backup, device, Over::SameVolume) {
         Ok(()) => Ok(true),
-        Err(RestoreFault::Device) => Err(RestoreFault::Device),
-        Err(RestoreFault::Memory) => Err(RestoreFault::Memory),
-        Err(
-            RestoreFault::OtherVolume | RestoreFault::NotAccepted(_) | RestoreFault::DoesNotFit(_),
-        ) => Ok(false),
+        Err(fault) => match fault {
+            RestoreFault::Device => Err(RestoreFault::Device),
+            RestoreFault::Memory => Err(RestoreFault::Memory),
+            RestoreFault::OtherVolume => Ok(false),
+            RestoreFault::NotAccepted(_) => Ok(false),
+            RestoreFault::DoesNotFit(_) => Ok(false),
+        },
     }
 }
 
