@@ -1,5 +1,6 @@
 -- What formatting leaves of a volume, by how it ended.
 use Rattle.std.proofs.Common.{◌≡◌, ◌≢◌, ℕ, ◌+◌, List, None, Result, Ok, Err, refl, sym, ap, subst, ◌∙◌, IfErr, OnOk, inl, inr, arith}
+use Rattle.luks_area.specs.Device.{IsUnchanged}
 use Rattle.luks_area.specs.RangeFacts.{same_but-same}
 use Rattle.luks_area.specs.Ranges.{SameBut}
 use Rattle.luks_reading.specs.Checked.{WellFormed}
@@ -17,7 +18,7 @@ use Rattle.luks_commands.specs.Answer.{answer_status, format_fault_answer}
 use Rattle.luks_commands.specs.Exit.{exit_status}
 use Rattle.luks_commands.proofs.EndFacts.{done_by, refusal_by, Tells}
 use Rattle.luks_commands.specs.declared.inputs.InputFault.{InputFault}
-use Rattle.luks_commands.specs.Files.{LeavesVolume}
+use Rattle.luks_commands.specs.Files.{IsLeft, LeavesVolume}
 use Rattle.luks_commands.specs.FormatAnswers.{AnswersFormat, HasFormatFault, IsFormatAnswer, IsMakingFault}
 use Rattle.luks_commands.specs.Standing.{HasOther, HoldsBackDevice, IsBarAnswer}
 use Rattle.luks_commands.proofs.StandingFacts.{bar_answers, clear_none, wordless_answers}
@@ -127,6 +128,19 @@ left_undone tells size bytes making HasWords HasRandom (Ok d) s apart = record {
   };
 }
 left_undone tells size bytes making HasWords HasRandom (Err f) s apart = refl
+
+-- one that nothing changed of, where the command isn't done
+pub left_unchanged : {D : Type 0} (tells : Type 0) (size : D → ℕ) (bytes : D → List ℕ) (unsettled : D → ℕ → Type 0) (making : Making) (HasWords HasRandom : List ℕ → Type 0)
+    (old new : D) (s : Status) → s ≢ Done → IsUnchanged tells size bytes unsettled old new
+    → IsLeft tells size bytes (λ v w. SaysFormat making HasWords HasRandom v w (exit_status s)) old new
+left_unchanged tells size bytes unsettled making HasWords HasRandom old new s apart same = record {
+  size = same.size;
+  said = λ t. record {
+    done = λ is. absurd (apart (done_by s (exit_status s) (inl refl) is));
+    refused = λ is. same.same t;
+    rest = subst (λ (w : List ℕ). SameBut (IsOfNewVolume making.version) (bytes old) w) (sym (same.same t)) (same_but-same (IsOfNewVolume making.version) (bytes old));
+  };
+}
 
 -- where the volume wasn't made, how the command ends
 pub format_kinds : (f : FormatFault) → answer_status (format_fault_answer f) ≢ NotInStep

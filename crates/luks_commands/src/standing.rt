@@ -3,16 +3,18 @@ ghost use Rattle.std.specs.Prelude.{◌≡◌, ◌≢◌, ◌↔◌, ◌+◌, �
 ghost use Rattle.luks_area.specs.Device.{CountsFailure, IsUnchanged, is_failure};
 ghost use Rattle.luks_reading.specs.Header.{IsAcceptedHeader};
 ghost use Rattle.luks_signatures.specs.Signatures.{Finds, table};
-ghost use Rattle.luks_keeping.specs.OtherHeaders.{read_uuid};
+ghost use Rattle.luks_keeping.specs.OtherHeaders.{read_uuid, selected_uuid};
 ghost use Rattle.luks_commands.specs.Answer.{answer_status};
 ghost use Rattle.luks_commands.specs.Standing.{bar_answer, HasOther, is_bar_failure, IsBar, IsClear, IsUnasked, IsUuidOf};
 ghost use Rattle.luks_area.specs.Ranges.{part};
 
 use crate::answers::{Answer, Refusal, Status, device_fault};
-use luks_head::{HeadFault, Selected, select};
 use luks_keeping::accepted_header;
-use luks_reading::{CheckFault, Data, Device, DeviceFault, Header};
+use luks_reading::{
+    CheckFault, Data, Device, DeviceFault, Header, ReadFault, Selected, select,
+};
 use luks_signatures::{OtherUse, first_use};
+use luks1_header::fields::field;
 use std::alloc::Global;
 use std::io::Write;
 
@@ -134,7 +136,9 @@ fn has_other<D: Device>(
         Ok(header) => Ok(!has_uuid(&header, uuid)),
         Err(CheckFault::Device) => Err(Bar::Device),
         Err(CheckFault::Memory) => Err(Bar::Memory),
-        Err(_) => Ok(false),
+        Err(CheckFault::Head(_)) => Ok(false),
+        Err(CheckFault::Meta(_)) => Ok(false),
+        Err(CheckFault::Area(_)) => Ok(false),
     }
 }
 
@@ -160,18 +164,29 @@ pub fn uuid_of<D: Device>(alloc: Global, device: &mut D) -> Result<Option<[u8; 4
     ensures uuid { D.tells → IfOk result (IsUuidOf (D.bytes device.old)) }
 {
     match select(alloc, device) {
-        Ok(Selected::V1(bytes)) => Ok(Some(luks1_uuid(&bytes))),
-        Ok(Selected::V2 { header, .. }) => Ok(Some(header.uuid)),
-        Err(HeadFault::Device) => Err(DeviceFault),
-        Err(_) => Ok(None),
+        Ok(selected) => Ok(Some(selected_uuid(&selected))),
+        Err(fault) => match ReadFault::from(fault) {
+            ReadFault::Device => Err(DeviceFault),
+            ReadFault::Head(_) | ReadFault::Meta(_) | ReadFault::Memory => Ok(None),
+        },
     }
 }
 
-/// The uuid's field of a LUKS1 header.
+/// The uuid's field of a header that was selected.
+fn selected_uuid(selected: &Selected) -> [u8; 40]
+    ensures { result ≡ selected_uuid selected.now }
+{
+    match selected {
+        Selected::V1(bytes) => luks1_uuid(bytes),
+        Selected::V2 { header, .. } => header.uuid,
+    }
+}
+
+/// That of a LUKS1 header.
 fn luks1_uuid(bytes: &[u8; 592]) -> [u8; 40]
     ensures { result ≡ part bytes.now 168 40 }
 {
     let mut uuid = [0; 40];
-    uuid.copy_from_slice(&bytes[UUID..UUID_END]);
+    uuid.copy_from_slice(field(bytes, UUID, UUID_END - UUID));
     uuid
 }

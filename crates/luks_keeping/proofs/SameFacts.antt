@@ -19,11 +19,7 @@ none_counts t none = (λ q. absurd (false≢true q), λ x. absurd (x.some (choic
 
 -- without one none of the same volume counts
 pub none_same : (b t : List ℕ) (has : Bool) → has ≡ false → (IsTrue has ↔ HasAnyHeader t) → IsTrue false ↔ CountsSameVolume b t
-none_same b t has no is = (λ q. absurd (false≢true q), λ x. absurd (false≢true (sym no ∙ is.1 x.header)))
-
--- one that isn't another's is of the same volume
-pub own_counts : (b t : List ℕ) (has : Bool) → has ≡ true → (IsTrue has ↔ HasAnyHeader t) → (IsOtherVolume b t → ⊥) → IsTrue true ↔ CountsSameVolume b t
-own_counts b t has yes is own = (λ q. record { header = is.0 yes; own = own }, λ x. refl)
+none_same b t has lacks is = (λ q. absurd (false≢true q), λ x. absurd (false≢true (sym lacks ∙ is.1 x.header)))
 
 -- another's isn't
 pub other_counts : (b t : List ℕ) → IsOtherVolume b t → IsTrue false ↔ CountsSameVolume b t
