@@ -45,7 +45,7 @@ from typing import Any, Iterator
 
 __all__ = ["Comparison", "Derivation", "Fault", "Report", "Volume", "explain"]
 
-DONE, OTHER_VOLUME, OTHER_USE, REENCRYPTING, MEMORY, DEVICE, SHUT, ROOM = 0, 48, 49, 50, 103, 104, 105, 106
+DONE, OTHER_VOLUME, OTHER_USE, REENCRYPTING, MEMORY, DEVICE, SHUT, ROOM = 0, 48, 49, 52, 103, 104, 105, 106
 TO_END = 2**64 - 1
 NO_SLOT = NO_NUMBER = 2**32 - 1
 ADD, CHANGE, REMOVE, REPAIR, LABEL = range(1, 6)

@@ -1,5 +1,5 @@
 -- What `restore` leaves and answers, by what it met.
-use Rattle.std.proofs.Common.{◌≡◌, inl, List, ℕ, false, refl, subst, ◌∙◌, length}
+use Rattle.std.proofs.Common.{◌≡◌, inl, inr, List, ℕ, false, Result, Ok, Err, refl, sym, subst, ◌∙◌, length}
 use Rattle.luks_area.specs.Ranges.{part, SameBut}
 use Rattle.luks_area.specs.declared.area.Area.{Area}
 use Rattle.luks_writing.specs.TwoDevices.{CountsAfter, IsOneFailure}
@@ -14,8 +14,15 @@ use Rattle.luks_commands.specs.declared.answers.Answer.{Answer}
 use Rattle.luks_commands.specs.declared.answers.Answer.TheVariants.{Done, Refused, DeviceFault, NoMemory}
 use Rattle.luks_commands.specs.declared.answers.Refusal.TheVariants.{Restore}
 use Rattle.luks_commands.specs.Answer.{restore_fault_answer}
+use Rattle.luks_request.specs.declared.keeping.Restoring.{Restoring}
+use Rattle.luks_commands.specs.declared.inputs.InputFault.{InputFault}
+use Rattle.luks_commands.specs.declared.standing.Bar.{Bar}
+use Rattle.luks_commands.specs.declared.standing.Bar.TheVariants as bar
+use Rattle.luks_commands.specs.Standing.{bar_answer}
+use Rattle.luks_keeping_commands.specs.Reencrypting.{IsReencrypting}
+use Rattle.luks_keeping_commands.specs.Restoring.{AnswersBoth, AnswersRestore, HoldsBackRestore, HoldsVolume, IsReencryptingAnswer, IsReencryptionBar, IsRestoreBar, IsUseBar, IsUsedAnswer}
 use Rattle.luks_keeping_commands.specs.Restoring.{IsNewVolume, IsRestoreAnswer, KeepsRest}
-use Rattle.luks_keeping_commands.specs.TwoFiles.{Pair}
+use Rattle.luks_keeping_commands.specs.TwoFiles.{pair_of, Pair}
 
 -- ---- the volume
 
@@ -86,3 +93,58 @@ module _
     answer_after DeviceFault x = subst (λ (n : ℕ). IsOneFailure n t u w) one (subst (λ (n : ℕ). IsOneFailure r t n w) two x)
     answer_after NoMemory x = (none_after x.0, same_after x.1, lifted (λ k l. IsAnsweredRestore k l payload over Memory) x.2)
     answer_after a x = absurd x
+
+-- ---- what is asked before
+
+-- what bars the command, by its two parts
+pub reencryption_bars : (tells : Type 0) (r : Restoring) (b t : List ℕ) (x : Bar) → IsReencryptionBar tells r.over_reencryption t x → IsRestoreBar tells r b t x
+reencryption_bars tells r b t (bar.OtherUse found) is = absurd is
+reencryption_bars tells r b t bar.OtherVolume is = absurd is
+reencryption_bars tells r b t bar.Reencrypting is = is
+reencryption_bars tells r b t bar.Memory is = λ told. inl (is told)
+reencryption_bars tells r b t bar.Device is = tt
+
+pub use_bars : (tells : Type 0) (r : Restoring) (b t : List ℕ) (x : Bar) → (tells → r.over_reencryption ≡ false → IsReencrypting t → ⊥) → IsUseBar tells r.over b t x
+    → IsRestoreBar tells r b t x
+use_bars tells r b t (bar.OtherUse found) clear is = (is.0, λ told. ((is.1 told).0, (is.1 told).1, (is.1 told).2, clear told))
+use_bars tells r b t bar.OtherVolume clear is = absurd is
+use_bars tells r b t bar.Reencrypting clear is = absurd is
+use_bars tells r b t bar.Memory clear is = λ told. inr (is told)
+use_bars tells r b t bar.Device clear is = tt
+
+-- ---- a volume that isn't to be written over
+
+held_reencrypting : (tells : Type 0) → tells → (r : Restoring) (b t : List ℕ) (x : Bar) → IsRestoreBar tells r b t x → r.over_reencryption ≡ false → IsReencrypting t
+    → IsReencryptingAnswer (bar_answer x)
+held_reencrypting tells told r b t (bar.OtherUse found) is may stands = absurd ((is.1 told).3 may stands)
+held_reencrypting tells told r b t bar.OtherVolume is may stands = absurd is
+held_reencrypting tells told r b t bar.Reencrypting is may stands = tt
+held_reencrypting tells told r b t bar.Memory is may stands = tt
+held_reencrypting tells told r b t bar.Device is may stands = tt
+
+held_used : (tells : Type 0) → tells → (r : Restoring) (b t : List ℕ) (x : Bar) → IsRestoreBar tells r b t x → IsUsedAnswer t (bar_answer x)
+held_used tells told r b t (bar.OtherUse found) is = (is.1 told).0
+held_used tells told r b t bar.OtherVolume is = absurd is
+held_used tells told r b t bar.Reencrypting is = is.1 told
+held_used tells told r b t bar.Memory is = tt
+held_used tells told r b t bar.Device is = tt
+
+volume_holds : (tells : Type 0) → tells → (r : Restoring) (d : Pair) (a : Answer) → AnswersBoth tells r d a → HoldsVolume r d.source d.old d.new a
+volume_holds tells told r d a (inl held) = record {
+  reencryption = λ may stands. (held.same told, subst IsReencryptingAnswer (sym held.is) (held_reencrypting tells told r d.source d.old held.bar held.barred may stands));
+  use_of = λ over formed apart found stands. (held.same told, subst (IsUsedAnswer d.old) (sym held.is) (held_used tells told r d.source d.old held.bar held.barred));
+}
+volume_holds tells told r d a (inr said) = record {
+  reencryption = λ may stands. absurd ((said.0 told).reencryption may stands);
+  use_of = λ over formed apart found stands. absurd ((said.0 told).use_of over formed apart found stands);
+}
+
+-- it isn't
+pub restore_holds : {D : Type 0} (tells : Type 0) (size : D → ℕ) (bytes : D → List ℕ) (failed : D → ℕ) (r : Restoring) (old new backup backup_new : Result D InputFault) (a : Answer)
+    → AnswersRestore tells size bytes failed r old new backup backup_new a → HoldsBackRestore tells bytes r old new backup a
+restore_holds {D} tells size bytes failed r (Ok old) (Ok new) (Ok backup) (Ok backup_new) a said = λ told.
+    volume_holds tells told r (pair_of size bytes failed backup backup_new old new) a said
+restore_holds {D} tells size bytes failed r (Ok old) (Ok new) (Ok backup) (Err f) a said = absurd said
+restore_holds {D} tells size bytes failed r (Ok old) (Ok new) (Err f) backup_new a said = tt
+restore_holds {D} tells size bytes failed r (Ok old) (Err f) backup backup_new a said = tt
+restore_holds {D} tells size bytes failed r (Err f) new backup backup_new a said = tt

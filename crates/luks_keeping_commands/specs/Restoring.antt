@@ -79,7 +79,8 @@ IsRestoreAnswer tells payload over d a = ⊥
 -- another use, where no header of the backup's volume counts. Memory is taken for the metadata of both.
 abbrev pub IsRestoreBar : Type 0 → Restoring → List ℕ → List ℕ → Bar → Type 0
 IsRestoreBar tells restoring b t (bar.OtherUse found) =
-    (restoring.over ≡ false) × (tells → HasUse t found × WellFormed b Elsewhere × (CountsSameVolume b t → ⊥))
+    (restoring.over ≡ false) × (tells → HasUse t found × WellFormed b Elsewhere × (CountsSameVolume b t → ⊥)
+    × (restoring.over_reencryption ≡ false → IsReencrypting t → ⊥))
 IsRestoreBar tells restoring b t bar.OtherVolume = ⊥
 IsRestoreBar tells restoring b t bar.Reencrypting = (restoring.over_reencryption ≡ false) × (tells → IsReencrypting t)
 IsRestoreBar tells restoring b t bar.Memory = tells → IsUnaskedMetadata t ⊎ (NeedsMetadata b ⊎ ReadsTarget b t SameVolume)

@@ -118,7 +118,8 @@ fn is_reencrypting_area(alloc: Global, area: &[u8]) -> Result<bool, Bar>
     match read_json(alloc, area) {
         Ok(value) => Ok(is_reencrypting_value(&value)),
         Err(JsonFault::Memory) => Err(Bar::Memory),
-        Err(JsonFault::JsonArea | JsonFault::BadJson) => Ok(false),
+        Err(JsonFault::JsonArea) => Ok(false),
+        Err(JsonFault::BadJson) => Ok(false),
     }
 }
 
@@ -180,7 +181,7 @@ fn is_asking(mandatory: &Value) -> bool
     ensures { result ≡ is_asking (view mandatory.now) }
 {
     match mandatory {
-        Value::Array(items) => asks_reencryption(items),
+        Value::Array(items) => asks_reencryption(items.as_slice()),
         _ => false,
     }
 }

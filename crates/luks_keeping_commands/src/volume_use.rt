@@ -109,7 +109,9 @@ fn is_spared<D: Device>(alloc: Global, backup: &mut D, volume: &mut D) -> Result
         },
         Err(CheckFault::Device) => Err(Bar::Device),
         Err(CheckFault::Memory) => Err(Bar::Memory),
-        Err(CheckFault::Head(_) | CheckFault::Meta(_) | CheckFault::Area(_)) => Ok(true),
+        Err(CheckFault::Head(_)) => Ok(true),
+        Err(CheckFault::Meta(_)) => Ok(true),
+        Err(CheckFault::Area(_)) => Ok(true),
     }
 }
 
