@@ -13,7 +13,7 @@ const NO_SLOT: u32 = 0xFFFF_FFFF;
 
 /// How the key of a keyslot that is made is to be derived.
 #[repr(C)]
-#[derive(Clone, Copy, Drop, Default)]
+#[derive(Clone, Copy, Drop)]
 pub struct LuksDerivation {
     /// 1 by PBKDF2, 2 by Argon2i, 3 by Argon2id; 0 where none is chosen: of an addition and a change as
     /// the keyslot that the passphrase opens, of a volume that is made as its digest.
@@ -28,7 +28,7 @@ pub struct LuksDerivation {
 
 /// An edit of a volume, but for its passphrases and its label.
 #[repr(C)]
-#[derive(Clone, Copy, Drop, Default)]
+#[derive(Clone, Copy, Drop)]
 pub struct LuksEdit {
     /// 1 adds a keyslot, 2 changes one's passphrase, 3 removes one, 4 repairs the header, 5 sets the
     /// label.

@@ -6,7 +6,7 @@ use crate::texts::{means, next, place, safe};
 
 /// A fault by its name alone, without what it prints in brackets. Where several faults have one name,
 /// as `Outside` of an area and of the keyslot to open, it stands for all of them.
-#[derive(Clone, Copy)]
+#[derive(Clone, Copy, PartialEq, Eq)]
 pub enum Fault {
     /// Fewer than 592 bytes, so that no header fits.
     TooShort,

@@ -12,7 +12,7 @@ use std::marker::PhantomData;
 /// A call of the plan: so many bytes are written from the place `at` on, or, where they are none, all
 /// that was written is to stay before a later call begins.
 #[repr(C)]
-#[derive(Clone, Copy, Default)]
+#[derive(Clone, Copy)]
 pub struct PlannedCall {
     /// The place of the volume, in bytes from its start.
     pub at: u64,
