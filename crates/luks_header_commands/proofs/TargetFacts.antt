@@ -1,12 +1,18 @@
 -- What becomes of the target of a command that makes a header.
-use Rattle.std.proofs.Common.{◌≡◌, ◌⊎◌, ℕ, List, Bool, true, false, Result, Ok, Err, IfErr, OnOk, refl, sym, subst, ◌∙◌, inl, inr, arith}
+use Rattle.std.proofs.Common.{◌≡◌, ◌⊎◌, ℕ, List, Bool, true, false, Option, Some, None, ap, Result, Ok, Err, IfErr, OnOk, refl, sym, subst, ◌∙◌, inl, inr, arith}
 use Rattle.std.specs.Result.{ForOk}
-use Rattle.luks_area.specs.Device.{IsSettled, IsUnchanged}
+use Rattle.luks_area.specs.Device.{count_after, CountsFailure, IsSettled, IsUnchanged}
 use Rattle.luks_area.specs.DeviceFacts.{settled_unchanged}
 use Rattle.luks_writing.specs.TwoDevices.{CountsAfter, CountsEither, IsOneFailure}
 use Rattle.luks_commands.specs.declared.answers.Answer.{Answer}
 use Rattle.luks_commands.specs.declared.inputs.InputFault.{InputFault}
-use Rattle.luks_commands.specs.Standing.{HoldsBack, IsBarAnswer}
+use Rattle.luks_commands.specs.Files.{IsLeft}
+use Rattle.luks_commands.specs.Standing.{HasOther, HoldsBack, IsBar, IsBarAnswer, IsClear, IsUuidOf}
+use Rattle.luks_commands.specs.declared.standing.Bar.{Bar}
+use Rattle.luks_commands.specs.declared.standing.Bar.TheVariants.{OtherUse, OtherVolume, Reencrypting, Memory, Device}
+use Rattle.luks_head.proofs.ChoiceFacts.{choices_agree}
+use Rattle.luks_head.specs.Selection.{nothing}
+use Rattle.luks_keeping.specs.SameVolume.{uuid_bytes}
 use Rattle.luks_commands.proofs.StandingFacts.{bar_answers, clear_none}
 use Rattle.luks_header_commands.specs.Target.{AnswersHeader, HoldsBackHeader, IsBarredHeader, IsLater, IsOtherTarget, IsUnbarredHeader, LeavesTarget, NoneFailed, Pair, pair_of, SettlesTarget}
 
@@ -17,6 +23,15 @@ pub leaves_same : {D : Type 0} (tells : Type 0) (size : D → ℕ) (bytes : D �
 leaves_same {D} tells size bytes says same (Ok v) (Ok d) = record { size = refl; said = λ t. same (bytes v) (bytes d) }
 leaves_same {D} tells size bytes says same (Ok v) (Err f) = refl
 leaves_same {D} tells size bytes says same (Err f) target = refl
+
+-- and one that nothing changed of has kept its rest
+pub leaves_unchanged : {D : Type 0} (tells : Type 0) (size : D → ℕ) (bytes : D → List ℕ) (unsettled : D → ℕ → Type 0) (says : List ℕ → List ℕ → List ℕ → Type 0)
+    → ((volume target : List ℕ) → says volume target target) → (volume old new : D) → IsUnchanged tells size bytes unsettled old new
+    → IsLeft tells size bytes (says (bytes volume)) old new
+leaves_unchanged {D} tells size bytes unsettled says same volume old new is = record {
+  size = is.size;
+  said = λ t. subst (λ (w : List ℕ). says (bytes volume) (bytes old) w) (sym (is.same t)) (same (bytes volume) (bytes old));
+}
 
 -- and settled, where it was
 pub settles_same : {D : Type 0} (tells : Type 0) (failed : D → ℕ) (unsettled : D → ℕ → Type 0) (volume volume_new target : Result D InputFault)
@@ -98,3 +113,46 @@ header_holds {D} tells size bytes failed over says unread HasRandom (Ok v) (Err 
 header_holds {D} tells size bytes failed over says unread HasRandom (Ok v) (Err g) (Ok d) (Err f) a said = tt
 header_holds {D} tells size bytes failed over says unread HasRandom (Ok v) (Err g) (Err f) new a said = tt
 header_holds {D} tells size bytes failed over says unread HasRandom (Err f) volume_new old new a said = tt
+
+-- ---- what bars the command, by the uuid of the volume
+
+-- it has one, or none
+one_uuid : (v : List ℕ) (a b : Option (List ℕ)) → IsUuidOf v a → IsUuidOf v b → a ≡ b
+one_uuid v None None x y = refl
+one_uuid v None (Some b) none y = absurd (y.2 (choices_agree v y.0 nothing y.1 none))
+one_uuid v (Some a) None x none = absurd (x.2 (choices_agree v x.0 nothing x.1 none))
+one_uuid v (Some a) (Some b) x y = ap Some (x.3 ∙ (ap (uuid_bytes v) (choices_agree v x.0 y.0 x.1 y.1) ∙ sym y.3))
+
+pub target_bars : (tells : Type 0) (over : Bool) (v t : List ℕ) (u : Option (List ℕ)) → (tells → IsUuidOf v u) → (b : Bar) → IsBar tells over (HasOther u t) t b
+    → IsBar tells over (IsOtherTarget v t) t b
+target_bars tells over v t u is (OtherUse found) bars = bars
+target_bars tells over v t u is OtherVolume bars = (bars.0, λ told. (u, is told, bars.1 told))
+target_bars tells over v t u is Reencrypting bars = bars
+target_bars tells over v t u is Memory bars = bars
+target_bars tells over v t u is Device bars = bars
+
+pub target_clears : (over : Bool) (v t : List ℕ) (u : Option (List ℕ)) → IsUuidOf v u → IsClear over (HasOther u t) t → IsClear over (IsOtherTarget v t) t
+target_clears over v t u is clear = record {
+  volume = λ may x. clear.volume may (subst (λ (w : Option (List ℕ)). HasOther w t) (one_uuid v x.0 u x.1 is) x.2);
+  use_of = clear.use_of;
+}
+
+-- of what was answered
+pub bars_answered : {X : Type 0} (tells : Type 0) (over : Bool) (v t : List ℕ) (u : Option (List ℕ)) → (tells → IsUuidOf v u) → (r : Result X Bar)
+    → IfErr r (IsBar tells over (HasOther u t) t) → IfErr r (IsBar tells over (IsOtherTarget v t) t)
+bars_answered tells over v t u is (Ok x) bars = bars
+bars_answered tells over v t u is (Err b) bars = target_bars tells over v t u is b bars
+
+pub clears_answered : {X : Type 0} (over : Bool) (v t : List ℕ) (u : Option (List ℕ)) → IsUuidOf v u → (r : Result X Bar)
+    → OnOk r (IsClear over (HasOther u t) t) → OnOk r (IsClear over (IsOtherTarget v t) t)
+clears_answered over v t u is (Ok x) clear = target_clears over v t u is clear
+clears_answered over v t u is (Err b) clear = clear
+
+-- the volume's call hadn't failed, and the target's counts
+pub counts_then : {X F : Type 0} (is_failure : F → Bool) (r : Result X F) (s t u w : ℕ) → t ≡ s → CountsFailure is_failure r u w → CountsEither is_failure r s t u w
+counts_then is_failure (Ok x) s t u w same count = (same, count)
+counts_then is_failure (Err f) s t u w same count = after (is_failure f) count
+  where
+    after : (b : Bool) → w ≡ count_after b u → CountsAfter b s t u w
+    after true e = inr (same, e)
+    after false e = (same, e)
