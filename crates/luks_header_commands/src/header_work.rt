@@ -152,6 +152,7 @@ pub(crate) fn make_header<W: HeaderWork, D: Device, R: Read, N: Read, E: Write, 
 
 /// Refuses where the target has an accepted header with another uuid than the volume's, or another use,
 /// unless it may be written over.
+#[inline(never)]
 fn judge_target<D: Device>(
     alloc: Global,
     volume: &mut D,

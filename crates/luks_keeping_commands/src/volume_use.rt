@@ -17,6 +17,7 @@ use std::alloc::Global;
 
 /// Refuses where the volume is in the midst of a reencryption, or else where its disk has another use and
 /// no header of the backup's volume counts there; each unless it may be written over.
+#[inline(never)]
 pub(crate) fn judge_volume<D: Device>(
     alloc: Global,
     backup: &mut D,
