@@ -33,6 +33,15 @@ leaves_unchanged {D} tells size bytes unsettled says same volume old new is = re
   said = λ t. subst (λ (w : List ℕ). says (bytes volume) (bytes old) w) (sym (is.same t)) (same (bytes volume) (bytes old));
 }
 
+-- what is left by what has begun later
+pub left_after : {D : Type 0} (tells : Type 0) (size : D → ℕ) (bytes : D → List ℕ) (says : List ℕ → List ℕ → List ℕ → Type 0) (volume later old mid new : D)
+    → (tells → bytes later ≡ bytes volume) → size mid ≡ size old → (tells → bytes mid ≡ bytes old) → size new ≡ size mid
+    → (tells → says (bytes later) (bytes mid) (bytes new)) → IsLeft tells size bytes (says (bytes volume)) old new
+left_after {D} tells size bytes says volume later old mid new same long as_was size_same said = record {
+  size = size_same ∙ long;
+  said = λ t. subst (λ (o : List ℕ). says (bytes volume) o (bytes new)) (as_was t) (subst (λ (v : List ℕ). says v (bytes mid) (bytes new)) (same t) (said t));
+}
+
 -- and settled, where it was
 pub settles_same : {D : Type 0} (tells : Type 0) (failed : D → ℕ) (unsettled : D → ℕ → Type 0) (volume volume_new target : Result D InputFault)
     → (tells → ForOk target (IsSettled unsettled)) → SettlesTarget tells failed unsettled volume volume_new target target

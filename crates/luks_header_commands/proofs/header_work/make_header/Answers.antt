@@ -1,8 +1,6 @@
-use Rattle.std.proofs.Common.{List, ℕ, refl, sym, subst, inl, inr, ◌∙◌}
-use Rattle.luks_area.specs.DeviceFacts.{settled_unchanged}
+use Rattle.std.proofs.Common.{List, ℕ, refl, sym, subst, inr}
 use Rattle.luks_commands.specs.Files.{AreFirstBytes}
-use Rattle.luks_header_commands.specs.Target.{pair_of}
-use Rattle.luks_header_commands.proofs.TargetFacts.{leaves_unchanged}
+use Rattle.luks_header_commands.proofs.TargetFacts.{left_after}
 use Rattle.luks_header_commands.proofs.header_work.make_header.Goals as goal
 
 pub returns-clause-answers : goal.returns-clause-answers
@@ -27,3 +25,9 @@ returns-clause-answers g c =
         });
       });
     })))
+
+pub returns-clause-rest : goal.returns-clause-rest
+returns-clause-rest g c =
+    rw c.in-Ok.is (rw c.in-Ok-target.is
+    (left_after g.D.Device.tells g.D.Device.size g.D.Device.bytes _ _ _ _ _ _ c.judge_target.ensures.kept.same c.judge_target.ensures.unchanged.size
+    c.judge_target.ensures.unchanged.same c.run.ensures.size c.run.ensures.rest))
