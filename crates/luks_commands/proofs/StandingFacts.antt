@@ -24,7 +24,7 @@ use Rattle.luks_signatures.specs.Signatures.{Finds, table}
 use Rattle.luks_signatures.specs.declared.other_use.OtherUse.{OtherUse as Use}
 use Rattle.luks_signatures.proofs.FirstFacts.{finds-one}
 use Rattle.luks_commands.specs.Answer.{answer_status, IsWordless, unread_answer}
-use Rattle.luks_commands.specs.Standing.{bar_answer, HasOther, HasUse, IsBar, IsBarAnswer, IsClear, IsUnasked, IsUuidOf}
+use Rattle.luks_commands.specs.Standing.{bar_answer, HasOther, HasUse, IsBar, IsBarAnswer, IsClear, IsUuidOf}
 use Rattle.luks_commands.specs.declared.answers.Answer.{Answer}
 use Rattle.luks_commands.specs.declared.answers.Status.TheVariants.{Done, NotInStep}
 use Rattle.luks_commands.specs.declared.inputs.InputFault.{InputFault}
@@ -116,11 +116,3 @@ over_clears over Other v is = record {
   volume = λ e other. false≢true (sym e ∙ is);
   use_of = λ e found has. false≢true (sym e ∙ is);
 }
-
--- where it isn't told whether another header stands there
-pub unasked_bars : (tells : Type 0) (over : Bool) (Other : Type 0) (v : List ℕ) (b : Bar) → over ≡ false → IsUnasked tells v b → IsBar tells over Other v b
-unasked_bars tells over Other v (OtherUse found) is un = absurd un
-unasked_bars tells over Other v OtherVolume is un = absurd un
-unasked_bars tells over Other v Reencrypting is un = absurd un
-unasked_bars tells over Other v Memory is un = (is, un)
-unasked_bars tells over Other v Device is un = tt

@@ -64,7 +64,7 @@ pub fn run<D: Device, R: Read, N: Read, P: Printer, E: Write>(
     end(&answer, out)
 }
 
-#[tactic(auto, using(crate::proofs::FileFacts::settled_same, crate::proofs::FormatFacts::left_undone, luks_area::specs::DeviceFacts::settled_unchanged))]
+#[tactic(auto, using(crate::proofs::FileFacts::settled_same, crate::proofs::FormatFacts::left_undone))]
 fn format_volume<D: Device, R: Read, N: Read, E: Write>(
     alloc: Global,
     inputs: &mut Inputs<D, R, N>,

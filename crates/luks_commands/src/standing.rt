@@ -80,6 +80,7 @@ pub fn held_back<E: Write>(bar: Bar, file: &str, err: &mut E) -> Answer
 /// read stops nothing.
 ///
 /// Takes memory for the metadata of LUKS2 alone.
+#[inline(never)]
 pub fn judge_standing<D: Device>(
     alloc: Global,
     device: &mut D,

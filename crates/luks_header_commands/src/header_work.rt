@@ -96,7 +96,7 @@ pub(crate) trait HeaderWork {
 /// Does the work, or answers which of the files is missing: the volume is looked at before the target,
 /// and the random bytes are read last. Nothing is done where the target is the volume itself, nor, unless
 /// it may be, where another volume's header or another use stands there.
-#[tactic(auto, using(luks_commands::proofs::FileFacts::keeps_same, crate::proofs::TargetFacts::leaves_same, crate::proofs::TargetFacts::settles_same, luks_area::specs::DeviceFacts::settled_unchanged))]
+#[tactic(auto, using(luks_commands::proofs::FileFacts::keeps_same, crate::proofs::TargetFacts::leaves_same, crate::proofs::TargetFacts::settles_same))]
 pub(crate) fn make_header<W: HeaderWork, D: Device, R: Read, N: Read, E: Write, G: Progress>(
     alloc: Global,
     inputs: &mut Inputs<D, R, N>,

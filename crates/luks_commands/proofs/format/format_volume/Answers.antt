@@ -1,4 +1,5 @@
 use Rattle.std.proofs.Common.{List, ℕ, sym, subst, ◌∙◌, inl, inr}
+use Rattle.luks_area.specs.DeviceFacts.{settled_unchanged}
 use Rattle.luks_commands.specs.Answer.{answer_status}
 use Rattle.luks_commands.specs.Exit.{exit_status}
 use Rattle.luks_commands.specs.Files.{AreFirstBytes, IsWhole}
@@ -59,3 +60,15 @@ returns-in-Err-judge_standing-clause-answers g c =
 
 pub returns-in-Err-TooLong-clause-left : goal.returns-in-Err-TooLong-clause-left
 returns-in-Err-TooLong-clause-left g c = left_undone _ _ _ _ _ _ c.args.inputs.now.volume Refused (λ e. cc)
+
+pub returns-in-Err-judge_standing-clause-settled : goal.returns-in-Err-judge_standing-clause-settled
+returns-in-Err-judge_standing-clause-settled g c =
+    rw c.in-Ok-volume.is (λ told same. settled_unchanged told c.judge_standing.ensures.unchanged (c.requires.settled told c.in-Ok-volume.device c.in-Ok-volume.is))
+
+pub returns-in-Err-random_bytes-clause-settled : goal.returns-in-Err-random_bytes-clause-settled
+returns-in-Err-random_bytes-clause-settled g c =
+    rw c.in-Ok-volume.is (λ told same. settled_unchanged told c.judge_standing.ensures.unchanged (c.requires.settled told c.in-Ok-volume.device c.in-Ok-volume.is))
+
+pub format_device-requires-clause-settled : goal.format_device-requires-clause-settled
+format_device-requires-clause-settled g c = λ told.
+    settled_unchanged told c.judge_standing.ensures.unchanged (c.requires.settled told c.in-Ok-volume.device c.in-Ok-volume.is)
