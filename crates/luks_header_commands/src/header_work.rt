@@ -7,7 +7,7 @@ ghost use Rattle.luks_commands.specs.Files.{AreFirstBytes, IsUnreadRandom, Keeps
 ghost use Rattle.luks_commands.specs.declared.answers.Answer.{Answer as TheAnswer};
 ghost use Rattle.luks_commands.specs.declared.inputs.InputFault.TheVariants.{Unreadable};
 ghost use Rattle.luks_commands.specs.declared.inputs.Reason.TheVariants as reason;
-ghost use Rattle.luks_commands.specs.Standing.{is_bar_failure, IsBar, IsClear};
+ghost use Rattle.luks_commands.specs.Standing.{bar_answer, is_bar_failure, IsBar, IsClear};
 ghost use Rattle.luks_writing.specs.TwoDevices.{CountsEither};
 ghost use Rattle.luks_header_commands.specs.Target.{AnswersHeader, AreOneFile, IsLater, IsOtherTarget};
 ghost use Rattle.luks_header_commands.specs.Target.{IsSameFile, LeavesTarget, Pair, pair_of, SettlesTarget};
@@ -140,14 +140,31 @@ pub(crate) fn make_header<W: HeaderWork, D: Device, R: Read, N: Read, E: Write, 
     let before = volume.failures();
     match judge_target(alloc, volume, target, over) {
         Ok(()) => {}
-        Err(bar) if volume.failures() != before => return held_back(bar, files.volume, err),
-        Err(bar) => return held_back(bar, files.target, err),
+        Err(bar) => return held_back_of(bar, volume.failures() != before, files, err),
     }
     let random = match random_bytes(alloc, &mut inputs.random, files.needed) {
         Ok(bytes) => bytes,
         Err(fault) => return unread(fault, files.random, err),
     };
     work.run(alloc, volume, target, random.as_slice(), err, progress)
+}
+
+/// What is answered where a command is barred: where a device failed, it is the volume's or the target's.
+fn held_back_of<E: Write>(
+    bar: Bar,
+    is_volume: bool,
+    files: &HeaderFiles<'_>,
+    err: &mut E,
+) -> Answer
+    ensures answer { result ≡ bar_answer bar }
+    ensures kinds { answer_status result ≢ Status.NotInStep }
+    ensures undone { answer_status result ≢ Status.Done }
+{
+    if is_volume {
+        held_back(bar, files.volume, err)
+    } else {
+        held_back(bar, files.target, err)
+    }
 }
 
 /// Refuses where the target has an accepted header with another uuid than the volume's, or another use,
