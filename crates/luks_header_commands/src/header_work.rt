@@ -150,12 +150,7 @@ pub(crate) fn make_header<W: HeaderWork, D: Device, R: Read, N: Read, E: Write, 
 }
 
 /// What is answered where a command is barred: where a device failed, it is the volume's or the target's.
-fn held_back_of<E: Write>(
-    bar: Bar,
-    is_volume: bool,
-    files: &HeaderFiles<'_>,
-    err: &mut E,
-) -> Answer
+fn held_back_of<E: Write>(bar: Bar, is_volume: bool, files: &HeaderFiles<'_>, err: &mut E) -> Answer
     ensures answer { result ≡ bar_answer bar }
     ensures kinds { answer_status result ≢ Status.NotInStep }
     ensures undone { answer_status result ≢ Status.Done }

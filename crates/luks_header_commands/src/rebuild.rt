@@ -126,7 +126,15 @@ fn answer<D: Device, R: Read, N: Read, E: Write, G: Progress>(
                 files,
                 rebuilding: *rebuilding,
             };
-            make_header(alloc, inputs, files, rebuilding.over, &making, err, progress)
+            make_header(
+                alloc,
+                inputs,
+                files,
+                rebuilding.over,
+                &making,
+                err,
+                progress,
+            )
         }
     }
 }

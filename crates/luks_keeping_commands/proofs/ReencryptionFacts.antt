@@ -1,5 +1,5 @@
 -- Whether a volume is in the midst of a reencryption, by what was read of its metadata.
-use Rattle.std.proofs.Common.{◌≡◌, ◌↔◌, ◌⊎◌, ℕ, ◌<◌, ◌≤◌, List, Bool, true, false, Option, Some, None, IsTrue, length, refl, sym, subst, ◌∙◌, inl, inr, arith, ap}
+use Rattle.std.proofs.Common.{◌≡◌, ◌↔◌, ◌⊎◌, ℕ, ◌<◌, ◌≤◌, List, Bool, true, false, Option, Some, None, IsTrue, IfOk, IfErr, Result, Ok, Err, length, refl, sym, subst, ◌∙◌, inl, inr, arith, ap}
 use Rattle.std.proofs.lemmas.Bool.{false≢true}
 use Rattle.serde_json.specs.Data.{Data as Value}
 use Rattle.luks_area.specs.Ranges.{part}
@@ -11,7 +11,9 @@ use Rattle.luks_json.proofs.AreaKinds.{not_bad}
 use Rattle.luks_json.specs.AreaText.{IsBadJson, Json, JsonText}
 use Rattle.luks_rules.proofs.AreaFaults.{one_value}
 use Rattle.luks_reading.specs.Header.{json_at}
-use Rattle.luks_keeping_commands.specs.Reencrypting.{counts, is_reencrypting_slot, lost, requires_reencryption, HasReencryptingSlot, IsMetadataArea, IsReencrypting, IsReencryptingArea, IsReencryptingValue}
+use Rattle.luks_commands.specs.declared.standing.Bar.{Bar}
+use Rattle.luks_commands.specs.declared.standing.Bar.TheVariants as bar
+use Rattle.luks_keeping_commands.specs.Reencrypting.{counts, is_reencrypting_slot, lost, requires_reencryption, HasReencryptingSlot, IsFromOutside, IsMetadataArea, IsReencrypting, IsReencryptingArea, IsReencryptingValue, IsUntoldMetadata}
 
 -- ---- the value
 
@@ -23,6 +25,13 @@ required_value j has lacks slot asks same = (λ q. inr (sym same ∙ q), from)
     from : IsReencryptingValue j → IsTrue asks
     from (inl x) = absurd (false≢true (sym lacks ∙ slot.1 x))
     from (inr x) = same ∙ x
+
+-- a keyslot is, or none of the 32
+pub has_slot : (j : Value) (n : ℕ) → n < 32 → is_reencrypting_slot j n ≡ true → IsTrue true ↔ HasReencryptingSlot j
+has_slot j n lt is = (λ q. (n, lt, is), λ x. refl)
+
+pub no_slot : (j : Value) (end : ℕ) → 32 ≤ end → ((k : ℕ) → k < end → is_reencrypting_slot j k ≡ true → ⊥) → IsTrue false ↔ HasReencryptingSlot j
+no_slot j end least none = (λ q. absurd (false≢true q), λ x. absurd (none x.0 (omega (arith, x.1, least)) x.2))
 
 -- ---- the area
 
@@ -80,3 +89,17 @@ short_lacks v total same short one area (counts p c two is) =
     let e : nothing ≡ luks2 p c = choices_agree v nothing (luks2 p c) one two in
     cc
 short_lacks v total same short one area (lost two long is) = omega (arith, same, short, long)
+
+-- by what is answered of it
+pub at_by : (v area : List ℕ) → IsMetadataArea v area → (r : Result Bool Bar) → IfOk r (λ b. IsTrue b ↔ IsReencryptingArea area) → IfOk r (λ b. IsTrue b ↔ IsReencrypting v)
+at_by v area is (Ok b) told = volume_by v area is b told
+at_by v area is (Err f) told = tt
+
+-- where memory is refused it has one
+pub untold_by : (tells : Type 0) (v area : List ℕ) → (tells → IsMetadataArea v area) → (r : Result Bool Bar) → IfErr r IsFromOutside → IfErr r (IsUntoldMetadata tells v)
+untold_by tells v area is (Ok b) kinds = tt
+untold_by tells v area is (Err bar.Memory) kinds = λ told. (area, is told)
+untold_by tells v area is (Err bar.Device) kinds = tt
+untold_by tells v area is (Err (bar.OtherUse found)) kinds = absurd kinds
+untold_by tells v area is (Err bar.OtherVolume) kinds = absurd kinds
+untold_by tells v area is (Err bar.Reencrypting) kinds = absurd kinds

@@ -1,10 +1,19 @@
 -- What `restore` leaves and answers, by what it met.
-use Rattle.std.proofs.Common.{◌≡◌, inl, inr, List, ℕ, false, Result, Ok, Err, refl, sym, subst, ◌∙◌, length}
+use Rattle.std.proofs.Common.{◌≡◌, ◌↔◌, inl, inr, List, ℕ, Bool, true, false, IsTrue, IfErr, OnOk, Result, Ok, Err, refl, sym, subst, ◌∙◌, length}
+use Rattle.std.proofs.lemmas.Bool.{false≢true}
 use Rattle.luks_area.specs.Ranges.{part, SameBut}
 use Rattle.luks_area.specs.declared.area.Area.{Area}
-use Rattle.luks_writing.specs.TwoDevices.{CountsAfter, IsOneFailure}
+use Rattle.luks_writing.specs.TwoDevices.{CountsAfter, CountsEither, IsOneFailure}
 use Rattle.luks_head.specs.Selection.{Choice, Chosen}
 use Rattle.luks_reading.specs.declared.report.Data.{Data}
+use Rattle.luks_reading.specs.declared.report.Data.TheVariants.{Elsewhere}
+use Rattle.luks_reading.specs.Checked.{IsCheckRefusal, WellFormed}
+use Rattle.luks_reading.specs.Reported.{IsFromOutside}
+use Rattle.luks_reading.specs.declared.check_fault.CheckFault.{CheckFault}
+use Rattle.luks_reading.proofs.CheckFacts.{outside}
+use Rattle.luks_reading.proofs.VolumeLaws.{well_formed_faultless}
+use Rattle.luks_keeping.specs.OtherHeaders.{IsUntoldSame}
+use Rattle.luks_keeping.specs.SameVolume.{CountsSameVolume}
 use Rattle.luks_keeping.specs.RestoreFaults.{is_restore_failure, CanRestore, IsAnsweredRestore}
 use Rattle.luks_keeping.specs.Restored.{IsOfRestored, IsSegmentOn, RestoresInTurn}
 use Rattle.luks_keeping.specs.declared.over.Over.{Over}
@@ -18,9 +27,9 @@ use Rattle.luks_request.specs.declared.keeping.Restoring.{Restoring}
 use Rattle.luks_commands.specs.declared.inputs.InputFault.{InputFault}
 use Rattle.luks_commands.specs.declared.standing.Bar.{Bar}
 use Rattle.luks_commands.specs.declared.standing.Bar.TheVariants as bar
-use Rattle.luks_commands.specs.Standing.{bar_answer}
-use Rattle.luks_keeping_commands.specs.Reencrypting.{IsReencrypting}
-use Rattle.luks_keeping_commands.specs.Restoring.{AnswersBoth, AnswersRestore, HoldsBackRestore, HoldsVolume, IsReencryptingAnswer, IsReencryptionBar, IsRestoreBar, IsUseBar, IsUsedAnswer}
+use Rattle.luks_commands.specs.Standing.{bar_answer, is_bar_failure}
+use Rattle.luks_keeping_commands.specs.Reencrypting as meta
+use Rattle.luks_keeping_commands.specs.Restoring.{AnswersBoth, AnswersRestore, HoldsBackRestore, HoldsVolume, IsReencryptingAnswer, IsReencryptionBar, IsRestoreBar, IsRestoreClear, IsSpared, IsUnspared, IsUseBar, IsUseClear, IsUsedAnswer}
 use Rattle.luks_keeping_commands.specs.Restoring.{IsNewVolume, IsRestoreAnswer, KeepsRest}
 use Rattle.luks_keeping_commands.specs.TwoFiles.{pair_of, Pair}
 
@@ -104,7 +113,7 @@ reencryption_bars tells r b t bar.Reencrypting is = is
 reencryption_bars tells r b t bar.Memory is = λ told. inl (is told)
 reencryption_bars tells r b t bar.Device is = tt
 
-pub use_bars : (tells : Type 0) (r : Restoring) (b t : List ℕ) (x : Bar) → (tells → r.over_reencryption ≡ false → IsReencrypting t → ⊥) → IsUseBar tells r.over b t x
+pub use_bars : (tells : Type 0) (r : Restoring) (b t : List ℕ) (x : Bar) → (tells → r.over_reencryption ≡ false → meta.IsReencrypting t → ⊥) → IsUseBar tells r.over b t x
     → IsRestoreBar tells r b t x
 use_bars tells r b t (bar.OtherUse found) clear is = (is.0, λ told. ((is.1 told).0, (is.1 told).1, (is.1 told).2, clear told))
 use_bars tells r b t bar.OtherVolume clear is = absurd is
@@ -112,9 +121,45 @@ use_bars tells r b t bar.Reencrypting clear is = absurd is
 use_bars tells r b t bar.Memory clear is = λ told. inr (is told)
 use_bars tells r b t bar.Device clear is = tt
 
+-- the same of what was answered, and where nothing does
+pub use_barred : (tells : Type 0) (r : Restoring) (b t : List ℕ) (x : Result Unit Bar) → (tells → r.over_reencryption ≡ false → meta.IsReencrypting t → ⊥)
+    → IfErr x (IsUseBar tells r.over b t) → IfErr x (IsRestoreBar tells r b t)
+use_barred tells r b t (Ok done) clear is = tt
+use_barred tells r b t (Err f) clear is = use_bars tells r b t f clear is
+
+pub use_cleared : (r : Restoring) (b t : List ℕ) (x : Result Unit Bar) → (r.over_reencryption ≡ false → meta.IsReencrypting t → ⊥) → OnOk x (IsUseClear r.over b t)
+    → OnOk x (IsRestoreClear r b t)
+use_cleared r b t (Ok done) clear is = record { reencryption = clear; use_of = is }
+use_cleared r b t (Err f) clear is = tt
+
+-- no call of the volume had failed
+pub counts_late : (x : Result Unit Bar) (s t u m w : ℕ) → m ≡ u → CountsEither is_bar_failure x s t m w → CountsEither is_bar_failure x s t u w
+counts_late x s t u m w same count = subst (λ (n : ℕ). CountsEither is_bar_failure x s t n w) same count
+
+-- another use may be written over, or may not
+pub spared_by : (b t : List ℕ) (counts : Bool) → WellFormed b Elsewhere → (IsTrue counts ↔ CountsSameVolume b t) → IsSpared b t counts
+spared_by b t true formed told = λ f. told.0 refl
+spared_by b t false formed told = (formed, λ x. false≢true (told.1 x))
+
+pub unaccepted_spared : (b t : List ℕ) (f : CheckFault) → IsCheckRefusal b Elsewhere f → (IsFromOutside f → ⊥) → IsSpared b t true
+unaccepted_spared b t f refusal own = λ formed. absurd (own (outside b Elsewhere f (well_formed_faultless b Elsewhere formed) refusal))
+
+-- or it isn't told
+pub unspared_by : (tells : Type 0) (b t : List ℕ) (f : RestoreFault) (x : Bar) → is_bar_failure x ≡ is_restore_failure f → meta.IsFromOutside x → (tells → IsUntoldSame b t f)
+    → IsUnspared tells b t x
+unspared_by tells b t f bar.Device same kinds untold = tt
+unspared_by tells b t Memory bar.Memory same kinds untold = λ told. inr (untold told)
+unspared_by tells b t Device bar.Memory same kinds untold = absurd (false≢true same)
+unspared_by tells b t OtherVolume bar.Memory same kinds untold = λ told. absurd (untold told)
+unspared_by tells b t (NotAccepted f) bar.Memory same kinds untold = λ told. absurd (untold told)
+unspared_by tells b t (DoesNotFit f) bar.Memory same kinds untold = λ told. absurd (untold told)
+unspared_by tells b t f (bar.OtherUse found) same kinds untold = absurd kinds
+unspared_by tells b t f bar.OtherVolume same kinds untold = absurd kinds
+unspared_by tells b t f bar.Reencrypting same kinds untold = absurd kinds
+
 -- ---- a volume that isn't to be written over
 
-held_reencrypting : (tells : Type 0) → tells → (r : Restoring) (b t : List ℕ) (x : Bar) → IsRestoreBar tells r b t x → r.over_reencryption ≡ false → IsReencrypting t
+held_reencrypting : (tells : Type 0) → tells → (r : Restoring) (b t : List ℕ) (x : Bar) → IsRestoreBar tells r b t x → r.over_reencryption ≡ false → meta.IsReencrypting t
     → IsReencryptingAnswer (bar_answer x)
 held_reencrypting tells told r b t (bar.OtherUse found) is may stands = absurd ((is.1 told).3 may stands)
 held_reencrypting tells told r b t bar.OtherVolume is may stands = absurd is

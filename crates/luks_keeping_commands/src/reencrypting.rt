@@ -174,7 +174,9 @@ fn requires_reencryption(value: &Value) -> bool
 fn mandatory_in(value: &Value) -> Option<&Value>
     ensures { option_map (λ v. view v.now) result ≡ mandatory_in (view value.now) }
 {
-    section_at(value, Section::Config)?.get("requirements")?.get("mandatory")
+    section_at(value, Section::Config)?
+        .get("requirements")?
+        .get("mandatory")
 }
 
 fn is_asking(mandatory: &Value) -> bool

@@ -7,13 +7,13 @@ pub returns-in-Ok-clause-answers : goal.returns-in-Ok-clause-answers
 returns-in-Ok-clause-answers g c = inr (
   c.in-Ok.ensures.clear,
   answer_after g.D.Device.tells c.args.restoring.now.data_ (over_of c.args.restoring.now)
-  (g.D.Device.bytes c.args.backup.now) (g.D.Device.bytes c.judge_volume.new.backup)
-  (g.D.Device.bytes c.args.volume.now) (g.D.Device.bytes c.judge_volume.new.volume) (g.D.Device.bytes c.put_back.new.volume)
-  (g.D.Device.size c.args.volume.now) (g.D.Device.size c.judge_volume.new.volume)
-  (g.D.Device.failed c.args.backup.now) (g.D.Device.failed c.judge_volume.new.backup) (g.D.Device.failed c.put_back.new.backup)
-  (g.D.Device.failed c.args.volume.now) (g.D.Device.failed c.judge_volume.new.volume) (g.D.Device.failed c.put_back.new.volume)
-  c.in-Ok.ensures.kept.same c.in-Ok.ensures.unchanged.same c.in-Ok.ensures.count.0 c.in-Ok.ensures.count.1
-  c.put_back.result c.put_back.ensures.answers,
+      (g.D.Device.bytes c.args.backup.now) (g.D.Device.bytes c.judge_volume.new.backup)
+      (g.D.Device.bytes c.args.volume.now) (g.D.Device.bytes c.judge_volume.new.volume) (g.D.Device.bytes c.put_back.new.volume)
+      (g.D.Device.size c.args.volume.now) (g.D.Device.size c.judge_volume.new.volume)
+      (g.D.Device.failed c.args.backup.now) (g.D.Device.failed c.judge_volume.new.backup) (g.D.Device.failed c.put_back.new.backup)
+      (g.D.Device.failed c.args.volume.now) (g.D.Device.failed c.judge_volume.new.volume) (g.D.Device.failed c.put_back.new.volume)
+      c.in-Ok.ensures.kept.same c.in-Ok.ensures.unchanged.same c.in-Ok.ensures.count.0 c.in-Ok.ensures.count.1
+      c.put_back.result c.put_back.ensures.answers,
 )
 
 pub returns-in-Err-clause-answers : goal.returns-in-Err-clause-answers
