@@ -111,7 +111,7 @@ complete -c luks -n '__fish_seen_subcommand_from label' -l offset -x -d 'The byt
 complete -c luks -n '__fish_seen_subcommand_from label' -l length -x -d 'How many bytes the volume has'
 complete -c luks -n '__fish_seen_subcommand_from label' -l quiet -d 'No hints on standard error'
 
-complete -c luks -n __fish_use_subcommand -a format -d 'Make a LUKS volume over whatever stands there'
+complete -c luks -n __fish_use_subcommand -a format -d 'Make a LUKS volume'
 complete -c luks -n '__fish_seen_subcommand_from format' -F
 complete -c luks -n '__fish_seen_subcommand_from format' -l passphrase -r -F -d 'The file of the passphrase'
 complete -c luks -n '__fish_seen_subcommand_from format' -l passphrase-line -r -F -d 'The file whose first line is the passphrase'
@@ -125,6 +125,7 @@ complete -c luks -n '__fish_seen_subcommand_from format' -l passes -x -d 'The pa
 complete -c luks -n '__fish_seen_subcommand_from format' -l lanes -x -a '1 2 3 4' -d 'The lanes of Argon2'
 complete -c luks -n '__fish_seen_subcommand_from format' -l iter-time -x -d 'The milliseconds to derive'
 complete -c luks -n '__fish_seen_subcommand_from format' -l memory -x -d 'The MiB that Argon2 may take'
+complete -c luks -n '__fish_seen_subcommand_from format' -l over -d 'Write over another volume or another use of the disk'
 complete -c luks -n '__fish_seen_subcommand_from format' -l detached -d 'The data lies on another device'
 complete -c luks -n '__fish_seen_subcommand_from format' -l offset -x -d 'The byte of the file where the volume begins'
 complete -c luks -n '__fish_seen_subcommand_from format' -l length -x -d 'How many bytes the volume has'
@@ -133,6 +134,7 @@ complete -c luks -n '__fish_seen_subcommand_from format' -l quiet -d 'No hints o
 complete -c luks -n __fish_use_subcommand -a convert -d 'Make a LUKS2 header of a LUKS1 volume, on another file'
 complete -c luks -n '__fish_seen_subcommand_from convert' -F
 complete -c luks -n '__fish_seen_subcommand_from convert' -l random -r -F -d 'The file of the random bytes'
+complete -c luks -n '__fish_seen_subcommand_from convert' -l over -d 'Write over another volume or another use of the target'
 complete -c luks -n '__fish_seen_subcommand_from convert' -l detached -d 'The source is a detached header'
 complete -c luks -n '__fish_seen_subcommand_from convert' -l offset -x -d 'The byte of the file where the volume begins'
 complete -c luks -n '__fish_seen_subcommand_from convert' -l length -x -d 'How many bytes the volume has'
@@ -150,6 +152,7 @@ complete -c luks -n '__fish_seen_subcommand_from rebuild' -l payload -x -d 'LUKS
 complete -c luks -n '__fish_seen_subcommand_from rebuild' -l passphrase -r -F -d 'LUKS1: try what is not given until this opens it'
 complete -c luks -n '__fish_seen_subcommand_from rebuild' -l passphrase-line -r -F -d 'Instead, a file whose first line is taken'
 complete -c luks -n '__fish_seen_subcommand_from rebuild' -l uuid -x -d 'The uuid of the new header'
+complete -c luks -n '__fish_seen_subcommand_from rebuild' -l over -d 'Write over another volume or another use of the target'
 complete -c luks -n '__fish_seen_subcommand_from rebuild' -l offset -x -d 'The byte of the file where the volume begins'
 complete -c luks -n '__fish_seen_subcommand_from rebuild' -l length -x -d 'How many bytes the volume has'
 complete -c luks -n '__fish_seen_subcommand_from rebuild' -l quiet -d 'No hints on standard error'
@@ -171,6 +174,8 @@ complete -c luks -n '__fish_seen_subcommand_from backup' -l quiet -d 'No hints o
 complete -c luks -n __fish_use_subcommand -a restore -d 'Put a header backup back onto its volume'
 complete -c luks -n '__fish_seen_subcommand_from restore' -F
 complete -c luks -n '__fish_seen_subcommand_from restore' -l other -d 'Write over the header of another volume'
+complete -c luks -n '__fish_seen_subcommand_from restore' -l over -d 'Write over that or another use of the disk'
+complete -c luks -n '__fish_seen_subcommand_from restore' -l over-reencryption -d 'Write over a reencryption that is not finished'
 complete -c luks -n '__fish_seen_subcommand_from restore' -l detached -d 'The data lies on another device'
 complete -c luks -n '__fish_seen_subcommand_from restore' -l offset -x -d 'The byte of the file where the volume begins'
 complete -c luks -n '__fish_seen_subcommand_from restore' -l length -x -d 'How many bytes the volume has'

@@ -204,9 +204,10 @@ uint32_t luks_backup_length(int fd, uint64_t offset, uint64_t length, bool is_de
  * What was written before is asked to stay first, by fsync, and then all of the volume that is needed is
  * read. Where a fault refuses the call, nothing is written. `is_detached`: the volume is a header alone, and
  * its data lies elsewhere. `random` are bytes that nobody can guess, as many as luks_needed tells, or NULL:
- * then they are taken by getrandom. No call asks what else the disk is used for: before luks_format1 and so on ask
- * luks_signature of the whole, and before an edit of a volume of which luks_check tells that one copy alone is sound of
- * the places of both, which are twice the header's size: something else may stand in that of the other by now. */
+ * then they are taken by getrandom. No call asks what else the disk is used for: before luks_format1 and so on, and of the
+ * target of luks_convert and so on, ask luks_signature of the whole, and luks_check, detached, whether another volume's header
+ * stands there; before an edit of a volume of which luks_check tells that one copy alone is sound ask luks_signature of the
+ * places of both, which are twice the header's size: something else may stand in that of the other by now. */
 
 /* How many random bytes the edit takes; or its first fault, of those that are seen without opening a keyslot.
  * `text` is the new passphrase, or the label. It writes nothing. */
@@ -281,7 +282,8 @@ uint32_t luks_rebuild(int source_fd, uint64_t source_offset, uint64_t source_len
 uint32_t luks_backup(int source_fd, uint64_t source_offset, uint64_t source_length, bool is_detached, int fd, uint64_t offset, uint64_t length);
 
 /* Puts the header and the key areas of a backup onto the volume, where `is_detached` says whether that is a header alone. One
- * whose header that counts is another volume's is refused, unless it `is_over_any`. */
+ * whose header that counts is another volume's is refused, unless it `is_over_any`. It doesn't ask for another use of the disk,
+ * which luks_signature tells, nor whether a reencryption of the volume isn't finished. */
 uint32_t luks_restore(int backup_fd, uint64_t backup_offset, uint64_t backup_length, int fd, uint64_t offset, uint64_t length, bool is_detached,
                       bool is_over_any);
 

@@ -45,7 +45,7 @@ from typing import Any, Iterator
 
 __all__ = ["Comparison", "Derivation", "Fault", "Report", "Volume", "explain"]
 
-DONE, OTHER_USE, MEMORY, DEVICE, SHUT, ROOM = 0, 49, 103, 104, 105, 106
+DONE, OTHER_VOLUME, OTHER_USE, REENCRYPTING, MEMORY, DEVICE, SHUT, ROOM = 0, 48, 49, 52, 103, 104, 105, 106
 TO_END = 2**64 - 1
 NO_SLOT = NO_NUMBER = 2**32 - 1
 ADD, CHANGE, REMOVE, REPAIR, LABEL = range(1, 6)
@@ -376,10 +376,11 @@ class Volume:
 
     def format(self, version: int, passphrase: bytes, hash: str = "sha256", iterations: int = 100000, force: bool = False, *,
                derivation: Derivation | None = None, memory: int = 0) -> None:
-        """Makes a volume of LUKS1 or LUKS2 whose keyslot 0 opens by the passphrase. An older LUKS volume there is written over without question.
+        """Makes a volume of LUKS1 or LUKS2 whose keyslot 0 opens by the passphrase.
 
         The keyslot of LUKS2 derives by the `derivation`, Argon2 with up to `memory` MiB, or where there is none by PBKDF2, as the digest.
-        Where `signature` shows another use of the disk it is refused by OtherUse, unless it is to `force` that.
+        Where a LUKS header stands that is accepted, at least as a detached one, it is refused by OtherVolume, and where `signature` shows
+        another use of the disk by OtherUse, unless it is to `force` that.
         """
         if version not in (1, 2) or hash not in HASHES[1:]:
             raise ValueError("a version is 1 or 2, a hash sha1, sha256 or sha512")
@@ -387,7 +388,7 @@ class Volume:
             raise ValueError("a derivation is chosen for LUKS2")
         choice = _choice(derivation)
         if not force:
-            self._refuse_use(self.signature())
+            self._refuse_standing(None)
         made = (self._fd, *self._window, self._is_detached, HASHES.index(hash), _iterations(iterations))
         words = (bytes(passphrase), len(passphrase))
         if version == 1:
@@ -438,11 +439,18 @@ class Volume:
         finally:
             os.close(fd)
 
-    def restore(self, backup: Volume, *, over_any: bool = False) -> None:
+    def restore(self, backup: Volume, *, over_any: bool = False, force: bool = False, over_reencryption: bool = False) -> None:
         """Puts the header and the key areas of a backup, which is only read, onto this volume.
 
-        Where the header that counts here is another volume's it is refused by OtherVolume, unless it may be put `over_any`.
+        Where the header that counts here is another volume's it is refused by OtherVolume, unless it may be put `over_any`; where no header
+        of the same volume counts and `signature` shows another use of the disk by OtherUse; both unless it is to `force` that. In the midst
+        of a reencryption, by the metadata that stands here, it is refused by Reencrypting, unless it may be put `over_reencryption`.
         """
+        if not over_reencryption and self._is_reencrypting():
+            raise Fault(REENCRYPTING)
+        if not force and not self._is_of(backup):
+            self._refuse_use(self.signature())
+        over_any = over_any or force
         self._done(_LIBRARY.luks_restore(backup._fd, *backup._window, self._fd, *self._window, self._is_detached, over_any))
 
     def compare(self, backup: Volume) -> Comparison:
@@ -451,26 +459,31 @@ class Volume:
         self._done(_LIBRARY.luks_compare(backup._fd, *backup._window, self._fd, *self._window, self._is_detached, keyslots, ctypes.byref(is_same_key)))
         return Comparison(is_same_key.value, {n: KEEPINGS[state] for n, state in enumerate(keyslots.raw) if state})
 
-    def convert(self, target: Volume) -> None:
+    def convert(self, target: Volume, *, force: bool = False) -> None:
         """Writes to the start of the target a LUKS2 header of this LUKS1 volume, by which each enabled keyslot opens as before.
 
-        The target is another file, of 16 MiB or more; what stands there is written over without question. This volume is only read. Where
-        it `is_detached`, its data lies elsewhere.
+        The target is another file, of 16 MiB or more. Where an accepted LUKS header of another uuid stands there it is refused by
+        OtherVolume, and where its `signature` shows another use by OtherUse, unless it is to `force` that. This volume is only read. Where it
+        `is_detached`, its data lies elsewhere.
         """
+        if not force:
+            target._refuse_standing(self._uuid())
         self._done(_LIBRARY.luks_convert(self._fd, *self._window, self._is_detached, target._fd, *target._window, None, 0))
 
     def rebuild(self, target: Volume, uuid: str | None = None, *, second: bool = False, size: int = 0, cipher: str | None = None,
-                hash: str | None = None, key_bytes: int | None = None, payload: int | None = None) -> None:
+                hash: str | None = None, key_bytes: int | None = None, payload: int | None = None, force: bool = False) -> None:
         """Writes to the start of the target a header of what is still whole in this volume, which is only read.
 
         Of LUKS2 that is metadata that a checksum vouches for, or else the first that is whole, where no header counts; of the `second` copy,
         or of a copy of `size` bytes, also where one does. Of LUKS1 these are the fields and keyslots that still stand; `cipher` (as
         aes-xts-plain64), `hash`, `key_bytes` and `payload` (the sector where the data begins) say that LUKS1 is meant, and win over what
-        stands, as `uuid` does. Without these options LUKS2 comes first. What stands on the target is written over without question.
+        stands, as `uuid` does. Without these options LUKS2 comes first. What stands on the target is asked for as by `convert`.
         """
         fields = (cipher, hash, key_bytes, payload)
         if (second or size) and fields != (None,) * 4:
             raise ValueError("second and size are of LUKS2, cipher, hash, key_bytes and payload of LUKS1")
+        if not force:
+            target._refuse_standing(self._uuid())
         to, text = (target._fd, *target._window), None if uuid is None else uuid.encode()
         if second or size:
             answer = _LIBRARY.luks_rebuild2(self._fd, *self._window, second, size, text, *to, None, 0)
@@ -486,6 +499,52 @@ class Volume:
     def _refuse_use(self, use: str | None) -> None:
         if use is not None:
             raise Fault(OTHER_USE, use)
+
+    def _uuid(self, needs_check: bool = False) -> str | None:
+        """The uuid of the header that counts, where it can be shown, or where it is to be accepted too."""
+        try:
+            if needs_check:
+                self.check(is_detached=True)
+            return self.show()["uuid"]
+        except Fault as fault:
+            if fault.number in (MEMORY, DEVICE):
+                raise
+            return None
+
+    def _refuse_standing(self, uuid: str | None) -> None:
+        """Refuses to write over an accepted LUKS header of another uuid, and over another use of the disk."""
+        standing = self._uuid(needs_check=True)
+        if standing is not None and standing != uuid:
+            raise Fault(OTHER_VOLUME)
+        self._refuse_use(self.signature())
+
+    def _is_of(self, backup: Volume) -> bool:
+        """Whether an accepted header of the backup's volume stands here."""
+        try:
+            self.compare(backup)
+        except Fault as fault:
+            if fault.number in (MEMORY, DEVICE):
+                raise
+            return False
+        return True
+
+    def _is_reencrypting(self) -> bool:
+        """Whether the metadata of one of the places of a LUKS2 header tells of a reencryption."""
+        return any(self._tells_reencryption(place) for place in (0, *(2**n for n in range(14, 23))))
+
+    def _tells_reencryption(self, place: int) -> bool:
+        start, length = self._window[0] + place + 4096, max(0, min(2**22, self._window[1] - place - 4096))
+        text = os.pread(self._fd, length, start).partition(b"\0")[0]
+        if not text.startswith(b"{"):
+            return False
+        try:
+            metadata = json.loads(text)
+            keyslots = metadata.get("keyslots", {}).values()
+            mandatory = metadata.get("config", {}).get("requirements", {}).get("mandatory", [])
+            return (any(keyslot.get("type") == "reencrypt" for keyslot in keyslots)
+                    or any(str(name).startswith(("online-reencrypt", "offline-reencrypt")) for name in mandatory))
+        except (ValueError, AttributeError, TypeError):
+            return False
 
     def _refuse_other_use(self) -> None:
         """Refuses to write over what stands in the place of a copy that isn't sound."""

@@ -203,3 +203,5 @@ refusal_parts (refusal.Restore f) = restore_parts f
 refusal_parts refusal.SameFile = bare (codes "SameFile") refl
 refusal_parts refusal.Exists = bare (codes "Exists") refl
 refusal_parts (refusal.OtherUse found) = around (codes "OtherUse") (use_text found) refl
+refusal_parts refusal.OtherVolume = bare (codes "OtherVolume") refl
+refusal_parts refusal.Reencrypting = bare (codes "Reencrypting") refl

@@ -1,5 +1,6 @@
 -- What formatting leaves of a volume, by how it ended.
-use Rattle.std.proofs.Common.{◌≡◌, ◌≢◌, ℕ, List, Result, Ok, Err, refl, sym, ap, subst, IfErr, OnOk, inl, arith}
+use Rattle.std.proofs.Common.{◌≡◌, ◌≢◌, ℕ, ◌+◌, List, None, Result, Ok, Err, refl, sym, ap, subst, ◌∙◌, IfErr, OnOk, inl, inr, arith}
+use Rattle.luks_area.specs.Device.{IsUnchanged}
 use Rattle.luks_area.specs.RangeFacts.{same_but-same}
 use Rattle.luks_area.specs.Ranges.{SameBut}
 use Rattle.luks_reading.specs.Checked.{WellFormed}
@@ -17,8 +18,13 @@ use Rattle.luks_commands.specs.Answer.{answer_status, format_fault_answer}
 use Rattle.luks_commands.specs.Exit.{exit_status}
 use Rattle.luks_commands.proofs.EndFacts.{done_by, refusal_by, Tells}
 use Rattle.luks_commands.specs.declared.inputs.InputFault.{InputFault}
-use Rattle.luks_commands.specs.Files.{LeavesVolume}
-use Rattle.luks_commands.specs.FormatAnswers.{HasFormatFault, IsMakingFault}
+use Rattle.luks_commands.specs.Files.{IsLeft, LeavesVolume}
+use Rattle.luks_commands.specs.FormatAnswers.{AnswersFormat, HasFormatFault, IsFormatAnswer, IsMakingFault}
+use Rattle.luks_commands.specs.Standing.{HasOther, HoldsBackDevice, IsBarAnswer}
+use Rattle.luks_commands.proofs.StandingFacts.{bar_answers, clear_none, wordless_answers}
+use Rattle.luks_commands.specs.declared.answers.Answer.{Answer}
+use Rattle.luks_commands.specs.declared.answers.Answer.TheVariants.{Done as Made, Refused as Unmade, DeviceFault, NoMemory}
+use Rattle.luks_commands.specs.declared.answers.Refusal.TheVariants as refusal
 use Rattle.luks_commands.specs.Chosen.{chosen_of}
 use Rattle.luks_commands.specs.Formatting.{IsFormatted, IsOfNewVolume, IsNewVolume, OpensNew, SaysFormat}
 use Rattle.luks_commands.specs.OpenAnswers.{kib_of}
@@ -123,6 +129,19 @@ left_undone tells size bytes making HasWords HasRandom (Ok d) s apart = record {
 }
 left_undone tells size bytes making HasWords HasRandom (Err f) s apart = refl
 
+-- one that nothing changed of, where the command isn't done
+pub left_unchanged : {D : Type 0} (tells : Type 0) (size : D → ℕ) (bytes : D → List ℕ) (unsettled : D → ℕ → Type 0) (making : Making) (HasWords HasRandom : List ℕ → Type 0)
+    (old new : D) (s : Status) → s ≢ Done → IsUnchanged tells size bytes unsettled old new
+    → IsLeft tells size bytes (λ v w. SaysFormat making HasWords HasRandom v w (exit_status s)) old new
+left_unchanged tells size bytes unsettled making HasWords HasRandom old new s apart same = record {
+  size = same.size;
+  said = λ t. record {
+    done = λ is. absurd (apart (done_by s (exit_status s) (inl refl) is));
+    refused = λ is. same.same t;
+    rest = subst (λ (w : List ℕ). SameBut (IsOfNewVolume making.version) (bytes old) w) (sym (same.same t)) (same_but-same (IsOfNewVolume making.version) (bytes old));
+  };
+}
+
 -- where the volume wasn't made, how the command ends
 pub format_kinds : (f : FormatFault) → answer_status (format_fault_answer f) ≢ NotInStep
 format_kinds Device = λ e. cc
@@ -138,3 +157,33 @@ pub format_refused : (f : FormatFault) → answer_status (format_fault_answer f)
 format_refused Device = λ is e. absurd (let x : Fault ≡ Refused = is in cc)
 format_refused Memory = λ is e. cc
 format_refused f = λ is e. cc
+
+-- ---- what is asked before it is made
+
+-- what was answered of a volume that calls before it changed nothing of
+pub format_after : (tells : Type 0) (making : Making) (passphrase random : List ℕ) (total total' : ℕ) (old mid new : List ℕ) (before between after : ℕ) (a : Answer)
+    → total' ≡ total → (tells → mid ≡ old) → between ≡ before → IsFormatAnswer tells making passphrase random total' mid new between after a
+    → IsFormatAnswer tells making passphrase random total old new before after a
+format_after tells making passphrase random total total' old mid new before between after (Made slot) long same count said =
+    (said.0 ∙ count, said.1, λ told. subst (λ (v : List ℕ). IsNewVolume making passphrase random v new) (same told) (said.2 told))
+format_after tells making passphrase random total total' old mid new before between after (Unmade (refusal.Format Device)) long same count said = said
+format_after tells making passphrase random total total' old mid new before between after (Unmade (refusal.Format Memory)) long same count said = said
+format_after tells making passphrase random total total' old mid new before between after (Unmade (refusal.Format f)) long same count said =
+    (said.0 ∙ count, subst (λ (n : ℕ). IsMakingFault making passphrase n random f) long said.1, λ told. said.2 told ∙ same told)
+format_after tells making passphrase random total total' old mid new before between after DeviceFault long same count said = said ∙ ap (λ n. n + 1) count
+format_after tells making passphrase random total total' old mid new before between after NoMemory long same count said =
+    (said.0 ∙ count, subst (λ (n : ℕ). IsMakingFault making passphrase n random Memory) long said.1, λ told. said.2 told ∙ same told)
+format_after tells making passphrase random total total' old mid new before between after a long same count said = absurd said
+
+-- a volume that isn't to be written over isn't
+pub format_holds : {D : Type 0} (tells : Type 0) (size : D → ℕ) (bytes : D → List ℕ) (failed : D → ℕ) (making : Making) (HasWords : List ℕ → Type 0) (is_long : Type 0)
+    (unread : InputFault → Type 0) (HasRandom : List ℕ → Type 0) (old new : Result D InputFault) (a : Answer)
+    → AnswersFormat tells size bytes failed making HasWords is_long unread HasRandom old new a → HoldsBackDevice tells bytes making.over (HasOther None) old new a
+format_holds {D} tells size bytes failed making HasWords is_long unread HasRandom (Ok old) (Ok new) a (inl said) = λ told is stands.
+    (said.2 told, wordless_answers (HasOther None (bytes old)) (bytes old) is_long unread a said.0)
+format_holds {D} tells size bytes failed making HasWords is_long unread HasRandom (Ok old) (Ok new) a (inr (inl held)) = λ told is stands.
+    (held.same told, subst (IsBarAnswer (HasOther None (bytes old)) (bytes old)) (sym held.is) (bar_answers tells told making.over (HasOther None (bytes old)) (bytes old) held.bar held.barred))
+format_holds {D} tells size bytes failed making HasWords is_long unread HasRandom (Ok old) (Ok new) a (inr (inr said)) = λ told is stands.
+    clear_none making.over (HasOther None (bytes old)) (bytes old) (said.clear told) is stands
+format_holds {D} tells size bytes failed making HasWords is_long unread HasRandom (Ok old) (Err fault) a said = tt
+format_holds {D} tells size bytes failed making HasWords is_long unread HasRandom (Err fault) new a said = tt

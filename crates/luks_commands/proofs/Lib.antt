@@ -6,3 +6,4 @@ pub mod FirstLineFacts
 pub mod FormatFacts
 pub mod Fronts
 pub mod OpenFacts
+pub mod StandingFacts

@@ -68,6 +68,8 @@ refusal_text (refusal.Restore f) = restore_fault_text f
 refusal_text refusal.SameFile = codes "SameFile"
 refusal_text refusal.Exists = codes "Exists"
 refusal_text (refusal.OtherUse found) = codes "OtherUse(" ++ use_text found ++ codes ")"
+refusal_text refusal.OtherVolume = codes "OtherVolume"
+refusal_text refusal.Reencrypting = codes "Reencrypting"
 
 -- what is printed; of a LUKS2 header that is shown line by line it isn't told
 abbrev pub line_of : Answer → Option (List ℕ)

@@ -1,5 +1,6 @@
 -- What `format` may answer.
-use Rattle.std.specs.Prelude.{◌≡◌, ◌⊎◌, ℕ, ◌+◌, List, Some, Result, Ok, Err, ⊤}
+use Rattle.std.specs.Prelude.{◌≡◌, ◌⊎◌, ℕ, ◌+◌, List, None, Some, Result, Ok, Err, ⊤}
+use Rattle.luks_area.specs.Device.{count_after}
 use Rattle.luks_area.specs.First.{IsLeast}
 use Rattle.luks_formatting.specs.declared.format_fault.FormatFault.{FormatFault}
 use Rattle.luks_formatting.specs.declared.format_fault.FormatFault.TheVariants.{Device, Memory}
@@ -17,6 +18,7 @@ use Rattle.luks_commands.specs.Files.{IsUnread, IsUnreadRandom}
 use Rattle.luks_commands.specs.Chosen.{chosen_of}
 use Rattle.luks_commands.specs.Formatting.{IsNewVolume}
 use Rattle.luks_commands.specs.OpenAnswers.{kib_of}
+use Rattle.luks_commands.specs.Standing.{HasOther, IsBar, IsClear, IsHeldBack}
 
 -- the faults of making a volume of this version on a device of `total` bytes
 abbrev pub HasFormatFault : NewVersion → Making → List ℕ → ℕ → List ℕ → FormatFault → Type 0
@@ -46,9 +48,10 @@ IsFormatAnswer tells making passphrase random total old new before after NoMemor
     (after ≡ before) × IsMakingFault making passphrase total random Memory × (tells → new ≡ old)
 IsFormatAnswer tells making passphrase random total old new before after a = ⊥
 
--- the passphrase is what its file has, and the random bytes are the first that theirs has
+-- nothing bars it, the passphrase is what its file has, and the random bytes are the first that theirs has
 pub record IsMaking (tells : Type 0) (making : Making) (HasWords HasRandom : List ℕ → Type 0) (total : ℕ) (old new : List ℕ) (before after : ℕ) (a : Answer)
     : Type 0 where
+  pub clear : tells → IsClear making.over (HasOther None old) old
   pub passphrase : List ℕ
   pub words : HasWords passphrase
   pub random : List ℕ
@@ -59,11 +62,17 @@ pub record IsMaking (tells : Type 0) (making : Making) (HasWords HasRandom : Lis
 abbrev pub IsUnreadEither : {R N : Type 0} → Result R InputFault → ℕ → Result N InputFault → InputFault → Type 0
 IsUnreadEither passphrase count random f = IsUnread passphrase f ⊎ IsUnreadRandom count random f
 
+-- what stands on the volume bars it: another use, or any accepted LUKS header
+abbrev pub IsBarredFormat : Type 0 → Making → List ℕ → List ℕ → ℕ → ℕ → Answer → Type 0
+IsBarredFormat tells making old new before after a =
+    IsHeldBack tells (IsBar tells making.over (HasOther None old) old) (λ is_failure. after ≡ count_after is_failure before) old new a
+
 -- the same of a volume that may not be there, and of files that can't be read, which leaves it as it was
 abbrev pub AnswersFormat : {D : Type 0} → Type 0 → (D → ℕ) → (D → List ℕ) → (D → ℕ) → Making → (List ℕ → Type 0) → Type 0 → (InputFault → Type 0) → (List ℕ → Type 0)
     → Result D InputFault → Result D InputFault → Answer → Type 0
 AnswersFormat {D} tells size bytes failed making HasWords is_long unread HasRandom (Ok old) (Ok new) a =
     (IsWordless is_long unread a × (failed new ≡ failed old) × (tells → bytes new ≡ bytes old))
+    ⊎ IsBarredFormat tells making (bytes old) (bytes new) (failed old) (failed new) a
     ⊎ IsMaking tells making HasWords HasRandom (size old) (bytes old) (bytes new) (failed old) (failed new) a
 AnswersFormat {D} tells size bytes failed making HasWords is_long unread HasRandom (Ok old) (Err fault) a = ⊥
 AnswersFormat {D} tells size bytes failed making HasWords is_long unread HasRandom (Err fault) new a = IsWordless is_long unread a ⊎ (a ≡ unread_answer fault)

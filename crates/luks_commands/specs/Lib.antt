@@ -9,3 +9,4 @@ pub mod Chosen
 pub mod Formatting
 pub mod OpenAnswers
 pub mod FormatAnswers
+pub mod Standing

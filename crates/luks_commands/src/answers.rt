@@ -61,8 +61,12 @@ pub enum Refusal {
     SameFile,
     /// What a backup is to be written to is there and isn't empty.
     Exists,
-    /// The disk has another use by now, which the edit would write over.
+    /// The disk has another use by now, which would be written over.
     OtherUse(OtherUse),
+    /// Another volume's header stands on what would be written over.
+    OtherVolume,
+    /// The metadata of a reencryption stands on what would be written over.
+    Reencrypting,
 }
 
 impl fmt::Display for Refusal {
@@ -83,6 +87,8 @@ impl fmt::Display for Refusal {
             Refusal::SameFile => f.write_str("SameFile"),
             Refusal::Exists => f.write_str("Exists"),
             Refusal::OtherUse(found) => write!(f, "OtherUse({found})"),
+            Refusal::OtherVolume => f.write_str("OtherVolume"),
+            Refusal::Reencrypting => f.write_str("Reencrypting"),
         }
     }
 }

@@ -1,5 +1,5 @@
 //! The command `format`.
-ghost use Rattle.std.specs.Prelude.{◌≡◌, ◌≢◌, ◌+◌, ◌<◌, ◌^◌, Some, IfOk, IfErr, OnOk};
+ghost use Rattle.std.specs.Prelude.{◌≡◌, ◌≢◌, ◌+◌, ◌<◌, ◌^◌, None, Some, IfOk, IfErr, OnOk};
 ghost use Rattle.std.specs.Result.{ForOk};
 ghost use Rattle.luks_area.specs.Device.{CountsFailure, IsSettled};
 ghost use Rattle.luks_area.specs.Ranges.{SameBut};
@@ -9,6 +9,7 @@ ghost use Rattle.luks_commands.specs.Exit.{exit_status, IsExitStatus};
 ghost use Rattle.luks_commands.specs.Files.{AreFirstBytes, IsLong, IsWhole, LeavesSettled, LeavesVolume};
 ghost use Rattle.luks_commands.specs.FormatAnswers.{AnswersFormat, IsFormatAnswer, IsMakingFault, IsUnreadEither};
 ghost use Rattle.luks_commands.specs.Formatting.{IsOfNewVolume, IsNewVolume, needed, SaysFormat};
+ghost use Rattle.luks_commands.specs.Standing.{HasOther, HoldsBackDevice};
 
 use crate::answers::{Answer, Refusal, Status, device_fault, end, unread};
 use crate::chosen::chosen_of;
@@ -17,6 +18,7 @@ use crate::open::allowed_of;
 use crate::passphrase_file::{PassphraseFault, passphrase};
 use crate::printer::Printer;
 use crate::random_file::{RandomBytes, few_random_bytes, random_bytes};
+use crate::standing::{held_back, judge_standing};
 use luks_edit::{Done, Passphrase};
 use luks_formatting::{FORMAT1_RANDOM, FORMAT2_RANDOM, FormatFault, format1, format2_by};
 use luks_reading::Device;
@@ -25,7 +27,8 @@ use std::alloc::Global;
 use std::io::{Read, Write};
 
 /// Makes a new volume of the volume of this name, and prints that it is done; answers the exit
-/// status. The passphrase is read first, the random bytes last.
+/// status. The passphrase is read first, the random bytes last. Before these another use of the disk and
+/// an accepted LUKS header, whichever its uuid, are asked for, unless they may be written over.
 pub fn run<D: Device, R: Read, N: Read, P: Printer, E: Write>(
     alloc: Global,
     inputs: &mut Inputs<D, R, N>,
@@ -51,6 +54,9 @@ pub fn run<D: Device, R: Read, N: Read, P: Printer, E: Write>(
         (IsWhole R.remaining inputs.old.passphrase) (IsLong R.remaining inputs.old.passphrase)
         (IsUnreadEither inputs.old.passphrase (needed making.now.version) inputs.old.random)
         (AreFirstBytes (needed making.now.version) N.remaining inputs.old.random)
+        inputs.old.volume inputs.new.volume)
+        (P.failures out.old) (P.failures out.new) (P.printed out.old) (P.printed out.new) result }
+    ensures over { Prints (HoldsBackDevice D.tells D.bytes making.now.over (HasOther None)
         inputs.old.volume inputs.new.volume)
         (P.failures out.old) (P.failures out.new) (P.printed out.old) (P.printed out.new) result }
 {
@@ -92,6 +98,10 @@ fn format_volume<D: Device, R: Read, N: Read, E: Write>(
         Ok(device) => device,
         Err(fault) => return unread(*fault, name, err),
     };
+    match judge_standing(alloc, device, None, making.over) {
+        Ok(()) => {}
+        Err(bar) => return held_back(bar, name, err),
+    }
     let random = match random_bytes(alloc, &mut inputs.random, random_needed(making.version)) {
         Ok(bytes) => bytes,
         Err(fault) => return unread(fault, making.random, err),

@@ -13,6 +13,7 @@ mod passphrase_file;
 mod printer;
 mod random_file;
 mod secret_file;
+mod standing;
 
 pub use answers::{Answer, Refusal, Status, device_fault, end, refused, unread};
 pub use chosen::chosen_of;
@@ -20,3 +21,4 @@ pub use inputs::{InputFault, Inputs, Reason};
 pub use passphrase_file::{PassphraseFault, first_bytes, first_line, passphrase};
 pub use printer::{CountingPrinter, Printer, Unprinted};
 pub use random_file::{RandomBytes, few_random_bytes, random_bytes};
+pub use standing::{Bar, held_back, judge_standing, standing_use_of, uuid_of};

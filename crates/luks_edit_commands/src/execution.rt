@@ -1,4 +1,4 @@
-ghost use Rattle.std.specs.Prelude.{◌≡◌, ◌≢◌, ◌+◌, ◌<◌, ◌≤◌, ◌^◌, IfOk, IfErr};
+ghost use Rattle.std.specs.Prelude.{◌≡◌, ◌≢◌, ◌+◌, ◌<◌, ◌≤◌, ◌^◌, None, IfOk, IfErr};
 ghost use Rattle.std.specs.Result.{ForOk};
 ghost use Rattle.luks_area.specs.Device.{IsSettled};
 ghost use Rattle.luks_commands.specs.Answer.{Prints};
@@ -14,16 +14,17 @@ ghost use Rattle.luks_commands.specs.Files.{KeepsVolume, LeavesSettled, LeavesVo
 ghost use Rattle.luks_commands.specs.FormatAnswers.{AnswersFormat, IsUnreadEither};
 ghost use Rattle.luks_commands.specs.Formatting.{needed, SaysFormat, WhereFormat};
 ghost use Rattle.luks_commands.specs.OpenAnswers.{AnswersOpen, WhereOpen};
+ghost use Rattle.luks_commands.specs.Standing.{HasOther, HoldsBackDevice};
 ghost use Rattle.luks_show_command.specs.ShowAnswers.{AnswersShow, WhereShow};
 ghost use Rattle.luks_header_commands.specs.Converting.{AnswersConvert, KeepsRest, random_count, WhereConvert};
 ghost use Rattle.luks_header_commands.specs.Rebuilding.{random_count as rebuild_count, WhereRebuild};
 ghost use Rattle.luks_header_commands.specs.Target.{AreOneFile, IsSameFile, LeavesTarget, SettlesTarget};
-ghost use Rattle.luks_header_commands.specs.Target.{UnlessBeside};
+ghost use Rattle.luks_header_commands.specs.Target.{HoldsBackHeader, UnlessBeside};
 ghost use Rattle.luks_header_commands.specs.Trying.{AnswersRebuild, KeepsRebuilt};
 ghost use Rattle.luks_keeping_commands.specs.BackingUp.{AnswersBackup, KeepsRest as KeepsBesideBackup, WhereBackup};
 ghost use Rattle.luks_keeping_commands.specs.Comparing.{AnswersCompare, WhereCompare};
 ghost use Rattle.luks_keeping_commands.specs.Restoring.{AnswersRestore, KeepsRest as KeepsBesideRestored};
-ghost use Rattle.luks_keeping_commands.specs.Restoring.{over_of, UnlessRestore, WhereRestore};
+ghost use Rattle.luks_keeping_commands.specs.Restoring.{HoldsBackRestore, UnlessRestore, WhereRestore};
 
 use crate::edit;
 use luks_commands::open::Tried;
@@ -97,7 +98,7 @@ pub fn execute<D: Device, R: Read, N: Read, P: Printer, E: Write, G: Progress>(
         (P.failures out.old) (P.failures out.new) (P.printed out.old) (P.printed out.new) result) }
     ensures converted { WhereConvert line.now.command (λ converting.
         (AreOneFile line.now.volume.now converting.target.now inputs.old.target → ⊥)
-        → Prints (AnswersConvert D.tells D.size D.bytes D.failed converting.data_
+        → Prints (AnswersConvert D.tells D.size D.bytes D.failed converting
         (IsUnreadRandom random_count inputs.old.random)
         (AreFirstBytes random_count N.remaining inputs.old.random)
         inputs.old.volume inputs.new.volume inputs.old.target inputs.new.target)
@@ -146,8 +147,7 @@ pub fn execute<D: Device, R: Read, N: Read, P: Printer, E: Write, G: Progress>(
         (P.failures out.old) (P.failures out.new) (P.printed out.old) (P.printed out.new) result) }
     ensures restored { WhereRestore line.now.command (λ restoring.
         (AreOneFile line.now.volume.now restoring.backup.now inputs.old.target → ⊥)
-        → Prints (AnswersRestore D.tells D.size D.bytes D.failed
-        restoring.data_ (over_of restoring.other)
+        → Prints (AnswersRestore D.tells D.size D.bytes D.failed restoring
         inputs.old.volume inputs.new.volume inputs.old.target inputs.new.target)
         (P.failures out.old) (P.failures out.new) (P.printed out.old) (P.printed out.new) result) }
     ensures restored_rest { WhereRestore line.now.command (λ restoring. LeavesTarget D.tells D.size
@@ -195,6 +195,27 @@ pub fn execute<D: Device, R: Read, N: Read, P: Printer, E: Write, G: Progress>(
     // refuses the edit.
     ensures over { WhereEdit line.now.command (λ editing. Prints
         (HoldsBackVolume D.tells D.bytes editing.over inputs.old.volume inputs.new.volume)
+        (P.failures out.old) (P.failures out.new) (P.printed out.old) (P.printed out.new) result) }
+    // The same of the other commands that write over what stands there: an accepted header of another
+    // volume holds them back, too, and a reencryption `restore`.
+    ensures format_over { WhereFormat line.now.command (λ making. Prints
+        (HoldsBackDevice D.tells D.bytes making.over (HasOther None)
+        inputs.old.volume inputs.new.volume)
+        (P.failures out.old) (P.failures out.new) (P.printed out.old) (P.printed out.new) result) }
+    ensures convert_over { WhereConvert line.now.command (λ converting.
+        (AreOneFile line.now.volume.now converting.target.now inputs.old.target → ⊥)
+        → Prints (HoldsBackHeader D.tells D.bytes converting.over
+        inputs.old.volume inputs.old.target inputs.new.target)
+        (P.failures out.old) (P.failures out.new) (P.printed out.old) (P.printed out.new) result) }
+    ensures rebuild_over { WhereRebuild line.now.command (λ rebuilding.
+        (AreOneFile line.now.volume.now rebuilding.target.now inputs.old.target → ⊥)
+        → Prints (HoldsBackHeader D.tells D.bytes rebuilding.over
+        inputs.old.volume inputs.old.target inputs.new.target)
+        (P.failures out.old) (P.failures out.new) (P.printed out.old) (P.printed out.new) result) }
+    ensures restore_over { WhereRestore line.now.command (λ restoring.
+        (AreOneFile line.now.volume.now restoring.backup.now inputs.old.target → ⊥)
+        → Prints (HoldsBackRestore D.tells D.bytes restoring
+        inputs.old.volume inputs.new.volume inputs.old.target)
         (P.failures out.old) (P.failures out.new) (P.printed out.old) (P.printed out.new) result) }
     ensures formatted { WhereFormat line.now.command (λ making. Prints
         (AnswersFormat D.tells D.size D.bytes D.failed making

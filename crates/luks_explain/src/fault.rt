@@ -106,9 +106,9 @@ pub enum Fault {
     NotAccepted,
     /// Of restore: check would refuse VOLUME with this header.
     DoesNotFit,
-    /// Of restore: the header on VOLUME is another volume's.
+    /// Another volume's header stands on what would be written over.
     OtherVolume,
-    /// LUKS2: the disk has another use, in the place of the first copy.
+    /// The disk has another use, which would be written over.
     OtherUse,
     /// cryptsetup is in the midst of reencrypting the volume.
     Reencrypting,

@@ -53,8 +53,8 @@ pub(crate) fn means(fault: Fault) -> &'static str {
         Fault::Exists => "of backup: FILE is there and isn't empty",
         Fault::NotAccepted => "of restore: check --detached refuses FILE",
         Fault::DoesNotFit => "of restore: check would refuse VOLUME with this header",
-        Fault::OtherVolume => "of restore: the header on VOLUME is another volume's",
-        Fault::OtherUse => "LUKS2: the disk has another use, in the place of the first copy",
+        Fault::OtherVolume => "another volume's header stands on what would be written over",
+        Fault::OtherUse => "the disk has another use, which would be written over",
         Fault::Reencrypting => "cryptsetup is in the midst of reencrypting the volume",
     }
 }
@@ -171,11 +171,15 @@ pub(crate) fn place(fault: Fault) -> &'static str {
        of it"
         }
         Fault::OtherVolume => {
-            "restore and compare: another uuid, and another digest of the volume key"
+            "restore and compare: another uuid, and another digest of the volume key;
+       format: any header that check --detached accepts; convert and rebuild:
+       one of TARGET that has another uuid than SOURCE"
         }
         Fault::OtherUse => {
             "OtherUse(NAME), of add, change, remove, repair and label: its signature
-       before the second copy, which alone is sound"
+       before the second copy of LUKS2, where one isn't sound; of format,
+       convert, rebuild and restore: its signature, of restore where no header
+       of the same volume counts"
         }
         Fault::Reencrypting => {
             "LUKS1, of rebuild: the header begins with LUKS and the bytes DE AD, which
@@ -419,12 +423,13 @@ pub(crate) fn next(fault: Fault) -> &'static str {
        say --detached"
         }
         Fault::OtherVolume => {
-            "look for the backup of this volume; if the header that stands there is
-       the wrong one, say --other"
+            "look for the right device, and for the backup of this volume; if the
+       header that stands there is the wrong one, say --over, of restore
+       --other"
         }
         Fault::OtherUse => {
-            "if the other use counts, leave it: luks open and show work as ever; else
-       the same command with --over takes it away"
+            "is it the right device? If the other use counts, leave it: luks open and
+       show work as ever; else the same command with --over takes it away"
         }
         Fault::Reencrypting => {
             "let cryptsetup go on. LUKS1: in the folder where it was begun, with the

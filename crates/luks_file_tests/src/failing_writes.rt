@@ -13,7 +13,7 @@ use std::fs::{self, File, OpenOptions};
 use std::rt::{Clock, Files};
 use std::test::Fail;
 
-const FORMAT: &str = "luks format v --passphrase=p --random=r --iterations=1000";
+const FORMAT: &str = "luks format v --over --passphrase=p --random=r --iterations=1000";
 
 const CHANGE: &str = "luks change v --slot=0 --passphrase=p --new=n --random=r --iterations=1000";
 

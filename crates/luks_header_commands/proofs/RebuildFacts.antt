@@ -3,7 +3,7 @@ use Rattle.std.proofs.Common.{◌≡◌, ◌≢◌, List, ℕ, Bool, false, Opti
 use Rattle.luks_area.specs.Ranges.{SameBut}
 use Rattle.luks_writing.specs.TwoDevices.{CountsAfter, IsOneFailure}
 use Rattle.luks_rebuilding.specs.RebuildFaults.{is_rebuild_failure}
-use Rattle.luks_rebuilding.specs.Outcome.{IsAnsweredFault, IsRebuildFault}
+use Rattle.luks_rebuilding.specs.Outcome.{IsAnsweredFault, IsRebuildable, IsRebuildFault}
 use Rattle.luks_rebuilding.specs.Rebuilt.{IsOfRebuilt}
 use Rattle.luks_rebuilding.specs.declared.place.Which.{Which}
 use Rattle.luks_rebuilding.specs.declared.rebuild_fault.RebuildFault.{RebuildFault}
@@ -14,15 +14,17 @@ use Rattle.luks1_rebuilding.specs.KeyAreas.{header_of}
 use Rattle.luks1_rebuilding.specs.Outcome.{IsAnsweredFault as IsAnsweredFault1, IsRebuildable as IsRebuildable1, LacksHeader}
 use Rattle.luks1_rebuilding.specs.declared.rebuild_fault.Rebuild1Fault.{Rebuild1Fault}
 use Rattle.luks1_rebuilding.specs.declared.rebuild_fault.Rebuild1Fault.TheVariants as fault1
-use Rattle.luks_request.specs.declared.rebuilding.Meant.TheVariants.{Either}
+use Rattle.luks_request.specs.declared.rebuilding.Meant.TheVariants.{Luks1, Luks2, Either}
+use Rattle.luks_request.specs.declared.rebuilding.Meant.{Meant}
 use Rattle.luks_request.specs.declared.rebuilding.Rebuilding.{Rebuilding}
 use Rattle.luks_commands.specs.declared.answers.Answer.{Answer}
 use Rattle.luks_commands.specs.declared.answers.Answer.TheVariants as answer
 use Rattle.luks_commands.specs.declared.answers.Refusal.TheVariants as refusal
 use Rattle.luks_commands.specs.declared.answers.Status.TheVariants.{NotInStep}
 use Rattle.luks_commands.specs.Answer.{answer_status, rebuild_fault_answer, rebuild1_fault_answer}
-use Rattle.luks_header_commands.specs.Rebuilding.{given_of, which_of, IsAnswerOf, IsLuks1Answer, IsLuks2Answer, IsNewHeader1, KeepsMeant, LeadsToLuks1, StaysLuks2}
-use Rattle.luks_header_commands.specs.Target.{NoneFailed, Pair}
+use Rattle.luks_header_commands.specs.Rebuilding.{given_of, which_of, IsAnswerOf, IsLuks1Answer, IsLuks2Answer, IsNewHeader, IsNewHeader1, KeepsMeant, LeadsToLuks1, StaysLuks2}
+use Rattle.luks_header_commands.specs.Target.{IsLater, NoneFailed, Pair}
+use Rattle.luks_header_commands.proofs.TargetFacts.{bytes_later, none_later, one_later, said_later, same_later}
 use Rattle.luks_header_commands.specs.Turned.{stays, turns, unread, IsTurnedRest, MayLead, Turned}
 
 -- a fault of LUKS2 that isn't a device's left the target as it was
@@ -54,47 +56,6 @@ same_but touched bytes = record { length_same = refl; each = λ p apart. refl }
 
 -- ---- LUKS2's fault, then what is answered in its place
 
--- `d` has begun where `e` had changed nothing, and both end as one
-pub record IsLater (tells : Type 0) (d e : Pair) : Type 0 where
-  pub volume : tells → d.volume ≡ e.volume
-  pub total : d.total ≡ e.total
-  pub old : tells → d.old ≡ e.old
-  pub new : d.new ≡ e.new
-  pub volume_before : d.volume_before ≡ e.volume_before
-  pub volume_after : d.volume_after ≡ e.volume_after
-  pub before : d.before ≡ e.before
-  pub after : d.after ≡ e.after
-
--- no call failed then, or one
-none_later : (tells : Type 0) (d e : Pair) → IsLater tells d e → NoneFailed d → NoneFailed e
-none_later tells d e later none =
-    (sym later.volume_after ∙ (none.0 ∙ later.volume_before), sym later.after ∙ (none.1 ∙ later.before))
-
-one_later : (tells : Type 0) (d e : Pair) → IsLater tells d e → IsOneFailure d.volume_before d.volume_after d.before d.after
-    → IsOneFailure e.volume_before e.volume_after e.before e.after
-one_later tells d e later one =
-    subst (λ (n : ℕ). IsOneFailure e.volume_before e.volume_after e.before n) later.after
-    (subst (λ (n : ℕ). IsOneFailure e.volume_before e.volume_after n d.after) later.before
-    (subst (λ (n : ℕ). IsOneFailure e.volume_before n d.before d.after) later.volume_after
-    (subst (λ (n : ℕ). IsOneFailure n d.volume_after d.before d.after) later.volume_before one)))
-
--- the target is as it was
-same_later : (tells : Type 0) (d e : Pair) → IsLater tells d e → (tells → d.new ≡ d.old) → tells → e.new ≡ e.old
-same_later tells d e later same told = sym later.new ∙ (same told ∙ later.old told)
-
--- what is said of the volume and of how long the target is
-said_later : (tells : Type 0) (d e : Pair) (says : List ℕ → ℕ → Type 0) → IsLater tells d e → (tells → says d.volume d.total) → tells → says e.volume e.total
-said_later tells d e says later said told =
-    subst (λ (n : ℕ). says e.volume n) later.total (subst (λ (v : List ℕ). says v d.total) (later.volume told) (said told))
-
--- and of the volume and the target before and after
-bytes_later : (tells : Type 0) (d e : Pair) (says : List ℕ → List ℕ → List ℕ → Type 0) → IsLater tells d e → (tells → says d.volume d.old d.new)
-    → tells → says e.volume e.old e.new
-bytes_later tells d e says later said told =
-    subst (λ (n : List ℕ). says e.volume e.old n) later.new
-    (subst (λ (o : List ℕ). says e.volume o d.new) (later.old told)
-    (subst (λ (v : List ℕ). says v d.old d.new) (later.volume told) (said told)))
-
 -- what LUKS1 answers
 pub luks1_later : (tells : Type 0) (given : Given) (d e : Pair) (a : Answer) → IsLater tells d e → IsLuks1Answer tells given d a → IsLuks1Answer tells given e a
 luks1_later tells given d e (answer.Done slot) later said = (
@@ -111,6 +72,45 @@ luks1_later tells given d e (answer.Refused (refusal.Rebuild1 f)) later said = (
 )
 luks1_later tells given d e answer.DeviceFault later said = one_later tells d e later said
 luks1_later tells given d e a later said = absurd said
+
+-- what LUKS2 answers
+luks2_later : (tells : Type 0) (which : Which) (given : Option (List ℕ)) (random : List ℕ) (d e : Pair) (a : Answer) → IsLater tells d e
+    → IsLuks2Answer tells which given random d a → IsLuks2Answer tells which given random e a
+luks2_later tells which given random d e (answer.Done slot) later said = (
+  none_later tells d e later said.0,
+  said.1,
+  said_later tells d e (λ v n. IsRebuildable v which given n random) later said.2,
+  bytes_later tells d e (λ v old new. IsNewHeader v which given random old new) later said.3,
+)
+luks2_later tells which given random d e (answer.Refused (refusal.Rebuild Device)) later said = said
+luks2_later tells which given random d e (answer.Refused (refusal.Rebuild Memory)) later said = said
+luks2_later tells which given random d e (answer.Refused (refusal.Rebuild f)) later said = (
+  none_later tells d e later said.0,
+  same_later tells d e later said.1,
+  said_later tells d e (λ v n. IsAnsweredFault v which given n random f) later said.2,
+)
+luks2_later tells which given random d e answer.DeviceFault later said = one_later tells d e later said
+luks2_later tells which given random d e answer.NoMemory later said = (
+  none_later tells d e later said.0,
+  same_later tells d e later said.1,
+  said_later tells d e (λ v n. IsAnsweredFault v which given n random Memory) later said.2,
+)
+luks2_later tells which given random d e a later said = absurd said
+
+-- and what is answered of what is meant
+pub meant_later : (meant : Meant) (tells : Type 0) (r : Rebuilding) (given : Given) (random : List ℕ) (d e : Pair) (a : Answer) → IsLater tells d e
+    → IsAnswerOf meant tells r given random d a → IsAnswerOf meant tells r given random e a
+meant_later Luks1 tells r given random d e a later said = luks1_later tells given d e a later said
+meant_later Luks2 tells r given random d e a later said = luks2_later tells (which_of r) (given_of r) random d e a later said
+meant_later Either tells r given random d e a later (inl said) =
+    inl (luks2_later tells (which_of r) (given_of r) random d e a later said.0, λ told. subst (λ (v : List ℕ). StaysLuks2 v a) (later.volume told) (said.1 told))
+meant_later Either tells r given random d e a later (inr said) = inr (record {
+  fault = said.fault;
+  first = said_later tells d e (λ v n. IsAnsweredFault v (which_of r) (given_of r) n random said.fault) later said.first;
+  leads = said_later tells d e (λ v n. LeadsToLuks1 v said.fault) later said.leads;
+  is = luks1_later tells given d e a later said.is;
+  has_header = said.has_header;
+})
 
 -- a fault that may lead to LUKS1 is no device's, and is answered as it is
 led_unfailed : (f : RebuildFault) → MayLead f → is_rebuild_failure f ≡ false

@@ -1,11 +1,20 @@
 -- What becomes of the target of a command that makes a header.
-use Rattle.std.proofs.Common.{◌≡◌, ℕ, List, Bool, true, false, Result, Ok, Err, IfErr, OnOk, refl, inl, inr, arith}
+use Rattle.std.proofs.Common.{◌≡◌, ◌⊎◌, ℕ, List, Bool, true, false, Option, Some, None, ap, Result, Ok, Err, IfErr, OnOk, refl, sym, subst, ◌∙◌, inl, inr, arith}
 use Rattle.std.specs.Result.{ForOk}
-use Rattle.luks_area.specs.Device.{IsSettled, IsUnchanged}
+use Rattle.luks_area.specs.Device.{count_after, CountsFailure, IsSettled, IsUnchanged}
 use Rattle.luks_area.specs.DeviceFacts.{settled_unchanged}
-use Rattle.luks_writing.specs.TwoDevices.{CountsAfter, CountsEither}
+use Rattle.luks_writing.specs.TwoDevices.{CountsAfter, CountsEither, IsOneFailure}
+use Rattle.luks_commands.specs.declared.answers.Answer.{Answer}
 use Rattle.luks_commands.specs.declared.inputs.InputFault.{InputFault}
-use Rattle.luks_header_commands.specs.Target.{LeavesTarget, SettlesTarget}
+use Rattle.luks_commands.specs.Files.{IsLeft}
+use Rattle.luks_commands.specs.Standing.{HasOther, HoldsBack, IsBar, IsBarAnswer, IsClear, IsUuidOf}
+use Rattle.luks_commands.specs.declared.standing.Bar.{Bar}
+use Rattle.luks_commands.specs.declared.standing.Bar.TheVariants.{OtherUse, OtherVolume, Reencrypting, Memory, Device}
+use Rattle.luks_head.proofs.ChoiceFacts.{choices_agree}
+use Rattle.luks_head.specs.Selection.{nothing}
+use Rattle.luks_keeping.specs.SameVolume.{uuid_bytes}
+use Rattle.luks_commands.proofs.StandingFacts.{bar_answers, clear_none}
+use Rattle.luks_header_commands.specs.Target.{AnswersHeader, HoldsBackHeader, IsBarredHeader, IsLater, IsOtherTarget, IsUnbarredHeader, LeavesTarget, NoneFailed, Pair, pair_of, SettlesTarget}
 
 -- a target that no call was made on is as it was
 pub leaves_same : {D : Type 0} (tells : Type 0) (size : D → ℕ) (bytes : D → List ℕ) (says : List ℕ → List ℕ → List ℕ → Type 0)
@@ -14,6 +23,24 @@ pub leaves_same : {D : Type 0} (tells : Type 0) (size : D → ℕ) (bytes : D �
 leaves_same {D} tells size bytes says same (Ok v) (Ok d) = record { size = refl; said = λ t. same (bytes v) (bytes d) }
 leaves_same {D} tells size bytes says same (Ok v) (Err f) = refl
 leaves_same {D} tells size bytes says same (Err f) target = refl
+
+-- and one that nothing changed of has kept its rest
+pub leaves_unchanged : {D : Type 0} (tells : Type 0) (size : D → ℕ) (bytes : D → List ℕ) (unsettled : D → ℕ → Type 0) (says : List ℕ → List ℕ → List ℕ → Type 0)
+    → ((volume target : List ℕ) → says volume target target) → (volume old new : D) → IsUnchanged tells size bytes unsettled old new
+    → IsLeft tells size bytes (says (bytes volume)) old new
+leaves_unchanged {D} tells size bytes unsettled says same volume old new is = record {
+  size = is.size;
+  said = λ t. subst (λ (w : List ℕ). says (bytes volume) (bytes old) w) (sym (is.same t)) (same (bytes volume) (bytes old));
+}
+
+-- what is left by what has begun later
+pub left_after : {D : Type 0} (tells : Type 0) (size : D → ℕ) (bytes : D → List ℕ) (says : List ℕ → List ℕ → List ℕ → Type 0) (volume later old mid new : D)
+    → (tells → bytes later ≡ bytes volume) → size mid ≡ size old → (tells → bytes mid ≡ bytes old) → size new ≡ size mid
+    → (tells → says (bytes later) (bytes mid) (bytes new)) → IsLeft tells size bytes (says (bytes volume)) old new
+left_after {D} tells size bytes says volume later old mid new same long as_was size_same said = record {
+  size = size_same ∙ long;
+  said = λ t. subst (λ (o : List ℕ). says (bytes volume) o (bytes new)) (as_was t) (subst (λ (v : List ℕ). says v (bytes mid) (bytes new)) (same t) (said t));
+}
 
 -- and settled, where it was
 pub settles_same : {D : Type 0} (tells : Type 0) (failed : D → ℕ) (unsettled : D → ℕ → Type 0) (volume volume_new target : Result D InputFault)
@@ -37,3 +64,104 @@ pub settled_by : {D X F : Type 0} {unsettled : D → ℕ → Type 0} {old new : 
 settled_by tells size bytes is_failure s t u w (Ok x) count ok kept told same alike settled = ok
 settled_by tells size bytes is_failure s t u w (Err f) count ok kept told same alike settled =
     settled_unchanged told (kept (none_failed (is_failure f) s t u w count same alike)) settled
+
+-- ---- what has begun later
+
+-- no call failed then, or one
+pub none_later : (tells : Type 0) (d e : Pair) → IsLater tells d e → NoneFailed d → NoneFailed e
+none_later tells d e later none =
+    (sym later.volume_after ∙ (none.0 ∙ later.volume_before), sym later.after ∙ (none.1 ∙ later.before))
+
+pub one_later : (tells : Type 0) (d e : Pair) → IsLater tells d e → IsOneFailure d.volume_before d.volume_after d.before d.after
+    → IsOneFailure e.volume_before e.volume_after e.before e.after
+one_later tells d e later one =
+    subst (λ (n : ℕ). IsOneFailure e.volume_before e.volume_after e.before n) later.after
+    (subst (λ (n : ℕ). IsOneFailure e.volume_before e.volume_after n d.after) later.before
+    (subst (λ (n : ℕ). IsOneFailure e.volume_before n d.before d.after) later.volume_after
+    (subst (λ (n : ℕ). IsOneFailure n d.volume_after d.before d.after) later.volume_before one)))
+
+-- the target is as it was
+pub same_later : (tells : Type 0) (d e : Pair) → IsLater tells d e → (tells → d.new ≡ d.old) → tells → e.new ≡ e.old
+same_later tells d e later same told = sym later.new ∙ (same told ∙ later.old told)
+
+-- what is said of the volume and of how long the target is
+pub said_later : (tells : Type 0) (d e : Pair) (says : List ℕ → ℕ → Type 0) → IsLater tells d e → (tells → says d.volume d.total) → tells → says e.volume e.total
+said_later tells d e says later said told =
+    subst (λ (n : ℕ). says e.volume n) later.total (subst (λ (v : List ℕ). says v d.total) (later.volume told) (said told))
+
+-- and of the volume and the target before and after
+pub bytes_later : (tells : Type 0) (d e : Pair) (says : List ℕ → List ℕ → List ℕ → Type 0) → IsLater tells d e → (tells → says d.volume d.old d.new)
+    → tells → says e.volume e.old e.new
+bytes_later tells d e says later said told =
+    subst (λ (n : List ℕ). says e.volume e.old n) later.new
+    (subst (λ (o : List ℕ). says e.volume o d.new) (later.old told)
+    (subst (λ (v : List ℕ). says v d.old d.new) (later.volume told) (said told)))
+
+-- ---- a target that isn't to be written over
+
+holds_barred : (tells : Type 0) (over : Bool) (d : Pair) (a : Answer) → IsBarredHeader tells over d a
+    → tells → HoldsBack over (IsOtherTarget d.volume d.old) d.old d.new a
+holds_barred tells over d a held told = λ is stands.
+    (held.same told, subst (IsBarAnswer (IsOtherTarget d.volume d.old) d.old) (sym held.is) (bar_answers tells told over (IsOtherTarget d.volume d.old) d.old held.bar held.barred))
+
+holds_unbarred : (tells : Type 0) (over : Bool) (says : List ℕ → Pair → Answer → Type 0) (unread : InputFault → Type 0) (HasRandom : List ℕ → Type 0) (d : Pair) (a : Answer)
+    → IsUnbarredHeader tells over says unread HasRandom d a → tells → HoldsBack over (IsOtherTarget d.volume d.old) d.old d.new a
+holds_unbarred tells over says unread HasRandom d a clear told = λ is stands. clear_none over (IsOtherTarget d.volume d.old) d.old (clear.clear told) is stands
+
+-- it isn't
+pub header_holds : {D : Type 0} (tells : Type 0) (size : D → ℕ) (bytes : D → List ℕ) (failed : D → ℕ) (over : Bool) (says : List ℕ → Pair → Answer → Type 0)
+    (unread : InputFault → Type 0) (HasRandom : List ℕ → Type 0) (volume volume_new old new : Result D InputFault) (a : Answer)
+    → AnswersHeader tells size bytes failed over says unread HasRandom volume volume_new old new a → HoldsBackHeader tells bytes over volume old new a
+header_holds {D} tells size bytes failed over says unread HasRandom (Ok v) (Ok w) (Ok d) (Ok e) a (inl held) =
+    holds_barred tells over (pair_of size bytes failed v w d e) a held
+header_holds {D} tells size bytes failed over says unread HasRandom (Ok v) (Ok w) (Ok d) (Ok e) a (inr clear) =
+    holds_unbarred tells over says unread HasRandom (pair_of size bytes failed v w d e) a clear
+header_holds {D} tells size bytes failed over says unread HasRandom (Ok v) (Ok w) (Ok d) (Err f) a said = tt
+header_holds {D} tells size bytes failed over says unread HasRandom (Ok v) (Ok w) (Err f) new a said = tt
+header_holds {D} tells size bytes failed over says unread HasRandom (Ok v) (Err g) (Ok d) (Ok e) a said = absurd said
+header_holds {D} tells size bytes failed over says unread HasRandom (Ok v) (Err g) (Ok d) (Err f) a said = tt
+header_holds {D} tells size bytes failed over says unread HasRandom (Ok v) (Err g) (Err f) new a said = tt
+header_holds {D} tells size bytes failed over says unread HasRandom (Err f) volume_new old new a said = tt
+
+-- ---- what bars the command, by the uuid of the volume
+
+-- it has one, or none
+one_uuid : (v : List ℕ) (a b : Option (List ℕ)) → IsUuidOf v a → IsUuidOf v b → a ≡ b
+one_uuid v None None x y = refl
+one_uuid v None (Some b) none y = absurd (y.2 (choices_agree v y.0 nothing y.1 none))
+one_uuid v (Some a) None x none = absurd (x.2 (choices_agree v x.0 nothing x.1 none))
+one_uuid v (Some a) (Some b) x y = ap Some (x.3 ∙ (ap (uuid_bytes v) (choices_agree v x.0 y.0 x.1 y.1) ∙ sym y.3))
+
+pub target_bars : (tells : Type 0) (over : Bool) (v t : List ℕ) (u : Option (List ℕ)) → (tells → IsUuidOf v u) → (b : Bar) → IsBar tells over (HasOther u t) t b
+    → IsBar tells over (IsOtherTarget v t) t b
+target_bars tells over v t u is (OtherUse found) bars = bars
+target_bars tells over v t u is OtherVolume bars = (bars.0, λ told. (u, is told, bars.1 told))
+target_bars tells over v t u is Reencrypting bars = bars
+target_bars tells over v t u is Memory bars = bars
+target_bars tells over v t u is Device bars = bars
+
+pub target_clears : (over : Bool) (v t : List ℕ) (u : Option (List ℕ)) → IsUuidOf v u → IsClear over (HasOther u t) t → IsClear over (IsOtherTarget v t) t
+target_clears over v t u is clear = record {
+  volume = λ may x. clear.volume may (subst (λ (w : Option (List ℕ)). HasOther w t) (one_uuid v x.0 u x.1 is) x.2);
+  use_of = clear.use_of;
+}
+
+-- of what was answered
+pub bars_answered : {X : Type 0} (tells : Type 0) (over : Bool) (v t : List ℕ) (u : Option (List ℕ)) → (tells → IsUuidOf v u) → (r : Result X Bar)
+    → IfErr r (IsBar tells over (HasOther u t) t) → IfErr r (IsBar tells over (IsOtherTarget v t) t)
+bars_answered tells over v t u is (Ok x) bars = bars
+bars_answered tells over v t u is (Err b) bars = target_bars tells over v t u is b bars
+
+pub clears_answered : {X : Type 0} (over : Bool) (v t : List ℕ) (u : Option (List ℕ)) → IsUuidOf v u → (r : Result X Bar)
+    → OnOk r (IsClear over (HasOther u t) t) → OnOk r (IsClear over (IsOtherTarget v t) t)
+clears_answered over v t u is (Ok x) clear = target_clears over v t u is clear
+clears_answered over v t u is (Err b) clear = clear
+
+-- the volume's call hadn't failed, and the target's counts
+pub counts_then : {X F : Type 0} (is_failure : F → Bool) (r : Result X F) (s t u w : ℕ) → t ≡ s → CountsFailure is_failure r u w → CountsEither is_failure r s t u w
+counts_then is_failure (Ok x) s t u w same count = (same, count)
+counts_then is_failure (Err f) s t u w same count = after (is_failure f) count
+  where
+    after : (b : Bool) → w ≡ count_after b u → CountsAfter b s t u w
+    after true e = inr (same, e)
+    after false e = (same, e)

@@ -1,21 +1,23 @@
 -- What `rebuild` answers with a passphrase, by what it met.
-use Rattle.std.proofs.Common.{◌≡◌, List, ℕ, Option, Some, None, IfSome, IfNone, Result, Ok, Err, refl, sym, subst, inl, inr}
+use Rattle.std.proofs.Common.{◌≡◌, List, ℕ, Bool, Option, Some, None, IfSome, IfNone, Result, Ok, Err, refl, sym, subst, inl, inr}
 use Rattle.luks_area.specs.Device.{count_after}
 use Rattle.luks1_mending.specs.declared.given.Given.{Given}
 use Rattle.luks1_rebuilding.specs.RebuildFaults.{is_rebuild_failure}
 use Rattle.luks1_rebuilding.specs.declared.rebuild_fault.Rebuild1Fault.{Rebuild1Fault}
 use Rattle.luks1_rebuilding.specs.declared.rebuild_fault.Rebuild1Fault.TheVariants as fault1
-use Rattle.luks1_trying.specs.Faults.{IsAnsweredTrialFault}
+use Rattle.luks1_trying.specs.Faults.{IsAnsweredTrialFault, IsTrialFault}
 use Rattle.luks1_trying.specs.Openings.{IsFirstOpening, OpensNoneBelow}
 use Rattle.luks1_trying.specs.declared.opening.Opening.{Opening}
 use Rattle.luks_request.specs.declared.rebuilding.Rebuilding.{Rebuilding}
 use Rattle.luks_commands.specs.declared.answers.Answer.{Answer}
 use Rattle.luks_commands.specs.declared.inputs.InputFault.{InputFault}
-use Rattle.luks_commands.specs.Answer.{rebuild1_fault_answer}
+use Rattle.luks_commands.specs.Answer.{IsWordless, rebuild1_fault_answer}
 use Rattle.luks_header_commands.specs.Rebuilding.{IsGiven, IsLuks1Answer, IsRebuildAnswer, KeepsRest, KeepsRest1}
-use Rattle.luks_header_commands.specs.Target.{AnswersHeader, LeavesTarget, Pair}
-use Rattle.luks_header_commands.specs.Trying.{no_header, one_opens, trial_failed, AnswersBy, IsTriedRest, IsWithPassphrase, KeepsBy, KeepsTried, TriedAnswer}
-use Rattle.luks_header_commands.proofs.RebuildFacts.{luks1_later, IsLater}
+use Rattle.luks_header_commands.specs.Target.{AnswersHeader, HoldsBackHeader, IsLater, IsOtherTarget, LeavesTarget, Pair}
+use Rattle.luks_header_commands.specs.Trying.{no_header, none_open, one_opens, trial_failed, AnswersBy, IsTriedRest, IsWithPassphrase, IsTriedAnswer, KeepsBy, KeepsTried, TriedAnswer}
+use Rattle.luks_header_commands.proofs.RebuildFacts.{luks1_later}
+use Rattle.luks_header_commands.proofs.TargetFacts.{header_holds, none_later, one_later, same_later}
+use Rattle.luks_commands.proofs.StandingFacts.{wordless_answers}
 
 -- the trial ended by a fault, and the target is as it was
 pub tried_fault : (tells : Type 0) (g : Given) (p : List ℕ) (d : Pair) (f : Rebuild1Fault)
@@ -36,6 +38,19 @@ none_of v p g found is said = subst (λ (x : Option Opening). IfNone x (OpensNon
 pub opened_later : (tells : Type 0) (g : Given) (p : List ℕ) (d e : Pair) (a : Answer) (o : Opening) → IsLater tells d e
     → (tells → IsFirstOpening e.volume g p o) → IsLuks1Answer tells o.given d a → TriedAnswer tells g p e a
 opened_later tells g p d e a o later first said = one_opens o first (luks1_later tells o.given d e a later said)
+
+-- it is so of what has begun later
+pub tried_later : (tells : Type 0) (g : Given) (p : List ℕ) (d e : Pair) (a : Answer) → IsLater tells d e → TriedAnswer tells g p d a → TriedAnswer tells g p e a
+tried_later tells g p d e a later (none_open none same can shut is) =
+    none_open (none_later tells d e later none) (same_later tells d e later same)
+    (λ told. subst (λ (v : List ℕ). (f : Rebuild1Fault) → IsTrialFault v g f → ⊥) (later.volume told) (can told))
+    (λ told. subst (λ (v : List ℕ). OpensNoneBelow v g p 64) (later.volume told) (shut told)) is
+tried_later tells g p d e a later (no_header f own none same is answered) =
+    no_header f own (none_later tells d e later none) (same_later tells d e later same)
+    (λ told. subst (λ (v : List ℕ). IsAnsweredTrialFault v g f) (later.volume told) (is told)) answered
+tried_later tells g p d e a later (trial_failed one same is) = trial_failed (one_later tells d e later one) (same_later tells d e later same) is
+tried_later tells g p d e a later (one_opens o first said) =
+    one_opens o (λ told. subst (λ (v : List ℕ). IsFirstOpening v g p o) (later.volume told) (first told)) (luks1_later tells o.given d e a later said)
 
 -- what is left of the target then
 pub opened_rest : (g : Given) (p v v' old new : List ℕ) (o : Opening) → v' ≡ v → IsFirstOpening v g p o → KeepsRest1 o.given v' old new
@@ -97,7 +112,28 @@ tried_answers {A} {D} o file is tells size bytes failed r HasWords is_long wordl
 pub untried_answers : {A D : Type 0} (o : Option A) → o ≡ None → (tells : Type 0) (size : D → ℕ) (bytes : D → List ℕ) (failed : D → ℕ)
     → (r : Rebuilding) (HasWords : List ℕ → Type 0) (is_long : Type 0) (wordless unread : InputFault → Type 0) (HasRandom : List ℕ → Type 0)
     → (volume volume_new old new : Result D InputFault) (a : Answer)
-    → AnswersHeader tells size bytes failed (IsRebuildAnswer tells r) unread HasRandom volume volume_new old new a
+    → AnswersHeader tells size bytes failed r.over (IsRebuildAnswer tells r) unread HasRandom volume volume_new old new a
     → AnswersBy o tells size bytes failed r HasWords is_long wordless unread HasRandom volume volume_new old new a
 untried_answers {A} {D} o is tells size bytes failed r HasWords is_long wordless unread HasRandom volume volume_new old new a said =
     subst (λ (x : Option A). AnswersBy x tells size bytes failed r HasWords is_long wordless unread HasRandom volume volume_new old new a) (sym is) said
+
+-- ---- a target that isn't to be written over
+
+unworded_holds : {D : Type 0} (tells : Type 0) (bytes : D → List ℕ) (over : Bool) (is_long : Type 0) (wordless : InputFault → Type 0) (volume old : Result D InputFault) (a : Answer)
+    → IsWordless is_long wordless a → HoldsBackHeader tells bytes over volume old old a
+unworded_holds {D} tells bytes over is_long wordless (Ok v) (Ok d) a said = λ told is stands.
+    (refl, wordless_answers (IsOtherTarget (bytes v) (bytes d)) (bytes d) is_long wordless a said)
+unworded_holds {D} tells bytes over is_long wordless (Ok v) (Err f) a said = tt
+unworded_holds {D} tells bytes over is_long wordless (Err f) old a said = tt
+
+-- it isn't, with a passphrase or without
+pub rebuild_holds : {A D : Type 0} (o : Option A) (tells : Type 0) (size : D → ℕ) (bytes : D → List ℕ) (failed : D → ℕ) (r : Rebuilding) (HasWords : List ℕ → Type 0) (is_long : Type 0)
+    (wordless unread : InputFault → Type 0) (HasRandom : List ℕ → Type 0) (volume volume_new old new : Result D InputFault) (a : Answer)
+    → AnswersBy o tells size bytes failed r HasWords is_long wordless unread HasRandom volume volume_new old new a → HoldsBackHeader tells bytes r.over volume old new a
+rebuild_holds {A} {D} None tells size bytes failed r HasWords is_long wordless unread HasRandom volume volume_new old new a said =
+    header_holds tells size bytes failed r.over (IsRebuildAnswer tells r) unread HasRandom volume volume_new old new a said
+rebuild_holds {A} {D} (Some file) tells size bytes failed r HasWords is_long wordless unread HasRandom volume volume_new old new a (inl said) =
+    subst (λ (n : Result D InputFault). HoldsBackHeader tells bytes r.over volume old n a) (sym said.target_same)
+    (unworded_holds tells bytes r.over is_long wordless volume old a said.is)
+rebuild_holds {A} {D} (Some file) tells size bytes failed r HasWords is_long wordless unread HasRandom volume volume_new old new a (inr said) =
+    header_holds tells size bytes failed r.over (λ random. IsTriedAnswer tells r said.words) unread HasRandom volume volume_new old new a said.is

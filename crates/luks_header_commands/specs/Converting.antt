@@ -60,10 +60,10 @@ IsConvertAnswer tells payload random d NoMemory = NoneFailed d × (tells → d.n
 IsConvertAnswer tells payload random d a = ⊥
 
 -- of the volume and the target, as `AnswersHeader` says
-abbrev pub AnswersConvert : {D : Type 0} → Type 0 → (D → ℕ) → (D → List ℕ) → (D → ℕ) → Data → (InputFault → Type 0) → (List ℕ → Type 0)
+abbrev pub AnswersConvert : {D : Type 0} → Type 0 → (D → ℕ) → (D → List ℕ) → (D → ℕ) → Converting → (InputFault → Type 0) → (List ℕ → Type 0)
     → Result D InputFault → Result D InputFault → Result D InputFault → Result D InputFault → Answer → Type 0
-AnswersConvert tells size bytes failed payload unread HasRandom volume volume_new old new a =
-    AnswersHeader tells size bytes failed (IsConvertAnswer tells payload) unread HasRandom volume volume_new old new a
+AnswersConvert tells size bytes failed converting unread HasRandom volume volume_new old new a =
+    AnswersHeader tells size bytes failed converting.over (IsConvertAnswer tells converting.data_) unread HasRandom volume volume_new old new a
 
 -- what holds of the command where it is `convert`
 abbrev pub WhereConvert : Command → (Converting → Type 0) → Type 0

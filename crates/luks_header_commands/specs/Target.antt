@@ -1,6 +1,7 @@
 -- The target of a command that makes a separate header: what is left of it, and what is answered.
-use Rattle.std.specs.Prelude.{◌≡◌, ◌⊎◌, ℕ, List, Result, Ok, Err, ⊤}
+use Rattle.std.specs.Prelude.{◌≡◌, ◌⊎◌, ℕ, List, Option, Bool, Result, Ok, Err, ⊤}
 use Rattle.luks_area.specs.Device.{IsSettled}
+use Rattle.luks_writing.specs.TwoDevices.{CountsAfter}
 use Rattle.luks_request.specs.declared.request.Command.{Command}
 use Rattle.luks_request.specs.declared.request.Command.TheVariants as command
 use Rattle.luks_commands.specs.declared.answers.Answer.{Answer}
@@ -11,6 +12,7 @@ use Rattle.luks_commands.specs.declared.inputs.InputFault.TheVariants.{Unreadabl
 use Rattle.luks_commands.specs.declared.inputs.Reason.TheVariants as reason
 use Rattle.luks_commands.specs.Answer.{unread_answer}
 use Rattle.luks_commands.specs.Files.{IsLeft}
+use Rattle.luks_commands.specs.Standing.{HasOther, HoldsBack, IsBar, IsClear, IsHeldBack, IsUuidOf}
 
 -- the volume and the target have equal names, or were found to be one file
 abbrev pub AreOneFile : {D : Type 0} → List ℕ → List ℕ → Result D InputFault → Type 0
@@ -91,13 +93,47 @@ pub record IsWithoutRandom (tells : Type 0) (unread : InputFault → Type 0) (d 
   pub met : unread fault
   pub is : a ≡ unread_answer fault
 
+-- the target `t` has an accepted header with another uuid than the volume `v`, which may have none
+abbrev pub IsOtherTarget : List ℕ → List ℕ → Type 0
+IsOtherTarget v t = (field_ : Option (List ℕ)) × IsUuidOf v field_ × HasOther field_ t
+
+-- what stands on the target bars the command, and nothing was done
+abbrev pub IsBarredHeader : Type 0 → Bool → Pair → Answer → Type 0
+IsBarredHeader tells over d a =
+    IsHeldBack tells (IsBar tells over (IsOtherTarget d.volume d.old) d.old) (λ is_failure. CountsAfter is_failure d.volume_before d.volume_after d.before d.after) d.old d.new a
+
+-- nothing bars it, and the random bytes can't be read, or this is answered with them
+pub record IsUnbarredHeader (tells : Type 0) (over : Bool) (says : List ℕ → Pair → Answer → Type 0) (unread : InputFault → Type 0) (HasRandom : List ℕ → Type 0) (d : Pair) (a : Answer)
+    : Type 0 where
+  pub clear : tells → IsClear over (IsOtherTarget d.volume d.old) d.old
+  pub is : IsWithoutRandom tells unread d a ⊎ IsWithRandom HasRandom says d a
+
 -- of the volume and the target before the command and after it, where they aren't one file: the volume
 -- is opened before the target, and both before the file of the random bytes
-abbrev pub AnswersHeader : {D : Type 0} → Type 0 → (D → ℕ) → (D → List ℕ) → (D → ℕ) → (List ℕ → Pair → Answer → Type 0) → (InputFault → Type 0) → (List ℕ → Type 0)
+abbrev pub AnswersHeader : {D : Type 0} → Type 0 → (D → ℕ) → (D → List ℕ) → (D → ℕ) → Bool → (List ℕ → Pair → Answer → Type 0) → (InputFault → Type 0) → (List ℕ → Type 0)
     → Result D InputFault → Result D InputFault → Result D InputFault → Result D InputFault → Answer → Type 0
-AnswersHeader {D} tells size bytes failed says unread HasRandom (Ok volume) (Ok volume_new) (Ok old) (Ok new) a =
-    IsWithoutRandom tells unread (pair_of size bytes failed volume volume_new old new) a
-    ⊎ IsWithRandom HasRandom says (pair_of size bytes failed volume volume_new old new) a
-AnswersHeader {D} tells size bytes failed says unread HasRandom (Ok volume) volume_new (Err fault) new a = a ≡ unread_answer fault
-AnswersHeader {D} tells size bytes failed says unread HasRandom (Err fault) volume_new old new a = a ≡ unread_answer fault
-AnswersHeader {D} tells size bytes failed says unread HasRandom volume volume_new old new a = ⊥
+AnswersHeader {D} tells size bytes failed over says unread HasRandom (Ok volume) (Ok volume_new) (Ok old) (Ok new) a =
+    IsBarredHeader tells over (pair_of size bytes failed volume volume_new old new) a
+    ⊎ IsUnbarredHeader tells over says unread HasRandom (pair_of size bytes failed volume volume_new old new) a
+AnswersHeader {D} tells size bytes failed over says unread HasRandom (Ok volume) volume_new (Err fault) new a = a ≡ unread_answer fault
+AnswersHeader {D} tells size bytes failed over says unread HasRandom (Err fault) volume_new old new a = a ≡ unread_answer fault
+AnswersHeader {D} tells size bytes failed over says unread HasRandom volume volume_new old new a = ⊥
+
+-- Where the target has such a header or another use, that may not be written over, and both files are there and tell their bytes:
+-- no byte of it changes, and that is what bars the command.
+abbrev pub HoldsBackHeader : {D : Type 0} → Type 0 → (D → List ℕ) → Bool → Result D InputFault → Result D InputFault → Result D InputFault → Answer → Type 0
+HoldsBackHeader tells bytes over (Ok volume) (Ok old) (Ok new) a = tells → HoldsBack over (IsOtherTarget (bytes volume) (bytes old)) (bytes old) (bytes new) a
+HoldsBackHeader tells bytes over volume old new a = ⊤
+
+-- ---- what is asked before the header is made
+
+-- `d` has begun where `e` had changed nothing, and both end as one
+pub record IsLater (tells : Type 0) (d e : Pair) : Type 0 where
+  pub volume : tells → d.volume ≡ e.volume
+  pub total : d.total ≡ e.total
+  pub old : tells → d.old ≡ e.old
+  pub new : d.new ≡ e.new
+  pub volume_before : d.volume_before ≡ e.volume_before
+  pub volume_after : d.volume_after ≡ e.volume_after
+  pub before : d.before ≡ e.before
+  pub after : d.after ≡ e.after

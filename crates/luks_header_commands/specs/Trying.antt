@@ -52,7 +52,7 @@ pub record IsWithWords (HasWords : List ℕ → Type 0) (says : List ℕ → Ans
 abbrev pub AnswersTried : {D : Type 0} → Type 0 → (D → ℕ) → (D → List ℕ) → (D → ℕ) → Rebuilding → (InputFault → Type 0) → (List ℕ → Type 0)
     → Result D InputFault → Result D InputFault → Result D InputFault → Result D InputFault → List ℕ → Answer → Type 0
 AnswersTried tells size bytes failed r unread HasRandom volume volume_new old new p a =
-    AnswersHeader tells size bytes failed (λ random. IsTriedAnswer tells r p) unread HasRandom volume volume_new old new a
+    AnswersHeader tells size bytes failed r.over (λ random. IsTriedAnswer tells r p) unread HasRandom volume volume_new old new a
 
 -- the passphrase is read before the volume
 abbrev pub IsWithPassphrase : {D : Type 0} → Type 0 → (D → ℕ) → (D → List ℕ) → (D → ℕ) → Rebuilding → (List ℕ → Type 0) → Type 0 → (InputFault → Type 0)
@@ -65,7 +65,7 @@ IsWithPassphrase tells size bytes failed r HasWords is_long wordless unread HasR
 abbrev pub AnswersBy : {A D : Type 0} → Option A → Type 0 → (D → ℕ) → (D → List ℕ) → (D → ℕ) → Rebuilding → (List ℕ → Type 0) → Type 0 → (InputFault → Type 0)
     → (InputFault → Type 0) → (List ℕ → Type 0) → Result D InputFault → Result D InputFault → Result D InputFault → Result D InputFault → Answer → Type 0
 AnswersBy None tells size bytes failed r HasWords is_long wordless unread HasRandom volume volume_new old new a =
-    AnswersHeader tells size bytes failed (IsRebuildAnswer tells r) unread HasRandom volume volume_new old new a
+    AnswersHeader tells size bytes failed r.over (IsRebuildAnswer tells r) unread HasRandom volume volume_new old new a
 AnswersBy (Some file) tells size bytes failed r HasWords is_long wordless unread HasRandom volume volume_new old new a =
     IsWithPassphrase tells size bytes failed r HasWords is_long wordless unread HasRandom volume volume_new old new a
 

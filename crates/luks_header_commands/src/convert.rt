@@ -6,7 +6,8 @@ ghost use Rattle.luks_commands.specs.Answer.{convert_fault_answer, Prints};
 ghost use Rattle.luks_commands.specs.Exit.{IsExitStatus};
 ghost use Rattle.luks_commands.specs.Files.{AreFirstBytes, IsUnreadRandom, KeepsVolume};
 ghost use Rattle.luks_header_commands.specs.Converting.{AnswersConvert, IsConvertAnswer, KeepsRest, random_count};
-ghost use Rattle.luks_header_commands.specs.Target.{AreOneFile, IsSameFile, LeavesTarget, SettlesTarget};
+ghost use Rattle.luks_header_commands.specs.Target.{AreOneFile, HoldsBackHeader, IsSameFile, LeavesTarget};
+ghost use Rattle.luks_header_commands.specs.Target.{SettlesTarget};
 
 use crate::header_work::{HeaderFiles, HeaderWork, READING_FAILED, TARGET_FAILED, make_header};
 use luks_commands::{
@@ -47,10 +48,14 @@ pub fn run<D: Device, R: Read, N: Read, P: Printer, E: Write>(
         → (inputs.new ≡ inputs.old) × Prints IsSameFile
         (P.failures out.old) (P.failures out.new) (P.printed out.old) (P.printed out.new) result }
     ensures answers { (AreOneFile name.now converting.now.target.now inputs.old.target → ⊥)
-        → Prints (AnswersConvert D.tells D.size D.bytes D.failed converting.now.data_
+        → Prints (AnswersConvert D.tells D.size D.bytes D.failed converting.now
         (IsUnreadRandom random_count inputs.old.random)
         (AreFirstBytes random_count N.remaining inputs.old.random)
         inputs.old.volume inputs.new.volume inputs.old.target inputs.new.target)
+        (P.failures out.old) (P.failures out.new) (P.printed out.old) (P.printed out.new) result }
+    ensures over { (AreOneFile name.now converting.now.target.now inputs.old.target → ⊥)
+        → Prints (HoldsBackHeader D.tells D.bytes converting.now.over
+        inputs.old.volume inputs.old.target inputs.new.target)
         (P.failures out.old) (P.failures out.new) (P.printed out.old) (P.printed out.new) result }
 {
     let files = HeaderFiles {
@@ -64,7 +69,8 @@ pub fn run<D: Device, R: Read, N: Read, P: Printer, E: Write>(
         files: &files,
         data_: converting.data_,
     };
-    let answer = make_header(alloc, inputs, &files, &conversion, err, &mut Untold);
+    let over = converting.over;
+    let answer = make_header(alloc, inputs, &files, over, &conversion, err, &mut Untold);
     end(&answer, out)
 }
 

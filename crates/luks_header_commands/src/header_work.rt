@@ -1,5 +1,5 @@
 //! What the commands share that make a header of the volume on a target.
-ghost use Rattle.std.specs.Prelude.{◌≡◌, ◌≢◌, ◌↔◌, ◌+◌, ◌<◌, ◌^◌, ℕ, List, Err, IfErr, IsTrue};
+ghost use Rattle.std.specs.Prelude.{◌≡◌, ◌≢◌, ◌↔◌, ◌+◌, ◌<◌, ◌^◌, ℕ, List, Err, IfErr, IsTrue, OnOk};
 ghost use Rattle.std.specs.Result.{ForOk};
 ghost use Rattle.luks_area.specs.Device.{IsSettled, IsUnchanged};
 ghost use Rattle.luks_commands.specs.Answer.{answer_status};
@@ -7,10 +7,15 @@ ghost use Rattle.luks_commands.specs.Files.{AreFirstBytes, IsUnreadRandom, Keeps
 ghost use Rattle.luks_commands.specs.declared.answers.Answer.{Answer as TheAnswer};
 ghost use Rattle.luks_commands.specs.declared.inputs.InputFault.TheVariants.{Unreadable};
 ghost use Rattle.luks_commands.specs.declared.inputs.Reason.TheVariants as reason;
-ghost use Rattle.luks_header_commands.specs.Target.{AnswersHeader, AreOneFile, IsSameFile, LeavesTarget};
-ghost use Rattle.luks_header_commands.specs.Target.{Pair, pair_of, SettlesTarget};
+ghost use Rattle.luks_commands.specs.Standing.{bar_answer, is_bar_failure, IsBar, IsClear};
+ghost use Rattle.luks_writing.specs.TwoDevices.{CountsEither};
+ghost use Rattle.luks_header_commands.specs.Target.{AnswersHeader, AreOneFile, IsLater, IsOtherTarget};
+ghost use Rattle.luks_header_commands.specs.Target.{IsSameFile, LeavesTarget, Pair, pair_of, SettlesTarget};
 
-use luks_commands::{Answer, InputFault, Inputs, Reason, Refusal, Status, random_bytes, unread};
+use luks_commands::{
+    Answer, Bar, InputFault, Inputs, Reason, Refusal, Status, held_back, judge_standing,
+    random_bytes, unread, uuid_of,
+};
 use luks_reading::Device;
 use luks_request::Place;
 use luks1_trying::Progress;
@@ -79,20 +84,24 @@ pub(crate) trait HeaderWork {
         ensures settled { D.tells → D.failed volume.new ≡ D.failed volume.old
             → D.failed target.new ≡ D.failed target.old → IsSettled D.unsettled target.new }
         ensures kinds { answer_status result ≢ Status.NotInStep }
-        ensures answers { may_answer self.now D.tells random.now (pair_of D.size D.bytes D.failed
-            volume.old volume.new target.old target.new) result };
+        // Also of what had begun before and changed nothing.
+        ensures answers { (before : Pair) → IsLater D.tells (pair_of D.size D.bytes D.failed
+            volume.old volume.new target.old target.new) before
+            → may_answer self.now D.tells random.now before result };
 
     /// A target that is as it was has kept its rest.
     ghost rest_of_same: { (work : Self) (volume target : List ℕ) → keeps_rest work volume target target };
 }
 
 /// Does the work, or answers which of the files is missing: the volume is looked at before the target,
-/// and the random bytes are read last. Nothing is done where the target is the volume itself.
+/// and the random bytes are read last. Nothing is done where the target is the volume itself, nor, unless
+/// it may be, where another volume's header or another use stands there.
 #[tactic(auto, using(luks_commands::proofs::FileFacts::keeps_same, crate::proofs::TargetFacts::leaves_same, crate::proofs::TargetFacts::settles_same))]
 pub(crate) fn make_header<W: HeaderWork, D: Device, R: Read, N: Read, E: Write, G: Progress>(
     alloc: Global,
     inputs: &mut Inputs<D, R, N>,
     files: &HeaderFiles<'_>,
+    over: bool,
     work: &W,
     err: &mut E,
     progress: &mut G,
@@ -111,7 +120,8 @@ pub(crate) fn make_header<W: HeaderWork, D: Device, R: Read, N: Read, E: Write, 
     ensures same { AreOneFile files.now.volume.now files.now.target.now inputs.old.target
         → (inputs.new ≡ inputs.old) × IsSameFile result }
     ensures answers { (AreOneFile files.now.volume.now files.now.target.now inputs.old.target → ⊥)
-        → AnswersHeader D.tells D.size D.bytes D.failed (W.may_answer work.now D.tells)
+        → AnswersHeader D.tells D.size D.bytes D.failed over
+        (W.may_answer work.now D.tells)
         (IsUnreadRandom files.now.needed inputs.old.random)
         (AreFirstBytes files.now.needed N.remaining inputs.old.random)
         inputs.old.volume inputs.new.volume inputs.old.target inputs.new.target result }
@@ -127,11 +137,56 @@ pub(crate) fn make_header<W: HeaderWork, D: Device, R: Read, N: Read, E: Write, 
         Ok(device) => device,
         Err(fault) => return unread(*fault, files.target, err),
     };
+    let before = volume.failures();
+    match judge_target(alloc, volume, target, over) {
+        Ok(()) => {}
+        Err(bar) => return held_back_of(bar, volume.failures() != before, files, err),
+    }
     let random = match random_bytes(alloc, &mut inputs.random, files.needed) {
         Ok(bytes) => bytes,
         Err(fault) => return unread(fault, files.random, err),
     };
     work.run(alloc, volume, target, random.as_slice(), err, progress)
+}
+
+/// What is answered where a command is barred: where a device failed, it is the volume's or the target's.
+fn held_back_of<E: Write>(bar: Bar, is_volume: bool, files: &HeaderFiles<'_>, err: &mut E) -> Answer
+    ensures answer { result ≡ bar_answer bar }
+    ensures kinds { answer_status result ≢ Status.NotInStep }
+    ensures undone { answer_status result ≢ Status.Done }
+{
+    if is_volume {
+        held_back(bar, files.volume, err)
+    } else {
+        held_back(bar, files.target, err)
+    }
+}
+
+/// Refuses where the target has an accepted header with another uuid than the volume's, or another use,
+/// unless it may be written over.
+#[inline(never)]
+fn judge_target<D: Device>(
+    alloc: Global,
+    volume: &mut D,
+    target: &mut D,
+    over: bool,
+) -> Result<(), Bar>
+    requires volume_room { D.failed volume.old + 1 < 2 ^ 64 }
+    requires target_room { D.failed target.old + 1 < 2 ^ 64 }
+    ensures kept { IsUnchanged D.tells D.size D.bytes D.unsettled volume.old volume.new }
+    ensures unchanged { IsUnchanged D.tells D.size D.bytes D.unsettled target.old target.new }
+    ensures count { CountsEither is_bar_failure result (D.failed volume.old)
+        (D.failed volume.new) (D.failed target.old) (D.failed target.new) }
+    ensures barred { IfErr result (IsBar D.tells over
+        (IsOtherTarget (D.bytes volume.old) (D.bytes target.old)) (D.bytes target.old)) }
+    ensures clear { D.tells → OnOk result (IsClear over
+        (IsOtherTarget (D.bytes volume.old) (D.bytes target.old)) (D.bytes target.old)) }
+{
+    if over {
+        return Ok(());
+    }
+    let uuid = uuid_of(alloc, volume)?;
+    judge_standing(alloc, target, uuid, over)
 }
 
 /// Whether the target is the volume itself, by its name or by what was found.

@@ -9,7 +9,8 @@ ghost use Rattle.luks_commands.specs.Files.{AreFirstBytes, IsLong, IsUnread, IsU
 ghost use Rattle.luks_header_commands.specs.Rebuilding.{IsAnswerOf, IsFieldOf, IsGiven, IsInField};
 ghost use Rattle.luks_header_commands.specs.Rebuilding.{IsRebuildAnswer, KeepsMeant, KeepsRest};
 ghost use Rattle.luks_header_commands.specs.Rebuilding.{random_count};
-ghost use Rattle.luks_header_commands.specs.Target.{AreOneFile, IsSameFile, LeavesTarget, pair_of, SettlesTarget};
+ghost use Rattle.luks_header_commands.specs.Target.{AreOneFile, HoldsBackHeader, IsSameFile, LeavesTarget};
+ghost use Rattle.luks_header_commands.specs.Target.{pair_of, SettlesTarget};
 ghost use Rattle.luks_header_commands.specs.Trying.{AnswersRebuild, KeepsRebuilt};
 
 use crate::header_work::{HeaderFiles, HeaderWork, make_header};
@@ -72,6 +73,10 @@ pub fn run<D: Device, R: Read, N: Read, P: Printer, E: Write, G: Progress>(
         (AreFirstBytes random_count N.remaining inputs.old.random)
         inputs.old.volume inputs.new.volume inputs.old.target inputs.new.target)
         (P.failures out.old) (P.failures out.new) (P.printed out.old) (P.printed out.new) result }
+    ensures over { (AreOneFile name.now rebuilding.now.target.now inputs.old.target → ⊥)
+        → Prints (HoldsBackHeader D.tells D.bytes rebuilding.now.over
+        inputs.old.volume inputs.old.target inputs.new.target)
+        (P.failures out.old) (P.failures out.new) (P.printed out.old) (P.printed out.new) result }
 {
     let files = HeaderFiles {
         volume: name,
@@ -121,7 +126,15 @@ fn answer<D: Device, R: Read, N: Read, E: Write, G: Progress>(
                 files,
                 rebuilding: *rebuilding,
             };
-            make_header(alloc, inputs, files, &making, err, progress)
+            make_header(
+                alloc,
+                inputs,
+                files,
+                rebuilding.over,
+                &making,
+                err,
+                progress,
+            )
         }
     }
 }

@@ -67,7 +67,15 @@ pub(crate) fn make_tried<D: Device, R: Read, N: Read, E: Write, G: Progress>(
         rebuilding: *rebuilding,
         passphrase: words.as_slice(),
     };
-    make_header(alloc, inputs, files, &trying, err, progress)
+    make_header(
+        alloc,
+        inputs,
+        files,
+        rebuilding.over,
+        &trying,
+        err,
+        progress,
+    )
 }
 
 /// The making of a LUKS1 header as this asks, by these files and this passphrase.

@@ -14,8 +14,8 @@ A volume is a device, an image, or the detached header of one; with --offset and
 of that changes. The commands check, show, open, find and compare write nothing,
 convert, rebuild and backup only to another file; the others write to the header
 and to the areas of the keyslots that they name, restore to all of them, and
-format over whatever stands there. Only find reads the data, in which a volume
-may stand. explain says what a fault means.
+format to those of a new volume. Only find reads the data, in which a volume may
+stand. explain says what a fault means.
 
 Each command prints its answer on standard output, in the lines that its help
 lists: luks COMMAND --help. What stops it is an answer too: 'refused FAULT',
@@ -395,7 +395,7 @@ Exit status:
   4  device fault, no memory, or the output can't be written";
 
 /// What `format` does, in a line.
-pub const FORMAT: &str = "Makes a LUKS volume over whatever stands there";
+pub const FORMAT: &str = "Makes a LUKS volume";
 
 /// The usage of `format` after `Usage: `, on several lines, since one would have more than 80 columns.
 pub const FORMAT_USAGE: &str = "\
@@ -404,8 +404,11 @@ luks format [OPTIONS] --random <FILE>
 
 /// The help of `format` after its words.
 pub const FORMAT_MORE: &str = "\
-What stood there is overwritten, without a question: of LUKS1 the bytes 0 to 591
-and 4096 to 260095, of LUKS2 the bytes 0 to 288767. No other byte is written.
+Written are of LUKS1 the bytes 0 to 591 and 4096 to 260095, of LUKS2 the bytes 0
+to 288767, and no other. Where a LUKS header that check accepts, if only with
+--detached, or another use of the disk stands there, as a file system or a
+partition table, nothing is written but with --over.
+
 The volume has at least 2097152 bytes, of LUKS2 16777216, and its data begins
 there; with --detached it lies on another device, from its byte 0 on.
 
@@ -435,6 +438,8 @@ Prints one line:
   refused Iterations     there are fewer than 1000
   refused Argon2         it takes more memory than --memory allows
   refused RandomLength   the random file has too few bytes
+  refused OtherVolume    a LUKS header stands there, without --over
+  refused OtherUse(NAME) the disk has another use, without --over
   device fault           a file can't be read, or the volume can't be written;
                          a write that failed leaves any part of it written
   no memory              memory was refused; nothing was written
@@ -460,13 +465,19 @@ byte 32768 of TARGET on; then the second copy of the header, and the first. No
 other byte is. The salts are the first 128 bytes of the random file, and no more
 are read. Give it /dev/urandom.
 
+Where TARGET has a LUKS header with another uuid than SOURCE that check accepts,
+if only with --detached, or another use, as a file system or a partition table,
+nothing is written but with --over.
+
 Prints one line:
   done           the header is made; standard error tells how cryptsetup opens
                  the data by it
   refused FAULT  the first fault, and nothing was written: SameFile (TARGET is
                  SOURCE), what check refuses of SOURCE, NotLuks1 (it is of
                  LUKS2), TooSmall (TARGET is), NoRoom (the new areas end past
-                 16777216) or RandomLength (the random file is too short)
+                 16777216), RandomLength (the random file is too short), and
+                 before these OtherVolume or OtherUse(NAME) (what stands on
+                 TARGET, as above)
   device fault   a file can't be read, SOURCE read, or TARGET read or written
   no memory      memory was refused; nothing was written
 
@@ -510,11 +521,16 @@ then of LUKS2 the second copy of the header, and the first, of LUKS1 the header.
 No other byte is. Salts and a new uuid of LUKS2 are the first 144 bytes of the
 random file, and no more are read. Give it /dev/urandom.
 
+Where TARGET has a LUKS header that check accepts, if only with --detached, and
+no header counts on SOURCE or one with another uuid, or another use, as a file
+system or a partition table, nothing is written but with --over.
+
 Prints one line:
   done           the header is made; standard error tells how cryptsetup opens
                  the data by it
   refused FAULT  the first fault, and nothing was written: SameFile (TARGET is
-                 SOURCE), Counts (a header of SOURCE counts: use it, or luks
+                 SOURCE), OtherVolume or OtherUse(NAME) (what stands on TARGET,
+                 as above), Counts (a header of SOURCE counts: use it, or luks
                  repair), NoMetadata (none is whole), Outside or Overlap (its
                  areas in SOURCE), TooSmall (TARGET is), Uuid (that of --uuid),
                  RandomLength (the random file is too short); of LUKS1

@@ -77,18 +77,22 @@ only read, and no byte of the data changes. Afterwards the passphrases of the
 backup open the volume, and no others: one that was added since is gone, and one
 that was removed comes back. Before that standard error says of how many.
 
-What stands on VOLUME is written over without a question, but the header of
-another volume with --other alone: one that counts, and has another uuid and
-another digest of the volume key. Written are, with a flush after each, the key
-areas, then of LUKS2 the second copy of the header and the first, of LUKS1 the
-header.
+What stands on VOLUME is written over, but the header of another volume with
+--other or --over alone: one that counts, and has another uuid and another digest
+of the volume key. Another use of the disk, as a file system or a partition
+table, is with --over alone, where no header of the same volume counts; and the
+metadata of a reencryption that isn't finished with --over-reencryption alone:
+what was reencrypted already can't be read then. Written are, with a flush after
+each, the key areas, then of LUKS2 the second copy of the header and the first,
+of LUKS1 the header.
 
 Prints one line:
   done           the backup is restored
   refused FAULT  the first fault, and nothing was written: SameFile (FILE is
                  VOLUME), NotAccepted(FAULT) (check --detached refuses FILE by
                  that), DoesNotFit(FAULT) (check would refuse VOLUME by that),
-                 or OtherVolume (as above)
+                 OtherVolume (as above), and before these Reencrypting or
+                 OtherUse(NAME) (what stands on VOLUME, as above)
   device fault   a file can't be read, or VOLUME read or written
   no memory      memory was refused; nothing was written
 

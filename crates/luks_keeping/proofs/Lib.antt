@@ -21,3 +21,4 @@ pub mod OtherFacts
 pub mod SaltFacts
 pub mod CompareFacts
 pub mod ComparisonFacts
+pub mod SameFacts

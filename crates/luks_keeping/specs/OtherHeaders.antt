@@ -13,6 +13,7 @@ use Rattle.luks_keeping.specs.Judged.{IsFaultOn}
 use Rattle.luks_keeping.specs.RestoreFaults.{IsKeptFrom, ReadsTarget}
 use Rattle.luks_keeping.specs.SameVolume.{HasOtherUuid}
 use Rattle.luks_keeping.specs.declared.over.Over.{Over}
+use Rattle.luks_keeping.specs.declared.over.Over.TheVariants.{SameVolume}
 use Rattle.luks_keeping.specs.declared.restore_fault.RestoreFault.{RestoreFault}
 use Rattle.luks_keeping.specs.declared.restore_fault.RestoreFault.TheVariants.{NotAccepted, DoesNotFit, OtherVolume, Memory, Device}
 
@@ -50,3 +51,9 @@ IsUnfit b payload total (NotAccepted f) = ⊥
 IsUnfit b payload total OtherVolume = ⊥
 IsUnfit b payload total Memory = ⊥
 IsUnfit b payload total Device = ⊥
+
+-- it isn't told whether a header of the same volume counts
+abbrev pub IsUntoldSame : List ℕ → List ℕ → RestoreFault → Type 0
+IsUntoldSame b t Memory = ReadsTarget b t SameVolume
+IsUntoldSame b t Device = ⊤
+IsUntoldSame b t f = ⊥

@@ -24,3 +24,14 @@ pub record HasOtherUuid (b t : List ℕ) : Type 0 where
 pub record IsOtherVolume (b t : List ℕ) : Type 0 where
   pub uuid : HasOtherUuid b t
   pub key : SharesDigest b t → ⊥
+
+-- a header counts on the device `t`
+pub record HasAnyHeader (t : List ℕ) : Type 0 where
+  pub choice : Choice
+  pub counts : Chosen t choice
+  pub some : choice ≢ nothing
+
+-- and it is the backup's volume's
+pub record CountsSameVolume (b t : List ℕ) : Type 0 where
+  pub header : HasAnyHeader t
+  pub own : IsOtherVolume b t → ⊥

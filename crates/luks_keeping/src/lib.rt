@@ -36,4 +36,4 @@ pub use laws::{
 pub use over::Over;
 pub use restore_fault::RestoreFault;
 pub use restoring::restore;
-pub use same_volume::is_other_volume;
+pub use same_volume::{counts_same_volume, is_other_volume};

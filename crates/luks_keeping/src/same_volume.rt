@@ -4,7 +4,8 @@ ghost use Rattle.luks_area.specs.Device.{CountsFailure, IsUnchanged};
 ghost use Rattle.luks_reading.specs.Header.{IsAcceptedHeader, IsHeader};
 ghost use Rattle.luks_keeping.specs.OtherHeaders.{IsOtherAnswer, TellsOther, read_uuid, selected_uuid};
 ghost use Rattle.luks_keeping.specs.RestoreFaults.{IsKeptFrom, is_restore_failure};
-ghost use Rattle.luks_keeping.specs.SameVolume.{IsOtherVolume};
+ghost use Rattle.luks_keeping.specs.OtherHeaders.{IsUntoldSame};
+ghost use Rattle.luks_keeping.specs.SameVolume.{CountsSameVolume, HasAnyHeader, IsOtherVolume};
 
 use crate::over::Over;
 use crate::restore_fault::RestoreFault;
@@ -27,6 +28,58 @@ pub fn is_other_volume(backup: &Header, volume: &Header) -> bool
         → (IsTrue result ↔ IsOtherVolume b t) }
 {
     !has_read_uuid(backup, volume) && !shares_digest(backup, volume)
+}
+
+/// Whether a header counts on the device that is of the backup's volume: with the uuid of its header, as
+/// `accepted_header` answers it, or with a digest of its volume key.
+///
+/// Takes memory for the metadata of the device's header, where its uuid is another.
+pub fn counts_same_volume<T: Device>(
+    alloc: Global,
+    backup: &Header,
+    device: &mut T,
+) -> Result<bool, RestoreFault>
+    requires accepted { IsAcceptedHeader backup.now }
+    requires room { T.failed device.old + 1 < 2 ^ 64 }
+    ensures unchanged { IsUnchanged T.tells T.size T.bytes T.unsettled device.old device.new }
+    ensures count { CountsFailure is_restore_failure result
+        (T.failed device.old) (T.failed device.new) }
+    ensures counts { T.tells → (b : List ℕ) → IsHeader b backup.now
+        → IfOk result (λ counts. IsTrue counts ↔ CountsSameVolume b (T.bytes device.old)) }
+    ensures fault { T.tells → (b : List ℕ) → IsHeader b backup.now
+        → IfErr result (IsUntoldSame b (T.bytes device.old)) }
+{
+    if !has_header(alloc, device)? {
+        return Ok(false);
+    }
+    match judge_other(alloc, backup, device, Over::SameVolume) {
+        Ok(()) => Ok(true),
+        Err(fault) => match fault {
+            RestoreFault::Device => Err(RestoreFault::Device),
+            RestoreFault::Memory => Err(RestoreFault::Memory),
+            RestoreFault::OtherVolume => Ok(false),
+            RestoreFault::NotAccepted(_) => Ok(false),
+            RestoreFault::DoesNotFit(_) => Ok(false),
+        },
+    }
+}
+
+/// Whether a header counts on the device.
+fn has_header<T: Device>(alloc: Global, device: &mut T) -> Result<bool, RestoreFault>
+    requires { T.failed device.old + 1 < 2 ^ 64 }
+    ensures unchanged { IsUnchanged T.tells T.size T.bytes T.unsettled device.old device.new }
+    ensures count { CountsFailure is_restore_failure result
+        (T.failed device.old) (T.failed device.new) }
+    ensures has { T.tells → IfOk result (λ has. IsTrue has ↔ HasAnyHeader (T.bytes device.old)) }
+    ensures device { IfErr result (λ f. f ≡ RestoreFault.Device) }
+{
+    match select(alloc, device) {
+        Ok(_) => Ok(true),
+        Err(fault) => match ReadFault::from(fault) {
+            ReadFault::Device => Err(RestoreFault::Device),
+            ReadFault::Head(_) | ReadFault::Meta(_) | ReadFault::Memory => Ok(false),
+        },
+    }
 }
 
 /// Whether the two headers have one uuid.

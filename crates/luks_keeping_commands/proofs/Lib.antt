@@ -1,2 +1,3 @@
 pub mod BackupFacts
 pub mod RestoreFacts
+pub mod ReencryptionFacts

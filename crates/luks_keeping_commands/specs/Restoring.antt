@@ -1,14 +1,17 @@
 -- What the command `restore` leaves of its volume, and what it may answer.
-use Rattle.std.specs.Prelude.{◌≡◌, ◌↔◌, ℕ, List, None, Result, Ok, Err, Bool, true, false, length}
+use Rattle.std.specs.Prelude.{◌≡◌, ◌↔◌, ◌⊎◌, ℕ, List, None, Result, Ok, Err, Bool, true, false, length, ⊤}
 use Rattle.luks_area.specs.Ranges.{part, SameBut}
 use Rattle.luks_area.specs.declared.area.Area.{Area}
-use Rattle.luks_writing.specs.TwoDevices.{IsOneFailure}
+use Rattle.luks_writing.specs.TwoDevices.{CountsAfter, IsOneFailure}
 use Rattle.luks_head.specs.Selection.{Choice, Chosen}
 use Rattle.luks_slot.specs.declared.allowed.Allowed.{Allowed}
 use Rattle.luks_reading.specs.Answer.{AnswerWithin, Opened}
 use Rattle.luks_reading.specs.Checked.{WellFormed}
+use Rattle.luks_reading.specs.Header.{NeedsMetadata}
 use Rattle.luks_reading.specs.declared.report.Data.{Data}
-use Rattle.luks_keeping.specs.RestoreFaults.{CanRestore, IsAnsweredRestore}
+use Rattle.luks_reading.specs.declared.report.Data.TheVariants.{Elsewhere}
+use Rattle.luks_keeping.specs.RestoreFaults.{CanRestore, IsAnsweredRestore, ReadsTarget}
+use Rattle.luks_keeping.specs.SameVolume.{CountsSameVolume}
 use Rattle.luks_keeping.specs.Restored.{IsOfRestored, IsRestored, IsSegmentOn, RestoresInTurn}
 use Rattle.luks_keeping.specs.declared.over.Over.{Over}
 use Rattle.luks_keeping.specs.declared.over.Over.TheVariants.{AnyVolume, SameVolume}
@@ -19,14 +22,24 @@ use Rattle.luks_request.specs.declared.request.Command.TheVariants as command
 use Rattle.luks_commands.specs.declared.answers.Answer.{Answer}
 use Rattle.luks_commands.specs.declared.answers.Answer.TheVariants.{Done, Refused, DeviceFault, NoMemory}
 use Rattle.luks_commands.specs.declared.answers.Refusal.TheVariants.{Restore}
+use Rattle.luks_commands.specs.declared.answers.Refusal.TheVariants as refusal
+use Rattle.luks_commands.specs.declared.standing.Bar.{Bar}
+use Rattle.luks_commands.specs.declared.standing.Bar.TheVariants as bar
+use Rattle.luks_commands.specs.Standing.{HasUse, IsHeldBack}
+use Rattle.luks_signatures.specs.declared.other_use.OtherUse.{OtherUse as Use}
 use Rattle.luks_commands.specs.declared.inputs.InputFault.{InputFault}
 use Rattle.luks_commands.specs.Answer.{unread_answer}
+use Rattle.luks_keeping_commands.specs.Reencrypting.{IsReencrypting, IsUnaskedMetadata}
 use Rattle.luks_keeping_commands.specs.TwoFiles.{pair_of, NoneFailed, Pair}
 
--- what `--other` allows
-abbrev pub over_of : Bool → Over
-over_of true = AnyVolume
-over_of false = SameVolume
+-- what `--other` and `--over` allow
+abbrev pub over_by : Bool → Bool → Over
+over_by true over = AnyVolume
+over_by false true = AnyVolume
+over_by false false = SameVolume
+
+abbrev pub over_of : Restoring → Over
+over_of restoring = over_by restoring.other restoring.over
 
 -- ---- what becomes of the volume
 
@@ -61,15 +74,67 @@ IsRestoreAnswer tells payload over d NoMemory = NoneFailed d × (tells → d.new
     × (tells → IsAnsweredRestore d.source d.old payload over fault.Memory)
 IsRestoreAnswer tells payload over d a = ⊥
 
+-- ---- what is asked before
+
+-- what bars putting the backup `b` onto the disk `t`: a reencryption, which `--over-reencryption` alone allows to write over; or
+-- another use, where no header of the backup's volume counts. Memory is taken for the metadata of both.
+abbrev pub IsRestoreBar : Type 0 → Restoring → List ℕ → List ℕ → Bar → Type 0
+IsRestoreBar tells restoring b t (bar.OtherUse found) =
+    (restoring.over ≡ false) × (tells → HasUse t found × WellFormed b Elsewhere × (CountsSameVolume b t → ⊥)
+    × (restoring.over_reencryption ≡ false → IsReencrypting t → ⊥))
+IsRestoreBar tells restoring b t bar.OtherVolume = ⊥
+IsRestoreBar tells restoring b t bar.Reencrypting = (restoring.over_reencryption ≡ false) × (tells → IsReencrypting t)
+IsRestoreBar tells restoring b t bar.Memory = tells → IsUnaskedMetadata t ⊎ (NeedsMetadata b ⊎ ReadsTarget b t SameVolume)
+IsRestoreBar tells restoring b t bar.Device = ⊤
+
+-- nothing does
+pub record IsRestoreClear (restoring : Restoring) (b t : List ℕ) : Type 0 where
+  pub reencryption : restoring.over_reencryption ≡ false → IsReencrypting t → ⊥
+  pub use_of : restoring.over ≡ false → WellFormed b Elsewhere → (CountsSameVolume b t → ⊥) → (found : Use) → HasUse t found → ⊥
+
+-- where both files are there: the command is barred before its first write, or nothing bars it and this is answered
+abbrev pub AnswersBoth : Type 0 → Restoring → Pair → Answer → Type 0
+AnswersBoth tells restoring d a =
+    IsHeldBack tells (IsRestoreBar tells restoring d.source d.old) (λ is_failure. CountsAfter is_failure d.source_before d.source_after d.before d.after) d.old d.new a
+    ⊎ ((tells → IsRestoreClear restoring d.source d.old) × IsRestoreAnswer tells restoring.data_ (over_of restoring) d a)
+
 -- of the volume and the backup before the command and after it, where they aren't one file: the volume is
 -- opened first
-abbrev pub AnswersRestore : {D : Type 0} → Type 0 → (D → ℕ) → (D → List ℕ) → (D → ℕ) → Data → Over
+abbrev pub AnswersRestore : {D : Type 0} → Type 0 → (D → ℕ) → (D → List ℕ) → (D → ℕ) → Restoring
     → Result D InputFault → Result D InputFault → Result D InputFault → Result D InputFault → Answer → Type 0
-AnswersRestore {D} tells size bytes failed payload over (Ok old) (Ok new) (Ok backup) (Ok backup_new) a =
-    IsRestoreAnswer tells payload over (pair_of size bytes failed backup backup_new old new) a
-AnswersRestore {D} tells size bytes failed payload over (Ok old) new (Err missed) backup_new a = a ≡ unread_answer missed
-AnswersRestore {D} tells size bytes failed payload over (Err missed) new backup backup_new a = a ≡ unread_answer missed
-AnswersRestore {D} tells size bytes failed payload over old new backup backup_new a = ⊥
+AnswersRestore {D} tells size bytes failed restoring (Ok old) (Ok new) (Ok backup) (Ok backup_new) a =
+    AnswersBoth tells restoring (pair_of size bytes failed backup backup_new old new) a
+AnswersRestore {D} tells size bytes failed restoring (Ok old) new (Err missed) backup_new a = a ≡ unread_answer missed
+AnswersRestore {D} tells size bytes failed restoring (Err missed) new backup backup_new a = a ≡ unread_answer missed
+AnswersRestore {D} tells size bytes failed restoring old new backup backup_new a = ⊥
+
+-- ---- a volume that isn't to be written over
+
+-- what is answered in the midst of a reencryption: that, unless a call fails or memory is refused
+abbrev pub IsReencryptingAnswer : Answer → Type 0
+IsReencryptingAnswer (Refused refusal.Reencrypting) = ⊤
+IsReencryptingAnswer DeviceFault = ⊤
+IsReencryptingAnswer NoMemory = ⊤
+IsReencryptingAnswer a = ⊥
+
+-- and where another use stands there
+abbrev pub IsUsedAnswer : List ℕ → Answer → Type 0
+IsUsedAnswer t (Refused (refusal.OtherUse found)) = HasUse t found
+IsUsedAnswer t (Refused refusal.Reencrypting) = IsReencrypting t
+IsUsedAnswer t DeviceFault = ⊤
+IsUsedAnswer t NoMemory = ⊤
+IsUsedAnswer t a = ⊥
+
+-- No byte of the volume `t`, that was left as `w`, changes in the midst of a reencryption, though `--other` or `--over` is given;
+-- and none where another use stands there and no header of the volume of an accepted backup `b` counts.
+pub record HoldsVolume (restoring : Restoring) (b t w : List ℕ) (a : Answer) : Type 0 where
+  pub reencryption : restoring.over_reencryption ≡ false → IsReencrypting t → (w ≡ t) × IsReencryptingAnswer a
+  pub use_of : restoring.over ≡ false → WellFormed b Elsewhere → (CountsSameVolume b t → ⊥) → (found : Use) → HasUse t found → (w ≡ t) × IsUsedAnswer t a
+
+-- the same of files that are there and tell their bytes
+abbrev pub HoldsBackRestore : {D : Type 0} → Type 0 → (D → List ℕ) → Restoring → Result D InputFault → Result D InputFault → Result D InputFault → Answer → Type 0
+HoldsBackRestore {D} tells bytes restoring (Ok old) (Ok new) (Ok backup) a = tells → HoldsVolume restoring (bytes backup) (bytes old) (bytes new) a
+HoldsBackRestore {D} tells bytes restoring old new backup a = ⊤
 
 -- what holds of the command where it is `restore`
 abbrev pub WhereRestore : Command → (Restoring → Type 0) → Type 0
@@ -80,3 +145,34 @@ WhereRestore _ holds = Unit {0}
 abbrev pub UnlessRestore : Command → Type 0 → Type 0
 UnlessRestore (command.Restore restoring) holds = Unit {0}
 UnlessRestore _ holds = holds
+
+-- ---- words of private contracts
+
+-- whether another use of the disk `t` may be written over by the backup `b`: it isn't accepted, so that nothing is written, or a header
+-- of its volume counts
+abbrev pub IsSpared : List ℕ → List ℕ → Bool → Type 0
+IsSpared b t true = WellFormed b Elsewhere → CountsSameVolume b t
+IsSpared b t false = WellFormed b Elsewhere × (CountsSameVolume b t → ⊥)
+
+-- why that isn't told
+abbrev pub IsUnspared : Type 0 → List ℕ → List ℕ → Bar → Type 0
+IsUnspared tells b t bar.Memory = tells → NeedsMetadata b ⊎ ReadsTarget b t SameVolume
+IsUnspared tells b t bar.Device = ⊤
+IsUnspared tells b t other = ⊥
+
+-- what bars the command by another use alone
+abbrev pub IsUseBar : Type 0 → Bool → List ℕ → List ℕ → Bar → Type 0
+IsUseBar tells over b t (bar.OtherUse found) = (over ≡ false) × (tells → HasUse t found × WellFormed b Elsewhere × (CountsSameVolume b t → ⊥))
+IsUseBar tells over b t bar.Memory = tells → NeedsMetadata b ⊎ ReadsTarget b t SameVolume
+IsUseBar tells over b t bar.Device = ⊤
+IsUseBar tells over b t other = ⊥
+
+abbrev pub IsUseClear : Bool → List ℕ → List ℕ → Type 0
+IsUseClear over b t = over ≡ false → WellFormed b Elsewhere → (CountsSameVolume b t → ⊥) → (found : Use) → HasUse t found → ⊥
+
+-- and by a reencryption alone
+abbrev pub IsReencryptionBar : Type 0 → Bool → List ℕ → Bar → Type 0
+IsReencryptionBar tells may t bar.Reencrypting = (may ≡ false) × (tells → IsReencrypting t)
+IsReencryptionBar tells may t bar.Memory = tells → IsUnaskedMetadata t
+IsReencryptionBar tells may t bar.Device = ⊤
+IsReencryptionBar tells may t other = ⊥

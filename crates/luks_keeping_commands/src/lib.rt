@@ -6,4 +6,6 @@ pub mod backup;
 pub mod compare;
 mod keyslots_note;
 mod one_file;
+mod reencrypting;
 pub mod restore;
+mod volume_use;

@@ -6,12 +6,16 @@ ghost use Rattle.luks_commands.specs.Answer.{answer_status, restore_fault_answer
 ghost use Rattle.luks_commands.specs.Exit.{IsExitStatus};
 ghost use Rattle.luks_commands.specs.Files.{KeepsVolume};
 ghost use Rattle.luks_header_commands.specs.Target.{AreOneFile, IsSameFile, LeavesTarget, SettlesTarget};
-ghost use Rattle.luks_keeping_commands.specs.Restoring.{AnswersRestore, IsRestoreAnswer, KeepsRest, over_of};
+ghost use Rattle.luks_keeping_commands.specs.Restoring.{AnswersBoth, AnswersRestore, HoldsBackRestore};
+ghost use Rattle.luks_keeping_commands.specs.Restoring.{IsRestoreAnswer, KeepsRest, over_of};
 ghost use Rattle.luks_keeping_commands.specs.TwoFiles.{pair_of};
 
 use crate::keyslots_note::note_keyslots;
 use crate::one_file::are_one_file;
-use luks_commands::{Answer, Inputs, Printer, Refusal, Status, device_fault, end, unread};
+use crate::volume_use::judge_volume;
+use luks_commands::{
+    Answer, Inputs, Printer, Refusal, Status, device_fault, end, held_back, unread,
+};
 use luks_keeping::{Over, RestoreFault, restore};
 use luks_reading::Device;
 use luks_request::Restoring;
@@ -19,8 +23,9 @@ use std::alloc::Global;
 use std::io::{Read, Write};
 
 /// Puts the header and the key areas of the backup, which `inputs.target` is, onto the volume of this
-/// name, and prints that it is done; answers the exit status. Before the first write standard error
-/// says by how many keyslots the two differ.
+/// name, and prints that it is done; answers the exit status. Before all else a reencryption of the volume
+/// is asked for, and another use of its disk; before the first write standard error says by how many
+/// keyslots the two differ.
 ///
 /// It isn't inlined, so that it takes no stack where another command runs.
 #[inline(never)]
@@ -49,9 +54,12 @@ pub fn run<D: Device, R: Read, N: Read, P: Printer, E: Write>(
         → (inputs.new ≡ inputs.old) × Prints IsSameFile
         (P.failures out.old) (P.failures out.new) (P.printed out.old) (P.printed out.new) result }
     ensures answers { (AreOneFile name.now restoring.now.backup.now inputs.old.target → ⊥)
-        → Prints (AnswersRestore D.tells D.size D.bytes D.failed
-        restoring.now.data_ (over_of restoring.now.other)
+        → Prints (AnswersRestore D.tells D.size D.bytes D.failed restoring.now
         inputs.old.volume inputs.new.volume inputs.old.target inputs.new.target)
+        (P.failures out.old) (P.failures out.new) (P.printed out.old) (P.printed out.new) result }
+    ensures over { (AreOneFile name.now restoring.now.backup.now inputs.old.target → ⊥)
+        → Prints (HoldsBackRestore D.tells D.bytes restoring.now
+        inputs.old.volume inputs.new.volume inputs.old.target)
         (P.failures out.old) (P.failures out.new) (P.printed out.old) (P.printed out.new) result }
 {
     let answer = answer(alloc, inputs, name, restoring, err);
@@ -81,8 +89,7 @@ fn answer<D: Device, R: Read, N: Read, E: Write>(
     ensures same { AreOneFile name.now restoring.now.backup.now inputs.old.target
         → (inputs.new ≡ inputs.old) × IsSameFile result }
     ensures answers { (AreOneFile name.now restoring.now.backup.now inputs.old.target → ⊥)
-        → AnswersRestore D.tells D.size D.bytes D.failed
-        restoring.now.data_ (over_of restoring.now.other)
+        → AnswersRestore D.tells D.size D.bytes D.failed restoring.now
         inputs.old.volume inputs.new.volume inputs.old.target inputs.new.target result }
 {
     if are_one_file(name, restoring.backup, &inputs.target) {
@@ -93,8 +100,38 @@ fn answer<D: Device, R: Read, N: Read, E: Write>(
         Err(fault) => return unread(*fault, name, err),
     };
     match &mut inputs.target {
-        Ok(backup) => put_back(alloc, backup, volume, name, restoring, err),
+        Ok(backup) => put_unless(alloc, backup, volume, name, restoring, err),
         Err(fault) => unread(*fault, restoring.backup, err),
+    }
+}
+
+/// Puts the backup back, unless what stands on the volume isn't to be written over.
+fn put_unless<D: Device, E: Write>(
+    alloc: Global,
+    backup: &mut D,
+    volume: &mut D,
+    name: &str,
+    restoring: &Restoring<'_>,
+    err: &mut E,
+) -> Answer
+    requires backup_room { D.failed backup.old + 1 < 2 ^ 64 }
+    requires volume_room { D.failed volume.old + 1 < 2 ^ 64 }
+    requires settled { D.tells → IsSettled D.unsettled volume.old }
+    ensures unchanged { IsUnchanged D.tells D.size D.bytes D.unsettled backup.old backup.new }
+    ensures size { D.size volume.new ≡ D.size volume.old }
+    ensures rest { D.tells → KeepsRest restoring.now.data_ (D.bytes backup.old)
+        (D.bytes volume.old) (D.bytes volume.new) }
+    ensures settled { D.tells → D.failed backup.new ≡ D.failed backup.old
+        → D.failed volume.new ≡ D.failed volume.old → IsSettled D.unsettled volume.new }
+    ensures kinds { answer_status result ≢ Status.NotInStep }
+    ensures answers { AnswersBoth D.tells restoring.now
+        (pair_of D.size D.bytes D.failed backup.old backup.new volume.old volume.new) result }
+{
+    let before = backup.failures();
+    match judge_volume(alloc, backup, volume, restoring) {
+        Ok(()) => put_back(alloc, backup, volume, name, restoring, err),
+        Err(bar) if backup.failures() != before => held_back(bar, restoring.backup, err),
+        Err(bar) => held_back(bar, name, err),
     }
 }
 
@@ -117,7 +154,7 @@ fn put_back<D: Device, E: Write>(
     ensures settled { D.tells → D.failed backup.new ≡ D.failed backup.old
         → D.failed volume.new ≡ D.failed volume.old → IsSettled D.unsettled volume.new }
     ensures kinds { answer_status result ≢ Status.NotInStep }
-    ensures answers { IsRestoreAnswer D.tells restoring.now.data_ (over_of restoring.now.other)
+    ensures answers { IsRestoreAnswer D.tells restoring.now.data_ (over_of restoring.now)
         (pair_of D.size D.bytes D.failed backup.old backup.new volume.old volume.new) result }
 {
     let before = backup.failures();
@@ -149,11 +186,11 @@ fn put_over<D: Device, E: Write>(
     ensures settled { D.tells → D.failed backup.new ≡ D.failed backup.old
         → D.failed volume.new ≡ D.failed volume.old → IsSettled D.unsettled volume.new }
     ensures kinds { answer_status result ≢ Status.NotInStep }
-    ensures answers { IsRestoreAnswer D.tells restoring.now.data_ (over_of restoring.now.other)
+    ensures answers { IsRestoreAnswer D.tells restoring.now.data_ (over_of restoring.now)
         (pair_of D.size D.bytes D.failed backup.old backup.new volume.old volume.new) result }
 {
     let before = backup.failures();
-    let over = over_of(restoring.other);
+    let over = over_of(restoring);
     match restore(alloc, backup, volume, restoring.data_, over) {
         Ok(()) => Answer::Done(None),
         Err(fault) if backup.failures() != before => not_restored(
@@ -171,14 +208,13 @@ fn put_over<D: Device, E: Write>(
     }
 }
 
-/// What may be written over, where another volume may be.
-fn over_of(other: bool) -> Over
-    ensures { result ≡ over_of other }
+/// What of LUKS may be written over.
+fn over_of(restoring: &Restoring<'_>) -> Over
+    ensures { result ≡ over_of restoring.now }
 {
-    if other {
-        Over::AnyVolume
-    } else {
-        Over::SameVolume
+    match (restoring.other, restoring.over) {
+        (true, _) | (false, true) => Over::AnyVolume,
+        (false, false) => Over::SameVolume,
     }
 }
 

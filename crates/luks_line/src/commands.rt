@@ -209,6 +209,7 @@ static COMMANDS: [Described; 16] = [
             LongOption::Lanes,
             LongOption::IterTime,
             LongOption::Memory,
+            LongOption::OverAny,
             LongOption::Detached,
             LongOption::Offset,
             LongOption::Length,
@@ -223,6 +224,7 @@ static COMMANDS: [Described; 16] = [
         operands: &[Operand::Source, Operand::Target],
         options: &[
             LongOption::NeededRandom,
+            LongOption::OverAny,
             LongOption::DetachedSource,
             LongOption::Offset,
             LongOption::Length,
@@ -246,6 +248,7 @@ static COMMANDS: [Described; 16] = [
             LongOption::TriedPassphrase,
             LongOption::TriedPassphraseLine,
             LongOption::Uuid,
+            LongOption::OverAny,
             LongOption::Offset,
             LongOption::Length,
             LongOption::Quiet,
@@ -281,6 +284,8 @@ static COMMANDS: [Described; 16] = [
         operands: &[Operand::Backup, Operand::Volume],
         options: &[
             LongOption::Other,
+            LongOption::OverAny,
+            LongOption::OverReencryption,
             LongOption::Detached,
             LongOption::Offset,
             LongOption::Length,

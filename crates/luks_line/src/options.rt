@@ -49,6 +49,8 @@ pub(crate) enum LongOption {
     Lanes,
     ChosenKdf,
     IterTime,
+    OverAny,
+    OverReencryption,
 }
 
 impl LongOption {
@@ -66,7 +68,7 @@ pub(crate) struct OptionRow {
 }
 
 /// In the order of `LongOption`.
-static OPTIONS: [OptionRow; 43] = [
+static OPTIONS: [OptionRow; 45] = [
     OptionRow {
         name: "detached",
         needed: false,
@@ -324,5 +326,17 @@ static OPTIONS: [OptionRow; 43] = [
         needed: false,
         help: "Choose costs that take so many milliseconds",
         takes: Takes::Milliseconds,
+    },
+    OptionRow {
+        name: "over",
+        needed: false,
+        help: "Write over another volume or another use of it",
+        takes: Takes::Nothing,
+    },
+    OptionRow {
+        name: "over-reencryption",
+        needed: false,
+        help: "Write over a reencryption that isn't finished",
+        takes: Takes::Nothing,
     },
 ];

@@ -161,6 +161,7 @@ fn formatting_of<'a>(given: &ArgMatches<'a>) -> Option<Command<'a>> {
         kdf: argon2_of(given)?,
         memory: given.get_one::<u32>("memory")?,
         data_: data_of(given),
+        over: given.get_flag("over"),
     }))
 }
 
@@ -176,6 +177,7 @@ fn converting_of<'a>(given: &ArgMatches<'a>) -> Option<Command<'a>> {
         target: given.get_str("TARGET")?,
         random: given.get_str("random")?,
         data_: data_of(given),
+        over: given.get_flag("over"),
     }))
 }
 
@@ -188,6 +190,7 @@ fn rebuilding_of<'a>(given: &ArgMatches<'a>) -> Option<Command<'a>> {
         size: given.get_one::<u64>("size"),
         uuid: given.get_str("uuid"),
         luks1: fields_of(given),
+        over: given.get_flag("over"),
     }))
 }
 
@@ -204,6 +207,8 @@ fn restoring_of<'a>(given: &ArgMatches<'a>) -> Option<Command<'a>> {
         backup: given.get_str("FILE")?,
         data_: data_of(given),
         other: given.get_flag("other"),
+        over: given.get_flag("over"),
+        over_reencryption: given.get_flag("over-reencryption"),
     }))
 }
 

@@ -28,7 +28,7 @@ use Rattle.luks_header_commands.specs.Rebuilding.{WhereRebuild}
 use Rattle.luks_header_commands.specs.Target.{AreOneFile, IsSameFile}
 use Rattle.luks_keeping_commands.specs.BackingUp.{AnswersBackup, WhereBackup}
 use Rattle.luks_keeping_commands.specs.Comparing.{AnswersCompare, WhereCompare}
-use Rattle.luks_keeping_commands.specs.Restoring.{AnswersRestore, over_of, WhereRestore}
+use Rattle.luks_keeping_commands.specs.Restoring.{AnswersRestore, WhereRestore}
 use Rattle.luks_edit_commands.specs.Editing.{WhereEdit}
 use Rattle.luks_main.specs.declared.outcome.Outcome.{Outcome}
 use Rattle.luks_main.specs.Outcomes.{EndsAsObject, IsOf, IsOutcome, IsToldAsObject, IsUntold, told, refused, failed}
@@ -76,7 +76,7 @@ pub commands_print : {D : Type 0} (tells : Type 0) (size : D → ℕ) (bytes : D
     → WhereFormat c (λ making. Prints (Formats making) before after held holds n)
     → WhereConvert c (λ converting. AreOneFile name converting.target.now target → X × Prints IsSameFile before after held holds n)
     → WhereConvert c (λ converting. (AreOneFile name converting.target.now target → ⊥)
-    → Prints (AnswersConvert tells size bytes failures converting.data_ unread HasRandom volume volume_new target target_new) before after held holds n)
+    → Prints (AnswersConvert tells size bytes failures converting unread HasRandom volume volume_new target target_new) before after held holds n)
     → WhereRebuild c (λ rebuilding. AreOneFile name rebuilding.target.now target → Y × Prints IsSameFile before after held holds n)
     → WhereRebuild c (λ rebuilding. (AreOneFile name rebuilding.target.now target → ⊥) → Prints (Rebuilds rebuilding) before after held holds n)
     → WhereBackup c (λ backing_up. AreOneFile name backing_up.target.now target → Z × Prints IsSameFile before after held holds n)
@@ -84,7 +84,7 @@ pub commands_print : {D : Type 0} (tells : Type 0) (size : D → ℕ) (bytes : D
     → Prints (AnswersBackup tells size bytes failures backing_up.data_ volume volume_new target target_new) before after held holds n)
     → WhereRestore c (λ restoring. AreOneFile name restoring.backup.now target → V × Prints IsSameFile before after held holds n)
     → WhereRestore c (λ restoring. (AreOneFile name restoring.backup.now target → ⊥)
-    → Prints (AnswersRestore tells size bytes failures restoring.data_ (over_of restoring.other) volume volume_new target target_new) before after held holds n)
+    → Prints (AnswersRestore tells size bytes failures restoring volume volume_new target target_new) before after held holds n)
     → WhereCompare c (λ comparing. AreOneFile name comparing.backup.now target → W × Prints IsSameFile before after held holds n)
     → WhereCompare c (λ comparing. (AreOneFile name comparing.backup.now target → ⊥)
     → Prints (AnswersCompare tells size bytes failures comparing.data_ volume volume_new target target_new) before after held holds n)
@@ -102,7 +102,7 @@ commands_print tells size bytes failures volume volume_new target target_new unr
 commands_print tells size bytes failures volume volume_new target target_new unread HasRandom X Y Z V W (command.Convert converting) name before after held holds n Checks of_check Shows of_show Opens of_open Edits of_edit Formats of_format Rebuilds of_rebuild check show open_ edit format same_c convert same_r rebuild same_b back same_s restore same_m compare =
     by_one_file (one_file name converting.target.now target)
     (λ one. prints_as IsSameFile (λ a. EndsConvert a (own a)) converted_same_file_ends before after held holds n (same_c one).1)
-    (λ two. prints_as (AnswersConvert tells size bytes failures converting.data_ unread HasRandom volume volume_new target target_new) (λ a. EndsConvert a (own a)) (convert_ends tells size bytes failures converting.data_ unread HasRandom volume volume_new target target_new) before after held holds n (convert two))
+    (λ two. prints_as (AnswersConvert tells size bytes failures converting unread HasRandom volume volume_new target target_new) (λ a. EndsConvert a (own a)) (convert_ends tells size bytes failures converting unread HasRandom volume volume_new target target_new) before after held holds n (convert two))
 commands_print tells size bytes failures volume volume_new target target_new unread HasRandom X Y Z V W (command.Rebuild rebuilding) name before after held holds n Checks of_check Shows of_show Opens of_open Edits of_edit Formats of_format Rebuilds of_rebuild check show open_ edit format same_c convert same_r rebuild same_b back same_s restore same_m compare =
     by_one_file (one_file name rebuilding.target.now target)
     (λ one. prints_as IsSameFile (λ a. EndsRebuild rebuilding.passphrase a (own a)) (rebuilt_same_file_ends rebuilding.passphrase) before after held holds n (same_r one).1)
@@ -114,7 +114,7 @@ commands_print tells size bytes failures volume volume_new target target_new unr
 commands_print tells size bytes failures volume volume_new target target_new unread HasRandom X Y Z V W (command.Restore restoring) name before after held holds n Checks of_check Shows of_show Opens of_open Edits of_edit Formats of_format Rebuilds of_rebuild check show open_ edit format same_c convert same_r rebuild same_b back same_s restore same_m compare =
     by_one_file (one_file name restoring.backup.now target)
     (λ one. prints_as IsSameFile (λ a. EndsRestore a (own a)) restore_same_file_ends before after held holds n (same_s one).1)
-    (λ two. prints_as (AnswersRestore tells size bytes failures restoring.data_ (over_of restoring.other) volume volume_new target target_new) (λ a. EndsRestore a (own a)) (restore_ends tells size bytes failures restoring.data_ (over_of restoring.other) volume volume_new target target_new) before after held holds n (restore two))
+    (λ two. prints_as (AnswersRestore tells size bytes failures restoring volume volume_new target target_new) (λ a. EndsRestore a (own a)) (restore_ends tells size bytes failures restoring volume volume_new target target_new) before after held holds n (restore two))
 commands_print tells size bytes failures volume volume_new target target_new unread HasRandom X Y Z V W (command.Compare comparing) name before after held holds n Checks of_check Shows of_show Opens of_open Edits of_edit Formats of_format Rebuilds of_rebuild check show open_ edit format same_c convert same_r rebuild same_b back same_s restore same_m compare =
     by_one_file (one_file name comparing.backup.now target)
     (λ one. prints_as IsSameFile (λ a. EndsCompare a (own a)) compare_same_file_ends before after held holds n (same_m one).1)

@@ -1,11 +1,13 @@
 -- Each command's answers end with the statuses of the table.
-use Rattle.std.proofs.Common.{◌≡◌, ℕ, List, Bool, true, false, Option, Some, None, Result, Ok, Err, refl, sym, ap, subst, inl, inr}
+use Rattle.std.proofs.Common.{◌≡◌, ◌⊎◌, ℕ, List, Bool, true, false, Option, Some, None, Result, Ok, Err, refl, sym, ap, subst, inl, inr}
 use Rattle.luks_reading.specs.declared.report.Data.{Data}
 use Rattle.luks_reading.specs.declared.report.Version.TheVariants.{Luks1, Luks2}
 use Rattle.luks_head.specs.declared.selection.Copies.TheVariants.{InStep, FirstNewer, SecondNewer, FirstOnly, SecondOnly}
 use Rattle.luks_request.specs.declared.request.Command.{Command}
 use Rattle.luks_request.specs.declared.request.Command.TheVariants as command
+use Rattle.luks_request.specs.declared.request.Converting.{Converting}
 use Rattle.luks_request.specs.declared.request.Making.{Making}
+use Rattle.luks_request.specs.declared.keeping.Restoring.{Restoring}
 use Rattle.luks1_mending.specs.declared.given.Given.{Given as GivenFields}
 use Rattle.luks_request.specs.Meant.{meant_by}
 use Rattle.luks_request.specs.declared.rebuilding.Meant.{Meant}
@@ -21,6 +23,10 @@ use Rattle.luks_commands.specs.declared.inputs.InputFault.TheVariants.{Absent, U
 use Rattle.luks_commands.specs.declared.inputs.Reason.TheVariants as reason
 use Rattle.luks_commands.specs.Answer.{answer_status, current_status, IsWordless, Prints, unread_answer}
 use Rattle.luks_commands.specs.Exit.{exit_status}
+use Rattle.luks_commands.specs.Standing.{bar_answer, HasOther, IsBar}
+use Rattle.luks_commands.specs.declared.standing.Bar.{Bar}
+use Rattle.luks_commands.specs.declared.standing.Bar.TheVariants as bar
+use Rattle.luks_signatures.specs.declared.other_use.OtherUse.{OtherUse as Use}
 use Rattle.luks_commands.specs.CheckAnswers.{AnswersCheck, IsCheckAnswer}
 use Rattle.luks_slot.specs.declared.allowed.Allowed.{Allowed}
 use Rattle.luks_commands.specs.OpenAnswers.{AnswersOpen, IsAnyAnswer, IsOneAnswer, IsOpenAnswer}
@@ -30,7 +36,7 @@ use Rattle.luks_show_command.specs.ShowAnswers.{AnswersShow, IsFullAnswer, IsJso
 use Rattle.luks_header_commands.specs.Converting.{AnswersConvert, IsConvertAnswer}
 use Rattle.luks_header_commands.specs.Trying.{no_header, none_open, one_opens, trial_failed, AnswersBy, AnswersRebuild, IsTriedAnswer, TriedAnswer}
 use Rattle.luks_header_commands.specs.Rebuilding.{given_of, which_of, IsAnswerOf, IsLuks1Answer, IsLuks2Answer, IsRebuildAnswer}
-use Rattle.luks_header_commands.specs.Target.{AnswersHeader, IsSameFile, Pair}
+use Rattle.luks_header_commands.specs.Target.{AnswersHeader, IsOtherTarget, IsSameFile, IsWithoutRandom, IsWithRandom, Pair, pair_of as header_pair}
 use Rattle.luks_keeping.specs.ComparisonTexts.{is_current}
 use Rattle.luks_keeping.specs.declared.backup_fault.BackupFault.TheVariants as backing_up
 use Rattle.luks_keeping.specs.declared.comparison.Comparison.{Comparison}
@@ -38,7 +44,7 @@ use Rattle.luks_keeping.specs.declared.over.Over.{Over}
 use Rattle.luks_keeping.specs.declared.restore_fault.RestoreFault.TheVariants as restoring
 use Rattle.luks_keeping_commands.specs.BackingUp.{AnswersBackup, IsBackupAnswer, IsNotKept, IsWithoutFile}
 use Rattle.luks_keeping_commands.specs.Comparing.{AnswersCompare, IsCompareAnswer}
-use Rattle.luks_keeping_commands.specs.Restoring.{AnswersRestore, IsRestoreAnswer}
+use Rattle.luks_keeping_commands.specs.Restoring.{over_of, AnswersBoth, AnswersRestore, IsRestoreAnswer, IsRestoreBar}
 use Rattle.luks_keeping_commands.specs.TwoFiles.{pair_of, Pair as TwoFiles}
 use Rattle.luks_edit_commands.specs.EditAnswers.{AnswersEdit, IsEditAnswer}
 use Rattle.luks_edit_commands.specs.Editing.{Given, Lacking}
@@ -81,6 +87,15 @@ wordless_ends : (Ends : Answer → ℕ → Type 0) → Ends (Refused refusal.Lon
     → IsWordless is_long unread a → Ends a (own a)
 wordless_ends Ends long fault memory is_long unread a (inl said) = subst (λ x. Ends x (own x)) (sym said.0) long
 wordless_ends Ends long fault memory is_long unread a (inr said) = unread_ends Ends fault memory said.0 a said.2
+
+-- what bars `format`, `convert` and `rebuild`
+barred_ends : (Ends : Answer → ℕ → Type 0) → ((found : Use) → Ends (Refused (refusal.OtherUse found)) 1) → Ends (Refused refusal.OtherVolume) 1 → Ends DeviceFault 4 → Ends NoMemory 4
+    → (tells : Type 0) (over : Bool) (Other : Type 0) (v : List ℕ) (b : Bar) → IsBar tells over Other v b → (a : Answer) → a ≡ bar_answer b → Ends a (own a)
+barred_ends Ends use_of volume fault memory tells over Other v (bar.OtherUse found) is a same = subst (λ x. Ends x (own x)) (sym same) (use_of found)
+barred_ends Ends use_of volume fault memory tells over Other v bar.OtherVolume is a same = subst (λ x. Ends x (own x)) (sym same) volume
+barred_ends Ends use_of volume fault memory tells over Other v bar.Reencrypting is a same = absurd is
+barred_ends Ends use_of volume fault memory tells over Other v bar.Memory is a same = subst (λ x. Ends x (own x)) (sym same) memory
+barred_ends Ends use_of volume fault memory tells over Other v bar.Device is a same = subst (λ x. Ends x (own x)) (sym same) fault
 
 -- ---- `check`
 
@@ -221,7 +236,9 @@ pub format_ends : {D : Type 0} (tells : Type 0) (size : D → ℕ) (bytes : D �
     (unread : InputFault → Type 0) (HasRandom : List ℕ → Type 0) (old new : Result D InputFault) (a : Answer)
     → AnswersFormat tells size bytes failed making HasWords is_long unread HasRandom old new a → EndsFormat a (own a)
 format_ends tells size bytes failed making HasWords is_long unread HasRandom (Ok old) (Ok new) a (inl said) = wordless_ends EndsFormat refl refl refl is_long unread a said.0
-format_ends tells size bytes failed making HasWords is_long unread HasRandom (Ok old) (Ok new) a (inr said) =
+format_ends tells size bytes failed making HasWords is_long unread HasRandom (Ok old) (Ok new) a (inr (inl held)) =
+    barred_ends EndsFormat (λ found. refl) refl refl refl tells making.over (HasOther None (bytes old)) (bytes old) held.bar held.barred a held.is
+format_ends tells size bytes failed making HasWords is_long unread HasRandom (Ok old) (Ok new) a (inr (inr said)) =
     format_there tells making said.passphrase said.random (size old) (bytes old) (bytes new) (failed old) (failed new) a said.is
 format_ends tells size bytes failed making HasWords is_long unread HasRandom (Ok old) (Err fault) a said = absurd said
 format_ends tells size bytes failed making HasWords is_long unread HasRandom (Err fault) new a (inl said) = wordless_ends EndsFormat refl refl refl is_long unread a said
@@ -229,17 +246,27 @@ format_ends tells size bytes failed making HasWords is_long unread HasRandom (Er
 
 -- ---- `convert` and `rebuild`
 
+-- where nothing bars them
+unbarred_ends : (Ends : Answer → ℕ → Type 0) → Ends DeviceFault 4 → Ends NoMemory 4 → (tells : Type 0) (says : List ℕ → Pair → Answer → Type 0)
+    → ((random : List ℕ) (d : Pair) (a : Answer) → says random d a → Ends a (own a)) → (unread : InputFault → Type 0) (HasRandom : List ℕ → Type 0) (d : Pair) (a : Answer)
+    → IsWithoutRandom tells unread d a ⊎ IsWithRandom HasRandom says d a → Ends a (own a)
+unbarred_ends Ends fault memory tells says each unread HasRandom d a (inl said) = unread_ends Ends fault memory said.fault a said.is
+unbarred_ends Ends fault memory tells says each unread HasRandom d a (inr said) = each said.random d a said.is
+
 -- what both answer, by what is said with the random bytes
-header_ends : {D : Type 0} (Ends : Answer → ℕ → Type 0) → Ends DeviceFault 4 → Ends NoMemory 4 → (tells : Type 0) (size : D → ℕ) (bytes : D → List ℕ) (failed : D → ℕ)
+header_ends : {D : Type 0} (Ends : Answer → ℕ → Type 0) → ((found : Use) → Ends (Refused (refusal.OtherUse found)) 1) → Ends (Refused refusal.OtherVolume) 1
+    → Ends DeviceFault 4 → Ends NoMemory 4 → (tells : Type 0) (size : D → ℕ) (bytes : D → List ℕ) (failed : D → ℕ) (over : Bool)
     (says : List ℕ → Pair → Answer → Type 0) → ((random : List ℕ) (d : Pair) (a : Answer) → says random d a → Ends a (own a)) → (unread : InputFault → Type 0) (HasRandom : List ℕ → Type 0)
-    (volume volume_new old new : Result D InputFault) (a : Answer) → AnswersHeader tells size bytes failed says unread HasRandom volume volume_new old new a → Ends a (own a)
-header_ends Ends fault memory tells size bytes failed says each unread HasRandom (Ok volume) (Ok volume_new) (Ok old) (Ok new) a (inl said) = unread_ends Ends fault memory said.fault a said.is
-header_ends Ends fault memory tells size bytes failed says each unread HasRandom (Ok volume) (Ok volume_new) (Ok old) (Ok new) a (inr said) = each said.random _ a said.is
-header_ends Ends fault memory tells size bytes failed says each unread HasRandom (Ok volume) (Ok volume_new) (Ok old) (Err f) a said = absurd said
-header_ends Ends fault memory tells size bytes failed says each unread HasRandom (Ok volume) (Ok volume_new) (Err f) new a said = unread_ends Ends fault memory f a said
-header_ends Ends fault memory tells size bytes failed says each unread HasRandom (Ok volume) (Err f) (Ok old) new a said = absurd said
-header_ends Ends fault memory tells size bytes failed says each unread HasRandom (Ok volume) (Err g) (Err f) new a said = unread_ends Ends fault memory f a said
-header_ends Ends fault memory tells size bytes failed says each unread HasRandom (Err f) volume_new old new a said = unread_ends Ends fault memory f a said
+    (volume volume_new old new : Result D InputFault) (a : Answer) → AnswersHeader tells size bytes failed over says unread HasRandom volume volume_new old new a → Ends a (own a)
+header_ends Ends use_of other fault memory tells size bytes failed over says each unread HasRandom (Ok volume) (Ok volume_new) (Ok old) (Ok new) a (inl held) =
+    barred_ends Ends use_of other fault memory tells over (IsOtherTarget (bytes volume) (bytes old)) (bytes old) held.bar held.barred a held.is
+header_ends Ends use_of other fault memory tells size bytes failed over says each unread HasRandom (Ok volume) (Ok volume_new) (Ok old) (Ok new) a (inr clear) =
+    unbarred_ends Ends fault memory tells says each unread HasRandom (header_pair size bytes failed volume volume_new old new) a clear.is
+header_ends Ends use_of other fault memory tells size bytes failed over says each unread HasRandom (Ok volume) (Ok volume_new) (Ok old) (Err f) a said = absurd said
+header_ends Ends use_of other fault memory tells size bytes failed over says each unread HasRandom (Ok volume) (Ok volume_new) (Err f) new a said = unread_ends Ends fault memory f a said
+header_ends Ends use_of other fault memory tells size bytes failed over says each unread HasRandom (Ok volume) (Err f) (Ok old) new a said = absurd said
+header_ends Ends use_of other fault memory tells size bytes failed over says each unread HasRandom (Ok volume) (Err g) (Err f) new a said = unread_ends Ends fault memory f a said
+header_ends Ends use_of other fault memory tells size bytes failed over says each unread HasRandom (Err f) volume_new old new a said = unread_ends Ends fault memory f a said
 
 convert_there : (tells : Type 0) (payload : Data) (random : List ℕ) (d : Pair) (a : Answer) → IsConvertAnswer tells payload random d a → EndsConvert a (own a)
 convert_there tells payload random d (Done slot) said = (said.1, refl)
@@ -248,10 +275,10 @@ convert_there tells payload random d DeviceFault said = refl
 convert_there tells payload random d NoMemory said = refl
 convert_there tells payload random d a said = absurd said
 
-pub convert_ends : {D : Type 0} (tells : Type 0) (size : D → ℕ) (bytes : D → List ℕ) (failed : D → ℕ) (payload : Data) (unread : InputFault → Type 0) (HasRandom : List ℕ → Type 0)
-    (volume volume_new old new : Result D InputFault) (a : Answer) → AnswersConvert tells size bytes failed payload unread HasRandom volume volume_new old new a → EndsConvert a (own a)
-convert_ends tells size bytes failed payload unread HasRandom volume volume_new old new a said =
-    header_ends EndsConvert refl refl tells size bytes failed (IsConvertAnswer tells payload) (convert_there tells payload) unread HasRandom volume volume_new old new a said
+pub convert_ends : {D : Type 0} (tells : Type 0) (size : D → ℕ) (bytes : D → List ℕ) (failed : D → ℕ) (converting : Converting) (unread : InputFault → Type 0) (HasRandom : List ℕ → Type 0)
+    (volume volume_new old new : Result D InputFault) (a : Answer) → AnswersConvert tells size bytes failed converting unread HasRandom volume volume_new old new a → EndsConvert a (own a)
+convert_ends tells size bytes failed converting unread HasRandom volume volume_new old new a said =
+    header_ends EndsConvert (λ found. refl) refl refl refl tells size bytes failed converting.over (IsConvertAnswer tells converting.data_) (convert_there tells converting.data_) unread HasRandom volume volume_new old new a said
 
 luks2_there : (tells : Type 0) (which : Which) (given : Option (List ℕ)) (random : List ℕ) (d : Pair) (a : Answer) → IsLuks2Answer tells which given random d a → EndsUntried a (own a)
 luks2_there tells which given random d (Done slot) said = (said.1, refl)
@@ -294,11 +321,11 @@ by_passphrase_ends : {A D : Type 0} (passphrase : Option A) (tells : Type 0) (si
     (wordless unread_ : InputFault → Type 0) (HasRandom : List ℕ → Type 0) (volume volume_new old new : Result D InputFault) (a : Answer)
     → AnswersBy passphrase tells size bytes failed r HasWords is_long wordless unread_ HasRandom volume volume_new old new a → EndsRebuild passphrase a (own a)
 by_passphrase_ends None tells size bytes failed r HasWords is_long wordless unread_ HasRandom volume volume_new old new a said =
-    header_ends EndsUntried refl refl tells size bytes failed (IsRebuildAnswer tells r) (rebuild_there tells r) unread_ HasRandom volume volume_new old new a said
+    header_ends EndsUntried (λ found. refl) refl refl refl tells size bytes failed r.over (IsRebuildAnswer tells r) (rebuild_there tells r) unread_ HasRandom volume volume_new old new a said
 by_passphrase_ends (Some file) tells size bytes failed r HasWords is_long wordless unread_ HasRandom volume volume_new old new a (inl said) =
     wordless_ends EndsTried refl refl refl is_long wordless a said.is
 by_passphrase_ends (Some file) tells size bytes failed r HasWords is_long wordless unread_ HasRandom volume volume_new old new a (inr said) =
-    header_ends EndsTried refl refl tells size bytes failed (λ random. IsTriedAnswer tells r said.words) (λ random d b it. tried_there tells it.given said.words d b it.says)
+    header_ends EndsTried (λ found. refl) refl refl refl tells size bytes failed r.over (λ random. IsTriedAnswer tells r said.words) (λ random d b it. tried_there tells it.given said.words d b it.says)
     unread_ HasRandom volume volume_new old new a said.is
 
 pub rebuild_ends : {D : Type 0} (tells : Type 0) (size : D → ℕ) (bytes : D → List ℕ) (failed : D → ℕ) (r : Rebuilding) (HasWords : List ℕ → Type 0) (is_long : Type 0)
@@ -349,12 +376,24 @@ restore_there tells payload over d DeviceFault said = refl
 restore_there tells payload over d NoMemory said = refl
 restore_there tells payload over d a said = absurd said
 
-pub restore_ends : {D : Type 0} (tells : Type 0) (size : D → ℕ) (bytes : D → List ℕ) (failed : D → ℕ) (payload : Data) (over : Over) (old new backup backup_new : Result D InputFault) (a : Answer)
-    → AnswersRestore tells size bytes failed payload over old new backup backup_new a → EndsRestore a (own a)
-restore_ends tells size bytes failed payload over (Ok old) (Ok new) (Ok backup) (Ok backup_new) a said = restore_there tells payload over (pair_of size bytes failed backup backup_new old new) a said
-restore_ends tells size bytes failed payload over (Ok old) new (Err missed) backup_new a is = unread_ends EndsRestore refl refl missed a is
-restore_ends tells size bytes failed payload over (Err missed) new backup backup_new a is = unread_ends EndsRestore refl refl missed a is
-restore_ends tells size bytes failed payload over old new backup backup_new a said = absurd said
+-- what bars it
+restore_barred : (tells : Type 0) (r : Restoring) (b t : List ℕ) (x : Bar) → IsRestoreBar tells r b t x → (a : Answer) → a ≡ bar_answer x → EndsRestore a (own a)
+restore_barred tells r b t (bar.OtherUse found) is a same = subst (λ y. EndsRestore y (own y)) (sym same) refl
+restore_barred tells r b t bar.OtherVolume is a same = absurd is
+restore_barred tells r b t bar.Reencrypting is a same = subst (λ y. EndsRestore y (own y)) (sym same) refl
+restore_barred tells r b t bar.Memory is a same = subst (λ y. EndsRestore y (own y)) (sym same) refl
+restore_barred tells r b t bar.Device is a same = subst (λ y. EndsRestore y (own y)) (sym same) refl
+
+restore_both : (tells : Type 0) (r : Restoring) (d : TwoFiles) (a : Answer) → AnswersBoth tells r d a → EndsRestore a (own a)
+restore_both tells r d a (inl held) = restore_barred tells r d.source d.old held.bar held.barred a held.is
+restore_both tells r d a (inr said) = restore_there tells r.data_ (over_of r) d a said.1
+
+pub restore_ends : {D : Type 0} (tells : Type 0) (size : D → ℕ) (bytes : D → List ℕ) (failed : D → ℕ) (r : Restoring) (old new backup backup_new : Result D InputFault) (a : Answer)
+    → AnswersRestore tells size bytes failed r old new backup backup_new a → EndsRestore a (own a)
+restore_ends tells size bytes failed r (Ok old) (Ok new) (Ok backup) (Ok backup_new) a said = restore_both tells r (pair_of size bytes failed backup backup_new old new) a said
+restore_ends tells size bytes failed r (Ok old) new (Err missed) backup_new a is = unread_ends EndsRestore refl refl missed a is
+restore_ends tells size bytes failed r (Err missed) new backup backup_new a is = unread_ends EndsRestore refl refl missed a is
+restore_ends tells size bytes failed r old new backup backup_new a said = absurd said
 
 -- a backup that is current, or isn't
 current_ends : (b : Bool) (c : Comparison) → is_current c ≡ b → EndsCompare (Compared c) (own (Compared c))

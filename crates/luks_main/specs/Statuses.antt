@@ -60,6 +60,8 @@ abbrev pub EndsFormat : Answer → ℕ → Type 0
 EndsFormat (Done slot) status = (slot ≡ Some 0) × (status ≡ 0)
 EndsFormat (Refused (refusal.Format fault)) status = status ≡ 1
 EndsFormat (Refused refusal.LongPassphrase) status = status ≡ 1
+EndsFormat (Refused (refusal.OtherUse found)) status = status ≡ 1
+EndsFormat (Refused refusal.OtherVolume) status = status ≡ 1
 EndsFormat answer status = EndsAny answer status
 
 -- `convert`
@@ -67,6 +69,8 @@ abbrev pub EndsConvert : Answer → ℕ → Type 0
 EndsConvert (Done slot) status = (slot ≡ None) × (status ≡ 0)
 EndsConvert (Refused (refusal.Convert fault)) status = status ≡ 1
 EndsConvert (Refused refusal.SameFile) status = status ≡ 1
+EndsConvert (Refused (refusal.OtherUse found)) status = status ≡ 1
+EndsConvert (Refused refusal.OtherVolume) status = status ≡ 1
 EndsConvert answer status = EndsAny answer status
 
 -- `rebuild`
@@ -75,6 +79,8 @@ EndsUntried (Done slot) status = (slot ≡ None) × (status ≡ 0)
 EndsUntried (Refused (refusal.Rebuild fault)) status = status ≡ 1
 EndsUntried (Refused (refusal.Rebuild1 fault)) status = status ≡ 1
 EndsUntried (Refused refusal.SameFile) status = status ≡ 1
+EndsUntried (Refused (refusal.OtherUse found)) status = status ≡ 1
+EndsUntried (Refused refusal.OtherVolume) status = status ≡ 1
 EndsUntried answer status = EndsAny answer status
 
 -- with a passphrase, which may be too long, or open no keyslot by what is tried
@@ -83,6 +89,8 @@ EndsTried (Done slot) status = (slot ≡ None) × (status ≡ 0)
 EndsTried NoneOpens status = status ≡ 1
 EndsTried (Refused (refusal.Rebuild1 fault)) status = status ≡ 1
 EndsTried (Refused refusal.SameFile) status = status ≡ 1
+EndsTried (Refused (refusal.OtherUse found)) status = status ≡ 1
+EndsTried (Refused refusal.OtherVolume) status = status ≡ 1
 EndsTried (Refused refusal.LongPassphrase) status = status ≡ 1
 EndsTried answer status = EndsAny answer status
 
@@ -103,6 +111,8 @@ abbrev pub EndsRestore : Answer → ℕ → Type 0
 EndsRestore (Done slot) status = (slot ≡ None) × (status ≡ 0)
 EndsRestore (Refused (refusal.Restore fault)) status = status ≡ 1
 EndsRestore (Refused refusal.SameFile) status = status ≡ 1
+EndsRestore (Refused (refusal.OtherUse found)) status = status ≡ 1
+EndsRestore (Refused refusal.Reencrypting) status = status ≡ 1
 EndsRestore answer status = EndsAny answer status
 
 -- `compare`: 0 where the backup has each keyslot of the volume with the same salt, and no other

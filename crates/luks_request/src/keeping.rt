@@ -22,6 +22,10 @@ pub struct Restoring<'a> {
     pub data_: Data,
     /// Whether it may write over the header of another volume.
     pub other: bool,
+    /// Whether it may write over that, and over another use of the disk.
+    pub over: bool,
+    /// Whether it may write over the metadata of a reencryption.
+    pub over_reencryption: bool,
 }
 
 /// Which backup is compared with the volume.

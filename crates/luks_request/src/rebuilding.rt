@@ -20,6 +20,8 @@ pub struct Rebuilding<'a> {
     pub uuid: Option<&'a str>,
     /// What else is given of a LUKS1 header.
     pub luks1: Luks1Fields<'a>,
+    /// Whether it may write over another volume's header, and over another use of the target.
+    pub over: bool,
 }
 
 /// What is given of a LUKS1 header's fields, beside the uuid: each wins over what stands.

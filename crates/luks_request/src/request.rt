@@ -43,7 +43,7 @@ pub enum Command<'a> {
     },
     /// Edit the volume's keyslots, its header or its label.
     Edit(Editing<'a>),
-    /// Make a new volume over whatever stands there.
+    /// Make a new volume.
     Format(Making<'a>),
     /// Make a detached LUKS2 header of the volume, which stays as it is.
     Convert(Converting<'a>),
@@ -189,6 +189,8 @@ pub struct Making<'a> {
     pub memory: u32,
     /// Where the payload lies.
     pub data_: Data,
+    /// Whether it may write over another volume's header, and over another use of the disk.
+    pub over: bool,
 }
 
 /// What is made by converting, and of which files.
@@ -200,6 +202,8 @@ pub struct Converting<'a> {
     pub random: &'a str,
     /// Where the volume's payload lies.
     pub data_: Data,
+    /// Whether it may write over another volume's header, and over another use of the target.
+    pub over: bool,
 }
 
 /// The version of LUKS that a new volume has.

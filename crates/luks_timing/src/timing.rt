@@ -149,6 +149,7 @@ impl<C: Clock> Timing<'_, C> {
             kdf,
             memory: making.memory,
             data_: making.data_,
+            over: making.over,
         })
     }
 

@@ -24,7 +24,7 @@ returns-in-Err-2-clause-rest g c = λ told.
 pub returns-in-Err-clause-answers : goal.returns-in-Err-clause-answers
 returns-in-Err-clause-answers g c =
     let d : Pair = pair_of g.D.Device.size g.D.Device.bytes g.D.Device.failed c.args.backup.now c.restore.new.backup c.args.volume.now c.restore.new.target in
-    subst (IsRestoreAnswer g.D.Device.tells c.args.restoring.now.data_ (over_of c.args.restoring.now.other) d) (sym c.not_restored.ensures)
+    subst (IsRestoreAnswer g.D.Device.tells c.args.restoring.now.data_ (over_of c.args.restoring.now) d) (sym c.not_restored.ensures)
     (subst (λ (o : Over). IsRestoreAnswer g.D.Device.tells c.args.restoring.now.data_ o d (restore_fault_answer c.in-Err.fault)) c.over_of-over.ensures
     (answers_fault g.D.Device.tells c.args.restoring.now.data_ c.over_of-over.result d c.in-Err.fault c.in-Err.ensures.count
     (λ is. (c.in-Err.ensures.refused is).same) (λ told. c.in-Err.ensures.fault told told)))

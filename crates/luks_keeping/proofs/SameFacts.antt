@@ -1,0 +1,26 @@
+-- Whether a header that counts on a device is of the backup's volume.
+use Rattle.std.proofs.Common.{◌≡◌, ◌↔◌, ℕ, List, Bool, true, false, IsTrue, refl, sym, ◌∙◌}
+use Rattle.std.proofs.lemmas.Bool.{false≢true}
+use Rattle.luks_head.specs.Selection.{nothing, luks1, luks2, Chosen, IsSelected}
+use Rattle.luks_head.specs.declared.selection.Selected.{Selected}
+use Rattle.luks_head.specs.declared.selection.Selected.TheVariants.{V1, V2}
+use Rattle.luks_head.proofs.ChoiceFacts.{choices_agree}
+use Rattle.luks_keeping.specs.SameVolume.{CountsSameVolume, HasAnyHeader, IsOtherVolume}
+
+-- what was selected counts
+pub any_selected : (t : List ℕ) (s : Selected) → IsSelected t s → HasAnyHeader t
+any_selected t (V1 bytes) is = record { choice = luks1; counts = is.0; some = λ e. (let no : luks1 ≡ nothing = e in cc) }
+any_selected t (V2 header copies) is =
+    record { choice = luks2 header.hdr_offset copies; counts = is.0; some = λ e. (let no : luks2 header.hdr_offset copies ≡ nothing = e in cc) }
+
+-- nothing does
+pub none_counts : (t : List ℕ) → Chosen t nothing → IsTrue false ↔ HasAnyHeader t
+none_counts t none = (λ q. absurd (false≢true q), λ x. absurd (x.some (choices_agree t x.choice nothing x.counts none)))
+
+-- without one none of the same volume counts
+pub none_same : (b t : List ℕ) (has : Bool) → has ≡ false → (IsTrue has ↔ HasAnyHeader t) → IsTrue false ↔ CountsSameVolume b t
+none_same b t has lacks is = (λ q. absurd (false≢true q), λ x. absurd (false≢true (sym lacks ∙ is.1 x.header)))
+
+-- another's isn't
+pub other_counts : (b t : List ℕ) → IsOtherVolume b t → IsTrue false ↔ CountsSameVolume b t
+other_counts b t other = (λ q. absurd (false≢true q), λ x. absurd (x.own other))
