@@ -1,12 +1,13 @@
 # luks: what can be done here, each by `make TARGET`.
 #
 #   demo      run the main job, unproved: luks check on the sample image; ends with 'accepted luks1 areas 10'
+#   test      run the tests and the transcripts, unproved, all that fit into some ten minutes
 #   build     prove and build the program, and leave it at bin/luks
 #   library   prove and build libluks, the calls for C and Python: bin/libluks.so.0 and bin/libluks.a
-#   test      the merge gate: every proof from nothing, the edits that must fail, each test, each program; and what it took:
-#             processor time by crate for its proof, its tests and its edits, and at its end the sums
+#   gate      the merge gate: every proof from nothing, the wrong bodies that must be refused, each test, each program; and what it took:
+#             processor time by crate for its proof, its tests and its wrong bodies, and at its end the sums
 #   quick     between gates: proofs and tests of the crates that changed since BASE (the last commit) and of what stands on them
-#   plants    between gates: the wrong bodies of CRATE (of all), planted at once, each refused at its own function
+#   plants    between gates: the wrong bodies of CRATE (of all), planted together, each refused at its own function
 #   install   put the program into PREFIX/bin, its manual page into MANDIR, its completions into BASHCOMPDIR, ZSHCOMPDIR and FISHCOMPDIR
 #             (PREFIX is /usr/local, the others are Debian's places under it, for fish /etc/fish/completions, since fish looks into none there;
 #             all under DESTDIR where that is given)
@@ -34,7 +35,7 @@ FISHCOMPDIR ?= $(if $(filter /usr/local,$(PREFIX)),/etc/fish/completions,$(PREFI
 
 SOURCES := crates.txt $(shell find crates -name out -prune -o -type f -print)
 
-.PHONY: help demo build library install-library test quick plants install uninstall dist deb bench interop clean toolchain
+.PHONY: help demo build library install-library test gate quick plants install uninstall dist deb bench interop clean toolchain
 
 help:
 	@sed -n '/^#/!q; s/^#$$//p; s/^# //p' $(firstword $(MAKEFILE_LIST))
@@ -64,6 +65,9 @@ bin/libluks.so.0: $(SOURCES) tools/library $(wildcard library/*)
 	@$(MAKE) --no-print-directory library
 
 test: toolchain
+	@RT="$(RT)" tools/together
+
+gate: toolchain
 	@RT="$(RT)" tools/times
 
 quick: toolchain

@@ -23,8 +23,9 @@ TRACED = ("open,openat,read,lseek,write,pwrite64,writev,pwritev,pwritev2,sendfil
 # --- what a command writes
 
 def recorded(folder, line):
-    """What the command writes to V, as a list for each time between two syncs; a piece is a place and its bytes."""
+    """What the command writes to V, as a list for each time between two syncs; a piece is a place and its bytes. V keeps its length."""
     log, volume = os.path.join(folder, "log"), os.path.join(folder, "V")
+    length = os.path.getsize(volume)
     words = ["strace", "-f", "-xx", "-s", "1048576", "-e", "trace=" + TRACED, "-P", volume, "-o", log, *line.replace(" V", " " + volume).split()]
     done = ran(words, folder, text=True)
     if done.returncode:
@@ -33,6 +34,8 @@ def recorded(folder, line):
     with open(log) as calls:
         for call in calls:
             found = CALL.search(call)
+            if found and found.group(1) == "ftruncate" and int(found.group(2).split(",")[1], 0) == length:
+                continue
             if found:
                 follow(*found.groups(), writes, places)
             elif "+++" not in call and "---" not in call:

@@ -311,7 +311,7 @@ static int keeps(int fd, uint64_t offset, uint64_t length, const char *call, cha
     errno = kept;
     if (answer != LUKS_DONE || strcmp(call, "compare") != 0)
         return done(answer, LUKS_NO_SLOT);
-    static const char *const STATES[] = {"absent", "same", "older", "missing", "removed"};
+    static const char *const STATES[] = {"absent", "same", "older", "missing", "removed", "damaged"};
     bool is_current = true;
     for (int n = 0; n < LUKS_KEYSLOTS; n++)
         is_current = is_current && keyslots[n] <= LUKS_SAME;
@@ -371,7 +371,7 @@ static int wrong(int fd)
     printf("%u %u\n", luks_convert(fd, 0, LUKS_TO_END, false, 1000, 0, LUKS_TO_END, NULL, 0), luks_convert(1000, 0, LUKS_TO_END, false, target, 0, LUKS_TO_END, NULL, 0));
     shows = 99;
     uint32_t answer = luks_signature(fd, 0, 0, 0, &shows);
-    printf("%u %u %zu %zu\n", answer, shows, luks_signature_name(0, &byte, 1), luks_signature_name(15, &byte, 1));
+    printf("%u %u %zu %zu\n", answer, shows, luks_signature_name(0, &byte, 1), luks_signature_name(64, &byte, 1));
     struct luks_compared compared;
     struct luks_length backup;
     struct luks_found found;

@@ -114,8 +114,9 @@ struct luks_fields {
 };
 
 /* How a keyslot of a backup stands to that of the volume with the same number, by their salts, of which each keyslot gets a new
- * one when it is made: neither has it; both have it, with one salt or with two; the volume alone has it; the backup alone. */
-enum { LUKS_ABSENT = 0, LUKS_SAME = 1, LUKS_OLDER = 2, LUKS_MISSING = 3, LUKS_REMOVED = 4 };
+ * one when it is made: neither has it; both have it, with one salt or with two; the volume alone has it; the backup alone; both have
+ * it, with one salt, and their key areas differ, so that one of the two is damaged. */
+enum { LUKS_ABSENT = 0, LUKS_SAME = 1, LUKS_OLDER = 2, LUKS_MISSING = 3, LUKS_REMOVED = 4, LUKS_DAMAGED = 5 };
 
 /* How many keyslots a volume may have. */
 #define LUKS_KEYSLOTS 32
@@ -189,8 +190,8 @@ uint32_t luks_signature(int fd, uint64_t offset, uint64_t length, uint64_t withi
  * held. */
 uint32_t luks_find(int fd, uint64_t offset, uint64_t length, uint64_t from, uint64_t *place);
 
-/* How the keyslots of a backup, which is the first descriptor's, stand to those of the volume; `is_same_key`, where it isn't NULL,
- * tells whether a digest of the volume keys is one. The backup is current where each keyslot is LUKS_ABSENT or LUKS_SAME.
+/* How the keyslots of a backup, which is the first descriptor's, stand to those of the volume, by their salts and key areas;
+ * `is_same_key`, where it isn't NULL, tells whether a digest of the volume keys is one. The backup is current where each keyslot is LUKS_ABSENT or LUKS_SAME.
  * Nothing is written. */
 uint32_t luks_compare(int backup_fd, uint64_t backup_offset, uint64_t backup_length, int fd, uint64_t offset, uint64_t length, bool is_detached,
                       uint8_t keyslots[LUKS_KEYSLOTS], bool *is_same_key);
@@ -205,8 +206,8 @@ uint32_t luks_backup_length(int fd, uint64_t offset, uint64_t length, bool is_de
  * its data lies elsewhere. `random` are bytes that nobody can guess, as many as luks_needed tells, or NULL:
  * then they are taken by getrandom. No call asks what else the disk is used for: before luks_format1 and so on, and of the
  * target of luks_convert and so on, ask luks_signature of the whole, and luks_check, detached, whether another volume's header
- * stands there; before an edit of a volume of which luks_check tells that only the second copy is sound ask luks_signature of
- * the first 16384 bytes, where something else may stand by now. */
+ * stands there; before an edit of a volume of which luks_check tells that one copy alone is sound of the places of both, which
+ * are twice the header's size: something else may stand in that of the other by now. */
 
 /* How many random bytes the edit takes; or its first fault, of those that are seen without opening a keyslot.
  * `text` is the new passphrase, or the label. It writes nothing. */

@@ -54,7 +54,7 @@ KINDS = (None, "pbkdf2", "argon2i", "argon2id")
 LOCKS = "/run/cryptsetup"
 KEY_ROOM = 128
 KEYSLOTS = 32
-KEEPINGS = ("absent", "same", "older", "missing", "removed")
+KEEPINGS = ("absent", "same", "older", "missing", "removed", "damaged")
 COPIES = (None, "in-step", "first-newer", "second-newer", "first-only", "second-only")
 
 
@@ -223,8 +223,8 @@ class Comparison:
     is_same_key: bool
     """Whether a digest of the backup's volume key is one of the volume's."""
     keyslots: dict[int, str]
-    """How each keyslot of either stands, by its number: same, older (it was made anew since), missing (the volume alone has it) or removed
-    (the backup alone has it)."""
+    """How each keyslot of either stands, by its number: same, older (it was made anew since), missing (the volume alone has it), removed
+    (the backup alone has it) or damaged (their key areas differ)."""
 
     @property
     def is_current(self) -> bool:
@@ -239,8 +239,8 @@ class Volume:
     that the caller opened and locks. A name whose volume another program edits, or uses where it `writes`, raises BlockingIOError.
     `is_detached` says that it is a header alone, and its data lies on another device.
 
-    Where only the second copy of a LUKS2 header is sound, and something else stands in the place of the first by now, an edit is refused
-    by OtherUse, unless it may write `over` that.
+    Where only one copy of a LUKS2 header is sound, and something else stands in the place of the other by now, an edit is refused by
+    OtherUse, unless it may write `over` that.
     """
 
     def __init__(self, volume: str | os.PathLike[str] | int, offset: int = 0, length: int | None = None, *, writes: bool = False,
@@ -547,13 +547,14 @@ class Volume:
             return False
 
     def _refuse_other_use(self) -> None:
-        """Refuses to write over what stands in the place of a first copy that isn't sound."""
+        """Refuses to write over what stands in the place of a copy that isn't sound."""
         try:
             shown = self.show()
         except Fault:
             return
-        if shown.get("copies") == "second-only" and os.pread(self._fd, 6, self._window[0]) != b"LUKS\xba\xbe":
-            self._refuse_use(self.signature(shown["sizes"]["header"]))
+        if shown.get("copies") in ("first-only", "second-only"):
+            places = 1 if shown["copies"] == "second-only" else 2
+            self._refuse_use(self.signature(places * shown["sizes"]["header"]))
 
     def _edited(self, edit: _Edit, passphrase: bytes, text: bytes, memory: int = 0, older: bool = False) -> int | None:
         edit.memory, edit.older = _kib(memory), bool(older)

@@ -56,6 +56,22 @@ def say(text):
 
 
 @functools.cache
+def kit_folder():
+    """The folder of the kit, which has the page that `rt doc` names at its top."""
+    return os.path.dirname(subprocess.run([RT, "doc"], stdout=subprocess.PIPE, text=True, check=True).stdout.strip())
+
+
+def seconds():
+    """The processor seconds of each crate's proof from nothing, as `tools/times --keep` measured them."""
+    try:
+        with open(os.path.join(TOP, "tools", "proof-times")) as it:
+            rows = [line.split() for line in it if not line.startswith("#")]
+    except FileNotFoundError:
+        rows = []
+    return {crate: float(seconds) for seconds, crate in rows}
+
+
+@functools.cache
 def kit():
     return subprocess.run([RT, "version"], stdout=subprocess.PIPE, check=True).stdout
 

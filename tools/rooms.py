@@ -188,11 +188,18 @@ def size(crate):
     return sum(os.path.getsize(it) * (10 if it.startswith(code) else 1) for it in crates.files(crate))
 
 
-def chains(uses, names):
-    """Of each crate the sizes of the longest chain of crates that wait for one another, from it upwards."""
+def lengths(names):
+    """The seconds of each crate's proof: as they were measured, and of a crate that wasn't there then by its size."""
+    table = crates.seconds()
+    rate = sum(table.values()) / max(1, sum(size(it) for it in table if it in crates.lines()))
+    return {it: table.get(it) or size(it) * (rate or 0.001) for it in names}
+
+
+def chains(uses, names, seconds):
+    """Of each crate the seconds of the longest chain of crates that wait for one another, from it upwards."""
     found = {}
     for crate in sorted(names, key=lambda it: -len(crates.below(uses, it))):
-        found[crate] = size(crate) + max((found[it] for it in names if crate in uses[it]), default=0)
+        found[crate] = seconds[crate] + max((found[it] for it in names if crate in uses[it]), default=0)
     return found
 
 
@@ -200,7 +207,9 @@ class Plan:
     """The tasks that are left and those that run: the longest chain first, each where what it stands on is proved."""
 
     def __init__(self, uses, tasks):
-        self.uses, self.longest, self.running = uses, chains(uses, {it.crate for it in tasks}), []
+        names = {it.crate for it in tasks}
+        self.uses, self.seconds, self.running, self.began = uses, lengths(names), [], {}
+        self.longest = chains(uses, names, self.seconds)
         self.left = sorted(tasks, key=lambda it: -self.longest[it.crate])
         self.total, self.places = len(tasks), places()
 
@@ -211,29 +220,39 @@ class Plan:
         return not set(lows).isdisjoint(proofs) or any(task.crate in crates.below(self.uses, it.crate) for it in self.running)
 
     def begun(self):
-        """The tasks that start now, each with its jobs and its niceness: the processors are shared, and the first of the longest chain has a
-        job more."""
+        """The tasks that start now, each with its jobs and its niceness. Each has one job, since one that is cut into several loads its libraries in
+        each; where fewer run than there are places, they share what is free."""
         ready = []
         for task in list(self.left):
             if len(self.running) < self.places and not self.waits(task):
                 self.left.remove(task)
                 self.running.append(task)
+                self.began[task.crate] = time.monotonic()
                 ready.append(task)
-        share = -(-self.places // max(1, len(self.running)))
-        return [(task, share + self.leads(task), self.niceness(task)) for task in ready]
+        share = max(1, self.places // max(1, len(self.running)))
+        return [(task, share, self.niceness(task)) for task in ready]
 
     def niceness(self, task):
         """How far a task gives way to the others: 0 for the longest chain of all that run or are left, and more for shorter ones."""
         most = max(self.longest[it.crate] for it in [*self.left, *self.running])
         return round(15 * (1 - self.longest[task.crate] / most))
 
-    def leads(self, task):
-        """Whether the task is of the longest chain of several that run."""
-        return len(self.running) > 1 and task is max(self.running, key=lambda it: self.longest[it.crate])
+    def minutes(self):
+        """About how long it takes until all is done, by the table of times: each crate on one processor, once what it stands on is done."""
+        now, ends = time.monotonic(), {}
+        for it in self.running:
+            ends[it.crate] = max(now, self.began[it.crate] + self.seconds[it.crate])
+        free = sorted([*ends.values(), *[now] * (self.places - len(ends))])
+        for it in self.left:
+            start = max([free.pop(0), *[ends.get(low, now) for low in crates.below(self.uses, it.crate)]])
+            ends[it.crate] = start + self.seconds[it.crate]
+            free = sorted([*free, ends[it.crate]])
+        return (max(ends.values(), default=now) - now) / 60
 
     def told(self):
         names = ", ".join(it.name() for it in self.running)
-        return f"at work on {names}; {self.total - len(self.left) - len(self.running)} of {self.total} are done, {len(self.left)} wait"
+        done = self.total - len(self.left) - len(self.running)
+        return f"at work on {names}; {done} of {self.total} are done, {len(self.left)} wait; some {self.minutes():.0f} minutes are left"
 
 
 def all_done(uses, tasks, record):
@@ -253,6 +272,18 @@ def all_done(uses, tasks, record):
         return True
     finally:
         runs.stop()
+
+
+def all_proved(uses, wanted):
+    """Proves these crates, of which each stands with all beneath it, as far as they aren't; whether all are."""
+    record = crates.Record(uses)
+    left = [it for it in uses if it in wanted and not record.has(it)]
+    if len(left) != len(wanted):
+        crates.say(f"{len(wanted) - len(left)} of {len(wanted)} crates are proved already")
+    if not all_done(uses, [Task("lib", it) for it in left], record):
+        return False
+    crates.say(f"{len(wanted)} of {len(wanted)} crates are proved")
+    return True
 
 
 def ended_by_signals(main):

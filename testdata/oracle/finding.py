@@ -1,6 +1,7 @@
 """Finding in Python: where LUKS volumes begin on a disk, by what is left of them, each with the signs that tell it.
 
-A start is a multiple of 512 with one of these signs: the magic and version 1 or 2 there (`header`); a sound second copy at a listed distance that
+A start is a multiple of 512 with one of these signs: the magic and version 1 or 2 there, or what cryptsetup writes in the place of
+that of LUKS1 while it reencrypts the volume, and version 1 (`header`); a sound second copy at a listed distance that
 names this distance as its size and its place (`copy`); metadata of a first or of a second copy that is whole (`metadata`). A volume is what
 follows its start to the end of the disk.
 
@@ -15,7 +16,8 @@ SIZES = [0x4000 << k for k in range(9)]
 
 
 def begins_header(disk, start):
-    return disk[start:start + 8] in (b"LUKS\xba\xbe\x00\x01", b"LUKS\xba\xbe\x00\x02")
+    """A header that counts, or that of a LUKS1 volume which cryptsetup is reencrypting."""
+    return disk[start:start + 8] in (b"LUKS\xba\xbe\x00\x01", b"LUKS\xba\xbe\x00\x02", b"LUKS\xde\xad\x00\x01")
 
 
 def whole_metadata(disk, start, size, at):

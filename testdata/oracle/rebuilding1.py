@@ -59,6 +59,8 @@ def taken(source, given):
 
 def faults(source, given):
     """The faults that stand before a header is made, in their order."""
+    if len(source) >= 592 and source[:6] == b"LUKS\xde\xad":
+        return ["Reencrypting"]
     if len(source) < 592 or not has_signs(source):
         return ["NoHeader"]
     d = taken(source, given)
@@ -88,8 +90,8 @@ def combinations(source, given):
 
 def opening(source, given, passphrase):
     """The first combination by which a keyslot opens, and the first keyslot that it opens; or none."""
-    if faults(source, {}) == ["NoHeader"]:
-        raise Fault("NoHeader")
+    if faults(source, {}) in (["Reencrypting"], ["NoHeader"]):
+        raise Fault(faults(source, {})[0])
     every = [faults(source, them) for them in combinations(source, given)]
     for fault in every[0]:
         if all(fault in those for those in every):

@@ -25,12 +25,12 @@ use Rattle.luks_reading.specs.declared.check_fault.CheckFault.TheVariants as che
 use Rattle.luks_reading.specs.declared.report.Data.TheVariants.{Elsewhere}
 use Rattle.luks1_rebuilding.proofs.OneMade.{fault_same}
 use Rattle.luks1_rebuilding.specs.Judged.{target_fault, IsJudged, IsShort, IsUnfit}
-use Rattle.luks1_rebuilding.specs.Outcome.{EndsOutside, IsAnsweredFault, IsFaultless, IsFaultOf, IsRebuildFault, IsWhole, LacksHeader, OfMade}
+use Rattle.luks1_rebuilding.specs.Outcome.{EndsOutside, IsAnsweredFault, IsFaultless, IsFaultOf, IsRebuildFault, IsReencrypted, IsWhole, LacksHeader, OfMade}
 use Rattle.luks1_rebuilding.specs.KeyAreas.{header_of}
 use Rattle.luks1_rebuilding.specs.RebuildFaults.{field_fault, is_rebuild_failure, rebuild_key}
 use Rattle.luks1_rebuilding.specs.declared.judging.MadeHeader.{MadeHeader}
 use Rattle.luks1_rebuilding.specs.declared.rebuild_fault.Rebuild1Fault.{Rebuild1Fault}
-use Rattle.luks1_rebuilding.specs.declared.rebuild_fault.Rebuild1Fault.TheVariants.{Counts, NoHeader, Text, KeyBytes, Iterations, TooSmall, Area, Device}
+use Rattle.luks1_rebuilding.specs.declared.rebuild_fault.Rebuild1Fault.TheVariants.{Counts, Reencrypting, NoHeader, Text, KeyBytes, Iterations, TooSmall, Area, Device}
 
 module _ (h : List ℕ) (source : ℕ) (g : Given) (total : ℕ) where
   abbrev Faults : Rebuild1Fault → Type 0
@@ -41,6 +41,7 @@ module _ (h : List ℕ) (source : ℕ) (g : Given) (total : ℕ) where
     where
       after : (f : Rebuild1Fault) → Faults f → NotAfter (rebuild_key Counts) (rebuild_key f)
       after Counts bad = (omega arith, λ same. tt)
+      after Reencrypting bad = (omega arith, λ same. tt)
       after NoHeader bad = (omega arith, λ same. tt)
       after (Text t) bad = (omega arith, λ same. tt)
       after KeyBytes bad = (omega arith, λ same. tt)
@@ -50,11 +51,27 @@ module _ (h : List ℕ) (source : ℕ) (g : Given) (total : ℕ) where
       after Device bad = absurd bad
 
   module _ (broken : IsWhole h source g → ⊥) where
+    pub reencrypting_first : IsReencrypted h source → IsLeast rebuild_key Faults Reencrypting
+    reencrypting_first x = (x, after)
+      where
+        after : (f : Rebuild1Fault) → Faults f → NotAfter (rebuild_key Reencrypting) (rebuild_key f)
+        after Counts bad = absurd (broken bad)
+        after Reencrypting bad = (omega arith, λ same. tt)
+        after NoHeader bad = (omega arith, λ same. tt)
+        after (Text t) bad = (omega arith, λ same. tt)
+        after KeyBytes bad = (omega arith, λ same. tt)
+        after Iterations bad = (omega arith, λ same. tt)
+        after TooSmall bad = (omega arith, λ same. tt)
+        after (Area f) bad = (omega arith, λ same. tt)
+        after Device bad = absurd bad
+
+  module _ (broken : IsWhole h source g → ⊥) (still : IsReencrypted h source → ⊥) where
     pub no_header_first : LacksHeader h source → IsLeast rebuild_key Faults NoHeader
     no_header_first x = (x, after)
       where
         after : (f : Rebuild1Fault) → Faults f → NotAfter (rebuild_key NoHeader) (rebuild_key f)
         after Counts bad = absurd (broken bad)
+        after Reencrypting bad = absurd (still bad)
         after NoHeader bad = (omega arith, λ same. tt)
         after (Text t) bad = (omega arith, λ same. tt)
         after KeyBytes bad = (omega arith, λ same. tt)
@@ -69,6 +86,7 @@ module _ (h : List ℕ) (source : ℕ) (g : Given) (total : ℕ) where
         where
           after : (f : Rebuild1Fault) → Faults f → NotAfter (rebuild_key (Text t)) (rebuild_key f)
           after Counts bad = absurd (broken bad)
+          after Reencrypting bad = absurd (still bad)
           after NoHeader bad = absurd (headed bad)
           after (Text s) bad = (omega arith, λ same. (least.1 (head.Text s) bad).1 refl)
           after KeyBytes bad = (omega arith, λ same. absurd (omega (arith, same)))
@@ -82,6 +100,7 @@ module _ (h : List ℕ) (source : ℕ) (g : Given) (total : ℕ) where
         where
           after : (f : Rebuild1Fault) → Faults f → NotAfter (rebuild_key KeyBytes) (rebuild_key f)
           after Counts bad = absurd (broken bad)
+          after Reencrypting bad = absurd (still bad)
           after NoHeader bad = absurd (headed bad)
           after (Text s) bad = absurd (let low = (least.1 (head.Text s) bad).0 in omega (arith, low))
           after KeyBytes bad = (omega arith, λ same. tt)
@@ -95,6 +114,7 @@ module _ (h : List ℕ) (source : ℕ) (g : Given) (total : ℕ) where
         where
           after : (f : Rebuild1Fault) → Faults f → NotAfter (rebuild_key Iterations) (rebuild_key f)
           after Counts bad = absurd (broken bad)
+          after Reencrypting bad = absurd (still bad)
           after NoHeader bad = absurd (headed bad)
           after (Text s) bad = absurd (let low = (least.1 (head.Text s) bad).0 in omega (arith, low))
           after KeyBytes bad = absurd (let low = (least.1 head.KeyBytes bad).0 in omega (arith, low))
@@ -124,6 +144,7 @@ module _ (h : List ℕ) (source : ℕ) (g : Given) (total : ℕ) where
           where
             after : (f : Rebuild1Fault) → Faults f → NotAfter (rebuild_key TooSmall) (rebuild_key f)
             after Counts bad = absurd (broken bad)
+            after Reencrypting bad = absurd (still bad)
             after NoHeader bad = absurd (headed bad)
             after (Text s) bad = absurd (fields (head.Text s) bad)
             after KeyBytes bad = absurd (fields head.KeyBytes bad)
@@ -151,6 +172,7 @@ module _ (h : List ℕ) (source : ℕ) (g : Given) (total : ℕ) where
             where
               after : (e : Rebuild1Fault) → Faults e → NotAfter (rebuild_key (Area f)) (rebuild_key e)
               after Counts bad = absurd (broken bad)
+              after Reencrypting bad = absurd (still bad)
               after NoHeader bad = absurd (headed bad)
               after (Text s) bad = absurd (fields (head.Text s) bad)
               after KeyBytes bad = absurd (fields head.KeyBytes bad)
@@ -176,6 +198,7 @@ module _ (h : List ℕ) (source : ℕ) (g : Given) (total : ℕ) where
             where
               none : (f : Rebuild1Fault) → Faults f → ⊥
               none Counts bad = broken bad
+              none Reencrypting bad = still bad
               none NoHeader bad = headed bad
               none (Text s) bad = fields (head.Text s) bad
               none KeyBytes bad = fields head.KeyBytes bad
@@ -200,11 +223,12 @@ pub err_so : {A F : Type 0} (r : Result A F) (P Q : F → Type 0) → ((f : F) �
 err_so (Ok x) P Q so is = tt
 err_so (Err f) P Q so is = so f is
 
-module _ (h : List ℕ) (source : ℕ) (g : Given) (total : ℕ) (broken : IsWhole h source g → ⊥) (headed : LacksHeader h source → ⊥)
+module _ (h : List ℕ) (source : ℕ) (g : Given) (total : ℕ) (broken : IsWhole h source g → ⊥) (still : IsReencrypted h source → ⊥)
+    (headed : LacksHeader h source → ⊥)
     (fields : (f : HeadFault) → IsFieldFault h g f → ⊥) (d : Luks1) (made : IsMade h source g d) where
   of_fields : (m : MadeHeader) → m.fields ≡ d → WritesLuks1 m.bytes m.fields → IsLuks1Volume m.bytes Elsewhere total → 16896 ≤ total → IsFaultless h source g total
   of_fields m is put formed large =
-      faultless h source g total broken headed fields d made m.bytes (subst (WritesLuks1 m.bytes) is put) large formed
+      faultless h source g total broken still headed fields d made m.bytes (subst (WritesLuks1 m.bytes) is put) large formed
 
   pub fitting_faultless : (r : Result MadeHeader Rebuild1Fault) → IfOk r (λ m. m.fields ≡ d) → IfOk r (λ m. WritesLuks1 m.bytes m.fields)
       → IfOk r (λ m. IsLuks1Volume m.bytes Elsewhere total) → OnOk r (16896 ≤ total) → OnOk r (IsFaultless h source g total)
@@ -218,6 +242,7 @@ pub answered : (v : List ℕ) (g : Given) (total : ℕ) (f : Rebuild1Fault) → 
     → IsLeast rebuild_key (IsRebuildFault v g total) f → IsAnsweredFault v g total f
 answered v g total Device own least = tt
 answered v g total Counts own least = least
+answered v g total Reencrypting own least = least
 answered v g total NoHeader own least = least
 answered v g total (Text t) own least = least
 answered v g total KeyBytes own least = least
@@ -232,5 +257,6 @@ short_broken v g short x = (let long = x.accepted.header.1.long in let is = leng
 pub short_answered : (v : List ℕ) (g : Given) (total size : ℕ) (f : Rebuild1Fault) → length v ≡ size → IsShort size f → IsAnsweredFault v g total f
 short_answered v g total size f is (inl x) =
     let short : length v < 592 = (let less = x.1 in omega (arith, is, less)) in
-    subst (IsAnsweredFault v g total) (sym x.0) (no_header_first (header_of v) (length v) g total (short_broken v g short) (inl short))
+    subst (IsAnsweredFault v g total) (sym x.0) (no_header_first (header_of v) (length v) g total (short_broken v g short)
+    (λ still. (let long = still.0 in omega (arith, long, short))) (inl short))
 short_answered v g total size f is (inr x) = subst (IsAnsweredFault v g total) (sym x) tt

@@ -1,9 +1,10 @@
 -- When no LUKS1 header is made of what stands in the volume `v` and of what is given.
-use Rattle.std.specs.Prelude.{◌⊎◌, ℕ, ◌<◌, List, length, ⊤}
+use Rattle.std.specs.Prelude.{◌⊎◌, ℕ, ◌<◌, ◌≤◌, List, length, ⊤}
 use Rattle.luks_area.specs.Area.{IsAreaFault}
 use Rattle.luks_area.specs.First.{IsLeast}
 use Rattle.luks_area.specs.declared.area.AreaFault.TheVariants.{Outside}
 use Rattle.luks_area.specs.declared.area.AreaName.{AreaName}
+use Rattle.luks_signatures.specs.Reencryption.{IsReencrypting}
 use Rattle.luks1_header.specs.Header1.{luks1_size}
 use Rattle.luks1_header.specs.Written.{WritesLuks1}
 use Rattle.luks1_header.specs.declared.fault.HeadFault.TheVariants as head
@@ -19,7 +20,7 @@ use Rattle.luks_reading.specs.declared.report.Data.TheVariants.{Elsewhere}
 use Rattle.luks1_rebuilding.specs.KeyAreas.{header_of}
 use Rattle.luks1_rebuilding.specs.RebuildFaults.{rebuild_key}
 use Rattle.luks1_rebuilding.specs.declared.rebuild_fault.Rebuild1Fault.{Rebuild1Fault}
-use Rattle.luks1_rebuilding.specs.declared.rebuild_fault.Rebuild1Fault.TheVariants.{Counts, NoHeader, Text, KeyBytes, Iterations, TooSmall, Area, Device}
+use Rattle.luks1_rebuilding.specs.declared.rebuild_fault.Rebuild1Fault.TheVariants.{Counts, Reencrypting, NoHeader, Text, KeyBytes, Iterations, TooSmall, Area, Device}
 
 -- the least target: the first sectors of an older header's two copies, at 0 and at 16384, are cleared
 abbrev pub least_target : ℕ
@@ -30,6 +31,10 @@ least_target = 16896
 pub record IsWhole (h : List ℕ) (source : ℕ) (g : Given) : Type 0 where
   pub nothing : IsNothing g
   pub accepted : IsLuks1Volume h Elsewhere source
+
+-- it has room for a header, and cryptsetup is in the midst of reencrypting it
+abbrev pub IsReencrypted : List ℕ → ℕ → Type 0
+IsReencrypted h source = (luks1_size ≤ source) × IsReencrypting h
 
 -- it has no room for a header, or lacks the signs of one
 abbrev pub LacksHeader : List ℕ → ℕ → Type 0
@@ -50,6 +55,7 @@ EndsOutside total bytes = (n : AreaName) × IsAreaFault (Luks1Area bytes Elsewhe
 -- the faults of rebuilding its header on a target of `total` bytes
 abbrev pub IsFaultOf : List ℕ → ℕ → Given → ℕ → Rebuild1Fault → Type 0
 IsFaultOf h source g total Counts = IsWhole h source g
+IsFaultOf h source g total Reencrypting = IsReencrypted h source
 IsFaultOf h source g total NoHeader = LacksHeader h source
 IsFaultOf h source g total (Text t) = IsFieldFault h g (head.Text t)
 IsFaultOf h source g total KeyBytes = IsFieldFault h g head.KeyBytes

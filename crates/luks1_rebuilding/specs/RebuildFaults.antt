@@ -5,22 +5,24 @@ use Rattle.luks1_header.specs.Faults.{field_key}
 use Rattle.luks1_header.specs.declared.fault.HeadFault.{HeadFault}
 use Rattle.luks1_header.specs.declared.fault.HeadFault.TheVariants as head
 use Rattle.luks1_rebuilding.specs.declared.rebuild_fault.Rebuild1Fault.{Rebuild1Fault}
-use Rattle.luks1_rebuilding.specs.declared.rebuild_fault.Rebuild1Fault.TheVariants.{Counts, NoHeader, Text, KeyBytes, Iterations, TooSmall, Area, Device}
+use Rattle.luks1_rebuilding.specs.declared.rebuild_fault.Rebuild1Fault.TheVariants.{Counts, Reencrypting, NoHeader, Text, KeyBytes, Iterations, TooSmall, Area, Device}
 
 -- the rows of the table of faults, in their order
 abbrev pub rebuild_row : Rebuild1Fault → ℕ
 rebuild_row Counts = 1
-rebuild_row NoHeader = 2
-rebuild_row (Text t) = 3
-rebuild_row KeyBytes = 4
-rebuild_row Iterations = 5
-rebuild_row TooSmall = 6
-rebuild_row (Area f) = 7
-rebuild_row Device = 8
+rebuild_row Reencrypting = 2
+rebuild_row NoHeader = 3
+rebuild_row (Text t) = 4
+rebuild_row KeyBytes = 5
+rebuild_row Iterations = 6
+rebuild_row TooSmall = 7
+rebuild_row (Area f) = 8
+rebuild_row Device = 9
 
 -- the place of a fault among those of its row
 abbrev pub rebuild_place : Rebuild1Fault → List ℕ
 rebuild_place Counts = []
+rebuild_place Reencrypting = []
 rebuild_place NoHeader = []
 rebuild_place (Text t) = field_key t ∷ []
 rebuild_place KeyBytes = []
@@ -36,6 +38,7 @@ rebuild_key f = rebuild_row f ∷ rebuild_place f
 -- the fault is a device's
 abbrev pub is_rebuild_failure : Rebuild1Fault → Bool
 is_rebuild_failure Counts = false
+is_rebuild_failure Reencrypting = false
 is_rebuild_failure NoHeader = false
 is_rebuild_failure (Text t) = false
 is_rebuild_failure KeyBytes = false

@@ -16,6 +16,7 @@ use crate::rebuild_fault::Rebuild1Fault;
 use luks_area::{AreaFault, Device};
 use luks_head::Luks1;
 use luks_reading::{CheckFault, Data, judge_luks1};
+use luks_signatures::is_reencrypting;
 use luks1_mending::{Given, has_signs, mended_header};
 
 /// The bytes of a header.
@@ -72,6 +73,9 @@ pub(crate) fn judged_header(
 {
     if is_whole(header, source, given) {
         return Err(Rebuild1Fault::Counts);
+    }
+    if is_reencrypting(header) {
+        return Err(Rebuild1Fault::Reencrypting);
     }
     if !has_signs(header, source) {
         return Err(Rebuild1Fault::NoHeader);

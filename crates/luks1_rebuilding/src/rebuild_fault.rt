@@ -14,6 +14,8 @@ use std::fmt;
 pub enum Rebuild1Fault {
     /// The source is accepted, with its payload elsewhere, and nothing is given.
     Counts,
+    /// cryptsetup is in the midst of reencrypting the source: the magic of its header says so.
+    Reencrypting,
     /// The source has fewer than 592 bytes, or no signs of a LUKS1 header.
     NoHeader,
     /// No usable text of the field stands, or what is given isn't usable.
@@ -39,6 +41,7 @@ impl fmt::Display for Rebuild1Fault {
     fn fmt<W: fmt::Write>(&self, f: &mut fmt::Formatter<W>) -> fmt::Result {
         match self {
             Rebuild1Fault::Counts => f.write_str("Counts"),
+            Rebuild1Fault::Reencrypting => f.write_str("Reencrypting"),
             Rebuild1Fault::NoHeader => f.write_str("NoHeader"),
             Rebuild1Fault::Text(field) => write!(f, "Text({field})"),
             Rebuild1Fault::KeyBytes => f.write_str("KeyBytes"),

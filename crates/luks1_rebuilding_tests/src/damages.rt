@@ -88,6 +88,11 @@ fn refusing(rt: HostRuntime) -> Result<(), Fail> {
     assert!(rt; whole == Some(Rebuild1Fault::Counts), "a whole header");
     let zeros = refused_after(alloc, 0, &[0; 592], &nothing, LEN)?;
     assert!(rt; zeros == Some(Rebuild1Fault::NoHeader), "zeros");
+    let reencrypted = refused_after(alloc, 4, &[0xDE, 0xAD], &nothing, LEN)?;
+    assert!(rt;
+        reencrypted == Some(Rebuild1Fault::Reencrypting),
+        "a reencryption"
+    );
     let texts_lost = refused_after(alloc, 8, &[0xEE; 32], &nothing, LEN)?;
     let cipher = Rebuild1Fault::Text(TextField::CipherName);
     assert!(rt; texts_lost == Some(cipher), "the cipher's name");

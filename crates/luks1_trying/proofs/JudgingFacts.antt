@@ -12,11 +12,11 @@ use Rattle.luks1_header.specs.declared.fault.TextField.{TextField}
 use Rattle.luks1_header.specs.declared.fault.TextField.TheVariants.{CipherMode, CipherName, HashSpec, Uuid}
 use Rattle.luks1_mending.specs.Taken.{given_text, IsFieldFault, IsName}
 use Rattle.luks1_mending.specs.declared.given.Given.{Given}
-use Rattle.luks1_rebuilding.proofs.FaultFacts.{field_first, no_header_first}
-use Rattle.luks1_rebuilding.specs.Outcome.{IsFaultOf, IsWhole, LacksHeader}
+use Rattle.luks1_rebuilding.proofs.FaultFacts.{field_first, no_header_first, reencrypting_first}
+use Rattle.luks1_rebuilding.specs.Outcome.{IsFaultOf, IsReencrypted, IsWhole, LacksHeader}
 use Rattle.luks1_rebuilding.specs.RebuildFaults.{field_fault, is_rebuild_failure, rebuild_key}
 use Rattle.luks1_rebuilding.specs.declared.rebuild_fault.Rebuild1Fault.{Rebuild1Fault}
-use Rattle.luks1_rebuilding.specs.declared.rebuild_fault.Rebuild1Fault.TheVariants.{Counts, NoHeader, Text, KeyBytes, Iterations, TooSmall, Area, Device}
+use Rattle.luks1_rebuilding.specs.declared.rebuild_fault.Rebuild1Fault.TheVariants.{Counts, Reencrypting, NoHeader, Text, KeyBytes, Iterations, TooSmall, Area, Device}
 use Rattle.luks1_trying.specs.Faults.{IsAnsweredTrialFault, IsFaultOfAll, IsGivenLengthUnusable, IsTrialFault, LacksText}
 use Rattle.luks1_trying.specs.Tried.{IsUsable}
 
@@ -98,6 +98,7 @@ module _ (h : List ℕ) (source total : ℕ) (g u : Given) (x : IsUsable g u) wh
 
   own : (f : Rebuild1Fault) → All f → Own f
   own Counts bad = absurd bad
+  own Reencrypting bad = bad
   own NoHeader bad = bad
   own (Text t) bad = text_own t bad
   own KeyBytes bad = key_own bad
@@ -109,17 +110,21 @@ module _ (h : List ℕ) (source total : ℕ) (g u : Given) (x : IsUsable g u) wh
   some_given : IsWhole h source u → ⊥
   some_given whole = (let none = ap (option_map (λ (t : ArrayString 32). t.bytes)) whole.nothing.cipher_name in let some = x.cipher_name in cc)
 
-  pub no_header : LacksHeader h source → IsLeast rebuild_key All NoHeader
-  no_header lacks = (let least = no_header_first h source u total some_given lacks in (lacks, λ e bad. least.1 e (own e bad)))
+  pub reencrypting : IsReencrypted h source → IsLeast rebuild_key All Reencrypting
+  reencrypting still = (let least = reencrypting_first h source u total some_given still in (still, λ e bad. least.1 e (own e bad)))
 
-  module _ (headed : LacksHeader h source → ⊥) where
+  pub no_header : (IsReencrypted h source → ⊥) → LacksHeader h source → IsLeast rebuild_key All NoHeader
+  no_header still lacks = (let least = no_header_first h source u total some_given still lacks in (lacks, λ e bad. least.1 e (own e bad)))
+
+  module _ (still : IsReencrypted h source → ⊥) (headed : LacksHeader h source → ⊥) where
     pub first : (f : HeadFault) → IsLeast head_key (IsFieldFault h u) f → IsLeast rebuild_key All (field_fault f)
     first f least =
-        let of_own = field_first h source u total some_given headed f least in
+        let of_own = field_first h source u total some_given still headed f least in
         (field_all f least.0, λ e bad. of_own.1 e (own e bad))
 
     pub none : ((f : HeadFault) → IsFieldFault h u f → ⊥) → (f : Rebuild1Fault) → All f → ⊥
     none fields Counts bad = bad
+    none fields Reencrypting bad = still bad
     none fields NoHeader bad = headed bad
     none fields (Text t) bad = fields (head.Text t) (text_own t bad)
     none fields KeyBytes bad = fields head.KeyBytes (key_own bad)
@@ -134,6 +139,7 @@ module _ (h : List ℕ) (source total : ℕ) (g u : Given) (x : IsUsable g u) wh
 pub answered : (v : List ℕ) (g : Given) (f : Rebuild1Fault) → is_rebuild_failure f ≡ false → IsLeast rebuild_key (IsTrialFault v g) f → IsAnsweredTrialFault v g f
 answered v g Device own least = tt
 answered v g Counts own least = least
+answered v g Reencrypting own least = least
 answered v g NoHeader own least = least
 answered v g (Text t) own least = least
 answered v g KeyBytes own least = least

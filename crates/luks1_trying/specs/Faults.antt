@@ -8,10 +8,10 @@ use Rattle.luks1_header.specs.declared.fault.TextField.TheVariants.{CipherMode, 
 use Rattle.luks1_mending.specs.Taken.{given_text, IsFieldFault, IsName}
 use Rattle.luks1_mending.specs.declared.given.Given.{Given}
 use Rattle.luks1_rebuilding.specs.KeyAreas.{header_of}
-use Rattle.luks1_rebuilding.specs.Outcome.{LacksHeader}
+use Rattle.luks1_rebuilding.specs.Outcome.{IsReencrypted, LacksHeader}
 use Rattle.luks1_rebuilding.specs.RebuildFaults.{rebuild_key}
 use Rattle.luks1_rebuilding.specs.declared.rebuild_fault.Rebuild1Fault.{Rebuild1Fault}
-use Rattle.luks1_rebuilding.specs.declared.rebuild_fault.Rebuild1Fault.TheVariants.{Counts, NoHeader, Text, KeyBytes, Iterations, TooSmall, Area, Device}
+use Rattle.luks1_rebuilding.specs.declared.rebuild_fault.Rebuild1Fault.TheVariants.{Counts, Reencrypting, NoHeader, Text, KeyBytes, Iterations, TooSmall, Area, Device}
 
 -- the name that is given for the field isn't one
 pub record IsGivenUnusable (g : Given) (t : TextField) : Type 0 where
@@ -35,6 +35,7 @@ LacksText h g Uuid = IsFieldFault h g (head.Text Uuid)
 -- the faults that stand with each combination, of a volume of `source` bytes that begins with the 592 bytes `h`
 abbrev pub IsFaultOfAll : List ℕ → ℕ → Given → Rebuild1Fault → Type 0
 IsFaultOfAll h source g Counts = ⊥
+IsFaultOfAll h source g Reencrypting = IsReencrypted h source
 IsFaultOfAll h source g NoHeader = LacksHeader h source
 IsFaultOfAll h source g (Text t) = LacksText h g t
 IsFaultOfAll h source g KeyBytes = IsGivenLengthUnusable g

@@ -9,6 +9,7 @@ ghost use Rattle.luks1_trying.specs.Tried.{bytes_of, IsUsable};
 
 use crate::combinations::owned;
 use arrayvec::ArrayString;
+use luks_signatures::is_reencrypting;
 use luks1_mending::{Given, has_signs, mended_header};
 use luks1_rebuilding::Rebuild1Fault;
 
@@ -21,6 +22,9 @@ pub(crate) fn judge(header: &[u8], total: u64, given: &Given) -> Result<(), Rebu
     ensures faultless { OnOk result ((f : TheFault)
         → IsFaultOfAll header.now total given.now f → ⊥) }
 {
+    if is_reencrypting(header) {
+        return Err(Rebuild1Fault::Reencrypting);
+    }
     if !has_signs(header, total) {
         return Err(Rebuild1Fault::NoHeader);
     }

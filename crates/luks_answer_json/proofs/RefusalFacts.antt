@@ -166,6 +166,7 @@ rebuild_parts rebuilding.Device = bare (codes "Device") refl
 
 rebuild1_parts : (f : Rebuild1Fault) → HasParts (rebuild1_fault_text f)
 rebuild1_parts rebuilding1.Counts = bare (codes "Counts") refl
+rebuild1_parts rebuilding1.Reencrypting = bare (codes "Reencrypting") refl
 rebuild1_parts rebuilding1.NoHeader = bare (codes "NoHeader") refl
 rebuild1_parts (rebuilding1.Text t) = around (codes "Text") (field_text t) refl
 rebuild1_parts rebuilding1.KeyBytes = bare (codes "KeyBytes") refl

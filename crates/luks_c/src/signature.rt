@@ -73,7 +73,7 @@ fn find_given<K: Given>(first: &[u8], total: u64, len: u64, told: &mut LuksSigna
 pub extern "C" fn luks_signature_name(number: u32, buffer: &mut [u8]) -> usize
     ensures named { (shown : TheUse) → use_number shown ≡ number
         → (result ≡ length (use_text shown)) × (buffer.new ≡ filled buffer.old (use_text shown)) }
-    ensures none { 14 < number → result ≡ 0 }
+    ensures none { 63 < number → result ≡ 0 }
     ensures behind { drop result buffer.new ≡ drop result buffer.old }
 {
     let name = use_name(number);

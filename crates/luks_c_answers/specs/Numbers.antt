@@ -83,6 +83,7 @@ fault_number fault.OtherVolume = 48
 fault_number fault.OtherUse = 49
 fault_number fault.SameSlot = 50
 fault_number fault.NoHeader = 51
+fault_number fault.Reencrypting = 52
 
 -- the fault of this number, if there is one
 abbrev pub fault_numbered : ℕ → Option Fault
@@ -173,6 +174,7 @@ rebuild_number rebuild.Device = 102
 -- and of a LUKS1 header
 abbrev pub rebuild1_number : Rebuild1Fault → ℕ
 rebuild1_number rebuild1.Counts = 43
+rebuild1_number rebuild1.Reencrypting = 52
 rebuild1_number rebuild1.NoHeader = 51
 rebuild1_number (rebuild1.Text t) = 5
 rebuild1_number rebuild1.KeyBytes = 8

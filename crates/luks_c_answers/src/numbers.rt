@@ -115,6 +115,7 @@ fn number_of_call(fault: Fault) -> u32
         Fault::OtherUse => 49,
         Fault::SameSlot => 50,
         Fault::NoHeader => 51,
+        Fault::Reencrypting => 52,
         _ => UNKNOWN,
     }
 }
@@ -238,6 +239,7 @@ pub fn rebuild1_number(fault: &Rebuild1Fault) -> u32
 {
     match fault {
         Rebuild1Fault::Counts => number_of(Fault::Counts),
+        Rebuild1Fault::Reencrypting => number_of(Fault::Reencrypting),
         Rebuild1Fault::NoHeader => number_of(Fault::NoHeader),
         Rebuild1Fault::Text(_) => number_of(Fault::Text),
         Rebuild1Fault::KeyBytes => number_of(Fault::KeyBytes),

@@ -11,14 +11,14 @@ use Rattle.luks_reading.specs.declared.report.Data.{Data}
 use Rattle.luks_reading.specs.declared.report.Data.TheVariants.{Elsewhere}
 use Rattle.luks_keeping.specs.Backup.{IsBackup}
 use Rattle.luks_keeping.specs.BackupFaults.{backup_key, CanBackUp, IsBackupFault}
-use Rattle.luks_keeping.specs.Compared.{IsCompared}
+use Rattle.luks_keeping.specs.Compared.{IsComparedInFull}
 use Rattle.luks_keeping.specs.Restored.{IsRestored, IsSegmentOn}
 use Rattle.luks_keeping.specs.RestoreFaults.{CanRestore, checked_restore, IsRestoreFault, restore_key}
 use Rattle.luks_keeping.specs.SameVolume.{IsOtherVolume}
 use Rattle.luks_keeping.specs.declared.backup_fault.BackupFault.{BackupFault}
 use Rattle.luks_keeping.specs.declared.comparison.Comparison.{Comparison}
 use Rattle.luks_keeping.specs.declared.comparison.Keeping.{Keeping}
-use Rattle.luks_keeping.specs.declared.comparison.Keeping.TheVariants.{Absent, Same, Older, Missing, Removed}
+use Rattle.luks_keeping.specs.declared.comparison.Keeping.TheVariants.{Absent, Same, Older, Missing, Removed, Damaged}
 use Rattle.luks_keeping.specs.declared.over.Over.{Over}
 use Rattle.luks_keeping.specs.declared.over.Over.TheVariants.{AnyVolume, SameVolume}
 use Rattle.luks_keeping.specs.declared.restore_fault.RestoreFault.{RestoreFault}
@@ -57,7 +57,7 @@ over_asked false = SameVolume
 -- `w` is the volume `old` of `total` bytes with the header and the key areas of the backup `b`: each keyslot answers as the
 -- backup's, and no byte of a segment is another
 pub record IsRestoredTo (b : List ℕ) (payload : Data) (total : ℕ) (old w : List ℕ) : Type 0 where
-  pub restored : IsRestored b old w
+  pub restored : IsRestored b payload old w
   pub well_formed : WellFormed w payload
   pub answers : (allowed : Allowed) (n : ℕ) (p : List ℕ) (a : Opened) → AnswerWithin allowed b n p a ↔ AnswerWithin allowed w n p a
   pub segments : (n : ℕ) (a : Area) → IsSegmentOn b payload total n a → part w a.start a.len ≡ part old a.start a.len
@@ -82,6 +82,7 @@ keeping_number Same = 1
 keeping_number Older = 2
 keeping_number Missing = 3
 keeping_number Removed = 4
+keeping_number Damaged = 5
 
 -- whether a digest of the volume keys is one, by its number
 abbrev pub key_number : Bool → ℕ
@@ -100,7 +101,7 @@ pub record IsComparedTo (b t : List ℕ) (payload : Data) (old new : List ℕ) (
   pub formed : WellFormed t payload
   pub own : IsOtherVolume b t → ⊥
   pub comparison : Comparison
-  pub compared : IsCompared b t comparison
+  pub compared : IsComparedInFull b t comparison
   pub key : same_key ≡ key_number comparison.same_key
   pub keyslots : TellsKeyslots comparison.keyslots 32 old new
 

@@ -5,7 +5,9 @@ ghost use Rattle.luks_c_headers.specs.KeepAnswers.{AnswersCompare, TellsKeyslots
 
 use luks_c_answers::{BEYOND, DONE, check_number, restore_number};
 use luks_given::{FirstBytes, Given};
-use luks_keeping::{Comparison, Keeping, RestoreFault, accepted_header, compare, is_other_volume};
+use luks_keeping::{
+    Comparison, Keeping, RestoreFault, accepted_header, compare_areas, is_other_volume,
+};
 use luks_reading::{CheckFault, Data};
 use std::alloc::Global;
 
@@ -70,7 +72,11 @@ pub fn compare_given<S: Given, K: Given>(
     if is_other_volume(&here, &there) {
         return restore_number(&RestoreFault::OtherVolume);
     }
-    let found = compare(&here, &there);
+    let Ok(found) = compare_areas(&mut kept, &here, &mut device, &there) else {
+        told.backup_beyond = kept.reached();
+        told.beyond = device.reached();
+        return BEYOND;
+    };
     told.same_key = number_of_key(found.same_key);
     tell_keyslots(&found, keyslots);
     DONE
@@ -103,5 +109,6 @@ fn number_of_keeping(keeping: Keeping) -> u8
         Keeping::Older => 2,
         Keeping::Missing => 3,
         Keeping::Removed => 4,
+        Keeping::Damaged => 5,
     }
 }

@@ -1,9 +1,11 @@
--- Another use of the disk by now: where only the second copy of a LUKS2 header is sound, what stands in the place of the
--- first, and how an edit ends that it bars.
-use Rattle.std.specs.Prelude.{◌≡◌, ℕ, List, [], ◌∷◌, ◌++◌, codes, Option, Some, None, Bool, false, Result, Ok, Err, ⊤, take}
-use Rattle.luks1_header.specs.Header1.{HasMagic}
-use Rattle.luks_head.specs.Selection.{luks2, Chosen}
-use Rattle.luks_head.specs.declared.selection.Copies.TheVariants.{SecondOnly}
+-- Another use of the disk by now: where only one copy of a LUKS2 header is sound, what stands in the place of the other,
+-- and how an edit ends that it bars.
+use Rattle.std.specs.Prelude.{◌≡◌, ℕ, ◌*◌, List, [], ◌∷◌, ◌++◌, codes, Option, Some, None, Bool, false, Result, Ok, Err, ⊤, take}
+use Rattle.luks_head.specs.Header2.{header_at, HoldsBin2}
+use Rattle.luks_head.specs.Selection.{luks2, second_place, Chosen}
+use Rattle.luks_head.specs.declared.bin2.Bin2.{Bin2}
+use Rattle.luks_head.specs.declared.selection.Copies.{Copies}
+use Rattle.luks_head.specs.declared.selection.Copies.TheVariants.{InStep, FirstNewer, SecondNewer, FirstOnly, SecondOnly}
 use Rattle.luks_signatures.specs.Signatures.{Finds, table}
 use Rattle.luks_signatures.specs.UseTexts.{use_text}
 use Rattle.luks_signatures.specs.declared.other_use.OtherUse.{OtherUse}
@@ -21,13 +23,31 @@ use Rattle.luks_edit_commands.specs.declared.edit.seen.Seen.{Seen}
 use Rattle.luks_edit_commands.specs.declared.edit.seen.Unseen.{Unseen}
 use Rattle.luks_edit_commands.specs.declared.edit.seen.Unseen.TheVariants.{Untold, Used}
 
--- Of the volume `v` only the second copy of a LUKS2 header is sound. It stands where the first one ends, so that the bytes
--- before it are the first one's place. No LUKS magic stands there, and the table of signatures finds this use there.
+-- the header is that of the copy that counts of the volume `v`, and its copies stand so
+abbrev pub IsCounting : List ℕ → Bin2 → Copies → Type 0
+IsCounting v h copies = Chosen v (luks2 h.hdr_offset copies) × HoldsBin2 (header_at v h.hdr_offset) h
+
+-- Before which byte the volume `v` is asked, whose copies stand so and of which the one at `place` counts. Where only
+-- the second copy is sound, the first one's place ends where it begins. Where only the first one is, the second one's place
+-- ends at twice its size: none of its own bytes are those of another use, since they are summed. Where both are sound, no
+-- other use has been made in their places; of what stands behind them it can't be told whether it is older.
+abbrev pub AsksBefore : List ℕ → ℕ → Copies → ℕ → Type 0
+AsksBefore v place SecondOnly end = end ≡ place
+AsksBefore v place FirstOnly end = end ≡ 2 * second_place v
+AsksBefore v place InStep end = ⊥
+AsksBefore v place FirstNewer end = ⊥
+AsksBefore v place SecondNewer end = ⊥
+
+-- One copy alone of a LUKS2 header is sound in the volume `v`, and the table of signatures finds this use before the end of
+-- the other one's place, whatever magic stands there. (A LUKS1 header has no copy: where a partition table was made, the
+-- words of keyslots 5 and 6 are those of no state, and `check` refuses it.)
 pub record HasOtherUse (v : List ℕ) (found : OtherUse) : Type 0 where
   pub place : ℕ
-  pub chosen : Chosen v (luks2 place SecondOnly)
-  pub no_magic : HasMagic v → ⊥
-  pub finds : Finds table (take place v) (Some found)
+  pub copies : Copies
+  pub end : ℕ
+  pub chosen : Chosen v (luks2 place copies)
+  pub asked : AsksBefore v place copies end
+  pub finds : Finds table (take end v) (Some found)
 
 -- what was found: the other use of the volume `v`, or that it has none
 abbrev pub FindsOtherUse : List ℕ → Option OtherUse → Type 0
@@ -86,4 +106,4 @@ SeesBarred over v (Err unseen) = over ≡ false → (u : OtherUse) → HasOtherU
 -- that an edit of the volume of this name has written over this use of its disk
 abbrev pub overwritten_line : List ℕ → OtherUse → List ℕ
 overwritten_line volume found =
-    codes "luks: " ++ volume ++ codes ": " ++ use_text found ++ codes " stood in the place of the first copy, and was written over" ++ 10 ∷ []
+    codes "luks: " ++ volume ++ codes ": " ++ use_text found ++ codes " stood in the place of a damaged copy, and was written over" ++ 10 ∷ []

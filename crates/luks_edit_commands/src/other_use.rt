@@ -1,16 +1,13 @@
-//! Another use of the disk by now, in the place of a first copy that isn't sound.
-ghost use Rattle.std.specs.Prelude.{◌≡◌, ◌↔◌, ◌+◌, ◌^◌, ◌<◌, IfOk, IfSome, IsTrue, OnOk};
+//! Another use of the disk by now, in the place of a copy that isn't sound.
+ghost use Rattle.std.specs.Prelude.{◌≡◌, ◌+◌, ◌*◌, ◌^◌, ◌<◌, ◌≤◌, IfOk, IfSome, OnOk};
 ghost use Rattle.std.specs.Io.KnownBytes.{Appends};
 ghost use Rattle.luks_area.specs.Device.{CountsFailure, IsUnchanged, is_failure};
-ghost use Rattle.luks1_header.specs.Header1.{HasMagic};
-ghost use Rattle.luks_head.specs.Selection.{Chosen, luks2};
 ghost use Rattle.luks_reading.specs.Header.{IsHeader};
-ghost use Rattle.luks_edit_commands.specs.OtherUses.{Bars, FindsOtherUse, HasOtherUse, overwritten_line};
+ghost use Rattle.luks_edit_commands.specs.OtherUses.{Bars, FindsOtherUse, HasOtherUse, IsCounting, overwritten_line};
 
-use luks_head::{Copies, Selected, select};
+use luks_head::{Bin2, Copies, Selected, select};
 use luks_signatures::{OtherUse, first_use};
 use luks_volume::{Device, DeviceFault, Header};
-use luks1_header::luks1_places::MAGIC;
 use std::alloc::Global;
 use std::io::{self, Write};
 
@@ -43,55 +40,35 @@ fn other_use<D: Device>(device: &mut D, header: &Header) -> Result<Option<OtherU
 {
     match header {
         Header::Luks1(_) => Ok(None),
-        Header::Luks2(copy) => use_beside(device, copy.header.hdr_offset, copy.copies),
+        Header::Luks2(copy) => use_beside(device, &copy.header, copy.copies),
     }
 }
 
-/// The same where a copy of a LUKS2 header counts at this place, and its copies stand so.
+/// The same where this copy of a LUKS2 header counts, and its copies stand so: of the place of a copy that
+/// isn't sound.
 fn use_beside<D: Device>(
     device: &mut D,
-    place: u64,
+    header: &Bin2,
     copies: Copies,
 ) -> Result<Option<OtherUse>, DeviceFault>
     requires { D.failed device.old + 1 < 2 ^ 64 }
     ensures unchanged { IsUnchanged D.tells D.size D.bytes D.unsettled device.old device.new }
     ensures count { CountsFailure is_failure result (D.failed device.old) (D.failed device.new) }
-    ensures found { D.tells → Chosen (D.bytes device.old) (luks2 place copies)
+    ensures found { D.tells → IsCounting (D.bytes device.old) header.now copies
         → IfOk result (FindsOtherUse (D.bytes device.old)) }
 {
     match copies {
-        Copies::SecondOnly => use_before(device, place),
+        Copies::SecondOnly => first_use(device, header.hdr_offset),
+        Copies::FirstOnly => first_use(device, both_places(header.hdr_size)),
         _ => Ok(None),
     }
 }
 
-/// The same where the only sound copy is a second one, at this place.
-fn use_before<D: Device>(device: &mut D, place: u64) -> Result<Option<OtherUse>, DeviceFault>
-    requires { D.failed device.old + 1 < 2 ^ 64 }
-    ensures unchanged { IsUnchanged D.tells D.size D.bytes D.unsettled device.old device.new }
-    ensures count { CountsFailure is_failure result (D.failed device.old) (D.failed device.new) }
-    ensures found { D.tells → Chosen (D.bytes device.old) (luks2 place Copies.SecondOnly)
-        → IfOk result (FindsOtherUse (D.bytes device.old)) }
+/// Where the place of the second copy ends.
+fn both_places(size: u64) -> u64
+    ensures { size ≤ 4194304 → result ≡ 2 * size }
 {
-    if has_magic(device)? {
-        return Ok(None);
-    }
-    first_use(device, place)
-}
-
-/// Whether the magic of LUKS stands at byte 0.
-fn has_magic<D: Device>(device: &mut D) -> Result<bool, DeviceFault>
-    requires { D.failed device.old + 1 < 2 ^ 64 }
-    ensures unchanged { IsUnchanged D.tells D.size D.bytes D.unsettled device.old device.new }
-    ensures count { CountsFailure is_failure result (D.failed device.old) (D.failed device.new) }
-    ensures has { D.tells → IfOk result (λ has. IsTrue has ↔ HasMagic (D.bytes device.old)) }
-{
-    if device.len() < 6 {
-        return Ok(false);
-    }
-    let mut magic = [0; 6];
-    device.read_at(0, &mut magic)?;
-    Ok(magic == MAGIC)
+    size.saturating_mul(2)
 }
 
 /// The other use of a disk by now. None where it has none, and where that can't be read.
@@ -100,11 +77,11 @@ pub fn standing_use<D: Device>(alloc: Global, device: &mut D) -> Option<OtherUse
     ensures unchanged { IsUnchanged D.tells D.size D.bytes D.unsettled device.old device.new }
     ensures has { D.tells → IfSome result (HasOtherUse (D.bytes device.old)) }
 {
-    match select(alloc, device) {
-        Ok(Selected::V2 { header, copies }) => {
-            use_beside(device, header.hdr_offset, copies).unwrap_or(None)
-        }
-        Ok(Selected::V1(_)) => None,
+    let Ok(Selected::V2 { header, copies }) = select(alloc, device) else {
+        return None;
+    };
+    match use_beside(device, &header, copies) {
+        Ok(found) => found,
         Err(_) => None,
     }
 }
@@ -117,7 +94,7 @@ pub fn note_other_use<D: Device, E: Write>(alloc: Global, device: &mut D, volume
     if let Some(found) = standing_use(alloc, device) {
         let _ = writeln!(
             err,
-            "luks: {volume}: {found} stands in the place of the first copy: no edit writes over it without --over"
+            "luks: {volume}: {found} stands in the place of a damaged copy: no edit writes over it without --over"
         );
     }
 }
@@ -129,6 +106,6 @@ pub fn note_overwritten<E: Write>(found: OtherUse, volume: &str, err: &mut E) ->
 {
     writeln!(
         err,
-        "luks: {volume}: {found} stood in the place of the first copy, and was written over"
+        "luks: {volume}: {found} stood in the place of a damaged copy, and was written over"
     )
 }

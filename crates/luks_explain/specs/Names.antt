@@ -61,6 +61,7 @@ name_of fault.NotAccepted = codes "NotAccepted"
 name_of fault.DoesNotFit = codes "DoesNotFit"
 name_of fault.OtherVolume = codes "OtherVolume"
 name_of fault.OtherUse = codes "OtherUse"
+name_of fault.Reencrypting = codes "Reencrypting"
 
 -- each of them, once
 abbrev pub all_faults : List Fault
@@ -116,6 +117,7 @@ all_faults =
     ∷ fault.DoesNotFit
     ∷ fault.OtherVolume
     ∷ fault.OtherUse
+    ∷ fault.Reencrypting
     ∷ []
 
 -- the fault of a name, if there is one
@@ -175,3 +177,4 @@ named fault.NotAccepted = refl
 named fault.DoesNotFit = refl
 named fault.OtherVolume = refl
 named fault.OtherUse = refl
+named fault.Reencrypting = refl

@@ -6,7 +6,7 @@ use crate::texts::{means, next, place, safe};
 
 /// A fault by its name alone, without what it prints in brackets. Where several faults have one name,
 /// as `Outside` of an area and of the keyslot to open, it stands for all of them.
-#[derive(Clone, Copy, PartialEq, Eq)]
+#[derive(Clone, Copy, PartialEq)]
 pub enum Fault {
     /// Fewer than 592 bytes, so that no header fits.
     TooShort,
@@ -110,6 +110,8 @@ pub enum Fault {
     OtherVolume,
     /// The disk has another use, which would be written over.
     OtherUse,
+    /// cryptsetup is in the midst of reencrypting the volume.
+    Reencrypting,
 }
 
 /// The name of the fault's variant.
@@ -124,8 +126,8 @@ macro_rules! variant_name {
 impl Fault {
     /// Every fault: of the header, the metadata of LUKS2, the areas, the keyslot that is to be opened,
     /// then of an edit, of formatting, of converting, of rebuilding and of header backups, and at last of
-    /// another use of the disk.
-    pub const ALL: [Fault; 51] = [
+    /// another use of the disk and of a reencryption.
+    pub const ALL: [Fault; 52] = [
         Fault::TooShort,
         Fault::NotLuks,
         Fault::Version,
@@ -177,6 +179,7 @@ impl Fault {
         Fault::DoesNotFit,
         Fault::OtherVolume,
         Fault::OtherUse,
+        Fault::Reencrypting,
     ];
 
     /// The fault that is so printed, or that has this name; None where none has.
@@ -198,7 +201,7 @@ impl Fault {
             Outside Overlap NoSuchSlot SameSlot SlotFree Argon2 Cipher Hash KeySize Locked Passphrase
             Requirements SlotTaken NoFreeSlot NoRoom LastSlot BadLabel SeqExhausted MetadataFull
             RandomLength TooSmall NotLuks1 SameFile Counts NoMetadata NoHeader Exists NotAccepted DoesNotFit
-            OtherVolume OtherUse
+            OtherVolume OtherUse Reencrypting
         )
     }
 

@@ -55,6 +55,7 @@ pub(crate) fn means(fault: Fault) -> &'static str {
         Fault::DoesNotFit => "of restore: check would refuse VOLUME with this header",
         Fault::OtherVolume => "another volume's header stands on what would be written over",
         Fault::OtherUse => "the disk has another use, which would be written over",
+        Fault::Reencrypting => "cryptsetup is in the midst of reencrypting the volume",
     }
 }
 
@@ -148,7 +149,8 @@ pub(crate) fn place(fault: Fault) -> &'static str {
         Fault::NotLuks1 => "convert: SOURCE",
         Fault::SameFile => {
             "convert and rebuild, and backup, restore and compare: one file or device,
-       by the same words or two names"
+       by the same words or two names, or one that has bytes of the other, as a
+       loop device of its file"
         }
         Fault::Counts => "rebuild: SOURCE",
         Fault::NoMetadata => {
@@ -178,6 +180,11 @@ pub(crate) fn place(fault: Fault) -> &'static str {
        before the second copy of LUKS2, where one isn't sound; of format,
        convert, rebuild and restore: its signature, of restore where no header
        of the same volume counts"
+        }
+        Fault::Reencrypting => {
+            "LUKS1, of rebuild: the header begins with LUKS and the bytes DE AD, which
+       cryptsetup writes there until it is done; LUKS2, of restore: a keyslot
+       of type reencrypt, or a requirement of that kind"
         }
     }
 }
@@ -255,7 +262,8 @@ pub(crate) fn safe(fault: Fault) -> &'static str {
         | Fault::NotAccepted
         | Fault::DoesNotFit
         | Fault::OtherVolume
-        | Fault::OtherUse => { "everything: nothing was written" }
+        | Fault::OtherUse
+        | Fault::Reencrypting => { "everything: nothing was written" }
         Fault::Argon2 => { "everything: the passphrase goes through Argon2, which takes memory" }
         Fault::Cipher | Fault::Hash | Fault::KeySize => {
             "everything: no passphrase was tried, and nothing was written"
@@ -422,6 +430,14 @@ pub(crate) fn next(fault: Fault) -> &'static str {
         Fault::OtherUse => {
             "is it the right device? If the other use counts, leave it: luks open and
        show work as ever; else the same command with --over takes it away"
+        }
+        Fault::Reencrypting => {
+            "let cryptsetup go on. LUKS1: in the folder where it was begun, with the
+       files LUKS-UUID.log, .org and .new, by the same cryptsetup reencrypt;
+       .log has how far it is, .org and .new the old and the new header: copy
+       the three and lose none. LUKS2: cryptsetup repair, then cryptsetup
+       reencrypt --resume-only; a backup from before it loses what is done, and
+       restore takes it by --over-reencryption alone"
         }
     }
 }

@@ -13,6 +13,9 @@ pub struct Folder<'a, R> {
     name: &'a str,
     typed: String,
     held: Option<File>,
+    /// What another program cuts during the commands: a file, its name that of a file whose making it
+    /// waits for, and the length that it leaves.
+    meanwhile: String,
 }
 
 impl<'a, R: AllocGlobal + Files<File = File>> Folder<'a, R> {
@@ -23,6 +26,7 @@ impl<'a, R: AllocGlobal + Files<File = File>> Folder<'a, R> {
             name,
             typed: String::new(rt.alloc()),
             held: None,
+            meanwhile: String::new(rt.alloc()),
         }
     }
 
@@ -51,6 +55,10 @@ impl<'a, R: AllocGlobal + Files<File = File>> Folder<'a, R> {
             }
             "typed" => {
                 self.typed = text_of(self.rt, rest)?;
+                Ok(())
+            }
+            "meanwhile" => {
+                self.meanwhile = text_of(self.rt, rest)?;
                 Ok(())
             }
             "hold" => {
@@ -150,6 +158,7 @@ impl<'a, R: AllocGlobal + Files<File = File>> Folder<'a, R> {
         let words: Vec<&str> = words.split(' ').collect(self.rt.alloc())?;
         let typed = self.typed.as_bytes();
         let trial = Trial::new(self.rt, self.name, words.as_slice(), typed);
+        let trial = trial.cutting(cut_of(self.meanwhile.as_str()));
         let status = luks_main::run(&trial);
         let [printed, said, opened] = trial.told();
         out.write_all(printed.as_slice())?;
@@ -169,6 +178,14 @@ pub fn unknown() -> io::Error {
 /// The number that a word says.
 pub fn number_of(text: &str) -> io::Result<u64> {
     text.parse().map_err(|_| unknown())
+}
+
+/// The words of `meanwhile`: what is made, what is cut then, and to which length; nothing where there are
+/// none.
+fn cut_of(words: &str) -> Option<(&str, &str, u64)> {
+    let (made, rest) = words.split_once(' ')?;
+    let (other, len) = rest.split_once(' ')?;
+    Some((made, other, len.parse().ok()?))
 }
 
 fn octal_of(text: &str) -> io::Result<u32> {

@@ -2,13 +2,17 @@
 //! volumes are locked and remembered, the passphrases read whole.
 #![tactic(auto)]
 
-mod backup_file;
 mod openings;
+mod output;
 mod passphrases;
+mod target;
 mod typing;
+mod volume;
 mod volumes;
 
 pub use openings::{Opening, Openings};
 pub use passphrases::{Passphrases, reader};
+pub use target::take_away;
 pub use typing::{ERROR, is_terminal};
-pub use volumes::{Volume, Volumes, WHOLE, has_changed, open_volume, open_volumes, reopened};
+pub use volume::{Volume, WHOLE};
+pub use volumes::{Volumes, has_changed, open_volume, open_volumes, reopened};

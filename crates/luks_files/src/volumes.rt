@@ -1,35 +1,26 @@
 //! The volumes of a command line.
-ghost use Rattle.std.specs.Prelude.{◌≡◌, ◌≢◌, ◌↔◌, false, Err, IfOk, IfSome, IsErr, IsOkAnd, IsTrue, None};
+ghost use Rattle.std.specs.Prelude.{◌≡◌, ◌≢◌, ◌↔◌, false, true, Err, Ok, IfOk, IfSome, IsErr, IsOkAnd, IsTrue, None};
 ghost use Rattle.luks_guarded_files.specs.Cached.{cached_failures, changes_seen, device_behind};
 ghost use Rattle.luks_guarded_files.specs.Locked.{lock_of, share_for};
 ghost use Rattle.luks_files.specs.Opened.{beside_of};
 ghost use Rattle.luks_window.specs.Windows.{behind};
 
-use crate::backup_file::{is_taken, make_room};
 use crate::openings::{Opening, Openings};
-use luks_area::FileDevice;
+use crate::output::refused_name;
+use crate::target::{Shape, Source, Target, is_taken};
+use crate::volume::{Volume, WHOLE, told, volume_of};
 use luks_commands::{InputFault, Reason};
 use luks_guarded_files::{
-    CachedDevice, FOLDER, Host, LockedDevice, OpenFault, is_same_file, open_locked,
+    BLOCKS, CachedDevice, FOLDER, Found, Host, Stretch, have_common_bytes, open_locked,
 };
-use luks_keeping::backup_length;
+use luks_keeping::{BackupFault, backup_length};
 use luks_request::{BackingUp, Command, Line, Place};
 use luks_window::Window;
+use std::alloc::AllocError;
+use std::cell::Cell;
 use std::fs::File;
-use std::io::Write;
-use std::marker::Brand;
+use std::rc::Rc;
 use std::rt::{Clock, Files};
-
-/// The volume of a command line: the bytes of its file where it lies, its first ones remembered. The file
-/// is measured whole, under the lock of the whole. No byte beside the window is written, as its type says
-/// of any device; a file tells no bytes, so that nothing more can be said of one here.
-pub type Volume = CachedDevice<Window<LockedDevice<FileDevice<File>>, Brand>>;
-
-/// All bytes of a file.
-pub const WHOLE: Place = Place {
-    offset: 0,
-    length: None,
-};
 
 /// The volumes of a command line.
 pub struct Volumes {
@@ -37,6 +28,12 @@ pub struct Volumes {
     pub volume: Result<Volume, InputFault>,
     /// What is opened beside it.
     pub target: Result<Volume, InputFault>,
+    /// What the target is, where it was made for a backup; the command takes it away where the backup
+    /// isn't done.
+    pub made: Option<Found>,
+    /// Whether the target has turned out to be the volume, by a name of which the system tells nothing; it
+    /// is told by a write that fails, and that write's bytes were put back.
+    pub is_source: Option<Rc<Cell<bool>>>,
 }
 
 impl Volumes {
@@ -48,13 +45,29 @@ impl Volumes {
         Volumes {
             volume: Err(InputFault::Absent),
             target: Err(target),
+            made: None,
+            is_source: None,
+        }
+    }
+
+    /// Neither of them, since memory was refused.
+    fn without_memory() -> Self
+        ensures volume { result.volume ≡ Err InputFault.NoMemory }
+        ensures target { result.target ≡ Err InputFault.NoMemory }
+    {
+        Volumes {
+            volume: Err(InputFault::NoMemory),
+            target: Err(InputFault::NoMemory),
+            made: None,
+            is_source: None,
         }
     }
 }
 
 /// Opens the volume, and then what the command writes or reads beside it; neither where a passphrase has
 /// ended the command, and nothing beside a volume that can't be opened. Where both are one file, by
-/// whichever names, nothing is opened. Each is locked as what it is opened for.
+/// whichever names, or the system tells that they have bytes in common, nothing is opened. Each is locked
+/// as what it is opened for.
 pub fn open_volumes<R: AllocGlobal + Clock + Files<File = File>>(
     rt: &R,
     line: &Line<'_>,
@@ -80,26 +93,58 @@ pub fn open_volumes<R: AllocGlobal + Clock + Files<File = File>>(
         return Volumes {
             volume: open_volume(rt, openings.volume, openings.place, notes),
             target: Err(InputFault::Absent),
+            made: None,
+            is_source: None,
         };
     };
-    if is_same_file(&mut Host::new(rt), openings.volume.name, beside.name) {
-        return Volumes::unopened(InputFault::Unreadable(Reason::SameFile));
+    match are_one(rt, openings, beside) {
+        Ok(false) => {}
+        Ok(true) => return Volumes::unopened(InputFault::Unreadable(Reason::SameFile)),
+        Err(AllocError) => return Volumes::without_memory(),
     }
     if holds_something(rt, line) {
         return Volumes::unopened(InputFault::Unreadable(Reason::Exists));
     }
     let volume = open_volume(rt, openings.volume, openings.place, notes);
-    let room = match &volume {
-        Ok(_) => room_beside(rt, line),
-        Err(_) => Err(InputFault::Absent),
+    let Target {
+        volume: target,
+        made,
+        is_source,
+    } = match &volume {
+        Ok(_) => open_beside(rt, line, openings, beside, notes),
+        Err(_) => Target::missed(InputFault::Absent),
     };
     Volumes {
         volume,
-        target: match room {
-            Ok(()) => open_volume(rt, beside, WHOLE, notes),
-            Err(fault) => Err(fault),
-        },
+        target,
+        made,
+        is_source,
     }
+}
+
+/// Whether the volume and what is opened beside it have a byte in common, as far as the system tells.
+fn are_one<R: AllocGlobal + Clock + Files<File = File>>(
+    rt: &R,
+    openings: &Openings<'_>,
+    beside: Opening<'_>,
+) -> Result<bool, AllocError>
+    ensures { beside.entry.name.now ≡ openings.now.volume.name.now → result ≡ Ok true }
+{
+    let Place { offset, length } = openings.place;
+    let volume = Stretch {
+        name: openings.volume.name,
+        start: offset,
+        end: match length {
+            Some(length) => offset.saturating_add(length),
+            None => u64::MAX,
+        },
+    };
+    let other = Stretch {
+        name: beside.name,
+        start: 0,
+        end: u64::MAX,
+    };
+    have_common_bytes(rt.alloc(), &mut Host::new(rt), volume, other, BLOCKS)
 }
 
 /// Whether a backup is to be made over something that isn't to be written over.
@@ -110,29 +155,73 @@ fn holds_something<R: Files<File = File>>(rt: &R, line: &Line<'_>) -> bool {
     }
 }
 
-/// Makes room for a backup of the volume, where that is what is asked for; none where its header isn't
-/// accepted, which the command finds then.
-fn room_beside<R: AllocGlobal + Clock + Files<File = File>>(
+/// Opens what the command has beside the volume. The file of a backup is opened for as many bytes as that
+/// has, and isn't where the volume's header isn't accepted, which the command finds then.
+fn open_beside<R: AllocGlobal + Clock + Files<File = File>>(
     rt: &R,
     line: &Line<'_>,
-) -> Result<(), InputFault> {
-    let Command::Backup(backing_up) = line.command else {
-        return Ok(());
+    openings: &Openings<'_>,
+    beside: Opening<'_>,
+    notes: &mut Vec<u8>,
+) -> Target
+    ensures count { IfOk result.volume (λ device. cached_failures device ≡ 0) }
+    ensures share { IfOk result.volume (λ device.
+        (lock_of (behind (device_behind device))).share ≡ share_for beside.entry.writes) }
+{
+    if !beside.writes {
+        return Target {
+            volume: open_volume(rt, beside, WHOLE, notes),
+            made: None,
+            is_source: None,
+        };
+    }
+    let source = Source {
+        name: openings.volume.name,
+        at: openings.place.offset,
     };
-    let length = length_of_backup(rt, line, &backing_up).ok_or(InputFault::Absent)?;
-    make_room(rt, backing_up.target, length, backing_up.over)
+    match shape_of(rt, line) {
+        Ok(shape) => Target::open(rt, source, beside.name, shape, notes),
+        Err(fault) => Target::missed(fault),
+    }
 }
 
-/// How many bytes the backup has; none where the volume can't be looked at, or its header isn't accepted.
+/// As what the command's target is opened.
+fn shape_of<R: AllocGlobal + Clock + Files<File = File>>(
+    rt: &R,
+    line: &Line<'_>,
+) -> Result<Shape, InputFault> {
+    match line.command {
+        Command::Backup(backing_up) => Ok(Shape::Backup {
+            length: length_of_backup(rt, line, &backing_up)?,
+            over: backing_up.over,
+        }),
+        _ => Ok(Shape::AsItIs),
+    }
+}
+
+/// How many bytes the backup has; absent where the volume can't be looked at, or its header isn't accepted.
 /// It isn't inlined, so that it takes no stack beside the command.
 #[inline(never)]
 fn length_of_backup<R: AllocGlobal + Clock + Files<File = File>>(
     rt: &R,
     line: &Line<'_>,
     backing_up: &BackingUp<'_>,
-) -> Option<u64> {
-    let mut device = reopened(rt, line.volume, line.place)?;
-    backup_length(rt.alloc(), &mut device, backing_up.data_).ok()
+) -> Result<u64, InputFault> {
+    let opening = Opening {
+        name: line.volume,
+        writes: false,
+    };
+    let mut unsaid = Vec::new(rt.alloc());
+    let mut device = match open_volume(rt, opening, line.place, &mut unsaid) {
+        Ok(device) => device,
+        Err(InputFault::NoMemory) => return Err(InputFault::NoMemory),
+        Err(_) => return Err(InputFault::Absent),
+    };
+    match backup_length(rt.alloc(), &mut device, backing_up.data_) {
+        Ok(length) => Ok(length),
+        Err(BackupFault::Memory) => Err(InputFault::NoMemory),
+        Err(_) => Err(InputFault::Absent),
+    }
 }
 
 /// The volume of this name, opened under its lock, at this place of its file; what of the lock isn't held is
@@ -148,32 +237,15 @@ pub fn open_volume<R: AllocGlobal + Clock + Files<File = File>>(
     ensures share { IfOk result (λ device.
         (lock_of (behind (device_behind device))).share ≡ share_for opening.entry.writes) }
 {
-    let volume = opening.name;
-    match open_locked(
-        rt.alloc(),
-        &mut Host::new(rt),
-        volume,
-        opening.writes,
-        FOLDER,
-    ) {
-        Ok(device) => {
-            for notice in device.lock().notices().iter().flatten() {
-                let _ = writeln!(notes, "luks: {volume}: {notice}");
-            }
-            CachedDevice::new(rt.alloc(), Window::new(device, place.offset, place.length)).map_err(
-                |_| InputFault::NoMemory,
-            )
+    let name = opening.name;
+    if opening.writes {
+        if let Some(fault) = refused_name(rt, name, notes) {
+            return Err(fault);
         }
-        Err(OpenFault::NoVolume) => Err(InputFault::Unreadable(Reason::NoVolume)),
-        Err(OpenFault::Edited) => Err(InputFault::Unreadable(Reason::Edited)),
-        Err(OpenFault::ReadOnly) => {
-            let _ = writeln!(
-                notes,
-                "luks: {volume}: its file system or its device is read-only"
-            );
-            Err(InputFault::Unreadable(Reason::Other))
-        }
-        Err(OpenFault::File(error)) => Err(InputFault::from(error)),
+    }
+    match open_locked(rt.alloc(), &mut Host::new(rt), name, opening.writes, FOLDER) {
+        Ok(device) => volume_of(rt.alloc(), device, name, place, notes),
+        Err(fault) => Err(told(fault, name, notes)),
     }
 }
 

@@ -13,7 +13,8 @@ use Rattle.luks_finding.proofs.SignFacts.{sign-begins}
 
 -- what begins a sign has 8 bytes
 begins-long : (b : List ℕ) → BeginsSign b → length b ≡ 8
-begins-long b (inl header) = header.long
+begins-long b (inl (inl header)) = header.long
+begins-long b (inl (inr header)) = header.long
 begins-long b (inr (inl second)) = second.long
 begins-long b (inr (inr text)) = text.long
 

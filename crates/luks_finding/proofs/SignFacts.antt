@@ -87,14 +87,21 @@ sign-begins v s p sign = elim sign.is [
 
 -- no bytes begin two of them
 header-second : (b : List ℕ) → BeginsHeader b → BeginsSecond b → ⊥
-header-second b header second =
+header-second b (inl header) second =
     let first : 0x4C ≡ 0x53 = ap (λ l. get_or l 0 0) (sym header.magic ∙ second.magic) in
     omega (arith, first)
+header-second b (inr header) second =
+    let first : 0x4C ≡ 0x53 = ap (λ l. get_or l 0 0) (sym header.magic ∙ second.magic) in
+    omega (arith, first)
+
+first-byte : (b : List ℕ) → BeginsHeader b → get_or (part (part b 0 6) 0 1) 0 0 ≡ 0x4C
+first-byte b (inl header) = ap (λ l. get_or (part l 0 1) 0 0) header.magic
+first-byte b (inr header) = ap (λ l. get_or (part l 0 1) 0 0) header.magic
 
 pub header-text : (b : List ℕ) → BeginsHeader b → BeginsText b → ⊥
 header-text b header text =
     let brace : get_or (part b 0 1) 0 0 ≡ 123 = ap (λ l. get_or l 0 0) text.brace in
-    let magic : get_or (part (part b 0 6) 0 1) 0 0 ≡ 0x4C = ap (λ l. get_or (part l 0 1) 0 0) header.magic in
+    let magic : get_or (part (part b 0 6) 0 1) 0 0 ≡ 0x4C = first-byte b header in
     let same : part (part b 0 6) 0 1 ≡ part b 0 1 = part-part b 0 6 0 1 (omega arith) in
     let both : get_or (part (part b 0 6) 0 1) 0 0 ≡ get_or (part b 0 1) 0 0 = ap (λ l. get_or l 0 0) same in
     omega (arith, brace, magic, both)

@@ -9,8 +9,8 @@ use Rattle.luks_head.specs.Sizes.{IsListed}
 use Rattle.luks_head.proofs.CopyFacts.{listed_at_least}
 use Rattle.luks_rebuilding.specs.declared.place.Place.{Place}
 use Rattle.luks_finding.specs.Blocks.{BeginsText}
-use Rattle.luks_finding.specs.Starts.{other_magic, volume_at, BeginsHeader, HasSignBefore, IsCopySign, IsFirstSign, IsMetadataSign, IsSign}
-use Rattle.luks_finding.specs.Telling.{first_copy, joined, second_copy, FindsSize, FindsWhole, HasNearer, IsFirstAt, IsSecondAt, IsWholeAt, NamesSize, TellsAt, TellsKind}
+use Rattle.luks_finding.specs.Starts.{other_magic, volume_at, BeginsHeader, BeginsLuks, BeginsReencrypting, HasSignBefore, IsCopySign, IsFirstSign, IsMetadataSign, IsSign}
+use Rattle.luks_finding.specs.Telling.{first_copy, joined, second_copy, FindsSize, FindsWhole, HasNearer, IsFirstAt, IsNoFirst, IsSecondAt, IsWholeAt, NamesSize, TellsAt, TellsKind}
 use Rattle.luks_finding.specs.declared.told.Told.TheVariants.{Nothing, One, Two}
 use Rattle.luks_finding.proofs.CopyFacts.{listed-some}
 use Rattle.luks_finding.proofs.MetadataFacts.{candidate-here, candidate-text, candidate-there, whole-one}
@@ -163,8 +163,8 @@ kind-second v s p h behind below sign magic =
     let other : other_magic sign.copy.at ≡ luks_magic = ap (λ b. if b then second_magic else luks_magic) (ne_eqb sign.copy.at 0 (λ none. omega (arith, there, none, below))) in
     sign.has.own (ap (λ k. part v k 6) there ∙ magic ∙ sym other)
 
--- where a header begins there, it has told the volume
-pub text-header : (v : List ℕ) (p h : ℕ) → p ≡ h + 4096 → BeginsText (part v p 8) → BeginsHeader (part v h 8) → TellsAt v p Nothing
+-- where a header begins there that counts, it has told the volume
+pub text-header : (v : List ℕ) (p h : ℕ) → p ≡ h + 4096 → BeginsText (part v p 8) → BeginsLuks (part v h 8) → TellsAt v p Nothing
 text-header v p h behind text begins = told-nothing v p (λ s sign.
     let metadata : IsMetadataSign v s p = sign-metadata v s p text sign in
     let magic : part v h 6 ≡ luks_magic = sym (part-front v h) ∙ begins.magic in
@@ -174,7 +174,7 @@ text-header v p h behind text begins = told-nothing v p (λ s sign.
           record {
             place = s;
             before = omega (arith, first, behind);
-            sign = record { sector = sign.sector; there = sign.there; is = inl (record { here = refl; begins = subst B (sym first) begins }) };
+            sign = record { sector = sign.sector; there = sign.there; is = inl (record { here = refl; begins = subst B (sym first) (inl begins) }) };
           }
       | inr second ↦ absurd (kind-second v s p h behind second metadata magic)
     ])
@@ -199,11 +199,20 @@ pub front-of : (v beginning : List ℕ) (h : ℕ) → beginning ≡ part v h 8 �
 front-of v beginning h read = ap (λ b. part b 0 6) read ∙ part-part v h 8 0 6 (omega arith) ∙ ap (λ k. part v k 6) (omega arith)
 
 -- the first copy's volume
-pub first-told : (v beginning : List ℕ) (k size : ℕ) (o : Option ℕ) → IsWholeAt v (512 * k) size → (BeginsHeader (part v (512 * k) 8) → ⊥)
+pub first-told : (v beginning : List ℕ) (k size : ℕ) (o : Option ℕ) → IsWholeAt v (512 * k) size → (BeginsLuks (part v (512 * k) 8) → ⊥)
     → beginning ≡ part v (512 * k) 8
-    → MatchOption o (part beginning 0 6 ≡ second_magic) (λ s. (s ≡ 512 * k) × (part beginning 0 6 ≡ second_magic → ⊥))
+    → MatchOption o (IsNoFirst beginning) (λ s. (s ≡ 512 * k) × (IsNoFirst beginning → ⊥))
     → TellsKind (IsFirstAt (512 * k)) v (512 * k + 4096) o
-first-told v beginning k size None whole none read is = λ s kind sign.
+first-told v beginning k size None whole none read (inr still) = λ s kind sign.
+    let h : ℕ = 512 * k in
+    let begins : BeginsReencrypting (part v h 8) = subst BeginsReencrypting read still in
+    let B : ℕ → Type 0 = λ n. BeginsHeader (part v n 8) in
+    record {
+      place = s;
+      before = omega (arith, kind);
+      sign = record { sector = sign.sector; there = sign.there; is = inl (record { here = refl; begins = subst B (sym kind) (inr begins) }) };
+    }
+first-told v beginning k size None whole none read (inl is) = λ s kind sign.
     let h : ℕ = 512 * k in
     let text : BeginsText (part v (h + 4096) 8) = whole-text v h size whole in
     let magic : part v h 6 ≡ second_magic = sym (front-of v beginning h read) ∙ is in
@@ -211,7 +220,9 @@ first-told v beginning k size None whole none read is = λ s kind sign.
 first-told v beginning k size (Some s) whole none read is =
     let h : ℕ = 512 * k in
     let own : part v (h + 0) 6 ≡ other_magic 0 → ⊥ = λ magic.
-    is.1 (front-of v beginning h read ∙ ap (λ n. part v n 6) (omega arith) ∙ magic) in
+    is.1 (inl (front-of v beginning h read ∙ ap (λ n. part v n 6) (omega arith) ∙ magic)) in
+    let no_header : BeginsHeader (part v h 8) → ⊥ = λ begins.
+    elim begins [ inl luks ↦ none luks | inr still ↦ is.1 (inr (subst BeginsReencrypting (sym read) still)) ] in
     let at_h : IsFirstSign v h (h + 4096) = record {
       sign = record {
         sector = k;
@@ -222,7 +233,7 @@ first-told v beginning k size (Some s) whole none read is =
           has = record { whole = whole.whole; own = own };
         }));
       };
-      first = λ before. first-alone v h before none;
+      first = λ before. first-alone v h before no_header;
     } in
     (is.0, subst (λ (n : ℕ). IsFirstSign v n (h + 4096)) (sym is.0) at_h, λ t kind sign. kind ∙ sym is.0)
   where

@@ -2,6 +2,7 @@
 use Rattle.std.specs.Prelude.{◌≡◌, ℕ, ◌+◌, ◌*◌, ◌<◌, ◌⊎◌, ◌==◌, List, drop, length, slice_index, if◌then◌else◌}
 use Rattle.luks_area.specs.Ranges.{part}
 use Rattle.luks1_header.specs.Header1.{luks_magic, HasMagic, version_of}
+use Rattle.luks_signatures.specs.Reencryption.{reencrypting_magic}
 use Rattle.luks_head.specs.Header2.{binary_header_size, second_magic, IsSound}
 use Rattle.luks_head.specs.Sizes.{IsListed}
 use Rattle.luks_rebuilding.specs.Candidates.{IsCandidate}
@@ -14,10 +15,19 @@ sector_size = 512
 
 -- the first 8 bytes of a volume are the magic and version 1 or 2 (LUKS1 On-Disk Format 1.2.3, "The partition header";
 -- LUKS2 On-Disk Format 1.1, 2.1)
-pub record BeginsHeader (b : List ℕ) : Type 0 where
+pub record BeginsLuks (b : List ℕ) : Type 0 where
   pub long : length b ≡ 8
   pub magic : HasMagic b
   pub version : (version_of b ≡ 1) ⊎ (version_of b ≡ 2)
+
+-- they are those of a LUKS1 volume that cryptsetup is in the midst of reencrypting
+pub record BeginsReencrypting (b : List ℕ) : Type 0 where
+  pub long : length b ≡ 8
+  pub magic : part b 0 6 ≡ reencrypting_magic
+  pub version : version_of b ≡ 1
+
+abbrev pub BeginsHeader : List ℕ → Type 0
+BeginsHeader b = BeginsLuks b ⊎ BeginsReencrypting b
 
 -- the volume that begins at the place `s` of the disk `v`: what follows, to the disk's end
 abbrev pub volume_at : List ℕ → ℕ → List ℕ

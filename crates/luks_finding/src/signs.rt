@@ -1,7 +1,7 @@
 //! The signs of a volume that are seen in a block of a disk.
 ghost use Rattle.std.specs.Prelude.{◌≡◌, ◌↔◌, ◌+◌, ◌*◌, ◌≤◌, IsTrue, IfSome, length};
 ghost use Rattle.luks_finding.specs.Blocks.{BeginsSecond, BeginsSign, BeginsText, FindsIn};
-ghost use Rattle.luks_finding.specs.Starts.{BeginsHeader};
+ghost use Rattle.luks_finding.specs.Starts.{BeginsHeader, BeginsLuks, BeginsReencrypting};
 
 use luks1_header::fields::{field, u16_at};
 use luks1_header::luks1_places::{MAGIC, VERSION};
@@ -15,12 +15,32 @@ pub(crate) const BEGINNING: usize = 8;
 /// The magic of a second copy: `SKUL`, 0xBA, 0xBE.
 pub(crate) const SECOND_MAGIC: [u8; 6] = [0x53, 0x4B, 0x55, 0x4C, 0xBA, 0xBE];
 
-/// Whether a header begins with these 8 bytes.
+/// The magic of a LUKS1 header while cryptsetup reencrypts its volume: `LUKS`, 0xDE, 0xAD.
+const REENCRYPTING_MAGIC: [u8; 6] = [0x4C, 0x55, 0x4B, 0x53, 0xDE, 0xAD];
+
+/// Whether a header begins with these 8 bytes: one that counts, or that of a LUKS1 volume which is being
+/// reencrypted.
 pub(crate) fn is_header(beginning: &[u8]) -> bool
     requires { length beginning.now ≡ 8 }
     ensures { IsTrue result ↔ BeginsHeader beginning.now }
 {
+    is_luks(beginning) || is_reencrypting(beginning)
+}
+
+/// Whether one begins with the magic of LUKS.
+pub(crate) fn is_luks(beginning: &[u8]) -> bool
+    requires { length beginning.now ≡ 8 }
+    ensures { IsTrue result ↔ BeginsLuks beginning.now }
+{
     field(beginning, 0, 6) == MAGIC.as_slice() && matches!(u16_at(beginning, VERSION), 1 | 2)
+}
+
+/// Whether one of LUKS1 begins with the magic that it has while its volume is reencrypted.
+pub(crate) fn is_reencrypting(beginning: &[u8]) -> bool
+    requires { length beginning.now ≡ 8 }
+    ensures { IsTrue result ↔ BeginsReencrypting beginning.now }
+{
+    field(beginning, 0, 6) == REENCRYPTING_MAGIC.as_slice() && u16_at(beginning, VERSION) == 1
 }
 
 /// Whether a second copy begins with these 8 bytes.

@@ -7,12 +7,12 @@ ghost use Rattle.luks_head.specs.Sizes.{IsListed};
 ghost use Rattle.luks_finding.specs.Blocks.{BeginsText};
 ghost use Rattle.luks_finding.specs.Faults.{is_find_failure};
 ghost use Rattle.luks_finding.specs.Starts.{BeginsHeader};
-ghost use Rattle.luks_finding.specs.Telling.{joined, HasNearer, IsMemoryOnly, IsSecondAt, IsWholeAt, LieBefore, NamesSize, TellsAt, TellsKind};
+ghost use Rattle.luks_finding.specs.Telling.{joined, HasNearer, IsMemoryOnly, IsNoFirst, IsSecondAt, IsWholeAt, LieBefore, NamesSize, TellsAt, TellsKind};
 
 use crate::find_fault::FindFault;
 use crate::metadata_signs::{has_nearer_metadata, whole_size};
 use crate::second_copies::{HEAD, has_nearer_copy, is_sound, named_size};
-use crate::signs::{BEGINNING, SECOND_MAGIC, SECTOR, is_header, is_text};
+use crate::signs::{BEGINNING, SECOND_MAGIC, SECTOR, is_header, is_luks, is_reencrypting, is_text};
 use crate::told::Told;
 use luks_area::{Device, DeviceFault};
 use luks1_header::fields::field;
@@ -156,7 +156,7 @@ fn told_by_text<D: Device>(alloc: Global, device: &mut D, sector: u64) -> Result
     }
     let header = sector - HEAD_SECTORS;
     let beginning = beginning_at(device, header)?;
-    if is_header(&beginning) {
+    if is_luks(&beginning) {
         return Ok(Told::Nothing);
     }
     match whole_size(alloc, device, header)? {
@@ -184,10 +184,10 @@ fn join(second: Option<u64>, first: Option<u64>) -> Told
 fn first_start(header: u64, beginning: &[u8]) -> Option<u64>
     requires fits { 512 * header < 2 ^ 64 }
     requires long { length beginning.now ≡ 8 }
-    ensures start { MatchOption result (part beginning.now 0 6 ≡ second_magic)
-        (λ s. (s ≡ 512 * header) × (part beginning.now 0 6 ≡ second_magic → ⊥)) }
+    ensures start { MatchOption result (IsNoFirst beginning.now)
+        (λ s. (s ≡ 512 * header) × (IsNoFirst beginning.now → ⊥)) }
 {
-    if begins_with(beginning, SECOND_MAGIC) {
+    if begins_with(beginning, SECOND_MAGIC) || is_reencrypting(beginning) {
         None
     } else {
         Some(SECTOR as u64 * header)

@@ -1,4 +1,5 @@
 pub mod Cached
+pub mod Extents
 pub mod Guarded
 pub mod Hosts
 pub mod Identity

@@ -1,4 +1,4 @@
-ghost use Rattle.std.specs.Prelude.{◌≡◌, None};
+ghost use Rattle.std.specs.Prelude.{◌≡◌, ◌<◌, IfSome, None, length};
 ghost use Rattle.luks_guarded_files.specs.Hosts.{last_asked};
 
 use crate::system::{Access, Answer, Asked, Found, Kind, Share, System};
@@ -25,6 +25,21 @@ impl<'a, R> Host<'a, R> {
     }
 }
 
+/// Reads all that there is into the buffer, and answers how many bytes that are: fewer than it holds.
+fn read_whole<F: Read>(file: &mut F, into: &mut [u8]) -> Option<usize>
+    ensures { IfSome result (λ len. len < length into.old) }
+{
+    let mut len = 0;
+    while len < into.len() {
+        match file.read(&mut into[len..]) {
+            Ok(0) => return Some(len),
+            Ok(count) => len += count,
+            Err(_) => return None,
+        }
+    }
+    None
+}
+
 impl From<Metadata> for Found {
     fn from(found: Metadata) -> Found {
         let kind = found.file_type();
@@ -35,12 +50,15 @@ impl From<Metadata> for Found {
                 Kind::Block
             } else if kind.is_dir() {
                 Kind::Folder
+            } else if kind.is_symlink() {
+                Kind::Link
             } else {
                 Kind::Other
             },
             system: found.dev(),
             inode: found.ino(),
             device: found.rdev(),
+            owner: found.uid(),
         }
     }
 }
@@ -78,6 +96,20 @@ impl<R: Clock + Files<File = File>> System for Host<'_, R> {
             Ok(1) => Some(byte[0]),
             _ => None,
         }
+    }
+
+    fn text(&mut self, path: &str, into: &mut [u8]) -> Option<usize> {
+        let mut file = File::open(self.rt, path).ok()?;
+        read_whole(&mut file, into)
+    }
+
+    fn names(&mut self, path: &str, into: &mut [u8]) -> Option<usize> {
+        let mut folder = self.rt.open_dir(path).ok()?;
+        read_whole(&mut folder, into)
+    }
+
+    fn caller(&mut self) -> Option<u32> {
+        Some(fs::metadata(self.rt, "/proc/self").ok()?.uid())
     }
 
     fn flock(&mut self, file: &File, share: Share) -> Answer {

@@ -8,27 +8,36 @@
 
 mod beginning;
 mod cached;
+mod extent;
+mod fitted;
 mod guarded;
 mod host;
 mod identity;
+mod layers;
 mod lazy;
 mod locked;
 mod names;
 mod node;
 mod notice;
+mod once;
 mod opening;
 mod read_only;
 mod system;
+mod watch;
 
 pub use beginning::begins_with;
 pub use cached::{CachedDevice, ROOM};
+pub use extent::{Extent, Holder};
+pub use fitted::FittedFile;
 pub use guarded::{GuardedDevice, Same};
 pub use host::Host;
-pub use identity::is_same_file;
+pub use identity::{BLOCKS, Stretch, have_common_bytes, is_same_file};
 pub use lazy::LazyFile;
 pub use locked::{Lock, LockedDevice};
 pub use names::{Named, hold_name};
 pub use node::Node;
 pub use notice::Notice;
-pub use opening::{FOLDER, OpenFault, open_locked};
+pub use once::open_or_make;
+pub use opening::{FOLDER, OpenFault, open_file, open_locked, take_lock};
 pub use system::{Access, Answer, Asked, Found, Kind, Share, System};
+pub use watch::Watch;

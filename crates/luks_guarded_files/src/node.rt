@@ -4,7 +4,7 @@ ghost use Rattle.luks_guarded_files.specs.Node.{IsNumberOf};
 use std::fmt;
 
 /// The numbers of a block device.
-#[derive(Clone, Copy)]
+#[derive(Clone, Copy, PartialEq, Eq)]
 pub struct Node {
     /// The driver's number.
     pub major: u32,

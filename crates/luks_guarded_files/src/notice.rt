@@ -1,7 +1,7 @@
 use std::fmt;
 
 /// What a person is to know of a lock that isn't held, though the command goes on.
-#[derive(Clone, Copy)]
+#[derive(Clone, Copy, PartialEq, Eq)]
 pub enum Notice {
     /// Another program holds it; of a command that only reads.
     Edited,

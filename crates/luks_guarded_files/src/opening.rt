@@ -2,6 +2,7 @@ ghost use Rattle.std.specs.Prelude.{◌≡◌, IfOk, IsTrue};
 ghost use Rattle.luks_area.specs.Files.{file_failures};
 ghost use Rattle.luks_guarded_files.specs.Locked.{IsAnswered, IsHeldByAnother, device_inside, lock_of, share_for};
 
+use crate::fitted::FittedFile;
 use crate::locked::{Lock, LockedDevice};
 use crate::names::{Named, hold_name};
 use crate::node::Node;
@@ -30,6 +31,10 @@ pub enum OpenFault {
     Edited,
     /// It is to be written, and its file system or device is read-only.
     ReadOnly,
+    /// Its name is a symbolic link of another user.
+    ForeignLink,
+    /// Another file has taken its place while it was opened.
+    Exchanged,
     /// It can't be opened, or its length can't be told.
     File(io::Error),
 }
@@ -57,29 +62,54 @@ pub fn open_locked<S: System>(
     path: &str,
     writes: bool,
     folder: &str,
-) -> Result<LockedDevice<FileDevice<File>>, OpenFault>
+) -> Result<LockedDevice<FileDevice<FittedFile>>, OpenFault>
     ensures alone { IsTrue writes → IfOk result (λ device. IsHeldByAnother (lock_of device) → ⊥) }
     ensures share { IfOk result (λ device. (lock_of device).share ≡ share_for writes) }
     ensures answered { IfOk result (λ device. IsAnswered (lock_of device) (S.last system.new)) }
     ensures count { IfOk result (λ device. file_failures (device_inside device) ≡ 0) }
 {
+    let file = open_file(system, path, writes)?;
+    let lock = take_lock(alloc, system, &file, writes, folder)?;
+    Ok(LockedDevice::new(FileDevice::new(FittedFile::new(file))?, lock))
+}
+
+/// Opens the file of a volume for reading, or for writing too; its lock isn't taken yet. As `open_locked`
+/// says, one of another kind isn't opened.
+pub fn open_file<S: System>(system: &mut S, path: &str, writes: bool) -> Result<File, OpenFault>
+    ensures { S.last system.new ≡ S.last system.old }
+{
     let kind = system.stat(path)?.kind;
     if kind != Kind::Regular && kind != Kind::Block {
         return Err(OpenFault::NoVolume);
     }
-    let file = system.open(path, access_for(writes))?;
-    let node = block_node(system, &file)?;
+    Ok(system.open(path, access_for(writes))?)
+}
+
+/// Takes the lock of a volume's file, which is open for reading, or for writing too; what is to be
+/// written is settled then. As `open_locked` says of one that it opens.
+pub fn take_lock<S: System>(
+    alloc: Global,
+    system: &mut S,
+    file: &File,
+    writes: bool,
+    folder: &str,
+) -> Result<Lock, OpenFault>
+    ensures alone { IsTrue writes → IfOk result (λ lock. IsHeldByAnother lock → ⊥) }
+    ensures share { IfOk result (λ lock. lock.share ≡ share_for writes) }
+    ensures answered { IfOk result (λ lock. IsAnswered lock (S.last system.new)) }
+{
+    let node = block_node(system, file)?;
     if writes && node.is_some_and(|node| is_read_only(alloc, system, node)) {
         return Err(OpenFault::ReadOnly);
     }
-    let lock = hold(alloc, system, &file, node, share_of(writes), folder);
+    let lock = hold(alloc, system, file, node, share_of(writes), folder);
     if writes && lock.is_taken() {
         return Err(OpenFault::Edited);
     }
     if writes {
-        system.fsync(&file)?;
+        system.fsync(file)?;
     }
-    Ok(LockedDevice::new(FileDevice::new(file)?, lock))
+    Ok(lock)
 }
 
 /// For what a volume is opened.

@@ -1,5 +1,5 @@
 //! The calls of the system by which a volume is opened and its lock is asked for.
-ghost use Rattle.std.specs.Prelude.{◌≡◌, ◌↔◌, IsTrue, Option, Some};
+ghost use Rattle.std.specs.Prelude.{◌≡◌, ◌<◌, ◌↔◌, IfSome, IsTrue, Option, Some, length};
 ghost use Rattle.luks_guarded_files.specs.Identity.{AreOfOneFile};
 ghost use Rattle.luks_guarded_files.specs.System.{asked};
 ghost use Rattle.luks_guarded_files.specs.declared.system.Asked.{Asked};
@@ -8,7 +8,7 @@ use std::fs::File;
 use std::io;
 
 /// How a lock is held.
-#[derive(Clone, Copy)]
+#[derive(Clone, Copy, PartialEq, Eq)]
 pub enum Share {
     /// With others that hold it so.
     Shared,
@@ -17,7 +17,7 @@ pub enum Share {
 }
 
 /// What the system answered when a lock was asked for.
-#[derive(Clone, Copy)]
+#[derive(Clone, Copy, PartialEq, Eq)]
 pub enum Answer {
     /// It is held.
     Held,
@@ -28,7 +28,7 @@ pub enum Answer {
 }
 
 /// How a lock was asked for, and what was answered.
-#[derive(Clone, Copy)]
+#[derive(Clone, Copy, PartialEq, Eq)]
 pub struct Asked {
     /// How it was asked for.
     pub share: Share,
@@ -37,7 +37,7 @@ pub struct Asked {
 }
 
 /// Of which kind a file is.
-#[derive(Clone, Copy)]
+#[derive(Clone, Copy, PartialEq, Eq)]
 pub enum Kind {
     /// A regular file.
     Regular,
@@ -45,12 +45,14 @@ pub enum Kind {
     Block,
     /// A folder.
     Folder,
-    /// Any other, as a pipe, a symbolic link or a terminal.
+    /// A symbolic link.
+    Link,
+    /// Any other, as a pipe or a terminal.
     Other,
 }
 
 /// What the system tells of a file.
-#[derive(Clone, Copy)]
+#[derive(Clone, Copy, PartialEq, Eq)]
 pub struct Found {
     /// Its kind.
     pub kind: Kind,
@@ -60,6 +62,8 @@ pub struct Found {
     pub inode: u64,
     /// Of a device its number, as `rdev` of a file's metadata.
     pub device: u64,
+    /// The number of the user to whom it belongs.
+    pub owner: u32,
 }
 
 impl Found {
@@ -76,7 +80,7 @@ impl Found {
 }
 
 /// For what a file is opened.
-#[derive(Clone, Copy)]
+#[derive(Clone, Copy, PartialEq, Eq)]
 pub enum Access {
     /// To be read.
     Read,
@@ -114,6 +118,21 @@ pub trait System {
 
     /// The first byte of the file of this name, where there is one.
     fn first_byte(&mut self, path: &str) -> Option<u8>
+        ensures { last self.new ≡ last self.old };
+
+    /// Reads the small file of this name into the buffer, and answers its length, which is less than the
+    /// buffer's; nothing where it can't be read or is longer.
+    fn text(&mut self, path: &str, into: &mut [u8]) -> Option<usize>
+        ensures last { last self.new ≡ last self.old }
+        ensures fits { IfSome result (λ len. len < length into.old) };
+
+    /// Reads the names that the folder of this name has, each with a zero behind it, likewise.
+    fn names(&mut self, path: &str, into: &mut [u8]) -> Option<usize>
+        ensures last { last self.new ≡ last self.old }
+        ensures fits { IfSome result (λ len. len < length into.old) };
+
+    /// The number of the user who runs the program, where it is known.
+    fn caller(&mut self) -> Option<u32>
         ensures { last self.new ≡ last self.old };
 
     /// Asks once for the lock on a whole file, and doesn't wait. It is held as long as the file is

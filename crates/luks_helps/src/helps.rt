@@ -187,9 +187,9 @@ Memory is taken for Argon2 by --memory alone, once to open the one and once to
 seal the other; standard error says how much. --older accepts a cipher and
 hashes of older disks, as open does; the new keyslot has them too.
 
-Where only the second copy of a LUKS2 header is sound and another use of the
-disk, as a file system or a partition table, stands in the place of the first,
-nothing is written but with --over.
+Where only one copy of a LUKS2 header is sound and another use of the disk, as
+a file system or a partition table, stands in the place of the other, nothing
+is written but with --over.
 
 Prints one line:
   done slot N    keyslot N is made
@@ -247,9 +247,9 @@ Memory is taken for Argon2 by --memory alone, once to open it and once to seal
 it; standard error says how much. --older accepts a cipher and hashes of older
 disks, as open does; the keyslot keeps them.
 
-Where only the second copy of a LUKS2 header is sound and another use of the
-disk, as a file system or a partition table, stands in the place of the first,
-nothing is written but with --over.
+Where only one copy of a LUKS2 header is sound and another use of the disk, as
+a file system or a partition table, stands in the place of the other, nothing
+is written but with --over.
 
 Prints one line:
   done slot N    the new passphrase opens keyslot N
@@ -298,9 +298,9 @@ LUKS2 the salts are the first 128 bytes of the random file; LUKS1 takes none.
 Memory is taken for Argon2 by --memory alone; standard error says how much.
 --older accepts a cipher and hashes of older disks, as open does.
 
-Where only the second copy of a LUKS2 header is sound and another use of the
-disk, as a file system or a partition table, stands in the place of the first,
-nothing is written but with --over.
+Where only one copy of a LUKS2 header is sound and another use of the disk, as
+a file system or a partition table, stands in the place of the other, nothing
+is written but with --over.
 
 Prints one line:
   done           the keyslot is removed
@@ -338,9 +338,9 @@ Written are, with a flush after each, the copy that doesn't count and the one
 that does. The salts are the first 128 bytes of the random file; LUKS1 takes
 none.
 
-Where only the second copy of a LUKS2 header is sound and another use of the
-disk, as a file system or a partition table, stands in the place of the first,
-nothing is written but with --over.
+Where only one copy of a LUKS2 header is sound and another use of the disk, as
+a file system or a partition table, stands in the place of the other, nothing
+is written but with --over.
 
 Prints one line:
   done           the copies are in step
@@ -371,9 +371,9 @@ with a hyphen comes after --, with the volume: luks label .. -- VOLUME TEXT.
 Written are, with a flush after each, the copy of the header that doesn't count
 and the one that does. The salts are the first 128 bytes of the random file.
 
-Where only the second copy of a LUKS2 header is sound and another use of the
-disk, as a file system or a partition table, stands in the place of the first,
-nothing is written but with --over.
+Where only one copy of a LUKS2 header is sound and another use of the disk, as
+a file system or a partition table, stands in the place of the other, nothing
+is written but with --over.
 
 Prints one line:
   done           the label is set, and the copies are in step
@@ -533,10 +533,11 @@ Prints one line:
                  as above), Counts (a header of SOURCE counts: use it, or luks
                  repair), NoMetadata (none is whole), Outside or Overlap (its
                  areas in SOURCE), TooSmall (TARGET is), Uuid (that of --uuid),
-                 RandomLength (the random file is too short); of LUKS1 NoHeader
-                 (it has no signs of one), Text(FIELD) or KeyBytes (nothing
-                 usable stands there, or was given), Iterations(Digest) (they
-                 are lost), TooSmall and Overlap (the new areas in TARGET);
+                 RandomLength (the random file is too short); of LUKS1
+                 Reencrypting (cryptsetup is in the midst of that), NoHeader (it
+                 has no signs of one), Text(FIELD) or KeyBytes (nothing usable
+                 stands there, or was given), Iterations(Digest) (they are
+                 lost), TooSmall and Overlap (the new areas in TARGET);
                  Passphrase (its file is too long)
   no slot opens  by no way that was tried; nothing was written
   device fault   a file can't be read, SOURCE read, or TARGET read or written

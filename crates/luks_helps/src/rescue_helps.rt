@@ -111,7 +111,7 @@ pub const COMPARE: &str = "Tells whether a header backup is up to date";
 /// The help of `compare` after its words.
 pub const COMPARE_MORE: &str = "\
 FILE, a header backup, is compared with the header of VOLUME that counts, and
-nothing is written. Keyslots are compared by their salts; none is tried.
+nothing is written. Keyslots are compared by salts and key areas; none is tried.
 
 Prints a line, and then one for each keyslot of either:
   current            each keyslot of either is the same in both
@@ -120,6 +120,7 @@ Prints a line, and then one for each keyslot of either:
   keyslot N older    FILE has another one: its passphrase was changed since
   keyslot N missing  FILE lacks it: it was added since
   keyslot N removed  FILE alone has it: it was removed since
+  keyslot N damaged  the key areas differ: it opens in one of the two alone
 or:
   refused FAULT      SameFile (FILE is VOLUME), NotAccepted(FAULT) (check
                      --detached refuses FILE by that), what check refuses of

@@ -4,6 +4,7 @@ use Rattle.std.proofs.lemmas.List.{get_or-replicate, length-replicate, take-repl
 use Rattle.luks_area.specs.Ranges.{part, written, IsAt, SameBut}
 use Rattle.luks_area.specs.RangeFacts.{get_or-part, part-part, part-same_but, part-written, same_but-then, same_but-wider}
 use Rattle.luks_keeping.specs.Places.{AreApart, AreInside, IsOfPlaces}
+use Rattle.luks_keeping.specs.SecondPlaces.{AreZeros, IsOfListed}
 use Rattle.luks_keeping.specs.declared.places.Places.{Places}
 
 -- zeros that were written at a place stand there
@@ -17,6 +18,10 @@ pub zero_at : (v : List ℕ) (n p : ℕ) → p < n → part v 0 n ≡ replicate 
 zero_at v n p below zeros =
     let there : 0 + p ≡ p = omega arith in
     ap (λ k. get_or v k 0) (sym there) ∙ sym (get_or-part v 0 n p below) ∙ ap (λ l. get_or l p 0) zeros ∙ get_or-replicate n p 0 0 below
+
+-- those of the listed places are
+pub listed_zeros : (v : List ℕ) (size : ℕ) → part v 0 size ≡ replicate size 0 → AreZeros (IsOfListed size) v
+listed_zeros v size zeros p x = zero_at v size p (let within = x.within in let high = x.at.1 in omega (arith, within, high)) zeros
 
 -- the front of them
 pub zeros_front : (v : List ℕ) (m n : ℕ) → m ≤ n → part v 0 n ≡ replicate n 0 → part v 0 m ≡ replicate m 0

@@ -87,11 +87,12 @@ pub chosen_of : (v : List ℕ) (header : Header) → IsHeader v header → Chose
 chosen_of v (Luks1 bytes) is = is.0
 chosen_of v (Luks2 copy) is = is.chosen
 
-to_kept : (v : List ℕ) (header : Header) → IsHeader v header → (n : ℕ) (a : Area) → HasSlot header n a → KeptArea v (choice_of header) n a
+-- a kept area is one of what is kept of the volume, and the other way round
+pub to_kept : (v : List ℕ) (header : Header) → IsHeader v header → (n : ℕ) (a : Area) → HasSlot header n a → KeptArea v (choice_of header) n a
 to_kept v (Luks1 bytes) is n a slot = subst (λ (h : List ℕ). IsUsedArea h n a) is.1 slot
 to_kept v (Luks2 copy) is n a slot = record { value = content copy.meta; holds = is.metadata.json; area = slot }
 
-from_kept : (v : List ℕ) (header : Header) → IsHeader v header → (n : ℕ) (a : Area) → KeptArea v (choice_of header) n a → HasSlot header n a
+pub from_kept : (v : List ℕ) (header : Header) → IsHeader v header → (n : ℕ) (a : Area) → KeptArea v (choice_of header) n a → HasSlot header n a
 from_kept v (Luks1 bytes) is n a kept = subst (λ (h : List ℕ). IsUsedArea h n a) (sym is.1) kept
 from_kept v (Luks2 copy) is n a kept =
     subst (λ (j : Value). HasSlot2 j n a) (one_value (json_at v copy.header.hdr_offset) kept.value (content copy.meta) kept.holds is.metadata.json) kept.area
@@ -145,7 +146,7 @@ module _ (v : List ℕ) (header : Header) (is : IsHeader v header) (places : Pla
   place_kept p (inr x) = inr (record { number = x.number; area = x.of_place.area; is = to_kept v header is x.number x.of_place.area (laid.only x.number x.of_place.area x.of_place.is); at = x.of_place.at })
 
   -- so are the header's places and the key areas
-  whole_is : (p : ℕ) → IsOfWhole places p → IsKept v (choice_of header) p
+  pub whole_is : (p : ℕ) → IsOfWhole places p → IsKept v (choice_of header) p
   whole_is p (inl at) = inl (let high = at.1 in let end_ = end_is in (omega arith, omega (arith, high, end_)))
   whole_is p (inr x) = inr (record { number = x.number; area = x.of_place.area; is = to_kept v header is x.number x.of_place.area (laid.only x.number x.of_place.area x.of_place.is); at = x.of_place.at })
 

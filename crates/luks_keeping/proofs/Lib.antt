@@ -7,6 +7,7 @@ pub mod JudgedFacts
 pub mod SlotFacts
 pub mod LaidFacts
 pub mod ErasedFacts
+pub mod ClearFacts
 pub mod SizeFacts
 pub mod BackupFacts
 pub mod EndFacts
@@ -18,5 +19,6 @@ pub mod TurnFacts
 pub mod KeyFacts
 pub mod OtherFacts
 pub mod SaltFacts
+pub mod CompareFacts
 pub mod ComparisonFacts
 pub mod SameFacts

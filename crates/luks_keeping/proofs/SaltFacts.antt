@@ -16,7 +16,7 @@ use Rattle.luks_keeping.specs.SameKeys.{SharesHeader}
 use Rattle.luks_keeping.specs.Salts.{HasHeaderSalt, HoldsKeeping, IsSameOrOlder}
 use Rattle.luks_keeping.specs.declared.comparison.Comparison.{Comparison}
 use Rattle.luks_keeping.specs.declared.comparison.Keeping.{Keeping}
-use Rattle.luks_keeping.specs.declared.comparison.Keeping.TheVariants.{Absent, Same, Older, Missing, Removed}
+use Rattle.luks_keeping.specs.declared.comparison.Keeping.TheVariants.{Absent, Same, Older, Missing, Removed, Damaged}
 use Rattle.luks_keeping.proofs.KeyFacts.{shares_digest, shares_header}
 use Rattle.luks_keeping.proofs.LaidFacts.{chosen_of}
 
@@ -61,6 +61,7 @@ module _
     stands_as Older x = ((x.0.0, p x.0.0 x.0.1), (x.1.0, q x.1.0 x.1.1), λ s y z. x.2 s (p' s y) (q' s z))
     stands_as Missing x = (λ s y. x.0 s (p' s y), (x.1.0, q x.1.0 x.1.1))
     stands_as Removed x = ((x.0.0, p x.0.0 x.0.1), λ s y. x.1 s (q' s y))
+    stands_as Damaged x = absurd x
 
 pub is_compared : (h k : Header) (c : Comparison) → (IsTrue c.same_key ↔ SharesHeader h k) → HoldsKeeping h k 32 c.keyslots → (b t : List ℕ) → IsHeader b h → IsHeader t k → IsCompared b t c
 is_compared h k c key held b t is other = record {

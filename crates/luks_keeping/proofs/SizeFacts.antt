@@ -37,7 +37,8 @@ use Rattle.luks_keeping.specs.Laid.{HasSlot2}
 some_number : (a b : ℕ) → Some a ≡ Some b → a ≡ b
 some_number a b e = cc
 
-one_size_as : (v : List ℕ) (payload : Data) (c : Choice) (a b : ℕ) → IsSizeAs v payload c a → IsSizeAs v payload c b → a ≡ b
+-- by what counts
+pub one_size_as : (v : List ℕ) (payload : Data) (c : Choice) (a b : ℕ) → IsSizeAs v payload c a → IsSizeAs v payload c b → a ≡ b
 one_size_as v payload luks1 a b x y = (let low = x.least b y.holds in let high = y.least a x.holds in omega (arith, low, high))
 one_size_as v payload (luks2 o copies) a b x y =
     let value : y.value ≡ x.value = one_value (json_at v o) y.value x.value y.holds x.holds in

@@ -81,8 +81,8 @@ size_holds v payload luks1 size x = x.holds.header
 size_holds v payload (luks2 o copies) size x = (let is = x.is in omega (arith, is))
 size_holds v payload nothing size x = absurd x
 
-pub gives_back : (v before b old w : List ℕ) (payload : Data) (c : Choice) → Chosen v c → WellFormed v payload → IsBackup v payload before b → IsRestored b old w → HasKept v c w
-gives_back v before b old w payload c chosen well made put =
+pub gives_back : (v before b old w : List ℕ) (payload other : Data) (c : Choice) → Chosen v c → WellFormed v payload → IsBackup v payload before b → IsRestored b other old w → HasKept v c w
+gives_back v before b old w payload other c chosen well made put =
     let same : made.choice ≡ c = choices_agree v made.choice c made.chosen chosen in
     let formed : IsFormedOnAs v payload (length v) c = on_own v payload c (formed_as v payload c chosen well) in
     let kept : HasKept v c b = subst (λ (d : Choice). HasKept v d b) same made.kept in

@@ -3,7 +3,7 @@ use Rattle.std.specs.Prelude.{◌≡◌, ◌⊎◌, ℕ, ◌+◌, ◌<◌, List,
 use Rattle.std.specs.Fmt.{decimal}
 use Rattle.luks_keeping.specs.declared.comparison.Comparison.{Comparison}
 use Rattle.luks_keeping.specs.declared.comparison.Keeping.{Keeping}
-use Rattle.luks_keeping.specs.declared.comparison.Keeping.TheVariants.{Absent, Same, Older, Missing, Removed}
+use Rattle.luks_keeping.specs.declared.comparison.Keeping.TheVariants.{Absent, Same, Older, Missing, Removed, Damaged}
 
 -- ---- whether the backup is current
 
@@ -14,6 +14,7 @@ is_alike Same = true
 is_alike Older = false
 is_alike Missing = false
 is_alike Removed = false
+is_alike Damaged = false
 
 abbrev pub are_alike : List Keeping → Bool
 are_alike [] = true
@@ -42,6 +43,7 @@ keyslot_line n Same = codes "keyslot " ++ decimal n ++ line (codes " same")
 keyslot_line n Older = codes "keyslot " ++ decimal n ++ line (codes " older")
 keyslot_line n Missing = codes "keyslot " ++ decimal n ++ line (codes " missing")
 keyslot_line n Removed = codes "keyslot " ++ decimal n ++ line (codes " removed")
+keyslot_line n Damaged = codes "keyslot " ++ decimal n ++ line (codes " damaged")
 
 -- those from the number `n` on
 abbrev pub keyslot_lines : ℕ → List Keeping → List ℕ

@@ -1,3 +1,5 @@
+pub mod SecondPlaces
+pub mod Clearing
 pub mod Places
 pub mod Kept
 pub mod Judged
@@ -6,6 +8,7 @@ pub mod BackupFaults
 pub mod FaultTexts
 pub mod Laid
 pub mod Restored
+pub mod BackupOrder
 pub mod RestoreFaults
 pub mod SameVolume
 pub mod OtherHeaders
@@ -14,3 +17,4 @@ pub mod SameKeys
 pub mod Compared
 pub mod ComparisonTexts
 pub mod Salts
+pub mod AreasCompared

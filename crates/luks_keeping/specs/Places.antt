@@ -1,9 +1,11 @@
 -- Where a header and its key areas stand on a device, whichever its version: words of private contracts.
-use Rattle.std.specs.Prelude.{◌≡◌, ◌≢◌, ◌⊎◌, ℕ, ◌+◌, ◌-◌, ◌<◌, ◌≤◌, List, Some, None, min, replicate, slice_index_or}
+use Rattle.std.specs.Prelude.{◌≡◌, ◌≢◌, ◌⊎◌, ℕ, ◌+◌, ◌-◌, ◌<◌, ◌≤◌, List, Some, None, min, replicate, slice_index, slice_index_or}
 use Rattle.luks_area.specs.Area.{AreDisjoint}
 use Rattle.luks_area.specs.Ranges.{part, IsAt, IsOfEither, SameBut}
 use Rattle.luks_area.specs.declared.area.Area.{Area}
 use Rattle.luks_writing.specs.Cleared.{cleared_size}
+use Rattle.luks_keeping.specs.Clearing.{WipesInTurn}
+use Rattle.luks_keeping.specs.SecondPlaces.{IsOfCopies, IsOfListed}
 use Rattle.luks_keeping.specs.declared.places.Places.{Places}
 
 -- `a` is the key area of the keyslot `n`
@@ -90,11 +92,28 @@ ClearsInTurn places old new = SameBut (IsAt 0 (first_cleared places)) old new �
 abbrev pub IsOfWhole : Places → ℕ → Type 0
 IsOfWhole places = IsOfEither (IsAt 0 (header_end places)) (IsOfAreas places)
 
+-- the bytes at these places are zeros, but for the header and the key areas
+abbrev pub ArePlacesGone : Places → (ℕ → Type 0) → List ℕ → Type 0
+ArePlacesGone places cleared new = (p : ℕ) → cleared p → (IsOfWhole places p → ⊥) → slice_index new p ≡ 0
+
+-- what the steps after the clearing leave: the first sector is cleared, and the second copy's is too, or the key
+-- areas stand; or all but the first copy stands
+abbrev pub LeavesTurn : Places → List ℕ → List ℕ → Type 0
+LeavesTurn places s new = (IsFirstCleared places new × (IsSecondCleared places new ⊎ HoldsAreas places s new)) ⊎ HoldsAllButFirst places s new
+
+-- the byte place is of a sector that is cleared: of the copies' places, or of an older copy that begins before
+-- `limit`
+abbrev pub IsOfBegun : Places → ℕ → List ℕ → ℕ → Type 0
+IsOfBegun places limit old = IsOfEither (IsOfSectors places) (IsOfCopies old limit)
+
 -- what all steps leave at any time: nothing but the first sector at 0 has changed; or that is cleared, and
--- nothing but the second copy's first sector has changed, or that is cleared, or the key areas stand; or all
--- but the first copy stands
-abbrev pub WritesOver : Places → List ℕ → List ℕ → List ℕ → Type 0
-WritesOver places s old new =
+-- nothing but these sectors has changed; or the older copies are gone, and what the later steps leave stands
+abbrev pub WritesOver : Places → ℕ → List ℕ → List ℕ → List ℕ → Type 0
+WritesOver places limit s old new =
     SameBut (IsAt 0 (first_cleared places)) old new
-    ⊎ ((IsFirstCleared places new × (SameBut (IsOfSectors places) old new ⊎ (IsSecondCleared places new ⊎ HoldsAreas places s new)))
-    ⊎ HoldsAllButFirst places s new)
+    ⊎ ((IsFirstCleared places new × SameBut (IsOfBegun places limit old) old new)
+    ⊎ (ArePlacesGone places (IsOfCopies old limit) new × LeavesTurn places s new))
+
+-- what they leave of a file of `size` bytes that is wiped first
+abbrev pub WritesAnew : Places → ℕ → List ℕ → List ℕ → List ℕ → Type 0
+WritesAnew places size s old new = WipesInTurn size old new ⊎ (ArePlacesGone places (IsOfListed size) new × LeavesTurn places s new)

@@ -6,7 +6,7 @@ use Rattle.luks_reading.specs.declared.header.Header.TheVariants.{Luks1, Luks2}
 use Rattle.luks_keeping.specs.Compared.{HasSalt2, IsGone, IsUsedSalt, StandsSo}
 use Rattle.luks_keeping.specs.declared.comparing.Salt.{Salt}
 use Rattle.luks_keeping.specs.declared.comparison.Keeping.{Keeping}
-use Rattle.luks_keeping.specs.declared.comparison.Keeping.TheVariants.{Absent, Same, Older, Missing, Removed}
+use Rattle.luks_keeping.specs.declared.comparison.Keeping.TheVariants.{Absent, Same, Older, Missing, Removed, Damaged}
 
 -- the keyslot `n` of the header has the salt
 abbrev pub HasHeaderSalt : Header → ℕ → List ℕ → Type 0
@@ -25,6 +25,7 @@ IsSameOrOlder here there Older = here ≡ there → ⊥
 IsSameOrOlder here there Absent = ⊥
 IsSameOrOlder here there Missing = ⊥
 IsSameOrOlder here there Removed = ⊥
+IsSameOrOlder here there Damaged = ⊥
 
 -- how the keyslots below `n` stand
 pub record HoldsKeeping (backup volume : Header) (n : ℕ) (states : List Keeping) : Type 0 where

@@ -6,6 +6,7 @@ ghost use Rattle.luks_reading.specs.Checked.{IsCheckRefusal, WellFormed};
 ghost use Rattle.luks_reading.specs.Failures.{is_check_failure};
 ghost use Rattle.luks_reading.specs.Header.{IsAcceptedHeader, IsHeader};
 ghost use Rattle.luks_reading.specs.Reported.{HeaderArea};
+ghost use Rattle.luks_keeping.specs.AreasCompared.{LiesWithin};
 ghost use Rattle.luks_keeping.specs.Judged.{HasFields};
 
 use crate::judging::judge_header;
@@ -28,6 +29,7 @@ pub fn accepted_header<D: Device>(
     ensures fields { IfOk result HasFields }
     ensures fits { IfOk result (λ h.
         Fit (HeaderArea h data_ (D.size device.old)) (D.size device.old)) }
+    ensures within { IfOk result (λ h. LiesWithin h (D.size device.new)) }
     ensures read { D.tells → IfOk result (IsHeader (D.bytes device.old)) }
     ensures formed { D.tells → OnOk result (WellFormed (D.bytes device.old) data_) }
     ensures refused { D.tells → IfErr result (IsCheckRefusal (D.bytes device.old) data_) }

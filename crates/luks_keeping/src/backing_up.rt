@@ -2,28 +2,31 @@
 ghost use Rattle.std.specs.Prelude.{◌≡◌, ◌↔◌, ◌+◌, ◌^◌, ◌<◌, ◌≤◌, List, ℕ, IfErr, IfOk, OnOk, false, replicate, slice_index};
 ghost use Rattle.luks_area.specs.Device.{CountsFailure, IsSettled, IsUnchanged, is_failure};
 ghost use Rattle.luks_area.specs.Ranges.{part, IsAt, SameBut};
+ghost use Rattle.luks_writing.specs.Cleared.{cleared_size};
 ghost use Rattle.luks_writing.specs.TwoDevices.{CountsEither};
+ghost use Rattle.luks_head.specs.Selection.{Choice, Chosen};
 ghost use Rattle.luks_slot.specs.declared.allowed.Allowed.{Allowed as TheAllowed};
 ghost use Rattle.luks_reading.specs.Answer.{AnswerWithin, Opened};
 ghost use Rattle.luks_reading.specs.Checked.{WellFormed};
 ghost use Rattle.luks_reading.specs.Header.{IsAcceptedHeader, IsHeader};
 ghost use Rattle.luks_reading.specs.declared.report.Data.TheVariants.{Elsewhere};
 ghost use Rattle.luks_keeping.specs.Backup.{IsBackup, IsBackupSize};
+ghost use Rattle.luks_keeping.specs.BackupOrder.{BacksUpInTurn};
 ghost use Rattle.luks_keeping.specs.BackupFaults.{CanBackUp, IsAnsweredBackup, IsBackupFault, IsOfBackup, is_backup_failure};
 ghost use Rattle.luks_keeping.specs.Judged.{HasFields};
 ghost use Rattle.luks_keeping.specs.Laid.{IsShortFor};
-ghost use Rattle.luks_keeping.specs.Places.{AreApart, AreInside, HoldsAll, IsOfPlaces};
+ghost use Rattle.luks_keeping.specs.Places.{AreApart, AreInside, HoldsAll, IsOfPlaces, WritesAnew};
 ghost use Rattle.luks_keeping.specs.declared.backup_fault.BackupFault.{BackupFault as TheFault};
 
 use crate::accepted::accepted_header;
 use crate::backup_fault::BackupFault;
 use crate::copying::copy_places;
-use crate::erasing::erase;
 use crate::judging::judge_header;
 use crate::places::Places;
 use crate::size::backup_size;
 use crate::slots::places_of;
-use luks_area::{Area, Device, DeviceFault};
+use crate::wiping::wipe;
+use luks_area::{Device, DeviceFault};
 use luks_reading::{Data, Header};
 use std::alloc::Global;
 
@@ -36,8 +39,10 @@ use std::alloc::Global;
 /// key areas' region. Where only the second copy of a LUKS2 header is sound, the first sector of the
 /// first copy's place holds zeros.
 ///
-/// First the whole range becomes zeros, then the key areas are written, then the second copy of the
-/// header, then the first, a flush after each. Takes memory for the metadata, before the first write.
+/// First the sector at 0 becomes zeros, and those where a second copy may begin, then the whole range, then
+/// the key areas are written, then the second copy of the header, then the first, a flush after each: so an
+/// older header there counts no more before a key area of it is overwritten. Takes memory for the
+/// metadata, before the first write.
 pub fn backup<S: Device, T: Device>(
     alloc: Global,
     source: &mut S,
@@ -69,6 +74,10 @@ pub fn backup<S: Device, T: Device>(
     // Which bytes may have changed, also where a device failed.
     ensures rest { S.tells → T.tells
         → SameBut (IsOfBackup (S.bytes source.old) data_) (T.bytes target.old) (T.bytes target.new) }
+
+    ensures order { S.tells → T.tells → (c : Choice) (size : ℕ) → Chosen (S.bytes source.old) c
+        → IsBackupSize (S.bytes source.old) data_ size → BacksUpInTurn (S.bytes source.old) c size
+        (T.bytes target.old) (T.bytes target.new) }
 
     // The backup that was made: a well formed volume, the payload being elsewhere, of which each
     // keyslot answers as the source's.
@@ -151,6 +160,8 @@ fn write_backup<S: Device, T: Device>(
     ensures size { T.size target.new ≡ T.size target.old }
     ensures settled { T.tells → OnOk result (IsSettled T.unsettled target.new) }
     ensures rest { T.tells → SameBut (IsAt 0 size) (T.bytes target.old) (T.bytes target.new) }
+    ensures order { S.tells → T.tells → cleared_size ≤ size → WritesAnew places.now size
+        (S.bytes source.old) (T.bytes target.old) (T.bytes target.new) }
     ensures copied { S.tells → T.tells
         → OnOk result (HoldsAll places.now (S.bytes source.old) (T.bytes target.new)) }
     ensures lead { T.tells → OnOk result
@@ -158,10 +169,6 @@ fn write_backup<S: Device, T: Device>(
     ensures zeros { T.tells → OnOk result ((p : ℕ) → p < size → (IsOfPlaces places.now p → ⊥)
         → slice_index (T.bytes target.new) p ≡ 0) }
 {
-    let whole = Area {
-        start: 0,
-        len: size,
-    };
-    erase(target, whole)?;
+    wipe(target, size)?;
     copy_places(source, target, places)
 }

@@ -6,7 +6,7 @@ ghost use Rattle.luks_keeping.specs.ComparisonTexts.{are_alike, is_alike, keyslo
 use std::fmt;
 
 /// How a keyslot of a backup stands to that of a volume with the same number: by their salts, of which
-/// each keyslot gets a new one when it is made.
+/// each keyslot gets a new one when it is made, and by their key areas where these are read.
 #[derive(Clone, Copy, PartialEq, Eq)]
 pub enum Keeping {
     /// Neither has it.
@@ -19,6 +19,9 @@ pub enum Keeping {
     Missing,
     /// The backup alone has it: restoring the backup would bring it back.
     Removed,
+    /// Both have it, with one salt, and key areas that differ: one of the two is damaged, and its passphrase
+    /// opens the other alone.
+    Damaged,
 }
 
 /// How a backup stands to a volume. It prints as the command `compare` prints it: whether the backup is
@@ -81,7 +84,7 @@ fn stands_alike(keeping: Keeping) -> bool
 {
     match keeping {
         Keeping::Absent | Keeping::Same => true,
-        Keeping::Older | Keeping::Missing | Keeping::Removed => false,
+        Keeping::Older | Keeping::Missing | Keeping::Removed | Keeping::Damaged => false,
     }
 }
 
@@ -109,5 +112,6 @@ fn write_keyslot<W: fmt::Write>(
         Keeping::Older => writeln!(f, "keyslot {n} older"),
         Keeping::Missing => writeln!(f, "keyslot {n} missing"),
         Keeping::Removed => writeln!(f, "keyslot {n} removed"),
+        Keeping::Damaged => writeln!(f, "keyslot {n} damaged"),
     }
 }

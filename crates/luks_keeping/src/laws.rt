@@ -1,6 +1,8 @@
 //! Laws on the definitions of this crate. Each function does nothing; its contract is the law.
 ghost use Rattle.std.specs.Prelude.{◌↔◌, List, length, ℕ};
+ghost use Rattle.luks_head.specs.Header2.{IsSound};
 ghost use Rattle.luks_head.specs.Selection.{Choice, Chosen};
+ghost use Rattle.luks_head.specs.Sizes.{IsListed};
 ghost use Rattle.luks_slot.specs.declared.allowed.Allowed.{Allowed as TheAllowed};
 ghost use Rattle.luks_reading.specs.Answer.{AnswerWithin, Opened};
 ghost use Rattle.luks_reading.specs.Checked.{WellFormed};
@@ -9,6 +11,7 @@ ghost use Rattle.luks_keeping.specs.Backup.{IsBackup};
 ghost use Rattle.luks_keeping.specs.Judged.{IsFormedOn};
 ghost use Rattle.luks_keeping.specs.Kept.{HasKept};
 ghost use Rattle.luks_keeping.specs.Restored.{IsRestored};
+ghost use Rattle.luks_keeping.specs.SecondPlaces.{BeginsCopy};
 
 /// Where all that is kept of a well formed volume stands on another device that is long enough, a
 /// volume is well formed there, and each of its keyslots answers each passphrase, whatever is allowed,
@@ -33,7 +36,12 @@ pub fn kept_of_kept_is_kept()
 /// volume's header and the key areas of its keyslots that are in use back, byte by byte, whatever stood
 /// there before.
 pub fn restored_backup_gives_back()
-    ensures { (v before b old w : List ℕ) (payload : Payload) (c : Choice) → Chosen v c
-        → WellFormed v payload → IsBackup v payload before b → IsRestored b old w
+    ensures { (v before b old w : List ℕ) (payload other : Payload) (c : Choice) → Chosen v c
+        → WellFormed v payload → IsBackup v payload before b → IsRestored b other old w
         → HasKept v c w }
+{}
+
+/// A second copy that is sound begins at its place, so that `restore` clears it.
+pub fn sound_copies_begin()
+    ensures { (v : List ℕ) (place : ℕ) → IsListed place → IsSound v place → BeginsCopy v place }
 {}

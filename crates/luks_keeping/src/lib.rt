@@ -5,6 +5,7 @@ mod accepted;
 mod backing_up;
 mod backup_fault;
 mod comparing;
+mod comparing_areas;
 mod comparison;
 mod copying;
 mod erasing;
@@ -16,16 +17,22 @@ mod restore_fault;
 mod restoring;
 mod same_key;
 mod same_volume;
+mod second_places;
 mod size;
 mod slots;
+mod wiping;
 mod writing_over;
 
 pub use accepted::accepted_header;
 pub use backing_up::{backup, backup_length};
 pub use backup_fault::BackupFault;
 pub use comparing::compare;
+pub use comparing_areas::compare_areas;
 pub use comparison::{Comparison, Keeping};
-pub use laws::{kept_keyslots_answer_alike, kept_of_kept_is_kept, restored_backup_gives_back};
+pub use laws::{
+    kept_keyslots_answer_alike, kept_of_kept_is_kept, restored_backup_gives_back,
+    sound_copies_begin,
+};
 pub use over::Over;
 pub use restore_fault::RestoreFault;
 pub use restoring::restore;

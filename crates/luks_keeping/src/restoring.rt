@@ -22,6 +22,7 @@ use crate::judging::judge_header;
 use crate::over::Over;
 use crate::restore_fault::RestoreFault;
 use crate::same_volume::judge_other;
+use crate::size::data_start;
 use crate::slots::places_of;
 use crate::writing_over::write_over;
 use luks_area::Device;
@@ -32,8 +33,8 @@ use std::alloc::Global;
 /// never changes.
 ///
 /// `data_` says where the payload of the target's volume lies. First the first sectors of both copies'
-/// places become zeros, one after the other: an older header there would still count while its key
-/// areas are overwritten. Then the key areas are written, then the second copy of the header, then the
+/// places become zeros, and those of each second copy that begins at any listed place before the data, one
+/// after the other: an older header would still count while its key areas are overwritten. Then the key areas are written, then the second copy of the header, then the
 /// first, a flush after each; a broken-off restore is done again. Takes memory for the metadata of both,
 /// before the first write.
 pub fn restore<B: Device, T: Device>(
@@ -65,18 +66,20 @@ pub fn restore<B: Device, T: Device>(
         → IsRestoreFault (B.bytes backup.old) (T.bytes target.old) data_ over f
         → T.bytes target.new ≡ T.bytes target.old }
 
-    // Which bytes may have changed, also where a device failed: none of a segment.
-    ensures rest { B.tells → T.tells → SameBut (IsOfRestored (B.bytes backup.old))
+    // Which bytes may have changed, also where a device failed: those of header and key areas, and first
+    // sectors of older copies; none of a segment.
+    ensures rest { B.tells → T.tells
+        → SameBut (IsOfRestored (B.bytes backup.old) data_ (T.bytes target.old))
         (T.bytes target.old) (T.bytes target.new) }
     ensures segments { B.tells → T.tells → (n : ℕ) (a : TheArea)
         → IsSegmentOn (B.bytes backup.old) data_ (T.size target.old) n a
         → part (T.bytes target.new) a.start a.len ≡ part (T.bytes target.old) a.start a.len }
     ensures order { B.tells → T.tells → (c : Choice) → Chosen (B.bytes backup.old) c
-        → RestoresInTurn (B.bytes backup.old) c (T.bytes target.old) (T.bytes target.new) }
+        → RestoresInTurn (B.bytes backup.old) data_ c (T.bytes target.old) (T.bytes target.new) }
 
     // The volume that was made: each keyslot answers as the backup's.
     ensures restored { B.tells → T.tells → OnOk result
-        (IsRestored (B.bytes backup.old) (T.bytes target.old) (T.bytes target.new)) }
+        (IsRestored (B.bytes backup.old) data_ (T.bytes target.old) (T.bytes target.new)) }
     ensures well_formed { B.tells → T.tells
         → OnOk result (WellFormed (T.bytes target.new) data_) }
     ensures answers { B.tells → T.tells → OnOk result ((allowed : TheAllowed) (n : ℕ) (p : List ℕ) (a : Opened)
@@ -86,8 +89,9 @@ pub fn restore<B: Device, T: Device>(
     let header = accepted_header(alloc, backup, Data::Elsewhere)?;
     judge_fit(&header, data_, target.len())?;
     judge_other(alloc, &header, target, over)?;
+    let limit = data_start(&header, data_, target.len());
     let places = places_of(&header);
-    write_over(backup, target, &places)?;
+    write_over(backup, target, &places, limit)?;
     Ok(())
 }
 

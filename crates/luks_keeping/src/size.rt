@@ -5,7 +5,8 @@ ghost use Rattle.luks1_header.specs.Header1.{payload_offset_of, IsLuks1};
 ghost use Rattle.luks_reading.specs.Header.{IsAcceptedHeader, IsHeader};
 ghost use Rattle.luks_keeping.specs.Backup.{IsBackupSize, IsLuks1Size};
 ghost use Rattle.luks_keeping.specs.Judged.{HasFields};
-ghost use Rattle.luks_keeping.specs.Laid.{HoldsBelow, LacksSize};
+ghost use Rattle.luks_keeping.specs.Laid.{choice_of, HoldsBelow, LacksSize};
+ghost use Rattle.luks_keeping.specs.Restored.{IsFrontAs};
 
 use crate::slots::LUKS1_HEADER;
 use luks_area::SECTOR;
@@ -26,6 +27,28 @@ pub(crate) fn backup_size(header: &Header, data_: Data) -> Option<u64>
             let region = copy.meta.config().keyslots_size;
             luks2_size(copy.header.hdr_size, region)
         }
+    }
+}
+
+/// Where the data begins on a device of `total` bytes with this header, or else its end.
+pub(crate) fn data_start(header: &Header, data_: Data, total: u64) -> u64
+    requires fields { HasFields header.now }
+    requires accepted { IsAcceptedHeader header.now }
+    ensures within { result ≤ total }
+    ensures start { (v : List ℕ) → IsHeader v header.now
+        → IsFrontAs v data_ total (choice_of header.now) result }
+{
+    match data_ {
+        Data::Elsewhere => total,
+        Data::Here => match header {
+            Header::Luks1(bytes) => total.min(payload_place(&Luks1::read(
+                bytes.as_slice(),
+            ).unwrap())),
+            Header::Luks2(_) => match backup_size(header, data_) {
+                Some(size) => total.min(size),
+                None => total,
+            },
+        },
     }
 }
 

@@ -44,9 +44,9 @@ keeps_same payload backup volume = record {
 }
 
 -- a device of so many bytes
-pub keeps_rest : (payload : Data) (b old new : List ℕ) (total : ℕ) → length old ≡ total → SameBut (IsOfRestored b) old new
+pub keeps_rest : (payload : Data) (b old new : List ℕ) (total : ℕ) → length old ≡ total → SameBut (IsOfRestored b payload old) old new
     → ((n : ℕ) (a : Area) → IsSegmentOn b payload total n a → part new a.start a.len ≡ part old a.start a.len)
-    → ((c : Choice) → Chosen b c → RestoresInTurn b c old new) → KeepsRest payload b old new
+    → ((c : Choice) → Chosen b c → RestoresInTurn b payload c old new) → KeepsRest payload b old new
 keeps_rest payload b old new total long outside segments order = record {
   outside = outside;
   segments = λ n a is. segments n a (subst (λ (l : ℕ). IsSegmentOn b payload l n a) long is);

@@ -5,7 +5,7 @@ use Rattle.luks_reading.specs.Checked.{First, WellFormed}
 use Rattle.luks_reading.specs.Header.{NeedsMetadata}
 use Rattle.luks_reading.specs.declared.report.Data.{Data}
 use Rattle.luks_reading.specs.declared.report.Data.TheVariants.{Elsewhere}
-use Rattle.luks_keeping.specs.Compared.{IsCompared}
+use Rattle.luks_keeping.specs.Compared.{IsComparedInFull}
 use Rattle.luks_keeping.specs.SameVolume.{IsOtherVolume}
 use Rattle.luks_keeping.specs.declared.restore_fault.RestoreFault.TheVariants.{NotAccepted, OtherVolume}
 use Rattle.luks_request.specs.declared.keeping.Comparing.{Comparing}
@@ -27,7 +27,7 @@ pub record AreBothFormed (payload : Data) (b t : List ℕ) : Type 0 where
 -- first fault, the volume's, that it is another one's
 abbrev pub IsCompareAnswer : Type 0 → Data → Pair → Answer → Type 0
 IsCompareAnswer tells payload d (Compared comparison) = NoneFailed d × (tells → AreBothFormed payload d.source d.old)
-    × (tells → IsOtherVolume d.source d.old → ⊥) × (tells → IsCompared d.source d.old comparison)
+    × (tells → IsOtherVolume d.source d.old → ⊥) × (tells → IsComparedInFull d.source d.old comparison)
 IsCompareAnswer tells payload d (Refused (Restore (NotAccepted f))) = NoneFailed d × (tells → First d.source Elsewhere f)
 IsCompareAnswer tells payload d (Refused (Check f)) = NoneFailed d × (tells → WellFormed d.source Elsewhere)
     × (tells → First d.old payload f)

@@ -45,17 +45,18 @@ over_of restoring = over_by restoring.other restoring.over
 
 -- `new` is the volume `old` after the backup `b` was put onto it
 pub record IsNewVolume (payload : Data) (b old new : List ℕ) : Type 0 where
-  pub restored : IsRestored b old new
+  pub restored : IsRestored b payload old new
   pub well_formed : WellFormed new payload
   -- each keyslot answers each passphrase as the backup's does
   pub answers : (allowed : Allowed) (n : ℕ) (p : List ℕ) (a : Opened) → AnswerWithin allowed b n p a ↔ AnswerWithin allowed new n p a
 
 -- whatever is answered, after a failed call too: no byte has changed but those of the backup's header and key
--- areas, and none of a segment; and what is left is of a time at which the backup was put back in its order
+-- areas and of older copies' first sectors, and none of a segment; and what is left is of a time at which the
+-- backup was put back in its order
 pub record KeepsRest (payload : Data) (b old new : List ℕ) : Type 0 where
-  pub outside : SameBut (IsOfRestored b) old new
+  pub outside : SameBut (IsOfRestored b payload old) old new
   pub segments : (n : ℕ) (a : Area) → IsSegmentOn b payload (length old) n a → part new a.start a.len ≡ part old a.start a.len
-  pub order : (c : Choice) → Chosen b c → RestoresInTurn b c old new
+  pub order : (c : Choice) → Chosen b c → RestoresInTurn b payload c old new
 
 -- ---- what is answered
 

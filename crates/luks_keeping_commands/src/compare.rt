@@ -12,7 +12,7 @@ ghost use Rattle.luks_keeping_commands.specs.TwoFiles.{pair_of};
 
 use crate::one_file::are_one_file;
 use luks_commands::{Answer, Inputs, Printer, Refusal, Status, device_fault, end, refused, unread};
-use luks_keeping::{RestoreFault, accepted_header, compare, is_other_volume};
+use luks_keeping::{RestoreFault, accepted_header, compare_areas, is_other_volume};
 use luks_reading::{CheckFault, Data, Device};
 use luks_request::Comparing;
 use std::alloc::Global;
@@ -89,7 +89,7 @@ fn answer<D: Device, R: Read, N: Read, E: Write>(
     }
 }
 
-/// How the header of the backup stands to that of the volume.
+/// How the header of the backup and its key areas stand to those of the volume.
 fn compare_headers<D: Device, E: Write>(
     alloc: Global,
     backup: &mut D,
@@ -117,7 +117,14 @@ fn compare_headers<D: Device, E: Write>(
     if is_other_volume(&held, &there) {
         return Answer::Refused(Refusal::Restore(RestoreFault::OtherVolume));
     }
-    Answer::Compared(compare(&held, &there))
+    let before = backup.failures();
+    match compare_areas(backup, &held, volume, &there) {
+        Ok(comparison) => Answer::Compared(comparison),
+        Err(_) if backup.failures() != before => {
+            device_fault(comparing.backup, "reading failed", err)
+        }
+        Err(_) => device_fault(name, "reading failed", err),
+    }
 }
 
 /// What is answered where the file of this name isn't accepted as a backup.

@@ -6,7 +6,7 @@ ghost use Rattle.luks_keeping.specs.Judged.{HasFields};
 use crate::sources::{backup_of, renamed};
 use luks_area::MemDevice;
 use luks_kdf::HashName;
-use luks_keeping::{accepted_header, compare, is_other_volume};
+use luks_keeping::{accepted_header, compare_areas, is_other_volume};
 use luks_reading::{Data, Header};
 use luks_test_devices::{put, small1, small2, two_keyslots};
 use std::alloc::Global;
@@ -24,8 +24,11 @@ fn header_of(alloc: Global, bytes: &[u8]) -> Result<Header, Fail>
 
 /// What is printed of the backup of the one volume, compared with the other.
 fn printed(alloc: Global, kept: &[u8], volume: &[u8]) -> Result<String, Fail> {
-    let backup = header_of(alloc, &backup_of(alloc, kept)?)?;
-    let comparison = compare(&backup, &header_of(alloc, volume)?);
+    let mut backup = MemDevice::new(backup_of(alloc, kept)?);
+    let held = accepted_header(alloc, &mut backup, Data::Elsewhere)?;
+    let mut target = MemDevice::new(volume.to_vec(alloc)?);
+    let there = accepted_header(alloc, &mut target, Data::Elsewhere)?;
+    let comparison = compare_areas(&mut backup, &held, &mut target, &there)?;
     Ok(format!(in alloc; "{comparison}")?)
 }
 
@@ -64,6 +67,22 @@ fn of_luks1(rt: HostRuntime) -> Result<(), Fail> {
     put(&mut changed, 216, b"another");
     let older = printed(rt.alloc(), &image, &changed)?;
     assert!(rt; older.as_str() == "outdated\nkeyslot 0 older\n", "{older}");
+    Ok(())
+}
+
+#[test]
+fn of_damaged_key_areas(rt: HostRuntime) -> Result<(), Fail> {
+    let image = two_keyslots(rt.alloc())?;
+    let mut damaged = image.to_vec(rt.alloc())?;
+    // the last byte of the area of the keyslot 1
+    put(&mut damaged, 40959, b"!");
+    let volume = printed(rt.alloc(), &image, &damaged)?;
+    assert!(rt;
+        volume.as_str() == "outdated\nkeyslot 0 same\nkeyslot 1 damaged\n",
+        "{volume}"
+    );
+    let backup = printed(rt.alloc(), &damaged, &image)?;
+    assert!(rt; backup.as_str() == volume.as_str(), "{backup}");
     Ok(())
 }
 

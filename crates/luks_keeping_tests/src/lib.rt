@@ -7,6 +7,8 @@ mod backups;
 #[cfg(test)]
 mod comparisons;
 #[cfg(test)]
+mod cut_power;
+#[cfg(test)]
 mod failing_backups;
 #[cfg(test)]
 mod failing_calls;

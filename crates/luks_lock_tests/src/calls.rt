@@ -50,6 +50,7 @@ fn found(kind: Kind, inode: u64) -> Found {
         system: 0x1102,
         inode,
         device: 0x703,
+        owner: 0,
     }
 }
 
@@ -117,6 +118,18 @@ impl<R: Files<File = File>> System for Fake<'_, R> {
         Some(if self.case.read_only { b'1' } else { b'0' })
     }
 
+    fn text(&mut self, _path: &str, _into: &mut [u8]) -> Option<usize> {
+        None
+    }
+
+    fn names(&mut self, _path: &str, _into: &mut [u8]) -> Option<usize> {
+        None
+    }
+
+    fn caller(&mut self) -> Option<u32> {
+        None
+    }
+
     fn flock(&mut self, _file: &File, share: Share) -> Answer {
         let way = name_of_share(share);
         let _ = writeln!(self.log, "flock {way}");
@@ -155,6 +168,8 @@ fn outcome_of<R: Files<File = File>>(alloc: Global, fake: &mut Fake<'_, R>) -> &
         Err(OpenFault::NoVolume) => "no volume",
         Err(OpenFault::Edited) => "edited",
         Err(OpenFault::ReadOnly) => "read-only",
+        Err(OpenFault::ForeignLink) => "a link of another user",
+        Err(OpenFault::Exchanged) => "exchanged",
         Err(OpenFault::File(_)) => "fault",
     }
 }

@@ -3,10 +3,14 @@
 #![tactic(auto)]
 
 #[cfg(test)]
+mod aliases;
+#[cfg(test)]
 mod calls;
 #[cfg(test)]
 mod changed_meanwhile;
 #[cfg(test)]
 mod named_locks;
+#[cfg(test)]
+mod opened_once;
 #[cfg(test)]
 mod volumes;

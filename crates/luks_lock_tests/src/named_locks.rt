@@ -164,14 +164,19 @@ fn what_the_system_tells_of_a_file(rt: HostRuntime) -> Result<(), Fail> {
         system,
         inode,
         device: _,
+        owner,
     } = found;
     assert!(rt;
         kind == Kind::Regular && system == owed.dev() && inode == owed.ino(),
         "a file by a link"
     );
+    assert!(rt;
+        owner == owed.uid() && host.caller() == Some(owner),
+        "its owner, who made it"
+    );
     let linked = host.lstat(link.as_str())?;
     assert!(rt;
-        linked.kind == Kind::Other && linked.inode != inode,
+        linked.kind == Kind::Link && linked.inode != inode,
         "the link"
     );
     let opened = host.fstat(&File::open(&rt, path)?)?;

@@ -4,7 +4,9 @@ ghost use Rattle.luks_guarded_files.specs.Cached.{cached_failures};
 
 use luks_area::FileDevice;
 use luks_edit_commands::{InputFault, Inputs, Reason};
-use luks_guarded_files::{CachedDevice, Host, LockedDevice, Notice, OpenFault, open_locked};
+use luks_guarded_files::{
+    CachedDevice, FittedFile, Host, LockedDevice, Notice, OpenFault, open_locked,
+};
 use luks_line::line;
 use luks_samples::new_folder;
 use luks_sessions::run_words;
@@ -36,16 +38,14 @@ fn opened<R: AllocGlobal + Clock + Files<File = File>>(
     rt: &R,
     path: &str,
     writes: bool,
-) -> Result<CachedDevice<LockedDevice<FileDevice<File>>>, InputFault>
+) -> Result<CachedDevice<LockedDevice<FileDevice<FittedFile>>>, InputFault>
     ensures { IfOk result (λ device. cached_failures device ≡ 0) }
 {
     match open_locked(rt.alloc(), &mut Host::new(rt), path, writes, NO_FOLDER) {
         Ok(device) => CachedDevice::new(rt.alloc(), device).map_err(|_| InputFault::NoMemory),
         Err(OpenFault::Edited) => Err(InputFault::Unreadable(Reason::Edited)),
         Err(OpenFault::NoVolume) => Err(InputFault::Unreadable(Reason::NoVolume)),
-        Err(OpenFault::ReadOnly | OpenFault::File(_)) => {
-            Err(InputFault::Unreadable(Reason::Other))
-        }
+        Err(_) => Err(InputFault::Unreadable(Reason::Other)),
     }
 }
 

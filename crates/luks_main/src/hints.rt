@@ -16,7 +16,7 @@ use luks_notes::{
 };
 use luks_rebuilding::Which;
 use luks_request::{AskedKdf, EditRequest, Meant, Place};
-use luks_signatures::first_use;
+use luks_signatures::{first_use, is_reencrypted};
 use std::alloc::Global;
 use std::fs::File;
 use std::io::Write;
@@ -114,9 +114,7 @@ pub(crate) fn tell_ended<R: AllocGlobal + Clock + Files<File = File>>(
     notes: &mut Vec<u8>,
 ) {
     let refused = refusing(ended.answer);
-    if refused == Some(Fault::NotLuks) {
-        tell_standing(rt, Looked::at_volume(line), notes);
-    }
+    tell_instead(rt, Looked::at_volume(line), refused, notes);
     tell_more(rt, line, ended, notes);
     if let Some(fault) = refused {
         let name = fault.name();
@@ -132,7 +130,7 @@ pub(crate) fn tell_ended<R: AllocGlobal + Clock + Files<File = File>>(
 
 /// Notes what formatting, converting and rebuilding have left of what stood there before, where the
 /// metadata of a volume is whole of which no header counts, what else its disk is used for where only
-/// the second copy is sound, of which metadata a header was made or which keyslots it has lost, and that
+/// one copy is sound, of which metadata a header was made or which keyslots it has lost, and that
 /// there is no keyslot.
 fn tell_more<R: AllocGlobal + Clock + Files<File = File>>(
     rt: &R,
@@ -167,18 +165,54 @@ fn tell_more<R: AllocGlobal + Clock + Files<File = File>>(
     }
 }
 
-/// Notes by its signature what stands on a volume that isn't of LUKS.
+/// Notes what stands in the place of a header that is so refused. Of LUKS1 the bytes of the header alone are
+/// looked at, since what stands behind them may be older than it.
+fn tell_instead<R: AllocGlobal + Clock + Files<File = File>>(
+    rt: &R,
+    looked: Looked<'_>,
+    refused: Option<Fault>,
+    notes: &mut Vec<u8>,
+) {
+    match refused {
+        Some(Fault::NotLuks | Fault::NoSoundCopy) => tell_standing(rt, looked, u64::MAX, notes),
+        Some(Fault::SlotState | Fault::Stripes) => tell_standing(rt, looked, HEADER, notes),
+        _ => {}
+    }
+}
+
+/// The bytes of a LUKS1 header.
+const HEADER: u64 = 592;
+
+/// Notes that a volume is of LUKS1 and being reencrypted, or what stands there by a signature among its first
+/// bytes, of so many at most.
 fn tell_standing<R: AllocGlobal + Clock + Files<File = File>>(
     rt: &R,
     looked: Looked<'_>,
+    most: u64,
     notes: &mut Vec<u8>,
 ) {
     let Some(mut device) = reopened(rt, looked.file, looked.place) else {
         return;
     };
-    let len = device.len();
-    if let Ok(Some(found)) = first_use(&mut device, len) {
-        let file = looked.file;
+    let file = looked.file;
+    match is_reencrypted(&mut device) {
+        Ok(true) => {
+            let _ = writeln!(
+                notes,
+                "luks: {file}: cryptsetup is in the midst of reencrypting this LUKS1 volume: luks explain Reencrypting"
+            );
+        }
+        Ok(false) => tell_signature(&mut device, most, file, notes),
+        Err(_) => {}
+    }
+}
+
+/// Notes what stands there by its signature.
+fn tell_signature(device: &mut Volume, most: u64, file: &str, notes: &mut Vec<u8>)
+    requires { cached_failures device.old ≡ 0 }
+{
+    let len = device.len().min(most);
+    if let Ok(Some(found)) = first_use(device, len) {
         let _ = writeln!(notes, "luks: {file}: what stands there is {found}");
     }
 }

@@ -3,6 +3,7 @@ ghost use Rattle.std.specs.Prelude.{◌≡◌, ◌↔◌, IfOk, IfSome, IsOk, Is
 ghost use Rattle.luks_guarded_files.specs.Cached.{cached_failures};
 ghost use Rattle.luks_commands.specs.Exit.{IsExitStatus};
 ghost use Rattle.luks_guarded_files.specs.Lazy.{file_name};
+ghost use Rattle.luks_main.specs.Outcomes.{IsOutcome};
 ghost use Rattle.luks_main.specs.Statuses.{IsProgramStatus, MayEnd};
 
 use crate::hints::{Ended, tell, tell_ended, tell_overwritten, use_before};
@@ -10,15 +11,22 @@ use crate::outcome::{Outcome, outcome_of};
 use crate::searching::search;
 use crate::told::{device_fault, explain, list_faults, no_memory, tell_untimed, tell_usage};
 use crate::trial::TrialLines;
-use crate::{FAULT, USAGE};
-use luks_edit_commands::{CountingPrinter, InputFault, Inputs, Line, OtherUse, Unprinted};
-use luks_files::{Openings, Passphrases, Volume, Volumes, has_changed, open_volumes, reader};
-use luks_guarded_files::LazyFile;
+use crate::{FAULT, TOLD, USAGE};
+use luks_edit_commands::{
+    CountingPrinter, InputFault, Inputs, Line, OtherUse, Progress, Reason, Unprinted,
+};
+use luks_files::{
+    Openings, Passphrases, Volume, Volumes, has_changed, open_volumes, reader, take_away,
+};
+use luks_guarded_files::{Found, LazyFile};
 use luks_line::{Asked, Manner, parse};
 use luks_timing::Timing;
 use luks_wiping::wipe_stack;
+use std::alloc::Global;
+use std::cell::Cell;
 use std::fs::File;
 use std::io::{ErrorKind, Write};
+use std::rc::Rc;
 use std::rt::{Clock, Env, Files};
 use std::{env, io};
 
@@ -168,9 +176,22 @@ fn run_read<R: AllocGlobal + Clock + Files<File = File> + Input + Print + Eprint
     let ended = passphrases.end_command();
     let standing = if ended { None } else { use_before(rt, line) };
     let volumes = open_volumes(rt, line, openings, ended, &mut noticed);
-    let mut inputs = inputs_of(rt, volumes, passphrases, openings);
+    let Volumes {
+        volume,
+        target,
+        made,
+        is_source,
+    } = volumes;
+    let mut inputs = inputs_of(rt, volume, target, passphrases, openings);
     let mut trial = TrialLines::new(rt, line, manner.quiet);
-    let mut outcome = outcome_of(rt.alloc(), line, manner, &mut inputs, &mut trial);
+    let mut outcome = outcome_beside(
+        rt.alloc(),
+        line,
+        manner,
+        &mut inputs,
+        &mut trial,
+        &is_source,
+    );
     let is_noted = outcome.is_noted(manner);
     if is_noted {
         tell(rt, noticed.as_slice());
@@ -178,6 +199,7 @@ fn run_read<R: AllocGlobal + Clock + Files<File = File> + Input + Print + Eprint
     let mut out = CountingPrinter::new(io::writer(rt));
     let printed = outcome.print_lines(&mut out);
     let has_changed = has_changed(&inputs.volume);
+    take_unfinished(rt, line, made, outcome.status);
     drop(inputs);
     note_ended(rt, line, standing, has_changed, &mut outcome);
     if is_noted {
@@ -186,6 +208,44 @@ fn run_read<R: AllocGlobal + Clock + Files<File = File> + Input + Print + Eprint
     match printed {
         Ok(()) => outcome.print_object(rt.alloc(), noticed.as_slice(), &mut out),
         Err(Unprinted) => FAULT,
+    }
+}
+
+/// What the command comes to: that both its files are one, where its target has turned out to be its source.
+fn outcome_beside<R: Files<File = File>, G: Progress>(
+    alloc: Global,
+    line: &Line<'_>,
+    manner: Manner,
+    inputs: &mut Inputs<Volume, &[u8], LazyFile<'_, R>>,
+    progress: &mut G,
+    is_source: &Option<Rc<Cell<bool>>>,
+) -> Outcome
+    requires volume { IfOk inputs.old.volume (λ device. cached_failures device ≡ 0) }
+    requires target { IfOk inputs.old.target (λ device. cached_failures device ≡ 0) }
+    ensures { IsOutcome line.now.command result }
+{
+    let outcome = outcome_of(alloc, line, manner, inputs, progress);
+    match is_source {
+        Some(is_source) if is_source.get() => {
+            inputs.volume = Err(InputFault::Absent);
+            inputs.target = Err(InputFault::Unreadable(Reason::SameFile));
+            outcome_of(alloc, line, manner, inputs, progress)
+        }
+        _ => outcome,
+    }
+}
+
+/// Takes away the file that was made for a backup, where that ended with another status than 0.
+fn take_unfinished<R: Clock + Files<File = File>>(
+    rt: &R,
+    line: &Line<'_>,
+    made: Option<Found>,
+    status: u8,
+) {
+    if let (Some(made), Some(name)) = (made, line.target()) {
+        if status != TOLD {
+            take_away(rt, name, &made);
+        }
     }
 }
 
@@ -223,14 +283,15 @@ fn note_changed(volume: &str, notes: &mut Vec<u8>) {
 /// the random bytes, of any kind, which the command reads last, and opens then.
 fn inputs_of<'a, R: Files<File = File>>(
     rt: &'a R,
-    volumes: Volumes,
+    volume: Result<Volume, InputFault>,
+    target: Result<Volume, InputFault>,
     passphrases: &'a Passphrases,
     openings: &Openings<'a>,
 ) -> Inputs<Volume, &'a [u8], LazyFile<'a, R>>
-    requires volume_count { IfOk volumes.volume (λ device. cached_failures device ≡ 0) }
-    requires target_count { IfOk volumes.target (λ device. cached_failures device ≡ 0) }
-    ensures volume { result.volume ≡ volumes.volume }
-    ensures target { result.target ≡ volumes.target }
+    requires volume_count { IfOk volume (λ device. cached_failures device ≡ 0) }
+    requires target_count { IfOk target (λ device. cached_failures device ≡ 0) }
+    ensures volume { result.volume ≡ volume }
+    ensures target { result.target ≡ target }
     ensures volume_count { IfOk result.volume (λ device. cached_failures device ≡ 0) }
     ensures target_count { IfOk result.target (λ device. cached_failures device ≡ 0) }
     ensures passphrase { IsOk result.passphrase ↔ IsOk passphrases.now.old }
@@ -243,7 +304,6 @@ fn inputs_of<'a, R: Files<File = File>>(
     ensures random_name { IfSome openings.now.random (λ opening.
         IfOk result.random (λ file. file_name file ≡ opening.name.now)) }
 {
-    let Volumes { volume, target } = volumes;
     Inputs {
         volume,
         target,

@@ -9,8 +9,9 @@ use std::rt::{Clock, Env, Files};
 use std::time::Duration;
 
 /// What a command is run on: another runtime, whose files it takes by their names in the folder. A name that
-/// begins with a slash is that. The clock goes on by a second each time that it is read, and no pause is
-/// made.
+/// begins with a slash is that, but for the names of the files of standard output and standard error, which are
+/// the folder's `stdout` and `stderr`. The clock goes on by a second each time that it is read, and no pause
+/// is made.
 #[derive(Drop)]
 pub struct Trial<'a, R> {
     rt: &'a R,
@@ -22,7 +23,14 @@ pub struct Trial<'a, R> {
     err: Cell<Vec<u8>>,
     opened: Cell<Vec<u8>>,
     seconds: Cell<u64>,
+    /// The file whose making cuts another one, that one, and the length that is left of it.
+    cuts: Option<(&'a str, &'a str, u64)>,
 }
+
+/// The names of the files of standard output and standard error.
+const OUTPUT: &str = "/proc/self/fd/1";
+
+const ERROR: &str = "/proc/self/fd/2";
 
 /// Writes a text behind what is kept.
 fn add<D: Display + Drop>(
@@ -50,7 +58,14 @@ impl<'a, R: AllocGlobal + Files<File = File>> Trial<'a, R> {
             err: Cell::new(Vec::new(rt.alloc())),
             opened: Cell::new(Vec::new(rt.alloc())),
             seconds: Cell::new(0),
+            cuts: None,
         }
+    }
+
+    /// The same, but that another program cuts a file as soon as one is made: the name of that, of the
+    /// file that is cut, and the length that is left of it.
+    pub fn cutting(self, cuts: Option<(&'a str, &'a str, u64)>) -> Self {
+        Trial { cuts, ..self }
     }
 
     /// What was printed on standard output and on standard error, and the files that were opened.
@@ -68,7 +83,11 @@ impl<'a, R: AllocGlobal + Files<File = File>> Trial<'a, R> {
     fn place(&self, path: &str) -> io::Result<String> {
         let alloc = self.alloc;
         let folder = self.folder;
-        if is_absolute(path) {
+        if path == OUTPUT {
+            Ok(format!(in alloc; "{folder}/stdout")?)
+        } else if path == ERROR {
+            Ok(format!(in alloc; "{folder}/stderr")?)
+        } else if is_absolute(path) {
             Ok(format!(in alloc; "{path}")?)
         } else {
             Ok(format!(in alloc; "{folder}/{path}")?)
@@ -177,6 +196,14 @@ impl<R: AllocGlobal + Files<File = File>> Files for Trial<'_, R> {
             let way = if how.asks_write() { "> " } else { "< " };
             add(self.alloc, &self.opened, way, path)?;
             add(self.alloc, &self.opened, "", "\n")?;
+        }
+        if let Some((made, other, len)) = self.cuts {
+            if how.asks_create_new() && path == made {
+                let mut options = OpenOptions::new();
+                let place = self.place(other)?;
+                let other = options.write(true).open(self.rt, place.as_str())?;
+                other.set_len(len)?;
+            }
         }
         Ok(file)
     }

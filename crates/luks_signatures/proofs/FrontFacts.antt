@@ -3,7 +3,7 @@ use Rattle.std.proofs.Common.{◌≡◌, ◌≢◌, ℕ, ◌+◌, ◌*◌, ◌<�
 use Rattle.std.proofs.lemmas.Grind.{common_steps}
 use Rattle.luks_area.specs.Ranges.{part}
 use Rattle.luks_area.specs.RangeFacts.{length-part, length-part_inside, part-part}
-use Rattle.luks_signatures.specs.Signatures.{HasPartition, IsPartition, Stands}
+use Rattle.luks_signatures.specs.Signatures.{BeginsEntry, HasEmptyTable, HasPartition, IsPartition, Stands}
 
 -- a part that lies inside the first bytes is the same part of them
 pub part-front : (v : List ℕ) (n p len : ℕ) → p + len ≤ n → part (take n v) p len ≡ part v p len
@@ -18,6 +18,24 @@ pub partition-front : (v : List ℕ) (n : ℕ) → 512 ≤ n → HasPartition (t
 partition-front v n long = (
   λ has. (sym (same 510 2 (omega arith)) ∙ has.0, (has.1.0, has.1.1, subst IsPartition (same (446 + 16 * has.1.0) 16 (let low = has.1.1 in omega (arith, low))) has.1.2)),
   λ has. (same 510 2 (omega arith) ∙ has.0, (has.1.0, has.1.1, subst IsPartition (sym (same (446 + 16 * has.1.0) 16 (let low = has.1.1 in omega (arith, low)))) has.1.2)),
+)
+  where
+    same : (p len : ℕ) → p + len ≤ 512 → part (take n v) p len ≡ part (part v 0 512) p len
+    same p len inside = part-front v n p len (omega (arith, inside, long)) ∙ sym (part-front v 512 p len inside)
+
+-- and of a table without one
+pub empty-front : (v : List ℕ) (n : ℕ) → 512 ≤ n → HasEmptyTable (take n v) ↔ HasEmptyTable (part v 0 512)
+empty-front v n long = (
+  λ has. (
+    sym (same 510 2 (omega arith)) ∙ has.0,
+    λ zeros. has.1 (same 440 4 (omega arith) ∙ zeros),
+    λ k low. subst BeginsEntry (same (446 + 16 * k) 16 (omega (arith, low))) (has.2 k low),
+  ),
+  λ has. (
+    same 510 2 (omega arith) ∙ has.0,
+    λ zeros. has.1 (sym (same 440 4 (omega arith)) ∙ zeros),
+    λ k low. subst BeginsEntry (sym (same (446 + 16 * k) 16 (omega (arith, low)))) (has.2 k low),
+  ),
 )
   where
     same : (p len : ℕ) → p + len ≤ 512 → part (take n v) p len ≡ part (part v 0 512) p len

@@ -1,3 +1,4 @@
+pub mod Reencryption
 pub mod Signatures
 pub mod UseTexts
 pub mod Views

@@ -1,15 +1,15 @@
 //! Whether a mark is among the first bytes of a disk.
-ghost use Rattle.std.specs.Prelude.{◌≡◌, ◌↔◌, ℕ, [], ◌∷◌, ◌+◌, ◌*◌, ◌<◌, ◌≤◌, ◌^◌, IfOk, IsTrue, length, take};
+ghost use Rattle.std.specs.Prelude.{◌≡◌, ◌≢◌, ◌↔◌, ℕ, [], ◌∷◌, ◌+◌, ◌*◌, ◌<◌, ◌≤◌, ◌^◌, IfOk, IsTrue, length, take};
 ghost use Rattle.luks_area.specs.Device.{CountsFailure, IsUnchanged, is_failure};
 ghost use Rattle.luks_area.specs.Ranges.{part};
-ghost use Rattle.luks_signatures.specs.Signatures.{HasPartition, HasUberblock, IsIn, IsPartition, IsUberblock, LabelHasUberblock, Stands};
+ghost use Rattle.luks_signatures.specs.Signatures.{BeginsEntry, HasEmptyTable, HasPartition, HasUberblock, IsIn, IsPartition, IsUberblock, LabelHasUberblock, Stands};
 ghost use Rattle.luks_signatures.specs.Views.{is_short, mark_of};
 
 use crate::table::Mark;
 use luks_area::{Device, DeviceFault};
 
 /// The most bytes of a mark.
-const MOST: usize = 16;
+const MOST: usize = 32;
 
 /// The length of a label of ZFS.
 const LABEL: u64 = 0x4_0000;
@@ -39,6 +39,7 @@ pub(crate) fn is_in<D: Device>(device: &mut D, end: u64, mark: &Mark) -> Result<
         Mark::Bytes(place, bytes) => stands(device, end, *place, bytes),
         Mark::Uberblock => has_uberblock(device, end),
         Mark::Partition => has_partition(device, end),
+        Mark::EmptyTable => has_empty_table(device, end),
     }
 }
 
@@ -50,7 +51,7 @@ fn stands<D: Device>(
     bytes: &[u8],
 ) -> Result<bool, DeviceFault>
     requires some { 1 ≤ length bytes.now }
-    requires few { length bytes.now ≤ 16 }
+    requires few { length bytes.now ≤ 32 }
     requires within { end ≤ D.size device.old }
     requires room { D.failed device.old + 1 < 2 ^ 64 }
     ensures unchanged { IsUnchanged D.tells D.size D.bytes D.unsettled device.old device.new }
@@ -159,4 +160,56 @@ fn is_partition(entry: &[u8]) -> bool
     ensures { IsTrue result ↔ IsPartition entry.now }
 {
     entry[4] != 0 && entry[12..16] != [0; 4]
+}
+
+/// Whether the first sector is a master boot record that names its disk, of which each entry begins as one.
+fn has_empty_table<D: Device>(device: &mut D, end: u64) -> Result<bool, DeviceFault>
+    requires within { end ≤ D.size device.old }
+    requires room { D.failed device.old + 1 < 2 ^ 64 }
+    ensures unchanged { IsUnchanged D.tells D.size D.bytes D.unsettled device.old device.new }
+    ensures count { CountsFailure is_failure result (D.failed device.old) (D.failed device.new) }
+    ensures has { D.tells → IfOk result (λ has.
+        IsTrue has ↔ HasEmptyTable (take end (D.bytes device.old))) }
+{
+    if end < SECTOR as u64 {
+        return Ok(false);
+    }
+    let mut record = [0; SECTOR];
+    device.read_at(0, &mut record)?;
+    Ok(is_empty_table(&record))
+}
+
+fn is_empty_table(sector: &[u8]) -> bool
+    requires { length sector.now ≡ 512 }
+    ensures { IsTrue result ↔ HasEmptyTable sector.now }
+{
+    is_boot_record(sector) && is_name(&sector[440..444]) && begin_entries(sector)
+}
+
+/// Whether a disk is named by this signature of it.
+fn is_name(signature: &[u8]) -> bool
+    ensures { IsTrue result ↔ (signature.now ≢ 0 ∷ 0 ∷ 0 ∷ 0 ∷ []) }
+{
+    signature != [0; 4].as_slice()
+}
+
+/// Whether each of the four entries of a master boot record begins as one.
+fn begin_entries(sector: &[u8]) -> bool
+    requires { length sector.now ≡ 512 }
+    ensures { IsTrue result ↔ ((k : ℕ) → k < 4 → BeginsEntry (part sector.now (446 + 16 * k) 16)) }
+{
+    for n in 0..4 {
+        let start = 446 + 16 * n;
+        if !begins_entry(&sector[start..start + 16]) {
+            return false;
+        }
+    }
+    true
+}
+
+fn begins_entry(entry: &[u8]) -> bool
+    requires { length entry.now ≡ 16 }
+    ensures { IsTrue result ↔ BeginsEntry entry.now }
+{
+    entry[0] == 0 || entry[0] == 0x80
 }

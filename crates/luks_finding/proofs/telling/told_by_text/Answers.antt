@@ -1,16 +1,16 @@
 use Rattle.std.proofs.Common.{◌≡◌, ℕ, ◌+◌, ◌-◌, ◌*◌, List, None, sym, ◌∙◌, subst, arith}
 use Rattle.std.proofs.lemmas.Bool.{false≢true}
-use Rattle.luks_finding.specs.Starts.{BeginsHeader}
+use Rattle.luks_finding.specs.Starts.{BeginsLuks}
 use Rattle.luks_finding.specs.Telling.{joined, FindsWhole, IsSecondAt, IsWholeAt, TellsAt, TellsKind}
 use Rattle.luks_finding.specs.declared.told.Told.{Told}
 use Rattle.luks_finding.proofs.ToldFacts.{first-told, joined-told, text-header, text-none}
 use Rattle.luks_finding.proofs.telling.told_by_text.Goals as goal
 
-pub returns-then-is_header-clause-told : goal.returns-then-is_header-clause-told
-returns-then-is_header-clause-told g c = λ t.
+pub returns-then-is_luks-clause-told : goal.returns-then-is_luks-clause-told
+returns-then-is_luks-clause-told g c = λ t.
     let h : ℕ = 512 * (c.args.sector - 8) in
     text-header (g.D.Device.bytes c.args.device.now) (512 * c.args.sector) h (omega arith) (c.requires.text t)
-    (subst BeginsHeader (c.in_ok-beginning.ensures.read t) (c.is_header.ensures.0 c.if-is_header.true))
+    (subst BeginsLuks (c.in_ok-beginning.ensures.read t) (c.is_luks.ensures.0 c.if-is_luks.true))
 
 pub second_start-requires-clause-whole : goal.second_start-requires-clause-whole
 second_start-requires-clause-whole g c = λ t.
@@ -32,7 +32,7 @@ returns-in_ok-second-in-Some-clause-told g c = λ t.
     let whole : IsWholeAt v h size = subst W before (rw c.in-Some.is at c.in_ok-size.ensures.found t) in
     let second = subst K same (c.in_ok-second-in-Some.ensures.told t) in
     let first = first-told v c.in_ok-beginning.beginning k size c.first_start-first.result whole
-    (λ begins. false≢true (sym c.if-is_header.false ∙ c.is_header.ensures.1 (subst BeginsHeader (sym read) begins))) read c.first_start-first.ensures.start in
+    (λ begins. false≢true (sym c.if-is_luks.false ∙ c.is_luks.ensures.1 (subst BeginsLuks (sym read) begins))) read c.first_start-first.ensures.start in
     let told = joined-told v h size c.in_ok-second-in-Some.second c.first_start-first.result whole second first in
     let T : ℕ → Type 0 = λ p. TellsAt v p (joined c.in_ok-second-in-Some.second c.first_start-first.result) in
     let J : Told → Type 0 = λ x. TellsAt v (512 * c.args.sector) x in

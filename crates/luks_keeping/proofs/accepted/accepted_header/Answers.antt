@@ -35,3 +35,9 @@ returns-clause-formed g c = λ tells.
     let v : List ℕ = g.D.Device.bytes c.args.device.now in
     let long : c.len.result ≡ length v = c.len.ensures ∙ c.in_ok-header.ensures.unchanged.size ∙ sym (g.met.D.Device.sized c.args.device.now tells) in
     formed_own v c.args.data_ (subst (λ (t : ℕ). IsFormedOn v c.args.data_ t) long (c.in_ok-judge_header.ensures.formed v (c.in_ok-header.ensures.read tells)))
+
+pub returns-clause-within : goal.returns-clause-within
+returns-clause-within g c = record {
+  payload = c.args.data_;
+  fit = subst (λ (n : ℕ). Fit (HeaderArea c.in_ok-header.header c.args.data_ n) n) c.len.ensures c.in_ok-judge_header.ensures.fits;
+}

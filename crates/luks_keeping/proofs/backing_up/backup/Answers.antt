@@ -8,6 +8,7 @@ use Rattle.luks_keeping.specs.Places.{AreInside}
 use Rattle.luks_keeping.proofs.BackupFacts.{answered_refusal, answered_short, answers_alike, backup_of, can_back_up, is_backup, no_failure, of_backup, same_failure, well_formed}
 use Rattle.luks_keeping.proofs.LaidFacts.{apart, inside, lead_within}
 use Rattle.luks_keeping.proofs.SizeFacts.{fits_elsewhere}
+use Rattle.luks_keeping.proofs.TurnFacts.{anew_of}
 use Rattle.luks_keeping.proofs.VolumeFacts.{own_formed}
 use Rattle.luks_keeping.proofs.backing_up.backup.Goals as goal
 
@@ -155,3 +156,19 @@ returns-clause-answers g c = λ source tells.
     (g.T.Device.size c.args.target.now) (c.in_ok-header.ensures.unchanged.same source) (g.met.T.Device.sized c.write_backup.new.target tells ∙ c.write_backup.ensures.size) (omega (arith, room, total))
     (c.write_backup.ensures.rest tells) (c.in_ok-write_backup.ensures.copied source tells) (c.in_ok-write_backup.ensures.lead tells) (c.in_ok-write_backup.ensures.zeros tells) in
     answers_alike v c.args.data_ c.in_ok-header.header c.places_of-places.result c.in_ok-size.size (g.T.Device.bytes c.args.target.now) w made
+
+pub returns-clause-order : goal.returns-clause-order
+returns-clause-order g c = λ source tells.
+    let v : List ℕ = g.S.Device.bytes c.args.source.now in
+    let is = c.in_ok-header.ensures.read source in
+    anew_of v c.in_ok-header.header is c.places_of-places.result c.places_of-places.ensures c.args.data_ c.in_ok-size.size (c.in_ok-size.ensures.size v is)
+    (inside c.in_ok-header.header c.places_of-places.result c.places_of-places.ensures _ c.in_ok-size.size c.in_ok-judge_header.ensures.fits)
+    _ (g.T.Device.bytes c.args.target.now) (g.T.Device.bytes c.write_backup.new.target) (c.in_ok-header.ensures.unchanged.same source) (c.write_backup.ensures.order source tells)
+
+pub returns-in_err-write_backup-clause-order : goal.returns-in_err-write_backup-clause-order
+returns-in_err-write_backup-clause-order g c = λ source tells.
+    let v : List ℕ = g.S.Device.bytes c.args.source.now in
+    let is = c.in_ok-header.ensures.read source in
+    anew_of v c.in_ok-header.header is c.places_of-places.result c.places_of-places.ensures c.args.data_ c.in_ok-size.size (c.in_ok-size.ensures.size v is)
+    (inside c.in_ok-header.header c.places_of-places.result c.places_of-places.ensures _ c.in_ok-size.size c.in_ok-judge_header.ensures.fits)
+    _ (g.T.Device.bytes c.args.target.now) (g.T.Device.bytes c.write_backup.new.target) (c.in_ok-header.ensures.unchanged.same source) (c.write_backup.ensures.order source tells)

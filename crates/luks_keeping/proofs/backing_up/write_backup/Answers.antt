@@ -1,28 +1,41 @@
-use Rattle.std.proofs.Common.{sym, subst, arith, ◌∙◌}
+use Rattle.std.proofs.Common.{sym, subst, arith, ◌∙◌, inl, inr}
 use Rattle.luks_reading.proofs.CheckFacts.{on_ok}
 use Rattle.luks_keeping.specs.Places.{AreInside}
-use Rattle.luks_keeping.proofs.ErasedFacts.{copied_but, lead_stays, others_zero, zeros_front}
+use Rattle.luks_keeping.specs.SecondPlaces.{IsOfListed}
+use Rattle.luks_keeping.proofs.ErasedFacts.{copied_but, lead_stays, listed_zeros, others_zero, zeros_front}
 use Rattle.luks_keeping.proofs.LaidFacts.{inside_larger}
+use Rattle.luks_keeping.proofs.OverFacts.{cleared_then, stays_gone, zeros_cleared}
 use Rattle.luks_keeping.proofs.backing_up.write_backup.Goals as goal
 
 pub copy_places-requires-clause-within : goal.copy_places-requires-clause-within
 copy_places-requires-clause-within g c =
-    subst (AreInside c.args.places.now) (sym c.in_ok-erase.ensures.size) (inside_larger c.args.places.now c.args.size (g.T.Device.size c.args.target.now) c.requires.room c.requires.within)
+    subst (AreInside c.args.places.now) (sym c.in_ok-wipe.ensures.size) (inside_larger c.args.places.now c.args.size (g.T.Device.size c.args.target.now) c.requires.room c.requires.within)
+
+pub returns-in_err-wipe-clause-order : goal.returns-in_err-wipe-clause-order
+returns-in_err-wipe-clause-order g c = λ source tells large. inl (c.wipe.ensures.order tells large)
 
 pub returns-clause-rest : goal.returns-clause-rest
 returns-clause-rest g c = λ tells.
-    copied_but c.args.places.now c.args.size c.requires.within c.requires.lead (c.in_ok-erase.ensures.rest tells) (c.copy_places.ensures.rest tells)
+    copied_but c.args.places.now c.args.size c.requires.within c.requires.lead (c.in_ok-wipe.ensures.rest tells) (c.copy_places.ensures.rest tells)
+
+pub returns-clause-order : goal.returns-clause-order
+returns-clause-order g c = λ source tells large. inr (
+  stays_gone c.args.places.now (IsOfListed c.args.size) (g.T.Device.bytes c.wipe.new.target) (g.T.Device.bytes c.copy_places.new.target) c.requires.lead
+      (listed_zeros (g.T.Device.bytes c.wipe.new.target) c.args.size (c.in_ok-wipe.ensures.zeros tells)) (c.copy_places.ensures.rest tells),
+  cleared_then c.args.places.now _ _ _ (zeros_cleared c.args.places.now (g.T.Device.bytes c.wipe.new.target) c.args.size c.requires.within.header (c.in_ok-wipe.ensures.zeros tells))
+      (c.copy_places.ensures.order source tells),
+)
 
 pub returns-clause-zeros : goal.returns-clause-zeros
 returns-clause-zeros g c = λ tells.
     on_ok c.copy_places.result (λ done.
-    others_zero c.args.places.now c.args.size c.requires.within c.requires.lead (g.T.Device.bytes c.erase.new.target) (g.T.Device.bytes c.copy_places.new.target)
-    (c.in_ok-erase.ensures.zeros tells) (c.copy_places.ensures.rest tells)) (c.copy_places.ensures.settled tells)
+    others_zero c.args.places.now c.args.size c.requires.within c.requires.lead (g.T.Device.bytes c.wipe.new.target) (g.T.Device.bytes c.copy_places.new.target)
+    (c.in_ok-wipe.ensures.zeros tells) (c.copy_places.ensures.rest tells)) (c.copy_places.ensures.settled tells)
 
 pub returns-clause-lead : goal.returns-clause-lead
 returns-clause-lead g c = λ tells.
     let within = c.requires.within.header in
     let lead = c.requires.lead in
     on_ok c.copy_places.result (λ done.
-    lead_stays c.args.places.now (g.T.Device.bytes c.erase.new.target) (g.T.Device.bytes c.copy_places.new.target) c.requires.apart c.requires.lead (c.copy_places.ensures.rest tells)
-    ∙ zeros_front (g.T.Device.bytes c.erase.new.target) c.args.places.now.lead c.args.size (omega (arith, within, lead)) (c.in_ok-erase.ensures.zeros tells)) (c.copy_places.ensures.settled tells)
+    lead_stays c.args.places.now (g.T.Device.bytes c.wipe.new.target) (g.T.Device.bytes c.copy_places.new.target) c.requires.apart c.requires.lead (c.copy_places.ensures.rest tells)
+    ∙ zeros_front (g.T.Device.bytes c.wipe.new.target) c.args.places.now.lead c.args.size (omega (arith, within, lead)) (c.in_ok-wipe.ensures.zeros tells)) (c.copy_places.ensures.settled tells)

@@ -6,11 +6,13 @@ use Rattle.luks_area.specs.Ranges.{part}
 use Rattle.luks_area.specs.RangeFacts.{same_but-equal, same_but-same}
 use Rattle.luks_writing.specs.CountFacts.{counts_first, counts_none}
 use Rattle.luks_keeping.specs.Judged.{IsFormedOn}
+use Rattle.luks_keeping.specs.Laid.{choice_of}
 use Rattle.luks_keeping.specs.Places.{AreInside}
+use Rattle.luks_keeping.specs.Restored.{IsFrontAs, IsSegmentOn}
 use Rattle.luks_keeping.specs.OtherHeaders.{IsUnfit}
 use Rattle.luks_keeping.specs.RestoreFaults.{checked_restore, is_restore_failure}
 use Rattle.luks_keeping.proofs.LaidFacts.{apart, inside, lead_below}
-use Rattle.luks_keeping.proofs.RestoreFacts.{answers_alike, is_restored, kept_rest, of_restored, segment_stays, well_formed, written_over}
+use Rattle.luks_keeping.proofs.RestoreFacts.{answers_alike, changed_rest, is_restored, of_restored, segment_stays, well_formed, written_over}
 use Rattle.luks_keeping.proofs.RestoreFaultFacts.{answered_other, answered_refusal, answered_unfit, can_fit, counts_second, same_failure, two_failures}
 use Rattle.luks_keeping.proofs.SoundFacts.{faultless_on}
 use Rattle.luks_keeping.proofs.TurnFacts.{turn_over}
@@ -62,10 +64,13 @@ returns-clause-restored g c = λ source tells.
     let b : List ℕ = g.B.Device.bytes c.args.backup.now in
     let t : List ℕ = g.T.Device.bytes c.args.target.now in
     let is = c.in_ok-header.ensures.read source in
+    let front : IsFrontAs b c.args.data_ (length t) (choice_of c.in_ok-header.header) c.data_start-limit.result =
+    subst (λ (n : ℕ). IsFrontAs b c.args.data_ n (choice_of c.in_ok-header.header) c.data_start-limit.result)
+    (c.len-2.ensures ∙ c.in_ok-judge_other.ensures.unchanged.size ∙ sym (g.met.T.Device.sized c.args.target.now tells)) (c.data_start-limit.ensures.start b is) in
     let w : List ℕ = g.T.Device.bytes c.write_over.new.target in
     let long : c.len.result ≡ length w = c.len.ensures ∙ sym c.in_ok-judge_other.ensures.unchanged.size ∙ sym c.write_over.ensures.size ∙ sym (g.met.T.Device.sized c.write_over.new.target tells) in
-    let over = written_over b c.args.data_ c.in_ok-header.header is c.places_of-places.result c.places_of-places.ensures (c.in_ok-header.ensures.formed source) _ t _ w c.len.result (c.in_ok-header.ensures.unchanged.same source)
-    (c.in_ok-judge_other.ensures.unchanged.same tells) long (c.in_ok-judge_fit.ensures.formed b is) (c.write_over.ensures.rest tells) (c.in_ok-write_over.ensures.copied source tells) (c.in_ok-write_over.ensures.lead tells) in
+    let over = written_over b c.args.data_ c.in_ok-header.header is c.places_of-places.result c.places_of-places.ensures (c.in_ok-header.ensures.formed source) _ t _ w c.len.result c.data_start-limit.result front (c.in_ok-header.ensures.unchanged.same source)
+    (c.in_ok-judge_other.ensures.unchanged.same tells) long (c.in_ok-judge_fit.ensures.formed b is) (c.write_over.ensures.rest tells) (c.in_ok-write_over.ensures.gone tells) (c.in_ok-write_over.ensures.copied source tells) (c.in_ok-write_over.ensures.lead tells) in
     is_restored b c.args.data_ c.in_ok-header.header c.places_of-places.result t w over
 
 -- ---- nothing was written
@@ -150,47 +155,88 @@ returns-in_err-write_over-clause-same g c = λ source tells f bad.
 
 pub returns-clause-rest : goal.returns-clause-rest
 returns-clause-rest g c = λ source tells.
-    of_restored (g.B.Device.bytes c.args.backup.now) c.in_ok-header.header (c.in_ok-header.ensures.read source)
-    (kept_rest (g.B.Device.bytes c.args.backup.now) c.in_ok-header.header (c.in_ok-header.ensures.read source) c.places_of-places.result c.places_of-places.ensures (g.T.Device.bytes c.args.target.now) _ (g.T.Device.bytes c.write_over.new.target) (c.in_ok-judge_other.ensures.unchanged.same tells) (c.write_over.ensures.rest tells))
+    let b : List ℕ = g.B.Device.bytes c.args.backup.now in
+    let t : List ℕ = g.T.Device.bytes c.args.target.now in
+    let is = c.in_ok-header.ensures.read source in
+    let front : IsFrontAs b c.args.data_ (length t) (choice_of c.in_ok-header.header) c.data_start-limit.result =
+    subst (λ (n : ℕ). IsFrontAs b c.args.data_ n (choice_of c.in_ok-header.header) c.data_start-limit.result)
+    (c.len-2.ensures ∙ c.in_ok-judge_other.ensures.unchanged.size ∙ sym (g.met.T.Device.sized c.args.target.now tells)) (c.data_start-limit.ensures.start b is) in
+    of_restored b c.args.data_ t c.in_ok-header.header is
+    (changed_rest b c.args.data_ c.in_ok-header.header is c.places_of-places.result c.places_of-places.ensures t _ (g.T.Device.bytes c.write_over.new.target) c.data_start-limit.result front
+    (c.in_ok-judge_other.ensures.unchanged.same tells) (c.write_over.ensures.rest tells))
 
 pub returns-in_err-write_over-clause-rest : goal.returns-in_err-write_over-clause-rest
 returns-in_err-write_over-clause-rest g c = λ source tells.
-    of_restored (g.B.Device.bytes c.args.backup.now) c.in_ok-header.header (c.in_ok-header.ensures.read source)
-    (kept_rest (g.B.Device.bytes c.args.backup.now) c.in_ok-header.header (c.in_ok-header.ensures.read source) c.places_of-places.result c.places_of-places.ensures (g.T.Device.bytes c.args.target.now) _ (g.T.Device.bytes c.write_over.new.target) (c.in_ok-judge_other.ensures.unchanged.same tells) (c.write_over.ensures.rest tells))
+    let b : List ℕ = g.B.Device.bytes c.args.backup.now in
+    let t : List ℕ = g.T.Device.bytes c.args.target.now in
+    let is = c.in_ok-header.ensures.read source in
+    let front : IsFrontAs b c.args.data_ (length t) (choice_of c.in_ok-header.header) c.data_start-limit.result =
+    subst (λ (n : ℕ). IsFrontAs b c.args.data_ n (choice_of c.in_ok-header.header) c.data_start-limit.result)
+    (c.len-2.ensures ∙ c.in_ok-judge_other.ensures.unchanged.size ∙ sym (g.met.T.Device.sized c.args.target.now tells)) (c.data_start-limit.ensures.start b is) in
+    of_restored b c.args.data_ t c.in_ok-header.header is
+    (changed_rest b c.args.data_ c.in_ok-header.header is c.places_of-places.result c.places_of-places.ensures t _ (g.T.Device.bytes c.write_over.new.target) c.data_start-limit.result front
+    (c.in_ok-judge_other.ensures.unchanged.same tells) (c.write_over.ensures.rest tells))
 
 pub returns-clause-segments : goal.returns-clause-segments
-returns-clause-segments g c = λ source tells.
+returns-clause-segments g c = λ source tells n a seg.
     let b : List ℕ = g.B.Device.bytes c.args.backup.now in
+    let t : List ℕ = g.T.Device.bytes c.args.target.now in
     let is = c.in_ok-header.ensures.read source in
-    segment_stays b c.args.data_ (g.T.Device.size c.args.target.now) c.in_ok-header.header is (subst (λ (n : ℕ). IsFormedOn b c.args.data_ n) c.len.ensures (c.in_ok-judge_fit.ensures.formed b is))
-    (kept_rest b c.in_ok-header.header is c.places_of-places.result c.places_of-places.ensures (g.T.Device.bytes c.args.target.now) _ (g.T.Device.bytes c.write_over.new.target) (c.in_ok-judge_other.ensures.unchanged.same tells) (c.write_over.ensures.rest tells))
+    let front : IsFrontAs b c.args.data_ (length t) (choice_of c.in_ok-header.header) c.data_start-limit.result =
+    subst (λ (n : ℕ). IsFrontAs b c.args.data_ n (choice_of c.in_ok-header.header) c.data_start-limit.result)
+    (c.len-2.ensures ∙ c.in_ok-judge_other.ensures.unchanged.size ∙ sym (g.met.T.Device.sized c.args.target.now tells)) (c.data_start-limit.ensures.start b is) in
+    let size : length t ≡ g.T.Device.size c.args.target.now = g.met.T.Device.sized c.args.target.now tells in
+    segment_stays b c.args.data_ t c.in_ok-header.header is (subst (λ (n : ℕ). IsFormedOn b c.args.data_ n) (c.len.ensures ∙ sym size) (c.in_ok-judge_fit.ensures.formed b is))
+    (changed_rest b c.args.data_ c.in_ok-header.header is c.places_of-places.result c.places_of-places.ensures t _ (g.T.Device.bytes c.write_over.new.target) c.data_start-limit.result front
+    (c.in_ok-judge_other.ensures.unchanged.same tells) (c.write_over.ensures.rest tells)) n a (subst (λ (m : ℕ). IsSegmentOn b c.args.data_ m n a) (sym size) seg)
 
 pub returns-in_err-write_over-clause-segments : goal.returns-in_err-write_over-clause-segments
-returns-in_err-write_over-clause-segments g c = λ source tells.
+returns-in_err-write_over-clause-segments g c = λ source tells n a seg.
     let b : List ℕ = g.B.Device.bytes c.args.backup.now in
+    let t : List ℕ = g.T.Device.bytes c.args.target.now in
     let is = c.in_ok-header.ensures.read source in
-    segment_stays b c.args.data_ (g.T.Device.size c.args.target.now) c.in_ok-header.header is (subst (λ (n : ℕ). IsFormedOn b c.args.data_ n) c.len.ensures (c.in_ok-judge_fit.ensures.formed b is))
-    (kept_rest b c.in_ok-header.header is c.places_of-places.result c.places_of-places.ensures (g.T.Device.bytes c.args.target.now) _ (g.T.Device.bytes c.write_over.new.target) (c.in_ok-judge_other.ensures.unchanged.same tells) (c.write_over.ensures.rest tells))
+    let front : IsFrontAs b c.args.data_ (length t) (choice_of c.in_ok-header.header) c.data_start-limit.result =
+    subst (λ (n : ℕ). IsFrontAs b c.args.data_ n (choice_of c.in_ok-header.header) c.data_start-limit.result)
+    (c.len-2.ensures ∙ c.in_ok-judge_other.ensures.unchanged.size ∙ sym (g.met.T.Device.sized c.args.target.now tells)) (c.data_start-limit.ensures.start b is) in
+    let size : length t ≡ g.T.Device.size c.args.target.now = g.met.T.Device.sized c.args.target.now tells in
+    segment_stays b c.args.data_ t c.in_ok-header.header is (subst (λ (n : ℕ). IsFormedOn b c.args.data_ n) (c.len.ensures ∙ sym size) (c.in_ok-judge_fit.ensures.formed b is))
+    (changed_rest b c.args.data_ c.in_ok-header.header is c.places_of-places.result c.places_of-places.ensures t _ (g.T.Device.bytes c.write_over.new.target) c.data_start-limit.result front
+    (c.in_ok-judge_other.ensures.unchanged.same tells) (c.write_over.ensures.rest tells)) n a (subst (λ (m : ℕ). IsSegmentOn b c.args.data_ m n a) (sym size) seg)
 
 pub returns-clause-order : goal.returns-clause-order
 returns-clause-order g c = λ source tells.
-    turn_over (g.B.Device.bytes c.args.backup.now) c.in_ok-header.header (c.in_ok-header.ensures.read source) c.places_of-places.result c.places_of-places.ensures _ (g.T.Device.bytes c.args.target.now) _ (g.T.Device.bytes c.write_over.new.target) (c.in_ok-header.ensures.unchanged.same source)
-    (c.in_ok-judge_other.ensures.unchanged.same tells) (c.write_over.ensures.order source tells)
+    let b : List ℕ = g.B.Device.bytes c.args.backup.now in
+    let t : List ℕ = g.T.Device.bytes c.args.target.now in
+    let is = c.in_ok-header.ensures.read source in
+    let front : IsFrontAs b c.args.data_ (length t) (choice_of c.in_ok-header.header) c.data_start-limit.result =
+    subst (λ (n : ℕ). IsFrontAs b c.args.data_ n (choice_of c.in_ok-header.header) c.data_start-limit.result)
+    (c.len-2.ensures ∙ c.in_ok-judge_other.ensures.unchanged.size ∙ sym (g.met.T.Device.sized c.args.target.now tells)) (c.data_start-limit.ensures.start b is) in
+    turn_over b c.in_ok-header.header is c.places_of-places.result c.places_of-places.ensures c.args.data_ _ t _ (g.T.Device.bytes c.write_over.new.target) c.data_start-limit.result front
+    (c.in_ok-header.ensures.unchanged.same source) (c.in_ok-judge_other.ensures.unchanged.same tells) (c.write_over.ensures.order source tells)
 
 pub returns-in_err-write_over-clause-order : goal.returns-in_err-write_over-clause-order
 returns-in_err-write_over-clause-order g c = λ source tells.
-    turn_over (g.B.Device.bytes c.args.backup.now) c.in_ok-header.header (c.in_ok-header.ensures.read source) c.places_of-places.result c.places_of-places.ensures _ (g.T.Device.bytes c.args.target.now) _ (g.T.Device.bytes c.write_over.new.target) (c.in_ok-header.ensures.unchanged.same source)
-    (c.in_ok-judge_other.ensures.unchanged.same tells) (c.write_over.ensures.order source tells)
+    let b : List ℕ = g.B.Device.bytes c.args.backup.now in
+    let t : List ℕ = g.T.Device.bytes c.args.target.now in
+    let is = c.in_ok-header.ensures.read source in
+    let front : IsFrontAs b c.args.data_ (length t) (choice_of c.in_ok-header.header) c.data_start-limit.result =
+    subst (λ (n : ℕ). IsFrontAs b c.args.data_ n (choice_of c.in_ok-header.header) c.data_start-limit.result)
+    (c.len-2.ensures ∙ c.in_ok-judge_other.ensures.unchanged.size ∙ sym (g.met.T.Device.sized c.args.target.now tells)) (c.data_start-limit.ensures.start b is) in
+    turn_over b c.in_ok-header.header is c.places_of-places.result c.places_of-places.ensures c.args.data_ _ t _ (g.T.Device.bytes c.write_over.new.target) c.data_start-limit.result front
+    (c.in_ok-header.ensures.unchanged.same source) (c.in_ok-judge_other.ensures.unchanged.same tells) (c.write_over.ensures.order source tells)
 
 pub returns-clause-well_formed : goal.returns-clause-well_formed
 returns-clause-well_formed g c = λ source tells.
     let b : List ℕ = g.B.Device.bytes c.args.backup.now in
     let t : List ℕ = g.T.Device.bytes c.args.target.now in
     let is = c.in_ok-header.ensures.read source in
+    let front : IsFrontAs b c.args.data_ (length t) (choice_of c.in_ok-header.header) c.data_start-limit.result =
+    subst (λ (n : ℕ). IsFrontAs b c.args.data_ n (choice_of c.in_ok-header.header) c.data_start-limit.result)
+    (c.len-2.ensures ∙ c.in_ok-judge_other.ensures.unchanged.size ∙ sym (g.met.T.Device.sized c.args.target.now tells)) (c.data_start-limit.ensures.start b is) in
     let w : List ℕ = g.T.Device.bytes c.write_over.new.target in
     let long : c.len.result ≡ length w = c.len.ensures ∙ sym c.in_ok-judge_other.ensures.unchanged.size ∙ sym c.write_over.ensures.size ∙ sym (g.met.T.Device.sized c.write_over.new.target tells) in
-    let over = written_over b c.args.data_ c.in_ok-header.header is c.places_of-places.result c.places_of-places.ensures (c.in_ok-header.ensures.formed source) _ t _ w c.len.result (c.in_ok-header.ensures.unchanged.same source)
-    (c.in_ok-judge_other.ensures.unchanged.same tells) long (c.in_ok-judge_fit.ensures.formed b is) (c.write_over.ensures.rest tells) (c.in_ok-write_over.ensures.copied source tells) (c.in_ok-write_over.ensures.lead tells) in
+    let over = written_over b c.args.data_ c.in_ok-header.header is c.places_of-places.result c.places_of-places.ensures (c.in_ok-header.ensures.formed source) _ t _ w c.len.result c.data_start-limit.result front (c.in_ok-header.ensures.unchanged.same source)
+    (c.in_ok-judge_other.ensures.unchanged.same tells) long (c.in_ok-judge_fit.ensures.formed b is) (c.write_over.ensures.rest tells) (c.in_ok-write_over.ensures.gone tells) (c.in_ok-write_over.ensures.copied source tells) (c.in_ok-write_over.ensures.lead tells) in
     well_formed b c.args.data_ c.in_ok-header.header c.places_of-places.result t w over
 
 pub returns-clause-answers : goal.returns-clause-answers
@@ -198,8 +244,11 @@ returns-clause-answers g c = λ source tells.
     let b : List ℕ = g.B.Device.bytes c.args.backup.now in
     let t : List ℕ = g.T.Device.bytes c.args.target.now in
     let is = c.in_ok-header.ensures.read source in
+    let front : IsFrontAs b c.args.data_ (length t) (choice_of c.in_ok-header.header) c.data_start-limit.result =
+    subst (λ (n : ℕ). IsFrontAs b c.args.data_ n (choice_of c.in_ok-header.header) c.data_start-limit.result)
+    (c.len-2.ensures ∙ c.in_ok-judge_other.ensures.unchanged.size ∙ sym (g.met.T.Device.sized c.args.target.now tells)) (c.data_start-limit.ensures.start b is) in
     let w : List ℕ = g.T.Device.bytes c.write_over.new.target in
     let long : c.len.result ≡ length w = c.len.ensures ∙ sym c.in_ok-judge_other.ensures.unchanged.size ∙ sym c.write_over.ensures.size ∙ sym (g.met.T.Device.sized c.write_over.new.target tells) in
-    let over = written_over b c.args.data_ c.in_ok-header.header is c.places_of-places.result c.places_of-places.ensures (c.in_ok-header.ensures.formed source) _ t _ w c.len.result (c.in_ok-header.ensures.unchanged.same source)
-    (c.in_ok-judge_other.ensures.unchanged.same tells) long (c.in_ok-judge_fit.ensures.formed b is) (c.write_over.ensures.rest tells) (c.in_ok-write_over.ensures.copied source tells) (c.in_ok-write_over.ensures.lead tells) in
+    let over = written_over b c.args.data_ c.in_ok-header.header is c.places_of-places.result c.places_of-places.ensures (c.in_ok-header.ensures.formed source) _ t _ w c.len.result c.data_start-limit.result front (c.in_ok-header.ensures.unchanged.same source)
+    (c.in_ok-judge_other.ensures.unchanged.same tells) long (c.in_ok-judge_fit.ensures.formed b is) (c.write_over.ensures.rest tells) (c.in_ok-write_over.ensures.gone tells) (c.in_ok-write_over.ensures.copied source tells) (c.in_ok-write_over.ensures.lead tells) in
     answers_alike b c.args.data_ c.in_ok-header.header c.places_of-places.result t w over

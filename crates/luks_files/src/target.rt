@@ -1,0 +1,212 @@
+//! What a command writes beside the volume: TARGET, and the FILE of a backup.
+ghost use Rattle.std.specs.Prelude.{◌≡◌, IfOk, true};
+ghost use Rattle.luks_guarded_files.specs.Cached.{cached_failures, device_behind};
+ghost use Rattle.luks_guarded_files.specs.Locked.{lock_of, share_for};
+ghost use Rattle.luks_window.specs.Windows.{behind};
+
+use crate::output::refused_name;
+use crate::volume::{Volume, WHOLE, told, volume_of};
+use luks_area::FileDevice;
+use luks_commands::{InputFault, Reason};
+use luks_guarded_files::{
+    FOLDER, FittedFile, Found, Host, LockedDevice, System, Watch, open_file, open_or_make,
+    take_lock,
+};
+use std::cell::Cell;
+use std::fs::{self, File};
+use std::os::unix::fs::FileTypeExt;
+use std::rc::Rc;
+use std::rt::{Clock, Files};
+
+/// Whether what has this name holds something, so that no backup is written over it unasked: a regular
+/// file that isn't empty, or a block device.
+pub(crate) fn is_taken<R: Files<File = File>>(rt: &R, name: &str) -> bool {
+    match fs::metadata(rt, name) {
+        Ok(found) if found.is_file() => found.len() > 0,
+        Ok(found) => found.file_type().is_block_device(),
+        Err(_) => false,
+    }
+}
+
+/// As what a target is opened.
+#[derive(Clone, Copy)]
+pub(crate) enum Shape {
+    /// TARGET, which is there, and keeps its length.
+    AsItIs,
+    /// FILE, which is made where it isn't there, with mode 0600. A regular file gets the length of the
+    /// backup with the first write that changes it, and is as it was till then. Where it holds something
+    /// once its lock is held, it is opened only where it may be written over.
+    Backup {
+        /// The length in bytes.
+        length: u64,
+        /// Whether it may be written over.
+        over: bool,
+    },
+}
+
+/// The source of a target, as it was opened.
+#[derive(Clone, Copy)]
+pub(crate) struct Source<'a> {
+    /// The name of its file.
+    pub(crate) name: &'a str,
+    /// The place where it begins there, in bytes.
+    pub(crate) at: u64,
+}
+
+/// A target that was opened, or what is opened in its place.
+pub(crate) struct Target {
+    /// Its bytes.
+    pub(crate) volume: Result<Volume, InputFault>,
+    /// What it is, where it was made for this.
+    pub(crate) made: Option<Found>,
+    /// Whether it has turned out to be its source.
+    pub(crate) is_source: Option<Rc<Cell<bool>>>,
+}
+
+impl Target {
+    /// None, by this fault.
+    pub(crate) fn missed(fault: InputFault) -> Self
+        ensures { IfOk result.volume (λ _. ⊥) }
+    {
+        Target {
+            volume: Err(fault),
+            made: None,
+            is_source: None,
+        }
+    }
+
+    /// Opens the target of this name by one call. Its first write that changes a byte fails where it turns
+    /// out to be its source.
+    pub(crate) fn open<R: AllocGlobal + Clock + Files<File = File>>(
+        rt: &R,
+        source: Source<'_>,
+        name: &str,
+        shape: Shape,
+        notes: &mut Vec<u8>,
+    ) -> Self
+        ensures count { IfOk result.volume (λ volume. cached_failures volume ≡ 0) }
+        ensures share { IfOk result.volume (λ volume.
+            (lock_of (behind (device_behind volume))).share ≡ share_for true) }
+    {
+        if let Some(fault) = refused_name(rt, name, notes) {
+            return Target::missed(fault);
+        }
+        let (file, made) = match opened(rt, name, shape, notes) {
+            Ok(opened) => opened,
+            Err(fault) => return Target::missed(fault),
+        };
+        match watch_of(rt, source, notes) {
+            Ok((watch, is_source)) => Target {
+                volume: volume_over(rt, file, name, shape, watch, notes),
+                made,
+                is_source: Some(is_source),
+            },
+            Err(fault) => Target {
+                volume: Err(fault),
+                made,
+                is_source: None,
+            },
+        }
+    }
+}
+
+/// The file of the target, open, and what it is, where it was made.
+fn opened<R: Clock + Files<File = File>>(
+    rt: &R,
+    name: &str,
+    shape: Shape,
+    notes: &mut Vec<u8>,
+) -> Result<(File, Option<Found>), InputFault> {
+    let mut host = Host::new(rt);
+    if let Shape::AsItIs = shape {
+        return match open_file(&mut host, name, true) {
+            Ok(file) => Ok((file, None)),
+            Err(fault) => Err(told(fault, name, notes)),
+        };
+    }
+    match open_or_make(&mut host, name) {
+        Ok((file, true)) => {
+            let made = host.fstat(&file).ok();
+            Ok((file, made))
+        }
+        Ok((file, false)) => Ok((file, None)),
+        Err(fault) => Err(told(fault, name, notes)),
+    }
+}
+
+/// The beginning of the source, as it is now, and whether the target turns out to be it.
+fn watch_of<R: AllocGlobal + Clock + Files<File = File>>(
+    rt: &R,
+    source: Source<'_>,
+    notes: &mut Vec<u8>,
+) -> Result<(Watch, Rc<Cell<bool>>), InputFault> {
+    let file = match open_file(&mut Host::new(rt), source.name, false) {
+        Ok(file) => file,
+        Err(fault) => return Err(told(fault, source.name, notes)),
+    };
+    let Ok(is_source) = Rc::new(rt.alloc(), Cell::new(false)) else {
+        return Err(InputFault::NoMemory);
+    };
+    let Ok(told) = is_source.clone() else {
+        return Err(InputFault::NoMemory);
+    };
+    match Watch::new(rt.alloc(), file, source.at, told) {
+        Ok(watch) => Ok((watch, is_source)),
+        Err(_) => Err(InputFault::NoMemory),
+    }
+}
+
+/// The volume over the target's file, which is open.
+fn volume_over<R: AllocGlobal + Clock + Files<File = File>>(
+    rt: &R,
+    file: File,
+    name: &str,
+    shape: Shape,
+    watch: Watch,
+    notes: &mut Vec<u8>,
+) -> Result<Volume, InputFault>
+    ensures count { IfOk result (λ volume. cached_failures volume ≡ 0) }
+    ensures share { IfOk result (λ volume.
+        (lock_of (behind (device_behind volume))).share ≡ share_for true) }
+{
+    let lock = match take_lock(rt.alloc(), &mut Host::new(rt), &file, true, FOLDER) {
+        Ok(lock) => lock,
+        Err(fault) => return Err(told(fault, name, notes)),
+    };
+    let file = match shape {
+        Shape::AsItIs => FittedFile::new(file),
+        Shape::Backup { length, over } => fitted(file, length, over)?,
+    };
+    let device = FileDevice::new(file.watching(watch))?;
+    volume_of(
+        rt.alloc(),
+        LockedDevice::new(device, lock),
+        name,
+        WHOLE,
+        notes,
+    )
+}
+
+/// FILE, whose lock is held: a regular file is to get this length, and a block device keeps its own.
+fn fitted(file: File, length: u64, over: bool) -> Result<FittedFile, InputFault> {
+    let found = file.metadata()?;
+    let is_regular = found.is_file();
+    if !over && (!is_regular || found.len() > 0) {
+        return Err(InputFault::Unreadable(Reason::Exists));
+    }
+    if is_regular {
+        Ok(FittedFile::with_length(file, length))
+    } else {
+        Ok(FittedFile::new(file))
+    }
+}
+
+/// Takes away the file of this name that was made for a backup that wasn't done, where the name is still
+/// that file's.
+pub fn take_away<R: Clock + Files<File = File>>(rt: &R, name: &str, made: &Found) {
+    if let Ok(named) = Host::new(rt).lstat(name) {
+        if named.is_of_one_file(made) {
+            let _ = fs::remove_file(rt, name);
+        }
+    }
+}

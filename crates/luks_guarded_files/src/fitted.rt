@@ -1,0 +1,97 @@
+use crate::watch::Watch;
+use std::cell::Cell;
+use std::fs::{File, Metadata, OpenFile};
+use std::io::{self, Seek, SeekFrom};
+use std::os::unix::fs::FileExt;
+
+/// A file that gets its length with the first write that changes it, and is as it was till then. It tells that
+/// length from the start.
+#[derive(Drop)]
+pub struct FittedFile {
+    file: File,
+    /// The length that it is still to get.
+    length: Cell<Option<u64>>,
+    /// The source whose target it is, until a byte of it was changed.
+    watch: Cell<Option<Watch>>,
+}
+
+impl FittedFile {
+    /// A file that keeps its length.
+    pub fn new(file: File) -> Self {
+        FittedFile {
+            file,
+            length: Cell::new(None),
+            watch: Cell::new(None),
+        }
+    }
+
+    /// A regular file that gets this length.
+    pub fn with_length(file: File, length: u64) -> Self {
+        FittedFile {
+            file,
+            length: Cell::new(Some(length)),
+            watch: Cell::new(None),
+        }
+    }
+
+    /// The same, as a target: the first write that changes a byte fails where it turns out to be its source.
+    pub fn watching(self, watch: Watch) -> Self {
+        self.watch.set(Some(watch));
+        self
+    }
+
+    fn fit(&self) -> io::Result<()> {
+        if let Some(length) = self.length.get() {
+            self.file.set_len(length)?;
+            self.length.set(None);
+        }
+        Ok(())
+    }
+}
+
+impl Seek for FittedFile {
+    fn seek(&mut self, to: SeekFrom) -> io::Result<u64> {
+        match (self.length.get(), to) {
+            (Some(length), SeekFrom::End(0)) => Ok(length),
+            _ => self.file.seek(to),
+        }
+    }
+}
+
+impl FileExt for FittedFile {
+    fn read_at(&self, buf: &mut [u8], offset: u64) -> io::Result<usize> {
+        self.file.read_at(buf, offset)
+    }
+
+    fn write_at(&self, buf: &[u8], offset: u64) -> io::Result<usize> {
+        if let Some(watch) = self.watch.replace(None) {
+            let count = watch.write(&self.file, buf, offset)?;
+            if watch.is_over() {
+                self.fit()?;
+            } else {
+                self.watch.set(Some(watch));
+            }
+            return Ok(count);
+        }
+        self.fit()?;
+        self.file.write_at(buf, offset)
+    }
+}
+
+impl OpenFile for FittedFile {
+    fn metadata(&self) -> io::Result<Metadata> {
+        self.file.metadata()
+    }
+
+    fn set_len(&self, size: u64) -> io::Result<()> {
+        self.file.set_len(size)
+    }
+
+    fn sync_all(&self) -> io::Result<()> {
+        self.file.sync_all()
+    }
+
+    fn sync_data(&self) -> io::Result<()> {
+        self.file.sync_data()
+    }
+}

@@ -1,0 +1,19 @@
+use Rattle.std.proofs.Common.{◌≡◌, ◌<◌, ◌≤◌, ℕ, None, length, slice_index_or}
+use Rattle.luks_area.specs.Device.{IsUnchanged}
+use Rattle.luks_keeping.specs.AreasCompared.{IsJudgedBy}
+use Rattle.luks_keeping.specs.declared.comparison.Keeping.TheVariants.{Absent}
+use Rattle.luks_keeping.proofs.comparing_areas.compare_areas.Given as goal
+
+-- the keyslots before this one are judged by their areas, and the others by their salts
+abbrev pub invariant-loop-n : goal.invariant-loop-n
+invariant-loop-n g l = record {
+  kept : IsUnchanged g.B.Device.tells g.B.Device.size g.B.Device.bytes g.B.Device.unsettled l.initial.backup l.backup;
+  unchanged : IsUnchanged g.T.Device.tells g.T.Device.size g.T.Device.bytes g.T.Device.unsettled l.initial.target l.target;
+  backup_count : g.B.Device.failed l.backup ≡ g.B.Device.failed l.initial.backup;
+  count : g.T.Device.failed l.target ≡ g.T.Device.failed l.initial.target;
+  long : length l.keyslots ≡ 32;
+  before : g.B.Device.tells → g.T.Device.tells → (k : ℕ) → k < l.n
+      → IsJudgedBy (slice_index_or l.salts.keyslots k Absent) (slice_index_or l.here.areas k None) (slice_index_or l.other.areas k None)
+      (g.B.Device.bytes l.initial.backup) (g.T.Device.bytes l.initial.target) (slice_index_or l.keyslots k Absent);
+  after : (k : ℕ) → l.n ≤ k → slice_index_or l.keyslots k Absent ≡ slice_index_or l.salts.keyslots k Absent;
+}

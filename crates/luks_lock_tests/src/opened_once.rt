@@ -1,0 +1,263 @@
+//! The file that a backup is written to: opened by one call, as what its name was seen to be of.
+use luks_guarded_files::{
+    Access, Answer, Found, Host, Kind, OpenFault, Share, System, open_or_make,
+};
+use luks_samples::new_folder;
+use std::fs::{self, File};
+use std::io::{self, ErrorKind};
+use std::os::unix::fs::{MetadataExt, symlink};
+use std::rt::Files;
+use std::test::Fail;
+
+/// What the system tells.
+#[derive(Clone, Copy)]
+struct Case {
+    /// What the name itself is of; nothing where there is none of it.
+    named: Option<Found>,
+    /// What a link leads to.
+    leads_to: Option<Found>,
+    /// What was opened.
+    opened: Found,
+    /// Who runs the program.
+    caller: Option<u32>,
+}
+
+/// A system that tells so. What it opens is the file `real`.
+#[derive(Drop)]
+struct Fake<'a, R> {
+    rt: &'a R,
+    real: &'a str,
+    case: Case,
+    /// How often a file was opened, and as what.
+    opens: u32,
+    access: Option<Access>,
+}
+
+fn missing() -> io::Error {
+    io::Error::from(ErrorKind::NotFound)
+}
+
+impl<R: Files<File = File>> System for Fake<'_, R> {
+    ghost use Rattle.std.specs.Prelude.{None};
+
+    ghost last = { λ _. None };
+
+    fn stat(&mut self, _path: &str) -> io::Result<Found> {
+        self.case.leads_to.ok_or(missing())
+    }
+
+    fn lstat(&mut self, _path: &str) -> io::Result<Found> {
+        self.case.named.ok_or(missing())
+    }
+
+    fn fstat(&mut self, _file: &File) -> io::Result<Found> {
+        Ok(self.case.opened)
+    }
+
+    fn open(&mut self, _path: &str, access: Access) -> io::Result<File> {
+        self.opens = self.opens.saturating_add(1);
+        self.access = Some(access);
+        File::open(self.rt, self.real)
+    }
+
+    fn mkdir(&mut self, _path: &str) {}
+
+    fn first_byte(&mut self, _path: &str) -> Option<u8> {
+        None
+    }
+
+    fn text(&mut self, _path: &str, _into: &mut [u8]) -> Option<usize> {
+        None
+    }
+
+    fn names(&mut self, _path: &str, _into: &mut [u8]) -> Option<usize> {
+        None
+    }
+
+    fn caller(&mut self) -> Option<u32> {
+        self.case.caller
+    }
+
+    fn flock(&mut self, _file: &File, _share: Share) -> Answer {
+        Answer::Unknown
+    }
+
+    fn fsync(&mut self, _file: &File) -> io::Result<()> {
+        Ok(())
+    }
+
+    fn sleep(&mut self, _milliseconds: u64) {}
+}
+
+const FILE: Found = Found {
+    kind: Kind::Regular,
+    system: 1,
+    inode: 5,
+    device: 0x705,
+    owner: 1000,
+};
+
+const OTHER: Found = Found {
+    kind: Kind::Regular,
+    system: 1,
+    inode: 6,
+    device: 0x706,
+    owner: 0,
+};
+
+const DISK: Found = Found {
+    kind: Kind::Block,
+    system: 1,
+    inode: 7,
+    device: 0x707,
+    owner: 0,
+};
+
+const PIPE: Found = Found {
+    kind: Kind::Other,
+    system: 1,
+    inode: 8,
+    device: 0x708,
+    owner: 1000,
+};
+
+const FOLDER: Found = Found {
+    kind: Kind::Folder,
+    system: 1,
+    inode: 9,
+    device: 0x709,
+    owner: 1000,
+};
+
+const LINK: Found = Found {
+    kind: Kind::Link,
+    system: 1,
+    inode: 10,
+    device: 0x700,
+    owner: 1000,
+};
+
+const ROOTS: Found = Found {
+    kind: Kind::Link,
+    system: 1,
+    inode: 10,
+    device: 0x700,
+    owner: 0,
+};
+
+/// What comes of it.
+fn outcome_of<R: Files<File = File>>(fake: &mut Fake<'_, R>) -> &'static str {
+    match open_or_make(fake, "f") {
+        Ok((_file, true)) => "made",
+        Ok((_file, false)) => "opened",
+        Err(OpenFault::NoVolume) => "no volume",
+        Err(OpenFault::ForeignLink) => "a link of another user",
+        Err(OpenFault::Exchanged) => "exchanged",
+        Err(OpenFault::Edited) => "edited",
+        Err(OpenFault::ReadOnly) => "read-only",
+        Err(OpenFault::File(_)) => "fault",
+    }
+}
+
+/// What the name is of, where it leads, what was opened, who runs the program, and what comes of it.
+static ROWS: [(Option<Found>, Option<Found>, Found, Option<u32>, &str); 15] = [
+    (None, None, FILE, Some(1000), "made"),
+    (Some(FILE), Some(FILE), FILE, Some(1000), "opened"),
+    (Some(DISK), Some(DISK), DISK, Some(1000), "opened"),
+    // another file has come in its place, or a link to one
+    (Some(FILE), Some(FILE), OTHER, Some(1000), "exchanged"),
+    (Some(LINK), Some(FILE), OTHER, Some(1000), "exchanged"),
+    // what isn't opened
+    (Some(PIPE), Some(PIPE), PIPE, Some(1000), "no volume"),
+    (Some(FOLDER), Some(FOLDER), FOLDER, Some(1000), "no volume"),
+    (Some(LINK), Some(PIPE), PIPE, Some(1000), "no volume"),
+    (Some(LINK), None, FILE, Some(1000), "fault"),
+    // links of the caller, of root, and of others
+    (Some(LINK), Some(FILE), FILE, Some(1000), "opened"),
+    (Some(ROOTS), Some(DISK), DISK, Some(1000), "opened"),
+    (Some(ROOTS), Some(FILE), FILE, None, "opened"),
+    (
+        Some(LINK),
+        Some(FILE),
+        FILE,
+        Some(0),
+        "a link of another user",
+    ),
+    (
+        Some(LINK),
+        Some(FILE),
+        FILE,
+        Some(1001),
+        "a link of another user",
+    ),
+    (Some(LINK), Some(FILE), FILE, None, "a link of another user"),
+];
+
+#[test]
+fn by_one_call(rt: HostRuntime) -> Result<(), Fail> {
+    let top = new_folder(&rt, "once")?;
+    let path = format!(in rt.alloc(); "{top}/v")?;
+    fs::write(&rt, path.as_str(), "v")?;
+    for (i, row) in ROWS.iter().enumerate() {
+        let (named, leads_to, opened, caller, want) = *row;
+        let mut fake = Fake {
+            rt: &rt,
+            real: path.as_str(),
+            case: Case {
+                named,
+                leads_to,
+                opened,
+                caller,
+            },
+            opens: 0,
+            access: None,
+        };
+        let told = outcome_of(&mut fake);
+        assert!(rt; told == want, "row {i}");
+        let (opens, access) = match want {
+            "made" => (1, Some(Access::Make)),
+            "opened" | "exchanged" => (1, Some(Access::Write)),
+            _ => (0, None),
+        };
+        assert!(rt;
+            fake.opens == opens && fake.access == access,
+            "row {i}: the calls"
+        );
+    }
+    fs::remove_dir_all(&rt, top.as_str())?;
+    Ok(())
+}
+
+// Of real files: one is made with mode 0600, a link of the caller's is followed, and one that leads
+// nowhere makes no file.
+#[test]
+fn over_real_files(rt: HostRuntime) -> Result<(), Fail> {
+    let top = new_folder(&rt, "once-real")?;
+    let path = format!(in rt.alloc(); "{top}/v")?;
+    let path = path.as_str();
+    let link = format!(in rt.alloc(); "{top}/link")?;
+    let link = link.as_str();
+    symlink(&rt, path, link)?;
+    let mut host = Host::new(&rt);
+    assert!(rt;
+        matches!(open_or_make(&mut host, link), Err(OpenFault::File(_))),
+        "nowhere"
+    );
+    assert!(rt; !fs::exists(&rt, path)?, "nothing is made");
+    assert!(rt;
+        matches!(open_or_make(&mut host, path), Ok((_, true))),
+        "made"
+    );
+    let mode = fs::metadata(&rt, path)?.mode() & 0o7777;
+    assert!(rt; mode == 0o600, "its mode");
+    assert!(rt;
+        matches!(open_or_make(&mut host, path), Ok((_, false))),
+        "there by now"
+    );
+    assert!(rt;
+        matches!(open_or_make(&mut host, link), Ok((_, false))),
+        "by the link"
+    );
+    fs::remove_dir_all(&rt, top.as_str())?;
+    Ok(())
+}
