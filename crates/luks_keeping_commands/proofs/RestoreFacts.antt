@@ -1,5 +1,5 @@
 -- What `restore` leaves and answers, by what it met.
-use Rattle.std.proofs.Common.{◌≡◌, ◌↔◌, inl, inr, List, ℕ, Bool, true, false, IsTrue, IfErr, OnOk, Result, Ok, Err, refl, sym, subst, ◌∙◌, length}
+use Rattle.std.proofs.Common.{◌≡◌, ◌↔◌, ◌⊎◌, inl, inr, List, ℕ, Bool, true, false, IsTrue, IfErr, OnOk, Result, Ok, Err, refl, sym, subst, ◌∙◌, length}
 use Rattle.std.proofs.lemmas.Bool.{false≢true}
 use Rattle.luks_area.specs.Ranges.{part, SameBut}
 use Rattle.luks_area.specs.declared.area.Area.{Area}
@@ -8,13 +8,15 @@ use Rattle.luks_head.specs.Selection.{Choice, Chosen}
 use Rattle.luks_reading.specs.declared.report.Data.{Data}
 use Rattle.luks_reading.specs.declared.report.Data.TheVariants.{Elsewhere}
 use Rattle.luks_reading.specs.Checked.{IsCheckRefusal, WellFormed}
+use Rattle.luks_reading.specs.Header.{NeedsMetadata}
 use Rattle.luks_reading.specs.Reported.{IsFromOutside}
 use Rattle.luks_reading.specs.declared.check_fault.CheckFault.{CheckFault}
 use Rattle.luks_reading.proofs.CheckFacts.{outside}
 use Rattle.luks_reading.proofs.VolumeLaws.{well_formed_faultless}
 use Rattle.luks_keeping.specs.OtherHeaders.{IsUntoldSame}
 use Rattle.luks_keeping.specs.SameVolume.{CountsSameVolume}
-use Rattle.luks_keeping.specs.RestoreFaults.{is_restore_failure, CanRestore, IsAnsweredRestore}
+use Rattle.luks_keeping.specs.RestoreFaults.{is_restore_failure, CanRestore, IsAnsweredRestore, ReadsTarget}
+use Rattle.luks_keeping.specs.declared.over.Over.TheVariants.{SameVolume}
 use Rattle.luks_keeping.specs.Restored.{IsOfRestored, IsSegmentOn, RestoresInTurn}
 use Rattle.luks_keeping.specs.declared.over.Over.{Over}
 use Rattle.luks_keeping.specs.declared.restore_fault.RestoreFault.{RestoreFault}
@@ -27,7 +29,7 @@ use Rattle.luks_request.specs.declared.keeping.Restoring.{Restoring}
 use Rattle.luks_commands.specs.declared.inputs.InputFault.{InputFault}
 use Rattle.luks_commands.specs.declared.standing.Bar.{Bar}
 use Rattle.luks_commands.specs.declared.standing.Bar.TheVariants as bar
-use Rattle.luks_commands.specs.Standing.{bar_answer, is_bar_failure}
+use Rattle.luks_commands.specs.Standing.{bar_answer, HasUse, is_bar_failure}
 use Rattle.luks_keeping_commands.specs.Reencrypting as meta
 use Rattle.luks_keeping_commands.specs.Restoring.{AnswersBoth, AnswersRestore, HoldsBackRestore, HoldsVolume, IsReencryptingAnswer, IsReencryptionBar, IsRestoreBar, IsRestoreClear, IsSpared, IsUnspared, IsUseBar, IsUseClear, IsUsedAnswer}
 use Rattle.luks_keeping_commands.specs.Restoring.{IsNewVolume, IsRestoreAnswer, KeepsRest}
@@ -122,15 +124,23 @@ use_bars tells r b t bar.Memory clear is = λ told. inr (is told)
 use_bars tells r b t bar.Device clear is = tt
 
 -- the same of what was answered, and where nothing does
-pub use_barred : (tells : Type 0) (r : Restoring) (b t : List ℕ) (x : Result Unit Bar) → (tells → r.over_reencryption ≡ false → meta.IsReencrypting t → ⊥)
-    → IfErr x (IsUseBar tells r.over b t) → IfErr x (IsRestoreBar tells r b t)
-use_barred tells r b t (Ok done) clear is = tt
-use_barred tells r b t (Err f) clear is = use_bars tells r b t f clear is
+use_moved : (tells : Type 0) (over : Bool) (b mid t : List ℕ) (x : Bar) → (tells → mid ≡ t) → IsUseBar tells over b mid x → IsUseBar tells over b t x
+use_moved tells over b mid t (bar.OtherUse found) same is =
+    (is.0, λ told. subst (λ (l : List ℕ). HasUse l found × WellFormed b Elsewhere × (CountsSameVolume b l → ⊥)) (same told) (is.1 told))
+use_moved tells over b mid t bar.OtherVolume same is = absurd is
+use_moved tells over b mid t bar.Reencrypting same is = absurd is
+use_moved tells over b mid t bar.Memory same is = λ told. subst (λ (l : List ℕ). NeedsMetadata b ⊎ ReadsTarget b l SameVolume) (same told) (is told)
+use_moved tells over b mid t bar.Device same is = tt
 
-pub use_cleared : (r : Restoring) (b t : List ℕ) (x : Result Unit Bar) → (r.over_reencryption ≡ false → meta.IsReencrypting t → ⊥) → OnOk x (IsUseClear r.over b t)
-    → OnOk x (IsRestoreClear r b t)
-use_cleared r b t (Ok done) clear is = record { reencryption = clear; use_of = is }
-use_cleared r b t (Err f) clear is = tt
+pub use_barred : (tells : Type 0) (r : Restoring) (b mid t : List ℕ) (x : Result Unit Bar) → (tells → mid ≡ t)
+    → (tells → r.over_reencryption ≡ false → meta.IsReencrypting t → ⊥) → IfErr x (IsUseBar tells r.over b mid) → IfErr x (IsRestoreBar tells r b t)
+use_barred tells r b mid t (Ok done) same clear is = tt
+use_barred tells r b mid t (Err f) same clear is = use_bars tells r b t f clear (use_moved tells r.over b mid t f same is)
+
+pub use_cleared : (r : Restoring) (b mid t : List ℕ) (x : Result Unit Bar) → mid ≡ t → (r.over_reencryption ≡ false → meta.IsReencrypting t → ⊥)
+    → OnOk x (IsUseClear r.over b mid) → OnOk x (IsRestoreClear r b t)
+use_cleared r b mid t (Ok done) same clear is = record { reencryption = clear; use_of = subst (IsUseClear r.over b) same is }
+use_cleared r b mid t (Err f) same clear is = tt
 
 -- no call of the volume had failed
 pub counts_late : (x : Result Unit Bar) (s t u m w : ℕ) → m ≡ u → CountsEither is_bar_failure x s t m w → CountsEither is_bar_failure x s t u w

@@ -30,7 +30,7 @@ returns-clause-answers g c =
 pub returns-clause-rest : goal.returns-clause-rest
 returns-clause-rest g c =
     rw c.in-Ok.is (rw c.in-Ok-target.is
-    (left_after g.D.Device.tells g.D.Device.size g.D.Device.bytes _ _ _ _ _ _ c.judge_target.ensures.kept.same c.judge_target.ensures.unchanged.size
+    (left_after g.D.Device.tells g.D.Device.size g.D.Device.bytes (g.W.HeaderWork.keeps_rest c.args.work.now) c.in-Ok.device _ _ _ _ c.judge_target.ensures.kept.same c.judge_target.ensures.unchanged.size
     c.judge_target.ensures.unchanged.same c.run.ensures.size c.run.ensures.rest))
 
 pub run-requires-clause-settled : goal.run-requires-clause-settled
@@ -45,7 +45,7 @@ returns-clause-settled g c =
 pub returns-in-Err-judge_target-clause-rest : goal.returns-in-Err-judge_target-clause-rest
 returns-in-Err-judge_target-clause-rest g c =
     rw c.in-Ok.is (rw c.in-Ok-target.is
-    (leaves_unchanged g.D.Device.tells g.D.Device.size g.D.Device.bytes g.D.Device.unsettled _ (g.met.W.HeaderWork.rest_of_same c.args.work.now) _ _ _ c.judge_target.ensures.unchanged))
+    (leaves_unchanged g.D.Device.tells g.D.Device.size g.D.Device.bytes g.D.Device.unsettled (g.W.HeaderWork.keeps_rest c.args.work.now) (g.met.W.HeaderWork.rest_of_same c.args.work.now) c.in-Ok.device _ _ c.judge_target.ensures.unchanged))
 
 pub returns-in-Err-judge_target-clause-settled : goal.returns-in-Err-judge_target-clause-settled
 returns-in-Err-judge_target-clause-settled g c =
@@ -70,4 +70,4 @@ returns-in-Err-random_bytes-clause-settled g c =
 pub returns-in-Err-random_bytes-clause-rest : goal.returns-in-Err-random_bytes-clause-rest
 returns-in-Err-random_bytes-clause-rest g c =
     rw c.in-Ok.is (rw c.in-Ok-target.is
-    (leaves_unchanged g.D.Device.tells g.D.Device.size g.D.Device.bytes g.D.Device.unsettled _ (g.met.W.HeaderWork.rest_of_same c.args.work.now) _ _ _ c.judge_target.ensures.unchanged))
+    (leaves_unchanged g.D.Device.tells g.D.Device.size g.D.Device.bytes g.D.Device.unsettled (g.W.HeaderWork.keeps_rest c.args.work.now) (g.met.W.HeaderWork.rest_of_same c.args.work.now) c.in-Ok.device _ _ c.judge_target.ensures.unchanged))

@@ -1,4 +1,5 @@
-use Rattle.std.proofs.Common.{refl, sym, subst}
+use Rattle.std.proofs.Common.{None, refl, sym, subst}
+use Rattle.luks_commands.specs.declared.answers.Answer.TheVariants.{Done}
 use Rattle.luks_header_commands.specs.Converting.{IsConvertAnswer}
 use Rattle.luks_converting.specs.ConvertFaults.{is_convert_failure}
 use Rattle.luks_header_commands.proofs.ConvertFacts.{answers_fault, convert_later}
@@ -7,7 +8,7 @@ use Rattle.luks_header_commands.proofs.convert.ConversionHeaderWork.run.Goals as
 
 pub returns-in-Ok-clause-answers : goal.returns-in-Ok-clause-answers
 returns-in-Ok-clause-answers g c = λ e later.
-    convert_later g.D.Device.tells c.args.self.now.data_ c.args.random.now _ e _ later (
+    convert_later g.D.Device.tells c.args.self.now.data_ c.args.random.now _ e (Done None) later (
       c.in-Ok.ensures.count,
       refl,
       c.in-Ok.ensures.faultless,
