@@ -10,9 +10,7 @@ ghost use Rattle.luks_area.specs.Ranges.{part};
 
 use crate::answers::{Answer, Refusal, Status, device_fault};
 use luks_keeping::accepted_header;
-use luks_reading::{
-    CheckFault, Data, Device, DeviceFault, Header, ReadFault, Selected, select,
-};
+use luks_reading::{CheckFault, Data, Device, DeviceFault, Header, ReadFault, Selected, select};
 use luks_signatures::{OtherUse, first_use};
 use luks1_header::fields::field;
 use std::alloc::Global;
@@ -120,11 +118,7 @@ pub fn standing_use_of<D: Device>(device: &mut D) -> Result<Option<OtherUse>, De
 }
 
 /// Whether an accepted header stands there whose uuid's field isn't this one.
-fn has_other<D: Device>(
-    alloc: Global,
-    device: &mut D,
-    uuid: Option<[u8; 40]>,
-) -> Result<bool, Bar>
+fn has_other<D: Device>(alloc: Global, device: &mut D, uuid: Option<[u8; 40]>) -> Result<bool, Bar>
     requires { D.failed device.old + 1 < 2 ^ 64 }
     ensures unchanged { IsUnchanged D.tells D.size D.bytes D.unsettled device.old device.new }
     ensures count { CountsFailure is_bar_failure result
