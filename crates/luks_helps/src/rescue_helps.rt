@@ -77,14 +77,15 @@ only read, and no byte of the data changes. Afterwards the passphrases of the
 backup open the volume, and no others: one that was added since is gone, and one
 that was removed comes back. Before that standard error says of how many.
 
-What stands on VOLUME is written over, but the header of another volume with
---other or --over alone: one that counts, and has another uuid and another digest
-of the volume key. Another use of the disk, as a file system or a partition
-table, is with --over alone, where no header of the same volume counts; and the
-metadata of a reencryption that isn't finished with --over-reencryption alone:
-what was reencrypted already can't be read then. Written are, with a flush after
-each, the key areas, then of LUKS2 the second copy of the header and the first,
-of LUKS1 the header.
+What stands on VOLUME is written over, but the header of another volume, one
+that counts and has another uuid and another digest of the volume key, with
+--other or --over alone; another use of the disk, as a file system or a
+partition table, where no header of the same volume counts, with --over alone;
+and the metadata of a reencryption that isn't finished with --over-reencryption
+alone: what was reencrypted already can't be read then. Written are, with a
+flush after each: zeros over the first 512 bytes of the header's place, and of those where
+an older second copy begins; the key areas; of LUKS2 the second copy of the
+header; the first one, or the only one.
 
 Prints one line:
   done           the backup is restored
