@@ -83,9 +83,9 @@ that counts and has another uuid and another digest of the volume key, with
 partition table, where no header of the same volume counts, with --over alone;
 and the metadata of a reencryption that isn't finished with --over-reencryption
 alone: what was reencrypted already can't be read then. Written are, with a
-flush after each: zeros over the first 512 bytes of the header's place, and of those where
-an older second copy begins; the key areas; of LUKS2 the second copy of the
-header; the first one, or the only one.
+flush after each: zeros over the first 512 bytes of the header's place, and of
+those where an older second copy begins; the key areas; of LUKS2 the second copy
+of the header; the first one, or the only one.
 
 Prints one line:
   done           the backup is restored
