@@ -1,3 +1,5 @@
+ghost use Rattle.std.specs.Prelude.{◌≤◌, length};
+
 use crate::watch::Watch;
 use std::cell::Cell;
 use std::fs::{File, Metadata, OpenFile};
@@ -40,6 +42,16 @@ impl FittedFile {
         self
     }
 
+    /// Zeros for what lies behind the file's end and before the length that it is still to get; how many.
+    fn zeros(&self, buf: &mut [u8], offset: u64) -> usize
+        ensures { result ≤ length buf.old }
+    {
+        let left = self.length.get().unwrap_or(0).saturating_sub(offset);
+        let count = buf.len().min(usize::try_from(left).unwrap_or(usize::MAX));
+        buf[..count].fill(0);
+        count
+    }
+
     fn fit(&self) -> io::Result<()> {
         if let Some(length) = self.length.get() {
             self.file.set_len(length)?;
@@ -60,7 +72,10 @@ impl Seek for FittedFile {
 
 impl FileExt for FittedFile {
     fn read_at(&self, buf: &mut [u8], offset: u64) -> io::Result<usize> {
-        self.file.read_at(buf, offset)
+        match self.file.read_at(buf, offset)? {
+            0 => Ok(self.zeros(buf, offset)),
+            count => Ok(count),
+        }
     }
 
     fn write_at(&self, buf: &[u8], offset: u64) -> io::Result<usize> {
