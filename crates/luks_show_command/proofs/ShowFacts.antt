@@ -31,7 +31,7 @@ use Rattle.luks_map.specs.Map.{IsMap}
 use Rattle.luks_show.specs.declared.listing.Listing.TheVariants.{Luks1, Luks2}
 use Rattle.luks_commands.specs.declared.answers.Answer.{Answer}
 use Rattle.luks_commands.specs.declared.answers.Answer.TheVariants.{Accepted, Listed, ListedFully, Mapped, Json, Opens, Closed, NoneOpens, Done, Compared, Refused, DeviceFault, NoMemory}
-use Rattle.luks_commands.specs.declared.answers.Refusal.TheVariants.{LongPassphrase, Check, Open, Edit, Format, Convert, Rebuild, Rebuild1, Backup, Restore, SameFile, Exists, OtherUse}
+use Rattle.luks_commands.specs.declared.answers.Refusal.TheVariants.{LongPassphrase, Check, Open, Edit, Format, Convert, Rebuild, Rebuild1, Backup, Restore, SameFile, Exists, OtherUse, OtherVolume, Reencrypting}
 use Rattle.luks_commands.specs.Answer.{check_fault_answer}
 use Rattle.luks_show_command.specs.ShowAnswers.{IsBeforeAreas, IsAsJson, IsAsMap, IsFirstShowFault, IsFullAnswer, IsInFull, IsJsonAnswer, IsListedAnswer, IsMapAnswer, IsShowAnswer, IsShowFault, IsShown, IsShownAs}
 
@@ -150,6 +150,8 @@ json_answer tells v before after (Refused (Restore f)) a made is = absurd is
 json_answer tells v before after (Refused SameFile) a made is = absurd is
 json_answer tells v before after (Refused Exists) a made is = absurd is
 json_answer tells v before after (Refused (OtherUse found)) a made is = absurd is
+json_answer tells v before after (Refused OtherVolume) a made is = absurd is
+json_answer tells v before after (Refused Reencrypting) a made is = absurd is
 json_answer tells v before after DeviceFault a made is = subst (IsJsonAnswer tells v before after) (sym made) is
 json_answer tells v before after NoMemory a made is = subst (IsJsonAnswer tells v before after) (sym made) is.0
 
@@ -180,6 +182,8 @@ full_answer tells v before after (Refused (Restore f)) a made is = absurd is
 full_answer tells v before after (Refused SameFile) a made is = absurd is
 full_answer tells v before after (Refused Exists) a made is = absurd is
 full_answer tells v before after (Refused (OtherUse found)) a made is = absurd is
+full_answer tells v before after (Refused OtherVolume) a made is = absurd is
+full_answer tells v before after (Refused Reencrypting) a made is = absurd is
 full_answer tells v before after DeviceFault a made is = subst (IsFullAnswer tells v before after) (sym made) is
 full_answer tells v before after NoMemory a made is = subst (IsFullAnswer tells v before after) (sym made) is
 
@@ -211,6 +215,8 @@ map_answer total tells v before after (Refused (Restore f)) a long made is = abs
 map_answer total tells v before after (Refused SameFile) a long made is = absurd is
 map_answer total tells v before after (Refused Exists) a long made is = absurd is
 map_answer total tells v before after (Refused (OtherUse found)) a long made is = absurd is
+map_answer total tells v before after (Refused OtherVolume) a long made is = absurd is
+map_answer total tells v before after (Refused Reencrypting) a long made is = absurd is
 map_answer total tells v before after DeviceFault a long made is = subst (IsMapAnswer tells v before after) (sym made) is
 map_answer total tells v before after NoMemory a long made is = subst (IsMapAnswer tells v before after) (sym made) is
 
