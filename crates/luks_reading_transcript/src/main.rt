@@ -1,9 +1,0 @@
-//! A transcript of reading: `check`, `show` and `open`. `luks_transcripts` says what a step may be.
-#![tactic(auto)]
-
-use luks_transcripts::{Session, print_transcript};
-
-fn main(rt: HostRuntime) -> Result<(), anyhow::Error> {
-    let mut session = Session::new(rt.alloc())?;
-    print_transcript(&rt, &mut session)
-}
