@@ -1,19 +1,22 @@
 -- Whether a volume is in the midst of a reencryption, by what was read of its metadata.
-use Rattle.std.proofs.Common.{◌≡◌, ◌↔◌, ◌⊎◌, ℕ, ◌<◌, ◌≤◌, List, Bool, true, false, Option, Some, None, IsTrue, IfOk, IfErr, Result, Ok, Err, length, refl, sym, subst, ◌∙◌, inl, inr, arith, ap}
+use Rattle.std.proofs.Common.{◌≡◌, ◌↔◌, ◌⊎◌, ℕ, ◌<◌, ◌≤◌, List, Bool, true, false, Option, Some, None, IsNone, IsTrue, IfOk, IfErr, IfSome, ◌+◌, ◌-◌, Result, Ok, Err, length, refl, sym, subst, ◌∙◌, inl, inr, arith, ap}
 use Rattle.std.proofs.lemmas.Bool.{false≢true}
 use Rattle.serde_json.specs.Data.{Data as Value}
 use Rattle.luks_area.specs.Ranges.{part}
 use Rattle.luks_head.proofs.ChoiceFacts.{choices_agree}
 use Rattle.luks_head.specs.Header2.{header_at, hdr_size}
-use Rattle.luks_head.specs.Selection.{luks1, luks2, nothing, Choice, Chosen}
+use Rattle.luks_head.specs.Selection.{luks1, luks2, nothing, Choice, Chosen, IsSelected}
+use Rattle.luks_head.specs.declared.bin2.Bin2.{Bin2}
 use Rattle.luks_head.specs.declared.selection.Copies.{Copies}
+use Rattle.luks_head.specs.declared.selection.Selected.TheVariants.{V2}
 use Rattle.luks_json.proofs.AreaKinds.{not_bad}
 use Rattle.luks_json.specs.AreaText.{IsBadJson, Json, JsonText}
 use Rattle.luks_rules.proofs.AreaFaults.{one_value}
 use Rattle.luks_reading.specs.Header.{json_at}
 use Rattle.luks_commands.specs.declared.standing.Bar.{Bar}
 use Rattle.luks_commands.specs.declared.standing.Bar.TheVariants as bar
-use Rattle.luks_keeping_commands.specs.Reencrypting.{counts, is_reencrypting_slot, lost, requires_reencryption, HasReencryptingSlot, IsFromOutside, IsMetadataArea, IsReencrypting, IsReencryptingArea, IsReencryptingValue, IsUntoldMetadata}
+use Rattle.luks_keeping_commands.specs.declared.reencrypting.JsonPlace.{JsonPlace}
+use Rattle.luks_keeping_commands.specs.Reencrypting.{counts, is_reencrypting_slot, lost, requires_reencryption, FindsMetadata, HasReencryptingSlot, IsFromOutside, IsMetadataArea, IsReencrypting, IsReencryptingArea, IsReencryptingValue, IsUntoldMetadata}
 
 -- ---- the value
 
@@ -89,6 +92,24 @@ short_lacks v total same short one area (counts p c two is) =
     let e : nothing ≡ luks2 p c = choices_agree v nothing (luks2 p c) one two in
     cc
 short_lacks v total same short one area (lost two long is) = omega (arith, same, short, long)
+
+-- by the copy that was selected, or where none was
+pub found_by : (v : List ℕ) (h : Bin2) (copies : Copies) → IsSelected v (V2 h copies) → IsMetadataArea v (part v (h.hdr_offset + 4096) (h.hdr_size - 4096))
+found_by v h copies is = counts h.hdr_offset copies is.0 (ap (λ (n : ℕ). part v (h.hdr_offset + 4096) (n - 4096)) (sym is.1.hdr_size))
+
+abbrev StandsFirst : ℕ → JsonPlace → Type 0
+StandsFirst total place = (place.start ≡ 4096) × (place.len ≡ 12288) × (16384 ≤ total)
+
+pub lost_within : (size total : ℕ) (found : Option JsonPlace) → total ≡ size → IfSome found (StandsFirst total)
+    → IfSome found (λ place. (place.len ≤ 4194304) × (place.start + place.len ≤ size))
+lost_within size total None same there = tt
+lost_within size total (Some place) same there = (omega (arith, there.1), omega (arith, there.0, there.1, there.2, same))
+
+pub lost_found : (v : List ℕ) (total : ℕ) (found : Option JsonPlace) → length v ≡ total → Chosen v nothing → IfSome found (StandsFirst total)
+    → (IsNone found → total < 16384) → FindsMetadata v found
+lost_found v total None long one there short = short_lacks v total long (short refl) one
+lost_found v total (Some place) long one there short =
+    lost one (omega (arith, there.2, long)) (ap (λ (n : ℕ). part v n place.len) there.0 ∙ ap (part v 4096) there.1)
 
 -- by what is answered of it
 pub at_by : (v area : List ℕ) → IsMetadataArea v area → (r : Result Bool Bar) → IfOk r (λ b. IsTrue b ↔ IsReencryptingArea area) → IfOk r (λ b. IsTrue b ↔ IsReencrypting v)

@@ -3,15 +3,15 @@ use Rattle.luks_reading.specs.Reported.{IsFromOutside}
 use Rattle.luks_keeping_commands.proofs.RestoreFacts.{spared_by, unaccepted_spared, unspared_by}
 use Rattle.luks_keeping_commands.proofs.volume_use.is_spared.Goals as goal
 
-pub returns-in-Ok-Ok-clause-is : goal.returns-in-Ok-Ok-clause-is
-returns-in-Ok-Ok-clause-is g c = λ tells.
-    spared_by (g.D.Device.bytes c.args.backup.now) (g.D.Device.bytes c.args.volume.now) c.in-Ok-Ok.counts (c.in-Ok.ensures.formed tells)
-    (c.in-Ok-Ok.ensures.counts tells (g.D.Device.bytes c.args.backup.now) (c.in-Ok.ensures.read tells))
+pub returns-in-Ok-counts_same_volume-clause-is : goal.returns-in-Ok-counts_same_volume-clause-is
+returns-in-Ok-counts_same_volume-clause-is g c = λ tells.
+    spared_by (g.D.Device.bytes c.args.backup.now) (g.D.Device.bytes c.args.volume.now) c.in-Ok-counts_same_volume.counts (c.in-Ok.ensures.formed tells)
+    (c.in-Ok-counts_same_volume.ensures.counts tells (g.D.Device.bytes c.args.backup.now) (c.in-Ok.ensures.read tells))
 
-pub returns-in-Ok-Err-clause-fault : goal.returns-in-Ok-Err-clause-fault
-returns-in-Ok-Err-clause-fault g c =
-    unspared_by g.D.Device.tells (g.D.Device.bytes c.args.backup.now) (g.D.Device.bytes c.args.volume.now) c.in-Ok-Err.fault c.bar_of.result c.bar_of.ensures.same c.bar_of.ensures.kinds
-    (λ tells. c.in-Ok-Err.ensures.fault tells (g.D.Device.bytes c.args.backup.now) (c.in-Ok.ensures.read tells))
+pub returns-in-Ok-clause-fault : goal.returns-in-Ok-clause-fault
+returns-in-Ok-clause-fault g c =
+    unspared_by g.D.Device.tells (g.D.Device.bytes c.args.backup.now) (g.D.Device.bytes c.args.volume.now) c.in-Err.fault c.bar_of.result c.bar_of.ensures.same c.bar_of.ensures.kinds
+    (λ tells. c.in-Err.ensures.fault tells (g.D.Device.bytes c.args.backup.now) (c.in-Ok.ensures.read tells))
 
 pub returns-in-Err-Head-clause-is : goal.returns-in-Err-Head-clause-is
 returns-in-Err-Head-clause-is g c = λ tells.
@@ -23,7 +23,7 @@ returns-in-Err-Meta-clause-is g c = λ tells.
     unaccepted_spared (g.D.Device.bytes c.args.backup.now) (g.D.Device.bytes c.args.volume.now) c.in-Err-Meta.field-0 (c.in-Err-Meta.ensures.refused tells)
     (λ own. subst IsFromOutside c.in-Err-Meta.field-0-is own)
 
-pub returns-in-Err-Area-clause-is : goal.returns-in-Err-Area-clause-is
-returns-in-Err-Area-clause-is g c = λ tells.
+pub returns-clause-is : goal.returns-clause-is
+returns-clause-is g c = λ tells.
     unaccepted_spared (g.D.Device.bytes c.args.backup.now) (g.D.Device.bytes c.args.volume.now) c.in-Err-Area.field-0 (c.in-Err-Area.ensures.refused tells)
     (λ own. subst IsFromOutside c.in-Err-Area.field-0-is own)
