@@ -1,4 +1,4 @@
-use Rattle.std.proofs.Common.{◌≡◌, ◌≢◌, ℕ, List, ap, subst, sym, ◌∙◌}
+use Rattle.std.proofs.Common.{◌≢◌, ℕ, List, ap, subst, sym, ◌∙◌}
 use Rattle.luks_area.specs.Device.{count_after}
 use Rattle.luks_head.specs.Selection.{IsSelected}
 use Rattle.luks_reading.specs.Conversions.{head_unread}

@@ -1,6 +1,6 @@
-use Rattle.std.proofs.Common.{sym, subst, inl, inr}
-use Rattle.luks_keeping_commands.specs.Restoring.{over_of}
-use Rattle.luks_keeping_commands.proofs.RestoreFacts.{answer_after, keeps_after}
+use Rattle.std.proofs.Common.{List, ℕ, sym, subst, inl, inr}
+use Rattle.luks_keeping_commands.specs.Restoring.{over_of, KeepsRest}
+use Rattle.luks_keeping_commands.proofs.RestoreFacts.{answer_after, keeps_same}
 use Rattle.luks_keeping_commands.proofs.restore.put_unless.Goals as goal
 
 pub returns-in-Ok-clause-answers : goal.returns-in-Ok-clause-answers
@@ -33,3 +33,9 @@ returns-in-Err-2-clause-answers g c = inl (record {
   same = c.in-Err.ensures.unchanged.same;
   is = c.held_back-in-Err-2.ensures.answer;
 })
+
+pub returns-in-Err-2-clause-rest : goal.returns-in-Err-2-clause-rest
+returns-in-Err-2-clause-rest g c = λ tells.
+    let b : List ℕ = g.D.Device.bytes c.args.backup.now in
+    let t : List ℕ = g.D.Device.bytes c.args.volume.now in
+    subst (KeepsRest c.args.restoring.now.data_ b t) (sym (c.in-Err.ensures.unchanged.same tells)) (keeps_same c.args.restoring.now.data_ b t)
