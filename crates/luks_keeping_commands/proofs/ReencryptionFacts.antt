@@ -1,11 +1,10 @@
 -- Whether a volume is in the midst of a reencryption, by what was read of its metadata.
-use Rattle.std.proofs.Common.{◌≡◌, ◌↔◌, ◌⊎◌, ℕ, ◌<◌, ◌≤◌, List, Bool, true, false, Option, Some, None, IsNone, IsTrue, IfOk, IfErr, IfSome, ◌+◌, ◌-◌, Result, Ok, Err, length, refl, sym, subst, ◌∙◌, inl, inr, arith, ap}
+use Rattle.std.proofs.Common.{◌≡◌, ◌↔◌, ℕ, ◌<◌, ◌≤◌, List, Bool, true, false, Option, Some, None, IsNone, IsTrue, IfOk, IfErr, IfSome, ◌+◌, ◌-◌, Result, Ok, Err, length, refl, sym, subst, ◌∙◌, inl, inr, arith, ap}
 use Rattle.std.proofs.lemmas.Bool.{false≢true}
 use Rattle.serde_json.specs.Data.{Data as Value}
 use Rattle.luks_area.specs.Ranges.{part}
 use Rattle.luks_head.proofs.ChoiceFacts.{choices_agree}
-use Rattle.luks_head.specs.Header2.{header_at, hdr_size}
-use Rattle.luks_head.specs.Selection.{luks1, luks2, nothing, Choice, Chosen, IsSelected}
+use Rattle.luks_head.specs.Selection.{luks1, luks2, nothing, Chosen, IsSelected}
 use Rattle.luks_head.specs.declared.bin2.Bin2.{Bin2}
 use Rattle.luks_head.specs.declared.selection.Copies.{Copies}
 use Rattle.luks_head.specs.declared.selection.Selected.TheVariants.{V2}

@@ -1,4 +1,4 @@
-use Rattle.std.proofs.Common.{rules, ◌≡◌, ℕ, List, IsTrue, sym, subst, ◌∙◌}
+use Rattle.std.proofs.Common.{rules, ℕ, List, IsTrue, sym, subst, ◌∙◌}
 use Rattle.luks_area.specs.Device.{unchanged-then}
 use Rattle.luks_reading.specs.Header.{IsHeader}
 use Rattle.luks_keeping.specs.Compared.{IsComparedInFull}
