@@ -1,6 +1,6 @@
 //! What a power cut leaves of a file in which a backup is made over an older one, and of a volume onto which
 //! one is restored.
-use crate::sources::backup_of;
+use crate::sources::{backup_of, demand};
 use luks_area::MemDevice;
 use luks_kdf::HashName;
 use luks_keeping::{Over, backup, restore};
@@ -158,7 +158,8 @@ const LARGER: &[(&str, &str)] = &[
 fn large_backup(alloc: Global, volume: &[u8]) -> Result<Vec<u8>, Fail> {
     let mut source = MemDevice::new(volume.to_vec(alloc)?);
     let mut target = MemDevice::new(vec![in alloc; 0u8; 131072]?);
-    backup(alloc, &mut source, Data::Here, &mut target)?;
+    let answer = backup(alloc, &mut source, Data::Here, &mut target);
+    demand(answer.is_ok())?;
     Ok(target.contents().to_vec(alloc)?)
 }
 
