@@ -1,6 +1,8 @@
 //! One volume by two names, as the system tells it of block devices.
+ghost use Rattle.std.specs.Prelude.{◌<◌, IfSome, length};
+
 use luks_guarded_files::{
-    Access, Answer, Found, Host, Kind, Share, Stretch, System, have_common_bytes,
+    Access, Answer, Asked, Found, Host, Kind, Share, Stretch, System, have_common_bytes,
 };
 use luks_samples::new_folder;
 use std::alloc::{AllocError, Global};
@@ -80,10 +82,15 @@ static FOLDERS: [(&str, &[u8]); 6] = [
 
 /// A system that has these, and lets no file be opened.
 #[derive(Drop)]
-struct Told;
+struct Told {
+    /// How the lock was last asked for, and the answer.
+    last: Option<Asked>,
+}
 
 /// The buffer's front gets these bytes, if they fit.
-fn filled(bytes: &[u8], into: &mut [u8]) -> Option<usize> {
+fn filled(bytes: &[u8], into: &mut [u8]) -> Option<usize>
+    ensures { IfSome result (λ len. len < length into.old) }
+{
     if bytes.len() >= into.len() {
         return None;
     }
@@ -96,9 +103,7 @@ fn refused() -> io::Error {
 }
 
 impl System for Told {
-    ghost use Rattle.std.specs.Prelude.{None};
-
-    ghost last = { λ _. None };
+    ghost last = { λ told. told.last };
 
     fn stat(&mut self, path: &str) -> io::Result<Found> {
         match FILES.iter().find(|row| row.0 == path) {
@@ -145,8 +150,10 @@ impl System for Told {
         None
     }
 
-    fn flock(&mut self, _file: &File, _share: Share) -> Answer {
-        Answer::Unknown
+    fn flock(&mut self, _file: &File, share: Share) -> Answer {
+        let answer = Answer::Unknown;
+        self.last = Some(Asked { share, answer });
+        answer
     }
 
     fn fsync(&mut self, _file: &File) -> io::Result<()> {
@@ -216,8 +223,8 @@ fn have_common<'a>(
     one: Stretch<'a>,
     other: Stretch<'a>,
 ) -> Result<bool, AllocError> {
-    let told = have_common_bytes(alloc, &mut Told, one, other, BLOCKS)?;
-    let back = have_common_bytes(alloc, &mut Told, other, one, BLOCKS)?;
+    let told = have_common_bytes(alloc, &mut Told { last: None }, one, other, BLOCKS)?;
+    let back = have_common_bytes(alloc, &mut Told { last: None }, other, one, BLOCKS)?;
     Ok(told && back)
 }
 
@@ -253,7 +260,7 @@ fn small_files_and_folders(rt: HostRuntime) -> Result<(), Fail> {
     assert!(rt; host.text(path.as_str(), &mut room[..5]) == None, "no room");
     assert!(rt; host.text(top.as_str(), &mut room) == None, "a folder");
     let len = host.names(top.as_str(), &mut room).unwrap_or(0);
-    let names = str::from_utf8(&room[..len.min(64)])?;
+    let names = str::from_utf8(room.get(..len).unwrap_or_default())?;
     assert!(rt;
         names.split('\0').any(|name| name == "name"),
         "its name in the folder"

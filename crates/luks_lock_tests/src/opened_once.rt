@@ -1,6 +1,6 @@
 //! The file that a backup is written to: opened by one call, as what its name was seen to be of.
 use luks_guarded_files::{
-    Access, Answer, Found, Host, Kind, OpenFault, Share, System, open_or_make,
+    Access, Answer, Asked, Found, Host, Kind, OpenFault, Share, System, open_or_make,
 };
 use luks_samples::new_folder;
 use std::fs::{self, File};
@@ -31,6 +31,8 @@ struct Fake<'a, R> {
     /// How often a file was opened, and as what.
     opens: u32,
     access: Option<Access>,
+    /// How the lock was last asked for, and the answer.
+    last: Option<Asked>,
 }
 
 fn missing() -> io::Error {
@@ -38,9 +40,7 @@ fn missing() -> io::Error {
 }
 
 impl<R: Files<File = File>> System for Fake<'_, R> {
-    ghost use Rattle.std.specs.Prelude.{None};
-
-    ghost last = { λ _. None };
+    ghost last = { λ fake. fake.last };
 
     fn stat(&mut self, _path: &str) -> io::Result<Found> {
         self.case.leads_to.ok_or(missing())
@@ -78,8 +78,10 @@ impl<R: Files<File = File>> System for Fake<'_, R> {
         self.case.caller
     }
 
-    fn flock(&mut self, _file: &File, _share: Share) -> Answer {
-        Answer::Unknown
+    fn flock(&mut self, _file: &File, share: Share) -> Answer {
+        let answer = Answer::Unknown;
+        self.last = Some(Asked { share, answer });
+        answer
     }
 
     fn fsync(&mut self, _file: &File) -> io::Result<()> {
@@ -211,6 +213,7 @@ fn by_one_call(rt: HostRuntime) -> Result<(), Fail> {
             },
             opens: 0,
             access: None,
+            last: None,
         };
         let told = outcome_of(&mut fake);
         assert!(rt; told == want, "row {i}");
