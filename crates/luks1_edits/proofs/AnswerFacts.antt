@@ -9,7 +9,7 @@ use Rattle.luks1_header.specs.Faults.{IsCommonFault, IsEntryFault}
 use Rattle.luks1_header.specs.declared.fault.HeadFault.{HeadFault}
 use Rattle.luks1_header.specs.declared.fault.HeadFault.TheVariants as head
 use Rattle.luks1_header.specs.declared.fault.IterationsOf.TheVariants as of
-use Rattle.luks_head.specs.Selection.{luks1, Choice, Chosen}
+use Rattle.luks2_header.specs.Selection.{luks1, Choice, Chosen}
 use Rattle.luks_slot.specs.declared.allowed.Allowed.{Allowed}
 use Rattle.luks_slot.specs.declared.plan.AreaCipher.{AreaCipher}
 use Rattle.luks_slot.specs.declared.plan.AreaCipher.TheVariants.{Apart, Whole}
@@ -17,7 +17,7 @@ use Rattle.luks_slot.specs.declared.plan.Derivation.{Derivation}
 use Rattle.luks_slot.specs.declared.plan.Derivation.TheVariants.{Pbkdf2, Argon2}
 use Rattle.luks_slot.specs.declared.plan.SlotPlan.{SlotPlan}
 use Rattle.luks_slot.specs.Opening.{slot_key}
-use Rattle.luks_head.proofs.ChoiceFacts.{choices_agree}
+use Rattle.luks2_header.proofs.ChoiceFacts.{choices_agree}
 use Rattle.luks_reading.specs.declared.open_fault.OpenFault.{OpenFault}
 use Rattle.luks_reading.specs.declared.open_fault.OpenFault.TheVariants.{Head, Meta, NoSuchSlot, SlotFree, Outside, Slot, Device, Memory}
 use Rattle.luks_reading.specs.Answer.{AnswerWithin, IsLuks1HeadRefusal, IsLuks1Refusal, IsRefusalWithin, IsRefusalAsWithin, HasPlanAs, Opened, refused, opens, no_key, OpensWithin}

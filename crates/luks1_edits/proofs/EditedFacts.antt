@@ -10,7 +10,7 @@ use Rattle.luks1_header.specs.Faults.{HasUnknownState, LacksIterations}
 use Rattle.luks1_header.specs.Header1.{active_word, disabled_word, enabled_word, entry, entry_key_material_offset, entry_stripes}
 use Rattle.luks1_header.specs.declared.fault.HeadFault.TheVariants as head
 use Rattle.luks1_header.specs.declared.fault.IterationsOf.TheVariants as of
-use Rattle.luks_head.specs.Selection.{luks1, Chosen}
+use Rattle.luks2_header.specs.Selection.{luks1, Chosen}
 use Rattle.luks_making.specs.Derivations.{few_turns_or, takes_memory}
 use Rattle.luks_making.specs.declared.derivation.NewDerivation.{NewDerivation}
 use Rattle.luks_making.specs.declared.derivation.NewDerivation.TheVariants.{Pbkdf2, Argon2i, Argon2id}

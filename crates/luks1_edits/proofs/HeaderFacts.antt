@@ -13,8 +13,8 @@ use Rattle.luks1_header.specs.declared.fault.HeadFault.TheVariants as fault
 use Rattle.luks1_header.specs.declared.fault.IterationsOf.TheVariants as of
 use Rattle.luks1_header.proofs.Luks1FaultFacts.{sound}
 use Rattle.luks1_header.proofs.Luks1HeaderFacts.{common_fault_moves}
-use Rattle.luks_head.specs.Selection.{luks1, Chosen}
-use Rattle.luks_head.proofs.ChoiceFacts.{choices_agree}
+use Rattle.luks2_header.specs.Selection.{luks1, Chosen}
+use Rattle.luks2_header.proofs.ChoiceFacts.{choices_agree}
 use Rattle.luks_reading.specs.declared.report.Data.{Data}
 use Rattle.luks_reading.specs.Checked.{IsLuks1Volume, WellFormed, WellFormedAs}
 use Rattle.luks1_edits.specs.Places.{area_len, area_start}

@@ -10,7 +10,7 @@ use Rattle.luks1_header.specs.Header1.{active_word, disabled_word, enabled_word,
 use Rattle.luks1_header.specs.declared.fault.HeadFault.{HeadFault}
 use Rattle.luks1_header.specs.declared.fault.HeadFault.TheVariants as fault
 use Rattle.luks1_header.specs.declared.fault.IterationsOf.TheVariants as of
-use Rattle.luks_head.specs.Selection.{luks1, Chosen}
+use Rattle.luks2_header.specs.Selection.{luks1, Chosen}
 use Rattle.luks_slot.specs.declared.plan.AreaCipher.{AreaCipher}
 use Rattle.luks_slot.specs.declared.plan.AreaCipher.TheVariants.{Apart, Whole}
 use Rattle.luks_slot.specs.declared.plan.Derivation.{Derivation}
@@ -25,7 +25,7 @@ use Rattle.luks_kdf.proofs.SplitterFacts.{merge-split}
 use Rattle.luks_slot.specs.Opening.{hash_by_name}
 use Rattle.luks_slot.proofs.OpeningFacts.{found_meets}
 use Rattle.luks_slot.proofs.SealingFacts.{sealed_opens}
-use Rattle.luks_head.proofs.ChoiceFacts.{choices_agree}
+use Rattle.luks2_header.proofs.ChoiceFacts.{choices_agree}
 use Rattle.luks_reading.specs.declared.open_fault.OpenFault.{OpenFault}
 use Rattle.luks_reading.specs.declared.open_fault.OpenFault.TheVariants.{Head, Meta, NoSuchSlot, SlotFree, Outside, Slot, Device, Memory}
 use Rattle.luks_reading.specs.declared.report.Data.{Data}

@@ -2,13 +2,13 @@
 use Rattle.std.proofs.Common.{◌≡◌, ℕ, ◌<◌, ◌≤◌, List, length, true, subst, refl, sym, ap, ◌∙◌, arith, inr, Option, Some, None, Bool}
 use Rattle.luks_area.specs.Ranges.{part}
 use Rattle.luks1_header.specs.Header1.{active_word, disabled_word, enabled_word, entry}
-use Rattle.luks_head.specs.Selection.{luks1}
+use Rattle.luks2_header.specs.Selection.{luks1}
 use Rattle.std.proofs.lemmas.Bool.{both_ways}
 use Rattle.luks_making.specs.Derivations.{asked_few_turns, takes_memory}
 use Rattle.luks_making.specs.declared.derivation.AskedDerivation.{AskedDerivation}
 use Rattle.luks_slot.specs.Allowance.{without_memory}
 use Rattle.luks_slot.specs.declared.fault.SlotFault.{SlotFault}
-use Rattle.luks_head.proofs.ChoiceFacts.{choices_agree}
+use Rattle.luks2_header.proofs.ChoiceFacts.{choices_agree}
 use Rattle.luks_reading.specs.declared.open_fault.OpenFault.TheVariants as opening
 use Rattle.luks_reading.specs.declared.report.Data.{Data}
 use Rattle.luks_reading.specs.Answer.{AnswerWithin, HasPlanAs, IsLuks1Refusal, IsRefusalAsWithin, opens}

@@ -9,8 +9,8 @@ use Rattle.luks1_header.specs.Header1.{active_word, disabled_word, enabled_word,
 use Rattle.luks1_header.specs.declared.fault.HeadFault.{HeadFault}
 use Rattle.luks1_header.specs.declared.luks1.Luks1.{Luks1}
 use Rattle.luks1_header.specs.declared.luks1.Luks1Slot.{Luks1Slot}
-use Rattle.luks_head.specs.Selection.{luks1}
-use Rattle.luks_head.proofs.ChoiceFacts.{choices_agree}
+use Rattle.luks2_header.specs.Selection.{luks1}
+use Rattle.luks2_header.proofs.ChoiceFacts.{choices_agree}
 use Rattle.luks_slot.specs.declared.fault.SlotFault.{SlotFault}
 use Rattle.luks_slot.specs.declared.fault.SlotFault.TheVariants as slot
 use Rattle.luks_slot.specs.declared.plan.SlotPlan.{SlotPlan}

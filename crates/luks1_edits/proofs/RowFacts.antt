@@ -7,7 +7,7 @@ use Rattle.luks_slot.specs.declared.fault.SlotFault.{SlotFault}
 use Rattle.luks_reading.specs.declared.check_fault.CheckFault.{CheckFault}
 use Rattle.luks_reading.specs.declared.open_fault.OpenFault.TheVariants as opening
 use Rattle.luks_reading.specs.declared.report.Data.{Data}
-use Rattle.luks_head.specs.Selection.{luks1, Chosen}
+use Rattle.luks2_header.specs.Selection.{luks1, Chosen}
 use Rattle.luks_reading.specs.Answer.{AnswerWithin, no_key, Opened, refused}
 use Rattle.luks_reading.specs.Checked.{IsFault}
 use Rattle.luks_edit.specs.declared.edit.Edit.{Edit}

@@ -3,7 +3,7 @@ use Rattle.std.specs.Prelude.{◌≡◌, ◌≢◌, ℕ, Bool, ◌<◌, ◌⊎�
 use Rattle.luks_area.specs.Ranges.{part}
 use Rattle.luks1_header.specs.Header1.{luks1_size, IsLuks1}
 use Rattle.luks1_header.specs.declared.luks1.Luks1.{Luks1}
-use Rattle.luks_head.specs.Selection.{luks1, Chosen}
+use Rattle.luks2_header.specs.Selection.{luks1, Chosen}
 use Rattle.luks_making.specs.Derivations.{asked_few_turns, takes_memory}
 use Rattle.luks_making.specs.declared.derivation.AskedDerivation.{AskedDerivation}
 use Rattle.luks_slot.specs.declared.fault.SlotFault.{SlotFault}
@@ -32,7 +32,7 @@ pub record IsAccepted (h : List ℕ) (d : Luks1) (payload : Data) (total : ℕ) 
   pub volume : IsLuks1Volume h payload total
 
 abbrev pub IsAcceptedAt : AcceptedHeader → ℕ → Type 0
-IsAcceptedAt a total = IsAccepted a.bytes.now a.fields a.data_ total
+IsAcceptedAt a total = IsAccepted a.bytes.now a.fields a.payload total
 
 -- `h` is the header of the well formed LUKS1 volume `v`, which has no fault
 pub record IsHeaderOf (h : List ℕ) (payload : Data) (v : List ℕ) : Type 0 where

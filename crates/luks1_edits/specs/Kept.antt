@@ -4,7 +4,7 @@ use Rattle.luks_area.specs.declared.area.AreaName.TheVariants.{Segment}
 use Rattle.luks_area.specs.Ranges.{part, SameBut}
 use Rattle.luks1_header.specs.Faults.{HasUnknownState, LacksIterations}
 use Rattle.luks1_header.specs.Header1.{common_size, entry, entry_key_material_offset, entry_stripes}
-use Rattle.luks_head.specs.Selection.{luks1, Chosen}
+use Rattle.luks2_header.specs.Selection.{luks1, Chosen}
 use Rattle.luks_reading.specs.declared.report.Data.{Data}
 use Rattle.luks_reading.specs.Checked.{WellFormed}
 use Rattle.luks_edit.specs.Kept.{KeepsArea, KeepsSlot}

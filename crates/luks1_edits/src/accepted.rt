@@ -6,7 +6,7 @@ ghost use Rattle.luks_reading.specs.declared.header.Header.TheVariants.{Luks1 as
 ghost use Rattle.luks1_edits.specs.Accepted.{IsAcceptedAt, IsHeaderOf, IsUnaccepted};
 
 use luks_edit::EditFault;
-use luks_head::Luks1;
+use luks2_header::Luks1;
 use luks_reading::{Data, judge_luks1};
 
 /// The header of a LUKS1 volume that was accepted.
@@ -17,29 +17,29 @@ pub(crate) struct AcceptedHeader<'a> {
     /// Its fields.
     pub(crate) fields: Luks1,
     /// Where the volume's payload lies.
-    pub(crate) data_: Data,
+    pub(crate) payload: Data,
 }
 
 /// The header of a volume of `total` bytes, or why the volume isn't accepted.
 pub(crate) fn accepted_header(
     bytes: &[u8; 592],
-    data_: Data,
+    payload: Data,
     total: u64,
 ) -> Result<AcceptedHeader<'_>, EditFault>
     ensures accepted { IfOk result (λ a. IsAcceptedAt a total) }
-    ensures payload { IfOk result (λ a. a.data_ ≡ data_) }
+    ensures payload { IfOk result (λ a. a.payload ≡ payload) }
     ensures header { (v : List ℕ) → IsHeader v (OfLuks1 bytes.now) → length v ≡ total
-        → IfOk result (λ a. IsHeaderOf a.bytes.now data_ v) }
+        → IfOk result (λ a. IsHeaderOf a.bytes.now payload v) }
     ensures own { IfErr result (λ f. is_edit_failure f ≡ false) }
     ensures memory { IfErr result (λ f. f ≢ EditFault.Memory) }
     ensures refused { (v : List ℕ) → IsHeader v (OfLuks1 bytes.now) → length v ≡ total
-        → IfErr result (IsUnaccepted v data_) }
+        → IfErr result (IsUnaccepted v payload) }
 {
-    match judge_luks1(bytes.as_slice(), data_, total) {
+    match judge_luks1(bytes.as_slice(), payload, total) {
         Ok(_) => Ok(AcceptedHeader {
             bytes,
             fields: Luks1::read(bytes.as_slice()).unwrap(),
-            data_,
+            payload,
         }),
         Err(fault) => Err(EditFault::NotAccepted(fault)),
     }

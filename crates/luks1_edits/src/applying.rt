@@ -24,7 +24,7 @@ pub fn apply_luks1<D: Device>(
     alloc: Global,
     device: &mut D,
     header: &[u8; 592],
-    data_: Data,
+    payload: Data,
     edit: &Edit<'_>,
     random: &[u8],
 ) -> Result<Done, EditFault>
@@ -36,9 +36,9 @@ pub fn apply_luks1<D: Device>(
         (D.failed device.old) (D.failed device.new) }
     ensures memory { IfErr result (λ f. f ≢ EditFault.Memory) }
     ensures replies { D.tells → IsHeader (D.bytes device.old) (OfLuks1 header.now)
-        → Replies1 data_ (D.bytes device.old) edit.now random.now result (D.bytes device.new) }
+        → Replies1 payload (D.bytes device.old) edit.now random.now result (D.bytes device.new) }
 {
-    let header = match accepted_header(header, data_, device.len()) {
+    let header = match accepted_header(header, payload, device.len()) {
         Ok(header) => header,
         Err(fault) => return Err(fault),
     };

@@ -10,7 +10,7 @@ ghost use Rattle.luks1_edits.specs.Steps.{IsKeyslotAt};
 
 use crate::steps::write_entry;
 use luks_area::{Area, Device, DeviceFault};
-use luks_head::{Luks1, Luks1Slot, SlotState};
+use luks2_header::{Luks1, Luks1Slot, SlotState};
 use luks_writing::wipe_area;
 
 /// The 48 bytes of the keyslot `n` once it says `slot`.

@@ -8,7 +8,7 @@ ghost use Rattle.luks1_edits.specs.Edited.{IsFree, IsInUse, IsLeastFree, iterati
 ghost use Rattle.luks1_edits.specs.Refused.{keyslot_need};
 
 use luks_edit::{AskedDerivation, EditFault, NewDerivation, Place, opener_of};
-use luks_head::{Luks1, SlotState};
+use luks2_header::{Luks1, SlotState};
 
 /// Whether the keyslot is in use.
 pub(crate) fn is_used(header: &Luks1, n: u8) -> bool

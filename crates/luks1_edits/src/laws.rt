@@ -3,7 +3,7 @@ ghost use Rattle.std.specs.Prelude.{◌≡◌, ◌↔◌, ℕ, List, length, rep
 ghost use Rattle.luks_area.specs.declared.area.Area.{Area as TheArea};
 ghost use Rattle.luks_area.specs.declared.area.AreaName.TheVariants.{Slot};
 ghost use Rattle.luks_area.specs.Ranges.{part, SameBut};
-ghost use Rattle.luks_head.specs.Selection.{Chosen, luks1};
+ghost use Rattle.luks2_header.specs.Selection.{Chosen, luks1};
 ghost use Rattle.luks_slot.specs.declared.allowed.Allowed.{Allowed as TheAllowed};
 ghost use Rattle.luks_reading.specs.Answer.{AnswerWithin, Opened};
 ghost use Rattle.luks_reading.specs.Checked.{AreaOf, WellFormed};

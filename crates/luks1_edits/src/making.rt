@@ -16,7 +16,7 @@ use crate::steps::write_entry;
 use crate::unlocking::keyslot_fault;
 use luks_area::Device;
 use luks_edit::{EditFault, Sealed};
-use luks_head::{Luks1, Luks1Slot, SlotState};
+use luks2_header::{Luks1, Luks1Slot, SlotState};
 use luks_reading::luks1_plan;
 use luks_slot::{Allowed, Key};
 use luks_writing::seal_area_within;
@@ -83,12 +83,12 @@ pub(crate) fn make_keyslot<D: Device>(
     ensures fault { IfErr result (IsUnmade sealed.now.opener.passphrase.allowed.older
         header.now.bytes.now) }
     ensures made { D.tells
-        → IsHeaderOf header.now.bytes.now header.now.data_ (D.bytes device.old)
+        → IsHeaderOf header.now.bytes.now header.now.payload (D.bytes device.old)
         → OnOk result (IsKeyslotMade (D.bytes device.old) n
         (iterations_of sealed.now.derivation) sealed.now.passphrase.now key.now random.now
         (D.bytes device.new)) }
     ensures torn { D.tells
-        → IsHeaderOf header.now.bytes.now header.now.data_ (D.bytes device.old)
+        → IsHeaderOf header.now.bytes.now header.now.payload (D.bytes device.old)
         → OnErr result (IsSealedFirst (D.bytes device.old) n
         (iterations_of sealed.now.derivation) sealed.now.passphrase.now key.now random.now
         (D.bytes device.new)) }

@@ -10,7 +10,7 @@ ghost use Rattle.luks1_edits.specs.Needed.{TellsNeed1};
 use crate::accepted::accepted_header;
 use crate::keyslots::{is_used, judge_removal, keyslot_need, new_keyslot, number_asked};
 use luks_edit::{Deed, Edit, EditFault};
-use luks_head::Luks1;
+use luks2_header::Luks1;
 use luks_reading::Data;
 
 /// How many random bytes the edit takes of the LUKS1 volume of `total` bytes whose header has these
@@ -20,16 +20,16 @@ use luks_reading::Data;
 /// many as the volume key has; any other edit takes none. No keyslot is opened.
 pub fn needed_luks1(
     header: &[u8; 592],
-    data_: Data,
+    payload: Data,
     total: u64,
     edit: &Edit<'_>,
 ) -> Result<u64, EditFault>
     ensures own { IfErr result (λ f. is_edit_failure f ≡ false) }
     ensures memory { IfErr result (λ f. f ≢ EditFault.Memory) }
     ensures tells { (v : List ℕ) → IsHeader v (OfLuks1 header.now) → length v ≡ total
-        → TellsNeed1 data_ v edit.now result }
+        → TellsNeed1 payload v edit.now result }
 {
-    let header = match accepted_header(header, data_, total) {
+    let header = match accepted_header(header, payload, total) {
         Ok(header) => header,
         Err(fault) => return Err(fault),
     };

@@ -34,8 +34,8 @@ pub(crate) fn remove<D: Device>(
         (D.failed device.old) (D.failed device.new) }
     ensures memory { IfErr result (λ f. f ≢ EditFault.Memory) }
     ensures replies { D.tells → (e : TheEdit) → deed_of e ≡ Removes removed.now
-        → IsHeaderOf header.now.bytes.now header.now.data_ (D.bytes device.old)
-        → Replies1 header.now.data_ (D.bytes device.old) e random.now result (D.bytes device.new) }
+        → IsHeaderOf header.now.bytes.now header.now.payload (D.bytes device.old)
+        → Replies1 header.now.payload (D.bytes device.old) e random.now result (D.bytes device.new) }
 {
     judge_removal(&header.fields, removed.slot, removed.by_)?;
     unlock(

@@ -37,8 +37,8 @@ pub(crate) fn seal<D: Device>(
         (D.failed device.old) (D.failed device.new) }
     ensures memory { IfErr result (λ f. f ≢ EditFault.Memory) }
     ensures replies { D.tells → (e : TheEdit) → deed_of e ≡ Seals sealed.now
-        → IsHeaderOf header.now.bytes.now header.now.data_ (D.bytes device.old)
-        → Replies1 header.now.data_ (D.bytes device.old) e random.now result (D.bytes device.new) }
+        → IsHeaderOf header.now.bytes.now header.now.payload (D.bytes device.old)
+        → Replies1 header.now.payload (D.bytes device.old) e random.now result (D.bytes device.new) }
 {
     let n = make(alloc, device, header, sealed, random)?;
     match sealed.place {
@@ -73,12 +73,12 @@ fn make<D: Device>(
     ensures memory { IfErr result (λ f. f ≢ EditFault.Memory) }
     ensures opener { OnOk result (sealed.now.opener.slot < 8) }
     ensures made { D.tells
-        → IsHeaderOf header.now.bytes.now header.now.data_ (D.bytes device.old)
-        → IfOk result (λ n. IsSealedNew header.now.data_ (D.bytes device.old) sealed.now random.now n
+        → IsHeaderOf header.now.bytes.now header.now.payload (D.bytes device.old)
+        → IfOk result (λ n. IsSealedNew header.now.payload (D.bytes device.old) sealed.now random.now n
         (D.bytes device.new)) }
     ensures refused { D.tells → (e : TheEdit) → deed_of e ≡ Seals sealed.now
-        → IsHeaderOf header.now.bytes.now header.now.data_ (D.bytes device.old)
-        → IfErr result (λ f. EndsBy1 header.now.data_ (D.bytes device.old) e random.now f
+        → IsHeaderOf header.now.bytes.now header.now.payload (D.bytes device.old)
+        → IfErr result (λ f. EndsBy1 header.now.payload (D.bytes device.old) e random.now f
         (D.bytes device.new)) }
 {
     let opener = sealed.opener;

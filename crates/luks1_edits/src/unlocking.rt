@@ -44,11 +44,11 @@ pub(crate) fn unlock<D: Device>(
     ensures numbered { OnOk result (n < 8) }
     ensures length { IfOk result (λ key. length key ≡ key_bytes_of header.now.bytes.now) }
     ensures opened { D.tells
-        → IsHeaderOf header.now.bytes.now header.now.data_ (D.bytes device.old)
+        → IsHeaderOf header.now.bytes.now header.now.payload (D.bytes device.old)
         → IfOk result (IsOpenedBy passphrase.now.allowed.older (D.bytes device.old) n
         passphrase.now.bytes.now) }
     ensures refused { D.tells
-        → IsHeaderOf header.now.bytes.now header.now.data_ (D.bytes device.old)
+        → IsHeaderOf header.now.bytes.now header.now.payload (D.bytes device.old)
         → IfErr result (IsUnopened passphrase.now.allowed.older (D.bytes device.old) n
         passphrase.now.bytes.now) }
 {

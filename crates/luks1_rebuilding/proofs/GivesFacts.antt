@@ -18,8 +18,8 @@ use Rattle.luks1_mending.specs.Mended.{IsMadeSlot}
 use Rattle.luks1_mending.specs.Taken.{taken_text}
 use Rattle.luks1_mending.specs.declared.given.Given.{Given}
 use Rattle.luks1_mending.proofs.HeaderFacts.{common_held, made_header, text_there}
-use Rattle.luks_head.proofs.ChoiceFacts.{choices_agree}
-use Rattle.luks_head.specs.Selection.{Choice, luks1, Chosen}
+use Rattle.luks2_header.proofs.ChoiceFacts.{choices_agree}
+use Rattle.luks2_header.specs.Selection.{Choice, luks1, Chosen}
 use Rattle.luks_slot.specs.declared.allowed.Allowed.{Allowed}
 use Rattle.luks_slot.specs.Opening.{slot_key}
 use Rattle.luks_slot.specs.declared.plan.SlotPlan.{SlotPlan}

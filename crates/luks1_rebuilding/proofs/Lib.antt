@@ -5,3 +5,8 @@ pub mod OneMade
 pub mod FaultFacts
 pub mod PlanFacts
 pub mod GivesFacts
+pub mod OpeningFacts
+pub mod CombinationFacts
+pub mod JudgingFacts
+pub mod AlikeFacts
+pub mod SameFacts

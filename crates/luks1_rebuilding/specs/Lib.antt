@@ -6,3 +6,8 @@ pub mod Rebuilt
 pub mod Gives
 pub mod Used
 pub mod Judged
+pub mod Combinations
+pub mod Openings
+pub mod TrialFaults
+pub mod Tried
+pub mod Alike

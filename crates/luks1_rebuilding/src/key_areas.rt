@@ -7,7 +7,7 @@ ghost use Rattle.luks_writing.specs.TwoDevices.{CountsEither};
 ghost use Rattle.luks1_rebuilding.specs.Used.{AreApart, AreInside, HasUsedAreas, IsOfUsed, IsOfUsedAreas, IsUsedArea};
 
 use luks_area::{Area, Device, DeviceFault};
-use luks_head::{Luks1, SlotState};
+use luks2_header::{Luks1, SlotState};
 use luks_reading::luks1_area;
 use luks_writing::copy_area;
 

@@ -1,5 +1,6 @@
-//! A detached LUKS1 header made out of what still stands of one in a volume, and of what is given. The
-//! volume stays as it is.
+//! A detached LUKS1 header made out of what still stands of one in a volume, and of what is given; and by
+//! which cipher, hash and length of the key a passphrase opens a keyslot of such a header. The volume stays as
+//! it is.
 #![tactic(auto)]
 
 mod judging;
@@ -7,6 +8,7 @@ mod key_areas;
 mod laws;
 mod rebuild_fault;
 mod rebuilding;
+pub mod trial;
 
 pub use judging::first_bytes;
 pub use laws::rebuilt1_opens_alike;

@@ -2,7 +2,7 @@
 ghost use Rattle.std.specs.Prelude.{◌≡◌};
 
 use luks_area::{AreaFault, DeviceFault};
-use luks_head::{HeadFault, TextField};
+use luks2_header::{HeadFault, TextField};
 use std::error::Error;
 use std::fmt;
 

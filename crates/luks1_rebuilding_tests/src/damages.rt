@@ -1,7 +1,7 @@
 //! What opens by the header that is made of a damaged volume, and what is refused.
 use arrayvec::ArrayString;
 use luks_area::MemDevice;
-use luks_head::TextField;
+use luks2_header::TextField;
 use luks_kdf::HashName;
 use luks_reading::{Allowed, open_slot};
 use luks_test_devices::{VOLUME_KEY, old_bytes, put, small1};

@@ -5,7 +5,7 @@ use luks_reading::{Allowed, open_slot};
 use luks_test_devices::old_bytes;
 use luks_vector_lines::{Functions, Malformed, Words, demand};
 use luks1_rebuilding::{Given, Rebuild1Fault, rebuild1};
-use luks1_trying::{Opening, Untold, try_combinations};
+use luks1_rebuilding::trial::{Opening, Untold, try_combinations};
 use sha2::{Digest, Sha256};
 use std::alloc::Global;
 

@@ -3,9 +3,9 @@ use Rattle.std.proofs.Common.{◌≡◌, ℕ, ◌≤◌, List, length, refl, sym
 use Rattle.serde_json.specs.Data.{Data as Value}
 use Rattle.luks_area.specs.RangeFacts.{part-part}
 use Rattle.luks1_header.specs.Header1.{version_of}
-use Rattle.luks_head.specs.Header2.{hdr_size, header_at, seqid, IsSound}
-use Rattle.luks_head.specs.Selection.{luks2, Chosen, IsNotVersion1}
-use Rattle.luks_head.specs.declared.selection.Copies.TheVariants.{InStep}
+use Rattle.luks2_header.specs.Header2.{hdr_size, header_at, seqid, IsSound}
+use Rattle.luks2_header.specs.Selection.{luks2, Chosen, IsNotVersion1}
+use Rattle.luks2_header.specs.declared.selection.Copies.TheVariants.{InStep}
 use Rattle.luks_edit.specs.declared.edit.Edit.{Edit}
 use Rattle.luks2_edit_laws.specs.Copies.{IsRenewed}
 

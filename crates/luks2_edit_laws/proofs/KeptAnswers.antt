@@ -1,7 +1,7 @@
 -- A keyslot that a change leaves as it was has the answer that it had.
 use Rattle.std.proofs.Common.{◌≡◌, ℕ, ◌↔◌, List, Option, Some, None, sym, ap, subst, ◌∙◌}
-use Rattle.luks_head.specs.Header2.{IsUuidFault}
-use Rattle.luks_head.specs.Selection.{Choice, luks2, Chosen}
+use Rattle.luks2_header.specs.Header2.{IsUuidFault}
+use Rattle.luks2_header.specs.Selection.{Choice, luks2, Chosen}
 use Rattle.luks_slot.specs.declared.allowed.Allowed.{Allowed}
 use Rattle.luks_slot.specs.Opening.{slot_key}
 use Rattle.luks_reading.specs.declared.open_fault.OpenFault.{OpenFault}

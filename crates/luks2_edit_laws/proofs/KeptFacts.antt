@@ -6,8 +6,8 @@ use Rattle.luks_area.specs.declared.area.Area.{Area}
 use Rattle.luks_area.specs.declared.area.AreaName.{AreaName}
 use Rattle.luks_area.specs.declared.area.AreaName.TheVariants.{Slot, Segment}
 use Rattle.luks_area.specs.Ranges.{part}
-use Rattle.luks_head.specs.Header2.{header_at, uuid_field}
-use Rattle.luks_head.proofs.ChoiceFacts.{choices_agree}
+use Rattle.luks2_header.specs.Header2.{header_at, uuid_field}
+use Rattle.luks2_header.proofs.ChoiceFacts.{choices_agree}
 use Rattle.luks_rules.specs.declared.table.Section.TheVariants.{Keyslots, Segments}
 use Rattle.luks_rules.specs.Accepted.{HasObject}
 use Rattle.luks_rules.specs.Faults.{object_at, section_at}

@@ -2,12 +2,12 @@
 use Rattle.std.proofs.Common.{◌≡◌, ℕ, ◌<◌, ◌≤◌, ◌⊎◌, List, length, inl, inr, refl, sym, ap, subst, ◌∙◌, arith}
 use Rattle.luks_area.specs.RangeFacts.{part-part}
 use Rattle.luks_area.specs.Ranges.{part}
-use Rattle.luks_head.specs.Header2.{copy_at, hdr_size, header_at, seqid, IsSound}
-use Rattle.luks_head.specs.Selection.{luks1, luks2, nothing, Choice, Chosen, IsSecondAlone}
-use Rattle.luks_head.specs.Sizes.{IsListed}
-use Rattle.luks_head.specs.declared.selection.Copies.{Copies}
-use Rattle.luks_head.specs.declared.selection.Copies.TheVariants.{InStep, FirstNewer, SecondNewer, FirstOnly, SecondOnly}
-use Rattle.luks_head.proofs.CopyFacts.{listed_at_least}
+use Rattle.luks2_header.specs.Header2.{copy_at, hdr_size, header_at, seqid, IsSound}
+use Rattle.luks2_header.specs.Selection.{luks1, luks2, nothing, Choice, Chosen, IsSecondAlone}
+use Rattle.luks2_header.specs.Sizes.{IsListed}
+use Rattle.luks2_header.specs.declared.selection.Copies.{Copies}
+use Rattle.luks2_header.specs.declared.selection.Copies.TheVariants.{InStep, FirstNewer, SecondNewer, FirstOnly, SecondOnly}
+use Rattle.luks2_header.proofs.CopyFacts.{listed_at_least}
 use Rattle.luks_reading.specs.declared.report.Data.{Data}
 use Rattle.luks_edit.specs.declared.edit.Edit.{Edit}
 use Rattle.luks2_edit_laws.specs.Leftovers.{IsAllowed, IsNotStray}

@@ -8,8 +8,8 @@ use Rattle.luks_area.specs.declared.area.Area.{Area}
 use Rattle.luks_area.specs.RangeFacts.{get_or-part, length-part}
 use Rattle.luks_area.specs.Ranges.{part}
 use Rattle.luks_area.specs.Sectors.{rounded_to_sectors}
-use Rattle.luks_head.specs.Selection.{luks2}
-use Rattle.luks_head.proofs.ChoiceFacts.{choices_agree}
+use Rattle.luks2_header.specs.Selection.{luks2}
+use Rattle.luks2_header.proofs.ChoiceFacts.{choices_agree}
 use Rattle.luks_rules.specs.declared.table.Outer.TheVariants as outer
 use Rattle.luks_rules.specs.declared.table.Section.TheVariants.{Keyslots}
 use Rattle.luks_rules.specs.Faults.{object_at}

@@ -1,10 +1,10 @@
 -- A copy of a LUKS2 header that is sound.
 use Rattle.std.proofs.Common.{◌≡◌, ◌↔◌, ℕ, List, length, sym}
-use Rattle.luks_head.specs.declared.selection.Copies.{Copies}
-use Rattle.luks_head.specs.Header2.{copy_at, IsSound}
-use Rattle.luks_head.specs.Selection.{luks2, Chosen}
-use Rattle.luks_head.proofs.ChoiceFacts.{chosen_is_sound}
-use Rattle.luks_head.proofs.SoundnessFacts.{sound_by_copy}
+use Rattle.luks2_header.specs.declared.selection.Copies.{Copies}
+use Rattle.luks2_header.specs.Header2.{copy_at, IsSound}
+use Rattle.luks2_header.specs.Selection.{luks2, Chosen}
+use Rattle.luks2_header.proofs.ChoiceFacts.{chosen_is_sound}
+use Rattle.luks2_header.proofs.SoundnessFacts.{sound_by_copy}
 
 -- the copy that counts is sound
 pub copy_sound : (v : List ℕ) (o : ℕ) (copies : Copies) → Chosen v (luks2 o copies) → IsSound v o

@@ -6,12 +6,12 @@ use Rattle.luks_area.specs.declared.area.AreaName.TheVariants as name
 use Rattle.luks_area.specs.RangeFacts.{part-part, part-same_but, same_but-equal, same_but-wider}
 use Rattle.luks_area.specs.Ranges.{part, IsAt, IsOfEither, SameBut}
 use Rattle.luks_area.specs.declared.area.Area.{Area}
-use Rattle.luks_head.specs.Header2.{copy_at, hdr_size, header_at, uuid_field, IsSound, IsUuidField}
-use Rattle.luks_head.specs.Selection.{luks2, Chosen}
-use Rattle.luks_head.specs.Sizes.{IsListed}
-use Rattle.luks_head.specs.declared.selection.Copies.{Copies}
-use Rattle.luks_head.proofs.CopyFacts.{listed_at_least}
-use Rattle.luks_head.proofs.ChoiceFacts.{choices_agree, choice_exists}
+use Rattle.luks2_header.specs.Header2.{copy_at, hdr_size, header_at, uuid_field, IsSound, IsUuidField}
+use Rattle.luks2_header.specs.Selection.{luks2, Chosen}
+use Rattle.luks2_header.specs.Sizes.{IsListed}
+use Rattle.luks2_header.specs.declared.selection.Copies.{Copies}
+use Rattle.luks2_header.proofs.CopyFacts.{listed_at_least}
+use Rattle.luks2_header.proofs.ChoiceFacts.{choices_agree, choice_exists}
 use Rattle.luks_rules.specs.MetaFault.{Json}
 use Rattle.luks_making.specs.Changed.{changed_slot}
 use Rattle.luks_making.specs.declared.derivation.AskedDerivation.{AskedDerivation}

@@ -3,7 +3,7 @@ use Rattle.std.proofs.Common.{ℕ, ◌+◌, ◌*◌, ◌<◌, ◌==◌, Bool, tr
 use Rattle.serde_json.specs.Data.{Data as Value}
 use Rattle.luks_area.specs.RangeFacts.{same_but-equal, same_but-wider}
 use Rattle.luks_area.specs.Ranges.{IsAt, SameBut}
-use Rattle.luks_head.specs.Header2.{hdr_size, header_at}
+use Rattle.luks2_header.specs.Header2.{hdr_size, header_at}
 use Rattle.luks_reading.specs.declared.report.Data.{Data}
 use Rattle.luks_edit.specs.declared.edit.Edit.{Edit}
 use Rattle.luks2_edit_laws.specs.Leftovers.{IsTornAt, Leftover2}

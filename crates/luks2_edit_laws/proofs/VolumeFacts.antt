@@ -7,11 +7,11 @@ use Rattle.luks_area.specs.declared.area.Area.{Area}
 use Rattle.luks_area.specs.declared.area.AreaName.{AreaName}
 use Rattle.luks_area.specs.Area.{Fit}
 use Rattle.luks_area.specs.RangeFacts.{length-part_inside}
-use Rattle.luks_head.specs.declared.selection.Copies.{Copies}
-use Rattle.luks_head.specs.Header2.{header_at, hdr_size, uuid_field, IsUuidField}
-use Rattle.luks_head.specs.Selection.{Choice, luks1, luks2, nothing, Chosen}
-use Rattle.luks_head.proofs.CopyFacts.{listed_at_least}
-use Rattle.luks_head.proofs.ChoiceFacts.{choices_agree}
+use Rattle.luks2_header.specs.declared.selection.Copies.{Copies}
+use Rattle.luks2_header.specs.Header2.{header_at, hdr_size, uuid_field, IsUuidField}
+use Rattle.luks2_header.specs.Selection.{Choice, luks1, luks2, nothing, Chosen}
+use Rattle.luks2_header.proofs.CopyFacts.{listed_at_least}
+use Rattle.luks2_header.proofs.ChoiceFacts.{choices_agree}
 use Rattle.luks_rules.specs.declared.fault.MetaFault.{MetaFault}
 use Rattle.luks_rules.specs.Accepted.{IsContent, IsMeta}
 use Rattle.luks_rules.specs.Held.{IsHeld}

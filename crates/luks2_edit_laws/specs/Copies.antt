@@ -4,7 +4,7 @@ use Rattle.std.specs.Borrow.{Bor}
 use Rattle.serde_json.specs.Data.{Data as Value}
 use Rattle.luks_area.specs.Ranges.{part}
 use Rattle.luks1_header.specs.Written.{AreZeros}
-use Rattle.luks_head.specs.Header2.{binary_header_size, csum_alg_field, csum_at, csum_size, hdr_size, header_at, seqid, sha256_size, uuid_field, IsSound}
+use Rattle.luks2_header.specs.Header2.{binary_header_size, csum_alg_field, csum_at, csum_size, hdr_size, header_at, seqid, sha256_size, uuid_field, IsSound}
 use Rattle.luks_making.specs.WrittenArea.{IsWrittenArea}
 use Rattle.luks_reading.specs.Header.{json_at}
 use Rattle.luks_edit.specs.declared.edit.Edit.{Edit}

@@ -5,7 +5,7 @@ use Rattle.serde_json.specs.Data.{Data as Value}
 use Rattle.luks_area.specs.declared.area.Area.{Area}
 use Rattle.luks_area.specs.Ranges.{IsAt}
 use Rattle.luks_area.specs.Sectors.{rounded_to_sectors}
-use Rattle.luks_head.specs.Header2.{hdr_size, header_at}
+use Rattle.luks2_header.specs.Header2.{hdr_size, header_at}
 use Rattle.luks_rules.specs.Sizes.{keyslots_size}
 use Rattle.luks_reading.specs.declared.report.Data.{Data}
 use Rattle.luks_reading.specs.Layout2.{Luks2Area}

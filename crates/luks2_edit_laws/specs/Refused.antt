@@ -6,7 +6,7 @@ use Rattle.serde_json.specs.Data.{Data as Value}
 use Rattle.serde_json.specs.Written.{compact_text}
 use Rattle.luks_area.specs.First.{IsLeast}
 use Rattle.luks_area.specs.Text.{is_plain}
-use Rattle.luks_head.specs.Header2.{binary_header_size, hdr_size, header_at, seqid}
+use Rattle.luks2_header.specs.Header2.{binary_header_size, hdr_size, header_at, seqid}
 use Rattle.luks_making.specs.Conditions.{IsFree}
 use Rattle.luks_making.specs.Naming.{IsDigestOf}
 use Rattle.luks_meta.specs.Requirements.{has_requirements}

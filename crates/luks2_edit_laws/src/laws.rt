@@ -4,7 +4,7 @@ ghost use Rattle.std.specs.Prelude.{◌≡◌, ◌↔◌, ◌⊎◌, ℕ, List, 
 ghost use Rattle.luks_area.specs.declared.area.Area.{Area as TheArea};
 ghost use Rattle.luks_area.specs.declared.area.AreaName.TheVariants.{Slot};
 ghost use Rattle.luks_area.specs.Ranges.{part, SameBut};
-ghost use Rattle.luks_head.specs.Selection.{luks2, Chosen};
+ghost use Rattle.luks2_header.specs.Selection.{luks2, Chosen};
 ghost use Rattle.luks_slot.specs.declared.allowed.Allowed.{Allowed as TheAllowed};
 ghost use Rattle.luks_reading.specs.Answer.{AnswerWithin, Opened};
 ghost use Rattle.luks_reading.specs.Checked.{AreaOf, WellFormed};
@@ -20,7 +20,7 @@ ghost use Rattle.luks2_edit_laws.specs.Refused.{IsEditFault2, IsUnrefused2, Refu
 ghost use Rattle.luks_edit.specs.EditFaults.{edit_key};
 ghost use Rattle.luks_edit.specs.declared.edit_fault.EditFault.{EditFault as TheFault};
 
-use luks_head::Copies;
+use luks2_header::Copies;
 
 /// A keyslot that a change of a LUKS2 volume leaves as it was has the same answer for every
 /// passphrase, whatever is allowed: the same key, none, or the same refusals.

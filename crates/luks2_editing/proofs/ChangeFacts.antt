@@ -7,7 +7,7 @@ use Rattle.luks_area.specs.declared.area.Area.{Area}
 use Rattle.luks_area.specs.declared.area.AreaName.TheVariants.{Slot}
 use Rattle.luks_area.specs.Ranges.{part, IsAt, IsOfEither, SameBut}
 use Rattle.luks_area.specs.RangeFacts.{part-same_but, same_but-then, same_but-wider}
-use Rattle.luks_head.specs.Header2.{header_at, hdr_size}
+use Rattle.luks2_header.specs.Header2.{header_at, hdr_size}
 use Rattle.luks_rules.specs.declared.table.Outer.TheVariants as outer
 use Rattle.luks_rules.specs.Reading.{number_in}
 use Rattle.luks_rules.specs.Sizes.{inside_at}
@@ -43,7 +43,7 @@ use Rattle.luks2_judging.proofs.KeyAreaFacts.{area_of_object}
 use Rattle.luks2_editing.proofs.LostFacts.{beside_first, beside_second, both_beside}
 use Rattle.luks2_editing.proofs.NewKeyslotFacts.{alike_place, same_len, same_start, torn_leftover, SealsLike}
 use Rattle.luks2_editing.proofs.PlanFacts.{like_changed, like_unrefused, long_salt}
-use Rattle.luks_head.proofs.CopyFacts.{listed_at_least}
+use Rattle.luks2_header.proofs.CopyFacts.{listed_at_least}
 use Rattle.luks2_editing.proofs.RenewalFacts.{metadata_here, sound_here}
 
 -- ---- the keyslot in the new metadata

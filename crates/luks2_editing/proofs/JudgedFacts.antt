@@ -1,7 +1,7 @@
 -- An edit that was judged by the copy that was read: how it ends where it is refused, and what is
 -- known of it where it isn't.
 use Rattle.std.proofs.Common.{◌≡◌, ℕ, List, Result, inl, subst, sym}
-use Rattle.luks_head.specs.Header2.{hdr_size, header_at}
+use Rattle.luks2_header.specs.Header2.{hdr_size, header_at}
 use Rattle.luks_meta.specs.Content.{content}
 use Rattle.luks_reading.specs.declared.header.ChosenCopy.{ChosenCopy}
 use Rattle.luks_reading.specs.declared.report.Data.{Data}

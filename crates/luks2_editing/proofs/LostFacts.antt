@@ -6,9 +6,9 @@ use Rattle.luks_area.specs.declared.area.AreaName.TheVariants.{Head1, Head2, Slo
 use Rattle.luks_area.specs.Ranges.{part, IsAt, SameBut}
 use Rattle.luks_area.specs.RangeFacts.{part-same_but}
 use Rattle.luks1_header.specs.Written.{AreZeros}
-use Rattle.luks_head.specs.Header2.{header_at, hdr_size, seqid}
-use Rattle.luks_head.proofs.SoundnessFacts.{sound_by_range}
-use Rattle.luks_head.specs.Selection.{luks2}
+use Rattle.luks2_header.specs.Header2.{header_at, hdr_size, seqid}
+use Rattle.luks2_header.proofs.SoundnessFacts.{sound_by_range}
+use Rattle.luks2_header.specs.Selection.{luks2}
 use Rattle.luks_making.specs.WrittenArea.{IsWrittenArea}
 use Rattle.luks_meta.specs.Content.{content}
 use Rattle.luks_reading.specs.declared.header.ChosenCopy.{ChosenCopy}

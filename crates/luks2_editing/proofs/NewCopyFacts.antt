@@ -2,9 +2,9 @@
 use Rattle.std.proofs.Common.{◌≡◌, ℕ, ◌+◌, ◌≤◌, List, length, arith, sym, ap, ◌∙◌, subst}
 use Rattle.luks_area.specs.Ranges.{IsAt, SameBut}
 use Rattle.luks_area.specs.Text.{text_of}
-use Rattle.luks_head.specs.Header2.{magic_of}
-use Rattle.luks_head.specs.Written.{IsWrittenCopy}
-use Rattle.luks_head.specs.declared.bin2.Bin2.{Bin2}
+use Rattle.luks2_header.specs.Header2.{magic_of}
+use Rattle.luks2_header.specs.Written.{IsWrittenCopy}
+use Rattle.luks2_header.specs.declared.bin2.Bin2.{Bin2}
 use Rattle.luks_writing.specs.Copy.{HasCopy, IsCopyHeader, IsSummed}
 use Rattle.luks2_editing.specs.NewCopy.{HasNewCopy, IsCopyPlace, IsNewHeader, IsNewSummed}
 

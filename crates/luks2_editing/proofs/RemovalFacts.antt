@@ -4,7 +4,7 @@ use Rattle.serde_json.specs.Data.{Data as Value}
 use Rattle.luks_area.specs.declared.area.Area.{Area}
 use Rattle.luks_area.specs.Ranges.{part, IsAt, SameBut}
 use Rattle.luks_area.specs.RangeFacts.{same_but-then, same_but-wider}
-use Rattle.luks_head.specs.Header2.{header_at, hdr_size}
+use Rattle.luks2_header.specs.Header2.{header_at, hdr_size}
 use Rattle.luks_making.specs.Without.{without_slot}
 use Rattle.luks_meta.specs.Content.{area_len, content}
 use Rattle.luks_reading.specs.declared.header.ChosenCopy.{ChosenCopy}
@@ -23,7 +23,7 @@ use Rattle.luks2_judging.specs.Rows.{HasNoFaultBefore}
 use Rattle.luks2_editing.specs.Prepared.{IsPrepared}
 use Rattle.luks2_editing.specs.Rewriting.{AreWrittenAnew}
 use Rattle.luks2_editing.proofs.LostFacts.{beside_first, beside_second, both_beside}
-use Rattle.luks_head.proofs.CopyFacts.{listed_at_least}
+use Rattle.luks2_header.proofs.CopyFacts.{listed_at_least}
 use Rattle.luks2_editing.proofs.RenewalFacts.{metadata_here, prepared_unrefused, size_is, sound_here, written_after}
 
 -- ---- the keyslot's area

@@ -9,12 +9,12 @@ use Rattle.serde_json.specs.Written.{compact_text}
 use Rattle.luks_area.specs.declared.area.AreaName.TheVariants.{Head2}
 use Rattle.luks_area.specs.Ranges.{SameBut}
 use Rattle.luks_area.specs.RangeFacts.{length-part_inside, same_but-wider}
-use Rattle.luks_head.specs.declared.selection.Copies.{Copies}
-use Rattle.luks_head.specs.Header2.{header_at, hdr_size, seqid, IsSound}
-use Rattle.luks_head.specs.Selection.{Choice, luks1, luks2, nothing, Chosen}
-use Rattle.luks_head.specs.Sizes.{IsListed}
-use Rattle.luks_head.proofs.CopyFacts.{listed_at_least}
-use Rattle.luks_head.proofs.ChoiceFacts.{choices_agree}
+use Rattle.luks2_header.specs.declared.selection.Copies.{Copies}
+use Rattle.luks2_header.specs.Header2.{header_at, hdr_size, seqid, IsSound}
+use Rattle.luks2_header.specs.Selection.{Choice, luks1, luks2, nothing, Chosen}
+use Rattle.luks2_header.specs.Sizes.{IsListed}
+use Rattle.luks2_header.proofs.CopyFacts.{listed_at_least}
+use Rattle.luks2_header.proofs.ChoiceFacts.{choices_agree}
 use Rattle.luks_rules.proofs.AreaFaults.{one_value}
 use Rattle.luks_meta.specs.Content.{area_len, content}
 use Rattle.luks_meta.specs.MetaFault.{Json}

@@ -7,9 +7,9 @@ use Rattle.serde_json.specs.Data.{Data as Value}
 use Rattle.luks_area.specs.Ranges.{part, IsAt, SameBut}
 use Rattle.luks_area.specs.RangeFacts.{get_or-part, part-same_but_at, same_but-then, same_but-wider}
 use Rattle.luks1_header.specs.Written.{AreZeros}
-use Rattle.luks_head.specs.Header2.{header_at, hdr_size}
-use Rattle.luks_head.proofs.BinaryHeaderFacts.{written_is_sound}
-use Rattle.luks_head.specs.declared.bin2.Bin2.{Bin2}
+use Rattle.luks2_header.specs.Header2.{header_at, hdr_size}
+use Rattle.luks2_header.proofs.BinaryHeaderFacts.{written_is_sound}
+use Rattle.luks2_header.specs.declared.bin2.Bin2.{Bin2}
 use Rattle.luks_making.specs.WrittenArea.{IsWrittenArea}
 use Rattle.luks_reading.specs.Header.{json_at}
 use Rattle.luks_edit.specs.declared.edit.Edit.{Edit}

@@ -3,7 +3,7 @@ use Rattle.std.proofs.Common.{◌≡◌, ℕ, ◌+◌, ◌-◌, ◌^◌, ◌<◌
 use Rattle.base64.specs.GeneralPurpose.{IsBytes}
 use Rattle.serde_json.specs.Data.{Data as Value}
 use Rattle.serde_json.specs.Written.{compact_text}
-use Rattle.luks_head.specs.Header2.{header_at, hdr_size, seqid}
+use Rattle.luks2_header.specs.Header2.{header_at, hdr_size, seqid}
 use Rattle.luks_meta.specs.Content.{area_len, content}
 use Rattle.luks_meta.proofs.Namings.{one_digest}
 use Rattle.luks_reading.specs.declared.header.ChosenCopy.{ChosenCopy}

@@ -1,7 +1,7 @@
 -- The new metadata of an edit of a LUKS2 volume that seals a keyslot: words of private contracts.
 use Rattle.std.specs.Prelude.{◌≡◌, ℕ, List, length, IsSomeAnd, ⊤}
 use Rattle.serde_json.specs.Data.{Data as Value}
-use Rattle.luks_head.specs.Header2.{hdr_size, header_at}
+use Rattle.luks2_header.specs.Header2.{hdr_size, header_at}
 use Rattle.luks_making.specs.declared.derivation.AskedDerivation.{AskedDerivation}
 use Rattle.luks_making.specs.Changed.{changed_slot}
 use Rattle.luks_making.specs.Conditions.{IsFree}

@@ -1,10 +1,10 @@
 -- A copy of the LUKS2 header that takes the place of an older one, by the fields of the old one's
 -- binary header (LUKS2 On-Disk Format 1.1, 2.1).
 use Rattle.std.specs.Prelude.{◌≡◌, ◌≢◌, ℕ, ◌+◌, ◌++◌, List, codes, drop, replicate}
-use Rattle.luks_head.specs.Header2.{magic_of, sha256_size}
-use Rattle.luks_head.specs.Sizes.{IsListed}
-use Rattle.luks_head.specs.Written.{IsWrittenCopy}
-use Rattle.luks_head.specs.declared.bin2.Bin2.{Bin2}
+use Rattle.luks2_header.specs.Header2.{magic_of, sha256_size}
+use Rattle.luks2_header.specs.Sizes.{IsListed}
+use Rattle.luks2_header.specs.Written.{IsWrittenCopy}
+use Rattle.luks2_header.specs.declared.bin2.Bin2.{Bin2}
 use Rattle.luks_writing.specs.Copy.{IsSummed}
 
 -- `new` is the binary header of the copy at the place `o` that takes the place of the copy of `old`,

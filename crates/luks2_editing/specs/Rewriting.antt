@@ -2,9 +2,9 @@
 use Rattle.std.specs.Prelude.{◌≡◌, ◌≢◌, ℕ, ◌-◌, ◌⊎◌, List}
 use Rattle.serde_json.specs.Data.{Data as Value}
 use Rattle.luks_area.specs.Ranges.{IsAt, SameBut}
-use Rattle.luks_head.specs.Header2.{binary_header_size, hdr_size, header_at, HoldsBin2}
-use Rattle.luks_head.specs.Sizes.{IsListed}
-use Rattle.luks_head.specs.declared.bin2.Bin2.{Bin2}
+use Rattle.luks2_header.specs.Header2.{binary_header_size, hdr_size, header_at, HoldsBin2}
+use Rattle.luks2_header.specs.Sizes.{IsListed}
+use Rattle.luks2_header.specs.declared.bin2.Bin2.{Bin2}
 use Rattle.luks_making.specs.WrittenArea.{IsWrittenArea}
 use Rattle.luks_edit.specs.declared.edit.Edit.{Edit}
 use Rattle.luks2_edit_laws.specs.Copies.{label_after, label_field, other_place, IsWrittenAnew}

@@ -4,7 +4,7 @@ use Rattle.std.specs.Prelude.{◌≡◌, ℕ, ◌*◌, ◌≤◌, ◌⊎◌, Lis
 use Rattle.serde_json.specs.Data.{Data as Value}
 use Rattle.luks_area.specs.Ranges.{IsAt, IsOfEither, SameBut}
 use Rattle.luks_area.specs.Sectors.{rounded_to_sectors}
-use Rattle.luks_head.specs.Header2.{hdr_size, header_at}
+use Rattle.luks2_header.specs.Header2.{hdr_size, header_at}
 use Rattle.luks_slot.specs.declared.allowed.Allowed.{Allowed}
 use Rattle.luks_slot.specs.declared.fault.SlotFault.{SlotFault}
 use Rattle.luks_slot.specs.declared.fault.SlotFault.TheVariants as sealing

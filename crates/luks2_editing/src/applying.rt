@@ -33,7 +33,7 @@ pub fn apply_luks2<D: Device>(
     alloc: Global,
     device: &mut D,
     copy: ChosenCopy,
-    data_: Data,
+    payload: Data,
     edit: &Edit<'_>,
     random: &[u8],
 ) -> Result<Done, EditFault>
@@ -46,10 +46,10 @@ pub fn apply_luks2<D: Device>(
     ensures count { CountsFailure is_edit_failure result
         (D.failed device.old) (D.failed device.new) }
     ensures replies { D.tells → IsChosenCopy (D.bytes device.old) copy
-        → Replies2 data_ (D.bytes device.old) edit.now random.now result (D.bytes device.new) }
+        → Replies2 payload (D.bytes device.old) edit.now random.now result (D.bytes device.new) }
 {
     let allowed = edit.allowed();
-    let judged = judge_luks2(alloc, device, copy, data_, edit)?;
+    let judged = judge_luks2(alloc, device, copy, payload, edit)?;
     let copy = judged.copy;
     match judged.edit {
         JudgedEdit::Add {

@@ -1,7 +1,7 @@
 //! Changing the passphrase of a keyslot of a LUKS2 volume.
 ghost use Rattle.std.specs.Prelude.{◌≡◌, ◌+◌, ◌^◌, ◌<◌, ◌≤◌, ℕ, List, length};
 ghost use Rattle.luks_area.specs.Device.{CountsFailure, IsSettled};
-ghost use Rattle.luks_head.specs.Header2.{hdr_size, header_at};
+ghost use Rattle.luks2_header.specs.Header2.{hdr_size, header_at};
 ghost use Rattle.luks_meta.specs.Content.{area_len, content};
 ghost use Rattle.luks_reading.specs.declared.report.Data.{Data as Payload};
 ghost use Rattle.luks_reading.specs.Answer.{opens, AnswerWithin};

@@ -2,7 +2,7 @@
 ghost use Rattle.std.specs.Prelude.{◌≡◌, ◌+◌, ◌^◌, ◌<◌};
 ghost use Rattle.luks2_editing.specs.NewCopy.{IsNewHeader};
 
-use luks_head::Bin2;
+use luks2_header::Bin2;
 
 /// The binary header of the copy at the place `at` that takes the place of the copy of `old`, with
 /// this label and salt: its sequence number is one higher. Its checksum is made where it is written.

@@ -5,7 +5,7 @@ ghost use Rattle.luks_meta.specs.Content.{area_len, content};
 ghost use Rattle.luks2_editing.specs.Prepared.{IsAreaFault, AreCopiesWithin, IsPrepared, IsUnprepared};
 
 use luks_edit::EditFault;
-use luks_head::Bin2;
+use luks2_header::Bin2;
 use luks_meta::Meta;
 use luks_new_meta::json_area;
 use std::alloc::Global;

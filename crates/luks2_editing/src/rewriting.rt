@@ -13,7 +13,7 @@ use crate::preparing::prepared;
 use crate::writing::write_copies;
 use luks_area::Device;
 use luks_edit::EditFault;
-use luks_head::Bin2;
+use luks2_header::Bin2;
 use luks_meta::Meta;
 use std::alloc::Global;
 

@@ -1,6 +1,6 @@
 //! The new metadata of an edit of a LUKS2 volume that seals a keyslot, made before its first write.
 ghost use Rattle.std.specs.Prelude.{◌≡◌, ◌↔◌, ◌+◌, ◌^◌, ◌<◌, ◌≤◌, ℕ, List, false, length, IfErr, IfOk, IsTrue, OnOk};
-ghost use Rattle.luks_head.specs.Header2.{hdr_size, header_at};
+ghost use Rattle.luks2_header.specs.Header2.{hdr_size, header_at};
 ghost use Rattle.luks_making.specs.Conditions.{CanSeal, IsThere, IsFree};
 ghost use Rattle.luks_making.specs.Derivations.{IsPositive};
 ghost use Rattle.luks_making.specs.Keyslots.{new_members};

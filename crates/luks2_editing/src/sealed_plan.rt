@@ -18,7 +18,7 @@ use crate::sealing::write_sealed;
 use crate::secrets::Secrets;
 use luks_area::Device;
 use luks_edit::EditFault;
-use luks_head::Bin2;
+use luks2_header::Bin2;
 use luks_reading::luks2_plan;
 use std::alloc::Global;
 

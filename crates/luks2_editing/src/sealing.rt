@@ -3,7 +3,7 @@ ghost use Rattle.std.specs.Prelude.{◌≡◌, ◌≢◌, ◌+◌, ◌-◌, ◌*
 ghost use Rattle.serde_json.specs.Data.{Data as Value};
 ghost use Rattle.luks_area.specs.Device.{CountsFailure, IsSettled};
 ghost use Rattle.luks_area.specs.Ranges.{IsOfEither, SameBut};
-ghost use Rattle.luks_head.specs.Header2.{binary_header_size};
+ghost use Rattle.luks2_header.specs.Header2.{binary_header_size};
 ghost use Rattle.luks_slot.specs.Opening.{area_bytes};
 ghost use Rattle.luks_slot.specs.Sealing.{IsReadyToSeal, IsSealed};
 ghost use Rattle.luks_edit.specs.EditFaults.{is_edit_failure};
@@ -17,7 +17,7 @@ use crate::secrets::Secrets;
 use crate::writing::write_copies;
 use luks_area::Device;
 use luks_edit::EditFault;
-use luks_head::Bin2;
+use luks2_header::Bin2;
 use luks_slot::{SlotFault, SlotPlan};
 use luks_writing::seal_area_within;
 use std::alloc::Global;

@@ -2,7 +2,7 @@
 ghost use Rattle.std.specs.Prelude.{◌≡◌, ◌+◌, ◌*◌, ◌^◌, ◌<◌, ◌≤◌, ℕ, List, length, OnOk};
 ghost use Rattle.luks_area.specs.Device.{CountsFailure, IsSettled, is_failure};
 ghost use Rattle.luks_area.specs.Ranges.{SameBut};
-ghost use Rattle.luks_head.specs.Header2.{binary_header_size};
+ghost use Rattle.luks2_header.specs.Header2.{binary_header_size};
 ghost use Rattle.serde_json.specs.Data.{Data as Value};
 ghost use Rattle.luks_edit.specs.declared.edit.Edit.{Edit as TheEdit};
 ghost use Rattle.luks2_edit_laws.specs.Copies.{copy_salt, other_place};
@@ -13,7 +13,7 @@ ghost use Rattle.luks2_editing.specs.Rewriting.{AreWrittenAnew, IsRewriting, May
 use crate::new_copy::new_header;
 use crate::random::copy_salt;
 use luks_area::{Device, DeviceFault};
-use luks_head::Bin2;
+use luks2_header::Bin2;
 use luks_writing::{with_checksums, write_summed_copy};
 
 /// Writes both copies anew from the chosen one's binary header, each with a flush: the other one

@@ -4,10 +4,10 @@ use Rattle.luks_area.specs.declared.area.Area.{Area}
 use Rattle.luks_area.specs.declared.area.AreaName.{AreaName}
 use Rattle.luks_area.specs.declared.areas.Entry.{Entry}
 use Rattle.luks_area.specs.RangeFacts.{length-part_inside}
-use Rattle.luks_head.specs.Header2.{hdr_size, header_at, IsSound}
-use Rattle.luks_head.specs.Selection.{luks2}
-use Rattle.luks_head.proofs.CopyFacts.{listed_at_least}
-use Rattle.luks_head.proofs.ChoiceFacts.{choices_agree}
+use Rattle.luks2_header.specs.Header2.{hdr_size, header_at, IsSound}
+use Rattle.luks2_header.specs.Selection.{luks2}
+use Rattle.luks2_header.proofs.CopyFacts.{listed_at_least}
+use Rattle.luks2_header.proofs.ChoiceFacts.{choices_agree}
 use Rattle.luks_rules.proofs.AreaFaults.{one_value}
 use Rattle.luks_meta.specs.Content.{area_len, content}
 use Rattle.luks_reading.specs.declared.header.ChosenCopy.{ChosenCopy}

@@ -2,7 +2,7 @@
 use Rattle.std.proofs.Common.{◌≡◌, ◌↔◌, ℕ, ◌<◌, ◌≤◌, Bor, List, length, true, false, Option, arith, refl, subst}
 use Rattle.std.proofs.lemmas.Bool.{both_ways}
 use Rattle.serde_json.specs.Data.{Data as Value}
-use Rattle.luks_head.specs.Header2.{hdr_size, header_at}
+use Rattle.luks2_header.specs.Header2.{hdr_size, header_at}
 use Rattle.luks_meta.specs.Requirements.{has_requirements}
 use Rattle.luks_slot.specs.declared.fault.SlotFault.{SlotFault}
 use Rattle.luks_reading.specs.declared.check_fault.CheckFault.{CheckFault}

@@ -3,9 +3,9 @@ use Rattle.std.proofs.Common.{◌≡◌, ℕ, List, length, codes, refl, subst, 
 use Rattle.serde_json.specs.Data.{Data as Value}
 use Rattle.serde_json.specs.Find.{get}
 use Rattle.luks_area.specs.declared.area.AreaName.TheVariants as area_name
-use Rattle.luks_head.specs.Header2.{header_at, uuid_field}
-use Rattle.luks_head.specs.Selection.{luks2}
-use Rattle.luks_head.proofs.ChoiceFacts.{choices_agree}
+use Rattle.luks2_header.specs.Header2.{header_at, uuid_field}
+use Rattle.luks2_header.specs.Selection.{luks2}
+use Rattle.luks2_header.proofs.ChoiceFacts.{choices_agree}
 use Rattle.luks_rules.specs.declared.table.Section.TheVariants.{Keyslots}
 use Rattle.luks_rules.specs.Faults.{object_at}
 use Rattle.luks_rules.specs.MetaFault.{Json}

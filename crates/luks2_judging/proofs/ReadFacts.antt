@@ -3,7 +3,7 @@
 use Rattle.std.proofs.Common.{◌≡◌, ℕ, ◌+◌, ◌≤◌, Bor, List, [], length, Option, Result, Ok, Err, OnOk, IfErr, arith, inl, inr, subst, sym}
 use Rattle.luks_area.specs.declared.area.Area.{Area}
 use Rattle.luks_area.specs.declared.areas.Entry.{Entry}
-use Rattle.luks_head.specs.Header2.{hdr_size, header_at}
+use Rattle.luks2_header.specs.Header2.{hdr_size, header_at}
 use Rattle.luks_meta.specs.Content.{area_len, content}
 use Rattle.luks_meta.specs.declared.meta.Meta.{Meta}
 use Rattle.luks_reading.specs.declared.header.ChosenCopy.{ChosenCopy}

@@ -18,21 +18,21 @@ use luks_reading::{ChosenCopy, Data, check_copy};
 
 /// The areas of a volume of `total` bytes with this copy, each of them inside, or why the volume isn't
 /// accepted.
-pub(crate) fn accepted_areas(copy: &ChosenCopy, data_: Data, total: u64) -> Result<Areas, EditFault>
+pub(crate) fn accepted_areas(copy: &ChosenCopy, payload: Data, total: u64) -> Result<Areas, EditFault>
     ensures own { IfErr result (λ f. is_edit_failure f ≡ false) }
     ensures memory { IfErr result (λ f. f ≢ EditFault.Memory) }
     ensures inside { IfOk result (λ areas. (m : AreaName) (a : TheArea) → HasArea areas m a
         → IsInside a total) }
     ensures listed { IfOk result (λ areas.
-        Lists areas (HeaderArea (OfLuks2 copy.now) data_ total)) }
+        Lists areas (HeaderArea (OfLuks2 copy.now) payload total)) }
     ensures well { (v : List ℕ) → IsChosenCopy v copy.now → length v ≡ total
-        → OnOk result (WellFormed v data_) }
+        → OnOk result (WellFormed v payload) }
     ensures areas { (v : List ℕ) → IsChosenCopy v copy.now → length v ≡ total
-        → IfOk result (λ areas. Lists areas (AreaOf v data_)) }
+        → IfOk result (λ areas. Lists areas (AreaOf v payload)) }
     ensures refused { (v : List ℕ) → IsChosenCopy v copy.now → length v ≡ total
-        → IfErr result (IsUnaccepted v data_) }
+        → IfErr result (IsUnaccepted v payload) }
 {
-    match check_copy(copy, data_, total) {
+    match check_copy(copy, payload, total) {
         Ok(report) => Ok(report.areas),
         Err(fault) => Err(EditFault::NotAccepted(fault)),
     }

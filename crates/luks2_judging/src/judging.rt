@@ -5,7 +5,7 @@ ghost use Rattle.luks_area.specs.declared.area.AreaName.{AreaName};
 ghost use Rattle.luks_area.specs.Area.{IsInside};
 ghost use Rattle.luks_area.specs.Device.{CountsFailure, IsUnchanged};
 ghost use Rattle.luks_area.specs.Names.{HasArea};
-ghost use Rattle.luks_head.specs.Header2.{hdr_size, header_at};
+ghost use Rattle.luks2_header.specs.Header2.{hdr_size, header_at};
 ghost use Rattle.luks_meta.specs.Content.{area_len, content};
 ghost use Rattle.luks_reading.specs.declared.report.Data.{Data as Payload};
 ghost use Rattle.luks_reading.specs.Checked.{WellFormed};
@@ -72,7 +72,7 @@ pub fn judge_luks2<'a, D: Device>(
     alloc: Global,
     device: &mut D,
     copy: ChosenCopy,
-    data_: Data,
+    payload: Data,
     edit: &Edit<'a>,
 ) -> Result<Judged<'a>, EditFault>
     requires room { D.failed device.old + 1 < 2 ^ 64 }
@@ -83,11 +83,11 @@ pub fn judge_luks2<'a, D: Device>(
     ensures no_memory { (allowed_by edit.now).memory ≡ 0 → IfErr result (λ f. f ≢ EditFault.Memory) }
     ensures judged { IfOk result (IsJudged copy (D.size device.old) edit.now) }
     ensures unrefused { D.tells → IsChosenCopy (D.bytes device.old) copy
-        → IfOk result (IsUnrefusedSoFar (D.bytes device.old) data_ edit.now) }
+        → IfOk result (IsUnrefusedSoFar (D.bytes device.old) payload edit.now) }
     ensures refused { D.tells → IsChosenCopy (D.bytes device.old) copy
-        → IfErr result (IsRefusedEarly (D.bytes device.old) data_ edit.now) }
+        → IfErr result (IsRefusedEarly (D.bytes device.old) payload edit.now) }
 {
-    let taken = taken_by(alloc, device, &copy, data_, edit)?;
+    let taken = taken_by(alloc, device, &copy, payload, edit)?;
     Ok(Judged { copy, edit: taken })
 }
 
@@ -96,7 +96,7 @@ fn taken_by<'a, D: Device>(
     alloc: Global,
     device: &mut D,
     copy: &ChosenCopy,
-    data_: Data,
+    payload: Data,
     edit: &Edit<'a>,
 ) -> Result<JudgedEdit<'a>, EditFault>
     requires room { D.failed device.old + 1 < 2 ^ 64 }
@@ -108,12 +108,12 @@ fn taken_by<'a, D: Device>(
     ensures takes { IfOk result
         (Takes (area_len copy.now.meta) (content copy.now.meta) (D.size device.old) edit.now) }
     ensures unrefused { D.tells → IsChosenCopy (D.bytes device.old) copy.now
-        → IfOk result (IsUnrefusedOf copy.now (D.bytes device.old) data_ edit.now) }
+        → IfOk result (IsUnrefusedOf copy.now (D.bytes device.old) payload edit.now) }
     ensures refused { D.tells → IsChosenCopy (D.bytes device.old) copy.now
-        → IfErr result (IsRefusedEarly (D.bytes device.old) data_ edit.now) }
+        → IfErr result (IsRefusedEarly (D.bytes device.old) payload edit.now) }
 {
     let total = device.len();
-    let areas = judge_without_key(copy, data_, total, edit)?;
+    let areas = judge_without_key(copy, payload, total, edit)?;
     let accepted = Accepted { copy, areas, total };
     judge_with_key(alloc, device, &accepted, edit)
 }
@@ -122,7 +122,7 @@ fn taken_by<'a, D: Device>(
 /// or the volume's areas.
 fn judge_without_key(
     copy: &ChosenCopy,
-    data_: Data,
+    payload: Data,
     total: u64,
     edit: &Edit<'_>,
 ) -> Result<Areas, EditFault>
@@ -130,13 +130,13 @@ fn judge_without_key(
     ensures memory { IfErr result (λ f. f ≢ EditFault.Memory) }
     ensures accepted { IfOk result (λ areas. IsAcceptedFor copy.now areas total edit.now) }
     ensures well { (v : List ℕ) → IsChosenCopy v copy.now → length v ≡ total
-        → OnOk result (WellFormed v data_) }
+        → OnOk result (WellFormed v payload) }
     ensures passed { (v random : List ℕ) → IsChosenCopy v copy.now → length v ≡ total
-        → IfOk result (λ areas. IsJudgedTo 4 copy.now areas v data_ edit.now random) }
+        → IfOk result (λ areas. IsJudgedTo 4 copy.now areas v payload edit.now random) }
     ensures refused { (v random : List ℕ) → IsChosenCopy v copy.now → length v ≡ total
-        → IfErr result (Refusal2 v data_ edit.now random) }
+        → IfErr result (Refusal2 v payload edit.now random) }
 {
-    let areas = accepted_areas(copy, data_, total)?;
+    let areas = accepted_areas(copy, payload, total)?;
     judge_requirements(&copy.meta)?;
     judge_wanted(&copy.meta, edit)?;
     judge_opener(edit)?;

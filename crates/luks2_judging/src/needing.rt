@@ -27,16 +27,16 @@ const KEYSLOT_SALT: u64 = 32;
 /// keyslot is opened, and no memory is taken.
 pub fn needed_luks2(
     copy: &ChosenCopy,
-    data_: Data,
+    payload: Data,
     total: u64,
     edit: &Edit<'_>,
 ) -> Result<u64, EditFault>
     ensures own { IfErr result (λ f. is_edit_failure f ≡ false) }
     ensures memory { IfErr result (λ f. f ≢ EditFault.Memory) }
     ensures tells { (v : List ℕ) → IsChosenCopy v copy.now → length v ≡ total
-        → TellsNeed2 data_ v edit.now result }
+        → TellsNeed2 payload v edit.now result }
 {
-    let _areas = accepted_areas(copy, data_, total)?;
+    let _areas = accepted_areas(copy, payload, total)?;
     judge_requirements(&copy.meta)?;
     judge_wanted(&copy.meta, edit)?;
     judge_opener(edit)?;

@@ -8,8 +8,8 @@ use Rattle.luks_edit.specs.declared.edit_fault.EditFault.TheVariants as edit
 use Rattle.luks_edit.specs.EditFaults.{is_edit_failure}
 use Rattle.luks_formatting.specs.declared.format_fault.FormatFault.TheVariants as format
 use Rattle.luks_given.specs.Volume.{volume}
-use Rattle.luks_planned.specs.declared.planned_writes.PlannedCall.{PlannedCall}
-use Rattle.luks_planned.specs.Plan.{IsFlushed}
+use Rattle.luks_given.specs.declared.planned_writes.PlannedCall.{PlannedCall}
+use Rattle.luks_given.specs.Plan.{IsFlushed}
 use Rattle.luks_reading.specs.declared.report.Data.{Data}
 use Rattle.luks_volume.specs.Edits.{Refusal, Replies}
 use Rattle.luks_volume.specs.Outcome.{IsApplied}

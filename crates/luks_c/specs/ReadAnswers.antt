@@ -5,7 +5,7 @@ use Rattle.luks_area.specs.Ranges.{part}
 use Rattle.luks1_header.specs.declared.fault.HeadFault.{HeadFault}
 use Rattle.luks1_header.specs.Faults.{head_key, IsLuks1Fault}
 use Rattle.luks1_header.specs.Header1.{IsLuks1}
-use Rattle.luks_head.specs.Selection.{luks1, Chosen}
+use Rattle.luks2_header.specs.Selection.{luks1, Chosen}
 use Rattle.luks_reading.specs.declared.read_fault.ReadFault.{ReadFault}
 use Rattle.luks_reading.specs.Conversions.{head_unread}
 use Rattle.luks_reading.specs.Header.{IsChosenCopy, IsUnread}

@@ -9,7 +9,7 @@ use luks_c_answers::{BEYOND, DONE, LuksPlan, USAGE, backup_number, data_of};
 use luks_c_headers::backup_given;
 use luks_given::{FirstBytes, Given};
 use luks_keeping::{BackupFault, backup_length};
-use luks_planned::PlannedCall;
+use luks_given::PlannedCall;
 use luks_reading::Data;
 use std::alloc::Global;
 use std::marker::Brand;
@@ -56,12 +56,12 @@ pub extern "C" fn luks_backup_bytes(
     if source.len() as u64 > source_total || first.len() as u64 > total {
         return USAGE;
     }
-    let data_ = data_of(is_detached);
+    let payload = data_of(is_detached);
     backup_given::<Brand, Brand>(
         alloc,
         source,
         source_total,
-        data_,
+        payload,
         first,
         total,
         calls,
@@ -100,18 +100,18 @@ fn length_given<K: Given>(
     alloc: Global,
     first: &[u8],
     total: u64,
-    data_: Data,
+    payload: Data,
     told: &mut LuksLength,
 ) -> u32
     requires within { length first.now ≤ total }
     requires given { K.bytes ≡ first.now }
     ensures own { result ≢ 101 }
-    ensures answers { AnswersLength (volume first.now total) data_ told.new.bytes result }
+    ensures answers { AnswersLength (volume first.now total) payload told.new.bytes result }
     ensures more { result ≡ 102 → length first.now < told.new.beyond }
     ensures inside { result ≡ 102 → told.new.beyond ≤ total }
 {
     let mut device: FirstBytes<'_, K> = FirstBytes::new(first, total);
-    match backup_length(alloc, &mut device, data_) {
+    match backup_length(alloc, &mut device, payload) {
         Ok(bytes) => {
             told.bytes = bytes;
             DONE

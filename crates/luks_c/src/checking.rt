@@ -59,17 +59,17 @@ fn check_given<K: Given>(
     alloc: Global,
     first: &[u8],
     total: u64,
-    data_: Data,
+    payload: Data,
     report: &mut LuksReport,
 ) -> u32
     requires within { length first.now ≤ total }
     requires given { K.bytes ≡ first.now }
-    ensures answers { AnswersCheck (volume first.now total) data_ result report.new }
+    ensures answers { AnswersCheck (volume first.now total) payload result report.new }
     ensures more { result ≡ 102 → length first.now < report.new.beyond }
     ensures inside { result ≡ 102 → report.new.beyond ≤ total }
 {
     let mut device: FirstBytes<'_, K> = FirstBytes::new(first, total);
-    match check(alloc, &mut device, data_) {
+    match check(alloc, &mut device, payload) {
         Ok(found) => {
             *report = told(&found);
             DONE

@@ -40,14 +40,14 @@ pub extern "C" fn luks_compare_bytes(
     if is_beyond || keyslots.len() < 32 {
         return USAGE;
     }
-    let data_ = data_of(is_detached);
+    let payload = data_of(is_detached);
     compare_given::<Brand, Brand>(
         alloc,
         backup,
         backup_total,
         first,
         total,
-        data_,
+        payload,
         keyslots,
         told,
     )

@@ -6,7 +6,7 @@ ghost use Rattle.luks_c_headers.specs.ConvertAnswers.{AnswersConvert};
 
 use luks_c_answers::{LuksPlan, USAGE, data_of};
 use luks_c_headers::convert_given;
-use luks_planned::PlannedCall;
+use luks_given::PlannedCall;
 use std::alloc::Global;
 use std::marker::Brand;
 
@@ -44,12 +44,12 @@ pub extern "C" fn luks_convert_bytes(
     if source.len() as u64 > source_total || first.len() as u64 > total {
         return USAGE;
     }
-    let data_ = data_of(is_detached);
+    let payload = data_of(is_detached);
     convert_given::<Brand, Brand>(
         alloc,
         source,
         source_total,
-        data_,
+        payload,
         first,
         total,
         random,

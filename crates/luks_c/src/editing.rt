@@ -2,7 +2,7 @@
 ghost use Rattle.std.specs.Prelude.{◌≡◌, ◌≢◌, ◌⊎◌, ◌↔◌, ◌≤◌, ◌<◌, length, Ok, Option};
 ghost use Rattle.luks_area.specs.Device.{IsSettled};
 ghost use Rattle.luks_given.specs.Volume.{volume};
-ghost use Rattle.luks_planned.specs.Planned.{planned_bytes, planned_size, planned_unsettled};
+ghost use Rattle.luks_given.specs.Planned.{planned_bytes, planned_size, planned_unsettled};
 ghost use Rattle.luks_volume.specs.Outcome.{IsApplied};
 ghost use Rattle.luks_c_answers.specs.Asked.{payload_of};
 ghost use Rattle.luks_c.specs.EditAnswers.{AnswersAsked, AnswersEdit};
@@ -13,7 +13,7 @@ use luks_c_answers::{
     planned_writes, tell_reach,
 };
 use luks_given::Given;
-use luks_planned::{PlannedCall, PlannedWrites};
+use luks_given::{PlannedCall, PlannedWrites};
 use luks_volume::{Data, Done, Edit, EditFault, apply};
 use std::alloc::Global;
 use std::marker::Brand;
@@ -73,7 +73,7 @@ fn apply_given<K: Given>(
     alloc: Global,
     first: &[u8],
     total: u64,
-    data_: Data,
+    payload: Data,
     edit: &Edit<'_>,
     random: &[u8],
     calls: &mut [PlannedCall],
@@ -83,7 +83,7 @@ fn apply_given<K: Given>(
     requires within { length first.now ≤ total }
     requires given { K.bytes ≡ first.now }
     ensures own { result ≢ 101 }
-    ensures answers { AnswersEdit first.now total data_ edit.now random.now
+    ensures answers { AnswersEdit first.now total payload edit.now random.now
         (record { calls = calls.old; bytes = bytes.old })
         (record { calls = calls.new; bytes = bytes.new }) told.new result }
     ensures more { result ≡ 102 → length first.now < told.new.beyond }
@@ -92,9 +92,9 @@ fn apply_given<K: Given>(
     let Ok(mut device) = planned_writes::<K>(alloc, first, total) else {
         return MEMORY;
     };
-    match apply(alloc, &mut device, data_, edit, random) {
+    match apply(alloc, &mut device, payload, edit, random) {
         Ok(done) => give_edited(
-            first, total, data_, edit, random, done, &device, calls, bytes, told,
+            first, total, payload, edit, random, done, &device, calls, bytes, told,
         ),
         Err(EditFault::Device) => tell_reach(&device, told),
         Err(fault) => edit_number(&fault),
@@ -105,7 +105,7 @@ fn apply_given<K: Given>(
 fn give_edited<K: Given>(
     first: &[u8],
     total: u64,
-    data_: Data,
+    payload: Data,
     edit: &Edit<'_>,
     random: &[u8],
     done: Done,
@@ -117,9 +117,9 @@ fn give_edited<K: Given>(
     requires given { K.bytes ≡ first.now }
     requires size { planned_size device.now ≡ total }
     requires settled { IsSettled planned_unsettled device.now }
-    requires applied { IsApplied data_ (volume first.now total) edit.now random.now (Ok done)
+    requires applied { IsApplied payload (volume first.now total) edit.now random.now (Ok done)
         (planned_bytes device.now) }
-    ensures answers { AnswersEdit first.now total data_ edit.now random.now
+    ensures answers { AnswersEdit first.now total payload edit.now random.now
         (record { calls = calls.old; bytes = bytes.old })
         (record { calls = calls.new; bytes = bytes.new }) told.new result }
     ensures given { (result ≡ 0) ⊎ (result ≡ 106) }

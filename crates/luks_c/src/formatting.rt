@@ -13,7 +13,7 @@ use luks_c_answers::{
 };
 use luks_formatting::format2_by;
 use luks_given::Given;
-use luks_planned::PlannedCall;
+use luks_given::PlannedCall;
 use luks_reading::Allowed;
 use luks_volume::{Data, Format, FormatFault, HashName, NewDerivation, Passphrase, format1};
 use std::alloc::Global;
@@ -47,10 +47,10 @@ pub extern "C" fn luks_format1_bytes(
     ensures within { result ≡ 102 → told.new.beyond ≤ total }
 {
     *told = LuksPlan::default();
-    let data_ = data_of(is_detached);
+    let payload = data_of(is_detached);
     match format_of(first, total, hash, iterations) {
         Some(format) => make1::<Brand>(
-            alloc, first, total, data_, &format, passphrase, random, calls, bytes, told,
+            alloc, first, total, payload, &format, passphrase, random, calls, bytes, told,
         ),
         None => USAGE,
     }
@@ -85,7 +85,7 @@ pub extern "C" fn luks_format2_bytes(
     ensures within { result ≡ 102 → told.new.beyond ≤ total }
 {
     *told = LuksPlan::default();
-    let data_ = data_of(is_detached);
+    let payload = data_of(is_detached);
     let Ok(chosen) = chosen_of(derivation) else {
         return USAGE;
     };
@@ -98,7 +98,7 @@ pub extern "C" fn luks_format2_bytes(
     };
     match format_of(first, total, hash, iterations) {
         Some(format) => make2::<Brand>(
-            alloc, first, total, data_, &format, chosen, &by_, random, calls, bytes, told,
+            alloc, first, total, payload, &format, chosen, &by_, random, calls, bytes, told,
         ),
         None => USAGE,
     }
@@ -109,7 +109,7 @@ fn make1<K: Given>(
     alloc: Global,
     first: &[u8],
     total: u64,
-    data_: Data,
+    payload: Data,
     format: &Format,
     passphrase: &[u8],
     random: &[u8],
@@ -121,7 +121,7 @@ fn make1<K: Given>(
     requires given { K.bytes ≡ first.now }
     requires slot { told.old.slot ≡ 0 }
     ensures own { result ≢ 101 }
-    ensures answers { AnswersFormat1 first.now total data_ format.now passphrase.now random.now
+    ensures answers { AnswersFormat1 first.now total payload format.now passphrase.now random.now
         (record { calls = calls.old; bytes = bytes.old })
         (record { calls = calls.new; bytes = bytes.new }) told.new result }
     ensures more { result ≡ 102 → length first.now < told.new.beyond }
@@ -130,7 +130,7 @@ fn make1<K: Given>(
     let Ok(mut device) = planned_writes::<K>(alloc, first, total) else {
         return MEMORY;
     };
-    match format1(&mut device, data_, format, passphrase, random) {
+    match format1(&mut device, payload, format, passphrase, random) {
         Ok(_) => give_plan(&device, calls, bytes, told),
         Err(FormatFault::Device) => tell_reach(&device, told),
         Err(fault) => format_number(&fault),
@@ -142,7 +142,7 @@ fn make2<K: Given>(
     alloc: Global,
     first: &[u8],
     total: u64,
-    data_: Data,
+    payload: Data,
     format: &Format,
     chosen: Option<NewDerivation>,
     passphrase: &Passphrase<'_>,
@@ -155,7 +155,7 @@ fn make2<K: Given>(
     requires given { K.bytes ≡ first.now }
     requires slot { told.old.slot ≡ 0 }
     ensures own { result ≢ 101 }
-    ensures answers { AnswersFormat2 first.now total data_ format.now chosen
+    ensures answers { AnswersFormat2 first.now total payload format.now chosen
         passphrase.now.allowed.memory passphrase.now.bytes.now random.now
         (record { calls = calls.old; bytes = bytes.old })
         (record { calls = calls.new; bytes = bytes.new }) told.new result }
@@ -168,7 +168,7 @@ fn make2<K: Given>(
     match format2_by(
         alloc,
         &mut device,
-        data_,
+        payload,
         format,
         chosen,
         passphrase,

@@ -58,19 +58,19 @@ fn need_given<K: Given>(
     alloc: Global,
     first: &[u8],
     total: u64,
-    data_: Data,
+    payload: Data,
     edit: &Edit<'_>,
     told: &mut LuksNeeded,
 ) -> u32
     requires within { length first.now ≤ total }
     requires given { K.bytes ≡ first.now }
     ensures own { result ≢ 101 }
-    ensures answers { AnswersNeed (volume first.now total) data_ edit.now told.new result }
+    ensures answers { AnswersNeed (volume first.now total) payload edit.now told.new result }
     ensures more { result ≡ 102 → length first.now < told.new.beyond }
     ensures inside { result ≡ 102 → told.new.beyond ≤ total }
 {
     let mut device: FirstBytes<'_, K> = FirstBytes::new(first, total);
-    match needed(alloc, &mut device, data_, edit) {
+    match needed(alloc, &mut device, payload, edit) {
         Ok(count) => {
             told.random = count;
             DONE

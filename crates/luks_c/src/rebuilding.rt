@@ -5,7 +5,7 @@ ghost use Rattle.luks_c_headers.specs.RebuildAnswers.{AnswersRebuild, AnswersWit
 
 use luks_c_answers::{LuksPlan, USAGE};
 use luks_c_headers::{NoText, rebuild_given, text_of, which_of};
-use luks_planned::PlannedCall;
+use luks_given::PlannedCall;
 use std::alloc::Global;
 use std::marker::Brand;
 

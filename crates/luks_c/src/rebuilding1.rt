@@ -6,7 +6,7 @@ ghost use Rattle.luks_c_headers.specs.RebuildAnswers.{AnswersRebuild1, AnswersWi
 
 use luks_c_answers::{LuksPlan, USAGE};
 use luks_c_headers::{NoText, fields_of, rebuild1_given};
-use luks_planned::PlannedCall;
+use luks_given::PlannedCall;
 use std::alloc::Global;
 use std::marker::Brand;
 

@@ -6,7 +6,7 @@ ghost use Rattle.luks_c_headers.specs.KeepAnswers.{AnswersRestore, over_asked};
 
 use luks_c_answers::{LuksPlan, USAGE, data_of};
 use luks_c_headers::{over_of, restore_given};
-use luks_planned::PlannedCall;
+use luks_given::PlannedCall;
 use std::alloc::Global;
 use std::marker::Brand;
 
@@ -44,7 +44,7 @@ pub extern "C" fn luks_restore_bytes(
     if source.len() as u64 > source_total || first.len() as u64 > total {
         return USAGE;
     }
-    let data_ = data_of(is_detached);
+    let payload = data_of(is_detached);
     let over = over_of(is_over_any);
     restore_given::<Brand, Brand>(
         alloc,
@@ -52,7 +52,7 @@ pub extern "C" fn luks_restore_bytes(
         source_total,
         first,
         total,
-        data_,
+        payload,
         over,
         calls,
         bytes,

@@ -1,8 +1,8 @@
 -- Facts on the plans of calls that write.
 use Rattle.std.proofs.Common.{◌≡◌, ◌≢◌, ◌⊎◌, inl, inr, ℕ, ◌≤◌, List, length, refl, sym, subst, arith}
 use Rattle.luks_given.specs.Volume.{volume}
-use Rattle.luks_planned.specs.declared.planned_writes.PlannedCall.{PlannedCall}
-use Rattle.luks_planned.specs.Plan.{IsFlushed}
+use Rattle.luks_given.specs.declared.planned_writes.PlannedCall.{PlannedCall}
+use Rattle.luks_given.specs.Plan.{IsFlushed}
 use Rattle.luks_c_answers.specs.declared.plans.LuksPlan.{LuksPlan}
 use Rattle.luks_c_answers.specs.Plans.{AnswersPlan, Buffers, IsPlan, IsPlanGiven, IsPlanned}
 

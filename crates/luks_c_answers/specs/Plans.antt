@@ -1,8 +1,8 @@
 -- The plan of a call that writes, in the caller's buffers.
 use Rattle.std.specs.Prelude.{◌≡◌, ◌≢◌, ◌⊎◌, ℕ, ◌<◌, ◌≤◌, List, length}
 use Rattle.luks_given.specs.Volume.{volume}
-use Rattle.luks_planned.specs.declared.planned_writes.PlannedCall.{PlannedCall}
-use Rattle.luks_planned.specs.Plan.{furthest, planned_length, played, IsFlushed}
+use Rattle.luks_given.specs.declared.planned_writes.PlannedCall.{PlannedCall}
+use Rattle.luks_given.specs.Plan.{furthest, planned_length, played, IsFlushed}
 use Rattle.luks_c_answers.specs.declared.plans.LuksPlan.{LuksPlan}
 use Rattle.luks_c_answers.specs.Buffers.{filled}
 

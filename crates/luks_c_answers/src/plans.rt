@@ -3,14 +3,14 @@ ghost use Rattle.std.specs.Prelude.{IsTrue, ◌≡◌, ◌≤◌, ◌≢◌, ◌
 ghost use Rattle.luks_area.specs.Device.{IsSettled};
 ghost use Rattle.luks_given.specs.Given.{given_failures, given_size, IsUnwritten};
 ghost use Rattle.luks_given.specs.Volume.{volume};
-ghost use Rattle.luks_planned.specs.Planned.{lacked_memory, planned_bytes, planned_calls, planned_failures, planned_first, planned_size, planned_unsettled, planned_written};
+ghost use Rattle.luks_given.specs.Planned.{lacked_memory, planned_bytes, planned_calls, planned_failures, planned_first, planned_size, planned_unsettled, planned_written};
 ghost use Rattle.luks_c_answers.specs.Plans.{IsPlan, IsPlanGiven};
 
 use crate::buffers::fill_front;
 use crate::numbers::{BEYOND, DONE, MEMORY, ROOM};
 use luks_area::Device;
 use luks_given::{FirstBytes, Given};
-use luks_planned::{PlannedCall, PlannedWrites};
+use luks_given::{PlannedCall, PlannedWrites};
 use std::alloc::{AllocError, Global};
 
 /// What a call tells that writes.

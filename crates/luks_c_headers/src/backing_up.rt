@@ -6,7 +6,7 @@ ghost use Rattle.luks_c_headers.specs.KeepAnswers.{AnswersBackup};
 use luks_c_answers::{LuksPlan, MEMORY, backup_number, give_plan, planned_writes, tell_reaches};
 use luks_given::{FirstBytes, Given};
 use luks_keeping::{BackupFault, backup};
-use luks_planned::PlannedCall;
+use luks_given::PlannedCall;
 use luks_reading::Data;
 use std::alloc::Global;
 
@@ -16,7 +16,7 @@ pub fn backup_given<S: Given, K: Given>(
     alloc: Global,
     source: &[u8],
     source_total: u64,
-    data_: Data,
+    payload: Data,
     first: &[u8],
     total: u64,
     calls: &mut [PlannedCall],
@@ -30,7 +30,7 @@ pub fn backup_given<S: Given, K: Given>(
     requires source_told { told.old.source_beyond ≡ 0 }
     requires target_told { told.old.beyond ≡ 0 }
     ensures own { result ≢ 101 }
-    ensures answers { AnswersBackup (volume source.now source_total) data_ first.now total
+    ensures answers { AnswersBackup (volume source.now source_total) payload first.now total
         (record { calls = calls.old; bytes = bytes.old })
         (record { calls = calls.new; bytes = bytes.new }) told.new result }
     ensures more { result ≡ 102 → (length source.now < told.new.source_beyond)
@@ -42,7 +42,7 @@ pub fn backup_given<S: Given, K: Given>(
     let Ok(mut device) = planned_writes::<K>(alloc, first, total) else {
         return MEMORY;
     };
-    match backup(alloc, &mut from, data_, &mut device) {
+    match backup(alloc, &mut from, payload, &mut device) {
         Ok(()) => give_plan(&device, calls, bytes, told),
         Err(BackupFault::Device) => tell_reaches(&from, &device, told),
         Err(fault) => backup_number(&fault),

@@ -32,7 +32,7 @@ pub fn compare_given<S: Given, K: Given>(
     backup_total: u64,
     first: &[u8],
     total: u64,
-    data_: Data,
+    payload: Data,
     keyslots: &mut [u8],
     told: &mut LuksCompared,
 ) -> u32
@@ -44,7 +44,7 @@ pub fn compare_given<S: Given, K: Given>(
     requires backup_told { told.old.backup_beyond ≡ 0 }
     requires volume_told { told.old.beyond ≡ 0 }
     ensures own { result ≢ 101 }
-    ensures answers { AnswersCompare (volume backup.now backup_total) (volume first.now total) data_
+    ensures answers { AnswersCompare (volume backup.now backup_total) (volume first.now total) payload
         keyslots.old keyslots.new told.new.same_key result }
     ensures more { result ≡ 102 → (length backup.now < told.new.backup_beyond)
         ⊎ (length first.now < told.new.beyond) }
@@ -61,7 +61,7 @@ pub fn compare_given<S: Given, K: Given>(
         Err(fault) => return restore_number(&RestoreFault::from(fault)),
     };
     let mut device: FirstBytes<'_, K> = FirstBytes::new(first, total);
-    let there = match accepted_header(alloc, &mut device, data_) {
+    let there = match accepted_header(alloc, &mut device, payload) {
         Ok(header) => header,
         Err(CheckFault::Device) => {
             told.beyond = device.reached();

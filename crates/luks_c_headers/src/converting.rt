@@ -6,7 +6,7 @@ ghost use Rattle.luks_c_headers.specs.ConvertAnswers.{AnswersConvert};
 use luks_c_answers::{LuksPlan, MEMORY, convert_number, give_plan, planned_writes, tell_reaches};
 use luks_converting::{ConvertFault, convert};
 use luks_given::{FirstBytes, Given};
-use luks_planned::PlannedCall;
+use luks_given::PlannedCall;
 use luks_reading::Data;
 use std::alloc::Global;
 
@@ -17,7 +17,7 @@ pub fn convert_given<S: Given, K: Given>(
     alloc: Global,
     source: &[u8],
     source_total: u64,
-    data_: Data,
+    payload: Data,
     first: &[u8],
     total: u64,
     random: &[u8],
@@ -32,7 +32,7 @@ pub fn convert_given<S: Given, K: Given>(
     requires source_told { told.old.source_beyond ≡ 0 }
     requires target_told { told.old.beyond ≡ 0 }
     ensures own { result ≢ 101 }
-    ensures answers { AnswersConvert (volume source.now source_total) data_ first.now total
+    ensures answers { AnswersConvert (volume source.now source_total) payload first.now total
         random.now (record { calls = calls.old; bytes = bytes.old })
         (record { calls = calls.new; bytes = bytes.new }) told.new result }
     ensures more { result ≡ 102 → (length source.now < told.new.source_beyond)
@@ -44,7 +44,7 @@ pub fn convert_given<S: Given, K: Given>(
     let Ok(mut device) = planned_writes::<K>(alloc, first, total) else {
         return MEMORY;
     };
-    match convert(alloc, &mut from, data_, &mut device, random) {
+    match convert(alloc, &mut from, payload, &mut device, random) {
         Ok(()) => give_plan(&device, calls, bytes, told),
         Err(ConvertFault::Device) => tell_reaches(&from, &device, told),
         Err(fault) => convert_number(&fault),

@@ -6,7 +6,7 @@ ghost use Rattle.luks_c_headers.specs.KeepAnswers.{AnswersRestore, over_asked};
 use luks_c_answers::{LuksPlan, MEMORY, give_plan, planned_writes, restore_number, tell_reaches};
 use luks_given::{FirstBytes, Given};
 use luks_keeping::{Over, RestoreFault, restore};
-use luks_planned::PlannedCall;
+use luks_given::PlannedCall;
 use luks_reading::Data;
 use std::alloc::Global;
 
@@ -18,7 +18,7 @@ pub fn restore_given<S: Given, K: Given>(
     source_total: u64,
     first: &[u8],
     total: u64,
-    data_: Data,
+    payload: Data,
     over: Over,
     calls: &mut [PlannedCall],
     bytes: &mut [u8],
@@ -31,7 +31,7 @@ pub fn restore_given<S: Given, K: Given>(
     requires source_told { told.old.source_beyond ≡ 0 }
     requires target_told { told.old.beyond ≡ 0 }
     ensures own { result ≢ 101 }
-    ensures answers { AnswersRestore (volume source.now source_total) data_ over first.now total
+    ensures answers { AnswersRestore (volume source.now source_total) payload over first.now total
         (record { calls = calls.old; bytes = bytes.old })
         (record { calls = calls.new; bytes = bytes.new }) told.new result }
     ensures more { result ≡ 102 → (length source.now < told.new.source_beyond)
@@ -43,7 +43,7 @@ pub fn restore_given<S: Given, K: Given>(
     let Ok(mut device) = planned_writes::<K>(alloc, first, total) else {
         return MEMORY;
     };
-    match restore(alloc, &mut from, &mut device, data_, over) {
+    match restore(alloc, &mut from, &mut device, payload, over) {
         Ok(()) => give_plan(&device, calls, bytes, told),
         Err(RestoreFault::Device) => tell_reaches(&from, &device, told),
         Err(fault) => restore_number(&fault),

@@ -5,9 +5,9 @@ use Rattle.luks_reading.specs.declared.report.Version.{Version}
 use Rattle.luks_reading.specs.declared.report.Version.TheVariants.{Luks1, Luks2}
 use Rattle.luks_reading.specs.Checked.{WellFormed}
 use Rattle.luks_reading.specs.Reported.{IsVersion}
-use Rattle.luks_head.specs.Selection.{luks2, Chosen}
-use Rattle.luks_head.specs.declared.selection.Copies.{Copies}
-use Rattle.luks_head.specs.declared.selection.Copies.TheVariants.{InStep, FirstNewer, SecondNewer, FirstOnly, SecondOnly}
+use Rattle.luks2_header.specs.Selection.{luks2, Chosen}
+use Rattle.luks2_header.specs.declared.selection.Copies.{Copies}
+use Rattle.luks2_header.specs.declared.selection.Copies.TheVariants.{InStep, FirstNewer, SecondNewer, FirstOnly, SecondOnly}
 use Rattle.luks_commands.specs.Checked.{EndsCheck, IsOutOfStep, status_of}
 
 -- copies that aren't in step

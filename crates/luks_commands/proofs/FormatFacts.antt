@@ -72,7 +72,7 @@ made_fault result making passphrase total random is held =
 -- what was formatted by its version is the new volume
 pub made : {D : Type 0} (result : Result D FormatFault) (making : Making) (version : NewVersion) (passphrase random old new : List ℕ)
     → making.version ≡ version → OnOk result (IsFormatted version making passphrase random old new)
-    → OnOk result (WellFormed new making.data_) → OnOk result (OpensNew version making new passphrase (volume_key random))
+    → OnOk result (WellFormed new making.payload) → OnOk result (OpensNew version making new passphrase (volume_key random))
     → OnOk result (IsNewVolume making passphrase random old new)
 made (Ok done) making version passphrase random old new is formatted well opened = record {
   formatted = subst (λ v. IsFormatted v making passphrase random old new) (sym is) formatted;

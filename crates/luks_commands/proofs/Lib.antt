@@ -7,3 +7,4 @@ pub mod FormatFacts
 pub mod Fronts
 pub mod OpenFacts
 pub mod StandingFacts
+mod ShowFacts

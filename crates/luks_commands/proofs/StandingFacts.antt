@@ -2,10 +2,10 @@
 use Rattle.std.proofs.Common.{◌≡◌, ◌≢◌, ◌↔◌, ◌⊎◌, ℕ, List, Bool, true, false, Option, Some, None, Result, Ok, Err, OnOk, IfErr, IsTrue, not, refl, sym, ap, subst, ◌∙◌, inl, inr}
 use Rattle.std.proofs.lemmas.Bool.{false≢true}
 use Rattle.luks_area.specs.Ranges.{part}
-use Rattle.luks_head.proofs.ChoiceFacts.{choices_agree}
-use Rattle.luks_head.specs.Selection.{nothing, luks1, luks2, Choice, Chosen, IsSelected}
-use Rattle.luks_head.specs.declared.selection.Selected.{Selected}
-use Rattle.luks_head.specs.declared.selection.Selected.TheVariants.{V1, V2}
+use Rattle.luks2_header.proofs.ChoiceFacts.{choices_agree}
+use Rattle.luks2_header.specs.Selection.{nothing, luks1, luks2, Choice, Chosen, IsSelected}
+use Rattle.luks2_header.specs.declared.selection.Selected.{Selected}
+use Rattle.luks2_header.specs.declared.selection.Selected.TheVariants.{V1, V2}
 use Rattle.luks_reading.specs.Checked.{IsCheckRefusal, WellFormed}
 use Rattle.luks_reading.specs.Header.{IsHeader}
 use Rattle.luks_reading.specs.Reported.{IsFromOutside}

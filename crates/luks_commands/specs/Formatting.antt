@@ -29,8 +29,8 @@ IsOfNewVolume Luks2 = IsOfLuks2
 
 -- `new` is `old` formatted by this version
 abbrev pub IsFormatted : NewVersion → Making → List ℕ → List ℕ → List ℕ → List ℕ → Type 0
-IsFormatted Luks1 making = IsFormatted1 making.data_ making.format
-IsFormatted Luks2 making = IsFormatted2By making.data_ making.format (chosen_of making.kdf)
+IsFormatted Luks1 making = IsFormatted1 making.payload making.format
+IsFormatted Luks2 making = IsFormatted2By making.payload making.format (chosen_of making.kdf)
 
 -- keyslot 0 of the volume `new` opens by the passphrase to the key: of LUKS2 wherever as much memory is
 -- allowed as its derivation takes
@@ -42,7 +42,7 @@ OpensNew Luks2 making new passphrase key =
 -- what is made of the volume `old` for this passphrase and these random bytes: `new`
 pub record IsNewVolume (making : Making) (passphrase random old new : List ℕ) : Type 0 where
   pub formatted : IsFormatted making.version making passphrase random old new
-  pub well_formed : WellFormed new making.data_
+  pub well_formed : WellFormed new making.payload
   pub opened : OpensNew making.version making new passphrase (volume_key random)
 
 -- what was made where the command says that all is done: the passphrase is what its file has, and the

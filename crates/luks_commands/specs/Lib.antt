@@ -10,3 +10,4 @@ pub mod Formatting
 pub mod OpenAnswers
 pub mod FormatAnswers
 pub mod Standing
+pub mod ShowAnswers

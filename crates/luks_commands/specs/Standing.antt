@@ -1,7 +1,7 @@
 -- What stands on a disk that a command would write over: another use, or an accepted LUKS header of another volume.
 use Rattle.std.specs.Prelude.{◌≡◌, ◌≢◌, ◌⊎◌, ℕ, List, Option, Some, None, Bool, true, false, Result, Ok, Err, ⊤}
 use Rattle.luks_area.specs.Device.{count_after}
-use Rattle.luks_head.specs.Selection.{nothing, Choice, Chosen}
+use Rattle.luks2_header.specs.Selection.{nothing, Choice, Chosen}
 use Rattle.luks_reading.specs.Checked.{WellFormed}
 use Rattle.luks_reading.specs.Header.{NeedsMetadata}
 use Rattle.luks_reading.specs.declared.report.Data.TheVariants.{Elsewhere}

@@ -16,13 +16,13 @@ use luks_reading::{AreaName, Areas, CheckFault, Data, Device, Header, check_head
 use std::alloc::Global;
 use std::io::Write;
 
-/// Prints whether the volume of this name is accepted, its payload lying at `data_`; answers the exit
+/// Prints whether the volume of this name is accepted, its payload lying at `payload`; answers the exit
 /// status.
 pub fn run<D: Device, P: Printer, E: Write>(
     alloc: Global,
     volume: &mut Result<D, InputFault>,
     name: &str,
-    data_: Data,
+    payload: Data,
     out: &mut P,
     err: &mut E,
 ) -> u8
@@ -30,12 +30,12 @@ pub fn run<D: Device, P: Printer, E: Write>(
     requires printer { P.failures out.old + 1 < 2 ^ 64 }
     ensures unchanged { KeepsVolume D.tells D.size D.bytes D.unsettled volume.old volume.new }
     ensures status { IsExitStatus result }
-    ensures says { D.tells → IfOk volume.old (λ d. SaysCheck (D.bytes d) data_ result) }
+    ensures says { D.tells → IfOk volume.old (λ d. SaysCheck (D.bytes d) payload result) }
     ensures unread { IfErr volume.old (λ _. result ≡ 4) }
-    ensures answers { Prints (AnswersCheck D.tells D.bytes D.failed data_ volume.old volume.new)
+    ensures answers { Prints (AnswersCheck D.tells D.bytes D.failed payload volume.old volume.new)
         (P.failures out.old) (P.failures out.new) (P.printed out.old) (P.printed out.new) result }
 {
-    let answer = answer(alloc, volume, name, data_, err);
+    let answer = answer(alloc, volume, name, payload, err);
     end(&answer, out)
 }
 
@@ -45,18 +45,18 @@ pub fn answer<D: Device, E: Write>(
     alloc: Global,
     volume: &mut Result<D, InputFault>,
     name: &str,
-    data_: Data,
+    payload: Data,
     err: &mut E,
 ) -> Answer
     requires { ForOk volume.old (λ d. D.failed d + 1 < 2 ^ 64) }
     ensures unchanged { KeepsVolume D.tells D.size D.bytes D.unsettled volume.old volume.new }
     ensures status { D.tells
-        → IfOk volume.old (λ d. EndsCheck (D.bytes d) data_ (answer_status result)) }
+        → IfOk volume.old (λ d. EndsCheck (D.bytes d) payload (answer_status result)) }
     ensures unread { IfErr volume.old (λ _. answer_status result ≡ Status.Fault) }
-    ensures answers { AnswersCheck D.tells D.bytes D.failed data_ volume.old volume.new result }
+    ensures answers { AnswersCheck D.tells D.bytes D.failed payload volume.old volume.new result }
 {
     match volume {
-        Ok(device) => check_device(alloc, device, name, data_, err),
+        Ok(device) => check_device(alloc, device, name, payload, err),
         Err(fault) => unread(*fault, name, err),
     }
 }
@@ -65,13 +65,13 @@ fn check_device<D: Device, E: Write>(
     alloc: Global,
     device: &mut D,
     name: &str,
-    data_: Data,
+    payload: Data,
     err: &mut E,
 ) -> Answer
     requires { D.failed device.old + 1 < 2 ^ 64 }
     ensures unchanged { IsUnchanged D.tells D.size D.bytes D.unsettled device.old device.new }
-    ensures status { D.tells → EndsCheck (D.bytes device.old) data_ (answer_status result) }
-    ensures answers { IsCheckAnswer D.tells (D.bytes device.old) data_
+    ensures status { D.tells → EndsCheck (D.bytes device.old) payload (answer_status result) }
+    ensures answers { IsCheckAnswer D.tells (D.bytes device.old) payload
         (D.failed device.old) (D.failed device.new) result }
 {
     let header = match read_header(alloc, device) {
@@ -79,7 +79,7 @@ fn check_device<D: Device, E: Write>(
         Err(fault) => return refused(CheckFault::from(fault), name, err),
     };
     let total = device.len();
-    match check_header(&header, data_, total) {
+    match check_header(&header, payload, total) {
         Ok(report) => {
             note_empty_segment(&report.areas, err);
             Answer::Accepted {

@@ -208,7 +208,7 @@ fn make<D: Device>(
 {
     let format = &making.format;
     match making.version {
-        NewVersion::Luks1 => format1(device, making.data_, format, passphrase, random),
+        NewVersion::Luks1 => format1(device, making.payload, format, passphrase, random),
         NewVersion::Luks2 => {
             let chosen = chosen_of(making.kdf);
             let allowed = Passphrase {
@@ -218,7 +218,7 @@ fn make<D: Device>(
             format2_by(
                 alloc,
                 device,
-                making.data_,
+                making.payload,
                 format,
                 chosen,
                 &allowed,

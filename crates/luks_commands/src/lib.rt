@@ -1,4 +1,4 @@
-//! The commands of the program `luks` that check, open and format, over values: what each prints and
+//! The commands of the program `luks` that check, show, open and format, over values: what each prints and
 //! answers. What the other commands share with them stands here too: the files, the answers and the
 //! printer.
 #![tactic(auto)]
@@ -13,6 +13,7 @@ mod passphrase_file;
 mod printer;
 mod random_file;
 mod secret_file;
+pub mod show;
 mod standing;
 
 pub use answers::{Answer, Refusal, Status, device_fault, end, refused, unread};

@@ -15,7 +15,7 @@ use crate::passphrase_file::{PassphraseFault, passphrase};
 use crate::printer::Printer;
 pub use almost_met::note_line_feed;
 use almost_met::note_unopened;
-use luks_keyslot_notes::{note_all_wanting, note_passed_over, note_refused, note_wanting};
+use luks_notes::{note_all_wanting, note_passed_over, note_refused, note_wanting};
 use luks_reading::{Allowed, Device, Key, OpenFault, read_header, try_header, try_header_slot};
 use std::alloc::Global;
 use std::io::{Read, Write};

@@ -9,10 +9,10 @@ use Rattle.luks_area.specs.RangeFacts.{length-part_inside, part-whole}
 use Rattle.luks_area.specs.Sectors.{rounded_to_sectors, sector_count}
 use Rattle.luks1_header.specs.Header1.{key_bytes_of}
 use Rattle.luks1_header.specs.declared.fault.HeadFault.{HeadFault}
-use Rattle.luks_head.specs.Header2.{header_at, uuid_field, IsUuidField}
-use Rattle.luks_head.specs.Selection.{Choice, luks1, luks2, Chosen}
-use Rattle.luks_head.proofs.ChoiceFacts.{choices_agree, uuid_sound}
-use Rattle.luks_head.specs.declared.selection.Copies.{Copies}
+use Rattle.luks2_header.specs.Header2.{header_at, uuid_field, IsUuidField}
+use Rattle.luks2_header.specs.Selection.{Choice, luks1, luks2, Chosen}
+use Rattle.luks2_header.proofs.ChoiceFacts.{choices_agree, uuid_sound}
+use Rattle.luks2_header.specs.declared.selection.Copies.{Copies}
 use Rattle.luks_rules.specs.Accepted.{IsMeta}
 use Rattle.luks_rules.specs.Faults.{object_at}
 use Rattle.luks_rules.specs.declared.fault.MetaFault.{MetaFault}

@@ -1,8 +1,8 @@
 -- The first fault of a conversion among the faults that stand, row by row of the table.
 use Rattle.std.proofs.Common.{◌≡◌, ◌≢◌, ℕ, ◌<◌, ◌≤◌, List, length, false, refl, sym, subst, arith, inl}
 use Rattle.luks_area.specs.First.{IsLeast, NotAfter}
-use Rattle.luks_head.specs.Selection.{luks1, luks2}
-use Rattle.luks_head.proofs.ChoiceFacts.{choices_agree}
+use Rattle.luks2_header.specs.Selection.{luks1, luks2}
+use Rattle.luks2_header.proofs.ChoiceFacts.{choices_agree}
 use Rattle.luks_reading.specs.declared.check_fault.CheckFault.{CheckFault}
 use Rattle.luks_reading.specs.declared.check_fault.CheckFault.TheVariants as check
 use Rattle.luks_reading.specs.declared.report.Data.{Data}

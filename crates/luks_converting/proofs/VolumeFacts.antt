@@ -7,11 +7,11 @@ use Rattle.luks_area.specs.Ranges.{part}
 use Rattle.luks_area.specs.Text.{is_plain, text_of}
 use Rattle.luks1_header.specs.Bytes.{text_at, IsUuid}
 use Rattle.luks1_header.specs.declared.fault.TextField.TheVariants.{Uuid}
-use Rattle.luks_head.specs.Header2.{hdr_size, header_at, uuid_field, IsUuidField}
-use Rattle.luks_head.specs.Selection.{luks1, luks2, Chosen}
-use Rattle.luks_head.specs.Written.{IsWrittenCopy}
-use Rattle.luks_head.proofs.BinaryHeaderFacts.{written_in_step}
-use Rattle.luks_head.specs.declared.selection.Copies.TheVariants.{InStep}
+use Rattle.luks2_header.specs.Header2.{hdr_size, header_at, uuid_field, IsUuidField}
+use Rattle.luks2_header.specs.Selection.{luks1, luks2, Chosen}
+use Rattle.luks2_header.specs.Written.{IsWrittenCopy}
+use Rattle.luks2_header.proofs.BinaryHeaderFacts.{written_in_step}
+use Rattle.luks2_header.specs.declared.selection.Copies.TheVariants.{InStep}
 use Rattle.luks_rules.specs.Accepted.{IsContent, IsMeta}
 use Rattle.luks_rules.specs.Held.{IsHeld}
 use Rattle.luks_slot.specs.declared.allowed.Allowed.{Allowed}

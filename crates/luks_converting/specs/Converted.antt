@@ -4,9 +4,9 @@ use Rattle.luks_area.specs.Ranges.{part, IsAt, IsOfEither, SameBut}
 use Rattle.luks1_header.specs.Bytes.{text_at}
 use Rattle.luks1_header.specs.Header1.{entry, luks1_size}
 use Rattle.luks_writing.specs.MadeInOrder.{ClearsFirst, WritesInTurn}
-use Rattle.luks_head.specs.Header2.{magic_of, sha256_size}
-use Rattle.luks_head.specs.Written.{IsWrittenCopy}
-use Rattle.luks_head.specs.declared.bin2.Bin2.{Bin2}
+use Rattle.luks2_header.specs.Header2.{magic_of, sha256_size}
+use Rattle.luks2_header.specs.Written.{IsWrittenCopy}
+use Rattle.luks2_header.specs.declared.bin2.Bin2.{Bin2}
 use Rattle.luks_making.specs.Converted.{area_size, area_start, converted}
 use Rattle.luks_making.specs.WrittenArea.{IsWrittenArea}
 use Rattle.luks_converting.specs.Source.{header_members, is_enabled, slot_members, source_size, source_start}

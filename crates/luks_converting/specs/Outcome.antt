@@ -4,8 +4,8 @@ use Rattle.serde_json.specs.Written.{compact_text}
 use Rattle.luks_area.specs.First.{IsLeast}
 use Rattle.luks_area.specs.Ranges.{part}
 use Rattle.luks1_header.specs.Header1.{luks1_size}
-use Rattle.luks_head.specs.Selection.{luks1, luks2, Chosen}
-use Rattle.luks_head.specs.declared.selection.Copies.{Copies}
+use Rattle.luks2_header.specs.Selection.{luks1, luks2, Chosen}
+use Rattle.luks2_header.specs.declared.selection.Copies.{Copies}
 use Rattle.luks_making.specs.Converted.{area_start, converted}
 use Rattle.luks_reading.specs.Checked.{IsFault}
 use Rattle.luks_reading.specs.Header.{NeedsMetadata}

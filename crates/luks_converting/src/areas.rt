@@ -10,7 +10,7 @@ ghost use Rattle.luks_writing.specs.TwoDevices.{CountsEither};
 use crate::places::new_area;
 use crate::source::SourceHeader;
 use luks_area::{Device, DeviceFault};
-use luks_head::SlotState;
+use luks2_header::SlotState;
 use luks_reading::luks1_area;
 use luks_writing::copy_area;
 

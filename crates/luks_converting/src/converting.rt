@@ -35,7 +35,7 @@ pub const CONVERT_RANDOM: u64 = 128;
 /// Makes a detached LUKS2 header of the LUKS1 volume of the source and writes it to the target, from
 /// its start on. What stood there before is overwritten without question. The source never changes.
 ///
-/// `data_` says where the source's payload lies. Each enabled keyslot keeps its number, its salt and
+/// `payload` says where the source's payload lies. Each enabled keyslot keeps its number, its salt and
 /// its iterations, and opens by its passphrase as before; the digest of the volume key stays, and the
 /// payload's place.
 ///
@@ -46,7 +46,7 @@ pub const CONVERT_RANDOM: u64 = 128;
 pub fn convert<S: Device, T: Device>(
     alloc: Global,
     source: &mut S,
-    data_: Data,
+    payload: Data,
     target: &mut T,
     random: &[u8],
 ) -> Result<(), ConvertFault>
@@ -63,13 +63,13 @@ pub fn convert<S: Device, T: Device>(
 
     // The first fault that stands, or want of memory, and then nothing of the target changed.
     ensures fault { S.tells → IfErr result
-        (IsAnsweredFault (S.bytes source.old) data_ (T.size target.old) random.now) }
+        (IsAnsweredFault (S.bytes source.old) payload (T.size target.old) random.now) }
     ensures faultless { S.tells → OnOk result
-        (IsConvertible (S.bytes source.old) data_ (T.size target.old) random.now) }
+        (IsConvertible (S.bytes source.old) payload (T.size target.old) random.now) }
     ensures refused { IfErr result (λ f. is_convert_failure f ≡ false
         → IsUnchanged T.tells T.size T.bytes T.unsettled target.old target.new) }
     ensures same { S.tells → T.tells → (f : TheFault)
-        → IsConvertFault (S.bytes source.old) data_ (T.size target.old) random.now f
+        → IsConvertFault (S.bytes source.old) payload (T.size target.old) random.now f
         → T.bytes target.new ≡ T.bytes target.old }
 
     // Which bytes may have changed, also where a device failed.
@@ -98,7 +98,7 @@ pub fn convert<S: Device, T: Device>(
         → is_enabled (part (S.bytes source.old) 0 luks1_size) n ≡ false
         → AnswerWithin allowed (T.bytes target.new) n p (refused NoSuchSlot)) }
 {
-    let header = accepted_source(alloc, source, data_)?;
+    let header = accepted_source(alloc, source, payload)?;
     judge(&header, target.len(), random)?;
     match new_json(alloc, &header) {
         Ok(json) => {

@@ -2,7 +2,7 @@
 ghost use Rattle.std.specs.Prelude.{◌≡◌, ◌≤◌, List, None, Option, ℕ, false, length, true};
 ghost use Rattle.luks_area.specs.Ranges.{part};
 ghost use Rattle.luks1_header.specs.Header1.{luks1_size};
-ghost use Rattle.luks_head.specs.Selection.{luks1, Chosen};
+ghost use Rattle.luks2_header.specs.Selection.{luks1, Chosen};
 ghost use Rattle.luks_slot.specs.Opening.{slot_key};
 ghost use Rattle.luks_slot.specs.Refusal.{slot_refusal, slot_refusal_within};
 ghost use Rattle.luks_slot.specs.declared.allowed.Allowed.{Allowed};

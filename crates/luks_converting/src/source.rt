@@ -9,7 +9,7 @@ ghost use Rattle.luks_converting.specs.ConvertFaults.{is_convert_failure};
 
 use crate::convert_fault::ConvertFault;
 use luks_area::Device;
-use luks_head::Luks1;
+use luks2_header::Luks1;
 use luks_reading::{Data, Header, check_header, judge_luks1, read_header};
 use std::alloc::Global;
 
@@ -26,7 +26,7 @@ pub(crate) struct SourceHeader {
 pub(crate) fn accepted_source<D: Device>(
     alloc: Global,
     source: &mut D,
-    data_: Data,
+    payload: Data,
 ) -> Result<SourceHeader, ConvertFault>
     requires { D.failed source.old + 1 < 2 ^ 64 }
     ensures unchanged { IsUnchanged D.tells D.size D.bytes D.unsettled source.old source.new }
@@ -35,31 +35,31 @@ pub(crate) fn accepted_source<D: Device>(
     ensures read { IfOk result IsRead }
     ensures inside { IfOk result (λ h. HasAreasInside h.bytes (D.size source.old)) }
     ensures header { D.tells → IfOk result (λ h.
-        IsHeaderOf h.bytes data_ (D.bytes source.old)) }
-    ensures refused { D.tells → IfErr result (IsUnaccepted (D.bytes source.old) data_) }
+        IsHeaderOf h.bytes payload (D.bytes source.old)) }
+    ensures refused { D.tells → IfErr result (IsUnaccepted (D.bytes source.old) payload) }
 {
     let header = read_header(alloc, source)?;
     let total = source.len();
     match &header {
-        Header::Luks1(bytes) => accepted_header(bytes, data_, total),
+        Header::Luks1(bytes) => accepted_header(bytes, payload, total),
         Header::Luks2(_) => {
-            check_header(&header, data_, total)?;
+            check_header(&header, payload, total)?;
             Err(ConvertFault::NotLuks1)
         }
     }
 }
 
 /// The header of a LUKS1 volume of `total` bytes, or why the volume isn't accepted.
-fn accepted_header(bytes: &[u8; 592], data_: Data, total: u64) -> Result<SourceHeader, ConvertFault>
+fn accepted_header(bytes: &[u8; 592], payload: Data, total: u64) -> Result<SourceHeader, ConvertFault>
     ensures own { IfErr result (λ f. is_convert_failure f ≡ false) }
     ensures read { IfOk result IsRead }
     ensures inside { IfOk result (λ h. HasAreasInside h.bytes total) }
     ensures header { (v : List ℕ) → IsHeader v (OfLuks1 bytes.now) → length v ≡ total
-        → IfOk result (λ h. IsHeaderOf h.bytes data_ v) }
+        → IfOk result (λ h. IsHeaderOf h.bytes payload v) }
     ensures refused { (v : List ℕ) → IsHeader v (OfLuks1 bytes.now) → length v ≡ total
-        → IfErr result (IsUnaccepted v data_) }
+        → IfErr result (IsUnaccepted v payload) }
 {
-    match judge_luks1(bytes.as_slice(), data_, total) {
+    match judge_luks1(bytes.as_slice(), payload, total) {
         Ok(_) => Ok(SourceHeader {
             bytes: *bytes,
             fields: Luks1::read(bytes.as_slice()).unwrap(),

@@ -23,12 +23,12 @@ fn holds(alloc: Global, row: &Row) -> Result<bool, Fail> {
     let mut source = MemDevice::new(image);
     let mut made = target(alloc, LEAST)?;
     let random = counted(alloc, 0, RANDOM)?;
-    let data_ = if row.elsewhere {
+    let payload = if row.elsewhere {
         Data::Elsewhere
     } else {
         Data::Here
     };
-    let answer = convert(alloc, &mut source, data_, &mut made, &random);
+    let answer = convert(alloc, &mut source, payload, &mut made, &random);
     let accepted = check(alloc, &mut made, Data::Elsewhere).is_ok();
     let kept = is_sum(source.contents(), row.source);
     let owed = is_sum(made.front.contents(), row.target) && made.beyond == 0;

@@ -98,12 +98,12 @@ fn holds(alloc: Global, row: &(Source, bool, u64, usize, &str)) -> Result<bool, 
     };
     let mut made = target(alloc, len)?;
     let random = counted(alloc, 0, drawn)?;
-    let data_ = if elsewhere {
+    let payload = if elsewhere {
         Data::Elsewhere
     } else {
         Data::Here
     };
-    let told = match convert(alloc, &mut source, data_, &mut made, &random) {
+    let told = match convert(alloc, &mut source, payload, &mut made, &random) {
         Ok(()) => owed.is_empty() && check(alloc, &mut made, Data::Elsewhere).is_ok(),
         Err(fault) => {
             let text = format!(in alloc; "{fault}")?;

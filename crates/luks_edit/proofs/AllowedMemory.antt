@@ -9,8 +9,8 @@ use Rattle.luks_edit.specs.declared.deed.Deed.TheVariants as deed
 use Rattle.luks_edit.specs.declared.edit.Passphrase.{Passphrase}
 use Rattle.luks_edit.specs.Asked.{allowed_by, allowed_for, allowed_in, AreShortIn, deed_of, HasShortPassphrases}
 use Rattle.luks_slot.specs.declared.allowed.Allowed.{Allowed}
-use Rattle.luks_head.specs.Selection.{Choice, luks1, luks2, nothing, Chosen}
-use Rattle.luks_head.proofs.ChoiceFacts.{choices_agree}
+use Rattle.luks2_header.specs.Selection.{Choice, luks1, luks2, nothing, Chosen}
+use Rattle.luks2_header.proofs.ChoiceFacts.{choices_agree}
 use Rattle.luks_reading.specs.declared.open_fault.OpenFault.{OpenFault}
 use Rattle.luks_area.specs.Ranges.{part}
 use Rattle.luks_reading.specs.Answer.{AnswerWithin, IsLuks1Refusal, IsRefusalAsWithin, IsRefusalWithin, Opened, opens, no_key, OpensWithin, refused}

@@ -2,13 +2,13 @@
 use Rattle.std.proofs.Common.{◌≡◌, ℕ, ◌*◌, ◌≤◌, nat_le, List, Bool, Option, Some, None, Result, Ok, Err, IfOk, IfSome, take, refl, sym, ap, ◌∙◌, subst}
 use Rattle.std.proofs.lemmas.Bool.{leb-true}
 use Rattle.luks_area.specs.declared.device.DeviceFault.{DeviceFault}
-use Rattle.luks_head.specs.Header2.{header_at, hdr_size, IsSound}
-use Rattle.luks_head.specs.Selection.{second_place, Chosen, luks2}
-use Rattle.luks_head.specs.Sizes.{listed_sizes}
-use Rattle.luks_head.specs.declared.selection.Copies.{Copies}
-use Rattle.luks_head.specs.declared.selection.Copies.TheVariants.{InStep, FirstNewer, SecondNewer, FirstOnly, SecondOnly}
-use Rattle.luks_head.proofs.ChoiceFacts.{choices_agree}
-use Rattle.luks_head.proofs.CopyFacts.{among_pass}
+use Rattle.luks2_header.specs.Header2.{header_at, hdr_size, IsSound}
+use Rattle.luks2_header.specs.Selection.{second_place, Chosen, luks2}
+use Rattle.luks2_header.specs.Sizes.{listed_sizes}
+use Rattle.luks2_header.specs.declared.selection.Copies.{Copies}
+use Rattle.luks2_header.specs.declared.selection.Copies.TheVariants.{InStep, FirstNewer, SecondNewer, FirstOnly, SecondOnly}
+use Rattle.luks2_header.proofs.ChoiceFacts.{choices_agree}
+use Rattle.luks2_header.proofs.CopyFacts.{among_pass}
 use Rattle.luks_signatures.specs.Signatures.{Finds, table}
 use Rattle.luks_signatures.specs.declared.other_use.OtherUse.{OtherUse}
 use Rattle.luks_signatures.proofs.FirstFacts.{finds-one}

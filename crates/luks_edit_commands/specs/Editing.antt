@@ -152,8 +152,8 @@ SparesEdit payload given v w = (w ≡ v) ⊎ IsSpared payload given v w
 -- a volume that is there, tells its bytes and was well formed is so again, and nothing of it changed
 -- that the edit doesn't name, unless a device call failed
 abbrev pub KeepsUnnamed : {D : Type 0} → Type 0 → (D → ℕ) → (D → List ℕ) → Editing → Result D InputFault → Result D InputFault → Type 0
-KeepsUnnamed tells failed bytes editing (Ok old) (Ok new) = tells → WellFormed (bytes old) editing.data_ → failed new ≡ failed old
-    → Keeps editing.data_ (NamesSlot editing.request (bytes old)) (bytes old) (bytes new)
+KeepsUnnamed tells failed bytes editing (Ok old) (Ok new) = tells → WellFormed (bytes old) editing.payload → failed new ≡ failed old
+    → Keeps editing.payload (NamesSlot editing.request (bytes old)) (bytes old) (bytes new)
 KeepsUnnamed tells failed bytes editing old new = ⊤
 
 -- where a device call failed, of a volume that is there, tells its bytes and was well formed what the

@@ -1,11 +1,11 @@
 -- Another use of the disk by now: where only one copy of a LUKS2 header is sound, what stands in the place of the other,
 -- and how an edit ends that it bars.
 use Rattle.std.specs.Prelude.{◌≡◌, ℕ, ◌*◌, List, [], ◌∷◌, ◌++◌, codes, Option, Some, None, Bool, false, Result, Ok, Err, ⊤, take}
-use Rattle.luks_head.specs.Header2.{header_at, HoldsBin2}
-use Rattle.luks_head.specs.Selection.{luks2, second_place, Chosen}
-use Rattle.luks_head.specs.declared.bin2.Bin2.{Bin2}
-use Rattle.luks_head.specs.declared.selection.Copies.{Copies}
-use Rattle.luks_head.specs.declared.selection.Copies.TheVariants.{InStep, FirstNewer, SecondNewer, FirstOnly, SecondOnly}
+use Rattle.luks2_header.specs.Header2.{header_at, HoldsBin2}
+use Rattle.luks2_header.specs.Selection.{luks2, second_place, Chosen}
+use Rattle.luks2_header.specs.declared.bin2.Bin2.{Bin2}
+use Rattle.luks2_header.specs.declared.selection.Copies.{Copies}
+use Rattle.luks2_header.specs.declared.selection.Copies.TheVariants.{InStep, FirstNewer, SecondNewer, FirstOnly, SecondOnly}
 use Rattle.luks_signatures.specs.Signatures.{Finds, table}
 use Rattle.luks_signatures.specs.UseTexts.{use_text}
 use Rattle.luks_signatures.specs.declared.other_use.OtherUse.{OtherUse}

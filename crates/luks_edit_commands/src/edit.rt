@@ -24,7 +24,7 @@ use luks_commands::{
     Answer, InputFault, Inputs, Printer, RandomBytes, Refusal, Status, device_fault, end,
     few_random_bytes, random_bytes, unread,
 };
-use luks_keyslot_notes::{MemoryNote, OlderNote};
+use luks_notes::{MemoryNote, OlderNote};
 use luks_request::Editing;
 use luks_volume::{Device, Edit, EditFault};
 use seen::{Unseen, note_leaving_argon2, note_refused, note_wanting, note_weaker, see};
@@ -48,19 +48,19 @@ pub(crate) fn run<D: Device, R: Read, N: Read, P: Printer, E: Write>(
     ensures settled { LeavesSettled D.tells D.failed D.unsettled
         inputs.old.volume inputs.new.volume }
     ensures status { IsExitStatus result }
-    ensures left { LeavesVolume D.tells D.size D.bytes (λ old new. SaysEdit editing.now.data_
+    ensures left { LeavesVolume D.tells D.size D.bytes (λ old new. SaysEdit editing.now.payload
         (given_by editing.now R.remaining N.remaining inputs.old) old new
         (result ≡ 0) (result ≡ 1)) inputs.old.volume inputs.new.volume }
     ensures keeps { KeepsUnnamed D.tells D.failed D.bytes editing.now
         inputs.old.volume inputs.new.volume }
     ensures failure { WhereFailed D.failed inputs.old.volume inputs.new.volume (result ≡ 4) }
-    ensures spared { SparesVolume D.tells D.failed D.bytes editing.now.data_
+    ensures spared { SparesVolume D.tells D.failed D.bytes editing.now.payload
         (given_by editing.now R.remaining N.remaining inputs.old)
         inputs.old.volume inputs.new.volume }
     ensures target { inputs.new.target ≡ inputs.old.target }
     ensures kinds { result ≢ 3 }
     ensures unread { IfErr inputs.old.volume (λ _. result ≢ 0) }
-    ensures answers { Prints (AnswersEdit D.tells D.bytes D.failed editing.now.data_
+    ensures answers { Prints (AnswersEdit D.tells D.bytes D.failed editing.now.payload
         (given_by editing.now R.remaining N.remaining inputs.old)
         (lacking_by editing.now.request inputs.old) inputs.old.volume inputs.new.volume)
         (P.failures out.old) (P.failures out.new) (P.printed out.old) (P.printed out.new) result }
@@ -84,7 +84,7 @@ fn edit_volume<D: Device, R: Read, N: Read, E: Write>(
     requires settled { D.tells → ForOk inputs.old.volume (IsSettled D.unsettled) }
     ensures settled { LeavesSettled D.tells D.failed D.unsettled
         inputs.old.volume inputs.new.volume }
-    ensures left { LeavesVolume D.tells D.size D.bytes (λ old new. SaysEdit editing.now.data_
+    ensures left { LeavesVolume D.tells D.size D.bytes (λ old new. SaysEdit editing.now.payload
         (given_by editing.now R.remaining N.remaining inputs.old) old new
         (answer_status result ≡ Status.Done) (answer_status result ≡ Status.Refused))
         inputs.old.volume inputs.new.volume }
@@ -92,13 +92,13 @@ fn edit_volume<D: Device, R: Read, N: Read, E: Write>(
         inputs.old.volume inputs.new.volume }
     ensures failure { WhereFailed D.failed inputs.old.volume inputs.new.volume
         (answer_status result ≡ Status.Fault) }
-    ensures spared { SparesVolume D.tells D.failed D.bytes editing.now.data_
+    ensures spared { SparesVolume D.tells D.failed D.bytes editing.now.payload
         (given_by editing.now R.remaining N.remaining inputs.old)
         inputs.old.volume inputs.new.volume }
     ensures target { inputs.new.target ≡ inputs.old.target }
     ensures kinds { answer_status result ≢ Status.NotInStep }
     ensures unread { IfErr inputs.old.volume (λ _. answer_status result ≢ Status.Done) }
-    ensures answers { AnswersEdit D.tells D.bytes D.failed editing.now.data_
+    ensures answers { AnswersEdit D.tells D.bytes D.failed editing.now.payload
         (given_by editing.now R.remaining N.remaining inputs.old)
         (lacking_by editing.now.request inputs.old) inputs.old.volume inputs.new.volume result }
     ensures over { HoldsBackVolume D.tells D.bytes editing.now.over
@@ -142,22 +142,22 @@ fn edit_device<D: Device, N: Read, E: Write>(
     ensures settled { D.tells → D.failed device.new ≡ D.failed device.old
         → IsSettled D.unsettled device.new }
     ensures size { D.size device.new ≡ D.size device.old }
-    ensures says { D.tells → SaysEdit editing.now.data_
+    ensures says { D.tells → SaysEdit editing.now.payload
         (given_edit editing.now.over edit.now (λ count. AreFirstBytes count N.remaining random.old))
         (D.bytes device.old) (D.bytes device.new)
         (answer_status result ≡ Status.Done) (answer_status result ≡ Status.Refused) }
-    ensures keeps { D.tells → WellFormed (D.bytes device.old) editing.now.data_
+    ensures keeps { D.tells → WellFormed (D.bytes device.old) editing.now.payload
         → D.failed device.new ≡ D.failed device.old
-        → Keeps editing.now.data_ (NamedSlots (D.bytes device.old) edit.now)
+        → Keeps editing.now.payload (NamedSlots (D.bytes device.old) edit.now)
         (D.bytes device.old) (D.bytes device.new) }
     ensures failure { (D.failed device.new ≡ D.failed device.old → ⊥)
         → answer_status result ≡ Status.Fault }
-    ensures spared { D.tells → WellFormed (D.bytes device.old) editing.now.data_
-        → (D.failed device.new ≡ D.failed device.old → ⊥) → SparesEdit editing.now.data_
+    ensures spared { D.tells → WellFormed (D.bytes device.old) editing.now.payload
+        → (D.failed device.new ≡ D.failed device.old → ⊥) → SparesEdit editing.now.payload
         (given_edit editing.now.over edit.now (λ count. AreFirstBytes count N.remaining random.old))
         (D.bytes device.old) (D.bytes device.new) }
     ensures kinds { answer_status result ≢ Status.NotInStep }
-    ensures answers { IsEditAnswer D.tells editing.now.data_
+    ensures answers { IsEditAnswer D.tells editing.now.payload
         (given_edit editing.now.over edit.now (λ count. AreFirstBytes count N.remaining random.old))
         (lacking_random (λ count. IsUnreadRandom count random.old))
         (D.bytes device.old) (D.bytes device.new) (D.failed device.old) (D.failed device.new)
@@ -165,7 +165,7 @@ fn edit_device<D: Device, N: Read, E: Write>(
     ensures over { D.tells
         → HoldsBack editing.now.over (D.bytes device.old) (D.bytes device.new) result }
 {
-    let payload = editing.data_;
+    let payload = editing.payload;
     let seen = match see(alloc, device, editing, edit) {
         Ok(seen) => seen,
         Err(unseen) => return not_begun(unseen, name, err),

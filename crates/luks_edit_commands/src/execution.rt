@@ -15,7 +15,7 @@ ghost use Rattle.luks_commands.specs.FormatAnswers.{AnswersFormat, IsUnreadEithe
 ghost use Rattle.luks_commands.specs.Formatting.{needed, SaysFormat, WhereFormat};
 ghost use Rattle.luks_commands.specs.OpenAnswers.{AnswersOpen, WhereOpen};
 ghost use Rattle.luks_commands.specs.Standing.{HasOther, HoldsBackDevice};
-ghost use Rattle.luks_show_command.specs.ShowAnswers.{AnswersShow, WhereShow};
+ghost use Rattle.luks_commands.specs.ShowAnswers.{AnswersShow, WhereShow};
 ghost use Rattle.luks_header_commands.specs.Converting.{AnswersConvert, KeepsRest, random_count, WhereConvert};
 ghost use Rattle.luks_header_commands.specs.Rebuilding.{random_count as rebuild_count, WhereRebuild};
 ghost use Rattle.luks_header_commands.specs.Target.{AreOneFile, IsSameFile, LeavesTarget, SettlesTarget};
@@ -32,7 +32,7 @@ use luks_commands::{Inputs, Printer, check, format, open};
 use luks_header_commands::{Progress, convert, rebuild};
 use luks_keeping_commands::{backup, compare, restore};
 use luks_request::{Command, Line};
-use luks_show_command::show;
+use luks_commands::show;
 use luks_volume::Device;
 use std::alloc::Global;
 use std::io::{Read, Write};
@@ -74,7 +74,7 @@ pub fn execute<D: Device, R: Read, N: Read, P: Printer, E: Write, G: Progress>(
     // A command that edits: what 0 and 1 say of the volume, what is kept, and where a device call
     // failed that 4 tells of it, and what is spared.
     ensures edit { WhereEdit line.now.command (λ editing. LeavesVolume D.tells D.size D.bytes
-        (λ old new. SaysEdit editing.data_
+        (λ old new. SaysEdit editing.payload
         (given_by editing R.remaining N.remaining inputs.old) old new
         (result ≡ 0) (result ≡ 1)) inputs.old.volume inputs.new.volume) }
     ensures keeps { WhereEdit line.now.command (λ editing. KeepsUnnamed D.tells D.failed D.bytes
@@ -82,7 +82,7 @@ pub fn execute<D: Device, R: Read, N: Read, P: Printer, E: Write, G: Progress>(
     ensures failure { WhereEdit line.now.command (λ editing. WhereFailed D.failed
         inputs.old.volume inputs.new.volume (result ≡ 4)) }
     ensures spared { WhereEdit line.now.command (λ editing. SparesVolume D.tells D.failed D.bytes
-        editing.data_ (given_by editing R.remaining N.remaining inputs.old)
+        editing.payload (given_by editing R.remaining N.remaining inputs.old)
         inputs.old.volume inputs.new.volume) }
     ensures format { WhereFormat line.now.command (λ making. LeavesVolume D.tells D.size D.bytes
         (λ old new. SaysFormat making (IsWhole R.remaining inputs.old.passphrase)
@@ -132,11 +132,11 @@ pub fn execute<D: Device, R: Read, N: Read, P: Printer, E: Write, G: Progress>(
         (P.failures out.old) (P.failures out.new) (P.printed out.old) (P.printed out.new) result) }
     ensures backed_up { WhereBackup line.now.command (λ backing_up.
         (AreOneFile line.now.volume.now backing_up.target.now inputs.old.target → ⊥)
-        → Prints (AnswersBackup D.tells D.size D.bytes D.failed backing_up.data_
+        → Prints (AnswersBackup D.tells D.size D.bytes D.failed backing_up.payload
         inputs.old.volume inputs.new.volume inputs.old.target inputs.new.target)
         (P.failures out.old) (P.failures out.new) (P.printed out.old) (P.printed out.new) result) }
     ensures backup_rest { WhereBackup line.now.command (λ backing_up. LeavesTarget D.tells D.size
-        D.bytes (KeepsBesideBackup backing_up.data_)
+        D.bytes (KeepsBesideBackup backing_up.payload)
         inputs.old.volume inputs.old.target inputs.new.target) }
     ensures settles_backup { WhereBackup line.now.command (λ _. SettlesTarget D.tells D.failed
         D.unsettled inputs.old.volume inputs.new.volume inputs.old.target inputs.new.target) }
@@ -151,7 +151,7 @@ pub fn execute<D: Device, R: Read, N: Read, P: Printer, E: Write, G: Progress>(
         inputs.old.volume inputs.new.volume inputs.old.target inputs.new.target)
         (P.failures out.old) (P.failures out.new) (P.printed out.old) (P.printed out.new) result) }
     ensures restored_rest { WhereRestore line.now.command (λ restoring. LeavesTarget D.tells D.size
-        D.bytes (KeepsBesideRestored restoring.data_)
+        D.bytes (KeepsBesideRestored restoring.payload)
         inputs.old.target inputs.old.volume inputs.new.volume) }
     ensures backup_kept { WhereRestore line.now.command (λ _. KeepsVolume D.tells D.size D.bytes
         D.unsettled inputs.old.target inputs.new.target) }
@@ -164,7 +164,7 @@ pub fn execute<D: Device, R: Read, N: Read, P: Printer, E: Write, G: Progress>(
         (P.failures out.old) (P.failures out.new) (P.printed out.old) (P.printed out.new) result) }
     ensures compared { WhereCompare line.now.command (λ comparing.
         (AreOneFile line.now.volume.now comparing.backup.now inputs.old.target → ⊥)
-        → Prints (AnswersCompare D.tells D.size D.bytes D.failed comparing.data_
+        → Prints (AnswersCompare D.tells D.size D.bytes D.failed comparing.payload
         inputs.old.volume inputs.new.volume inputs.old.target inputs.new.target)
         (P.failures out.old) (P.failures out.new) (P.printed out.old) (P.printed out.new) result) }
     ensures compared_kept { WhereCompare line.now.command (λ _. KeepsVolume D.tells D.size D.bytes
@@ -187,7 +187,7 @@ pub fn execute<D: Device, R: Read, N: Read, P: Printer, E: Write, G: Progress>(
         (IsUnread inputs.old.passphrase) inputs.old.volume inputs.new.volume)
         (P.failures out.old) (P.failures out.new) (P.printed out.old) (P.printed out.new) result) }
     ensures edited { WhereEdit line.now.command (λ editing. Prints
-        (AnswersEdit D.tells D.bytes D.failed editing.data_
+        (AnswersEdit D.tells D.bytes D.failed editing.payload
         (given_by editing R.remaining N.remaining inputs.old)
         (lacking_by editing.request inputs.old) inputs.old.volume inputs.new.volume)
         (P.failures out.old) (P.failures out.new) (P.printed out.old) (P.printed out.new) result) }
@@ -227,7 +227,7 @@ pub fn execute<D: Device, R: Read, N: Read, P: Printer, E: Write, G: Progress>(
 {
     let name = line.volume;
     match line.command {
-        Command::Check { data_ } => check::run(alloc, &mut inputs.volume, name, data_, out, err),
+        Command::Check { payload } => check::run(alloc, &mut inputs.volume, name, payload, out, err),
         Command::Show(form) => show::run(alloc, &mut inputs.volume, name, form, out, err),
         Command::Open {
             passphrase,

@@ -1,7 +1,7 @@
 //! A volume that a failed write may leave, in which bytes of the torn write are taken for a header.
 
 use luks_area::MemDevice;
-use luks_head::{Copies, Selected, select};
+use luks2_header::{Copies, Selected, select};
 use luks_kdf::HashName;
 use luks_reading::{Allowed, Data, check, open_slot};
 use luks_test_devices::{Fields, TEXT, UUID, copy_of, key_area, part, put};

@@ -217,7 +217,7 @@ fn length_of_backup<R: AllocGlobal + Clock + Files<File = File>>(
         Err(InputFault::NoMemory) => return Err(InputFault::NoMemory),
         Err(_) => return Err(InputFault::Absent),
     };
-    match backup_length(rt.alloc(), &mut device, backing_up.data_) {
+    match backup_length(rt.alloc(), &mut device, backing_up.payload) {
         Ok(length) => Ok(length),
         Err(BackupFault::Memory) => Err(InputFault::NoMemory),
         Err(_) => Err(InputFault::Absent),

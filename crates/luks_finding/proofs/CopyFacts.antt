@@ -4,10 +4,10 @@ use Rattle.std.proofs.lemmas.Bool.{or_cases, and_parts, eqb-true, leb-true, fals
 use Rattle.std.proofs.lemmas.List.{drop-drop}
 use Rattle.sha2.specs.Sha256.{sha256}
 use Rattle.luks_area.specs.Ranges.{part}
-use Rattle.luks_head.specs.Header2.{copy_at, hdr_size, header_at, with_zero_checksum, IsFormed, IsSound}
-use Rattle.luks_head.specs.Sizes.{is_among, IsListed}
-use Rattle.luks_head.proofs.CopyFacts.{among_pass, listed_at_least}
-use Rattle.luks_head.proofs.SecondCopyFacts.{is_rising}
+use Rattle.luks2_header.specs.Header2.{copy_at, hdr_size, header_at, with_zero_checksum, IsFormed, IsSound}
+use Rattle.luks2_header.specs.Sizes.{is_among, IsListed}
+use Rattle.luks2_header.proofs.CopyFacts.{among_pass, listed_at_least}
+use Rattle.luks2_header.proofs.SecondCopyFacts.{is_rising}
 use Rattle.luks_finding.specs.Starts.{volume_at}
 use Rattle.luks_finding.specs.Telling.{HasNearerCopy}
 

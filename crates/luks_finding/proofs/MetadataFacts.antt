@@ -11,8 +11,8 @@ use Rattle.serde_json.specs.Data.{Data}
 use Rattle.serde_json.specs.Read.{read}
 use Rattle.luks_area.specs.Ranges.{part}
 use Rattle.luks_area.specs.RangeFacts.{get_or-part, length-part_inside, part-add, part-part}
-use Rattle.luks_head.specs.Sizes.{listed_sizes, IsListed}
-use Rattle.luks_head.proofs.CopyFacts.{among_pass, listed_at_least}
+use Rattle.luks2_header.specs.Sizes.{listed_sizes, IsListed}
+use Rattle.luks2_header.proofs.CopyFacts.{among_pass, listed_at_least}
 use Rattle.luks_json.specs.AreaText.{Json, JsonText}
 use Rattle.luks_json.proofs.AreaKinds.{kind_of}
 use Rattle.luks_rules.specs.MetaFault.{IsMetaFault}

@@ -6,9 +6,9 @@ use Rattle.luks_area.specs.Ranges.{part}
 use Rattle.luks_area.specs.RangeFacts.{length-part_inside, part-part}
 use Rattle.luks1_header.specs.Bytes.{number_at}
 use Rattle.luks1_header.specs.Header1.{luks_magic}
-use Rattle.luks_head.specs.Header2.{hdr_size, header_at, magic_of, second_magic, IsSound}
-use Rattle.luks_head.specs.Sizes.{listed_sizes, IsListed}
-use Rattle.luks_head.proofs.CopyFacts.{among_pass, listed_at_least}
+use Rattle.luks2_header.specs.Header2.{hdr_size, header_at, magic_of, second_magic, IsSound}
+use Rattle.luks2_header.specs.Sizes.{listed_sizes, IsListed}
+use Rattle.luks2_header.proofs.CopyFacts.{among_pass, listed_at_least}
 use Rattle.luks_rebuilding.specs.Candidates.{IsPlace}
 use Rattle.luks_rebuilding.specs.declared.place.Place.{Place}
 use Rattle.luks_finding.specs.Blocks.{BeginsSecond, BeginsSign, BeginsText}

@@ -1,8 +1,8 @@
 -- The search for metadata through ascending sizes.
 use Rattle.std.proofs.Common.{◌≡◌, ℕ, ◌<◌, ◌⊎◌, ◌==◌, List, [], ◌∷◌, get_or, true, inl, inr, sym, subst, arith}
 use Rattle.std.proofs.lemmas.Bool.{or_cases, eqb-true}
-use Rattle.luks_head.specs.Sizes.{is_among}
-use Rattle.luks_head.proofs.SecondCopyFacts.{later}
+use Rattle.luks2_header.specs.Sizes.{is_among}
+use Rattle.luks2_header.proofs.SecondCopyFacts.{later}
 use Rattle.std.proofs.lemmas.List.{take_rest}
 use Rattle.luks_rebuilding.specs.declared.place.Place.{Place}
 use Rattle.luks_finding.specs.Starts.{HasMetadata}

@@ -4,9 +4,9 @@ use Rattle.std.proofs.lemmas.Bool.{ne_eqb}
 use Rattle.luks_area.specs.Ranges.{part}
 use Rattle.luks_area.specs.RangeFacts.{part-part}
 use Rattle.luks1_header.specs.Header1.{luks_magic}
-use Rattle.luks_head.specs.Header2.{second_magic, IsSound}
-use Rattle.luks_head.specs.Sizes.{IsListed}
-use Rattle.luks_head.proofs.CopyFacts.{listed_at_least}
+use Rattle.luks2_header.specs.Header2.{second_magic, IsSound}
+use Rattle.luks2_header.specs.Sizes.{IsListed}
+use Rattle.luks2_header.proofs.CopyFacts.{listed_at_least}
 use Rattle.luks_rebuilding.specs.declared.place.Place.{Place}
 use Rattle.luks_finding.specs.Blocks.{BeginsText}
 use Rattle.luks_finding.specs.Starts.{other_magic, volume_at, BeginsHeader, BeginsLuks, BeginsReencrypting, HasSignBefore, IsCopySign, IsFirstSign, IsMetadataSign, IsSign}

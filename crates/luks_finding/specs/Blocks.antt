@@ -2,7 +2,7 @@
 use Rattle.std.specs.Prelude.{◌≡◌, ℕ, ◌*◌, ◌<◌, ◌⊎◌, List, Option, None, Some, codes, length}
 use Rattle.luks_area.specs.Ranges.{part}
 use Rattle.luks1_header.specs.Header1.{version_of}
-use Rattle.luks_head.specs.Header2.{second_magic}
+use Rattle.luks2_header.specs.Header2.{second_magic}
 use Rattle.luks_finding.specs.Starts.{sector_size, BeginsHeader}
 
 -- the first 8 bytes of a second copy: its magic and version 2 (LUKS2 On-Disk Format 1.1, 2.1)

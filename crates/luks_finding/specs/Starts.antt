@@ -3,8 +3,8 @@ use Rattle.std.specs.Prelude.{◌≡◌, ℕ, ◌+◌, ◌*◌, ◌<◌, ◌⊎�
 use Rattle.luks_area.specs.Ranges.{part}
 use Rattle.luks1_header.specs.Header1.{luks_magic, HasMagic, version_of}
 use Rattle.luks_signatures.specs.Reencryption.{reencrypting_magic}
-use Rattle.luks_head.specs.Header2.{binary_header_size, second_magic, IsSound}
-use Rattle.luks_head.specs.Sizes.{IsListed}
+use Rattle.luks2_header.specs.Header2.{binary_header_size, second_magic, IsSound}
+use Rattle.luks2_header.specs.Sizes.{IsListed}
 use Rattle.luks_rebuilding.specs.Candidates.{IsCandidate}
 use Rattle.luks_rebuilding.specs.declared.place.Place.{Place}
 use Rattle.luks_rebuilding.specs.declared.place.Which.TheVariants.{Any}

@@ -1,8 +1,8 @@
 -- What a place of a disk tells.
 use Rattle.std.specs.Prelude.{◌≡◌, ◌⊎◌, ℕ, ◌+◌, ◌<◌, ◌≤◌, List, [], ◌∷◌, Option, None, Some, length, slice_index}
 use Rattle.luks_area.specs.Ranges.{part}
-use Rattle.luks_head.specs.Header2.{binary_header_size, hdr_size, second_magic, IsSound}
-use Rattle.luks_head.specs.Sizes.{IsListed}
+use Rattle.luks2_header.specs.Header2.{binary_header_size, hdr_size, second_magic, IsSound}
+use Rattle.luks2_header.specs.Sizes.{IsListed}
 use Rattle.luks_rebuilding.specs.Candidates.{IsCandidate}
 use Rattle.luks_rebuilding.specs.declared.place.Place.{Place}
 use Rattle.luks_rebuilding.specs.declared.place.Which.TheVariants.{Any}

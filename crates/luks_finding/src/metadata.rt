@@ -2,7 +2,7 @@
 ghost use Rattle.std.specs.Prelude.{◌≡◌, ◌↔◌, ◌+◌, ◌-◌, ◌*◌, ◌^◌, ◌<◌, ◌≤◌, ◌⊎◌, List, ℕ, codes, length, false, IsTrue, IfErr, IfOk};
 ghost use Rattle.luks_area.specs.Device.{CountsFailure, IsUnchanged, is_failure};
 ghost use Rattle.luks_area.specs.Ranges.{part};
-ghost use Rattle.luks_head.specs.Sizes.{IsListed};
+ghost use Rattle.luks2_header.specs.Sizes.{IsListed};
 ghost use Rattle.luks_json.specs.AreaText.{JsonText};
 ghost use Rattle.luks_meta.specs.MetaFault.{IsMetaFault};
 ghost use Rattle.luks_rebuilding.specs.Candidates.{IsCandidate};

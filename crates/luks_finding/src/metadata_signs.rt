@@ -1,7 +1,7 @@
 //! Metadata as a sign of the volume that begins before it.
 ghost use Rattle.std.specs.Prelude.{◌≡◌, ◌↔◌, ◌+◌, ◌*◌, ◌^◌, ◌<◌, ◌≤◌, ◌⊎◌, IsTrue, IfErr, IfOk, IfSome};
 ghost use Rattle.luks_area.specs.Device.{CountsFailure, IsUnchanged};
-ghost use Rattle.luks_head.specs.Sizes.{IsListed};
+ghost use Rattle.luks2_header.specs.Sizes.{IsListed};
 ghost use Rattle.luks_finding.specs.Faults.{is_find_failure};
 ghost use Rattle.luks_finding.specs.Starts.{other_magic, HasMetadata};
 ghost use Rattle.luks_finding.specs.Telling.{FindsWhole, HasMetadataOf, HasNearerMetadata, IsMemoryOnly};

@@ -5,14 +5,14 @@ ghost use Rattle.sha2.specs.Sha256.{sha256};
 ghost use Rattle.luks_area.specs.Device.{CountsFailure, IsUnchanged, is_failure};
 ghost use Rattle.luks_area.specs.Ranges.{part};
 ghost use Rattle.luks_area.specs.Text.{text_of};
-ghost use Rattle.luks_head.specs.Header2.{binary_header_size, csum_at, header_at, sha256_size, with_zero_checksum, IsFormed, IsSound};
-ghost use Rattle.luks_head.specs.Sizes.{is_listed, IsListed};
+ghost use Rattle.luks2_header.specs.Header2.{binary_header_size, csum_at, header_at, sha256_size, with_zero_checksum, IsFormed, IsSound};
+ghost use Rattle.luks2_header.specs.Sizes.{is_listed, IsListed};
 ghost use Rattle.luks_finding.specs.Starts.{volume_at};
 ghost use Rattle.luks_finding.specs.Telling.{FindsSize, HasNearerCopy};
 
 use crate::signs::SECOND_MAGIC;
 use luks_area::{Device, DeviceFault, text_field};
-use luks_head::Bin2;
+use luks2_header::Bin2;
 use luks1_header::fields::field;
 use sha2::{Digest, Sha256};
 

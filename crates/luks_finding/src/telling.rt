@@ -2,8 +2,8 @@
 ghost use Rattle.std.specs.Prelude.{◌≡◌, ◌↔◌, ◌+◌, ◌*◌, ◌^◌, ◌<◌, ◌≤◌, length, IsTrue, IfErr, IfOk, IfSome, MatchOption};
 ghost use Rattle.luks_area.specs.Device.{CountsFailure, IsUnchanged, is_failure};
 ghost use Rattle.luks_area.specs.Ranges.{part};
-ghost use Rattle.luks_head.specs.Header2.{second_magic};
-ghost use Rattle.luks_head.specs.Sizes.{IsListed};
+ghost use Rattle.luks2_header.specs.Header2.{second_magic};
+ghost use Rattle.luks2_header.specs.Sizes.{IsListed};
 ghost use Rattle.luks_finding.specs.Blocks.{BeginsText};
 ghost use Rattle.luks_finding.specs.Faults.{is_find_failure};
 ghost use Rattle.luks_finding.specs.Starts.{BeginsHeader};

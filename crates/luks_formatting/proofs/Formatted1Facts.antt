@@ -16,7 +16,7 @@ use Rattle.luks1_header.specs.declared.fault.HeadFault.{HeadFault}
 use Rattle.luks1_header.specs.declared.fault.HeadFault.TheVariants as fault
 use Rattle.luks1_header.specs.declared.fault.IterationsOf.TheVariants as of
 use Rattle.luks1_header.specs.declared.luks1.Luks1Slot.{Luks1Slot}
-use Rattle.luks_head.specs.Selection.{luks1, Chosen}
+use Rattle.luks2_header.specs.Selection.{luks1, Chosen}
 use Rattle.luks_slot.specs.Opening.{hash_by_name, meets_digest, slot_key}
 use Rattle.luks_slot.specs.Allowance.{without_memory}
 use Rattle.luks_slot.specs.Refusal.{is_open_cipher, slot_refusal_within}

@@ -7,14 +7,14 @@ use Rattle.luks_area.specs.RangeFacts.{length-part_inside}
 use Rattle.luks_area.specs.declared.area.Area.{Area}
 use Rattle.luks_kdf.specs.Names.{digest_size_of}
 use Rattle.luks_reading.specs.declared.format.Format.{Format}
-use Rattle.luks_head.specs.Header2.{hdr_size, header_at, uuid_field, IsUuidField}
-use Rattle.luks_head.specs.Selection.{luks2, Chosen}
-use Rattle.luks_head.specs.Written.{IsWrittenCopy}
-use Rattle.luks_head.proofs.BinaryHeaderFacts.{written_in_step}
-use Rattle.luks_head.proofs.ChoiceFacts.{uuid_sound}
-use Rattle.luks_head.specs.declared.selection.Copies.TheVariants.{InStep}
-use Rattle.luks_head.specs.NewUuid.{uuid_text}
-use Rattle.luks_head.proofs.UuidFacts.{fills, uuid_text-is}
+use Rattle.luks2_header.specs.Header2.{hdr_size, header_at, uuid_field, IsUuidField}
+use Rattle.luks2_header.specs.Selection.{luks2, Chosen}
+use Rattle.luks2_header.specs.Written.{IsWrittenCopy}
+use Rattle.luks2_header.proofs.BinaryHeaderFacts.{written_in_step}
+use Rattle.luks2_header.proofs.ChoiceFacts.{uuid_sound}
+use Rattle.luks2_header.specs.declared.selection.Copies.TheVariants.{InStep}
+use Rattle.luks2_header.specs.NewUuid.{uuid_text}
+use Rattle.luks2_header.proofs.UuidFacts.{fills, uuid_text-is}
 use Rattle.luks_rules.specs.Accepted.{IsContent, IsMeta}
 use Rattle.luks_rules.specs.Faults.{object_at}
 use Rattle.luks_rules.specs.MetaFault.{IsMetaFault}

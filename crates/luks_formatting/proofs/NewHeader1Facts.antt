@@ -18,8 +18,8 @@ use Rattle.luks_reading.specs.Layout1.{Luks1Area}
 use Rattle.luks_reading.specs.declared.report.Data.{Data}
 use Rattle.luks_reading.specs.declared.report.Data.TheVariants.{Here}
 use Rattle.luks_reading.specs.declared.format.Format.{Format}
-use Rattle.luks_head.specs.NewUuid.{uuid_text}
-use Rattle.luks_head.proofs.UuidFacts as Uuid
+use Rattle.luks2_header.specs.NewUuid.{uuid_text}
+use Rattle.luks2_header.proofs.UuidFacts as Uuid
 use Rattle.luks_formatting.specs.NewHeader1.{free_slot, material_sector, new_slot, payload_sector, IsNewHeader1}
 use Rattle.luks_formatting.specs.RandomBytes.{uuid_bytes}
 use Rattle.luks_formatting.proofs.NewPlanFacts.{name_plain, name_whole}

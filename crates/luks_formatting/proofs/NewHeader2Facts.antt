@@ -2,9 +2,9 @@
 use Rattle.std.proofs.Common.{◌≡◌, ℕ, ◌+◌, ◌⊎◌, List, length, inl, inr, refl, sym, ap, ◌∙◌, subst, Result, Ok, Err, OnOk}
 use Rattle.luks_area.specs.Ranges.{part, IsAt, SameBut}
 use Rattle.luks_area.specs.Text.{text_of}
-use Rattle.luks_head.specs.Header2.{magic_of}
-use Rattle.luks_head.specs.Written.{IsWrittenCopy}
-use Rattle.luks_head.specs.declared.bin2.Bin2.{Bin2}
+use Rattle.luks2_header.specs.Header2.{magic_of}
+use Rattle.luks2_header.specs.Written.{IsWrittenCopy}
+use Rattle.luks2_header.specs.declared.bin2.Bin2.{Bin2}
 use Rattle.luks_writing.specs.Copy.{HasCopy, IsCopyHeader}
 use Rattle.luks_writing.proofs.CopyFacts.{copy_stays as written_stays}
 use Rattle.luks_formatting.specs.Formatted2.{HasNewCopy}

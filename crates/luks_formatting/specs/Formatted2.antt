@@ -1,8 +1,8 @@
 -- A volume that was formatted by LUKS2.
 use Rattle.std.specs.Prelude.{ℕ, List, Option, None}
 use Rattle.luks_area.specs.Ranges.{IsAt, IsOfEither, SameBut}
-use Rattle.luks_head.specs.Written.{IsWrittenCopy}
-use Rattle.luks_head.specs.declared.bin2.Bin2.{Bin2}
+use Rattle.luks2_header.specs.Written.{IsWrittenCopy}
+use Rattle.luks2_header.specs.declared.bin2.Bin2.{Bin2}
 use Rattle.luks_making.specs.WrittenArea.{IsWrittenArea}
 use Rattle.luks_reading.specs.declared.report.Data.{Data}
 use Rattle.luks_reading.specs.Plans.{HasLuks2Plan}

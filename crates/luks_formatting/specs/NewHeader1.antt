@@ -11,7 +11,7 @@ use Rattle.luks1_header.specs.declared.luks1.SlotState.TheVariants.{Enabled, Dis
 use Rattle.luks_reading.specs.declared.report.Data.{Data}
 use Rattle.luks_reading.specs.declared.report.Data.TheVariants.{Here, Elsewhere}
 use Rattle.luks_reading.specs.declared.format.Format.{Format}
-use Rattle.luks_head.specs.NewUuid.{uuid_text}
+use Rattle.luks2_header.specs.NewUuid.{uuid_text}
 use Rattle.luks_formatting.specs.NewPlan.{key_digest}
 use Rattle.luks_formatting.specs.RandomBytes.{digest_salt, slot_place1, slot_salt, uuid_bytes}
 

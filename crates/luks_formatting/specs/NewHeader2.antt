@@ -3,8 +3,8 @@
 use Rattle.std.specs.Prelude.{◌≡◌, ℕ, List, ◌++◌, codes, drop, length, replicate, Option, None}
 use Rattle.serde_json.specs.Data.{Data as Value, object, no_members, member}
 use Rattle.luks_area.specs.declared.area.Area.{Area}
-use Rattle.luks_head.specs.Header2.{magic_of, sha256_size}
-use Rattle.luks_head.specs.declared.bin2.Bin2.{Bin2}
+use Rattle.luks2_header.specs.Header2.{magic_of, sha256_size}
+use Rattle.luks2_header.specs.declared.bin2.Bin2.{Bin2}
 use Rattle.luks_kdf.specs.Names.{digest_size_of, name_of}
 use Rattle.luks_making.specs.Conditions.{FitsDerivation, FitsVolume}
 use Rattle.luks_making.specs.Formatted.{VolumeMembers, config_value, digest_value, first_slot, segment_value, sole}
@@ -14,7 +14,7 @@ use Rattle.luks_slot.specs.declared.plan.AreaCipher.TheVariants.{Apart, Whole}
 use Rattle.luks_reading.specs.declared.report.Data.{Data}
 use Rattle.luks_reading.specs.declared.report.Data.TheVariants.{Here, Elsewhere}
 use Rattle.luks_reading.specs.declared.format.Format.{Format}
-use Rattle.luks_head.specs.NewUuid.{uuid_text}
+use Rattle.luks2_header.specs.NewUuid.{uuid_text}
 use Rattle.luks_making.specs.declared.derivation.NewDerivation.{NewDerivation}
 use Rattle.luks_formatting.specs.Deriving.{slot_derivation}
 use Rattle.luks_formatting.specs.NewPlan.{key_digest}

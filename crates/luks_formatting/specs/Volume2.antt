@@ -14,10 +14,10 @@ use Rattle.luks_formatting.specs.NewPlan.{key_digest, IsNewPlanBy, IsSealable, I
 use Rattle.luks_formatting.specs.RandomBytes.{digest_salt, random_stripes, slot_place2, slot_salt, volume_key}
 
 abbrev pub Fits : Volume → Type 0
-Fits v = FitsMetadataBy v.data_ v.format.now v.chosen v.random.now
+Fits v = FitsMetadataBy v.payload v.format.now v.chosen v.random.now
 
 abbrev pub HasArea : Volume → List ℕ → Type 0
-HasArea v json = IsWrittenArea json_size (new_metadata v.data_ v.format.now v.chosen v.random.now) json
+HasArea v json = IsWrittenArea json_size (new_metadata v.payload v.format.now v.chosen v.random.now) json
 
 -- the plan of keyslot 0
 pub record HasPlan (format : Format) (chosen : Option NewDerivation) (random : List ℕ) (plan : SlotPlan) : Type 0 where
@@ -32,10 +32,10 @@ IsReady v plan ahead =
     (λ bytes. IsSealedAhead plan v.passphrase.bytes.now (volume_key v.random.now) (random_stripes slot_place2 v.random.now) bytes.now)
 
 abbrev pub HasKeyArea : Volume → List ℕ → Type 0
-HasKeyArea v new = HasKeyArea2By v.data_ v.format.now v.chosen v.passphrase.bytes.now v.random.now new
+HasKeyArea v new = HasKeyArea2By v.payload v.format.now v.chosen v.passphrase.bytes.now v.random.now new
 
 abbrev pub HasAllButFirst : Volume → List ℕ → Type 0
-HasAllButFirst v new = HasAllButFirst2By v.data_ v.format.now v.chosen v.passphrase.bytes.now v.random.now new
+HasAllButFirst v new = HasAllButFirst2By v.payload v.format.now v.chosen v.passphrase.bytes.now v.random.now new
 
 abbrev pub IsMade : Volume → List ℕ → List ℕ → Type 0
-IsMade v old new = IsFormatted2By v.data_ v.format.now v.chosen v.passphrase.bytes.now v.random.now old new
+IsMade v old new = IsFormatted2By v.payload v.format.now v.chosen v.passphrase.bytes.now v.random.now old new

@@ -20,7 +20,7 @@ use crate::random::{KEY, KEY_BYTES, RANDOM_STRIPES, SALT_BYTES, taken};
 use crate::sealing::seal_key;
 use luks_area::{Area, Device, DeviceFault};
 use luks_edit::Done;
-use luks_head::Luks1;
+use luks2_header::Luks1;
 use luks_reading::{Data, Format};
 use luks_slot::{AreaCipher, SlotPlan};
 use luks_writing::{clear_places, write_range};
@@ -56,7 +56,7 @@ const AREA: Area = Area {
 /// overwritten. Then the key area is written, then the header, a flush after each.
 pub fn format1<D: Device>(
     device: &mut D,
-    data_: Data,
+    payload: Data,
     format: &Format,
     passphrase: &[u8],
     random: &[u8],
@@ -82,26 +82,26 @@ pub fn format1<D: Device>(
     ensures rest { D.tells → SameBut IsOfLuks1 (D.bytes device.old) (D.bytes device.new) }
 
     // No older header counts at 0 from the clearing on; the header comes last.
-    ensures order { D.tells → ClearsFirst1 data_ format.now passphrase.now random.now
+    ensures order { D.tells → ClearsFirst1 payload format.now passphrase.now random.now
         (D.bytes device.old) (D.bytes device.new) }
 
     // The volume that was made.
     ensures slot { IfOk result (λ done. done.slot ≡ Some 0) }
-    ensures formatted { D.tells → OnOk result (IsFormatted1 data_ format.now
+    ensures formatted { D.tells → OnOk result (IsFormatted1 payload format.now
         passphrase.now random.now (D.bytes device.old) (D.bytes device.new)) }
-    ensures well_formed { D.tells → OnOk result (WellFormed (D.bytes device.new) data_) }
+    ensures well_formed { D.tells → OnOk result (WellFormed (D.bytes device.new) payload) }
     ensures opens { D.tells → OnOk result
         (Answer (D.bytes device.new) 0 passphrase.now (opens (volume_key random.now))) }
 {
     judge(WANTED, device.len(), format, None, 0, random)?;
-    write_volume(device, data_, format, passphrase, random)?;
+    write_volume(device, payload, format, passphrase, random)?;
     Ok(Done { slot: Some(0) })
 }
 
 // The same where none of the faults stands.
 fn write_volume<D: Device>(
     device: &mut D,
-    data_: Data,
+    payload: Data,
     format: &Format,
     passphrase: &[u8],
     random: &[u8],
@@ -116,19 +116,19 @@ fn write_volume<D: Device>(
     ensures settled { D.tells → D.failed device.new ≡ D.failed device.old
         → IsSettled D.unsettled device.new }
     ensures rest { D.tells → SameBut IsOfLuks1 (D.bytes device.old) (D.bytes device.new) }
-    ensures order { D.tells → ClearsFirst1 data_ format.now passphrase.now random.now
+    ensures order { D.tells → ClearsFirst1 payload format.now passphrase.now random.now
         (D.bytes device.old) (D.bytes device.new) }
-    ensures formatted { D.tells → OnOk result (IsFormatted1 data_ format.now
+    ensures formatted { D.tells → OnOk result (IsFormatted1 payload format.now
         passphrase.now random.now (D.bytes device.old) (D.bytes device.new)) }
 {
     clear_places(device, OLDER_SECOND)?;
-    write_over_cleared(device, data_, format, passphrase, random)
+    write_over_cleared(device, payload, format, passphrase, random)
 }
 
 // The same where the first sectors are cleared.
 fn write_over_cleared<D: Device>(
     device: &mut D,
-    data_: Data,
+    payload: Data,
     format: &Format,
     passphrase: &[u8],
     random: &[u8],
@@ -143,12 +143,12 @@ fn write_over_cleared<D: Device>(
     ensures settled { D.tells → D.failed device.new ≡ D.failed device.old
         → IsSettled D.unsettled device.new }
     ensures rest { D.tells → SameBut IsOfLuks1 (D.bytes device.old) (D.bytes device.new) }
-    ensures order { D.tells → WritesInTurn1 data_ format.now passphrase.now random.now
+    ensures order { D.tells → WritesInTurn1 payload format.now passphrase.now random.now
         (D.bytes device.old) (D.bytes device.new) }
-    ensures formatted { D.tells → OnOk result (IsFormatted1 data_ format.now
+    ensures formatted { D.tells → OnOk result (IsFormatted1 payload format.now
         passphrase.now random.now (D.bytes device.old) (D.bytes device.new)) }
 {
-    let header = new_header(data_, format, random);
+    let header = new_header(payload, format, random);
     let plan = slot_plan(&header, format);
     let key = taken(random, KEY, KEY_BYTES);
     let stripes = taken(random, SLOT_SALT + SALT_BYTES, RANDOM_STRIPES);

@@ -41,7 +41,7 @@ pub const FORMAT2_RANDOM: u64 = 256208;
 pub fn format2<D: Device>(
     alloc: Global,
     device: &mut D,
-    data_: Data,
+    payload: Data,
     format: &Format,
     passphrase: &[u8],
     random: &[u8],
@@ -70,20 +70,20 @@ pub fn format2<D: Device>(
 
     // No older header counts in the copies' places from the clearing on; the first copy comes last.
     ensures order { D.tells → ClearsFirst copy_size
-        (HasKeyArea2 data_ format.now passphrase.now random.now (D.bytes device.new))
-        (HasAllButFirst2 data_ format.now passphrase.now random.now (D.bytes device.new))
+        (HasKeyArea2 payload format.now passphrase.now random.now (D.bytes device.new))
+        (HasAllButFirst2 payload format.now passphrase.now random.now (D.bytes device.new))
         (D.bytes device.old) (D.bytes device.new) }
 
     // The volume that was made.
     ensures slot { IfOk result (λ done. done.slot ≡ Some 0) }
-    ensures formatted { D.tells → OnOk result (IsFormatted2 data_ format.now
+    ensures formatted { D.tells → OnOk result (IsFormatted2 payload format.now
         passphrase.now random.now (D.bytes device.old) (D.bytes device.new)) }
-    ensures well_formed { D.tells → OnOk result (WellFormed (D.bytes device.new) data_) }
+    ensures well_formed { D.tells → OnOk result (WellFormed (D.bytes device.new) payload) }
     ensures opens { D.tells → OnOk result
         (Answer (D.bytes device.new) 0 passphrase.now (opens (volume_key random.now))) }
 {
     let volume = Volume {
-        data_,
+        payload,
         format,
         chosen: None,
         passphrase: Passphrase {
@@ -104,7 +104,7 @@ pub fn format2<D: Device>(
 pub fn format2_by<D: Device>(
     alloc: Global,
     device: &mut D,
-    data_: Data,
+    payload: Data,
     format: &Format,
     chosen: Option<NewDerivation>,
     passphrase: &Passphrase<'_>,
@@ -139,22 +139,22 @@ pub fn format2_by<D: Device>(
 
     // No older header counts in the copies' places from the clearing on; the first copy comes last.
     ensures order { D.tells → ClearsFirst copy_size
-        (HasKeyArea2By data_ format.now chosen passphrase.now.bytes.now random.now (D.bytes device.new))
-        (HasAllButFirst2By data_ format.now chosen passphrase.now.bytes.now random.now (D.bytes device.new))
+        (HasKeyArea2By payload format.now chosen passphrase.now.bytes.now random.now (D.bytes device.new))
+        (HasAllButFirst2By payload format.now chosen passphrase.now.bytes.now random.now (D.bytes device.new))
         (D.bytes device.old) (D.bytes device.new) }
 
     // The volume that was made.
     ensures slot { IfOk result (λ done. done.slot ≡ Some 0) }
-    ensures formatted { D.tells → OnOk result (IsFormatted2By data_ format.now chosen
+    ensures formatted { D.tells → OnOk result (IsFormatted2By payload format.now chosen
         passphrase.now.bytes.now random.now (D.bytes device.old) (D.bytes device.new)) }
-    ensures well_formed { D.tells → OnOk result (WellFormed (D.bytes device.new) data_) }
+    ensures well_formed { D.tells → OnOk result (WellFormed (D.bytes device.new) payload) }
     ensures opens { D.tells → OnOk result ((allowed : TheAllowed)
         → memory_by (slot_derivation format.now chosen) ≤ allowed.memory
         → AnswerWithin allowed (D.bytes device.new) 0 passphrase.now.bytes.now
         (opens (volume_key random.now))) }
 {
     let volume = Volume {
-        data_,
+        payload,
         format,
         chosen,
         passphrase: Passphrase {

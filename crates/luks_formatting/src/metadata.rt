@@ -39,7 +39,7 @@ pub(crate) fn new_area(
     let like = NewVolume {
         hash: volume.format.hash.text(),
         iterations: volume.format.iterations,
-        segment_offset: segment_start(volume.data_),
+        segment_offset: segment_start(volume.payload),
         digest_salt: taken(volume.random, DIGEST_SALT, SALT_BYTES),
         digest,
         slot_salt: taken(volume.random, SLOT_SALT, SALT_BYTES),
@@ -54,7 +54,7 @@ fn area_of(alloc: Global, volume: &Volume<'_>, like: &NewVolume<'_>) -> Result<V
     requires makeable { IfSome volume.now.chosen (IsMakeable volume.now.passphrase.allowed.memory) }
     requires long { 272 ≤ length volume.now.random.now }
     requires members { volume_members like.now
-        ≡ new_members volume.now.data_ volume.now.format.now volume.now.random.now }
+        ≡ new_members volume.now.payload volume.now.format.now volume.now.random.now }
     requires digest_length { length like.now.digest.now
         ≡ digest_size_of volume.now.format.now.hash }
     ensures area { IfOk result (λ a. HasArea volume.now a.items) }
@@ -125,10 +125,10 @@ fn written_derivation<'a>(format: &Format, chosen: Option<NewDerivation>) -> Key
     }
 }
 
-fn segment_start(data_: Data) -> u64
-    ensures { result ≡ segment_start data_ }
+fn segment_start(payload: Data) -> u64
+    ensures { result ≡ segment_start payload }
 {
-    match data_ {
+    match payload {
         Data::Here => 16777216,
         Data::Elsewhere => 0,
     }

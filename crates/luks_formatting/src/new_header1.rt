@@ -6,28 +6,28 @@ ghost use Rattle.luks_formatting.specs.NewHeader1.{first_slot, free_slot, materi
 use crate::plan::put_key_digest;
 use crate::random::{DIGEST_SALT, STRIPES, UUID, taken_array};
 use arrayvec::ArrayString;
-use luks_head::{Luks1, Luks1Common, Luks1Slot, SlotState, uuid_text};
+use luks2_header::{Luks1, Luks1Common, Luks1Slot, SlotState, uuid_text};
 use luks_reading::{Data, Format};
 
 /// Where the salt of keyslot 0 stands among the random bytes.
 pub(crate) const SLOT_SALT: usize = 112;
 
 /// The header, whose keyslot 0 is in use.
-pub(crate) fn new_header(data_: Data, format: &Format, random: &[u8]) -> Luks1
+pub(crate) fn new_header(payload: Data, format: &Format, random: &[u8]) -> Luks1
     requires iterations { 1 ≤ format.now.iterations }
     requires long { 144 ≤ length random.now }
-    ensures { IsNewHeader1 data_ format.now random.now result }
+    ensures { IsNewHeader1 payload format.now random.now result }
 {
     Luks1 {
-        common: new_common(data_, format, random),
+        common: new_common(payload, format, random),
         slots: new_slots(format, random),
     }
 }
 
-fn new_common(data_: Data, format: &Format, random: &[u8]) -> Luks1Common
+fn new_common(payload: Data, format: &Format, random: &[u8]) -> Luks1Common
     requires iterations { 1 ≤ format.now.iterations }
     requires long { 144 ≤ length random.now }
-    ensures { IsNewCommon data_ format.now random.now result }
+    ensures { IsNewCommon payload format.now random.now result }
 {
     let mut mk_digest = [0; 20];
     put_key_digest(&mut mk_digest, format, random);
@@ -35,7 +35,7 @@ fn new_common(data_: Data, format: &Format, random: &[u8]) -> Luks1Common
         cipher_name: text("aes"),
         cipher_mode: text("xts-plain64"),
         hash_spec: text(format.hash.text()),
-        payload_offset: payload_sector(data_),
+        payload_offset: payload_sector(payload),
         key_bytes: 64,
         mk_digest,
         mk_digest_salt: taken_array(random, DIGEST_SALT),
@@ -54,10 +54,10 @@ fn text<const N: usize>(text: &str) -> ArrayString<N>
     owned
 }
 
-fn payload_sector(data_: Data) -> u32
-    ensures { result ≡ payload_sector data_ }
+fn payload_sector(payload: Data) -> u32
+    ensures { result ≡ payload_sector payload }
 {
-    match data_ {
+    match payload {
         Data::Here => 4096,
         Data::Elsewhere => 0,
     }

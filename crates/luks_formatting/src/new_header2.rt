@@ -7,7 +7,7 @@ ghost use Rattle.luks_formatting.specs.NewHeader2.{copy_size, json_size, IsNewCo
 
 use crate::random::{UUID, taken_array};
 use luks_area::{Device, DeviceFault};
-use luks_head::{Bin2, uuid_field, uuid_text};
+use luks2_header::{Bin2, uuid_field, uuid_text};
 use luks_writing::write_copy;
 
 /// The length of a copy of the header in bytes, which is also the second copy's place.

@@ -48,7 +48,7 @@ const AREA: Area = Area {
 /// A volume that is to be made, and that none of the faults refuses.
 #[derive(Clone, Copy)]
 pub(crate) struct Volume<'a> {
-    pub(crate) data_: Data,
+    pub(crate) payload: Data,
     pub(crate) format: &'a Format,
     pub(crate) chosen: Option<NewDerivation>,
     pub(crate) passphrase: Passphrase<'a>,
@@ -91,7 +91,7 @@ pub(crate) fn make<D: Device>(
         (D.bytes device.old) (D.bytes device.new) }
     ensures slot { IfOk result (λ done. done.slot ≡ Some 0) }
     ensures formatted { D.tells → OnOk result (IsMade volume.now (D.bytes device.old) (D.bytes device.new)) }
-    ensures well_formed { D.tells → OnOk result (WellFormed (D.bytes device.new) volume.now.data_) }
+    ensures well_formed { D.tells → OnOk result (WellFormed (D.bytes device.new) volume.now.payload) }
     ensures opens { D.tells → OnOk result ((allowed : TheAllowed)
         → memory_by (slot_derivation volume.now.format.now volume.now.chosen) ≤ allowed.memory
         → AnswerWithin allowed (D.bytes device.new) 0 volume.now.passphrase.bytes.now

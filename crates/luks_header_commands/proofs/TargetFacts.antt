@@ -10,8 +10,8 @@ use Rattle.luks_commands.specs.Files.{IsLeft}
 use Rattle.luks_commands.specs.Standing.{HasOther, HoldsBack, IsBar, IsBarAnswer, IsClear, IsUuidOf}
 use Rattle.luks_commands.specs.declared.standing.Bar.{Bar}
 use Rattle.luks_commands.specs.declared.standing.Bar.TheVariants.{OtherUse, OtherVolume, Reencrypting, Memory, Device}
-use Rattle.luks_head.proofs.ChoiceFacts.{choices_agree}
-use Rattle.luks_head.specs.Selection.{nothing}
+use Rattle.luks2_header.proofs.ChoiceFacts.{choices_agree}
+use Rattle.luks2_header.specs.Selection.{nothing}
 use Rattle.luks_keeping.specs.SameVolume.{uuid_bytes}
 use Rattle.luks_commands.proofs.StandingFacts.{bar_answers, clear_none}
 use Rattle.luks_header_commands.specs.Target.{AnswersHeader, HoldsBackHeader, IsBarredHeader, IsLater, IsOtherTarget, IsUnbarredHeader, LeavesTarget, NoneFailed, Pair, pair_of, SettlesTarget}

@@ -5,9 +5,9 @@ use Rattle.luks1_mending.specs.declared.given.Given.{Given}
 use Rattle.luks1_rebuilding.specs.RebuildFaults.{is_rebuild_failure}
 use Rattle.luks1_rebuilding.specs.declared.rebuild_fault.Rebuild1Fault.{Rebuild1Fault}
 use Rattle.luks1_rebuilding.specs.declared.rebuild_fault.Rebuild1Fault.TheVariants as fault1
-use Rattle.luks1_trying.specs.Faults.{IsAnsweredTrialFault, IsTrialFault}
-use Rattle.luks1_trying.specs.Openings.{IsFirstOpening, OpensNoneBelow}
-use Rattle.luks1_trying.specs.declared.opening.Opening.{Opening}
+use Rattle.luks1_rebuilding.specs.TrialFaults.{IsAnsweredTrialFault, IsTrialFault}
+use Rattle.luks1_rebuilding.specs.Openings.{IsFirstOpening, OpensNoneBelow}
+use Rattle.luks1_rebuilding.specs.declared.trial.opening.Opening.{Opening}
 use Rattle.luks_request.specs.declared.rebuilding.Rebuilding.{Rebuilding}
 use Rattle.luks_commands.specs.declared.answers.Answer.{Answer}
 use Rattle.luks_commands.specs.declared.inputs.InputFault.{InputFault}

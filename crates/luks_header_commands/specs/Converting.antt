@@ -63,7 +63,7 @@ IsConvertAnswer tells payload random d a = ⊥
 abbrev pub AnswersConvert : {D : Type 0} → Type 0 → (D → ℕ) → (D → List ℕ) → (D → ℕ) → Converting → (InputFault → Type 0) → (List ℕ → Type 0)
     → Result D InputFault → Result D InputFault → Result D InputFault → Result D InputFault → Answer → Type 0
 AnswersConvert tells size bytes failed converting unread HasRandom volume volume_new old new a =
-    AnswersHeader tells size bytes failed converting.over (IsConvertAnswer tells converting.data_) unread HasRandom volume volume_new old new a
+    AnswersHeader tells size bytes failed converting.over (IsConvertAnswer tells converting.payload) unread HasRandom volume volume_new old new a
 
 -- what holds of the command where it is `convert`
 abbrev pub WhereConvert : Command → (Converting → Type 0) → Type 0

@@ -16,7 +16,7 @@ use luks_commands::{
 use luks_converting::{CONVERT_RANDOM, ConvertFault, convert};
 use luks_reading::{Data, Device};
 use luks_request::{Converting, Place};
-use luks1_trying::{Progress, Untold};
+use luks1_rebuilding::trial::{Progress, Untold};
 use std::alloc::Global;
 use std::io::{Read, Write};
 
@@ -67,7 +67,7 @@ pub fn run<D: Device, R: Read, N: Read, P: Printer, E: Write>(
     };
     let conversion = Conversion {
         files: &files,
-        data_: converting.data_,
+        payload: converting.payload,
     };
     let over = converting.over;
     let answer = make_header(alloc, inputs, &files, over, &conversion, err, &mut Untold);
@@ -78,13 +78,13 @@ pub fn run<D: Device, R: Read, N: Read, P: Printer, E: Write>(
 #[derive(Clone, Copy)]
 struct Conversion<'a> {
     files: &'a HeaderFiles<'a>,
-    data_: Data,
+    payload: Data,
 }
 
 impl HeaderWork for Conversion<'_> {
     ghost keeps_rest = { λ work. KeepsRest };
 
-    ghost may_answer = { λ work tells random d a. IsConvertAnswer tells work.data_ random d a };
+    ghost may_answer = { λ work tells random d a. IsConvertAnswer tells work.payload random d a };
 
     fn run<D: Device, E: Write, G: Progress>(
         &self,
@@ -102,9 +102,9 @@ impl HeaderWork for Conversion<'_> {
             needed: files.needed,
             bytes: random,
         };
-        match convert(alloc, volume, self.data_, target, random) {
+        match convert(alloc, volume, self.payload, target, random) {
             Ok(()) => {
-                note_next(files, self.data_, err);
+                note_next(files, self.payload, err);
                 Answer::Done(None)
             }
             Err(fault) if volume.failures() != before => {
@@ -137,8 +137,8 @@ fn not_converted<E: Write>(
 
 /// Says how the payload is opened by the new header. Of a volume that is a detached header itself the
 /// payload's device isn't known.
-fn note_next<E: Write>(files: &HeaderFiles<'_>, data_: Data, err: &mut E) {
-    let device = match data_ {
+fn note_next<E: Write>(files: &HeaderFiles<'_>, payload: Data, err: &mut E) {
+    let device = match payload {
         Data::Here => files.payload_device(),
         Data::Elsewhere => "DEVICE",
     };

@@ -18,7 +18,7 @@ use luks_commands::{
 };
 use luks_reading::Device;
 use luks_request::Place;
-use luks1_trying::Progress;
+use luks1_rebuilding::trial::Progress;
 use std::alloc::Global;
 use std::io::{Read, Write};
 

@@ -10,5 +10,5 @@ mod of_metadata;
 pub mod rebuild;
 mod trying;
 
-pub use luks1_trying::{Progress, Untold};
+pub use luks1_rebuilding::trial::{Progress, Untold};
 pub use of_metadata::which_of;

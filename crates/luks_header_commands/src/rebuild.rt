@@ -24,7 +24,7 @@ use luks_reading::Device;
 use luks_rebuilding::REBUILD_RANDOM;
 use luks_request::{Meant, Place, Rebuilding};
 use luks1_rebuilding::Given;
-use luks1_trying::Progress;
+use luks1_rebuilding::trial::Progress;
 use std::alloc::Global;
 use std::io::{Read, Write};
 

@@ -17,7 +17,7 @@ use luks_commands::{Answer, Inputs, PassphraseFault, Refusal, Status, passphrase
 use luks_reading::Device;
 use luks_request::Rebuilding;
 use luks1_rebuilding::Given;
-use luks1_trying::{Opening, Progress, try_combinations};
+use luks1_rebuilding::trial::{Opening, Progress, try_combinations};
 use std::alloc::Global;
 use std::io::{Read, Write};
 

@@ -2,7 +2,7 @@
 use crate::dice::Dice;
 use base64::engine::general_purpose::STANDARD;
 use luks_kdf::HashName;
-use luks_xts::XtsKey;
+use luks_modes::XtsKey;
 use std::alloc::{AllocError, Global};
 
 /// A volume key, its digest, and the numbers of the keyslots that hold it, as members of an array.

@@ -8,10 +8,10 @@ use Rattle.sha2.specs.Sha256.{sha224}
 use Rattle.sha2.specs.Sha512.{sha384}
 use Rattle.sha2.proofs.Facts256.{length-sha224}
 use Rattle.sha2.proofs.Facts512.{length-sha384}
-use Rattle.luks_ripemd160.specs.Ripemd160.{ripemd160}
-use Rattle.luks_ripemd160.proofs.DigestFacts.{length-ripemd160}
-use Rattle.luks_whirlpool.specs.Whirlpool.{whirlpool}
-use Rattle.luks_whirlpool.proofs.DigestFacts.{length-whirlpool}
+use Rattle.luks_older_hashes.specs.Ripemd160.{ripemd160}
+use Rattle.luks_older_hashes.proofs.Ripemd160DigestFacts.{length-ripemd160}
+use Rattle.luks_older_hashes.specs.Whirlpool.{whirlpool}
+use Rattle.luks_older_hashes.proofs.WhirlpoolDigestFacts.{length-whirlpool}
 use Rattle.luks_argon2.specs.Blake2b.{blake2b}
 use Rattle.luks_argon2.proofs.Blake2bFacts.{length-blake2b}
 use Rattle.luks_kdf.specs.Names.{HashFunction, function_of, hash_named, length-digest}

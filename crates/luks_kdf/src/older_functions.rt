@@ -6,8 +6,8 @@ ghost use Rattle.luks_kdf.specs.KeyslotNames.{length-older_digest};
 
 use crate::hash::HashFn;
 use luks_argon2::Blake2b;
-use luks_ripemd160::Ripemd160;
-use luks_whirlpool::Whirlpool;
+use luks_older_hashes::ripemd160::Ripemd160;
+use luks_older_hashes::whirlpool::Whirlpool;
 
 /// RIPEMD-160 (ISO/IEC 10118-3).
 #[derive(Drop)]
@@ -16,8 +16,8 @@ pub struct Ripemd160Fn {
 }
 
 impl HashFn for Ripemd160Fn {
-    ghost use Rattle.luks_ripemd160.specs.Ripemd160.{ripemd160};
-    ghost use Rattle.luks_ripemd160.specs.Holding.{Holds};
+    ghost use Rattle.luks_older_hashes.specs.Ripemd160.{ripemd160};
+    ghost use Rattle.luks_older_hashes.specs.Ripemd160Holding.{Holds};
     ghost use Rattle.std.proofs.Common.{rules};
 
     ghost LEN = { 20 };
@@ -70,8 +70,8 @@ pub struct WhirlpoolFn {
 }
 
 impl HashFn for WhirlpoolFn {
-    ghost use Rattle.luks_whirlpool.specs.Whirlpool.{whirlpool};
-    ghost use Rattle.luks_whirlpool.specs.Holding.{Holds};
+    ghost use Rattle.luks_older_hashes.specs.Whirlpool.{whirlpool};
+    ghost use Rattle.luks_older_hashes.specs.WhirlpoolHolding.{Holds};
     ghost use Rattle.std.proofs.Common.{rules};
 
     ghost LEN = { 64 };

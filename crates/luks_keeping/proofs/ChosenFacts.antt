@@ -8,9 +8,9 @@ use Rattle.luks_area.specs.RangeFacts.{part-part}
 use Rattle.luks1_header.specs.Header1.{version_of}
 use Rattle.luks_writing.proofs.ClearedFacts.{no_copy, no_luks1}
 use Rattle.luks_writing.specs.Cleared.{IsCleared}
-use Rattle.luks_head.proofs.CopyFacts.{listed_at_least}
-use Rattle.luks_head.specs.Header2.{copy_at, hdr_size, header_at, seqid, with_zero_checksum, IsFormed, IsSound}
-use Rattle.luks_head.specs.Selection.{AreBothSound, IsFirstAlone, IsNotVersion1, IsSecondAlone, IsVersion1, first_seqid, second_place, second_seqid}
+use Rattle.luks2_header.proofs.CopyFacts.{listed_at_least}
+use Rattle.luks2_header.specs.Header2.{copy_at, hdr_size, header_at, seqid, with_zero_checksum, IsFormed, IsSound}
+use Rattle.luks2_header.specs.Selection.{AreBothSound, IsFirstAlone, IsNotVersion1, IsSecondAlone, IsVersion1, first_seqid, second_place, second_seqid}
 
 -- what lies in a range that is equal is equal
 pub inside_same : (x y : List ℕ) (l k at n : ℕ) → l ≤ at → at + n ≤ k → part y l (k - l) ≡ part x l (k - l) → part y at n ≡ part x at n

@@ -4,8 +4,8 @@ use Rattle.luks_area.specs.Ranges.{part}
 use Rattle.luks_area.specs.RangeFacts.{length-part_inside, part-add, part-part}
 use Rattle.luks_area.specs.declared.area.Area.{Area}
 use Rattle.luks_area.specs.Area.{IsInside}
-use Rattle.luks_head.proofs.ChoiceFacts.{choices_agree}
-use Rattle.luks_head.specs.Selection.{Choice}
+use Rattle.luks2_header.proofs.ChoiceFacts.{choices_agree}
+use Rattle.luks2_header.specs.Selection.{Choice}
 use Rattle.luks_reading.specs.Header.{IsHeader}
 use Rattle.luks_reading.specs.declared.header.Header.{Header}
 use Rattle.luks_keeping.proofs.LaidFacts.{chosen_of, from_kept, inside, to_kept}

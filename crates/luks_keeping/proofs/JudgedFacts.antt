@@ -2,10 +2,10 @@
 use Rattle.std.proofs.Common.{◌≡◌, ℕ, List, length, refl, subst}
 use Rattle.luks_area.specs.First.{IsLeast}
 use Rattle.luks_area.specs.Ranges.{part}
-use Rattle.luks_head.proofs.ChoiceFacts.{choices_agree}
-use Rattle.luks_head.specs.Header2.{header_at}
-use Rattle.luks_head.specs.Selection.{luks1, luks2, nothing, Choice, Chosen}
-use Rattle.luks_head.specs.declared.selection.Copies.{Copies}
+use Rattle.luks2_header.proofs.ChoiceFacts.{choices_agree}
+use Rattle.luks2_header.specs.Header2.{header_at}
+use Rattle.luks2_header.specs.Selection.{luks1, luks2, nothing, Choice, Chosen}
+use Rattle.luks2_header.specs.declared.selection.Copies.{Copies}
 use Rattle.luks_reading.specs.Checked.{check_key, First, IsFaultAs, IsLuks1Fault, IsLuks1Volume, IsLuks2Fault, IsLuks2Volume}
 use Rattle.luks_reading.specs.Header.{json_at}
 use Rattle.luks_reading.specs.declared.check_fault.CheckFault.{CheckFault}

@@ -4,10 +4,10 @@ use Rattle.std.proofs.Common.{◌≡◌, ℕ, ◌+◌, ◌-◌, ◌*◌, ◌≤�
 use Rattle.luks_area.specs.Ranges.{part}
 use Rattle.luks_area.specs.declared.area.Area.{Area}
 use Rattle.luks_area.specs.declared.area.AreaName.TheVariants.{Slot}
-use Rattle.luks_head.specs.Header2.{hdr_size, header_at, IsSound}
-use Rattle.luks_head.specs.Selection.{luks1, luks2, nothing, Choice, Chosen, IsChosenCopy, IsNotVersion1, second_place}
-use Rattle.luks_head.specs.declared.selection.Copies.{Copies}
-use Rattle.luks_head.specs.declared.selection.Copies.TheVariants.{InStep, FirstNewer, SecondNewer, FirstOnly, SecondOnly}
+use Rattle.luks2_header.specs.Header2.{hdr_size, header_at, IsSound}
+use Rattle.luks2_header.specs.Selection.{luks1, luks2, nothing, Choice, Chosen, IsChosenCopy, IsNotVersion1, second_place}
+use Rattle.luks2_header.specs.declared.selection.Copies.{Copies}
+use Rattle.luks2_header.specs.declared.selection.Copies.TheVariants.{InStep, FirstNewer, SecondNewer, FirstOnly, SecondOnly}
 use Rattle.luks_reading.specs.Checked.{HasLuks2Area, IsLuks1Volume, IsLuks2Volume}
 use Rattle.luks_reading.specs.Header.{json_at}
 use Rattle.luks_reading.specs.declared.report.Data.{Data}

@@ -2,9 +2,9 @@
 use Rattle.std.proofs.Common.{◌≡◌, ℕ, List, refl, sym, ap, subst, ◌∙◌, Result, Ok, Err, IfErr, OnOk}
 use Rattle.serde_json.specs.Data.{Data as Value}
 use Rattle.luks_area.specs.Ranges.{part}
-use Rattle.luks_head.proofs.ChoiceFacts.{choices_agree, uuid_sound}
-use Rattle.luks_head.specs.Header2.{header_at, uuid_field}
-use Rattle.luks_head.specs.Selection.{luks1, luks2, nothing, Choice}
+use Rattle.luks2_header.proofs.ChoiceFacts.{choices_agree, uuid_sound}
+use Rattle.luks2_header.specs.Header2.{header_at, uuid_field}
+use Rattle.luks2_header.specs.Selection.{luks1, luks2, nothing, Choice}
 use Rattle.luks_rules.proofs.AreaFaults.{one_value}
 use Rattle.luks_rules.proofs.Deciding.{metadata_faultless}
 use Rattle.luks_meta.specs.Content.{content}

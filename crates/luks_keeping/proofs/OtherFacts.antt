@@ -5,10 +5,10 @@ use Rattle.luks_area.specs.Ranges.{part}
 use Rattle.luks1_header.specs.Faults.{is_device_fault}
 use Rattle.luks1_header.specs.declared.fault.HeadFault.{HeadFault}
 use Rattle.luks1_header.specs.declared.fault.HeadFault.TheVariants as head
-use Rattle.luks_head.proofs.ChoiceFacts.{choices_agree}
-use Rattle.luks_head.specs.Selection.{luks1, luks2, nothing, Chosen, IsRefused, IsSelected}
-use Rattle.luks_head.specs.declared.selection.Selected.{Selected}
-use Rattle.luks_head.specs.declared.selection.Selected.TheVariants.{V1, V2}
+use Rattle.luks2_header.proofs.ChoiceFacts.{choices_agree}
+use Rattle.luks2_header.specs.Selection.{luks1, luks2, nothing, Chosen, IsRefused, IsSelected}
+use Rattle.luks2_header.specs.declared.selection.Selected.{Selected}
+use Rattle.luks2_header.specs.declared.selection.Selected.TheVariants.{V1, V2}
 use Rattle.luks_rules.specs.declared.fault.MetaFault.{MetaFault}
 use Rattle.luks_reading.proofs.ReadFaults.{nothing_counts}
 use Rattle.luks_reading.specs.Conversions.{head_unread}

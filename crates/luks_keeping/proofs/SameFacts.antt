@@ -1,10 +1,10 @@
 -- Whether a header that counts on a device is of the backup's volume.
 use Rattle.std.proofs.Common.{◌≡◌, ◌↔◌, ℕ, List, Bool, true, false, IsTrue, refl, sym, ◌∙◌}
 use Rattle.std.proofs.lemmas.Bool.{false≢true}
-use Rattle.luks_head.specs.Selection.{nothing, luks1, luks2, Chosen, IsSelected}
-use Rattle.luks_head.specs.declared.selection.Selected.{Selected}
-use Rattle.luks_head.specs.declared.selection.Selected.TheVariants.{V1, V2}
-use Rattle.luks_head.proofs.ChoiceFacts.{choices_agree}
+use Rattle.luks2_header.specs.Selection.{nothing, luks1, luks2, Chosen, IsSelected}
+use Rattle.luks2_header.specs.declared.selection.Selected.{Selected}
+use Rattle.luks2_header.specs.declared.selection.Selected.TheVariants.{V1, V2}
+use Rattle.luks2_header.proofs.ChoiceFacts.{choices_agree}
 use Rattle.luks_keeping.specs.SameVolume.{CountsSameVolume, HasAnyHeader, IsOtherVolume}
 
 -- what was selected counts

@@ -7,10 +7,10 @@ use Rattle.luks_area.specs.RangeFacts.{length-part_inside}
 use Rattle.luks_area.specs.declared.area.Area.{Area}
 use Rattle.luks_area.specs.declared.area.AreaName.{AreaName}
 use Rattle.luks_area.specs.declared.area.AreaName.TheVariants as name
-use Rattle.luks_head.proofs.ChoiceFacts.{choices_agree, chosen_is_sound}
-use Rattle.luks_head.proofs.CopyFacts.{listed_at_least}
-use Rattle.luks_head.specs.Header2.{hdr_size, header_at}
-use Rattle.luks_head.specs.Selection.{Choice, luks1, luks2, nothing, Chosen}
+use Rattle.luks2_header.proofs.ChoiceFacts.{choices_agree, chosen_is_sound}
+use Rattle.luks2_header.proofs.CopyFacts.{listed_at_least}
+use Rattle.luks2_header.specs.Header2.{hdr_size, header_at}
+use Rattle.luks2_header.specs.Selection.{Choice, luks1, luks2, nothing, Chosen}
 use Rattle.luks_rules.proofs.AreaFaults.{one_value}
 use Rattle.luks_rules.specs.declared.table.Section.TheVariants.{Keyslots}
 use Rattle.luks_meta.specs.Accepted.{IsContent}

@@ -6,9 +6,9 @@ use Rattle.luks_area.specs.Ranges.{part}
 use Rattle.luks_area.specs.declared.area.Area.{Area as TheArea}
 use Rattle.luks_area.specs.declared.area.AreaName.{AreaName}
 use Rattle.luks1_header.proofs.Luks1FaultFacts.{sound}
-use Rattle.luks_head.proofs.ChoiceFacts.{choices_agree, uuid_sound}
-use Rattle.luks_head.specs.Header2.{hdr_size, header_at, uuid_field}
-use Rattle.luks_head.specs.Selection.{Choice, luks1, luks2, nothing}
+use Rattle.luks2_header.proofs.ChoiceFacts.{choices_agree, uuid_sound}
+use Rattle.luks2_header.specs.Header2.{hdr_size, header_at, uuid_field}
+use Rattle.luks2_header.specs.Selection.{Choice, luks1, luks2, nothing}
 use Rattle.luks_rules.proofs.AreaFaults.{one_value}
 use Rattle.luks_rules.proofs.Deciding.{metadata_faultless}
 use Rattle.luks_meta.specs.Sizes.{has_segment_below}

@@ -2,10 +2,10 @@
 use Rattle.std.proofs.Common.{◌≡◌, ℕ, ◌≤◌, List, length, min, replicate, sym, ap, subst, ◌∙◌, arith, inl, inr}
 use Rattle.luks_area.specs.Ranges.{part, IsAt, SameBut}
 use Rattle.luks_area.specs.RangeFacts.{same_but-wider}
-use Rattle.luks_head.proofs.ChoiceFacts.{choices_agree, chosen_is_sound}
-use Rattle.luks_head.proofs.CopyFacts.{listed_at_least}
-use Rattle.luks_head.specs.Header2.{hdr_size, header_at}
-use Rattle.luks_head.specs.Selection.{Choice, luks1, luks2, nothing, Chosen}
+use Rattle.luks2_header.proofs.ChoiceFacts.{choices_agree, chosen_is_sound}
+use Rattle.luks2_header.proofs.CopyFacts.{listed_at_least}
+use Rattle.luks2_header.specs.Header2.{hdr_size, header_at}
+use Rattle.luks2_header.specs.Selection.{Choice, luks1, luks2, nothing, Chosen}
 use Rattle.luks_reading.specs.Header.{IsHeader}
 use Rattle.luks_reading.specs.declared.header.Header.{Header}
 use Rattle.luks_reading.specs.declared.header.Header.TheVariants.{Luks1, Luks2}

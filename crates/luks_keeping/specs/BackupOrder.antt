@@ -2,7 +2,7 @@
 use Rattle.std.specs.Prelude.{◌⊎◌, ℕ, List}
 use Rattle.luks_area.specs.Ranges.{IsAt, IsOfEither, SameBut}
 use Rattle.luks_writing.specs.Cleared.{cleared_size, IsCleared}
-use Rattle.luks_head.specs.Selection.{Choice}
+use Rattle.luks2_header.specs.Selection.{Choice}
 use Rattle.luks_keeping.specs.Restored.{AreGone, LeavesInTurn}
 use Rattle.luks_keeping.specs.SecondPlaces.{AreZeros, IsOfListed}
 

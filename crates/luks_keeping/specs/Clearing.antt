@@ -1,7 +1,7 @@
 -- Which of the places of second copies are cleared: words of private contracts.
 use Rattle.std.specs.Prelude.{◌≡◌, ◌⊎◌, ℕ, ◌+◌, ◌<◌, ◌≤◌, List, slice_index}
 use Rattle.luks_area.specs.Ranges.{IsAt, IsOfEither, SameBut}
-use Rattle.luks_head.specs.Sizes.{IsListed}
+use Rattle.luks2_header.specs.Sizes.{IsListed}
 use Rattle.luks_writing.specs.Cleared.{cleared_size, IsCleared}
 use Rattle.luks_keeping.specs.SecondPlaces.{AreZeros, BeginsCopy, IsOfFirst, IsOfListed}
 use Rattle.luks_keeping.specs.declared.second_places.Which.{Which}

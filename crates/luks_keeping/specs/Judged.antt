@@ -3,8 +3,8 @@ use Rattle.std.specs.Prelude.{ℕ, List, ⊤}
 use Rattle.luks_area.specs.Ranges.{part}
 use Rattle.luks1_header.specs.Header1.{luks1_size, IsLuks1}
 use Rattle.luks1_header.specs.declared.luks1.Luks1.{Luks1 as Fields}
-use Rattle.luks_head.specs.Header2.{header_at}
-use Rattle.luks_head.specs.Selection.{luks1, luks2, nothing, Choice, Chosen}
+use Rattle.luks2_header.specs.Header2.{header_at}
+use Rattle.luks2_header.specs.Selection.{luks1, luks2, nothing, Choice, Chosen}
 use Rattle.luks_reading.specs.Checked.{IsLuks1Fault, IsLuks1Volume, IsLuks2Fault, IsLuks2Volume}
 use Rattle.luks_reading.specs.Header.{json_at}
 use Rattle.luks_reading.specs.declared.check_fault.CheckFault.{CheckFault}

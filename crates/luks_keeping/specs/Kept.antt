@@ -6,10 +6,10 @@ use Rattle.luks_area.specs.declared.area.Area.{Area}
 use Rattle.luks_area.specs.declared.area.AreaName.TheVariants.{Slot}
 use Rattle.luks1_header.specs.Header1.{active_word, enabled_word, entry, luks1_size}
 use Rattle.luks_writing.specs.Cleared.{cleared_size}
-use Rattle.luks_head.specs.Header2.{header_at, hdr_size}
-use Rattle.luks_head.specs.Selection.{luks1, luks2, nothing, Choice}
-use Rattle.luks_head.specs.declared.selection.Copies.{Copies}
-use Rattle.luks_head.specs.declared.selection.Copies.TheVariants.{InStep, FirstNewer, SecondNewer, FirstOnly, SecondOnly}
+use Rattle.luks2_header.specs.Header2.{header_at, hdr_size}
+use Rattle.luks2_header.specs.Selection.{luks1, luks2, nothing, Choice}
+use Rattle.luks2_header.specs.declared.selection.Copies.{Copies}
+use Rattle.luks2_header.specs.declared.selection.Copies.TheVariants.{InStep, FirstNewer, SecondNewer, FirstOnly, SecondOnly}
 use Rattle.luks_reading.specs.Checked.{HasLuks2Area}
 use Rattle.luks_reading.specs.Header.{json_at}
 use Rattle.luks_reading.specs.Layout1.{Luks1Area}

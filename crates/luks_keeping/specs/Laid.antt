@@ -4,7 +4,7 @@ use Rattle.serde_json.specs.Data.{Data as Value}
 use Rattle.luks_area.specs.declared.area.Area.{Area}
 use Rattle.luks_area.specs.declared.area.AreaName.TheVariants.{Slot}
 use Rattle.luks1_header.specs.Header1.{luks1_size}
-use Rattle.luks_head.specs.Selection.{luks1, luks2, Choice}
+use Rattle.luks2_header.specs.Selection.{luks1, luks2, Choice}
 use Rattle.luks_meta.specs.Content.{content}
 use Rattle.luks_reading.specs.Layout1.{Luks1Area}
 use Rattle.luks_reading.specs.Layout2.{Luks2Area}

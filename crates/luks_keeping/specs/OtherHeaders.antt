@@ -2,9 +2,9 @@
 use Rattle.std.specs.Prelude.{ℕ, List, Bool, true, false, ⊤}
 use Rattle.luks_area.specs.First.{IsLeast}
 use Rattle.luks_area.specs.Ranges.{part}
-use Rattle.luks_head.specs.Selection.{luks1, luks2, Choice}
-use Rattle.luks_head.specs.declared.selection.Selected.{Selected}
-use Rattle.luks_head.specs.declared.selection.Selected.TheVariants.{V1, V2}
+use Rattle.luks2_header.specs.Selection.{luks1, luks2, Choice}
+use Rattle.luks2_header.specs.declared.selection.Selected.{Selected}
+use Rattle.luks2_header.specs.declared.selection.Selected.TheVariants.{V1, V2}
 use Rattle.luks_reading.specs.Checked.{check_key}
 use Rattle.luks_reading.specs.declared.header.Header.{Header}
 use Rattle.luks_reading.specs.declared.header.Header.TheVariants.{Luks1, Luks2}

@@ -6,8 +6,8 @@ use Rattle.luks_area.specs.declared.area.AreaName.{AreaName}
 use Rattle.luks_area.specs.declared.area.AreaName.TheVariants.{Segment}
 use Rattle.luks1_header.specs.Header1.{luks1_size, payload_offset_of}
 use Rattle.luks_writing.specs.Cleared.{cleared_size, IsCleared, IsOfFirstSectors}
-use Rattle.luks_head.specs.Header2.{header_at, hdr_size}
-use Rattle.luks_head.specs.Selection.{luks1, luks2, nothing, Choice, Chosen}
+use Rattle.luks2_header.specs.Header2.{header_at, hdr_size}
+use Rattle.luks2_header.specs.Selection.{luks1, luks2, nothing, Choice, Chosen}
 use Rattle.luks_reading.specs.Checked.{HasLuks2Area}
 use Rattle.luks_reading.specs.Header.{json_at}
 use Rattle.luks_reading.specs.Layout1.{Luks1Area}

@@ -4,8 +4,8 @@ use Rattle.std.specs.Prelude.{◌≡◌, ℕ, ◌<◌, List, Some}
 use Rattle.serde_json.specs.Data.{Data as Value}
 use Rattle.luks_area.specs.Ranges.{part}
 use Rattle.luks1_header.specs.Header1.{luks1_size, mk_digest_of, mk_digest_salt_of}
-use Rattle.luks_head.specs.Header2.{header_at, uuid_field, IsUuidField}
-use Rattle.luks_head.specs.Selection.{luks1, luks2, nothing, Choice, Chosen}
+use Rattle.luks2_header.specs.Header2.{header_at, uuid_field, IsUuidField}
+use Rattle.luks2_header.specs.Selection.{luks1, luks2, nothing, Choice, Chosen}
 use Rattle.luks_rules.specs.Accepted.{IsMeta}
 use Rattle.luks_rules.specs.Faults.{member_at, object_at}
 use Rattle.luks_rules.specs.Reading.{bytes_in}

@@ -1,8 +1,8 @@
 -- Whether the header that counts on a device is that of another volume than a backup's.
 use Rattle.std.specs.Prelude.{◌≢◌, ℕ, List, []}
 use Rattle.luks_area.specs.Ranges.{part}
-use Rattle.luks_head.specs.Header2.{header_at, uuid_field}
-use Rattle.luks_head.specs.Selection.{luks1, luks2, nothing, Choice, Chosen}
+use Rattle.luks2_header.specs.Header2.{header_at, uuid_field}
+use Rattle.luks2_header.specs.Selection.{luks1, luks2, nothing, Choice, Chosen}
 use Rattle.luks_keeping.specs.SameKey.{SharesDigest}
 
 -- the 40 bytes of the uuid's field, by what counts of the volume `v`

@@ -3,8 +3,8 @@
 use Rattle.std.specs.Prelude.{◌≡◌, ℕ, ◌+◌, ◌≤◌, List, slice_index}
 use Rattle.luks_area.specs.Ranges.{part, IsAt}
 use Rattle.luks_writing.specs.Cleared.{cleared_size}
-use Rattle.luks_head.specs.Header2.{second_magic}
-use Rattle.luks_head.specs.Sizes.{IsListed}
+use Rattle.luks2_header.specs.Header2.{second_magic}
+use Rattle.luks2_header.specs.Sizes.{IsListed}
 
 -- a second copy begins at the place: its magic stands there
 pub record BeginsCopy (v : List ℕ) (place : ℕ) : Type 0 where

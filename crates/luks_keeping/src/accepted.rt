@@ -19,7 +19,7 @@ use std::alloc::Global;
 pub fn accepted_header<D: Device>(
     alloc: Global,
     device: &mut D,
-    data_: Data,
+    payload: Data,
 ) -> Result<Header, CheckFault>
     requires { D.failed device.old + 1 < 2 ^ 64 }
     ensures unchanged { IsUnchanged D.tells D.size D.bytes D.unsettled device.old device.new }
@@ -28,13 +28,13 @@ pub fn accepted_header<D: Device>(
     ensures accepted { IfOk result IsAcceptedHeader }
     ensures fields { IfOk result HasFields }
     ensures fits { IfOk result (λ h.
-        Fit (HeaderArea h data_ (D.size device.old)) (D.size device.old)) }
+        Fit (HeaderArea h payload (D.size device.old)) (D.size device.old)) }
     ensures within { IfOk result (λ h. LiesWithin h (D.size device.new)) }
     ensures read { D.tells → IfOk result (IsHeader (D.bytes device.old)) }
-    ensures formed { D.tells → OnOk result (WellFormed (D.bytes device.old) data_) }
-    ensures refused { D.tells → IfErr result (IsCheckRefusal (D.bytes device.old) data_) }
+    ensures formed { D.tells → OnOk result (WellFormed (D.bytes device.old) payload) }
+    ensures refused { D.tells → IfErr result (IsCheckRefusal (D.bytes device.old) payload) }
 {
     let header = read_header(alloc, device)?;
-    judge_header(&header, data_, device.len())?;
+    judge_header(&header, payload, device.len())?;
     Ok(header)
 }

@@ -4,7 +4,7 @@ ghost use Rattle.luks_area.specs.Device.{CountsFailure, IsSettled, IsUnchanged, 
 ghost use Rattle.luks_area.specs.Ranges.{part, IsAt, SameBut};
 ghost use Rattle.luks_writing.specs.Cleared.{cleared_size};
 ghost use Rattle.luks_writing.specs.TwoDevices.{CountsEither};
-ghost use Rattle.luks_head.specs.Selection.{Choice, Chosen};
+ghost use Rattle.luks2_header.specs.Selection.{Choice, Chosen};
 ghost use Rattle.luks_slot.specs.declared.allowed.Allowed.{Allowed as TheAllowed};
 ghost use Rattle.luks_reading.specs.Answer.{AnswerWithin, Opened};
 ghost use Rattle.luks_reading.specs.Checked.{WellFormed};
@@ -34,7 +34,7 @@ use std::alloc::Global;
 /// and the key areas of the keyslots that are in use, byte by byte at their places, with zeros between
 /// them. What stood there before is overwritten without question. The source never changes.
 ///
-/// `data_` says where the source's payload lies. Of a LUKS1 volume the backup reaches to the payload, or
+/// `payload` says where the source's payload lies. Of a LUKS1 volume the backup reaches to the payload, or
 /// to the end of the last key area where the payload lies elsewhere; of a LUKS2 volume to the end of the
 /// key areas' region. Where only the second copy of a LUKS2 header is sound, the first sector of the
 /// first copy's place holds zeros.
@@ -46,7 +46,7 @@ use std::alloc::Global;
 pub fn backup<S: Device, T: Device>(
     alloc: Global,
     source: &mut S,
-    data_: Data,
+    payload: Data,
     target: &mut T,
 ) -> Result<(), BackupFault>
     requires source_room { S.failed source.old + 1 < 2 ^ 64 }
@@ -62,35 +62,35 @@ pub fn backup<S: Device, T: Device>(
 
     // The first fault that stands, or want of memory, and then nothing of the target changed.
     ensures fault { S.tells → IfErr result
-        (IsAnsweredBackup (S.bytes source.old) data_ (T.size target.old)) }
+        (IsAnsweredBackup (S.bytes source.old) payload (T.size target.old)) }
     ensures faultless { S.tells → OnOk result
-        (CanBackUp (S.bytes source.old) data_ (T.size target.old)) }
+        (CanBackUp (S.bytes source.old) payload (T.size target.old)) }
     ensures refused { IfErr result (λ f. is_backup_failure f ≡ false
         → IsUnchanged T.tells T.size T.bytes T.unsettled target.old target.new) }
     ensures same { S.tells → T.tells → (f : TheFault)
-        → IsBackupFault (S.bytes source.old) data_ (T.size target.old) f
+        → IsBackupFault (S.bytes source.old) payload (T.size target.old) f
         → T.bytes target.new ≡ T.bytes target.old }
 
     // Which bytes may have changed, also where a device failed.
     ensures rest { S.tells → T.tells
-        → SameBut (IsOfBackup (S.bytes source.old) data_) (T.bytes target.old) (T.bytes target.new) }
+        → SameBut (IsOfBackup (S.bytes source.old) payload) (T.bytes target.old) (T.bytes target.new) }
 
     ensures order { S.tells → T.tells → (c : Choice) (size : ℕ) → Chosen (S.bytes source.old) c
-        → IsBackupSize (S.bytes source.old) data_ size → BacksUpInTurn (S.bytes source.old) c size
+        → IsBackupSize (S.bytes source.old) payload size → BacksUpInTurn (S.bytes source.old) c size
         (T.bytes target.old) (T.bytes target.new) }
 
     // The backup that was made: a well formed volume, the payload being elsewhere, of which each
     // keyslot answers as the source's.
     ensures backup { S.tells → T.tells → OnOk result
-        (IsBackup (S.bytes source.old) data_ (T.bytes target.old) (T.bytes target.new)) }
+        (IsBackup (S.bytes source.old) payload (T.bytes target.old) (T.bytes target.new)) }
     ensures well_formed { S.tells → T.tells
         → OnOk result (WellFormed (T.bytes target.new) Elsewhere) }
     ensures answers { S.tells → T.tells → OnOk result ((allowed : TheAllowed) (n : ℕ) (p : List ℕ) (a : Opened)
         → AnswerWithin allowed (S.bytes source.old) n p a
         ↔ AnswerWithin allowed (T.bytes target.new) n p a) }
 {
-    let header = accepted_header(alloc, source, data_)?;
-    let size = fitting_size(&header, data_, target.len())?;
+    let header = accepted_header(alloc, source, payload)?;
+    let size = fitting_size(&header, payload, target.len())?;
     judge_header(&header, Data::Elsewhere, size)?;
     let places = places_of(&header);
     write_backup(source, target, &places, size)?;
@@ -102,32 +102,32 @@ pub fn backup<S: Device, T: Device>(
 pub fn backup_length<S: Device>(
     alloc: Global,
     source: &mut S,
-    data_: Data,
+    payload: Data,
 ) -> Result<u64, BackupFault>
     requires { S.failed source.old + 1 < 2 ^ 64 }
     ensures unchanged { IsUnchanged S.tells S.size S.bytes S.unsettled source.old source.new }
     ensures count { CountsFailure is_backup_failure result
         (S.failed source.old) (S.failed source.new) }
-    ensures length { S.tells → IfOk result (IsBackupSize (S.bytes source.old) data_) }
-    ensures well_formed { S.tells → OnOk result (WellFormed (S.bytes source.old) data_) }
+    ensures length { S.tells → IfOk result (IsBackupSize (S.bytes source.old) payload) }
+    ensures well_formed { S.tells → OnOk result (WellFormed (S.bytes source.old) payload) }
     ensures fault { S.tells → IfErr result
-        (IsAnsweredBackup (S.bytes source.old) data_ 18446744073709551615) }
+        (IsAnsweredBackup (S.bytes source.old) payload 18446744073709551615) }
 {
-    let header = accepted_header(alloc, source, data_)?;
-    fitting_size(&header, data_, u64::MAX)
+    let header = accepted_header(alloc, source, payload)?;
+    fitting_size(&header, payload, u64::MAX)
 }
 
 /// The bytes of the backup, which a device of `total` bytes holds.
-fn fitting_size(header: &Header, data_: Data, total: u64) -> Result<u64, BackupFault>
+fn fitting_size(header: &Header, payload: Data, total: u64) -> Result<u64, BackupFault>
     requires fields { HasFields header.now }
     requires accepted { IsAcceptedHeader header.now }
     ensures within { IfOk result (λ size. size ≤ total) }
-    ensures size { (v : List ℕ) → IsHeader v header.now → IfOk result (IsBackupSize v data_) }
+    ensures size { (v : List ℕ) → IsHeader v header.now → IfOk result (IsBackupSize v payload) }
     ensures short { (v : List ℕ) → IsHeader v header.now
-        → IfErr result (IsShortFor v data_ total) }
+        → IfErr result (IsShortFor v payload total) }
     ensures own { IfErr result (λ f. f ≡ BackupFault.TooSmall) }
 {
-    match backup_size(header, data_) {
+    match backup_size(header, payload) {
         Some(size) => {
             if size <= total {
                 Ok(size)

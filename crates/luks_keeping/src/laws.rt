@@ -1,8 +1,8 @@
 //! Laws on the definitions of this crate. Each function does nothing; its contract is the law.
 ghost use Rattle.std.specs.Prelude.{◌↔◌, List, length, ℕ};
-ghost use Rattle.luks_head.specs.Header2.{IsSound};
-ghost use Rattle.luks_head.specs.Selection.{Choice, Chosen};
-ghost use Rattle.luks_head.specs.Sizes.{IsListed};
+ghost use Rattle.luks2_header.specs.Header2.{IsSound};
+ghost use Rattle.luks2_header.specs.Selection.{Choice, Chosen};
+ghost use Rattle.luks2_header.specs.Sizes.{IsListed};
 ghost use Rattle.luks_slot.specs.declared.allowed.Allowed.{Allowed as TheAllowed};
 ghost use Rattle.luks_reading.specs.Answer.{AnswerWithin, Opened};
 ghost use Rattle.luks_reading.specs.Checked.{WellFormed};

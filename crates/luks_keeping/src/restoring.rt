@@ -5,7 +5,7 @@ ghost use Rattle.luks_area.specs.Device.{IsSettled, IsUnchanged};
 ghost use Rattle.luks_area.specs.Ranges.{part, SameBut};
 ghost use Rattle.luks_area.specs.declared.area.Area.{Area as TheArea};
 ghost use Rattle.luks_writing.specs.TwoDevices.{CountsEither};
-ghost use Rattle.luks_head.specs.Selection.{Choice, Chosen};
+ghost use Rattle.luks2_header.specs.Selection.{Choice, Chosen};
 ghost use Rattle.luks_slot.specs.declared.allowed.Allowed.{Allowed as TheAllowed};
 ghost use Rattle.luks_reading.specs.Answer.{AnswerWithin, Opened};
 ghost use Rattle.luks_reading.specs.Checked.{WellFormed};
@@ -32,7 +32,7 @@ use std::alloc::Global;
 /// Puts the header and the key areas of a backup onto the target's volume, at their places. The backup
 /// never changes.
 ///
-/// `data_` says where the payload of the target's volume lies. First the first sectors of both copies'
+/// `payload` says where the payload of the target's volume lies. First the first sectors of both copies'
 /// places become zeros, and those of each second copy that begins at any listed place before the data, one
 /// after the other: an older header would still count while its key areas are overwritten. Then the key areas are written, then the second copy of the header, then the
 /// first, a flush after each; a broken-off restore is done again. Takes memory for the metadata of both,
@@ -41,7 +41,7 @@ pub fn restore<B: Device, T: Device>(
     alloc: Global,
     backup: &mut B,
     target: &mut T,
-    data_: Data,
+    payload: Data,
     over: Over,
 ) -> Result<(), RestoreFault>
     requires backup_room { B.failed backup.old + 1 < 2 ^ 64 }
@@ -57,54 +57,54 @@ pub fn restore<B: Device, T: Device>(
 
     // The first fault that stands, or want of memory, and then nothing of the target changed.
     ensures fault { B.tells → T.tells → IfErr result
-        (IsAnsweredRestore (B.bytes backup.old) (T.bytes target.old) data_ over) }
+        (IsAnsweredRestore (B.bytes backup.old) (T.bytes target.old) payload over) }
     ensures faultless { B.tells → T.tells → OnOk result
-        (CanRestore (B.bytes backup.old) (T.bytes target.old) data_ over) }
+        (CanRestore (B.bytes backup.old) (T.bytes target.old) payload over) }
     ensures refused { IfErr result (λ f. is_restore_failure f ≡ false
         → IsUnchanged T.tells T.size T.bytes T.unsettled target.old target.new) }
     ensures same { B.tells → T.tells → (f : TheFault)
-        → IsRestoreFault (B.bytes backup.old) (T.bytes target.old) data_ over f
+        → IsRestoreFault (B.bytes backup.old) (T.bytes target.old) payload over f
         → T.bytes target.new ≡ T.bytes target.old }
 
     // Which bytes may have changed, also where a device failed: those of header and key areas, and first
     // sectors of older copies; none of a segment.
     ensures rest { B.tells → T.tells
-        → SameBut (IsOfRestored (B.bytes backup.old) data_ (T.bytes target.old))
+        → SameBut (IsOfRestored (B.bytes backup.old) payload (T.bytes target.old))
         (T.bytes target.old) (T.bytes target.new) }
     ensures segments { B.tells → T.tells → (n : ℕ) (a : TheArea)
-        → IsSegmentOn (B.bytes backup.old) data_ (T.size target.old) n a
+        → IsSegmentOn (B.bytes backup.old) payload (T.size target.old) n a
         → part (T.bytes target.new) a.start a.len ≡ part (T.bytes target.old) a.start a.len }
     ensures order { B.tells → T.tells → (c : Choice) → Chosen (B.bytes backup.old) c
-        → RestoresInTurn (B.bytes backup.old) data_ c (T.bytes target.old) (T.bytes target.new) }
+        → RestoresInTurn (B.bytes backup.old) payload c (T.bytes target.old) (T.bytes target.new) }
 
     // The volume that was made: each keyslot answers as the backup's.
     ensures restored { B.tells → T.tells → OnOk result
-        (IsRestored (B.bytes backup.old) data_ (T.bytes target.old) (T.bytes target.new)) }
+        (IsRestored (B.bytes backup.old) payload (T.bytes target.old) (T.bytes target.new)) }
     ensures well_formed { B.tells → T.tells
-        → OnOk result (WellFormed (T.bytes target.new) data_) }
+        → OnOk result (WellFormed (T.bytes target.new) payload) }
     ensures answers { B.tells → T.tells → OnOk result ((allowed : TheAllowed) (n : ℕ) (p : List ℕ) (a : Opened)
         → AnswerWithin allowed (B.bytes backup.old) n p a
         ↔ AnswerWithin allowed (T.bytes target.new) n p a) }
 {
     let header = accepted_header(alloc, backup, Data::Elsewhere)?;
-    judge_fit(&header, data_, target.len())?;
+    judge_fit(&header, payload, target.len())?;
     judge_other(alloc, &header, target, over)?;
-    let limit = data_start(&header, data_, target.len());
+    let limit = data_start(&header, payload, target.len());
     let places = places_of(&header);
     write_over(backup, target, &places, limit)?;
     Ok(())
 }
 
 /// The first fault of the volume as it would be, of `total` bytes.
-fn judge_fit(header: &Header, data_: Data, total: u64) -> Result<(), RestoreFault>
+fn judge_fit(header: &Header, payload: Data, total: u64) -> Result<(), RestoreFault>
     requires { IsAcceptedHeader header.now }
-    ensures formed { (v : List ℕ) → IsHeader v header.now → OnOk result (IsFormedOn v data_ total) }
-    ensures fits { OnOk result (Fit (HeaderArea header.now data_ total) total) }
+    ensures formed { (v : List ℕ) → IsHeader v header.now → OnOk result (IsFormedOn v payload total) }
+    ensures fits { OnOk result (Fit (HeaderArea header.now payload total) total) }
     ensures refused { (v : List ℕ) → IsHeader v header.now
-        → IfErr result (IsUnfit v data_ total) }
+        → IfErr result (IsUnfit v payload total) }
     ensures own { IfErr result (λ f. is_restore_failure f ≡ false) }
 {
-    match judge_header(header, data_, total) {
+    match judge_header(header, payload, total) {
         Ok(_) => Ok(()),
         Err(fault) => Err(RestoreFault::DoesNotFit(fault)),
     }

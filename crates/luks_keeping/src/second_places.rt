@@ -2,8 +2,8 @@
 ghost use Rattle.std.specs.Prelude.{◌≡◌, ◌↔◌, ◌+◌, ◌%◌, ◌^◌, ◌<◌, ◌≤◌, ℕ, IfOk, IsTrue, OnOk, slice_index};
 ghost use Rattle.luks_area.specs.Device.{CountsFailure, IsSettled, IsUnchanged, Touches, is_failure};
 ghost use Rattle.luks_area.specs.Ranges.{part, IsAt, SameBut};
-ghost use Rattle.luks_head.specs.Header2.{second_magic};
-ghost use Rattle.luks_head.specs.Sizes.{is_listed, IsListed};
+ghost use Rattle.luks2_header.specs.Header2.{second_magic};
+ghost use Rattle.luks2_header.specs.Sizes.{is_listed, IsListed};
 ghost use Rattle.luks_keeping.specs.Clearing.{IsBetween, IsOfOne, IsToClear, KeepsZeros};
 ghost use Rattle.luks_keeping.specs.SecondPlaces.{AreZeros, IsOfFirst, IsOfListed};
 

@@ -10,19 +10,19 @@ ghost use Rattle.luks_keeping.specs.Restored.{IsFrontAs};
 
 use crate::slots::LUKS1_HEADER;
 use luks_area::SECTOR;
-use luks_head::{Luks1, Luks1Slot};
+use luks2_header::{Luks1, Luks1Slot};
 use luks_reading::{Data, Header, luks1_area};
 
 /// The bytes of the backup of a volume with this header, or none where no device has so many.
-pub(crate) fn backup_size(header: &Header, data_: Data) -> Option<u64>
+pub(crate) fn backup_size(header: &Header, payload: Data) -> Option<u64>
     requires fields { HasFields header.now }
     requires accepted { IsAcceptedHeader header.now }
     ensures some { (v : List ℕ) → IsHeader v header.now
-        → IfSome result (IsBackupSize v data_) }
-    ensures none { (v : List ℕ) → IsHeader v header.now → IsNone result → LacksSize v data_ }
+        → IfSome result (IsBackupSize v payload) }
+    ensures none { (v : List ℕ) → IsHeader v header.now → IsNone result → LacksSize v payload }
 {
     match header {
-        Header::Luks1(bytes) => Some(luks1_size(&Luks1::read(bytes.as_slice()).unwrap(), data_)),
+        Header::Luks1(bytes) => Some(luks1_size(&Luks1::read(bytes.as_slice()).unwrap(), payload)),
         Header::Luks2(copy) => {
             let region = copy.meta.config().keyslots_size;
             luks2_size(copy.header.hdr_size, region)
@@ -31,20 +31,20 @@ pub(crate) fn backup_size(header: &Header, data_: Data) -> Option<u64>
 }
 
 /// Where the data begins on a device of `total` bytes with this header, or else its end.
-pub(crate) fn data_start(header: &Header, data_: Data, total: u64) -> u64
+pub(crate) fn data_start(header: &Header, payload: Data, total: u64) -> u64
     requires fields { HasFields header.now }
     requires accepted { IsAcceptedHeader header.now }
     ensures within { result ≤ total }
     ensures start { (v : List ℕ) → IsHeader v header.now
-        → IsFrontAs v data_ total (choice_of header.now) result }
+        → IsFrontAs v payload total (choice_of header.now) result }
 {
-    match data_ {
+    match payload {
         Data::Elsewhere => total,
         Data::Here => match header {
             Header::Luks1(bytes) => total.min(payload_place(&Luks1::read(
                 bytes.as_slice(),
             ).unwrap())),
-            Header::Luks2(_) => match backup_size(header, data_) {
+            Header::Luks2(_) => match backup_size(header, payload) {
                 Some(size) => total.min(size),
                 None => total,
             },
@@ -69,12 +69,12 @@ fn luks2_size(size: u64, region: u64) -> Option<u64>
 }
 
 /// The bytes up to the payload, or to the end of the last key area.
-fn luks1_size(header: &Luks1, data_: Data) -> u64
+fn luks1_size(header: &Luks1, payload: Data) -> u64
     requires { header.now.common.key_bytes ≤ 128 }
-    ensures { (h : List ℕ) → IsLuks1 h header.now → IsLuks1Size h data_ result }
+    ensures { (h : List ℕ) → IsLuks1 h header.now → IsLuks1Size h payload result }
 {
     let end = areas_end(header);
-    match data_ {
+    match payload {
         Data::Here => end.max(payload_place(header)),
         Data::Elsewhere => end,
     }

@@ -9,7 +9,7 @@ ghost use Rattle.luks_keeping.specs.Kept.{lead_of, IsUsedArea};
 
 use crate::places::Places;
 use luks_area::{Area, SECTOR};
-use luks_head::{Copies, Luks1, SlotState};
+use luks2_header::{Copies, Luks1, SlotState};
 use luks_meta::Meta;
 use luks_reading::{Header, luks1_area};
 

@@ -3,11 +3,11 @@ use Rattle.std.proofs.Common.{◌≡◌, ◌↔◌, ℕ, ◌<◌, ◌≤◌, Lis
 use Rattle.std.proofs.lemmas.Bool.{false≢true}
 use Rattle.serde_json.specs.Data.{Data as Value}
 use Rattle.luks_area.specs.Ranges.{part}
-use Rattle.luks_head.proofs.ChoiceFacts.{choices_agree}
-use Rattle.luks_head.specs.Selection.{luks1, luks2, nothing, Chosen, IsSelected}
-use Rattle.luks_head.specs.declared.bin2.Bin2.{Bin2}
-use Rattle.luks_head.specs.declared.selection.Copies.{Copies}
-use Rattle.luks_head.specs.declared.selection.Selected.TheVariants.{V2}
+use Rattle.luks2_header.proofs.ChoiceFacts.{choices_agree}
+use Rattle.luks2_header.specs.Selection.{luks1, luks2, nothing, Chosen, IsSelected}
+use Rattle.luks2_header.specs.declared.bin2.Bin2.{Bin2}
+use Rattle.luks2_header.specs.declared.selection.Copies.{Copies}
+use Rattle.luks2_header.specs.declared.selection.Selected.TheVariants.{V2}
 use Rattle.luks_json.proofs.AreaKinds.{not_bad}
 use Rattle.luks_json.specs.AreaText.{IsBadJson, Json, JsonText}
 use Rattle.luks_rules.proofs.AreaFaults.{one_value}

@@ -4,7 +4,7 @@ use Rattle.std.proofs.lemmas.Bool.{false≢true}
 use Rattle.luks_area.specs.Ranges.{part, SameBut}
 use Rattle.luks_area.specs.declared.area.Area.{Area}
 use Rattle.luks_writing.specs.TwoDevices.{CountsAfter, CountsEither, IsOneFailure}
-use Rattle.luks_head.specs.Selection.{Choice, Chosen}
+use Rattle.luks2_header.specs.Selection.{Choice, Chosen}
 use Rattle.luks_reading.specs.declared.report.Data.{Data}
 use Rattle.luks_reading.specs.declared.report.Data.TheVariants.{Elsewhere}
 use Rattle.luks_reading.specs.Checked.{IsCheckRefusal, WellFormed}

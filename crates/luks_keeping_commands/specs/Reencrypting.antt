@@ -7,8 +7,8 @@ use Rattle.std.specs.Str.{bytes_eq}
 use Rattle.serde_json.specs.Data.{Data as Value, Items, no_items, item}
 use Rattle.serde_json.specs.Find.{get, as_str, as_array}
 use Rattle.luks_area.specs.Ranges.{part}
-use Rattle.luks_head.specs.Selection.{luks2, nothing, Chosen}
-use Rattle.luks_head.specs.declared.selection.Copies.{Copies}
+use Rattle.luks2_header.specs.Selection.{luks2, nothing, Chosen}
+use Rattle.luks2_header.specs.declared.selection.Copies.{Copies}
 use Rattle.luks_json.specs.AreaText.{Json}
 use Rattle.luks_rules.specs.Faults.{object_at, section_at, type_at}
 use Rattle.luks_rules.specs.declared.table.Outer.TheVariants.{Top}

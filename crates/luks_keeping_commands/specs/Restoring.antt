@@ -3,7 +3,7 @@ use Rattle.std.specs.Prelude.{◌≡◌, ◌↔◌, ◌⊎◌, ℕ, List, None, 
 use Rattle.luks_area.specs.Ranges.{part, SameBut}
 use Rattle.luks_area.specs.declared.area.Area.{Area}
 use Rattle.luks_writing.specs.TwoDevices.{CountsAfter, IsOneFailure}
-use Rattle.luks_head.specs.Selection.{Choice, Chosen}
+use Rattle.luks2_header.specs.Selection.{Choice, Chosen}
 use Rattle.luks_slot.specs.declared.allowed.Allowed.{Allowed}
 use Rattle.luks_reading.specs.Answer.{AnswerWithin, Opened}
 use Rattle.luks_reading.specs.Checked.{WellFormed}
@@ -96,7 +96,7 @@ pub record IsRestoreClear (restoring : Restoring) (b t : List ℕ) : Type 0 wher
 abbrev pub AnswersBoth : Type 0 → Restoring → Pair → Answer → Type 0
 AnswersBoth tells restoring d a =
     IsHeldBack tells (IsRestoreBar tells restoring d.source d.old) (λ is_failure. CountsAfter is_failure d.source_before d.source_after d.before d.after) d.old d.new a
-    ⊎ ((tells → IsRestoreClear restoring d.source d.old) × IsRestoreAnswer tells restoring.data_ (over_of restoring) d a)
+    ⊎ ((tells → IsRestoreClear restoring d.source d.old) × IsRestoreAnswer tells restoring.payload (over_of restoring) d a)
 
 -- of the volume and the backup before the command and after it, where they aren't one file: the volume is
 -- opened first

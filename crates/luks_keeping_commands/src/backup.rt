@@ -41,7 +41,7 @@ pub fn run<D: Device, R: Read, N: Read, P: Printer, E: Write>(
     requires settled { D.tells → ForOk inputs.old.target (IsSettled D.unsettled) }
     ensures unchanged { KeepsVolume D.tells D.size D.bytes D.unsettled
         inputs.old.volume inputs.new.volume }
-    ensures rest { LeavesTarget D.tells D.size D.bytes (KeepsRest backing_up.now.data_)
+    ensures rest { LeavesTarget D.tells D.size D.bytes (KeepsRest backing_up.now.payload)
         inputs.old.volume inputs.old.target inputs.new.target }
     ensures settled { SettlesTarget D.tells D.failed D.unsettled
         inputs.old.volume inputs.new.volume inputs.old.target inputs.new.target }
@@ -52,7 +52,7 @@ pub fn run<D: Device, R: Read, N: Read, P: Printer, E: Write>(
         → (inputs.new ≡ inputs.old) × Prints IsSameFile
         (P.failures out.old) (P.failures out.new) (P.printed out.old) (P.printed out.new) result }
     ensures answers { (AreOneFile name.now backing_up.now.target.now inputs.old.target → ⊥)
-        → Prints (AnswersBackup D.tells D.size D.bytes D.failed backing_up.now.data_
+        → Prints (AnswersBackup D.tells D.size D.bytes D.failed backing_up.now.payload
         inputs.old.volume inputs.new.volume inputs.old.target inputs.new.target)
         (P.failures out.old) (P.failures out.new) (P.printed out.old) (P.printed out.new) result }
 {
@@ -74,7 +74,7 @@ fn answer<D: Device, R: Read, N: Read, E: Write>(
     requires settled { D.tells → ForOk inputs.old.target (IsSettled D.unsettled) }
     ensures unchanged { KeepsVolume D.tells D.size D.bytes D.unsettled
         inputs.old.volume inputs.new.volume }
-    ensures rest { LeavesTarget D.tells D.size D.bytes (KeepsRest backing_up.now.data_)
+    ensures rest { LeavesTarget D.tells D.size D.bytes (KeepsRest backing_up.now.payload)
         inputs.old.volume inputs.old.target inputs.new.target }
     ensures settled { SettlesTarget D.tells D.failed D.unsettled
         inputs.old.volume inputs.new.volume inputs.old.target inputs.new.target }
@@ -83,7 +83,7 @@ fn answer<D: Device, R: Read, N: Read, E: Write>(
     ensures same { AreOneFile name.now backing_up.now.target.now inputs.old.target
         → (inputs.new ≡ inputs.old) × IsSameFile result }
     ensures answers { (AreOneFile name.now backing_up.now.target.now inputs.old.target → ⊥)
-        → AnswersBackup D.tells D.size D.bytes D.failed backing_up.now.data_
+        → AnswersBackup D.tells D.size D.bytes D.failed backing_up.now.payload
         inputs.old.volume inputs.new.volume inputs.old.target inputs.new.target result }
 {
     if are_one_file(name, backing_up.target, &inputs.target) {
@@ -123,16 +123,16 @@ fn back_up<D: Device, E: Write>(
     requires settled { D.tells → IsSettled D.unsettled target.old }
     ensures unchanged { IsUnchanged D.tells D.size D.bytes D.unsettled volume.old volume.new }
     ensures size { D.size target.new ≡ D.size target.old }
-    ensures rest { D.tells → KeepsRest backing_up.now.data_ (D.bytes volume.old)
+    ensures rest { D.tells → KeepsRest backing_up.now.payload (D.bytes volume.old)
         (D.bytes target.old) (D.bytes target.new) }
     ensures settled { D.tells → D.failed volume.new ≡ D.failed volume.old
         → D.failed target.new ≡ D.failed target.old → IsSettled D.unsettled target.new }
     ensures kinds { answer_status result ≢ Status.NotInStep }
-    ensures answers { IsBackupAnswer D.tells backing_up.now.data_ (pair_of D.size D.bytes D.failed
+    ensures answers { IsBackupAnswer D.tells backing_up.now.payload (pair_of D.size D.bytes D.failed
         volume.old volume.new target.old target.new) result }
 {
     let before = volume.failures();
-    match backup(alloc, volume, backing_up.data_, target) {
+    match backup(alloc, volume, backing_up.payload, target) {
         Ok(()) => Answer::Done(None),
         Err(fault) if volume.failures() != before => not_kept(
             fault,
@@ -162,10 +162,10 @@ fn without_file<D: Device, E: Write>(
     requires { D.failed volume.old + 1 < 2 ^ 64 }
     ensures unchanged { IsUnchanged D.tells D.size D.bytes D.unsettled volume.old volume.new }
     ensures kinds { answer_status result ≢ Status.NotInStep }
-    ensures answers { IsWithoutFile D.tells backing_up.now.data_ (D.bytes volume.old)
+    ensures answers { IsWithoutFile D.tells backing_up.now.payload (D.bytes volume.old)
         (D.failed volume.old) (D.failed volume.new) missed result }
 {
-    match backup_length(alloc, volume, backing_up.data_) {
+    match backup_length(alloc, volume, backing_up.payload) {
         Ok(_) => unread(missed, backing_up.target, err),
         Err(fault) => not_kept(fault, name, "reading failed", err),
     }

@@ -45,7 +45,7 @@ pub fn run<D: Device, R: Read, N: Read, P: Printer, E: Write>(
         → (inputs.new ≡ inputs.old) × Prints IsSameFile
         (P.failures out.old) (P.failures out.new) (P.printed out.old) (P.printed out.new) result }
     ensures answers { (AreOneFile name.now comparing.now.backup.now inputs.old.target → ⊥)
-        → Prints (AnswersCompare D.tells D.size D.bytes D.failed comparing.now.data_
+        → Prints (AnswersCompare D.tells D.size D.bytes D.failed comparing.now.payload
         inputs.old.volume inputs.new.volume inputs.old.target inputs.new.target)
         (P.failures out.old) (P.failures out.new) (P.printed out.old) (P.printed out.new) result }
 {
@@ -73,7 +73,7 @@ fn answer<D: Device, R: Read, N: Read, E: Write>(
     ensures same { AreOneFile name.now comparing.now.backup.now inputs.old.target
         → (inputs.new ≡ inputs.old) × IsSameFile result }
     ensures answers { (AreOneFile name.now comparing.now.backup.now inputs.old.target → ⊥)
-        → AnswersCompare D.tells D.size D.bytes D.failed comparing.now.data_
+        → AnswersCompare D.tells D.size D.bytes D.failed comparing.now.payload
         inputs.old.volume inputs.new.volume inputs.old.target inputs.new.target result }
 {
     if are_one_file(name, comparing.backup, &inputs.target) {
@@ -103,14 +103,14 @@ fn compare_headers<D: Device, E: Write>(
     ensures kept { IsUnchanged D.tells D.size D.bytes D.unsettled backup.old backup.new }
     ensures unchanged { IsUnchanged D.tells D.size D.bytes D.unsettled volume.old volume.new }
     ensures kinds { answer_status result ≢ Status.NotInStep }
-    ensures answers { IsCompareAnswer D.tells comparing.now.data_ (pair_of D.size D.bytes D.failed
+    ensures answers { IsCompareAnswer D.tells comparing.now.payload (pair_of D.size D.bytes D.failed
         backup.old backup.new volume.old volume.new) result }
 {
     let held = match accepted_header(alloc, backup, Data::Elsewhere) {
         Ok(header) => header,
         Err(fault) => return no_backup(fault, comparing.backup, err),
     };
-    let there = match accepted_header(alloc, volume, comparing.data_) {
+    let there = match accepted_header(alloc, volume, comparing.payload) {
         Ok(header) => header,
         Err(fault) => return refused(fault, name, err),
     };

@@ -43,7 +43,7 @@ pub fn run<D: Device, R: Read, N: Read, P: Printer, E: Write>(
     requires settled { D.tells → ForOk inputs.old.volume (IsSettled D.unsettled) }
     ensures unchanged { KeepsVolume D.tells D.size D.bytes D.unsettled
         inputs.old.target inputs.new.target }
-    ensures rest { LeavesTarget D.tells D.size D.bytes (KeepsRest restoring.now.data_)
+    ensures rest { LeavesTarget D.tells D.size D.bytes (KeepsRest restoring.now.payload)
         inputs.old.target inputs.old.volume inputs.new.volume }
     ensures settled { SettlesTarget D.tells D.failed D.unsettled
         inputs.old.target inputs.new.target inputs.old.volume inputs.new.volume }
@@ -80,7 +80,7 @@ fn answer<D: Device, R: Read, N: Read, E: Write>(
     requires settled { D.tells → ForOk inputs.old.volume (IsSettled D.unsettled) }
     ensures unchanged { KeepsVolume D.tells D.size D.bytes D.unsettled
         inputs.old.target inputs.new.target }
-    ensures rest { LeavesTarget D.tells D.size D.bytes (KeepsRest restoring.now.data_)
+    ensures rest { LeavesTarget D.tells D.size D.bytes (KeepsRest restoring.now.payload)
         inputs.old.target inputs.old.volume inputs.new.volume }
     ensures settled { SettlesTarget D.tells D.failed D.unsettled
         inputs.old.target inputs.new.target inputs.old.volume inputs.new.volume }
@@ -119,7 +119,7 @@ fn put_unless<D: Device, E: Write>(
     requires settled { D.tells → IsSettled D.unsettled volume.old }
     ensures unchanged { IsUnchanged D.tells D.size D.bytes D.unsettled backup.old backup.new }
     ensures size { D.size volume.new ≡ D.size volume.old }
-    ensures rest { D.tells → KeepsRest restoring.now.data_ (D.bytes backup.old)
+    ensures rest { D.tells → KeepsRest restoring.now.payload (D.bytes backup.old)
         (D.bytes volume.old) (D.bytes volume.new) }
     ensures settled { D.tells → D.failed backup.new ≡ D.failed backup.old
         → D.failed volume.new ≡ D.failed volume.old → IsSettled D.unsettled volume.new }
@@ -149,12 +149,12 @@ fn put_back<D: Device, E: Write>(
     requires settled { D.tells → IsSettled D.unsettled volume.old }
     ensures unchanged { IsUnchanged D.tells D.size D.bytes D.unsettled backup.old backup.new }
     ensures size { D.size volume.new ≡ D.size volume.old }
-    ensures rest { D.tells → KeepsRest restoring.now.data_ (D.bytes backup.old)
+    ensures rest { D.tells → KeepsRest restoring.now.payload (D.bytes backup.old)
         (D.bytes volume.old) (D.bytes volume.new) }
     ensures settled { D.tells → D.failed backup.new ≡ D.failed backup.old
         → D.failed volume.new ≡ D.failed volume.old → IsSettled D.unsettled volume.new }
     ensures kinds { answer_status result ≢ Status.NotInStep }
-    ensures answers { IsRestoreAnswer D.tells restoring.now.data_ (over_of restoring.now)
+    ensures answers { IsRestoreAnswer D.tells restoring.now.payload (over_of restoring.now)
         (pair_of D.size D.bytes D.failed backup.old backup.new volume.old volume.new) result }
 {
     let before = backup.failures();
@@ -181,17 +181,17 @@ fn put_over<D: Device, E: Write>(
     requires settled { D.tells → IsSettled D.unsettled volume.old }
     ensures unchanged { IsUnchanged D.tells D.size D.bytes D.unsettled backup.old backup.new }
     ensures size { D.size volume.new ≡ D.size volume.old }
-    ensures rest { D.tells → KeepsRest restoring.now.data_ (D.bytes backup.old)
+    ensures rest { D.tells → KeepsRest restoring.now.payload (D.bytes backup.old)
         (D.bytes volume.old) (D.bytes volume.new) }
     ensures settled { D.tells → D.failed backup.new ≡ D.failed backup.old
         → D.failed volume.new ≡ D.failed volume.old → IsSettled D.unsettled volume.new }
     ensures kinds { answer_status result ≢ Status.NotInStep }
-    ensures answers { IsRestoreAnswer D.tells restoring.now.data_ (over_of restoring.now)
+    ensures answers { IsRestoreAnswer D.tells restoring.now.payload (over_of restoring.now)
         (pair_of D.size D.bytes D.failed backup.old backup.new volume.old volume.new) result }
 {
     let before = backup.failures();
     let over = over_of(restoring);
-    match restore(alloc, backup, volume, restoring.data_, over) {
+    match restore(alloc, backup, volume, restoring.payload, over) {
         Ok(()) => Answer::Done(None),
         Err(fault) if backup.failures() != before => not_restored(
             fault,

@@ -61,8 +61,8 @@ fn of_luks2(rt: HostRuntime) -> Result<(), Fail> {
 }
 
 /// The bytes of the backup of this volume, if one can be made.
-fn length_of(alloc: Global, volume: &mut MemDevice, data_: Data) -> Option<u64> {
-    match backup_length(alloc, volume, data_) {
+fn length_of(alloc: Global, volume: &mut MemDevice, payload: Data) -> Option<u64> {
+    match backup_length(alloc, volume, payload) {
         Ok(size) => Some(size),
         Err(_) => None,
     }

@@ -5,8 +5,8 @@ use Rattle.std.proofs.lemmas.Bool.{cases_lt}
 use Rattle.serde_json.specs.Data.{Data as Value}
 use Rattle.luks_area.specs.Ranges.{part}
 use Rattle.luks1_header.specs.declared.fault.HeadFault.TheVariants as head
-use Rattle.luks_head.specs.declared.selection.Copies.{Copies}
-use Rattle.luks_head.specs.Selection.{Choice, luks1, luks2, nothing, Chosen}
+use Rattle.luks2_header.specs.declared.selection.Copies.{Copies}
+use Rattle.luks2_header.specs.Selection.{Choice, luks1, luks2, nothing, Chosen}
 use Rattle.luks_json.specs.Number.{number_of, number_text}
 use Rattle.luks_rules.specs.declared.fault.MetaFault.{MetaFault}
 use Rattle.luks_rules.specs.declared.table.Section.TheVariants.{Keyslots}

@@ -5,7 +5,7 @@ use Rattle.base64.specs.GeneralPurpose.{IsBytes}
 use Rattle.serde_json.specs.Data.{Data as Value}
 use Rattle.serde_json.specs.Written.{compact_text}
 use Rattle.luks_area.specs.declared.area.Area.{Area}
-use Rattle.luks_head.specs.Header2.{hdr_size, header_at, seqid}
+use Rattle.luks2_header.specs.Header2.{hdr_size, header_at, seqid}
 use Rattle.luks_making.specs.Naming.{IsDigestOf}
 use Rattle.luks_meta.specs.Requirements.{has_requirements}
 use Rattle.luks_slot.specs.declared.allowed.Allowed.{Allowed}

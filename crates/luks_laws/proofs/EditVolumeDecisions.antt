@@ -1,9 +1,9 @@
 -- An edit of a volume has a first refusal, or it is refused by nothing, whatever counts of the volume.
 use Rattle.std.proofs.Common.{◌⊎◌, ℕ, List, length, subst, inl, inr}
 use Rattle.serde_json.specs.Data.{Data as Value}
-use Rattle.luks_head.specs.Header2.{hdr_size, header_at}
-use Rattle.luks_head.specs.Selection.{Choice, Chosen, luks1, luks2, nothing}
-use Rattle.luks_head.proofs.ChoiceFacts.{choices_agree, choice_exists}
+use Rattle.luks2_header.specs.Header2.{hdr_size, header_at}
+use Rattle.luks2_header.specs.Selection.{Choice, Chosen, luks1, luks2, nothing}
+use Rattle.luks2_header.proofs.ChoiceFacts.{choices_agree, choice_exists}
 use Rattle.luks_rules.specs.Accepted.{IsMeta}
 use Rattle.luks_meta.proofs.Namings.{one_digest}
 use Rattle.luks_slot.specs.declared.allowed.Allowed.{Allowed}

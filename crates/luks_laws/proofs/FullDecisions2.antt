@@ -5,7 +5,7 @@ use Rattle.base64.specs.GeneralPurpose.{IsBytes}
 use Rattle.serde_json.specs.Data.{Data as Value}
 use Rattle.serde_json.specs.Written.{compact_text}
 use Rattle.luks_area.specs.declared.area.Area.{Area}
-use Rattle.luks_head.specs.Header2.{binary_header_size}
+use Rattle.luks2_header.specs.Header2.{binary_header_size}
 use Rattle.luks_making.specs.Changed.{changed_slot}
 use Rattle.luks_making.specs.declared.derivation.AskedDerivation.{AskedDerivation}
 use Rattle.luks_making.specs.Keyslots.{IsDerivedOr, IsMadeFrom, NewMembers}

@@ -2,9 +2,9 @@
 use Rattle.std.proofs.Common.{◌≡◌, ◌⊎◌, ℕ, ◌*◌, List, length, Some, refl, subst, inl, inr}
 use Rattle.serde_json.specs.Data.{Data as Value}
 use Rattle.luks_area.specs.declared.area.Area.{Area}
-use Rattle.luks_head.specs.Header2.{hdr_size, header_at}
-use Rattle.luks_head.specs.Selection.{luks2}
-use Rattle.luks_head.proofs.ChoiceFacts.{choices_agree}
+use Rattle.luks2_header.specs.Header2.{hdr_size, header_at}
+use Rattle.luks2_header.specs.Selection.{luks2}
+use Rattle.luks2_header.proofs.ChoiceFacts.{choices_agree}
 use Rattle.luks_rules.specs.Accepted.{IsMeta}
 use Rattle.luks_rules.specs.Sizes.{keyslots_size}
 use Rattle.luks_rules.proofs.AreaFaults.{one_value}

@@ -136,7 +136,7 @@ pub same_area : (a b : TheArea) → a.start ≡ b.start → a.len ≡ b.len → 
 same_area a b starts lens = let P : ℕ → TheArea = λ s. record { start = s; len = a.len } in let Q : ℕ → TheArea = λ l. record { start = b.start; len = l } in ap P starts ∙ ap Q lens
 
 module _ (h : List ℕ) (payload : Data) (total : ℕ) where
-  find_segment : (n : ℕ) (data_ : Data) → ((a : TheArea) × Luks1Area h data_ total (Segment n) a) ⊎ ((a : TheArea) → Luks1Area h data_ total (Segment n) a → ⊥)
+  find_segment : (n : ℕ) (payload : Data) → ((a : TheArea) × Luks1Area h payload total (Segment n) a) ⊎ ((a : TheArea) → Luks1Area h payload total (Segment n) a → ⊥)
   find_segment n Here = elim (cases_eq n 0) [
     | inl first ↦ inl (record { start = number_at h 104 4 * 512; len = total - number_at h 104 4 * 512 }, (first, refl, refl, refl))
     | inr other ↦ inr (λ a x. other x.0)

@@ -11,7 +11,7 @@ use Rattle.luks1_header.specs.declared.fault.HeadFault.{HeadFault}
 use Rattle.luks1_header.specs.declared.fault.HeadFault.TheVariants as head
 use Rattle.luks1_header.specs.declared.fault.TextField.TheVariants as field
 use Rattle.luks1_header.specs.Faults.{head_key}
-use Rattle.luks_head.specs.Header2.{hdr_size, IsUuidFault, uuid_field}
+use Rattle.luks2_header.specs.Header2.{hdr_size, IsUuidFault, uuid_field}
 use Rattle.luks_json.specs.AreaText.{IsBadJson, Json, JsonText}
 use Rattle.luks_rules.specs.declared.fault.MetaFault.{MetaFault}
 use Rattle.luks_rules.specs.declared.fault.MetaFault.TheVariants as meta

@@ -8,7 +8,7 @@ use Rattle.luks1_header.specs.declared.fault.HeadFault.{HeadFault}
 use Rattle.luks1_header.specs.declared.fault.HeadFault.TheVariants as head
 use Rattle.luks1_header.specs.declared.fault.IterationsOf.TheVariants as of
 use Rattle.luks1_header.specs.Faults.{head_key}
-use Rattle.luks_head.specs.Header2.{IsUuidFault, uuid_field}
+use Rattle.luks2_header.specs.Header2.{IsUuidFault, uuid_field}
 use Rattle.luks_json.specs.AreaText.{IsBadJson, Json, JsonText}
 use Rattle.luks_json.specs.Number.{number_of, number_text}
 use Rattle.luks_making.specs.Naming.{IsDigestOf}

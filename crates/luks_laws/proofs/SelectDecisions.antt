@@ -5,7 +5,7 @@ use Rattle.luks_area.specs.Ranges.{part}
 use Rattle.luks1_header.specs.declared.fault.HeadFault.{HeadFault}
 use Rattle.luks1_header.specs.declared.fault.HeadFault.TheVariants as head
 use Rattle.luks1_header.specs.Header1.{HasMagic, luks1_size, luks_magic, version_of}
-use Rattle.luks_head.specs.Selection.{Chosen, IsSelectFault, nothing}
+use Rattle.luks2_header.specs.Selection.{Chosen, IsSelectFault, nothing}
 use Rattle.luks_rules.specs.Faults.{Among}
 use Rattle.luks_reading.specs.declared.check_fault.CheckFault.{CheckFault}
 use Rattle.luks_reading.specs.declared.check_fault.CheckFault.TheVariants as check

@@ -3,8 +3,8 @@ use Rattle.std.proofs.Common.{◌≡◌, ◌⊎◌, ℕ, ◌<◌, List, length, 
 use Rattle.std.specs.Prelude.{◌↔◌}
 use Rattle.serde_json.specs.Data.{Data as Value}
 use Rattle.luks_area.specs.Ranges.{part}
-use Rattle.luks_head.specs.Header2.{header_at}
-use Rattle.luks_head.specs.Selection.{Choice, Chosen, luks1, luks2, nothing}
+use Rattle.luks2_header.specs.Header2.{header_at}
+use Rattle.luks2_header.specs.Selection.{Choice, Chosen, luks1, luks2, nothing}
 use Rattle.luks_json.specs.AreaText.{IsBadJson, Json, JsonText}
 use Rattle.luks_json.specs.Number.{number_of, number_text}
 use Rattle.luks_making.specs.Naming.{IsDigestOf}

@@ -2,7 +2,7 @@
 use Rattle.std.proofs.Common.{◌≡◌, ◌∙◌, ℕ, List, Bool, true, false, Some, refl, sym, subst, ap}
 use Rattle.std.specs.Prelude.{◌&&◌, ◌↔◌, ◌^◌, nat_lt, if◌then◌else◌, length}
 use Rattle.luks_area.specs.Ranges.{part}
-use Rattle.luks_head.specs.Selection.{Choice, luks1, luks2, nothing}
+use Rattle.luks2_header.specs.Selection.{Choice, luks1, luks2, nothing}
 use Rattle.luks_slot.specs.Allowance.{none_allowed, without_memory}
 use Rattle.luks_slot.specs.Refusal.{slot_refusal}
 use Rattle.luks_slot.specs.declared.allowed.Allowed.{Allowed}

@@ -1,6 +1,6 @@
 //! Laws on why an edit is refused.
 ghost use Rattle.std.specs.Prelude.{◌≡◌, ◌↔◌, ◌⊎◌, ℕ, List, Some};
-ghost use Rattle.luks_head.specs.Selection.{luks1, Choice, Chosen};
+ghost use Rattle.luks2_header.specs.Selection.{luks1, Choice, Chosen};
 ghost use Rattle.luks_slot.specs.Allowance.{none_allowed, without_memory};
 ghost use Rattle.luks_slot.specs.Refusal.{slot_refusal};
 ghost use Rattle.luks_slot.specs.declared.allowed.Allowed.{Allowed as TheAllowed};

@@ -2,7 +2,7 @@
 ghost use Rattle.std.specs.Prelude.{◌⊎◌, ℕ, List, length};
 ghost use Rattle.serde_json.specs.Data.{Data as Metadata};
 ghost use Rattle.luks_area.specs.declared.area.Area.{Area as TheArea};
-ghost use Rattle.luks_head.specs.Header2.{hdr_size, header_at};
+ghost use Rattle.luks2_header.specs.Header2.{hdr_size, header_at};
 ghost use Rattle.luks_reading.specs.declared.report.Data.{Data as Payload};
 ghost use Rattle.luks_reading.specs.Checked.{WellFormed};
 ghost use Rattle.luks2_edit_laws.specs.Metadata.{HasMetadata, IsInUse};

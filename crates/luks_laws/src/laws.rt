@@ -6,7 +6,7 @@ ghost use Rattle.luks_reading.specs.declared.report.Data.{Data as Payload};
 ghost use Rattle.luks_reading.specs.Answer.{AnswerWithin, Opened};
 ghost use Rattle.luks_reading.specs.Checked.{First, WellFormed};
 
-use luks_head::one_choice;
+use luks2_header::one_choice;
 use luks_json::{names_say_numbers, one_kind_of_area, one_value};
 use luks_meta::{metadata_without_faults, one_digest};
 use luks_reading::{CheckFault, no_fault_is_well_formed};

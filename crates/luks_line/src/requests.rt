@@ -71,7 +71,7 @@ fn new_of<'a>(given: &ArgMatches<'a>) -> Option<&'a str> {
 
 fn checking_of<'a>(given: &ArgMatches<'a>) -> Command<'a> {
     Command::Check {
-        data_: data_of(given),
+        payload: data_of(given),
     }
 }
 
@@ -92,7 +92,7 @@ fn editing_of<'a>(name: CommandName, given: &ArgMatches<'a>) -> Option<Command<'
     Some(Command::Edit(Editing {
         request: edit_of(name, given)?,
         random: given.get_str("random"),
-        data_: data_of(given),
+        payload: data_of(given),
         over: given.get_flag("over"),
     }))
 }
@@ -160,7 +160,7 @@ fn formatting_of<'a>(given: &ArgMatches<'a>) -> Option<Command<'a>> {
         },
         kdf: argon2_of(given)?,
         memory: given.get_one::<u32>("memory")?,
-        data_: data_of(given),
+        payload: data_of(given),
         over: given.get_flag("over"),
     }))
 }
@@ -176,7 +176,7 @@ fn converting_of<'a>(given: &ArgMatches<'a>) -> Option<Command<'a>> {
     Some(Command::Convert(Converting {
         target: given.get_str("TARGET")?,
         random: given.get_str("random")?,
-        data_: data_of(given),
+        payload: data_of(given),
         over: given.get_flag("over"),
     }))
 }
@@ -197,7 +197,7 @@ fn rebuilding_of<'a>(given: &ArgMatches<'a>) -> Option<Command<'a>> {
 fn backing_up_of<'a>(given: &ArgMatches<'a>) -> Option<Command<'a>> {
     Some(Command::Backup(BackingUp {
         target: given.get_str("FILE")?,
-        data_: data_of(given),
+        payload: data_of(given),
         over: given.get_flag("over"),
     }))
 }
@@ -205,7 +205,7 @@ fn backing_up_of<'a>(given: &ArgMatches<'a>) -> Option<Command<'a>> {
 fn restoring_of<'a>(given: &ArgMatches<'a>) -> Option<Command<'a>> {
     Some(Command::Restore(Restoring {
         backup: given.get_str("FILE")?,
-        data_: data_of(given),
+        payload: data_of(given),
         other: given.get_flag("other"),
         over: given.get_flag("over"),
         over_reencryption: given.get_flag("over-reencryption"),
@@ -215,7 +215,7 @@ fn restoring_of<'a>(given: &ArgMatches<'a>) -> Option<Command<'a>> {
 fn comparing_of<'a>(given: &ArgMatches<'a>) -> Option<Command<'a>> {
     Some(Command::Compare(Comparing {
         backup: given.get_str("FILE")?,
-        data_: data_of(given),
+        payload: data_of(given),
     }))
 }
 

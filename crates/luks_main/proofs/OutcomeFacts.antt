@@ -22,7 +22,7 @@ use Rattle.luks_commands.specs.Checked.{WhereCheck}
 use Rattle.luks_commands.specs.Formatting.{WhereFormat}
 use Rattle.luks_slot.specs.declared.allowed.Allowed.{Allowed}
 use Rattle.luks_commands.specs.OpenAnswers.{allowed_of, WhereOpen}
-use Rattle.luks_show_command.specs.ShowAnswers.{WhereShow}
+use Rattle.luks_commands.specs.ShowAnswers.{WhereShow}
 use Rattle.luks_header_commands.specs.Converting.{AnswersConvert, WhereConvert}
 use Rattle.luks_header_commands.specs.Rebuilding.{WhereRebuild}
 use Rattle.luks_header_commands.specs.Target.{AreOneFile, IsSameFile}
@@ -81,13 +81,13 @@ pub commands_print : {D : Type 0} (tells : Type 0) (size : D → ℕ) (bytes : D
     → WhereRebuild c (λ rebuilding. (AreOneFile name rebuilding.target.now target → ⊥) → Prints (Rebuilds rebuilding) before after held holds n)
     → WhereBackup c (λ backing_up. AreOneFile name backing_up.target.now target → Z × Prints IsSameFile before after held holds n)
     → WhereBackup c (λ backing_up. (AreOneFile name backing_up.target.now target → ⊥)
-    → Prints (AnswersBackup tells size bytes failures backing_up.data_ volume volume_new target target_new) before after held holds n)
+    → Prints (AnswersBackup tells size bytes failures backing_up.payload volume volume_new target target_new) before after held holds n)
     → WhereRestore c (λ restoring. AreOneFile name restoring.backup.now target → V × Prints IsSameFile before after held holds n)
     → WhereRestore c (λ restoring. (AreOneFile name restoring.backup.now target → ⊥)
     → Prints (AnswersRestore tells size bytes failures restoring volume volume_new target target_new) before after held holds n)
     → WhereCompare c (λ comparing. AreOneFile name comparing.backup.now target → W × Prints IsSameFile before after held holds n)
     → WhereCompare c (λ comparing. (AreOneFile name comparing.backup.now target → ⊥)
-    → Prints (AnswersCompare tells size bytes failures comparing.data_ volume volume_new target target_new) before after held holds n)
+    → Prints (AnswersCompare tells size bytes failures comparing.payload volume volume_new target target_new) before after held holds n)
     → Prints (λ a. EndsWith c a (own a)) before after held holds n
 commands_print tells size bytes failures volume volume_new target target_new unread HasRandom X Y Z V W (command.Check payload) name before after held holds n Checks of_check Shows of_show Opens of_open Edits of_edit Formats of_format Rebuilds of_rebuild check show open_ edit format same_c convert same_r rebuild same_b back same_s restore same_m compare =
     prints_as (Checks payload) _ (of_check payload) before after held holds n check
@@ -110,7 +110,7 @@ commands_print tells size bytes failures volume volume_new target target_new unr
 commands_print tells size bytes failures volume volume_new target target_new unread HasRandom X Y Z V W (command.Backup backing_up) name before after held holds n Checks of_check Shows of_show Opens of_open Edits of_edit Formats of_format Rebuilds of_rebuild check show open_ edit format same_c convert same_r rebuild same_b back same_s restore same_m compare =
     by_one_file (one_file name backing_up.target.now target)
     (λ one. prints_as IsSameFile (λ a. EndsBackup a (own a)) backup_same_file_ends before after held holds n (same_b one).1)
-    (λ two. prints_as (AnswersBackup tells size bytes failures backing_up.data_ volume volume_new target target_new) (λ a. EndsBackup a (own a)) (backup_ends tells size bytes failures backing_up.data_ volume volume_new target target_new) before after held holds n (back two))
+    (λ two. prints_as (AnswersBackup tells size bytes failures backing_up.payload volume volume_new target target_new) (λ a. EndsBackup a (own a)) (backup_ends tells size bytes failures backing_up.payload volume volume_new target target_new) before after held holds n (back two))
 commands_print tells size bytes failures volume volume_new target target_new unread HasRandom X Y Z V W (command.Restore restoring) name before after held holds n Checks of_check Shows of_show Opens of_open Edits of_edit Formats of_format Rebuilds of_rebuild check show open_ edit format same_c convert same_r rebuild same_b back same_s restore same_m compare =
     by_one_file (one_file name restoring.backup.now target)
     (λ one. prints_as IsSameFile (λ a. EndsRestore a (own a)) restore_same_file_ends before after held holds n (same_s one).1)
@@ -118,7 +118,7 @@ commands_print tells size bytes failures volume volume_new target target_new unr
 commands_print tells size bytes failures volume volume_new target target_new unread HasRandom X Y Z V W (command.Compare comparing) name before after held holds n Checks of_check Shows of_show Opens of_open Edits of_edit Formats of_format Rebuilds of_rebuild check show open_ edit format same_c convert same_r rebuild same_b back same_s restore same_m compare =
     by_one_file (one_file name comparing.backup.now target)
     (λ one. prints_as IsSameFile (λ a. EndsCompare a (own a)) compare_same_file_ends before after held holds n (same_m one).1)
-    (λ two. prints_as (AnswersCompare tells size bytes failures comparing.data_ volume volume_new target target_new) (λ a. EndsCompare a (own a)) (compare_ends tells size bytes failures comparing.data_ volume volume_new target target_new) before after held holds n (compare two))
+    (λ two. prints_as (AnswersCompare tells size bytes failures comparing.payload volume volume_new target target_new) (λ a. EndsCompare a (own a)) (compare_ends tells size bytes failures comparing.payload volume volume_new target target_new) before after held holds n (compare two))
 
 -- ---- what it came to
 

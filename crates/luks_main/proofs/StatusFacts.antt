@@ -2,7 +2,7 @@
 use Rattle.std.proofs.Common.{◌≡◌, ◌⊎◌, ℕ, List, Bool, true, false, Option, Some, None, Result, Ok, Err, refl, sym, ap, subst, inl, inr}
 use Rattle.luks_reading.specs.declared.report.Data.{Data}
 use Rattle.luks_reading.specs.declared.report.Version.TheVariants.{Luks1, Luks2}
-use Rattle.luks_head.specs.declared.selection.Copies.TheVariants.{InStep, FirstNewer, SecondNewer, FirstOnly, SecondOnly}
+use Rattle.luks2_header.specs.declared.selection.Copies.TheVariants.{InStep, FirstNewer, SecondNewer, FirstOnly, SecondOnly}
 use Rattle.luks_request.specs.declared.request.Command.{Command}
 use Rattle.luks_request.specs.declared.request.Command.TheVariants as command
 use Rattle.luks_request.specs.declared.request.Converting.{Converting}
@@ -32,7 +32,7 @@ use Rattle.luks_slot.specs.declared.allowed.Allowed.{Allowed}
 use Rattle.luks_commands.specs.OpenAnswers.{AnswersOpen, IsAnyAnswer, IsOneAnswer, IsOpenAnswer}
 use Rattle.luks_commands.specs.FormatAnswers.{AnswersFormat, IsFormatAnswer}
 use Rattle.luks_rebuilding.specs.declared.place.Which.{Which}
-use Rattle.luks_show_command.specs.ShowAnswers.{AnswersShow, IsFullAnswer, IsJsonAnswer, IsListedAnswer, IsMapAnswer, IsShowAnswer}
+use Rattle.luks_commands.specs.ShowAnswers.{AnswersShow, IsFullAnswer, IsJsonAnswer, IsListedAnswer, IsMapAnswer, IsShowAnswer}
 use Rattle.luks_header_commands.specs.Converting.{AnswersConvert, IsConvertAnswer}
 use Rattle.luks_header_commands.specs.Trying.{no_header, none_open, one_opens, trial_failed, AnswersBy, AnswersRebuild, IsTriedAnswer, TriedAnswer}
 use Rattle.luks_header_commands.specs.Rebuilding.{given_of, which_of, IsAnswerOf, IsLuks1Answer, IsLuks2Answer, IsRebuildAnswer}
@@ -278,7 +278,7 @@ convert_there tells payload random d a said = absurd said
 pub convert_ends : {D : Type 0} (tells : Type 0) (size : D → ℕ) (bytes : D → List ℕ) (failed : D → ℕ) (converting : Converting) (unread : InputFault → Type 0) (HasRandom : List ℕ → Type 0)
     (volume volume_new old new : Result D InputFault) (a : Answer) → AnswersConvert tells size bytes failed converting unread HasRandom volume volume_new old new a → EndsConvert a (own a)
 convert_ends tells size bytes failed converting unread HasRandom volume volume_new old new a said =
-    header_ends EndsConvert (λ found. refl) refl refl refl tells size bytes failed converting.over (IsConvertAnswer tells converting.data_) (convert_there tells converting.data_) unread HasRandom volume volume_new old new a said
+    header_ends EndsConvert (λ found. refl) refl refl refl tells size bytes failed converting.over (IsConvertAnswer tells converting.payload) (convert_there tells converting.payload) unread HasRandom volume volume_new old new a said
 
 luks2_there : (tells : Type 0) (which : Which) (given : Option (List ℕ)) (random : List ℕ) (d : Pair) (a : Answer) → IsLuks2Answer tells which given random d a → EndsUntried a (own a)
 luks2_there tells which given random d (Done slot) said = (said.1, refl)
@@ -386,7 +386,7 @@ restore_barred tells r b t bar.Device is a same = subst (λ y. EndsRestore y (ow
 
 restore_both : (tells : Type 0) (r : Restoring) (d : TwoFiles) (a : Answer) → AnswersBoth tells r d a → EndsRestore a (own a)
 restore_both tells r d a (inl held) = restore_barred tells r d.source d.old held.bar held.barred a held.is
-restore_both tells r d a (inr said) = restore_there tells r.data_ (over_of r) d a said.1
+restore_both tells r d a (inr said) = restore_there tells r.payload (over_of r) d a said.1
 
 pub restore_ends : {D : Type 0} (tells : Type 0) (size : D → ℕ) (bytes : D → List ℕ) (failed : D → ℕ) (r : Restoring) (old new backup backup_new : Result D InputFault) (a : Answer)
     → AnswersRestore tells size bytes failed r old new backup backup_new a → EndsRestore a (own a)

@@ -153,8 +153,8 @@ fn tell_more<R: AllocGlobal + Clock + Files<File = File>>(
             }
             tell_leftovers(rt, Looked::at_whole(rebuilding.target), notes);
         }
-        (Command::Check { data_: _ }, 3) => tell_other_use(rt, volume, notes),
-        (Command::Check { data_: _ } | Command::Show(_), 1) => tell_whole(rt, volume, notes),
+        (Command::Check { payload: _ }, 3) => tell_other_use(rt, volume, notes),
+        (Command::Check { payload: _ } | Command::Show(_), 1) => tell_whole(rt, volume, notes),
         (Command::Open { .. }, 1) if ended.answer == "no slot opens\n" => {
             tell_no_keyslots(rt, volume, notes)
         }

@@ -162,10 +162,10 @@ pub(crate) fn outcome_of<R: Files<File = File>, G: Progress>(
     ensures { IsOutcome line.now.command result }
 {
     match line.command {
-        Command::Check { data_ } if manner.json => object_of_check(
+        Command::Check { payload } if manner.json => object_of_check(
             alloc,
             line.volume,
-            data_,
+            payload,
             inputs,
         ),
         Command::Open {
@@ -217,14 +217,14 @@ fn lines_of<R: Files<File = File>, G: Progress>(
 fn object_of_check<R: Files<File = File>>(
     alloc: Global,
     volume: &str,
-    data_: Data,
+    payload: Data,
     inputs: &mut Inputs<Volume, &[u8], LazyFile<'_, R>>,
 ) -> Outcome
     requires { IfOk inputs.old.volume (λ device. cached_failures device ≡ 0) }
-    ensures { IsOutcome (Command.Check data_) result }
+    ensures { IsOutcome (Command.Check payload) result }
 {
     let mut notes = Vec::new(alloc);
-    let answer = check::answer(alloc, &mut inputs.volume, volume, data_, &mut notes);
+    let answer = check::answer(alloc, &mut inputs.volume, volume, payload, &mut notes);
     object_of(alloc, answer, notes)
 }
 

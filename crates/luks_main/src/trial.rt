@@ -1,7 +1,7 @@
 //! Which combinations a passphrase is tried with.
 use luks_edit_commands::{Command, Line, Progress};
 use luks_files::{ERROR, is_terminal};
-use luks_head::Luks1Common;
+use luks2_header::Luks1Common;
 use std::fs::File;
 use std::rt::Files;
 

@@ -5,16 +5,16 @@ use Rattle.std.proofs.lemmas.List.{length-append, length-drop, length-replicate}
 use Rattle.std.proofs.lemmas.Slice.{drop-append-drop}
 use Rattle.luks1_header.specs.Faults.{is_device_fault}
 use Rattle.luks1_header.specs.Header1.{luks_magic}
-use Rattle.luks_head.specs.Header2.{copy_at, hdr_size, second_magic, IsSound}
-use Rattle.luks_head.specs.Sizes.{IsListed}
-use Rattle.luks_head.specs.Selection.{Chosen, IsChosenCopy, IsRefused, IsSecondAlone, IsSelectFault, IsVersion1, luks2, nothing}
-use Rattle.luks_head.proofs.ChoiceFacts.{chosen_is_sound}
-use Rattle.luks_head.proofs.SoundnessFacts.{sound_by_copy}
+use Rattle.luks2_header.specs.Header2.{copy_at, hdr_size, second_magic, IsSound}
+use Rattle.luks2_header.specs.Sizes.{IsListed}
+use Rattle.luks2_header.specs.Selection.{Chosen, IsChosenCopy, IsRefused, IsSecondAlone, IsSelectFault, IsVersion1, luks2, nothing}
+use Rattle.luks2_header.proofs.ChoiceFacts.{chosen_is_sound}
+use Rattle.luks2_header.proofs.SoundnessFacts.{sound_by_copy}
 use Rattle.luks_notes.specs.BehindZeros.{behind_zeros}
 use Rattle.luks1_header.specs.declared.fault.HeadFault.{HeadFault}
 use Rattle.luks1_header.specs.declared.fault.HeadFault.TheVariants as fault
-use Rattle.luks_head.specs.declared.selection.Copies.{Copies}
-use Rattle.luks_head.specs.declared.selection.Copies.TheVariants.{InStep, FirstNewer, SecondNewer, FirstOnly, SecondOnly}
+use Rattle.luks2_header.specs.declared.selection.Copies.{Copies}
+use Rattle.luks2_header.specs.declared.selection.Copies.TheVariants.{InStep, FirstNewer, SecondNewer, FirstOnly, SecondOnly}
 
 pub length-behind : (v : List ℕ) (p : ℕ) → length (behind_zeros v p) ≡ length v
 length-behind v p = grind (arith, length-append (replicate (min p (length v)) 0) (drop (min p (length v)) v), length-replicate {A = ℕ} (min p (length v)) 0, length-drop (min p (length v)) v)

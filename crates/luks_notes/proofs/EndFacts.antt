@@ -1,8 +1,8 @@
 -- How large a header is.
 use Rattle.std.proofs.Common.{ℕ, ◌≤◌, nat_le, refl}
 use Rattle.std.proofs.lemmas.Bool.{leb-true}
-use Rattle.luks_head.specs.Sizes.{IsListed, listed_sizes}
-use Rattle.luks_head.proofs.CopyFacts.{among_pass}
+use Rattle.luks2_header.specs.Sizes.{IsListed, listed_sizes}
+use Rattle.luks2_header.proofs.CopyFacts.{among_pass}
 
 -- a listed size is the largest one at most
 pub listed_at_most : (n : ℕ) → IsListed n → n ≤ 0x400000

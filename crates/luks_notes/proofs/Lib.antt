@@ -2,3 +2,4 @@ pub mod BehindZerosFacts
 pub mod EndFacts
 pub mod ThoseFacts
 pub mod NotedFacts
+pub mod RefusalFacts

@@ -1,9 +1,9 @@
 -- How far the header goes that counts of a volume (LUKS1 1.2.3, "The partition header"; LUKS2 On-Disk Format 1.1, 2.1).
 use Rattle.std.specs.Prelude.{◌≡◌, ℕ, ◌+◌, List, Option, None, Some}
 use Rattle.luks1_header.specs.Header1.{luks1_size}
-use Rattle.luks_head.specs.Header2.{header_at, hdr_size}
-use Rattle.luks_head.specs.Selection.{Chosen, luks1, luks2, nothing}
-use Rattle.luks_head.specs.declared.selection.Copies.{Copies}
+use Rattle.luks2_header.specs.Header2.{header_at, hdr_size}
+use Rattle.luks2_header.specs.Selection.{Chosen, luks1, luks2, nothing}
+use Rattle.luks2_header.specs.declared.selection.Copies.{Copies}
 
 -- the header that counts of the volume v is in its first n bytes: that of LUKS1 alone, of LUKS2 both copies, each of the
 -- size that the one that counts names

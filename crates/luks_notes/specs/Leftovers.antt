@@ -2,7 +2,7 @@
 -- file systems ext2, ext3 and ext4, and of swap on pages of 4096 bytes).
 use Rattle.std.specs.Prelude.{◌≡◌, ℕ, ◌≤◌, List, [], ◌∷◌, codes}
 use Rattle.luks_area.specs.Ranges.{part}
-use Rattle.luks_head.specs.Header2.{IsSound}
+use Rattle.luks2_header.specs.Header2.{IsSound}
 use Rattle.luks_notes.specs.declared.leftover.Leftover.{Leftover}
 use Rattle.luks_notes.specs.declared.leftover.Leftover.TheVariants.{SecondCopy, Ext, Swap}
 

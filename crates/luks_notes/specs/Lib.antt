@@ -4,3 +4,5 @@ pub mod HeaderEnd
 pub mod Leftovers
 pub mod Lost
 pub mod Noted
+pub mod MemoryNotes
+pub mod OlderNotes

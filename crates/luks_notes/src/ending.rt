@@ -1,11 +1,11 @@
 //! Where the header ends that was made.
 ghost use Rattle.std.specs.Prelude.{◌≡◌, ◌+◌, ◌≤◌, ◌<◌, ◌^◌, IfOk, IfSome};
 ghost use Rattle.luks_area.specs.Device.{CountsFailure, IsUnchanged, is_failure};
-ghost use Rattle.luks_head.specs.Sizes.{IsListed};
+ghost use Rattle.luks2_header.specs.Sizes.{IsListed};
 ghost use Rattle.luks_notes.specs.HeaderEnd.{EndsAt};
 
 use luks_area::{Device, DeviceFault};
-use luks_head::{HeadFault, Selected, select};
+use luks2_header::{HeadFault, Selected, select};
 use std::alloc::Global;
 
 /// How many of a device's first bytes belong to the header that counts there: of LUKS1 its 592, of
@@ -26,7 +26,7 @@ pub fn header_end<D: Device>(alloc: Global, device: &mut D) -> Result<Option<usi
 }
 
 /// The bytes of two copies of this size.
-#[tactic(auto, using(luks_head::proofs::CopyFacts::listed_at_least, crate::proofs::EndFacts::listed_at_most))]
+#[tactic(auto, using(luks2_header::proofs::CopyFacts::listed_at_least, crate::proofs::EndFacts::listed_at_most))]
 fn both_copies(size: u64) -> usize
     requires { IsListed size }
     ensures both { result ≡ size + size }

@@ -1,12 +1,12 @@
 //! What may be left, and whether it is.
 ghost use Rattle.std.specs.Prelude.{◌≡◌, ◌↔◌, ◌≤◌, length, IfOk, IsTrue, Some};
 ghost use Rattle.luks_area.specs.Ranges.{part};
-ghost use Rattle.luks_head.specs.Header2.{IsSound};
+ghost use Rattle.luks2_header.specs.Header2.{IsSound};
 ghost use Rattle.luks_notes.specs.BehindZeros.{behind_zeros};
 ghost use Rattle.luks_notes.specs.Leftovers.{IsLeft};
 
 use luks_area::MemDevice;
-use luks_head::{Selected, select};
+use luks2_header::{Selected, select};
 use std::alloc::{AllocError, Global};
 use std::fmt;
 

@@ -1,8 +1,8 @@
 //! Says on standard error what a command's answer doesn't tell of a volume: in which copy of a LUKS2 header
 //! metadata is whole, of a volume of which no header counts and of one whose header was rebuilt; which
-//! keyslots were lost where that was a LUKS1 header; that a volume has no keyslot; and what stands on one that
-//! was just made where nothing was written, as second copies of older headers, and the signatures of file
-//! systems and of swap.
+//! keyslots were lost where that was a LUKS1 header; that a volume has no keyslot; which keyslots weren't
+//! tried, and why; and what stands on a volume that was just made where nothing was written, as second copies
+//! of older headers, and the signatures of file systems and of swap.
 #![tactic(auto)]
 
 mod ending;
@@ -11,14 +11,22 @@ mod further;
 mod keyslots;
 mod leftover;
 mod lost;
+mod memory;
 mod metadata;
 mod noted;
 mod older;
+mod older_keyslot;
+mod passed_over;
+mod telling;
 
 pub use ending::header_end;
 pub use front::{FrontFault, read_front};
 pub use keyslots::note_no_keyslots;
 pub use leftover::Leftover;
 pub use lost::note_lost;
+pub use memory::{MemoryNote, memory_note};
 pub use metadata::{note_taken, note_whole};
 pub use noted::{leftovers, note_leftovers};
+pub use older_keyslot::{OlderNote, older_note};
+pub use passed_over::note_passed_over;
+pub use telling::{note_all_wanting, note_refused, note_wanting};

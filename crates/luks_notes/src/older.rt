@@ -3,7 +3,7 @@ ghost use Rattle.std.specs.Prelude.{◌+◌, ◌^◌, ◌<◌};
 ghost use Rattle.luks_area.specs.Device.{CountsFailure, IsUnchanged, is_failure};
 
 use luks_area::{Device, DeviceFault};
-use luks_head::Bin2;
+use luks2_header::Bin2;
 use luks_rebuilding::Candidate;
 use std::io::Write;
 

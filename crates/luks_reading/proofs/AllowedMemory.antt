@@ -5,8 +5,8 @@ use Rattle.std.specs.Prelude.{◌||◌, ◌==◌, not, Bool, if◌then◌else◌
 use Rattle.luks_area.specs.Ranges.{part}
 use Rattle.luks1_header.specs.declared.fault.HeadFault.{HeadFault}
 use Rattle.luks1_header.specs.Header1.{entry}
-use Rattle.luks_head.specs.Selection.{Choice, luks1, luks2, nothing}
-use Rattle.luks_head.proofs.ChoiceFacts.{choices_agree}
+use Rattle.luks2_header.specs.Selection.{Choice, luks1, luks2, nothing}
+use Rattle.luks2_header.proofs.ChoiceFacts.{choices_agree}
 use Rattle.luks_slot.specs.declared.allowed.Allowed.{Allowed}
 use Rattle.luks_slot.specs.declared.fault.SlotFault.{SlotFault}
 use Rattle.luks_slot.specs.declared.fault.SlotFault.TheVariants as fault

@@ -8,7 +8,7 @@ use Rattle.luks_area.specs.declared.area.AreaName.TheVariants.{Head1, Head2, Slo
 use Rattle.luks_area.specs.declared.areas.Entry.{Entry}
 use Rattle.luks_area.specs.Area.{IsAreaFault, area_key}
 use Rattle.luks_area.specs.First.{NotAfter, IsLeast}
-use Rattle.luks_head.specs.Header2.{hdr_size}
+use Rattle.luks2_header.specs.Header2.{hdr_size}
 use Rattle.luks_rules.specs.declared.fault.MetaFault.{MetaFault}
 use Rattle.luks_rules.specs.declared.fault.MetaFault.TheVariants as meta
 use Rattle.luks_rules.specs.declared.table.Outer.TheVariants as outer

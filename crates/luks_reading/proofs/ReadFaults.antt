@@ -5,11 +5,11 @@ use Rattle.luks_area.specs.Ranges.{part}
 use Rattle.luks1_header.specs.declared.fault.HeadFault.{HeadFault}
 use Rattle.luks1_header.specs.declared.fault.HeadFault.TheVariants as head
 use Rattle.luks1_header.specs.Faults.{head_key}
-use Rattle.luks_head.specs.declared.bin2.Bin2.{Bin2}
-use Rattle.luks_head.specs.declared.selection.Copies.{Copies}
-use Rattle.luks_head.specs.Header2.{header_at, uuid_field, HoldsBin2, IsUuidFault}
-use Rattle.luks_head.specs.Selection.{Choice, luks1, luks2, nothing, Chosen, IsOfSelection, IsRefused, IsSelectFault}
-use Rattle.luks_head.proofs.ChoiceFacts.{choices_agree, uuid_sound}
+use Rattle.luks2_header.specs.declared.bin2.Bin2.{Bin2}
+use Rattle.luks2_header.specs.declared.selection.Copies.{Copies}
+use Rattle.luks2_header.specs.Header2.{header_at, uuid_field, HoldsBin2, IsUuidFault}
+use Rattle.luks2_header.specs.Selection.{Choice, luks1, luks2, nothing, Chosen, IsOfSelection, IsRefused, IsSelectFault}
+use Rattle.luks2_header.proofs.ChoiceFacts.{choices_agree, uuid_sound}
 use Rattle.luks_rules.specs.declared.fault.MetaFault.{MetaFault}
 use Rattle.luks_rules.specs.declared.fault.MetaFault.TheVariants as meta
 use Rattle.luks_rules.proofs.Deciding.{metadata_faultless}

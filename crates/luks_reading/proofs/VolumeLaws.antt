@@ -3,8 +3,8 @@ use Rattle.std.proofs.Common.{◌↔◌, ℕ, List}
 use Rattle.luks1_header.specs.declared.fault.HeadFault.{HeadFault}
 use Rattle.luks1_header.proofs.Luks1FaultFacts.{sound}
 use Rattle.luks1_header.proofs.Luks1HeaderFacts.{header_found}
-use Rattle.luks_head.specs.Header2.{IsUuidFault, IsUuidField}
-use Rattle.luks_head.proofs.ChoiceFacts.{choice_exists, choices_agree, uuid_accepted, uuid_sound}
+use Rattle.luks2_header.specs.Header2.{IsUuidFault, IsUuidField}
+use Rattle.luks2_header.proofs.ChoiceFacts.{choice_exists, choices_agree, uuid_accepted, uuid_sound}
 use Rattle.luks_rules.proofs.AreaFaults.{one_value}
 use Rattle.luks_rules.proofs.Deciding.{metadata_faultless}
 use Rattle.luks_meta.proofs.Namings.{one_digest}

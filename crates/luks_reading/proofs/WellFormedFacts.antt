@@ -14,9 +14,9 @@ use Rattle.luks1_header.specs.declared.fault.HeadFault.TheVariants as head
 use Rattle.luks1_header.specs.declared.luks1.Luks1.{Luks1}
 use Rattle.luks1_header.specs.Faults.{IsLuks1Fault as IsLuks1HeadFault}
 use Rattle.luks1_header.specs.Header1.{IsLuks1}
-use Rattle.luks_head.specs.declared.selection.Copies.{Copies}
-use Rattle.luks_head.specs.Header2.{header_at, hdr_size, uuid_field, IsUuidField, IsUuidFault}
-use Rattle.luks_head.specs.Selection.{Choice, luks1, luks2, nothing, Chosen}
+use Rattle.luks2_header.specs.declared.selection.Copies.{Copies}
+use Rattle.luks2_header.specs.Header2.{header_at, hdr_size, uuid_field, IsUuidField, IsUuidFault}
+use Rattle.luks2_header.specs.Selection.{Choice, luks1, luks2, nothing, Chosen}
 use Rattle.luks_rules.specs.declared.fault.MetaFault.{MetaFault}
 use Rattle.luks_rules.specs.declared.fault.MetaFault.TheVariants as meta
 use Rattle.luks_meta.specs.Accepted.{IsMeta}

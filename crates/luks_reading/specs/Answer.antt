@@ -8,8 +8,8 @@ use Rattle.luks1_header.specs.declared.fault.HeadFault.TheVariants as head
 use Rattle.luks1_header.specs.declared.fault.IterationsOf.TheVariants as of
 use Rattle.luks1_header.specs.Faults.{head_key, IsCommonFault, IsEntryFault}
 use Rattle.luks1_header.specs.Header1.{active_word, disabled_word, entry}
-use Rattle.luks_head.specs.Header2.{header_at, uuid_field, IsUuidFault}
-use Rattle.luks_head.specs.Selection.{Choice, luks1, luks2, nothing, Chosen, IsSelectFault}
+use Rattle.luks2_header.specs.Header2.{header_at, uuid_field, IsUuidFault}
+use Rattle.luks2_header.specs.Selection.{Choice, luks1, luks2, nothing, Chosen, IsSelectFault}
 use Rattle.luks_rules.specs.declared.table.Section.TheVariants.{Keyslots}
 use Rattle.luks_meta.specs.Faults.{object_at}
 use Rattle.luks_meta.specs.MetaFault.{Json, IsMetaFault, meta_key}

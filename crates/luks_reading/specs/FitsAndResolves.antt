@@ -2,8 +2,8 @@
 use Rattle.std.specs.Prelude.{ℕ, List, length}
 use Rattle.serde_json.specs.Data.{Data as Value}
 use Rattle.luks_area.specs.Area.{Fit}
-use Rattle.luks_head.specs.Selection.{luks2, Chosen}
-use Rattle.luks_head.specs.declared.selection.Copies.{Copies}
+use Rattle.luks2_header.specs.Selection.{luks2, Chosen}
+use Rattle.luks2_header.specs.declared.selection.Copies.{Copies}
 use Rattle.luks_meta.specs.Accepted.{Resolves}
 use Rattle.luks_meta.specs.MetaFault.{Json}
 use Rattle.luks_reading.specs.declared.report.Data.{Data}

@@ -4,9 +4,9 @@ use Rattle.luks_area.specs.First.{IsLeast}
 use Rattle.luks_area.specs.Ranges.{part}
 use Rattle.luks1_header.specs.declared.fault.HeadFault.{HeadFault}
 use Rattle.luks1_header.specs.Faults.{head_key}
-use Rattle.luks_head.specs.declared.selection.Copies.{Copies}
-use Rattle.luks_head.specs.Header2.{header_at, hdr_size, uuid_field, HoldsBin2, IsUuidField, IsUuidFault}
-use Rattle.luks_head.specs.Selection.{Choice, luks1, luks2, nothing, Chosen, IsSelectFault}
+use Rattle.luks2_header.specs.declared.selection.Copies.{Copies}
+use Rattle.luks2_header.specs.Header2.{header_at, hdr_size, uuid_field, HoldsBin2, IsUuidField, IsUuidFault}
+use Rattle.luks2_header.specs.Selection.{Choice, luks1, luks2, nothing, Chosen, IsSelectFault}
 use Rattle.luks_meta.specs.Accepted.{IsMeta}
 use Rattle.luks_meta.specs.Content.{area_len, content}
 use Rattle.luks_meta.specs.MetaFault.{IsMetaFault, meta_key}

@@ -1,7 +1,7 @@
 -- What opening answers by a header that was read.
 use Rattle.std.specs.Prelude.{◌≡◌, ◌≢◌, ℕ, List, length, Option, Result, IfOk, IfErr, IfSome}
 use Rattle.serde_json.specs.Data.{Data as Value}
-use Rattle.luks_head.specs.Header2.{uuid_field}
+use Rattle.luks2_header.specs.Header2.{uuid_field}
 use Rattle.luks_slot.specs.declared.allowed.Allowed.{Allowed}
 use Rattle.luks_reading.specs.declared.header.Header.{Header}
 use Rattle.luks_reading.specs.declared.open_fault.OpenFault.{OpenFault}

@@ -2,8 +2,8 @@
 use Rattle.std.specs.Prelude.{◌≡◌, ℕ, List, ⊤}
 use Rattle.luks_area.specs.declared.area.Area.{Area as TheArea}
 use Rattle.luks_area.specs.declared.area.AreaName.{AreaName}
-use Rattle.luks_head.specs.Header2.{header_at, seqid}
-use Rattle.luks_head.specs.Selection.{luks1, luks2, Chosen}
+use Rattle.luks2_header.specs.Header2.{header_at, seqid}
+use Rattle.luks2_header.specs.Selection.{luks1, luks2, Chosen}
 use Rattle.luks_meta.specs.Content.{content}
 use Rattle.luks_reading.specs.declared.check_fault.CheckFault.{CheckFault}
 use Rattle.luks_reading.specs.declared.check_fault.CheckFault.TheVariants.{Head, Meta, Area, Device, Memory}

@@ -5,8 +5,8 @@ use Rattle.luks_area.specs.First.{IsLeast}
 use Rattle.luks_area.specs.Ranges.{part}
 use Rattle.luks1_header.specs.Faults.{IsCommonFault}
 use Rattle.luks1_header.specs.Header1.{active_word, enabled_word, entry}
-use Rattle.luks_head.specs.Header2.{header_at, uuid_field, IsUuidFault}
-use Rattle.luks_head.specs.Selection.{Choice, luks1, luks2, nothing, Chosen}
+use Rattle.luks2_header.specs.Header2.{header_at, uuid_field, IsUuidFault}
+use Rattle.luks2_header.specs.Selection.{Choice, luks1, luks2, nothing, Chosen}
 use Rattle.luks_rules.specs.declared.table.Member.TheVariants as name
 use Rattle.luks_rules.specs.declared.table.Outer.TheVariants as outer
 use Rattle.luks_rules.specs.declared.table.Rule.TheVariants as rule

@@ -4,7 +4,7 @@ ghost use Rattle.luks_reading.specs.FaultTexts.{check_fault_text};
 
 use crate::read_fault::ReadFault;
 use luks_area::AreaFault;
-use luks_head::HeadFault;
+use luks2_header::HeadFault;
 use luks_meta::MetaFault;
 use std::error::Error;
 use std::fmt;

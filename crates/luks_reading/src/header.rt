@@ -1,8 +1,8 @@
 //! The header that counts of a volume, as every call reads it.
 ghost use Rattle.std.specs.Prelude.{◌≡◌, ◌≢◌, ◌+◌, ◌-◌, ◌^◌, ◌<◌, ℕ, List, length, IfOk, IfErr};
 ghost use Rattle.luks_area.specs.Device.{CountsFailure, IsUnchanged};
-ghost use Rattle.luks_head.specs.Header2.{IsUuidField};
-ghost use Rattle.luks_head.specs.Header2.{IsCopyWithin};
+ghost use Rattle.luks2_header.specs.Header2.{IsUuidField};
+ghost use Rattle.luks2_header.specs.Header2.{IsCopyWithin};
 ghost use Rattle.luks_meta.specs.Content.{area_len, content};
 ghost use Rattle.luks_meta.specs.Objects.{IsAccepted};
 ghost use Rattle.luks_reading.specs.ChosenCopies.{CopyRefused, IsCleared, IsFromOutside, json_of};
@@ -11,7 +11,7 @@ ghost use Rattle.luks_reading.specs.Header.{IsAcceptedHeader, IsHeader, IsUnread
 
 use crate::read_fault::ReadFault;
 use luks_area::Device;
-use luks_head::{Bin2, Copies, KEPT_JSON, Selected, select_with_json};
+use luks2_header::{Bin2, Copies, KEPT_JSON, Selected, select_with_json};
 use luks_meta::Meta;
 use std::alloc::Global;
 

@@ -15,7 +15,7 @@ ghost use Rattle.luks_reading.specs.Listing.{AddsLuks2Slots, AddsSegments, Lists
 use crate::plan::luks1_area;
 use crate::report::Data;
 use luks_area::{Area, AreaName, Areas, SECTOR};
-use luks_head::Luks1;
+use luks2_header::Luks1;
 use luks_meta::{Extent, Meta, Segment};
 
 /// The bytes of a LUKS1 header.
@@ -23,8 +23,8 @@ pub(crate) const LUKS1_HEADER: u64 = 592;
 
 /// The areas of a volume of `total` bytes with this LUKS1 header: the header itself, all eight key
 /// slots, enabled or not, and with the payload here the segment that runs to the volume's end.
-pub(crate) fn luks1_areas(header: &Luks1, data_: Data, total: u64) -> Areas
-    ensures { (h : List ℕ) → IsLuks1 h header.now → Lists result (Luks1Area h data_ total) }
+pub(crate) fn luks1_areas(header: &Luks1, payload: Data, total: u64) -> Areas
+    ensures { (h : List ℕ) → IsLuks1 h header.now → Lists result (Luks1Area h payload total) }
 {
     let mut areas = Areas::new();
     areas.push(
@@ -35,7 +35,7 @@ pub(crate) fn luks1_areas(header: &Luks1, data_: Data, total: u64) -> Areas
         },
     );
     add_luks1_slots(&mut areas, header);
-    match data_ {
+    match payload {
         Data::Here => {
             let start = u64::from(header.common.payload_offset) * SECTOR;
             areas.push(AreaName::Segment(0), to_end(start, total));
@@ -62,8 +62,8 @@ fn add_luks1_slots(areas: &mut Areas, header: &Luks1)
 
 /// The areas of a volume of `total` bytes whose LUKS2 header has `size` bytes and this metadata:
 /// both copies of the header, the keyslots, and with the payload here the segments.
-pub fn luks2_areas(meta: &Meta, size: u64, data_: Data, total: u64) -> Areas
-    ensures { Lists result (Luks2Area (content meta.now) size data_ total) }
+pub fn luks2_areas(meta: &Meta, size: u64, payload: Data, total: u64) -> Areas
+    ensures { Lists result (Luks2Area (content meta.now) size payload total) }
 {
     let mut areas = Areas::new();
     areas.push(
@@ -81,7 +81,7 @@ pub fn luks2_areas(meta: &Meta, size: u64, data_: Data, total: u64) -> Areas
         },
     );
     add_luks2_slots(&mut areas, meta);
-    match data_ {
+    match payload {
         Data::Here => {
             add_segments(&mut areas, meta, total);
             areas

@@ -33,7 +33,7 @@ pub use layout::luks2_areas;
 pub use luks_area::{
     Area, AreaFault, AreaName, Areas, Device, DeviceFault, Entry, MemDevice, text_field,
 };
-pub use luks_head::{Bin2, Copies, HeadFault, Luks1, Luks1Slot, Selected, SlotState, select};
+pub use luks2_header::{Bin2, Copies, HeadFault, Luks1, Luks1Slot, Selected, SlotState, select};
 pub use luks_meta::{
     Config, Cost, Digest, Extent, Keyslot, Meta, MetaFault, Segment, SegmentKind, Token,
 };

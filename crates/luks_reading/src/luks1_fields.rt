@@ -8,7 +8,7 @@ ghost use Rattle.luks1_header.specs.Header1.{IsCommon};
 ghost use Rattle.luks_reading.specs.Luks1Keyslots.{EntryRefused, IsEnabled};
 
 use crate::open_fault::OpenFault;
-use luks_head::{HeadFault, Luks1, Luks1Common, Luks1Slot, SlotState};
+use luks2_header::{HeadFault, Luks1, Luks1Common, Luks1Slot, SlotState};
 
 /// The bytes of a LUKS1 header before its keyslots.
 const COMMON_SIZE: usize = 208;

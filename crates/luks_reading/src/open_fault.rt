@@ -3,7 +3,7 @@ ghost use Rattle.luks_reading.specs.Conversions.{head_unread, slot_opened, unrea
 ghost use Rattle.luks_reading.specs.FaultTexts.{open_fault_text};
 
 use crate::read_fault::ReadFault;
-use luks_head::HeadFault;
+use luks2_header::HeadFault;
 use luks_meta::MetaFault;
 use luks_slot::SlotFault;
 use std::error::Error;

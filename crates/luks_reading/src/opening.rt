@@ -5,7 +5,7 @@ ghost use Rattle.luks1_header.specs.declared.fault.HeadFault.{HeadFault as TheFa
 ghost use Rattle.luks1_header.specs.Bytes.{number_at};
 ghost use Rattle.luks1_header.specs.Faults.{IsCommonFault};
 ghost use Rattle.luks1_header.specs.Header1.{IsCommon};
-ghost use Rattle.luks_head.specs.Header2.{uuid_field};
+ghost use Rattle.luks2_header.specs.Header2.{uuid_field};
 ghost use Rattle.luks_meta.specs.Content.{content};
 ghost use Rattle.luks_meta.specs.Objects.{IsAccepted};
 ghost use Rattle.luks_reading.specs.declared.header.Header.TheVariants.{Luks2 as OfLuks2};
@@ -26,7 +26,7 @@ use crate::nearest::{Nearest, note_distance};
 use crate::open_fault::OpenFault;
 use crate::plan::{luks1_plan, luks2_plan};
 use luks_area::Device;
-use luks_head::Luks1Common;
+use luks2_header::Luks1Common;
 use luks_meta::Meta;
 use luks_slot::{Allowed, Key, SlotPlan, Tried, try_within};
 use std::alloc::Global;

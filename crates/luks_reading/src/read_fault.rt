@@ -3,7 +3,7 @@ ghost use Rattle.luks_reading.specs.Conversions.{head_unread, meta_unread};
 ghost use Rattle.luks_reading.specs.FaultTexts.{read_fault_text};
 
 use luks_area::DeviceFault;
-use luks_head::HeadFault;
+use luks2_header::HeadFault;
 use luks_meta::MetaFault;
 use std::alloc::AllocError;
 use std::error::Error;

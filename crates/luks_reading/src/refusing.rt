@@ -1,6 +1,6 @@
 //! Why a keyslot is refused whatever the passphrase.
 ghost use Rattle.std.specs.Prelude.{◌≡◌, ℕ, List, length, IfSome, IsNone};
-ghost use Rattle.luks_head.specs.Header2.{uuid_field};
+ghost use Rattle.luks2_header.specs.Header2.{uuid_field};
 ghost use Rattle.luks_meta.specs.Content.{content};
 ghost use Rattle.luks_meta.specs.Objects.{IsAccepted};
 ghost use Rattle.luks_reading.specs.Answer.{FirstRefusal, IsLuks1Refusal, IsLuks2RefusalWithin, IsRefusalWithin};

@@ -1,5 +1,5 @@
 use luks_area::Areas;
-use luks_head::Copies;
+use luks2_header::Copies;
 
 /// Where the payload lies.
 #[derive(Debug, Clone, Copy, PartialEq, Eq)]

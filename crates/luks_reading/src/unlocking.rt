@@ -5,7 +5,7 @@ ghost use Rattle.luks1_header.specs.declared.fault.HeadFault.{HeadFault as TheFa
 ghost use Rattle.luks1_header.specs.Bytes.{number_at};
 ghost use Rattle.luks1_header.specs.Faults.{IsCommonFault};
 ghost use Rattle.luks1_header.specs.Header1.{IsCommon};
-ghost use Rattle.luks_head.specs.Header2.{uuid_field};
+ghost use Rattle.luks2_header.specs.Header2.{uuid_field};
 ghost use Rattle.luks_meta.specs.Content.{content};
 ghost use Rattle.luks_meta.specs.Objects.{IsAccepted};
 ghost use Rattle.luks_reading.specs.Agreement.{AgreesUnlocked};
@@ -23,7 +23,7 @@ use crate::nearest::Nearest;
 use crate::open_fault::OpenFault;
 use crate::opening::{open_luks1_slot, open_luks2};
 use luks_area::Device;
-use luks_head::Luks1Common;
+use luks2_header::Luks1Common;
 use luks_meta::Meta;
 use luks_slot::{Allowed, Key};
 use std::alloc::Global;

@@ -2,10 +2,10 @@
 use Rattle.std.proofs.Common.{◌≡◌, ℕ, ◌+◌, ◌⊎◌, ◌++◌, List, length, replicate, inl, inr, sym, ap, ◌∙◌, subst, Result, Ok, Err, OnOk}
 use Rattle.luks_area.specs.Ranges.{part, IsAt, SameBut}
 use Rattle.luks_area.specs.Text.{text_of}
-use Rattle.luks_head.specs.Header2.{magic_of}
-use Rattle.luks_head.specs.Sizes.{IsListed}
-use Rattle.luks_head.specs.Written.{IsWrittenCopy}
-use Rattle.luks_head.specs.declared.bin2.Bin2.{Bin2}
+use Rattle.luks2_header.specs.Header2.{magic_of}
+use Rattle.luks2_header.specs.Sizes.{IsListed}
+use Rattle.luks2_header.specs.Written.{IsWrittenCopy}
+use Rattle.luks2_header.specs.declared.bin2.Bin2.{Bin2}
 use Rattle.luks_writing.specs.Copy.{HasCopy, IsCopyHeader}
 use Rattle.luks_writing.proofs.CopyFacts.{copy_stays as written_stays}
 use Rattle.luks_rebuilding.specs.Candidates.{Source}

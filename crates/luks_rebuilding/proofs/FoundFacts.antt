@@ -1,6 +1,6 @@
 -- Which candidate is found, and why none is.
 use Rattle.std.proofs.Common.{◌≡◌, List, ℕ, inl, Some, None, Result, Ok, Err, IfOk, IfErr, OnOk}
-use Rattle.luks_head.specs.Selection.{nothing, Chosen}
+use Rattle.luks2_header.specs.Selection.{nothing, Chosen}
 use Rattle.luks_rebuilding.specs.Found.{source_of, FindsFirst, FindsVouchedFirst, IsFoundIn, IsNotPlain}
 use Rattle.luks_rebuilding.specs.Outcome.{IsNotFound, PassesCounts}
 use Rattle.luks_rebuilding.specs.declared.candidate.Candidate.{Candidate}

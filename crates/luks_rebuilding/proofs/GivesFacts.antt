@@ -8,15 +8,15 @@ use Rattle.luks_area.specs.declared.area.Area.{Area}
 use Rattle.luks_area.specs.declared.area.AreaName.{AreaName}
 use Rattle.luks_area.specs.declared.area.AreaName.TheVariants as name
 use Rattle.luks1_header.specs.Bytes.{IsUuid}
-use Rattle.luks_head.proofs.BinaryHeaderFacts.{written_in_step}
-use Rattle.luks_head.proofs.ChoiceFacts.{choices_agree, uuid_sound}
-use Rattle.luks_head.proofs.CopyFacts.{listed_at_least}
-use Rattle.luks_head.specs.Header2.{hdr_size, header_at, uuid_field, IsUuidField}
-use Rattle.luks_head.specs.Selection.{Choice, luks2, Chosen}
-use Rattle.luks_head.specs.Sizes.{IsListed}
-use Rattle.luks_head.specs.Written.{IsWrittenCopy}
-use Rattle.luks_head.specs.declared.selection.Copies.TheVariants.{InStep}
-use Rattle.luks_head.proofs.UuidFacts.{fills, uuid_text-is}
+use Rattle.luks2_header.proofs.BinaryHeaderFacts.{written_in_step}
+use Rattle.luks2_header.proofs.ChoiceFacts.{choices_agree, uuid_sound}
+use Rattle.luks2_header.proofs.CopyFacts.{listed_at_least}
+use Rattle.luks2_header.specs.Header2.{hdr_size, header_at, uuid_field, IsUuidField}
+use Rattle.luks2_header.specs.Selection.{Choice, luks2, Chosen}
+use Rattle.luks2_header.specs.Sizes.{IsListed}
+use Rattle.luks2_header.specs.Written.{IsWrittenCopy}
+use Rattle.luks2_header.specs.declared.selection.Copies.TheVariants.{InStep}
+use Rattle.luks2_header.proofs.UuidFacts.{fills, uuid_text-is}
 use Rattle.luks_rules.proofs.AreaFaults.{one_value}
 use Rattle.luks_rules.proofs.Deciding.{metadata_faultless}
 use Rattle.luks_meta.specs.Accepted.{IsMeta}

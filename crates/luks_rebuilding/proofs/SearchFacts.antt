@@ -5,9 +5,9 @@ use Rattle.std.proofs.lemmas.List.{take_rest}
 use Rattle.luks_area.specs.First.{NotAfter}
 use Rattle.luks_area.specs.Ranges.{part}
 use Rattle.luks_area.specs.RangeFacts.{part-part}
-use Rattle.luks_head.specs.Sizes.{is_among, IsListed}
-use Rattle.luks_head.proofs.CopyFacts.{among_pass, listed_at_least}
-use Rattle.luks_head.proofs.SecondCopyFacts.{is_rising, later}
+use Rattle.luks2_header.specs.Sizes.{is_among, IsListed}
+use Rattle.luks2_header.proofs.CopyFacts.{among_pass, listed_at_least}
+use Rattle.luks2_header.proofs.SecondCopyFacts.{is_rising, later}
 use Rattle.luks_json.specs.AreaText.{JsonText}
 use Rattle.luks_rules.specs.declared.fault.MetaFault.TheVariants.{JsonArea}
 use Rattle.luks_rebuilding.specs.Candidates.{json_of, place_key, HasToBeRead, IsBegun, IsCandidate}

@@ -1,8 +1,8 @@
 -- The first candidate of the copies of one size, or of the second copy of that size.
 use Rattle.std.proofs.Common.{◌≡◌, ◌≢◌, ℕ, ◌⊎◌, List, [], ◌∷◌, inl, inr, arith, refl, sym, ap, ◌∙◌, subst, Option, Some, None, Result, Ok, Err, IfOk, IfSome}
 use Rattle.luks_area.specs.First.{NotAfter}
-use Rattle.luks_head.specs.Sizes.{IsListed}
-use Rattle.luks_head.proofs.CopyFacts.{listed_at_least}
+use Rattle.luks2_header.specs.Sizes.{IsListed}
+use Rattle.luks2_header.proofs.CopyFacts.{listed_at_least}
 use Rattle.luks_rebuilding.specs.Candidates.{json_of, place_key, HasToBeRead, IsBegun, IsCandidate}
 use Rattle.luks_rebuilding.specs.Found.{place_of, BreaksAt, BreaksFirst, FindsAt, FindsFirst, IsWholeAt}
 use Rattle.luks_rebuilding.specs.declared.candidate.Candidate.{Candidate}

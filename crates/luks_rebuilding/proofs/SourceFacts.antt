@@ -2,10 +2,10 @@
 use Rattle.std.proofs.Common.{◌≡◌, ◌≢◌, ℕ, ◌-◌, ◌≤◌, ◌⊎◌, ◌==◌, List, [], ◌∷◌, get_or, drop, Bool, true, false, if◌then◌else◌, inl, inr, arith, refl, sym, ap, ◌∙◌, subst, None, is_some}
 use Rattle.std.proofs.lemmas.Bool.{cases_Bool, eqb-true}
 use Rattle.luks_area.specs.First.{IsLeast, NotAfter}
-use Rattle.luks_head.proofs.CopyFacts.{listed_at_least}
-use Rattle.luks_head.specs.Sizes.{IsListed}
+use Rattle.luks2_header.proofs.CopyFacts.{listed_at_least}
+use Rattle.luks2_header.specs.Sizes.{IsListed}
 use Rattle.luks_area.specs.Ranges.{part}
-use Rattle.luks_head.specs.Header2.{header_at, seqid}
+use Rattle.luks2_header.specs.Header2.{header_at, seqid}
 use Rattle.luks_vouching.specs.Vouched.{IsVouched}
 use Rattle.luks_vouching.proofs.LawFacts.{vouched_once}
 use Rattle.luks_rebuilding.specs.Candidates.{json_of, next_seqid, place_key, place_of_source, source_key, IsCandidate, IsPlainSource, IsVouchedOf, Source, Taken}

@@ -1,9 +1,9 @@
 -- The uuid of the new header, by where it was found.
 use Rattle.std.proofs.Common.{◌≡◌, ℕ, List, ◌++◌, replicate, Some, None, refl, inl, inr}
 use Rattle.luks_area.specs.Text.{text_of}
-use Rattle.luks_head.specs.Header2.{header_at, uuid_field}
-use Rattle.luks_head.specs.NewUuid.{uuid_text}
-use Rattle.luks_head.proofs.UuidFacts.{uuid_text-is}
+use Rattle.luks2_header.specs.Header2.{header_at, uuid_field}
+use Rattle.luks2_header.specs.NewUuid.{uuid_text}
+use Rattle.luks2_header.proofs.UuidFacts.{uuid_text-is}
 use Rattle.luks_rebuilding.specs.Found.{FindsUuid, IsOwnField}
 use Rattle.luks_rebuilding.specs.Rebuilt.{other_at, uuid_bytes}
 

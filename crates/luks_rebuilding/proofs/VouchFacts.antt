@@ -2,7 +2,7 @@
 use Rattle.std.proofs.Common.{◌≡◌, ℕ, ◌<◌, ◌≤◌, ◌⊎◌, ◌==◌, List, [], ◌∷◌, true, inl, inr, arith, sym, ap, ◌∙◌, subst, Option, Some, None}
 use Rattle.std.proofs.lemmas.Bool.{cases_Bool, or_cases, eqb-true, false≢true}
 use Rattle.luks_area.specs.First.{NotAfter}
-use Rattle.luks_head.specs.Sizes.{is_among, IsListed}
+use Rattle.luks2_header.specs.Sizes.{is_among, IsListed}
 use Rattle.luks_rebuilding.specs.Candidates.{place_key, place_of_source, source_key, HasToBeTried, IsVouchedOf, Source}
 use Rattle.luks_rebuilding.specs.Found.{place_of, source_of, BreaksVouched, BreaksVouchedAt, EarlierHalf, FindsVouchedAt, FindsVouchedFirst, IsBestOf, IsBetter, IsDone, IsOfHalf}
 use Rattle.luks_rebuilding.specs.declared.candidate.Candidate.{Candidate}

@@ -3,7 +3,7 @@ use Rattle.std.proofs.Common.{◌≡◌, ℕ, ◌+◌, ◌*◌, ◌≤◌, List,
 use Rattle.luks_area.specs.Ranges.{part, IsAt, SameBut}
 use Rattle.luks_area.specs.RangeFacts.{part-same_but, part-same_but_at, same_but-then, same_but-wider}
 use Rattle.luks_area.specs.declared.area.Area.{Area}
-use Rattle.luks_head.proofs.CopyFacts.{listed_at_least}
+use Rattle.luks2_header.proofs.CopyFacts.{listed_at_least}
 use Rattle.luks_meta.specs.Content.{content}
 use Rattle.luks_rebuilding.proofs.CopyFacts.{copy_stays}
 use Rattle.luks_rebuilding.proofs.RegionFacts.{behind, ends}

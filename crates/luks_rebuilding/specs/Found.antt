@@ -8,10 +8,10 @@ use Rattle.luks_area.specs.Text.{text_of}
 use Rattle.luks_area.specs.declared.area.Area.{Area}
 use Rattle.luks1_header.specs.Bytes.{IsUuid}
 use Rattle.luks_writing.specs.MadeInOrder.{ClearsFirst, WritesInTurn}
-use Rattle.luks_head.specs.Header2.{header_at, uuid_field, IsUuidField}
-use Rattle.luks_head.specs.Selection.{nothing, Chosen}
-use Rattle.luks_head.specs.declared.bin2.Bin2.{Bin2}
-use Rattle.luks_head.specs.Sizes.{IsListed}
+use Rattle.luks2_header.specs.Header2.{header_at, uuid_field, IsUuidField}
+use Rattle.luks2_header.specs.Selection.{nothing, Chosen}
+use Rattle.luks2_header.specs.declared.bin2.Bin2.{Bin2}
+use Rattle.luks2_header.specs.Sizes.{IsListed}
 use Rattle.luks_meta.specs.Accepted.{IsMeta}
 use Rattle.luks_meta.specs.Content.{content}
 use Rattle.luks_meta.specs.MetaFault.{IsMetaFault}

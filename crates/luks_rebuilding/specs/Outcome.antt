@@ -3,7 +3,7 @@ use Rattle.std.specs.Prelude.{◌≢◌, ◌⊎◌, ℕ, List, length, Option, S
 use Rattle.luks_area.specs.Area.{IsAreaFault}
 use Rattle.luks_area.specs.First.{IsLeast}
 use Rattle.luks1_header.specs.Bytes.{IsUuid}
-use Rattle.luks_head.specs.Selection.{nothing, Chosen}
+use Rattle.luks2_header.specs.Selection.{nothing, Chosen}
 use Rattle.luks_rebuilding.specs.Candidates.{HasToBeRead, HasToBeTried, IsSource, OfTaken, Source}
 use Rattle.luks_rebuilding.specs.KeyAreas.{EndsBeforeRegion, HasHeaderArea}
 use Rattle.luks_rebuilding.specs.RebuildFaults.{rebuild_key}

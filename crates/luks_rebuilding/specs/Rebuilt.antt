@@ -4,10 +4,10 @@ use Rattle.std.specs.Prelude.{◌≡◌, ℕ, ◌*◌, ◌==◌, ◌⊎◌, List
 use Rattle.luks_area.specs.Ranges.{part, IsAt, IsOfEither, SameBut}
 use Rattle.luks_area.specs.Text.{text_of}
 use Rattle.luks_writing.specs.MadeInOrder.{ClearsFirst}
-use Rattle.luks_head.specs.Header2.{header_at, magic_of, sha256_size, uuid_field, IsUuidField}
-use Rattle.luks_head.specs.Written.{IsWrittenCopy}
-use Rattle.luks_head.specs.declared.bin2.Bin2.{Bin2}
-use Rattle.luks_head.specs.NewUuid.{uuid_text}
+use Rattle.luks2_header.specs.Header2.{header_at, magic_of, sha256_size, uuid_field, IsUuidField}
+use Rattle.luks2_header.specs.Written.{IsWrittenCopy}
+use Rattle.luks2_header.specs.declared.bin2.Bin2.{Bin2}
+use Rattle.luks2_header.specs.NewUuid.{uuid_text}
 use Rattle.luks_rebuilding.specs.Candidates.{OfTaken, Source}
 use Rattle.luks_rebuilding.specs.KeyAreas.{HasKeyAreas, IsOfKeyArea}
 use Rattle.luks_rebuilding.specs.declared.place.Which.{Which}

@@ -1,7 +1,7 @@
 //! The metadata of which a header is made.
 ghost use Rattle.std.specs.Prelude.{◌≡◌, ◌≢◌, ◌↔◌, ◌+◌, ◌^◌, ◌<◌, IfOk, IfErr, IsTrue, None, OnOk, IfSome, Some};
 ghost use Rattle.luks_area.specs.Device.{CountsFailure, IsUnchanged};
-ghost use Rattle.luks_head.specs.Selection.{nothing, Chosen};
+ghost use Rattle.luks2_header.specs.Selection.{nothing, Chosen};
 ghost use Rattle.luks_rebuilding.specs.Found.{BreaksFirst, FindsFirst, IsCounted, IsCountedFor, IsFoundIn, IsFromOutside, IsNotPlain, IsWhole};
 ghost use Rattle.luks_rebuilding.specs.Outcome.{IsNotFound, MayCount, PassesCounts};
 ghost use Rattle.luks_rebuilding.specs.RebuildFaults.{is_rebuild_failure};
@@ -11,7 +11,7 @@ use crate::rebuild_fault::RebuildFault;
 use crate::search::{found_of, least_of};
 use crate::vouching::first_vouched;
 use luks_area::Device;
-use luks_head::{Bin2, HeadFault, select};
+use luks2_header::{Bin2, HeadFault, select};
 use luks_meta::Meta;
 use std::alloc::Global;
 

@@ -2,14 +2,14 @@
 ghost use Rattle.std.specs.Prelude.{◌≡◌, ◌+◌, ◌*◌, ◌++◌, ◌^◌, ◌<◌, ◌≤◌, ◌⊎◌, ℕ, List, length, replicate, OnOk};
 ghost use Rattle.luks_area.specs.Device.{CountsFailure, IsSettled, is_failure};
 ghost use Rattle.luks_area.specs.Ranges.{part, IsAt, SameBut};
-ghost use Rattle.luks_head.specs.Sizes.{IsListed};
+ghost use Rattle.luks2_header.specs.Sizes.{IsListed};
 ghost use Rattle.luks_rebuilding.specs.Found.{kept_label, kept_subsystem, source_of};
 ghost use Rattle.luks_rebuilding.specs.Rebuilt.{HasRebuiltCopy, IsRebuiltHeader};
 
 use crate::candidate::Candidate;
 use crate::vouching::next_seqid;
 use luks_area::{Device, DeviceFault};
-use luks_head::Bin2;
+use luks2_header::Bin2;
 use luks_writing::write_copy;
 
 /// Where the salt of the first copy stands among the random bytes.

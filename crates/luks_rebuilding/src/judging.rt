@@ -11,7 +11,7 @@ use crate::candidate::Candidate;
 use crate::rebuild_fault::RebuildFault;
 use crate::rebuilding::REBUILD_RANDOM;
 use luks_area::fit;
-use luks_head::is_uuid;
+use luks2_header::is_uuid;
 use luks_reading::{Data, luks2_areas};
 
 /// How many random bytes are taken.

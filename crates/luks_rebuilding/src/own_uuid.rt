@@ -5,11 +5,11 @@ ghost use Rattle.luks1_header.specs.Bytes.{IsUuid};
 ghost use Rattle.luks_rebuilding.specs.Candidates.{IsPlace};
 ghost use Rattle.luks_rebuilding.specs.Found.{FindsUuid, IsOwnField};
 ghost use Rattle.luks_rebuilding.specs.Rebuilt.{random_size, uuid_bytes};
-ghost use Rattle.luks_head.specs.NewUuid.{uuid_text};
+ghost use Rattle.luks2_header.specs.NewUuid.{uuid_text};
 
 use crate::place::{Place, other_at};
 use luks_area::{Device, DeviceFault};
-use luks_head::{Bin2, uuid_field, uuid_text};
+use luks2_header::{Bin2, uuid_field, uuid_text};
 
 /// Where the bytes of a new uuid stand among the random bytes.
 const UUID: usize = 128;

@@ -2,7 +2,7 @@
 ghost use Rattle.std.specs.Prelude.{◌≡◌, ◌≢◌, ◌↔◌, ◌+◌, ◌-◌, ◌^◌, ◌<◌, ◌≤◌, ◌⊎◌, codes, length, IfOk, IfErr, IfSome, IsTrue, None, OnOk};
 ghost use Rattle.luks_area.specs.Device.{CountsFailure, IsUnchanged, is_failure};
 ghost use Rattle.luks_area.specs.Ranges.{part};
-ghost use Rattle.luks_head.specs.Sizes.{is_listed, IsListed};
+ghost use Rattle.luks2_header.specs.Sizes.{is_listed, IsListed};
 ghost use Rattle.luks_rebuilding.specs.Candidates.{json_of, IsPlace};
 ghost use Rattle.luks_rebuilding.specs.Found.{place_of, BreaksAt, BreaksHalf, FindsAt, FindsHalf, IsFromOutside, IsWhole};
 ghost use Rattle.luks_rebuilding.specs.RebuildFaults.{is_rebuild_failure};

@@ -2,7 +2,7 @@
 ghost use Rattle.std.specs.Prelude.{◌≡◌, ◌↔◌, ◌+◌, ◌^◌, ◌<◌, ◌⊎◌, IfOk, IfErr, IfSome, IsTrue, Some, None, is_some, true, false};
 ghost use Rattle.luks_area.specs.Device.{CountsFailure, IsUnchanged};
 ghost use Rattle.luks_area.specs.First.{NotAfter};
-ghost use Rattle.luks_head.specs.Sizes.{IsListed};
+ghost use Rattle.luks2_header.specs.Sizes.{IsListed};
 ghost use Rattle.luks_rebuilding.specs.Candidates.{source_key, IsAsked};
 ghost use Rattle.luks_rebuilding.specs.Found.{kept_seqid, source_of, BreaksVouched, BreaksVouchedAt, EarlierHalf, FindsVouchedAt, FindsVouchedFirst, IsBestOf, IsBetter, IsDone, IsFromOutside, IsVouch, IsWhole};
 ghost use Rattle.luks_rebuilding.specs.RebuildFaults.{is_rebuild_failure};

@@ -8,7 +8,7 @@ pub struct BackingUp<'a> {
     /// The file that the backup is written to.
     pub target: &'a str,
     /// Where the volume's payload lies.
-    pub data_: Data,
+    pub payload: Data,
     /// Whether it may write over a file that is there and isn't empty.
     pub over: bool,
 }
@@ -19,7 +19,7 @@ pub struct Restoring<'a> {
     /// The file of the backup.
     pub backup: &'a str,
     /// Where the volume's payload lies.
-    pub data_: Data,
+    pub payload: Data,
     /// Whether it may write over the header of another volume.
     pub other: bool,
     /// Whether it may write over that, and over another use of the disk.
@@ -34,5 +34,5 @@ pub struct Comparing<'a> {
     /// The file of the backup.
     pub backup: &'a str,
     /// Where the volume's payload lies.
-    pub data_: Data,
+    pub payload: Data,
 }

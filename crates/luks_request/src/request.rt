@@ -26,7 +26,7 @@ pub enum Command<'a> {
     /// Check the volume's header.
     Check {
         /// Where the payload lies.
-        data_: Data,
+        payload: Data,
     },
     /// List what the volume's header says.
     Show(ShowAs),
@@ -79,7 +79,7 @@ pub struct Editing<'a> {
     /// The file of the random bytes; none counts as an empty one.
     pub random: Option<&'a str>,
     /// Where the payload lies.
-    pub data_: Data,
+    pub payload: Data,
     /// Whether it may write over another use of the disk.
     pub over: bool,
 }
@@ -188,7 +188,7 @@ pub struct Making<'a> {
     /// How many MiB of memory Argon2 may take.
     pub memory: u32,
     /// Where the payload lies.
-    pub data_: Data,
+    pub payload: Data,
     /// Whether it may write over another volume's header, and over another use of the disk.
     pub over: bool,
 }
@@ -201,7 +201,7 @@ pub struct Converting<'a> {
     /// The file of the random bytes.
     pub random: &'a str,
     /// Where the volume's payload lies.
-    pub data_: Data,
+    pub payload: Data,
     /// Whether it may write over another volume's header, and over another use of the target.
     pub over: bool,
 }

@@ -4,7 +4,7 @@ use Rattle.serde_json.specs.Data.{Data, Members, null, number, string, object, n
 use Rattle.serde_json.specs.Find.{get}
 use Rattle.serde_json.specs.View.{view}
 use Rattle.luks_area.specs.Text.{text_of}
-use Rattle.luks_head.specs.declared.bin2.Bin2.{Bin2}
+use Rattle.luks2_header.specs.declared.bin2.Bin2.{Bin2}
 use Rattle.luks_meta.specs.declared.configuration.Config.{Config}
 use Rattle.luks_meta.specs.declared.meta.Meta.{Meta}
 use Rattle.luks_meta.specs.Content.{content}

@@ -1,7 +1,7 @@
 -- A decrypted sector is as long as the sector.
 use Rattle.std.proofs.Common.{◌≡◌, ℕ, zero, suc, ◌*◌, ◌/◌, ◌∙◌, List, length, arith, length-append, refl, ap}
-use Rattle.luks_cbc.specs.Cbc.{CbcOpen, CbcKeyOf, opened_from, plain_block}
-use Rattle.luks_xts.specs.Xts.{XtsOpen, xor_block, opened_block, opened_under, joined}
+use Rattle.luks_modes.specs.Cbc.{CbcOpen, CbcKeyOf, opened_from, plain_block}
+use Rattle.luks_modes.specs.Xts.{XtsOpen, xor_block, opened_block, opened_under, joined}
 use Rattle.luks_slot.specs.declared.cipher.AreaKey.{AreaKey}
 use Rattle.luks_slot.specs.declared.cipher.AreaKey.TheVariants.{Xts, Cbc}
 use Rattle.luks_slot.specs.Ciphers.{sector_opened}

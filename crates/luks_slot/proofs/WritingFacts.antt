@@ -4,7 +4,7 @@ use Rattle.std.proofs.lemmas.Bool.{cases_lt}
 use Rattle.luks_area.specs.declared.area.Area.{Area}
 use Rattle.luks_area.specs.RangeFacts.{at-inside, part-part, part-same_but_at, part-written, same_but-same_outside, same_but-wider, same_outside-written}
 use Rattle.luks_area.specs.Ranges.{part, written, IsAt, SameBut}
-use Rattle.luks_xts.specs.Units.{AreMade}
+use Rattle.luks_modes.specs.Units.{AreMade}
 use Rattle.luks_slot.specs.declared.cipher.AreaKey.{AreaKey}
 use Rattle.luks_slot.specs.Ciphers.{sector_opened}
 use Rattle.luks_slot.specs.Opening.{area_bytes, opened_sector}

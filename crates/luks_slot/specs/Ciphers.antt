@@ -1,10 +1,10 @@
 -- The ciphers of key areas, and what they make of a sector.
 use Rattle.std.specs.Prelude.{ℕ, ◌==◌, ◌||◌, List, ◌++◌, Bool, Option, Some, None, codes, if◌then◌else◌}
 use Rattle.std.specs.Str.{bytes_eq}
-use Rattle.luks_cbc.specs.declared.vectors.IvKind.{IvKind}
-use Rattle.luks_cbc.specs.declared.vectors.IvKind.TheVariants.{Plain, Plain64, Essiv}
-use Rattle.luks_cbc.specs.Cbc.{CbcOpen, CbcSeal}
-use Rattle.luks_xts.specs.Xts.{XtsOpen, XtsSeal}
+use Rattle.luks_modes.specs.declared.vectors.IvKind.{IvKind}
+use Rattle.luks_modes.specs.declared.vectors.IvKind.TheVariants.{Plain, Plain64, Essiv}
+use Rattle.luks_modes.specs.Cbc.{CbcOpen, CbcSeal}
+use Rattle.luks_modes.specs.Xts.{XtsOpen, XtsSeal}
 use Rattle.luks_slot.specs.declared.plan.AreaCipher.{AreaCipher}
 use Rattle.luks_slot.specs.declared.plan.AreaCipher.TheVariants.{Apart, Whole}
 use Rattle.luks_slot.specs.declared.cipher.AreaKey.{AreaKey}

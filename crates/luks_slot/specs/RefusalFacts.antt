@@ -6,7 +6,7 @@ use Rattle.std.specs.Str.{bytes_eq}
 use Rattle.std.proofs.lemmas.Bool.{and_from, and_parts, cases_Bool, or_left, false≢true}
 use Rattle.std.proofs.lemmas.Bool.Decides.{nat_tests}
 use Rattle.std.proofs.lemmas.Slice.Eq.{bytes_eq-Decides}
-use Rattle.luks_cbc.specs.declared.vectors.IvKind.{IvKind}
+use Rattle.luks_modes.specs.declared.vectors.IvKind.{IvKind}
 use Rattle.luks_kdf.specs.KeyslotNames.{older_hash_named}
 use Rattle.luks_kdf.specs.Names.{hash_named}
 use Rattle.luks_slot.specs.declared.allowed.Allowed.{Allowed}

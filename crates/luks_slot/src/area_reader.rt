@@ -5,7 +5,7 @@ ghost use Rattle.luks_area.specs.Area.{IsInside};
 ghost use Rattle.luks_area.specs.Device.{CountsFailure, IsUnchanged, is_failure};
 ghost use Rattle.luks_area.specs.Ranges.{part};
 ghost use Rattle.luks_area.specs.Sectors.{rounded_to_sectors};
-ghost use Rattle.luks_xts.specs.Units.{AreMade};
+ghost use Rattle.luks_modes.specs.Units.{AreMade};
 ghost use Rattle.luks_slot.specs.Ciphers.{sector_opened};
 ghost use Rattle.luks_slot.specs.Opening.{area_bytes};
 ghost use Rattle.luks_slot.specs.Reading.{plain_byte, run_length, ArePlain, HoldsRun, IsReading};

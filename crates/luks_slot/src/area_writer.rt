@@ -4,7 +4,7 @@ ghost use Rattle.std.specs.Prelude.{◌≡◌, ◌+◌, ◌*◌, ◌/◌, ◌%�
 ghost use Rattle.luks_area.specs.Area.{IsInside};
 ghost use Rattle.luks_area.specs.Device.{CountsFailure, Touches, is_failure};
 ghost use Rattle.luks_area.specs.Ranges.{written, IsAt, SameBut};
-ghost use Rattle.luks_xts.specs.Units.{AreMade};
+ghost use Rattle.luks_modes.specs.Units.{AreMade};
 ghost use Rattle.luks_slot.specs.Ciphers.{sector_opened};
 ghost use Rattle.luks_slot.specs.Opening.{area_bytes};
 ghost use Rattle.luks_slot.specs.Reading.{HoldsRun};

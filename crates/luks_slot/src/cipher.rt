@@ -1,11 +1,11 @@
 //! The ciphers of key areas.
 
 ghost use Rattle.std.specs.Prelude.{◌≡◌, ◌%◌, ◌≤◌, length, true};
-ghost use Rattle.luks_xts.specs.Units.{AreMade};
+ghost use Rattle.luks_modes.specs.Units.{AreMade};
 ghost use Rattle.luks_slot.specs.Ciphers.{is_size_of, keyed, sector_opened, sector_sealed};
 
-use luks_cbc::{CbcKey, IvKind};
-use luks_xts::XtsKey;
+use luks_modes::{CbcKey, IvKind};
+use luks_modes::XtsKey;
 
 // A cipher of the sectors of an area, of aes.
 #[derive(Clone, Copy)]

@@ -10,7 +10,7 @@ use crate::allowed::Allowed;
 use crate::cipher::SectorCipher;
 use crate::fault::SlotFault;
 use crate::plan::{AreaCipher, Argon2Plan, Derivation, SlotPlan};
-use luks_cbc::IvKind;
+use luks_modes::IvKind;
 use luks_kdf::KeyslotHash;
 
 // What PBKDF2 derives by.

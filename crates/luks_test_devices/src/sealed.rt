@@ -3,7 +3,7 @@ ghost use Rattle.std.specs.Prelude.{◌≡◌, length, IfOk};
 
 use crate::sums::counted;
 use luks_kdf::HashName;
-use luks_xts::XtsKey;
+use luks_modes::XtsKey;
 use std::alloc::{AllocError, Global};
 
 /// The volume key: 00 01 .. 3f.

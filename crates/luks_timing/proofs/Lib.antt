@@ -1,1 +1,2 @@
 pub mod TimedFacts
+pub mod SampleFacts

@@ -1,1 +1,2 @@
 pub mod Timed
+pub mod Costs

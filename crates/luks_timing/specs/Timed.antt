@@ -1,8 +1,8 @@
 -- A command with costs of its new keyslot that take a wanted time, in the place of those that it is given. Which time they take no definition
 -- says; all else is as it was, and the costs lie within bounds.
 use Rattle.std.specs.Prelude.{◌≡◌, ℕ, ◌≤◌, min, Option, None, Some, ⊤}
-use Rattle.luks_cost.specs.declared.fault.CostFault.{CostFault}
-use Rattle.luks_cost.specs.declared.fault.CostFault.TheVariants.{Clock, Memory}
+use Rattle.luks_timing.specs.declared.fault.CostFault.{CostFault}
+use Rattle.luks_timing.specs.declared.fault.CostFault.TheVariants.{Clock, Memory}
 use Rattle.luks_request.specs.declared.derivation.AskedArgon2.{AskedArgon2}
 use Rattle.luks_request.specs.declared.derivation.AskedKdf.{AskedKdf}
 use Rattle.luks_request.specs.declared.derivation.AskedKdf.TheVariants.{Pbkdf2, Argon2}
@@ -61,13 +61,13 @@ pub record IsTimedMaking (making timed : Making) : Type 0 where
   pub iterations : 1000 ≤ timed.format.iterations
   pub kdf : IsTimedOf making.version making timed.kdf
   pub memory : timed.memory ≡ making.memory
-  pub payload : timed.data_ ≡ making.data_
+  pub payload : timed.payload ≡ making.payload
 
 -- a command that makes no keyslot stays as it is
 abbrev pub IsTimed : Command → Command → Type 0
 IsTimed (Edit editing) timed =
     (request : EditRequest) × IsTimedEdit editing.request request
-    × (timed ≡ Edit (record { request = request; random = editing.random; data_ = editing.data_; over = editing.over }))
+    × (timed ≡ Edit (record { request = request; random = editing.random; payload = editing.payload; over = editing.over }))
 IsTimed (Format making) timed = (made : Making) × IsTimedMaking making made × (timed ≡ Format made)
 IsTimed command timed = timed ≡ command
 

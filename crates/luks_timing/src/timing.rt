@@ -2,11 +2,14 @@
 ghost use Rattle.std.specs.Prelude.{◌≡◌, ◌≤◌, IfOk, IfErr};
 ghost use Rattle.luks_timing.specs.Timed.{AreTimed, IsTimed, IsTimedEdit, IsTimedKdf, IsTimedMaking};
 ghost use Rattle.luks_timing.specs.Timed.{IsCostFault, IsEditCostFault, IsKdfFault, IsMakingCostFault};
-ghost use Rattle.luks_cost.specs.declared.fault.CostFault.{CostFault};
+ghost use Rattle.luks_timing.specs.declared.fault.CostFault.{CostFault};
 ghost use Rattle.std.specs.Prelude.{◌≢◌};
 
 use luks_argon2::Variant;
-use luks_cost::{Argon2Costs, CostFault, Sample, argon2_costs_in, iterations_in};
+use crate::argon2_costs::{Argon2Costs, argon2_costs_in};
+use crate::fault::CostFault;
+use crate::iterations::iterations_in;
+use crate::sample::Sample;
 use luks_kdf::HashName;
 use luks_reading::Format;
 use luks_request::{
@@ -69,7 +72,7 @@ impl<C: Clock> Timing<'_, C> {
             Command::Edit(editing) => Ok(Command::Edit(Editing {
                 request: self.request(editing.request, err)?,
                 random: editing.random,
-                data_: editing.data_,
+                payload: editing.payload,
                 over: editing.over,
             })),
             Command::Format(making) => Ok(Command::Format(self.making(making, err)?)),
@@ -148,7 +151,7 @@ impl<C: Clock> Timing<'_, C> {
             format: Format { hash, iterations },
             kdf,
             memory: making.memory,
-            data_: making.data_,
+            payload: making.payload,
             over: making.over,
         })
     }

@@ -47,8 +47,8 @@ fn answered(
 {
     let volume = line.volume;
     match line.command {
-        Command::Check { data_ } => {
-            let answer = check::answer(alloc, &mut inputs.volume, volume, data_, notes);
+        Command::Check { payload } => {
+            let answer = check::answer(alloc, &mut inputs.volume, volume, payload, notes);
             Some(answer)
         }
         Command::Open {

@@ -1,8 +1,8 @@
 -- How many random bytes an edit takes: what is told of a volume of one version is told of the volume.
 use Rattle.std.proofs.Common.{ℕ, List, Result, Ok, Err, ◌≢◌, subst}
 use Rattle.luks_area.specs.First.{IsLeast}
-use Rattle.luks_head.specs.declared.selection.Copies.{Copies}
-use Rattle.luks_head.specs.Selection.{luks1, luks2, Chosen}
+use Rattle.luks2_header.specs.declared.selection.Copies.{Copies}
+use Rattle.luks2_header.specs.Selection.{luks1, luks2, Chosen}
 use Rattle.luks_reading.specs.declared.report.Data.{Data}
 use Rattle.luks_reading.specs.Header.{TakesNoMemory}
 use Rattle.luks_edit.specs.declared.edit.Edit.{Edit}

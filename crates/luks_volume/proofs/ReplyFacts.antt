@@ -1,8 +1,8 @@
 -- The reply of an edit: that of a volume of one version is that of the volume.
 use Rattle.std.proofs.Common.{ℕ, List, Result, Ok, Err, refl, inl}
-use Rattle.luks_head.specs.declared.selection.Copies.{Copies}
-use Rattle.luks_head.specs.Selection.{Choice, luks1, luks2, nothing, Chosen}
-use Rattle.luks_head.proofs.ChoiceFacts.{choice_exists}
+use Rattle.luks2_header.specs.declared.selection.Copies.{Copies}
+use Rattle.luks2_header.specs.Selection.{Choice, luks1, luks2, nothing, Chosen}
+use Rattle.luks2_header.proofs.ChoiceFacts.{choice_exists}
 use Rattle.luks_reading.specs.declared.report.Data.{Data}
 use Rattle.luks_reading.specs.Header.{NeedsMetadata}
 use Rattle.luks_edit.specs.declared.edit.Done.{Done}

@@ -3,7 +3,7 @@
 use Rattle.std.proofs.Common.{◌≡◌, ◌⊎◌, ℕ, ◌+◌, ◌<◌, List, [], ◌∷◌, ◌++◌, length, take, drop, get_or, Err, refl, sym, ap, ◌∙◌, subst, append_assoc, append-nil, take-append-drop, inl, inr}
 use Rattle.std.proofs.lemmas.List.{drop_more, take_more}
 use Rattle.luks_area.specs.declared.area.AreaName.TheVariants.{Segment}
-use Rattle.luks_head.specs.Selection.{Choice, luks1, luks2, nothing, Chosen}
+use Rattle.luks2_header.specs.Selection.{Choice, luks1, luks2, nothing, Chosen}
 use Rattle.luks_reading.specs.declared.report.Data.{Data}
 use Rattle.luks_reading.specs.Checked.{WellFormed}
 use Rattle.luks_edit.specs.declared.edit.Edit.{Edit}

@@ -26,7 +26,7 @@ use std::alloc::Global;
 pub fn apply<D: Device>(
     alloc: Global,
     device: &mut D,
-    data_: Data,
+    payload: Data,
     edit: &Edit<'_>,
     random: &[u8],
 ) -> Result<Done, EditFault>
@@ -37,14 +37,14 @@ pub fn apply<D: Device>(
         → IsSettled D.unsettled device.new }
     ensures count { CountsFailure is_edit_failure result
         (D.failed device.old) (D.failed device.new) }
-    ensures applied { D.tells → IsApplied data_ (D.bytes device.old) edit.now random.now result
+    ensures applied { D.tells → IsApplied payload (D.bytes device.old) edit.now random.now result
         (D.bytes device.new) }
     ensures memory { D.tells → TakesNoMemory (D.bytes device.old)
         → IfErr result (λ f. f ≢ EditFault.Memory) }
 {
     derivation_has_32_bits(edit);
     let header = edited_header(alloc, device)?;
-    apply_of_header(alloc, device, header, data_, edit, random)
+    apply_of_header(alloc, device, header, payload, edit, random)
 }
 
 /// What `apply` does of a volume whose header, read before, is this one: the header isn't read again.
@@ -57,7 +57,7 @@ pub fn apply_of_header<D: Device>(
     alloc: Global,
     device: &mut D,
     header: Header,
-    data_: Data,
+    payload: Data,
     edit: &Edit<'_>,
     random: &[u8],
 ) -> Result<Done, EditFault>
@@ -70,15 +70,15 @@ pub fn apply_of_header<D: Device>(
         → IsSettled D.unsettled device.new }
     ensures count { CountsFailure is_edit_failure result
         (D.failed device.old) (D.failed device.new) }
-    ensures applied { D.tells → IsApplied data_ (D.bytes device.old) edit.now random.now result
+    ensures applied { D.tells → IsApplied payload (D.bytes device.old) edit.now random.now result
         (D.bytes device.new) }
     ensures memory { D.tells → TakesNoMemory (D.bytes device.old)
         → IfErr result (λ f. f ≢ EditFault.Memory) }
 {
     derivation_has_32_bits(edit);
     match header {
-        Header::Luks1(bytes) => apply_luks1(alloc, device, &bytes, data_, edit, random),
-        Header::Luks2(copy) => apply_luks2(alloc, device, copy, data_, edit, random),
+        Header::Luks1(bytes) => apply_luks1(alloc, device, &bytes, payload, edit, random),
+        Header::Luks2(copy) => apply_luks2(alloc, device, copy, payload, edit, random),
     }
 }
 

@@ -16,30 +16,30 @@ use std::alloc::Global;
 /// without opening a keyslot: `NotAccepted`, `Requirements`, `NoSuchSlot`, `SameSlot`, `SlotTaken`
 /// and `NoFreeSlot`.
 ///
-/// `data_` says where the payload lies. `Device` comes exactly where a device call failed. Memory
+/// `payload` says where the payload lies. `Device` comes exactly where a device call failed. Memory
 /// is taken for the metadata of LUKS2 alone.
 pub fn needed<D: Device>(
     alloc: Global,
     device: &mut D,
-    data_: Data,
+    payload: Data,
     edit: &Edit<'_>,
 ) -> Result<u64, EditFault>
     requires { D.failed device.old + 1 < 2 ^ 64 }
     ensures unchanged { IsUnchanged D.tells D.size D.bytes D.unsettled device.old device.new }
     ensures count { CountsFailure is_edit_failure result
         (D.failed device.old) (D.failed device.new) }
-    ensures tells { D.tells → TellsNeed data_ (D.bytes device.old) edit.now result }
+    ensures tells { D.tells → TellsNeed payload (D.bytes device.old) edit.now result }
     ensures memory { D.tells → TakesNoMemory (D.bytes device.old)
         → IfErr result (λ f. f ≢ EditFault.Memory) }
 {
     let header = edited_header(alloc, device)?;
-    needed_of_header(&header, data_, device.len(), edit)
+    needed_of_header(&header, payload, device.len(), edit)
 }
 
 /// What `needed` answers of a volume of `total` bytes with this header. It takes no memory.
 pub fn needed_of_header(
     header: &Header,
-    data_: Data,
+    payload: Data,
     total: u64,
     edit: &Edit<'_>,
 ) -> Result<u64, EditFault>
@@ -47,10 +47,10 @@ pub fn needed_of_header(
     ensures own { IfErr result (λ f. is_edit_failure f ≡ false) }
     ensures memory { IfErr result (λ f. f ≢ EditFault.Memory) }
     ensures tells { (v : List ℕ) → IsHeader v header.now → length v ≡ total
-        → TellsNeed data_ v edit.now result }
+        → TellsNeed payload v edit.now result }
 {
     match header {
-        Header::Luks1(bytes) => needed_luks1(bytes, data_, total, edit),
-        Header::Luks2(copy) => needed_luks2(copy, data_, total, edit),
+        Header::Luks1(bytes) => needed_luks1(bytes, payload, total, edit),
+        Header::Luks2(copy) => needed_luks2(copy, payload, total, edit),
     }
 }

@@ -22,7 +22,7 @@ use std::alloc::Global;
 pub fn run<D: Device>(
     alloc: Global,
     device: &mut D,
-    data_: Data,
+    payload: Data,
     steps: &[Step<'_>],
     replies: &mut Vec<Result<Done, EditFault>>,
 ) -> Result<(), RunFault>
@@ -41,26 +41,26 @@ pub fn run<D: Device>(
     // The steps ran, and their replies were appended.
     ensures count { OnOk result (CountsRun (length steps.now) replies.old.items replies.new.items
         (D.failed device.old) (D.failed device.new)) }
-    ensures ran { D.tells → OnOk result (Ran (Replies data_) (D.bytes device.old) steps.now
+    ensures ran { D.tells → OnOk result (Ran (Replies payload) (D.bytes device.old) steps.now
         replies.old.items replies.new.items (D.bytes device.new)) }
 
     // Where the device didn't fail, a volume that was well formed is so again, its segments are as
     // they were, and each keyslot that no completed step named opens as before.
-    ensures keeps { D.tells → WellFormed (D.bytes device.old) data_ → OnOk result
-        (IsKeptByRun data_ (D.bytes device.old) steps.now
+    ensures keeps { D.tells → WellFormed (D.bytes device.old) payload → OnOk result
+        (IsKeptByRun payload (D.bytes device.old) steps.now
         replies.old.items replies.new.items (D.bytes device.new)) }
     // Where the device failed, the steps before left a volume that keeps all that no completed one
     // named, and the failing step spared of it what `apply` spares.
-    ensures spared { D.tells → WellFormed (D.bytes device.old) data_
+    ensures spared { D.tells → WellFormed (D.bytes device.old) payload
         → (D.failed device.new ≡ D.failed device.old → ⊥) → OnOk result
-        (IsSparedByRun data_ (D.bytes device.old) steps.now
+        (IsSparedByRun payload (D.bytes device.old) steps.now
         replies.old.items replies.new.items (D.bytes device.new)) }
 {
     let Ok(()) = replies.try_reserve(steps.len()) else {
         return Err(RunFault::Memory);
     };
     for step in steps {
-        let reply = apply(alloc, device, data_, &step.edit, step.random);
+        let reply = apply(alloc, device, payload, &step.edit, step.random);
         replies.push_reserved(reply);
         if is_failure(&reply) {
             return Ok(());

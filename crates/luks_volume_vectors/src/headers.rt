@@ -1,7 +1,7 @@
 //! Headers of both versions, which stand in the device.
 use crate::volume::{self, Volume};
 use luks_area::Device;
-use luks_head::{Bin2, HeadFault, Luks1, Luks1Slot, Selected, select};
+use luks2_header::{Bin2, HeadFault, Luks1, Luks1Slot, Selected, select};
 use luks_test_devices::put;
 use luks_vector_lines::{Malformed, Words, bytes_of, demand, number_of, shown, told};
 use sha2::Digest;

@@ -4,9 +4,9 @@ use Rattle.std.proofs.lemmas.Bool.{cases_lt}
 use Rattle.std.proofs.lemmas.List.{take-append-drop}
 use Rattle.luks_area.specs.Ranges.{part}
 use Rattle.luks_area.specs.RangeFacts.{length-part_inside, part-add}
-use Rattle.luks_head.specs.Header2.{copy_at, hdr_size, header_at, with_zero_checksum, IsSound}
-use Rattle.luks_head.proofs.BinaryHeaderFacts.{zeroed_then}
-use Rattle.luks_head.proofs.CopyFacts.{listed_at_least}
+use Rattle.luks2_header.specs.Header2.{copy_at, hdr_size, header_at, with_zero_checksum, IsSound}
+use Rattle.luks2_header.proofs.BinaryHeaderFacts.{zeroed_then}
+use Rattle.luks2_header.proofs.CopyFacts.{listed_at_least}
 use Rattle.sha2.specs.Sha256.{sha256}
 use Rattle.luks_meta.specs.MetaFault.{IsMetaFault}
 use Rattle.luks_vouching.specs.Composed.{bordered, differing, sector, IsComposed, IsEarlier, IsNotLater}

@@ -2,8 +2,8 @@
 use Rattle.std.specs.Prelude.{◌≡◌, ◌⊎◌, ℕ, ◌+◌, ◌-◌, ◌*◌, ◌≤◌, List, ◌++◌, length, drop, Option, Some, None}
 use Rattle.sha2.specs.Sha256.{sha256}
 use Rattle.luks_area.specs.Ranges.{part}
-use Rattle.luks_head.specs.Header2.{csum_at, hdr_size, header_at, magic_of, sha256_size, with_zero_checksum, HoldsBin2, IsFormed}
-use Rattle.luks_head.specs.Sizes.{IsListed}
+use Rattle.luks2_header.specs.Header2.{csum_at, hdr_size, header_at, magic_of, sha256_size, with_zero_checksum, HoldsBin2, IsFormed}
+use Rattle.luks2_header.specs.Sizes.{IsListed}
 use Rattle.luks_meta.specs.Accepted.{IsMeta}
 use Rattle.luks_meta.specs.Content.{content}
 use Rattle.luks_meta.specs.MetaFault.{IsMetaFault}

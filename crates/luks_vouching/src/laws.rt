@@ -1,6 +1,6 @@
 //! Laws on the definitions of this crate. Each function does nothing; its contract is the law.
 ghost use Rattle.std.specs.Prelude.{◌≡◌, ℕ, List};
-ghost use Rattle.luks_head.specs.Header2.{hdr_size, header_at, IsSound};
+ghost use Rattle.luks2_header.specs.Header2.{hdr_size, header_at, IsSound};
 ghost use Rattle.luks_vouching.specs.Composed.{IsComposed};
 ghost use Rattle.luks_vouching.specs.Tried.{IsTried};
 ghost use Rattle.luks_vouching.specs.Vouched.{area_at, IsVouched, Meets, VouchesForNone};

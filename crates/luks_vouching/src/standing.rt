@@ -3,11 +3,11 @@ ghost use Rattle.std.specs.Prelude.{◌≡◌, ◌↔◌, ◌+◌, ◌≤◌, �
 ghost use Rattle.sha2.specs.Hashers.{Holds256};
 ghost use Rattle.luks_area.specs.Ranges.{part};
 ghost use Rattle.luks_area.specs.Text.{text_of};
-ghost use Rattle.luks_head.specs.Header2.{binary_header_size, csum_at, hdr_size, magic_of, sha256_size, with_zero_checksum, IsFormed};
-ghost use Rattle.luks_head.specs.Sizes.{IsListed};
+ghost use Rattle.luks2_header.specs.Header2.{binary_header_size, csum_at, hdr_size, magic_of, sha256_size, with_zero_checksum, IsFormed};
+ghost use Rattle.luks2_header.specs.Sizes.{IsListed};
 
 use luks_area::text_field;
-use luks_head::Bin2;
+use luks2_header::Bin2;
 use luks1_header::fields::{field, put};
 use luks1_header::luks1_places::MAGIC;
 use sha2::{Digest, Sha256};

@@ -1,7 +1,7 @@
 //! What the checksum of a copy's binary header vouches for.
 ghost use Rattle.std.specs.Prelude.{◌≡◌, ◌≢◌, ◌↔◌, ◌+◌, ◌-◌, ◌*◌, ◌^◌, ◌<◌, ◌≤◌, ◌⊎◌, ◌++◌, length, IfOk, IfErr, IfSome, IsTrue, OnOk};
 ghost use Rattle.luks_area.specs.Device.{CountsFailure, IsUnchanged};
-ghost use Rattle.luks_head.specs.Sizes.{IsListed};
+ghost use Rattle.luks2_header.specs.Sizes.{IsListed};
 ghost use Rattle.luks_vouching.specs.Faults.{is_vouch_failure, IsMemoryWhereStands};
 ghost use Rattle.luks_meta.specs.Accepted.{IsMeta};
 ghost use Rattle.luks_meta.specs.Content.{content};
@@ -12,7 +12,7 @@ use crate::composing::compose;
 use crate::standing::{HEADER, hasher_of, is_standing, mend, sum_of};
 use crate::vouch_fault::VouchFault;
 use luks_area::Device;
-use luks_head::Bin2;
+use luks2_header::Bin2;
 use luks_meta::{Meta, MetaFault};
 use std::alloc::Global;
 

@@ -4,10 +4,10 @@ use Rattle.std.proofs.lemmas.List.{length-drop, take_all}
 use Rattle.sha2.specs.Sha256.{sha256}
 use Rattle.luks_area.specs.Ranges.{part}
 use Rattle.luks_area.specs.RangeFacts.{part-add, part-whole}
-use Rattle.luks_head.specs.Header2.{with_zero_checksum}
-use Rattle.luks_head.specs.Written.{WritesBin2}
-use Rattle.luks_head.specs.declared.bin2.Bin2.{Bin2}
-use Rattle.luks_head.proofs.BinaryHeaderFacts.{zeroed_same, zeroed_then}
+use Rattle.luks2_header.specs.Header2.{with_zero_checksum}
+use Rattle.luks2_header.specs.Written.{WritesBin2}
+use Rattle.luks2_header.specs.declared.bin2.Bin2.{Bin2}
+use Rattle.luks2_header.proofs.BinaryHeaderFacts.{zeroed_same, zeroed_then}
 use Rattle.luks_writing.specs.Copy.{IsSummed}
 
 -- where the checksum is zeros, it is taken of the bytes as they are

@@ -4,7 +4,7 @@ use Rattle.std.proofs.lemmas.List.{length-replicate}
 use Rattle.luks_area.specs.Ranges.{part, written, IsAt, SameBut}
 use Rattle.luks_area.specs.RangeFacts.{part-part, part-same_but_at, part-written}
 use Rattle.luks1_header.specs.Header1.{luks_magic, HasMagic}
-use Rattle.luks_head.specs.Header2.{magic_of, second_magic, IsSound}
+use Rattle.luks2_header.specs.Header2.{magic_of, second_magic, IsSound}
 use Rattle.luks_writing.specs.Cleared.{IsCleared}
 
 -- ---- what is cleared

@@ -3,10 +3,10 @@
 use Rattle.std.specs.Prelude.{◌≡◌, ◌≢◌, ◌++◌, ℕ, List, codes, drop, replicate}
 use Rattle.sha2.specs.Sha256.{sha256}
 use Rattle.luks_area.specs.Text.{text_of}
-use Rattle.luks_head.specs.Header2.{magic_of, sha256_size, with_zero_checksum}
-use Rattle.luks_head.specs.Sizes.{IsListed}
-use Rattle.luks_head.specs.Written.{IsWrittenCopy, WritesBin2}
-use Rattle.luks_head.specs.declared.bin2.Bin2.{Bin2}
+use Rattle.luks2_header.specs.Header2.{magic_of, sha256_size, with_zero_checksum}
+use Rattle.luks2_header.specs.Sizes.{IsListed}
+use Rattle.luks2_header.specs.Written.{IsWrittenCopy, WritesBin2}
+use Rattle.luks2_header.specs.declared.bin2.Bin2.{Bin2}
 
 -- the binary header may be that of a copy at the place that it names, whatever its checksum says
 pub record IsCopyHeader (header : Bin2) : Type 0 where

@@ -1,10 +1,10 @@
 //! The checksums of copies of a LUKS2 header that are to be written.
 ghost use Rattle.std.specs.Prelude.{◌≡◌, ◌%◌, ◌++◌, length, replicate};
-ghost use Rattle.luks_head.specs.Header2.{csum_size, sha256_size};
-ghost use Rattle.luks_head.specs.Written.{WritesBin2};
+ghost use Rattle.luks2_header.specs.Header2.{csum_size, sha256_size};
+ghost use Rattle.luks2_header.specs.Written.{WritesBin2};
 ghost use Rattle.luks_writing.specs.Copy.{IsSummed};
 
-use luks_head::Bin2;
+use luks2_header::Bin2;
 use luks_lanes::PairHasher;
 use luks1_header::fields::put;
 use sha2::{Digest, Sha256};

@@ -1,13 +1,13 @@
 ghost use Rattle.std.specs.Prelude.{◌≡◌, ◌+◌, ◌^◌, ◌<◌, ◌≤◌, length, OnOk};
 ghost use Rattle.luks_area.specs.Device.{CountsFailure, IsSettled, is_failure};
 ghost use Rattle.luks_area.specs.Ranges.{part, IsAt, SameBut};
-ghost use Rattle.luks_head.specs.Header2.{binary_header_size, header_at};
-ghost use Rattle.luks_head.specs.declared.bin2.Bin2.{Bin2 as TheHeader};
+ghost use Rattle.luks2_header.specs.Header2.{binary_header_size, header_at};
+ghost use Rattle.luks2_header.specs.declared.bin2.Bin2.{Bin2 as TheHeader};
 ghost use Rattle.luks_writing.specs.Copy.{HasCopy, IsCopyHeader, IsSummed};
 
 use crate::checksums::with_checksum;
 use luks_area::{Device, DeviceFault};
-use luks_head::Bin2;
+use luks2_header::Bin2;
 
 /// The bytes of the binary header, behind which the JSON area stands.
 const BINARY_HEADER: u64 = 4096;

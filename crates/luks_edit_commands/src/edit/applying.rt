@@ -15,7 +15,7 @@ pub(super) fn apply_of_header<D: Device>(
     alloc: Global,
     device: &mut D,
     header: Header,
-    data_: Data,
+    payload: Data,
     edit: &Edit<'_>,
     random: &[u8],
 ) -> Result<Done, EditFault>
@@ -28,8 +28,8 @@ pub(super) fn apply_of_header<D: Device>(
         → IsSettled D.unsettled device.new }
     ensures count { CountsFailure is_edit_failure result
         (D.failed device.old) (D.failed device.new) }
-    ensures applied { D.tells → IsApplied data_ (D.bytes device.old) edit.now random.now result
+    ensures applied { D.tells → IsApplied payload (D.bytes device.old) edit.now random.now result
         (D.bytes device.new) }
 {
-    luks_volume::apply_of_header(alloc, device, header, data_, edit, random)
+    luks_volume::apply_of_header(alloc, device, header, payload, edit, random)
 }

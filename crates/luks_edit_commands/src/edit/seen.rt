@@ -7,7 +7,7 @@ ghost use Rattle.luks_edit_commands.specs.OtherUses.{is_unseen_failure, IsUnseen
 
 use crate::other_use::barring_use;
 use luks_edit::NewDerivation;
-use luks_keyslot_notes::{MemoryNote, OlderNote, memory_note, older_note};
+use luks_notes::{MemoryNote, OlderNote, memory_note, older_note};
 use luks_request::Editing;
 use luks_signatures::OtherUse;
 use luks_volume::{
@@ -89,16 +89,16 @@ pub(super) fn see<D: Device>(
     ensures accepted { IfOk result (λ seen. IsAcceptedHeader seen.header) }
     ensures read { D.tells → IfOk result (λ seen. IsHeader (D.bytes device.old) seen.header) }
     ensures tells { D.tells → IfOk result (λ seen.
-        NeedsRandom (D.bytes device.old) editing.now.data_ edit.now seen.needed) }
+        NeedsRandom (D.bytes device.old) editing.now.payload edit.now seen.needed) }
     ensures unseen { D.tells → IfErr result
-        (IsUnseen editing.now.over (D.bytes device.old) editing.now.data_ edit.now) }
+        (IsUnseen editing.now.over (D.bytes device.old) editing.now.payload edit.now) }
     ensures barred { D.tells → SeesBarred editing.now.over (D.bytes device.old) result }
 {
     let header = edited_header(alloc, device)?;
     if let Some(found) = barring_use(device, &header, editing.over)? {
         return Err(Unseen::Used(found));
     }
-    let needed = needed_of_header(&header, editing.data_, device.len(), edit)?;
+    let needed = needed_of_header(&header, editing.payload, device.len(), edit)?;
     let weaker = weaker_keyslot(&header, edit);
     let argon2 = argon2_keyslot(&header, device.len(), edit);
     let older = older_keyslot(&header, device.len(), edit);

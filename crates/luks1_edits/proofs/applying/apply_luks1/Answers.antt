@@ -7,7 +7,7 @@ use Rattle.luks1_edits.proofs.applying.apply_luks1.Goals as goal
 pub returns-in-Err-clause-replies : goal.returns-in-Err-clause-replies
 returns-in-Err-clause-replies g c = λ tells is.
     let v = g.D.Device.bytes c.args.device.now in
-    unaccepted_ends v c.args.data_ c.args.edit.now c.args.random.now c.in-Err.fault (c.in-Err.ensures.refused v is (g.met.D.Device.sized c.args.device.now tells ∙ sym c.len.ensures))
+    unaccepted_ends v c.args.payload c.args.edit.now c.args.random.now c.in-Err.fault (c.in-Err.ensures.refused v is (g.met.D.Device.sized c.args.device.now tells ∙ sym c.len.ensures))
 
 pub returns-in-Seal-clause-replies : goal.returns-in-Seal-clause-replies
 returns-in-Seal-clause-replies g c = λ tells is.
@@ -29,4 +29,4 @@ pub returns-in-Rewrite-clause-replies : goal.returns-in-Rewrite-clause-replies
 returns-in-Rewrite-clause-replies g c = λ tells is.
     let v = g.D.Device.bytes c.args.device.now in
     let header = c.in-Ok.ensures.header v is (g.met.D.Device.sized c.args.device.now tells ∙ sym c.len.ensures) in
-    rewrite_replies v c.args.data_ c.args.random.now header.faultless c.args.edit.now c.in-Rewrite.label (sym c.in-Rewrite.ensures) c.repair.result c.repair.ensures
+    rewrite_replies v c.args.payload c.args.random.now header.faultless c.args.edit.now c.in-Rewrite.label (sym c.in-Rewrite.ensures) c.repair.result c.repair.ensures

@@ -14,8 +14,8 @@ returns-in_err-judge_removal-clause-replies g c = λ tells e is x.
     let a = c.args.header.now in
     let p = err_from_is_err_and c.from_residual.result c.from_residual.ensures.1 in
     rw (p.1, p.2)
-    (unremovable_ends v a.data_ e c.args.random.now c.args.removed.now.slot c.args.removed.now.by_ c.args.removed.now.passphrase.bytes.now (removal v e c.args.removed.now c.args.random.now is) x.faultless c.in_err-judge_removal.field-0.0
-    (c.in_err-judge_removal.ensures.judged v (slots_in a.bytes.now a.data_ v a.fields.slots x c.requires.accepted.fields.slots)))
+    (unremovable_ends v a.payload e c.args.random.now c.args.removed.now.slot c.args.removed.now.by_ c.args.removed.now.passphrase.bytes.now (removal v e c.args.removed.now c.args.random.now is) x.faultless c.in_err-judge_removal.field-0.0
+    (c.in_err-judge_removal.ensures.judged v (slots_in a.bytes.now a.payload v a.fields.slots x c.requires.accepted.fields.slots)))
 
 pub returns-in_err-unlock-clause-replies : goal.returns-in_err-unlock-clause-replies
 returns-in_err-unlock-clause-replies g c = λ tells e is x.
@@ -23,32 +23,32 @@ returns-in_err-unlock-clause-replies g c = λ tells e is x.
     let a = c.args.header.now in
     let p = err_from_is_err_and c.from_residual-in_err-unlock.result c.from_residual-in_err-unlock.ensures.1 in
     rw (p.1, p.2)
-    (unopened_ends v a.data_ e c.args.random.now x.faultless x.chosen c.opener_of.result c.args.removed.now.passphrase.bytes.now
-    (removal_opener v a.data_ e c.args.random.now c.args.removed.now.slot c.args.removed.now.by_ c.args.removed.now.passphrase.bytes.now (removal v e c.args.removed.now c.args.random.now is) (c.in_ok-judge_removal.ensures.judged v (slots_in a.bytes.now a.data_ v a.fields.slots x c.requires.accepted.fields.slots)) c.opener_of.result c.opener_of.ensures)
+    (unopened_ends v a.payload e c.args.random.now x.faultless x.chosen c.opener_of.result c.args.removed.now.passphrase.bytes.now
+    (removal_opener v a.payload e c.args.random.now c.args.removed.now.slot c.args.removed.now.by_ c.args.removed.now.passphrase.bytes.now (removal v e c.args.removed.now c.args.random.now is) (c.in_ok-judge_removal.ensures.judged v (slots_in a.bytes.now a.payload v a.fields.slots x c.requires.accepted.fields.slots)) c.opener_of.result c.opener_of.ensures)
     (g.D.Device.bytes c.unlock.new.device) c.in_err-unlock.field-0.0 (c.unlock.ensures.unchanged.same tells) (c.in_err-unlock.ensures.refused tells x))
 
 pub returns-then-is_last-clause-replies : goal.returns-then-is_last-clause-replies
 returns-then-is_last-clause-replies g c = λ tells e is x.
     let v = g.D.Device.bytes c.args.device.now in
     let a = c.args.header.now in
-    (last_refused v a.data_ e c.args.random.now c.args.removed.now.slot c.args.removed.now.by_ c.args.removed.now.passphrase.bytes.now c.in_ok-unlock.field-0 (removal v e c.args.removed.now c.args.random.now is) a.bytes.now x (c.in_ok-judge_removal.ensures.judged v (slots_in a.bytes.now a.data_ v a.fields.slots x c.requires.accepted.fields.slots)) c.opener_of.result c.opener_of.ensures (c.in_ok-unlock.ensures.opened tells x) (c.if-is_last.ensures.last refl v (slots_in a.bytes.now a.data_ v a.fields.slots x c.requires.accepted.fields.slots)), c.unlock.ensures.unchanged.same tells)
+    (last_refused v a.payload e c.args.random.now c.args.removed.now.slot c.args.removed.now.by_ c.args.removed.now.passphrase.bytes.now c.in_ok-unlock.field-0 (removal v e c.args.removed.now c.args.random.now is) a.bytes.now x (c.in_ok-judge_removal.ensures.judged v (slots_in a.bytes.now a.payload v a.fields.slots x c.requires.accepted.fields.slots)) c.opener_of.result c.opener_of.ensures (c.in_ok-unlock.ensures.opened tells x) (c.if-is_last.ensures.last refl v (slots_in a.bytes.now a.payload v a.fields.slots x c.requires.accepted.fields.slots)), c.unlock.ensures.unchanged.same tells)
 
 pub returns-then-random-ne0-clause-replies : goal.returns-then-random-ne0-clause-replies
 returns-then-random-ne0-clause-replies g c = λ tells e is x.
     let v = g.D.Device.bytes c.args.device.now in
     let a = c.args.header.now in
-    (random_refused v a.data_ e c.args.random.now c.args.removed.now.slot c.args.removed.now.by_ c.args.removed.now.passphrase.bytes.now c.in_ok-unlock.field-0 (removal v e c.args.removed.now c.args.random.now is) a.bytes.now x (c.in_ok-judge_removal.ensures.judged v (slots_in a.bytes.now a.data_ v a.fields.slots x c.requires.accepted.fields.slots)) c.opener_of.result c.opener_of.ensures (c.in_ok-unlock.ensures.opened tells x) (c.if-is_last.ensures.other refl v (slots_in a.bytes.now a.data_ v a.fields.slots x c.requires.accepted.fields.slots)) c.if-random-ne0.true, c.unlock.ensures.unchanged.same tells)
+    (random_refused v a.payload e c.args.random.now c.args.removed.now.slot c.args.removed.now.by_ c.args.removed.now.passphrase.bytes.now c.in_ok-unlock.field-0 (removal v e c.args.removed.now c.args.random.now is) a.bytes.now x (c.in_ok-judge_removal.ensures.judged v (slots_in a.bytes.now a.payload v a.fields.slots x c.requires.accepted.fields.slots)) c.opener_of.result c.opener_of.ensures (c.in_ok-unlock.ensures.opened tells x) (c.if-is_last.ensures.other refl v (slots_in a.bytes.now a.payload v a.fields.slots x c.requires.accepted.fields.slots)) c.if-random-ne0.true, c.unlock.ensures.unchanged.same tells)
 
 pub free_keyslot-requires-clause-within : goal.free_keyslot-requires-clause-within
 free_keyslot-requires-clause-within g c =
     let size = c.unlock.ensures.unchanged.size in
-    let long = header_inside c.args.header.now.bytes.now c.args.header.now.data_ (g.D.Device.size c.args.device.now) c.requires.accepted.volume in
+    let long = header_inside c.args.header.now.bytes.now c.args.header.now.payload (g.D.Device.size c.args.device.now) c.requires.accepted.volume in
     omega (arith, size, long)
 
 pub free_keyslot-requires-clause-inside : goal.free_keyslot-requires-clause-inside
 free_keyslot-requires-clause-inside g c =
     let size = c.unlock.ensures.unchanged.size in
-    let inside = keyslot_inside c.args.header.now.bytes.now c.args.header.now.fields c.args.header.now.data_ (g.D.Device.size c.args.device.now) c.args.removed.now.slot _ c.luks1_area-area.result
+    let inside = keyslot_inside c.args.header.now.bytes.now c.args.header.now.fields c.args.header.now.payload (g.D.Device.size c.args.device.now) c.args.removed.now.slot _ c.luks1_area-area.result
     c.requires.accepted.fields c.requires.accepted.volume c.in_ok-judge_removal.ensures.numbered c.luks1_area-area.ensures.start c.luks1_area-area.ensures.len in
     omega (arith, size, inside)
 
@@ -56,23 +56,23 @@ pub returns-in-Ok-clause-replies : goal.returns-in-Ok-clause-replies
 returns-in-Ok-clause-replies g c = λ tells e is x.
     let v = g.D.Device.bytes c.args.device.now in
     let a = c.args.header.now in
-    let at = keyslot_at a.bytes.now a.fields a.data_ v c.args.removed.now.slot _ c.luks1_area-area.result x c.requires.accepted.fields
+    let at = keyslot_at a.bytes.now a.fields a.payload v c.args.removed.now.slot _ c.luks1_area-area.result x c.requires.accepted.fields
     c.in_ok-judge_removal.ensures.numbered c.luks1_area-area.ensures.start c.luks1_area-area.ensures.len in
     let same = c.unlock.ensures.unchanged.same tells in
     let w = g.D.Device.bytes c.free_keyslot.new.device in
-    removal_done v a.data_ e c.args.random.now c.args.removed.now.slot c.args.removed.now.by_ c.args.removed.now.passphrase.bytes.now c.in_ok-unlock.field-0 (removal v e c.args.removed.now c.args.random.now is) a.bytes.now x (c.in_ok-judge_removal.ensures.judged v (slots_in a.bytes.now a.data_ v a.fields.slots x c.requires.accepted.fields.slots)) c.opener_of.result c.opener_of.ensures (c.in_ok-unlock.ensures.opened tells x)
-    (c.if-is_last.ensures.other refl v (slots_in a.bytes.now a.data_ v a.fields.slots x c.requires.accepted.fields.slots)) c.if-random-ne0.false w (removed_same same (c.in-Ok.ensures.removed tells (keyslot_at_same same at)))
+    removal_done v a.payload e c.args.random.now c.args.removed.now.slot c.args.removed.now.by_ c.args.removed.now.passphrase.bytes.now c.in_ok-unlock.field-0 (removal v e c.args.removed.now c.args.random.now is) a.bytes.now x (c.in_ok-judge_removal.ensures.judged v (slots_in a.bytes.now a.payload v a.fields.slots x c.requires.accepted.fields.slots)) c.opener_of.result c.opener_of.ensures (c.in_ok-unlock.ensures.opened tells x)
+    (c.if-is_last.ensures.other refl v (slots_in a.bytes.now a.payload v a.fields.slots x c.requires.accepted.fields.slots)) c.if-random-ne0.false w (removed_same same (c.in-Ok.ensures.removed tells (keyslot_at_same same at)))
 
 pub returns-in-Err-clause-replies : goal.returns-in-Err-clause-replies
 returns-in-Err-clause-replies g c = λ tells e is x.
     let v = g.D.Device.bytes c.args.device.now in
     let a = c.args.header.now in
-    let at = keyslot_at a.bytes.now a.fields a.data_ v c.args.removed.now.slot _ c.luks1_area-area.result x c.requires.accepted.fields
+    let at = keyslot_at a.bytes.now a.fields a.payload v c.args.removed.now.slot _ c.luks1_area-area.result x c.requires.accepted.fields
     c.in_ok-judge_removal.ensures.numbered c.luks1_area-area.ensures.start c.luks1_area-area.ensures.len in
     let same = c.unlock.ensures.unchanged.same tells in
     let w = g.D.Device.bytes c.free_keyslot.new.device in
-    removal_torn v a.data_ e c.args.random.now c.args.removed.now.slot c.args.removed.now.by_ c.args.removed.now.passphrase.bytes.now c.in_ok-unlock.field-0 (removal v e c.args.removed.now c.args.random.now is) a.bytes.now x (c.in_ok-judge_removal.ensures.judged v (slots_in a.bytes.now a.data_ v a.fields.slots x c.requires.accepted.fields.slots)) c.opener_of.result c.opener_of.ensures (c.in_ok-unlock.ensures.opened tells x)
-    (c.if-is_last.ensures.other refl v (slots_in a.bytes.now a.data_ v a.fields.slots x c.requires.accepted.fields.slots)) c.if-random-ne0.false w (half_removed_same same (c.in-Err.ensures.torn tells (keyslot_at_same same at)))
+    removal_torn v a.payload e c.args.random.now c.args.removed.now.slot c.args.removed.now.by_ c.args.removed.now.passphrase.bytes.now c.in_ok-unlock.field-0 (removal v e c.args.removed.now c.args.random.now is) a.bytes.now x (c.in_ok-judge_removal.ensures.judged v (slots_in a.bytes.now a.payload v a.fields.slots x c.requires.accepted.fields.slots)) c.opener_of.result c.opener_of.ensures (c.in_ok-unlock.ensures.opened tells x)
+    (c.if-is_last.ensures.other refl v (slots_in a.bytes.now a.payload v a.fields.slots x c.requires.accepted.fields.slots)) c.if-random-ne0.false w (half_removed_same same (c.in-Err.ensures.torn tells (keyslot_at_same same at)))
 
 pub returns-in_err-unlock-clause-settled : goal.returns-in_err-unlock-clause-settled
 returns-in_err-unlock-clause-settled g c = λ tells same. settled_unchanged tells c.unlock.ensures.unchanged (c.requires.settled tells)

@@ -14,18 +14,18 @@ pub returns-in-New-clause-replies : goal.returns-in-New-clause-replies
 returns-in-New-clause-replies g c = λ tells e is x.
     let v = g.D.Device.bytes c.args.device.now in
     let u = g.D.Device.bytes c.make.new.device in
-    added c.args.header.now.data_ v e c.args.sealed.now c.args.random.now c.in_ok-n.n u is (c.in_ok-n.ensures.made tells x) c.in-New.to c.in-New.is
+    added c.args.header.now.payload v e c.args.sealed.now c.args.random.now c.in_ok-n.n u is (c.in_ok-n.ensures.made tells x) c.in-New.to c.in-New.is
 
 pub free_keyslot-requires-clause-within : goal.free_keyslot-requires-clause-within
 free_keyslot-requires-clause-within g c =
     let size = c.make.ensures.size in
-    let long = header_inside c.args.header.now.bytes.now c.args.header.now.data_ (g.D.Device.size c.args.device.now) c.requires.accepted.volume in
+    let long = header_inside c.args.header.now.bytes.now c.args.header.now.payload (g.D.Device.size c.args.device.now) c.requires.accepted.volume in
     omega (arith, size, long)
 
 pub free_keyslot-requires-clause-inside : goal.free_keyslot-requires-clause-inside
 free_keyslot-requires-clause-inside g c =
     let size = c.make.ensures.size in
-    let inside = keyslot_inside c.args.header.now.bytes.now c.args.header.now.fields c.args.header.now.data_ (g.D.Device.size c.args.device.now) c.args.sealed.now.opener.slot _ c.luks1_area-area.result
+    let inside = keyslot_inside c.args.header.now.bytes.now c.args.header.now.fields c.args.header.now.payload (g.D.Device.size c.args.device.now) c.args.sealed.now.opener.slot _ c.luks1_area-area.result
     c.requires.accepted.fields c.requires.accepted.volume c.in_ok-n.ensures.opener c.luks1_area-area.ensures.start c.luks1_area-area.ensures.len in
     omega (arith, size, inside)
 
@@ -37,10 +37,10 @@ returns-in-Ok-clause-replies g c = λ tells e is x.
     let made = c.in_ok-n.ensures.made tells x in
     let u = g.D.Device.bytes c.make.new.device in
     let w = g.D.Device.bytes c.free_keyslot.new.device in
-    let at = opened_at a.data_ v e s c.args.random.now c.in_ok-n.n u is made a.bytes.now x c.in-Opened.is
-    (keyslot_at a.bytes.now a.fields a.data_ v s.opener.slot _ c.luks1_area-area.result x c.requires.accepted.fields
+    let at = opened_at a.payload v e s c.args.random.now c.in_ok-n.n u is made a.bytes.now x c.in-Opened.is
+    (keyslot_at a.bytes.now a.fields a.payload v s.opener.slot _ c.luks1_area-area.result x c.requires.accepted.fields
     c.in_ok-n.ensures.opener c.luks1_area-area.ensures.start c.luks1_area-area.ensures.len) in
-    renewed a.data_ v e s c.args.random.now c.in_ok-n.n u is made a.bytes.now x c.in-Opened.is w (c.in-Ok.ensures.removed tells at)
+    renewed a.payload v e s c.args.random.now c.in_ok-n.n u is made a.bytes.now x c.in-Opened.is w (c.in-Ok.ensures.removed tells at)
 
 pub returns-in-Err-clause-replies : goal.returns-in-Err-clause-replies
 returns-in-Err-clause-replies g c = λ tells e is x.
@@ -50,7 +50,7 @@ returns-in-Err-clause-replies g c = λ tells e is x.
     let made = c.in_ok-n.ensures.made tells x in
     let u = g.D.Device.bytes c.make.new.device in
     let w = g.D.Device.bytes c.free_keyslot.new.device in
-    let at = opened_at a.data_ v e s c.args.random.now c.in_ok-n.n u is made a.bytes.now x c.in-Opened.is
-    (keyslot_at a.bytes.now a.fields a.data_ v s.opener.slot _ c.luks1_area-area.result x c.requires.accepted.fields
+    let at = opened_at a.payload v e s c.args.random.now c.in_ok-n.n u is made a.bytes.now x c.in-Opened.is
+    (keyslot_at a.bytes.now a.fields a.payload v s.opener.slot _ c.luks1_area-area.result x c.requires.accepted.fields
     c.in_ok-n.ensures.opener c.luks1_area-area.ensures.start c.luks1_area-area.ensures.len) in
-    half_renewed a.data_ v e s c.args.random.now c.in_ok-n.n u is made a.bytes.now x c.in-Opened.is w (c.in-Err.ensures.torn tells at)
+    half_renewed a.payload v e s c.args.random.now c.in_ok-n.n u is made a.bytes.now x c.in-Opened.is w (c.in-Err.ensures.torn tells at)

@@ -10,7 +10,7 @@ returns-then-n-gt7-clause-refused g c = λ tells x used. elim c.then-n-gt7.branc
   | then-n-gt7-via-else-n-gt7+then-not-is_used w ↦
       used_or_free (g.D.Device.bytes c.args.device.now) c.args.n used
       (w.if-not-is_used.ensures.free refl (g.D.Device.bytes c.args.device.now)
-      (slots_in c.args.header.now.bytes.now c.args.header.now.data_ (g.D.Device.bytes c.args.device.now) c.args.header.now.fields.slots x c.requires.accepted.fields.slots))
+      (slots_in c.args.header.now.bytes.now c.args.header.now.payload (g.D.Device.bytes c.args.device.now) c.args.header.now.fields.slots x c.requires.accepted.fields.slots))
 ]
 
 pub open_within-requires : goal.open_within-requires
@@ -43,8 +43,8 @@ returns-in-Some-clause-opened g c = λ tells x.
     let v = g.D.Device.bytes c.args.device.now in
     let a = c.args.header.now in
     let there = plan_there a.bytes.now a.fields c.args.n _ c.luks1_plan-plan.result c.requires.accepted.fields (c.if-not-is_used.ensures.used refl) c.luks1_plan-plan.ensures.is in
-    let used = c.if-not-is_used.ensures.used refl v (slots_in a.bytes.now a.data_ v a.fields.slots x c.requires.accepted.fields.slots) in
-    opened_by a.bytes.now a.data_ v x c.args.n used c.luks1_plan-plan.result there c.args.passphrase.now.allowed.older c.args.passphrase.now.bytes.now c.in-Some.key c.in-Ok.found
+    let used = c.if-not-is_used.ensures.used refl v (slots_in a.bytes.now a.payload v a.fields.slots x c.requires.accepted.fields.slots) in
+    opened_by a.bytes.now a.payload v x c.args.n used c.luks1_plan-plan.result there c.args.passphrase.now.allowed.older c.args.passphrase.now.bytes.now c.in-Some.key c.in-Ok.found
     c.in-Ok.ensures.accepted (c.in-Ok.ensures.value tells) c.in-Some.is
 
 pub returns-in-None-clause-refused : goal.returns-in-None-clause-refused
@@ -52,8 +52,8 @@ returns-in-None-clause-refused g c = λ tells x.
     let v = g.D.Device.bytes c.args.device.now in
     let a = c.args.header.now in
     let there = plan_there a.bytes.now a.fields c.args.n _ c.luks1_plan-plan.result c.requires.accepted.fields (c.if-not-is_used.ensures.used refl) c.luks1_plan-plan.ensures.is in
-    let used = c.if-not-is_used.ensures.used refl v (slots_in a.bytes.now a.data_ v a.fields.slots x c.requires.accepted.fields.slots) in
-    locked_by a.bytes.now a.data_ v x c.args.n used c.luks1_plan-plan.result there c.args.passphrase.now.allowed.older c.args.passphrase.now.bytes.now c.in-Ok.found
+    let used = c.if-not-is_used.ensures.used refl v (slots_in a.bytes.now a.payload v a.fields.slots x c.requires.accepted.fields.slots) in
+    locked_by a.bytes.now a.payload v x c.args.n used c.luks1_plan-plan.result there c.args.passphrase.now.allowed.older c.args.passphrase.now.bytes.now c.in-Ok.found
     c.in-Ok.ensures.accepted (c.in-Ok.ensures.value tells) c.in-None.is
 
 pub returns-in-Err-clause-refused : goal.returns-in-Err-clause-refused
@@ -61,9 +61,9 @@ returns-in-Err-clause-refused g c = λ tells x.
     let v = g.D.Device.bytes c.args.device.now in
     let a = c.args.header.now in
     let there = plan_there a.bytes.now a.fields c.args.n _ c.luks1_plan-plan.result c.requires.accepted.fields (c.if-not-is_used.ensures.used refl) c.luks1_plan-plan.ensures.is in
-    let used = c.if-not-is_used.ensures.used refl v (slots_in a.bytes.now a.data_ v a.fields.slots x c.requires.accepted.fields.slots) in
+    let used = c.if-not-is_used.ensures.used refl v (slots_in a.bytes.now a.payload v a.fields.slots x c.requires.accepted.fields.slots) in
     rw c.keyslot_fault.ensures
-    (unopened_by a.bytes.now a.data_ v x c.args.n used c.luks1_plan-plan.result there c.args.passphrase.now.allowed.older c.args.passphrase.now.bytes.now c.in-Err.fault c.in-Err.ensures.fault)
+    (unopened_by a.bytes.now a.payload v x c.args.n used c.luks1_plan-plan.result there c.args.passphrase.now.allowed.older c.args.passphrase.now.bytes.now c.in-Err.fault c.in-Err.ensures.fault)
 
 pub returns-in-Err-clause-memory : goal.returns-in-Err-clause-memory
 returns-in-Err-clause-memory g c =

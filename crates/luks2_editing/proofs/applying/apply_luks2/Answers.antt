@@ -1,6 +1,6 @@
 use Rattle.std.proofs.Common.{ℕ, ◌∙◌, ◌<◌, ap, refl, subst, sym}
 use Rattle.std.proofs.lemmas.Result.{err_from_is_err_and}
-use Rattle.luks_head.specs.Header2.{hdr_size, header_at}
+use Rattle.luks2_header.specs.Header2.{hdr_size, header_at}
 use Rattle.luks_meta.specs.Content.{area_len, content}
 use Rattle.luks_slot.specs.declared.allowed.Allowed.{Allowed}
 use Rattle.luks_edit.proofs.AllowedMemory.{short_where_allowed}
@@ -17,7 +17,7 @@ pub returns-in_err-judged-clause-replies : goal.returns-in_err-judged-clause-rep
 returns-in_err-judged-clause-replies g c = λ tells is.
     let p = err_from_is_err_and c.from_residual.result c.from_residual.ensures.1 in
     rw (p.1, p.2)
-    (refused_ends (g.D.Device.bytes c.args.device.now) c.args.data_ c.args.edit.now c.args.random.now (g.D.Device.bytes c.judge_luks2.new.device) c.in_err-judged.field-0.0
+    (refused_ends (g.D.Device.bytes c.args.device.now) c.args.payload c.args.edit.now c.args.random.now (g.D.Device.bytes c.judge_luks2.new.device) c.in_err-judged.field-0.0
     (c.judge_luks2.ensures.unchanged.same tells) (c.in_err-judged.ensures.refused tells is))
 
 pub remove-requires-clause-numbered : goal.remove-requires-clause-numbered
@@ -38,7 +38,7 @@ returns-in-Repair-clause-replies g c = λ tells is.
     let takes = subst (λ t. Takes (area_len copy.meta) (content copy.meta) (g.D.Device.size c.args.device.now) c.args.edit.now t) c.in-Repair.is c.in_ok-judged.ensures.judged.takes in
     let same = c.judge_luks2.ensures.unchanged.same tells in
     let judged = judged_edit same (edit_is c.args.edit.now _ takes) c.in_ok-judged.ensures.judged.is is (c.in_ok-judged.ensures.unrefused tells is) in
-    replied same (edit_is c.args.edit.now _ takes) c.args.data_ c.args.random.now _ _ (c.repair.ensures.replies tells c.args.data_ Repair refl judged.chosen judged.well (judged.none c.args.random.now))
+    replied same (edit_is c.args.edit.now _ takes) c.args.payload c.args.random.now _ _ (c.repair.ensures.replies tells c.args.payload Repair refl judged.chosen judged.well (judged.none c.args.random.now))
 
 pub returns-in-Remove-clause-replies : goal.returns-in-Remove-clause-replies
 returns-in-Remove-clause-replies g c = λ tells is.
@@ -46,7 +46,7 @@ returns-in-Remove-clause-replies g c = λ tells is.
     let takes = subst (λ t. Takes (area_len copy.meta) (content copy.meta) (g.D.Device.size c.args.device.now) c.args.edit.now t) c.in-Remove.is c.in_ok-judged.ensures.judged.takes in
     let same = c.judge_luks2.ensures.unchanged.same tells in
     let judged = judged_edit same (edit_is c.args.edit.now _ takes.asked) c.in_ok-judged.ensures.judged.is is (c.in_ok-judged.ensures.unrefused tells is) in
-    replied same (edit_is c.args.edit.now _ takes.asked) c.args.data_ c.args.random.now _ _ (c.remove.ensures.replies tells c.args.data_ (Remove c.in-Remove.slot takes.by_ takes.passphrase) takes.by_ takes.passphrase refl judged.chosen judged.well (judged.none c.args.random.now))
+    replied same (edit_is c.args.edit.now _ takes.asked) c.args.payload c.args.random.now _ _ (c.remove.ensures.replies tells c.args.payload (Remove c.in-Remove.slot takes.by_ takes.passphrase) takes.by_ takes.passphrase refl judged.chosen judged.well (judged.none c.args.random.now))
 
 pub returns-in-Label-clause-replies : goal.returns-in-Label-clause-replies
 returns-in-Label-clause-replies g c = λ tells is.
@@ -54,7 +54,7 @@ returns-in-Label-clause-replies g c = λ tells is.
     let takes = subst (λ t. Takes (area_len copy.meta) (content copy.meta) (g.D.Device.size c.args.device.now) c.args.edit.now t) c.in-Label.is c.in_ok-judged.ensures.judged.takes in
     let same = c.judge_luks2.ensures.unchanged.same tells in
     let judged = judged_edit same (edit_is c.args.edit.now _ takes.asked) c.in_ok-judged.ensures.judged.is is (c.in_ok-judged.ensures.unrefused tells is) in
-    replied same (edit_is c.args.edit.now _ takes.asked) c.args.data_ c.args.random.now _ _ (c.set_label.ensures.replies tells c.args.data_ (Label takes.text) takes.text refl judged.chosen judged.well (judged.none c.args.random.now) takes.is)
+    replied same (edit_is c.args.edit.now _ takes.asked) c.args.payload c.args.random.now _ _ (c.set_label.ensures.replies tells c.args.payload (Label takes.text) takes.text refl judged.chosen judged.well (judged.none c.args.random.now) takes.is)
 
 pub returns-in-Change-clause-replies : goal.returns-in-Change-clause-replies
 returns-in-Change-clause-replies g c = λ tells is.
@@ -64,9 +64,9 @@ returns-in-Change-clause-replies g c = λ tells is.
     let judged = judged_edit same (edit_is c.args.edit.now _ takes.asked) c.in_ok-judged.ensures.judged.is is (c.in_ok-judged.ensures.unrefused tells is) in
     let v = g.D.Device.bytes c.judge_luks2.new.device in
     let e : Edit = Change c.in-Change.renewal.slot takes.old c.in-Change.passphrase c.in-Change.renewal.derivation.iterations c.in-Change.renewal.derivation.chosen in
-    let seals = subst (λ t. Seals (hdr_size (header_at v copy.header.hdr_offset)) v c.args.data_ (content copy.meta) e t) c.in-Change.is judged.seals in
-    let replies = rw (c.new-secrets-in-Change.ensures, c.in-Change.is) at (c.change.ensures.replies tells c.args.data_) in
-    replied same (edit_is c.args.edit.now _ takes.asked) c.args.data_ c.args.random.now _ _ (replies e takes.old refl judged.chosen judged.well (judged.none c.args.random.now)
+    let seals = subst (λ t. Seals (hdr_size (header_at v copy.header.hdr_offset)) v c.args.payload (content copy.meta) e t) c.in-Change.is judged.seals in
+    let replies = rw (c.new-secrets-in-Change.ensures, c.in-Change.is) at (c.change.ensures.replies tells c.args.payload) in
+    replied same (edit_is c.args.edit.now _ takes.asked) c.args.payload c.args.random.now _ _ (replies e takes.old refl judged.chosen judged.well (judged.none c.args.random.now)
     (sym (c.allowed-allowed.ensures ∙ ap allowed_by (edit_is c.args.edit.now _ takes.asked))) (seals.0 c.in-Change.renewal.slot takes.old.bytes.now (refl, refl)) seals.1)
 
 pub returns-in-Add-clause-replies : goal.returns-in-Add-clause-replies
@@ -77,9 +77,9 @@ returns-in-Add-clause-replies g c = λ tells is.
     let judged = judged_edit same (edit_is c.args.edit.now _ takes.asked) c.in_ok-judged.ensures.judged.is is (c.in_ok-judged.ensures.unrefused tells is) in
     let v = g.D.Device.bytes c.judge_luks2.new.device in
     let e : Edit = Add c.in-Add.addition.by_ takes.old c.in-Add.passphrase takes.to c.in-Add.addition.derivation.iterations c.in-Add.addition.derivation.chosen in
-    let seals = subst (λ t. Seals (hdr_size (header_at v copy.header.hdr_offset)) v c.args.data_ (content copy.meta) e t) c.in-Add.is judged.seals in
-    let replies = rw (c.new-secrets.ensures, c.in-Add.is) at (c.add.ensures.replies tells c.args.data_) in
-    replied same (edit_is c.args.edit.now _ takes.asked) c.args.data_ c.args.random.now _ _ (replies e takes.old takes.to refl judged.chosen judged.well (judged.none c.args.random.now)
+    let seals = subst (λ t. Seals (hdr_size (header_at v copy.header.hdr_offset)) v c.args.payload (content copy.meta) e t) c.in-Add.is judged.seals in
+    let replies = rw (c.new-secrets.ensures, c.in-Add.is) at (c.add.ensures.replies tells c.args.payload) in
+    replied same (edit_is c.args.edit.now _ takes.asked) c.args.payload c.args.random.now _ _ (replies e takes.old takes.to refl judged.chosen judged.well (judged.none c.args.random.now)
     (sym (c.allowed-allowed.ensures ∙ ap allowed_by (edit_is c.args.edit.now _ takes.asked))) (seals.0 c.in-Add.addition.by_ takes.old.bytes.now (refl, refl)) takes.number.is_new seals.1)
 
 pub add-requires-clause-passphrase : goal.add-requires-clause-passphrase

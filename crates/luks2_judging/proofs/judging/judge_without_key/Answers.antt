@@ -12,57 +12,57 @@ pub returns-in_err-areas-clause-refused : goal.returns-in_err-areas-clause-refus
 returns-in_err-areas-clause-refused c = λ v random is size.
     let p = err_from_is_err_and c.from_residual.result c.from_residual.ensures.1 in
     rw (p.1, p.2)
-    (unaccepted_first v c.args.data_ c.args.edit.now random c.in_err-areas.field-0.0 (c.in_err-areas.ensures.refused v is size))
+    (unaccepted_first v c.args.payload c.args.edit.now random c.in_err-areas.field-0.0 (c.in_err-areas.ensures.refused v is size))
 
 pub returns-in_err-judge_requirements-clause-refused : goal.returns-in_err-judge_requirements-clause-refused
 returns-in_err-judge_requirements-clause-refused c = λ v random is size.
     let copy = c.args.copy.now in
     let e = c.args.edit.now in
-    let accepted = well_formed_faultless v c.args.data_ (c.in_ok-areas.ensures.well v is size) in
-    let past = past_check v c.args.data_ copy.header.hdr_offset (content copy.meta) (metadata_of v copy is) e random accepted in
+    let accepted = well_formed_faultless v c.args.payload (c.in_ok-areas.ensures.well v is size) in
+    let past = past_check v c.args.payload copy.header.hdr_offset (content copy.meta) (metadata_of v copy is) e random accepted in
     let p = err_from_is_err_and c.from_residual-in_err-judge_requirements.result c.from_residual-in_err-judge_requirements.ensures.1 in
     let judged = c.in_err-judge_requirements.ensures in
     rw (p.1, p.2)
-    (subst (λ f. Refusal2 v c.args.data_ e random f) (sym judged.0)
-    (required_first v c.args.data_ copy.header.hdr_offset (content copy.meta) (metadata_of v copy is) e random past judged.1))
+    (subst (λ f. Refusal2 v c.args.payload e random f) (sym judged.0)
+    (required_first v c.args.payload copy.header.hdr_offset (content copy.meta) (metadata_of v copy is) e random past judged.1))
 
 pub returns-in_err-judge_wanted-clause-refused : goal.returns-in_err-judge_wanted-clause-refused
 returns-in_err-judge_wanted-clause-refused c = λ v random is size.
     let copy = c.args.copy.now in
     let e = c.args.edit.now in
-    let accepted = well_formed_faultless v c.args.data_ (c.in_ok-areas.ensures.well v is size) in
-    let past1 = past_check v c.args.data_ copy.header.hdr_offset (content copy.meta) (metadata_of v copy is) e random accepted in
-    let past2 = past_required v c.args.data_ copy.header.hdr_offset (content copy.meta) (metadata_of v copy is) e random past1 c.in_ok-judge_requirements.ensures in
+    let accepted = well_formed_faultless v c.args.payload (c.in_ok-areas.ensures.well v is size) in
+    let past1 = past_check v c.args.payload copy.header.hdr_offset (content copy.meta) (metadata_of v copy is) e random accepted in
+    let past2 = past_required v c.args.payload copy.header.hdr_offset (content copy.meta) (metadata_of v copy is) e random past1 c.in_ok-judge_requirements.ensures in
     let p = err_from_is_err_and c.from_residual-in_err-judge_wanted.result c.from_residual-in_err-judge_wanted.ensures.1 in
     let judged = c.in_err-judge_wanted.ensures in
     rw (p.1, p.2)
-    (subst (λ f. Refusal2 v c.args.data_ e random f) (sym judged.0)
-    (absent_first v c.args.data_ copy.header.hdr_offset (content copy.meta) (metadata_of v copy is) e random past2 judged.1))
+    (subst (λ f. Refusal2 v c.args.payload e random f) (sym judged.0)
+    (absent_first v c.args.payload copy.header.hdr_offset (content copy.meta) (metadata_of v copy is) e random past2 judged.1))
 
 pub returns-in_err-judge_opener-clause-refused : goal.returns-in_err-judge_opener-clause-refused
 returns-in_err-judge_opener-clause-refused c = λ v random is size.
     let copy = c.args.copy.now in
     let e = c.args.edit.now in
-    let accepted = well_formed_faultless v c.args.data_ (c.in_ok-areas.ensures.well v is size) in
-    let past1 = past_check v c.args.data_ copy.header.hdr_offset (content copy.meta) (metadata_of v copy is) e random accepted in
-    let past2 = past_required v c.args.data_ copy.header.hdr_offset (content copy.meta) (metadata_of v copy is) e random past1 c.in_ok-judge_requirements.ensures in
+    let accepted = well_formed_faultless v c.args.payload (c.in_ok-areas.ensures.well v is size) in
+    let past1 = past_check v c.args.payload copy.header.hdr_offset (content copy.meta) (metadata_of v copy is) e random accepted in
+    let past2 = past_required v c.args.payload copy.header.hdr_offset (content copy.meta) (metadata_of v copy is) e random past1 c.in_ok-judge_requirements.ensures in
     let p = err_from_is_err_and c.from_residual-in_err-judge_opener.result c.from_residual-in_err-judge_opener.ensures.1 in
-    let past3 = past_absent v c.args.data_ copy.header.hdr_offset (content copy.meta) (metadata_of v copy is) e random past2 c.in_ok-judge_wanted.ensures in
+    let past3 = past_absent v c.args.payload copy.header.hdr_offset (content copy.meta) (metadata_of v copy is) e random past2 c.in_ok-judge_wanted.ensures in
     let judged = c.in_err-judge_opener.ensures in
     rw (p.1, p.2)
-    (subst (λ f. Refusal2 v c.args.data_ e random f) (sym judged.0)
-    (same_first v c.args.data_ e random past3 judged.1))
+    (subst (λ f. Refusal2 v c.args.payload e random f) (sym judged.0)
+    (same_first v c.args.payload e random past3 judged.1))
 
 pub returns-clause-passed : goal.returns-clause-passed
 returns-clause-passed c = λ v random is size.
     let copy = c.args.copy.now in
     let e = c.args.edit.now in
-    let accepted = well_formed_faultless v c.args.data_ (c.in_ok-areas.ensures.well v is size) in
-    let past1 = past_check v c.args.data_ copy.header.hdr_offset (content copy.meta) (metadata_of v copy is) e random accepted in
-    let past2 = past_required v c.args.data_ copy.header.hdr_offset (content copy.meta) (metadata_of v copy is) e random past1 c.in_ok-judge_requirements.ensures in
-    let past3 = past_absent v c.args.data_ copy.header.hdr_offset (content copy.meta) (metadata_of v copy is) e random past2 c.in_ok-judge_wanted.ensures in
-    let past4 = past_same v c.args.data_ e random past3 c.in_ok-judge_opener.ensures in
-    record { chosen = is; lists = c.in_ok-areas.ensures.areas v is size; passed = before_of 4 v c.args.data_ e random past4 }
+    let accepted = well_formed_faultless v c.args.payload (c.in_ok-areas.ensures.well v is size) in
+    let past1 = past_check v c.args.payload copy.header.hdr_offset (content copy.meta) (metadata_of v copy is) e random accepted in
+    let past2 = past_required v c.args.payload copy.header.hdr_offset (content copy.meta) (metadata_of v copy is) e random past1 c.in_ok-judge_requirements.ensures in
+    let past3 = past_absent v c.args.payload copy.header.hdr_offset (content copy.meta) (metadata_of v copy is) e random past2 c.in_ok-judge_wanted.ensures in
+    let past4 = past_same v c.args.payload e random past3 c.in_ok-judge_opener.ensures in
+    record { chosen = is; lists = c.in_ok-areas.ensures.areas v is size; passed = before_of 4 v c.args.payload e random past4 }
 
 pub returns-clause-accepted : goal.returns-clause-accepted
 returns-clause-accepted c = record {

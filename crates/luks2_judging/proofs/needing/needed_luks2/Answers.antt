@@ -19,8 +19,8 @@ returns-in_err-judge_requirements-clause-tells c = λ v is size.
     let a = accepted_copy is (c.in_ok-_areas.ensures.well v is size) in
     let p = err_from_is_err_and c.from_residual-in_err-judge_requirements.result c.from_residual-in_err-judge_requirements.ensures.1 in
     rw (p.1, p.2)
-    (subst (λ f. IsLeast edit_key (IsNeedFault2 v c.args.data_ c.args.edit.now) f) (sym c.in_err-judge_requirements.ensures.0)
-    (need_required v c.args.data_ copy.header.hdr_offset (content copy.meta) a.metadata c.args.edit.now a.accepted c.in_err-judge_requirements.ensures.1))
+    (subst (λ f. IsLeast edit_key (IsNeedFault2 v c.args.payload c.args.edit.now) f) (sym c.in_err-judge_requirements.ensures.0)
+    (need_required v c.args.payload copy.header.hdr_offset (content copy.meta) a.metadata c.args.edit.now a.accepted c.in_err-judge_requirements.ensures.1))
 
 pub returns-in_err-judge_wanted-clause-tells : goal.returns-in_err-judge_wanted-clause-tells
 returns-in_err-judge_wanted-clause-tells c = λ v is size.
@@ -28,8 +28,8 @@ returns-in_err-judge_wanted-clause-tells c = λ v is size.
     let a = accepted_copy is (c.in_ok-_areas.ensures.well v is size) in
     let p = err_from_is_err_and c.from_residual-in_err-judge_wanted.result c.from_residual-in_err-judge_wanted.ensures.1 in
     rw (p.1, p.2)
-    (subst (λ f. IsLeast edit_key (IsNeedFault2 v c.args.data_ c.args.edit.now) f) (sym c.in_err-judge_wanted.ensures.0)
-    (need_absent v c.args.data_ copy.header.hdr_offset (content copy.meta) a.metadata c.args.edit.now a.accepted c.in_ok-judge_requirements.ensures c.in_err-judge_wanted.ensures.1))
+    (subst (λ f. IsLeast edit_key (IsNeedFault2 v c.args.payload c.args.edit.now) f) (sym c.in_err-judge_wanted.ensures.0)
+    (need_absent v c.args.payload copy.header.hdr_offset (content copy.meta) a.metadata c.args.edit.now a.accepted c.in_ok-judge_requirements.ensures c.in_err-judge_wanted.ensures.1))
 
 pub returns-in_err-judge_opener-clause-tells : goal.returns-in_err-judge_opener-clause-tells
 returns-in_err-judge_opener-clause-tells c = λ v is size.
@@ -37,8 +37,8 @@ returns-in_err-judge_opener-clause-tells c = λ v is size.
     let a = accepted_copy is (c.in_ok-_areas.ensures.well v is size) in
     let p = err_from_is_err_and c.from_residual-in_err-judge_opener.result c.from_residual-in_err-judge_opener.ensures.1 in
     rw (p.1, p.2)
-    (subst (λ f. IsLeast edit_key (IsNeedFault2 v c.args.data_ c.args.edit.now) f) (sym c.in_err-judge_opener.ensures.0)
-    (need_same v c.args.data_ copy.header.hdr_offset (content copy.meta) a.metadata c.args.edit.now a.accepted c.in_ok-judge_requirements.ensures c.in_ok-judge_wanted.ensures c.in_err-judge_opener.ensures.1))
+    (subst (λ f. IsLeast edit_key (IsNeedFault2 v c.args.payload c.args.edit.now) f) (sym c.in_err-judge_opener.ensures.0)
+    (need_same v c.args.payload copy.header.hdr_offset (content copy.meta) a.metadata c.args.edit.now a.accepted c.in_ok-judge_requirements.ensures c.in_ok-judge_wanted.ensures c.in_err-judge_opener.ensures.1))
 
 pub returns-in_err-new_number-in-New-clause-tells : goal.returns-in_err-new_number-in-New-clause-tells
 returns-in_err-new_number-in-New-clause-tells c = λ v is size.
@@ -48,8 +48,8 @@ returns-in_err-new_number-in-New-clause-tells c = λ v is size.
     let s = c.in-Seal.sealed in
     let asked = added_is c.args.edit.now s c.in-New.to (sym c.in-Seal.ensures) c.in-New.is in
     rw (p.1, p.2)
-    (subst (λ y. IsLeast edit_key (IsNeedFault2 v c.args.data_ y) c.in_err-new_number-in-New.field-0.0) (sym asked)
-    (need_unnumbered v c.args.data_ copy.header.hdr_offset (content copy.meta) a.metadata s.opener.slot s.opener.passphrase s.passphrase c.in-New.to s.derivation
+    (subst (λ y. IsLeast edit_key (IsNeedFault2 v c.args.payload y) c.in_err-new_number-in-New.field-0.0) (sym asked)
+    (need_unnumbered v c.args.payload copy.header.hdr_offset (content copy.meta) a.metadata s.opener.slot s.opener.passphrase s.passphrase c.in-New.to s.derivation
     a.accepted c.in_ok-judge_requirements.ensures
     (subst (λ y. IsAbsent (content copy.meta) y → ⊥) asked c.in_ok-judge_wanted.ensures) c.in_err-new_number-in-New.field-0.0 c.in_err-new_number-in-New.ensures))
 

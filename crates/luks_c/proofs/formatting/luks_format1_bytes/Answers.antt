@@ -17,5 +17,5 @@ returns-in-Some-clause-answers c = λ used.
       is = c.in-Some.ensures.1;
       so = subst (λ (payload : Data). AnswersFormat1 c.args.first.now c.args.total payload c.in-Some.format c.args.passphrase.now c.args.random.now
           (record { calls = c.args.calls.now; bytes = c.args.bytes.now }) (record { calls = c.make1.new.calls; bytes = c.make1.new.bytes }) c.make1.new.told c.make1.result)
-          c.data_of-data_.ensures c.make1.ensures.answers;
+          c.data_of-payload.ensures c.make1.ensures.answers;
     }

@@ -22,5 +22,5 @@ returns-in-Some-clause-answers c = λ used.
       choice = c.in-Ok.ensures;
       so = subst (λ (payload : Data). AnswersFormat2 c.args.first.now c.args.total payload c.in-Some.format c.in-Ok.chosen c.args.memory c.args.passphrase.now c.args.random.now
           (record { calls = c.args.calls.now; bytes = c.args.bytes.now }) (record { calls = c.make2.new.calls; bytes = c.make2.new.bytes }) c.make2.new.told c.make2.result)
-          c.data_of-data_.ensures c.make2.ensures.answers;
+          c.data_of-payload.ensures c.make2.ensures.answers;
     }

@@ -1,7 +1,7 @@
 use Rattle.std.proofs.Common.{ℕ, List, ◌∙◌, subst}
 use Rattle.luks_formatting.specs.FormatFaults.{HasNoFault, IsFormat1Fault}
 use Rattle.luks_given.specs.Volume.{volume}
-use Rattle.luks_planned.specs.Planned.{planned_bytes, planned_calls, planned_first, planned_size, planned_written}
+use Rattle.luks_given.specs.Planned.{planned_bytes, planned_calls, planned_first, planned_size, planned_written}
 use Rattle.luks_c_answers.specs.Plans.{IsPlan}
 use Rattle.luks_c_answers.specs.PlanFacts.{plan_answered}
 use Rattle.luks_c.specs.FormatAnswers.{IsMade1}
@@ -14,7 +14,7 @@ returns-in-Ok-format1-clause-answers g c =
     let e = c.in-Ok-format1.ensures in
     let both = of_volume
     (λ (n : ℕ) (o : List ℕ) (m : ℕ). HasNoFault (IsFormat1Fault n c.args.format.now c.args.random.now)
-    × IsMade1 c.args.data_ c.args.format.now c.args.passphrase.now c.args.random.now o
+    × IsMade1 c.args.payload c.args.format.now c.args.passphrase.now c.args.random.now o
     c.give_plan.new.told.slot (volume (planned_first device) m))
     (planned_size c.in-Ok.device) c.args.total (planned_size device) (planned_bytes c.in-Ok.device) (volume c.args.first.now c.args.total)
     c.in-Ok.ensures.size c.in-Ok.ensures.bytes (e.size ∙ c.in-Ok.ensures.size)

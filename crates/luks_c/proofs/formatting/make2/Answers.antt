@@ -2,7 +2,7 @@ use Rattle.std.proofs.Common.{ℕ, List, ◌∙◌, subst}
 use Rattle.luks_formatting.specs.Deriving.{allowed_for}
 use Rattle.luks_formatting.specs.FormatFaults.{HasNoFault, IsFormat2FaultBy}
 use Rattle.luks_given.specs.Volume.{volume}
-use Rattle.luks_planned.specs.Planned.{planned_bytes, planned_calls, planned_first, planned_size, planned_written}
+use Rattle.luks_given.specs.Planned.{planned_bytes, planned_calls, planned_first, planned_size, planned_written}
 use Rattle.luks_c_answers.specs.Plans.{IsPlan}
 use Rattle.luks_c_answers.specs.PlanFacts.{plan_answered}
 use Rattle.luks_c.specs.FormatAnswers.{IsMade2}
@@ -15,7 +15,7 @@ returns-in-Ok-format2_by-clause-answers g c =
     let e = c.in-Ok-format2_by.ensures in
     let both = of_volume
     (λ (n : ℕ) (o : List ℕ) (m : ℕ). HasNoFault (IsFormat2FaultBy c.args.chosen (allowed_for c.args.passphrase.now.allowed.memory c.args.passphrase.now.bytes.now) n c.args.format.now c.args.random.now)
-    × IsMade2 c.args.data_ c.args.format.now c.args.chosen c.args.passphrase.now.bytes.now c.args.random.now o
+    × IsMade2 c.args.payload c.args.format.now c.args.chosen c.args.passphrase.now.bytes.now c.args.random.now o
     c.give_plan.new.told.slot (volume (planned_first device) m))
     (planned_size c.in-Ok.device) c.args.total (planned_size device) (planned_bytes c.in-Ok.device) (volume c.args.first.now c.args.total)
     c.in-Ok.ensures.size c.in-Ok.ensures.bytes (e.size ∙ c.in-Ok.ensures.size)

@@ -2,7 +2,7 @@ use Rattle.std.proofs.Common.{◌≡◌, inl, inr, ℕ, List, false, ◌∙◌, 
 use Rattle.luks_keeping.specs.BackupFaults.{is_backup_failure, CanBackUp, IsAnsweredBackup}
 use Rattle.luks_given.specs.Given.{given_bytes}
 use Rattle.luks_given.specs.Volume.{volume}
-use Rattle.luks_planned.specs.Planned.{planned_bytes, planned_calls, planned_first, planned_size, planned_written}
+use Rattle.luks_given.specs.Planned.{planned_bytes, planned_calls, planned_first, planned_size, planned_written}
 use Rattle.luks_c_answers.specs.NumberFacts.{backup_number_other, backup_number_range, backup_number_usage}
 use Rattle.luks_c_answers.specs.Numbers.{backup_number}
 use Rattle.luks_c_answers.specs.PlanFacts.{plan_answered, refusal_answered}
@@ -16,7 +16,7 @@ returns-in-Ok-backup-clause-answers g c =
     let device = c.backup.new.target in
     let e = c.in-Ok-backup.ensures in
     let both = of_volumes
-    (λ (u : List ℕ) (n : ℕ) (o : List ℕ) (m : ℕ). CanBackUp u c.args.data_ n × IsBackedUpTo u c.args.data_ o (volume (planned_first device) m))
+    (λ (u : List ℕ) (n : ℕ) (o : List ℕ) (m : ℕ). CanBackUp u c.args.payload n × IsBackedUpTo u c.args.payload o (volume (planned_first device) m))
     (given_bytes c.new-from.result) (volume c.args.source.now c.args.source_total) (planned_size c.in-Ok.device) c.args.total (planned_size device)
     (planned_bytes c.in-Ok.device) (volume c.args.first.now c.args.total)
     c.new-from.ensures.bytes c.in-Ok.ensures.size c.in-Ok.ensures.bytes (e.size ∙ c.in-Ok.ensures.size)
@@ -40,8 +40,8 @@ returns g c =
     let r = backup_number_range f in
     let low = r.0 in
     let high = r.1 in
-    let answered : IsAnsweredBackup (volume c.args.source.now c.args.source_total) c.args.data_ c.args.total f =
-    fault_of_volume (λ (u : List ℕ) (n : ℕ). IsAnsweredBackup u c.args.data_ n f) (given_bytes c.new-from.result) (volume c.args.source.now c.args.source_total)
+    let answered : IsAnsweredBackup (volume c.args.source.now c.args.source_total) c.args.payload c.args.total f =
+    fault_of_volume (λ (u : List ℕ) (n : ℕ). IsAnsweredBackup u c.args.payload n f) (given_bytes c.new-from.result) (volume c.args.source.now c.args.source_total)
     (planned_size c.in-Ok.device) c.args.total c.new-from.ensures.bytes c.in-Ok.ensures.size (c.in-Err.ensures.fault tt) in
     record {
       own = λ usage. backup_number_usage f (sym is ∙ usage);

@@ -27,7 +27,7 @@ returns-in-Err-accepted_header g c =
     let own : is_check_failure f ≡ false = search rules in
     let low = (check_number_range f).0 in
     let kept = subst (λ (v : List ℕ). WellFormed v Elsewhere) c.new-kept.ensures.bytes (c.in-Ok.ensures.formed tt) in
-    let refusal = subst (λ (v : List ℕ). IsCheckRefusal v c.args.data_ f) c.new-device.ensures.bytes (c.in-Err-accepted_header.ensures.refused tt) in
+    let refusal = subst (λ (v : List ℕ). IsCheckRefusal v c.args.payload f) c.new-device.ensures.bytes (c.in-Err-accepted_header.ensures.refused tt) in
     record {
       own = λ usage. check_number_usage f (sym is ∙ usage);
       answers = record {
@@ -47,7 +47,7 @@ returns-clause-answers g c =
     let here = subst (λ (v : List ℕ). IsHeader v c.in-Ok.header) c.new-kept.ensures.bytes (c.in-Ok.ensures.read tt) in
     let there = subst (λ (v : List ℕ). IsHeader v c.in-Ok-accepted_header.header) c.new-device.ensures.bytes (c.in-Ok-accepted_header.ensures.read tt) in
     let kept = subst (λ (v : List ℕ). WellFormed v Elsewhere) c.new-kept.ensures.bytes (c.in-Ok.ensures.formed tt) in
-    let formed = subst (λ (v : List ℕ). WellFormed v c.args.data_) c.new-device.ensures.bytes (c.in-Ok-accepted_header.ensures.formed tt) in
+    let formed = subst (λ (v : List ℕ). WellFormed v c.args.payload) c.new-device.ensures.bytes (c.in-Ok-accepted_header.ensures.formed tt) in
     let none : IsTrue c.is_other_volume.result → ⊥ = search rules in
     let backup = c.in-Ok.ensures.unchanged.same tt in
     let volume_ = c.in-Ok-accepted_header.ensures.unchanged.same tt in

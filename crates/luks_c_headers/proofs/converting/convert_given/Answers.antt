@@ -3,7 +3,7 @@ use Rattle.luks_converting.specs.ConvertFaults.{is_convert_failure}
 use Rattle.luks_converting.specs.Outcome.{IsAnsweredFault, IsConvertible}
 use Rattle.luks_given.specs.Given.{given_bytes}
 use Rattle.luks_given.specs.Volume.{volume}
-use Rattle.luks_planned.specs.Planned.{planned_bytes, planned_calls, planned_first, planned_size, planned_written}
+use Rattle.luks_given.specs.Planned.{planned_bytes, planned_calls, planned_first, planned_size, planned_written}
 use Rattle.luks_c_answers.specs.NumberFacts.{convert_number_other, convert_number_range, convert_number_usage}
 use Rattle.luks_c_answers.specs.Numbers.{convert_number}
 use Rattle.luks_c_answers.specs.PlanFacts.{plan_answered, refusal_answered}
@@ -17,7 +17,7 @@ returns-in-Ok-convert-clause-answers g c =
     let device = c.convert.new.target in
     let e = c.in-Ok-convert.ensures in
     let both = of_volumes
-    (λ (u : List ℕ) (n : ℕ) (o : List ℕ) (m : ℕ). IsConvertible u c.args.data_ n c.args.random.now × IsConvertedTo u c.args.random.now o (volume (planned_first device) m))
+    (λ (u : List ℕ) (n : ℕ) (o : List ℕ) (m : ℕ). IsConvertible u c.args.payload n c.args.random.now × IsConvertedTo u c.args.random.now o (volume (planned_first device) m))
     (given_bytes c.new-from.result) (volume c.args.source.now c.args.source_total) (planned_size c.in-Ok.device) c.args.total (planned_size device)
     (planned_bytes c.in-Ok.device) (volume c.args.first.now c.args.total)
     c.new-from.ensures.bytes c.in-Ok.ensures.size c.in-Ok.ensures.bytes (e.size ∙ c.in-Ok.ensures.size)
@@ -41,8 +41,8 @@ returns g c =
     let r = convert_number_range f in
     let low = r.0 in
     let high = r.1 in
-    let answered : IsAnsweredFault (volume c.args.source.now c.args.source_total) c.args.data_ c.args.total c.args.random.now f =
-    fault_of_volume (λ (u : List ℕ) (n : ℕ). IsAnsweredFault u c.args.data_ n c.args.random.now f) (given_bytes c.new-from.result) (volume c.args.source.now c.args.source_total)
+    let answered : IsAnsweredFault (volume c.args.source.now c.args.source_total) c.args.payload c.args.total c.args.random.now f =
+    fault_of_volume (λ (u : List ℕ) (n : ℕ). IsAnsweredFault u c.args.payload n c.args.random.now f) (given_bytes c.new-from.result) (volume c.args.source.now c.args.source_total)
     (planned_size c.in-Ok.device) c.args.total c.new-from.ensures.bytes c.in-Ok.ensures.size (c.in-Err.ensures.fault tt) in
     record {
       own = λ usage. convert_number_usage f (sym is ∙ usage);

@@ -2,7 +2,7 @@ use Rattle.std.proofs.Common.{◌≡◌, inl, inr, ℕ, List, false, ◌∙◌, 
 use Rattle.luks_keeping.specs.RestoreFaults.{is_restore_failure, CanRestore, IsAnsweredRestore}
 use Rattle.luks_given.specs.Given.{given_bytes}
 use Rattle.luks_given.specs.Volume.{volume}
-use Rattle.luks_planned.specs.Planned.{planned_bytes, planned_calls, planned_first, planned_size, planned_written}
+use Rattle.luks_given.specs.Planned.{planned_bytes, planned_calls, planned_first, planned_size, planned_written}
 use Rattle.luks_c_answers.specs.NumberFacts.{restore_number_other, restore_number_range, restore_number_usage}
 use Rattle.luks_c_answers.specs.Numbers.{restore_number}
 use Rattle.luks_c_answers.specs.PlanFacts.{plan_answered, refusal_answered}
@@ -16,7 +16,7 @@ returns-in-Ok-restore-clause-answers g c =
     let device = c.restore.new.target in
     let e = c.in-Ok-restore.ensures in
     let both = of_volumes
-    (λ (u : List ℕ) (n : ℕ) (o : List ℕ) (m : ℕ). CanRestore u o c.args.data_ c.args.over × IsRestoredTo u c.args.data_ n o (volume (planned_first device) m))
+    (λ (u : List ℕ) (n : ℕ) (o : List ℕ) (m : ℕ). CanRestore u o c.args.payload c.args.over × IsRestoredTo u c.args.payload n o (volume (planned_first device) m))
     (given_bytes c.new-from.result) (volume c.args.source.now c.args.source_total) (planned_size c.in-Ok.device) c.args.total (planned_size device)
     (planned_bytes c.in-Ok.device) (volume c.args.first.now c.args.total)
     c.new-from.ensures.bytes c.in-Ok.ensures.size c.in-Ok.ensures.bytes (e.size ∙ c.in-Ok.ensures.size)
@@ -40,10 +40,10 @@ returns g c =
     let r = restore_number_range f in
     let low = r.0 in
     let high = r.1 in
-    let on : IsAnsweredRestore (volume c.args.source.now c.args.source_total) (planned_bytes c.in-Ok.device) c.args.data_ c.args.over f =
-    subst (λ (u : List ℕ). IsAnsweredRestore u (planned_bytes c.in-Ok.device) c.args.data_ c.args.over f) c.new-from.ensures.bytes (c.in-Err.ensures.fault tt tt) in
-    let answered : IsAnsweredRestore (volume c.args.source.now c.args.source_total) (volume c.args.first.now c.args.total) c.args.data_ c.args.over f =
-    subst (λ (o : List ℕ). IsAnsweredRestore (volume c.args.source.now c.args.source_total) o c.args.data_ c.args.over f) c.in-Ok.ensures.bytes on in
+    let on : IsAnsweredRestore (volume c.args.source.now c.args.source_total) (planned_bytes c.in-Ok.device) c.args.payload c.args.over f =
+    subst (λ (u : List ℕ). IsAnsweredRestore u (planned_bytes c.in-Ok.device) c.args.payload c.args.over f) c.new-from.ensures.bytes (c.in-Err.ensures.fault tt tt) in
+    let answered : IsAnsweredRestore (volume c.args.source.now c.args.source_total) (volume c.args.first.now c.args.total) c.args.payload c.args.over f =
+    subst (λ (o : List ℕ). IsAnsweredRestore (volume c.args.source.now c.args.source_total) o c.args.payload c.args.over f) c.in-Ok.ensures.bytes on in
     record {
       own = λ usage. restore_number_usage f (sym is ∙ usage);
       answers = refusal_answered c.args.first.now c.args.total _ _ _ _ _ c.restore_number.result (omega (arith, is, low)) (omega (arith, is, high))

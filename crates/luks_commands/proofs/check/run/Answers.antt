@@ -7,7 +7,7 @@ returns-clause-status g c = is_exit_status (answer_status c.answer-answer.result
 
 pub returns-clause-says : goal.returns-clause-says
 returns-clause-says g c = λ tells.
-    says_check g.D.Device.bytes c.args.data_ c.args.volume.now (answer_status c.answer-answer.result) _ (told c.answer-answer.result _ _ _ _ _ c.end.ensures) (c.answer-answer.ensures.status tells)
+    says_check g.D.Device.bytes c.args.payload c.args.volume.now (answer_status c.answer-answer.result) _ (told c.answer-answer.result _ _ _ _ _ c.end.ensures) (c.answer-answer.ensures.status tells)
 
 pub returns-clause-unread : goal.returns-clause-unread
 returns-clause-unread g c = err_as c.args.volume.now _ _ (fault_by (answer_status c.answer-answer.result) _ (told c.answer-answer.result _ _ _ _ _ c.end.ensures)) c.answer-answer.ensures.unread

@@ -29,8 +29,8 @@ returns-in-Luks2-clause-made g c = λ tells.
     let random = c.args.random.now in
     let old = g.D.Device.bytes c.args.device.now in
     let new = g.D.Device.bytes c.format2_by.new.device in
-    let formatted : OnOk c.format2_by.result (IsFormatted2By making.data_ making.format (chosen_of making.kdf) p random old new) =
-    subst (λ (chosen : Option NewDerivation). OnOk c.format2_by.result (IsFormatted2By making.data_ making.format chosen p random old new)) c.chosen_of-chosen.ensures (c.format2_by.ensures.formatted tells) in
+    let formatted : OnOk c.format2_by.result (IsFormatted2By making.payload making.format (chosen_of making.kdf) p random old new) =
+    subst (λ (chosen : Option NewDerivation). OnOk c.format2_by.result (IsFormatted2By making.payload making.format chosen p random old new)) c.chosen_of-chosen.ensures (c.format2_by.ensures.formatted tells) in
     let opened : OnOk c.format2_by.result (OpensNew Luks2 making new p (volume_key random)) =
     subst (λ (chosen : Option NewDerivation). OnOk c.format2_by.result ((allowed : Allowed) → memory_by (slot_derivation making.format chosen) ≤ allowed.memory → AnswerWithin allowed new 0 p (opens (volume_key random))))
     c.chosen_of-chosen.ensures (c.format2_by.ensures.opens tells) in

@@ -1,5 +1,5 @@
 use Rattle.std.proofs.Common.{ap, sym, subst, ◌∙◌}
-use Rattle.luks_head.proofs.ChoiceFacts.{choices_agree}
+use Rattle.luks2_header.proofs.ChoiceFacts.{choices_agree}
 use Rattle.luks_reading.proofs.VolumeAnswers.{unread_locked}
 use Rattle.luks_commands.specs.Answer.{open_fault_answer}
 use Rattle.luks_commands.specs.OpenAnswers.{IsAnyAnswer}

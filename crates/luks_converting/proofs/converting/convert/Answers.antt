@@ -108,7 +108,7 @@ returns-in_err-header-clause-count g c =
 pub returns-in_err-header-clause-fault : goal.returns-in_err-header-clause-fault
 returns-in_err-header-clause-fault g c = λ source.
     let p = err_from_is_err_and c.from_residual.result c.from_residual.ensures.1 in
-    rw (p.1, p.2) (unaccepted_first (g.S.Device.bytes c.args.source.now) c.args.data_ (g.T.Device.size c.args.target.now) c.args.random.now c.in_err-header.field-0.0 (c.in_err-header.ensures.refused source))
+    rw (p.1, p.2) (unaccepted_first (g.S.Device.bytes c.args.source.now) c.args.payload (g.T.Device.size c.args.target.now) c.args.random.now c.in_err-header.field-0.0 (c.in_err-header.ensures.refused source))
 
 -- ---- what is judged by its header
 
@@ -121,38 +121,38 @@ pub returns-in_err-judge-clause-fault : goal.returns-in_err-judge-clause-fault
 returns-in_err-judge-clause-fault g c = λ source.
     let v : List ℕ = g.S.Device.bytes c.args.source.now in
     let p = err_from_is_err_and c.from_residual-in_err-judge.result c.from_residual-in_err-judge.ensures.1 in
-    let first = answered_first v c.args.data_ c.len.result c.args.random.now c.in_err-judge.field-0.0 c.in_err-judge.ensures.memory c.in_err-judge.ensures.own
-    (c.in_err-judge.ensures.fault v c.args.data_ (c.in_ok-header.ensures.header source)) in
-    rw (p.1, p.2) (subst (λ (t : ℕ). IsAnsweredFault v c.args.data_ t c.args.random.now c.in_err-judge.field-0.0) c.len.ensures first)
+    let first = answered_first v c.args.payload c.len.result c.args.random.now c.in_err-judge.field-0.0 c.in_err-judge.ensures.memory c.in_err-judge.ensures.own
+    (c.in_err-judge.ensures.fault v c.args.payload (c.in_ok-header.ensures.header source)) in
+    rw (p.1, p.2) (subst (λ (t : ℕ). IsAnsweredFault v c.args.payload t c.args.random.now c.in_err-judge.field-0.0) c.len.ensures first)
 
 -- ---- memory is refused
 
 pub returns-in-Err-clause-fault : goal.returns-in-Err-clause-fault
 returns-in-Err-clause-fault g c = λ source.
     let v : List ℕ = g.S.Device.bytes c.args.source.now in
-    inr (subst (λ (t : ℕ). IsConvertible v c.args.data_ t c.args.random.now) c.len.ensures (c.in_ok-judge.ensures.faultless v c.args.data_ (c.in_ok-header.ensures.header source)))
+    inr (subst (λ (t : ℕ). IsConvertible v c.args.payload t c.args.random.now) c.len.ensures (c.in_ok-judge.ensures.faultless v c.args.payload (c.in_ok-header.ensures.header source)))
 
 pub returns-in-Err-clause-same : goal.returns-in-Err-clause-same
 returns-in-Err-clause-same g c = λ source tells f bad.
     let v : List ℕ = g.S.Device.bytes c.args.source.now in
-    absurd ((subst (λ (t : ℕ). IsConvertible v c.args.data_ t c.args.random.now) c.len.ensures (c.in_ok-judge.ensures.faultless v c.args.data_ (c.in_ok-header.ensures.header source))).none f bad)
+    absurd ((subst (λ (t : ℕ). IsConvertible v c.args.payload t c.args.random.now) c.len.ensures (c.in_ok-judge.ensures.faultless v c.args.payload (c.in_ok-header.ensures.header source))).none f bad)
 
 -- ---- the writing
 
 pub returns-in_ok-write_converted-in-Ok-clause-faultless : goal.returns-in_ok-write_converted-in-Ok-clause-faultless
 returns-in_ok-write_converted-in-Ok-clause-faultless g c = λ source.
     let v : List ℕ = g.S.Device.bytes c.args.source.now in
-    subst (λ (t : ℕ). IsConvertible v c.args.data_ t c.args.random.now) c.len.ensures (c.in_ok-judge.ensures.faultless v c.args.data_ (c.in_ok-header.ensures.header source))
+    subst (λ (t : ℕ). IsConvertible v c.args.payload t c.args.random.now) c.len.ensures (c.in_ok-judge.ensures.faultless v c.args.payload (c.in_ok-header.ensures.header source))
 
 pub returns-in_ok-write_converted-in-Ok-clause-same : goal.returns-in_ok-write_converted-in-Ok-clause-same
 returns-in_ok-write_converted-in-Ok-clause-same g c = λ source tells f bad.
     let v : List ℕ = g.S.Device.bytes c.args.source.now in
-    absurd ((subst (λ (t : ℕ). IsConvertible v c.args.data_ t c.args.random.now) c.len.ensures (c.in_ok-judge.ensures.faultless v c.args.data_ (c.in_ok-header.ensures.header source))).none f bad)
+    absurd ((subst (λ (t : ℕ). IsConvertible v c.args.payload t c.args.random.now) c.len.ensures (c.in_ok-judge.ensures.faultless v c.args.payload (c.in_ok-header.ensures.header source))).none f bad)
 
 pub returns-in_err-write_converted-in-Ok-clause-same : goal.returns-in_err-write_converted-in-Ok-clause-same
 returns-in_err-write_converted-in-Ok-clause-same g c = λ source tells f bad.
     let v : List ℕ = g.S.Device.bytes c.args.source.now in
-    absurd ((subst (λ (t : ℕ). IsConvertible v c.args.data_ t c.args.random.now) c.len.ensures (c.in_ok-judge.ensures.faultless v c.args.data_ (c.in_ok-header.ensures.header source))).none f bad)
+    absurd ((subst (λ (t : ℕ). IsConvertible v c.args.payload t c.args.random.now) c.len.ensures (c.in_ok-judge.ensures.faultless v c.args.payload (c.in_ok-header.ensures.header source))).none f bad)
 
 pub write_converted-requires-clause-there : goal.write_converted-requires-clause-there
 write_converted-requires-clause-there g c =

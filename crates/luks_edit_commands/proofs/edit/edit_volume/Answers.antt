@@ -27,7 +27,7 @@ returns-clause-left g c =
     λ e is. subst (IsAsked request IsOld IsNew) (sym is) (asked_of request IsOld IsNew p q edit old fresh c.edit_of-edit.ensures) in
     rw c.in-Ok-volume.is (record {
       size = c.edit_device.ensures.size;
-      said = λ tells. says_as c.args.editing.now.data_ (given_edit c.args.editing.now.over edit HasRandom)
+      said = λ tells. says_as c.args.editing.now.payload (given_edit c.args.editing.now.over edit HasRandom)
           (given_by c.args.editing.now g.R.Read.remaining g.N.Read.remaining c.args.inputs.now) _ _ _ _ _ _ asks (λ n b is. is) (λ is. absurd is) refl (λ is. is) (λ is. is)
           (c.edit_device.ensures.says tells);
     })
@@ -40,7 +40,7 @@ returns-clause-keeps g c =
     let edit : Edit = c.edit_of-edit.result in
     rw c.in-Ok-volume.is (λ tells well same.
     let v = g.D.Device.bytes c.in-Ok-volume.device in
-    keeps_fewer c.args.editing.now.data_ (NamedSlots v edit) (NamesSlot request v) v _
+    keeps_fewer c.args.editing.now.payload (NamedSlots v edit) (NamesSlot request v) v _
     (λ n named. record { edit = edit; asked = asked_somehow request (λ x. x ≡ p) (λ x. x ≡ q) edit c.edit_of-edit.ensures; named = named })
     (c.edit_device.ensures.keeps tells well same))
 
@@ -62,7 +62,7 @@ returns-clause-spared g c =
     let asks : (e : Edit) → e ≡ edit → IsAsked request IsOld IsNew e =
     λ e is. subst (IsAsked request IsOld IsNew) (sym is) (asked_of request IsOld IsNew p q edit old fresh c.edit_of-edit.ensures) in
     rw c.in-Ok-volume.is (λ tells well apart.
-    spared_as c.args.editing.now.data_ (given_edit c.args.editing.now.over edit HasRandom) (given_by c.args.editing.now g.R.Read.remaining g.N.Read.remaining c.args.inputs.now) _ _
+    spared_as c.args.editing.now.payload (given_edit c.args.editing.now.over edit HasRandom) (given_by c.args.editing.now g.R.Read.remaining g.N.Read.remaining c.args.inputs.now) _ _
     asks (λ n b is. is) (c.edit_device.ensures.spared tells well apart))
 
 pub returns-clause-answers : goal.returns-clause-answers
@@ -83,7 +83,7 @@ returns-clause-answers g c =
     let asks : (e : Edit) → e ≡ edit → IsAsked request IsOld IsNew e =
     λ e is. subst (IsAsked request IsOld IsNew) (sym is) (asked_of request IsOld IsNew p q edit old fresh c.edit_of-edit.ensures) in
     rw c.in-Ok-volume.is
-    (answers_as g.D.Device.tells c.args.editing.now.data_ (given_edit c.args.editing.now.over edit HasRandom) (given_by c.args.editing.now g.R.Read.remaining g.N.Read.remaining c.args.inputs.now)
+    (answers_as g.D.Device.tells c.args.editing.now.payload (given_edit c.args.editing.now.over edit HasRandom) (given_by c.args.editing.now g.R.Read.remaining g.N.Read.remaining c.args.inputs.now)
     (lacking_random (λ count. IsUnreadRandom count c.args.inputs.now.random)) (lacking_by request c.args.inputs.now)
     _ _ _ _ asks (λ n b is. is) (λ is. absurd is) refl (λ f is. absurd is) (λ n f is. is) c.edit_device.result c.edit_device.ensures.answers)
 
@@ -92,14 +92,14 @@ returns-in-Err-clause-left g c =
     let given = given_by c.args.editing.now g.R.Read.remaining g.N.Read.remaining c.args.inputs.now in
     let lacks = lacking_by c.args.editing.now.request c.args.inputs.now in
     left_same g.D.Device.tells g.D.Device.size g.D.Device.bytes _
-    (λ v. says_wordless c.args.editing.now.data_ given lacks.words v v c.in-Err.answer refl (wordless_as _ _ _ lacks.words c.in-Err.answer (λ long. inl (named_as (λ name. name.now) c.passphrase.result (edit_passphrase_of c.args.editing.now.request) _ c.passphrase.ensures long))
+    (λ v. says_wordless c.args.editing.now.payload given lacks.words v v c.in-Err.answer refl (wordless_as _ _ _ lacks.words c.in-Err.answer (λ long. inl (named_as (λ name. name.now) c.passphrase.result (edit_passphrase_of c.args.editing.now.request) _ c.passphrase.ensures long))
     (λ f unread. inl (named_as (λ name. name.now) c.passphrase.result (edit_passphrase_of c.args.editing.now.request) _ c.passphrase.ensures unread)) c.in-Err.ensures.wordless)) c.args.inputs.now.volume
 
 pub returns-in-Err-clause-answers : goal.returns-in-Err-clause-answers
 returns-in-Err-clause-answers g c =
     let given = given_by c.args.editing.now g.R.Read.remaining g.N.Read.remaining c.args.inputs.now in
     let lacks = lacking_by c.args.editing.now.request c.args.inputs.now in
-    answers_wordless g.D.Device.tells g.D.Device.bytes g.D.Device.failed c.args.editing.now.data_ given lacks c.args.inputs.now.volume c.in-Err.answer
+    answers_wordless g.D.Device.tells g.D.Device.bytes g.D.Device.failed c.args.editing.now.payload given lacks c.args.inputs.now.volume c.in-Err.answer
     (wordless_as _ _ _ lacks.words c.in-Err.answer (λ long. inl (named_as (λ name. name.now) c.passphrase.result (edit_passphrase_of c.args.editing.now.request) _ c.passphrase.ensures long))
     (λ f unread. inl (named_as (λ name. name.now) c.passphrase.result (edit_passphrase_of c.args.editing.now.request) _ c.passphrase.ensures unread)) c.in-Err.ensures.wordless)
 
@@ -114,14 +114,14 @@ returns-in-Err-words-clause-left g c =
     let given = given_by c.args.editing.now g.R.Read.remaining g.N.Read.remaining c.args.inputs.now in
     let lacks = lacking_by c.args.editing.now.request c.args.inputs.now in
     left_same g.D.Device.tells g.D.Device.size g.D.Device.bytes _
-    (λ v. says_wordless c.args.editing.now.data_ given lacks.words v v c.in-Err-words.answer refl (wordless_as _ _ _ lacks.words c.in-Err-words.answer (λ long. inr (named_as (λ name. name.now) c.new_passphrase.result (edit_new_of c.args.editing.now.request) _ c.new_passphrase.ensures long))
+    (λ v. says_wordless c.args.editing.now.payload given lacks.words v v c.in-Err-words.answer refl (wordless_as _ _ _ lacks.words c.in-Err-words.answer (λ long. inr (named_as (λ name. name.now) c.new_passphrase.result (edit_new_of c.args.editing.now.request) _ c.new_passphrase.ensures long))
     (λ f unread. inr (named_as (λ name. name.now) c.new_passphrase.result (edit_new_of c.args.editing.now.request) _ c.new_passphrase.ensures unread)) c.in-Err-words.ensures.wordless)) c.args.inputs.now.volume
 
 pub returns-in-Err-words-clause-answers : goal.returns-in-Err-words-clause-answers
 returns-in-Err-words-clause-answers g c =
     let given = given_by c.args.editing.now g.R.Read.remaining g.N.Read.remaining c.args.inputs.now in
     let lacks = lacking_by c.args.editing.now.request c.args.inputs.now in
-    answers_wordless g.D.Device.tells g.D.Device.bytes g.D.Device.failed c.args.editing.now.data_ given lacks c.args.inputs.now.volume c.in-Err-words.answer
+    answers_wordless g.D.Device.tells g.D.Device.bytes g.D.Device.failed c.args.editing.now.payload given lacks c.args.inputs.now.volume c.in-Err-words.answer
     (wordless_as _ _ _ lacks.words c.in-Err-words.answer (λ long. inr (named_as (λ name. name.now) c.new_passphrase.result (edit_new_of c.args.editing.now.request) _ c.new_passphrase.ensures long))
     (λ f unread. inr (named_as (λ name. name.now) c.new_passphrase.result (edit_new_of c.args.editing.now.request) _ c.new_passphrase.ensures unread)) c.in-Err-words.ensures.wordless)
 

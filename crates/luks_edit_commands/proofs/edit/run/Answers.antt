@@ -13,7 +13,7 @@ pub returns-clause-left : goal.returns-clause-left
 returns-clause-left g c =
     let given = given_by c.args.editing.now g.R.Read.remaining g.N.Read.remaining c.args.inputs.now in
     left_as _ _ _ _ _
-    (λ v w x. says_as c.args.editing.now.data_ given given v w _ _ _ _ (λ e is. is) (λ n b is. is) (λ is. is) refl
+    (λ v w x. says_as c.args.editing.now.payload given given v w _ _ _ _ (λ e is. is) (λ n b is. is) (λ is. is) refl
     (done_by (answer_status c.edit_volume-answer.result) _ (told c.edit_volume-answer.result _ _ _ _ _ c.end.ensures)) (refusal_by (answer_status c.edit_volume-answer.result) _ (told c.edit_volume-answer.result _ _ _ _ _ c.end.ensures)) x)
     _ _ c.edit_volume-answer.ensures.left
 

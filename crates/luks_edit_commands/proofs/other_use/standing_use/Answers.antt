@@ -1,5 +1,5 @@
 use Rattle.std.proofs.Common.{ℕ, List, sym, subst}
-use Rattle.luks_head.specs.Selection.{IsSelected}
+use Rattle.luks2_header.specs.Selection.{IsSelected}
 use Rattle.luks_edit_commands.specs.OtherUses.{FindsOtherUse, IsCounting}
 use Rattle.luks_edit_commands.proofs.OtherUseFacts.{some_use}
 use Rattle.luks_edit_commands.proofs.other_use.standing_use.Goals as goal

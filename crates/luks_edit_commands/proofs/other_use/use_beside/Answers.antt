@@ -1,7 +1,7 @@
 use Rattle.std.proofs.Common.{◌≡◌, ℕ, List, refl, sym, subst}
-use Rattle.luks_head.specs.Selection.{Chosen, luks2}
-use Rattle.luks_head.specs.declared.selection.Copies.{Copies}
-use Rattle.luks_head.specs.declared.selection.Copies.TheVariants.{FirstOnly, SecondOnly}
+use Rattle.luks2_header.specs.Selection.{Chosen, luks2}
+use Rattle.luks2_header.specs.declared.selection.Copies.{Copies}
+use Rattle.luks2_header.specs.declared.selection.Copies.TheVariants.{FirstOnly, SecondOnly}
 use Rattle.luks_edit_commands.proofs.OtherUseFacts.{finds_use, first_asks, no_use}
 use Rattle.luks_edit_commands.proofs.other_use.use_beside.Goals as goal
 

@@ -1,6 +1,6 @@
 use Rattle.std.proofs.Common.{ℕ, ◌*◌, List, arith}
 use Rattle.std.proofs.lemmas.Bool.{false≢true}
-use Rattle.luks_head.proofs.SecondCopyFacts.{none_left}
+use Rattle.luks2_header.proofs.SecondCopyFacts.{none_left}
 use Rattle.luks_finding.proofs.SizeFacts.{nearer-of}
 use Rattle.luks_finding.proofs.metadata_signs.has_nearer_metadata.Goals as goal
 

@@ -1,6 +1,6 @@
 use Rattle.std.proofs.Common.{◌≡◌, ℕ, ◌*◌, true, length}
 use Rattle.luks_area.specs.Device.{IsUnchanged}
-use Rattle.luks_head.specs.Sizes.{is_among, IsListed}
+use Rattle.luks2_header.specs.Sizes.{is_among, IsListed}
 use Rattle.luks_finding.specs.Telling.{HasMetadataOf}
 use Rattle.luks_finding.proofs.metadata_signs.has_nearer_metadata.Given as goal
 

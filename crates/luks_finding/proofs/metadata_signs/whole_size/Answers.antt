@@ -1,7 +1,7 @@
 use Rattle.std.proofs.Common.{ℕ, ◌*◌, List, get_or, sym, ◌∙◌, subst}
 use Rattle.std.proofs.lemmas.Bool.{false≢true}
 use Rattle.luks_area.specs.Device.{unchanged-then}
-use Rattle.luks_head.proofs.SecondCopyFacts.{among_all}
+use Rattle.luks2_header.proofs.SecondCopyFacts.{among_all}
 use Rattle.luks_rebuilding.specs.Candidates.{IsCandidate}
 use Rattle.luks_rebuilding.specs.declared.place.Which.TheVariants.{Any}
 use Rattle.luks_finding.specs.Starts.{volume_at}

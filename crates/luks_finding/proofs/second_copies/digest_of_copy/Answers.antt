@@ -1,10 +1,10 @@
 use Rattle.std.proofs.Common.{◌≡◌, ℕ, ◌+◌, ◌≤◌, List, ◌++◌, length, take, arith, length-take-le, lit≤, refl, ap, ◌∙◌, subst}
 use Rattle.luks_area.specs.Device.{unchanged-same, unchanged-then}
 use Rattle.luks_area.specs.Ranges.{part}
-use Rattle.luks_head.specs.Header2.{header_at, with_zero_checksum}
+use Rattle.luks2_header.specs.Header2.{header_at, with_zero_checksum}
 use Rattle.sha2.specs.Hashers.{Holds256}
 use Rattle.sha2.specs.Sha256.{sha256}
-use Rattle.luks_head.proofs.CopyFacts.{all_fed, first_fed, later_fed, listed_at_least}
+use Rattle.luks2_header.proofs.CopyFacts.{all_fed, first_fed, later_fed, listed_at_least}
 use Rattle.luks_finding.proofs.second_copies.digest_of_copy.Goals as goal
 
 pub loop-done-init : goal.loop-done-init

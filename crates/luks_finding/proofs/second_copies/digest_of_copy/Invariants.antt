@@ -1,7 +1,7 @@
 use Rattle.std.proofs.Common.{◌-◌, ◌≡◌, ◌≤◌, take}
 use Rattle.luks_area.specs.Ranges.{part}
 use Rattle.luks_area.specs.Device.{IsUnchanged}
-use Rattle.luks_head.specs.Header2.{with_zero_checksum}
+use Rattle.luks2_header.specs.Header2.{with_zero_checksum}
 use Rattle.sha2.specs.Hashers.{Holds256}
 use Rattle.luks_finding.proofs.second_copies.digest_of_copy.Given as goal
 

@@ -1,6 +1,6 @@
 use Rattle.std.proofs.Common.{◌≡◌, ℕ, ◌-◌, List, [], ◌++◌, length, drop, replicate, take, subst}
 use Rattle.std.proofs.lemmas.List.{take_rest}
-use Rattle.luks_head.specs.Header2.{with_zero_checksum}
+use Rattle.luks2_header.specs.Header2.{with_zero_checksum}
 use Rattle.sha2.specs.Hashers.{Holds256}
 use Rattle.luks_finding.proofs.second_copies.digest_of_header.Goals as goal
 

@@ -1,8 +1,8 @@
 use Rattle.std.proofs.Common.{ℕ, List, get_or, sym, arith, ◌∙◌, subst}
 use Rattle.std.proofs.lemmas.Bool.{false≢true}
 use Rattle.luks_area.specs.Device.{unchanged-then}
-use Rattle.luks_head.specs.Header2.{IsSound}
-use Rattle.luks_head.proofs.SecondCopyFacts.{among_all, none_left, rising_later, sound_later}
+use Rattle.luks2_header.specs.Header2.{IsSound}
+use Rattle.luks2_header.proofs.SecondCopyFacts.{among_all, none_left, rising_later, sound_later}
 use Rattle.luks_finding.specs.Starts.{volume_at}
 use Rattle.luks_finding.proofs.CopyFacts.{none-nearer}
 use Rattle.luks_finding.proofs.second_copies.has_nearer_copy.Goals as goal

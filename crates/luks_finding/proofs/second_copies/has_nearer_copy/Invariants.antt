@@ -1,8 +1,8 @@
 use Rattle.std.proofs.Common.{◌≡◌, ℕ, true, length}
 use Rattle.luks_area.specs.Device.{IsUnchanged}
-use Rattle.luks_head.specs.Header2.{IsSound}
-use Rattle.luks_head.specs.Sizes.{is_among, IsListed}
-use Rattle.luks_head.proofs.SecondCopyFacts.{is_rising}
+use Rattle.luks2_header.specs.Header2.{IsSound}
+use Rattle.luks2_header.specs.Sizes.{is_among, IsListed}
+use Rattle.luks2_header.proofs.SecondCopyFacts.{is_rising}
 use Rattle.luks_finding.specs.Starts.{volume_at}
 use Rattle.luks_finding.proofs.second_copies.has_nearer_copy.Given as goal
 

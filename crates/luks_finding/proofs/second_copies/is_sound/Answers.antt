@@ -2,8 +2,8 @@ use Rattle.std.proofs.Common.{◌≡◌, ℕ, ◌+◌, ◌-◌, ◌≤◌, List,
 use Rattle.std.proofs.lemmas.Bool.{false≢true}
 use Rattle.sha2.specs.Sha256.{sha256}
 use Rattle.luks_area.specs.Ranges.{part}
-use Rattle.luks_head.specs.Header2.{with_zero_checksum}
-use Rattle.luks_head.proofs.CopyFacts.{listed_at_least}
+use Rattle.luks2_header.specs.Header2.{with_zero_checksum}
+use Rattle.luks2_header.proofs.CopyFacts.{listed_at_least}
 use Rattle.luks_finding.proofs.CopyFacts.{formed-sound, sound-copy, sound-inside, sum-sound}
 use Rattle.luks_finding.proofs.second_copies.is_sound.Goals as goal
 use Rattle.luks_finding.proofs.second_copies.is_sound.Goals.{then-total-via-then-total, then-total-via-else-total+then-size-total}

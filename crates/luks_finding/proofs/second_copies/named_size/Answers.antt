@@ -1,6 +1,6 @@
 use Rattle.std.proofs.Common.{◌≡◌, ℕ, List, length, sym, ap, ◌∙◌, arith}
 use Rattle.luks_area.specs.Ranges.{part}
-use Rattle.luks_head.specs.Header2.{hdr_size}
+use Rattle.luks2_header.specs.Header2.{hdr_size}
 use Rattle.luks_finding.proofs.second_copies.named_size.Goals as goal
 
 pub returns-then-size-at-clause-named : goal.returns-then-size-at-clause-named

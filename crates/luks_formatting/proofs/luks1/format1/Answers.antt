@@ -11,7 +11,7 @@ returns-clause-well_formed g c tells =
     let least = ready.large in
     let total = c.len.ensures in
     let size : length w ≡ g.D.Device.size c.args.device.now = g.met.D.Device.sized c.write_volume.new.device tells ∙ c.write_volume.ensures.size in
-    well_formed c.args.data_ c.args.format.now c.args.passphrase.now c.args.random.now (bytes c.args.device.now) w
+    well_formed c.args.payload c.args.format.now c.args.passphrase.now c.args.random.now (bytes c.args.device.now) w
     (omega (arith, some)) (omega (arith, size, least, total)) (c.in_ok-write_volume.ensures.formatted tells)
 
 pub returns-clause-opens : goal.returns-clause-opens
@@ -23,5 +23,5 @@ returns-clause-opens g c tells =
     let least = ready.large in
     let total = c.len.ensures in
     let size : length w ≡ g.D.Device.size c.args.device.now = g.met.D.Device.sized c.write_volume.new.device tells ∙ c.write_volume.ensures.size in
-    slot_opens c.args.data_ c.args.format.now c.args.passphrase.now c.args.random.now (bytes c.args.device.now) w
+    slot_opens c.args.payload c.args.format.now c.args.passphrase.now c.args.random.now (bytes c.args.device.now) w
     (omega (arith, some)) (omega (arith, size, least, total)) (c.in_ok-write_volume.ensures.formatted tells) ready.counted

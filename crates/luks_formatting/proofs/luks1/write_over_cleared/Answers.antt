@@ -32,19 +32,19 @@ returns-in_err-seal_key-clause-order g c tells = inl (first_waits c.slot_plan-pl
 pub returns-in_err-write_range-clause-order : goal.returns-in_err-write_range-clause-order
 returns-in_err-write_range-clause-order g c tells =
     let bytes = g.D.Device.bytes in
-    area_stands c.args.data_ c.args.format.now c.args.passphrase.now c.args.random.now (bytes c.seal_key.new.device) (bytes c.write_range.new.device)
+    area_stands c.args.payload c.args.format.now c.args.passphrase.now c.args.random.now (bytes c.seal_key.new.device) (bytes c.write_range.new.device)
     c.write.result c.taken-key.result.now c.taken-stripes.result.now c.new_header-header.result c.slot_plan-plan.result
     c.new_header-header.ensures c.write.ensures.written
-    (c.slot_plan-plan.ensures.plan c.args.data_ c.args.random.now c.new_header-header.ensures) c.slot_plan-plan.ensures.cipher
+    (c.slot_plan-plan.ensures.plan c.args.payload c.args.random.now c.new_header-header.ensures) c.slot_plan-plan.ensures.cipher
     (c.write_range.ensures.outside tells) c.taken-key.ensures.value c.taken-stripes.ensures.value (c.in_ok-seal_key.ensures.sealed tells) (bytes c.args.device.now)
 
 pub returns-clause-order : goal.returns-clause-order
 returns-clause-order g c tells =
     let bytes = g.D.Device.bytes in
-    area_stands c.args.data_ c.args.format.now c.args.passphrase.now c.args.random.now (bytes c.seal_key.new.device) (bytes c.write_range.new.device)
+    area_stands c.args.payload c.args.format.now c.args.passphrase.now c.args.random.now (bytes c.seal_key.new.device) (bytes c.write_range.new.device)
     c.write.result c.taken-key.result.now c.taken-stripes.result.now c.new_header-header.result c.slot_plan-plan.result
     c.new_header-header.ensures c.write.ensures.written
-    (c.slot_plan-plan.ensures.plan c.args.data_ c.args.random.now c.new_header-header.ensures) c.slot_plan-plan.ensures.cipher
+    (c.slot_plan-plan.ensures.plan c.args.payload c.args.random.now c.new_header-header.ensures) c.slot_plan-plan.ensures.cipher
     (c.write_range.ensures.outside tells) c.taken-key.ensures.value c.taken-stripes.ensures.value (c.in_ok-seal_key.ensures.sealed tells) (bytes c.args.device.now)
 
 pub returns-clause-formatted : goal.returns-clause-formatted
@@ -53,9 +53,9 @@ returns-clause-formatted g c tells =
     let v = bytes c.seal_key.new.device in
     let size : length v ≡ g.D.Device.size c.args.device.now = g.met.D.Device.sized c.seal_key.new.device tells ∙ c.seal_key.ensures.size in
     let room = c.requires.within in
-    formatted c.args.data_ c.args.format.now c.args.passphrase.now c.args.random.now v (bytes c.write_range.new.device)
+    formatted c.args.payload c.args.format.now c.args.passphrase.now c.args.random.now v (bytes c.write_range.new.device)
     c.write.result c.taken-key.result.now c.taken-stripes.result.now c.new_header-header.result c.slot_plan-plan.result
     c.new_header-header.ensures c.write.ensures.written
-    (c.slot_plan-plan.ensures.plan c.args.data_ c.args.random.now c.new_header-header.ensures) c.slot_plan-plan.ensures.cipher
+    (c.slot_plan-plan.ensures.plan c.args.payload c.args.random.now c.new_header-header.ensures) c.slot_plan-plan.ensures.cipher
     (c.write_range.ensures.outside tells) c.taken-key.ensures.value c.taken-stripes.ensures.value (c.in_ok-seal_key.ensures.sealed tells)
     (bytes c.args.device.now) (omega (arith, size, room)) (c.in_ok-write_range.ensures.wrote tells) (c.seal_key.ensures.rest tells)

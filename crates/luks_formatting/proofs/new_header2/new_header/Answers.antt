@@ -1,5 +1,5 @@
 use Rattle.std.proofs.Common.{length, ap, ◌∙◌}
-use Rattle.luks_head.proofs.UuidFacts.{uuid_text-length}
+use Rattle.luks2_header.proofs.UuidFacts.{uuid_text-length}
 use Rattle.luks_formatting.proofs.new_header2.new_header.Goals as goal
 
 pub uuid_field-requires : goal.uuid_field-requires

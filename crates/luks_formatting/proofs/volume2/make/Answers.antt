@@ -13,7 +13,7 @@ returns-clause-well_formed g c tells =
     let least = ready.large in
     let total = c.len.ensures in
     let size : length w ≡ g.D.Device.size c.args.device.now = g.met.D.Device.sized c.write_made.new.device tells ∙ c.write_made.ensures.size in
-    well_formed volume.data_ volume.format.now volume.chosen volume.passphrase.bytes.now volume.random.now (bytes c.args.device.now) w
+    well_formed volume.payload volume.format.now volume.chosen volume.passphrase.bytes.now volume.random.now (bytes c.args.device.now) w
     (omega (arith, some)) (omega (arith, size, least, total)) ready.counted c.in-Ok.ensures.fits (c.in_ok-write_made.ensures.formatted tells)
 
 pub returns-clause-opens :
@@ -27,6 +27,6 @@ returns-clause-opens g c tells allowed enough =
     let least = ready.large in
     let total = c.len.ensures in
     let size : length w ≡ g.D.Device.size c.args.device.now = g.met.D.Device.sized c.write_made.new.device tells ∙ c.write_made.ensures.size in
-    slot_opens volume.data_ volume.format.now volume.chosen volume.passphrase.bytes.now volume.random.now (bytes c.args.device.now) w
+    slot_opens volume.payload volume.format.now volume.chosen volume.passphrase.bytes.now volume.random.now (bytes c.args.device.now) w
     (omega (arith, some)) (omega (arith, size, least, total)) ready.counted c.in-Ok.ensures.fits (c.in_ok-write_made.ensures.formatted tells)
     volume.passphrase.allowed.memory allowed ready.makeable enough

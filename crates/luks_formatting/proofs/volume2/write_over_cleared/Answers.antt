@@ -16,9 +16,9 @@ returns-in_err-write_new_copy-clause-order g c tells =
     let json = c.args.json.now in
     let counted = c.requires.long in
     let plan = c.args.plan.now in
-    let has_plan = plan_by volume.data_ volume.format.now volume.chosen random c.requires.iterations (omega (arith, counted)) c.requires.fits json c.requires.area.json plan c.requires.plan.is
+    let has_plan = plan_by volume.payload volume.format.now volume.chosen random c.requires.iterations (omega (arith, counted)) c.requires.fits json c.requires.area.json plan c.requires.plan.is
     c.requires.plan.cipher in
-    area_stands volume.data_ volume.format.now volume.chosen volume.passphrase.bytes.now random (bytes c.put_key_area.new.device) json c.taken-key.result.now c.taken-stripes.result.now plan
+    area_stands volume.payload volume.format.now volume.chosen volume.passphrase.bytes.now random (bytes c.put_key_area.new.device) json c.taken-key.result.now c.taken-stripes.result.now plan
     c.requires.area has_plan c.requires.plan.is.area c.taken-key.ensures.value c.taken-stripes.ensures.value (c.in_ok-put_key_area.ensures.sealed tells)
     (bytes c.args.device.now) (bytes c.write_new_copy.new.device) (c.put_key_area.ensures.rest tells) (c.write_new_copy.ensures.rest tells)
 
@@ -30,9 +30,9 @@ returns-in_err-write_new_copy-2-clause-order g c tells =
     let json = c.args.json.now in
     let counted = c.requires.long in
     let plan = c.args.plan.now in
-    let has_plan = plan_by volume.data_ volume.format.now volume.chosen random c.requires.iterations (omega (arith, counted)) c.requires.fits json c.requires.area.json plan c.requires.plan.is
+    let has_plan = plan_by volume.payload volume.format.now volume.chosen random c.requires.iterations (omega (arith, counted)) c.requires.fits json c.requires.area.json plan c.requires.plan.is
     c.requires.plan.cipher in
-    all_but_first volume.data_ volume.format.now volume.chosen volume.passphrase.bytes.now random (bytes c.put_key_area.new.device) json c.taken-key.result.now c.taken-stripes.result.now plan
+    all_but_first volume.payload volume.format.now volume.chosen volume.passphrase.bytes.now random (bytes c.put_key_area.new.device) json c.taken-key.result.now c.taken-stripes.result.now plan
     c.requires.area has_plan c.requires.plan.is.area c.taken-key.ensures.value c.taken-stripes.ensures.value (c.in_ok-put_key_area.ensures.sealed tells)
     (bytes c.args.device.now) (bytes c.write_new_copy.new.device) (c.put_key_area.ensures.rest tells) (c.write_new_copy.ensures.rest tells)
     (bytes c.write_new_copy-2.new.device) (c.write_new_copy-2.ensures.rest tells)
@@ -50,9 +50,9 @@ returns-clause-order g c tells =
     let json = c.args.json.now in
     let counted = c.requires.long in
     let plan = c.args.plan.now in
-    let has_plan = plan_by volume.data_ volume.format.now volume.chosen random c.requires.iterations (omega (arith, counted)) c.requires.fits json c.requires.area.json plan c.requires.plan.is
+    let has_plan = plan_by volume.payload volume.format.now volume.chosen random c.requires.iterations (omega (arith, counted)) c.requires.fits json c.requires.area.json plan c.requires.plan.is
     c.requires.plan.cipher in
-    all_but_first volume.data_ volume.format.now volume.chosen volume.passphrase.bytes.now random (bytes c.put_key_area.new.device) json c.taken-key.result.now c.taken-stripes.result.now plan
+    all_but_first volume.payload volume.format.now volume.chosen volume.passphrase.bytes.now random (bytes c.put_key_area.new.device) json c.taken-key.result.now c.taken-stripes.result.now plan
     c.requires.area has_plan c.requires.plan.is.area c.taken-key.ensures.value c.taken-stripes.ensures.value (c.in_ok-put_key_area.ensures.sealed tells)
     (bytes c.args.device.now) (bytes c.write_new_copy.new.device) (c.put_key_area.ensures.rest tells) (c.write_new_copy.ensures.rest tells)
     (bytes c.write_new_copy-2.new.device) (c.write_new_copy-2.ensures.rest tells)
@@ -66,9 +66,9 @@ returns-clause-formatted g c tells =
     let json = c.args.json.now in
     let counted = c.requires.long in
     let plan = c.args.plan.now in
-    let has_plan = plan_by volume.data_ volume.format.now volume.chosen random c.requires.iterations (omega (arith, counted)) c.requires.fits json c.requires.area.json plan c.requires.plan.is
+    let has_plan = plan_by volume.payload volume.format.now volume.chosen random c.requires.iterations (omega (arith, counted)) c.requires.fits json c.requires.area.json plan c.requires.plan.is
     c.requires.plan.cipher in
-    formatted2 volume.data_ volume.format.now volume.chosen volume.passphrase.bytes.now random (bytes c.put_key_area.new.device) json c.taken-key.result.now c.taken-stripes.result.now plan
+    formatted2 volume.payload volume.format.now volume.chosen volume.passphrase.bytes.now random (bytes c.put_key_area.new.device) json c.taken-key.result.now c.taken-stripes.result.now plan
     c.requires.area has_plan c.requires.plan.is.area c.taken-key.ensures.value c.taken-stripes.ensures.value (c.in_ok-put_key_area.ensures.sealed tells)
     (bytes c.args.device.now) (bytes c.write_new_copy.new.device) (c.put_key_area.ensures.rest tells) (c.write_new_copy.ensures.rest tells)
     (bytes c.write_new_copy-2.new.device) (c.write_new_copy-2.ensures.rest tells)

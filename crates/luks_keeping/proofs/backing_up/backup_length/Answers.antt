@@ -15,7 +15,7 @@ returns-in_err-header-clause-count g c =
 pub returns-in_err-header-clause-fault : goal.returns-in_err-header-clause-fault
 returns-in_err-header-clause-fault g c = λ source.
     let p = err_from_is_err_and c.from_residual.result c.from_residual.ensures.1 in
-    rw (p.1, p.2) (answered_refusal (g.S.Device.bytes c.args.source.now) c.args.data_ 18446744073709551615 c.in_err-header.field-0.0 (c.in_err-header.ensures.refused source))
+    rw (p.1, p.2) (answered_refusal (g.S.Device.bytes c.args.source.now) c.args.payload 18446744073709551615 c.in_err-header.field-0.0 (c.in_err-header.ensures.refused source))
 
 none_failed : {A : Type 0} (r : Result A BackupFault) (s t : ℕ) → t ≡ s → IfErr r (λ f. f ≡ TooSmall) → CountsFailure is_backup_failure r s t
 none_failed (Ok x) s t same own = same
@@ -31,8 +31,8 @@ both_err (Err f) h p q = h f p q
 pub returns-clause-fault : goal.returns-clause-fault
 returns-clause-fault g c = λ source.
     let v : List ℕ = g.S.Device.bytes c.args.source.now in
-    both_err c.fitting_size.result (λ f short own. subst (IsAnsweredBackup v c.args.data_ 18446744073709551615) (sym own)
-    (answered_short v c.args.data_ 18446744073709551615 (c.in_ok-header.ensures.formed source) short))
+    both_err c.fitting_size.result (λ f short own. subst (IsAnsweredBackup v c.args.payload 18446744073709551615) (sym own)
+    (answered_short v c.args.payload 18446744073709551615 (c.in_ok-header.ensures.formed source) short))
     (c.fitting_size.ensures.short v (c.in_ok-header.ensures.read source)) c.fitting_size.ensures.own
 
 any_ok : {A F : Type 0} {P : Type 0} (r : Result A F) → P → OnOk r P

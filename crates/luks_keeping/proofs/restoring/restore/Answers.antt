@@ -43,7 +43,7 @@ returns-in_err-header-clause-count g c =
 pub returns-in_err-header-clause-fault : goal.returns-in_err-header-clause-fault
 returns-in_err-header-clause-fault g c = λ source tells.
     let p = err_from_is_err_and c.from_residual.result c.from_residual.ensures.1 in
-    rw (p.1, p.2) (answered_refusal (g.B.Device.bytes c.args.backup.now) (g.T.Device.bytes c.args.target.now) c.args.data_ c.args.over c.in_err-header.field-0.0 (c.in_err-header.ensures.refused source))
+    rw (p.1, p.2) (answered_refusal (g.B.Device.bytes c.args.backup.now) (g.T.Device.bytes c.args.target.now) c.args.payload c.args.over c.in_err-header.field-0.0 (c.in_err-header.ensures.refused source))
 
 pub returns-in_err-judge_fit-clause-fault : goal.returns-in_err-judge_fit-clause-fault
 returns-in_err-judge_fit-clause-fault g c = λ source tells.
@@ -51,8 +51,8 @@ returns-in_err-judge_fit-clause-fault g c = λ source tells.
     let t : List ℕ = g.T.Device.bytes c.args.target.now in
     let p = err_from_is_err_and c.from_residual-in_err-judge_fit.result c.from_residual-in_err-judge_fit.ensures.1 in
     let long : c.len.result ≡ length t = c.len.ensures ∙ sym (g.met.T.Device.sized c.args.target.now tells) in
-    rw (p.1, p.2) (answered_unfit b t c.args.data_ c.args.over (c.in_ok-header.ensures.formed source) c.in_err-judge_fit.field-0.0
-    (subst (λ (n : ℕ). IsUnfit b c.args.data_ n c.in_err-judge_fit.field-0.0) long (c.in_err-judge_fit.ensures.refused b (c.in_ok-header.ensures.read source))))
+    rw (p.1, p.2) (answered_unfit b t c.args.payload c.args.over (c.in_ok-header.ensures.formed source) c.in_err-judge_fit.field-0.0
+    (subst (λ (n : ℕ). IsUnfit b c.args.payload n c.in_err-judge_fit.field-0.0) long (c.in_err-judge_fit.ensures.refused b (c.in_ok-header.ensures.read source))))
 
 pub returns-in_err-judge_fit-clause-count : goal.returns-in_err-judge_fit-clause-count
 returns-in_err-judge_fit-clause-count g c =
@@ -64,14 +64,14 @@ returns-clause-restored g c = λ source tells.
     let b : List ℕ = g.B.Device.bytes c.args.backup.now in
     let t : List ℕ = g.T.Device.bytes c.args.target.now in
     let is = c.in_ok-header.ensures.read source in
-    let front : IsFrontAs b c.args.data_ (length t) (choice_of c.in_ok-header.header) c.data_start-limit.result =
-    subst (λ (n : ℕ). IsFrontAs b c.args.data_ n (choice_of c.in_ok-header.header) c.data_start-limit.result)
+    let front : IsFrontAs b c.args.payload (length t) (choice_of c.in_ok-header.header) c.data_start-limit.result =
+    subst (λ (n : ℕ). IsFrontAs b c.args.payload n (choice_of c.in_ok-header.header) c.data_start-limit.result)
     (c.len-2.ensures ∙ c.in_ok-judge_other.ensures.unchanged.size ∙ sym (g.met.T.Device.sized c.args.target.now tells)) (c.data_start-limit.ensures.start b is) in
     let w : List ℕ = g.T.Device.bytes c.write_over.new.target in
     let long : c.len.result ≡ length w = c.len.ensures ∙ sym c.in_ok-judge_other.ensures.unchanged.size ∙ sym c.write_over.ensures.size ∙ sym (g.met.T.Device.sized c.write_over.new.target tells) in
-    let over = written_over b c.args.data_ c.in_ok-header.header is c.places_of-places.result c.places_of-places.ensures (c.in_ok-header.ensures.formed source) _ t _ w c.len.result c.data_start-limit.result front (c.in_ok-header.ensures.unchanged.same source)
+    let over = written_over b c.args.payload c.in_ok-header.header is c.places_of-places.result c.places_of-places.ensures (c.in_ok-header.ensures.formed source) _ t _ w c.len.result c.data_start-limit.result front (c.in_ok-header.ensures.unchanged.same source)
     (c.in_ok-judge_other.ensures.unchanged.same tells) long (c.in_ok-judge_fit.ensures.formed b is) (c.write_over.ensures.rest tells) (c.in_ok-write_over.ensures.gone tells) (c.in_ok-write_over.ensures.copied source tells) (c.in_ok-write_over.ensures.lead tells) in
-    is_restored b c.args.data_ c.in_ok-header.header c.places_of-places.result t w over
+    is_restored b c.args.payload c.in_ok-header.header c.places_of-places.result t w over
 
 -- ---- nothing was written
 
@@ -106,9 +106,9 @@ returns-in_err-judge_other-clause-fault g c = λ source tells.
     let t : List ℕ = g.T.Device.bytes c.args.target.now in
     let is = c.in_ok-header.ensures.read source in
     let long : c.len.result ≡ length t = c.len.ensures ∙ sym (g.met.T.Device.sized c.args.target.now tells) in
-    let fits : IsFormedOn b c.args.data_ (length t) = subst (λ (n : ℕ). IsFormedOn b c.args.data_ n) long (c.in_ok-judge_fit.ensures.formed b is) in
+    let fits : IsFormedOn b c.args.payload (length t) = subst (λ (n : ℕ). IsFormedOn b c.args.payload n) long (c.in_ok-judge_fit.ensures.formed b is) in
     let p = err_from_is_err_and c.from_residual-in_err-judge_other.result c.from_residual-in_err-judge_other.ensures.1 in
-    rw (p.1, p.2) (answered_other b t c.args.data_ c.args.over (c.in_ok-header.ensures.formed source) (faultless_on b c.args.data_ (length t) fits) c.in_err-judge_other.field-0.0
+    rw (p.1, p.2) (answered_other b t c.args.payload c.args.over (c.in_ok-header.ensures.formed source) (faultless_on b c.args.payload (length t) fits) c.in_err-judge_other.field-0.0
     (c.in_err-judge_other.ensures.refused tells b is))
 
 -- ---- the backup was written
@@ -134,7 +134,7 @@ returns-clause-faultless g c = λ source tells.
     let b : List ℕ = g.B.Device.bytes c.args.backup.now in
     let t : List ℕ = g.T.Device.bytes c.args.target.now in
     let is = c.in_ok-header.ensures.read source in
-    can_fit b t c.args.data_ c.args.over (c.in_ok-header.ensures.formed source) c.len.result (c.len.ensures ∙ sym (g.met.T.Device.sized c.args.target.now tells)) (c.in_ok-judge_fit.ensures.formed b is)
+    can_fit b t c.args.payload c.args.over (c.in_ok-header.ensures.formed source) c.len.result (c.len.ensures ∙ sym (g.met.T.Device.sized c.args.target.now tells)) (c.in_ok-judge_fit.ensures.formed b is)
     (c.in_ok-judge_other.ensures.clear tells b is)
 
 pub returns-clause-same : goal.returns-clause-same
@@ -142,7 +142,7 @@ returns-clause-same g c = λ source tells f bad.
     let b : List ℕ = g.B.Device.bytes c.args.backup.now in
     let t : List ℕ = g.T.Device.bytes c.args.target.now in
     let is = c.in_ok-header.ensures.read source in
-    absurd ((can_fit b t c.args.data_ c.args.over (c.in_ok-header.ensures.formed source) c.len.result (c.len.ensures ∙ sym (g.met.T.Device.sized c.args.target.now tells)) (c.in_ok-judge_fit.ensures.formed b is)
+    absurd ((can_fit b t c.args.payload c.args.over (c.in_ok-header.ensures.formed source) c.len.result (c.len.ensures ∙ sym (g.met.T.Device.sized c.args.target.now tells)) (c.in_ok-judge_fit.ensures.formed b is)
     (c.in_ok-judge_other.ensures.clear tells b is)).none f bad)
 
 pub returns-in_err-write_over-clause-same : goal.returns-in_err-write_over-clause-same
@@ -150,7 +150,7 @@ returns-in_err-write_over-clause-same g c = λ source tells f bad.
     let b : List ℕ = g.B.Device.bytes c.args.backup.now in
     let t : List ℕ = g.T.Device.bytes c.args.target.now in
     let is = c.in_ok-header.ensures.read source in
-    absurd ((can_fit b t c.args.data_ c.args.over (c.in_ok-header.ensures.formed source) c.len.result (c.len.ensures ∙ sym (g.met.T.Device.sized c.args.target.now tells)) (c.in_ok-judge_fit.ensures.formed b is)
+    absurd ((can_fit b t c.args.payload c.args.over (c.in_ok-header.ensures.formed source) c.len.result (c.len.ensures ∙ sym (g.met.T.Device.sized c.args.target.now tells)) (c.in_ok-judge_fit.ensures.formed b is)
     (c.in_ok-judge_other.ensures.clear tells b is)).none f bad)
 
 pub returns-clause-rest : goal.returns-clause-rest
@@ -158,11 +158,11 @@ returns-clause-rest g c = λ source tells.
     let b : List ℕ = g.B.Device.bytes c.args.backup.now in
     let t : List ℕ = g.T.Device.bytes c.args.target.now in
     let is = c.in_ok-header.ensures.read source in
-    let front : IsFrontAs b c.args.data_ (length t) (choice_of c.in_ok-header.header) c.data_start-limit.result =
-    subst (λ (n : ℕ). IsFrontAs b c.args.data_ n (choice_of c.in_ok-header.header) c.data_start-limit.result)
+    let front : IsFrontAs b c.args.payload (length t) (choice_of c.in_ok-header.header) c.data_start-limit.result =
+    subst (λ (n : ℕ). IsFrontAs b c.args.payload n (choice_of c.in_ok-header.header) c.data_start-limit.result)
     (c.len-2.ensures ∙ c.in_ok-judge_other.ensures.unchanged.size ∙ sym (g.met.T.Device.sized c.args.target.now tells)) (c.data_start-limit.ensures.start b is) in
-    of_restored b c.args.data_ t c.in_ok-header.header is
-    (changed_rest b c.args.data_ c.in_ok-header.header is c.places_of-places.result c.places_of-places.ensures t _ (g.T.Device.bytes c.write_over.new.target) c.data_start-limit.result front
+    of_restored b c.args.payload t c.in_ok-header.header is
+    (changed_rest b c.args.payload c.in_ok-header.header is c.places_of-places.result c.places_of-places.ensures t _ (g.T.Device.bytes c.write_over.new.target) c.data_start-limit.result front
     (c.in_ok-judge_other.ensures.unchanged.same tells) (c.write_over.ensures.rest tells))
 
 pub returns-in_err-write_over-clause-rest : goal.returns-in_err-write_over-clause-rest
@@ -170,11 +170,11 @@ returns-in_err-write_over-clause-rest g c = λ source tells.
     let b : List ℕ = g.B.Device.bytes c.args.backup.now in
     let t : List ℕ = g.T.Device.bytes c.args.target.now in
     let is = c.in_ok-header.ensures.read source in
-    let front : IsFrontAs b c.args.data_ (length t) (choice_of c.in_ok-header.header) c.data_start-limit.result =
-    subst (λ (n : ℕ). IsFrontAs b c.args.data_ n (choice_of c.in_ok-header.header) c.data_start-limit.result)
+    let front : IsFrontAs b c.args.payload (length t) (choice_of c.in_ok-header.header) c.data_start-limit.result =
+    subst (λ (n : ℕ). IsFrontAs b c.args.payload n (choice_of c.in_ok-header.header) c.data_start-limit.result)
     (c.len-2.ensures ∙ c.in_ok-judge_other.ensures.unchanged.size ∙ sym (g.met.T.Device.sized c.args.target.now tells)) (c.data_start-limit.ensures.start b is) in
-    of_restored b c.args.data_ t c.in_ok-header.header is
-    (changed_rest b c.args.data_ c.in_ok-header.header is c.places_of-places.result c.places_of-places.ensures t _ (g.T.Device.bytes c.write_over.new.target) c.data_start-limit.result front
+    of_restored b c.args.payload t c.in_ok-header.header is
+    (changed_rest b c.args.payload c.in_ok-header.header is c.places_of-places.result c.places_of-places.ensures t _ (g.T.Device.bytes c.write_over.new.target) c.data_start-limit.result front
     (c.in_ok-judge_other.ensures.unchanged.same tells) (c.write_over.ensures.rest tells))
 
 pub returns-clause-segments : goal.returns-clause-segments
@@ -182,36 +182,36 @@ returns-clause-segments g c = λ source tells n a seg.
     let b : List ℕ = g.B.Device.bytes c.args.backup.now in
     let t : List ℕ = g.T.Device.bytes c.args.target.now in
     let is = c.in_ok-header.ensures.read source in
-    let front : IsFrontAs b c.args.data_ (length t) (choice_of c.in_ok-header.header) c.data_start-limit.result =
-    subst (λ (n : ℕ). IsFrontAs b c.args.data_ n (choice_of c.in_ok-header.header) c.data_start-limit.result)
+    let front : IsFrontAs b c.args.payload (length t) (choice_of c.in_ok-header.header) c.data_start-limit.result =
+    subst (λ (n : ℕ). IsFrontAs b c.args.payload n (choice_of c.in_ok-header.header) c.data_start-limit.result)
     (c.len-2.ensures ∙ c.in_ok-judge_other.ensures.unchanged.size ∙ sym (g.met.T.Device.sized c.args.target.now tells)) (c.data_start-limit.ensures.start b is) in
     let size : length t ≡ g.T.Device.size c.args.target.now = g.met.T.Device.sized c.args.target.now tells in
-    segment_stays b c.args.data_ t c.in_ok-header.header is (subst (λ (n : ℕ). IsFormedOn b c.args.data_ n) (c.len.ensures ∙ sym size) (c.in_ok-judge_fit.ensures.formed b is))
-    (changed_rest b c.args.data_ c.in_ok-header.header is c.places_of-places.result c.places_of-places.ensures t _ (g.T.Device.bytes c.write_over.new.target) c.data_start-limit.result front
-    (c.in_ok-judge_other.ensures.unchanged.same tells) (c.write_over.ensures.rest tells)) n a (subst (λ (m : ℕ). IsSegmentOn b c.args.data_ m n a) (sym size) seg)
+    segment_stays b c.args.payload t c.in_ok-header.header is (subst (λ (n : ℕ). IsFormedOn b c.args.payload n) (c.len.ensures ∙ sym size) (c.in_ok-judge_fit.ensures.formed b is))
+    (changed_rest b c.args.payload c.in_ok-header.header is c.places_of-places.result c.places_of-places.ensures t _ (g.T.Device.bytes c.write_over.new.target) c.data_start-limit.result front
+    (c.in_ok-judge_other.ensures.unchanged.same tells) (c.write_over.ensures.rest tells)) n a (subst (λ (m : ℕ). IsSegmentOn b c.args.payload m n a) (sym size) seg)
 
 pub returns-in_err-write_over-clause-segments : goal.returns-in_err-write_over-clause-segments
 returns-in_err-write_over-clause-segments g c = λ source tells n a seg.
     let b : List ℕ = g.B.Device.bytes c.args.backup.now in
     let t : List ℕ = g.T.Device.bytes c.args.target.now in
     let is = c.in_ok-header.ensures.read source in
-    let front : IsFrontAs b c.args.data_ (length t) (choice_of c.in_ok-header.header) c.data_start-limit.result =
-    subst (λ (n : ℕ). IsFrontAs b c.args.data_ n (choice_of c.in_ok-header.header) c.data_start-limit.result)
+    let front : IsFrontAs b c.args.payload (length t) (choice_of c.in_ok-header.header) c.data_start-limit.result =
+    subst (λ (n : ℕ). IsFrontAs b c.args.payload n (choice_of c.in_ok-header.header) c.data_start-limit.result)
     (c.len-2.ensures ∙ c.in_ok-judge_other.ensures.unchanged.size ∙ sym (g.met.T.Device.sized c.args.target.now tells)) (c.data_start-limit.ensures.start b is) in
     let size : length t ≡ g.T.Device.size c.args.target.now = g.met.T.Device.sized c.args.target.now tells in
-    segment_stays b c.args.data_ t c.in_ok-header.header is (subst (λ (n : ℕ). IsFormedOn b c.args.data_ n) (c.len.ensures ∙ sym size) (c.in_ok-judge_fit.ensures.formed b is))
-    (changed_rest b c.args.data_ c.in_ok-header.header is c.places_of-places.result c.places_of-places.ensures t _ (g.T.Device.bytes c.write_over.new.target) c.data_start-limit.result front
-    (c.in_ok-judge_other.ensures.unchanged.same tells) (c.write_over.ensures.rest tells)) n a (subst (λ (m : ℕ). IsSegmentOn b c.args.data_ m n a) (sym size) seg)
+    segment_stays b c.args.payload t c.in_ok-header.header is (subst (λ (n : ℕ). IsFormedOn b c.args.payload n) (c.len.ensures ∙ sym size) (c.in_ok-judge_fit.ensures.formed b is))
+    (changed_rest b c.args.payload c.in_ok-header.header is c.places_of-places.result c.places_of-places.ensures t _ (g.T.Device.bytes c.write_over.new.target) c.data_start-limit.result front
+    (c.in_ok-judge_other.ensures.unchanged.same tells) (c.write_over.ensures.rest tells)) n a (subst (λ (m : ℕ). IsSegmentOn b c.args.payload m n a) (sym size) seg)
 
 pub returns-clause-order : goal.returns-clause-order
 returns-clause-order g c = λ source tells.
     let b : List ℕ = g.B.Device.bytes c.args.backup.now in
     let t : List ℕ = g.T.Device.bytes c.args.target.now in
     let is = c.in_ok-header.ensures.read source in
-    let front : IsFrontAs b c.args.data_ (length t) (choice_of c.in_ok-header.header) c.data_start-limit.result =
-    subst (λ (n : ℕ). IsFrontAs b c.args.data_ n (choice_of c.in_ok-header.header) c.data_start-limit.result)
+    let front : IsFrontAs b c.args.payload (length t) (choice_of c.in_ok-header.header) c.data_start-limit.result =
+    subst (λ (n : ℕ). IsFrontAs b c.args.payload n (choice_of c.in_ok-header.header) c.data_start-limit.result)
     (c.len-2.ensures ∙ c.in_ok-judge_other.ensures.unchanged.size ∙ sym (g.met.T.Device.sized c.args.target.now tells)) (c.data_start-limit.ensures.start b is) in
-    turn_over b c.in_ok-header.header is c.places_of-places.result c.places_of-places.ensures c.args.data_ _ t _ (g.T.Device.bytes c.write_over.new.target) c.data_start-limit.result front
+    turn_over b c.in_ok-header.header is c.places_of-places.result c.places_of-places.ensures c.args.payload _ t _ (g.T.Device.bytes c.write_over.new.target) c.data_start-limit.result front
     (c.in_ok-header.ensures.unchanged.same source) (c.in_ok-judge_other.ensures.unchanged.same tells) (c.write_over.ensures.order source tells)
 
 pub returns-in_err-write_over-clause-order : goal.returns-in_err-write_over-clause-order
@@ -219,10 +219,10 @@ returns-in_err-write_over-clause-order g c = λ source tells.
     let b : List ℕ = g.B.Device.bytes c.args.backup.now in
     let t : List ℕ = g.T.Device.bytes c.args.target.now in
     let is = c.in_ok-header.ensures.read source in
-    let front : IsFrontAs b c.args.data_ (length t) (choice_of c.in_ok-header.header) c.data_start-limit.result =
-    subst (λ (n : ℕ). IsFrontAs b c.args.data_ n (choice_of c.in_ok-header.header) c.data_start-limit.result)
+    let front : IsFrontAs b c.args.payload (length t) (choice_of c.in_ok-header.header) c.data_start-limit.result =
+    subst (λ (n : ℕ). IsFrontAs b c.args.payload n (choice_of c.in_ok-header.header) c.data_start-limit.result)
     (c.len-2.ensures ∙ c.in_ok-judge_other.ensures.unchanged.size ∙ sym (g.met.T.Device.sized c.args.target.now tells)) (c.data_start-limit.ensures.start b is) in
-    turn_over b c.in_ok-header.header is c.places_of-places.result c.places_of-places.ensures c.args.data_ _ t _ (g.T.Device.bytes c.write_over.new.target) c.data_start-limit.result front
+    turn_over b c.in_ok-header.header is c.places_of-places.result c.places_of-places.ensures c.args.payload _ t _ (g.T.Device.bytes c.write_over.new.target) c.data_start-limit.result front
     (c.in_ok-header.ensures.unchanged.same source) (c.in_ok-judge_other.ensures.unchanged.same tells) (c.write_over.ensures.order source tells)
 
 pub returns-clause-well_formed : goal.returns-clause-well_formed
@@ -230,25 +230,25 @@ returns-clause-well_formed g c = λ source tells.
     let b : List ℕ = g.B.Device.bytes c.args.backup.now in
     let t : List ℕ = g.T.Device.bytes c.args.target.now in
     let is = c.in_ok-header.ensures.read source in
-    let front : IsFrontAs b c.args.data_ (length t) (choice_of c.in_ok-header.header) c.data_start-limit.result =
-    subst (λ (n : ℕ). IsFrontAs b c.args.data_ n (choice_of c.in_ok-header.header) c.data_start-limit.result)
+    let front : IsFrontAs b c.args.payload (length t) (choice_of c.in_ok-header.header) c.data_start-limit.result =
+    subst (λ (n : ℕ). IsFrontAs b c.args.payload n (choice_of c.in_ok-header.header) c.data_start-limit.result)
     (c.len-2.ensures ∙ c.in_ok-judge_other.ensures.unchanged.size ∙ sym (g.met.T.Device.sized c.args.target.now tells)) (c.data_start-limit.ensures.start b is) in
     let w : List ℕ = g.T.Device.bytes c.write_over.new.target in
     let long : c.len.result ≡ length w = c.len.ensures ∙ sym c.in_ok-judge_other.ensures.unchanged.size ∙ sym c.write_over.ensures.size ∙ sym (g.met.T.Device.sized c.write_over.new.target tells) in
-    let over = written_over b c.args.data_ c.in_ok-header.header is c.places_of-places.result c.places_of-places.ensures (c.in_ok-header.ensures.formed source) _ t _ w c.len.result c.data_start-limit.result front (c.in_ok-header.ensures.unchanged.same source)
+    let over = written_over b c.args.payload c.in_ok-header.header is c.places_of-places.result c.places_of-places.ensures (c.in_ok-header.ensures.formed source) _ t _ w c.len.result c.data_start-limit.result front (c.in_ok-header.ensures.unchanged.same source)
     (c.in_ok-judge_other.ensures.unchanged.same tells) long (c.in_ok-judge_fit.ensures.formed b is) (c.write_over.ensures.rest tells) (c.in_ok-write_over.ensures.gone tells) (c.in_ok-write_over.ensures.copied source tells) (c.in_ok-write_over.ensures.lead tells) in
-    well_formed b c.args.data_ c.in_ok-header.header c.places_of-places.result t w over
+    well_formed b c.args.payload c.in_ok-header.header c.places_of-places.result t w over
 
 pub returns-clause-answers : goal.returns-clause-answers
 returns-clause-answers g c = λ source tells.
     let b : List ℕ = g.B.Device.bytes c.args.backup.now in
     let t : List ℕ = g.T.Device.bytes c.args.target.now in
     let is = c.in_ok-header.ensures.read source in
-    let front : IsFrontAs b c.args.data_ (length t) (choice_of c.in_ok-header.header) c.data_start-limit.result =
-    subst (λ (n : ℕ). IsFrontAs b c.args.data_ n (choice_of c.in_ok-header.header) c.data_start-limit.result)
+    let front : IsFrontAs b c.args.payload (length t) (choice_of c.in_ok-header.header) c.data_start-limit.result =
+    subst (λ (n : ℕ). IsFrontAs b c.args.payload n (choice_of c.in_ok-header.header) c.data_start-limit.result)
     (c.len-2.ensures ∙ c.in_ok-judge_other.ensures.unchanged.size ∙ sym (g.met.T.Device.sized c.args.target.now tells)) (c.data_start-limit.ensures.start b is) in
     let w : List ℕ = g.T.Device.bytes c.write_over.new.target in
     let long : c.len.result ≡ length w = c.len.ensures ∙ sym c.in_ok-judge_other.ensures.unchanged.size ∙ sym c.write_over.ensures.size ∙ sym (g.met.T.Device.sized c.write_over.new.target tells) in
-    let over = written_over b c.args.data_ c.in_ok-header.header is c.places_of-places.result c.places_of-places.ensures (c.in_ok-header.ensures.formed source) _ t _ w c.len.result c.data_start-limit.result front (c.in_ok-header.ensures.unchanged.same source)
+    let over = written_over b c.args.payload c.in_ok-header.header is c.places_of-places.result c.places_of-places.ensures (c.in_ok-header.ensures.formed source) _ t _ w c.len.result c.data_start-limit.result front (c.in_ok-header.ensures.unchanged.same source)
     (c.in_ok-judge_other.ensures.unchanged.same tells) long (c.in_ok-judge_fit.ensures.formed b is) (c.write_over.ensures.rest tells) (c.in_ok-write_over.ensures.gone tells) (c.in_ok-write_over.ensures.copied source tells) (c.in_ok-write_over.ensures.lead tells) in
-    answers_alike b c.args.data_ c.in_ok-header.header c.places_of-places.result t w over
+    answers_alike b c.args.payload c.in_ok-header.header c.places_of-places.result t w over

@@ -12,11 +12,11 @@ if_some (Some x) h p = h x p
 
 pub returns-in-Luks2-clause-some : goal.returns-in-Luks2-clause-some
 returns-in-Luks2-clause-some c = λ v is.
-    if_some c.luks2_size.result (λ size sum. sized2 v c.args.data_ c.in-Luks2.copy c.config-region.result size (subst (IsHeader v) c.in-Luks2.is is) c.config-region.ensures sum) c.luks2_size.ensures.some
+    if_some c.luks2_size.result (λ size sum. sized2 v c.args.payload c.in-Luks2.copy c.config-region.result size (subst (IsHeader v) c.in-Luks2.is is) c.config-region.ensures sum) c.luks2_size.ensures.some
 
 pub returns-in-Luks2-clause-none : goal.returns-in-Luks2-clause-none
 returns-in-Luks2-clause-none c = λ v is none. record {
   size = 2 * c.in-Luks2.copy.header.hdr_size + c.config-region.result.keyslots_size;
-  is_size = sized2 v c.args.data_ c.in-Luks2.copy c.config-region.result _ (subst (IsHeader v) c.in-Luks2.is is) c.config-region.ensures refl;
+  is_size = sized2 v c.args.payload c.in-Luks2.copy c.config-region.result _ (subst (IsHeader v) c.in-Luks2.is is) c.config-region.ensures refl;
   long = c.luks2_size.ensures.none none;
 }

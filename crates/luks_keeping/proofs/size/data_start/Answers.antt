@@ -22,22 +22,22 @@ returns-in-Luks1-clause-start c = λ v is.
     let own : IsLuks1 c.in-Luks1.bytes c.unwrap.result = search rules in
     let most : c.min.result ≡ min c.args.total c.payload_place.result = search rules in
     let it : IsHeader v (Luks1 c.in-Luks1.bytes) = subst (IsHeader v) c.in-Luks1.is is in
-    front_of v c.args.data_ c.args.total c.min.result c.args.header.now (Luks1 c.in-Luks1.bytes) c.in-Here.is c.in-Luks1.is
+    front_of v c.args.payload c.args.total c.min.result c.args.header.now (Luks1 c.in-Luks1.bytes) c.in-Here.is c.in-Luks1.is
     (most ∙ ap (min c.args.total) (c.payload_place.ensures c.in-Luks1.bytes own ∙ ap (λ (l : List ℕ). payload_offset_of l * 512) it.1))
 
 pub returns-in-Some-clause-start : goal.returns-in-Some-clause-start
 returns-in-Some-clause-start c = λ v is.
     let it : IsHeader v (Luks2 c.in-Luks2.field-0) = subst (IsHeader v) c.in-Luks2.is is in
     let most : c.min-in-Some.result ≡ min c.args.total c.in-Some.size = search rules in
-    let sized : IsSizeAs v c.args.data_ (choice_of (Luks2 c.in-Luks2.field-0)) c.in-Some.size =
-    size_by v c.args.data_ (choice_of (Luks2 c.in-Luks2.field-0)) c.in-Some.size (chosen_of v (Luks2 c.in-Luks2.field-0) it) (c.in-Some.ensures.some v is) in
-    front_of v c.args.data_ c.args.total c.min-in-Some.result c.args.header.now (Luks2 c.in-Luks2.field-0) c.in-Here.is c.in-Luks2.is (c.in-Some.size, (sized, most))
+    let sized : IsSizeAs v c.args.payload (choice_of (Luks2 c.in-Luks2.field-0)) c.in-Some.size =
+    size_by v c.args.payload (choice_of (Luks2 c.in-Luks2.field-0)) c.in-Some.size (chosen_of v (Luks2 c.in-Luks2.field-0) it) (c.in-Some.ensures.some v is) in
+    front_of v c.args.payload c.args.total c.min-in-Some.result c.args.header.now (Luks2 c.in-Luks2.field-0) c.in-Here.is c.in-Luks2.is (c.in-Some.size, (sized, most))
 
 pub returns-in-None-clause-start : goal.returns-in-None-clause-start
 returns-in-None-clause-start c = λ v is.
     let it : IsHeader v (Luks2 c.in-Luks2.field-0) = subst (IsHeader v) c.in-Luks2.is is in
     let lacks = c.in-None.ensures.none v is refl in
     let long : 18446744073709551616 ≤ lacks.size = lacks.long in
-    let sized : IsSizeAs v c.args.data_ (choice_of (Luks2 c.in-Luks2.field-0)) lacks.size =
-    size_by v c.args.data_ (choice_of (Luks2 c.in-Luks2.field-0)) lacks.size (chosen_of v (Luks2 c.in-Luks2.field-0) it) lacks.is_size in
-    front_of v c.args.data_ c.args.total c.args.total c.args.header.now (Luks2 c.in-Luks2.field-0) c.in-Here.is c.in-Luks2.is (lacks.size, (sized, omega (arith, long)))
+    let sized : IsSizeAs v c.args.payload (choice_of (Luks2 c.in-Luks2.field-0)) lacks.size =
+    size_by v c.args.payload (choice_of (Luks2 c.in-Luks2.field-0)) lacks.size (chosen_of v (Luks2 c.in-Luks2.field-0) it) lacks.is_size in
+    front_of v c.args.payload c.args.total c.args.total c.args.header.now (Luks2 c.in-Luks2.field-0) c.in-Here.is c.in-Luks2.is (lacks.size, (sized, omega (arith, long)))

@@ -7,8 +7,8 @@ use Rattle.luks_keeping_commands.proofs.backup.back_up.Goals as goal
 
 pub returns-in-Err-2-clause-answers : goal.returns-in-Err-2-clause-answers
 returns-in-Err-2-clause-answers g c =
-    subst (IsBackupAnswer g.D.Device.tells c.args.backing_up.now.data_ _) (sym c.not_kept-in-Err-2.ensures)
-    (answers_fault g.D.Device.tells c.args.backing_up.now.data_ _ c.in-Err.fault c.in-Err.ensures.count
+    subst (IsBackupAnswer g.D.Device.tells c.args.backing_up.now.payload _) (sym c.not_kept-in-Err-2.ensures)
+    (answers_fault g.D.Device.tells c.args.backing_up.now.payload _ c.in-Err.fault c.in-Err.ensures.count
     (λ is. (c.in-Err.ensures.refused is).same) c.in-Err.ensures.fault)
 
 pub returns-in-Err-2-clause-settled : goal.returns-in-Err-2-clause-settled

@@ -1,6 +1,6 @@
 use Rattle.std.proofs.Common.{◌≢◌, ℕ, List, ap, subst, sym, ◌∙◌}
 use Rattle.luks_area.specs.Device.{count_after}
-use Rattle.luks_head.specs.Selection.{IsSelected}
+use Rattle.luks2_header.specs.Selection.{IsSelected}
 use Rattle.luks_reading.specs.Conversions.{head_unread}
 use Rattle.luks_reading.specs.declared.read_fault.ReadFault.TheVariants as read
 use Rattle.luks_keeping.proofs.OtherFacts.{no_call_failed, not_device, unselected}

@@ -4,7 +4,7 @@ use Rattle.luks_keeping_commands.proofs.restore.put_back.Goals as goal
 
 pub returns-in-Ok-clause-answers : goal.returns-in-Ok-clause-answers
 returns-in-Ok-clause-answers g c =
-    answer_after g.D.Device.tells c.args.restoring.now.data_ (over_of c.args.restoring.now)
+    answer_after g.D.Device.tells c.args.restoring.now.payload (over_of c.args.restoring.now)
     (g.D.Device.bytes c.args.backup.now) (g.D.Device.bytes c.note_keyslots.new.backup)
     (g.D.Device.bytes c.args.volume.now) (g.D.Device.bytes c.note_keyslots.new.volume) (g.D.Device.bytes c.put_over.new.volume)
     (g.D.Device.size c.args.volume.now) (g.D.Device.size c.note_keyslots.new.volume)

@@ -6,7 +6,7 @@ use Rattle.luks_keeping_commands.proofs.restore.put_unless.Goals as goal
 pub returns-in-Ok-clause-answers : goal.returns-in-Ok-clause-answers
 returns-in-Ok-clause-answers g c = inr (
   c.in-Ok.ensures.clear,
-  answer_after g.D.Device.tells c.args.restoring.now.data_ (over_of c.args.restoring.now)
+  answer_after g.D.Device.tells c.args.restoring.now.payload (over_of c.args.restoring.now)
       (g.D.Device.bytes c.args.backup.now) (g.D.Device.bytes c.judge_volume.new.backup)
       (g.D.Device.bytes c.args.volume.now) (g.D.Device.bytes c.judge_volume.new.volume) (g.D.Device.bytes c.put_back.new.volume)
       (g.D.Device.size c.args.volume.now) (g.D.Device.size c.judge_volume.new.volume)
@@ -38,4 +38,4 @@ pub returns-in-Err-2-clause-rest : goal.returns-in-Err-2-clause-rest
 returns-in-Err-2-clause-rest g c = λ tells.
     let b : List ℕ = g.D.Device.bytes c.args.backup.now in
     let t : List ℕ = g.D.Device.bytes c.args.volume.now in
-    subst (KeepsRest c.args.restoring.now.data_ b t) (sym (c.in-Err.ensures.unchanged.same tells)) (keeps_same c.args.restoring.now.data_ b t)
+    subst (KeepsRest c.args.restoring.now.payload b t) (sym (c.in-Err.ensures.unchanged.same tells)) (keeps_same c.args.restoring.now.payload b t)

@@ -5,5 +5,5 @@ use Rattle.luks_main.proofs.outcome.object_of_check.Goals as goal
 
 pub returns : goal.returns
 returns g c =
-    object_outcome (Check c.args.data_) c.answer-answer.result c.object_of.result
-    (check_ends _ _ _ c.args.data_ _ _ c.answer-answer.result c.answer-answer.ensures.answers) c.object_of.ensures
+    object_outcome (Check c.args.payload) c.answer-answer.result c.object_of.result
+    (check_ends _ _ _ c.args.payload _ _ c.answer-answer.result c.answer-answer.ensures.answers) c.object_of.ensures

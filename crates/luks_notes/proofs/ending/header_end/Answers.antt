@@ -1,7 +1,7 @@
 -- Where both copies end of the header that was chosen.
 use Rattle.std.proofs.Common.{◌+◌, ◌∙◌, subst, sym, ap}
-use Rattle.luks_head.specs.Selection.{IsSelected}
-use Rattle.luks_head.specs.declared.selection.Selected.TheVariants.{V2}
+use Rattle.luks2_header.specs.Selection.{IsSelected}
+use Rattle.luks2_header.specs.declared.selection.Selected.TheVariants.{V2}
 use Rattle.luks_notes.specs.HeaderEnd.{of_luks2}
 use Rattle.luks_notes.proofs.ending.header_end.Goals as goal
 

@@ -3,8 +3,8 @@ use Rattle.std.proofs.lemmas.Bool.{eqb-true, eq-eqb, false≢true}
 use Rattle.luks_area.specs.Device.{count_after}
 use Rattle.luks_area.specs.Memory.{memory_bytes}
 use Rattle.luks1_header.specs.Faults.{is_device_fault}
-use Rattle.luks_head.specs.Selection.{IsSelected, IsRefused}
-use Rattle.luks_head.specs.declared.selection.Selected.TheVariants.{V1, V2}
+use Rattle.luks2_header.specs.Selection.{IsSelected, IsRefused}
+use Rattle.luks2_header.specs.declared.selection.Selected.TheVariants.{V1, V2}
 use Rattle.luks_notes.specs.BehindZeros.{behind_zeros}
 use Rattle.luks_notes.proofs.BehindZerosFacts.{chosen_behind, no_luks1, unsound_if_refused}
 use Rattle.luks_notes.proofs.leftover.is_sound.Goals as goal

@@ -1,6 +1,6 @@
 -- What was judged of the copy that counts holds of the volume.
 use Rattle.std.proofs.lemmas.Result.{err_from_is_err_and}
-use Rattle.luks_head.proofs.ChoiceFacts.{uuid_sound}
+use Rattle.luks2_header.proofs.ChoiceFacts.{uuid_sound}
 use Rattle.luks_rules.proofs.Deciding.{metadata_faultless}
 use Rattle.luks_meta.specs.Content.{content}
 use Rattle.luks_reading.specs.Header.{json_at}
@@ -13,7 +13,7 @@ returns-in_err-areas-clause-refused c = λ v copy long.
     let json = json_at v h.hdr_offset in
     let p = err_from_is_err_and c.from_residual.result c.from_residual.ensures.1 in
     rw (p.1, p.2)
-    (luks2_first v c.args.data_ h.hdr_offset c.args.copy.now.copies _ c.in_err-areas.field-0.0 copy.chosen long
+    (luks2_first v c.args.payload h.hdr_offset c.args.copy.now.copies _ c.in_err-areas.field-0.0 copy.chosen long
     (c.in_err-areas.ensures.refused _ json copy.header (record { accepted = copy.metadata; len = copy.area_len }) (record {
       uuid = uuid_sound _ copy.uuid;
       metadata = (metadata_faultless json).1 (content c.args.copy.now.meta, copy.metadata);
@@ -22,7 +22,7 @@ returns-in_err-areas-clause-refused c = λ v copy long.
 pub returns-clause-accepted : goal.returns-clause-accepted
 returns-clause-accepted c = λ v copy long.
     let h = c.args.copy.now.header in
-    luks2_accepted v c.args.data_ h.hdr_offset c.args.copy.now.copies _ copy.chosen long
+    luks2_accepted v c.args.payload h.hdr_offset c.args.copy.now.copies _ copy.chosen long
     (record {
       uuid = copy.uuid;
       layout = (
@@ -36,6 +36,6 @@ returns-clause-report c = λ v copy long.
     let h = c.args.copy.now.header in
     record {
       version = (h.hdr_offset, (copy.chosen, copy.header.seqid));
-      areas = luks2_areas_are v c.args.data_ h.hdr_offset c.args.copy.now.copies _ _ copy.chosen long
+      areas = luks2_areas_are v c.args.payload h.hdr_offset c.args.copy.now.copies _ _ copy.chosen long
           (c.in_ok-areas.ensures.areas _ (json_at v h.hdr_offset) copy.header (record { accepted = copy.metadata; len = copy.area_len }));
     }

@@ -29,15 +29,15 @@ returns-in_ok-areas-in-Luks1-clause-report c = λ v is long.
 pub returns-in_ok-areas-in-Luks1-clause-listed : goal.returns-in_ok-areas-in-Luks1-clause-listed
 returns-in_ok-areas-in-Luks1-clause-listed c =
     let areas = c.in_ok-areas-in-Luks1.areas in
-    subst (λ h. Lists areas (HeaderArea h c.args.data_ c.args.total)) (sym c.in-Luks1.is)
-    (subst (λ (b : List ℕ). Lists areas (Luks1Area b c.args.data_ c.args.total)) c.as_slice.ensures c.in_ok-areas-in-Luks1.ensures.areas)
+    subst (λ h. Lists areas (HeaderArea h c.args.payload c.args.total)) (sym c.in-Luks1.is)
+    (subst (λ (b : List ℕ). Lists areas (Luks1Area b c.args.payload c.args.total)) c.as_slice.ensures c.in_ok-areas-in-Luks1.ensures.areas)
 
 pub returns-in-Luks2-clause-accepted : goal.returns-in-Luks2-clause-accepted
 returns-in-Luks2-clause-accepted c = λ v is long. c.check_copy.ensures.accepted v (subst (IsHeader v) c.in-Luks2.is is) long
 
 pub returns-in-Luks2-clause-listed : goal.returns-in-Luks2-clause-listed
 returns-in-Luks2-clause-listed c =
-    subst (λ h. IfOk c.check_copy.result (λ report. Lists report.areas (HeaderArea h c.args.data_ c.args.total))) (sym c.in-Luks2.is) c.check_copy.ensures.listed
+    subst (λ h. IfOk c.check_copy.result (λ report. Lists report.areas (HeaderArea h c.args.payload c.args.total))) (sym c.in-Luks2.is) c.check_copy.ensures.listed
 
 pub returns-in-Luks2-clause-report : goal.returns-in-Luks2-clause-report
 returns-in-Luks2-clause-report c = λ v is long. c.check_copy.ensures.report v (subst (IsHeader v) c.in-Luks2.is is) long

@@ -1,9 +1,9 @@
 -- The first fault of the selection, or of the copy that counts, is that of reading the header.
 use Rattle.std.proofs.Common.{List, ℕ, ◌+◌, ◌-◌, ◌∙◌, ap, subst, sym}
 use Rattle.std.proofs.lemmas.Result.{err_from_is_err_and, IfErr-weaker}
-use Rattle.luks_head.specs.Header2.{header_at, uuid_field}
+use Rattle.luks2_header.specs.Header2.{header_at, uuid_field}
 use Rattle.luks_area.specs.Ranges.{part}
-use Rattle.luks_head.specs.Selection.{IsSelected, KeepsSelectedJson}
+use Rattle.luks2_header.specs.Selection.{IsSelected, KeepsSelectedJson}
 use Rattle.luks_reading.specs.ChosenCopies.{CopyRefused, json_of}
 use Rattle.luks_reading.proofs.ReadFaults.{copy_unread, not_for_memory, same_json, select_unread}
 use Rattle.luks_reading.proofs.header.read_header.Goals as goal

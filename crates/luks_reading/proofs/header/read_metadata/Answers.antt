@@ -2,7 +2,7 @@
 use Rattle.std.proofs.Common.{◌∙◌, List, ℕ, rules, subst}
 use Rattle.std.proofs.lemmas.Result.{err_from_is_err_and}
 use Rattle.luks1_header.specs.declared.fault.HeadFault.{HeadFault}
-use Rattle.luks_head.specs.Header2.{IsUuidFault}
+use Rattle.luks2_header.specs.Header2.{IsUuidFault}
 use Rattle.luks_meta.specs.Content.{content}
 use Rattle.luks_reading.specs.ChosenCopies.{json_of, CopyRefused, IsCleared}
 use Rattle.luks_reading.specs.Conversions.{meta_unread}

@@ -2,7 +2,7 @@
 use Rattle.std.proofs.Common.{ℕ, List, subst}
 use Rattle.luks_reading.specs.Answer.{TakesMemory}
 use Rattle.std.proofs.lemmas.Result.{err_from_is_err_and, IfErr-weaker}
-use Rattle.luks_head.proofs.ChoiceFacts.{choices_agree}
+use Rattle.luks2_header.proofs.ChoiceFacts.{choices_agree}
 use Rattle.luks_reading.proofs.AllowedMemory.{none_taken}
 use Rattle.luks_reading.proofs.KeyslotAnswers.{unread_refused}
 use Rattle.luks_reading.proofs.OneAnswer.{agrees, err_agrees}

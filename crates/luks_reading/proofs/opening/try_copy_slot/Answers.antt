@@ -1,7 +1,7 @@
 -- What the copy that counts gives is what the volume gives.
 use Rattle.std.proofs.Common.{ℕ, List, length, subst, sym, ◌≡◌}
 use Rattle.std.proofs.lemmas.Result.{IfErr-weaker, IfOk-weaker}
-use Rattle.luks_head.specs.Header2.{header_at}
+use Rattle.luks2_header.specs.Header2.{header_at}
 use Rattle.luks_reading.specs.Luks2Keyslots.{Luks2Refused, Luks2TakesMemory}
 use Rattle.luks_reading.specs.Header.{json_at}
 use Rattle.luks_reading.proofs.KeyslotAnswers.{luks2_opens, luks2_refused, luks2_takes}

@@ -1,7 +1,7 @@
 -- What the header that counts is refused by is what the volume is refused by.
 use Rattle.std.proofs.Common.{ℕ, List, length, subst, sym, ◌∙◌}
-use Rattle.luks_head.specs.Header2.{header_at}
-use Rattle.luks_head.specs.Selection.{luks1, luks2}
+use Rattle.luks2_header.specs.Header2.{header_at}
+use Rattle.luks2_header.specs.Selection.{luks1, luks2}
 use Rattle.luks_reading.specs.Answer.{FirstRefusal, IsLuks1Refusal, IsLuks2RefusalWithin}
 use Rattle.luks_reading.specs.Header.{json_at, IsHeader}
 use Rattle.luks_reading.proofs.KeyslotAnswers.{first_as}

@@ -4,7 +4,7 @@ use Rattle.std.proofs.lemmas.Result.{IfErr-weaker, IfOk-weaker}
 use Rattle.luks1_header.specs.declared.fault.HeadFault.{HeadFault}
 use Rattle.luks1_header.specs.Faults.{IsCommonFault}
 use Rattle.luks1_header.specs.Bytes.{number_at}
-use Rattle.luks_head.specs.Header2.{header_at}
+use Rattle.luks2_header.specs.Header2.{header_at}
 use Rattle.luks_meta.specs.Content.{content}
 use Rattle.luks_reading.specs.Header.{json_at, IsHeader}
 use Rattle.luks_reading.specs.Plans.{HasKeyBytes}

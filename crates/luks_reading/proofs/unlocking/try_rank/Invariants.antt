@@ -1,6 +1,6 @@
 use Rattle.std.proofs.Common.{◌≡◌, ℕ, ◌<◌, List, true}
 use Rattle.luks_area.specs.Device.{IsUnchanged}
-use Rattle.luks_head.specs.Header2.{uuid_field}
+use Rattle.luks2_header.specs.Header2.{uuid_field}
 use Rattle.luks_meta.specs.Content.{content}
 use Rattle.luks_reading.specs.ChosenCopies.{IsCleared}
 use Rattle.luks_reading.specs.KeyslotsTried.{is_of_rank, Luks2DoesNotOpen}

@@ -1,6 +1,6 @@
 use Rattle.std.proofs.Common.{◌≡◌, ℕ, List, ◌++◌, replicate, refl, sym, ap, subst, ◌∙◌}
 use Rattle.luks_area.specs.Text.{text_of}
-use Rattle.luks_head.specs.Header2.{header_at, uuid_field, IsUuidField}
+use Rattle.luks2_header.specs.Header2.{header_at, uuid_field, IsUuidField}
 use Rattle.luks_rebuilding.proofs.own_uuid.found_field.Goals as goal
 
 pub returns-in-Ok-clause-found : goal.returns-in-Ok-clause-found

@@ -1,5 +1,5 @@
 use Rattle.std.proofs.Common.{ap, length, ◌∙◌}
-use Rattle.luks_head.proofs.UuidFacts.{uuid_text-length}
+use Rattle.luks2_header.proofs.UuidFacts.{uuid_text-length}
 use Rattle.luks_rebuilding.proofs.own_uuid.new_field.Goals as goal
 
 pub uuid_field-requires : goal.uuid_field-requires

@@ -1,7 +1,7 @@
 use Rattle.std.proofs.Common.{List, ℕ, arith, ◌∙◌, subst, get_or, Some}
 use Rattle.std.proofs.lemmas.Result.{err_from_is_err_and}
 use Rattle.luks_area.specs.Device.{unchanged-then}
-use Rattle.luks_head.proofs.SecondCopyFacts.{among_all, none_left, rising_later}
+use Rattle.luks2_header.proofs.SecondCopyFacts.{among_all, none_left, rising_later}
 use Rattle.luks_rebuilding.specs.Found.{place_of, BreaksAt, FindsAt, IsWholeAt}
 use Rattle.luks_rebuilding.proofs.SearchFacts.{broken_half, least_found, whole_later}
 use Rattle.luks_rebuilding.proofs.search.least_of.Goals as goal

@@ -1,7 +1,7 @@
 use Rattle.std.proofs.Common.{◌≡◌, ℕ, true, length}
 use Rattle.luks_area.specs.Device.{IsUnchanged}
-use Rattle.luks_head.specs.Sizes.{is_among, IsListed}
-use Rattle.luks_head.proofs.SecondCopyFacts.{is_rising}
+use Rattle.luks2_header.specs.Sizes.{is_among, IsListed}
+use Rattle.luks2_header.proofs.SecondCopyFacts.{is_rising}
 use Rattle.luks_rebuilding.specs.Found.{place_of, IsWholeAt}
 use Rattle.luks_rebuilding.proofs.search.least_of.Given as goal
 

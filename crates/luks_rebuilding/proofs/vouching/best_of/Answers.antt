@@ -2,8 +2,8 @@ use Rattle.std.proofs.Common.{◌≡◌, ℕ, ◌<◌, ◌≤◌, List, [], ◌�
 use Rattle.std.proofs.lemmas.List.{take_rest}
 use Rattle.std.proofs.lemmas.Result.{err_from_is_err_and}
 use Rattle.luks_area.specs.Device.{unchanged-same, unchanged-then}
-use Rattle.luks_head.specs.Sizes.{is_among}
-use Rattle.luks_head.proofs.SecondCopyFacts.{among_all, later}
+use Rattle.luks2_header.specs.Sizes.{is_among}
+use Rattle.luks2_header.proofs.SecondCopyFacts.{among_all, later}
 use Rattle.luks_rebuilding.specs.Found.{place_of, BreaksVouchedAt, FindsVouchedAt, IsBestOf, IsBetter, IsDone, IsVouch, IsWhole}
 use Rattle.luks_rebuilding.specs.declared.candidate.Candidate.{Candidate}
 use Rattle.luks_rebuilding.specs.declared.place.Half.{Half}

@@ -1,6 +1,6 @@
 use Rattle.std.proofs.Common.{◌≡◌, ℕ, true, length, IfSome}
 use Rattle.luks_area.specs.Device.{IsUnchanged}
-use Rattle.luks_head.specs.Sizes.{is_among, IsListed}
+use Rattle.luks2_header.specs.Sizes.{is_among, IsListed}
 use Rattle.luks_rebuilding.specs.Found.{IsBestOf, IsVouch, IsWhole}
 use Rattle.luks_rebuilding.proofs.VouchFacts.{IsSearched}
 use Rattle.luks_rebuilding.proofs.vouching.best_of.Given as goal

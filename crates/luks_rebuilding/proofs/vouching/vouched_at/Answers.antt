@@ -5,7 +5,7 @@ use Rattle.std.proofs.Math.Seq.{drop-append-add}
 use Rattle.byteorder.specs.Endian.{big_number}
 use Rattle.luks_area.specs.Ranges.{part}
 use Rattle.luks1_header.specs.Header1.{luks_magic}
-use Rattle.luks_head.specs.Header2.{header_at, magic_of, second_magic, HoldsBin2}
+use Rattle.luks2_header.specs.Header2.{header_at, magic_of, second_magic, HoldsBin2}
 use Rattle.luks_vouching.proofs.LawFacts.{none_vouched}
 use Rattle.luks_vouching.specs.Vouched.{mended_header, IsVouched, VouchesForNone}
 use Rattle.luks_vouching.specs.declared.vouched.Vouched.{Vouched}

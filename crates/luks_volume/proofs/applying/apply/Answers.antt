@@ -13,12 +13,12 @@ returns-in_err-header-clause-applied g c = λ tells.
     let same = c.in_err-header.ensures.unchanged.same tells in
     let ranges = has_ranges v c.args.edit.now c.args.random.now (g.met.D.Device.sized c.args.device.now tells) (g.met.D.Device.bounded c.args.device.now)
     c.derivation_has_32_bits.ensures (λ k. (c.type_inv.random k).fits) in
-    applied_by c.args.data_ v c.args.edit.now c.args.random.now c.from_residual.result (g.D.Device.bytes c.edited_header.new.device) ranges
+    applied_by c.args.payload v c.args.edit.now c.args.random.now c.from_residual.result (g.D.Device.bytes c.edited_header.new.device) ranges
     (rw (p.1, p.2, same)
-    (unread_replies v c.args.data_ c.args.edit.now c.args.random.now c.in_err-header.field-0.0 (c.in_err-header.ensures.refused tells c.args.data_)))
+    (unread_replies v c.args.payload c.args.edit.now c.args.random.now c.in_err-header.field-0.0 (c.in_err-header.ensures.refused tells c.args.payload)))
 
 pub returns-in_err-header-clause-memory : goal.returns-in_err-header-clause-memory
 returns-in_err-header-clause-memory g c = λ tells free.
     let v = g.D.Device.bytes c.args.device.now in
     let p = err_from_is_err_and c.from_residual.result c.from_residual.ensures.1 in
-    rw (p.1, p.2) (unread_without_memory v c.args.data_ c.args.edit.now free c.in_err-header.field-0.0 (c.in_err-header.ensures.refused tells c.args.data_))
+    rw (p.1, p.2) (unread_without_memory v c.args.payload c.args.edit.now free c.in_err-header.field-0.0 (c.in_err-header.ensures.refused tells c.args.payload))

@@ -12,8 +12,8 @@ returns-in-Luks1-clause-applied g c = λ tells.
     let is = rw c.in-Luks1.is at (c.requires.read tells) in
     let ranges = has_ranges v c.args.edit.now c.args.random.now (g.met.D.Device.sized c.args.device.now tells) (g.met.D.Device.bounded c.args.device.now)
     c.derivation_has_32_bits.ensures (λ k. (c.type_inv.random k).fits) in
-    applied_by c.args.data_ v c.args.edit.now c.args.random.now c.apply_luks1.result w ranges
-    (replies_by1 v c.args.data_ c.args.edit.now c.args.random.now w is.0 ranges c.apply_luks1.result (c.apply_luks1.ensures.replies tells is))
+    applied_by c.args.payload v c.args.edit.now c.args.random.now c.apply_luks1.result w ranges
+    (replies_by1 v c.args.payload c.args.edit.now c.args.random.now w is.0 ranges c.apply_luks1.result (c.apply_luks1.ensures.replies tells is))
 
 pub returns-in-Luks2-clause-applied : goal.returns-in-Luks2-clause-applied
 returns-in-Luks2-clause-applied g c = λ tells.
@@ -23,8 +23,8 @@ returns-in-Luks2-clause-applied g c = λ tells.
     let copy = rw c.in-Luks2.is at read in
     let ranges = has_ranges v c.args.edit.now c.args.random.now (g.met.D.Device.sized c.args.device.now tells) (g.met.D.Device.bounded c.args.device.now)
     c.derivation_has_32_bits.ensures (λ k. (c.type_inv.random k).fits) in
-    applied_by c.args.data_ v c.args.edit.now c.args.random.now c.apply_luks2.result w ranges
-    (replies_by2 v c.args.data_ c.args.edit.now c.args.random.now w
+    applied_by c.args.payload v c.args.edit.now c.args.random.now c.apply_luks2.result w ranges
+    (replies_by2 v c.args.payload c.args.edit.now c.args.random.now w
     c.in-Luks2.copy.header.hdr_offset c.in-Luks2.copy.copies copy.chosen
     (needs_of v c.in-Luks2.copy copy) ranges c.apply_luks2.result
     (c.apply_luks2.ensures.replies tells copy))

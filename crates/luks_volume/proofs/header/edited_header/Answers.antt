@@ -1,4 +1,4 @@
-use Rattle.luks_head.proofs.ChoiceFacts.{choices_agree}
+use Rattle.luks2_header.proofs.ChoiceFacts.{choices_agree}
 use Rattle.luks_reading.proofs.CheckFacts.{unread_refused}
 use Rattle.luks_volume.proofs.NeedFacts.{unread_untold}
 use Rattle.luks_volume.proofs.UnreadFacts.{refused_as_edit}

@@ -15,9 +15,9 @@ loop-step-init g c = record {
   room = omega (arith, c.in-Ok.ensures.ok);
   replied = rw c.try_reserve.ensures.items (replied_none c.args.replies.now.items);
   run = λ tells. rw c.try_reserve.ensures.items
-      (run_starts (Replies c.args.data_) (g.D.Device.bytes c.args.device.now) c.args.steps.now c.args.replies.now.items);
+      (run_starts (Replies c.args.payload) (g.D.Device.bytes c.args.device.now) c.args.steps.now c.args.replies.now.items);
   so_far = λ tells. rw c.try_reserve.ensures.items
-      (so_far_none (Replies c.args.data_) (g.D.Device.bytes c.args.device.now) c.args.steps.now c.args.replies.now.items);
+      (so_far_none (Replies c.args.payload) (g.D.Device.bytes c.args.device.now) c.args.steps.now c.args.replies.now.items);
 }
 
 pub loop-step-preserved : goal.loop-step-preserved
@@ -33,10 +33,10 @@ loop-step-preserved g c =
       room = omega arith;
       replied = rw c.push_reserved.ensures.items (replied_more c.loop-step.step-index c.args.replies.now.items c.loop-step.replies.items r fine now.replied);
       run = λ tells. rw c.push_reserved.ensures.items
-          (run_more (Replies c.args.data_) (g.D.Device.bytes c.args.device.now) (g.D.Device.bytes c.loop-step.device) (g.D.Device.bytes c.apply-reply.new.device)
+          (run_more (Replies c.args.payload) (g.D.Device.bytes c.args.device.now) (g.D.Device.bytes c.loop-step.device) (g.D.Device.bytes c.apply-reply.new.device)
           c.args.steps.now c.loop-step.step-index c.args.replies.now.items c.loop-step.replies.items _ r c.loop-step-test.true (c.apply-reply.ensures.applied tells).replies fine (now.run tells));
       so_far = λ tells. rw c.push_reserved.ensures.items
-          (so_far_more (Replies c.args.data_) (g.D.Device.bytes c.args.device.now) (g.D.Device.bytes c.loop-step.device) (g.D.Device.bytes c.apply-reply.new.device)
+          (so_far_more (Replies c.args.payload) (g.D.Device.bytes c.args.device.now) (g.D.Device.bytes c.loop-step.device) (g.D.Device.bytes c.apply-reply.new.device)
           c.args.steps.now c.loop-step.step-index c.args.replies.now.items c.loop-step.replies.items _ r c.loop-step-test.true (c.apply-reply.ensures.applied tells).replies fine (now.so_far tells));
     }
 
@@ -55,13 +55,13 @@ returns-then-is_failure-clause-ran g c = λ tells.
     let r = c.apply-reply.result in
     let failed : IsFailure r = c.if-is_failure.ensures.0 refl in
     rw c.push_reserved.ensures.items
-    (run_stops (Replies c.args.data_) (g.D.Device.bytes c.args.device.now) (g.D.Device.bytes c.loop-step.device) (g.D.Device.bytes c.apply-reply.new.device)
+    (run_stops (Replies c.args.payload) (g.D.Device.bytes c.args.device.now) (g.D.Device.bytes c.loop-step.device) (g.D.Device.bytes c.apply-reply.new.device)
     c.args.steps.now c.loop-step.step-index c.args.replies.now.items c.loop-step.replies.items _ r c.loop-step-test.true (c.apply-reply.ensures.applied tells).replies failed
     (c.loop-step.invariant.run tells))
 
 pub returns-then-is_failure-clause-keeps : goal.returns-then-is_failure-clause-keeps
 returns-then-is_failure-clause-keeps g c = λ tells well.
-    kept_by_run c.args.data_ (g.D.Device.bytes c.args.device.now) c.args.steps.now c.args.replies.now.items
+    kept_by_run c.args.payload (g.D.Device.bytes c.args.device.now) c.args.steps.now c.args.replies.now.items
     c.push_reserved.new.self.items (g.D.Device.bytes c.apply-reply.new.device) well (returns-then-is_failure-clause-ran g c tells)
 
 pub returns-then-is_failure-clause-spared : goal.returns-then-is_failure-clause-spared
@@ -69,18 +69,18 @@ returns-then-is_failure-clause-spared g c = λ tells well apart.
     let r = c.apply-reply.result in
     let failed : IsFailure r = c.if-is_failure.ensures.0 refl in
     rw c.push_reserved.ensures.items
-    (spared_by_run c.args.data_ (g.D.Device.bytes c.args.device.now) (g.D.Device.bytes c.loop-step.device)
+    (spared_by_run c.args.payload (g.D.Device.bytes c.args.device.now) (g.D.Device.bytes c.loop-step.device)
     (g.D.Device.bytes c.apply-reply.new.device) c.args.steps.now c.loop-step.step-index c.args.replies.now.items c.loop-step.replies.items _ r c.loop-step-test.true
     well failed (λ met. (c.apply-reply.ensures.applied tells).spared met failed) (c.loop-step.invariant.so_far tells))
 
 pub returns-clause-ran : goal.returns-clause-ran
 returns-clause-ran g c = λ tells.
-    run_ends (Replies c.args.data_) (g.D.Device.bytes c.args.device.now) (g.D.Device.bytes c.loop-step.device) c.args.steps.now c.loop-step.step-index
+    run_ends (Replies c.args.payload) (g.D.Device.bytes c.args.device.now) (g.D.Device.bytes c.loop-step.device) c.args.steps.now c.loop-step.step-index
     c.args.replies.now.items c.loop-step.replies.items c.loop-step-test.false (c.loop-step.invariant.run tells)
 
 pub returns-clause-keeps : goal.returns-clause-keeps
 returns-clause-keeps g c = λ tells well.
-    kept_by_run c.args.data_ (g.D.Device.bytes c.args.device.now) c.args.steps.now c.args.replies.now.items
+    kept_by_run c.args.payload (g.D.Device.bytes c.args.device.now) c.args.steps.now c.args.replies.now.items
     c.loop-step.replies.items (g.D.Device.bytes c.loop-step.device) well (returns-clause-ran g c tells)
 
 pub returns-clause-spared : goal.returns-clause-spared

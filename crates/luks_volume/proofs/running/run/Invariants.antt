@@ -16,8 +16,8 @@ invariant-loop-step g l = record {
   settled : g.D.Device.tells → IsSettled g.D.Device.unsettled l.device;
   room : vec_len l.replies + length l.steps ≤ vec_capacity l.replies + l.step-index;
   replied : AreRepliedSoFar l.step-index l.fn.replies.items l.replies.items;
-  run : g.D.Device.tells → IsUnderWay (Replies l.data_) (g.D.Device.bytes l.fn.device) (g.D.Device.bytes l.device) l.steps l.step-index
+  run : g.D.Device.tells → IsUnderWay (Replies l.payload) (g.D.Device.bytes l.fn.device) (g.D.Device.bytes l.device) l.steps l.step-index
       l.fn.replies.items l.replies.items;
-  so_far : g.D.Device.tells → AreRunSoFar (Replies l.data_) (g.D.Device.bytes l.fn.device) (g.D.Device.bytes l.device) l.steps l.step-index
+  so_far : g.D.Device.tells → AreRunSoFar (Replies l.payload) (g.D.Device.bytes l.fn.device) (g.D.Device.bytes l.device) l.steps l.step-index
       l.fn.replies.items l.replies.items;
 }

@@ -1,6 +1,6 @@
 use Rattle.std.proofs.Common.{◌≡◌, ℕ, List, ◌++◌, length, take, drop, sym, ap, ◌∙◌, subst}
 use Rattle.sha2.specs.Sha256.{sha256}
-use Rattle.luks_head.specs.Header2.{with_zero_checksum}
+use Rattle.luks2_header.specs.Header2.{with_zero_checksum}
 use Rattle.luks_vouching.specs.Tried.{IsFirstTried}
 use Rattle.luks_vouching.specs.Vouched.{MeetsSum}
 use Rattle.luks_vouching.proofs.FoundFacts.{judged_area, same_items}

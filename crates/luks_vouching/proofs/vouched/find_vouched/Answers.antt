@@ -1,7 +1,7 @@
 use Rattle.std.proofs.Common.{◌≡◌, ℕ, ◌*◌, ◌≤◌, List, ◌++◌, ◌⊎◌, inl, length, drop, refl, sym, ap, ◌∙◌, arith, subst, IfOk}
 use Rattle.std.proofs.lemmas.Bool.{false≢true}
-use Rattle.luks_head.specs.Header2.{hdr_size, header_at, magic_of, IsFormed}
-use Rattle.luks_head.specs.Sizes.{IsListed}
+use Rattle.luks2_header.specs.Header2.{hdr_size, header_at, magic_of, IsFormed}
+use Rattle.luks2_header.specs.Sizes.{IsListed}
 use Rattle.luks_vouching.specs.Vouched.{area_at, mended_header, FindsComposed, Stands}
 use Rattle.luks_vouching.proofs.FoundFacts.{composed_vouched, stands_refused}
 use Rattle.luks_vouching.proofs.vouched.find_vouched.Goals as goal

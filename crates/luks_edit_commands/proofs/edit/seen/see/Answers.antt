@@ -9,12 +9,12 @@ use Rattle.luks_edit_commands.proofs.edit.seen.see.Goals as goal
 pub returns-in_err-header-clause-unseen : goal.returns-in_err-header-clause-unseen
 returns-in_err-header-clause-unseen g c = λ tells.
     let p = err_from_is_err_and c.from_residual.result c.from_residual.ensures.1 in
-    rw (p.1, p.2) (c.in_err-header.ensures.untold tells c.args.editing.now.data_ c.args.edit.now)
+    rw (p.1, p.2) (c.in_err-header.ensures.untold tells c.args.editing.now.payload c.args.edit.now)
 
 pub returns-in_err-header-clause-barred : goal.returns-in_err-header-clause-barred
 returns-in_err-header-clause-barred g c = λ tells.
     let p = err_from_is_err_and c.from_residual.result c.from_residual.ensures.1 in
-    rw (p.1, p.2) (λ not u has. header_barred _ c.args.editing.now.data_ u _ (c.in_err-header.ensures.refused tells c.args.editing.now.data_))
+    rw (p.1, p.2) (λ not u has. header_barred _ c.args.editing.now.payload u _ (c.in_err-header.ensures.refused tells c.args.editing.now.payload))
 
 pub returns-in-Some-clause-barred : goal.returns-in-Some-clause-barred
 returns-in-Some-clause-barred g c = λ tells not u has.

@@ -8,7 +8,7 @@ use Rattle.luks_header_commands.proofs.convert.ConversionHeaderWork.run.Goals as
 
 pub returns-in-Ok-clause-answers : goal.returns-in-Ok-clause-answers
 returns-in-Ok-clause-answers g c = λ e later.
-    convert_later g.D.Device.tells c.args.self.now.data_ c.args.random.now _ e (Done None) later (
+    convert_later g.D.Device.tells c.args.self.now.payload c.args.random.now _ e (Done None) later (
       c.in-Ok.ensures.count,
       refl,
       c.in-Ok.ensures.faultless,
@@ -22,16 +22,16 @@ returns-in-Ok-clause-answers g c = λ e later.
 
 pub returns-in-Err-clause-answers : goal.returns-in-Err-clause-answers
 returns-in-Err-clause-answers g c = λ e later.
-    convert_later g.D.Device.tells c.args.self.now.data_ c.args.random.now _ e _ later
-    (subst (IsConvertAnswer g.D.Device.tells c.args.self.now.data_ c.args.random.now _) (sym c.not_converted.ensures)
-    (answers_fault g.D.Device.tells c.args.self.now.data_ c.args.random.now _ c.in-Err.fault c.in-Err.ensures.count
+    convert_later g.D.Device.tells c.args.self.now.payload c.args.random.now _ e _ later
+    (subst (IsConvertAnswer g.D.Device.tells c.args.self.now.payload c.args.random.now _) (sym c.not_converted.ensures)
+    (answers_fault g.D.Device.tells c.args.self.now.payload c.args.random.now _ c.in-Err.fault c.in-Err.ensures.count
     (λ is. (c.in-Err.ensures.refused is).same) c.in-Err.ensures.fault))
 
 pub returns-in-Err-2-clause-answers : goal.returns-in-Err-2-clause-answers
 returns-in-Err-2-clause-answers g c = λ e later.
-    convert_later g.D.Device.tells c.args.self.now.data_ c.args.random.now _ e _ later
-    (subst (IsConvertAnswer g.D.Device.tells c.args.self.now.data_ c.args.random.now _) (sym c.not_converted-in-Err-2.ensures)
-    (answers_fault g.D.Device.tells c.args.self.now.data_ c.args.random.now _ c.in-Err.fault c.in-Err.ensures.count
+    convert_later g.D.Device.tells c.args.self.now.payload c.args.random.now _ e _ later
+    (subst (IsConvertAnswer g.D.Device.tells c.args.self.now.payload c.args.random.now _) (sym c.not_converted-in-Err-2.ensures)
+    (answers_fault g.D.Device.tells c.args.self.now.payload c.args.random.now _ c.in-Err.fault c.in-Err.ensures.count
     (λ is. (c.in-Err.ensures.refused is).same) c.in-Err.ensures.fault))
 
 pub returns-in-Err-2-clause-settled : goal.returns-in-Err-2-clause-settled

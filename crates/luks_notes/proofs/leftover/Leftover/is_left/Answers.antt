@@ -1,7 +1,7 @@
 -- What is left of a second copy.
 use Rattle.std.proofs.Common.{◌↔◌, ◌≤◌, IfOk, IsTrue, ℕ, List, Bool, Result, Ok, Err, sym, subst}
 use Rattle.std.specs.declared.alloc.AllocError.{AllocError}
-use Rattle.luks_head.specs.Header2.{IsSound}
+use Rattle.luks2_header.specs.Header2.{IsSound}
 use Rattle.luks_notes.specs.Leftovers.{IsLeft}
 use Rattle.luks_notes.specs.declared.leftover.Leftover.TheVariants.{SecondCopy}
 use Rattle.luks_notes.proofs.leftover.Leftover.is_left.Goals as goal

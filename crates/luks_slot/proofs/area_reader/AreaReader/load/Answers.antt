@@ -1,6 +1,6 @@
 use Rattle.std.proofs.Common.{◌≡◌, ◌+◌, ◌*◌, ℕ, length, take, subst, arith}
 use Rattle.luks_area.specs.Ranges.{part}
-use Rattle.luks_xts.specs.Units.{AreMade}
+use Rattle.luks_modes.specs.Units.{AreMade}
 use Rattle.luks_slot.specs.Ciphers.{sector_opened}
 use Rattle.luks_slot.proofs.RunFacts.{run_opened}
 use Rattle.luks_slot.proofs.area_reader.AreaReader.load.Goals as goal

@@ -2,7 +2,7 @@ use Rattle.std.proofs.Common.{◌≡◌, ◌≤◌, ◌+◌, ◌*◌, ℕ, lengt
 use Rattle.std.proofs.lemmas.List.{length-take-le}
 use Rattle.luks_area.specs.DeviceFacts.{touches-wider}
 use Rattle.luks_area.specs.RangeFacts.{at-inside}
-use Rattle.luks_xts.specs.Units.{AreMade}
+use Rattle.luks_modes.specs.Units.{AreMade}
 use Rattle.luks_slot.specs.Ciphers.{sector_opened}
 use Rattle.luks_slot.proofs.WritingFacts.{run_alone, run_stored}
 use Rattle.luks_slot.proofs.area_writer.AreaWriter.store.Goals as goal

@@ -1,5 +1,0 @@
-pub mod Combinations
-pub mod Openings
-pub mod Faults
-pub mod Tried
-pub mod Alike

@@ -1,4 +1,0 @@
-pub mod LoopFacts
-pub mod UndoneFacts
-pub mod VectorFacts
-pub mod SectorFacts

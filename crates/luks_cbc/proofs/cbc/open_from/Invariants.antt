@@ -1,6 +1,0 @@
-use Rattle.luks_cbc.proofs.LoopFacts.{IsOpening}
-use Rattle.luks_cbc.proofs.cbc.open_from.Given as goal
-
--- the blocks so far are opened, and what the last of them was is kept
-abbrev pub invariant-loop-j : goal.invariant-loop-j
-invariant-loop-j l = IsOpening l.key l.fn.iv l.initial.bytes l.bytes l.before l.j

@@ -1,7 +1,0 @@
-use Rattle.std.proofs.Common.{refl}
-use Rattle.luks_xts.specs.Xts.{xor_block}
-use Rattle.luks_cbc.proofs.cbc.xor_block.Goals as goal
-
-pub returns : goal.returns
-unfolding xor_block
-returns c = refl

@@ -1,2 +1,0 @@
-pub mod Cbc
-pub mod Vectors

@@ -1,0 +1,137 @@
+//! The command `show`.
+ghost use Rattle.std.specs.Prelude.{◌≡◌, ◌≢◌, ◌+◌, ◌<◌, ◌^◌, IfErr};
+ghost use Rattle.std.specs.Result.{ForOk};
+ghost use Rattle.luks_area.specs.Device.{IsUnchanged};
+ghost use Rattle.luks_commands.specs.Answer.{answer_status, Prints};
+ghost use Rattle.luks_commands.specs.Exit.{IsExitStatus};
+ghost use Rattle.luks_commands.specs.Files.{KeepsVolume};
+ghost use Rattle.luks_commands.specs.ShowAnswers.{AnswersShow, IsAsJson, IsAsMap, IsInFull, IsListedAnswer, IsShownAs};
+
+use crate::answers::{Answer, Status, end, refused, unread};
+use crate::inputs::InputFault;
+use crate::printer::Printer;
+use luks_map::HeaderMap;
+use luks_reading::{CheckFault, Device, Header, Luks1, read_header};
+use luks_request::ShowAs;
+use luks_show::{FullListing, Listing, json_text};
+use std::alloc::Global;
+use std::io::Write;
+
+/// Prints what the header of the volume of this name says, in this form; answers the exit status.
+///
+/// It isn't inlined, so that it takes no stack where another command runs.
+#[inline(never)]
+pub fn run<D: Device, P: Printer, E: Write>(
+    alloc: Global,
+    volume: &mut Result<D, InputFault>,
+    name: &str,
+    form: ShowAs,
+    out: &mut P,
+    err: &mut E,
+) -> u8
+    requires room { ForOk volume.old (λ d. D.failed d + 1 < 2 ^ 64) }
+    requires printer { P.failures out.old + 1 < 2 ^ 64 }
+    ensures unchanged { KeepsVolume D.tells D.size D.bytes D.unsettled volume.old volume.new }
+    ensures status { IsExitStatus result }
+    ensures kinds { result ≢ 3 }
+    ensures unread { IfErr volume.old (λ _. result ≢ 0) }
+    ensures answers { Prints (AnswersShow form D.tells D.bytes D.failed volume.old volume.new)
+        (P.failures out.old) (P.failures out.new) (P.printed out.old) (P.printed out.new) result }
+{
+    let answer = show_volume(alloc, volume, name, form, err);
+    end(&answer, out)
+}
+
+fn show_volume<D: Device, E: Write>(
+    alloc: Global,
+    volume: &mut Result<D, InputFault>,
+    name: &str,
+    form: ShowAs,
+    err: &mut E,
+) -> Answer
+    requires { ForOk volume.old (λ d. D.failed d + 1 < 2 ^ 64) }
+    ensures unchanged { KeepsVolume D.tells D.size D.bytes D.unsettled volume.old volume.new }
+    ensures kinds { answer_status result ≢ Status.NotInStep }
+    ensures unread { IfErr volume.old (λ _. answer_status result ≢ Status.Done) }
+    ensures answers { AnswersShow form D.tells D.bytes D.failed volume.old volume.new result }
+{
+    match volume {
+        Ok(device) => {
+            let answer = show_device(alloc, device, name, err);
+            shown_as(alloc, form, device.len(), answer)
+        }
+        Err(fault) => unread(*fault, name, err),
+    }
+}
+
+/// The answer in this form, of a volume of `total` bytes, where it was one for the lines.
+fn shown_as(alloc: Global, form: ShowAs, total: u64, answer: Answer) -> Answer
+    ensures answers { IsShownAs form total answer result }
+    ensures kinds { answer_status answer ≢ Status.NotInStep
+        → answer_status result ≢ Status.NotInStep }
+{
+    match form {
+        ShowAs::Lines => answer,
+        ShowAs::All => in_full(answer),
+        ShowAs::Map => as_map(total, answer),
+        ShowAs::Json => as_json(alloc, answer),
+    }
+}
+
+fn in_full(answer: Answer) -> Answer
+    ensures answers { IsInFull answer result }
+    ensures kinds { answer_status answer ≢ Status.NotInStep
+        → answer_status result ≢ Status.NotInStep }
+{
+    match answer {
+        Answer::Listed(listing) => Answer::ListedFully(FullListing(listing)),
+        answer => answer,
+    }
+}
+
+fn as_map(total: u64, answer: Answer) -> Answer
+    ensures answers { IsAsMap total answer result }
+    ensures kinds { answer_status answer ≢ Status.NotInStep
+        → answer_status result ≢ Status.NotInStep }
+{
+    match answer {
+        Answer::Listed(listing) => Answer::Mapped(HeaderMap::of(&listing, total)),
+        answer => answer,
+    }
+}
+
+fn as_json(alloc: Global, answer: Answer) -> Answer
+    ensures answers { IsAsJson answer result }
+    ensures kinds { answer_status answer ≢ Status.NotInStep
+        → answer_status result ≢ Status.NotInStep }
+{
+    match answer {
+        Answer::Listed(listing) => match json_text(alloc, &listing) {
+            Ok(text) => Answer::Json(text),
+            Err(_) => Answer::NoMemory,
+        },
+        answer => answer,
+    }
+}
+
+fn show_device<D: Device, E: Write>(
+    alloc: Global,
+    device: &mut D,
+    name: &str,
+    err: &mut E,
+) -> Answer
+    requires { D.failed device.old + 1 < 2 ^ 64 }
+    ensures unchanged { IsUnchanged D.tells D.size D.bytes D.unsettled device.old device.new }
+    ensures kinds { answer_status result ≢ Status.NotInStep }
+    ensures answers { IsListedAnswer D.tells (D.bytes device.old)
+        (D.failed device.old) (D.failed device.new) result }
+{
+    match read_header(alloc, device) {
+        Ok(Header::Luks1(bytes)) => match Luks1::read(&bytes) {
+            Ok(header) => Answer::Listed(Listing::Luks1(header)),
+            Err(fault) => refused(CheckFault::from(fault), name, err),
+        },
+        Ok(Header::Luks2(copy)) => Answer::Listed(Listing::Luks2(copy)),
+        Err(fault) => refused(CheckFault::from(fault), name, err),
+    }
+}

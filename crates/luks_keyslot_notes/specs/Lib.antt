@@ -1,2 +1,0 @@
-pub mod MemoryNotes
-pub mod OlderNotes

@@ -1,0 +1,10 @@
+pub mod AlphaFacts
+pub mod UnitFacts
+pub mod UnitLoopFacts
+pub mod EightFacts
+pub mod RunFacts
+pub mod MaskFacts
+pub mod LoopFacts
+pub mod UndoneFacts
+pub mod VectorFacts
+pub mod SectorFacts

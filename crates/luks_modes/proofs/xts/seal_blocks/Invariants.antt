@@ -1,0 +1,8 @@
+use Rattle.std.proofs.Common.{◌*◌}
+use Rattle.luks_modes.specs.Xts.{sealed_under}
+use Rattle.luks_modes.proofs.UnitLoopFacts.{IsUnderWay}
+use Rattle.luks_modes.proofs.xts.seal_blocks.Given as goal
+
+-- the blocks so far are done, and the tweak is the next one's
+abbrev pub invariant-loop-j : goal.invariant-loop-j
+invariant-loop-j l = IsUnderWay (sealed_under l.key) l.first l.initial.bytes l.bytes l.tweak (8 * l.j)

@@ -1,5 +1,0 @@
-use Rattle.luks_planned.specs.PlanFacts.{played-front}
-use Rattle.luks_planned.proofs.laws.plan_leaves_the_rest.Goals as goal
-
-pub returns : goal.returns
-returns c = played-front

@@ -1,3 +1,0 @@
-pub mod DigestFacts
-pub mod HoldingFacts
-pub mod LineFacts

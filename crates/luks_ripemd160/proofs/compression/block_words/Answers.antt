@@ -1,6 +1,0 @@
-use Rattle.std.proofs.Common.{arith}
-use Rattle.luks_ripemd160.proofs.LineFacts.{block_words_are}
-use Rattle.luks_ripemd160.proofs.compression.block_words.Goals as goal
-
-pub returns : goal.returns
-returns c = block_words_are c.loop-i.words c.args.block.now c.loop-i.invariant.0 (λ k lt. c.loop-i.invariant.1 k (omega arith))

@@ -1,6 +1,0 @@
-use Rattle.std.proofs.Common.{◌≡◌, ℕ, ◌<◌, ◌*◌, length, slice_index}
-use Rattle.luks_ripemd160.specs.Ripemd160.{word_at}
-use Rattle.luks_ripemd160.proofs.compression.block_words.Given as goal
-
-abbrev pub invariant-loop-i : goal.invariant-loop-i
-invariant-loop-i l = (length l.words ≡ 16) × ((k : ℕ) → k < l.i → slice_index l.words k ≡ word_at l.block (4 * k))

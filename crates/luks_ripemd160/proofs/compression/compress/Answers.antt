@@ -1,7 +1,0 @@
-use Rattle.std.proofs.Common.{refl}
-use Rattle.luks_ripemd160.specs.Ripemd160.{compress, joined_lines}
-use Rattle.luks_ripemd160.proofs.compression.compress.Goals as goal
-
-pub returns : goal.returns
-unfolding compress joined_lines
-returns c = rw (c.left_line-left.ensures, c.right_line-right.ensures, c.block_words-words.ensures) refl

@@ -1,7 +1,0 @@
-use Rattle.std.proofs.Common.{refl}
-use Rattle.luks_ripemd160.specs.Ripemd160.{left_line}
-use Rattle.luks_ripemd160.proofs.compression.left_line.Goals as goal
-
-pub loop-j-init : goal.loop-j-init
-unfolding left_line
-loop-j-init c = refl

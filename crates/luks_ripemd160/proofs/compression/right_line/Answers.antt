@@ -1,7 +1,0 @@
-use Rattle.std.proofs.Common.{refl}
-use Rattle.luks_ripemd160.specs.Ripemd160.{right_line}
-use Rattle.luks_ripemd160.proofs.compression.right_line.Goals as goal
-
-pub loop-j-init : goal.loop-j-init
-unfolding right_line
-loop-j-init c = refl

@@ -1,6 +1,0 @@
-use Rattle.std.proofs.Common.{◌-◌, ◌%◌, arith}
-use Rattle.luks_ripemd160.proofs.HoldingFacts.{front_of_padding}
-use Rattle.luks_ripemd160.proofs.hasher.padding.Goals as goal
-
-pub returns : goal.returns
-returns c = front_of_padding 0x80 0 ((119 - c.args.used) % 64) (omega arith)

@@ -1,4 +1,0 @@
-pub mod DigestFacts
-pub mod HoldingFacts
-pub mod SboxFacts
-pub mod StateFacts

@@ -1,7 +1,0 @@
-use Rattle.std.proofs.Common.{refl}
-use Rattle.luks_whirlpool.specs.Whirlpool.{compress}
-use Rattle.luks_whirlpool.proofs.compression.compress.Goals as goal
-
-pub returns : goal.returns
-unfolding compress
-returns c = rw (c.add.ensures, c.add-sum.ensures, c.cipher-sealed.ensures) refl

@@ -1,7 +1,0 @@
-use Rattle.std.proofs.Common.{◌∙◌}
-use Rattle.luks_whirlpool.proofs.SboxFacts.{sbox_at}
-use Rattle.luks_whirlpool.proofs.sbox.sbox.Goals as goal
-
-pub returns : goal.returns
-returns c =
-    rw (c.digit-low.ensures, c.digit-high.ensures, c.digit-middle.ensures, c.digit-lower.ensures, c.digit-upper.ensures) (sbox_at c.args.x c.ranges.x.fits)

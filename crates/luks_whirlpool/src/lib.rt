@@ -1,8 +1,0 @@
-//! Whirlpool (ISO/IEC 10118-3), which the key derivation of older volumes names.
-#![tactic(auto)]
-
-mod compression;
-mod hasher;
-mod sbox;
-
-pub use hasher::{DIGEST_LEN, Whirlpool};

@@ -1,7 +1,0 @@
-use Rattle.luks_xts.specs.Units.{converted}
-use Rattle.luks_xts.proofs.RunFacts.{IsRunUnderWay}
-use Rattle.luks_xts.proofs.xts.XtsKey.convert_units.Given as goal
-
--- the units so far are done
-abbrev pub invariant-loop-u : goal.invariant-loop-u
-invariant-loop-u l = IsRunUnderWay (converted l.direction l.self) l.first l.initial.bytes l.bytes l.u
