@@ -18,7 +18,7 @@ use Rattle.luks_edit.specs.declared.deed.Deed.TheVariants as deed
 use Rattle.luks_edit.specs.declared.edit_fault.EditFault.{EditFault}
 use Rattle.luks_edit.specs.declared.edit_fault.EditFault.TheVariants as fault
 use Rattle.luks_edit.specs.Asked.{deed_of}
-use Rattle.luks_edit.specs.RowFacts.{Passed, first_of_check, first_of_row, next}
+use Rattle.luks_edit.proofs.RowFacts.{Passed, first_of_check, first_of_row, next}
 use Rattle.luks1_edits.specs.Accepted.{IsHeaderOf, IsUnaccepted}
 use Rattle.luks1_edits.specs.Refused.{IsEditFault1, Need1, Refusal1}
 use Rattle.luks1_edits.specs.Replies.{EndsBy1, Replies1}

@@ -5,7 +5,7 @@ use Rattle.std.proofs.lemmas.Option.{same_Some}
 use Rattle.luks_area.specs.declared.area.Area.{Area}
 use Rattle.luks_area.specs.declared.area.AreaName.TheVariants.{Slot}
 use Rattle.luks_area.specs.Ranges.{part, SameBut}
-use Rattle.luks_area.specs.RangeFacts.{same_but-same, same_but-equal, same_but-then, same_but-wider}
+use Rattle.luks_area.proofs.RangeFacts.{same_but-same, same_but-equal, same_but-then, same_but-wider}
 use Rattle.luks1_header.specs.Faults.{HasUnknownState, LacksIterations}
 use Rattle.luks1_header.specs.Header1.{active_word, disabled_word, enabled_word, entry, entry_key_material_offset, entry_stripes}
 use Rattle.luks1_header.specs.declared.fault.HeadFault.TheVariants as head

@@ -6,7 +6,7 @@ use Rattle.luks_area.specs.declared.area.AreaName.{AreaName}
 use Rattle.luks_area.specs.declared.area.AreaName.TheVariants.{Head1, Head2, Slot, Segment}
 use Rattle.luks_area.specs.Area.{Fit, name_number}
 use Rattle.luks_area.specs.Ranges.{part, IsAt, SameBut}
-use Rattle.luks_area.specs.RangeFacts.{length-part_inside, part-same_but}
+use Rattle.luks_area.proofs.RangeFacts.{length-part_inside, part-same_but}
 use Rattle.luks_area.specs.Sectors.{rounded_to_sectors}
 use Rattle.luks1_header.specs.Bytes.{number_at}
 use Rattle.luks1_header.specs.Faults.{HasUnknownState, LacksIterations, IsCommonFault, IsLuks1Fault as IsLuks1HeadFault}

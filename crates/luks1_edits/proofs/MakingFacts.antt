@@ -2,7 +2,7 @@
 use Rattle.std.proofs.Common.{◌≡◌, ℕ, ◌+◌, ◌-◌, ◌*◌, ◌<◌, ◌≤◌, List, length, take, drop, subst, refl, sym, ap, ◌∙◌, arith, inl, inr, length-drop, Bool}
 use Rattle.luks_area.specs.declared.area.AreaName.TheVariants.{Slot}
 use Rattle.luks_area.specs.Ranges.{part, written, IsAt, SameBut}
-use Rattle.luks_area.specs.RangeFacts.{part-same_but, same_but-then, same_but-wider, same_outside-written}
+use Rattle.luks_area.proofs.RangeFacts.{part-same_but, same_but-then, same_but-wider, same_outside-written}
 use Rattle.luks_area.specs.Sectors.{rounded_to_sectors}
 use Rattle.luks1_header.specs.Bytes.{number_at}
 use Rattle.luks1_header.specs.Header1.{active_word, enabled_word, entry, entry_iterations, entry_stripes, HoldsEntry, HoldsSlots, IsCommon, IsEntry, IsLuks1}

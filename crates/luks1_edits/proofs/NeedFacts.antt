@@ -12,7 +12,7 @@ use Rattle.luks_edit.specs.declared.edit_fault.EditFault.TheVariants as fault
 use Rattle.luks_edit.specs.declared.deed.Deed.TheVariants.{Rewrite}
 use Rattle.luks_edit.specs.Asked.{deed_of, NamesItself, opener_of, Wants}
 use Rattle.luks_edit.specs.EditFaults.{edit_key}
-use Rattle.luks_edit.specs.RowFacts.{Passed, after_check, after_plan, first_of_check, first_of_row, next}
+use Rattle.luks_edit.proofs.RowFacts.{Passed, after_check, after_plan, first_of_check, first_of_row, next}
 use Rattle.luks1_edits.specs.Accepted.{IsNewFault, IsNewNeed, IsNewNeedFault, IsRemovable, IsUnaccepted, IsUnremovable}
 use Rattle.luks1_edits.specs.Edited.{IsInUse}
 use Rattle.luks1_edits.specs.Needed.{IsNeedFault1, NeedsRandom, TellsNeed1}

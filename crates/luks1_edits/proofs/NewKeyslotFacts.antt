@@ -19,7 +19,7 @@ use Rattle.luks_edit.specs.declared.deed.Sealed.{Sealed}
 use Rattle.luks_edit.specs.declared.edit_fault.EditFault.{EditFault}
 use Rattle.luks_edit.specs.declared.edit_fault.EditFault.TheVariants as fault
 use Rattle.luks_edit.specs.Asked.{ChoosesArgon2, deed_of, HasFewIterations}
-use Rattle.luks_edit.specs.RowFacts.{Passed, first_of_row, next}
+use Rattle.luks_edit.proofs.RowFacts.{Passed, first_of_row, next}
 use Rattle.luks1_edits.specs.Accepted.{IsHeaderOf, IsIterated, IsNewFault, IsNewFree, IsNewRefused, IsOpenedBy}
 use Rattle.luks1_edits.specs.Edited.{IsNewKeyslot, number_asked}
 use Rattle.luks1_edits.specs.Leftovers.{IsSealedFirst, IsTorn1}

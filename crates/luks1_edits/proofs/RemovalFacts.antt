@@ -9,7 +9,7 @@ use Rattle.luks_edit.specs.declared.deed.Removed.{Removed}
 use Rattle.luks_edit.specs.declared.edit_fault.EditFault.TheVariants as fault
 use Rattle.luks_edit.specs.declared.edit_fault.EditFault.{EditFault}
 use Rattle.luks_edit.specs.Asked.{allowed_by, ChoosesArgon2, deed_of, HasFewIterations, NamesItself, opener_of, OpensBy, Wants}
-use Rattle.luks_edit.specs.RowFacts.{Passed, first_of_row}
+use Rattle.luks_edit.proofs.RowFacts.{Passed, first_of_row}
 use Rattle.luks1_edits.specs.Accepted.{HasOther, IsHeaderOf, IsNamedTwice, IsOpenedBy, IsRemovable, IsUnremovable}
 use Rattle.luks1_edits.specs.Edited.{After1, IsInUse, IsRemoved}
 use Rattle.luks1_edits.specs.Leftovers.{IsHalfRemoved, IsTorn1, Leftover1}

@@ -18,7 +18,7 @@ use Rattle.luks_edit.specs.declared.edit_fault.EditFault.TheVariants as fault
 use Rattle.luks_edit.specs.Asked.{allowed_by, ChoosesArgon2, deed_of, HasFewIterations, NamesItself, opener_in, OpensBy, Wants}
 use Rattle.luks_edit.specs.Opener.{IsLocked, IsShut}
 use Rattle.luks_edit.proofs.AllowedMemory.{luks1_answers_alike}
-use Rattle.luks_edit.specs.RowFacts.{Passed, after_check, after_plan, first_of_plan, first_of_row, next, none_at_all}
+use Rattle.luks_edit.proofs.RowFacts.{Passed, after_check, after_plan, first_of_plan, first_of_row, next, none_at_all}
 use Rattle.luks1_edits.specs.Accepted.{IsOpenedBy, IsUnopened}
 use Rattle.luks1_edits.specs.Edited.{IsInUse}
 use Rattle.luks1_edits.specs.Refused.{HasNoFree, IsAbsent, IsEditFault1, IsLabel, IsLast, IsMiscounted, IsTaken, IsUnrefused1, Refusal1}

@@ -2,7 +2,7 @@
 use Rattle.std.proofs.Common.{◌≡◌, ℕ, ◌+◌, ◌*◌, ◌<◌, ◌≤◌, List, length, replicate, subst, refl, sym, ap, ◌∙◌, arith, inl, inr}
 use Rattle.luks_area.specs.declared.area.Area.{Area}
 use Rattle.luks_area.specs.Ranges.{part, written, IsAt, SameBut, SameOutside}
-use Rattle.luks_area.specs.RangeFacts.{part-same_but, part-written, same_but-same_outside, same_but-then, same_but-wider}
+use Rattle.luks_area.proofs.RangeFacts.{part-same_but, part-written, same_but-same_outside, same_but-then, same_but-wider}
 use Rattle.luks1_header.specs.Header1.{entry, word_of, HoldsEntry}
 use Rattle.luks1_header.specs.declared.luks1.Luks1Slot.{Luks1Slot}
 use Rattle.luks1_header.specs.declared.luks1.SlotState.TheVariants.{Disabled}

@@ -3,7 +3,7 @@ use Rattle.std.proofs.Common.{◌≡◌, ℕ, ◌+◌, ◌^◌, ◌<◌, ◌≤�
 use Rattle.byteorder.specs.Endian.{big_bytes}
 use Rattle.byteorder.specs.Numbers.{length-bytes_high_first}
 use Rattle.luks_area.specs.Ranges.{part, written, SameBut}
-use Rattle.luks_area.specs.RangeFacts.{same_but-same}
+use Rattle.luks_area.proofs.RangeFacts.{same_but-same}
 use Rattle.luks1_header.specs.Header1.{field_at, field_len, luks_magic}
 use Rattle.luks1_header.specs.Written.{AreZeros, WritesCommon, common_text}
 use Rattle.luks1_header.specs.declared.luks1.Luks1Common.{Luks1Common}

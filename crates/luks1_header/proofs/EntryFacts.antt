@@ -1,7 +1,7 @@
 -- The bytes of a key slot's entry are the only ones that say it.
 use Rattle.std.proofs.Common.{◌≡◌, ℕ, List, lit≤, sym, ap, ◌∙◌}
 use Rattle.luks_area.specs.Ranges.{part}
-use Rattle.luks_area.specs.RangeFacts.{part-whole}
+use Rattle.luks_area.proofs.RangeFacts.{part-whole}
 use Rattle.luks1_header.specs.Written.{WritesEntry}
 use Rattle.luks1_header.specs.declared.luks1.Luks1Slot.{Luks1Slot}
 use Rattle.luks1_header.proofs.NumberFacts.{bytes_within, number_agrees, parts_join}

@@ -3,7 +3,7 @@ use Rattle.std.proofs.Common.{◌≡◌, ℕ, ◌+◌, ◌^◌, ◌<◌, List, l
 use Rattle.byteorder.specs.Endian.{big_bytes}
 use Rattle.byteorder.specs.Numbers.{length-bytes_high_first}
 use Rattle.luks_area.specs.Ranges.{part, written, SameBut}
-use Rattle.luks_area.specs.RangeFacts.{same_but-same}
+use Rattle.luks_area.proofs.RangeFacts.{same_but-same}
 use Rattle.luks1_header.specs.Header1.{word_of}
 use Rattle.luks1_header.specs.Written.{WritesEntry}
 use Rattle.luks1_header.specs.declared.luks1.Luks1Slot.{Luks1Slot}

@@ -5,7 +5,7 @@ use Rattle.byteorder.specs.Endian.{big_number}
 use Rattle.uuid.specs.Text.{by_index}
 use Rattle.uuid.proofs.TextLemmas.{by_index_at, by_index_length}
 use Rattle.luks_area.specs.Ranges.{part}
-use Rattle.luks_area.specs.RangeFacts.{part-part}
+use Rattle.luks_area.proofs.RangeFacts.{part-part}
 use Rattle.luks_area.specs.Text.{text_of, is_plain}
 use Rattle.luks1_header.specs.Bytes.{number_at, text_at, IsUuid}
 use Rattle.luks1_header.specs.Faults.{HasUnknownState, IsCommonFault, IsEntryFault, IsLuks1Fault}

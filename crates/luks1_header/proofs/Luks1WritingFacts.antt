@@ -4,7 +4,7 @@ use Rattle.std.proofs.Common.{◌≡◌, ◌==◌, ℕ, ◌+◌, ◌*◌, ◌<�
 use Rattle.std.proofs.lemmas.Bool.{cases_Bool, cases_lt}
 use Rattle.byteorder.specs.Endian.{big_number}
 use Rattle.luks_area.specs.Ranges.{part, written, IsAt, SameBut}
-use Rattle.luks_area.specs.RangeFacts.{part-same_but, part-same_but_at, same_but-same, same_but-wider}
+use Rattle.luks_area.proofs.RangeFacts.{part-same_but, part-same_but_at, same_but-same, same_but-wider}
 use Rattle.luks_area.specs.Text.{is_plain, text_of}
 use Rattle.luks1_header.specs.Bytes.{IsUuid}
 use Rattle.luks1_header.specs.Header1.{entry, field_at, field_len, header_text, HoldsCommon, HoldsEntry, IsCommon, IsEntry, IsLuks1, luks1_size}

@@ -6,7 +6,7 @@ use Rattle.std.proofs.lemmas.List.{get_or_past}
 use Rattle.byteorder.specs.Endian.{big_from}
 use Rattle.byteorder.specs.Numbers.{big_from-cons, big_from-lt}
 use Rattle.luks_area.specs.Ranges.{part}
-use Rattle.luks_area.specs.RangeFacts.{get_or-part, length-part_inside, part-add}
+use Rattle.luks_area.proofs.RangeFacts.{get_or-part, length-part_inside, part-add}
 use Rattle.luks1_header.specs.Bytes.{number_at}
 use Rattle.luks1_header.specs.Written.{AreBytes}
 

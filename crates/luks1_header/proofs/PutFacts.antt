@@ -9,7 +9,7 @@ use Rattle.byteorder.specs.Endian.{big_bytes, big_number}
 use Rattle.byteorder.specs.Numbers.{big_number-reads_back}
 use Rattle.std.specs.Int.{byte_at}
 use Rattle.luks_area.specs.Ranges.{part, written, IsAt, SameBut}
-use Rattle.luks_area.specs.RangeFacts.{get_or-part, part-add, part-same_but, part-written, same_but-same_outside, same_but-then, same_but-wider, same_outside-written}
+use Rattle.luks_area.proofs.RangeFacts.{get_or-part, part-add, part-same_but, part-written, same_but-same_outside, same_but-then, same_but-wider, same_outside-written}
 use Rattle.luks_area.specs.Text.{text_of}
 use Rattle.luks1_header.specs.Bytes.{number_at, text_at}
 use Rattle.luks1_header.specs.Written.{AreBytes, AreZeros}

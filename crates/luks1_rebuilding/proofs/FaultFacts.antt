@@ -1,6 +1,6 @@
 -- The first fault of rebuilding among those that stand, row by row of the table.
 use Rattle.std.proofs.Common.{◌≡◌, ℕ, ◌<◌, ◌≤◌, List, length, inl, inr, refl, sym, subst, arith, false, Result, Ok, Err, IfOk, IfErr, OnOk}
-use Rattle.luks_area.specs.RangeFacts.{length-part}
+use Rattle.luks_area.proofs.RangeFacts.{length-part}
 use Rattle.luks_area.specs.Area.{IsAreaFault}
 use Rattle.luks_area.specs.First.{IsLeast, NotAfter}
 use Rattle.luks_area.specs.declared.area.AreaFault.{AreaFault}

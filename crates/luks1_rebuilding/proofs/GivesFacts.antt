@@ -2,7 +2,7 @@
 use Rattle.std.proofs.Common.{◌≡◌, ℕ, Bool, ◌<◌, ◌≤◌, List, length, Option, Some, None, inl, inr, sym, ap, subst, ◌∙◌, arith, lit≤}
 use Rattle.byteorder.specs.Endian.{big_number}
 use Rattle.luks_area.specs.Ranges.{part}
-use Rattle.luks_area.specs.RangeFacts.{length-part, part-part}
+use Rattle.luks_area.proofs.RangeFacts.{length-part, part-part}
 use Rattle.luks_area.specs.declared.area.AreaName.TheVariants as name
 use Rattle.luks1_header.specs.Faults.{IsCommonFault, IsEntryFault}
 use Rattle.luks1_header.specs.Header1.{active_word, enabled_word, entry, entry_key_material_offset, header_text, key_bytes_of, HoldsCommon, HoldsEntry, IsEntry, IsLuks1}

@@ -24,7 +24,7 @@ use Rattle.luks_slot.specs.Fault.{IsAnsweredFault}
 use Rattle.luks_slot.specs.Opening.{area_bytes, slot_key}
 use Rattle.luks_slot.specs.Allowance.{without_memory}
 use Rattle.luks_slot.specs.Refusal.{slot_refusal}
-use Rattle.luks_slot.specs.RefusalFacts.{accepted_within, refusal_at_none}
+use Rattle.luks_slot.proofs.RefusalFacts.{accepted_within, refusal_at_none}
 use Rattle.luks_slot.specs.declared.fault.SlotFault.{SlotFault}
 use Rattle.luks_slot.specs.declared.fault.SlotFault.TheVariants as slot
 use Rattle.luks_slot.specs.declared.plan.SlotPlan.{SlotPlan}

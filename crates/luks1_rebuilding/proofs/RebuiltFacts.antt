@@ -1,7 +1,7 @@
 -- From what was made and written to the header of the volume.
 use Rattle.std.proofs.Common.{◌≡◌, ℕ, List, length, inl, inr, sym, subst}
 use Rattle.luks_area.specs.Ranges.{SameBut}
-use Rattle.luks_area.specs.RangeFacts.{same_but-wider}
+use Rattle.luks_area.proofs.RangeFacts.{same_but-wider}
 use Rattle.luks_area.specs.declared.area.Area.{Area}
 use Rattle.luks1_header.specs.Written.{WritesLuks1}
 use Rattle.luks1_header.specs.declared.luks1.Luks1.{Luks1}

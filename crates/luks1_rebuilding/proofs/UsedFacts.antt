@@ -2,12 +2,12 @@
 use Rattle.std.proofs.Common.{◌≡◌, ℕ, ◌+◌, ◌-◌, ◌<◌, ◌≤◌, ◌++◌, List, length, replicate, append-nil, ap, sym, subst, ◌∙◌, arith, inl, inr, Result, Ok, Err, OnOk}
 use Rattle.std.proofs.lemmas.Bool.{cases_eq}
 use Rattle.luks_area.specs.Ranges.{part, written, IsAt, SameBut, SameOutside}
-use Rattle.luks_area.specs.RangeFacts.{part-same_but, part-same_but_at, part-written, same_but-same_outside, same_but-then, same_but-wider}
+use Rattle.luks_area.proofs.RangeFacts.{part-same_but, part-same_but_at, part-written, same_but-same_outside, same_but-then, same_but-wider}
 use Rattle.luks_area.specs.declared.area.Area.{Area}
 use Rattle.luks1_header.specs.Written.{WritesLuks1}
 use Rattle.luks1_header.specs.declared.luks1.Luks1.{Luks1}
 use Rattle.luks_writing.specs.Cleared.{AreCleared, ClearsInTurn, IsOfFirstSectors}
-use Rattle.luks_writing.specs.MadeInOrderFacts.{clearing_widens}
+use Rattle.luks_writing.proofs.MadeInOrderFacts.{clearing_widens}
 use Rattle.luks1_rebuilding.specs.Used.{AreApart, HasUsedAreas, IsOfUsed, IsOfUsedAreas, IsOfWritten, IsUsedArea, IsWritten, WritesFirst1, WritesInTurn1}
 
 -- a keyslot has one area

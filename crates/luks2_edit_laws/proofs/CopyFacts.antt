@@ -1,7 +1,7 @@
 -- Which copy counts of a volume where copies were written anew.
 use Rattle.std.proofs.Common.{◌≡◌, ℕ, ◌≤◌, List, length, refl, sym, ap, subst, ◌∙◌, arith}
 use Rattle.serde_json.specs.Data.{Data as Value}
-use Rattle.luks_area.specs.RangeFacts.{part-part}
+use Rattle.luks_area.proofs.RangeFacts.{part-part}
 use Rattle.luks1_header.specs.Header1.{version_of}
 use Rattle.luks2_header.specs.Header2.{hdr_size, header_at, seqid, IsSound}
 use Rattle.luks2_header.specs.Selection.{luks2, Chosen, IsNotVersion1}

@@ -1,6 +1,6 @@
 -- What counts of a LUKS2 volume that a failing device call left.
 use Rattle.std.proofs.Common.{◌≡◌, ℕ, ◌<◌, ◌≤◌, ◌⊎◌, List, length, inl, inr, refl, sym, ap, subst, ◌∙◌, arith}
-use Rattle.luks_area.specs.RangeFacts.{part-part}
+use Rattle.luks_area.proofs.RangeFacts.{part-part}
 use Rattle.luks_area.specs.Ranges.{part}
 use Rattle.luks2_header.specs.Header2.{copy_at, hdr_size, header_at, seqid, IsSound}
 use Rattle.luks2_header.specs.Selection.{luks1, luks2, nothing, Choice, Chosen, IsSecondAlone}

@@ -7,7 +7,7 @@ use Rattle.luks_area.specs.declared.area.Area.{Area}
 use Rattle.luks_area.specs.declared.area.AreaName.{AreaName}
 use Rattle.luks_area.specs.declared.area.AreaName.TheVariants.{Head1, Head2, Slot, Segment}
 use Rattle.luks_area.specs.Area.{name_kind, name_number, Fit}
-use Rattle.luks_area.specs.RangeFacts.{part-same_but}
+use Rattle.luks_area.proofs.RangeFacts.{part-same_but}
 use Rattle.luks_area.specs.Ranges.{part, IsAt, SameBut}
 use Rattle.luks_area.specs.Sectors.{rounded_to_sectors}
 use Rattle.luks_reading.specs.declared.report.Data.{Data}

@@ -5,7 +5,7 @@ use Rattle.std.proofs.lemmas.List.{get_or_past}
 use Rattle.base64.specs.GeneralPurpose.{IsBytes}
 use Rattle.serde_json.specs.Data.{Data as Value}
 use Rattle.luks_area.specs.declared.area.Area.{Area}
-use Rattle.luks_area.specs.RangeFacts.{get_or-part, length-part}
+use Rattle.luks_area.proofs.RangeFacts.{get_or-part, length-part}
 use Rattle.luks_area.specs.Ranges.{part}
 use Rattle.luks_area.specs.Sectors.{rounded_to_sectors}
 use Rattle.luks2_header.specs.Selection.{luks2}

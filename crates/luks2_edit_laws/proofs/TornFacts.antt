@@ -3,7 +3,7 @@ use Rattle.std.proofs.Common.{◌≡◌, ℕ, ◌+◌, ◌-◌, ◌*◌, ◌<◌
 use Rattle.std.proofs.lemmas.Bool.{eqb-true, false_from_ne_true}
 use Rattle.serde_json.specs.Data.{Data as Value}
 use Rattle.luks_area.specs.declared.area.AreaName.TheVariants as name
-use Rattle.luks_area.specs.RangeFacts.{part-part, part-same_but, same_but-equal, same_but-wider}
+use Rattle.luks_area.proofs.RangeFacts.{part-part, part-same_but, same_but-equal, same_but-wider}
 use Rattle.luks_area.specs.Ranges.{part, IsAt, IsOfEither, SameBut}
 use Rattle.luks_area.specs.declared.area.Area.{Area}
 use Rattle.luks2_header.specs.Header2.{copy_at, hdr_size, header_at, uuid_field, IsSound, IsUuidField}

@@ -1,7 +1,7 @@
 -- Which bytes of a LUKS2 volume a failing device call may have changed.
 use Rattle.std.proofs.Common.{ℕ, ◌+◌, ◌*◌, ◌<◌, ◌==◌, Bool, true, false, if◌then◌else◌, List, length, inl, inr, arith}
 use Rattle.serde_json.specs.Data.{Data as Value}
-use Rattle.luks_area.specs.RangeFacts.{same_but-equal, same_but-wider}
+use Rattle.luks_area.proofs.RangeFacts.{same_but-equal, same_but-wider}
 use Rattle.luks_area.specs.Ranges.{IsAt, SameBut}
 use Rattle.luks2_header.specs.Header2.{hdr_size, header_at}
 use Rattle.luks_reading.specs.declared.report.Data.{Data}

@@ -6,7 +6,7 @@ use Rattle.serde_json.proofs.Nesting.{depth-read}
 use Rattle.luks_area.specs.declared.area.Area.{Area}
 use Rattle.luks_area.specs.declared.area.AreaName.{AreaName}
 use Rattle.luks_area.specs.Area.{Fit}
-use Rattle.luks_area.specs.RangeFacts.{length-part_inside}
+use Rattle.luks_area.proofs.RangeFacts.{length-part_inside}
 use Rattle.luks2_header.specs.declared.selection.Copies.{Copies}
 use Rattle.luks2_header.specs.Header2.{header_at, hdr_size, uuid_field, IsUuidField}
 use Rattle.luks2_header.specs.Selection.{Choice, luks1, luks2, nothing, Chosen}

@@ -4,7 +4,7 @@ use Rattle.std.proofs.lemmas.Option.{same_Some}
 use Rattle.serde_json.specs.Data.{Data as Value}
 use Rattle.luks_area.specs.declared.area.Area.{Area}
 use Rattle.luks_area.specs.Ranges.{IsOfEither}
-use Rattle.luks_area.specs.RangeFacts.{same_but-wider}
+use Rattle.luks_area.proofs.RangeFacts.{same_but-wider}
 use Rattle.luks2_header.specs.Header2.{header_at, hdr_size}
 use Rattle.luks_rules.specs.declared.table.Outer.TheVariants as outer
 use Rattle.luks_rules.specs.declared.table.Section.TheVariants.{Keyslots}

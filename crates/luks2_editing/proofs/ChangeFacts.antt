@@ -6,7 +6,7 @@ use Rattle.serde_json.specs.Find.{get}
 use Rattle.luks_area.specs.declared.area.Area.{Area}
 use Rattle.luks_area.specs.declared.area.AreaName.TheVariants.{Slot}
 use Rattle.luks_area.specs.Ranges.{part, IsAt, IsOfEither, SameBut}
-use Rattle.luks_area.specs.RangeFacts.{part-same_but, same_but-then, same_but-wider}
+use Rattle.luks_area.proofs.RangeFacts.{part-same_but, same_but-then, same_but-wider}
 use Rattle.luks2_header.specs.Header2.{header_at, hdr_size}
 use Rattle.luks_rules.specs.declared.table.Outer.TheVariants as outer
 use Rattle.luks_rules.specs.Reading.{number_in}

@@ -4,7 +4,7 @@ use Rattle.serde_json.specs.Data.{Data as Value}
 use Rattle.luks_area.specs.declared.area.Area.{Area}
 use Rattle.luks_area.specs.declared.area.AreaName.TheVariants.{Head1, Head2, Slot}
 use Rattle.luks_area.specs.Ranges.{part, IsAt, SameBut}
-use Rattle.luks_area.specs.RangeFacts.{part-same_but}
+use Rattle.luks_area.proofs.RangeFacts.{part-same_but}
 use Rattle.luks1_header.specs.Written.{AreZeros}
 use Rattle.luks2_header.specs.Header2.{header_at, hdr_size, seqid}
 use Rattle.luks2_header.proofs.SoundnessFacts.{sound_by_range}

@@ -3,7 +3,7 @@ use Rattle.std.proofs.Common.{◌≡◌, ℕ, ◌≤◌, List, Option, length, r
 use Rattle.serde_json.specs.Data.{Data as Value}
 use Rattle.luks_area.specs.declared.area.Area.{Area}
 use Rattle.luks_area.specs.Ranges.{part, IsAt, SameBut}
-use Rattle.luks_area.specs.RangeFacts.{same_but-then, same_but-wider}
+use Rattle.luks_area.proofs.RangeFacts.{same_but-then, same_but-wider}
 use Rattle.luks2_header.specs.Header2.{header_at, hdr_size}
 use Rattle.luks_making.specs.Without.{without_slot}
 use Rattle.luks_meta.specs.Content.{area_len, content}
@@ -13,7 +13,7 @@ use Rattle.luks_reading.specs.Checked.{WellFormed}
 use Rattle.luks_reading.specs.Header.{IsChosenCopy}
 use Rattle.luks_edit.specs.declared.edit.Edit.TheVariants.{Remove}
 use Rattle.luks_edit.specs.declared.edit.Passphrase.{Passphrase}
-use Rattle.luks_edit.specs.RowFacts.{passed_from, Passed}
+use Rattle.luks_edit.proofs.RowFacts.{passed_from, Passed}
 use Rattle.luks2_edit_laws.specs.Edited.{After2}
 use Rattle.luks2_edit_laws.specs.Leftovers.{Leftover2}
 use Rattle.luks2_edit_laws.specs.Metadata.{IsKeyArea}

@@ -8,7 +8,7 @@ use Rattle.serde_json.specs.Data.{Data as Value}
 use Rattle.serde_json.specs.Written.{compact_text}
 use Rattle.luks_area.specs.declared.area.AreaName.TheVariants.{Head2}
 use Rattle.luks_area.specs.Ranges.{SameBut}
-use Rattle.luks_area.specs.RangeFacts.{length-part_inside, same_but-wider}
+use Rattle.luks_area.proofs.RangeFacts.{length-part_inside, same_but-wider}
 use Rattle.luks2_header.specs.declared.selection.Copies.{Copies}
 use Rattle.luks2_header.specs.Header2.{header_at, hdr_size, seqid, IsSound}
 use Rattle.luks2_header.specs.Selection.{Choice, luks1, luks2, nothing, Chosen}
@@ -26,7 +26,7 @@ use Rattle.luks_reading.proofs.VolumeLaws.{well_formed_fits}
 use Rattle.luks_edit.specs.declared.edit.Edit.{Edit}
 use Rattle.luks_edit.specs.declared.edit_fault.EditFault.{EditFault}
 use Rattle.luks_edit.specs.declared.edit_fault.EditFault.TheVariants as fault
-use Rattle.luks_edit.specs.RowFacts.{first_of_row, next, none_at_all, Passed}
+use Rattle.luks_edit.proofs.RowFacts.{first_of_row, next, none_at_all, Passed}
 use Rattle.luks2_edit_laws.specs.Copies.{label_after, label_field}
 use Rattle.luks2_edit_laws.specs.Edited.{keyslot_salt, After2, IsEdited, IsSealedBy, IsWipedBy}
 use Rattle.luks2_edit_laws.specs.Leftovers.{IsTornAt}

@@ -5,7 +5,7 @@ use Rattle.std.proofs.lemmas.Bool.{eqb-true, eqb-false}
 use Rattle.std.proofs.lemmas.List.{get_or-drop, get_or-replicate}
 use Rattle.serde_json.specs.Data.{Data as Value}
 use Rattle.luks_area.specs.Ranges.{part, IsAt, SameBut}
-use Rattle.luks_area.specs.RangeFacts.{get_or-part, part-same_but_at, same_but-then, same_but-wider}
+use Rattle.luks_area.proofs.RangeFacts.{get_or-part, part-same_but_at, same_but-then, same_but-wider}
 use Rattle.luks1_header.specs.Written.{AreZeros}
 use Rattle.luks2_header.specs.Header2.{header_at, hdr_size}
 use Rattle.luks2_header.proofs.BinaryHeaderFacts.{written_is_sound}

@@ -3,7 +3,7 @@ use Rattle.std.proofs.Common.{◌≡◌, ℕ, ◌+◌, ◌-◌, ◌*◌, ◌≤�
 use Rattle.std.proofs.lemmas.Option.{same_Some}
 use Rattle.serde_json.specs.Data.{Data as Value}
 use Rattle.luks_area.specs.Ranges.{IsOfEither, SameBut}
-use Rattle.luks_area.specs.RangeFacts.{same_but-wider}
+use Rattle.luks_area.proofs.RangeFacts.{same_but-wider}
 use Rattle.luks2_header.specs.Header2.{hdr_size, header_at}
 use Rattle.luks_rules.specs.declared.table.Member.TheVariants as name
 use Rattle.luks_rules.specs.declared.table.Outer.TheVariants as outer

@@ -12,7 +12,7 @@ use Rattle.luks_reading.specs.Header.{json_at}
 use Rattle.luks_edit.specs.declared.edit.Edit.{Edit}
 use Rattle.luks_edit.specs.declared.edit_fault.EditFault.{EditFault}
 use Rattle.luks_edit.specs.declared.edit_fault.EditFault.TheVariants as fault
-use Rattle.luks_edit.specs.RowFacts.{first_of_row, next, none_at_all, passed_from, Passed}
+use Rattle.luks_edit.proofs.RowFacts.{first_of_row, next, none_at_all, passed_from, Passed}
 use Rattle.luks2_edit_laws.specs.Edited.{members_of, IsEdited}
 use Rattle.luks2_edit_laws.specs.Refused.{IsEditFault2, HasSaid, IsFull, IsMiscounted, IsUnrefused2, Need2, NeedsLike}
 use Rattle.luks2_edit_laws.proofs.ToldFacts.{need_once}

@@ -28,7 +28,7 @@ use std::alloc::Global;
 /// area that a keyslot lost. `Device` comes exactly where a device call failed; what that leaves, the
 /// volume as it was or one torn in that range, keeps every other keyslot, unless bytes of a torn write
 /// are taken for a header.
-#[tactic(auto, using(luks_area::specs::DeviceFacts::settled_unchanged))]
+#[tactic(auto, using(luks_area::proofs::DeviceFacts::settled_unchanged))]
 pub fn apply_luks2<D: Device>(
     alloc: Global,
     device: &mut D,

@@ -5,7 +5,7 @@ use Rattle.std.proofs.lemmas.List.{drop-append-le, length-drop, take-append-le, 
 use Rattle.byteorder.specs.Endian.{big_number}
 use Rattle.sha2.specs.Sha256.{sha256}
 use Rattle.luks_area.specs.Ranges.{part}
-use Rattle.luks_area.specs.RangeFacts.{get_or-part, length-part_inside, part-add, part-part, part-whole}
+use Rattle.luks_area.proofs.RangeFacts.{get_or-part, length-part_inside, part-add, part-part, part-whole}
 use Rattle.luks_area.specs.Text.{text_of}
 use Rattle.luks1_header.specs.Header1.{version_of}
 use Rattle.luks1_header.specs.Written.{AreBytes, AreZeros}

@@ -3,7 +3,7 @@ use Rattle.std.proofs.Common.{◌≡◌, ℕ, ◌+◌, ◌^◌, ◌<◌, List, l
 use Rattle.byteorder.specs.Endian.{big_bytes}
 use Rattle.byteorder.specs.Numbers.{length-bytes_high_first}
 use Rattle.luks_area.specs.Ranges.{part, written, SameBut}
-use Rattle.luks_area.specs.RangeFacts.{same_but-same}
+use Rattle.luks_area.proofs.RangeFacts.{same_but-same}
 use Rattle.luks1_header.proofs.PutFacts.{IsFilled, IsFrom, bytes_join, number_is_bytes, number_stands, put_keeps, put_leaves, put_next, put_stands}
 use Rattle.luks2_header.specs.Written.{WritesBin2}
 use Rattle.luks2_header.specs.declared.bin2.Bin2.{Bin2}

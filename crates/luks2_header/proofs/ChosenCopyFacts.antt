@@ -2,7 +2,7 @@
 use Rattle.std.proofs.Common.{◌≡◌, ℕ, ◌<◌, ◌≤◌, Option, None, Some, List, length, arith, lit≤, sym, ap, ◌∙◌, subst}
 use Rattle.luks_area.specs.First.{NotAfter}
 use Rattle.luks_area.specs.Ranges.{part}
-use Rattle.luks_area.specs.RangeFacts.{part-part, length-part_inside}
+use Rattle.luks_area.proofs.RangeFacts.{part-part, length-part_inside}
 use Rattle.byteorder.specs.Endian.{big_number}
 use Rattle.luks1_header.specs.Faults.{head_key}
 use Rattle.luks1_header.specs.Header1.{HasMagic, version_of}

@@ -6,7 +6,7 @@ use Rattle.std.proofs.lemmas.List.{take-take, drop-drop, drop-take, length-repli
 use Rattle.std.proofs.Math.Seq.{take-add, take-append-add, drop-append-add}
 use Rattle.sha2.specs.Sha256.{sha256}
 use Rattle.luks_area.specs.Ranges.{part, written}
-use Rattle.luks_area.specs.RangeFacts.{length-part_inside, part-part, part-add, part-whole, length-written, part-written, written-written}
+use Rattle.luks_area.proofs.RangeFacts.{length-part_inside, part-part, part-add, part-whole, length-written, part-written, written-written}
 use Rattle.luks2_header.specs.Header2.{header_at, hdr_size, copy_at, with_zero_checksum}
 use Rattle.luks2_header.specs.SoundCopies.{kept_at}
 use Rattle.luks2_header.specs.Sizes.{listed_sizes, is_among, IsListed}

@@ -3,7 +3,7 @@ use Rattle.std.proofs.Common.{◌≡◌, ℕ, ◌+◌, ◌-◌, ◌≤◌, List,
 use Rattle.std.proofs.lemmas.List.{take-take}
 use Rattle.sha2.specs.Sha256.{sha256}
 use Rattle.luks_area.specs.Ranges.{part}
-use Rattle.luks_area.specs.RangeFacts.{length-part, length-part_inside}
+use Rattle.luks_area.proofs.RangeFacts.{length-part, length-part_inside}
 use Rattle.luks2_header.specs.Header2.{copy_at, csum_at, hdr_size, header_at, sha256_size, with_zero_checksum, IsFormed, IsSound}
 use Rattle.luks2_header.proofs.CopyFacts.{listed_at_least}
 

@@ -3,7 +3,7 @@ use Rattle.std.proofs.Common.{◌≡◌, ℕ, ◌+◌, ◌-◌, ◌≤◌, List,
 use Rattle.luks_area.specs.declared.area.Area.{Area}
 use Rattle.luks_area.specs.declared.area.AreaName.{AreaName}
 use Rattle.luks_area.specs.declared.areas.Entry.{Entry}
-use Rattle.luks_area.specs.RangeFacts.{length-part_inside}
+use Rattle.luks_area.proofs.RangeFacts.{length-part_inside}
 use Rattle.luks2_header.specs.Header2.{hdr_size, header_at, IsSound}
 use Rattle.luks2_header.specs.Selection.{luks2}
 use Rattle.luks2_header.proofs.CopyFacts.{listed_at_least}

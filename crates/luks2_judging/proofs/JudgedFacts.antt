@@ -19,7 +19,7 @@ use Rattle.luks_making.specs.Derivations.{asked_beyond, asked_few_turns}
 use Rattle.luks_making.specs.declared.derivation.AskedDerivation.{AskedDerivation}
 use Rattle.luks_edit.specs.Asked.{allowed_by, HasFewIterations, IsBeyondMemory, allowed_for, NamesItself, OpensBy}
 use Rattle.luks_edit.specs.Opener.{IsShut}
-use Rattle.luks_edit.specs.RowFacts.{after_check, after_plan, first_of_check, first_of_plan, first_of_row, next, not_before, passed_from, Passed}
+use Rattle.luks_edit.proofs.RowFacts.{after_check, after_plan, first_of_check, first_of_plan, first_of_row, next, not_before, passed_from, Passed}
 use Rattle.luks2_edit_laws.specs.Metadata.{HasMetadata}
 use Rattle.luks2_edit_laws.specs.Places.{HasNoNewArea}
 use Rattle.luks2_edit_laws.specs.Refused.{HasNoFree, HasNoRoom, IsAbsent, IsBadLabel, IsEditFault2, IsLast, IsOnlyOne, IsTaken, Refusal2}

@@ -18,7 +18,7 @@ use Rattle.luks_edit.specs.declared.edit_fault.EditFault.{EditFault}
 use Rattle.luks_edit.specs.declared.edit_fault.EditFault.TheVariants as fault
 use Rattle.luks_edit.specs.Asked.{deed_of, NamesItself, sealed_in}
 use Rattle.luks_edit.specs.EditFaults.{edit_key}
-use Rattle.luks_edit.specs.RowFacts.{after_check, after_plan, first_of_check, first_of_row, next, none_at_all, Passed}
+use Rattle.luks_edit.proofs.RowFacts.{after_check, after_plan, first_of_check, first_of_row, next, none_at_all, Passed}
 use Rattle.luks2_edit_laws.specs.Metadata.{HasMetadata}
 use Rattle.luks2_edit_laws.specs.Refused.{HasNoFree, IsAbsent, IsTaken, Need2}
 use Rattle.luks2_judging.specs.Accepted.{IsUnaccepted}

@@ -3,12 +3,10 @@ pub mod Files
 pub mod First
 pub mod Area
 pub mod Device
-pub mod DeviceFacts
 pub mod Memory
 pub mod Names
 pub mod Printed
 pub mod Ranges
-pub mod RangeFacts
 pub mod Scan
 pub mod Sectors
 pub mod Text

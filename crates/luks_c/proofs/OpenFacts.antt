@@ -4,7 +4,7 @@ use Rattle.luks_reading.specs.declared.open_fault.OpenFault.{OpenFault}
 use Rattle.luks_c.specs.declared.opening.LuksOpened.{LuksOpened}
 use Rattle.luks_c_answers.specs.Numbers.{open_number}
 use Rattle.luks_c.specs.OpenAnswers.{Answers}
-use Rattle.luks_c_answers.specs.NumberFacts.{open_number_range}
+use Rattle.luks_c_answers.proofs.NumberFacts.{open_number_range}
 
 -- one that isn't tried, with its fault
 pub refused_by : (opens_by : ℕ → List ℕ → Type 0) (shut : Type 0) (refusal : OpenFault → Type 0) (old : List ℕ) (opened : LuksOpened) (f : OpenFault) (number : ℕ)

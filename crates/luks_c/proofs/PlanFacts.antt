@@ -17,8 +17,8 @@ use Rattle.luks_c_answers.specs.declared.plans.LuksPlan.{LuksPlan}
 use Rattle.luks_c.specs.EditAnswers.{AnswersEdit, IsEdited}
 use Rattle.luks_c_answers.specs.EditAsked.{IsMaybeSlot}
 use Rattle.luks_c_answers.specs.Numbers.{edit_number}
-use Rattle.luks_c_answers.specs.NumberFacts.{edit_number_memory, edit_number_range}
-use Rattle.luks_c_answers.specs.PlanFacts.{given_or_room, planned_of, room_keeps}
+use Rattle.luks_c_answers.proofs.NumberFacts.{edit_number_memory, edit_number_range}
+use Rattle.luks_c_answers.proofs.PlanFacts.{given_or_room, planned_of, room_keeps}
 use Rattle.luks_c_answers.specs.Plans.{Buffers, IsPlan, IsPlanGiven, IsPlanned}
 
 -- what holds of the device holds of the volume whose first bytes it was given

@@ -68,7 +68,7 @@ fn find_given<K: Given>(first: &[u8], total: u64, len: u64, told: &mut LuksSigna
 
 /// Puts the name of the use of this number into the buffer, as far as it fits, and answers how many
 /// bytes it has; 0 where no use has this number.
-#[tactic(auto, using(luks_c_answers::specs::BufferFacts::filled_behind))]
+#[tactic(auto, using(luks_c_answers::proofs::BufferFacts::filled_behind))]
 #[unsafe(no_mangle)]
 pub extern "C" fn luks_signature_name(number: u32, buffer: &mut [u8]) -> usize
     ensures named { (shown : TheUse) → use_number shown ≡ number

@@ -9,7 +9,7 @@ use luks_c_answers::{fill_front, number_name, number_text};
 /// Puts the name of what the number says into the buffer, as far as it fits, and answers how many bytes
 /// it has; 0 where no call answers by this number. A fault is named as the program prints it, without
 /// brackets.
-#[tactic(auto, using(luks_c_answers::specs::BufferFacts::filled_behind))]
+#[tactic(auto, using(luks_c_answers::proofs::BufferFacts::filled_behind))]
 #[unsafe(no_mangle)]
 pub extern "C" fn luks_fault_name(number: u32, buffer: &mut [u8]) -> usize
     ensures named { IfSome (fault_numbered number) (λ f.
@@ -24,7 +24,7 @@ pub extern "C" fn luks_fault_name(number: u32, buffer: &mut [u8]) -> usize
 /// Puts what is said of the number into the buffer, as far as it fits, and answers how many bytes it
 /// has: by `part` 1 what it means, 2 where it can stand, 3 what is still safe, 4 what to try next.
 /// Where nothing is said, it has none. A line that goes on does so behind a newline and seven spaces.
-#[tactic(auto, using(luks_c_answers::specs::BufferFacts::filled_behind))]
+#[tactic(auto, using(luks_c_answers::proofs::BufferFacts::filled_behind))]
 #[unsafe(no_mangle)]
 pub extern "C" fn luks_fault_text(number: u32, part: u32, buffer: &mut [u8]) -> usize
     ensures behind { drop result buffer.new ≡ drop result buffer.old }

@@ -1,10 +1,7 @@
 pub mod Asked
-pub mod BufferFacts
 pub mod Buffers
 pub mod ChoiceAsked
 pub mod EditAsked
-pub mod NumberFacts
 pub mod Numbers
-pub mod PlanFacts
 pub mod Plans
 pub mod Uses

@@ -1,7 +1,7 @@
 -- What formatting leaves of a volume, by how it ended.
 use Rattle.std.proofs.Common.{◌≡◌, ◌≢◌, ℕ, ◌+◌, List, None, Result, Ok, Err, refl, sym, ap, subst, ◌∙◌, IfErr, OnOk, inl, inr, arith}
 use Rattle.luks_area.specs.Device.{IsUnchanged}
-use Rattle.luks_area.specs.RangeFacts.{same_but-same}
+use Rattle.luks_area.proofs.RangeFacts.{same_but-same}
 use Rattle.luks_area.specs.Ranges.{SameBut}
 use Rattle.luks_reading.specs.Checked.{WellFormed}
 use Rattle.luks_formatting.specs.declared.format_fault.FormatFault.{FormatFault}

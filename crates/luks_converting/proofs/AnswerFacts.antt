@@ -5,7 +5,7 @@ use Rattle.std.proofs.Math.Seq.{take-append_seam}
 use Rattle.serde_json.specs.Data.{Data}
 use Rattle.luks_area.specs.First.{NotAfter}
 use Rattle.luks_area.specs.Ranges.{part}
-use Rattle.luks_area.specs.RangeFacts.{length-part_inside, part-whole}
+use Rattle.luks_area.proofs.RangeFacts.{length-part_inside, part-whole}
 use Rattle.luks_area.specs.Sectors.{rounded_to_sectors, sector_count}
 use Rattle.luks1_header.specs.Header1.{key_bytes_of}
 use Rattle.luks1_header.specs.declared.fault.HeadFault.{HeadFault}
@@ -31,7 +31,7 @@ use Rattle.luks_reading.specs.declared.open_fault.OpenFault.{OpenFault}
 use Rattle.luks_reading.specs.declared.open_fault.OpenFault.TheVariants.{Head, Meta, NoSuchSlot, SlotFree, Outside, Slot, Device, Memory}
 use Rattle.luks_reading.specs.Answer.{AnswerWithin, HasPlanAs, IsRefusalAsWithin, OpensWithin, open_key, refused}
 use Rattle.luks_reading.specs.Header.{json_at}
-use Rattle.luks_reading.specs.MemoryFacts.{still_accepted}
+use Rattle.luks_reading.proofs.MemoryFacts.{still_accepted}
 use Rattle.luks_reading.specs.Plans.{HasLuks1Plan, HasLuks2Plan, IsLuks2Plan}
 use Rattle.luks_converting.specs.Copied.{HasSameSectors, IsCopiedPlan}
 use Rattle.luks_converting.specs.Converted.{new_size, new_start}

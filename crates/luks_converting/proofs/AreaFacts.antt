@@ -2,7 +2,7 @@
 use Rattle.std.proofs.Common.{◌≡◌, ℕ, ◌+◌, ◌-◌, ◌<◌, ◌++◌, List, replicate, true, sym, ap, subst, ◌∙◌, arith, inl, inr, Result, Ok, Err, OnOk}
 use Rattle.std.proofs.lemmas.Bool.{cases_eq}
 use Rattle.luks_area.specs.Ranges.{part, IsAt, SameBut}
-use Rattle.luks_area.specs.RangeFacts.{part-same_but, same_but-wider}
+use Rattle.luks_area.proofs.RangeFacts.{part-same_but, same_but-wider}
 use Rattle.luks_converting.specs.Converted.{new_size, new_start, HasCopiedArea, IsOfArea, IsOfNewArea}
 use Rattle.luks_converting.specs.Source.{is_enabled, source_size, source_start}
 use Rattle.luks_converting.proofs.PlaceFacts.{ends_by}

@@ -3,7 +3,7 @@ use Rattle.std.proofs.Common.{◌≡◌, ℕ, zero, suc, ◌+◌, ◌*◌, ◌�
 use Rattle.std.proofs.lemmas.Bool.{and_parts, cases_Bool}
 use Rattle.std.proofs.lemmas.Slice.Eq.{bytes_eq-Decides}
 use Rattle.luks_area.specs.Ranges.{part}
-use Rattle.luks_area.specs.RangeFacts.{part-part}
+use Rattle.luks_area.proofs.RangeFacts.{part-part}
 use Rattle.luks_area.specs.Sectors.{sector_count}
 use Rattle.luks_slot.specs.declared.allowed.Allowed.{Allowed}
 use Rattle.luks_slot.specs.declared.plan.AreaCipher.{AreaCipher}

@@ -17,7 +17,7 @@ use Rattle.luks_slot.specs.declared.plan.Derivation.{Derivation}
 use Rattle.luks_slot.specs.declared.plan.Derivation.TheVariants.{Pbkdf2, Argon2}
 use Rattle.luks_slot.specs.declared.plan.DigestPlan.{DigestPlan}
 use Rattle.luks_slot.specs.declared.plan.SlotPlan.{SlotPlan}
-use Rattle.luks_reading.specs.PlanFacts.{no_pbkdf2}
+use Rattle.luks_reading.proofs.PlanFacts.{no_pbkdf2}
 use Rattle.luks_reading.specs.Plans.{IsLuks1Cipher, IsLuks1Derivation, IsLuks1Digest, IsLuks1Plan, IsLuks2Cipher, IsLuks2Derivation, IsLuks2Digest, IsLuks2Plan}
 use Rattle.luks_converting.specs.Converted.{new_size, new_start}
 use Rattle.luks_converting.specs.Copied.{IsCopiedPlan, IsJoinedCipher, IsSameDerivation, IsSameDigest}

@@ -7,7 +7,7 @@ use Rattle.std.specs.List.{prefix_len}
 use Rattle.base64.specs.GeneralPurpose.{IsBytes}
 use Rattle.byteorder.specs.Numbers.{big_from-lt}
 use Rattle.luks_area.specs.Ranges.{part}
-use Rattle.luks_area.specs.RangeFacts.{get_or-part, length-part, length-part_inside}
+use Rattle.luks_area.proofs.RangeFacts.{get_or-part, length-part, length-part_inside}
 use Rattle.luks_area.specs.Sectors.{rounded_to_sectors}
 use Rattle.luks1_header.specs.Bytes.{number_at, text_at}
 use Rattle.luks1_header.specs.Header1.{active_word, disabled_word, enabled_word, word_of as word_of_state, entry, key_bytes_of, IsEntry, IsLuks1}

@@ -1,9 +1,9 @@
 -- What the steps of a conversion leave: the key areas and both copies of the header.
 use Rattle.std.proofs.Common.{◌≡◌, ℕ, ◌*◌, ◌≤◌, List, true, inl, inr, arith, lit≤, ◌∙◌, subst}
 use Rattle.luks_area.specs.Ranges.{part, IsAt, SameBut}
-use Rattle.luks_area.specs.RangeFacts.{part-same_but, part-same_but_at, same_but-then, same_but-wider}
+use Rattle.luks_area.proofs.RangeFacts.{part-same_but, part-same_but_at, same_but-then, same_but-wider}
 use Rattle.luks_writing.specs.Cleared.{IsOfFirstSectors}
-use Rattle.luks_writing.specs.MadeInOrderFacts.{clearing_widens, sectors_inside}
+use Rattle.luks_writing.proofs.MadeInOrderFacts.{clearing_widens, sectors_inside}
 use Rattle.luks_making.specs.Converted.{converted}
 use Rattle.luks_making.specs.WrittenArea.{IsWrittenArea}
 use Rattle.luks_converting.specs.Converted.{first_copy_salt, new_size, new_start, second_copy_salt, uuid_of, HasConvertedCopy, HasCopiedArea, IsConverted, IsOfConverted, IsOfNewArea, WritesOverCleared}

@@ -1,1 +1,2 @@
 pub mod AllowedMemory
+pub mod RowFacts

@@ -4,5 +4,4 @@ pub mod Asked
 pub mod Kept
 pub mod Ran
 pub mod Opener
-pub mod RowFacts
 pub mod Endings

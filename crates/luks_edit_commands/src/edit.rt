@@ -127,7 +127,7 @@ fn edit_volume<D: Device, R: Read, N: Read, E: Write>(
 }
 
 /// Edits the volume by this edit, which is the one that the command line asks for.
-#[tactic(auto, using(luks_area::specs::DeviceFacts::settled_unchanged))]
+#[tactic(auto, using(luks_area::proofs::DeviceFacts::settled_unchanged))]
 fn edit_device<D: Device, N: Read, E: Write>(
     alloc: Global,
     device: &mut D,

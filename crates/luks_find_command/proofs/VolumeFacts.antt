@@ -3,7 +3,7 @@ use Rattle.std.proofs.Common.{◌≡◌, ℕ, ◌+◌, ◌-◌, ◌<◌, List, i
 use Rattle.std.proofs.lemmas.Bool.{cases_lt}
 use Rattle.std.proofs.lemmas.Grind.{same_number_lists}
 use Rattle.luks_area.specs.Ranges.{part, IsAt, SameBut}
-use Rattle.luks_area.specs.RangeFacts.{get_or-part}
+use Rattle.luks_area.proofs.RangeFacts.{get_or-part}
 
 -- the device is as it was
 pub whole-same : (v w : List ℕ) (start len : ℕ) → SameBut (IsAt start len) v w → part w start len ≡ part v start len → w ≡ v

@@ -62,7 +62,7 @@ impl<D: Device, K: Disk> VolumeAt<D, K> {
 impl<D: Device, K: Disk> Device for VolumeAt<D, K> {
     ghost use Rattle.std.specs.Prelude.{ℕ};
     ghost use Rattle.std.proofs.Common.{subst, sym, ◌∙◌};
-    ghost use Rattle.luks_area.specs.RangeFacts.{length-part_inside};
+    ghost use Rattle.luks_area.proofs.RangeFacts.{length-part_inside};
     ghost use Rattle.luks_find_command.specs.Volumes.{inside-whole, volume_bytes, volume_failures, volume_size, volume_unsettled};
 
     ghost tells = { D.tells };

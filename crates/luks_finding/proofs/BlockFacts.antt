@@ -1,7 +1,7 @@
 -- What a block of a disk tells of the disk.
 use Rattle.std.proofs.Common.{◌≡◌, ℕ, ◌+◌, ◌*◌, ◌-◌, ◌<◌, ◌≤◌, List, [], inl, inr, length, min, sym, subst, arith, None}
 use Rattle.luks_area.specs.Ranges.{part}
-use Rattle.luks_area.specs.RangeFacts.{length-part, part-part}
+use Rattle.luks_area.proofs.RangeFacts.{length-part, part-part}
 use Rattle.luks_finding.specs.Blocks.{BeginsAt, BeginsSign, FindsIn, IsFirstIn}
 use Rattle.luks_finding.specs.Finding.{step_of, AreStartsBetween, TellsNext}
 use Rattle.luks_finding.specs.Starts.{IsSign}

@@ -10,7 +10,7 @@ use Rattle.std.proofs.lemmas.List.Elements.{All-head, All-tail}
 use Rattle.serde_json.specs.Data.{Data}
 use Rattle.serde_json.specs.Read.{read}
 use Rattle.luks_area.specs.Ranges.{part}
-use Rattle.luks_area.specs.RangeFacts.{get_or-part, length-part_inside, part-add, part-part}
+use Rattle.luks_area.proofs.RangeFacts.{get_or-part, length-part_inside, part-add, part-part}
 use Rattle.luks2_header.specs.Sizes.{listed_sizes, IsListed}
 use Rattle.luks2_header.proofs.CopyFacts.{among_pass, listed_at_least}
 use Rattle.luks_json.specs.AreaText.{Json, JsonText}

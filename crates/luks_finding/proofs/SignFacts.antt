@@ -3,7 +3,7 @@ use Rattle.std.proofs.Common.{◌≡◌, ℕ, ◌+◌, ◌*◌, ◌/◌, ◌<◌
 use Rattle.std.proofs.lemmas.Bool.{cases_lt, eqb-true, ne_eqb}
 use Rattle.byteorder.specs.Endian.{big_number}
 use Rattle.luks_area.specs.Ranges.{part}
-use Rattle.luks_area.specs.RangeFacts.{length-part_inside, part-part}
+use Rattle.luks_area.proofs.RangeFacts.{length-part_inside, part-part}
 use Rattle.luks1_header.specs.Bytes.{number_at}
 use Rattle.luks1_header.specs.Header1.{luks_magic}
 use Rattle.luks2_header.specs.Header2.{hdr_size, header_at, magic_of, second_magic, IsSound}

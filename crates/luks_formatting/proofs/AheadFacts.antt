@@ -1,7 +1,7 @@
 -- A key area that was sealed ahead, alone on a device, and is then written where it belongs.
 use Rattle.std.proofs.Common.{◌≡◌, ℕ, zero, suc, ◌+◌, ◌*◌, ◌≤◌, List, ◌++◌, take, drop, length, arith, refl, sym, ap, subst, ◌∙◌}
 use Rattle.luks_area.specs.Ranges.{part, written}
-use Rattle.luks_area.specs.RangeFacts.{part-part, part-written, part-whole}
+use Rattle.luks_area.proofs.RangeFacts.{part-part, part-written, part-whole}
 use Rattle.luks_area.specs.Sectors.{sector_count}
 use Rattle.luks_area.specs.declared.area.Area.{Area}
 use Rattle.luks_slot.specs.Opening.{area_bytes, area_key, opened_sector, opened_sectors, stripe_bytes, stripes_from, stripes_in}

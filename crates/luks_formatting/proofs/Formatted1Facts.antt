@@ -6,7 +6,7 @@ use Rattle.luks_kdf.specs.Names.{name_of}
 use Rattle.luks_kdf.specs.KeyslotNames.{each_keyslot_at_least, keyslot_digest, keyslot_digest_size, length-keyslot_digest}
 use Rattle.luks_kdf.specs.declared.keyslot_hash.KeyslotHash.{KeyslotHash}
 use Rattle.luks_kdf.proofs.SplitterFacts.{merge-split}
-use Rattle.luks_area.specs.RangeFacts.{length-part_inside, part-part}
+use Rattle.luks_area.proofs.RangeFacts.{length-part_inside, part-part}
 use Rattle.luks_area.specs.declared.area.Area.{Area}
 use Rattle.luks1_header.specs.Bytes.{text_at}
 use Rattle.luks1_header.specs.Faults.{IsCommonFault, IsEntryFault}
@@ -29,7 +29,7 @@ use Rattle.luks_slot.specs.declared.plan.Derivation.TheVariants.{Pbkdf2, Argon2}
 use Rattle.luks_slot.specs.declared.plan.SlotPlan.{SlotPlan}
 use Rattle.luks_reading.specs.Answer.{Answer, IsLuks1HeadRefusal, IsLuks1Refusal, opens}
 use Rattle.luks_reading.specs.Checked.{WellFormed}
-use Rattle.luks_reading.specs.MemoryFacts.{refusal_at_zero}
+use Rattle.luks_reading.proofs.MemoryFacts.{refusal_at_zero}
 use Rattle.luks_reading.specs.Plans.{HasLuks1Plan, IsLuks1Cipher, IsLuks1Derivation}
 use Rattle.luks_reading.specs.declared.open_fault.OpenFault.{OpenFault}
 use Rattle.luks_reading.specs.declared.open_fault.OpenFault.TheVariants.{Head, Meta, NoSuchSlot, SlotFree, Outside, Slot, Device, Memory}

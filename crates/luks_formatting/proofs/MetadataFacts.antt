@@ -6,7 +6,7 @@ use Rattle.std.proofs.lemmas.Bool.{cases_eq, leb-true, ltb-false}
 use Rattle.std.proofs.lemmas.Bool.Decides.{nat_tests}
 use Rattle.serde_json.specs.Data.{Data as Value, object, no_items, no_members, member}
 use Rattle.serde_json.specs.Find.{get}
-use Rattle.luks_area.specs.RangeFacts.{length-part_inside}
+use Rattle.luks_area.proofs.RangeFacts.{length-part_inside}
 use Rattle.luks_json.specs.Number.{number_text}
 use Rattle.luks_json.proofs.Decimals.{decimal_told}
 use Rattle.luks_kdf.specs.Names.{digest_size_of, each_at_least, each_at_most}

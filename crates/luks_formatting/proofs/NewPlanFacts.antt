@@ -22,9 +22,9 @@ use Rattle.luks_slot.specs.declared.plan.DigestPlan.{DigestPlan}
 use Rattle.luks_slot.specs.declared.plan.SlotPlan.{SlotPlan}
 use Rattle.luks_slot.specs.declared.allowed.Allowed.{Allowed}
 use Rattle.luks_slot.specs.Opening.{derived, hash_by_name, meets_digest, HasIterations}
-use Rattle.luks_slot.specs.RefusalFacts.{open_key_size}
+use Rattle.luks_slot.proofs.RefusalFacts.{open_key_size}
 use Rattle.luks_slot.specs.Refusal.{is_argon2, is_argon2_refused, is_known_derivation, is_open_cipher, slot_refusal, slot_refusal_within}
-use Rattle.luks_reading.specs.MemoryFacts.{still_accepted}
+use Rattle.luks_reading.proofs.MemoryFacts.{still_accepted}
 use Rattle.luks_reading.specs.declared.format.Format.{Format}
 use Rattle.luks_making.specs.declared.derivation.NewDerivation.{NewDerivation}
 use Rattle.luks_making.specs.declared.derivation.NewDerivation.TheVariants as by

@@ -1,14 +1,14 @@
 -- What the steps of formatting by LUKS1 leave: the header of a new volume, and its key area.
 use Rattle.std.proofs.Common.{◌≡◌, ℕ, ◌+◌, ◌*◌, ◌≤◌, List, length, codes, inl, inr, arith, sym, ap, ◌∙◌, subst, lit<}
 use Rattle.luks_area.specs.Ranges.{part, written, IsAt, SameBut, SameOutside}
-use Rattle.luks_area.specs.RangeFacts.{part-same_but_at, part-written, same_but-same_outside, same_but-then, same_but-wider}
+use Rattle.luks_area.proofs.RangeFacts.{part-same_but_at, part-written, same_but-same_outside, same_but-then, same_but-wider}
 use Rattle.luks_area.specs.declared.area.Area.{Area}
 use Rattle.luks1_header.specs.Bytes.{text_at}
 use Rattle.luks1_header.specs.Header1.{entry, entry_iterations}
 use Rattle.luks1_header.specs.Written.{WritesLuks1}
 use Rattle.luks1_header.specs.declared.luks1.Luks1.{Luks1}
 use Rattle.luks_writing.specs.Cleared.{AreCleared, ClearsInTurn, IsOfFirstSectors}
-use Rattle.luks_writing.specs.MadeInOrderFacts.{clearing_widens}
+use Rattle.luks_writing.proofs.MadeInOrderFacts.{clearing_widens}
 use Rattle.luks_kdf.specs.Names.{name_of}
 use Rattle.luks_slot.specs.Opening.{area_bytes}
 use Rattle.luks_slot.specs.Sealing.{IsSealed}

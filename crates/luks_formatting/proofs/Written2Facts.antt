@@ -1,11 +1,11 @@
 -- What the steps of formatting by LUKS2 leave: both copies of the header of a new volume, and its key area.
 use Rattle.std.proofs.Common.{◌≡◌, ℕ, List, Option, inl, inr, arith, lit≤, sym, ap, ◌∙◌, subst}
 use Rattle.luks_area.specs.Ranges.{part, IsAt, SameBut}
-use Rattle.luks_area.specs.RangeFacts.{part-same_but_at, same_but-then, same_but-wider}
+use Rattle.luks_area.proofs.RangeFacts.{part-same_but_at, same_but-then, same_but-wider}
 use Rattle.luks_area.specs.declared.area.Area.{Area}
 use Rattle.luks_writing.specs.Cleared.{IsOfFirstSectors}
 use Rattle.luks_writing.specs.MadeInOrder.{WritesInTurn}
-use Rattle.luks_writing.specs.MadeInOrderFacts.{clearing_widens, sectors_inside}
+use Rattle.luks_writing.proofs.MadeInOrderFacts.{clearing_widens, sectors_inside}
 use Rattle.luks_making.specs.WrittenArea.{IsWrittenArea}
 use Rattle.luks_slot.specs.Opening.{area_bytes}
 use Rattle.luks_slot.specs.Sealing.{IsSealed}

@@ -1,7 +1,7 @@
 -- What was compared of a device's beginning, piece by piece.
 use Rattle.std.proofs.Common.{◌≡◌, ℕ, ◌+◌, ◌-◌, ◌≤◌, List, ◌++◌, length, take, sym, ap, ◌∙◌, arith}
 use Rattle.luks_area.specs.Ranges.{part}
-use Rattle.luks_area.specs.RangeFacts.{part-add, length-part_inside}
+use Rattle.luks_area.proofs.RangeFacts.{part-add, length-part_inside}
 
 -- a beginning that is the volume's, and a piece behind it that is, are a longer one
 pub compared_on : (v now b : List ℕ) (done len : ℕ) → now ≡ v → done + len ≤ length b → take done b ≡ part v 0 done

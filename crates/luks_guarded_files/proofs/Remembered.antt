@@ -3,7 +3,7 @@ use Rattle.std.proofs.Common.{◌≡◌, ℕ, ◌+◌, ◌≤◌, List, ◌++◌
 use Rattle.std.proofs.lemmas.List.{take-take}
 use Rattle.std.proofs.Math.Seq.{take-append_seam}
 use Rattle.luks_area.specs.Ranges.{part, written}
-use Rattle.luks_area.specs.RangeFacts.{part-add}
+use Rattle.luks_area.proofs.RangeFacts.{part-add}
 
 -- bytes that follow those that are remembered are remembered with them
 remembered_with : (v held piece : List ℕ) (count : ℕ) → count ≤ length held → take count held ≡ part v 0 count → piece ≡ part v count (length piece)

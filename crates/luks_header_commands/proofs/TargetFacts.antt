@@ -2,7 +2,7 @@
 use Rattle.std.proofs.Common.{◌≡◌, ◌⊎◌, ℕ, List, Bool, true, false, Option, Some, None, ap, Result, Ok, Err, IfErr, OnOk, refl, sym, subst, ◌∙◌, inl, inr, arith}
 use Rattle.std.specs.Result.{ForOk}
 use Rattle.luks_area.specs.Device.{count_after, CountsFailure, IsSettled, IsUnchanged}
-use Rattle.luks_area.specs.DeviceFacts.{settled_unchanged}
+use Rattle.luks_area.proofs.DeviceFacts.{settled_unchanged}
 use Rattle.luks_writing.specs.TwoDevices.{CountsAfter, CountsEither, IsOneFailure}
 use Rattle.luks_commands.specs.declared.answers.Answer.{Answer}
 use Rattle.luks_commands.specs.declared.inputs.InputFault.{InputFault}

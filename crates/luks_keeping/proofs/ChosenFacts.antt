@@ -4,7 +4,7 @@ use Rattle.std.proofs.lemmas.Bool.{cases_lt}
 use Rattle.byteorder.specs.Endian.{big_number}
 use Rattle.sha2.specs.Sha256.{sha256}
 use Rattle.luks_area.specs.Ranges.{part}
-use Rattle.luks_area.specs.RangeFacts.{part-part}
+use Rattle.luks_area.proofs.RangeFacts.{part-part}
 use Rattle.luks1_header.specs.Header1.{version_of}
 use Rattle.luks_writing.proofs.ClearedFacts.{no_copy, no_luks1}
 use Rattle.luks_writing.specs.Cleared.{IsCleared}

@@ -4,7 +4,7 @@ use Rattle.std.proofs.lemmas.Bool.{cases_lt, eqb-true, leb-true, ne_eqb, falseâ‰
 use Rattle.std.proofs.lemmas.Grind.{same_number_lists}
 use Rattle.std.proofs.lemmas.List.{get_or-replicate, length-replicate}
 use Rattle.luks_area.specs.Ranges.{part, written, IsAt, IsOfEither, SameBut}
-use Rattle.luks_area.specs.RangeFacts.{get_or-part, length-part_inside, part-part, part-same_but, same_but-either, same_but-same_outside, same_but-then, same_but-wider, same_outside-written}
+use Rattle.luks_area.proofs.RangeFacts.{get_or-part, length-part_inside, part-part, part-same_but, same_but-either, same_but-same_outside, same_but-then, same_but-wider, same_outside-written}
 use Rattle.luks2_header.proofs.CopyFacts.{among_pass, listed_at_least}
 use Rattle.luks1_header.specs.Header1.{luks_magic}
 use Rattle.luks2_header.specs.Header2.{magic_of, second_magic, IsSound}

@@ -1,7 +1,7 @@
 -- Key areas that are compared.
 use Rattle.std.proofs.Common.{◌≡◌, ℕ, ◌+◌, ◌<◌, ◌≤◌, ◌++◌, List, length, Option, Some, None, IfSome, slice_index_or, Bool, IsTrue, ◌↔◌, refl, sym, ap, ◌∙◌, arith, inl, inr, subst}
 use Rattle.luks_area.specs.Ranges.{part}
-use Rattle.luks_area.specs.RangeFacts.{length-part_inside, part-add, part-part}
+use Rattle.luks_area.proofs.RangeFacts.{length-part_inside, part-add, part-part}
 use Rattle.luks_area.specs.declared.area.Area.{Area}
 use Rattle.luks_area.specs.Area.{IsInside}
 use Rattle.luks2_header.proofs.ChoiceFacts.{choices_agree}

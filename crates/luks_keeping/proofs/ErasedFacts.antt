@@ -2,7 +2,7 @@
 use Rattle.std.proofs.Common.{◌≡◌, ℕ, ◌+◌, ◌<◌, ◌≤◌, List, length, replicate, get_or, sym, ap, ◌∙◌, arith, inl, inr}
 use Rattle.std.proofs.lemmas.List.{get_or-replicate, length-replicate, take-replicate}
 use Rattle.luks_area.specs.Ranges.{part, written, IsAt, SameBut}
-use Rattle.luks_area.specs.RangeFacts.{get_or-part, part-part, part-same_but, part-written, same_but-then, same_but-wider}
+use Rattle.luks_area.proofs.RangeFacts.{get_or-part, part-part, part-same_but, part-written, same_but-then, same_but-wider}
 use Rattle.luks_keeping.specs.Places.{AreApart, AreInside, IsOfPlaces}
 use Rattle.luks_keeping.specs.SecondPlaces.{AreZeros, IsOfListed}
 use Rattle.luks_keeping.specs.declared.places.Places.{Places}

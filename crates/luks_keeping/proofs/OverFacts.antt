@@ -3,7 +3,7 @@ use Rattle.std.proofs.Common.{◌≡◌, ℕ, ◌+◌, ◌<◌, ◌≤◌, List,
 use Rattle.std.proofs.lemmas.Grind.{same_number_lists}
 use Rattle.std.proofs.lemmas.List.{get_or-replicate, length-replicate}
 use Rattle.luks_area.specs.Ranges.{part, IsAt, IsOfEither, SameBut}
-use Rattle.luks_area.specs.RangeFacts.{get_or-part, length-part_inside, part-part, part-same_but, same_but-then, same_but-wider}
+use Rattle.luks_area.proofs.RangeFacts.{get_or-part, length-part_inside, part-part, part-same_but, same_but-then, same_but-wider}
 use Rattle.luks2_header.proofs.CopyFacts.{listed_at_least}
 use Rattle.luks_keeping.specs.Places.{first_cleared, header_end, second_cleared, AreCleared, ArePlacesGone, ClearsInTurn, CopiesInTurn, IsFirstCleared, IsOfBegun, IsOfPlaces, IsOfSectors, IsOfWhole, IsSecondCleared, LeavesTurn, WritesOver}
 use Rattle.luks_keeping.specs.SecondPlaces.{AreZeros, BeginsCopy, IsOfCopies}

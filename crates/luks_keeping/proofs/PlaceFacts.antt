@@ -2,7 +2,7 @@
 use Rattle.std.proofs.Common.{◌≡◌, ℕ, ◌+◌, ◌-◌, ◌<◌, ◌≤◌, ◌++◌, List, replicate, append-nil, Some, None, sym, ap, subst, ◌∙◌, arith, inl, inr, Result, Ok, Err, OnOk, get_or}
 use Rattle.std.proofs.lemmas.Bool.{cases_eq}
 use Rattle.luks_area.specs.Ranges.{part, IsAt, SameBut}
-use Rattle.luks_area.specs.RangeFacts.{part-add, part-part, part-same_but, same_but-wider}
+use Rattle.luks_area.proofs.RangeFacts.{part-add, part-part, part-same_but, same_but-wider}
 use Rattle.luks_area.specs.declared.area.Area.{Area}
 use Rattle.luks_keeping.specs.Places.{header_end, AreApart, CopiesInTurn, HasPlace, HoldsAll, HoldsAllButFirst, HoldsAreas, IsOfAreas, IsOfPlace, IsOfPlaces}
 use Rattle.luks_keeping.specs.declared.places.Places.{Places}

@@ -4,7 +4,7 @@ use Rattle.std.proofs.lemmas.Bool.{cases_lt}
 use Rattle.serde_json.specs.Data.{Data as Value}
 use Rattle.serde_json.specs.Find.{get}
 use Rattle.luks_area.specs.Ranges.{part, IsAt, IsOfEither, SameBut}
-use Rattle.luks_area.specs.RangeFacts.{length-part_inside, part-same_but, same_but-wider}
+use Rattle.luks_area.proofs.RangeFacts.{length-part_inside, part-same_but, same_but-wider}
 use Rattle.luks_area.specs.declared.area.Area.{Area}
 use Rattle.luks_area.specs.declared.area.AreaName.TheVariants.{Head1, Head2, Segment, Slot}
 use Rattle.luks2_header.proofs.ChoiceFacts.{choices_agree, chosen_is_sound}

@@ -2,7 +2,7 @@
 use Rattle.std.proofs.Common.{◌≡◌, ℕ, Bool, List, length, true, false, refl, subst, arith, inl, inr}
 use Rattle.luks_area.specs.Device.{count_after}
 use Rattle.luks_area.specs.First.{NotAfter}
-use Rattle.luks_writing.specs.CountFacts.{one_failure}
+use Rattle.luks_writing.proofs.CountFacts.{one_failure}
 use Rattle.luks_writing.specs.TwoDevices.{CountsAfter, IsOneFailure}
 use Rattle.luks_reading.proofs.VolumeLaws.{well_formed_faultless}
 use Rattle.luks_reading.specs.Checked.{check_key, IsCheckRefusal, IsFault, WellFormed}

@@ -3,7 +3,7 @@ use Rattle.std.proofs.Common.{◌≡◌, ℕ, ◌+◌, ◌-◌, ◌*◌, ◌≤�
 use Rattle.serde_json.specs.Data.{Data as Value}
 use Rattle.serde_json.specs.Find.{get}
 use Rattle.luks_area.specs.Ranges.{part}
-use Rattle.luks_area.specs.RangeFacts.{length-part_inside}
+use Rattle.luks_area.proofs.RangeFacts.{length-part_inside}
 use Rattle.luks_area.specs.declared.area.Area.{Area}
 use Rattle.luks_area.specs.declared.area.AreaName.{AreaName}
 use Rattle.luks_area.specs.declared.area.AreaName.TheVariants as name

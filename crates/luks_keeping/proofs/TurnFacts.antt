@@ -1,7 +1,7 @@
 -- What is left of a volume at any time, by what counts of the backup.
 use Rattle.std.proofs.Common.{◌≡◌, ℕ, ◌≤◌, List, length, min, replicate, sym, ap, subst, ◌∙◌, arith, inl, inr}
 use Rattle.luks_area.specs.Ranges.{part, IsAt, SameBut}
-use Rattle.luks_area.specs.RangeFacts.{same_but-wider}
+use Rattle.luks_area.proofs.RangeFacts.{same_but-wider}
 use Rattle.luks2_header.proofs.ChoiceFacts.{choices_agree, chosen_is_sound}
 use Rattle.luks2_header.proofs.CopyFacts.{listed_at_least}
 use Rattle.luks2_header.specs.Header2.{hdr_size, header_at}

@@ -17,7 +17,7 @@ use Rattle.luks_slot.specs.declared.plan.Derivation.TheVariants.{Argon2, Pbkdf2}
 use Rattle.luks_slot.specs.declared.plan.DigestPlan.{DigestPlan}
 use Rattle.luks_slot.specs.declared.plan.SlotPlan.{SlotPlan}
 use Rattle.luks_slot.specs.Refusal.{is_allowed_cipher, is_argon2_refused, is_key_size, is_known_derivation, is_known_hash, slot_refusal_within}
-use Rattle.luks_reading.specs.PlanFacts.{no_pbkdf2}
+use Rattle.luks_reading.proofs.PlanFacts.{no_pbkdf2}
 use Rattle.luks_reading.specs.Plans.{HasLuks2Plan, IsLuks2Cipher, IsLuks2Derivation, IsLuks2Digest, IsLuks2Plan}
 use Rattle.luks_laws.proofs.DecidedFacts.{some_same}
 use Rattle.luks_laws.proofs.PlanDecisions.{AreAlike}

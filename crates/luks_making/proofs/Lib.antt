@@ -18,3 +18,4 @@ mod NewAreaFacts
 mod LengthFacts
 pub mod ConversionFacts
 pub mod ConvertedTextFacts
+pub mod SourceFacts

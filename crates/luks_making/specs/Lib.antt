@@ -12,5 +12,4 @@ pub mod WrittenArea
 pub mod Converted
 pub mod Conversions
 pub mod TextLengths
-pub mod SourceFacts
 pub use Rattle.luks_rules.specs.Naming

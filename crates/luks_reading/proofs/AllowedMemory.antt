@@ -20,7 +20,7 @@ use Rattle.luks_reading.specs.declared.open_fault.OpenFault.TheVariants.{Head, M
 use Rattle.luks_reading.specs.Answer.{HasPlanAs, HasRefusedPlanWithin, IsRefusalAsWithin, OpensWithin, TakesMemory}
 use Rattle.luks_reading.specs.declared.read_fault.ReadFault.TheVariants as reading
 use Rattle.luks_reading.specs.Header.{json_at, IsReadFaultAs, TakesNoMemory}
-use Rattle.luks_reading.specs.MemoryFacts.{argon2_at_zero, refusal_at_zero, still_accepted}
+use Rattle.luks_reading.proofs.MemoryFacts.{argon2_at_zero, refusal_at_zero, still_accepted}
 use Rattle.luks_reading.specs.Plans.{HasLuks1Plan, HasLuks2Plan, IsLuks1Derivation}
 
 -- ---- none

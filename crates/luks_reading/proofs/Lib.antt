@@ -25,3 +25,5 @@ pub mod OneUnlocking
 pub mod OptionFacts
 pub mod OneArea
 pub mod AllowedMemory
+pub mod MemoryFacts
+pub mod PlanFacts

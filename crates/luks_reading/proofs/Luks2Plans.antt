@@ -20,7 +20,7 @@ use Rattle.luks_slot.specs.declared.plan.SlotPlan.{SlotPlan}
 use Rattle.luks_slot.specs.Opening.{area_key_by}
 use Rattle.luks_slot.specs.Ciphers.{cipher_of, is_size_of}
 use Rattle.luks_slot.specs.Refusal.{is_allowed_cipher, is_argon2, is_argon2_refused, is_key_size, is_known_derivation, is_known_hash}
-use Rattle.luks_reading.specs.PlanFacts.{no_pbkdf2}
+use Rattle.luks_reading.proofs.PlanFacts.{no_pbkdf2}
 use Rattle.luks_reading.specs.Plans.{kind_text, IsLuks2Cipher, IsLuks2Derivation, IsLuks2Digest, IsLuks2Plan, HasLuks2Plan}
 use Rattle.luks_reading.proofs.SamePlans.{SameFields}
 

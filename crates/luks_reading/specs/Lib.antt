@@ -13,8 +13,6 @@ pub mod Luks1Keyslots
 pub mod Luks2Keyslots
 pub mod PlanAnswers
 pub mod Plans
-pub mod PlanFacts
-pub mod MemoryFacts
 pub mod FitsAndResolves
 pub mod KeyslotsTried
 pub mod Unlocking

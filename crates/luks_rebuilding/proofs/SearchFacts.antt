@@ -4,7 +4,7 @@ use Rattle.std.proofs.lemmas.Bool.{or_cases, or_left, and_parts, eqb-true, eq-eq
 use Rattle.std.proofs.lemmas.List.{take_rest}
 use Rattle.luks_area.specs.First.{NotAfter}
 use Rattle.luks_area.specs.Ranges.{part}
-use Rattle.luks_area.specs.RangeFacts.{part-part}
+use Rattle.luks_area.proofs.RangeFacts.{part-part}
 use Rattle.luks2_header.specs.Sizes.{is_among, IsListed}
 use Rattle.luks2_header.proofs.CopyFacts.{among_pass, listed_at_least}
 use Rattle.luks2_header.proofs.SecondCopyFacts.{is_rising, later}

@@ -1,7 +1,7 @@
 -- What the steps of rebuilding leave: the key areas and both copies of the header.
 use Rattle.std.proofs.Common.{◌≡◌, ℕ, ◌+◌, ◌*◌, ◌≤◌, List, length, inl, inr, arith, ◌∙◌}
 use Rattle.luks_area.specs.Ranges.{part, IsAt, SameBut}
-use Rattle.luks_area.specs.RangeFacts.{part-same_but, part-same_but_at, same_but-then, same_but-wider}
+use Rattle.luks_area.proofs.RangeFacts.{part-same_but, part-same_but_at, same_but-then, same_but-wider}
 use Rattle.luks_area.specs.declared.area.Area.{Area}
 use Rattle.luks2_header.proofs.CopyFacts.{listed_at_least}
 use Rattle.luks_meta.specs.Content.{content}

@@ -2,7 +2,7 @@
 use Rattle.std.proofs.Common.{◌≡◌, ◌≢◌, ℕ, ◌+◌, ◌*◌, ◌<◌, ◌≤◌, List, [], ◌∷◌, Bool, Result, Ok, Err, IfOk, IsTrue, ◌⊎◌, inl, inr, length, min, take, refl, sym, ap, ◌∙◌, arith, subst, zero-add, ◌↔◌}
 use Rattle.std.proofs.lemmas.Grind.{common_steps}
 use Rattle.luks_area.specs.Ranges.{part}
-use Rattle.luks_area.specs.RangeFacts.{length-part, length-part_inside, part-part}
+use Rattle.luks_area.proofs.RangeFacts.{length-part, length-part_inside, part-part}
 use Rattle.luks_signatures.specs.Signatures.{BeginsEntry, HasEmptyTable, HasPartition, IsPartition, Stands}
 
 -- a part that lies inside the first bytes is the same part of them

@@ -4,7 +4,7 @@ use Rattle.std.proofs.lemmas.Bool.{cases_lt}
 use Rattle.std.proofs.Math.Nat.{mul-le-mul_right}
 use Rattle.std.proofs.lemmas.List.{ext_get_or, get_or-take, get_or-drop, length-take-le, get_or-append_right, get_or_append_left}
 use Rattle.luks_area.specs.declared.area.Area.{Area}
-use Rattle.luks_area.specs.RangeFacts.{length-part_inside, part-part}
+use Rattle.luks_area.proofs.RangeFacts.{length-part_inside, part-part}
 use Rattle.luks_area.specs.Ranges.{part}
 use Rattle.luks_area.specs.Sectors.{sector_count, rounded_to_sectors}
 use Rattle.luks_kdf.specs.Splitter.{stripe_at, block_at}

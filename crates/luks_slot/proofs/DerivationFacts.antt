@@ -18,7 +18,7 @@ use Rattle.luks_slot.specs.Ciphers.{cipher_of, keyed}
 use Rattle.luks_slot.specs.Opening.{area_key, area_key_by, derived_by_argon2, HasIterations}
 use Rattle.luks_slot.specs.Parameters.{derived_by_pbkdf2, IsDerivation}
 use Rattle.luks_slot.specs.Refusal.{are_known_hashes, is_allowed_cipher, is_argon2, is_argon2_refused, is_key_size, is_open_cipher, slot_refusal, slot_refusal_within}
-use Rattle.luks_slot.specs.RefusalFacts.{refusal_at_none}
+use Rattle.luks_slot.proofs.RefusalFacts.{refusal_at_none}
 
 -- what PBKDF2 derives by the costs of a plan is what the plan derives
 by_pbkdf2 : (d : Derivation) (costs : Pbkdf2Costs) (n : ℕ) (p : List ℕ) → IsDerivation d (known.Pbkdf2 costs)

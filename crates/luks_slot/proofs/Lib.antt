@@ -8,3 +8,4 @@ pub mod WritingFacts
 pub mod SplittingFacts
 pub mod SealingFacts
 pub mod HashFacts
+pub mod RefusalFacts

@@ -2,7 +2,7 @@
 use Rattle.std.proofs.Common.{◌≡◌, ℕ, ◌+◌, ◌*◌, ◌/◌, ◌%◌, ◌≤◌, List, length, take, drop, get_or, ap, sym, ◌∙◌, arith}
 use Rattle.std.proofs.lemmas.List.{get_or-take, get_or-drop}
 use Rattle.luks_area.specs.declared.area.Area.{Area}
-use Rattle.luks_area.specs.RangeFacts.{length-part_inside, part-part}
+use Rattle.luks_area.proofs.RangeFacts.{length-part_inside, part-part}
 use Rattle.luks_area.specs.Ranges.{part}
 use Rattle.luks_modes.specs.Units.{unit_at, AreMade}
 use Rattle.luks_slot.specs.declared.cipher.AreaKey.{AreaKey}

@@ -2,7 +2,7 @@
 use Rattle.std.proofs.Common.{◌≡◌, ℕ, ◌+◌, ◌*◌, ◌/◌, ◌%◌, ◌<◌, ◌≤◌, ◌⊎◌, inl, inr, List, length, take, get_or, set, ap, sym, ◌∙◌, subst, arith, refl, get_or-set_other, get_or-set_same}
 use Rattle.std.proofs.lemmas.Bool.{cases_lt}
 use Rattle.luks_area.specs.declared.area.Area.{Area}
-use Rattle.luks_area.specs.RangeFacts.{at-inside, part-part, part-same_but_at, part-written, same_but-same_outside, same_but-wider, same_outside-written}
+use Rattle.luks_area.proofs.RangeFacts.{at-inside, part-part, part-same_but_at, part-written, same_but-same_outside, same_but-wider, same_outside-written}
 use Rattle.luks_area.specs.Ranges.{part, written, IsAt, SameBut}
 use Rattle.luks_modes.specs.Units.{AreMade}
 use Rattle.luks_slot.specs.declared.cipher.AreaKey.{AreaKey}

@@ -1,7 +1,6 @@
 pub mod Allowance
 pub mod Ciphers
 pub mod Refusal
-pub mod RefusalFacts
 pub mod Opening
 pub mod Distance
 pub mod Sealing

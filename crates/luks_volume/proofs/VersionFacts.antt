@@ -16,7 +16,7 @@ use Rattle.luks_edit.specs.declared.edit.Edit.TheVariants.{Add, Change, Remove, 
 use Rattle.luks_edit.specs.declared.edit_fault.EditFault.{EditFault}
 use Rattle.luks_edit.specs.declared.edit_fault.EditFault.TheVariants as fault
 use Rattle.luks_edit.specs.EditFaults.{edit_key}
-use Rattle.luks_edit.specs.RowFacts.{first_of_check}
+use Rattle.luks_edit.proofs.RowFacts.{first_of_check}
 use Rattle.luks1_edits.specs.Replies.{Tells1}
 use Rattle.luks2_editing.specs.Replies.{Tells2}
 use Rattle.luks_volume.specs.Edits.{IsEditFault, IsEditFaultAs, IsUnrefused, Refusal, TellsSlot}

@@ -22,7 +22,7 @@ use std::alloc::Global;
 /// a keyslot and once to seal one. `Device` comes exactly where a device call failed; no byte has changed
 /// then but those that the edit writes. Of LUKS1 it leaves each keyslot that the edit doesn't name
 /// as it was, and of LUKS2 it leaves one of the two copies of the header.
-#[tactic(auto, using(luks_area::specs::DeviceFacts::settled_unchanged))]
+#[tactic(auto, using(luks_area::proofs::DeviceFacts::settled_unchanged))]
 pub fn apply<D: Device>(
     alloc: Global,
     device: &mut D,
@@ -52,7 +52,7 @@ pub fn apply<D: Device>(
 ///
 /// Where the device has other bytes than those of which the header was read, nothing is said of what
 /// the edit leaves.
-#[tactic(auto, using(luks_area::specs::DeviceFacts::settled_unchanged))]
+#[tactic(auto, using(luks_area::proofs::DeviceFacts::settled_unchanged))]
 pub fn apply_of_header<D: Device>(
     alloc: Global,
     device: &mut D,

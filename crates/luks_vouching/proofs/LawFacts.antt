@@ -3,7 +3,7 @@ use Rattle.std.proofs.Common.{◌≡◌, ℕ, ◌+◌, ◌-◌, ◌*◌, ◌≤�
 use Rattle.std.proofs.lemmas.Bool.{cases_lt}
 use Rattle.std.proofs.lemmas.List.{take-append-drop}
 use Rattle.luks_area.specs.Ranges.{part}
-use Rattle.luks_area.specs.RangeFacts.{length-part_inside, part-add}
+use Rattle.luks_area.proofs.RangeFacts.{length-part_inside, part-add}
 use Rattle.luks2_header.specs.Header2.{copy_at, hdr_size, header_at, with_zero_checksum, IsSound}
 use Rattle.luks2_header.proofs.BinaryHeaderFacts.{zeroed_then}
 use Rattle.luks2_header.proofs.CopyFacts.{listed_at_least}

@@ -8,7 +8,7 @@ use Rattle.std.proofs.lemmas.Grind.{same_number_lists}
 use Rattle.std.proofs.Math.Nat.{div-add-mod, mod-lt}
 use Rattle.std.proofs.Math.Seq.{take-add}
 use Rattle.luks_area.specs.Ranges.{part}
-use Rattle.luks_area.specs.RangeFacts.{get_or-part, part-part}
+use Rattle.luks_area.proofs.RangeFacts.{get_or-part, part-part}
 use Rattle.luks_vouching.specs.Composed.{sector, IsComposed, IsNotLater}
 
 -- the sectors of what follows the first m

@@ -4,7 +4,7 @@ use Rattle.std.proofs.lemmas.Bool.{cases_lt}
 use Rattle.std.proofs.lemmas.List.{get_or_past}
 use Rattle.std.proofs.lemmas.Grind.{same_number_lists}
 use Rattle.luks_area.specs.Ranges.{part, written, IsAt, IsOfEither, SameBut}
-use Rattle.luks_area.specs.RangeFacts.{length-part, length-part_inside, length-written, get_or-part, part-written, same_but-same, same_but-same_outside, same_but-wider, same_outside-written}
+use Rattle.luks_area.proofs.RangeFacts.{length-part, length-part_inside, length-written, get_or-part, part-written, same_but-same, same_but-same_outside, same_but-wider, same_outside-written}
 use Rattle.luks_window.specs.Cut.{places_behind, StaysInside}
 
 -- behind its end a part has no byte

@@ -71,7 +71,7 @@ impl<D: Device, K: Disk> Window<D, K> {
 impl<D: Device, K: Disk> Device for Window<D, K> {
     ghost use Rattle.std.specs.Prelude.{ℕ};
     ghost use Rattle.std.proofs.Common.{subst, sym};
-    ghost use Rattle.luks_area.specs.RangeFacts.{length-part_inside};
+    ghost use Rattle.luks_area.proofs.RangeFacts.{length-part_inside};
     ghost use Rattle.luks_window.specs.Windows.{window_bytes, window_failures, window_size, window_unsettled};
 
     ghost tells = { D.tells };

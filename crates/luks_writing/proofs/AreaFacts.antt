@@ -2,9 +2,9 @@
 use Rattle.std.proofs.Common.{◌≡◌, ℕ, ◌+◌, ◌-◌, ◌≤◌, ◌++◌, List, length, replicate, sym, ap, ◌∙◌, arith, length-append}
 use Rattle.std.proofs.lemmas.List.{length-replicate}
 use Rattle.luks_area.specs.Device.{Touches, no_place}
-use Rattle.luks_area.specs.DeviceFacts.{touches-flush, touches-inside, touches-then, touches-wider}
+use Rattle.luks_area.proofs.DeviceFacts.{touches-flush, touches-inside, touches-then, touches-wider}
 use Rattle.luks_area.specs.Ranges.{part, written, IsAt}
-use Rattle.luks_area.specs.RangeFacts.{length-part_inside, part-written, written-written}
+use Rattle.luks_area.proofs.RangeFacts.{length-part_inside, part-written, written-written}
 
 -- what was copied and filled stands there
 pub copied_area : (s u w x y : List ℕ) (from m at n : ℕ) → m ≤ n → from + m ≤ length s → at + n ≤ length u

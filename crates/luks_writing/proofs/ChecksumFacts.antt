@@ -3,7 +3,7 @@ use Rattle.std.proofs.Common.{◌≡◌, ℕ, ◌-◌, ◌++◌, List, length, t
 use Rattle.std.proofs.lemmas.List.{length-drop, take_all}
 use Rattle.sha2.specs.Sha256.{sha256}
 use Rattle.luks_area.specs.Ranges.{part}
-use Rattle.luks_area.specs.RangeFacts.{part-add, part-whole}
+use Rattle.luks_area.proofs.RangeFacts.{part-add, part-whole}
 use Rattle.luks2_header.specs.Header2.{with_zero_checksum}
 use Rattle.luks2_header.specs.Written.{WritesBin2}
 use Rattle.luks2_header.specs.declared.bin2.Bin2.{Bin2}

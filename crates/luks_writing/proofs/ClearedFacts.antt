@@ -2,7 +2,7 @@
 use Rattle.std.proofs.Common.{◌≡◌, ℕ, ◌+◌, ◌≤◌, ◌==◌, List, length, replicate, slice_index_or, true, false, Bool, if◌then◌else◌, inl, arith, lit≤, sym, ap, ◌∙◌}
 use Rattle.std.proofs.lemmas.List.{length-replicate}
 use Rattle.luks_area.specs.Ranges.{part, written, IsAt, SameBut}
-use Rattle.luks_area.specs.RangeFacts.{part-part, part-same_but_at, part-written}
+use Rattle.luks_area.proofs.RangeFacts.{part-part, part-same_but_at, part-written}
 use Rattle.luks1_header.specs.Header1.{luks_magic, HasMagic}
 use Rattle.luks2_header.specs.Header2.{magic_of, second_magic, IsSound}
 use Rattle.luks_writing.specs.Cleared.{IsCleared}

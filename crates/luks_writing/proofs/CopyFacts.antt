@@ -4,9 +4,9 @@ use Rattle.std.proofs.Math.Seq.{drop-append_seam, take-append_seam}
 use Rattle.sha2.specs.Sha256.{sha256}
 use Rattle.sha2.proofs.Facts256.{length-sha256}
 use Rattle.luks_area.specs.Device.{Touches}
-use Rattle.luks_area.specs.DeviceFacts.{touches-inside, touches-then, touches-wider}
+use Rattle.luks_area.proofs.DeviceFacts.{touches-inside, touches-then, touches-wider}
 use Rattle.luks_area.specs.Ranges.{part, written, IsAt, SameOutside}
-use Rattle.luks_area.specs.RangeFacts.{length-written, part-same_but_at, part-written, same_but-same_outside, same_outside-written}
+use Rattle.luks_area.proofs.RangeFacts.{length-written, part-same_but_at, part-written, same_but-same_outside, same_outside-written}
 use Rattle.luks2_header.specs.Header2.{with_zero_checksum}
 use Rattle.luks2_header.specs.Written.{IsWrittenCopy, WritesBin2}
 use Rattle.luks2_header.specs.declared.bin2.Bin2.{Bin2}

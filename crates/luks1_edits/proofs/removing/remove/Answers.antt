@@ -1,6 +1,6 @@
 use Rattle.std.proofs.Common.{refl, arith}
 use Rattle.std.proofs.lemmas.Result.{err_from_is_err_and}
-use Rattle.luks_area.specs.DeviceFacts.{settled_unchanged}
+use Rattle.luks_area.proofs.DeviceFacts.{settled_unchanged}
 use Rattle.luks1_edits.proofs.KeyslotPlaces.{half_removed_same, keyslot_at, keyslot_at_same, keyslot_inside, removed_same}
 use Rattle.luks1_edits.proofs.KeptFacts.{header_inside}
 use Rattle.luks1_edits.proofs.OpenerFacts.{slots_in}

@@ -1,7 +1,7 @@
 use Rattle.std.proofs.Common.{subst, arith}
 use Rattle.std.proofs.lemmas.Bool.{both_ways}
 use Rattle.std.proofs.lemmas.Result.{err_from_is_err_and}
-use Rattle.luks_area.specs.DeviceFacts.{settled_unchanged}
+use Rattle.luks_area.proofs.DeviceFacts.{settled_unchanged}
 use Rattle.luks1_edits.specs.Accepted.{IsNewFault, IsNewFree}
 use Rattle.luks1_edits.specs.Edited.{number_asked}
 use Rattle.luks1_edits.proofs.EditedFacts.{enough}

@@ -1,6 +1,6 @@
 use Rattle.std.proofs.Common.{lit≤}
 use Rattle.luks_area.specs.Ranges.{part}
-use Rattle.luks_area.specs.RangeFacts.{length-part_inside}
+use Rattle.luks_area.proofs.RangeFacts.{length-part_inside}
 use Rattle.luks1_header.proofs.Luks1HeaderFacts.{back, common_fault_moves, common_moves, entry_moves, fault_moves, first_of, header_moves}
 use Rattle.luks1_header.proofs.laws.luks1_is_first_bytes.Goals as goal
 

@@ -1,7 +1,7 @@
 use Rattle.std.proofs.Common.{◌≡◌, ℕ, List, sym, subst, ◌∙◌, arith}
 use Rattle.luks_area.specs.Device.{unchanged-then}
 use Rattle.luks_area.specs.Ranges.{part}
-use Rattle.luks_area.specs.RangeFacts.{same_but-then}
+use Rattle.luks_area.proofs.RangeFacts.{same_but-then}
 use Rattle.luks1_rebuilding.specs.Used.{AreInside}
 use Rattle.luks1_rebuilding.proofs.UsedFacts.{next_copied, one_of}
 use Rattle.luks1_rebuilding.proofs.key_areas.copy_areas.Goals as goal

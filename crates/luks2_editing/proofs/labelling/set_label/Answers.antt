@@ -2,7 +2,7 @@ use Rattle.std.proofs.Common.{◌≡◌, length, refl, subst}
 use Rattle.std.proofs.lemmas.Result.{err_from_is_err_and}
 use Rattle.luks_edit.specs.declared.edit.Edit.TheVariants.{Label}
 use Rattle.luks_meta.specs.Content.{area_len, content}
-use Rattle.luks_edit.specs.RowFacts.{passed_from}
+use Rattle.luks_edit.proofs.RowFacts.{passed_from}
 use Rattle.luks2_edit_laws.specs.Refused.{IsEditFault2}
 use Rattle.luks2_judging.proofs.DeedFacts.{edit_is}
 use Rattle.luks2_editing.specs.Prepared.{AreCopiesWithin}

@@ -1,5 +1,5 @@
 use Rattle.std.proofs.Common.{ℕ, List, drop, sym, subst}
-use Rattle.luks_area.specs.RangeFacts.{same_but-either}
+use Rattle.luks_area.proofs.RangeFacts.{same_but-either}
 use Rattle.luks_slot.specs.Opening.{area_bytes}
 use Rattle.luks_slot.specs.Sealing.{IsSealed}
 use Rattle.luks2_editing.proofs.SealingFacts.{area_behind, half_sealed}

@@ -1,6 +1,6 @@
 use Rattle.std.proofs.Common.{◌≡◌, ℕ, List, arith, subst, sym}
 use Rattle.luks_area.specs.Ranges.{IsAt, SameBut}
-use Rattle.luks_area.specs.RangeFacts.{same_but-then, same_but-wider}
+use Rattle.luks_area.proofs.RangeFacts.{same_but-then, same_but-wider}
 use Rattle.luks2_edit_laws.specs.Copies.{copy_salt, other_place}
 use Rattle.luks2_editing.specs.NewCopy.{HasNewCopy, IsCopyPlace, IsNewSummed}
 use Rattle.luks2_editing.proofs.NewCopyFacts.{area_fits, inside, new_copy, of_new_copy}

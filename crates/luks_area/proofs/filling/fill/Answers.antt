@@ -1,7 +1,7 @@
 use Rattle.std.proofs.Common.{◌≡◌, ℕ, ◌+◌, ◌≤◌, List, length, replicate, sym, ap, ◌∙◌, arith}
 use Rattle.std.proofs.lemmas.List.{length-replicate, replicate-append-replicate}
-use Rattle.luks_area.specs.DeviceFacts.{touches-then, touches-wider}
-use Rattle.luks_area.specs.RangeFacts.{at-inside, written-written}
+use Rattle.luks_area.proofs.DeviceFacts.{touches-then, touches-wider}
+use Rattle.luks_area.proofs.RangeFacts.{at-inside, written-written}
 use Rattle.luks_area.specs.Ranges.{written}
 use Rattle.luks_area.proofs.filling.fill.Goals as goal
 

@@ -3,7 +3,7 @@ use Rattle.luks_edit.specs.EditFaults.{is_edit_failure}
 use Rattle.luks_given.specs.Volume.{volume}
 use Rattle.luks_given.specs.Planned.{planned_bytes}
 use Rattle.luks_volume.specs.Outcome.{IsApplied}
-use Rattle.luks_c_answers.specs.NumberFacts.{edit_number_other, edit_number_usage}
+use Rattle.luks_c_answers.proofs.NumberFacts.{edit_number_other, edit_number_usage}
 use Rattle.luks_c.proofs.PlanFacts.{edit_refused}
 use Rattle.luks_c.proofs.editing.apply_given.Goals as goal
 

@@ -4,7 +4,7 @@ use Rattle.luks_formatting.specs.FormatFaults.{HasNoFault, IsFormat2FaultBy}
 use Rattle.luks_given.specs.Volume.{volume}
 use Rattle.luks_given.specs.Planned.{planned_bytes, planned_calls, planned_first, planned_size, planned_written}
 use Rattle.luks_c_answers.specs.Plans.{IsPlan}
-use Rattle.luks_c_answers.specs.PlanFacts.{plan_answered}
+use Rattle.luks_c_answers.proofs.PlanFacts.{plan_answered}
 use Rattle.luks_c.specs.FormatAnswers.{IsMade2}
 use Rattle.luks_c.proofs.PlanFacts.{of_volume}
 use Rattle.luks_c.proofs.formatting.make2.Goals as goal

@@ -2,7 +2,7 @@ use Rattle.std.proofs.Common.{◌≡◌, false, ◌∙◌, sym, rules}
 use Rattle.luks_given.specs.Volume.{volume}
 use Rattle.luks_reading.specs.Failures.{is_open_failure}
 use Rattle.luks_reading.specs.Unlocking.{IsVolumeRefusedBy}
-use Rattle.luks_c_answers.specs.NumberFacts.{open_number_other}
+use Rattle.luks_c_answers.proofs.NumberFacts.{open_number_other}
 use Rattle.luks_c.proofs.OpenFacts.{refused_by}
 use Rattle.luks_c.proofs.opening.unlock_given.Goals as goal
 

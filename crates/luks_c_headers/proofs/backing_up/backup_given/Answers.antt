@@ -3,9 +3,9 @@ use Rattle.luks_keeping.specs.BackupFaults.{is_backup_failure, CanBackUp, IsAnsw
 use Rattle.luks_given.specs.Given.{given_bytes}
 use Rattle.luks_given.specs.Volume.{volume}
 use Rattle.luks_given.specs.Planned.{planned_bytes, planned_calls, planned_first, planned_size, planned_written}
-use Rattle.luks_c_answers.specs.NumberFacts.{backup_number_other, backup_number_range, backup_number_usage}
+use Rattle.luks_c_answers.proofs.NumberFacts.{backup_number_other, backup_number_range, backup_number_usage}
 use Rattle.luks_c_answers.specs.Numbers.{backup_number}
-use Rattle.luks_c_answers.specs.PlanFacts.{plan_answered, refusal_answered}
+use Rattle.luks_c_answers.proofs.PlanFacts.{plan_answered, refusal_answered}
 use Rattle.luks_c_answers.specs.Plans.{IsPlan}
 use Rattle.luks_c_headers.specs.KeepAnswers.{IsBackedUpTo}
 use Rattle.luks_c_headers.proofs.HeaderFacts.{backup_refusal, fault_of_volume, of_volumes}

@@ -7,7 +7,7 @@ use Rattle.luks_reading.specs.Checked.{IsCheckRefusal, WellFormed}
 use Rattle.luks_reading.specs.Failures.{is_check_failure}
 use Rattle.luks_reading.specs.Header.{IsHeader}
 use Rattle.luks_reading.specs.declared.report.Data.TheVariants.{Elsewhere}
-use Rattle.luks_c_answers.specs.NumberFacts.{check_number_other, check_number_range, check_number_usage}
+use Rattle.luks_c_answers.proofs.NumberFacts.{check_number_other, check_number_range, check_number_usage}
 use Rattle.luks_c_headers.proofs.HeaderFacts.{none_still}
 use Rattle.luks_c_headers.proofs.comparing.compare_given.Goals as goal
 

@@ -4,9 +4,9 @@ use Rattle.luks_converting.specs.Outcome.{IsAnsweredFault, IsConvertible}
 use Rattle.luks_given.specs.Given.{given_bytes}
 use Rattle.luks_given.specs.Volume.{volume}
 use Rattle.luks_given.specs.Planned.{planned_bytes, planned_calls, planned_first, planned_size, planned_written}
-use Rattle.luks_c_answers.specs.NumberFacts.{convert_number_other, convert_number_range, convert_number_usage}
+use Rattle.luks_c_answers.proofs.NumberFacts.{convert_number_other, convert_number_range, convert_number_usage}
 use Rattle.luks_c_answers.specs.Numbers.{convert_number}
-use Rattle.luks_c_answers.specs.PlanFacts.{plan_answered, refusal_answered}
+use Rattle.luks_c_answers.proofs.PlanFacts.{plan_answered, refusal_answered}
 use Rattle.luks_c_answers.specs.Plans.{IsPlan}
 use Rattle.luks_c_headers.specs.ConvertAnswers.{IsConvertedTo}
 use Rattle.luks_c_headers.proofs.HeaderFacts.{convert_refusal, fault_of_volume, of_volumes}

@@ -4,9 +4,9 @@ use Rattle.luks_rebuilding.specs.RebuildFaults.{is_rebuild_failure}
 use Rattle.luks_given.specs.Given.{given_bytes}
 use Rattle.luks_given.specs.Volume.{volume}
 use Rattle.luks_given.specs.Planned.{planned_bytes, planned_calls, planned_first, planned_size, planned_written}
-use Rattle.luks_c_answers.specs.NumberFacts.{rebuild_number_other, rebuild_number_range, rebuild_number_usage}
+use Rattle.luks_c_answers.proofs.NumberFacts.{rebuild_number_other, rebuild_number_range, rebuild_number_usage}
 use Rattle.luks_c_answers.specs.Numbers.{rebuild_number}
-use Rattle.luks_c_answers.specs.PlanFacts.{plan_answered, refusal_answered}
+use Rattle.luks_c_answers.proofs.PlanFacts.{plan_answered, refusal_answered}
 use Rattle.luks_c_answers.specs.Plans.{IsPlan}
 use Rattle.luks_c_headers.specs.RebuildAnswers.{IsRebuiltTo}
 use Rattle.luks_c_headers.proofs.HeaderFacts.{fault_of_volume, of_volumes, rebuild_refusal}

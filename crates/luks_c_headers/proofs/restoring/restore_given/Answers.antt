@@ -3,9 +3,9 @@ use Rattle.luks_keeping.specs.RestoreFaults.{is_restore_failure, CanRestore, IsA
 use Rattle.luks_given.specs.Given.{given_bytes}
 use Rattle.luks_given.specs.Volume.{volume}
 use Rattle.luks_given.specs.Planned.{planned_bytes, planned_calls, planned_first, planned_size, planned_written}
-use Rattle.luks_c_answers.specs.NumberFacts.{restore_number_other, restore_number_range, restore_number_usage}
+use Rattle.luks_c_answers.proofs.NumberFacts.{restore_number_other, restore_number_range, restore_number_usage}
 use Rattle.luks_c_answers.specs.Numbers.{restore_number}
-use Rattle.luks_c_answers.specs.PlanFacts.{plan_answered, refusal_answered}
+use Rattle.luks_c_answers.proofs.PlanFacts.{plan_answered, refusal_answered}
 use Rattle.luks_c_answers.specs.Plans.{IsPlan}
 use Rattle.luks_c_headers.specs.KeepAnswers.{IsRestoredTo}
 use Rattle.luks_c_headers.proofs.HeaderFacts.{of_volumes, restore_refusal}

@@ -1,5 +1,5 @@
 use Rattle.std.proofs.Common.{List, ℕ, sym, subst, ◌∙◌, inl, inr}
-use Rattle.luks_area.specs.DeviceFacts.{settled_unchanged}
+use Rattle.luks_area.proofs.DeviceFacts.{settled_unchanged}
 use Rattle.luks_commands.specs.Answer.{answer_status}
 use Rattle.luks_commands.specs.Exit.{exit_status}
 use Rattle.luks_commands.specs.Files.{AreFirstBytes, IsWhole}

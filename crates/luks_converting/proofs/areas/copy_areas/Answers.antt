@@ -1,6 +1,6 @@
 use Rattle.std.proofs.Common.{ℕ, List, subst, ◌∙◌, arith}
 use Rattle.luks_area.specs.Device.{unchanged-then}
-use Rattle.luks_area.specs.RangeFacts.{same_but-then}
+use Rattle.luks_area.proofs.RangeFacts.{same_but-then}
 use Rattle.luks_converting.specs.Converted.{HasCopiedArea}
 use Rattle.luks_converting.proofs.AreaFacts.{next_copied, one_of}
 use Rattle.luks_converting.proofs.SourceFacts.{low_of}

@@ -10,7 +10,7 @@ use Rattle.luks_converting.specs.Converted.{IsConverted, IsOfConverted, WritesFi
 use Rattle.luks_converting.specs.Source.{header_members, IsSource}
 use Rattle.luks_converting.specs.ConvertFaults.{is_convert_failure}
 use Rattle.luks_converting.specs.Outcome.{IsAnsweredFault, IsConvertible}
-use Rattle.luks_writing.specs.CountFacts.{counts_first, counts_none, one_failure}
+use Rattle.luks_writing.proofs.CountFacts.{counts_first, counts_none, one_failure}
 use Rattle.luks_converting.proofs.RowFacts.{answered_first, unaccepted_first}
 use Rattle.luks_converting.proofs.VolumeFacts.{absent, opens_alike, well_formed}
 use Rattle.luks_converting.proofs.converting.convert.Goals as goal

@@ -1,7 +1,7 @@
 use Rattle.std.proofs.Common.{lit≤}
 use Rattle.std.proofs.lemmas.Result.{on_ok_weaker}
-use Rattle.luks_area.specs.RangeFacts.{same_but-wider}
-use Rattle.luks_writing.specs.MadeInOrderFacts.{cleared_then, clearing_fails, clearing_widens}
+use Rattle.luks_area.proofs.RangeFacts.{same_but-wider}
+use Rattle.luks_writing.proofs.MadeInOrderFacts.{cleared_then, clearing_fails, clearing_widens}
 use Rattle.luks_converting.proofs.WrittenFacts.{converted_over, sectors_of_copies}
 use Rattle.luks_converting.proofs.converting.write_converted.Goals as goal
 

@@ -1,6 +1,6 @@
 use Rattle.std.proofs.Common.{sym, ◌∙◌}
 use Rattle.luks_slot.specs.Allowance.{none_allowed}
-use Rattle.luks_reading.specs.MemoryFacts.{refusal_at_zero}
+use Rattle.luks_reading.proofs.MemoryFacts.{refusal_at_zero}
 use Rattle.luks_converting.proofs.CopiedFacts.{same_key, still_unrefused}
 use Rattle.luks_converting.proofs.laws.copied_keyslot_opens_alike.Goals as goal
 

@@ -1,7 +1,7 @@
 use Rattle.std.proofs.Common.{◌≡◌, ◌≤◌, ◌+◌, ℕ, List, length, Option, MatchOption, Bor, arith, subst}
 use Rattle.std.proofs.lemmas.Result.{on_ok_weaker}
 use Rattle.luks_area.specs.Ranges.{IsAt, SameBut}
-use Rattle.luks_area.specs.RangeFacts.{same_but-same_outside}
+use Rattle.luks_area.proofs.RangeFacts.{same_but-same_outside}
 use Rattle.luks_formatting.specs.NewPlan.{IsSealable, IsSealedAhead}
 use Rattle.luks_formatting.proofs.AheadFacts.{written_sealed}
 use Rattle.luks_formatting.proofs.sealing.put_key_area.Goals as goal

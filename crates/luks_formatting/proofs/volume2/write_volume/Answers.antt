@@ -1,6 +1,6 @@
 use Rattle.std.proofs.Common.{lit≤}
 use Rattle.std.proofs.lemmas.Result.{on_ok_weaker}
-use Rattle.luks_writing.specs.MadeInOrderFacts.{cleared_then, clearing_fails}
+use Rattle.luks_writing.proofs.MadeInOrderFacts.{cleared_then, clearing_fails}
 use Rattle.luks_formatting.proofs.Written2Facts.{cleared_rest, over_cleared, over_rest}
 use Rattle.luks_formatting.proofs.volume2.write_volume.Goals as goal
 

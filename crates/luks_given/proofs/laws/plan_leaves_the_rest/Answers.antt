@@ -1,4 +1,4 @@
-use Rattle.luks_given.specs.PlanFacts.{played-front}
+use Rattle.luks_given.proofs.PlanFacts.{played-front}
 use Rattle.luks_given.proofs.laws.plan_leaves_the_rest.Goals as goal
 
 pub returns : goal.returns

@@ -2,7 +2,7 @@ use Rattle.std.proofs.Common.{◌≡◌, ℕ, List, true, false, sym, ap, subst,
 use Rattle.std.proofs.lemmas.Bool.{false≢true, true≢false}
 use Rattle.std.proofs.lemmas.Result.{err_from_is_err_and}
 use Rattle.luks_area.specs.Device.{count_after, unchanged-then}
-use Rattle.luks_writing.specs.CountFacts.{counts_first, counts_none, one_failure}
+use Rattle.luks_writing.proofs.CountFacts.{counts_first, counts_none, one_failure}
 use Rattle.luks_keeping.specs.BackupFaults.{checked_backup, is_backup_failure, IsAnsweredBackup, IsShort}
 use Rattle.luks_keeping.specs.Places.{AreInside}
 use Rattle.luks_keeping.proofs.BackupFacts.{answered_refusal, answered_short, answers_alike, backup_of, can_back_up, is_backup, no_failure, of_backup, same_failure, well_formed}

@@ -1,6 +1,6 @@
 use Rattle.std.proofs.Common.{◌≡◌, ◌-◌, ℕ, List, ◌∙◌, inl, subst, Result, Ok, Err, OnOk}
 use Rattle.luks_area.specs.Ranges.{part}
-use Rattle.luks_area.specs.RangeFacts.{same_but-then}
+use Rattle.luks_area.proofs.RangeFacts.{same_but-then}
 use Rattle.luks_keeping.proofs.PlaceFacts.{all_held, header_stays, of_areas, of_first, of_second, turn_first, turn_second, whole_copied}
 use Rattle.luks_keeping.proofs.copying.copy_places.Goals as goal
 

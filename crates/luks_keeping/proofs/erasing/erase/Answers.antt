@@ -1,5 +1,5 @@
 use Rattle.std.proofs.Common.{◌≡◌, length, replicate, arith, ap, ◌∙◌, Result, Ok, Err, OnOk}
-use Rattle.luks_area.specs.DeviceFacts.{touches-flush, touches-settled}
+use Rattle.luks_area.proofs.DeviceFacts.{touches-flush, touches-settled}
 use Rattle.luks_area.specs.Ranges.{part}
 use Rattle.luks_keeping.proofs.ErasedFacts.{zeros_stand}
 use Rattle.luks_keeping.proofs.erasing.erase.Goals as goal

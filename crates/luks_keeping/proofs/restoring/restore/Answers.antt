@@ -3,8 +3,8 @@ use Rattle.std.proofs.lemmas.Bool.{true≢false}
 use Rattle.std.proofs.lemmas.Result.{err_from_is_err_and}
 use Rattle.luks_area.specs.Device.{count_after, unchanged-then}
 use Rattle.luks_area.specs.Ranges.{part}
-use Rattle.luks_area.specs.RangeFacts.{same_but-equal, same_but-same}
-use Rattle.luks_writing.specs.CountFacts.{counts_first, counts_none}
+use Rattle.luks_area.proofs.RangeFacts.{same_but-equal, same_but-same}
+use Rattle.luks_writing.proofs.CountFacts.{counts_first, counts_none}
 use Rattle.luks_keeping.specs.Judged.{IsFormedOn}
 use Rattle.luks_keeping.specs.Laid.{choice_of}
 use Rattle.luks_keeping.specs.Places.{AreInside}

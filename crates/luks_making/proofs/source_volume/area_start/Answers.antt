@@ -1,7 +1,7 @@
 use Rattle.std.proofs.Common.{add-one, arith}
 use Rattle.luks_making.specs.Converted.{source_members, source_slot_members}
 use Rattle.luks_making.proofs.NewAreaFacts.{start_after, start_first, start_same}
-use Rattle.luks_making.specs.SourceFacts.{slot_found, slot_missing}
+use Rattle.luks_making.proofs.SourceFacts.{slot_found, slot_missing}
 use Rattle.luks_making.proofs.source_volume.area_start.Goals.{in-Some, in_default}
 use Rattle.luks_making.proofs.source_volume.area_start.Goals as goal
 

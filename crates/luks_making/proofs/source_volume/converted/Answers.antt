@@ -4,7 +4,7 @@ use Rattle.luks_making.specs.Converted.{SourceMembers, SourceSlotMembers, conver
 use Rattle.luks_making.specs.Keyslots.{SlotMembers}
 use Rattle.luks_making.specs.With.{with_slot}
 use Rattle.luks_making.proofs.ConversionFacts.{below_more, below_same}
-use Rattle.luks_making.specs.SourceFacts.{slot_found, slot_missing}
+use Rattle.luks_making.proofs.SourceFacts.{slot_found, slot_missing}
 use Rattle.luks_making.proofs.source_volume.converted.Goals.{in-Some+in_ok-made+in_ok-value-2, in_default}
 use Rattle.luks_making.proofs.source_volume.converted.Goals as goal
 

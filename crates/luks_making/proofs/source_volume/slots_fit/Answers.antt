@@ -3,7 +3,7 @@ use Rattle.std.proofs.lemmas.Bool.{cases_eq}
 use Rattle.luks_making.specs.Conversions.{FitsSourceSlot}
 use Rattle.luks_making.specs.Converted.{source_members, source_slot_members}
 use Rattle.luks_making.proofs.MemberFacts.{no_some, some_same}
-use Rattle.luks_making.specs.SourceFacts.{slot_found, slot_missing}
+use Rattle.luks_making.proofs.SourceFacts.{slot_found, slot_missing}
 use Rattle.luks_making.proofs.source_volume.slots_fit.Goals.{in-Some, in_default}
 use Rattle.luks_making.proofs.source_volume.slots_fit.Goals as goal
 

@@ -1,4 +1,4 @@
-use Rattle.luks_writing.specs.MadeInOrderFacts.{cleared_then, clearing_fails}
+use Rattle.luks_writing.proofs.MadeInOrderFacts.{cleared_then, clearing_fails}
 use Rattle.luks_rebuilding.proofs.WrittenFacts.{sector_fits}
 use Rattle.luks_rebuilding.proofs.rebuilding.write_rebuilt.Goals as goal
 

@@ -1,4 +1,4 @@
-use Rattle.luks_slot.specs.RefusalFacts.{still_accepted}
+use Rattle.luks_slot.proofs.RefusalFacts.{still_accepted}
 use Rattle.luks_slot.proofs.laws.more_allowed_opens_as_much.Goals as goal
 
 pub returns : goal.returns

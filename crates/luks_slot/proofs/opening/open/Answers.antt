@@ -1,5 +1,5 @@
 use Rattle.std.proofs.Common.{◌∙◌}
-use Rattle.luks_slot.specs.RefusalFacts.{refusal_at_none}
+use Rattle.luks_slot.proofs.RefusalFacts.{refusal_at_none}
 use Rattle.luks_slot.proofs.DerivationFacts.{answered_so}
 use Rattle.luks_slot.proofs.opening.open.Goals as goal
 

@@ -1,5 +1,5 @@
 use Rattle.std.proofs.Common.{◌∙◌}
-use Rattle.luks_slot.specs.RefusalFacts.{refusal_at_none}
+use Rattle.luks_slot.proofs.RefusalFacts.{refusal_at_none}
 use Rattle.luks_slot.proofs.parameters.refusal.Goals as goal
 
 pub returns : goal.returns

@@ -2,7 +2,7 @@ use Rattle.std.proofs.Common.{◌≡◌, ◌+◌, ◌-◌, ◌*◌, ◌++◌, �
 use Rattle.luks_kdf.specs.KeyslotNames.{keyslot_digest, keyslot_digest_size}
 use Rattle.luks_kdf.specs.Splitter.{split}
 use Rattle.luks_slot.specs.Opening.{area_bytes}
-use Rattle.luks_area.specs.DeviceFacts.{touches-range}
+use Rattle.luks_area.proofs.DeviceFacts.{touches-range}
 use Rattle.luks_area.specs.Sectors.{rounded_to_sectors}
 use Rattle.luks_slot.proofs.SealingFacts.{length-stripes, sealed_by, written_opens}
 use Rattle.luks_slot.proofs.sealing.seal_under.Goals as goal

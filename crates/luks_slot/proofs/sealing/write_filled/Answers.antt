@@ -1,7 +1,7 @@
 use Rattle.std.proofs.Common.{◌≡◌, ℕ, ◌+◌, ◌-◌, ◌*◌, ◌≤◌, ◌++◌, ◌∙◌, length, take, replicate, ap, sym, subst, arith, length-append, length-take-le}
 use Rattle.std.proofs.lemmas.List.{length-replicate}
 use Rattle.luks_area.specs.declared.area.Area.{Area}
-use Rattle.luks_area.specs.RangeFacts.{length-part_inside}
+use Rattle.luks_area.proofs.RangeFacts.{length-part_inside}
 use Rattle.luks_area.specs.Sectors.{sector_count}
 use Rattle.luks_slot.specs.Opening.{area_bytes, opened_sectors}
 use Rattle.luks_slot.specs.Writing.{filled, IsWriting}

@@ -1,6 +1,6 @@
 use Rattle.std.proofs.Common.{◌≡◌, ℕ, ◌∙◌, length, replicate, ap, sym, arith}
 use Rattle.std.proofs.lemmas.List.{length-replicate}
-use Rattle.luks_area.specs.RangeFacts.{part-written}
+use Rattle.luks_area.proofs.RangeFacts.{part-written}
 use Rattle.luks_area.specs.Ranges.{part, written}
 use Rattle.luks_slot.proofs.wiping.wipe.Goals as goal
 

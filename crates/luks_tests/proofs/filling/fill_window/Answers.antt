@@ -1,6 +1,6 @@
 use Rattle.std.proofs.Common.{ℕ, List, sym, subst}
 use Rattle.luks_area.specs.Memory.{memory_bytes}
-use Rattle.luks_area.specs.RangeFacts.{same_outside-same_but}
+use Rattle.luks_area.proofs.RangeFacts.{same_outside-same_but}
 use Rattle.luks_area.specs.Ranges.{SameOutside}
 use Rattle.luks_window.proofs.WindowFacts.{window-alone}
 use Rattle.luks_tests.proofs.filling.fill_window.Goals as goal

@@ -1,4 +1,4 @@
-use Rattle.luks_area.specs.RangeFacts.{same_outside-same_but}
+use Rattle.luks_area.proofs.RangeFacts.{same_outside-same_but}
 use Rattle.luks_window.proofs.WindowFacts.{places-behind, stays_inside-same, window-alone}
 use Rattle.luks_window.proofs.laws.nothing_beside_changes.Goals as goal
 

@@ -1,5 +1,5 @@
 use Rattle.std.proofs.Common.{◌≡◌, ℕ, List, length, arith}
-use Rattle.luks_area.specs.DeviceFacts.{touches-settled}
+use Rattle.luks_area.proofs.DeviceFacts.{touches-settled}
 use Rattle.luks_writing.proofs.AreaFacts.{all_touches, copied_area, copy_touches, fill_touches}
 use Rattle.luks_writing.proofs.areas.copy_area.Goals as goal
 

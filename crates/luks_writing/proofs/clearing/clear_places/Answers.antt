@@ -1,5 +1,5 @@
 use Rattle.std.proofs.Common.{◌≡◌, length, inr, arith, ap, ◌∙◌}
-use Rattle.luks_area.specs.DeviceFacts.{touches-flush, touches-settled}
+use Rattle.luks_area.proofs.DeviceFacts.{touches-flush, touches-settled}
 use Rattle.luks_area.specs.Ranges.{part}
 use Rattle.luks_writing.specs.Cleared.{IsCleared}
 use Rattle.luks_writing.proofs.ClearedFacts.{first_stays, zeros_stand}

@@ -1,7 +1,7 @@
 use Rattle.std.proofs.Common.{◌≡◌, ℕ, ◌+◌, ◌≤◌, List, length, sym, ap, ◌∙◌, arith}
 use Rattle.luks_area.specs.Device.{unchanged-then}
-use Rattle.luks_area.specs.DeviceFacts.{touches-inside, touches-then}
-use Rattle.luks_area.specs.RangeFacts.{length-part_inside, part-add, written-written}
+use Rattle.luks_area.proofs.DeviceFacts.{touches-inside, touches-then}
+use Rattle.luks_area.proofs.RangeFacts.{length-part_inside, part-add, written-written}
 use Rattle.luks_area.specs.Ranges.{part, written}
 use Rattle.luks_writing.proofs.copying.copy_range.Goals as goal
 

@@ -1,5 +1,5 @@
 use Rattle.std.proofs.Common.{◌≡◌, ◌+◌, length, arith, ap, ◌∙◌}
-use Rattle.luks_area.specs.DeviceFacts.{touches-flush, touches-settled}
+use Rattle.luks_area.proofs.DeviceFacts.{touches-flush, touches-settled}
 use Rattle.luks_area.specs.Ranges.{part}
 use Rattle.luks_writing.proofs.CopyFacts.{area_there, copy_begun, copy_rest, head_there}
 use Rattle.luks_writing.proofs.header_copy.write_both.Goals as goal

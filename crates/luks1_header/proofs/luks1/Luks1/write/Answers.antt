@@ -1,5 +1,5 @@
 use Rattle.std.proofs.Common.{◌≡◌, ◌+◌, ◌*◌, ◌∙◌, ap, length, slice_index_or, arith}
-use Rattle.luks_area.specs.RangeFacts.{length-written}
+use Rattle.luks_area.proofs.RangeFacts.{length-written}
 use Rattle.luks1_header.specs.Header1.{entry}
 use Rattle.luks1_header.proofs.Luks1FaultFacts.{slot_default}
 use Rattle.luks1_header.proofs.EntryFacts.{entries_agree}

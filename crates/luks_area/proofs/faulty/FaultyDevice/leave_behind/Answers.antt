@@ -1,7 +1,7 @@
 use Rattle.std.proofs.Common.{◌/◌, length, take, arith}
 use Rattle.std.proofs.lemmas.List.{length-take}
 use Rattle.luks_area.specs.Ranges.{IsAt}
-use Rattle.luks_area.specs.DeviceFacts.{touches-wider}
+use Rattle.luks_area.proofs.DeviceFacts.{touches-wider}
 use Rattle.luks_area.proofs.faulty.FaultyDevice.leave_behind.Goals as goal
 
 pub returns-in-Half-clause-touches : goal.returns-in-Half-clause-touches

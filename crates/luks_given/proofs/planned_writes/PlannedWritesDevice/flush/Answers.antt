@@ -1,8 +1,8 @@
 use Rattle.std.proofs.Common.{◌≡◌, ℕ, ◌+◌, List, ◌∷◌, ◌++◌, [], length, subst, refl, sym, ap, ◌∙◌, arith, length-append}
-use Rattle.luks_area.specs.RangeFacts.{same_but-same, written-none}
+use Rattle.luks_area.proofs.RangeFacts.{same_but-same, written-none}
 use Rattle.luks_given.specs.declared.planned_writes.PlannedCall.{PlannedCall}
 use Rattle.luks_given.specs.Plan.{planned_length, played, IsUnflushed}
-use Rattle.luks_given.specs.PlanFacts.{furthest-more, planned_length-more, played-more, unflushed-flush}
+use Rattle.luks_given.proofs.PlanFacts.{furthest-more, planned_length-more, played-more, unflushed-flush}
 use Rattle.luks_given.proofs.planned_writes.PlannedWritesDevice.flush.Goals as goal
 
 pub invariant_of-self-else-not-add_call-clause-last : goal.invariant_of-self-else-not-add_call-clause-last

@@ -1,7 +1,7 @@
 use Rattle.std.proofs.Common.{◌≡◌, ◌≤◌, ◌+◌, ◌*◌, ℕ, length, take, subst, ◌∙◌, arith}
 use Rattle.std.proofs.lemmas.List.{length-take-le}
-use Rattle.luks_area.specs.DeviceFacts.{touches-wider}
-use Rattle.luks_area.specs.RangeFacts.{at-inside}
+use Rattle.luks_area.proofs.DeviceFacts.{touches-wider}
+use Rattle.luks_area.proofs.RangeFacts.{at-inside}
 use Rattle.luks_modes.specs.Units.{AreMade}
 use Rattle.luks_slot.specs.Ciphers.{sector_opened}
 use Rattle.luks_slot.proofs.WritingFacts.{run_alone, run_stored}

@@ -1,5 +1,5 @@
 use Rattle.std.proofs.Common.{ℕ, List, length}
-use Rattle.luks_area.specs.RangeFacts.{part-part}
+use Rattle.luks_area.proofs.RangeFacts.{part-part}
 use Rattle.luks_window.proofs.window.WindowDevice.read_at.Goals as goal
 
 pub returns-clause-read : goal.returns-clause-read

@@ -1,7 +1,7 @@
 -- Facts on the order of writing, for the proofs of every crate that stands on this one.
 use Rattle.std.proofs.Common.{◌≡◌, ℕ, ◌+◌, ◌*◌, ◌-◌, ◌≤◌, List, inl, inr, arith, sym, ap, ◌∙◌}
 use Rattle.luks_area.specs.Ranges.{part, IsAt, SameBut}
-use Rattle.luks_area.specs.RangeFacts.{part-part, part-same_but, same_but-then, same_but-wider}
+use Rattle.luks_area.proofs.RangeFacts.{part-part, part-same_but, same_but-then, same_but-wider}
 use Rattle.luks_writing.specs.Cleared.{AreCleared, ClearsInTurn, IsOfFirstSectors}
 use Rattle.luks_writing.specs.MadeInOrder.{ClearsFirst, FirstWaits, WritesInTurn}
 

@@ -2,7 +2,7 @@
 use Rattle.std.proofs.Common.{◌≡◌, ℕ, ◌+◌, ◌-◌, ◌≤◌, ◌⊎◌, inl, inr, List, [], ◌∷◌, ◌++◌, length, take, drop, refl, sym, ap, ◌∙◌, arith, append_assoc, length-drop, length-take}
 use Rattle.std.proofs.lemmas.List.{drop-append-le, take-append-le, take_all}
 use Rattle.luks_area.specs.Ranges.{written, IsAt}
-use Rattle.luks_area.specs.RangeFacts.{length-written}
+use Rattle.luks_area.proofs.RangeFacts.{length-written}
 use Rattle.luks_given.specs.declared.planned_writes.PlannedCall.{PlannedCall}
 use Rattle.luks_given.specs.Plan.{furthest, planned_length, played, HasNoFlush, IsUnflushed}
 

@@ -1,7 +1,7 @@
 -- Facts on what calls of a device touch, for the proofs of every crate that stands on this one.
 use Rattle.std.proofs.Common.{◌≡◌, ℕ, ◌+◌, ◌≤◌, List, inl, inr, arith}
 use Rattle.luks_area.specs.Device.{IsSettled, IsUnchanged, Touches, no_place}
-use Rattle.luks_area.specs.RangeFacts.{at-inside, same_but-then, same_but-wider}
+use Rattle.luks_area.proofs.RangeFacts.{at-inside, same_but-then, same_but-wider}
 use Rattle.luks_area.specs.Ranges.{IsAt, IsOfEither, SameBut}
 
 -- a device of which nothing changed is settled as before

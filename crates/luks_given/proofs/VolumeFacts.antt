@@ -2,7 +2,7 @@
 use Rattle.std.proofs.Common.{◌≡◌, ℕ, ◌+◌, ◌-◌, ◌≤◌, List, ◌++◌, length, take, drop, replicate, sym, ap, ◌∙◌, arith, append_assoc, length-append, length-drop}
 use Rattle.std.proofs.lemmas.List.{take-append-le, length-replicate, drop-append-le}
 use Rattle.luks_area.specs.Ranges.{part, written}
-use Rattle.luks_area.specs.RangeFacts.{length-written}
+use Rattle.luks_area.proofs.RangeFacts.{length-written}
 use Rattle.luks_given.specs.Volume.{volume}
 
 -- it has so many bytes

@@ -1,0 +1,3 @@
+pub mod BufferFacts
+pub mod NumberFacts
+pub mod PlanFacts
