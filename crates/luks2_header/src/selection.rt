@@ -19,7 +19,6 @@ use luks_area::{Device, DeviceFault};
 use luks1_header::HeadFault;
 use luks1_header::fields::{field, u16_at, u64_at};
 use luks1_header::luks1_places::{MAGIC, SIZE, VERSION};
-use std::alloc::Global;
 
 /// How the two copies of a LUKS2 header stand to each other.
 #[derive(Debug, Clone, Copy, PartialEq, Eq)]
@@ -209,7 +208,7 @@ fn is_version1(head: &[u8]) -> bool
 ///
 /// Refused by `TooShort`, `NotLuks`, `Version` or `NoSoundCopy` by what the volume holds, and by
 /// `Device` where a device call failed.
-pub fn select<D: Device>(_alloc: Global, device: &mut D) -> Result<Selected, HeadFault>
+pub fn select<D: Device>(device: &mut D) -> Result<Selected, HeadFault>
     requires room { D.failed device.old + 1 < 2 ^ 64 }
     ensures unchanged { IsUnchanged D.tells D.size D.bytes D.unsettled device.old device.new }
     ensures count { CountsFailure is_device_fault result

@@ -8,7 +8,6 @@ ghost use Rattle.luks_edit_commands.specs.OtherUses.{Bars, FindsOtherUse, HasOth
 use luks2_header::{Bin2, Copies, Selected, select};
 use luks_signatures::{OtherUse, first_use};
 use luks_volume::{Device, DeviceFault, Header};
-use std::alloc::Global;
 use std::io::{self, Write};
 
 /// The use of the disk that an edit of a volume with this header would write over. None where it may
@@ -72,12 +71,12 @@ fn both_places(size: u64) -> u64
 }
 
 /// The other use of a disk by now. None where it has none, and where that can't be read.
-pub fn standing_use<D: Device>(alloc: Global, device: &mut D) -> Option<OtherUse>
+pub fn standing_use<D: Device>(device: &mut D) -> Option<OtherUse>
     requires { D.failed device.old + 1 < 2 ^ 64 }
     ensures unchanged { IsUnchanged D.tells D.size D.bytes D.unsettled device.old device.new }
     ensures has { D.tells → IfSome result (HasOtherUse (D.bytes device.old)) }
 {
-    let Ok(Selected::V2 { header, copies }) = select(alloc, device) else {
+    let Ok(Selected::V2 { header, copies }) = select(device) else {
         return None;
     };
     match use_beside(device, &header, copies) {
@@ -87,11 +86,11 @@ pub fn standing_use<D: Device>(alloc: Global, device: &mut D) -> Option<OtherUse
 }
 
 /// Says to `err` of the volume of this name what else its disk is used for, where it is.
-pub fn note_other_use<D: Device, E: Write>(alloc: Global, device: &mut D, volume: &str, err: &mut E)
+pub fn note_other_use<D: Device, E: Write>(device: &mut D, volume: &str, err: &mut E)
     requires { D.failed device.old + 1 < 2 ^ 64 }
     ensures { IsUnchanged D.tells D.size D.bytes D.unsettled device.old device.new }
 {
-    if let Some(found) = standing_use(alloc, device) {
+    if let Some(found) = standing_use(device) {
         let _ = writeln!(
             err,
             "luks: {volume}: {found} stands in the place of a damaged copy: no edit writes over it without --over"

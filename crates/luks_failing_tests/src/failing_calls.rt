@@ -62,8 +62,8 @@ fn end_of(
 }
 
 /// The bytes of the copy that counts; nothing where none does.
-fn copy_that_counts<'a>(alloc: Global, device: &'a mut MemDevice) -> &'a [u8] {
-    match select(alloc, device) {
+fn copy_that_counts(device: &mut MemDevice) -> &[u8] {
+    match select(device) {
         Ok(Selected::V2 { header, .. }) => {
             let at = header.hdr_offset as usize;
             part(device.contents(), at, at.wrapping_add(16384))
@@ -81,7 +81,7 @@ fn is_before_or_after(
     after: &[u8],
 ) -> Result<bool, Fail> {
     let accepted = check(alloc, left, Data::Here).is_ok();
-    let counting = copy_that_counts(alloc, left).to_vec(alloc)?;
+    let counting = copy_that_counts(left).to_vec(alloc)?;
     let known = [0usize, 16384].iter().any(|at| {
         let end = at.wrapping_add(16384);
         counting.as_slice() == part(before, *at, end)

@@ -57,8 +57,8 @@ fn torn_volume(alloc: Global, volume: &[u8]) -> Result<Vec<u8>, Fail> {
 }
 
 /// The place and the length of the copy that counts, and how the copies stand to each other.
-fn counting(alloc: Global, device: &mut MemDevice) -> Option<(u64, u64, Copies)> {
-    match select(alloc, device) {
+fn counting(device: &mut MemDevice) -> Option<(u64, u64, Copies)> {
+    match select(device) {
         Ok(Selected::V2 { header, copies }) => Some((header.hdr_offset, header.hdr_size, copies)),
         _ => None,
     }
@@ -74,7 +74,7 @@ fn bytes_of_a_torn_write_count(rt: HostRuntime) -> Result<(), Fail> {
     let behind = part(&torn, 32768, 131584) == part(&volume, 32768, 131584);
     assert!(rt; behind, "the bytes behind the first copy");
     let mut device = MemDevice::new(volume);
-    let found = counting(alloc, &mut device);
+    let found = counting(&mut device);
     assert!(rt; found == Some((0, 32768, Copies::InStep)), "the volume");
     assert!(rt; check(alloc, &mut device, Data::Here).is_ok(), "accepted");
     let opened = open_slot(alloc, &mut device, 0, b"one", Allowed::NOTHING).is_ok_and(
@@ -82,7 +82,7 @@ fn bytes_of_a_torn_write_count(rt: HostRuntime) -> Result<(), Fail> {
     );
     assert!(rt; opened, "its keyslot");
     let mut device = MemDevice::new(torn);
-    let found = counting(alloc, &mut device);
+    let found = counting(&mut device);
     assert!(rt;
         found == Some((16384, 16384, Copies::SecondOnly)),
         "what counts"

@@ -104,8 +104,8 @@ fn standing(alloc: Global, device: &mut Front) -> Option<(Copies, u64)> {
 }
 
 /// Whether the label of the copy that counts begins with this byte.
-fn has_label(alloc: Global, device: &mut Front, first: u8) -> bool {
-    match select(alloc, device) {
+fn has_label(device: &mut Front, first: u8) -> bool {
+    match select(device) {
         Ok(Selected::V2 { header, .. }) => header.label[0] == first,
         _ => false,
     }
@@ -147,7 +147,7 @@ fn leave_an_accepted_volume(rt: HostRuntime) -> Result<(), Fail> {
         assert!(rt; told && call < calls.len() as u64, "row {i}: the answer");
         let found = standing(alloc, &mut left);
         assert!(rt; found == Some((copies, seqid)), "row {i}: the copies");
-        assert!(rt; has_label(alloc, &mut left, first), "row {i}: the label");
+        assert!(rt; has_label(&mut left, first), "row {i}: the label");
         let opened = open_slot(alloc, &mut left, 0, b"one", Allowed::NOTHING).is_ok_and(
             |key| key.is_some(),
         );

@@ -49,7 +49,7 @@ pub fn counts_same_volume<T: Device>(
     ensures fault { T.tells → (b : List ℕ) → IsHeader b backup.now
         → IfErr result (IsUntoldSame b (T.bytes device.old)) }
 {
-    if !has_header(alloc, device)? {
+    if !has_header(device)? {
         return Ok(false);
     }
     match judge_other(alloc, backup, device, Over::SameVolume) {
@@ -65,7 +65,7 @@ pub fn counts_same_volume<T: Device>(
 }
 
 /// Whether a header counts on the device.
-fn has_header<T: Device>(alloc: Global, device: &mut T) -> Result<bool, RestoreFault>
+fn has_header<T: Device>(device: &mut T) -> Result<bool, RestoreFault>
     requires { T.failed device.old + 1 < 2 ^ 64 }
     ensures unchanged { IsUnchanged T.tells T.size T.bytes T.unsettled device.old device.new }
     ensures count { CountsFailure is_restore_failure result
@@ -73,7 +73,7 @@ fn has_header<T: Device>(alloc: Global, device: &mut T) -> Result<bool, RestoreF
     ensures has { T.tells → IfOk result (λ has. IsTrue has ↔ HasAnyHeader (T.bytes device.old)) }
     ensures device { IfErr result (λ f. f ≡ RestoreFault.Device) }
 {
-    match select(alloc, device) {
+    match select(device) {
         Ok(_) => Ok(true),
         Err(fault) => match ReadFault::from(fault) {
             ReadFault::Device => Err(RestoreFault::Device),
@@ -115,7 +115,7 @@ pub(crate) fn judge_other<T: Device>(
     match over {
         Over::AnyVolume => Ok(()),
         Over::SameVolume => {
-            if has_other_uuid(alloc, header, target)? {
+            if has_other_uuid(header, target)? {
                 judge_key(alloc, header, target)
             } else {
                 Ok(())
@@ -126,7 +126,6 @@ pub(crate) fn judge_other<T: Device>(
 
 /// Whether a header counts on the target, and its uuid isn't this one's.
 fn has_other_uuid<T: Device>(
-    alloc: Global,
     header: &Header,
     target: &mut T,
 ) -> Result<bool, RestoreFault>
@@ -139,7 +138,7 @@ fn has_other_uuid<T: Device>(
         → IfOk result (TellsOther b (T.bytes target.old)) }
     ensures device { IfErr result (λ f. f ≡ RestoreFault.Device) }
 {
-    match select(alloc, target) {
+    match select(target) {
         Ok(selected) => Ok(!has_uuid(header, &selected)),
         Err(fault) => match ReadFault::from(fault) {
             ReadFault::Device => Err(RestoreFault::Device),

@@ -85,7 +85,7 @@ pub(crate) fn use_before<R: AllocGlobal + Clock + Files<File = File>>(
     if !editing.over {
         return None;
     }
-    standing_use(rt.alloc(), &mut reopened(rt, line.volume, line.place)?)
+    standing_use(&mut reopened(rt, line.volume, line.place)?)
 }
 
 /// Notes that an edit that is done has written over this use of the disk.
@@ -238,7 +238,7 @@ fn tell_other_use<R: AllocGlobal + Clock + Files<File = File>>(
     let Some(mut device) = reopened(rt, looked.file, looked.place) else {
         return;
     };
-    note_other_use(rt.alloc(), &mut device, looked.file, notes);
+    note_other_use(&mut device, looked.file, notes);
 }
 
 /// Notes of which metadata of the volume a header was made, of the copies that were asked for.
@@ -363,7 +363,7 @@ fn note_front(
 ) -> Result<(), FrontFault>
     requires { cached_failures device.old ≡ 0 }
 {
-    if let Some(own) = header_end(alloc, device)? {
+    if let Some(own) = header_end(device)? {
         let front = read_front(alloc, device)?;
         let found = leftovers(alloc, &front, own)?;
         let _ = note_leftovers(found.as_slice(), looked.file, looked.place.offset, err);

@@ -6,18 +6,17 @@ ghost use Rattle.luks_notes.specs.HeaderEnd.{EndsAt};
 
 use luks_area::{Device, DeviceFault};
 use luks2_header::{HeadFault, Selected, select};
-use std::alloc::Global;
 
 /// How many of a device's first bytes belong to the header that counts there: of LUKS1 its 592, of
 /// LUKS2 both copies. None where no header counts.
-pub fn header_end<D: Device>(alloc: Global, device: &mut D) -> Result<Option<usize>, DeviceFault>
+pub fn header_end<D: Device>(device: &mut D) -> Result<Option<usize>, DeviceFault>
     requires { D.failed device.old + 1 < 2 ^ 64 }
     ensures unchanged { IsUnchanged D.tells D.size D.bytes D.unsettled device.old device.new }
     ensures count { CountsFailure is_failure result (D.failed device.old) (D.failed device.new) }
     ensures least { IfOk result (λ found. IfSome found (λ end. 592 ≤ end)) }
     ensures end { D.tells → IfOk result (EndsAt (D.bytes device.old)) }
 {
-    match select(alloc, device) {
+    match select(device) {
         Ok(Selected::V1(_)) => Ok(Some(592)),
         Ok(Selected::V2 { header, .. }) => Ok(Some(both_copies(header.hdr_size))),
         Err(HeadFault::Device) => Err(DeviceFault),

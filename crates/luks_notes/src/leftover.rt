@@ -48,7 +48,7 @@ fn is_sound(alloc: Global, front: &[u8], place: usize) -> Result<bool, AllocErro
     ensures { IfOk result (λ sound. IsTrue sound ↔ IsSound front.now place) }
 {
     let bytes = behind_zeros(alloc, front, place)?;
-    match select(alloc, &mut MemDevice::new(bytes)) {
+    match select(&mut MemDevice::new(bytes)) {
         Ok(Selected::V2 { header, .. }) => Ok(header.hdr_offset == place as u64),
         Ok(Selected::V1(_)) => Ok(false),
         Err(_) => Ok(false),

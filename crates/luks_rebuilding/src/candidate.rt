@@ -48,7 +48,7 @@ pub fn find_candidate<D: Device>(
     ensures found { D.tells → IfOk result (IsFoundIn (D.bytes source.old) which) }
     ensures refused { D.tells → IfErr result (IsNotFound (D.bytes source.old) which) }
 {
-    pass_counting(alloc, source, which)?;
+    pass_counting(source, which)?;
     match first_vouched(alloc, source, which)? {
         Some(vouched) => Ok(vouched),
         None => first_plain(alloc, source, which),
@@ -56,7 +56,7 @@ pub fn find_candidate<D: Device>(
 }
 
 /// Refuses a volume of which a header counts, unless it may.
-fn pass_counting<D: Device>(alloc: Global, source: &mut D, which: Which) -> Result<(), RebuildFault>
+fn pass_counting<D: Device>(source: &mut D, which: Which) -> Result<(), RebuildFault>
     requires { D.failed source.old + 1 < 2 ^ 64 }
     ensures unchanged { IsUnchanged D.tells D.size D.bytes D.unsettled source.old source.new }
     ensures count { CountsFailure is_rebuild_failure result
@@ -67,7 +67,7 @@ fn pass_counting<D: Device>(alloc: Global, source: &mut D, which: Which) -> Resu
     if may_count(which) {
         Ok(())
     } else {
-        nothing_counts(alloc, source)
+        nothing_counts(source)
     }
 }
 
@@ -82,7 +82,7 @@ fn may_count(which: Which) -> bool
 }
 
 /// Refuses a volume of which a header counts.
-fn nothing_counts<D: Device>(alloc: Global, source: &mut D) -> Result<(), RebuildFault>
+fn nothing_counts<D: Device>(source: &mut D) -> Result<(), RebuildFault>
     requires { D.failed source.old + 1 < 2 ^ 64 }
     ensures unchanged { IsUnchanged D.tells D.size D.bytes D.unsettled source.old source.new }
     ensures count { CountsFailure is_rebuild_failure result
@@ -90,7 +90,7 @@ fn nothing_counts<D: Device>(alloc: Global, source: &mut D) -> Result<(), Rebuil
     ensures nothing { D.tells → OnOk result (Chosen (D.bytes source.old) nothing) }
     ensures refused { D.tells → IfErr result (IsCounted (D.bytes source.old)) }
 {
-    match select(alloc, source) {
+    match select(source) {
         Ok(_) => Err(RebuildFault::Counts),
         Err(HeadFault::Device) => Err(RebuildFault::Device),
         Err(_) => Ok(()),

@@ -212,7 +212,7 @@ pub fn selected(
 
 fn chosen(alloc: Global, volume: &mut Volume) -> Result<String, Malformed> {
     demand(volume.failures() < u64::MAX)?;
-    match select(alloc, volume) {
+    match select(volume) {
         Ok(Selected::V1(_)) => Ok(String::from_str(alloc, "luks1")?),
         Ok(Selected::V2 { header, copies }) => {
             Ok(format!(in alloc; "{copies:?} {} at {}", header.seqid, header.hdr_offset)?)
