@@ -152,13 +152,13 @@ fn has_uuid(header: &Header, uuid: Option<[u8; 40]>) -> bool
 }
 
 /// The uuid's field of the header that counts on the device, if one does.
-pub fn uuid_of<D: Device>(alloc: Global, device: &mut D) -> Result<Option<[u8; 40]>, DeviceFault>
+pub fn uuid_of<D: Device>(device: &mut D) -> Result<Option<[u8; 40]>, DeviceFault>
     requires { D.failed device.old + 1 < 2 ^ 64 }
     ensures unchanged { IsUnchanged D.tells D.size D.bytes D.unsettled device.old device.new }
     ensures count { CountsFailure is_failure result (D.failed device.old) (D.failed device.new) }
     ensures uuid { D.tells → IfOk result (IsUuidOf (D.bytes device.old)) }
 {
-    match select(alloc, device) {
+    match select(device) {
         Ok(selected) => Ok(Some(selected_uuid(&selected))),
         Err(fault) => match ReadFault::from(fault) {
             ReadFault::Device => Err(DeviceFault),

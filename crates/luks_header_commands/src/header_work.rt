@@ -185,7 +185,7 @@ fn judge_target<D: Device>(
     if over {
         return Ok(());
     }
-    let uuid = uuid_of(alloc, volume)?;
+    let uuid = uuid_of(volume)?;
     judge_standing(alloc, target, uuid, over)
 }
 

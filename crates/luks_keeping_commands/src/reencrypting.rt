@@ -43,14 +43,14 @@ pub(crate) fn is_reencrypting<D: Device>(alloc: Global, device: &mut D) -> Resul
         IsTrue is ↔ IsReencrypting (D.bytes device.old)) }
     ensures fault { IfErr result (IsUntoldMetadata D.tells (D.bytes device.old)) }
 {
-    match json_place(alloc, device)? {
+    match json_place(device)? {
         Some(place) => is_reencrypting_at(alloc, device, place),
         None => Ok(false),
     }
 }
 
 /// Where the JSON area of the metadata is.
-fn json_place<D: Device>(alloc: Global, device: &mut D) -> Result<Option<JsonPlace>, DeviceFault>
+fn json_place<D: Device>(device: &mut D) -> Result<Option<JsonPlace>, DeviceFault>
     requires { D.failed device.old + 1 < 2 ^ 64 }
     ensures unchanged { IsUnchanged D.tells D.size D.bytes D.unsettled device.old device.new }
     ensures count { CountsFailure is_failure result (D.failed device.old) (D.failed device.new) }
@@ -59,7 +59,7 @@ fn json_place<D: Device>(alloc: Global, device: &mut D) -> Result<Option<JsonPla
     ensures place { D.tells → IfOk result (FindsMetadata (D.bytes device.old)) }
 {
     let total = device.len();
-    match select(alloc, device) {
+    match select(device) {
         Ok(Selected::V1(_)) => Ok(None),
         Ok(Selected::V2 { header, .. }) => Ok(Some(JsonPlace {
             start: header.hdr_offset + BINARY_HEADER,

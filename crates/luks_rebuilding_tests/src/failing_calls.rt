@@ -128,7 +128,7 @@ fn fails_at_each_call(
             "call {call}: the order"
         );
         assert!(rt;
-            whole || select(alloc, &mut ended.target).is_err(),
+            whole || select(&mut ended.target).is_err(),
             "call {call}: a header"
         );
     }
