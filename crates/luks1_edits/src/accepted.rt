@@ -6,8 +6,8 @@ ghost use Rattle.luks_reading.specs.declared.header.Header.TheVariants.{Luks1 as
 ghost use Rattle.luks1_edits.specs.Accepted.{IsAcceptedAt, IsHeaderOf, IsUnaccepted};
 
 use luks_edit::EditFault;
-use luks2_header::Luks1;
 use luks_reading::{Data, judge_luks1};
+use luks2_header::Luks1;
 
 /// The header of a LUKS1 volume that was accepted.
 #[derive(Drop)]

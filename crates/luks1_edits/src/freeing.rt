@@ -10,8 +10,8 @@ ghost use Rattle.luks1_edits.specs.Steps.{IsKeyslotAt};
 
 use crate::steps::write_entry;
 use luks_area::{Area, Device, DeviceFault};
-use luks2_header::{Luks1, Luks1Slot, SlotState};
 use luks_writing::wipe_area;
+use luks2_header::{Luks1, Luks1Slot, SlotState};
 
 /// The 48 bytes of the keyslot `n` once it says `slot`.
 pub(crate) fn entry_bytes(header: &Luks1, n: u8, slot: Luks1Slot) -> [u8; 48]

@@ -16,10 +16,10 @@ use crate::steps::write_entry;
 use crate::unlocking::keyslot_fault;
 use luks_area::Device;
 use luks_edit::{EditFault, Sealed};
-use luks2_header::{Luks1, Luks1Slot, SlotState};
 use luks_reading::luks1_plan;
 use luks_slot::{Allowed, Key};
 use luks_writing::seal_area_within;
+use luks2_header::{Luks1, Luks1Slot, SlotState};
 use std::alloc::Global;
 
 /// The salt of a new keyslot: the first 32 of the random bytes.

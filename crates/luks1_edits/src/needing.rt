@@ -10,8 +10,8 @@ ghost use Rattle.luks1_edits.specs.Needed.{TellsNeed1};
 use crate::accepted::accepted_header;
 use crate::keyslots::{is_used, judge_removal, keyslot_need, new_keyslot, number_asked};
 use luks_edit::{Deed, Edit, EditFault};
-use luks2_header::Luks1;
 use luks_reading::Data;
+use luks2_header::Luks1;
 
 /// How many random bytes the edit takes of the LUKS1 volume of `total` bytes whose header has these
 /// 592 bytes, or the first of `NotAccepted`, `NoSuchSlot`, `SameSlot`, `SlotTaken` and `NoFreeSlot`.

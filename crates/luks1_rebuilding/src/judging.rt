@@ -14,10 +14,10 @@ ghost use Rattle.luks1_rebuilding.specs.Judged.{target_fault, IsShort, IsUnfit};
 
 use crate::rebuild_fault::Rebuild1Fault;
 use luks_area::{AreaFault, Device};
-use luks2_header::Luks1;
 use luks_reading::{CheckFault, Data, judge_luks1};
 use luks_signatures::is_reencrypting;
 use luks1_mending::{Given, has_signs, mended_header};
+use luks2_header::Luks1;
 
 /// The bytes of a header.
 const HEADER: u64 = 592;

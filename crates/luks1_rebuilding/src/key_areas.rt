@@ -7,9 +7,9 @@ ghost use Rattle.luks_writing.specs.TwoDevices.{CountsEither};
 ghost use Rattle.luks1_rebuilding.specs.Used.{AreApart, AreInside, HasUsedAreas, IsOfUsed, IsOfUsedAreas, IsUsedArea};
 
 use luks_area::{Area, Device, DeviceFault};
-use luks2_header::{Luks1, SlotState};
 use luks_reading::luks1_area;
 use luks_writing::copy_area;
+use luks2_header::{Luks1, SlotState};
 
 /// Copies the area of each enabled keyslot, one after the other, each with a flush. Also where a device
 /// fails no byte of the target outside these areas changes.

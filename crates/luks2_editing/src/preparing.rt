@@ -5,9 +5,9 @@ ghost use Rattle.luks_meta.specs.Content.{area_len, content};
 ghost use Rattle.luks2_editing.specs.Prepared.{IsAreaFault, AreCopiesWithin, IsPrepared, IsUnprepared};
 
 use luks_edit::EditFault;
-use luks2_header::Bin2;
 use luks_meta::Meta;
 use luks_new_meta::json_area;
+use luks2_header::Bin2;
 use std::alloc::Global;
 
 /// The JSON area of the new metadata, once there is a next sequence number, the text leaves a zero

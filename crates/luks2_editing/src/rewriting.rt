@@ -13,8 +13,8 @@ use crate::preparing::prepared;
 use crate::writing::write_copies;
 use luks_area::Device;
 use luks_edit::EditFault;
-use luks2_header::Bin2;
 use luks_meta::Meta;
+use luks2_header::Bin2;
 use std::alloc::Global;
 
 /// The random bytes that an edit takes that seals no keyslot: the salts of both copies.

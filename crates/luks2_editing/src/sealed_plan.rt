@@ -18,8 +18,8 @@ use crate::sealing::write_sealed;
 use crate::secrets::Secrets;
 use luks_area::Device;
 use luks_edit::EditFault;
-use luks2_header::Bin2;
 use luks_reading::luks2_plan;
+use luks2_header::Bin2;
 use std::alloc::Global;
 
 /// Seals the key in the area of the keyslot `n` of the new metadata, and then writes both copies

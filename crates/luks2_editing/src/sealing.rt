@@ -17,9 +17,9 @@ use crate::secrets::Secrets;
 use crate::writing::write_copies;
 use luks_area::Device;
 use luks_edit::EditFault;
-use luks2_header::Bin2;
 use luks_slot::{SlotFault, SlotPlan};
 use luks_writing::seal_area_within;
+use luks2_header::Bin2;
 use std::alloc::Global;
 
 /// Seals the key in the area of the plan, which lies behind the copies, and then writes both copies

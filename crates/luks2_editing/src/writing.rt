@@ -13,8 +13,8 @@ ghost use Rattle.luks2_editing.specs.Rewriting.{AreWrittenAnew, IsRewriting, May
 use crate::new_copy::new_header;
 use crate::random::copy_salt;
 use luks_area::{Device, DeviceFault};
-use luks2_header::Bin2;
 use luks_writing::{with_checksums, write_summed_copy};
+use luks2_header::Bin2;
 
 /// Writes both copies anew from the chosen one's binary header, each with a flush: the other one
 /// first, then the chosen one. Both checksums are taken before the first write. Of the random bytes

@@ -18,7 +18,11 @@ use luks_reading::{ChosenCopy, Data, check_copy};
 
 /// The areas of a volume of `total` bytes with this copy, each of them inside, or why the volume isn't
 /// accepted.
-pub(crate) fn accepted_areas(copy: &ChosenCopy, payload: Data, total: u64) -> Result<Areas, EditFault>
+pub(crate) fn accepted_areas(
+    copy: &ChosenCopy,
+    payload: Data,
+    total: u64,
+) -> Result<Areas, EditFault>
     ensures own { IfErr result (λ f. is_edit_failure f ≡ false) }
     ensures memory { IfErr result (λ f. f ≢ EditFault.Memory) }
     ensures inside { IfOk result (λ areas. (m : AreaName) (a : TheArea) → HasArea areas m a

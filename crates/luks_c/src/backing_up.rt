@@ -7,9 +7,8 @@ ghost use Rattle.luks_c.specs.LengthAnswers.{AnswersLength};
 
 use luks_c_answers::{BEYOND, DONE, LuksPlan, USAGE, backup_number, data_of};
 use luks_c_headers::backup_given;
-use luks_given::{FirstBytes, Given};
+use luks_given::{FirstBytes, Given, PlannedCall};
 use luks_keeping::{BackupFault, backup_length};
-use luks_given::PlannedCall;
 use luks_reading::Data;
 use std::alloc::Global;
 use std::marker::Brand;

@@ -12,8 +12,7 @@ use luks_c_answers::{
     LuksEdit, LuksPlan, MEMORY, USAGE, data_of, edit_number, edit_of, give_plan, number_of_slot,
     planned_writes, tell_reach,
 };
-use luks_given::Given;
-use luks_given::{PlannedCall, PlannedWrites};
+use luks_given::{Given, PlannedCall, PlannedWrites};
 use luks_volume::{Data, Done, Edit, EditFault, apply};
 use std::alloc::Global;
 use std::marker::Brand;

@@ -12,8 +12,7 @@ use luks_c_answers::{
     planned_writes, tell_reach,
 };
 use luks_formatting::format2_by;
-use luks_given::Given;
-use luks_given::PlannedCall;
+use luks_given::{Given, PlannedCall};
 use luks_reading::Allowed;
 use luks_volume::{Data, Format, FormatFault, HashName, NewDerivation, Passphrase, format1};
 use std::alloc::Global;

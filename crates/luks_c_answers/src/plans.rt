@@ -9,8 +9,7 @@ ghost use Rattle.luks_c_answers.specs.Plans.{IsPlan, IsPlanGiven};
 use crate::buffers::fill_front;
 use crate::numbers::{BEYOND, DONE, MEMORY, ROOM};
 use luks_area::Device;
-use luks_given::{FirstBytes, Given};
-use luks_given::{PlannedCall, PlannedWrites};
+use luks_given::{FirstBytes, Given, PlannedCall, PlannedWrites};
 use std::alloc::{AllocError, Global};
 
 /// What a call tells that writes.

@@ -4,9 +4,8 @@ ghost use Rattle.luks_given.specs.Volume.{volume};
 ghost use Rattle.luks_c_headers.specs.KeepAnswers.{AnswersBackup};
 
 use luks_c_answers::{LuksPlan, MEMORY, backup_number, give_plan, planned_writes, tell_reaches};
-use luks_given::{FirstBytes, Given};
+use luks_given::{FirstBytes, Given, PlannedCall};
 use luks_keeping::{BackupFault, backup};
-use luks_given::PlannedCall;
 use luks_reading::Data;
 use std::alloc::Global;
 

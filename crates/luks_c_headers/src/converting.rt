@@ -5,8 +5,7 @@ ghost use Rattle.luks_c_headers.specs.ConvertAnswers.{AnswersConvert};
 
 use luks_c_answers::{LuksPlan, MEMORY, convert_number, give_plan, planned_writes, tell_reaches};
 use luks_converting::{ConvertFault, convert};
-use luks_given::{FirstBytes, Given};
-use luks_given::PlannedCall;
+use luks_given::{FirstBytes, Given, PlannedCall};
 use luks_reading::Data;
 use std::alloc::Global;
 

@@ -4,8 +4,7 @@ ghost use Rattle.luks_given.specs.Volume.{volume};
 ghost use Rattle.luks_c_headers.specs.RebuildAnswers.{AnswersRebuild};
 
 use luks_c_answers::{LuksPlan, MEMORY, give_plan, planned_writes, rebuild_number, tell_reaches};
-use luks_given::{FirstBytes, Given};
-use luks_given::PlannedCall;
+use luks_given::{FirstBytes, Given, PlannedCall};
 use luks_rebuilding::{RebuildFault, Which, rebuild};
 use std::alloc::Global;
 

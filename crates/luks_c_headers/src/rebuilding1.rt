@@ -4,8 +4,7 @@ ghost use Rattle.luks_given.specs.Volume.{volume};
 ghost use Rattle.luks_c_headers.specs.RebuildAnswers.{AnswersRebuild1};
 
 use luks_c_answers::{LuksPlan, MEMORY, give_plan, planned_writes, rebuild1_number, tell_reaches};
-use luks_given::{FirstBytes, Given};
-use luks_given::PlannedCall;
+use luks_given::{FirstBytes, Given, PlannedCall};
 use luks1_rebuilding::{Given as Fields, Rebuild1Fault, rebuild1};
 use std::alloc::Global;
 

@@ -4,9 +4,8 @@ ghost use Rattle.luks_given.specs.Volume.{volume};
 ghost use Rattle.luks_c_headers.specs.KeepAnswers.{AnswersRestore, over_asked};
 
 use luks_c_answers::{LuksPlan, MEMORY, give_plan, planned_writes, restore_number, tell_reaches};
-use luks_given::{FirstBytes, Given};
+use luks_given::{FirstBytes, Given, PlannedCall};
 use luks_keeping::{Over, RestoreFault, restore};
-use luks_given::PlannedCall;
 use luks_reading::Data;
 use std::alloc::Global;
 

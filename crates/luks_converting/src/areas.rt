@@ -10,9 +10,9 @@ ghost use Rattle.luks_writing.specs.TwoDevices.{CountsEither};
 use crate::places::new_area;
 use crate::source::SourceHeader;
 use luks_area::{Device, DeviceFault};
-use luks2_header::SlotState;
 use luks_reading::luks1_area;
 use luks_writing::copy_area;
+use luks2_header::SlotState;
 
 /// Copies the area of each enabled keyslot to its new place, one after the other, each with a flush.
 /// Also where a device fails no byte of the target outside the new areas changes.

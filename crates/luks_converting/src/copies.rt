@@ -5,8 +5,8 @@ ghost use Rattle.luks_area.specs.Ranges.{part, IsAt, SameBut};
 ghost use Rattle.luks_converting.specs.Converted.{copy_size, json_size, HasConvertedCopy, IsConvertedHeader};
 
 use luks_area::{Device, DeviceFault};
-use luks2_header::Bin2;
 use luks_writing::write_copy;
+use luks2_header::Bin2;
 
 /// The length of a copy of the header in bytes, which is also the second copy's place.
 pub(crate) const COPY_SIZE: u64 = 16384;

@@ -11,8 +11,8 @@ ghost use Rattle.luks_converting.specs.Source.{enabled_slot, encryption_of, head
 use crate::source::{SourceHeader, are_bytes};
 use arrayvec::ArrayString;
 use luks_area::SECTOR;
-use luks2_header::{Luks1, Luks1Common, Luks1Slot, SlotState};
 use luks_new_meta::{SourceSlot, SourceVolume, converted, json_area};
+use luks2_header::{Luks1, Luks1Common, Luks1Slot, SlotState};
 use std::alloc::{AllocError, Global};
 
 /// The JSON area of both copies of the header that is made from this one.

@@ -5,8 +5,8 @@ ghost use Rattle.luks_converting.specs.Converted.{new_size, new_start};
 
 use crate::metadata::{encryption, source_slot, source_volume};
 use luks_area::Area;
-use luks2_header::Luks1;
 use luks_new_meta::{area_size, area_start};
+use luks2_header::Luks1;
 
 /// The new area of the keyslot `n`, which is enabled.
 pub(crate) fn new_area(header: &Luks1, n: usize) -> Area

@@ -9,8 +9,8 @@ ghost use Rattle.luks_converting.specs.ConvertFaults.{is_convert_failure};
 
 use crate::convert_fault::ConvertFault;
 use luks_area::Device;
-use luks2_header::Luks1;
 use luks_reading::{Data, Header, check_header, judge_luks1, read_header};
+use luks2_header::Luks1;
 use std::alloc::Global;
 
 /// The header of a LUKS1 volume that was accepted.
@@ -50,7 +50,11 @@ pub(crate) fn accepted_source<D: Device>(
 }
 
 /// The header of a LUKS1 volume of `total` bytes, or why the volume isn't accepted.
-fn accepted_header(bytes: &[u8; 592], payload: Data, total: u64) -> Result<SourceHeader, ConvertFault>
+fn accepted_header(
+    bytes: &[u8; 592],
+    payload: Data,
+    total: u64,
+) -> Result<SourceHeader, ConvertFault>
     ensures own { IfErr result (λ f. is_convert_failure f ≡ false) }
     ensures read { IfOk result IsRead }
     ensures inside { IfOk result (λ h. HasAreasInside h.bytes total) }

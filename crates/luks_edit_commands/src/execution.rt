@@ -28,11 +28,10 @@ ghost use Rattle.luks_keeping_commands.specs.Restoring.{HoldsBackRestore, Unless
 
 use crate::edit;
 use luks_commands::open::Tried;
-use luks_commands::{Inputs, Printer, check, format, open};
+use luks_commands::{Inputs, Printer, check, format, open, show};
 use luks_header_commands::{Progress, convert, rebuild};
 use luks_keeping_commands::{backup, compare, restore};
 use luks_request::{Command, Line};
-use luks_commands::show;
 use luks_volume::Device;
 use std::alloc::Global;
 use std::io::{Read, Write};
@@ -227,7 +226,14 @@ pub fn execute<D: Device, R: Read, N: Read, P: Printer, E: Write, G: Progress>(
 {
     let name = line.volume;
     match line.command {
-        Command::Check { payload } => check::run(alloc, &mut inputs.volume, name, payload, out, err),
+        Command::Check { payload } => check::run(
+            alloc,
+            &mut inputs.volume,
+            name,
+            payload,
+            out,
+            err,
+        ),
         Command::Show(form) => show::run(alloc, &mut inputs.volume, name, form, out, err),
         Command::Open {
             passphrase,

@@ -5,9 +5,9 @@ ghost use Rattle.luks_area.specs.Device.{CountsFailure, IsUnchanged, is_failure}
 ghost use Rattle.luks_reading.specs.Header.{IsHeader};
 ghost use Rattle.luks_edit_commands.specs.OtherUses.{Bars, FindsOtherUse, HasOtherUse, IsCounting, overwritten_line};
 
-use luks2_header::{Bin2, Copies, Selected, select};
 use luks_signatures::{OtherUse, first_use};
 use luks_volume::{Device, DeviceFault, Header};
+use luks2_header::{Bin2, Copies, Selected, select};
 use std::io::{self, Write};
 
 /// The use of the disk that an edit of a volume with this header would write over. None where it may

@@ -5,10 +5,10 @@ use crate::trials::{
 };
 use luks_area::{Device, FaultyDevice, Leave, MemDevice};
 use luks_edit::{Edit, EditFault};
-use luks2_header::{Selected, select};
 use luks_reading::{Data, check};
 use luks_test_devices::{Call, Recording, change, counted, leave_behind, part, put, two_keyslots};
 use luks_volume::{apply, needed};
+use luks2_header::{Selected, select};
 use std::alloc::Global;
 use std::process::Abort;
 use std::test::Fail;

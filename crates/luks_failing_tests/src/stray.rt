@@ -1,10 +1,10 @@
 //! A volume that a failed write may leave, in which bytes of the torn write are taken for a header.
 
 use luks_area::MemDevice;
-use luks2_header::{Copies, Selected, select};
 use luks_kdf::HashName;
 use luks_reading::{Allowed, Data, check, open_slot};
 use luks_test_devices::{Fields, TEXT, UUID, copy_of, key_area, part, put};
+use luks2_header::{Copies, Selected, select};
 use std::alloc::Global;
 use std::test::Fail;
 

@@ -12,8 +12,8 @@ ghost use Rattle.luks_finding.specs.Telling.{FindsSize, HasNearerCopy};
 
 use crate::signs::SECOND_MAGIC;
 use luks_area::{Device, DeviceFault, text_field};
-use luks2_header::Bin2;
 use luks1_header::fields::field;
+use luks2_header::Bin2;
 use sha2::{Digest, Sha256};
 
 /// The bytes of a binary header.

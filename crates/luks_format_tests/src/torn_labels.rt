@@ -3,11 +3,11 @@
 use luks_area::{Device, FaultyDevice, Leave, MemDevice};
 use luks_edit::{Edit, EditFault};
 use luks_formatting::{Format, format2};
-use luks2_header::{Copies, Selected, select};
 use luks_kdf::HashName;
 use luks_reading::{Allowed, Data, Version, check, open_slot};
 use luks_test_devices::{Call, Front, Recording, counted};
 use luks_volume::apply;
+use luks2_header::{Copies, Selected, select};
 use std::alloc::Global;
 use std::process::Abort;
 use std::test::Fail;

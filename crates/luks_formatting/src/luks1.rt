@@ -20,10 +20,10 @@ use crate::random::{KEY, KEY_BYTES, RANDOM_STRIPES, SALT_BYTES, taken};
 use crate::sealing::seal_key;
 use luks_area::{Area, Device, DeviceFault};
 use luks_edit::Done;
-use luks2_header::Luks1;
 use luks_reading::{Data, Format};
 use luks_slot::{AreaCipher, SlotPlan};
 use luks_writing::{clear_places, write_range};
+use luks2_header::Luks1;
 
 /// How many random bytes `format1` takes.
 pub const FORMAT1_RANDOM: u64 = 256080;

@@ -6,8 +6,8 @@ ghost use Rattle.luks_formatting.specs.NewHeader1.{first_slot, free_slot, materi
 use crate::plan::put_key_digest;
 use crate::random::{DIGEST_SALT, STRIPES, UUID, taken_array};
 use arrayvec::ArrayString;
-use luks2_header::{Luks1, Luks1Common, Luks1Slot, SlotState, uuid_text};
 use luks_reading::{Data, Format};
+use luks2_header::{Luks1, Luks1Common, Luks1Slot, SlotState, uuid_text};
 
 /// Where the salt of keyslot 0 stands among the random bytes.
 pub(crate) const SLOT_SALT: usize = 112;

@@ -7,8 +7,8 @@ ghost use Rattle.luks_formatting.specs.NewHeader2.{copy_size, json_size, IsNewCo
 
 use crate::random::{UUID, taken_array};
 use luks_area::{Device, DeviceFault};
-use luks2_header::{Bin2, uuid_field, uuid_text};
 use luks_writing::write_copy;
+use luks2_header::{Bin2, uuid_field, uuid_text};
 
 /// The length of a copy of the header in bytes, which is also the second copy's place.
 pub(crate) const COPY_SIZE: u64 = 16384;

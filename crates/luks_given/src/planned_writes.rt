@@ -4,8 +4,8 @@ ghost use Rattle.luks_area.specs.Ranges.{written};
 ghost use Rattle.luks_given.specs.Volume.{volume};
 ghost use Rattle.luks_given.specs.Plan.{furthest, planned_length, played};
 
-use luks_area::{Device, DeviceFault};
 use crate::given::Given;
+use luks_area::{Device, DeviceFault};
 use std::alloc::Global;
 use std::marker::PhantomData;
 

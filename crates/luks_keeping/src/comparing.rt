@@ -10,9 +10,9 @@ ghost use Rattle.luks_keeping.specs.Salts.{FindsSalt, HasHeaderSalt, HoldsKeepin
 use crate::comparison::{Comparison, Keeping};
 use crate::same_key::shares_digest;
 use arrayvec::ArrayVec;
-use luks2_header::{Luks1, SlotState};
 use luks_meta::Meta;
 use luks_reading::Header;
+use luks2_header::{Luks1, SlotState};
 
 /// A keyslot's salt.
 #[derive(Drop)]

@@ -12,9 +12,9 @@ ghost use Rattle.luks_reading.specs.Reported.{HeaderArea};
 ghost use Rattle.luks_keeping.specs.Judged.{HasFields, IsFaultOn, IsFormedOn};
 
 use luks_area::fit;
-use luks2_header::Bin2;
 use luks_meta::{Meta, MetaFault};
 use luks_reading::{AreaName, CheckFault, Data, Header, judge_luks1, luks2_areas};
+use luks2_header::Bin2;
 
 /// The first fault of a volume of `total` bytes with this header.
 pub(crate) fn judge_header(header: &Header, payload: Data, total: u64) -> Result<(), CheckFault>

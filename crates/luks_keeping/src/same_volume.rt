@@ -125,10 +125,7 @@ pub(crate) fn judge_other<T: Device>(
 }
 
 /// Whether a header counts on the target, and its uuid isn't this one's.
-fn has_other_uuid<T: Device>(
-    header: &Header,
-    target: &mut T,
-) -> Result<bool, RestoreFault>
+fn has_other_uuid<T: Device>(header: &Header, target: &mut T) -> Result<bool, RestoreFault>
     requires accepted { IsAcceptedHeader header.now }
     requires room { T.failed target.old + 1 < 2 ^ 64 }
     ensures unchanged { IsUnchanged T.tells T.size T.bytes T.unsettled target.old target.new }

@@ -10,8 +10,8 @@ ghost use Rattle.luks_keeping.specs.Restored.{IsFrontAs};
 
 use crate::slots::LUKS1_HEADER;
 use luks_area::SECTOR;
-use luks2_header::{Luks1, Luks1Slot};
 use luks_reading::{Data, Header, luks1_area};
+use luks2_header::{Luks1, Luks1Slot};
 
 /// The bytes of the backup of a volume with this header, or none where no device has so many.
 pub(crate) fn backup_size(header: &Header, payload: Data) -> Option<u64>

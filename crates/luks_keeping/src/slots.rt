@@ -9,9 +9,9 @@ ghost use Rattle.luks_keeping.specs.Kept.{lead_of, IsUsedArea};
 
 use crate::places::Places;
 use luks_area::{Area, SECTOR};
-use luks2_header::{Copies, Luks1, SlotState};
 use luks_meta::Meta;
 use luks_reading::{Header, luks1_area};
+use luks2_header::{Copies, Luks1, SlotState};
 
 /// The bytes of a LUKS1 header.
 pub(crate) const LUKS1_HEADER: u64 = 592;

@@ -10,10 +10,10 @@ ghost use Rattle.luks_keeping_commands.specs.Reencrypting.{FindsMetadata, IsFrom
 ghost use Rattle.luks_keeping_commands.specs.Reencrypting.{IsReencrypting, IsReencryptingArea, IsReencryptingValue, requires_reencryption};
 
 use luks_commands::Bar;
-use luks2_header::{Selected, select};
 use luks_json::{JsonFault, read_json};
 use luks_reading::{Device, DeviceFault, ReadFault};
 use luks_rules::{Outer, Section, object_at, section_at, type_at};
+use luks2_header::{Selected, select};
 use serde_json::Value;
 use std::alloc::Global;
 

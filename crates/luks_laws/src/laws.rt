@@ -6,10 +6,10 @@ ghost use Rattle.luks_reading.specs.declared.report.Data.{Data as Payload};
 ghost use Rattle.luks_reading.specs.Answer.{AnswerWithin, Opened};
 ghost use Rattle.luks_reading.specs.Checked.{First, WellFormed};
 
-use luks2_header::one_choice;
 use luks_json::{names_say_numbers, one_kind_of_area, one_value};
 use luks_meta::{metadata_without_faults, one_digest};
 use luks_reading::{CheckFault, no_fault_is_well_formed};
+use luks2_header::one_choice;
 
 /// A volume has a first fault, or it is well formed.
 pub fn first_fault_or_well_formed()

@@ -3,8 +3,8 @@ ghost use Rattle.std.specs.Prelude.{◌+◌, ◌^◌, ◌<◌};
 ghost use Rattle.luks_area.specs.Device.{CountsFailure, IsUnchanged, is_failure};
 
 use luks_area::{Device, DeviceFault};
-use luks2_header::Bin2;
 use luks_rebuilding::Candidate;
+use luks2_header::Bin2;
 use std::io::Write;
 
 /// The bytes of a binary header. In those of a LUKS1 header the version and the uuid stand at the same

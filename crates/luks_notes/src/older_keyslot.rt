@@ -11,8 +11,8 @@ ghost use Rattle.luks_reading.specs.Header.{IsAcceptedHeader, IsHeader};
 ghost use Rattle.luks_notes.specs.OlderNotes.{all_memory, IsLuks1Part, IsLuks2Part, IsOlder, IsOlderNote, IsOlderPart};
 ghost use Rattle.luks_notes.specs.OlderNotes.{DigestNames, NamesHash, older_line, older_text};
 
-use luks2_header::{HeadFault, Luks1, Luks1Common};
 use luks_reading::{Allowed, Cost, Header, Keyslot, Meta, refused_slot};
+use luks2_header::{HeadFault, Luks1, Luks1Common};
 use std::fmt;
 use std::io::{self, Write};
 

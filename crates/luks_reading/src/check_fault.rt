@@ -4,8 +4,8 @@ ghost use Rattle.luks_reading.specs.FaultTexts.{check_fault_text};
 
 use crate::read_fault::ReadFault;
 use luks_area::AreaFault;
-use luks2_header::HeadFault;
 use luks_meta::MetaFault;
+use luks2_header::HeadFault;
 use std::error::Error;
 use std::fmt;
 

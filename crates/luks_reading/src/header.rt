@@ -11,8 +11,8 @@ ghost use Rattle.luks_reading.specs.Header.{IsAcceptedHeader, IsHeader, IsUnread
 
 use crate::read_fault::ReadFault;
 use luks_area::Device;
-use luks2_header::{Bin2, Copies, KEPT_JSON, Selected, select_with_json};
 use luks_meta::Meta;
+use luks2_header::{Bin2, Copies, KEPT_JSON, Selected, select_with_json};
 use std::alloc::Global;
 
 /// The bytes of the binary header with which a LUKS2 copy begins; its JSON area follows.

@@ -14,8 +14,8 @@ use crate::check_fault::CheckFault;
 use crate::layout::{luks1_areas, luks2_areas};
 use crate::report::Data;
 use luks_area::{AreaName, Areas, fit};
-use luks2_header::{Bin2, Luks1};
 use luks_meta::{Meta, MetaFault};
+use luks2_header::{Bin2, Luks1};
 
 /// The areas of a LUKS1 volume of `total` bytes whose first 592 bytes are `header`, or its first
 /// fault: of the header, then of the areas.

@@ -15,8 +15,8 @@ ghost use Rattle.luks_reading.specs.Listing.{AddsLuks2Slots, AddsSegments, Lists
 use crate::plan::luks1_area;
 use crate::report::Data;
 use luks_area::{Area, AreaName, Areas, SECTOR};
-use luks2_header::Luks1;
 use luks_meta::{Extent, Meta, Segment};
+use luks2_header::Luks1;
 
 /// The bytes of a LUKS1 header.
 pub(crate) const LUKS1_HEADER: u64 = 592;

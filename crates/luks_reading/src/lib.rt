@@ -33,11 +33,11 @@ pub use layout::luks2_areas;
 pub use luks_area::{
     Area, AreaFault, AreaName, Areas, Device, DeviceFault, Entry, MemDevice, text_field,
 };
-pub use luks2_header::{Bin2, Copies, HeadFault, Luks1, Luks1Slot, Selected, SlotState, select};
 pub use luks_meta::{
     Config, Cost, Digest, Extent, Keyslot, Meta, MetaFault, Segment, SegmentKind, Token,
 };
 pub use luks_slot::{Allowed, Key};
+pub use luks2_header::{Bin2, Copies, HeadFault, Luks1, Luks1Slot, Selected, SlotState, select};
 pub use nearest::Nearest;
 pub use open_fault::OpenFault;
 pub use opening::{open_header_slot, open_slot, try_copy_slot, try_header_slot};

@@ -3,9 +3,9 @@ ghost use Rattle.luks_reading.specs.Conversions.{head_unread, slot_opened, unrea
 ghost use Rattle.luks_reading.specs.FaultTexts.{open_fault_text};
 
 use crate::read_fault::ReadFault;
-use luks2_header::HeadFault;
 use luks_meta::MetaFault;
 use luks_slot::SlotFault;
+use luks2_header::HeadFault;
 use std::error::Error;
 use std::fmt;
 

@@ -26,9 +26,9 @@ use crate::nearest::{Nearest, note_distance};
 use crate::open_fault::OpenFault;
 use crate::plan::{luks1_plan, luks2_plan};
 use luks_area::Device;
-use luks2_header::Luks1Common;
 use luks_meta::Meta;
 use luks_slot::{Allowed, Key, SlotPlan, Tried, try_within};
+use luks2_header::Luks1Common;
 use std::alloc::Global;
 
 /// Opens the keyslot `n` by the passphrase: its volume key, or None where the passphrase doesn't

@@ -11,9 +11,9 @@ ghost use Rattle.luks_reading.specs.PlanAnswers.{IsOpenable};
 ghost use Rattle.luks_reading.specs.Plans.{IsLuks1Plan, IsLuks2Plan, IsLuks2Derivation};
 
 use luks_area::{Area, SECTOR, rounded_to_sectors};
-use luks2_header::{Luks1Common, Luks1Slot};
 use luks_meta::{Argon2, Cost, Digest, Keyslot};
 use luks_slot::{AreaCipher, Argon2Kind, Argon2Plan, Derivation, DigestPlan, SlotPlan};
+use luks2_header::{Luks1Common, Luks1Slot};
 
 /// The plan of an enabled keyslot of a LUKS1 header (LUKS1 On-Disk Format 1.2.3, "The partition
 /// header").

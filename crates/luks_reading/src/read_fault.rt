@@ -3,8 +3,8 @@ ghost use Rattle.luks_reading.specs.Conversions.{head_unread, meta_unread};
 ghost use Rattle.luks_reading.specs.FaultTexts.{read_fault_text};
 
 use luks_area::DeviceFault;
-use luks2_header::HeadFault;
 use luks_meta::MetaFault;
+use luks2_header::HeadFault;
 use std::alloc::AllocError;
 use std::error::Error;
 use std::fmt;

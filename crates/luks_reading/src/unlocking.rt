@@ -23,9 +23,9 @@ use crate::nearest::Nearest;
 use crate::open_fault::OpenFault;
 use crate::opening::{open_luks1_slot, open_luks2};
 use luks_area::Device;
-use luks2_header::Luks1Common;
 use luks_meta::Meta;
 use luks_slot::{Allowed, Key};
+use luks2_header::Luks1Common;
 use std::alloc::Global;
 
 /// When a keyslot of LUKS2 is tried, by its priority.

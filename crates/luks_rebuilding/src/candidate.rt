@@ -11,8 +11,8 @@ use crate::rebuild_fault::RebuildFault;
 use crate::search::{found_of, least_of};
 use crate::vouching::first_vouched;
 use luks_area::Device;
-use luks2_header::{Bin2, HeadFault, select};
 use luks_meta::Meta;
+use luks2_header::{Bin2, HeadFault, select};
 use std::alloc::Global;
 
 /// Metadata that is whole.

@@ -9,8 +9,8 @@ ghost use Rattle.luks_rebuilding.specs.Rebuilt.{HasRebuiltCopy, IsRebuiltHeader}
 use crate::candidate::Candidate;
 use crate::vouching::next_seqid;
 use luks_area::{Device, DeviceFault};
-use luks2_header::Bin2;
 use luks_writing::write_copy;
+use luks2_header::Bin2;
 
 /// Where the salt of the first copy stands among the random bytes.
 pub(crate) const FIRST_SALT: usize = 0;

@@ -11,8 +11,8 @@ use crate::candidate::Candidate;
 use crate::rebuild_fault::RebuildFault;
 use crate::rebuilding::REBUILD_RANDOM;
 use luks_area::fit;
-use luks2_header::is_uuid;
 use luks_reading::{Data, luks2_areas};
+use luks2_header::is_uuid;
 
 /// How many random bytes are taken.
 const RANDOM: usize = REBUILD_RANDOM as usize;

@@ -3,8 +3,8 @@ ghost use Rattle.std.specs.Fmt.{WritesOnOk};
 ghost use Rattle.luks_show.specs.Luks1Lines.{common_lines, luks1_lines, slot_line};
 
 use crate::escaped::Escaped;
-use luks2_header::Luks1Common;
 use luks_reading::{Luks1, Luks1Slot, SlotState};
+use luks2_header::Luks1Common;
 use std::fmt;
 
 /// Lists a LUKS1 header, with a line for each keyslot.

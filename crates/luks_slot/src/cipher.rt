@@ -4,8 +4,7 @@ ghost use Rattle.std.specs.Prelude.{◌≡◌, ◌%◌, ◌≤◌, length, true}
 ghost use Rattle.luks_modes.specs.Units.{AreMade};
 ghost use Rattle.luks_slot.specs.Ciphers.{is_size_of, keyed, sector_opened, sector_sealed};
 
-use luks_modes::{CbcKey, IvKind};
-use luks_modes::XtsKey;
+use luks_modes::{CbcKey, IvKind, XtsKey};
 
 // A cipher of the sectors of an area, of aes.
 #[derive(Clone, Copy)]

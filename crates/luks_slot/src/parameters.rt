@@ -10,8 +10,8 @@ use crate::allowed::Allowed;
 use crate::cipher::SectorCipher;
 use crate::fault::SlotFault;
 use crate::plan::{AreaCipher, Argon2Plan, Derivation, SlotPlan};
-use luks_modes::IvKind;
 use luks_kdf::KeyslotHash;
+use luks_modes::IvKind;
 
 // What PBKDF2 derives by.
 #[derive(Clone, Copy)]

@@ -5,11 +5,11 @@ ghost use Rattle.luks_timing.specs.Timed.{IsCostFault, IsEditCostFault, IsKdfFau
 ghost use Rattle.luks_timing.specs.declared.fault.CostFault.{CostFault};
 ghost use Rattle.std.specs.Prelude.{◌≢◌};
 
-use luks_argon2::Variant;
 use crate::argon2_costs::{Argon2Costs, argon2_costs_in};
 use crate::fault::CostFault;
 use crate::iterations::iterations_in;
 use crate::sample::Sample;
+use luks_argon2::Variant;
 use luks_kdf::HashName;
 use luks_reading::Format;
 use luks_request::{

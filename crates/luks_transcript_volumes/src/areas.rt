@@ -1,7 +1,7 @@
 //! A keyslot's area of 4000 stripes.
 use luks_kdf::HashName;
-use luks_test_devices::{VOLUME_KEY, counted};
 use luks_modes::XtsKey;
+use luks_test_devices::{VOLUME_KEY, counted};
 use std::alloc::{AllocError, Global};
 
 /// PBKDF2 of the passphrase `one` with a salt of 32 bytes 0x11, by SHA-256 and 1000 iterations.

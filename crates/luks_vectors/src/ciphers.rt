@@ -1,8 +1,7 @@
 //! AES, CBC and XTS.
 use luks_aes::AesKey;
-use luks_modes::{CbcKey, IvKind};
+use luks_modes::{CbcKey, IvKind, XtsKey};
 use luks_vector_lines::{Malformed, Words, demand};
-use luks_modes::XtsKey;
 use std::alloc::Global;
 
 /// `aes KEY BLOCK`: the block that the key encrypts this one to, and whether it decrypts that one back;

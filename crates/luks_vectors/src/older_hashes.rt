@@ -1,7 +1,7 @@
 //! RIPEMD-160 and Whirlpool.
 use luks_older_hashes::ripemd160::Ripemd160;
-use luks_vector_lines::{Malformed, Words};
 use luks_older_hashes::whirlpool::Whirlpool;
+use luks_vector_lines::{Malformed, Words};
 use std::alloc::Global;
 
 /// `ripemd160 MESSAGE`: the digest of the message, which is fed in two pieces.

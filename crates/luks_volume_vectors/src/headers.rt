@@ -1,9 +1,9 @@
 //! Headers of both versions, which stand in the device.
 use crate::volume::{self, Volume};
 use luks_area::Device;
-use luks2_header::{Bin2, HeadFault, Luks1, Luks1Slot, Selected, select};
 use luks_test_devices::put;
 use luks_vector_lines::{Malformed, Words, bytes_of, demand, number_of, shown, told};
+use luks2_header::{Bin2, HeadFault, Luks1, Luks1Slot, Selected, select};
 use sha2::Digest;
 use std::alloc::Global;
 

@@ -7,9 +7,9 @@ ghost use Rattle.luks2_header.specs.Header2.{binary_header_size, csum_at, hdr_si
 ghost use Rattle.luks2_header.specs.Sizes.{IsListed};
 
 use luks_area::text_field;
-use luks2_header::Bin2;
 use luks1_header::fields::{field, put};
 use luks1_header::luks1_places::MAGIC;
+use luks2_header::Bin2;
 use sha2::{Digest, Sha256};
 
 /// The bytes of a binary header.

@@ -12,8 +12,8 @@ use crate::composing::compose;
 use crate::standing::{HEADER, hasher_of, is_standing, mend, sum_of};
 use crate::vouch_fault::VouchFault;
 use luks_area::Device;
-use luks2_header::Bin2;
 use luks_meta::{Meta, MetaFault};
+use luks2_header::Bin2;
 use std::alloc::Global;
 
 /// Metadata that the checksum of a binary header vouches for.

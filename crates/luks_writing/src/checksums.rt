@@ -4,9 +4,9 @@ ghost use Rattle.luks2_header.specs.Header2.{csum_size, sha256_size};
 ghost use Rattle.luks2_header.specs.Written.{WritesBin2};
 ghost use Rattle.luks_writing.specs.Copy.{IsSummed};
 
-use luks2_header::Bin2;
 use luks_lanes::PairHasher;
 use luks1_header::fields::put;
+use luks2_header::Bin2;
 use sha2::{Digest, Sha256};
 
 /// The bytes of a checksum's field.

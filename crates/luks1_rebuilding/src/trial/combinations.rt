@@ -10,9 +10,9 @@ ghost use Rattle.luks1_rebuilding.specs.Tried.{bytes_of};
 use arrayvec::ArrayString;
 use byteorder::{BigEndian, ByteOrder};
 use luks_area::text_field;
-use luks2_header::TextField;
 use luks1_header::fields::field;
 use luks1_mending::Given;
+use luks2_header::TextField;
 
 /// How many combinations there are, with those that are left out.
 pub(crate) const COMBINATIONS: u8 = 64;

@@ -6,14 +6,14 @@ ghost use Rattle.luks1_rebuilding.specs.declared.rebuild_fault.Rebuild1Fault.{Re
 ghost use Rattle.luks1_rebuilding.specs.TrialFaults.{IsAnsweredTrialFault, IsTrialFault};
 ghost use Rattle.luks1_rebuilding.specs.Openings.{IsFirstOpening, OpensNoneBelow};
 
+use crate::judging::first_bytes;
+use crate::rebuild_fault::Rebuild1Fault;
 use crate::trial::combinations::COMBINATIONS;
 use crate::trial::judging::judge;
 use crate::trial::opening::{Opening, try_number};
 use crate::trial::progress::Progress;
 use luks_area::Device;
 use luks1_mending::Given;
-use crate::judging::first_bytes;
-use crate::rebuild_fault::Rebuild1Fault;
 use std::alloc::Global;
 
 /// The first combination of cipher, hash and length of the key by which the passphrase opens a keyslot

@@ -7,11 +7,11 @@ ghost use Rattle.luks1_rebuilding.specs.declared.rebuild_fault.Rebuild1Fault.{Re
 ghost use Rattle.luks1_rebuilding.specs.TrialFaults.{IsFaultOfAll};
 ghost use Rattle.luks1_rebuilding.specs.Tried.{bytes_of, IsUsable};
 
+use crate::rebuild_fault::Rebuild1Fault;
 use crate::trial::combinations::owned;
 use arrayvec::ArrayString;
 use luks_signatures::is_reencrypting;
 use luks1_mending::{Given, has_signs, mended_header};
-use crate::rebuild_fault::Rebuild1Fault;
 
 /// Refuses what no combination mends, of the first 592 bytes of a volume of `total` bytes.
 pub(crate) fn judge(header: &[u8], total: u64, given: &Given) -> Result<(), Rebuild1Fault>

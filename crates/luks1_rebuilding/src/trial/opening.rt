@@ -10,10 +10,10 @@ ghost use Rattle.luks1_rebuilding.specs.Tried.{IsMadeOf, IsMadeOfSome, IsOpening
 use crate::trial::combinations::{LeftOut, combination};
 use crate::trial::progress::Progress;
 use luks_area::{Device, DeviceFault};
-use luks2_header::{Luks1, SlotState};
 use luks_reading::luks1_plan;
 use luks_slot::{Key, SlotFault, open};
 use luks1_mending::{Given, mended_header};
+use luks2_header::{Luks1, SlotState};
 use std::alloc::Global;
 
 /// A combination by which a keyslot opens.

@@ -6,8 +6,8 @@ ghost use Rattle.luks_show.specs.Luks1Value.{area_value, digest_value, kdf_value
 ghost use Rattle.luks_show.specs.Luks1Value.{slot_value, slot_value_as, slot_values, splitter_value};
 
 use crate::as_json::values::{put_bytes, put_number, put_text};
-use luks2_header::Luks1Common;
 use luks_reading::{Luks1, Luks1Slot, SlotState, luks1_area};
+use luks2_header::Luks1Common;
 use serde_json::{Map, Value, put};
 use std::alloc::{AllocError, Global};
 

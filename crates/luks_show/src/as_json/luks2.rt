@@ -9,8 +9,8 @@ use crate::as_json::objects::{digests_value, keyslots_value, tokens_value};
 use crate::as_json::segments::segments_value;
 use crate::as_json::values::{put_number, text_value};
 use crate::{before_zero, copies_name};
-use luks2_header::Bin2;
 use luks_reading::{ChosenCopy, Config, Meta};
+use luks2_header::Bin2;
 use serde_json::{Map, Value, put};
 use std::alloc::{AllocError, Global};
 

@@ -3,8 +3,8 @@ use luks_area::{Device, FaultyDevice, Leave, MemDevice};
 use luks_kdf::HashName;
 use luks_test_devices::{old_bytes, part, put, small1};
 use luks1_mending::Given;
-use luks1_rebuilding::{Rebuild1Fault, rebuild1};
 use luks1_rebuilding::trial::{Untold, try_combinations};
+use luks1_rebuilding::{Rebuild1Fault, rebuild1};
 use std::alloc::Global;
 use std::test::Fail;
 

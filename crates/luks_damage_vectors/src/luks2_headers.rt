@@ -10,7 +10,7 @@ use std::alloc::Global;
 
 /// The volume that lines make.
 #[derive(Drop)]
-pub struct Damaged {
+pub struct DamagedLuks2 {
     volume: Vec<u8>,
 }
 
@@ -68,10 +68,10 @@ impl Asked {
     }
 }
 
-impl Damaged {
+impl DamagedLuks2 {
     /// A volume of no bytes.
-    pub fn new(alloc: Global) -> Damaged {
-        Damaged {
+    pub fn new(alloc: Global) -> DamagedLuks2 {
+        DamagedLuks2 {
             volume: Vec::new(alloc),
         }
     }
@@ -124,7 +124,7 @@ impl Damaged {
     }
 }
 
-impl Functions for Damaged {
+impl Functions for DamagedLuks2 {
     fn answer(
         &mut self,
         alloc: Global,

@@ -1,11 +1,11 @@
 //! What opens by the header that is made of a damaged volume, and what is refused.
 use arrayvec::ArrayString;
 use luks_area::MemDevice;
-use luks2_header::TextField;
 use luks_kdf::HashName;
 use luks_reading::{Allowed, open_slot};
 use luks_test_devices::{VOLUME_KEY, old_bytes, put, small1};
 use luks1_rebuilding::{Given, Rebuild1Fault, rebuild1};
+use luks2_header::TextField;
 use std::alloc::Global;
 use std::test::Fail;
 

@@ -4,22 +4,22 @@ use luks_area::MemDevice;
 use luks_reading::{Allowed, open_slot};
 use luks_test_devices::old_bytes;
 use luks_vector_lines::{Functions, Malformed, Words, demand};
-use luks1_rebuilding::{Given, Rebuild1Fault, rebuild1};
 use luks1_rebuilding::trial::{Opening, Untold, try_combinations};
+use luks1_rebuilding::{Given, Rebuild1Fault, rebuild1};
 use sha2::{Digest, Sha256};
 use std::alloc::Global;
 
 /// The volume that lines make, and what is given of its header.
 #[derive(Drop)]
-pub struct Damaged {
+pub struct DamagedLuks1 {
     source: Vec<u8>,
     given: Given,
 }
 
-impl Damaged {
+impl DamagedLuks1 {
     /// A volume of no bytes, of which nothing is given.
-    pub fn new(alloc: Global) -> Damaged {
-        Damaged {
+    pub fn new(alloc: Global) -> DamagedLuks1 {
+        DamagedLuks1 {
             source: Vec::new(alloc),
             given: Given::NOTHING,
         }
@@ -118,7 +118,7 @@ fn told(alloc: Global, opening: &Opening) -> Result<String, Malformed> {
     Ok(format!(in alloc; "keyslot {slot} by {name}-{mode} {hash} {key_bytes}")?)
 }
 
-impl Functions for Damaged {
+impl Functions for DamagedLuks1 {
     fn answer(
         &mut self,
         alloc: Global,

@@ -1,0 +1,18 @@
+//! What is made of damaged LUKS headers, of either version, and where volumes begin on a disk, by lines that
+//! put the volumes and disks together. `luks_vector_lines` says what a line is; the line `on SUBJECT` picks of
+//! which subject the lines behind it are: `luks2`, `luks1` or `disk`. What is owed to the lines of each is
+//! printed by `testdata/oracle`: `rebuild_values`, `rebuild1_rows`, `finding_rows`.
+#![tactic(auto)]
+
+mod disk;
+mod given;
+mod luks1_headers;
+mod luks2_headers;
+mod subjects;
+
+use crate::subjects::Subjects;
+use luks_vector_lines::answer_all;
+
+fn main(rt: HostRuntime) -> Result<(), anyhow::Error> {
+    answer_all(&rt, &mut Subjects::new(rt.alloc()))
+}
