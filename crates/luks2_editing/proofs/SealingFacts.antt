@@ -15,12 +15,12 @@ use Rattle.luks_edit.specs.declared.edit.Edit.{Edit}
 use Rattle.luks_edit.specs.declared.edit_fault.EditFault.TheVariants as fault
 use Rattle.luks2_edit_laws.specs.Places.{IsOfCopies}
 use Rattle.luks2_editing.specs.Rewriting.{MayBeHalfWritten}
-use Rattle.luks2_editing.specs.Sealed.{unsealed, IsOfStripes, IsPlanFault, MayBeHalfSealed}
+use Rattle.luks2_editing.specs.Sealed.{sealing_fault, IsOfStripes, IsPlanFault, MayBeHalfSealed}
 
 -- ---- the fault of sealing
 
 -- it is that of the plan
-pub unsealed_fault : (allowed : Allowed) (plan : SlotPlan) (f : SlotFault) → IsAnsweredWithin allowed plan f → IsPlanFault allowed plan (unsealed f)
+pub unsealed_fault : (allowed : Allowed) (plan : SlotPlan) (f : SlotFault) → IsAnsweredWithin allowed plan f → IsPlanFault allowed plan (sealing_fault f)
 unsealed_fault allowed plan sealing.Argon2 x = x
 unsealed_fault allowed plan sealing.Cipher x = x
 unsealed_fault allowed plan sealing.Hash x = x
@@ -29,7 +29,7 @@ unsealed_fault allowed plan sealing.Device x = tt
 unsealed_fault allowed plan sealing.Memory x = x.1
 
 -- where it isn't, nor was it
-pub unsealed_own : (f : SlotFault) → unsealed f ≢ fault.Device → is_device_fault f ≡ false
+pub unsealed_own : (f : SlotFault) → sealing_fault f ≢ fault.Device → is_device_fault f ≡ false
 unsealed_own sealing.Argon2 other = refl
 unsealed_own sealing.Cipher other = refl
 unsealed_own sealing.Hash other = refl

@@ -30,10 +30,10 @@ pub record IsReadyPlan (h : ℕ) (plan : SlotPlan) (key random : List ℕ) (tota
   pub behind : 2 * h ≤ plan.area.start
 
 -- the fault of sealing as that of an edit
-abbrev pub unsealed : SlotFault → EditFault
-unsealed sealing.Device = fault.Device
-unsealed sealing.Memory = fault.Memory
-unsealed f = fault.Slot f
+abbrev pub sealing_fault : SlotFault → EditFault
+sealing_fault sealing.Device = fault.Device
+sealing_fault sealing.Memory = fault.Memory
+sealing_fault f = fault.Slot f
 
 -- why the key isn't sealed, where so much is allowed: the plan is refused, memory was
 -- refused to Argon2, or the device failed

@@ -10,7 +10,7 @@ ghost use Rattle.luks_edit.specs.EditFaults.{is_edit_failure};
 ghost use Rattle.luks_edit.specs.declared.edit.Edit.{Edit as TheEdit};
 ghost use Rattle.luks2_edit_laws.specs.Places.{IsOfCopies};
 ghost use Rattle.luks2_editing.specs.Rewriting.{AreWrittenAnew, IsRewriting};
-ghost use Rattle.luks2_editing.specs.Sealed.{unsealed, IsOfStripes, IsPlanFault, IsReadyPlan, MayBeHalfSealed};
+ghost use Rattle.luks2_editing.specs.Sealed.{sealing_fault, IsOfStripes, IsPlanFault, IsReadyPlan, MayBeHalfSealed};
 
 use crate::random::stripes_in;
 use crate::secrets::Secrets;
@@ -76,8 +76,8 @@ pub(crate) fn write_sealed<D: Device>(
 }
 
 /// The fault of sealing as that of an edit.
-fn unsealed(fault: SlotFault) -> EditFault
-    ensures { result ≡ unsealed fault }
+fn sealing_fault(fault: SlotFault) -> EditFault
+    ensures { result ≡ sealing_fault fault }
 {
     match fault {
         SlotFault::Device => EditFault::Device,
@@ -122,6 +122,6 @@ fn seal<D: Device>(
         stripes,
     ) {
         Ok(()) => Ok(()),
-        Err(fault) => Err(unsealed(fault)),
+        Err(fault) => Err(sealing_fault(fault)),
     }
 }
