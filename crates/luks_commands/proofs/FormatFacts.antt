@@ -15,8 +15,6 @@ use Rattle.luks_request.specs.declared.request.Making.{Making}
 use Rattle.luks_request.specs.declared.request.NewVersion.{NewVersion}
 use Rattle.luks_request.specs.declared.request.NewVersion.TheVariants.{Luks2}
 use Rattle.luks_commands.specs.Answer.{answer_status, format_fault_answer}
-use Rattle.luks_commands.specs.Exit.{exit_status}
-use Rattle.luks_commands.proofs.EndFacts.{done_by, refusal_by, Tells}
 use Rattle.luks_commands.specs.declared.inputs.InputFault.{InputFault}
 use Rattle.luks_commands.specs.Files.{IsLeft, LeavesVolume}
 use Rattle.luks_commands.specs.FormatAnswers.{AnswersFormat, HasFormatFault, IsFormatAnswer, IsMakingFault}
@@ -84,45 +82,21 @@ made (Err fault) making version passphrase random old new is formatted well open
 -- how the answer tells of a command that ended so
 pub says_ended : (making : Making) (HasWords HasRandom : List ℕ → Type 0) (passphrase random old new : List ℕ) (s : Status)
     → HasWords passphrase → HasRandom random → (s ≡ Done → IsNewVolume making passphrase random old new) → (s ≡ Refused → new ≡ old)
-    → SameBut (IsOfNewVolume making.version) old new → SaysFormat making HasWords HasRandom old new (exit_status s)
-says_ended making HasWords HasRandom passphrase random old new Done words taken done refused rest = record {
-  done = λ is. record { passphrase = passphrase; words = words; random = random; taken = taken; volume = done refl };
-  refused = λ is. absurd (omega (arith, is));
+    → SameBut (IsOfNewVolume making.version) old new → SaysFormat making HasWords HasRandom old new s
+says_ended making HasWords HasRandom passphrase random old new s words taken done refused rest = record {
+  done = λ is. record { passphrase = passphrase; words = words; random = random; taken = taken; volume = done is };
+  refused = refused;
   rest = rest;
-}
-says_ended making HasWords HasRandom passphrase random old new Refused words taken done refused rest = record {
-  done = λ is. absurd (omega (arith, is));
-  refused = λ is. refused refl;
-  rest = rest;
-}
-says_ended making HasWords HasRandom passphrase random old new NotInStep words taken done refused rest = record {
-  done = λ is. absurd (omega (arith, is));
-  refused = λ is. absurd (omega (arith, is));
-  rest = rest;
-}
-says_ended making HasWords HasRandom passphrase random old new Fault words taken done refused rest = record {
-  done = λ is. absurd (omega (arith, is));
-  refused = λ is. absurd (omega (arith, is));
-  rest = rest;
-}
-
--- whether it was printed or not
-pub says_told : (making : Making) (HasWords HasRandom : List ℕ → Type 0) (old new : List ℕ) (s : Status) (n : ℕ) → Tells s n
-    → SaysFormat making HasWords HasRandom old new (exit_status s) → SaysFormat making HasWords HasRandom old new n
-says_told making HasWords HasRandom old new s n tells x = record {
-  done = λ is. x.done (ap exit_status (done_by s n tells is));
-  refused = λ is. x.refused (ap exit_status (refusal_by s n tells is));
-  rest = x.rest;
 }
 
 -- a volume that no call was made on, where the command isn't done
 pub left_undone : {D : Type 0} (tells : Type 0) (size : D → ℕ) (bytes : D → List ℕ) (making : Making) (HasWords HasRandom : List ℕ → Type 0)
     (volume : Result D InputFault) (s : Status) → s ≢ Done
-    → LeavesVolume tells size bytes (λ old new. SaysFormat making HasWords HasRandom old new (exit_status s)) volume volume
+    → LeavesVolume tells size bytes (λ old new. SaysFormat making HasWords HasRandom old new s) volume volume
 left_undone tells size bytes making HasWords HasRandom (Ok d) s apart = record {
   size = refl;
   said = λ t. record {
-    done = λ is. absurd (apart (done_by s (exit_status s) (inl refl) is));
+    done = λ is. absurd (apart is);
     refused = λ is. refl;
     rest = same_but-same (IsOfNewVolume making.version) (bytes d);
   };
@@ -132,11 +106,11 @@ left_undone tells size bytes making HasWords HasRandom (Err f) s apart = refl
 -- one that nothing changed of, where the command isn't done
 pub left_unchanged : {D : Type 0} (tells : Type 0) (size : D → ℕ) (bytes : D → List ℕ) (unsettled : D → ℕ → Type 0) (making : Making) (HasWords HasRandom : List ℕ → Type 0)
     (old new : D) (s : Status) → s ≢ Done → IsUnchanged tells size bytes unsettled old new
-    → IsLeft tells size bytes (λ v w. SaysFormat making HasWords HasRandom v w (exit_status s)) old new
+    → IsLeft tells size bytes (λ v w. SaysFormat making HasWords HasRandom v w s) old new
 left_unchanged tells size bytes unsettled making HasWords HasRandom old new s apart same = record {
   size = same.size;
   said = λ t. record {
-    done = λ is. absurd (apart (done_by s (exit_status s) (inl refl) is));
+    done = λ is. absurd (apart is);
     refused = λ is. same.same t;
     rest = subst (λ (w : List ℕ). SameBut (IsOfNewVolume making.version) (bytes old) w) (sym (same.same t)) (same_but-same (IsOfNewVolume making.version) (bytes old));
   };

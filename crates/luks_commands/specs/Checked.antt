@@ -9,8 +9,6 @@ use Rattle.luks_reading.specs.declared.report.Version.TheVariants.{Luks1, Luks2}
 use Rattle.luks_reading.specs.Checked.{WellFormed}
 use Rattle.luks_commands.specs.declared.answers.Status.{Status}
 use Rattle.luks_commands.specs.declared.answers.Status.TheVariants.{Done, Refused, NotInStep, Fault}
-use Rattle.luks_request.specs.declared.request.Command.{Command}
-use Rattle.luks_request.specs.declared.request.Command.TheVariants.{Check}
 
 -- a LUKS1 header counts, or a copy of a LUKS2 header that the other copy is in step with
 abbrev pub IsInStep : List ℕ → Type 0
@@ -23,13 +21,7 @@ pub record IsOutOfStep (v : List ℕ) : Type 0 where
   pub chosen : Chosen v (luks2 place copies)
   pub apart : copies ≢ InStep
 
--- of the volume `v` with its payload at `payload`
-pub record SaysCheck (v : List ℕ) (payload : Data) (status : ℕ) : Type 0 where
-  pub accepted : status ≡ 0 → WellFormed v payload × IsInStep v
-  pub not_in_step : status ≡ 3 → WellFormed v payload × IsOutOfStep v
-  pub refused : status ≡ 1 → WellFormed v payload → ⊥
-
--- the same of how the command ends
+-- how the command ends tells of the volume `v` with its payload at `payload`
 abbrev pub EndsCheck : List ℕ → Data → Status → Type 0
 EndsCheck v payload Done = WellFormed v payload × IsInStep v
 EndsCheck v payload NotInStep = WellFormed v payload × IsOutOfStep v
@@ -44,8 +36,3 @@ status_of (Luks2 FirstNewer seqid) = NotInStep
 status_of (Luks2 SecondNewer seqid) = NotInStep
 status_of (Luks2 FirstOnly seqid) = NotInStep
 status_of (Luks2 SecondOnly seqid) = NotInStep
-
--- what holds of the command where it is `check`
-abbrev pub WhereCheck : Command → (Data → Type 0) → Type 0
-WhereCheck (Check payload) holds = holds payload
-WhereCheck _ holds = Unit {0}

@@ -3,8 +3,6 @@ use Rattle.std.specs.Prelude.{◌≡◌, ◌≢◌, ◌<◌, List, [], ℕ, Opti
 use Rattle.std.specs.declared.io.ErrorKind.{ErrorKind}
 use Rattle.std.specs.declared.io.ErrorKind.TheVariants.{OutOfMemory}
 use Rattle.luks_area.specs.Device.{IsSettled, IsUnchanged}
-use Rattle.luks_request.specs.declared.request.Command.{Command}
-use Rattle.luks_request.specs.declared.request.Command.TheVariants.{Edit, Format, Restore}
 use Rattle.luks_commands.specs.declared.inputs.InputFault.{InputFault}
 use Rattle.luks_commands.specs.declared.inputs.InputFault.TheVariants.{Absent, Unreadable, NoMemory}
 
@@ -77,10 +75,3 @@ abbrev pub LeavesVolume : {D : Type 0} → Type 0 → (D → ℕ) → (D → Lis
 LeavesVolume tells size bytes says (Ok old) (Ok new) = IsLeft tells size bytes says old new
 LeavesVolume tells size bytes says (Ok old) (Err fault) = ⊥
 LeavesVolume tells size bytes says (Err fault) new = new ≡ Err fault
-
--- what holds of the commands that write nothing
-abbrev pub UnlessWriter : Command → Type 0 → Type 0
-UnlessWriter (Edit editing) holds = Unit {0}
-UnlessWriter (Format making) holds = Unit {0}
-UnlessWriter (Restore restoring) holds = Unit {0}
-UnlessWriter _ holds = holds

@@ -10,11 +10,11 @@ use Rattle.luks_formatting.specs.Deriving.{slot_derivation}
 use Rattle.luks_formatting.specs.Formatted1.{IsFormatted1, IsOfLuks1}
 use Rattle.luks_formatting.specs.Formatted2.{IsFormatted2By, IsOfLuks2}
 use Rattle.luks_formatting.specs.RandomBytes.{volume_key}
-use Rattle.luks_request.specs.declared.request.Command.{Command}
-use Rattle.luks_request.specs.declared.request.Command.TheVariants as command
 use Rattle.luks_request.specs.declared.request.Making.{Making}
 use Rattle.luks_request.specs.declared.request.NewVersion.{NewVersion}
 use Rattle.luks_request.specs.declared.request.NewVersion.TheVariants.{Luks1, Luks2}
+use Rattle.luks_commands.specs.declared.answers.Status.{Status}
+use Rattle.luks_commands.specs.declared.answers.Status.TheVariants.{Done, Refused}
 use Rattle.luks_commands.specs.Chosen.{chosen_of}
 
 -- how many random bytes a new volume of this version takes
@@ -54,13 +54,8 @@ pub record IsDone (making : Making) (HasWords HasRandom : List ℕ → Type 0) (
   pub taken : HasRandom random
   pub volume : IsNewVolume making passphrase random old new
 
--- what the exit status tells of the volume `old` that the command left as `new`
-pub record SaysFormat (making : Making) (HasWords HasRandom : List ℕ → Type 0) (old new : List ℕ) (status : ℕ) : Type 0 where
-  pub done : status ≡ 0 → IsDone making HasWords HasRandom old new
-  pub refused : status ≡ 1 → new ≡ old
+-- what the way in which the command ended tells of the volume `old` that it left as `new`
+pub record SaysFormat (making : Making) (HasWords HasRandom : List ℕ → Type 0) (old new : List ℕ) (status : Status) : Type 0 where
+  pub done : status ≡ Done → IsDone making HasWords HasRandom old new
+  pub refused : status ≡ Refused → new ≡ old
   pub rest : SameBut (IsOfNewVolume making.version) old new
-
--- what holds of the command where it is `format`
-abbrev pub WhereFormat : Command → (Making → Type 0) → Type 0
-WhereFormat (command.Format making) holds = holds making
-WhereFormat _ holds = Unit {0}

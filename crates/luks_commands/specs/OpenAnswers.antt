@@ -4,8 +4,6 @@ use Rattle.luks_slot.specs.declared.allowed.Allowed.{Allowed}
 use Rattle.luks_reading.specs.Answer.{opens, no_key, refused, AnswerWithin as Gives}
 use Rattle.luks_reading.specs.Header.{NeedsMetadata}
 use Rattle.luks_reading.specs.Unlocking.{gives, locked, UnlockAnswer}
-use Rattle.luks_request.specs.declared.request.Command.{Command}
-use Rattle.luks_request.specs.declared.request.Command.TheVariants as command
 use Rattle.luks_commands.specs.declared.answers.Answer.{Answer}
 use Rattle.luks_commands.specs.declared.answers.Answer.TheVariants.{Opens, Closed, NoneOpens, Refused, DeviceFault, NoMemory}
 use Rattle.luks_commands.specs.declared.answers.Refusal.TheVariants.{Open}
@@ -70,8 +68,3 @@ AnswersOpen {D} tells bytes failed allowed slot HasWords is_long unread (Ok old)
     (IsWordless is_long unread a × (failed new ≡ failed old)) ⊎ IsTried tells allowed (bytes old) slot HasWords (failed old) (failed new) a
 AnswersOpen {D} tells bytes failed allowed slot HasWords is_long unread (Ok old) (Err fault) a = ⊥
 AnswersOpen {D} tells bytes failed allowed slot HasWords is_long unread (Err fault) new a = IsWordless is_long unread a ⊎ (a ≡ unread_answer fault)
-
--- what holds of the command where it is `open`, by the keyslot that it names and what it allows
-abbrev pub WhereOpen : Command → (Option ℕ → Allowed → Type 0) → Type 0
-WhereOpen (command.Open passphrase slot memory older) holds = holds slot (allowed_of memory older)
-WhereOpen _ holds = Unit {0}

@@ -9,8 +9,6 @@ use Rattle.luks_reading.specs.declared.check_fault.CheckFault.TheVariants as fau
 use Rattle.luks_reading.specs.declared.report.Data.TheVariants.{Elsewhere}
 use Rattle.luks_reading.specs.Checked.{check_key, IsFault}
 use Rattle.luks_reading.specs.Header.{IsChosenCopy, NeedsMetadata}
-use Rattle.luks_request.specs.declared.request.Command.{Command}
-use Rattle.luks_request.specs.declared.request.Command.TheVariants as command
 use Rattle.luks_request.specs.declared.request.ShowAs.{ShowAs}
 use Rattle.luks_request.specs.declared.request.ShowAs.TheVariants as form
 use Rattle.luks_commands.specs.declared.answers.Answer.{Answer}
@@ -140,8 +138,3 @@ abbrev pub AnswersShow : {D : Type 0} → ShowAs → Type 0 → (D → List ℕ)
 AnswersShow {D} shown_as tells bytes failed (Ok old) (Ok new) a = IsShowAnswer shown_as tells (bytes old) (failed old) (failed new) a
 AnswersShow {D} shown_as tells bytes failed (Ok old) (Err fault) a = ⊥
 AnswersShow {D} shown_as tells bytes failed (Err fault) new a = a ≡ unread_answer fault
-
--- what holds of the command where it is `show`, by the form that it asks for
-abbrev pub WhereShow : Command → (ShowAs → Type 0) → Type 0
-WhereShow (command.Show shown_as) holds = holds shown_as
-WhereShow _ holds = Unit {0}

@@ -2,46 +2,21 @@
 ghost use Rattle.std.specs.Prelude.{◌≡◌, ◌+◌, ◌<◌, ◌^◌, IfOk, IfErr};
 ghost use Rattle.std.specs.Result.{ForOk};
 ghost use Rattle.luks_area.specs.Device.{IsUnchanged};
-ghost use Rattle.luks_commands.specs.Answer.{answer_status, Prints};
+ghost use Rattle.luks_commands.specs.Answer.{answer_status};
 ghost use Rattle.luks_commands.specs.CheckAnswers.{AnswersCheck, IsCheckAnswer};
-ghost use Rattle.luks_commands.specs.Checked.{EndsCheck, SaysCheck};
-ghost use Rattle.luks_commands.specs.Exit.{IsExitStatus};
+ghost use Rattle.luks_commands.specs.Checked.{EndsCheck};
 ghost use Rattle.luks_commands.specs.Files.{KeepsVolume};
 ghost use Rattle.luks_reading.specs.Header.{IsAcceptedHeader};
 
-use crate::answers::{Answer, Status, end, refused, unread};
+use crate::answers::{Answer, Status, refused, unread};
 use crate::inputs::InputFault;
-use crate::printer::Printer;
 use luks_reading::{AreaName, Areas, CheckFault, Data, Device, Header, check_header, read_header};
 use std::alloc::Global;
 use std::io::Write;
 
-/// Prints whether the volume of this name is accepted, its payload lying at `payload`; answers the exit
-/// status.
-pub fn run<D: Device, P: Printer, E: Write>(
-    alloc: Global,
-    volume: &mut Result<D, InputFault>,
-    name: &str,
-    payload: Data,
-    out: &mut P,
-    err: &mut E,
-) -> u8
-    requires room { ForOk volume.old (λ d. D.failed d + 1 < 2 ^ 64) }
-    requires printer { P.failures out.old + 1 < 2 ^ 64 }
-    ensures unchanged { KeepsVolume D.tells D.size D.bytes D.unsettled volume.old volume.new }
-    ensures status { IsExitStatus result }
-    ensures says { D.tells → IfOk volume.old (λ d. SaysCheck (D.bytes d) payload result) }
-    ensures unread { IfErr volume.old (λ _. result ≡ 4) }
-    ensures answers { Prints (AnswersCheck D.tells D.bytes D.failed payload volume.old volume.new)
-        (P.failures out.old) (P.failures out.new) (P.printed out.old) (P.printed out.new) result }
-{
-    let answer = answer(alloc, volume, name, payload, err);
-    end(&answer, out)
-}
-
-/// What is answered of the volume of this name, as `run` prints it; `err` gets what standard error
-/// says.
-pub fn answer<D: Device, E: Write>(
+/// Answers whether the volume of this name is accepted, its payload lying at `payload`; `err` gets what
+/// standard error says.
+pub fn run<D: Device, E: Write>(
     alloc: Global,
     volume: &mut Result<D, InputFault>,
     name: &str,
@@ -50,7 +25,7 @@ pub fn answer<D: Device, E: Write>(
 ) -> Answer
     requires { ForOk volume.old (λ d. D.failed d + 1 < 2 ^ 64) }
     ensures unchanged { KeepsVolume D.tells D.size D.bytes D.unsettled volume.old volume.new }
-    ensures status { D.tells
+    ensures ends { D.tells
         → IfOk volume.old (λ d. EndsCheck (D.bytes d) payload (answer_status result)) }
     ensures unread { IfErr volume.old (λ _. answer_status result ≡ Status.Fault) }
     ensures answers { AnswersCheck D.tells D.bytes D.failed payload volume.old volume.new result }

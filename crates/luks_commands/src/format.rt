@@ -4,19 +4,16 @@ ghost use Rattle.std.specs.Result.{ForOk};
 ghost use Rattle.luks_area.specs.Device.{CountsFailure, IsSettled};
 ghost use Rattle.luks_area.specs.Ranges.{SameBut};
 ghost use Rattle.luks_formatting.specs.FormatFaults.{is_device_fault};
-ghost use Rattle.luks_commands.specs.Answer.{answer_status, format_fault_answer, Prints};
-ghost use Rattle.luks_commands.specs.Exit.{exit_status, IsExitStatus};
+ghost use Rattle.luks_commands.specs.Answer.{answer_status, format_fault_answer};
 ghost use Rattle.luks_commands.specs.Files.{AreFirstBytes, IsLong, IsWhole, LeavesSettled, LeavesVolume};
 ghost use Rattle.luks_commands.specs.FormatAnswers.{AnswersFormat, IsFormatAnswer, IsMakingFault, IsUnreadEither};
 ghost use Rattle.luks_commands.specs.Formatting.{IsOfNewVolume, IsNewVolume, needed, SaysFormat};
-ghost use Rattle.luks_commands.specs.Standing.{HasOther, HoldsBackDevice};
 
-use crate::answers::{Answer, Refusal, Status, device_fault, end, unread};
+use crate::answers::{Answer, Refusal, Status, device_fault, unread};
 use crate::chosen::chosen_of;
 use crate::inputs::Inputs;
 use crate::open::allowed_of;
 use crate::passphrase_file::{PassphraseFault, passphrase};
-use crate::printer::Printer;
 use crate::random_file::{RandomBytes, few_random_bytes, random_bytes};
 use crate::standing::{held_back, judge_standing};
 use luks_edit::{Done, Passphrase};
@@ -26,46 +23,11 @@ use luks_request::{Making, NewVersion};
 use std::alloc::Global;
 use std::io::{Read, Write};
 
-/// Makes a new volume of the volume of this name, and prints that it is done; answers the exit
-/// status. The passphrase is read first, the random bytes last. Before these another use of the disk and
-/// an accepted LUKS header, whichever its uuid, are asked for, unless they may be written over.
-pub fn run<D: Device, R: Read, N: Read, P: Printer, E: Write>(
-    alloc: Global,
-    inputs: &mut Inputs<D, R, N>,
-    name: &str,
-    making: &Making<'_>,
-    out: &mut P,
-    err: &mut E,
-) -> u8
-    requires room { ForOk inputs.old.volume (λ d. D.failed d + 1 < 2 ^ 64) }
-    requires printer { P.failures out.old + 1 < 2 ^ 64 }
-    requires settled { D.tells → ForOk inputs.old.volume (IsSettled D.unsettled) }
-    ensures settled { LeavesSettled D.tells D.failed D.unsettled
-        inputs.old.volume inputs.new.volume }
-    ensures status { IsExitStatus result }
-    ensures left { LeavesVolume D.tells D.size D.bytes (λ old new. SaysFormat making.now
-        (IsWhole R.remaining inputs.old.passphrase)
-        (AreFirstBytes (needed making.now.version) N.remaining inputs.old.random) old new result)
-        inputs.old.volume inputs.new.volume }
-    ensures target { inputs.new.target ≡ inputs.old.target }
-    ensures kinds { result ≢ 3 }
-    ensures unread { IfErr inputs.old.volume (λ _. result ≢ 0) }
-    ensures answers { Prints (AnswersFormat D.tells D.size D.bytes D.failed making.now
-        (IsWhole R.remaining inputs.old.passphrase) (IsLong R.remaining inputs.old.passphrase)
-        (IsUnreadEither inputs.old.passphrase (needed making.now.version) inputs.old.random)
-        (AreFirstBytes (needed making.now.version) N.remaining inputs.old.random)
-        inputs.old.volume inputs.new.volume)
-        (P.failures out.old) (P.failures out.new) (P.printed out.old) (P.printed out.new) result }
-    ensures over { Prints (HoldsBackDevice D.tells D.bytes making.now.over (HasOther None)
-        inputs.old.volume inputs.new.volume)
-        (P.failures out.old) (P.failures out.new) (P.printed out.old) (P.printed out.new) result }
-{
-    let answer = format_volume(alloc, inputs, name, making, err);
-    end(&answer, out)
-}
-
+/// Makes a new volume of the volume of this name. The passphrase is read first, the random bytes last. Before
+/// these another use of the disk and an accepted LUKS header, whichever its uuid, are asked for, unless they
+/// may be written over.
 #[tactic(auto, using(crate::proofs::FileFacts::settled_same, crate::proofs::FormatFacts::left_undone))]
-fn format_volume<D: Device, R: Read, N: Read, E: Write>(
+pub fn run<D: Device, R: Read, N: Read, E: Write>(
     alloc: Global,
     inputs: &mut Inputs<D, R, N>,
     name: &str,
@@ -79,7 +41,7 @@ fn format_volume<D: Device, R: Read, N: Read, E: Write>(
     ensures left { LeavesVolume D.tells D.size D.bytes (λ old new. SaysFormat making.now
         (IsWhole R.remaining inputs.old.passphrase)
         (AreFirstBytes (needed making.now.version) N.remaining inputs.old.random) old new
-        (exit_status (answer_status result))) inputs.old.volume inputs.new.volume }
+        (answer_status result)) inputs.old.volume inputs.new.volume }
     ensures target { inputs.new.target ≡ inputs.old.target }
     ensures kinds { answer_status result ≢ Status.NotInStep }
     ensures unread { IfErr inputs.old.volume (λ _. answer_status result ≢ Status.Done) }

@@ -2,17 +2,15 @@
 ghost use Rattle.std.specs.Prelude.{◌≡◌, ◌≢◌, ◌+◌, ◌<◌, ◌^◌, IfErr, length};
 ghost use Rattle.std.specs.Result.{ForOk};
 ghost use Rattle.luks_area.specs.Device.{IsUnchanged};
-ghost use Rattle.luks_commands.specs.Answer.{answer_status, Prints};
-ghost use Rattle.luks_commands.specs.Exit.{IsExitStatus};
+ghost use Rattle.luks_commands.specs.Answer.{answer_status};
 ghost use Rattle.luks_commands.specs.Files.{IsLong, IsUnread, IsWhole, KeepsVolume};
 ghost use Rattle.luks_commands.specs.OpenAnswers.{any_answer, AnswersOpen, IsAnyAnswer, IsOneAnswer, IsOpenAnswer, allowed_of, kib_of, one_answer};
 
 mod almost_met;
 
-use crate::answers::{Answer, Refusal, Status, end, unread};
+use crate::answers::{Answer, Refusal, Status, unread};
 use crate::inputs::Inputs;
 use crate::passphrase_file::{PassphraseFault, passphrase};
-use crate::printer::Printer;
 pub use almost_met::note_line_feed;
 use almost_met::note_unopened;
 use luks_notes::{note_all_wanting, note_passed_over, note_refused, note_wanting};
@@ -35,35 +33,10 @@ pub struct Tried<'a> {
     pub older: bool,
 }
 
-/// Prints whether the passphrase opens the keyslot that is tried, or without one which is the first
-/// that it opens; answers the exit status. The passphrase is read before the volume.
-pub fn run<D: Device, R: Read, N: Read, P: Printer, E: Write>(
-    alloc: Global,
-    inputs: &mut Inputs<D, R, N>,
-    tried: &Tried<'_>,
-    out: &mut P,
-    err: &mut E,
-) -> u8
-    requires room { ForOk inputs.old.volume (λ d. D.failed d + 1 < 2 ^ 64) }
-    requires printer { P.failures out.old + 1 < 2 ^ 64 }
-    ensures unchanged { KeepsVolume D.tells D.size D.bytes D.unsettled inputs.old.volume inputs.new.volume }
-    ensures target { inputs.new.target ≡ inputs.old.target }
-    ensures status { IsExitStatus result }
-    ensures kinds { result ≢ 3 }
-    ensures unread { IfErr inputs.old.volume (λ _. result ≢ 0) }
-    ensures answers { Prints (AnswersOpen D.tells D.bytes D.failed (allowed_of tried.now.memory tried.now.older) tried.now.slot
-        (IsWhole R.remaining inputs.old.passphrase) (IsLong R.remaining inputs.old.passphrase)
-        (IsUnread inputs.old.passphrase) inputs.old.volume inputs.new.volume)
-        (P.failures out.old) (P.failures out.new) (P.printed out.old) (P.printed out.new) result }
-{
-    let answer = answer(alloc, inputs, tried, err);
-    end(&answer, out)
-}
-
-/// What is answered of the passphrase and the volume, as `run` prints it; `err` gets what standard
-/// error says.
+/// Answers whether the passphrase opens the keyslot that is tried, or without one which is the first that it
+/// opens; `err` gets what standard error says. The passphrase is read before the volume.
 #[tactic(auto, using(crate::proofs::FileFacts::keeps_same))]
-pub fn answer<D: Device, R: Read, N: Read, E: Write>(
+pub fn run<D: Device, R: Read, N: Read, E: Write>(
     alloc: Global,
     inputs: &mut Inputs<D, R, N>,
     tried: &Tried<'_>,

@@ -2,14 +2,12 @@
 ghost use Rattle.std.specs.Prelude.{◌≡◌, ◌≢◌, ◌+◌, ◌<◌, ◌^◌, IfErr};
 ghost use Rattle.std.specs.Result.{ForOk};
 ghost use Rattle.luks_area.specs.Device.{IsUnchanged};
-ghost use Rattle.luks_commands.specs.Answer.{answer_status, Prints};
-ghost use Rattle.luks_commands.specs.Exit.{IsExitStatus};
+ghost use Rattle.luks_commands.specs.Answer.{answer_status};
 ghost use Rattle.luks_commands.specs.Files.{KeepsVolume};
 ghost use Rattle.luks_commands.specs.ShowAnswers.{AnswersShow, IsAsJson, IsAsMap, IsInFull, IsListedAnswer, IsShownAs};
 
-use crate::answers::{Answer, Status, end, refused, unread};
+use crate::answers::{Answer, Status, refused, unread};
 use crate::inputs::InputFault;
-use crate::printer::Printer;
 use luks_map::HeaderMap;
 use luks_reading::{CheckFault, Device, Header, Luks1, read_header};
 use luks_request::ShowAs;
@@ -17,32 +15,11 @@ use luks_show::{FullListing, Listing, json_text};
 use std::alloc::Global;
 use std::io::Write;
 
-/// Prints what the header of the volume of this name says, in this form; answers the exit status.
+/// Answers what the header of the volume of this name says, in this form.
 ///
 /// It isn't inlined, so that it takes no stack where another command runs.
 #[inline(never)]
-pub fn run<D: Device, P: Printer, E: Write>(
-    alloc: Global,
-    volume: &mut Result<D, InputFault>,
-    name: &str,
-    form: ShowAs,
-    out: &mut P,
-    err: &mut E,
-) -> u8
-    requires room { ForOk volume.old (λ d. D.failed d + 1 < 2 ^ 64) }
-    requires printer { P.failures out.old + 1 < 2 ^ 64 }
-    ensures unchanged { KeepsVolume D.tells D.size D.bytes D.unsettled volume.old volume.new }
-    ensures status { IsExitStatus result }
-    ensures kinds { result ≢ 3 }
-    ensures unread { IfErr volume.old (λ _. result ≢ 0) }
-    ensures answers { Prints (AnswersShow form D.tells D.bytes D.failed volume.old volume.new)
-        (P.failures out.old) (P.failures out.new) (P.printed out.old) (P.printed out.new) result }
-{
-    let answer = show_volume(alloc, volume, name, form, err);
-    end(&answer, out)
-}
-
-fn show_volume<D: Device, E: Write>(
+pub fn run<D: Device, E: Write>(
     alloc: Global,
     volume: &mut Result<D, InputFault>,
     name: &str,

@@ -15,8 +15,6 @@ use Rattle.luks_volume.specs.Edits.{NamedSlots, Refusal, Replies}
 use Rattle.luks_volume.specs.Needed.{IsNeedFault, NeedsRandom}
 use Rattle.luks_volume.specs.Outcome.{Spares}
 use Rattle.luks_signatures.specs.declared.other_use.OtherUse.{OtherUse}
-use Rattle.luks_request.specs.declared.request.Command.{Command}
-use Rattle.luks_request.specs.declared.request.Command.TheVariants as command
 use Rattle.luks_request.specs.declared.request.EditRequest.{EditRequest}
 use Rattle.luks_request.specs.declared.request.EditRequest.TheVariants.{Add, Change, Remove, Repair, Label}
 use Rattle.luks_request.specs.declared.request.Editing.{Editing}
@@ -167,8 +165,3 @@ SparesVolume tells failed bytes payload given old new = ⊤
 abbrev pub WhereFailed : {D : Type 0} → (D → ℕ) → Result D InputFault → Result D InputFault → Type 0 → Type 0
 WhereFailed failed (Ok old) (Ok new) holds = (failed new ≡ failed old → ⊥) → holds
 WhereFailed failed old new holds = ⊤
-
--- what holds of the command where it edits
-abbrev pub WhereEdit : Command → (Editing → Type 0) → Type 0
-WhereEdit (command.Edit editing) holds = holds editing
-WhereEdit _ holds = Unit {0}

@@ -5,12 +5,11 @@ ghost use Rattle.luks_area.specs.Device.{IsSettled};
 ghost use Rattle.luks_reading.specs.Checked.{WellFormed};
 ghost use Rattle.luks_edit.specs.Kept.{Keeps};
 ghost use Rattle.luks_volume.specs.Edits.{NamedSlots};
-ghost use Rattle.luks_commands.specs.Answer.{answer_status, edit_fault_answer, Prints};
+ghost use Rattle.luks_commands.specs.Answer.{answer_status, edit_fault_answer};
 ghost use Rattle.luks_edit_commands.specs.EditAnswers.{AnswersEdit, IsEditAnswer};
 ghost use Rattle.luks_edit_commands.specs.Editing.{given_by, given_edit, KeepsUnnamed, lacking_by, lacking_random, SaysEdit};
 ghost use Rattle.luks_edit_commands.specs.Editing.{SparesEdit, SparesVolume, WhereFailed};
 ghost use Rattle.luks_edit_commands.specs.OtherUses.{HoldsBack, HoldsBackVolume, unseen_answer};
-ghost use Rattle.luks_commands.specs.Exit.{IsExitStatus};
 ghost use Rattle.luks_commands.specs.Files.{AreFirstBytes, IsUnreadRandom, LeavesSettled, LeavesVolume};
 
 mod applying;
@@ -21,8 +20,8 @@ mod words;
 use applying::apply_of_header;
 use asked::edit_of;
 use luks_commands::{
-    Answer, InputFault, Inputs, Printer, RandomBytes, Refusal, Status, device_fault, end,
-    few_random_bytes, random_bytes, unread,
+    Answer, InputFault, Inputs, RandomBytes, Refusal, Status, device_fault, few_random_bytes,
+    random_bytes, unread,
 };
 use luks_notes::{MemoryNote, OlderNote};
 use luks_request::Editing;
@@ -32,48 +31,9 @@ use std::alloc::Global;
 use std::io::{Read, Write};
 use words::words;
 
-/// Edits the volume of this name, and prints that it is done; answers the exit status. The
-/// passphrase is read first, then the new one, and the random bytes last.
-pub(crate) fn run<D: Device, R: Read, N: Read, P: Printer, E: Write>(
-    alloc: Global,
-    inputs: &mut Inputs<D, R, N>,
-    name: &str,
-    editing: &Editing<'_>,
-    out: &mut P,
-    err: &mut E,
-) -> u8
-    requires room { ForOk inputs.old.volume (λ d. D.failed d + 1 < 2 ^ 64) }
-    requires printer { P.failures out.old + 1 < 2 ^ 64 }
-    requires settled { D.tells → ForOk inputs.old.volume (IsSettled D.unsettled) }
-    ensures settled { LeavesSettled D.tells D.failed D.unsettled
-        inputs.old.volume inputs.new.volume }
-    ensures status { IsExitStatus result }
-    ensures left { LeavesVolume D.tells D.size D.bytes (λ old new. SaysEdit editing.now.payload
-        (given_by editing.now R.remaining N.remaining inputs.old) old new
-        (result ≡ 0) (result ≡ 1)) inputs.old.volume inputs.new.volume }
-    ensures keeps { KeepsUnnamed D.tells D.failed D.bytes editing.now
-        inputs.old.volume inputs.new.volume }
-    ensures failure { WhereFailed D.failed inputs.old.volume inputs.new.volume (result ≡ 4) }
-    ensures spared { SparesVolume D.tells D.failed D.bytes editing.now.payload
-        (given_by editing.now R.remaining N.remaining inputs.old)
-        inputs.old.volume inputs.new.volume }
-    ensures target { inputs.new.target ≡ inputs.old.target }
-    ensures kinds { result ≢ 3 }
-    ensures unread { IfErr inputs.old.volume (λ _. result ≢ 0) }
-    ensures answers { Prints (AnswersEdit D.tells D.bytes D.failed editing.now.payload
-        (given_by editing.now R.remaining N.remaining inputs.old)
-        (lacking_by editing.now.request inputs.old) inputs.old.volume inputs.new.volume)
-        (P.failures out.old) (P.failures out.new) (P.printed out.old) (P.printed out.new) result }
-    ensures over { Prints (HoldsBackVolume D.tells D.bytes editing.now.over
-        inputs.old.volume inputs.new.volume)
-        (P.failures out.old) (P.failures out.new) (P.printed out.old) (P.printed out.new) result }
-{
-    let answer = edit_volume(alloc, inputs, name, editing, err);
-    end(&answer, out)
-}
-
+/// Edits the volume of this name. The passphrase is read first, then the new one, and the random bytes last.
 #[tactic(auto, using(luks_commands::proofs::FileFacts::settled_same, crate::proofs::EditAnswerFacts::answers_wordless))]
-fn edit_volume<D: Device, R: Read, N: Read, E: Write>(
+pub fn run<D: Device, R: Read, N: Read, E: Write>(
     alloc: Global,
     inputs: &mut Inputs<D, R, N>,
     name: &str,

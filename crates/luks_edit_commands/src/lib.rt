@@ -1,22 +1,8 @@
-//! The program `luks` over values: what the command that a command line asks for prints and answers.
-//! The files are opened by whoever calls this. The commands that edit stand here, those that make a
-//! separate header in `luks_header_commands`, the others in `luks_commands`.
+//! The commands of the program `luks` that edit a volume, over values, and what else the disk of a volume is
+//! used for.
 #![tactic(auto)]
 
-mod edit;
-mod execution;
+pub mod edit;
 mod other_use;
 
-pub use execution::execute;
-pub use luks_commands::{
-    Answer, CountingPrinter, InputFault, Inputs, Printer, Reason, Unprinted, check, end,
-    first_bytes, first_line, open,
-};
-pub use luks_header_commands::{Progress, Untold};
-pub use luks_request::{
-    BackingUp, Command, Comparing, Converting, EditRequest, Editing, Line, Luks1Fields, Making,
-    Meant, NewVersion, Rebuilding, Restoring, ShowAs,
-};
-pub use luks_signatures::OtherUse;
-pub use luks_volume::Data;
 pub use other_use::{note_other_use, note_overwritten, standing_use};

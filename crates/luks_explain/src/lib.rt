@@ -4,9 +4,8 @@
 
 mod explanation;
 mod fault;
-mod refused;
+mod of_value;
 mod texts;
 
 pub use explanation::Explanation;
 pub use fault::Fault;
-pub use refused::refusing;

@@ -13,8 +13,6 @@ use Rattle.luks_converting.specs.Converted.{IsConverted, IsOfConverted}
 use Rattle.luks_converting.specs.Outcome.{IsAnsweredFault, IsConvertible}
 use Rattle.luks_converting.specs.Source.{is_enabled}
 use Rattle.luks_writing.specs.TwoDevices.{IsOneFailure}
-use Rattle.luks_request.specs.declared.request.Command.{Command}
-use Rattle.luks_request.specs.declared.request.Command.TheVariants as command
 use Rattle.luks_request.specs.declared.request.Converting.{Converting}
 use Rattle.luks_commands.specs.declared.answers.Answer.{Answer}
 use Rattle.luks_commands.specs.declared.answers.Answer.TheVariants.{Done, Refused, DeviceFault, NoMemory}
@@ -64,8 +62,3 @@ abbrev pub AnswersConvert : {D : Type 0} → Type 0 → (D → ℕ) → (D → L
     → Result D InputFault → Result D InputFault → Result D InputFault → Result D InputFault → Answer → Type 0
 AnswersConvert tells size bytes failed converting unread HasRandom volume volume_new old new a =
     AnswersHeader tells size bytes failed converting.over (IsConvertAnswer tells converting.payload) unread HasRandom volume volume_new old new a
-
--- what holds of the command where it is `convert`
-abbrev pub WhereConvert : Command → (Converting → Type 0) → Type 0
-WhereConvert (command.Convert converting) holds = holds converting
-WhereConvert _ holds = Unit {0}

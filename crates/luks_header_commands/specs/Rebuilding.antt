@@ -26,8 +26,6 @@ use Rattle.luks_request.specs.Meant.{meant_by}
 use Rattle.luks_request.specs.declared.rebuilding.Meant.{Meant}
 use Rattle.luks_request.specs.declared.rebuilding.Meant.TheVariants.{Luks1, Luks2, Either}
 use Rattle.luks_request.specs.declared.rebuilding.Rebuilding.{Rebuilding}
-use Rattle.luks_request.specs.declared.request.Command.{Command}
-use Rattle.luks_request.specs.declared.request.Command.TheVariants as command
 use Rattle.luks_commands.specs.declared.answers.Answer.{Answer}
 use Rattle.luks_commands.specs.declared.answers.Answer.TheVariants.{Done, Refused, DeviceFault, NoMemory}
 use Rattle.luks_commands.specs.declared.answers.Refusal.TheVariants.{Rebuild, Rebuild1}
@@ -180,8 +178,3 @@ pub record IsRebuildAnswer (tells : Type 0) (r : Rebuilding) (random : List ℕ)
   pub given : Given
   pub is : IsGiven r given
   pub says : IsAnswerOf (meant_by r) tells r given random d a
-
--- what holds of the command where it is `rebuild`
-abbrev pub WhereRebuild : Command → (Rebuilding → Type 0) → Type 0
-WhereRebuild (command.Rebuild rebuilding) holds = holds rebuilding
-WhereRebuild _ holds = Unit {0}

@@ -2,7 +2,6 @@
 use Rattle.std.specs.Prelude.{◌≡◌, ◌⊎◌, ℕ, List, Option, Bool, Result, Ok, Err, ⊤}
 use Rattle.luks_area.specs.Device.{IsSettled}
 use Rattle.luks_writing.specs.TwoDevices.{CountsAfter}
-use Rattle.luks_request.specs.declared.request.Command.{Command}
 use Rattle.luks_request.specs.declared.request.Command.TheVariants as command
 use Rattle.luks_commands.specs.declared.answers.Answer.{Answer}
 use Rattle.luks_commands.specs.declared.answers.Answer.TheVariants.{Refused}
@@ -39,15 +38,6 @@ abbrev pub SettlesTarget : {D : Type 0} → Type 0 → (D → ℕ) → (D → �
 SettlesTarget {D} tells failed unsettled (Ok volume) (Ok volume_new) (Ok old) (Ok new) =
     tells → failed volume_new ≡ failed volume → failed new ≡ failed old → IsSettled unsettled new
 SettlesTarget {D} tells failed unsettled volume volume_new old new = ⊤
-
--- what holds of a command that takes no file beside its volume, to write to it or to read a backup
-abbrev pub UnlessBeside : Command → Type 0 → Type 0
-UnlessBeside (command.Convert converting) holds = Unit {0}
-UnlessBeside (command.Rebuild rebuilding) holds = Unit {0}
-UnlessBeside (command.Backup backing_up) holds = Unit {0}
-UnlessBeside (command.Restore restoring) holds = Unit {0}
-UnlessBeside (command.Compare comparing) holds = Unit {0}
-UnlessBeside _ holds = holds
 
 -- ---- what is answered
 

@@ -2,16 +2,15 @@
 ghost use Rattle.std.specs.Prelude.{◌≡◌, ◌≢◌, ◌+◌, ◌<◌, ◌^◌, IfErr, refl};
 ghost use Rattle.std.specs.Result.{ForOk};
 ghost use Rattle.luks_area.specs.Device.{IsSettled};
-ghost use Rattle.luks_commands.specs.Answer.{convert_fault_answer, Prints};
-ghost use Rattle.luks_commands.specs.Exit.{IsExitStatus};
+ghost use Rattle.luks_commands.specs.Answer.{answer_status, convert_fault_answer};
 ghost use Rattle.luks_commands.specs.Files.{AreFirstBytes, IsUnreadRandom, KeepsVolume};
 ghost use Rattle.luks_header_commands.specs.Converting.{AnswersConvert, IsConvertAnswer, KeepsRest, random_count};
-ghost use Rattle.luks_header_commands.specs.Target.{AreOneFile, HoldsBackHeader, IsSameFile, LeavesTarget};
+ghost use Rattle.luks_header_commands.specs.Target.{AreOneFile, IsSameFile, LeavesTarget};
 ghost use Rattle.luks_header_commands.specs.Target.{SettlesTarget};
 
 use crate::header_work::{HeaderFiles, HeaderWork, READING_FAILED, TARGET_FAILED, make_header};
 use luks_commands::{
-    Answer, Inputs, Printer, RandomBytes, Refusal, device_fault, end, few_random_bytes,
+    Answer, Inputs, RandomBytes, Refusal, Status, device_fault, few_random_bytes,
 };
 use luks_converting::{CONVERT_RANDOM, ConvertFault, convert};
 use luks_reading::{Data, Device};
@@ -20,20 +19,18 @@ use luks1_rebuilding::trial::{Progress, Untold};
 use std::alloc::Global;
 use std::io::{Read, Write};
 
-/// Makes a detached LUKS2 header of the volume of this name, at this place of it, on the target, and
-/// prints that it is done; answers the exit status. The random bytes are read last.
-pub fn run<D: Device, R: Read, N: Read, P: Printer, E: Write>(
+/// Makes a detached LUKS2 header of the volume of this name, at this place of it, on the target. The random
+/// bytes are read last.
+pub fn run<D: Device, R: Read, N: Read, E: Write>(
     alloc: Global,
     inputs: &mut Inputs<D, R, N>,
     name: &str,
     place: Place,
     converting: &Converting<'_>,
-    out: &mut P,
     err: &mut E,
-) -> u8
+) -> Answer
     requires volume_room { ForOk inputs.old.volume (λ d. D.failed d + 1 < 2 ^ 64) }
     requires target_room { ForOk inputs.old.target (λ d. D.failed d + 1 < 2 ^ 64) }
-    requires printer { P.failures out.old + 1 < 2 ^ 64 }
     requires settled { D.tells → ForOk inputs.old.target (IsSettled D.unsettled) }
     ensures unchanged { KeepsVolume D.tells D.size D.bytes D.unsettled
         inputs.old.volume inputs.new.volume }
@@ -41,22 +38,15 @@ pub fn run<D: Device, R: Read, N: Read, P: Printer, E: Write>(
         inputs.old.volume inputs.old.target inputs.new.target }
     ensures settled { SettlesTarget D.tells D.failed D.unsettled
         inputs.old.volume inputs.new.volume inputs.old.target inputs.new.target }
-    ensures status { IsExitStatus result }
-    ensures kinds { result ≢ 3 }
-    ensures unread { IfErr inputs.old.volume (λ _. result ≢ 0) }
+    ensures kinds { answer_status result ≢ Status.NotInStep }
+    ensures unread { IfErr inputs.old.volume (λ _. answer_status result ≢ Status.Done) }
     ensures same { AreOneFile name.now converting.now.target.now inputs.old.target
-        → (inputs.new ≡ inputs.old) × Prints IsSameFile
-        (P.failures out.old) (P.failures out.new) (P.printed out.old) (P.printed out.new) result }
+        → (inputs.new ≡ inputs.old) × IsSameFile result }
     ensures answers { (AreOneFile name.now converting.now.target.now inputs.old.target → ⊥)
-        → Prints (AnswersConvert D.tells D.size D.bytes D.failed converting.now
+        → AnswersConvert D.tells D.size D.bytes D.failed converting.now
         (IsUnreadRandom random_count inputs.old.random)
         (AreFirstBytes random_count N.remaining inputs.old.random)
-        inputs.old.volume inputs.new.volume inputs.old.target inputs.new.target)
-        (P.failures out.old) (P.failures out.new) (P.printed out.old) (P.printed out.new) result }
-    ensures over { (AreOneFile name.now converting.now.target.now inputs.old.target → ⊥)
-        → Prints (HoldsBackHeader D.tells D.bytes converting.now.over
-        inputs.old.volume inputs.old.target inputs.new.target)
-        (P.failures out.old) (P.failures out.new) (P.printed out.old) (P.printed out.new) result }
+        inputs.old.volume inputs.new.volume inputs.old.target inputs.new.target result }
 {
     let files = HeaderFiles {
         volume: name,
@@ -70,8 +60,7 @@ pub fn run<D: Device, R: Read, N: Read, P: Printer, E: Write>(
         payload: converting.payload,
     };
     let over = converting.over;
-    let answer = make_header(alloc, inputs, &files, over, &conversion, err, &mut Untold);
-    end(&answer, out)
+    make_header(alloc, inputs, &files, over, &conversion, err, &mut Untold)
 }
 
 /// The conversion of a volume with this payload, by these files.

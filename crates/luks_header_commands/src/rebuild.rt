@@ -3,13 +3,12 @@ ghost use Rattle.std.specs.Prelude.{◌≡◌, ◌≢◌, ◌+◌, ◌<◌, ◌^
 ghost use Rattle.std.proofs.Common.{inl};
 ghost use Rattle.std.specs.Result.{ForOk};
 ghost use Rattle.luks_area.specs.Device.{IsSettled, IsUnchanged};
-ghost use Rattle.luks_commands.specs.Answer.{answer_status, Prints};
-ghost use Rattle.luks_commands.specs.Exit.{IsExitStatus};
+ghost use Rattle.luks_commands.specs.Answer.{answer_status};
 ghost use Rattle.luks_commands.specs.Files.{AreFirstBytes, IsLong, IsUnread, IsUnreadRandom, IsWhole, KeepsVolume};
 ghost use Rattle.luks_header_commands.specs.Rebuilding.{IsAnswerOf, IsFieldOf, IsGiven, IsInField};
 ghost use Rattle.luks_header_commands.specs.Rebuilding.{IsRebuildAnswer, KeepsMeant, KeepsRest};
 ghost use Rattle.luks_header_commands.specs.Rebuilding.{random_count};
-ghost use Rattle.luks_header_commands.specs.Target.{AreOneFile, HoldsBackHeader, IsSameFile, LeavesTarget};
+ghost use Rattle.luks_header_commands.specs.Target.{AreOneFile, IsSameFile, LeavesTarget};
 ghost use Rattle.luks_header_commands.specs.Target.{pair_of, SettlesTarget};
 ghost use Rattle.luks_header_commands.specs.Trying.{AnswersRebuild, KeepsRebuilt};
 
@@ -19,7 +18,7 @@ use crate::of_fields::make_of_fields;
 use crate::of_metadata::make_of_metadata;
 use crate::trying::make_tried;
 use arrayvec::ArrayString;
-use luks_commands::{Answer, Inputs, Printer, Status, end};
+use luks_commands::{Answer, Inputs, Status};
 use luks_reading::Device;
 use luks_rebuilding::REBUILD_RANDOM;
 use luks_request::{Meant, Place, Rebuilding};
@@ -29,8 +28,7 @@ use std::alloc::Global;
 use std::io::{Read, Write};
 
 /// Makes a detached header out of what is still whole in the volume of this name, at this place of it, on
-/// the target, and prints that it is done; answers the exit status. The random bytes are read last, also
-/// where LUKS1 is meant, which takes none.
+/// the target. The random bytes are read last, also where LUKS1 is meant, which takes none.
 ///
 /// Where neither version is meant LUKS2's metadata comes first. LUKS1 answers where none is whole and the
 /// volume doesn't begin as a LUKS2 header, or where a LUKS1 header counts, accepted or not; but where the
@@ -39,61 +37,11 @@ use std::io::{Read, Write};
 /// With a passphrase, which means LUKS1, and is read before the volume: what of the cipher, the hash and the
 /// length of the key isn't given is tried (`try_combinations`), and the header is made with the first
 /// combination by which a keyslot opens; `progress` is told of each.
-pub fn run<D: Device, R: Read, N: Read, P: Printer, E: Write, G: Progress>(
+pub fn run<D: Device, R: Read, N: Read, E: Write, G: Progress>(
     alloc: Global,
     inputs: &mut Inputs<D, R, N>,
     name: &str,
     place: Place,
-    rebuilding: &Rebuilding<'_>,
-    out: &mut P,
-    err: &mut E,
-    progress: &mut G,
-) -> u8
-    requires volume_room { ForOk inputs.old.volume (λ d. D.failed d + 1 < 2 ^ 64) }
-    requires target_room { ForOk inputs.old.target (λ d. D.failed d + 1 < 2 ^ 64) }
-    requires printer { P.failures out.old + 1 < 2 ^ 64 }
-    requires settled { D.tells → ForOk inputs.old.target (IsSettled D.unsettled) }
-    ensures unchanged { KeepsVolume D.tells D.size D.bytes D.unsettled
-        inputs.old.volume inputs.new.volume }
-    ensures rest { LeavesTarget D.tells D.size D.bytes
-        (KeepsRebuilt rebuilding.now (IsWhole R.remaining inputs.old.passphrase))
-        inputs.old.volume inputs.old.target inputs.new.target }
-    ensures settled { SettlesTarget D.tells D.failed D.unsettled
-        inputs.old.volume inputs.new.volume inputs.old.target inputs.new.target }
-    ensures status { IsExitStatus result }
-    ensures kinds { result ≢ 3 }
-    ensures unread { IfErr inputs.old.volume (λ _. result ≢ 0) }
-    ensures same { AreOneFile name.now rebuilding.now.target.now inputs.old.target
-        → (inputs.new ≡ inputs.old) × Prints IsSameFile
-        (P.failures out.old) (P.failures out.new) (P.printed out.old) (P.printed out.new) result }
-    ensures answers { (AreOneFile name.now rebuilding.now.target.now inputs.old.target → ⊥)
-        → Prints (AnswersRebuild D.tells D.size D.bytes D.failed rebuilding.now
-        (IsWhole R.remaining inputs.old.passphrase) (IsLong R.remaining inputs.old.passphrase)
-        (IsUnread inputs.old.passphrase) (IsUnreadRandom random_count inputs.old.random)
-        (AreFirstBytes random_count N.remaining inputs.old.random)
-        inputs.old.volume inputs.new.volume inputs.old.target inputs.new.target)
-        (P.failures out.old) (P.failures out.new) (P.printed out.old) (P.printed out.new) result }
-    ensures over { (AreOneFile name.now rebuilding.now.target.now inputs.old.target → ⊥)
-        → Prints (HoldsBackHeader D.tells D.bytes rebuilding.now.over
-        inputs.old.volume inputs.old.target inputs.new.target)
-        (P.failures out.old) (P.failures out.new) (P.printed out.old) (P.printed out.new) result }
-{
-    let files = HeaderFiles {
-        volume: name,
-        target: rebuilding.target,
-        random: rebuilding.random,
-        needed: REBUILD_RANDOM,
-        place,
-    };
-    let answer = answer(alloc, inputs, &files, rebuilding, err, progress);
-    end(&answer, out)
-}
-
-/// What is answered, as `run` prints it.
-fn answer<D: Device, R: Read, N: Read, E: Write, G: Progress>(
-    alloc: Global,
-    inputs: &mut Inputs<D, R, N>,
-    files: &HeaderFiles<'_>,
     rebuilding: &Rebuilding<'_>,
     err: &mut E,
     progress: &mut G,
@@ -110,33 +58,31 @@ fn answer<D: Device, R: Read, N: Read, E: Write, G: Progress>(
         inputs.old.volume inputs.new.volume inputs.old.target inputs.new.target }
     ensures kinds { answer_status result ≢ Status.NotInStep }
     ensures unread { IfErr inputs.old.volume (λ _. answer_status result ≢ Status.Done) }
-    ensures same { AreOneFile files.now.volume.now files.now.target.now inputs.old.target
+    ensures same { AreOneFile name.now rebuilding.now.target.now inputs.old.target
         → (inputs.new ≡ inputs.old) × IsSameFile result }
-    ensures answers { (AreOneFile files.now.volume.now files.now.target.now inputs.old.target → ⊥)
+    ensures answers { (AreOneFile name.now rebuilding.now.target.now inputs.old.target → ⊥)
         → AnswersRebuild D.tells D.size D.bytes D.failed rebuilding.now
         (IsWhole R.remaining inputs.old.passphrase) (IsLong R.remaining inputs.old.passphrase)
-        (IsUnread inputs.old.passphrase) (IsUnreadRandom files.now.needed inputs.old.random)
-        (AreFirstBytes files.now.needed N.remaining inputs.old.random)
+        (IsUnread inputs.old.passphrase) (IsUnreadRandom random_count inputs.old.random)
+        (AreFirstBytes random_count N.remaining inputs.old.random)
         inputs.old.volume inputs.new.volume inputs.old.target inputs.new.target result }
 {
-    match rebuilding.passphrase {
-        Some(file) => make_tried(alloc, inputs, files, rebuilding, file, err, progress),
-        None => {
-            let making = Making {
-                files,
-                rebuilding: *rebuilding,
-            };
-            make_header(
-                alloc,
-                inputs,
-                files,
-                rebuilding.over,
-                &making,
-                err,
-                progress,
-            )
-        }
-    }
+    let files = HeaderFiles {
+        volume: name,
+        target: rebuilding.target,
+        random: rebuilding.random,
+        needed: REBUILD_RANDOM,
+        place,
+    };
+    let Some(file) = rebuilding.passphrase else {
+        let making = Making {
+            files: &files,
+            rebuilding: *rebuilding,
+        };
+        let over = rebuilding.over;
+        return make_header(alloc, inputs, &files, over, &making, err, progress);
+    };
+    make_tried(alloc, inputs, &files, rebuilding, file, err, progress)
 }
 
 /// The making of a header as this asks, by these files.

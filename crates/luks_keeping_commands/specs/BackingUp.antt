@@ -12,8 +12,6 @@ use Rattle.luks_keeping.specs.Backup.{IsBackup}
 use Rattle.luks_keeping.specs.BackupFaults.{CanBackUp, IsAnsweredBackup, IsOfBackup}
 use Rattle.luks_keeping.specs.declared.backup_fault.BackupFault.TheVariants as fault
 use Rattle.luks_request.specs.declared.keeping.BackingUp.{BackingUp}
-use Rattle.luks_request.specs.declared.request.Command.{Command}
-use Rattle.luks_request.specs.declared.request.Command.TheVariants as command
 use Rattle.luks_commands.specs.declared.answers.Answer.{Answer}
 use Rattle.luks_commands.specs.declared.answers.Answer.TheVariants.{Done, Refused, DeviceFault, NoMemory}
 use Rattle.luks_commands.specs.declared.answers.Refusal.TheVariants.{Backup, Exists}
@@ -77,8 +75,3 @@ AnswersBackup {D} tells size bytes failed payload (Ok volume) (Ok volume_new) (E
     IsWithoutFile tells payload (bytes volume) (failed volume) (failed volume_new) missed a
 AnswersBackup {D} tells size bytes failed payload (Err missed) volume_new old new a = a ≡ unread_answer missed
 AnswersBackup {D} tells size bytes failed payload volume volume_new old new a = ⊥
-
--- what holds of the command where it is `backup`
-abbrev pub WhereBackup : Command → (BackingUp → Type 0) → Type 0
-WhereBackup (command.Backup backing_up) holds = holds backing_up
-WhereBackup _ holds = Unit {0}

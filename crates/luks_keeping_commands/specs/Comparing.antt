@@ -9,8 +9,6 @@ use Rattle.luks_keeping.specs.Compared.{IsComparedInFull}
 use Rattle.luks_keeping.specs.SameVolume.{IsOtherVolume}
 use Rattle.luks_keeping.specs.declared.restore_fault.RestoreFault.TheVariants.{NotAccepted, OtherVolume}
 use Rattle.luks_request.specs.declared.keeping.Comparing.{Comparing}
-use Rattle.luks_request.specs.declared.request.Command.{Command}
-use Rattle.luks_request.specs.declared.request.Command.TheVariants as command
 use Rattle.luks_commands.specs.declared.answers.Answer.{Answer}
 use Rattle.luks_commands.specs.declared.answers.Answer.TheVariants.{Compared, Refused, DeviceFault, NoMemory}
 use Rattle.luks_commands.specs.declared.answers.Refusal.TheVariants.{Check, Restore}
@@ -47,8 +45,3 @@ AnswersCompare {D} tells size bytes failed payload (Ok old) (Ok new) (Ok backup)
 AnswersCompare {D} tells size bytes failed payload (Ok old) new (Err missed) backup_new a = a ≡ unread_answer missed
 AnswersCompare {D} tells size bytes failed payload (Err missed) new backup backup_new a = a ≡ unread_answer missed
 AnswersCompare {D} tells size bytes failed payload old new backup backup_new a = ⊥
-
--- what holds of the command where it is `compare`
-abbrev pub WhereCompare : Command → (Comparing → Type 0) → Type 0
-WhereCompare (command.Compare comparing) holds = holds comparing
-WhereCompare _ holds = Unit {0}

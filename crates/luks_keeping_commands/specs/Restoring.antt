@@ -17,8 +17,6 @@ use Rattle.luks_keeping.specs.declared.over.Over.{Over}
 use Rattle.luks_keeping.specs.declared.over.Over.TheVariants.{AnyVolume, SameVolume}
 use Rattle.luks_keeping.specs.declared.restore_fault.RestoreFault.TheVariants as fault
 use Rattle.luks_request.specs.declared.keeping.Restoring.{Restoring}
-use Rattle.luks_request.specs.declared.request.Command.{Command}
-use Rattle.luks_request.specs.declared.request.Command.TheVariants as command
 use Rattle.luks_commands.specs.declared.answers.Answer.{Answer}
 use Rattle.luks_commands.specs.declared.answers.Answer.TheVariants.{Done, Refused, DeviceFault, NoMemory}
 use Rattle.luks_commands.specs.declared.answers.Refusal.TheVariants.{Restore}
@@ -135,16 +133,6 @@ pub record HoldsVolume (restoring : Restoring) (b t w : List ℕ) (a : Answer) :
 abbrev pub HoldsBackRestore : {D : Type 0} → Type 0 → (D → List ℕ) → Restoring → Result D InputFault → Result D InputFault → Result D InputFault → Answer → Type 0
 HoldsBackRestore {D} tells bytes restoring (Ok old) (Ok new) (Ok backup) a = tells → HoldsVolume restoring (bytes backup) (bytes old) (bytes new) a
 HoldsBackRestore {D} tells bytes restoring old new backup a = ⊤
-
--- what holds of the command where it is `restore`
-abbrev pub WhereRestore : Command → (Restoring → Type 0) → Type 0
-WhereRestore (command.Restore restoring) holds = holds restoring
-WhereRestore _ holds = Unit {0}
-
--- and where it isn't
-abbrev pub UnlessRestore : Command → Type 0 → Type 0
-UnlessRestore (command.Restore restoring) holds = Unit {0}
-UnlessRestore _ holds = holds
 
 -- ---- words of private contracts
 

@@ -2,8 +2,7 @@
 ghost use Rattle.std.specs.Prelude.{◌≡◌, ◌≢◌, ◌↔◌, ◌+◌, ◌<◌, ◌^◌, Err, IfErr, IsTrue};
 ghost use Rattle.std.specs.Result.{ForOk};
 ghost use Rattle.luks_area.specs.Device.{IsSettled, IsUnchanged};
-ghost use Rattle.luks_commands.specs.Answer.{answer_status, backup_fault_answer, Prints};
-ghost use Rattle.luks_commands.specs.Exit.{IsExitStatus};
+ghost use Rattle.luks_commands.specs.Answer.{answer_status, backup_fault_answer};
 ghost use Rattle.luks_commands.specs.Files.{KeepsVolume};
 ghost use Rattle.luks_commands.specs.declared.inputs.InputFault.TheVariants.{Unreadable};
 ghost use Rattle.luks_commands.specs.declared.inputs.Reason.TheVariants as reason;
@@ -13,7 +12,7 @@ ghost use Rattle.luks_keeping_commands.specs.TwoFiles.{pair_of};
 
 use crate::one_file::are_one_file;
 use luks_commands::{
-    Answer, InputFault, Inputs, Printer, Reason, Refusal, Status, device_fault, end, unread,
+    Answer, InputFault, Inputs, Reason, Refusal, Status, device_fault, unread,
 };
 use luks_keeping::{BackupFault, backup, backup_length};
 use luks_reading::{Data, Device};
@@ -21,48 +20,13 @@ use luks_request::BackingUp;
 use std::alloc::Global;
 use std::io::{Read, Write};
 
-/// Writes a backup of the header of the volume of this name to the target, and prints that it is done;
-/// answers the exit status. Where the target isn't there, since it isn't made for a volume that isn't
-/// accepted, that is what is printed.
+/// Writes a backup of the header of the volume of this name to the target. Where the target isn't there, since
+/// it isn't made for a volume that isn't accepted, that is what is answered.
 ///
 /// It isn't inlined, so that it takes no stack where another command runs.
 #[inline(never)]
-pub fn run<D: Device, R: Read, N: Read, P: Printer, E: Write>(
-    alloc: Global,
-    inputs: &mut Inputs<D, R, N>,
-    name: &str,
-    backing_up: &BackingUp<'_>,
-    out: &mut P,
-    err: &mut E,
-) -> u8
-    requires volume_room { ForOk inputs.old.volume (λ d. D.failed d + 1 < 2 ^ 64) }
-    requires target_room { ForOk inputs.old.target (λ d. D.failed d + 1 < 2 ^ 64) }
-    requires printer { P.failures out.old + 1 < 2 ^ 64 }
-    requires settled { D.tells → ForOk inputs.old.target (IsSettled D.unsettled) }
-    ensures unchanged { KeepsVolume D.tells D.size D.bytes D.unsettled
-        inputs.old.volume inputs.new.volume }
-    ensures rest { LeavesTarget D.tells D.size D.bytes (KeepsRest backing_up.now.payload)
-        inputs.old.volume inputs.old.target inputs.new.target }
-    ensures settled { SettlesTarget D.tells D.failed D.unsettled
-        inputs.old.volume inputs.new.volume inputs.old.target inputs.new.target }
-    ensures status { IsExitStatus result }
-    ensures kinds { result ≢ 3 }
-    ensures unread { IfErr inputs.old.volume (λ _. result ≢ 0) }
-    ensures same { AreOneFile name.now backing_up.now.target.now inputs.old.target
-        → (inputs.new ≡ inputs.old) × Prints IsSameFile
-        (P.failures out.old) (P.failures out.new) (P.printed out.old) (P.printed out.new) result }
-    ensures answers { (AreOneFile name.now backing_up.now.target.now inputs.old.target → ⊥)
-        → Prints (AnswersBackup D.tells D.size D.bytes D.failed backing_up.now.payload
-        inputs.old.volume inputs.new.volume inputs.old.target inputs.new.target)
-        (P.failures out.old) (P.failures out.new) (P.printed out.old) (P.printed out.new) result }
-{
-    let answer = answer(alloc, inputs, name, backing_up, err);
-    end(&answer, out)
-}
-
-/// Makes the backup, or answers why not.
 #[tactic(auto, using(luks_commands::proofs::FileFacts::keeps_same, luks_header_commands::proofs::TargetFacts::leaves_same, luks_header_commands::proofs::TargetFacts::settles_same))]
-fn answer<D: Device, R: Read, N: Read, E: Write>(
+pub fn run<D: Device, R: Read, N: Read, E: Write>(
     alloc: Global,
     inputs: &mut Inputs<D, R, N>,
     name: &str,

@@ -2,8 +2,7 @@
 ghost use Rattle.std.specs.Prelude.{◌≡◌, ◌≢◌, ◌+◌, ◌<◌, ◌^◌, IfErr};
 ghost use Rattle.std.specs.Result.{ForOk};
 ghost use Rattle.luks_area.specs.Device.{IsUnchanged};
-ghost use Rattle.luks_commands.specs.Answer.{answer_status, restore_fault_answer, Prints};
-ghost use Rattle.luks_commands.specs.Exit.{IsExitStatus};
+ghost use Rattle.luks_commands.specs.Answer.{answer_status, restore_fault_answer};
 ghost use Rattle.luks_commands.specs.Files.{KeepsVolume};
 ghost use Rattle.luks_header_commands.specs.Target.{AreOneFile, IsSameFile};
 ghost use Rattle.luks_keeping.specs.RestoreFaults.{checked_restore};
@@ -11,51 +10,19 @@ ghost use Rattle.luks_keeping_commands.specs.Comparing.{AnswersCompare, IsCompar
 ghost use Rattle.luks_keeping_commands.specs.TwoFiles.{pair_of};
 
 use crate::one_file::are_one_file;
-use luks_commands::{Answer, Inputs, Printer, Refusal, Status, device_fault, end, refused, unread};
+use luks_commands::{Answer, Inputs, Refusal, Status, device_fault, refused, unread};
 use luks_keeping::{RestoreFault, accepted_header, compare_areas, is_other_volume};
 use luks_reading::{CheckFault, Data, Device};
 use luks_request::Comparing;
 use std::alloc::Global;
 use std::io::{Read, Write};
 
-/// Prints how the backup, which `inputs.target` is, stands to the volume of this name; answers the exit
-/// status. Nothing is written.
+/// Answers how the backup, which `inputs.target` is, stands to the volume of this name. Nothing is written.
 ///
 /// It isn't inlined, so that it takes no stack where another command runs.
 #[inline(never)]
-pub fn run<D: Device, R: Read, N: Read, P: Printer, E: Write>(
-    alloc: Global,
-    inputs: &mut Inputs<D, R, N>,
-    name: &str,
-    comparing: &Comparing<'_>,
-    out: &mut P,
-    err: &mut E,
-) -> u8
-    requires volume_room { ForOk inputs.old.volume (λ d. D.failed d + 1 < 2 ^ 64) }
-    requires backup_room { ForOk inputs.old.target (λ d. D.failed d + 1 < 2 ^ 64) }
-    requires printer { P.failures out.old + 1 < 2 ^ 64 }
-    ensures kept { KeepsVolume D.tells D.size D.bytes D.unsettled
-        inputs.old.target inputs.new.target }
-    ensures unchanged { KeepsVolume D.tells D.size D.bytes D.unsettled
-        inputs.old.volume inputs.new.volume }
-    ensures status { IsExitStatus result }
-    ensures kinds { result ≢ 3 }
-    ensures unread { IfErr inputs.old.volume (λ _. result ≢ 0) }
-    ensures same { AreOneFile name.now comparing.now.backup.now inputs.old.target
-        → (inputs.new ≡ inputs.old) × Prints IsSameFile
-        (P.failures out.old) (P.failures out.new) (P.printed out.old) (P.printed out.new) result }
-    ensures answers { (AreOneFile name.now comparing.now.backup.now inputs.old.target → ⊥)
-        → Prints (AnswersCompare D.tells D.size D.bytes D.failed comparing.now.payload
-        inputs.old.volume inputs.new.volume inputs.old.target inputs.new.target)
-        (P.failures out.old) (P.failures out.new) (P.printed out.old) (P.printed out.new) result }
-{
-    let answer = answer(alloc, inputs, name, comparing, err);
-    end(&answer, out)
-}
-
-/// How they stand, or why that isn't told.
 #[tactic(auto, using(luks_commands::proofs::FileFacts::keeps_same))]
-fn answer<D: Device, R: Read, N: Read, E: Write>(
+pub fn run<D: Device, R: Read, N: Read, E: Write>(
     alloc: Global,
     inputs: &mut Inputs<D, R, N>,
     name: &str,

@@ -2,11 +2,10 @@
 ghost use Rattle.std.specs.Prelude.{◌≡◌, ◌≢◌, ◌+◌, ◌<◌, ◌^◌, IfErr};
 ghost use Rattle.std.specs.Result.{ForOk};
 ghost use Rattle.luks_area.specs.Device.{IsSettled, IsUnchanged};
-ghost use Rattle.luks_commands.specs.Answer.{answer_status, restore_fault_answer, Prints};
-ghost use Rattle.luks_commands.specs.Exit.{IsExitStatus};
+ghost use Rattle.luks_commands.specs.Answer.{answer_status, restore_fault_answer};
 ghost use Rattle.luks_commands.specs.Files.{KeepsVolume};
 ghost use Rattle.luks_header_commands.specs.Target.{AreOneFile, IsSameFile, LeavesTarget, SettlesTarget};
-ghost use Rattle.luks_keeping_commands.specs.Restoring.{AnswersBoth, AnswersRestore, HoldsBackRestore};
+ghost use Rattle.luks_keeping_commands.specs.Restoring.{AnswersBoth, AnswersRestore};
 ghost use Rattle.luks_keeping_commands.specs.Restoring.{IsRestoreAnswer, KeepsRest, over_of};
 ghost use Rattle.luks_keeping_commands.specs.TwoFiles.{pair_of};
 
@@ -14,7 +13,7 @@ use crate::keyslots_note::note_keyslots;
 use crate::one_file::are_one_file;
 use crate::volume_use::judge_volume;
 use luks_commands::{
-    Answer, Inputs, Printer, Refusal, Status, device_fault, end, held_back, unread,
+    Answer, Inputs, Refusal, Status, device_fault, held_back, unread,
 };
 use luks_keeping::{Over, RestoreFault, restore};
 use luks_reading::Device;
@@ -22,53 +21,14 @@ use luks_request::Restoring;
 use std::alloc::Global;
 use std::io::{Read, Write};
 
-/// Puts the header and the key areas of the backup, which `inputs.target` is, onto the volume of this
-/// name, and prints that it is done; answers the exit status. Before all else a reencryption of the volume
-/// is asked for, and another use of its disk; before the first write standard error says by how many
-/// keyslots the two differ.
+/// Puts the header and the key areas of the backup, which `inputs.target` is, onto the volume of this name.
+/// Before all else a reencryption of the volume is asked for, and another use of its disk; before the first
+/// write standard error says by how many keyslots the two differ.
 ///
 /// It isn't inlined, so that it takes no stack where another command runs.
 #[inline(never)]
-pub fn run<D: Device, R: Read, N: Read, P: Printer, E: Write>(
-    alloc: Global,
-    inputs: &mut Inputs<D, R, N>,
-    name: &str,
-    restoring: &Restoring<'_>,
-    out: &mut P,
-    err: &mut E,
-) -> u8
-    requires volume_room { ForOk inputs.old.volume (λ d. D.failed d + 1 < 2 ^ 64) }
-    requires backup_room { ForOk inputs.old.target (λ d. D.failed d + 1 < 2 ^ 64) }
-    requires printer { P.failures out.old + 1 < 2 ^ 64 }
-    requires settled { D.tells → ForOk inputs.old.volume (IsSettled D.unsettled) }
-    ensures unchanged { KeepsVolume D.tells D.size D.bytes D.unsettled
-        inputs.old.target inputs.new.target }
-    ensures rest { LeavesTarget D.tells D.size D.bytes (KeepsRest restoring.now.payload)
-        inputs.old.target inputs.old.volume inputs.new.volume }
-    ensures settled { SettlesTarget D.tells D.failed D.unsettled
-        inputs.old.target inputs.new.target inputs.old.volume inputs.new.volume }
-    ensures status { IsExitStatus result }
-    ensures kinds { result ≢ 3 }
-    ensures unread { IfErr inputs.old.volume (λ _. result ≢ 0) }
-    ensures same { AreOneFile name.now restoring.now.backup.now inputs.old.target
-        → (inputs.new ≡ inputs.old) × Prints IsSameFile
-        (P.failures out.old) (P.failures out.new) (P.printed out.old) (P.printed out.new) result }
-    ensures answers { (AreOneFile name.now restoring.now.backup.now inputs.old.target → ⊥)
-        → Prints (AnswersRestore D.tells D.size D.bytes D.failed restoring.now
-        inputs.old.volume inputs.new.volume inputs.old.target inputs.new.target)
-        (P.failures out.old) (P.failures out.new) (P.printed out.old) (P.printed out.new) result }
-    ensures over { (AreOneFile name.now restoring.now.backup.now inputs.old.target → ⊥)
-        → Prints (HoldsBackRestore D.tells D.bytes restoring.now
-        inputs.old.volume inputs.new.volume inputs.old.target)
-        (P.failures out.old) (P.failures out.new) (P.printed out.old) (P.printed out.new) result }
-{
-    let answer = answer(alloc, inputs, name, restoring, err);
-    end(&answer, out)
-}
-
-/// Puts the backup back, or answers why not.
 #[tactic(auto, using(luks_commands::proofs::FileFacts::keeps_same, luks_header_commands::proofs::TargetFacts::leaves_same, luks_header_commands::proofs::TargetFacts::settles_same))]
-fn answer<D: Device, R: Read, N: Read, E: Write>(
+pub fn run<D: Device, R: Read, N: Read, E: Write>(
     alloc: Global,
     inputs: &mut Inputs<D, R, N>,
     name: &str,

@@ -1,15 +1,10 @@
-use Rattle.luks_commands.specs.Answer.{answer_status}
-use Rattle.luks_commands.proofs.EndFacts.{done_by, err_as, is_exit_status, not_in_step_by, told}
+use Rattle.std.proofs.Common.{◌≡◌, length, sym, ◌∙◌}
+use Rattle.luks_commands.proofs.ShowFacts.{shown_answer}
 use Rattle.luks_commands.proofs.show.run.Goals as goal
 
-pub returns-clause-status : goal.returns-clause-status
-returns-clause-status g c = is_exit_status (answer_status c.show_volume-answer.result) _ (told c.show_volume-answer.result _ _ _ _ _ c.end.ensures)
-
-pub returns-clause-kinds : goal.returns-clause-kinds
-returns-clause-kinds g c = λ is. c.show_volume-answer.ensures.kinds (not_in_step_by (answer_status c.show_volume-answer.result) _ (told c.show_volume-answer.result _ _ _ _ _ c.end.ensures) is)
-
-pub returns-clause-unread : goal.returns-clause-unread
-returns-clause-unread g c = err_as c.args.volume.now _ _ (λ apart is. apart (done_by (answer_status c.show_volume-answer.result) _ (told c.show_volume-answer.result _ _ _ _ _ c.end.ensures) is)) c.show_volume-answer.ensures.unread
-
-pub returns-clause-answers : goal.returns-clause-answers
-returns-clause-answers g c = record { answer = c.show_volume-answer.result; said = c.show_volume-answer.ensures.answers; printed = c.end.ensures }
+pub returns-in-Ok-clause-answers : goal.returns-in-Ok-clause-answers
+returns-in-Ok-clause-answers g c =
+    let v = g.D.Device.bytes c.in-Ok.device in
+    let long : g.D.Device.tells → length v ≡ c.len.result =
+    λ tells. g.met.D.Device.sized c.in-Ok.device tells ∙ sym c.show_device-answer.ensures.unchanged.size ∙ sym c.len.ensures in
+    rw c.in-Ok.is (shown_answer c.args.form c.len.result g.D.Device.tells v _ _ _ _ long c.shown_as.ensures.answers c.show_device-answer.ensures.answers)

@@ -1,33 +1,143 @@
-use Rattle.std.proofs.Common.{refl}
-use Rattle.luks_edit_commands.specs.Editing.{given_by}
-use Rattle.luks_edit_commands.proofs.EditFacts.{failed_as, says_as}
-use Rattle.luks_commands.specs.Answer.{answer_status}
-use Rattle.luks_commands.proofs.FileFacts.{left_as}
-use Rattle.luks_commands.proofs.EndFacts.{done_by, err_as, fault_by, is_exit_status, not_in_step_by, refusal_by, told}
+use Rattle.std.proofs.Common.{◌≡◌, List, ℕ, sym, subst, refl, inl, inr, IfSome}
+use Rattle.luks_edit.specs.declared.edit.Edit.{Edit}
+use Rattle.luks_volume.specs.Edits.{NamedSlots}
+use Rattle.luks_request.specs.Named.{edit_new_of, edit_passphrase_of}
+use Rattle.luks_edit_commands.specs.Editing.{given_by, given_edit, IsAsked, lacking_by, lacking_random, NamesSlot}
+use Rattle.luks_commands.specs.Files.{AreFirstBytes, IsUnreadRandom, IsWhole}
+use Rattle.luks_edit_commands.proofs.EditAnswerFacts.{answers_as, answers_wordless, err_holds, holds_back_wordless, named_as, wordless_as, wordless_kinds, wordless_undone}
+use Rattle.luks_edit_commands.proofs.EditFacts.{left_same, says_wordless, asked_of, asked_somehow, keeps_fewer, says_as, some_as, spared_as}
 use Rattle.luks_edit_commands.proofs.edit.run.Goals as goal
-
-pub returns-clause-status : goal.returns-clause-status
-returns-clause-status g c = is_exit_status (answer_status c.edit_volume-answer.result) _ (told c.edit_volume-answer.result _ _ _ _ _ c.end.ensures)
 
 pub returns-clause-left : goal.returns-clause-left
 returns-clause-left g c =
-    let given = given_by c.args.editing.now g.R.Read.remaining g.N.Read.remaining c.args.inputs.now in
-    left_as _ _ _ _ _
-    (λ v w x. says_as c.args.editing.now.payload given given v w _ _ _ _ (λ e is. is) (λ n b is. is) (λ is. is) refl
-    (done_by (answer_status c.edit_volume-answer.result) _ (told c.edit_volume-answer.result _ _ _ _ _ c.end.ensures)) (refusal_by (answer_status c.edit_volume-answer.result) _ (told c.edit_volume-answer.result _ _ _ _ _ c.end.ensures)) x)
-    _ _ c.edit_volume-answer.ensures.left
+    let request = c.args.editing.now.request in
+    let IsOld : List ℕ → Type 0 = IsWhole g.R.Read.remaining c.args.inputs.now.passphrase in
+    let IsNew : List ℕ → Type 0 = IsWhole g.R.Read.remaining c.args.inputs.now.new_passphrase in
+    let HasRandom : ℕ → List ℕ → Type 0 = λ count. AreFirstBytes count g.N.Read.remaining c.args.inputs.now.random in
+    let p = c.as_slice.result.now in
+    let q = c.as_slice-2.result.now in
+    let old : IfSome (edit_passphrase_of request) (λ name. IsOld p) =
+    some_as (λ name. name.now) c.passphrase.result (edit_passphrase_of request) (IsOld p) c.passphrase.ensures
+    (subst (λ x. IfSome c.passphrase.result (λ name. IsOld x)) (sym c.as_slice.ensures.value) c.in-Ok.ensures.whole) in
+    let fresh : IfSome (edit_new_of request) (λ name. IsNew q) =
+    some_as (λ name. name.now) c.new_passphrase.result (edit_new_of request) (IsNew q) c.new_passphrase.ensures
+    (subst (λ x. IfSome c.new_passphrase.result (λ name. IsNew x)) (sym c.as_slice-2.ensures.value) c.in-Ok-words.ensures.whole) in
+    let edit : Edit = c.edit_of-edit.result in
+    let asks : (e : Edit) → e ≡ edit → IsAsked request IsOld IsNew e =
+    λ e is. subst (IsAsked request IsOld IsNew) (sym is) (asked_of request IsOld IsNew p q edit old fresh c.edit_of-edit.ensures) in
+    rw c.in-Ok-volume.is (record {
+      size = c.edit_device.ensures.size;
+      said = λ tells. says_as c.args.editing.now.payload (given_edit c.args.editing.now.over edit HasRandom)
+          (given_by c.args.editing.now g.R.Read.remaining g.N.Read.remaining c.args.inputs.now) _ _ _ _ _ _ asks (λ n b is. is) (λ is. absurd is) refl (λ is. is) (λ is. is)
+          (c.edit_device.ensures.says tells);
+    })
 
-pub returns-clause-failure : goal.returns-clause-failure
-returns-clause-failure g c = failed_as _ _ _ (fault_by (answer_status c.edit_volume-answer.result) _ (told c.edit_volume-answer.result _ _ _ _ _ c.end.ensures)) _ _ c.edit_volume-answer.ensures.failure
+pub returns-clause-keeps : goal.returns-clause-keeps
+returns-clause-keeps g c =
+    let request = c.args.editing.now.request in
+    let p = c.as_slice.result.now in
+    let q = c.as_slice-2.result.now in
+    let edit : Edit = c.edit_of-edit.result in
+    rw c.in-Ok-volume.is (λ tells well same.
+    let v = g.D.Device.bytes c.in-Ok-volume.device in
+    keeps_fewer c.args.editing.now.payload (NamedSlots v edit) (NamesSlot request v) v _
+    (λ n named. record { edit = edit; asked = asked_somehow request (λ x. x ≡ p) (λ x. x ≡ q) edit c.edit_of-edit.ensures; named = named })
+    (c.edit_device.ensures.keeps tells well same))
 
-pub returns-clause-kinds : goal.returns-clause-kinds
-returns-clause-kinds g c = λ is. c.edit_volume-answer.ensures.kinds (not_in_step_by (answer_status c.edit_volume-answer.result) _ (told c.edit_volume-answer.result _ _ _ _ _ c.end.ensures) is)
-
-pub returns-clause-unread : goal.returns-clause-unread
-returns-clause-unread g c = err_as c.args.inputs.now.volume _ _ (λ apart is. apart (done_by (answer_status c.edit_volume-answer.result) _ (told c.edit_volume-answer.result _ _ _ _ _ c.end.ensures) is)) c.edit_volume-answer.ensures.unread
+pub returns-clause-spared : goal.returns-clause-spared
+returns-clause-spared g c =
+    let request = c.args.editing.now.request in
+    let IsOld : List ℕ → Type 0 = IsWhole g.R.Read.remaining c.args.inputs.now.passphrase in
+    let IsNew : List ℕ → Type 0 = IsWhole g.R.Read.remaining c.args.inputs.now.new_passphrase in
+    let HasRandom : ℕ → List ℕ → Type 0 = λ count. AreFirstBytes count g.N.Read.remaining c.args.inputs.now.random in
+    let p = c.as_slice.result.now in
+    let q = c.as_slice-2.result.now in
+    let old : IfSome (edit_passphrase_of request) (λ name. IsOld p) =
+    some_as (λ name. name.now) c.passphrase.result (edit_passphrase_of request) (IsOld p) c.passphrase.ensures
+    (subst (λ x. IfSome c.passphrase.result (λ name. IsOld x)) (sym c.as_slice.ensures.value) c.in-Ok.ensures.whole) in
+    let fresh : IfSome (edit_new_of request) (λ name. IsNew q) =
+    some_as (λ name. name.now) c.new_passphrase.result (edit_new_of request) (IsNew q) c.new_passphrase.ensures
+    (subst (λ x. IfSome c.new_passphrase.result (λ name. IsNew x)) (sym c.as_slice-2.ensures.value) c.in-Ok-words.ensures.whole) in
+    let edit : Edit = c.edit_of-edit.result in
+    let asks : (e : Edit) → e ≡ edit → IsAsked request IsOld IsNew e =
+    λ e is. subst (IsAsked request IsOld IsNew) (sym is) (asked_of request IsOld IsNew p q edit old fresh c.edit_of-edit.ensures) in
+    rw c.in-Ok-volume.is (λ tells well apart.
+    spared_as c.args.editing.now.payload (given_edit c.args.editing.now.over edit HasRandom) (given_by c.args.editing.now g.R.Read.remaining g.N.Read.remaining c.args.inputs.now) _ _
+    asks (λ n b is. is) (c.edit_device.ensures.spared tells well apart))
 
 pub returns-clause-answers : goal.returns-clause-answers
-returns-clause-answers g c = record { answer = c.edit_volume-answer.result; said = c.edit_volume-answer.ensures.answers; printed = c.end.ensures }
+returns-clause-answers g c =
+    let request = c.args.editing.now.request in
+    let IsOld : List ℕ → Type 0 = IsWhole g.R.Read.remaining c.args.inputs.now.passphrase in
+    let IsNew : List ℕ → Type 0 = IsWhole g.R.Read.remaining c.args.inputs.now.new_passphrase in
+    let HasRandom : ℕ → List ℕ → Type 0 = λ count. AreFirstBytes count g.N.Read.remaining c.args.inputs.now.random in
+    let p = c.as_slice.result.now in
+    let q = c.as_slice-2.result.now in
+    let old : IfSome (edit_passphrase_of request) (λ name. IsOld p) =
+    some_as (λ name. name.now) c.passphrase.result (edit_passphrase_of request) (IsOld p) c.passphrase.ensures
+    (subst (λ x. IfSome c.passphrase.result (λ name. IsOld x)) (sym c.as_slice.ensures.value) c.in-Ok.ensures.whole) in
+    let fresh : IfSome (edit_new_of request) (λ name. IsNew q) =
+    some_as (λ name. name.now) c.new_passphrase.result (edit_new_of request) (IsNew q) c.new_passphrase.ensures
+    (subst (λ x. IfSome c.new_passphrase.result (λ name. IsNew x)) (sym c.as_slice-2.ensures.value) c.in-Ok-words.ensures.whole) in
+    let edit : Edit = c.edit_of-edit.result in
+    let asks : (e : Edit) → e ≡ edit → IsAsked request IsOld IsNew e =
+    λ e is. subst (IsAsked request IsOld IsNew) (sym is) (asked_of request IsOld IsNew p q edit old fresh c.edit_of-edit.ensures) in
+    rw c.in-Ok-volume.is
+    (answers_as g.D.Device.tells c.args.editing.now.payload (given_edit c.args.editing.now.over edit HasRandom) (given_by c.args.editing.now g.R.Read.remaining g.N.Read.remaining c.args.inputs.now)
+    (lacking_random (λ count. IsUnreadRandom count c.args.inputs.now.random)) (lacking_by request c.args.inputs.now)
+    _ _ _ _ asks (λ n b is. is) (λ is. absurd is) refl (λ f is. absurd is) (λ n f is. is) c.edit_device.result c.edit_device.ensures.answers)
+
+pub returns-in-Err-clause-left : goal.returns-in-Err-clause-left
+returns-in-Err-clause-left g c =
+    let given = given_by c.args.editing.now g.R.Read.remaining g.N.Read.remaining c.args.inputs.now in
+    let lacks = lacking_by c.args.editing.now.request c.args.inputs.now in
+    left_same g.D.Device.tells g.D.Device.size g.D.Device.bytes _
+    (λ v. says_wordless c.args.editing.now.payload given lacks.words v v c.in-Err.answer refl (wordless_as _ _ _ lacks.words c.in-Err.answer (λ long. inl (named_as (λ name. name.now) c.passphrase.result (edit_passphrase_of c.args.editing.now.request) _ c.passphrase.ensures long))
+    (λ f unread. inl (named_as (λ name. name.now) c.passphrase.result (edit_passphrase_of c.args.editing.now.request) _ c.passphrase.ensures unread)) c.in-Err.ensures.wordless)) c.args.inputs.now.volume
+
+pub returns-in-Err-clause-answers : goal.returns-in-Err-clause-answers
+returns-in-Err-clause-answers g c =
+    let given = given_by c.args.editing.now g.R.Read.remaining g.N.Read.remaining c.args.inputs.now in
+    let lacks = lacking_by c.args.editing.now.request c.args.inputs.now in
+    answers_wordless g.D.Device.tells g.D.Device.bytes g.D.Device.failed c.args.editing.now.payload given lacks c.args.inputs.now.volume c.in-Err.answer
+    (wordless_as _ _ _ lacks.words c.in-Err.answer (λ long. inl (named_as (λ name. name.now) c.passphrase.result (edit_passphrase_of c.args.editing.now.request) _ c.passphrase.ensures long))
+    (λ f unread. inl (named_as (λ name. name.now) c.passphrase.result (edit_passphrase_of c.args.editing.now.request) _ c.passphrase.ensures unread)) c.in-Err.ensures.wordless)
+
+pub returns-in-Err-clause-kinds : goal.returns-in-Err-clause-kinds
+returns-in-Err-clause-kinds g c = wordless_kinds _ _ c.in-Err.answer c.in-Err.ensures.wordless
+
+pub returns-in-Err-clause-unread : goal.returns-in-Err-clause-unread
+returns-in-Err-clause-unread g c = err_holds c.args.inputs.now.volume _ (wordless_undone _ _ c.in-Err.answer c.in-Err.ensures.wordless)
+
+pub returns-in-Err-words-clause-left : goal.returns-in-Err-words-clause-left
+returns-in-Err-words-clause-left g c =
+    let given = given_by c.args.editing.now g.R.Read.remaining g.N.Read.remaining c.args.inputs.now in
+    let lacks = lacking_by c.args.editing.now.request c.args.inputs.now in
+    left_same g.D.Device.tells g.D.Device.size g.D.Device.bytes _
+    (λ v. says_wordless c.args.editing.now.payload given lacks.words v v c.in-Err-words.answer refl (wordless_as _ _ _ lacks.words c.in-Err-words.answer (λ long. inr (named_as (λ name. name.now) c.new_passphrase.result (edit_new_of c.args.editing.now.request) _ c.new_passphrase.ensures long))
+    (λ f unread. inr (named_as (λ name. name.now) c.new_passphrase.result (edit_new_of c.args.editing.now.request) _ c.new_passphrase.ensures unread)) c.in-Err-words.ensures.wordless)) c.args.inputs.now.volume
+
+pub returns-in-Err-words-clause-answers : goal.returns-in-Err-words-clause-answers
+returns-in-Err-words-clause-answers g c =
+    let given = given_by c.args.editing.now g.R.Read.remaining g.N.Read.remaining c.args.inputs.now in
+    let lacks = lacking_by c.args.editing.now.request c.args.inputs.now in
+    answers_wordless g.D.Device.tells g.D.Device.bytes g.D.Device.failed c.args.editing.now.payload given lacks c.args.inputs.now.volume c.in-Err-words.answer
+    (wordless_as _ _ _ lacks.words c.in-Err-words.answer (λ long. inr (named_as (λ name. name.now) c.new_passphrase.result (edit_new_of c.args.editing.now.request) _ c.new_passphrase.ensures long))
+    (λ f unread. inr (named_as (λ name. name.now) c.new_passphrase.result (edit_new_of c.args.editing.now.request) _ c.new_passphrase.ensures unread)) c.in-Err-words.ensures.wordless)
+
+pub returns-in-Err-words-clause-kinds : goal.returns-in-Err-words-clause-kinds
+returns-in-Err-words-clause-kinds g c = wordless_kinds _ _ c.in-Err-words.answer c.in-Err-words.ensures.wordless
+
+pub returns-in-Err-words-clause-unread : goal.returns-in-Err-words-clause-unread
+returns-in-Err-words-clause-unread g c = err_holds c.args.inputs.now.volume _ (wordless_undone _ _ c.in-Err-words.answer c.in-Err-words.ensures.wordless)
 
 pub returns-clause-over : goal.returns-clause-over
-returns-clause-over g c = record { answer = c.edit_volume-answer.result; said = c.edit_volume-answer.ensures.over; printed = c.end.ensures }
+returns-clause-over g c = rw c.in-Ok-volume.is c.edit_device.ensures.over
+
+pub returns-in-Err-clause-over : goal.returns-in-Err-clause-over
+returns-in-Err-clause-over g c =
+    holds_back_wordless g.D.Device.tells g.D.Device.bytes c.args.editing.now.over _ _ c.args.inputs.now.volume c.in-Err.answer c.in-Err.ensures.wordless
+
+pub returns-in-Err-words-clause-over : goal.returns-in-Err-words-clause-over
+returns-in-Err-words-clause-over g c =
+    holds_back_wordless g.D.Device.tells g.D.Device.bytes c.args.editing.now.over _ _ c.args.inputs.now.volume c.in-Err-words.answer c.in-Err-words.ensures.wordless

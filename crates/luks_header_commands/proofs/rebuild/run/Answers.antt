@@ -1,17 +1,20 @@
-use Rattle.luks_header_commands.proofs.TryingFacts.{rebuild_holds}
+use Rattle.luks_header_commands.proofs.TryingFacts.{tried_answers, tried_kept, untried_answers, untried_kept}
 use Rattle.luks_header_commands.proofs.rebuild.run.Goals as goal
 
-pub returns-clause-answers : goal.returns-clause-answers
-returns-clause-answers g c = λ apart. record {
-  answer = c.answer-answer.result;
-  said = c.answer-answer.ensures.answers apart;
-  printed = c.end.ensures;
-}
+pub returns-in-Some-clause-rest : goal.returns-in-Some-clause-rest
+returns-in-Some-clause-rest g c =
+    tried_kept c.args.rebuilding.now.passphrase c.in-Some.file c.in-Some.is _ _ _ c.args.rebuilding.now _ _ _ _ c.make_tried.ensures.rest
 
-pub returns-clause-over : goal.returns-clause-over
-returns-clause-over g c = λ apart. record {
-  answer = c.answer-answer.result;
-  said = rebuild_holds c.args.rebuilding.now.passphrase g.D.Device.tells g.D.Device.size g.D.Device.bytes g.D.Device.failed c.args.rebuilding.now _ _ _ _ _ _ _ _ _
-      c.answer-answer.result (c.answer-answer.ensures.answers apart);
-  printed = c.end.ensures;
-}
+pub returns-in-Some-clause-answers : goal.returns-in-Some-clause-answers
+returns-in-Some-clause-answers g c = λ apart.
+    tried_answers c.args.rebuilding.now.passphrase c.in-Some.file c.in-Some.is _ _ _ _ c.args.rebuilding.now _ _ _ _ _ _ _ _ _ _
+    (c.make_tried.ensures.answers apart)
+
+pub returns-in-else-clause-rest : goal.returns-in-else-clause-rest
+returns-in-else-clause-rest g c =
+    untried_kept c.args.rebuilding.now.passphrase c.in-None.is _ _ _ c.args.rebuilding.now _ _ _ _ c.make_header.ensures.rest
+
+pub returns-in-else-clause-answers : goal.returns-in-else-clause-answers
+returns-in-else-clause-answers g c = λ apart.
+    untried_answers c.args.rebuilding.now.passphrase c.in-None.is _ _ _ _ c.args.rebuilding.now _ _ _ _ _ _ _ _ _ _
+    (c.make_header.ensures.answers apart)

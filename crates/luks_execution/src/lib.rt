@@ -1,0 +1,18 @@
+//! The program `luks` over values: what the command that a command line asks for answers. The files are opened
+//! by whoever calls this, and the answer is printed by whoever calls it.
+#![tactic(auto)]
+
+mod execution;
+
+pub use execution::execute;
+pub use luks_commands::{
+    Answer, CountingPrinter, InputFault, Inputs, Printer, Reason, Refusal, Status, Unprinted, end,
+    first_bytes, first_line,
+};
+pub use luks_header_commands::{Progress, Untold};
+pub use luks_request::{
+    BackingUp, Command, Comparing, Converting, EditRequest, Editing, Line, Luks1Fields, Making,
+    Meant, NewVersion, Rebuilding, Restoring, ShowAs,
+};
+pub use luks_signatures::OtherUse;
+pub use luks_volume::Data;
