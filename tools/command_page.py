@@ -13,14 +13,15 @@ FEW = 3
 def with_parts(text, start, end, parts):
     """The text, with these lines in the parts of these names; `start` and `end` are what begins and ends a comment."""
     known = re.findall(rf"^{re.escape(start)}tools/commands makes (.*):{re.escape(end)}$", text, re.M)
-    unlike = [f"no comment begins {name}" for name in parts if known.count(name) != 1] + [f"{name} isn't made" for name in known if name not in parts]
+    unlike = [f"has no line, or more than one: {start}tools/commands makes {name}:{end}" for name in parts if known.count(name) != 1]
+    unlike += [f"has a line of what isn't made: {start}tools/commands makes {name}:{end}" for name in known if name not in parts]
     if unlike:
         raise Fault("; ".join(unlike))
     for name, lines in parts.items():
         opening, closing = f"{start}tools/commands makes {name}:{end}\n", f"{start}end of {name}{end}\n"
         before, _, rest = text.partition(opening)
         if closing not in rest:
-            raise Fault(f"no comment ends {name}")
+            raise Fault(f"has no line: {closing.strip()}")
         text = before + opening + "".join(line + "\n" for line in lines) + closing + rest.partition(closing)[2]
     return text
 
