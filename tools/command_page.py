@@ -37,6 +37,11 @@ def roff(text, names):
     return re.sub(r"(?m)^([.'])", r"\\&\1", "".join(parts))
 
 
+def between(rivals):
+    """What stands between options of which one is given: no space where each has a value behind a space."""
+    return "|" if rivals[0].value.shown else " | "
+
+
 class Page:
     """The parts of the manual page."""
 
@@ -78,8 +83,10 @@ class Page:
 
     def head(self, command):
         operands = [operand.shown.replace(operand.name, rf"\fI{operand.name}\fP") for operand in command.operands]
-        parts = ["|".join(self.option(option, "P", " ") for option in rivals) for _, rivals in command.parts()]
-        shown = [part if needed else f"[{part}]" for part, (needed, _) in zip(parts, command.parts())]
+        shown = []
+        for needed, rivals in command.parts():
+            part = between(rivals).join(self.option(option, "P", " ") for option in rivals)
+            shown.append(part if needed else f"[{part}]")
         return [f'.SS "luks {" ".join([command.name, *operands, *shown])}"']
 
     def option(self, option, back, joint=r"\~"):
@@ -153,7 +160,7 @@ def listed(command):
 def form_of(part):
     """An option as `form` has it; of those that take a value the first stands for its rivals."""
     needed, rivals = part
-    names = rivals[0].name if rivals[0].value.shown else "|".join(option.name for option in rivals)
+    names = rivals[0].name if rivals[0].value.shown else between(rivals).join(option.name for option in rivals)
     return names if needed else f"[{names}]"
 
 
