@@ -2,7 +2,7 @@
 import re
 import textwrap
 
-from command_table import Fault
+from command_table import Fault, Rows
 
 # every command on a volume has these: COMMANDS tells them once, and not in its list
 COMMON = ("--offset", "--length", "--quiet")
@@ -91,11 +91,8 @@ class Page:
 
     def option(self, option, back, joint=r"\~"):
         """An option with what it takes; `back` is the font that follows."""
-        name = option.name.replace("-", r"\-")
-        value = option.value.shown.replace("-", r"\-")
-        if not value:
-            return rf"\fB{name}\f{back}"
-        return rf"\fB{name}\f{back} \fI{value}\f{back}" if joint == " " else rf"\fB{name}{joint}\fI{value}\f{back}"
+        name, value = (word.replace("-", r"\-") for word in (option.name, option.value.shown))
+        return rf"\fB{name}\f{back}" + (rf"{joint}\fI{value}\f{back}" if value else "")
 
     def entry(self, command, entry):
         """An entry of a command's options: what they are, or whose they are as."""
@@ -123,30 +120,36 @@ def page(table, old):
     return with_parts(old, '.\\" ', "", Page(table).parts())
 
 
-def unlike_entries(table):
-    """What is wrong with the options of the page: one that isn't told once, one whose meaning another command hasn't, a number that isn't its value's."""
-    wrong, commands = [], {command.name: command for command in table.commands}
+def unlike_texts(table):
+    """What is wrong with the options on the page and in the list: one that isn't told, one whose meaning another command hasn't, a number that isn't its value's."""
+    wrong, commands = [], Rows("command", [(command.name, command) for command in table.commands])
     for command in table.commands:
         told = [name for names, _, _ in command.page for name in names]
         if sorted(told) != sorted(option.name for option in command.options):
-            wrong.append(f"docs/commands.table: {command.name} has not the options that its page tells: {' '.join(told)}")
+            wrong.append(f"{command.name} has not the options that its page tells: {' '.join(told)}")
+        wrong += [f"{command.name} has {option.name} in no form" for option in command.options if command.forms and not is_formed(command, option)]
         for names, alike, text in command.page:
-            other = alike.partition(",")[0]
-            if other and not set(names) <= {name for told, _, _ in commands[other].page for name in told}:
-                wrong.append(f"docs/commands.table: {command.name} has options as of {other}, which hasn't all of {' '.join(names)}")
-            wrong += [line for name in names for line in unlike_numbers(command, command.option(name), " ".join(text))]
-    return wrong
+            wrong += [line for name in names for line in unlike(command, command.option(name), alike.partition(",")[0], " ".join(text), commands)]
+    return [f"docs/commands.table: {line}" for line in wrong]
 
 
-def unlike_numbers(command, option, text):
-    """Where a help or the page names a range or what counts without the option, and not that of its value."""
+def is_formed(command, option):
+    """Whether a form of the list has the option, or another one in its place."""
+    told = set(re.findall(r"--[\w-]+", " ".join(command.forms)))
+    return option.name in COMMON or any(rival.name in told for rival in command.rivals(option))
+
+
+def unlike(command, option, other, text, commands):
+    """What is wrong with an option on the page, which is as that of another command, or has the text."""
     value, wrong = option.value, []
+    if other and not any(it.name == option.name and it.value is value for it in commands[other].options):
+        wrong.append(f"{command.name} has {option.name} as of {other}, which hasn't that")
     for told in (option.help, text):
-        ranges = re.findall(r"(\d+) to (\d+)", told)
+        ranges = re.findall(r"(\d+) to (\d+)", told) if value.range else []
         presets = re.findall(r"default: (\w+)", told) if value.preset else []
-        if ranges and value.range and tuple(value.range) not in ranges or [it for it in presets if it != value.preset]:
+        if ranges and tuple(value.range) not in ranges or [it for it in presets if it != value.preset]:
             takes = " to ".join(value.range) + (f", without it {value.preset}" if value.preset else "")
-            wrong.append(f"docs/commands.table: {command.name} {option.name} takes {takes}, and its text says otherwise: {told}")
+            wrong.append(f"{command.name} {option.name} takes {takes}, and its text says otherwise: {told}")
     return wrong
 
 

@@ -59,7 +59,8 @@ def of_command(table, command):
     more = [*command.more, "", *table.status_lines(command.statuses)]
     found = [constant(name, command.line, f"What `{command.name}` does, in a line.")]
     if words:
-        found.append(constant(f"{name}_USAGE", words, f"The usage of `{command.name}` after `Usage: `, on several lines, since one would have more than 80 columns."))
+        comment = f"The usage of `{command.name}` after `Usage: `, on several lines, since one would have more than 80 columns."
+        found.append(constant(f"{name}_USAGE", words, comment))
     return [*found, constant(f"{name}_MORE", narrow(more), f"The help of `{command.name}` after its words.")]
 
 
@@ -74,7 +75,7 @@ def helps(file):
 
 
 def with_item(source, opening, lines):
-    """The source, with these lines in the item that has this first line, N standing for a number, which becomes theirs; it ends where its first line begins."""
+    """The source, with these lines in the item that has this first line, N standing for the number of rows; its last line begins where its first one does."""
     indent = " " * (len(opening) - len(opening.lstrip()))
     closing = {"{": "}", "[": "];"}[opening[-1]]
     pattern = re.compile("^" + re.escape(opening).replace("N\\]", r"\d+\]") + rf"\n.*?^{re.escape(indent + closing)}$", re.M | re.S)
@@ -135,13 +136,14 @@ def commands(table, old):
 
 def names(table, old):
     """The variants of the commands, and which text of the helps is whose."""
-    def arms(end, wanted=table.commands, form="{}"):
-        return [f"        CommandName::{it.row} => {form.format(f'{it.file}::{it.name.upper()}{end}')}," for it in wanted]
-    several = arms("_USAGE", [it for it in table.commands if usage(it)], "Some({})")
+    def texts(end, form="{}"):
+        return [(it, form.format(f"{it.file}::{it.name.upper()}{end}")) for it in table.commands]
+    usages = [(it, text) for it, text in texts("_USAGE", "Some({})") if usage(it)]
     found = with_item(old, "pub(crate) enum CommandName {", variants(it.row for it in table.commands))
-    for name, told in (("about(self) -> &'static str", arms("")), ("usage(self) -> Option<&'static str>", [*several, "        _ => None,"]),
-                       ("more(self) -> &'static str", arms("_MORE"))):
-        found = with_item(found, f"    pub(crate) fn {name} {{", ["    match self {", *told, "    }"])
+    for name, told, other in (("about(self) -> &'static str", texts(""), []), ("usage(self) -> Option<&'static str>", usages, ["        _ => None,"]),
+                              ("more(self) -> &'static str", texts("_MORE"), [])):
+        lines = [f"        CommandName::{it.row} => {text}," for it, text in told]
+        found = with_item(found, f"    pub(crate) fn {name} {{", ["    match self {", *lines, *other, "    }"])
     return found
 
 
@@ -157,17 +159,21 @@ def arms(source, function):
     return {name: told for variants, told in found for name in re.findall(r"Takes::(\w+)", variants)}
 
 
-def words(text, constants):
-    """The words of an array of texts, or of a constant."""
-    for name, told in constants.items():
-        text = text.replace(name, told)
-    return re.findall(r'"([^"]*)"', text)
+def texts(told, constants):
+    """The texts of an array, or of the constant that stands for one."""
+    for name, array in constants.items():
+        told = told.replace(name, array)
+    return re.findall(r'"([^"]*)"', told)
 
 
-def spelled(told):
+def range_of(parser):
+    """The least and the most number that is taken, where it is one."""
+    return re.findall(r"\d+", parser.replace("u64::MAX", str(2**64 - 1))) if "Unsigned" in parser else []
+
+
+def spelled(shown, numbers, names, preset):
     """What an option takes, as a text: what it is called, its range, its names, and what counts without it."""
-    shown, numbers, texts, preset = (" ".join(words) for words in told)
-    return f"'{' '.join(filter(None, (shown, numbers, texts, preset and f'default {preset}')))}'"
+    return " ".join(filter(None, [*shown, " to ".join(numbers), *names, *(f"default {it}" for it in preset)]))
 
 
 def unlike_values(table, read):
@@ -177,10 +183,10 @@ def unlike_values(table, read):
                  "HashName::NAMES": re.search(r"const NAMES.*?= &\[(.*?)\]", read(HASHES))[1]}
     parsers, shown, presets = (arms(source, function) for function in ("parser", "names", "preset"))
     wrong = [f"{TAKES} has Takes::{name}, docs/commands.table hasn't" for name in sorted(set(shown) - set(table.values))]
-    for value in table.values.values():
-        numbers = re.findall(r"\d+", parsers.get(value.name, "").replace("u64::MAX", str(2**64 - 1))) if "Unsigned" in parsers.get(value.name, "") else []
-        told = words(shown.get(value.name, ""), {}), numbers, words(parsers.get(value.name, ""), constants), words(presets.get(value.name, ""), {})
-        owed = [it for it in [value.shown] if it], value.range, value.names, [it for it in [value.preset] if it]
-        if told != owed or value.name not in shown:
-            wrong.append(f"{TAKES} says of Takes::{value.name} {spelled(told)}, docs/commands.table {spelled(owed)}")
+    for name, value in table.values.items():
+        parser = parsers.get(name, "")
+        told = spelled(texts(shown.get(name, ""), {}), range_of(parser), texts(parser, constants), texts(presets.get(name, ""), {}))
+        owed = spelled(filter(None, [value.shown]), value.range, value.names, filter(None, [value.preset]))
+        if told != owed or name not in shown:
+            wrong.append(f"{TAKES} says of Takes::{name} '{told}', docs/commands.table '{owed}'")
     return wrong

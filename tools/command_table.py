@@ -10,10 +10,10 @@ TABLE = os.path.join(crates.TOP, "docs", "commands.table")
 WIDTH = 80
 # the status of a command that did what it was asked for is that of its help, too
 HELPED = ", or help was asked for"
-# what stands beneath each kind: the fields that it has to have, and those that it may have
-FIELDS = {"program": ("date version line more status last", ""), "value": ("", "range names default offers file alone"), "option": ("help", "in-code shells"),
-          "operand": ("help", ""), "choice": ("name", ""), "text": ("", ""),
-          "command": ("line operands prints more status", "file overwrites options choices form shells page")}
+# of each kind how many words its line has at least and at most, and what stands beneath it: the fields that it has to have, and those that it may have
+KINDS = {"program": (0, 0, "date version line more status last", ""), "value": (1, 3, "", "range names default offers file alone"),
+         "option": (3, 4, "help", "in-code shells"), "operand": (3, 4, "help", ""), "choice": (2, 9, "name", ""), "text": (1, 1, "", ""),
+         "command": (1, 1, "line operands prints more status", "file overwrites options choices form shells page")}
 
 
 class Fault(Exception):
@@ -28,10 +28,13 @@ class Record:
         self.line, self.text, self.fields = line, [], []
 
     def judge(self):
-        """Refuses a kind that isn't known, a field that it hasn't, and one that is missing."""
-        if self.kind not in FIELDS:
+        """Refuses a kind that isn't known, a line that doesn't fit it, a field that it hasn't, and one that is missing."""
+        if self.kind not in KINDS:
             raise Fault(f"there is no kind {self.kind}")
-        needed, allowed = (set(names.split()) for names in FIELDS[self.kind])
+        least, most, *fields = KINDS[self.kind]
+        if not least <= len(self.words) <= most:
+            raise Fault(f"{self.line}: {self.kind} has {least} to {most} words more")
+        needed, allowed = (set(names.split()) for names in fields)
         told = {field for field, _, _ in self.fields}
         if told - needed - allowed:
             raise Fault(f"{self.line}: it may not have {' '.join(sorted(told - needed - allowed))}")
@@ -108,9 +111,6 @@ class Option:
         self.value, self.needed = values[value], bool(needed)
         self.help, self.code = record.rest("help"), record.rest("in-code")
         self.shells = record.rest("shells") or self.help
-
-    def shown(self, joint=" "):
-        return self.name + (joint + self.value.shown if self.value.shown else "")
 
 
 class Operand:
@@ -191,7 +191,7 @@ class Table:
     """All of the table."""
 
     def __init__(self, text):
-        of_kind = {kind: [] for kind in FIELDS}
+        of_kind = {kind: [] for kind in KINDS}
         for record in records(text):
             record.judge()
             of_kind[record.kind].append(record)
