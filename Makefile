@@ -8,6 +8,7 @@
 #             processor time by crate for its proof, its tests and its wrong bodies, and at its end the sums
 #   quick     between gates: proofs and tests of the crates that changed since BASE (the last commit) and of what stands on them
 #   plants    between gates: the wrong bodies of CRATE (of all), planted together, each refused at its own function
+#   texts     make of docs/commands.table what repeats it: the helps' texts, parts of the page and of COMMANDS, and the completions
 #   install   put the program into PREFIX/bin, its manual page into MANDIR, its completions into BASHCOMPDIR, ZSHCOMPDIR and FISHCOMPDIR
 #             (PREFIX is /usr/local, the others are Debian's places under it, for fish /etc/fish/completions, since fish looks into none there;
 #             all under DESTDIR where that is given)
@@ -35,7 +36,7 @@ FISHCOMPDIR ?= $(if $(filter /usr/local,$(PREFIX)),/etc/fish/completions,$(PREFI
 
 SOURCES := crates.txt $(shell find crates -name out -prune -o -type f -print)
 
-.PHONY: help demo build library install-library test gate quick plants install uninstall dist deb bench interop clean toolchain
+.PHONY: help demo build library install-library test gate quick plants texts install uninstall dist deb bench interop clean toolchain
 
 help:
 	@sed -n '/^#/!q; s/^#$$//p; s/^# //p' $(firstword $(MAKEFILE_LIST))
@@ -75,6 +76,9 @@ quick: toolchain
 
 plants: toolchain
 	@RT="$(RT)" tools/plants $(CRATE)
+
+texts:
+	@tools/commands
 
 install: bin/luks
 	install -D -m 755 bin/luks "$(DESTDIR)$(PREFIX)/bin/luks"

@@ -1,4 +1,4 @@
-# bash completion for luks(1)
+# bash completion for luks(1), made by tools/commands
 
 _luks() {
     # each command with its options
@@ -21,29 +21,31 @@ _luks() {
         [explain]="--help"
         [help]="--help"
     )
-    local word=${COMP_WORDS[COMP_CWORD]} before=${COMP_WORDS[COMP_CWORD - 1]} words=
+    local word=${COMP_WORDS[COMP_CWORD]} before=${COMP_WORDS[COMP_CWORD - 1]} words= value=
     # of --slot=3 bash makes three words, --slot and = and 3
     if [[ $word == = ]]; then
         word=
     elif [[ $before == = ]] && ((COMP_CWORD > 2)); then
         before=${COMP_WORDS[COMP_CWORD - 2]}
     fi
-    # these take no file
+    # what stands behind these options is no file, but one of these words, where some are known
     case $before in
-        --slot | --by | --to | --version | --hash | --iterations | --iter-time | --kdf | --kdf-memory | --passes | --lanes | --memory | --uuid | --offset | --length) compopt +o default 2>/dev/null ;;
+        --slot | --to | --by) value=1 words="$(echo {0..31})" ;;
+        --memory | --iterations | --uuid | --offset | --length | --payload | --kdf-memory | --passes | --iter-time) value=1 ;;
+        --version) value=1 words="1 2" ;;
+        --hash) value=1 words="sha1 sha256 sha512" ;;
+        --size) value=1 words="16384 32768 65536 131072 262144 524288 1048576 2097152 4194304" ;;
+        --cipher) value=1 words="aes-xts-plain64 aes-cbc-essiv:sha256" ;;
+        --key-bytes) value=1 words="16 32 64" ;;
+        --kdf) value=1 words="pbkdf2 argon2i argon2id" ;;
+        --lanes) value=1 words="$(echo {1..4})" ;;
     esac
     if ((COMP_CWORD == 1)); then
         words="${!options[*]} --help --version"
     elif [[ ${COMP_WORDS[1]} == help ]]; then
         words="${!options[*]}"
-    elif [[ $before == --slot || $before == --by || $before == --to ]]; then
-        words=$(echo {0..31})
-    elif [[ $before == --version ]]; then
-        words="1 2"
-    elif [[ $before == --hash ]]; then
-        words="sha1 sha256 sha512"
-    elif [[ $before == --kdf ]]; then
-        words="pbkdf2 argon2i argon2id"
+    elif [[ $value == 1 ]]; then
+        compopt +o default 2>/dev/null
     elif [[ $word == -* ]]; then
         words=${options[${COMP_WORDS[1]}]}
     elif [[ ${COMP_WORDS[1]} == explain ]]; then
