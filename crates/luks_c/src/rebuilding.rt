@@ -4,7 +4,7 @@ ghost use Rattle.luks_given.specs.Volume.{volume};
 ghost use Rattle.luks_c_headers.specs.RebuildAnswers.{AnswersRebuild, AnswersWithUuid, IsNoText, which_asked};
 
 use luks_c_answers::{LuksPlan, USAGE};
-use luks_c_headers::{NoText, rebuild_given, text_of, which_of};
+use luks_c_headers::{NoText, copies_asked, rebuild_given, text_of};
 use luks_given::PlannedCall;
 use std::alloc::Global;
 use std::marker::Brand;
@@ -49,7 +49,7 @@ pub extern "C" fn luks_rebuild2_bytes(
     }
     match text_of(uuid) {
         Ok(uuid) => {
-            let which = which_of(is_second, size);
+            let which = copies_asked(is_second, size);
             rebuild_given::<Brand, Brand>(
                 alloc,
                 source,

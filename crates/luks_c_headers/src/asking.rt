@@ -16,7 +16,7 @@ const NO_NUMBER: u32 = 0xFFFF_FFFF;
 pub struct NoText;
 
 /// The copies that are asked for.
-pub fn which_of(is_second: bool, size: u64) -> Which
+pub fn copies_asked(is_second: bool, size: u64) -> Which
     ensures { result ≡ which_asked is_second size }
 {
     match (is_second, size) {

@@ -10,7 +10,7 @@ mod rebuilding;
 mod rebuilding1;
 mod restoring;
 
-pub use asking::{NoText, fields_of, text_of, which_of};
+pub use asking::{NoText, copies_asked, fields_of, text_of};
 pub use backing_up::backup_given;
 pub use comparing::{LuksCompared, compare_given};
 pub use converting::convert_given;

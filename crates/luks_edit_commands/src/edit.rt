@@ -26,7 +26,7 @@ use luks_commands::{
 use luks_notes::{MemoryNote, OlderNote};
 use luks_request::Editing;
 use luks_volume::{Device, Edit, EditFault};
-use seen::{Unseen, note_leaving_argon2, note_refused, note_wanting, note_weaker, see};
+use seen::{Unseen, look_at_volume, note_leaving_argon2, note_refused, note_wanting, note_weaker};
 use std::alloc::Global;
 use std::io::{Read, Write};
 use words::words;
@@ -126,7 +126,7 @@ fn edit_device<D: Device, N: Read, E: Write>(
         → HoldsBack editing.now.over (D.bytes device.old) (D.bytes device.new) result }
 {
     let payload = editing.payload;
-    let seen = match see(alloc, device, editing, edit) {
+    let seen = match look_at_volume(alloc, device, editing, edit) {
         Ok(seen) => seen,
         Err(unseen) => return not_begun(unseen, name, err),
     };

@@ -1,1 +1,3 @@
 pub mod Executed
+pub mod Parted
+pub mod AnswerValue

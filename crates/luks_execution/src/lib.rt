@@ -1,8 +1,13 @@
-//! The program `luks` over values: what the command that a command line asks for answers. The files are opened
-//! by whoever calls this, and the answer is printed by whoever calls it.
+//! The program `luks` over values: what the command that a command line asks for answers, and the JSON object
+//! that `check --json` and `open --json` print of an answer and of what standard error says beside it. The
+//! files are opened by whoever calls this, and the answer is printed by whoever calls it.
 #![tactic(auto)]
 
 mod execution;
+mod members;
+mod object;
+mod parted;
+mod texts;
 
 pub use execution::execute;
 pub use luks_commands::{
@@ -16,3 +21,4 @@ pub use luks_request::{
 };
 pub use luks_signatures::OtherUse;
 pub use luks_volume::Data;
+pub use object::answer_json;

@@ -5,7 +5,7 @@ ghost use Rattle.luks_area.specs.Device.{IsSettled};
 use crate::commands::{Given, counted_from, run};
 use crate::volume_files::{NEW, has_sum, make_new};
 use luks_area::{Device, FaultyDevice, FileDevice, Leave};
-use luks_edit_commands::{InputFault, Inputs};
+use luks_execution::{InputFault, Inputs};
 use luks_samples::new_folder;
 use luks_sessions::Told;
 use std::alloc::Global;

@@ -49,7 +49,7 @@ fn check_volume<K: Disk, D: Device, E: Write>(
         (D.failed device) (D.failed result.1) result.0 }
 {
     let mut volume = Ok(VolumeAt::<D, K>::new(device, start));
-    let verdict = check::answer(alloc, &mut volume, file.name, Data::Here, err);
+    let verdict = check::run(alloc, &mut volume, file.name, Data::Here, err);
     match volume {
         Ok(volume) => (verdict, volume.into_inner()),
         Err(_) => unreachable!(),

@@ -22,7 +22,7 @@ use Rattle.luks_commands.specs.declared.answers.Answer.TheVariants as answer
 use Rattle.luks_commands.specs.declared.answers.Refusal.TheVariants as refusal
 use Rattle.luks_commands.specs.declared.answers.Status.TheVariants.{NotInStep}
 use Rattle.luks_commands.specs.Answer.{answer_status, rebuild_fault_answer, rebuild1_fault_answer}
-use Rattle.luks_header_commands.specs.Rebuilding.{given_of, which_of, IsAnswerOf, IsLuks1Answer, IsLuks2Answer, IsNewHeader, IsNewHeader1, KeepsMeant, LeadsToLuks1, StaysLuks2}
+use Rattle.luks_header_commands.specs.Rebuilding.{given_of, copies_asked, IsAnswerOf, IsLuks1Answer, IsLuks2Answer, IsNewHeader, IsNewHeader1, KeepsMeant, LeadsToLuks1, StaysLuks2}
 use Rattle.luks_header_commands.specs.Target.{IsLater, NoneFailed, Pair}
 use Rattle.luks_header_commands.proofs.TargetFacts.{bytes_later, none_later, one_later, said_later, same_later}
 use Rattle.luks_header_commands.specs.Turned.{stays, turns, unread, IsTurnedRest, MayLead, Turned}
@@ -101,12 +101,12 @@ luks2_later tells which given random d e a later said = absurd said
 pub meant_later : (meant : Meant) (tells : Type 0) (r : Rebuilding) (given : Given) (random : List ℕ) (d e : Pair) (a : Answer) → IsLater tells d e
     → IsAnswerOf meant tells r given random d a → IsAnswerOf meant tells r given random e a
 meant_later Luks1 tells r given random d e a later said = luks1_later tells given d e a later said
-meant_later Luks2 tells r given random d e a later said = luks2_later tells (which_of r) (given_of r) random d e a later said
+meant_later Luks2 tells r given random d e a later said = luks2_later tells (copies_asked r) (given_of r) random d e a later said
 meant_later Either tells r given random d e a later (inl said) =
-    inl (luks2_later tells (which_of r) (given_of r) random d e a later said.0, λ told. subst (λ (v : List ℕ). StaysLuks2 v a) (later.volume told) (said.1 told))
+    inl (luks2_later tells (copies_asked r) (given_of r) random d e a later said.0, λ told. subst (λ (v : List ℕ). StaysLuks2 v a) (later.volume told) (said.1 told))
 meant_later Either tells r given random d e a later (inr said) = inr (record {
   fault = said.fault;
-  first = said_later tells d e (λ v n. IsAnsweredFault v (which_of r) (given_of r) n random said.fault) later said.first;
+  first = said_later tells d e (λ v n. IsAnsweredFault v (copies_asked r) (given_of r) n random said.fault) later said.first;
   leads = said_later tells d e (λ v n. LeadsToLuks1 v said.fault) later said.leads;
   is = luks1_later tells given d e a later said.is;
   has_header = said.has_header;
@@ -171,20 +171,20 @@ turned_later tells luks1 f d e a later (turns leads said has) =
 
 -- what is answered of either version then
 turned_either : (tells : Type 0) (r : Rebuilding) (luks1 : Given) (random : List ℕ) (e : Pair) (f : RebuildFault) (a : Answer) → MayLead f
-    → (tells → IsAnsweredFault e.volume (which_of r) (given_of r) e.total random f) → Turned tells luks1 f e a → IsAnswerOf Either tells r luks1 random e a
+    → (tells → IsAnsweredFault e.volume (copies_asked r) (given_of r) e.total random f) → Turned tells luks1 f e a → IsAnswerOf Either tells r luks1 random e a
 turned_either tells r luks1 random e f a led first (stays none same lacks is) =
     inl (
-      subst (IsLuks2Answer tells (which_of r) (given_of r) random e) (sym is) (led_answer tells (which_of r) (given_of r) random e f led none same first),
+      subst (IsLuks2Answer tells (copies_asked r) (given_of r) random e) (sym is) (led_answer tells (copies_asked r) (given_of r) random e f led none same first),
       λ told. subst (StaysLuks2 e.volume) (sym is) (lacks told),
     )
 turned_either tells r luks1 random e f a led first (unread one is) =
-    inl (subst (IsLuks2Answer tells (which_of r) (given_of r) random e) (sym is) one, λ told. subst (StaysLuks2 e.volume) (sym is) tt)
+    inl (subst (IsLuks2Answer tells (copies_asked r) (given_of r) random e) (sym is) one, λ told. subst (StaysLuks2 e.volume) (sym is) tt)
 turned_either tells r luks1 random e f a led first (turns leads said has) = inr (record { fault = f; first = first; leads = leads; is = said; has_header = has })
 
-pub turned_answers : (tells : Type 0) (r : Rebuilding) (luks1 : Given) (random : List ℕ) (d e : Pair) (w : Which) (f0 f : RebuildFault) (a : Answer) → MayLead f → w ≡ which_of r
+pub turned_answers : (tells : Type 0) (r : Rebuilding) (luks1 : Given) (random : List ℕ) (d e : Pair) (w : Which) (f0 f : RebuildFault) (a : Answer) → MayLead f → w ≡ copies_asked r
     → f0 ≡ f → IsLater tells d e → (tells → IsAnsweredFault e.volume w (given_of r) e.total random f0) → Turned tells luks1 f d a → IsAnswerOf Either tells r luks1 random e a
 turned_answers tells r luks1 random d e w f0 f a led same_which same later first turned =
-    turned_either tells r luks1 random e f a led (λ told. first_as e.volume w (which_of r) (given_of r) e.total random f0 f same_which same (first told))
+    turned_either tells r luks1 random e f a led (λ told. first_as e.volume w (copies_asked r) (given_of r) e.total random f0 f same_which same (first told))
     (turned_later tells luks1 f d e a later turned)
 
 -- LUKS2 answers otherwise
@@ -196,14 +196,14 @@ other_stays v Device a b = tt
 other_stays v f a b = λ leads. absurd leads.leads
 
 -- which bytes have changed then
-turned_kept : (r : Rebuilding) (luks1 : Given) (f : RebuildFault) (v old new : List ℕ) → IsRebuildFault v (which_of r) None 0 [] f → IsTurnedRest luks1 f v old new
+turned_kept : (r : Rebuilding) (luks1 : Given) (f : RebuildFault) (v old new : List ℕ) → IsRebuildFault v (copies_asked r) None 0 [] f → IsTurnedRest luks1 f v old new
     → KeepsMeant Either r luks1 v old new
-turned_kept r luks1 f v old new is (inl same) = inl (subst (λ (n : List ℕ). SameBut (IsOfRebuilt v (which_of r)) old n) (sym same) (same_but _ old))
+turned_kept r luks1 f v old new is (inl same) = inl (subst (λ (n : List ℕ). SameBut (IsOfRebuilt v (copies_asked r)) old n) (sym same) (same_but _ old))
 turned_kept r luks1 f v old new is (inr x) = inr (record { fault = f; is = is; leads = x.0 }, x.1)
 
-pub turned_rest : (r : Rebuilding) (luks1 : Given) (w : Which) (total : ℕ) (random : List ℕ) (f0 f : RebuildFault) (v v' old old' new : List ℕ) → MayLead f → w ≡ which_of r → f0 ≡ f
+pub turned_rest : (r : Rebuilding) (luks1 : Given) (w : Which) (total : ℕ) (random : List ℕ) (f0 f : RebuildFault) (v v' old old' new : List ℕ) → MayLead f → w ≡ copies_asked r → f0 ≡ f
     → v' ≡ v → old' ≡ old → IsAnsweredFault v w (given_of r) total random f0 → IsTurnedRest luks1 f v' old' new → KeepsMeant Either r luks1 v old new
 turned_rest r luks1 w total random f0 f v v' old old' new led same_which same same_v same_old first rest =
     turned_kept r luks1 f v old new
-    (led_there v (which_of r) (given_of r) total random f led (first_as v w (which_of r) (given_of r) total random f0 f same_which same first))
+    (led_there v (copies_asked r) (given_of r) total random f led (first_as v w (copies_asked r) (given_of r) total random f0 f same_which same first))
     (subst (λ (o : List ℕ). IsTurnedRest luks1 f v o new) same_old (subst (λ (x : List ℕ). IsTurnedRest luks1 f x old' new) same_v rest))

@@ -42,8 +42,8 @@ which_by true None = Second
 which_by false (Some size) = OfSize size
 which_by true (Some size) = SecondOfSize size
 
-abbrev pub which_of : Rebuilding → Which
-which_of rebuilding = which_by rebuilding.second rebuilding.size
+abbrev pub copies_asked : Rebuilding → Which
+copies_asked rebuilding = which_by rebuilding.second rebuilding.size
 
 abbrev pub given_of : Rebuilding → Option (List ℕ)
 given_of rebuilding = option_map (λ text. text.now) rebuilding.uuid
@@ -153,9 +153,9 @@ pub record TurnsToLuks1 (tells : Type 0) (which : Which) (given : Option (List �
 
 abbrev pub KeepsMeant : Meant → Rebuilding → Given → List ℕ → List ℕ → List ℕ → Type 0
 KeepsMeant Luks1 r given volume old new = KeepsRest1 given volume old new
-KeepsMeant Luks2 r given volume old new = KeepsRest2 (which_of r) volume old new
+KeepsMeant Luks2 r given volume old new = KeepsRest2 (copies_asked r) volume old new
 KeepsMeant Either r given volume old new =
-    KeepsRest2 (which_of r) volume old new ⊎ (MayBeLuks1 volume (which_of r) × KeepsRest1 given volume old new)
+    KeepsRest2 (copies_asked r) volume old new ⊎ (MayBeLuks1 volume (copies_asked r) × KeepsRest1 given volume old new)
 
 pub record KeepsGiven (r : Rebuilding) (volume old new : List ℕ) : Type 0 where
   pub given : Given
@@ -168,10 +168,10 @@ KeepsRest r volume old new = (new ≡ old) ⊎ KeepsGiven r volume old new
 
 abbrev pub IsAnswerOf : Meant → Type 0 → Rebuilding → Given → List ℕ → Pair → Answer → Type 0
 IsAnswerOf Luks1 tells r given random d a = IsLuks1Answer tells given d a
-IsAnswerOf Luks2 tells r given random d a = IsLuks2Answer tells (which_of r) (given_of r) random d a
+IsAnswerOf Luks2 tells r given random d a = IsLuks2Answer tells (copies_asked r) (given_of r) random d a
 IsAnswerOf Either tells r given random d a =
-    (IsLuks2Answer tells (which_of r) (given_of r) random d a × (tells → StaysLuks2 d.volume a))
-    ⊎ TurnsToLuks1 tells (which_of r) (given_of r) random given d a
+    (IsLuks2Answer tells (copies_asked r) (given_of r) random d a × (tells → StaysLuks2 d.volume a))
+    ⊎ TurnsToLuks1 tells (copies_asked r) (given_of r) random given d a
 
 -- what is answered where no passphrase is named
 pub record IsRebuildAnswer (tells : Type 0) (r : Rebuilding) (random : List ℕ) (d : Pair) (a : Answer) : Type 0 where

@@ -9,9 +9,7 @@ ghost use Rattle.luks_header_commands.specs.Target.{AreOneFile, IsSameFile, Leav
 ghost use Rattle.luks_header_commands.specs.Target.{SettlesTarget};
 
 use crate::header_work::{HeaderFiles, HeaderWork, READING_FAILED, TARGET_FAILED, make_header};
-use luks_commands::{
-    Answer, Inputs, RandomBytes, Refusal, Status, device_fault, few_random_bytes,
-};
+use luks_commands::{Answer, Inputs, RandomBytes, Refusal, Status, device_fault, few_random_bytes};
 use luks_converting::{CONVERT_RANDOM, ConvertFault, convert};
 use luks_reading::{Data, Device};
 use luks_request::{Converting, Place};

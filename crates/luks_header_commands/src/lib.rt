@@ -11,4 +11,4 @@ pub mod rebuild;
 mod trying;
 
 pub use luks1_rebuilding::trial::{Progress, Untold};
-pub use of_metadata::which_of;
+pub use of_metadata::copies_asked;

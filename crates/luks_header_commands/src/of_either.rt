@@ -10,7 +10,7 @@ ghost use Rattle.luks_request.specs.declared.rebuilding.Meant.TheVariants.{Eithe
 
 use crate::header_work::{READING_FAILED, TARGET_FAILED};
 use crate::of_fields::make_of_fields;
-use crate::of_metadata::{not_of_metadata, note_metadata, which_of};
+use crate::of_metadata::{copies_asked, not_of_metadata, note_metadata};
 use crate::rebuild::Making;
 use luks_commands::{Answer, Refusal, Status, device_fault};
 use luks_reading::{Device, DeviceFault};
@@ -46,7 +46,7 @@ pub(crate) fn make_of_either<D: Device, E: Write>(
 {
     let files = making.files;
     let before = volume.failures();
-    let which = which_of(&making.rebuilding);
+    let which = copies_asked(&making.rebuilding);
     match rebuild(alloc, volume, target, which, making.rebuilding.uuid, random) {
         Ok(()) => {
             note_metadata(files, err);
@@ -54,10 +54,10 @@ pub(crate) fn make_of_either<D: Device, E: Write>(
         }
         Err(fault) => match fault {
             RebuildFault::NoMetadata => {
-                turned(RebuildFault::NoMetadata, volume, target, making, given, err)
+                make_where_led(RebuildFault::NoMetadata, volume, target, making, given, err)
             }
             RebuildFault::Counts => {
-                turned(RebuildFault::Counts, volume, target, making, given, err)
+                make_where_led(RebuildFault::Counts, volume, target, making, given, err)
             }
             _ => refused(fault, volume.failures() != before, making, random, err),
         },
@@ -85,7 +85,7 @@ fn refused<E: Write>(
 
 /// Makes a LUKS1 header where LUKS2's fault leads there and the volume has signs of one; else that fault is
 /// the answer.
-fn turned<D: Device, E: Write>(
+fn make_where_led<D: Device, E: Write>(
     fault: RebuildFault,
     volume: &mut D,
     target: &mut D,
@@ -107,15 +107,15 @@ fn turned<D: Device, E: Write>(
     ensures answers { Turned D.tells given.now fault (pair_of D.size D.bytes
         D.failed volume.old volume.new target.old target.new) result }
 {
-    match leads(fault, volume) {
-        Ok(true) => instead(fault, volume, target, making, given, err),
+    match leads_to_luks1(fault, volume) {
+        Ok(true) => make_luks1(fault, volume, target, making, given, err),
         Ok(false) => Answer::from(fault),
         Err(DeviceFault) => device_fault(making.files.volume, READING_FAILED, err),
     }
 }
 
 /// Makes a LUKS1 header; where the volume has no signs of one, LUKS2's fault is the answer.
-fn instead<D: Device, E: Write>(
+fn make_luks1<D: Device, E: Write>(
     fault: RebuildFault,
     volume: &mut D,
     target: &mut D,
@@ -145,7 +145,7 @@ fn instead<D: Device, E: Write>(
 }
 
 /// Whether LUKS2's fault leads to LUKS1, by the volume's first 592 bytes.
-fn leads<D: Device>(fault: RebuildFault, volume: &mut D) -> Result<bool, DeviceFault>
+fn leads_to_luks1<D: Device>(fault: RebuildFault, volume: &mut D) -> Result<bool, DeviceFault>
     requires { D.failed volume.old + 1 < 2 ^ 64 }
     ensures unchanged { IsUnchanged D.tells D.size D.bytes D.unsettled volume.old volume.new }
     ensures count { CountsFailure is_failure result (D.failed volume.old) (D.failed volume.new) }

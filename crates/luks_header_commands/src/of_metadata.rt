@@ -2,7 +2,7 @@
 ghost use Rattle.std.specs.Prelude.{◌≡◌, ◌≢◌, ◌+◌, ◌<◌, ◌^◌};
 ghost use Rattle.luks_area.specs.Device.{IsSettled, IsUnchanged};
 ghost use Rattle.luks_commands.specs.Answer.{answer_status, rebuild_fault_answer};
-ghost use Rattle.luks_header_commands.specs.Rebuilding.{given_of, IsLuks2Answer, KeepsRest2, which_of};
+ghost use Rattle.luks_header_commands.specs.Rebuilding.{given_of, IsLuks2Answer, KeepsRest2, copies_asked};
 ghost use Rattle.luks_header_commands.specs.Target.{pair_of};
 
 use crate::header_work::{HeaderFiles, READING_FAILED, TARGET_FAILED};
@@ -28,18 +28,18 @@ pub(crate) fn make_of_metadata<D: Device, E: Write>(
     requires settled { D.tells → IsSettled D.unsettled target.old }
     ensures unchanged { IsUnchanged D.tells D.size D.bytes D.unsettled volume.old volume.new }
     ensures size { D.size target.new ≡ D.size target.old }
-    ensures rest { D.tells → KeepsRest2 (which_of making.now.rebuilding)
+    ensures rest { D.tells → KeepsRest2 (copies_asked making.now.rebuilding)
         (D.bytes volume.old) (D.bytes target.old) (D.bytes target.new) }
     ensures settled { D.tells → D.failed volume.new ≡ D.failed volume.old
         → D.failed target.new ≡ D.failed target.old → IsSettled D.unsettled target.new }
     ensures kinds { answer_status result ≢ Status.NotInStep }
-    ensures answers { IsLuks2Answer D.tells (which_of making.now.rebuilding)
+    ensures answers { IsLuks2Answer D.tells (copies_asked making.now.rebuilding)
         (given_of making.now.rebuilding) random.now (pair_of D.size D.bytes D.failed
         volume.old volume.new target.old target.new) result }
 {
     let files = making.files;
     let before = volume.failures();
-    let which = which_of(&making.rebuilding);
+    let which = copies_asked(&making.rebuilding);
     match rebuild(alloc, volume, target, which, making.rebuilding.uuid, random) {
         Ok(()) => {
             note_metadata(files, err);
@@ -77,8 +77,8 @@ pub(crate) fn not_of_metadata<E: Write>(
 }
 
 /// Which copies the words of the command line ask for.
-pub fn which_of(rebuilding: &Rebuilding<'_>) -> Which
-    ensures { result ≡ which_of rebuilding.now }
+pub fn copies_asked(rebuilding: &Rebuilding<'_>) -> Which
+    ensures { result ≡ copies_asked rebuilding.now }
 {
     match (rebuilding.second, rebuilding.size) {
         (false, None) => Which::Any,

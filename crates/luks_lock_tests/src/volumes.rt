@@ -3,7 +3,7 @@ ghost use Rattle.std.specs.Prelude.{◌≡◌, IfOk};
 ghost use Rattle.luks_guarded_files.specs.Cached.{cached_failures};
 
 use luks_area::FileDevice;
-use luks_edit_commands::{InputFault, Inputs, Reason};
+use luks_execution::{InputFault, Inputs, Reason};
 use luks_guarded_files::{
     CachedDevice, FittedFile, Host, LockedDevice, Notice, OpenFault, open_locked,
 };

@@ -21,7 +21,7 @@ use Rattle.luks_commands.specs.declared.answers.Refusal.TheVariants as refusal
 use Rattle.luks_commands.specs.declared.inputs.InputFault.{InputFault}
 use Rattle.luks_commands.specs.declared.inputs.InputFault.TheVariants.{Absent, Unreadable, NoMemory as NoMemoryToRead}
 use Rattle.luks_commands.specs.declared.inputs.Reason.TheVariants as reason
-use Rattle.luks_commands.specs.Answer.{answer_status, current_status, IsWordless, Prints, unread_answer}
+use Rattle.luks_commands.specs.Answer.{answer_status, current_status, IsWordless, unread_answer}
 use Rattle.luks_commands.specs.Exit.{exit_status}
 use Rattle.luks_commands.specs.Standing.{bar_answer, HasOther, IsBar}
 use Rattle.luks_commands.specs.declared.standing.Bar.{Bar}
@@ -35,7 +35,7 @@ use Rattle.luks_rebuilding.specs.declared.place.Which.{Which}
 use Rattle.luks_commands.specs.ShowAnswers.{AnswersShow, IsFullAnswer, IsJsonAnswer, IsListedAnswer, IsMapAnswer, IsShowAnswer}
 use Rattle.luks_header_commands.specs.Converting.{AnswersConvert, IsConvertAnswer}
 use Rattle.luks_header_commands.specs.Trying.{no_header, none_open, one_opens, trial_failed, AnswersBy, AnswersRebuild, IsTriedAnswer, TriedAnswer}
-use Rattle.luks_header_commands.specs.Rebuilding.{given_of, which_of, IsAnswerOf, IsLuks1Answer, IsLuks2Answer, IsRebuildAnswer}
+use Rattle.luks_header_commands.specs.Rebuilding.{given_of, copies_asked, IsAnswerOf, IsLuks1Answer, IsLuks2Answer, IsRebuildAnswer}
 use Rattle.luks_header_commands.specs.Target.{AnswersHeader, IsOtherTarget, IsSameFile, IsWithoutRandom, IsWithRandom, Pair, pair_of as header_pair}
 use Rattle.luks_keeping.specs.ComparisonTexts.{is_current}
 use Rattle.luks_keeping.specs.declared.backup_fault.BackupFault.TheVariants as backing_up
@@ -297,8 +297,8 @@ luks1_there tells given d a said = absurd said
 meant_there : (of : Meant) (tells : Type 0) (r : Rebuilding) (given : GivenFields) (random : List ℕ) (d : Pair) (a : Answer) → IsAnswerOf of tells r given random d a
     → EndsUntried a (own a)
 meant_there meant.Luks1 tells r given random d a said = luks1_there tells given d a said
-meant_there meant.Luks2 tells r given random d a said = luks2_there tells (which_of r) (given_of r) random d a said
-meant_there meant.Either tells r given random d a (inl said) = luks2_there tells (which_of r) (given_of r) random d a said.0
+meant_there meant.Luks2 tells r given random d a said = luks2_there tells (copies_asked r) (given_of r) random d a said
+meant_there meant.Either tells r given random d a (inl said) = luks2_there tells (copies_asked r) (given_of r) random d a said.0
 meant_there meant.Either tells r given random d a (inr said) = luks1_there tells given d a said.is
 
 rebuild_there : (tells : Type 0) (r : Rebuilding) (random : List ℕ) (d : Pair) (a : Answer) → IsRebuildAnswer tells r random d a → EndsUntried a (own a)
@@ -423,9 +423,3 @@ restore_same_file_ends a is = subst (λ x. EndsRestore x (own x)) (sym is) refl
 
 pub compare_same_file_ends : (a : Answer) → IsSameFile a → EndsCompare a (own a)
 compare_same_file_ends a is = subst (λ x. EndsCompare x (own x)) (sym is) refl
-
--- ---- what was printed
-
--- an answer that was printed as one of these was printed as one of those
-pub prints_as : (S T : Answer → Type 0) → ((a : Answer) → S a → T a) → (before after : ℕ) (held holds : Option (List ℕ)) (n : ℕ) → Prints S before after held holds n → Prints T before after held holds n
-prints_as S T each before after held holds n p = record { answer = p.answer; said = each p.answer p.said; printed = p.printed }

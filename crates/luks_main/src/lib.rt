@@ -8,6 +8,7 @@
 mod hints;
 mod outcome;
 mod progress;
+mod refusals;
 mod running;
 mod searching;
 mod told;

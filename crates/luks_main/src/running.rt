@@ -12,9 +12,7 @@ use crate::searching::search;
 use crate::told::{device_fault, explain, list_faults, no_memory, tell_untimed, tell_usage};
 use crate::trial::TrialLines;
 use crate::{FAULT, TOLD, USAGE};
-use luks_edit_commands::{
-    CountingPrinter, InputFault, Inputs, Line, OtherUse, Progress, Reason, Unprinted,
-};
+use luks_execution::{CountingPrinter, InputFault, Inputs, Line, OtherUse, Progress, Reason};
 use luks_files::{
     Openings, Passphrases, Volume, Volumes, has_changed, open_volumes, reader, take_away,
 };
@@ -30,7 +28,7 @@ use std::rc::Rc;
 use std::rt::{Clock, Env, Files};
 use std::{env, io};
 
-/// Runs the command line, and answers the exit status: beside those of `luks_edit_commands::execute` 2 where the words
+/// Runs the command line, and answers the exit status: beside those of `luks_execution::execute` 2 where the words
 /// are wrong, 0 where a help or an explanation was printed, and 4 where that can't be.
 ///
 /// No clause can say what its files and streams give: `luks_file_transcript` tests it. What a value can say has a
@@ -184,30 +182,28 @@ fn run_read<R: AllocGlobal + Clock + Files<File = File> + Input + Print + Eprint
     } = volumes;
     let mut inputs = inputs_of(rt, volume, target, passphrases, openings);
     let mut trial = TrialLines::new(rt, line, manner.quiet);
-    let mut outcome = outcome_beside(
-        rt.alloc(),
-        line,
-        manner,
-        &mut inputs,
-        &mut trial,
-        &is_source,
-    );
-    let is_noted = outcome.is_noted(manner);
+    let mut outcome = outcome_beside(rt.alloc(), line, &mut inputs, &mut trial, &is_source);
+    let is_noted = outcome.is_noted(manner.quiet);
     if is_noted {
         tell(rt, noticed.as_slice());
     }
     let mut out = CountingPrinter::new(io::writer(rt));
-    let printed = outcome.print_lines(&mut out);
-    let has_changed = has_changed(&inputs.volume);
-    take_unfinished(rt, line, made, outcome.status);
+    let printed = if manner.json {
+        None
+    } else {
+        Some(outcome.print_lines(rt.alloc(), &mut out))
+    };
+    take_unfinished(rt, line, made, outcome.status());
+    if is_noted || manner.json {
+        note_ended(rt.alloc(), line, standing, &mut inputs, &mut outcome);
+    }
     drop(inputs);
-    note_ended(rt, line, standing, has_changed, &mut outcome);
     if is_noted {
         tell(rt, outcome.notes.as_slice());
     }
     match printed {
-        Ok(()) => outcome.print_object(rt.alloc(), noticed.as_slice(), &mut out),
-        Err(Unprinted) => FAULT,
+        Some(status) => status,
+        None => outcome.print_object(rt.alloc(), noticed.as_slice(), &mut out),
     }
 }
 
@@ -215,7 +211,6 @@ fn run_read<R: AllocGlobal + Clock + Files<File = File> + Input + Print + Eprint
 fn outcome_beside<R: Files<File = File>, G: Progress>(
     alloc: Global,
     line: &Line<'_>,
-    manner: Manner,
     inputs: &mut Inputs<Volume, &[u8], LazyFile<'_, R>>,
     progress: &mut G,
     is_source: &Option<Rc<Cell<bool>>>,
@@ -224,12 +219,12 @@ fn outcome_beside<R: Files<File = File>, G: Progress>(
     requires target { IfOk inputs.old.target (λ device. cached_failures device ≡ 0) }
     ensures { IsOutcome line.now.command result }
 {
-    let outcome = outcome_of(alloc, line, manner, inputs, progress);
+    let outcome = outcome_of(alloc, line, inputs, progress);
     match is_source {
         Some(is_source) if is_source.get() => {
             inputs.volume = Err(InputFault::Absent);
             inputs.target = Err(InputFault::Unreadable(Reason::SameFile));
-            outcome_of(alloc, line, manner, inputs, progress)
+            outcome_of(alloc, line, inputs, progress)
         }
         _ => outcome,
     }
@@ -250,24 +245,24 @@ fn take_unfinished<R: Clock + Files<File = File>>(
 }
 
 /// Notes what is to be known of how the command has ended, beside what it noted itself.
-fn note_ended<R: AllocGlobal + Clock + Files<File = File>>(
-    rt: &R,
+fn note_ended<R: Files<File = File>>(
+    alloc: Global,
     line: &Line<'_>,
     standing: Option<OtherUse>,
-    has_changed: bool,
+    inputs: &mut Inputs<Volume, &[u8], LazyFile<'_, R>>,
     outcome: &mut Outcome,
 )
-    ensures status { outcome.new.status ≡ outcome.old.status }
-    ensures answer { outcome.new.answer ≡ outcome.old.answer }
-    ensures lines { outcome.new.lines ≡ outcome.old.lines }
+    ensures { outcome.new.answer ≡ outcome.old.answer }
 {
     let is_silent = outcome.notes.is_empty();
-    if has_changed {
+    if has_changed(&inputs.volume) {
         note_changed(line.volume, &mut outcome.notes);
     }
-    let ended = Ended::new(outcome.status, outcome.lines.as_slice(), is_silent);
-    tell_overwritten(line.volume, standing, &ended, &mut outcome.notes);
-    tell_ended(rt, line, &ended, &mut outcome.notes);
+    let Outcome { answer, notes } = outcome;
+    tell_overwritten(line.volume, standing, answer, notes);
+    let ended = Ended { answer, is_silent };
+    let (volume, target) = (&mut inputs.volume, &mut inputs.target);
+    tell_ended(alloc, line, &ended, volume, target, notes);
 }
 
 /// Notes that an edit ended since another program had written the header, in place of what it noted.

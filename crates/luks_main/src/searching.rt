@@ -5,7 +5,7 @@ ghost use Rattle.luks_main.specs.Statuses.{EndsFind};
 use crate::FAULT;
 use crate::hints::tell;
 use crate::progress::ProgressLine;
-use luks_edit_commands::CountingPrinter;
+use luks_execution::CountingPrinter;
 use luks_files::{Opening, open_volume};
 use luks_find_command::find;
 use luks_line::{Manner, Search};

@@ -1,5 +1,5 @@
 //! Which combinations a passphrase is tried with.
-use luks_edit_commands::{Command, Line, Progress};
+use luks_execution::{Command, Line, Progress};
 use luks_files::{ERROR, is_terminal};
 use luks2_header::Luks1Common;
 use std::fs::File;

@@ -4,7 +4,7 @@ ghost use Rattle.std.specs.Prelude.{◌≡◌, IfOk};
 use crate::failing::{Room, Trouble, Troubles};
 use crate::objects::print_object;
 use crate::secrets::tells_secret;
-use luks_edit_commands::{CountingPrinter, InputFault, Inputs, Line, Untold, execute};
+use luks_execution::{CountingPrinter, InputFault, Inputs, Line, Untold, end, execute};
 use luks_line::{Asked as Parsed, parse};
 use luks_transcript_volumes::{Asked, Disk, Fault, Files, Kept, Record, Source, Volumes};
 use std::alloc::{AllocError, Global};
@@ -114,7 +114,6 @@ fn run_as(
     troubles: &Troubles,
     told: &mut Told,
 ) -> Asked {
-    let mut out = CountingPrinter::new(Cursor::new(told.out.as_mut_slice()));
     let mut err = Cursor::new(told.err.as_mut_slice());
     let mut inputs = Inputs {
         volume: opened(alloc, &mut volumes.volume, &troubles.volume),
@@ -123,13 +122,16 @@ fn run_as(
         new_passphrase: reader(&files.new, &troubles.new),
         random: reader(&files.random, &troubles.random),
     };
+    let answer = execute(alloc, line, &mut inputs, &mut err, &mut Untold);
+    told.said = err.position() as usize;
+    let said = told.err.get(..told.said).unwrap_or(&[]);
+    let mut out = CountingPrinter::new(Cursor::new(told.out.as_mut_slice()));
     told.status = if is_object {
-        print_object(alloc, line, &mut inputs, &mut out, &mut err)
+        print_object(alloc, &answer, said, &mut out)
     } else {
-        execute(alloc, line, &mut inputs, &mut out, &mut err, &mut Untold)
+        end(&answer, &mut out)
     };
     told.printed = out.writer.position() as usize;
-    told.said = err.position() as usize;
     told.tells_secret = tells_secret(files, told.out()) || tells_secret(files, told.err());
     let Inputs {
         volume,

@@ -1,6 +1,6 @@
 //! What fails in the next command.
 use luks_area::Leave;
-use luks_edit_commands::{InputFault, Reason};
+use luks_execution::{InputFault, Reason};
 use luks_test_devices::Loss;
 use luks_transcript_volumes::{
     Failing, Left, Name, Oddity, Readable, Span, When, name_of, number, parted,

@@ -76,7 +76,7 @@ impl From<DeviceFault> for Unseen {
 
 /// What is seen of the edit by the header, or why nothing is: another use of the disk is asked for
 /// before what the edit names. The header is read once.
-pub(super) fn see<D: Device>(
+pub(super) fn look_at_volume<D: Device>(
     alloc: Global,
     device: &mut D,
     editing: &Editing<'_>,

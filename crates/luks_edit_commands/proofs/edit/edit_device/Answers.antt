@@ -14,46 +14,46 @@ use Rattle.luks_edit_commands.proofs.edit.edit_device.Goals as goal
 pub returns-in-Err-clause-says : goal.returns-in-Err-clause-says
 returns-in-Err-clause-says g c = λ tells.
     says_unseen c.args.editing.now.payload _ _ (answer_status c.not_begun.result) c.args.editing.now.over c.args.edit.now (AreFirstOf g.N.Read.remaining c.args.random.now) c.in-Err.unseen
-    (c.see.ensures.unchanged.same tells) (c.in-Err.ensures.unseen tells) (ap answer_status c.not_begun.ensures.answer)
+    (c.look_at_volume.ensures.unchanged.same tells) (c.in-Err.ensures.unseen tells) (ap answer_status c.not_begun.ensures.answer)
 
 pub returns-in-Err-clause-answers : goal.returns-in-Err-clause-answers
 returns-in-Err-clause-answers g c =
     let lacks = lacking_random (λ count. IsUnreadRandom count c.args.random.now) in
     subst (IsEditAnswer g.D.Device.tells c.args.editing.now.payload (given_edit c.args.editing.now.over c.args.edit.now (AreFirstOf g.N.Read.remaining c.args.random.now)) lacks _ _ _ _) (sym c.not_begun.ensures.answer)
     (answers_unseen g.D.Device.tells c.args.editing.now.payload lacks _ _ _ _ c.args.editing.now.over c.args.edit.now (AreFirstOf g.N.Read.remaining c.args.random.now) c.in-Err.unseen c.in-Err.ensures.count
-    c.see.ensures.unchanged.same c.in-Err.ensures.unseen)
+    c.look_at_volume.ensures.unchanged.same c.in-Err.ensures.unseen)
 
 pub returns-in-Ok-apply_of_header-clause-says : goal.returns-in-Ok-apply_of_header-clause-says
 returns-in-Ok-apply_of_header-clause-says g c = λ tells.
-    says_made c.args.editing.now.payload _ _ Done c.args.editing.now.over c.args.edit.now (AreFirstOf g.N.Read.remaining c.args.random.now) _ (c.see.ensures.unchanged.same tells) c.in-Ok.seen.needed _
+    says_made c.args.editing.now.payload _ _ Done c.args.editing.now.over c.args.edit.now (AreFirstOf g.N.Read.remaining c.args.random.now) _ (c.look_at_volume.ensures.unchanged.same tells) c.in-Ok.seen.needed _
     (c.in-Ok.ensures.tells tells) (taken_as g.N.Read.remaining c.args.random.now c.in-Ok.seen.needed c.as_slice.ensures.value c.in-Ok-random_bytes.ensures.taken) c.in-Ok-apply_of_header.made (c.in-Ok-apply_of_header.ensures.applied tells).replies refl
 
 pub returns-in-Ok-apply_of_header-clause-answers : goal.returns-in-Ok-apply_of_header-clause-answers
 returns-in-Ok-apply_of_header-clause-answers g c =
-    answers_done g.D.Device.tells c.args.editing.now.payload (lacking_random (λ count. IsUnreadRandom count c.args.random.now)) _ _ _ _ c.args.editing.now.over c.args.edit.now (AreFirstOf g.N.Read.remaining c.args.random.now) _ c.see.ensures.unchanged.same c.in-Ok.seen.needed _
+    answers_done g.D.Device.tells c.args.editing.now.payload (lacking_random (λ count. IsUnreadRandom count c.args.random.now)) _ _ _ _ c.args.editing.now.over c.args.edit.now (AreFirstOf g.N.Read.remaining c.args.random.now) _ c.look_at_volume.ensures.unchanged.same c.in-Ok.seen.needed _
     c.in-Ok.ensures.tells (taken_as g.N.Read.remaining c.args.random.now c.in-Ok.seen.needed c.as_slice.ensures.value c.in-Ok-random_bytes.ensures.taken) c.in-Ok-apply_of_header.made (c.in-Ok-apply_of_header.ensures.count ∙ c.in-Ok.ensures.count) (λ tells. (c.in-Ok-apply_of_header.ensures.applied tells).replies)
 
 pub returns-clause-says : goal.returns-clause-says
 returns-clause-says g c = λ tells.
-    says_fault c.args.editing.now.payload _ _ (answer_status c.not_done.result) c.args.editing.now.over c.args.edit.now (AreFirstOf g.N.Read.remaining c.args.random.now) _ (c.see.ensures.unchanged.same tells) c.in-Ok.seen.needed _
+    says_fault c.args.editing.now.payload _ _ (answer_status c.not_done.result) c.args.editing.now.over c.args.edit.now (AreFirstOf g.N.Read.remaining c.args.random.now) _ (c.look_at_volume.ensures.unchanged.same tells) c.in-Ok.seen.needed _
     (c.in-Ok.ensures.tells tells) (taken_as g.N.Read.remaining c.args.random.now c.in-Ok.seen.needed c.as_slice.ensures.value c.in-Ok-random_bytes.ensures.taken) c.in-Err-apply_of_header.fault (c.in-Err-apply_of_header.ensures.applied tells).replies (ap answer_status c.not_done.ensures.answer)
 
 pub returns-clause-answers : goal.returns-clause-answers
 returns-clause-answers g c =
     let lacks = lacking_random (λ count. IsUnreadRandom count c.args.random.now) in
     subst (IsEditAnswer g.D.Device.tells c.args.editing.now.payload (given_edit c.args.editing.now.over c.args.edit.now (AreFirstOf g.N.Read.remaining c.args.random.now)) lacks _ _ _ _) (sym c.not_done.ensures.answer)
-    (answers_fault g.D.Device.tells c.args.editing.now.payload lacks _ _ _ _ c.args.editing.now.over c.args.edit.now (AreFirstOf g.N.Read.remaining c.args.random.now) _ c.see.ensures.unchanged.same c.in-Ok.seen.needed _
+    (answers_fault g.D.Device.tells c.args.editing.now.payload lacks _ _ _ _ c.args.editing.now.over c.args.edit.now (AreFirstOf g.N.Read.remaining c.args.random.now) _ c.look_at_volume.ensures.unchanged.same c.in-Ok.seen.needed _
     c.in-Ok.ensures.tells (taken_as g.N.Read.remaining c.args.random.now c.in-Ok.seen.needed c.as_slice.ensures.value c.in-Ok-random_bytes.ensures.taken) c.in-Err-apply_of_header.fault (rw c.in-Ok.ensures.count at c.in-Err-apply_of_header.ensures.count) (λ tells. (c.in-Err-apply_of_header.ensures.applied tells).replies))
 
 pub returns-in-Ok-apply_of_header-clause-spared : goal.returns-in-Ok-apply_of_header-clause-spared
 returns-in-Ok-apply_of_header-clause-spared g c = λ tells well apart.
-    let same = c.see.ensures.unchanged.same tells in
+    let same = c.look_at_volume.ensures.unchanged.same tells in
     let well_met = subst (λ u. WellFormed u c.args.editing.now.payload) (sym same) well in
     absurd (never_failed c.in-Ok-apply_of_header.made (spared_once _ _ _ c.args.edit.now _ _ _ _ c.in-Ok-apply_of_header.ensures.count (λ e. apart (e ∙ c.in-Ok.ensures.count)) ((c.in-Ok-apply_of_header.ensures.applied tells).spared well_met)).0)
 
 pub returns-clause-spared : goal.returns-clause-spared
 returns-clause-spared g c = λ tells well apart.
-    let same = c.see.ensures.unchanged.same tells in
+    let same = c.look_at_volume.ensures.unchanged.same tells in
     let well_met = subst (λ u. WellFormed u c.args.editing.now.payload) (sym same) well in
     spared_edit c.args.editing.now.payload _ _ _ c.args.editing.now.over c.args.edit.now (AreFirstOf g.N.Read.remaining c.args.random.now) same c.in-Ok.seen.needed _ (c.in-Ok.ensures.tells tells) (taken_as g.N.Read.remaining c.args.random.now c.in-Ok.seen.needed c.as_slice.ensures.value c.in-Ok-random_bytes.ensures.taken)
     c.in-Err-apply_of_header.fault (c.in-Err-apply_of_header.ensures.applied tells).replies
@@ -70,11 +70,11 @@ pub returns-in-Err-random_bytes-clause-answers : goal.returns-in-Err-random_byte
 returns-in-Err-random_bytes-clause-answers g c =
     answers_randomless g.D.Device.tells c.args.editing.now.payload (lacking_random (λ count. IsUnreadRandom count c.args.random.now)) _ _ _ _ c.args.editing.now.over c.args.edit.now (AreFirstOf g.N.Read.remaining c.args.random.now)
     c.in-Ok.seen.needed c.in-Ok.ensures.tells c.in-Err-random_bytes.fault c.unread.result c.unread.ensures.answer c.in-Ok.ensures.count
-    c.see.ensures.unchanged.same c.in-Err-random_bytes.ensures.unread
+    c.look_at_volume.ensures.unchanged.same c.in-Err-random_bytes.ensures.unread
 
 pub returns-in-Err-clause-over : goal.returns-in-Err-clause-over
 returns-in-Err-clause-over g c = λ tells.
-    holds_back_unseen c.args.editing.now.over _ _ c.in-Err.unseen c.not_begun.result c.not_begun.ensures.answer (c.see.ensures.unchanged.same tells)
+    holds_back_unseen c.args.editing.now.over _ _ c.in-Err.unseen c.not_begun.result c.not_begun.ensures.answer (c.look_at_volume.ensures.unchanged.same tells)
     (c.in-Err.ensures.barred tells)
 
 pub returns-in-Err-random_bytes-clause-over : goal.returns-in-Err-random_bytes-clause-over
@@ -88,7 +88,7 @@ returns-clause-over g c = λ tells. unbarred _ _ _ _ (c.in-Ok.ensures.barred tel
 
 pub returns-in-Ok-apply_of_header-clause-keeps : goal.returns-in-Ok-apply_of_header-clause-keeps
 returns-in-Ok-apply_of_header-clause-keeps g c = λ tells well fine.
-    let same = c.see.ensures.unchanged.same tells in
+    let same = c.look_at_volume.ensures.unchanged.same tells in
     let well_met = subst (λ u. WellFormed u c.args.editing.now.payload) (sym same) well in
     subst (λ u. Keeps c.args.editing.now.payload (NamedSlots u c.args.edit.now) u (g.D.Device.bytes c.apply_of_header.new.device)) same
     (kept_once _ _ (g.D.Device.bytes c.apply_of_header.new.device) c.args.edit.now (Ok c.in-Ok-apply_of_header.made) _ _ c.in-Ok-apply_of_header.ensures.count (fine ∙ sym c.in-Ok.ensures.count)
@@ -96,7 +96,7 @@ returns-in-Ok-apply_of_header-clause-keeps g c = λ tells well fine.
 
 pub returns-clause-keeps : goal.returns-clause-keeps
 returns-clause-keeps g c = λ tells well fine.
-    let same = c.see.ensures.unchanged.same tells in
+    let same = c.look_at_volume.ensures.unchanged.same tells in
     let well_met = subst (λ u. WellFormed u c.args.editing.now.payload) (sym same) well in
     subst (λ u. Keeps c.args.editing.now.payload (NamedSlots u c.args.edit.now) u (g.D.Device.bytes c.apply_of_header.new.device)) same
     (kept_once _ _ (g.D.Device.bytes c.apply_of_header.new.device) c.args.edit.now (Err c.in-Err-apply_of_header.fault) _ _ c.in-Err-apply_of_header.ensures.count (fine ∙ sym c.in-Ok.ensures.count)

@@ -8,7 +8,7 @@ use Rattle.luks_find_command.proofs.check_at.check_volume.Goals as goal
 
 pub returns-clause-unchanged : goal.returns-clause-unchanged
 returns-clause-unchanged g c =
-    let kept = rw c.in-Ok.is at c.answer-verdict.ensures.unchanged in
+    let kept = rw c.in-Ok.is at c.run-verdict.ensures.unchanged in
     let s : ℕ = g.K.Disk.start in
     let n : ℕ = g.K.Disk.len in
     let bytes = g.D.Device.bytes in

@@ -5,14 +5,14 @@ use Rattle.luks_rebuilding.specs.RebuildFaults.{is_rebuild_failure}
 use Rattle.luks_commands.specs.Answer.{rebuild_fault_answer}
 use Rattle.luks_commands.specs.declared.answers.Answer.TheVariants.{Done}
 use Rattle.luks_header_commands.specs.Target.{pair_of}
-use Rattle.luks_header_commands.specs.Rebuilding.{given_of, which_of, IsLuks2Answer}
+use Rattle.luks_header_commands.specs.Rebuilding.{given_of, copies_asked, IsLuks2Answer}
 use Rattle.luks_header_commands.proofs.RebuildFacts.{answers_fault}
 use Rattle.luks_header_commands.proofs.TargetFacts.{settled_by}
 use Rattle.luks_header_commands.proofs.of_metadata.make_of_metadata.Goals as goal
 
 pub returns-in-Ok-clause-answers : goal.returns-in-Ok-clause-answers
 returns-in-Ok-clause-answers g c =
-    subst (λ (w : Which). IsLuks2Answer g.D.Device.tells w (given_of c.args.making.now.rebuilding) c.args.random.now (pair_of g.D.Device.size g.D.Device.bytes g.D.Device.failed c.args.volume.now c.rebuild.new.source c.args.target.now c.rebuild.new.target) (Done None)) c.which_of-which.ensures (
+    subst (λ (w : Which). IsLuks2Answer g.D.Device.tells w (given_of c.args.making.now.rebuilding) c.args.random.now (pair_of g.D.Device.size g.D.Device.bytes g.D.Device.failed c.args.volume.now c.rebuild.new.source c.args.target.now c.rebuild.new.target) (Done None)) c.copies_asked-which.ensures (
       c.in-Ok.ensures.count,
       refl,
       c.in-Ok.ensures.faultless,
@@ -25,16 +25,16 @@ returns-in-Ok-clause-answers g c =
 
 pub returns-in-Err-clause-answers : goal.returns-in-Err-clause-answers
 returns-in-Err-clause-answers g c =
-    subst (IsLuks2Answer g.D.Device.tells (which_of c.args.making.now.rebuilding) (given_of c.args.making.now.rebuilding) c.args.random.now (pair_of g.D.Device.size g.D.Device.bytes g.D.Device.failed c.args.volume.now c.rebuild.new.source c.args.target.now c.rebuild.new.target)) (sym c.not_of_metadata.ensures)
-    (subst (λ (w : Which). IsLuks2Answer g.D.Device.tells w (given_of c.args.making.now.rebuilding) c.args.random.now (pair_of g.D.Device.size g.D.Device.bytes g.D.Device.failed c.args.volume.now c.rebuild.new.source c.args.target.now c.rebuild.new.target) (rebuild_fault_answer c.in-Err.fault)) c.which_of-which.ensures
-    (answers_fault g.D.Device.tells c.which_of-which.result (given_of c.args.making.now.rebuilding) c.args.random.now (pair_of g.D.Device.size g.D.Device.bytes g.D.Device.failed c.args.volume.now c.rebuild.new.source c.args.target.now c.rebuild.new.target) c.in-Err.fault c.in-Err.ensures.count
+    subst (IsLuks2Answer g.D.Device.tells (copies_asked c.args.making.now.rebuilding) (given_of c.args.making.now.rebuilding) c.args.random.now (pair_of g.D.Device.size g.D.Device.bytes g.D.Device.failed c.args.volume.now c.rebuild.new.source c.args.target.now c.rebuild.new.target)) (sym c.not_of_metadata.ensures)
+    (subst (λ (w : Which). IsLuks2Answer g.D.Device.tells w (given_of c.args.making.now.rebuilding) c.args.random.now (pair_of g.D.Device.size g.D.Device.bytes g.D.Device.failed c.args.volume.now c.rebuild.new.source c.args.target.now c.rebuild.new.target) (rebuild_fault_answer c.in-Err.fault)) c.copies_asked-which.ensures
+    (answers_fault g.D.Device.tells c.copies_asked-which.result (given_of c.args.making.now.rebuilding) c.args.random.now (pair_of g.D.Device.size g.D.Device.bytes g.D.Device.failed c.args.volume.now c.rebuild.new.source c.args.target.now c.rebuild.new.target) c.in-Err.fault c.in-Err.ensures.count
     (λ is. (c.in-Err.ensures.refused is).same) c.in-Err.ensures.fault))
 
 pub returns-in-Err-2-clause-answers : goal.returns-in-Err-2-clause-answers
 returns-in-Err-2-clause-answers g c =
-    subst (IsLuks2Answer g.D.Device.tells (which_of c.args.making.now.rebuilding) (given_of c.args.making.now.rebuilding) c.args.random.now (pair_of g.D.Device.size g.D.Device.bytes g.D.Device.failed c.args.volume.now c.rebuild.new.source c.args.target.now c.rebuild.new.target)) (sym c.not_of_metadata-in-Err-2.ensures)
-    (subst (λ (w : Which). IsLuks2Answer g.D.Device.tells w (given_of c.args.making.now.rebuilding) c.args.random.now (pair_of g.D.Device.size g.D.Device.bytes g.D.Device.failed c.args.volume.now c.rebuild.new.source c.args.target.now c.rebuild.new.target) (rebuild_fault_answer c.in-Err.fault)) c.which_of-which.ensures
-    (answers_fault g.D.Device.tells c.which_of-which.result (given_of c.args.making.now.rebuilding) c.args.random.now (pair_of g.D.Device.size g.D.Device.bytes g.D.Device.failed c.args.volume.now c.rebuild.new.source c.args.target.now c.rebuild.new.target) c.in-Err.fault c.in-Err.ensures.count
+    subst (IsLuks2Answer g.D.Device.tells (copies_asked c.args.making.now.rebuilding) (given_of c.args.making.now.rebuilding) c.args.random.now (pair_of g.D.Device.size g.D.Device.bytes g.D.Device.failed c.args.volume.now c.rebuild.new.source c.args.target.now c.rebuild.new.target)) (sym c.not_of_metadata-in-Err-2.ensures)
+    (subst (λ (w : Which). IsLuks2Answer g.D.Device.tells w (given_of c.args.making.now.rebuilding) c.args.random.now (pair_of g.D.Device.size g.D.Device.bytes g.D.Device.failed c.args.volume.now c.rebuild.new.source c.args.target.now c.rebuild.new.target) (rebuild_fault_answer c.in-Err.fault)) c.copies_asked-which.ensures
+    (answers_fault g.D.Device.tells c.copies_asked-which.result (given_of c.args.making.now.rebuilding) c.args.random.now (pair_of g.D.Device.size g.D.Device.bytes g.D.Device.failed c.args.volume.now c.rebuild.new.source c.args.target.now c.rebuild.new.target) c.in-Err.fault c.in-Err.ensures.count
     (λ is. (c.in-Err.ensures.refused is).same) c.in-Err.ensures.fault))
 
 pub returns-in-Err-2-clause-settled : goal.returns-in-Err-2-clause-settled
