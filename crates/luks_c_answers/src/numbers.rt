@@ -1,21 +1,16 @@
 //! The numbers by which the calls answer. `luks.h` lists them; a number stays its own in each later
 //! version.
 ghost use Rattle.std.specs.Prelude.{◌≡◌, ◌<◌};
-ghost use Rattle.luks_c_answers.specs.Numbers.{backup_number, check_number, convert_number, edit_number, fault_number, fault_numbered, format_number, number_printed, open_number, read_number, rebuild1_number, rebuild_number, restore_number};
-ghost use Rattle.luks_area.specs.Printed.{area_fault_text};
-ghost use Rattle.luks1_header.specs.FaultTexts.{fault_text as head_fault_text};
-ghost use Rattle.luks_rules.specs.MetaFault.{fault_text as meta_fault_text};
-ghost use Rattle.luks_reading.specs.FaultTexts.{check_fault_text};
-ghost use Rattle.luks_slot.specs.Fault.{fault_text as slot_fault_text};
+ghost use Rattle.std.specs.Option.{option_map_or};
+ghost use Rattle.luks_c_answers.specs.Numbers.{backup_number, check_number, convert_number, edit_number, fault_number, fault_numbered, format_number, open_number, read_number, rebuild1_number, rebuild_number, restore_number};
 
 use luks_converting::ConvertFault;
 use luks_edit::EditFault;
 use luks_explain::Fault;
 use luks_formatting::FormatFault;
 use luks_keeping::{BackupFault, RestoreFault};
-use luks_reading::{AreaFault, CheckFault, HeadFault, MetaFault, OpenFault, ReadFault};
+use luks_reading::{CheckFault, OpenFault, ReadFault};
 use luks_rebuilding::RebuildFault;
-use luks_slot::SlotFault;
 use luks1_rebuilding::Rebuild1Fault;
 
 /// Done: the volume is accepted, the keyslot opens, the text or the plan is given.
@@ -125,9 +120,9 @@ pub fn check_number(fault: &CheckFault) -> u32
     ensures { result ≡ check_number fault.now }
 {
     match fault {
-        CheckFault::Head(fault) => head_number(fault),
-        CheckFault::Meta(fault) => meta_number(fault),
-        CheckFault::Area(fault) => area_number(fault),
+        CheckFault::Head(fault) => told_number(Fault::of_head(fault)),
+        CheckFault::Meta(fault) => told_number(Fault::of_meta(fault)),
+        CheckFault::Area(fault) => told_number(Fault::of_area(fault)),
         CheckFault::Device => BEYOND,
         CheckFault::Memory => MEMORY,
     }
@@ -138,8 +133,8 @@ pub fn read_number(fault: &ReadFault) -> u32
     ensures { result ≡ read_number fault.now }
 {
     match fault {
-        ReadFault::Head(fault) => head_number(fault),
-        ReadFault::Meta(fault) => meta_number(fault),
+        ReadFault::Head(fault) => told_number(Fault::of_head(fault)),
+        ReadFault::Meta(fault) => told_number(Fault::of_meta(fault)),
         ReadFault::Device => BEYOND,
         ReadFault::Memory => MEMORY,
     }
@@ -150,12 +145,12 @@ pub fn open_number(fault: &OpenFault) -> u32
     ensures { result ≡ open_number fault.now }
 {
     match fault {
-        OpenFault::Head(fault) => head_number(fault),
-        OpenFault::Meta(fault) => meta_number(fault),
+        OpenFault::Head(fault) => told_number(Fault::of_head(fault)),
+        OpenFault::Meta(fault) => told_number(Fault::of_meta(fault)),
         OpenFault::NoSuchSlot => number_of(Fault::NoSuchSlot),
         OpenFault::SlotFree => number_of(Fault::SlotFree),
         OpenFault::Outside => number_of(Fault::Outside),
-        OpenFault::Slot(fault) => slot_number(fault),
+        OpenFault::Slot(fault) => told_number(Fault::of_slot(fault)),
         OpenFault::Device => BEYOND,
         OpenFault::Memory => MEMORY,
     }
@@ -166,12 +161,12 @@ pub fn edit_number(fault: &EditFault) -> u32
     ensures { result ≡ edit_number fault.now }
 {
     match fault {
-        EditFault::NotAccepted(fault) => checked_number(fault),
+        EditFault::NotAccepted(fault) => told_number(Fault::of_check(fault)),
         EditFault::Requirements => number_of(Fault::Requirements),
         EditFault::NoSuchSlot => number_of(Fault::NoSuchSlot),
         EditFault::SameSlot => number_of(Fault::SameSlot),
         EditFault::Locked => number_of(Fault::Locked),
-        EditFault::Slot(fault) => slot_number(fault),
+        EditFault::Slot(fault) => told_number(Fault::of_slot(fault)),
         EditFault::SlotTaken => number_of(Fault::SlotTaken),
         EditFault::NoFreeSlot => number_of(Fault::NoFreeSlot),
         EditFault::NoRoom => number_of(Fault::NoRoom),
@@ -206,7 +201,7 @@ pub fn convert_number(fault: &ConvertFault) -> u32
     ensures { result ≡ convert_number fault.now }
 {
     match fault {
-        ConvertFault::NotAccepted(fault) => checked_number(fault),
+        ConvertFault::NotAccepted(fault) => told_number(Fault::of_check(fault)),
         ConvertFault::NotLuks1 => number_of(Fault::NotLuks1),
         ConvertFault::TooSmall => number_of(Fault::TooSmall),
         ConvertFault::NoRoom => number_of(Fault::NoRoom),
@@ -224,7 +219,7 @@ pub fn rebuild_number(fault: &RebuildFault) -> u32
     match fault {
         RebuildFault::Counts => number_of(Fault::Counts),
         RebuildFault::NoMetadata => number_of(Fault::NoMetadata),
-        RebuildFault::Area(fault) => area_number(fault),
+        RebuildFault::Area(fault) => told_number(Fault::of_area(fault)),
         RebuildFault::TooSmall => number_of(Fault::TooSmall),
         RebuildFault::Uuid => number_of(Fault::Uuid),
         RebuildFault::RandomLength => number_of(Fault::RandomLength),
@@ -245,7 +240,7 @@ pub fn rebuild1_number(fault: &Rebuild1Fault) -> u32
         Rebuild1Fault::KeyBytes => number_of(Fault::KeyBytes),
         Rebuild1Fault::Iterations => number_of(Fault::Iterations),
         Rebuild1Fault::TooSmall => number_of(Fault::TooSmall),
-        Rebuild1Fault::Area(fault) => area_number(fault),
+        Rebuild1Fault::Area(fault) => told_number(Fault::of_area(fault)),
         Rebuild1Fault::Device => BEYOND,
     }
 }
@@ -255,7 +250,7 @@ pub fn backup_number(fault: &BackupFault) -> u32
     ensures { result ≡ backup_number fault.now }
 {
     match fault {
-        BackupFault::NotAccepted(fault) => checked_number(fault),
+        BackupFault::NotAccepted(fault) => told_number(Fault::of_check(fault)),
         BackupFault::TooSmall => number_of(Fault::TooSmall),
         BackupFault::Memory => MEMORY,
         BackupFault::Device => BEYOND,
@@ -275,74 +270,12 @@ pub fn restore_number(fault: &RestoreFault) -> u32
     }
 }
 
-/// The number of a volume's first fault.
-fn checked_number(fault: &CheckFault) -> u32
-    ensures { result ≡ number_printed (check_fault_text fault.now) }
+/// The number of a fault, or of none.
+fn told_number(fault: Option<Fault>) -> u32
+    ensures { result ≡ option_map_or fault_number fault 99 }
 {
     match fault {
-        CheckFault::Head(fault) => head_number(fault),
-        CheckFault::Meta(fault) => meta_number(fault),
-        CheckFault::Area(fault) => area_number(fault),
-        CheckFault::Device => UNKNOWN,
-        CheckFault::Memory => UNKNOWN,
-    }
-}
-
-fn head_number(fault: &HeadFault) -> u32
-    ensures { result ≡ number_printed (head_fault_text fault.now) }
-{
-    match fault {
-        HeadFault::TooShort => number_of(Fault::TooShort),
-        HeadFault::NotLuks => number_of(Fault::NotLuks),
-        HeadFault::Version => number_of(Fault::Version),
-        HeadFault::NoSoundCopy => number_of(Fault::NoSoundCopy),
-        HeadFault::Text(_) => number_of(Fault::Text),
-        HeadFault::Uuid => number_of(Fault::Uuid),
-        HeadFault::SlotState(_) => number_of(Fault::SlotState),
-        HeadFault::KeyBytes => number_of(Fault::KeyBytes),
-        HeadFault::Stripes(_) => number_of(Fault::Stripes),
-        HeadFault::Iterations(_) => number_of(Fault::Iterations),
-        HeadFault::Device => UNKNOWN,
-        HeadFault::Memory => UNKNOWN,
-    }
-}
-
-fn meta_number(fault: &MetaFault) -> u32
-    ensures { result ≡ number_printed (meta_fault_text fault.now) }
-{
-    match fault {
-        MetaFault::JsonArea => number_of(Fault::JsonArea),
-        MetaFault::BadJson => number_of(Fault::BadJson),
-        MetaFault::NotWhole => number_of(Fault::NotWhole),
-        MetaFault::Shape(_) => number_of(Fault::Shape),
-        MetaFault::Kind(_) => number_of(Fault::Kind),
-        MetaFault::NoSuchName(_) => number_of(Fault::NoSuchName),
-        MetaFault::Assigned(_) => number_of(Fault::Assigned),
-        MetaFault::Sizes => number_of(Fault::Sizes),
-        MetaFault::AreaTooSmall(_) => number_of(Fault::AreaTooSmall),
-        MetaFault::Region(_) => number_of(Fault::Region),
-        MetaFault::Memory => UNKNOWN,
-    }
-}
-
-fn area_number(fault: &AreaFault) -> u32
-    ensures { result ≡ number_printed (area_fault_text fault.now) }
-{
-    match fault {
-        AreaFault::Outside(_) => number_of(Fault::Outside),
-        AreaFault::Overlap(_, _) => number_of(Fault::Overlap),
-    }
-}
-
-fn slot_number(fault: &SlotFault) -> u32
-    ensures { result ≡ number_printed (slot_fault_text fault.now) }
-{
-    match fault {
-        SlotFault::Argon2 => number_of(Fault::Argon2),
-        SlotFault::Cipher => number_of(Fault::Cipher),
-        SlotFault::Hash => number_of(Fault::Hash),
-        SlotFault::KeySize => number_of(Fault::KeySize),
-        SlotFault::Device => UNKNOWN,
-        SlotFault::Memory => UNKNOWN,
+        Some(fault) => number_of(fault),
+        None => UNKNOWN,
     }
 }
