@@ -1,5 +1,6 @@
 pub mod MeetFacts
 pub mod TextFacts
+pub mod OrderFacts
 pub mod KeptFacts
 pub mod MendedFacts
 pub mod SignFacts
