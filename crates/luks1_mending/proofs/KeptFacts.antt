@@ -1,5 +1,5 @@
 -- Which keyslots are kept: how they are judged one after the other, and that there is one such set.
-use Rattle.std.proofs.Common.{◌≡◌, ◌≢◌, ◌⊎◌, ◌↔◌, ℕ, ◌+◌, ◌*◌, ◌<◌, ◌≤◌, Bool, true, false, List, [], ◌∷◌, length, zero, suc, inl, inr, refl, sym, ◌∙◌, ap, set, subst, arith, if◌then◌else◌, ◌==◌, lit<, get_or-set_other, get_or-set_same}
+use Rattle.std.proofs.Common.{◌≡◌, ◌≢◌, ◌⊎◌, ℕ, ◌+◌, ◌*◌, ◌<◌, Bool, true, false, List, [], ◌∷◌, length, zero, suc, inl, inr, refl, sym, ◌∙◌, ap, set, subst, arith, if◌then◌else◌, ◌==◌, lit<, get_or-set_other, get_or-set_same}
 use Rattle.std.proofs.lemmas.Bool.{cases_Bool, cases_lt}
 use Rattle.std.proofs.lemmas.List.{get_or_past}
 use Rattle.luks_area.specs.Area.{Meet}

@@ -1,5 +1,5 @@
 -- The place that a pattern gives, or lacks.
-use Rattle.std.proofs.Common.{◌≡◌, ℕ, ◌+◌, ◌^◌, ◌<◌, ◌≤◌, List, Bool, IsTrue, ◌↔◌, inl, inr, refl, sym, subst, arith}
+use Rattle.std.proofs.Common.{◌≡◌, ℕ, ◌+◌, ◌^◌, ◌<◌, List, Bool, IsTrue, ◌↔◌, inl, inr, refl, sym, subst, arith}
 use Rattle.std.proofs.lemmas.Bool.{cases_lt}
 use Rattle.luks_area.specs.Area.{Meet}
 use Rattle.luks_area.specs.declared.area.Area.{Area}

@@ -2,7 +2,7 @@
 use Rattle.std.specs.Prelude.{◌≡◌, ◌≢◌, ◌⊎◌, ℕ, ◌<◌, Bool, true, false, List, slice_index_or}
 use Rattle.luks_area.specs.Area.{Meet}
 use Rattle.luks1_mending.specs.Areas.{own_area}
-use Rattle.luks1_mending.specs.Kept.{rank, AreKept, IsBeforeAndMeets, IsSound}
+use Rattle.luks1_mending.specs.Kept.{rank, IsBeforeAndMeets, IsSound}
 
 -- an array as a set
 abbrev pub set_of : List Bool → ℕ → Bool

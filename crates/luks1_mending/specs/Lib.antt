@@ -3,6 +3,7 @@ pub mod Signs
 pub mod Areas
 pub mod Kept
 pub mod Judging
+pub mod MeetsNone
 pub mod Mended
 pub mod Made
 pub mod Judged

@@ -1,4 +1,4 @@
-use Rattle.std.proofs.Common.{◌≡◌, ◌<◌, ℕ, ◌+◌, length, List, Bool, subst, sym, arith}
+use Rattle.std.proofs.Common.{◌≡◌, ℕ, ◌+◌, List, Bool, subst, sym, arith}
 use Rattle.luks1_mending.specs.Judging.{set_of, AreKeptSoFar}
 use Rattle.luks1_mending.proofs.KeptFacts.{so_far_next, so_far_set, so_far_without}
 use Rattle.luks1_mending.proofs.kept.keep_rank.Goals as goal

@@ -1,4 +1,3 @@
-use Rattle.std.proofs.Common.{◌≡◌, ℕ, length}
 use Rattle.luks1_mending.specs.Judging.{set_of, AreKeptSoFar}
 use Rattle.luks1_mending.proofs.kept.keep_rank.Given as goal
 

@@ -1,4 +1,4 @@
-use Rattle.std.proofs.Common.{◌<◌, below_more, arith}
+use Rattle.std.proofs.Common.{below_more, arith}
 use Rattle.luks1_mending.proofs.KeptFacts.{within}
 use Rattle.luks1_mending.proofs.kept.meets_one.Goals as goal
 

@@ -1,4 +1,4 @@
-use Rattle.std.proofs.Common.{◌<◌, below_more, arith}
+use Rattle.std.proofs.Common.{below_more, arith}
 use Rattle.luks1_mending.proofs.MendedFacts.{first_of, pair_numbered}
 use Rattle.luks1_mending.proofs.mended.first_pair.Goals as goal
 

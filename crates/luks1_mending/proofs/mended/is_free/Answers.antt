@@ -1,4 +1,4 @@
-use Rattle.std.proofs.Common.{◌<◌, below_more, refl, arith}
+use Rattle.std.proofs.Common.{below_more, refl, arith}
 use Rattle.luks1_mending.proofs.KeptFacts.{sound_of}
 use Rattle.luks1_mending.proofs.mended.is_free.Goals as goal
 
