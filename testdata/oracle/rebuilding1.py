@@ -130,7 +130,7 @@ def usual(d, n):
 
 
 def kept_slots(d, total):
-    """The numbers of the keyslots that are kept: sound, and meeting none that comes before."""
+    """The numbers of the keyslots that are kept: in the order of preference each sound one that meets none of those before it that are kept."""
     def sound(n):
         state, turns, _, _, stripes = d["slots"][n]
         start, length = reader.slot_area1(d, n)
@@ -140,8 +140,11 @@ def kept_slots(d, total):
         state, _, _, sector, stripes = d["slots"][n]
         return state != ENABLED, (sector, stripes) != usual(d, n), n
 
-    numbers = [n for n in range(8) if sound(n)]
-    return [n for n in numbers if not any(order(m) < order(n) and meet(reader.slot_area1(d, m), reader.slot_area1(d, n)) for m in numbers)]
+    kept = []
+    for n in sorted(filter(sound, range(8)), key=order):
+        if not any(meet(reader.slot_area1(d, m), reader.slot_area1(d, n)) for m in kept):
+            kept.append(n)
+    return sorted(kept)
 
 
 def mended(d, kept, n, total):

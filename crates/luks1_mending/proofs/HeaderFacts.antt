@@ -17,6 +17,7 @@ use Rattle.luks1_mending.specs.Made.{IsMade, IsMadeCommon}
 use Rattle.luks1_mending.specs.Mended.{IsMadeSlot, IsMended, IsNewPlace}
 use Rattle.luks1_mending.specs.Taken.{taken_key_bytes, taken_text, IsUsable}
 use Rattle.luks1_mending.specs.declared.given.Given.{Given}
+use Rattle.luks1_mending.proofs.KeptFacts.{sound_of}
 use Rattle.luks1_mending.proofs.TextFacts.{plain, whole}
 
 -- a usable text is plain
@@ -30,7 +31,7 @@ usable_plain field.Uuid text is = plain text is
 place_striped : (h : List ℕ) (k total n sector stripes : ℕ) → IsNewPlace h k total n sector stripes → 1 ≤ stripes
 place_striped h k total n sector stripes (inl x) =
     let alike = x.alike in
-    let some : stripes_of h x.pair ≡ 0 → ⊥ = λ none. x.first.pair.one.sound.faultless (fault.Stripes x.pair) (refl, none) in
+    let some : stripes_of h x.pair ≡ 0 → ⊥ = λ none. (sound_of h k total x.pair x.first.pair.one).faultless (fault.Stripes x.pair) (refl, none) in
     some_of stripes (λ none. some (omega (arith, none, alike)))
   where
     some_of : (m : ℕ) → (m ≡ 0 → ⊥) → 1 ≤ m

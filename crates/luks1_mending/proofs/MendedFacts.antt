@@ -1,13 +1,28 @@
 -- The place that a pattern gives, or lacks.
-use Rattle.std.proofs.Common.{◌≡◌, ℕ, ◌^◌, ◌<◌, List, Bool, IsTrue, ◌↔◌, refl, sym, subst, arith}
+use Rattle.std.proofs.Common.{◌≡◌, ℕ, ◌+◌, ◌^◌, ◌<◌, List, Bool, IsTrue, ◌↔◌, inl, inr, refl, sym, subst, arith}
+use Rattle.std.proofs.lemmas.Bool.{cases_lt}
 use Rattle.luks_area.specs.Area.{Meet}
 use Rattle.luks_area.specs.declared.area.Area.{Area}
 use Rattle.luks1_mending.specs.Areas.{own_area, stripes_area, stripes_of}
 use Rattle.luks1_mending.specs.Kept.{IsKept}
-use Rattle.luks1_mending.specs.Mended.{IsFirstPair, IsFree, IsInPattern, IsInStep, LacksPattern}
-use Rattle.luks1_mending.proofs.KeptFacts.{meet_as}
+use Rattle.luks1_mending.specs.Mended.{IsFirstPair, IsFree, IsInPattern, IsInStep, IsPair, LacksPattern}
+use Rattle.luks1_mending.proofs.KeptFacts.{meet_as, sound_of}
 
 module _ (h : List ℕ) (k total : ℕ) where
+  -- a pair is of the first seven and the one behind
+  pub pair_numbered : (a : ℕ) → IsPair h k total a → a < 7
+  pair_numbered a x = (let low : a + 1 < 8 = (sound_of h k total (a + 1) x.next).numbered in omega (arith, low))
+
+  -- a pair before which there is none
+  pub first_of : (a : ℕ) → IsPair h k total a → ((b : ℕ) → b < a → IsPair h k total b → ⊥) → IsFirstPair h k total a
+  first_of a pair none = record {
+    pair = pair;
+    first = λ b other. elim (cases_lt b a) [
+      | inl low ↦ absurd (none b low other)
+      | inr over ↦ over
+    ];
+  }
+
   -- there is one first pair
   pub one_pair : (a b : ℕ) → IsFirstPair h k total a → IsFirstPair h k total b → b ≡ a
   one_pair a b x y = (let here = x.first b y.pair in let there = y.first a x.pair in omega (arith, here, there))

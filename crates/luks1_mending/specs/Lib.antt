@@ -2,6 +2,8 @@ pub mod Taken
 pub mod Signs
 pub mod Areas
 pub mod Kept
+pub mod Judging
+pub mod MeetsNone
 pub mod Mended
 pub mod Made
 pub mod Judged

@@ -1,7 +1,9 @@
 //! Which keyslots are kept.
-ghost use Rattle.std.specs.Prelude.{◌≡◌, ◌↔◌, ◌<◌, ◌≤◌, length, IsTrue};
+ghost use Rattle.std.specs.Prelude.{◌≡◌, ◌↔◌, ℕ, ◌+◌, ◌<◌, ◌≤◌, length, IsTrue};
+ghost use Rattle.std.specs.Bool.{OnFalse, OnTrue};
 ghost use Rattle.luks1_header.specs.Header1.{luks1_size};
-ghost use Rattle.luks1_mending.specs.Kept.{rank, ComesBefore, IsKept, IsSound, YieldsTo};
+ghost use Rattle.luks1_mending.specs.Judging.{set_of, AreKeptSoFar, IsNext, IsPassedOver, MeetsOne};
+ghost use Rattle.luks1_mending.specs.Kept.{rank, AreKept, IsSound};
 
 use crate::entries::{do_meet, entry_of, is_usual, own_area, word_of};
 use luks1_header::Luks1;
@@ -12,36 +14,75 @@ pub(crate) const HEADER: u64 = 592;
 /// The active word of an enabled keyslot.
 pub(crate) const ENABLED: u32 = 0x00AC_71F3;
 
-/// Whether the keyslot `n` is kept as it is.
-pub(crate) fn is_kept(header: &[u8], key_bytes: u32, total: u64, n: u8) -> bool
+/// The ranks of keyslots in the order of preference.
+const RANKS: u8 = 4;
+
+/// Of each of the eight keyslots whether it is kept as it is.
+pub(crate) fn kept_slots(header: &[u8], key_bytes: u32, total: u64) -> [bool; 8]
+    requires long { length header.now ≡ luks1_size }
+    requires key { key_bytes ≤ 128 }
+    ensures { AreKept header.now key_bytes total (set_of result) }
+{
+    let mut kept = [false; 8];
+    for rank in 0..RANKS {
+        keep_rank(header, key_bytes, total, rank, &mut kept);
+    }
+    kept
+}
+
+/// Keeps of the keyslots of this rank, by number, each that is sound and meets none that is kept.
+fn keep_rank(header: &[u8], key_bytes: u32, total: u64, rank: u8, kept: &mut [bool; 8])
+    requires long { length header.now ≡ luks1_size }
+    requires key { key_bytes ≤ 128 }
+    requires before { AreKeptSoFar header.now key_bytes total rank 0 (set_of kept.old) }
+    ensures { AreKeptSoFar header.now key_bytes total (rank + 1) 0 (set_of kept.new) }
+{
+    for n in 0..8 {
+        if is_next(header, key_bytes, total, rank, kept, n) {
+            kept[n as usize] = true;
+        }
+    }
+}
+
+/// Whether the keyslot `n` is of this rank and sound, and meets none that is kept.
+fn is_next(header: &[u8], key_bytes: u32, total: u64, rank: u8, kept: &[bool; 8], n: u8) -> bool
     requires long { length header.now ≡ luks1_size }
     requires key { key_bytes ≤ 128 }
     requires numbered { n < 8 }
-    ensures { IsTrue result ↔ IsKept header.now key_bytes total n }
+    ensures next { OnTrue result (IsNext header.now key_bytes total rank (set_of kept.now) n) }
+    ensures passed { OnFalse result (IsPassedOver header.now key_bytes total rank (set_of kept.now) n) }
 {
+    if rank_of(header, key_bytes, n) != rank {
+        return false;
+    }
     if !is_sound(header, key_bytes, total, n) {
         return false;
     }
-    for m in 0..8 {
-        if yields_to(header, key_bytes, total, m, n) {
-            return false;
-        }
-    }
-    true
+    !meets_one(header, key_bytes, kept, n)
 }
 
-/// Whether the area of the keyslot `n` meets that of the sound keyslot `m`, which comes before it.
-fn yields_to(header: &[u8], key_bytes: u32, total: u64, m: u8, n: u8) -> bool
+/// Whether the area of the keyslot `n` meets that of one that is kept.
+fn meets_one(header: &[u8], key_bytes: u32, kept: &[bool; 8], n: u8) -> bool
     requires long { length header.now ≡ luks1_size }
-    requires key { key_bytes ≤ 128 }
-    requires first { m < 8 }
-    requires second { n < 8 }
-    ensures { IsTrue result ↔ YieldsTo header.now key_bytes total m n }
+    requires numbered { n < 8 }
+    ensures { IsTrue result ↔ ((m : ℕ) × MeetsOne header.now key_bytes (set_of kept.now) n m) }
 {
-    if !is_sound(header, key_bytes, total, m) {
-        return false;
+    for m in 0..8 {
+        if is_met(header, key_bytes, kept, n, m) {
+            return true;
+        }
     }
-    if !comes_before(header, key_bytes, m, n) {
+    false
+}
+
+/// Whether the keyslot `m` is kept, and its area meets that of the keyslot `n`.
+fn is_met(header: &[u8], key_bytes: u32, kept: &[bool; 8], n: u8, m: u8) -> bool
+    requires long { length header.now ≡ luks1_size }
+    requires numbered { n < 8 }
+    requires other { m < 8 }
+    ensures { IsTrue result ↔ MeetsOne header.now key_bytes (set_of kept.now) n m }
+{
+    if !kept[m as usize] {
         return false;
     }
     do_meet(
@@ -62,21 +103,8 @@ fn is_sound(header: &[u8], key_bytes: u32, total: u64, n: u8) -> bool
     rules && area.start >= HEADER && area.is_inside(total)
 }
 
-/// Whether the keyslot `m` comes before the keyslot `n`.
-fn comes_before(header: &[u8], key_bytes: u32, m: u8, n: u8) -> bool
-    requires long { length header.now ≡ luks1_size }
-    requires key { key_bytes ≤ 128 }
-    requires first { m < 8 }
-    requires second { n < 8 }
-    ensures { IsTrue result ↔ ComesBefore header.now key_bytes m n }
-{
-    let one = rank(header, key_bytes, m);
-    let other = rank(header, key_bytes, n);
-    one < other || (one == other && m < n)
-}
-
-/// The rank of the keyslot `n` among those that meet.
-fn rank(header: &[u8], key_bytes: u32, n: u8) -> u8
+/// The rank of the keyslot `n` in the order of preference.
+fn rank_of(header: &[u8], key_bytes: u32, n: u8) -> u8
     requires long { length header.now ≡ luks1_size }
     requires key { key_bytes ≤ 128 }
     requires numbered { n < 8 }

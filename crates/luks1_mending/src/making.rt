@@ -21,7 +21,7 @@ use luks1_header::{HeadFault, Luks1, Luks1Common};
 ///
 /// What is given wins over what stands. Refused by the first of `Text`, `KeyBytes` and
 /// `Iterations(Digest)` where nothing usable stands or is given. A keyslot that breaks its own rules,
-/// or whose area lies outside or meets that of one that comes first, becomes a disabled one.
+/// or whose area lies outside or meets that of one that is kept and comes before it, becomes a disabled one.
 pub fn mended_header(header: &[u8], total: u64, given: &Given) -> Result<Luks1, HeadFault>
     requires { length header.now ≡ luks1_size }
     ensures made { IfOk result (IsMade header.now total given.now) }

@@ -4,13 +4,14 @@ ghost use Rattle.luks1_header.specs.Header1.{luks1_size};
 ghost use Rattle.luks1_header.specs.declared.luks1.Luks1Slot.{Luks1Slot as TheSlot};
 ghost use Rattle.luks_area.specs.Area.{Meet};
 ghost use Rattle.luks1_mending.specs.Areas.{own_area, sector_of};
-ghost use Rattle.luks1_mending.specs.Kept.{IsKept};
+ghost use Rattle.luks1_mending.specs.Judging.{set_of};
+ghost use Rattle.luks1_mending.specs.Kept.{AreKept, IsKept};
 ghost use Rattle.luks1_mending.specs.Mended.{IsFirstPair, IsFree, IsInPattern, IsInStep, IsMadeSlot, IsMended, IsNewPlace, IsPair, LacksPattern};
 
 use crate::entries::{
     USUAL_STRIPES, do_meet, entry_of, own_area, sector_of, stripes_area, stripes_of, usual_sector,
 };
-use crate::kept::{HEADER, is_kept};
+use crate::kept::{HEADER, kept_slots};
 use luks_area::Area;
 use luks1_header::{Luks1, Luks1Slot, SlotState};
 
@@ -29,35 +30,37 @@ pub(crate) fn made_slots(header: &[u8], key_bytes: u32, total: u64) -> [Luks1Slo
     ensures each { (n : ℕ) (s : TheSlot) → n < 8
         → IsMadeSlot header.now key_bytes total n (slice_index_or result n s) }
 {
+    let kept = kept_slots(header, key_bytes, total);
     let mut slots = [Luks1Slot::default(); 8];
     for n in 0..8 {
-        slots[n as usize] = made_slot(header, key_bytes, total, n);
+        slots[n as usize] = made_slot(header, key_bytes, total, &kept, n);
     }
     slots
 }
 
 /// What the keyslot `n` becomes: it is kept, or a disabled one is made of it.
-fn made_slot(header: &[u8], key_bytes: u32, total: u64, n: u8) -> Luks1Slot
+fn made_slot(header: &[u8], key_bytes: u32, total: u64, kept: &[bool; 8], n: u8) -> Luks1Slot
     requires long { length header.now ≡ luks1_size }
     requires key { key_bytes ≤ 128 }
+    requires kept { AreKept header.now key_bytes total (set_of kept.now) }
     requires numbered { n < 8 }
     ensures { IsMadeSlot header.now key_bytes total n result }
 {
-    let kept = is_kept(header, key_bytes, total, n);
     match Luks1::slot(entry_of(header, n), n) {
-        Ok(slot) if kept => slot,
-        _ => mended_slot(header, key_bytes, total, n),
+        Ok(slot) if kept[n as usize] => slot,
+        _ => mended_slot(header, key_bytes, total, kept, n),
     }
 }
 
 /// The disabled keyslot that is made of the keyslot `n`.
-fn mended_slot(header: &[u8], key_bytes: u32, total: u64, n: u8) -> Luks1Slot
+fn mended_slot(header: &[u8], key_bytes: u32, total: u64, kept: &[bool; 8], n: u8) -> Luks1Slot
     requires long { length header.now ≡ luks1_size }
     requires key { key_bytes ≤ 128 }
+    requires kept { AreKept header.now key_bytes total (set_of kept.now) }
     requires numbered { n < 8 }
     ensures { IsMended header.now key_bytes total n result }
 {
-    let place = new_place(header, key_bytes, total, n);
+    let place = new_place(header, key_bytes, total, kept, n);
     Luks1Slot {
         state: SlotState::Disabled,
         iterations: 0,
@@ -68,13 +71,14 @@ fn mended_slot(header: &[u8], key_bytes: u32, total: u64, n: u8) -> Luks1Slot
 }
 
 /// The place that the pattern gives, else the usual one.
-fn new_place(header: &[u8], key_bytes: u32, total: u64, n: u8) -> Place
+fn new_place(header: &[u8], key_bytes: u32, total: u64, kept: &[bool; 8], n: u8) -> Place
     requires long { length header.now ≡ luks1_size }
     requires key { key_bytes ≤ 128 }
+    requires kept { AreKept header.now key_bytes total (set_of kept.now) }
     requires numbered { n < 8 }
     ensures { IsNewPlace header.now key_bytes total n result.sector result.stripes }
 {
-    match place_in_pattern(header, key_bytes, total, n) {
+    match place_in_pattern(header, key_bytes, total, kept, n) {
         Some(place) => place,
         None => Place {
             sector: usual_sector(key_bytes, n),
@@ -84,24 +88,39 @@ fn new_place(header: &[u8], key_bytes: u32, total: u64, n: u8) -> Place
 }
 
 /// The place in the pattern of the first pair of keyslots that are kept, where it is free.
-fn place_in_pattern(header: &[u8], key_bytes: u32, total: u64, n: u8) -> Option<Place>
+fn place_in_pattern(
+    header: &[u8],
+    key_bytes: u32,
+    total: u64,
+    kept: &[bool; 8],
+    n: u8,
+) -> Option<Place>
     requires long { length header.now ≡ luks1_size }
     requires key { key_bytes ≤ 128 }
+    requires kept { AreKept header.now key_bytes total (set_of kept.now) }
     requires numbered { n < 8 }
     ensures some { IfSome result (λ p.
         IsInPattern header.now key_bytes total n p.sector p.stripes) }
     ensures none { IfNone result (LacksPattern header.now key_bytes total n) }
 {
-    match first_pair(header, key_bytes, total) {
-        Some(pair) => place_by_pair(header, key_bytes, total, pair, n),
+    match first_pair(header, key_bytes, total, kept) {
+        Some(pair) => place_by_pair(header, key_bytes, total, kept, pair, n),
         None => None,
     }
 }
 
 /// The place in the pattern of this pair, where it is free.
-fn place_by_pair(header: &[u8], key_bytes: u32, total: u64, pair: u8, n: u8) -> Option<Place>
+fn place_by_pair(
+    header: &[u8],
+    key_bytes: u32,
+    total: u64,
+    kept: &[bool; 8],
+    pair: u8,
+    n: u8,
+) -> Option<Place>
     requires long { length header.now ≡ luks1_size }
     requires key { key_bytes ≤ 128 }
+    requires kept { AreKept header.now key_bytes total (set_of kept.now) }
     requires numbered { n < 8 }
     requires pair { IsFirstPair header.now key_bytes total pair }
     ensures some { IfSome result (λ p.
@@ -115,6 +134,7 @@ fn place_by_pair(header: &[u8], key_bytes: u32, total: u64, pair: u8, n: u8) -> 
                 header,
                 key_bytes,
                 total,
+                kept,
                 stripes_area(key_bytes, sector, stripes),
             ) {
                 Some(Place { sector, stripes })
@@ -127,30 +147,32 @@ fn place_by_pair(header: &[u8], key_bytes: u32, total: u64, pair: u8, n: u8) -> 
 }
 
 /// The first two keyslots, one after the other, that give a pattern.
-fn first_pair(header: &[u8], key_bytes: u32, total: u64) -> Option<u8>
+fn first_pair(header: &[u8], key_bytes: u32, total: u64, kept: &[bool; 8]) -> Option<u8>
     requires long { length header.now ≡ luks1_size }
     requires key { key_bytes ≤ 128 }
+    requires kept { AreKept header.now key_bytes total (set_of kept.now) }
     ensures some { IfSome result (IsFirstPair header.now key_bytes total) }
     ensures none { IfNone result ((a : ℕ) → IsPair header.now key_bytes total a → ⊥) }
 {
     for a in 0..7 {
-        if is_pair(header, key_bytes, total, a) {
+        if is_pair(header, key_bytes, total, kept, a) {
             return Some(a);
         }
     }
     None
 }
 
-fn is_pair(header: &[u8], key_bytes: u32, total: u64, a: u8) -> bool
+fn is_pair(header: &[u8], key_bytes: u32, total: u64, kept: &[bool; 8], a: u8) -> bool
     requires long { length header.now ≡ luks1_size }
     requires key { key_bytes ≤ 128 }
+    requires kept { AreKept header.now key_bytes total (set_of kept.now) }
     requires numbered { a < 7 }
     ensures { IsTrue result ↔ IsPair header.now key_bytes total a }
 {
-    if !is_kept(header, key_bytes, total, a) {
+    if !kept[a as usize] {
         return false;
     }
-    if !is_kept(header, key_bytes, total, a + 1) {
+    if !kept[a as usize + 1] {
         return false;
     }
     if stripes_of(header, a + 1) != stripes_of(header, a) {
@@ -182,16 +204,17 @@ fn sector_in_step(header: &[u8], a: u8, n: u8) -> Option<u32>
 
 /// Whether the area lies behind the header and inside the volume, and meets that of no keyslot that
 /// is kept.
-fn is_free(header: &[u8], key_bytes: u32, total: u64, area: Area) -> bool
+fn is_free(header: &[u8], key_bytes: u32, total: u64, kept: &[bool; 8], area: Area) -> bool
     requires long { length header.now ≡ luks1_size }
     requires key { key_bytes ≤ 128 }
+    requires kept { AreKept header.now key_bytes total (set_of kept.now) }
     ensures { IsTrue result ↔ IsFree header.now key_bytes total area }
 {
     if area.start < HEADER || !area.is_inside(total) {
         return false;
     }
     for m in 0..8 {
-        if is_taken(header, key_bytes, total, m, area) {
+        if is_taken(header, key_bytes, total, kept, m, area) {
             return false;
         }
     }
@@ -199,14 +222,15 @@ fn is_free(header: &[u8], key_bytes: u32, total: u64, area: Area) -> bool
 }
 
 /// Whether the keyslot `m` is kept, and its area meets this one.
-fn is_taken(header: &[u8], key_bytes: u32, total: u64, m: u8, area: Area) -> bool
+fn is_taken(header: &[u8], key_bytes: u32, total: u64, kept: &[bool; 8], m: u8, area: Area) -> bool
     requires long { length header.now ≡ luks1_size }
     requires key { key_bytes ≤ 128 }
+    requires kept { AreKept header.now key_bytes total (set_of kept.now) }
     requires numbered { m < 8 }
     ensures { IsTrue result
         ↔ (IsKept header.now key_bytes total m × Meet (own_area header.now key_bytes m) area) }
 {
-    if !is_kept(header, key_bytes, total, m) {
+    if !kept[m as usize] {
         return false;
     }
     do_meet(own_area(header, key_bytes, m), area)

@@ -18,6 +18,7 @@ use Rattle.luks1_mending.specs.Mended.{IsMadeSlot}
 use Rattle.luks1_mending.specs.Taken.{taken_text}
 use Rattle.luks1_mending.specs.declared.given.Given.{Given}
 use Rattle.luks1_mending.proofs.HeaderFacts.{common_held, made_header, text_there}
+use Rattle.luks1_mending.proofs.KeptFacts.{sound_of}
 use Rattle.luks2_header.proofs.ChoiceFacts.{choices_agree}
 use Rattle.luks2_header.specs.Selection.{Choice, luks1, Chosen}
 use Rattle.luks_slot.specs.declared.allowed.Allowed.{Allowed}
@@ -67,7 +68,7 @@ module _ (v old w : List ℕ) (g : Given) (x : IsRebuilt v g old w) (formed : Is
 
   module _ (n : ℕ) (used : IsKeptInUse v g n) where
     low : n < 8
-    low = used.kept.sound.numbered
+    low = (sound_of (header_of v) (key_of v g) (length v) n used.kept).numbered
 
     source_entry : IsEntry (entry (header_of v) n) (slot_at x.header n)
     source_entry = kept_entry (header_of v) (key_of v g) (length v) n (slot_at x.header n) used.kept (x.made.slots n any_slot low)

@@ -13,6 +13,7 @@ use Rattle.luks1_mending.specs.Made.{IsMade}
 use Rattle.luks1_mending.specs.Mended.{IsMadeSlot}
 use Rattle.luks1_mending.specs.Taken.{taken_key_bytes}
 use Rattle.luks1_mending.specs.declared.given.Given.{Given}
+use Rattle.luks1_mending.proofs.KeptFacts.{sound_of}
 use Rattle.luks_reading.proofs.Luks1AreaFacts.{slot_area_is}
 use Rattle.luks_reading.specs.Checked.{IsLuks1Volume}
 use Rattle.luks_reading.specs.Layout1.{Luks1Area}
@@ -53,21 +54,21 @@ module _ (h : List ℕ) (total : ℕ) (g : Given) (d : Luks1) (made : IsMade h t
 
   used_by : (n : ℕ) (a : Area) → IsKeptAt h (taken_key_bytes h g) total n a → IsMadeSlot h (taken_key_bytes h g) total n (slot_at d n) → IsUsedArea d n a
   used_by n a x (inl y) = record {
-    numbered = x.kept.sound.numbered;
+    numbered = (sound_of h (taken_key_bytes h g) total n x.kept).numbered;
     enabled = state_is (slot_at d n).state (sym y.1.fields.state ∙ x.enabled);
     is = x.is ∙ sym (same_fields_area n y.1);
   }
   used_by n a x (inr y) = absurd (y.0 x.kept)
 
   pub kept_used : (n : ℕ) (a : Area) → IsKeptAt h (taken_key_bytes h g) total n a → IsUsedArea d n a
-  kept_used n a x = used_by n a x (made.slots n any_slot x.kept.sound.numbered)
+  kept_used n a x = used_by n a x (made.slots n any_slot (sound_of h (taken_key_bytes h g) total n x.kept).numbered)
 
   -- it lies inside the source, and behind the header
   pub there : AreInside d total
-  there = record { inside = λ n a used. (let x = used_kept n a used in subst (λ (b : Area). b.start + b.len ≤ total) (sym x.is) x.kept.sound.inside) }
+  there = record { inside = λ n a used. (let x = used_kept n a used in subst (λ (b : Area). b.start + b.len ≤ total) (sym x.is) (sound_of h (taken_key_bytes h g) total n x.kept).inside) }
 
   pub behind : (n : ℕ) (a : Area) → IsUsedArea d n a → 592 ≤ a.start
-  behind n a used = (let x = used_kept n a used in subst (λ (b : Area). 592 ≤ b.start) (sym x.is) x.kept.sound.behind)
+  behind n a used = (let x = used_kept n a used in subst (λ (b : Area). 592 ≤ b.start) (sym x.is) (sound_of h (taken_key_bytes h g) total n x.kept).behind)
 
   -- and where the header is accepted, inside the target and apart from the others
   module _ (b : List ℕ) (is : IsLuks1 b d) (target : ℕ) (formed : IsLuks1Volume b Elsewhere target) where

@@ -35,6 +35,7 @@ use Rattle.luks_reading.specs.declared.open_fault.OpenFault.TheVariants.{Head, M
 use Rattle.luks_reading.proofs.Luks1Plans.{one_luks1_plan}
 use Rattle.luks_reading.proofs.SamePlans.{same_answer, same_refusal_within, SameFields}
 use Rattle.luks1_rebuilding.proofs.GivesFacts.{kept_entry}
+use Rattle.luks1_mending.proofs.KeptFacts.{sound_of}
 use Rattle.luks1_rebuilding.proofs.MadeFacts.{kept_used, used_kept}
 use Rattle.luks1_rebuilding.proofs.PlanFacts.{plan_here, plan_there, SaysKept}
 use Rattle.luks1_rebuilding.specs.Gives.{IsKeptPlan, IsRefusedKept}
@@ -200,7 +201,7 @@ module _ (d : Luks1) (n : ℕ) (lt : n < 8) (b : List ℕ) (put : WritesLuks1 b 
         let key = (common_held h g d.common made.common b put.common).key_bytes ∙ made.common.key_bytes in
         let start = has_plan.is.start ∙ ap (λ m. m * 512) sector in
         let len = has_plan.is.len ∙ ap (λ m. rounded_to_sectors (key_bytes_of b * m)) stripes ∙ ap (λ k. rounded_to_sectors (k * entry_stripes (entry h n))) key in
-        let within = kept.kept.sound.inside in
+        let within = (sound_of h (taken_key_bytes h g) total n kept.kept).inside in
         omega (arith, start, len, within)
 
   -- what trying it tells of the volume

@@ -1,5 +1,7 @@
-use Rattle.std.proofs.Common.{◌∙◌, subst, sym, arith, rules, below_more}
+use Rattle.std.proofs.Common.{length, ◌∙◌, subst, sym, arith, rules, below_more}
 use Rattle.luks_area.specs.Device.{unchanged-then}
+use Rattle.luks1_mending.proofs.KeptFacts.{sound_of}
+use Rattle.luks1_rebuilding.specs.KeyAreas.{header_of, key_of}
 use Rattle.luks1_rebuilding.specs.Openings.{OpensBy}
 use Rattle.luks1_rebuilding.specs.Tried.{IsMadeOf}
 use Rattle.luks1_rebuilding.proofs.trial.opening.first_slot.Goals as goal
@@ -29,7 +31,8 @@ loop-n-preserved g c = record {
 pub returns-clause-none : goal.returns-clause-none
 returns-clause-none g c = λ tells given made. record {
   none = λ n x.
-      let low = x.in_use.kept.sound.numbered in
+      let v = g.D.Device.bytes c.args.source.now in
+      let low = (sound_of (header_of v) (key_of v given) (length v) n x.in_use.kept).numbered in
       c.loop-n.invariant.shut tells given made n (let ended = c.loop-n-test.false in omega (arith, low)) x;
 }
 

@@ -1,0 +1,5 @@
+use Rattle.luks1_mending.proofs.KeptSet.{none_before_kept}
+use Rattle.luks1_mending.proofs.laws.keyslot_that_meets_none_is_kept.Goals as goal
+
+pub returns : goal.returns
+returns c = none_before_kept
