@@ -1,5 +1,5 @@
 -- Whether a volume is in the midst of a reencryption, by what was read of its metadata.
-use Rattle.std.proofs.Common.{◌≡◌, ◌↔◌, ℕ, ◌<◌, ◌≤◌, List, Bool, true, false, Option, Some, None, IsNone, IsTrue, IfOk, IfErr, IfSome, ◌+◌, ◌-◌, Result, Ok, Err, length, refl, sym, subst, ◌∙◌, inl, inr, arith, ap}
+use Rattle.std.proofs.Common.{◌≡◌, ◌↔◌, ◌⊎◌, ℕ, ◌<◌, ◌≤◌, List, Bool, true, false, Option, Some, None, IsNone, IsTrue, IfOk, IfErr, IfSome, ◌+◌, ◌-◌, Result, Ok, Err, length, refl, sym, subst, ◌∙◌, inl, inr, arith, ap}
 use Rattle.std.proofs.lemmas.Bool.{false≢true}
 use Rattle.serde_json.specs.Data.{Data as Value}
 use Rattle.luks_area.specs.Ranges.{part}
@@ -15,7 +15,7 @@ use Rattle.luks_reading.specs.Header.{json_at}
 use Rattle.luks_commands.specs.declared.standing.Bar.{Bar}
 use Rattle.luks_commands.specs.declared.standing.Bar.TheVariants as bar
 use Rattle.luks_keeping_commands.specs.declared.reencrypting.JsonPlace.{JsonPlace}
-use Rattle.luks_keeping_commands.specs.Reencrypting.{counts, is_reencrypting_slot, lost, requires_reencryption, FindsMetadata, HasReencryptingSlot, IsFromOutside, IsMetadataArea, IsReencrypting, IsReencryptingArea, IsReencryptingValue, IsUntoldMetadata}
+use Rattle.luks_keeping_commands.specs.Reencrypting.{counts, is_reencrypting_slot, lost, requires_reencryption, FindsMetadata, HasReencryptingSlot, IsFromOutside, IsMetadataArea, IsReencryptingLuks2, IsReencryptingArea, IsReencryptingValue, IsUntoldMetadata}
 
 -- ---- the value
 
@@ -67,14 +67,14 @@ one_area v a b (lost one long is) (counts q d two same) =
 one_area v a b (lost one long is) (lost two longer same) = is ∙ sym same
 
 -- by that area
-pub volume_by : (v area : List ℕ) → IsMetadataArea v area → (b : Bool) → (IsTrue b ↔ IsReencryptingArea area) → IsTrue b ↔ IsReencrypting v
+pub volume_by : (v area : List ℕ) → IsMetadataArea v area → (b : Bool) → (IsTrue b ↔ IsReencryptingArea area) → IsTrue b ↔ IsReencryptingLuks2 v
 volume_by v area is b told = (
   λ q. record { area = area; is_area = is; is = told.0 q },
   λ x. told.1 (subst IsReencryptingArea (one_area v x.area area x.is_area is) x.is),
 )
 
 -- without one
-pub no_area : (v : List ℕ) → ((area : List ℕ) → IsMetadataArea v area → ⊥) → IsTrue false ↔ IsReencrypting v
+pub no_area : (v : List ℕ) → ((area : List ℕ) → IsMetadataArea v area → ⊥) → IsTrue false ↔ IsReencryptingLuks2 v
 no_area v none = (λ q. absurd (false≢true q), λ x. absurd (none x.area x.is_area))
 
 -- LUKS1 has none, and neither has a short volume
@@ -111,7 +111,7 @@ lost_found v total (Some place) long one there short =
     lost one (omega (arith, there.2, long)) (ap (λ (n : ℕ). part v n place.len) there.0 ∙ ap (part v 4096) there.1)
 
 -- by what is answered of it
-pub at_by : (v area : List ℕ) → IsMetadataArea v area → (r : Result Bool Bar) → IfOk r (λ b. IsTrue b ↔ IsReencryptingArea area) → IfOk r (λ b. IsTrue b ↔ IsReencrypting v)
+pub at_by : (v area : List ℕ) → IsMetadataArea v area → (r : Result Bool Bar) → IfOk r (λ b. IsTrue b ↔ IsReencryptingArea area) → IfOk r (λ b. IsTrue b ↔ IsReencryptingLuks2 v)
 at_by v area is (Ok b) told = volume_by v area is b told
 at_by v area is (Err f) told = tt
 
@@ -123,3 +123,23 @@ untold_by tells v area is (Err bar.Device) kinds = tt
 untold_by tells v area is (Err (bar.OtherUse found)) kinds = absurd kinds
 untold_by tells v area is (Err bar.OtherVolume) kinds = absurd kinds
 untold_by tells v area is (Err bar.Reencrypting) kinds = absurd kinds
+
+-- ---- by either
+
+not_false : {P : Type 0} → IsTrue false ↔ P → P → ⊥
+not_false tells p = let e = tells.1 p in cc
+
+-- what isn't so of LUKS1 is so by the metadata alone
+pub either_by : {L M : Type 0} (b : Bool) → IsTrue false ↔ L → IsTrue b ↔ M → IsTrue b ↔ (L ⊎ M)
+either_by b luks1 luks2 = (
+  λ is. inr (luks2.0 is),
+  λ either. elim either [
+    | inl l ↦ absurd (not_false luks1 l)
+    | inr m ↦ luks2.1 m
+  ],
+)
+
+-- the same of an answer
+pub either_told : {L M : Type 0} (r : Result Bool Bar) → IsTrue false ↔ L → IfOk r (λ b. IsTrue b ↔ M) → IfOk r (λ b. IsTrue b ↔ (L ⊎ M))
+either_told (Ok b) luks1 luks2 = either_by b luks1 luks2
+either_told (Err bar) luks1 luks2 = tt

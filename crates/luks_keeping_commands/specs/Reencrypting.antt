@@ -1,4 +1,4 @@
--- Whether a volume is in the midst of a reencryption, by its metadata (LUKS2 On-Disk Format 1.1, 3.2.5 and 3.5; cryptsetup's
+-- Whether a volume is in the midst of a reencryption: of LUKS1 by its magic, of LUKS2 by its metadata (LUKS2 On-Disk Format 1.1, 3.2.5 and 3.5; cryptsetup's
 -- requirements `online-reencrypt` and `offline-reencrypt`).
 use Rattle.std.specs.Prelude.{◌≡◌, ◌⊎◌, ℕ, ◌<◌, ◌≤◌, List, length, nat_eq, codes, Bool, true, false, ◌||◌, Option, Some, None, option_and_then, ⊤}
 use Rattle.std.specs.List.{starts_with}
@@ -14,6 +14,7 @@ use Rattle.luks_rules.specs.Faults.{object_at, section_at, type_at}
 use Rattle.luks_rules.specs.declared.table.Outer.TheVariants.{Top}
 use Rattle.luks_rules.specs.declared.table.Section.TheVariants.{Config, Keyslots}
 use Rattle.luks_reading.specs.Header.{json_at}
+use Rattle.luks_signatures.specs.Reencryption.{IsReencrypting as IsReencryptingLuks1}
 use Rattle.luks_commands.specs.declared.standing.Bar.{Bar}
 use Rattle.luks_commands.specs.declared.standing.Bar.TheVariants.{Memory, Device}
 use Rattle.luks_keeping_commands.specs.declared.reencrypting.JsonPlace.{JsonPlace}
@@ -72,11 +73,15 @@ pub data IsMetadataArea (v area : List ℕ) : Type 0 where
   counts : (place : ℕ) (copies : Copies) → Chosen v (luks2 place copies) → area ≡ json_at v place → IsMetadataArea v area
   lost : Chosen v nothing → 16384 ≤ length v → area ≡ part v 4096 12288 → IsMetadataArea v area
 
--- the volume is in the midst of a reencryption
-pub record IsReencrypting (v : List ℕ) : Type 0 where
+-- a volume of LUKS2 is in the midst of a reencryption, by its metadata
+pub record IsReencryptingLuks2 (v : List ℕ) : Type 0 where
   pub area : List ℕ
   pub is_area : IsMetadataArea v area
   pub is : IsReencryptingArea area
+
+-- so is a volume: one of LUKS1 by what cryptsetup has written in the place of its magic
+abbrev pub IsReencrypting : List ℕ → Type 0
+IsReencrypting v = IsReencryptingLuks1 v ⊎ IsReencryptingLuks2 v
 
 -- memory is taken for the metadata alone
 abbrev pub IsUnaskedMetadata : List ℕ → Type 0

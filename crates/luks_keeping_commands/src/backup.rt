@@ -11,9 +11,7 @@ ghost use Rattle.luks_keeping_commands.specs.BackingUp.{AnswersBackup, IsBackupA
 ghost use Rattle.luks_keeping_commands.specs.TwoFiles.{pair_of};
 
 use crate::one_file::are_one_file;
-use luks_commands::{
-    Answer, InputFault, Inputs, Reason, Refusal, Status, device_fault, unread,
-};
+use luks_commands::{Answer, InputFault, Inputs, Reason, Refusal, Status, device_fault, unread};
 use luks_keeping::{BackupFault, backup, backup_length};
 use luks_reading::{Data, Device};
 use luks_request::BackingUp;

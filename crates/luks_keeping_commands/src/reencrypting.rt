@@ -1,4 +1,4 @@
-//! Whether a volume is in the midst of a reencryption, by the metadata of its LUKS2 header.
+//! Whether a volume is in the midst of a reencryption.
 ghost use Rattle.std.specs.Prelude.{◌≡◌, ◌↔◌, ◌+◌, ◌-◌, ◌≤◌, ◌<◌, ◌^◌, ℕ, List, IfOk, IfErr, IfSome, IsNone, IsTrue, option_map};
 ghost use Rattle.std.specs.Option.{option_map_or};
 ghost use Rattle.serde_json.specs.View.{items_view, view};
@@ -7,12 +7,13 @@ ghost use Rattle.luks_area.specs.Ranges.{part};
 ghost use Rattle.luks_commands.specs.Standing.{is_bar_failure};
 ghost use Rattle.luks_keeping_commands.specs.Reencrypting.{asks_reencryption, HasReencryptingSlot, has_reencrypt_type, is_asking, is_reencrypting_slot, is_reencryption, is_reencryption_item};
 ghost use Rattle.luks_keeping_commands.specs.Reencrypting.{FindsMetadata, IsFromOutside, IsUntoldMetadata, mandatory_in};
-ghost use Rattle.luks_keeping_commands.specs.Reencrypting.{IsReencrypting, IsReencryptingArea, IsReencryptingValue, requires_reencryption};
+ghost use Rattle.luks_keeping_commands.specs.Reencrypting.{IsReencrypting, IsReencryptingArea, IsReencryptingLuks2, IsReencryptingValue, requires_reencryption};
 
 use luks_commands::Bar;
 use luks_json::{JsonFault, read_json};
 use luks_reading::{Device, DeviceFault, ReadFault};
 use luks_rules::{Outer, Section, object_at, section_at, type_at};
+use luks_signatures::is_reencrypted;
 use luks2_header::{Selected, select};
 use serde_json::Value;
 use std::alloc::Global;
@@ -30,10 +31,10 @@ struct JsonPlace {
     len: u64,
 }
 
-/// Whether the volume is in the midst of a reencryption: by the metadata of the LUKS2 copy that counts, or,
-/// where no header counts, by what stands where the first copy of the least size has it.
+/// Whether the volume is in the midst of a reencryption: one of LUKS1 by what stands in the place of its
+/// magic, one of LUKS2 by its metadata.
 ///
-/// Takes memory for that area and its value.
+/// Takes memory for the JSON area and its value.
 pub(crate) fn is_reencrypting<D: Device>(alloc: Global, device: &mut D) -> Result<bool, Bar>
     requires { D.failed device.old + 1 < 2 ^ 64 }
     ensures unchanged { IsUnchanged D.tells D.size D.bytes D.unsettled device.old device.new }
@@ -41,6 +42,23 @@ pub(crate) fn is_reencrypting<D: Device>(alloc: Global, device: &mut D) -> Resul
         (D.failed device.old) (D.failed device.new) }
     ensures is { D.tells → IfOk result (λ is.
         IsTrue is ↔ IsReencrypting (D.bytes device.old)) }
+    ensures fault { IfErr result (IsUntoldMetadata D.tells (D.bytes device.old)) }
+{
+    if is_reencrypted(device)? {
+        return Ok(true);
+    }
+    is_reencrypting_luks2(alloc, device)
+}
+
+/// The same of LUKS2: by the metadata of the copy that counts, or, where no header counts, by what stands
+/// where the first copy of the least size has it.
+fn is_reencrypting_luks2<D: Device>(alloc: Global, device: &mut D) -> Result<bool, Bar>
+    requires { D.failed device.old + 1 < 2 ^ 64 }
+    ensures unchanged { IsUnchanged D.tells D.size D.bytes D.unsettled device.old device.new }
+    ensures count { CountsFailure is_bar_failure result
+        (D.failed device.old) (D.failed device.new) }
+    ensures is { D.tells → IfOk result (λ is.
+        IsTrue is ↔ IsReencryptingLuks2 (D.bytes device.old)) }
     ensures fault { IfErr result (IsUntoldMetadata D.tells (D.bytes device.old)) }
 {
     match json_place(device)? {

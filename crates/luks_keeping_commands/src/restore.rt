@@ -12,9 +12,7 @@ ghost use Rattle.luks_keeping_commands.specs.TwoFiles.{pair_of};
 use crate::keyslots_note::note_keyslots;
 use crate::one_file::are_one_file;
 use crate::volume_use::judge_volume;
-use luks_commands::{
-    Answer, Inputs, Refusal, Status, device_fault, held_back, unread,
-};
+use luks_commands::{Answer, Inputs, Refusal, Status, device_fault, held_back, unread};
 use luks_keeping::{Over, RestoreFault, restore};
 use luks_reading::Device;
 use luks_request::Restoring;
