@@ -1,5 +1,5 @@
 -- The program's exit statuses.
-use Rattle.std.specs.Prelude.{◌≡◌, ℕ, ◌⊎◌, Result, Ok, Err}
+use Rattle.std.specs.Prelude.{◌≡◌, ℕ, ◌⊎◌}
 use Rattle.luks_commands.specs.declared.answers.Status.{Status}
 use Rattle.luks_commands.specs.declared.answers.Status.TheVariants.{Done, Refused, NotInStep, Fault}
 
@@ -12,8 +12,3 @@ exit_status Done = 0
 exit_status Refused = 1
 exit_status NotInStep = 3
 exit_status Fault = 4
-
--- that of a command that ended so: with an error where its output can't be written
-abbrev pub ended_status : {F : Type 0} → Result Status F → ℕ
-ended_status (Ok status) = exit_status status
-ended_status (Err error) = 4

@@ -1,4 +1,4 @@
-//! The commands of the program `luks` that check, show, open and format, over values: what each prints and
+//! The commands of the program `luks` that check, show, open and format, over values: what each
 //! answers. What the other commands share with them stands here too: the files, the answers and the
 //! printer.
 #![tactic(auto)]

@@ -1,5 +1,5 @@
 //! The commands of the program `luks` that make a separate header, `convert` and `rebuild`, over
-//! values: what each prints and answers.
+//! values: what each answers.
 #![tactic(auto)]
 
 pub mod convert;

@@ -1,5 +1,5 @@
 //! The commands of the program `luks` on header backups, `backup`, `restore` and `compare`, over values:
-//! what each prints and answers.
+//! what each answers.
 #![tactic(auto)]
 
 pub mod backup;

@@ -1,5 +1,5 @@
 //! What the program `luks` does: reads its command line, has the files opened that this names, runs the command
-//! over them, and prints what the command wrote for standard output and for standard error.
+//! over them, prints its answer, and says on standard error what is noted.
 //!
 //! It is generic over the runtime: a test lends it one of its own, over real files, that sees what is opened
 //! and printed.
