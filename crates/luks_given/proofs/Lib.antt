@@ -1,2 +1,1 @@
 pub mod PlanFacts
-pub mod VolumeFacts

@@ -2,3 +2,4 @@ pub mod Given
 pub mod Volume
 pub mod Plan
 pub mod Planned
+pub mod VolumeFacts

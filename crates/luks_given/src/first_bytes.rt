@@ -63,7 +63,7 @@ impl<'a, K: Given> FirstBytes<'a, K> {
 
 impl<K: Given> Device for FirstBytes<'_, K> {
     ghost use Rattle.luks_given.specs.Given.{given_bytes, given_failures, given_size, IsRefusedAt};
-    ghost use Rattle.luks_given.proofs.VolumeFacts.{length-volume};
+    ghost use Rattle.luks_given.specs.VolumeFacts.{length-volume};
 
     ghost tells = { Unit {0} };
 

@@ -134,7 +134,7 @@ fn put(bytes: &mut Vec<u8>, at: usize, from: &[u8])
 
 impl<K: Given> Device for PlannedWrites<K> {
     ghost use Rattle.luks_given.specs.Planned.{planned_bytes, planned_failures, planned_size, planned_unsettled};
-    ghost use Rattle.luks_given.proofs.VolumeFacts.{length-volume};
+    ghost use Rattle.luks_given.specs.VolumeFacts.{length-volume};
 
     ghost tells = { Unit {0} };
 

@@ -2,7 +2,7 @@ use Rattle.std.proofs.Common.{◌≡◌, ℕ, ◌+◌, ◌≤◌, List, ◌∷�
 use Rattle.luks_area.specs.Ranges.{written, IsAt, IsOfEither, SameBut}
 use Rattle.luks_area.proofs.RangeFacts.{length-written, same_but-same_outside, same_but-wider, same_outside-written}
 use Rattle.luks_given.specs.Volume.{volume}
-use Rattle.luks_given.proofs.VolumeFacts.{length-volume, written-volume}
+use Rattle.luks_given.specs.VolumeFacts.{length-volume, written-volume}
 use Rattle.luks_given.specs.declared.planned_writes.PlannedCall.{PlannedCall}
 use Rattle.luks_given.specs.Plan.{planned_length, played, IsUnflushed}
 use Rattle.luks_given.proofs.PlanFacts.{furthest-more, planned_length-more, played-more, unflushed-write}
