@@ -1,5 +1,6 @@
 """What the scripts of this folder share: a command that is run to its end, in a folder."""
 import os
+import shutil
 import subprocess
 import sys
 
@@ -53,3 +54,11 @@ def put(folder, name, data):
 def whole(folder, name):
     with open(os.path.join(folder, name), "rb") as file:
         return file.read()
+
+
+def loop_over(path, *more):
+    """The name of a loop device over the file or device; none where it can't be made."""
+    if shutil.which("losetup") is None:
+        return None
+    status, out, _ = said(["losetup", "--show", "-f", *more, path])
+    return out.strip() if status == 0 else None

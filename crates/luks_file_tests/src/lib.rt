@@ -1,6 +1,6 @@
 //! Tests over real files in a temporary folder: the device over a file, what devices pass on to the
-//! one behind, files that are opened when they are first read, edits whose first write fails and the file of a
-//! backup. They stand here so that no crate is proved a second time for them.
+//! one behind, files that are opened when they are first read, edits whose first write fails, the file of a
+//! backup, and a target that turns out to be its source. They stand here so that no crate is proved a second time for them.
 #![tactic(auto)]
 
 #[cfg(test)]
@@ -19,3 +19,5 @@ mod passed_on;
 mod refused_files;
 #[cfg(test)]
 mod volume_files;
+#[cfg(test)]
+mod watched_targets;

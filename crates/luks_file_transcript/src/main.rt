@@ -28,6 +28,7 @@
 //!                            behind `<` (to be read) and `>` (to be written too)
 //!     % WORDS                the same, but for the files that were opened
 //!     same NAME OTHER        whether both have the same bytes
+//!     rights NAME            its permissions
 //!     sum NAME               SHA-256 of its first 2097152 bytes, or of all that it has, and of its last 512
 //!
 //! The commands behind `%`, and what is owed to them, are printed by `testdata/oracle/file_rows`.

@@ -3,7 +3,7 @@ use crate::volume_files::{cut, flip, rewrite, sum_of};
 use luks_sessions::Trial;
 use std::fs::{self, File, OpenOptions, Permissions};
 use std::io::{self, ErrorKind, Seek, SeekFrom, Write};
-use std::os::unix::fs::{PermissionsExt, symlink};
+use std::os::unix::fs::{MetadataExt, PermissionsExt, symlink};
 use std::rt::Files;
 
 /// The folder of the files, what is typed, and the file whose lock another program holds.
@@ -48,6 +48,10 @@ impl<'a, R: AllocGlobal + Files<File = File>> Folder<'a, R> {
             "sum" => {
                 let sum = sum_of(self.rt, self.place(rest)?.as_str())?;
                 writeln!(out, "{line}: {sum}")
+            }
+            "rights" => {
+                let mode = fs::metadata(self.rt, self.place(rest)?.as_str())?.mode() % 0o1000;
+                writeln!(out, "{line}: {mode:o}")
             }
             "same" => {
                 let answer = if self.are_same(rest)? { "yes" } else { "no" };

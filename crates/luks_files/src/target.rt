@@ -14,19 +14,8 @@ use luks_guarded_files::{
 };
 use std::cell::Cell;
 use std::fs::{self, File};
-use std::os::unix::fs::FileTypeExt;
 use std::rc::Rc;
 use std::rt::{Clock, Files};
-
-/// Whether what has this name holds something, so that no backup is written over it unasked: a regular
-/// file that isn't empty, or a block device.
-pub(crate) fn is_taken<R: Files<File = File>>(rt: &R, name: &str) -> bool {
-    match fs::metadata(rt, name) {
-        Ok(found) if found.is_file() => found.len() > 0,
-        Ok(found) => found.file_type().is_block_device(),
-        Err(_) => false,
-    }
-}
 
 /// As what a target is opened.
 #[derive(Clone, Copy)]
@@ -169,13 +158,14 @@ fn volume_over<R: AllocGlobal + Clock + Files<File = File>>(
     ensures share { IfOk result (λ volume.
         (lock_of (behind (device_behind volume))).share ≡ share_for true) }
 {
-    let lock = match take_lock(rt.alloc(), &mut Host::new(rt), &file, true, FOLDER) {
+    let mut host = Host::new(rt);
+    let lock = match take_lock(rt.alloc(), &mut host, &file, true, FOLDER) {
         Ok(lock) => lock,
         Err(fault) => return Err(told(fault, name, notes)),
     };
     let file = match shape {
         Shape::AsItIs => FittedFile::new(file),
-        Shape::Backup { length, over } => fitted(file, length, over)?,
+        Shape::Backup { length, over } => fitted(&mut host, file, length, over)?,
     };
     let device = FileDevice::new(file.watching(watch))?;
     volume_of(
@@ -187,17 +177,16 @@ fn volume_over<R: AllocGlobal + Clock + Files<File = File>>(
     )
 }
 
-/// FILE, whose lock is held: a regular file is to get this length, and a block device keeps its own.
-fn fitted(file: File, length: u64, over: bool) -> Result<FittedFile, InputFault> {
-    let found = file.metadata()?;
-    let is_regular = found.is_file();
-    if !over && (!is_regular || found.len() > 0) {
-        return Err(InputFault::Unreadable(Reason::Exists));
-    }
-    if is_regular {
-        Ok(FittedFile::with_length(file, length))
-    } else {
-        Ok(FittedFile::new(file))
+/// FILE, whose lock is held, for a backup of this length.
+fn fitted<S: System>(
+    system: &mut S,
+    file: File,
+    length: u64,
+    over: bool,
+) -> Result<FittedFile, InputFault> {
+    match FittedFile::of_backup(system, file, length, over)? {
+        Some(file) => Ok(file),
+        None => Err(InputFault::Unreadable(Reason::Exists)),
     }
 }
 

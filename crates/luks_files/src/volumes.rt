@@ -7,11 +7,12 @@ ghost use Rattle.luks_window.specs.Windows.{behind};
 
 use crate::openings::{Opening, Openings};
 use crate::output::refused_name;
-use crate::target::{Shape, Source, Target, is_taken};
+use crate::target::{Shape, Source, Target};
 use crate::volume::{Volume, WHOLE, told, volume_of};
 use luks_commands::{InputFault, Reason};
 use luks_guarded_files::{
-    BLOCKS, CachedDevice, FOLDER, Found, Host, Stretch, have_common_bytes, open_locked,
+    BLOCKS, CachedDevice, FOLDER, Found, Host, Stretch, have_common_bytes, holds_something,
+    open_locked,
 };
 use luks_keeping::{BackupFault, backup_length};
 use luks_request::{BackingUp, Command, Line, Place};
@@ -102,7 +103,7 @@ pub fn open_volumes<R: AllocGlobal + Clock + Files<File = File>>(
         Ok(true) => return Volumes::unopened(InputFault::Unreadable(Reason::SameFile)),
         Err(AllocError) => return Volumes::without_memory(),
     }
-    if holds_something(rt, line) {
+    if is_kept(rt, line) {
         return Volumes::unopened(InputFault::Unreadable(Reason::Exists));
     }
     let volume = open_volume(rt, openings.volume, openings.place, notes);
@@ -148,9 +149,11 @@ fn are_one<R: AllocGlobal + Clock + Files<File = File>>(
 }
 
 /// Whether a backup is to be made over something that isn't to be written over.
-fn holds_something<R: Files<File = File>>(rt: &R, line: &Line<'_>) -> bool {
+fn is_kept<R: Clock + Files<File = File>>(rt: &R, line: &Line<'_>) -> bool {
     match line.command {
-        Command::Backup(backing_up) => !backing_up.over && is_taken(rt, backing_up.target),
+        Command::Backup(backing_up) => {
+            !backing_up.over && holds_something(&mut Host::new(rt), backing_up.target)
+        }
         _ => false,
     }
 }

@@ -3,8 +3,10 @@ pub mod Extents
 pub mod Guarded
 pub mod Hosts
 pub mod Identity
+pub mod Kinds
 pub mod Lazy
 pub mod Locked
 pub mod Node
 pub mod Notices
+pub mod OpenFaults
 pub mod System

@@ -1,8 +1,9 @@
 -- A device whose lock was asked for.
 use Rattle.std.specs.Prelude.{◌≡◌, ◌⊎◌, Bool, true, false, Option, None, Some, List, [], ◌∷◌}
-use Rattle.luks_guarded_files.specs.System.{asked}
+use Rattle.luks_guarded_files.specs.System.{asked, asked_after}
 use Rattle.luks_guarded_files.specs.declared.system.Answer.{Answer}
 use Rattle.luks_guarded_files.specs.declared.system.Answer.TheVariants as answer
+use Rattle.luks_guarded_files.specs.declared.system.Answers.{Answers}
 use Rattle.luks_guarded_files.specs.declared.system.Asked.{Asked}
 use Rattle.luks_guarded_files.specs.declared.system.Share.{Share}
 use Rattle.luks_guarded_files.specs.declared.system.Share.TheVariants.{Shared, Exclusive}
@@ -30,17 +31,18 @@ share_for false = Shared
 abbrev pub IsHeldByAnother : Lock → Type 0
 IsHeldByAnother lock = (lock.node ≡ answer.Taken) ⊎ (lock.name ≡ named.Taken)
 
--- What the last answer tells of a name's lock, of which `before` was the last one before. Held is only what
+-- What the last two answers tell of a name's lock, `before` having been the last one until it was asked for. Held is only what
 -- the system answered as held. Where the name is another file's by then, what was held counts as taken.
-abbrev pub IsOfName : Share → Option Asked → Option Asked → Named → Type 0
-IsOfName way before last named.Unneeded = last ≡ before
-IsOfName way before last (named.Held file) = last ≡ Some (asked way answer.Held)
-IsOfName way before last named.Taken = (last ≡ before) ⊎ (last ≡ Some (asked way answer.Taken)) ⊎ (last ≡ Some (asked way answer.Held))
-IsOfName way before last named.Unheld = (last ≡ before) ⊎ (last ≡ Some (asked way answer.Unknown))
+abbrev pub IsOfName : Share → Option Asked → Answers → Named → Type 0
+IsOfName way before now named.Unneeded = now.last ≡ before
+IsOfName way before now (named.Held file) = now ≡ asked_after before (asked way answer.Held)
+IsOfName way before now named.Taken = (now.last ≡ before) ⊎ (now ≡ asked_after before (asked way answer.Taken)) ⊎ (now ≡ asked_after before (asked way answer.Held))
+IsOfName way before now named.Unheld = (now.last ≡ before) ⊎ (now ≡ asked_after before (asked way answer.Unknown))
 
--- the lock has the answers of the system: that of the file or node, and then of the name
-abbrev pub IsAnswered : Lock → Option Asked → Type 0
-IsAnswered lock last = IsOfName lock.share (Some (asked lock.share lock.node)) last lock.name
+-- The lock has the answers of the system, each: that of the file or node, and then of the name. So the first one is tied where the
+-- name's lock is held, too.
+abbrev pub IsAnswered : Lock → Answers → Type 0
+IsAnswered lock now = IsOfName lock.share (Some (asked lock.share lock.node)) now lock.name
 
 -- what is said of the lock of a file or node that no other program holds
 abbrev pub node_notice : Answer → Option Notice

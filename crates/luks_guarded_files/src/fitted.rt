@@ -1,5 +1,6 @@
 ghost use Rattle.std.specs.Prelude.{◌≤◌, length};
 
+use crate::system::{Kind, System};
 use crate::watch::Watch;
 use std::cell::Cell;
 use std::fs::{File, Metadata, OpenFile};
@@ -18,6 +19,31 @@ pub struct FittedFile {
 }
 
 impl FittedFile {
+    ghost use Rattle.std.specs.Prelude.{◌≡◌, ◌↔◌, false, IfOk, IsSomeAnd, None};
+    ghost use Rattle.luks_guarded_files.specs.Kinds.{HoldsSomething};
+
+    /// The file of a backup of this length, whose lock is held: a regular file that gets the length, or a
+    /// block device, which keeps its own. None where it holds something, and may not be written over.
+    pub fn of_backup<S: System>(
+        system: &mut S,
+        file: File,
+        length: u64,
+        over: bool,
+    ) -> io::Result<Option<Self>>
+        ensures answers { S.answers system.new ≡ S.answers system.old }
+        ensures kept { IfOk result (λ fitted. (fitted ≡ None)
+            ↔ ((over ≡ false) × IsSomeAnd (S.found system.new) HoldsSomething)) }
+    {
+        let found = system.fstat(&file)?;
+        if !over && found.holds_something() {
+            return Ok(None);
+        }
+        if found.kind == Kind::Regular {
+            return Ok(Some(FittedFile::with_length(file, length)));
+        }
+        Ok(Some(FittedFile::new(file)))
+    }
+
     /// A file that keeps its length.
     pub fn new(file: File) -> Self {
         FittedFile {

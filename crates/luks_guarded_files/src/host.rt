@@ -1,10 +1,11 @@
-ghost use Rattle.std.specs.Prelude.{◌≡◌, ◌<◌, IfSome, None, length};
-ghost use Rattle.luks_guarded_files.specs.Hosts.{last_asked};
+ghost use Rattle.std.specs.Prelude.{◌≡◌, ◌<◌, IfSome, length};
+ghost use Rattle.luks_guarded_files.specs.Hosts.{answers_of};
+ghost use Rattle.luks_guarded_files.specs.System.{no_answers};
 
-use crate::system::{Access, Answer, Asked, Found, Kind, Share, System};
+use crate::system::{Access, Answer, Answers, Found, Share, System};
 use std::fs::{self, DirBuilder, File, Metadata, OpenOptions, TryLockError};
 use std::io::{self, Read};
-use std::os::unix::fs::{DirBuilderExt, FileTypeExt, MetadataExt, OpenOptionsExt};
+use std::os::unix::fs::{DirBuilderExt, MetadataExt, OpenOptionsExt};
 use std::rt::{Clock, Files};
 use std::thread;
 use std::time::Duration;
@@ -13,15 +14,20 @@ use std::time::Duration;
 #[derive(Drop)]
 pub struct Host<'a, R> {
     rt: &'a R,
-    last: Option<Asked>,
+    answers: Answers,
+    found: Option<Found>,
 }
 
 impl<'a, R> Host<'a, R> {
     /// The system behind this runtime, of which no lock was asked for yet.
     pub fn new(rt: &'a R) -> Self
-        ensures { last_asked result ≡ None }
+        ensures { answers_of result ≡ no_answers }
     {
-        Host { rt, last: None }
+        Host {
+            rt,
+            answers: Answers::NONE,
+            found: None,
+        }
     }
 }
 
@@ -40,42 +46,44 @@ fn read_whole<F: Read>(file: &mut F, into: &mut [u8]) -> Option<usize>
     None
 }
 
-impl From<Metadata> for Found {
-    fn from(found: Metadata) -> Found {
-        let kind = found.file_type();
-        Found {
-            kind: if kind.is_file() {
-                Kind::Regular
-            } else if kind.is_block_device() {
-                Kind::Block
-            } else if kind.is_dir() {
-                Kind::Folder
-            } else if kind.is_symlink() {
-                Kind::Link
-            } else {
-                Kind::Other
-            },
-            system: found.dev(),
-            inode: found.ino(),
-            device: found.rdev(),
-            owner: found.uid(),
-        }
+impl<R> Host<'_, R> {
+    ghost use Rattle.std.specs.Prelude.{None, Some, IfErr, IfOk};
+    ghost use Rattle.std.specs.Fs.{metadata_len, metadata_mode};
+    ghost use Rattle.luks_guarded_files.specs.Hosts.{found_of};
+    ghost use Rattle.luks_guarded_files.specs.Kinds.{IsOfMode};
+
+    /// What the system has told of a file, which is noted.
+    fn told(&mut self, metadata: io::Result<Metadata>) -> io::Result<Found>
+        ensures answers { answers_of self.new ≡ answers_of self.old }
+        ensures found { IfOk result (λ f. found_of self.new ≡ Some f) }
+        ensures unfound { IfErr result (λ _. found_of self.new ≡ None) }
+        ensures kind { IfOk metadata (λ m. IfOk result (λ f. IsOfMode (metadata_mode m) f.kind)) }
+        ensures len { IfOk metadata (λ m. IfOk result (λ f. f.len ≡ metadata_len m)) }
+    {
+        self.found = None;
+        let found = Found::of(&metadata?);
+        self.found = Some(found);
+        Ok(found)
     }
 }
 
 impl<R: Clock + Files<File = File>> System for Host<'_, R> {
-    ghost last = { λ host. host.last };
+    ghost answers = { λ host. host.answers };
+
+    ghost found = { λ host. host.found };
 
     fn stat(&mut self, path: &str) -> io::Result<Found> {
-        Ok(Found::from(fs::metadata(self.rt, path)?))
+        let metadata = fs::metadata(self.rt, path);
+        self.told(metadata)
     }
 
     fn lstat(&mut self, path: &str) -> io::Result<Found> {
-        Ok(Found::from(fs::symlink_metadata(self.rt, path)?))
+        let metadata = fs::symlink_metadata(self.rt, path);
+        self.told(metadata)
     }
 
     fn fstat(&mut self, file: &File) -> io::Result<Found> {
-        Ok(Found::from(file.metadata()?))
+        self.told(file.metadata())
     }
 
     fn open(&mut self, path: &str, access: Access) -> io::Result<File> {
@@ -122,7 +130,7 @@ impl<R: Clock + Files<File = File>> System for Host<'_, R> {
             Err(TryLockError::WouldBlock) => Answer::Taken,
             Err(TryLockError::Error(_)) => Answer::Unknown,
         };
-        self.last = Some(Asked { share, answer });
+        self.answers.add(share, answer);
         answer
     }
 

@@ -23,6 +23,7 @@ mod once;
 mod opening;
 mod read_only;
 mod system;
+mod taken;
 mod watch;
 
 pub use beginning::begins_with;
@@ -39,5 +40,6 @@ pub use node::Node;
 pub use notice::Notice;
 pub use once::open_or_make;
 pub use opening::{FOLDER, OpenFault, open_file, open_locked, take_lock};
-pub use system::{Access, Answer, Asked, Found, Kind, Share, System};
+pub use system::{Access, Answer, Answers, Asked, Found, Kind, Share, System};
+pub use taken::holds_something;
 pub use watch::Watch;

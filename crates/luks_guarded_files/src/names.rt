@@ -36,7 +36,7 @@ pub fn hold_name<S: System>(
     share: Share,
 ) -> Named
     ensures needed { result ≢ named.Unneeded }
-    ensures answered { IsOfName share (S.last system.old) (S.last system.new) result }
+    ensures answered { IsOfName share (S.answers system.old).last (S.answers system.new) result }
 {
     let Ok(path) = format!(in alloc; "{folder}/{node}") else {
         return Named::Unheld;
@@ -54,7 +54,7 @@ pub fn hold_name<S: System>(
 /// Asks once for the lock on this file, and looks then whether the name is still its.
 fn hold_file<S: System>(system: &mut S, file: File, path: &str, share: Share) -> Named
     ensures needed { result ≢ named.Unneeded }
-    ensures answered { IsOfName share (S.last system.old) (S.last system.new) result }
+    ensures answered { IsOfName share (S.answers system.old).last (S.answers system.new) result }
 {
     match system.flock(&file, share) {
         Answer::Held if is_at(system, &file, path) => Named::Held(file),
@@ -65,7 +65,7 @@ fn hold_file<S: System>(system: &mut S, file: File, path: &str, share: Share) ->
 
 /// Whether the folder is there; it is made where it is missing.
 fn is_folder<S: System>(system: &mut S, folder: &str) -> bool
-    ensures { S.last system.new ≡ S.last system.old }
+    ensures { S.answers system.new ≡ S.answers system.old }
 {
     system.mkdir(folder);
     match system.lstat(folder) {
@@ -77,7 +77,7 @@ fn is_folder<S: System>(system: &mut S, folder: &str) -> bool
 /// Opens the file of this name, or makes it. What isn't a regular file is refused, a symbolic link
 /// too.
 fn open_name<S: System>(system: &mut S, path: &str) -> Result<File, ErrorKind>
-    ensures { S.last system.new ≡ S.last system.old }
+    ensures { S.answers system.new ≡ S.answers system.old }
 {
     let access = match system.lstat(path) {
         Ok(found) if found.kind == Kind::Regular => Access::Write,
@@ -90,7 +90,7 @@ fn open_name<S: System>(system: &mut S, path: &str) -> Result<File, ErrorKind>
 
 /// Whether the name is that of this file still.
 fn is_at<S: System>(system: &mut S, file: &File, path: &str) -> bool
-    ensures { S.last system.new ≡ S.last system.old }
+    ensures { S.answers system.new ≡ S.answers system.old }
 {
     match same_file(system, file, path) {
         Ok(same) => same,
@@ -99,7 +99,7 @@ fn is_at<S: System>(system: &mut S, file: &File, path: &str) -> bool
 }
 
 fn same_file<S: System>(system: &mut S, file: &File, path: &str) -> io::Result<bool>
-    ensures { S.last system.new ≡ S.last system.old }
+    ensures { S.answers system.new ≡ S.answers system.old }
 {
     let held = system.fstat(file)?;
     let named = system.lstat(path)?;

@@ -1,5 +1,6 @@
 //! A file that is opened once, as what it was seen to be.
-ghost use Rattle.std.specs.Prelude.{◌≡◌};
+ghost use Rattle.std.specs.Prelude.{◌≡◌, ◌≢◌, IfErr, IfOk, IsSomeAnd, Some};
+ghost use Rattle.luks_guarded_files.specs.Kinds.{IsNoVolume};
 
 use crate::opening::OpenFault;
 use crate::system::{Access, Found, Kind, System};
@@ -13,7 +14,9 @@ const ROOT: u32 = 0;
 /// call, and is refused where it isn't the file that the name was seen to be of. A symbolic link is
 /// followed where the caller or root owns it, to a file that is there.
 pub fn open_or_make<S: System>(system: &mut S, path: &str) -> Result<(File, bool), OpenFault>
-    ensures { S.last system.new ≡ S.last system.old }
+    ensures answers { S.answers system.new ≡ S.answers system.old }
+    ensures refused { IfErr result (λ fault. fault ≡ OpenFault.NoVolume
+        → IsSomeAnd (S.found system.new) IsNoVolume) }
 {
     match system.lstat(path) {
         Ok(named) => Ok((open_as_seen(system, path, &named)?, false)),
@@ -26,14 +29,17 @@ pub fn open_or_make<S: System>(system: &mut S, path: &str) -> Result<(File, bool
 
 /// Opens what the name was seen to be of, and nothing that has taken its place since.
 fn open_as_seen<S: System>(system: &mut S, path: &str, named: &Found) -> Result<File, OpenFault>
-    ensures { S.last system.new ≡ S.last system.old }
+    requires { S.found system.old ≡ Some named.now }
+    ensures answers { S.answers system.new ≡ S.answers system.old }
+    ensures refused { IfErr result (λ fault. fault ≡ OpenFault.NoVolume
+        → IsSomeAnd (S.found system.new) IsNoVolume) }
 {
     let seen = if named.kind == Kind::Link {
         followed(system, path, named)?
     } else {
         *named
     };
-    if seen.kind != Kind::Regular && seen.kind != Kind::Block {
+    if !seen.kind.has_bytes() {
         return Err(OpenFault::NoVolume);
     }
     let file = system.open(path, Access::Write)?;
@@ -46,7 +52,9 @@ fn open_as_seen<S: System>(system: &mut S, path: &str, named: &Found) -> Result<
 
 /// What the link leads to, where it may be followed.
 fn followed<S: System>(system: &mut S, path: &str, link: &Found) -> Result<Found, OpenFault>
-    ensures { S.last system.new ≡ S.last system.old }
+    ensures answers { S.answers system.new ≡ S.answers system.old }
+    ensures found { IfOk result (λ f. S.found system.new ≡ Some f) }
+    ensures refused { IfErr result (λ fault. fault ≢ OpenFault.NoVolume) }
 {
     if link.owner != ROOT && Some(link.owner) != system.caller() {
         return Err(OpenFault::ForeignLink);

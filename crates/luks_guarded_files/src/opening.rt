@@ -1,5 +1,6 @@
-ghost use Rattle.std.specs.Prelude.{◌≡◌, IfOk, IsTrue};
+ghost use Rattle.std.specs.Prelude.{◌≡◌, ◌≢◌, IfErr, IfOk, IsSomeAnd, IsTrue};
 ghost use Rattle.luks_area.specs.Files.{file_failures};
+ghost use Rattle.luks_guarded_files.specs.Kinds.{HasBytes, IsNoVolume};
 ghost use Rattle.luks_guarded_files.specs.Locked.{IsAnswered, IsHeldByAnother, device_inside, lock_of, share_for};
 
 use crate::fitted::FittedFile;
@@ -40,6 +41,10 @@ pub enum OpenFault {
 }
 
 impl From<io::Error> for OpenFault {
+    ghost use Rattle.luks_guarded_files.specs.OpenFaults.{IsOfError};
+
+    ghost from_gives = { IsOfError };
+
     fn from(error: io::Error) -> OpenFault {
         if error.kind() == io::ErrorKind::ReadOnlyFilesystem {
             return OpenFault::ReadOnly;
@@ -65,8 +70,10 @@ pub fn open_locked<S: System>(
 ) -> Result<LockedDevice<FileDevice<FittedFile>>, OpenFault>
     ensures alone { IsTrue writes → IfOk result (λ device. IsHeldByAnother (lock_of device) → ⊥) }
     ensures share { IfOk result (λ device. (lock_of device).share ≡ share_for writes) }
-    ensures answered { IfOk result (λ device. IsAnswered (lock_of device) (S.last system.new)) }
+    ensures answered { IfOk result (λ device. IsAnswered (lock_of device) (S.answers system.new)) }
     ensures count { IfOk result (λ device. file_failures (device_inside device) ≡ 0) }
+    ensures refused { IfErr result (λ fault. fault ≡ OpenFault.NoVolume
+        → IsSomeAnd (S.found system.new) IsNoVolume) }
 {
     let file = open_file(system, path, writes)?;
     let lock = take_lock(alloc, system, &file, writes, folder)?;
@@ -76,10 +83,12 @@ pub fn open_locked<S: System>(
 /// Opens the file of a volume for reading, or for writing too; its lock isn't taken yet. As `open_locked`
 /// says, one of another kind isn't opened.
 pub fn open_file<S: System>(system: &mut S, path: &str, writes: bool) -> Result<File, OpenFault>
-    ensures { S.last system.new ≡ S.last system.old }
+    ensures answers { S.answers system.new ≡ S.answers system.old }
+    ensures opened { IfOk result (λ _. IsSomeAnd (S.found system.new) (λ f. HasBytes f.kind)) }
+    ensures refused { IfErr result (λ fault. fault ≡ OpenFault.NoVolume
+        → IsSomeAnd (S.found system.new) IsNoVolume) }
 {
-    let kind = system.stat(path)?.kind;
-    if kind != Kind::Regular && kind != Kind::Block {
+    if !system.stat(path)?.kind.has_bytes() {
         return Err(OpenFault::NoVolume);
     }
     Ok(system.open(path, access_for(writes))?)
@@ -96,7 +105,8 @@ pub fn take_lock<S: System>(
 ) -> Result<Lock, OpenFault>
     ensures alone { IsTrue writes → IfOk result (λ lock. IsHeldByAnother lock → ⊥) }
     ensures share { IfOk result (λ lock. lock.share ≡ share_for writes) }
-    ensures answered { IfOk result (λ lock. IsAnswered lock (S.last system.new)) }
+    ensures answered { IfOk result (λ lock. IsAnswered lock (S.answers system.new)) }
+    ensures refused { IfErr result (λ fault. fault ≢ OpenFault.NoVolume) }
 {
     let node = block_node(system, file)?;
     if writes && node.is_some_and(|node| is_read_only(alloc, system, node)) {
@@ -148,7 +158,7 @@ fn hold<S: System>(
     folder: &str,
 ) -> Lock
     ensures share { result.share ≡ share }
-    ensures answered { IsAnswered result (S.last system.new) }
+    ensures answered { IsAnswered result (S.answers system.new) }
 {
     for _ in 1..TRIES {
         let lock = hold_once(alloc, system, file, node, share, folder);
@@ -170,7 +180,7 @@ fn hold_once<S: System>(
     folder: &str,
 ) -> Lock
     ensures share { result.share ≡ share }
-    ensures answered { IsAnswered result (S.last system.new) }
+    ensures answered { IsAnswered result (S.answers system.new) }
 {
     let answer = system.flock(file, share);
     let name = match node {

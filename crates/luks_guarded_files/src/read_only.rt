@@ -8,7 +8,7 @@ use std::alloc::Global;
 /// opens such a device for writing all the same, and fails the writes. Where that can't be read, it
 /// isn't known to be so.
 pub(crate) fn is_read_only<S: System>(alloc: Global, system: &mut S, node: Node) -> bool
-    ensures { S.last system.new ≡ S.last system.old }
+    ensures { S.answers system.new ≡ S.answers system.old }
 {
     let (major, minor) = (node.major, node.minor);
     match format!(in alloc; "/sys/dev/block/{major}:{minor}/ro") {

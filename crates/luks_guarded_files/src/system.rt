@@ -1,11 +1,15 @@
 //! The calls of the system by which a volume is opened and its lock is asked for.
-ghost use Rattle.std.specs.Prelude.{◌≡◌, ◌<◌, ◌↔◌, IfSome, IsTrue, Option, Some, length};
+ghost use Rattle.std.specs.Prelude.{◌≡◌, ◌<◌, ◌↔◌, IfErr, IfOk, IfSome, IsTrue, None, Option, Some, length};
+ghost use Rattle.std.specs.Fs.{metadata_len, metadata_mode};
 ghost use Rattle.luks_guarded_files.specs.Identity.{AreOfOneFile};
-ghost use Rattle.luks_guarded_files.specs.System.{asked};
-ghost use Rattle.luks_guarded_files.specs.declared.system.Asked.{Asked};
+ghost use Rattle.luks_guarded_files.specs.Kinds.{HasBytes, HoldsSomething, IsOfMode};
+ghost use Rattle.luks_guarded_files.specs.System.{asked, asked_after};
+ghost use Rattle.luks_guarded_files.specs.declared.system.Answers.{Answers};
+ghost use Rattle.luks_guarded_files.specs.declared.system.Found.{Found};
 
-use std::fs::File;
+use std::fs::{File, Metadata};
 use std::io;
+use std::os::unix::fs::MetadataExt;
 
 /// How a lock is held.
 #[derive(Clone, Copy, PartialEq, Eq)]
@@ -36,6 +40,31 @@ pub struct Asked {
     pub answer: Answer,
 }
 
+/// The answers to the two locks that were asked for last.
+#[derive(Clone, Copy)]
+pub struct Answers {
+    /// The last one.
+    pub last: Option<Asked>,
+    /// The one before it.
+    pub before: Option<Asked>,
+}
+
+impl Answers {
+    /// Those of a system that was asked for no lock yet.
+    pub const NONE: Answers = Answers {
+        last: None,
+        before: None,
+    };
+
+    /// A lock was asked for in this way, and this was answered.
+    pub fn add(&mut self, share: Share, answer: Answer)
+        ensures { self.new ≡ asked_after self.old.last (asked share answer) }
+    {
+        self.before = self.last;
+        self.last = Some(Asked { share, answer });
+    }
+}
+
 /// Of which kind a file is.
 #[derive(Clone, Copy, PartialEq, Eq)]
 pub enum Kind {
@@ -51,6 +80,31 @@ pub enum Kind {
     Other,
 }
 
+/// The bits of a file's mode that say of which kind it is (inode(7)).
+const KIND: u32 = 0o170000;
+
+impl Kind {
+    /// That of a file of this mode.
+    pub fn of(mode: u32) -> Kind
+        ensures { IsOfMode mode result }
+    {
+        match mode & KIND {
+            0o100000 => Kind::Regular,
+            0o060000 => Kind::Block,
+            0o040000 => Kind::Folder,
+            0o120000 => Kind::Link,
+            _ => Kind::Other,
+        }
+    }
+
+    /// Whether a file of this kind has bytes at places, so that it may be a volume or hold a backup.
+    pub fn has_bytes(self) -> bool
+        ensures { IsTrue result ↔ HasBytes self }
+    {
+        matches!(self, Kind::Regular | Kind::Block)
+    }
+}
+
 /// What the system tells of a file.
 #[derive(Clone, Copy, PartialEq, Eq)]
 pub struct Found {
@@ -64,9 +118,38 @@ pub struct Found {
     pub device: u64,
     /// The number of the user to whom it belongs.
     pub owner: u32,
+    /// The length of a regular file, in bytes. Of a block device it tells nothing.
+    pub len: u64,
 }
 
 impl Found {
+    /// That of a file of this metadata.
+    pub fn of(metadata: &Metadata) -> Found
+        ensures kind { IsOfMode (metadata_mode metadata.now) result.kind }
+        ensures len { result.len ≡ metadata_len metadata.now }
+    {
+        Found {
+            kind: Kind::of(metadata.mode()),
+            system: metadata.dev(),
+            inode: metadata.ino(),
+            device: metadata.rdev(),
+            owner: metadata.uid(),
+            len: metadata.len(),
+        }
+    }
+
+    /// Whether it holds something, so that no backup is written over it unasked: a regular file that isn't
+    /// empty, or a block device.
+    pub fn holds_something(&self) -> bool
+        ensures { IsTrue result ↔ HoldsSomething self.now }
+    {
+        match self.kind {
+            Kind::Regular => self.len > 0,
+            Kind::Block => true,
+            Kind::Folder | Kind::Link | Kind::Other => false,
+        }
+    }
+
     /// Whether both are told of one file.
     pub fn is_of_one_file(&self, other: &Found) -> bool
         ensures { IsTrue result ↔ AreOfOneFile self.now other.now }
@@ -93,58 +176,68 @@ pub enum Access {
 /// The calls of the system that a lock takes. `Host` makes them; a test answers them itself, and sees
 /// in which order they were made.
 pub trait System {
-    /// How a lock was asked for last, and what was answered.
-    ghost last: { Self → Option Asked };
+    /// The answers to the two locks that were asked for last.
+    ghost answers: { Self → Answers };
+
+    /// What was told of a file last, by its name or of an open one; none where that failed.
+    ghost found: { Self → Option Found };
 
     /// What the system tells of the file of this name; of a symbolic link of the file it leads to.
     fn stat(&mut self, path: &str) -> io::Result<Found>
-        ensures { last self.new ≡ last self.old };
+        ensures answers { answers self.new ≡ answers self.old }
+        ensures found { IfOk result (λ f. found self.new ≡ Some f) }
+        ensures unfound { IfErr result (λ _. found self.new ≡ None) };
 
     /// The same, of a symbolic link of itself.
     fn lstat(&mut self, path: &str) -> io::Result<Found>
-        ensures { last self.new ≡ last self.old };
+        ensures answers { answers self.new ≡ answers self.old }
+        ensures found { IfOk result (λ f. found self.new ≡ Some f) }
+        ensures unfound { IfErr result (λ _. found self.new ≡ None) };
 
     /// The same, of a file that is open.
     fn fstat(&mut self, file: &File) -> io::Result<Found>
-        ensures { last self.new ≡ last self.old };
+        ensures answers { answers self.new ≡ answers self.old }
+        ensures found { IfOk result (λ f. found self.new ≡ Some f) }
+        ensures unfound { IfErr result (λ _. found self.new ≡ None) };
 
     /// Opens the file of this name.
     fn open(&mut self, path: &str, access: Access) -> io::Result<File>
-        ensures { last self.new ≡ last self.old };
+        ensures answers { answers self.new ≡ answers self.old }
+        ensures found { found self.new ≡ found self.old };
 
     /// Makes a folder of this name with mode 0700, where that can be.
     fn mkdir(&mut self, path: &str)
-        ensures { last self.new ≡ last self.old };
+        ensures { answers self.new ≡ answers self.old };
 
     /// The first byte of the file of this name, where there is one.
     fn first_byte(&mut self, path: &str) -> Option<u8>
-        ensures { last self.new ≡ last self.old };
+        ensures { answers self.new ≡ answers self.old };
 
     /// Reads the small file of this name into the buffer, and answers its length, which is less than the
     /// buffer's; nothing where it can't be read or is longer.
     fn text(&mut self, path: &str, into: &mut [u8]) -> Option<usize>
-        ensures last { last self.new ≡ last self.old }
+        ensures answers { answers self.new ≡ answers self.old }
         ensures fits { IfSome result (λ len. len < length into.old) };
 
     /// Reads the names that the folder of this name has, each with a zero behind it, likewise.
     fn names(&mut self, path: &str, into: &mut [u8]) -> Option<usize>
-        ensures last { last self.new ≡ last self.old }
+        ensures answers { answers self.new ≡ answers self.old }
         ensures fits { IfSome result (λ len. len < length into.old) };
 
     /// The number of the user who runs the program, where it is known.
     fn caller(&mut self) -> Option<u32>
-        ensures { last self.new ≡ last self.old };
+        ensures { answers self.new ≡ answers self.old };
 
     /// Asks once for the lock on a whole file, and doesn't wait. It is held as long as the file is
     /// open, or until it is asked for otherwise; asking again for what is held changes nothing.
     fn flock(&mut self, file: &File, share: Share) -> Answer
-        ensures { last self.new ≡ Some (asked share result) };
+        ensures { answers self.new ≡ asked_after (answers self.old).last (asked share result) };
 
     /// Asks that all that was written to the file stays.
     fn fsync(&mut self, file: &File) -> io::Result<()>
-        ensures { last self.new ≡ last self.old };
+        ensures { answers self.new ≡ answers self.old };
 
     /// Waits for so many milliseconds.
     fn sleep(&mut self, milliseconds: u64)
-        ensures { last self.new ≡ last self.old };
+        ensures { answers self.new ≡ answers self.old };
 }

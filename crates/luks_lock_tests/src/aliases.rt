@@ -2,7 +2,7 @@
 ghost use Rattle.std.specs.Prelude.{◌<◌, IfSome, length};
 
 use luks_guarded_files::{
-    Access, Answer, Asked, Found, Host, Kind, Share, Stretch, System, have_common_bytes,
+    Access, Answer, Answers, Found, Host, Kind, Share, Stretch, System, have_common_bytes,
 };
 use luks_samples::new_folder;
 use std::alloc::{AllocError, Global};
@@ -83,8 +83,19 @@ static FOLDERS: [(&str, &[u8]); 6] = [
 /// A system that has these, and lets no file be opened.
 #[derive(Drop)]
 struct Told {
-    /// How the lock was last asked for, and the answer.
-    last: Option<Asked>,
+    /// The answers to the locks that were asked for last.
+    answers: Answers,
+    /// What was told of a file last.
+    found: Option<Found>,
+}
+
+impl Told {
+    fn new() -> Self {
+        Told {
+            answers: Answers::NONE,
+            found: None,
+        }
+    }
 }
 
 /// The buffer's front gets these bytes, if they fit.
@@ -98,31 +109,40 @@ fn filled(bytes: &[u8], into: &mut [u8]) -> Option<usize>
     Some(bytes.len())
 }
 
+/// What is told of the file of this name.
+fn found_of(path: &str) -> Option<Found> {
+    let (_, kind, number) = FILES.iter().find(|row| row.0 == path)?;
+    Some(Found {
+        kind: *kind,
+        system: 1,
+        inode: *number,
+        device: *number,
+        owner: 0,
+        len: 0,
+    })
+}
+
 fn refused() -> io::Error {
     io::Error::from(ErrorKind::PermissionDenied)
 }
 
 impl System for Told {
-    ghost last = { λ told. told.last };
+    ghost answers = { λ told. told.answers };
+
+    ghost found = { λ told. told.found };
 
     fn stat(&mut self, path: &str) -> io::Result<Found> {
-        match FILES.iter().find(|row| row.0 == path) {
-            Some((_, kind, number)) => Ok(Found {
-                kind: *kind,
-                system: 1,
-                inode: *number,
-                device: *number,
-                owner: 0,
-            }),
-            None => Err(io::Error::from(ErrorKind::NotFound)),
-        }
+        self.found = found_of(path);
+        self.found.ok_or(io::Error::from(ErrorKind::NotFound))
     }
 
     fn lstat(&mut self, _path: &str) -> io::Result<Found> {
+        self.found = None;
         Err(refused())
     }
 
     fn fstat(&mut self, _file: &File) -> io::Result<Found> {
+        self.found = None;
         Err(refused())
     }
 
@@ -152,7 +172,7 @@ impl System for Told {
 
     fn flock(&mut self, _file: &File, share: Share) -> Answer {
         let answer = Answer::Unknown;
-        self.last = Some(Asked { share, answer });
+        self.answers.add(share, answer);
         answer
     }
 
@@ -223,8 +243,8 @@ fn have_common<'a>(
     one: Stretch<'a>,
     other: Stretch<'a>,
 ) -> Result<bool, AllocError> {
-    let told = have_common_bytes(alloc, &mut Told { last: None }, one, other, BLOCKS)?;
-    let back = have_common_bytes(alloc, &mut Told { last: None }, other, one, BLOCKS)?;
+    let told = have_common_bytes(alloc, &mut Told::new(), one, other, BLOCKS)?;
+    let back = have_common_bytes(alloc, &mut Told::new(), other, one, BLOCKS)?;
     Ok(told && back)
 }
 

@@ -1,6 +1,8 @@
 //! Which calls of the system are made, in their order, where a volume is opened.
+ghost use Rattle.std.specs.Prelude.{◌≡◌, Some};
+
 use luks_guarded_files::{
-    Access, Answer, Asked, Found, Kind, OpenFault, Share, System, open_locked,
+    Access, Answer, Answers, Found, Kind, OpenFault, Share, System, open_locked,
 };
 use luks_samples::new_folder;
 use std::alloc::Global;
@@ -36,7 +38,9 @@ struct Fake<'a, R> {
     case: Case,
     /// How many locks were asked for.
     asked: usize,
-    last: Option<Asked>,
+    answers: Answers,
+    /// What was told of a file last.
+    found: Option<Found>,
     /// The file that stands for the block device is open.
     is_named: bool,
     sleeps: u32,
@@ -51,6 +55,7 @@ fn found(kind: Kind, inode: u64) -> Found {
         inode,
         device: 0x703,
         owner: 0,
+        len: 0,
     }
 }
 
@@ -69,36 +74,51 @@ fn name_of_share(share: Share) -> &'static str {
     }
 }
 
+impl<R> Fake<'_, R> {
+    /// What is told of a file, which is noted.
+    fn told(&mut self, kind: Kind, inode: u64) -> Found
+        ensures answers { self.new.answers ≡ self.old.answers }
+        ensures found { self.new.found ≡ Some result }
+    {
+        let told = found(kind, inode);
+        self.found = Some(told);
+        told
+    }
+}
+
 impl<R: Files<File = File>> System for Fake<'_, R> {
-    ghost last = { λ fake. fake.last };
+    ghost answers = { λ fake. fake.answers };
+
+    ghost found = { λ fake. fake.found };
 
     fn stat(&mut self, path: &str) -> io::Result<Found> {
         let _ = writeln!(self.log, "stat {path}");
-        Ok(found(self.case.kind, 5))
+        Ok(self.told(self.case.kind, 5))
     }
 
     fn lstat(&mut self, path: &str) -> io::Result<Found> {
         let _ = writeln!(self.log, "lstat {path}");
         if path == FOLDER {
-            return Ok(found(Kind::Folder, 6));
+            return Ok(self.told(Kind::Folder, 6));
         }
         if !self.is_named && !self.case.is_there {
+            self.found = None;
             return Err(io::Error::from(ErrorKind::NotFound));
         }
         if self.is_named && self.case.moves > 0 {
             self.case.moves -= 1;
-            return Ok(found(Kind::Regular, 8));
+            return Ok(self.told(Kind::Regular, 8));
         }
-        Ok(found(Kind::Regular, 7))
+        Ok(self.told(Kind::Regular, 7))
     }
 
     fn fstat(&mut self, _file: &File) -> io::Result<Found> {
         if self.is_named {
             let _ = writeln!(self.log, "fstat the name");
-            return Ok(found(Kind::Regular, 7));
+            return Ok(self.told(Kind::Regular, 7));
         }
         let _ = writeln!(self.log, "fstat");
-        Ok(found(self.case.kind, 5))
+        Ok(self.told(self.case.kind, 5))
     }
 
     fn open(&mut self, path: &str, access: Access) -> io::Result<File> {
@@ -139,7 +159,7 @@ impl<R: Files<File = File>> System for Fake<'_, R> {
             None => Answer::Held,
         };
         self.asked = self.asked.saturating_add(1);
-        self.last = Some(Asked { share, answer });
+        self.answers.add(share, answer);
         answer
     }
 
@@ -282,7 +302,8 @@ fn answering<'a, R: AllocGlobal>(rt: &'a R, real: &'a str, case: Case) -> Fake<'
         real,
         case,
         asked: 0,
-        last: None,
+        answers: Answers::NONE,
+        found: None,
         is_named: false,
         sleeps: 0,
         log: Vec::new(rt.alloc()),

@@ -13,4 +13,6 @@ mod named_locks;
 #[cfg(test)]
 mod opened_once;
 #[cfg(test)]
+mod synced;
+#[cfg(test)]
 mod volumes;

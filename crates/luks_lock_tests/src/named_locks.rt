@@ -165,7 +165,9 @@ fn what_the_system_tells_of_a_file(rt: HostRuntime) -> Result<(), Fail> {
         inode,
         device: _,
         owner,
+        len,
     } = found;
+    assert!(rt; len == 1, "its length");
     assert!(rt;
         kind == Kind::Regular && system == owed.dev() && inode == owed.ino(),
         "a file by a link"

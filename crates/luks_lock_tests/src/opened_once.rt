@@ -1,6 +1,7 @@
 //! The file that a backup is written to: opened by one call, as what its name was seen to be of.
 use luks_guarded_files::{
-    Access, Answer, Asked, Found, Host, Kind, OpenFault, Share, System, open_or_make,
+    Access, Answer, Answers, FittedFile, Found, Host, Kind, OpenFault, Share, System,
+    holds_something, open_or_make,
 };
 use luks_samples::new_folder;
 use std::fs::{self, File};
@@ -31,8 +32,10 @@ struct Fake<'a, R> {
     /// How often a file was opened, and as what.
     opens: u32,
     access: Option<Access>,
-    /// How the lock was last asked for, and the answer.
-    last: Option<Asked>,
+    /// The answers to the locks that were asked for last.
+    answers: Answers,
+    /// What was told of a file last.
+    found: Option<Found>,
 }
 
 fn missing() -> io::Error {
@@ -40,17 +43,22 @@ fn missing() -> io::Error {
 }
 
 impl<R: Files<File = File>> System for Fake<'_, R> {
-    ghost last = { λ fake. fake.last };
+    ghost answers = { λ fake. fake.answers };
+
+    ghost found = { λ fake. fake.found };
 
     fn stat(&mut self, _path: &str) -> io::Result<Found> {
-        self.case.leads_to.ok_or(missing())
+        self.found = self.case.leads_to;
+        self.found.ok_or(missing())
     }
 
     fn lstat(&mut self, _path: &str) -> io::Result<Found> {
-        self.case.named.ok_or(missing())
+        self.found = self.case.named;
+        self.found.ok_or(missing())
     }
 
     fn fstat(&mut self, _file: &File) -> io::Result<Found> {
+        self.found = Some(self.case.opened);
         Ok(self.case.opened)
     }
 
@@ -80,7 +88,7 @@ impl<R: Files<File = File>> System for Fake<'_, R> {
 
     fn flock(&mut self, _file: &File, share: Share) -> Answer {
         let answer = Answer::Unknown;
-        self.last = Some(Asked { share, answer });
+        self.answers.add(share, answer);
         answer
     }
 
@@ -97,6 +105,7 @@ const FILE: Found = Found {
     inode: 5,
     device: 0x705,
     owner: 1000,
+    len: 0,
 };
 
 const OTHER: Found = Found {
@@ -105,6 +114,7 @@ const OTHER: Found = Found {
     inode: 6,
     device: 0x706,
     owner: 0,
+    len: 0,
 };
 
 const DISK: Found = Found {
@@ -113,6 +123,7 @@ const DISK: Found = Found {
     inode: 7,
     device: 0x707,
     owner: 0,
+    len: 0,
 };
 
 const PIPE: Found = Found {
@@ -121,6 +132,7 @@ const PIPE: Found = Found {
     inode: 8,
     device: 0x708,
     owner: 1000,
+    len: 0,
 };
 
 const FOLDER: Found = Found {
@@ -129,6 +141,7 @@ const FOLDER: Found = Found {
     inode: 9,
     device: 0x709,
     owner: 1000,
+    len: 0,
 };
 
 const LINK: Found = Found {
@@ -137,6 +150,7 @@ const LINK: Found = Found {
     inode: 10,
     device: 0x700,
     owner: 1000,
+    len: 0,
 };
 
 const ROOTS: Found = Found {
@@ -145,6 +159,7 @@ const ROOTS: Found = Found {
     inode: 10,
     device: 0x700,
     owner: 0,
+    len: 0,
 };
 
 /// What comes of it.
@@ -195,6 +210,58 @@ static ROWS: [(Option<Found>, Option<Found>, Found, Option<u32>, &str); 15] = [
     (Some(LINK), Some(FILE), FILE, None, "a link of another user"),
 ];
 
+/// A file that isn't empty.
+const FULL: Found = Found { len: 5, ..FILE };
+
+/// What the name is of, and whether it holds something that isn't written over unasked.
+static HOLDING: [(Option<Found>, bool); 6] = [
+    (None, false),
+    (Some(FILE), false),
+    (Some(FULL), true),
+    // a block device, of which no length is told
+    (Some(DISK), true),
+    (Some(FOLDER), false),
+    (Some(PIPE), false),
+];
+
+/// A system that tells this of a file by any name, and of the open one.
+fn telling<'a, R>(rt: &'a R, real: &'a str, named: Option<Found>) -> Fake<'a, R> {
+    Fake {
+        rt,
+        real,
+        case: Case {
+            named,
+            leads_to: named,
+            opened: named.unwrap_or(FILE),
+            caller: None,
+        },
+        opens: 0,
+        access: None,
+        answers: Answers::NONE,
+        found: None,
+    }
+}
+
+// A block device counts as full before it is opened, and once it is.
+#[test]
+fn what_is_not_written_over(rt: HostRuntime) -> Result<(), Fail> {
+    let top = new_folder(&rt, "holding")?;
+    let path = format!(in rt.alloc(); "{top}/v")?;
+    let path = path.as_str();
+    fs::write(&rt, path, "v")?;
+    for (i, row) in HOLDING.iter().enumerate() {
+        let (named, holds) = *row;
+        let mut fake = telling(&rt, path, named);
+        assert!(rt; holds_something(&mut fake, "f") == holds, "row {i}");
+        let kept = FittedFile::of_backup(&mut fake, File::open(&rt, path)?, 12, false)?;
+        assert!(rt; kept.is_none() == holds, "row {i}: opened");
+        let over = FittedFile::of_backup(&mut fake, File::open(&rt, path)?, 12, true)?;
+        assert!(rt; over.is_some(), "row {i}: over it");
+    }
+    fs::remove_dir_all(&rt, top.as_str())?;
+    Ok(())
+}
+
 #[test]
 fn by_one_call(rt: HostRuntime) -> Result<(), Fail> {
     let top = new_folder(&rt, "once")?;
@@ -202,18 +269,12 @@ fn by_one_call(rt: HostRuntime) -> Result<(), Fail> {
     fs::write(&rt, path.as_str(), "v")?;
     for (i, row) in ROWS.iter().enumerate() {
         let (named, leads_to, opened, caller, want) = *row;
-        let mut fake = Fake {
-            rt: &rt,
-            real: path.as_str(),
-            case: Case {
-                named,
-                leads_to,
-                opened,
-                caller,
-            },
-            opens: 0,
-            access: None,
-            last: None,
+        let mut fake = telling(&rt, path.as_str(), named);
+        fake.case = Case {
+            named,
+            leads_to,
+            opened,
+            caller,
         };
         let told = outcome_of(&mut fake);
         assert!(rt; told == want, "row {i}");
