@@ -74,15 +74,17 @@ pub fn run<D: Device, R: Read, N: Read, E: Write, G: Progress>(
         needed: REBUILD_RANDOM,
         place,
     };
-    let Some(file) = rebuilding.passphrase else {
-        let making = Making {
-            files: &files,
-            rebuilding: *rebuilding,
-        };
-        let over = rebuilding.over;
-        return make_header(alloc, inputs, &files, over, &making, err, progress);
-    };
-    make_tried(alloc, inputs, &files, rebuilding, file, err, progress)
+    match rebuilding.passphrase {
+        Some(file) => make_tried(alloc, inputs, &files, rebuilding, file, err, progress),
+        None => {
+            let making = Making {
+                files: &files,
+                rebuilding: *rebuilding,
+            };
+            let over = rebuilding.over;
+            make_header(alloc, inputs, &files, over, &making, err, progress)
+        }
+    }
 }
 
 /// The making of a header as this asks, by these files.

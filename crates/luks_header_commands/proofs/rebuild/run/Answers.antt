@@ -10,11 +10,11 @@ returns-in-Some-clause-answers g c = λ apart.
     tried_answers c.args.rebuilding.now.passphrase c.in-Some.file c.in-Some.is _ _ _ _ c.args.rebuilding.now _ _ _ _ _ _ _ _ _ _
     (c.make_tried.ensures.answers apart)
 
-pub returns-in-else-clause-rest : goal.returns-in-else-clause-rest
-returns-in-else-clause-rest g c =
+pub returns-in-None-clause-rest : goal.returns-in-None-clause-rest
+returns-in-None-clause-rest g c =
     untried_kept c.args.rebuilding.now.passphrase c.in-None.is _ _ _ c.args.rebuilding.now _ _ _ _ c.make_header.ensures.rest
 
-pub returns-in-else-clause-answers : goal.returns-in-else-clause-answers
-returns-in-else-clause-answers g c = λ apart.
+pub returns-in-None-clause-answers : goal.returns-in-None-clause-answers
+returns-in-None-clause-answers g c = λ apart.
     untried_answers c.args.rebuilding.now.passphrase c.in-None.is _ _ _ _ c.args.rebuilding.now _ _ _ _ _ _ _ _ _ _
     (c.make_header.ensures.answers apart)
