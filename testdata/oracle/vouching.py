@@ -5,7 +5,7 @@ import itertools
 import reader
 from reader import Fault
 
-SECTOR, HEAD, MOST = 512, 4096, 16
+SECTOR, HEAD, MOST = 512, 4096, 64 << 20
 MAGIC = {True: b"LUKS\xba\xbe", False: b"SKUL\xba\xbe"}
 
 
@@ -19,20 +19,31 @@ def stands(head, size, at):
     return head[6:8] == b"\0\x02" and int.from_bytes(head[8:16], "big") == size and int.from_bytes(head[256:264], "big") == at and text == b"sha256"
 
 
-def tried(first, second):
-    """The compositions that are tried, in their order."""
+def sectors(first, second):
+    """Both areas by their sectors, and the numbers of those that differ."""
     count = len(first) // SECTOR
     one, two = ([area[k * SECTOR:(k + 1) * SECTOR] for k in range(count)] for area in (first, second))
-    differing = [k for k in range(count) if one[k] != two[k]]
-    if len(differing) <= MOST:
+    return one, two, [k for k in range(count) if one[k] != two[k]]
+
+
+def is_cut_short(first, second):
+    """Not all compositions are tried, since they have more than 64 MiB together."""
+    return MOST < 2 ** len(sectors(first, second)[2]) * len(first)
+
+
+def tried(first, second):
+    """The compositions that are tried, in their order."""
+    one, two, differing = sectors(first, second)
+    if not is_cut_short(first, second):
         for choice in itertools.product((one, two), repeat=len(differing)):
             area = list(one)
             for k, chosen in zip(differing, choice):
                 area[k] = chosen[k]
             yield b"".join(area)
     else:
+        most = MOST // (2 * len(first))
         for front, rest in ((first, second), (second, first)):
-            for k in range(count + 1):
+            for k in [0, *(k + 1 for k in differing)][:most]:
                 yield front[:k * SECTOR] + rest[k * SECTOR:]
 
 

@@ -9,8 +9,8 @@ use Rattle.luks2_header.proofs.BinaryHeaderFacts.{zeroed_then}
 use Rattle.luks2_header.proofs.CopyFacts.{listed_at_least}
 use Rattle.sha2.specs.Sha256.{sha256}
 use Rattle.luks_meta.specs.MetaFault.{IsMetaFault}
-use Rattle.luks_vouching.specs.Composed.{bordered, differing, sector, IsComposed, IsEarlier, IsNotLater}
-use Rattle.luks_vouching.specs.Tried.{most_differing, HasNoBorder, IsByBorder, IsFirstBorder, IsFirstOfAll, IsFirstOfBorders, IsFirstTried, IsTried}
+use Rattle.luks_vouching.specs.Composed.{bordered, sector, IsComposed, IsEarlier, IsNotLater}
+use Rattle.luks_vouching.specs.Tried.{bytes_of_all, most_hashed, HasNoBorder, IsByBorder, IsFirstBorder, IsFirstOfAll, IsFirstOfBorders, IsFirstTried, IsTried}
 use Rattle.luks_vouching.specs.Vouched.{area_at, mended_header, IsVouched, Meets, Stands, VouchesForNone}
 use Rattle.luks_vouching.proofs.BorderFacts.{bordered_composed}
 use Rattle.luks_vouching.proofs.SectorFacts.{sector_take}
@@ -45,7 +45,7 @@ one_border a b i j meets x y =
     x.is ∙ ap (bordered a b) same ∙ sym y.is
 
 no_such : (a b j : List ℕ) (meets : List ℕ → Type 0) → HasNoBorder a b meets → IsFirstBorder a b meets j → ⊥
-no_such a b j meets none x = none x.number (subst meets x.is x.met)
+no_such a b j meets none x = none x.number x.near (subst meets x.is x.met)
 
 one_of_borders : (a b i j : List ℕ) (meets : List ℕ → Type 0) → IsFirstOfBorders a b meets i → IsFirstOfBorders a b meets j → i ≡ j
 one_of_borders a b i j meets (inl x) (inl y) = one_border a b i j meets x y
@@ -55,7 +55,7 @@ one_of_borders a b i j meets (inr x) (inr y) = one_border b a i j meets x.1 y.1
 
 -- one composition is the first
 pub one_tried : (a b i j : List ℕ) (meets : List ℕ → Type 0) → IsFirstTried a b meets i → IsFirstTried a b meets j → i ≡ j
-one_tried a b i j meets x y = elim (cases_lt most_differing (differing a b)) [
+one_tried a b i j meets x y = elim (cases_lt most_hashed (bytes_of_all a b)) [
   | inl many ↦ one_of_borders a b i j meets (x.many many) (y.many many)
   | inr few ↦ one_of_all a b i j meets (x.few few) (y.few few)
 ]
@@ -73,8 +73,8 @@ module _ (a b j : List ℕ) (meets : List ℕ → Type 0) (long : length b ≡ l
   border_composed (inr x) = swapped a b j (subst (IsComposed b a) (sym x.1.is) (bordered_composed b a (sym long) x.1.number))
 
   border_of : IsFirstOfBorders a b meets j → IsByBorder a b j
-  border_of (inl x) = (x.number, inl x.is)
-  border_of (inr x) = (x.1.number, inr x.1.is)
+  border_of (inl x) = inl (x.number, x.near, x.is)
+  border_of (inr x) = inr (x.1.number, x.1.near, x.1.is)
 
   border_met : IsFirstOfBorders a b meets j → meets j
   border_met (inl x) = x.met
@@ -82,13 +82,13 @@ module _ (a b j : List ℕ) (meets : List ℕ → Type 0) (long : length b ≡ l
 
   -- it is tried, and meets the checksum
   pub first_tried : IsFirstTried a b meets j → IsTried a b j
-  first_tried x = elim (cases_lt most_differing (differing a b)) [
+  first_tried x = elim (cases_lt most_hashed (bytes_of_all a b)) [
     | inl many ↦ record { composed = border_composed (x.many many); by_border = λ _. border_of (x.many many) }
     | inr few ↦ record { composed = (x.few few).composed; by_border = λ many. absurd (omega (arith, few, many)) }
   ]
 
   pub first_met : IsFirstTried a b meets j → meets j
-  first_met x = elim (cases_lt most_differing (differing a b)) [
+  first_met x = elim (cases_lt most_hashed (bytes_of_all a b)) [
     | inl many ↦ border_met (x.many many)
     | inr few ↦ (x.few few).met
   ]

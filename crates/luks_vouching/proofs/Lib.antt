@@ -1,5 +1,6 @@
 pub mod SectorFacts
 pub mod SearchFacts
+pub mod BoundFacts
 pub mod BorderFacts
 pub mod LawFacts
 pub mod FoundFacts

@@ -1,21 +1,38 @@
 -- Which compositions of two JSON areas are tried by a checksum, and which of them is the first that
 -- meets it. No two that meet one SHA-256 are known: the order is there to make the first one unique.
-use Rattle.std.specs.Prelude.{◌≡◌, ℕ, ◌<◌, ◌≤◌, List, ◌⊎◌}
-use Rattle.luks_vouching.specs.Composed.{bordered, differing, IsComposed, IsNotLater}
+use Rattle.std.specs.Prelude.{◌≡◌, ℕ, ◌+◌, ◌*◌, ◌^◌, ◌<◌, ◌≤◌, List, ◌⊎◌, length}
+use Rattle.luks_vouching.specs.Composed.{bordered, differing, differing_before, IsComposed, IsNotLater}
 
--- where more sectors differ not all compositions are tried
-abbrev pub most_differing : ℕ
-most_differing = 16
+-- to find what one checksum vouches for so many bytes of areas are hashed at most: 64 MiB
+abbrev pub most_hashed : ℕ
+most_hashed = 67108864
 
--- it is a composition by one border, with the front of either area
+-- so many bytes all compositions have together: each sector that differs doubles their number
+abbrev pub bytes_of_all : List ℕ → List ℕ → ℕ
+bytes_of_all first second = 2 ^ differing first second * length first
+
+-- so many bytes the compositions by one border have together up to that of the border `n`, which has a new
+-- one behind each sector that differs, and as many with the front of the other area
+abbrev pub bytes_of_borders : List ℕ → List ℕ → ℕ → ℕ
+bytes_of_borders front rest n = 2 * (differing_before front rest n + 1) * length front
+
+-- the border is near enough to be tried
+abbrev pub IsNear : List ℕ → List ℕ → ℕ → Type 0
+IsNear front rest n = bytes_of_borders front rest n ≤ most_hashed
+
+-- it is a composition by one border, near enough, with the front of this area
+abbrev pub IsNearBorder : List ℕ → List ℕ → List ℕ → Type 0
+IsNearBorder front rest j = (n : ℕ) × IsNear front rest n × (j ≡ bordered front rest n)
+
+-- or of either
 abbrev pub IsByBorder : List ℕ → List ℕ → List ℕ → Type 0
-IsByBorder first second j = (n : ℕ) × ((j ≡ bordered first second n) ⊎ (j ≡ bordered second first n))
+IsByBorder first second j = IsNearBorder first second j ⊎ IsNearBorder second first j
 
--- the compositions that are tried: all, but where too many sectors differ those by one border alone,
--- of which the two whole areas are two
+-- the compositions that are tried: all, but where these have too many bytes those by one border alone that
+-- is near enough; the two whole areas are the first of these
 pub record IsTried (first second j : List ℕ) : Type 0 where
   pub composed : IsComposed first second j
-  pub by_border : most_differing < differing first second → IsByBorder first second j
+  pub by_border : most_hashed < bytes_of_all first second → IsByBorder first second j
 
 -- the first of all compositions that meet the checksum
 pub record IsFirstOfAll (first second : List ℕ) (meets : List ℕ → Type 0) (j : List ℕ) : Type 0 where
@@ -26,13 +43,14 @@ pub record IsFirstOfAll (first second : List ℕ) (meets : List ℕ → Type 0) 
 -- of those by one border, with the front of one area, the one with the shortest front
 pub record IsFirstBorder (front rest : List ℕ) (meets : List ℕ → Type 0) (j : List ℕ) : Type 0 where
   pub number : ℕ
+  pub near : IsNear front rest number
   pub is : j ≡ bordered front rest number
   pub met : meets j
   pub least : (n : ℕ) → meets (bordered front rest n) → number ≤ n
 
--- none by one border meets it
+-- none by one border that is near enough meets it
 abbrev pub HasNoBorder : List ℕ → List ℕ → (List ℕ → Type 0) → Type 0
-HasNoBorder front rest meets = (n : ℕ) → meets (bordered front rest n) → ⊥
+HasNoBorder front rest meets = (n : ℕ) → IsNear front rest n → meets (bordered front rest n) → ⊥
 
 -- the first of those by one border: with the first copy's front, or else with the second copy's
 abbrev pub IsFirstOfBorders : List ℕ → List ℕ → (List ℕ → Type 0) → List ℕ → Type 0
@@ -41,9 +59,13 @@ IsFirstOfBorders first second meets j =
 
 -- the first composition that is tried and meets the checksum
 pub record IsFirstTried (first second : List ℕ) (meets : List ℕ → Type 0) (j : List ℕ) : Type 0 where
-  pub few : differing first second ≤ most_differing → IsFirstOfAll first second meets j
-  pub many : most_differing < differing first second → IsFirstOfBorders first second meets j
+  pub few : bytes_of_all first second ≤ most_hashed → IsFirstOfAll first second meets j
+  pub many : most_hashed < bytes_of_all first second → IsFirstOfBorders first second meets j
 
 -- none that is tried meets it
 abbrev pub IsNoneTried : List ℕ → List ℕ → (List ℕ → Type 0) → Type 0
 IsNoneTried first second meets = (j : List ℕ) → IsTried first second j → meets j → ⊥
+
+-- not all compositions are tried: together they have too many bytes
+abbrev pub IsCutShort : List ℕ → List ℕ → Type 0
+IsCutShort first second = most_hashed < bytes_of_all first second

@@ -4,6 +4,7 @@
 
 mod areas;
 mod borders;
+mod bound;
 mod composing;
 mod laws;
 mod search;
@@ -13,4 +14,4 @@ mod vouched;
 
 pub use laws::{one_vouched, sound_copy_meets, vouched_is_composed};
 pub use vouch_fault::VouchFault;
-pub use vouched::{Vouched, find_vouched};
+pub use vouched::{Vouched, find_vouched, is_cut_short};
