@@ -1,4 +1,4 @@
-"""What the checksum of a copy vouches for, in Python: the composition of the sectors of both JSON areas that meets the checksum of one binary header."""
+"""What the checksum of a copy vouches for, in Python: one JSON area, cut where its text ends, or a composition of the sectors of both, that meets the checksum of one binary header."""
 import hashlib
 import itertools
 
@@ -28,11 +28,18 @@ def sectors(first, second):
 
 def is_cut_short(first, second):
     """Not all compositions are tried, since they have more than 64 MiB together."""
-    return MOST < 2 ** len(sectors(first, second)[2]) * len(first)
+    return MOST < (2 + 2 ** len(sectors(first, second)[2])) * len(first)
+
+
+def cut(area):
+    """The area with zeros for all that stands behind its text."""
+    return area.split(b"\0")[0].ljust(len(area), b"\0")
 
 
 def tried(first, second):
-    """The compositions that are tried, in their order."""
+    """What is tried, in its order: each area, cut, and then the compositions of sectors."""
+    yield cut(first)
+    yield cut(second)
     one, two, differing = sectors(first, second)
     if not is_cut_short(first, second):
         for choice in itertools.product((one, two), repeat=len(differing)):
@@ -41,7 +48,7 @@ def tried(first, second):
                 area[k] = chosen[k]
             yield b"".join(area)
     else:
-        most = MOST // (2 * len(first))
+        most = (MOST // len(first) - 2) // 2
         for front, rest in ((first, second), (second, first)):
             for k in [0, *(k + 1 for k in differing)][:most]:
                 yield front[:k * SECTOR] + rest[k * SECTOR:]

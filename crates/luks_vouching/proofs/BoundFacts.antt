@@ -54,8 +54,8 @@ module _ (a b : List ℕ) where
       let d : ℕ = m - n in
       let at : n + (m - n) ≡ m = omega (arith, le) in
       let grows : differing_before a b n ≤ differing_before a b m = subst (λ k. differing_before a b n ≤ differing_before a b k) at (before_grows n (m - n)) in
-      let twice : 2 * (differing_before a b n + 1) ≤ 2 * (differing_before a b m + 1) = omega (arith, grows) in
-      let bytes : 2 * (differing_before a b n + 1) * length a ≤ 2 * (differing_before a b m + 1) * length a = mul-le-mul_right (length a) twice in
+      let twice : 2 + 2 * (differing_before a b n + 1) ≤ 2 + 2 * (differing_before a b m + 1) = omega (arith, grows) in
+      let bytes : (2 + 2 * (differing_before a b n + 1)) * length a ≤ (2 + 2 * (differing_before a b m + 1)) * length a = mul-le-mul_right (length a) twice in
       omega (arith, bytes, near)
 
   -- behind a sector that doesn't differ the border makes nothing new

@@ -1,5 +1,5 @@
 -- There is one first composition, and it is one of those that are tried.
-use Rattle.std.proofs.Common.{◌≡◌, ℕ, ◌+◌, ◌-◌, ◌*◌, ◌≤◌, List, ◌++◌, inl, inr, length, drop, sym, ap, ◌∙◌, arith, subst}
+use Rattle.std.proofs.Common.{◌≡◌, ℕ, ◌+◌, ◌-◌, ◌*◌, ◌≤◌, List, ◌++◌, ◌⊎◌, inl, inr, length, drop, sym, ap, ◌∙◌, arith, subst}
 use Rattle.std.proofs.lemmas.Bool.{cases_lt}
 use Rattle.std.proofs.lemmas.List.{take-append-drop}
 use Rattle.luks_area.specs.Ranges.{part}
@@ -10,7 +10,8 @@ use Rattle.luks2_header.proofs.CopyFacts.{listed_at_least}
 use Rattle.sha2.specs.Sha256.{sha256}
 use Rattle.luks_meta.specs.MetaFault.{IsMetaFault}
 use Rattle.luks_vouching.specs.Composed.{bordered, sector, IsComposed, IsEarlier, IsNotLater}
-use Rattle.luks_vouching.specs.Tried.{bytes_of_all, most_hashed, HasNoBorder, IsByBorder, IsFirstBorder, IsFirstOfAll, IsFirstOfBorders, IsFirstTried, IsTried}
+use Rattle.luks_vouching.specs.Cut.{IsCut}
+use Rattle.luks_vouching.specs.Tried.{bytes_of_all, most_hashed, HasNoBorder, HasNoCut, IsByBorder, IsFirstBorder, IsFirstCut, IsFirstOfAll, IsFirstOfBorders, IsFirstOfSectors, IsFirstTried, IsTried, IsTriedOfSectors}
 use Rattle.luks_vouching.specs.Vouched.{area_at, mended_header, IsVouched, Meets, Stands, VouchesForNone}
 use Rattle.luks_vouching.proofs.BorderFacts.{bordered_composed}
 use Rattle.luks_vouching.proofs.SectorFacts.{sector_take}
@@ -53,12 +54,28 @@ one_of_borders a b i j meets (inl x) (inr y) = absurd (no_such a b i meets y.0 x
 one_of_borders a b i j meets (inr x) (inl y) = absurd (no_such a b j meets x.0 y)
 one_of_borders a b i j meets (inr x) (inr y) = one_border b a i j meets x.1 y.1
 
--- one composition is the first
-pub one_tried : (a b i j : List ℕ) (meets : List ℕ → Type 0) → IsFirstTried a b meets i → IsFirstTried a b meets j → i ≡ j
-one_tried a b i j meets x y = elim (cases_lt most_hashed (bytes_of_all a b)) [
+one_of_sectors : (a b i j : List ℕ) (meets : List ℕ → Type 0) → IsFirstOfSectors a b meets i → IsFirstOfSectors a b meets j → i ≡ j
+one_of_sectors a b i j meets x y = elim (cases_lt most_hashed (bytes_of_all a b)) [
   | inl many ↦ one_of_borders a b i j meets (x.many many) (y.many many)
   | inr few ↦ one_of_all a b i j meets (x.few few) (y.few few)
 ]
+
+one_cut : (a b i j : List ℕ) (meets : List ℕ → Type 0) → IsFirstCut a b meets i → IsFirstCut a b meets j → i ≡ j
+one_cut a b i j meets (inl x) (inl y) = x.0 ∙ sym y.0
+one_cut a b i j meets (inl x) (inr y) = absurd (y.0 (subst meets x.0 x.1))
+one_cut a b i j meets (inr x) (inl y) = absurd (x.0 (subst meets y.0 y.1))
+one_cut a b i j meets (inr x) (inr y) = x.1 ∙ sym y.1
+
+no_cut : (a b j : List ℕ) (meets : List ℕ → Type 0) → HasNoCut a b meets → IsFirstCut a b meets j → ⊥
+no_cut a b j meets none (inl x) = none.0 (subst meets x.0 x.1)
+no_cut a b j meets none (inr x) = none.1 (subst meets x.1 x.2)
+
+-- one is the first
+pub one_tried : (a b i j : List ℕ) (meets : List ℕ → Type 0) → IsFirstTried a b meets i → IsFirstTried a b meets j → i ≡ j
+one_tried a b i j meets (inl x) (inl y) = one_cut a b i j meets x y
+one_tried a b i j meets (inl x) (inr y) = absurd (no_cut a b i meets y.0 x)
+one_tried a b i j meets (inr x) (inl y) = absurd (no_cut a b j meets x.0 y)
+one_tried a b i j meets (inr x) (inr y) = one_of_sectors a b i j meets x.1 y.1
 
 swapped : (a b j : List ℕ) → IsComposed b a j → IsComposed a b j
 swapped a b j x = record {
@@ -80,18 +97,34 @@ module _ (a b j : List ℕ) (meets : List ℕ → Type 0) (long : length b ≡ l
   border_met (inl x) = x.met
   border_met (inr x) = x.1.met
 
-  -- it is tried, and meets the checksum
-  pub first_tried : IsFirstTried a b meets j → IsTried a b j
-  first_tried x = elim (cases_lt most_hashed (bytes_of_all a b)) [
+  sectors_tried : IsFirstOfSectors a b meets j → IsTriedOfSectors a b j
+  sectors_tried x = elim (cases_lt most_hashed (bytes_of_all a b)) [
     | inl many ↦ record { composed = border_composed (x.many many); by_border = λ _. border_of (x.many many) }
     | inr few ↦ record { composed = (x.few few).composed; by_border = λ many. absurd (omega (arith, few, many)) }
   ]
 
-  pub first_met : IsFirstTried a b meets j → meets j
-  first_met x = elim (cases_lt most_hashed (bytes_of_all a b)) [
+  sectors_met : IsFirstOfSectors a b meets j → meets j
+  sectors_met x = elim (cases_lt most_hashed (bytes_of_all a b)) [
     | inl many ↦ border_met (x.many many)
     | inr few ↦ (x.few few).met
   ]
+
+  cut_tried : IsFirstCut a b meets j → IsCut a b j
+  cut_tried (inl x) = inl x.0
+  cut_tried (inr x) = inr x.1
+
+  cut_met : IsFirstCut a b meets j → meets j
+  cut_met (inl x) = x.1
+  cut_met (inr x) = x.2
+
+  -- it is tried, and meets the checksum
+  pub first_tried : IsFirstTried a b meets j → IsTried a b j
+  first_tried (inl x) = inl (cut_tried x)
+  first_tried (inr x) = inr (sectors_tried x.1)
+
+  pub first_met : IsFirstTried a b meets j → meets j
+  first_met (inl x) = cut_met x
+  first_met (inr x) = sectors_met x.1
 
 -- both areas are of one length
 pub areas_long : (v : List ℕ) (size : ℕ) → 4096 ≤ size → 2 * size ≤ length v → length (area_at v size size) ≡ length (area_at v 0 size)
@@ -108,8 +141,9 @@ module _ (v : List ℕ) (size o : ℕ) where
   pub vouched_tried : (j : List ℕ) → IsVouched v size o j → IsTried (area_at v 0 size) (area_at v size size) j
   vouched_tried j x = first_tried (area_at v 0 size) (area_at v size size) j (Meets v o) (stands_long x.stands) x.meeting
 
-  pub vouched_composed : (j : List ℕ) → IsVouched v size o j → IsComposed (area_at v 0 size) (area_at v size size) j
-  vouched_composed j x = (vouched_tried j x).composed
+  pub vouched_composed : (j : List ℕ) → IsVouched v size o j
+      → IsCut (area_at v 0 size) (area_at v size size) j ⊎ IsComposed (area_at v 0 size) (area_at v size size) j
+  vouched_composed j x = elim (vouched_tried j x) [ inl one ↦ inl one | inr sectors ↦ inr sectors.composed ]
 
   pub vouched_meets : (j : List ℕ) → IsVouched v size o j → Meets v o j
   vouched_meets j x = first_met (area_at v 0 size) (area_at v size size) j (Meets v o) (stands_long x.stands) x.meeting

@@ -1,4 +1,5 @@
 pub mod Composed
+pub mod Cut
 pub mod Tried
 pub mod Vouched
 pub mod Faults

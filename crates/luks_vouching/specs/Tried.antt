@@ -1,20 +1,23 @@
 -- Which compositions of two JSON areas are tried by a checksum, and which of them is the first that
--- meets it. No two that meet one SHA-256 are known: the order is there to make the first one unique.
+-- meets it: each area, cut where its text ends, and then those of the sectors of both. No two that meet one SHA-256 are known: the order is there to make the first one unique.
 use Rattle.std.specs.Prelude.{◌≡◌, ℕ, ◌+◌, ◌*◌, ◌^◌, ◌<◌, ◌≤◌, List, ◌⊎◌, length}
 use Rattle.luks_vouching.specs.Composed.{bordered, differing, differing_before, IsComposed, IsNotLater}
+use Rattle.luks_vouching.specs.Cut.{cut, IsCut}
 
 -- to find what one checksum vouches for so many bytes of areas are hashed at most: 64 MiB
 abbrev pub most_hashed : ℕ
 most_hashed = 67108864
 
--- so many bytes all compositions have together: each sector that differs doubles their number
+-- so many bytes the two areas that are cut have together, and all compositions: each sector that differs
+-- doubles their number
 abbrev pub bytes_of_all : List ℕ → List ℕ → ℕ
-bytes_of_all first second = 2 ^ differing first second * length first
+bytes_of_all first second = (2 + 2 ^ differing first second) * length first
 
--- so many bytes the compositions by one border have together up to that of the border `n`, which has a new
--- one behind each sector that differs, and as many with the front of the other area
+-- so many bytes the two areas that are cut have together, and the compositions by one border up to that of
+-- the border `n`: there is a new one behind each sector that differs, and as many with the front of the other
+-- area
 abbrev pub bytes_of_borders : List ℕ → List ℕ → ℕ → ℕ
-bytes_of_borders front rest n = 2 * (differing_before front rest n + 1) * length front
+bytes_of_borders front rest n = (2 + 2 * (differing_before front rest n + 1)) * length front
 
 -- the border is near enough to be tried
 abbrev pub IsNear : List ℕ → List ℕ → ℕ → Type 0
@@ -28,11 +31,15 @@ IsNearBorder front rest j = (n : ℕ) × IsNear front rest n × (j ≡ bordered 
 abbrev pub IsByBorder : List ℕ → List ℕ → List ℕ → Type 0
 IsByBorder first second j = IsNearBorder first second j ⊎ IsNearBorder second first j
 
--- the compositions that are tried: all, but where these have too many bytes those by one border alone that
--- is near enough; the two whole areas are the first of these
-pub record IsTried (first second j : List ℕ) : Type 0 where
+-- the compositions of sectors that are tried: all, but where these have too many bytes those by one border
+-- alone that is near enough; the two whole areas are the first of these
+pub record IsTriedOfSectors (first second j : List ℕ) : Type 0 where
   pub composed : IsComposed first second j
   pub by_border : most_hashed < bytes_of_all first second → IsByBorder first second j
+
+-- what is tried
+abbrev pub IsTried : List ℕ → List ℕ → List ℕ → Type 0
+IsTried first second j = IsCut first second j ⊎ IsTriedOfSectors first second j
 
 -- the first of all compositions that meet the checksum
 pub record IsFirstOfAll (first second : List ℕ) (meets : List ℕ → Type 0) (j : List ℕ) : Type 0 where
@@ -57,10 +64,24 @@ abbrev pub IsFirstOfBorders : List ℕ → List ℕ → (List ℕ → Type 0) �
 IsFirstOfBorders first second meets j =
     IsFirstBorder first second meets j ⊎ (HasNoBorder first second meets × IsFirstBorder second first meets j)
 
--- the first composition that is tried and meets the checksum
-pub record IsFirstTried (first second : List ℕ) (meets : List ℕ → Type 0) (j : List ℕ) : Type 0 where
+-- the first composition of sectors that is tried and meets the checksum
+pub record IsFirstOfSectors (first second : List ℕ) (meets : List ℕ → Type 0) (j : List ℕ) : Type 0 where
   pub few : bytes_of_all first second ≤ most_hashed → IsFirstOfAll first second meets j
   pub many : most_hashed < bytes_of_all first second → IsFirstOfBorders first second meets j
+
+-- one of the two areas, cut, meets it: the first copy's, or else the second's
+abbrev pub IsFirstCut : List ℕ → List ℕ → (List ℕ → Type 0) → List ℕ → Type 0
+IsFirstCut first second meets j =
+    ((j ≡ cut first) × meets j) ⊎ ((meets (cut first) → ⊥) × (j ≡ cut second) × meets j)
+
+-- neither does
+abbrev pub HasNoCut : List ℕ → List ℕ → (List ℕ → Type 0) → Type 0
+HasNoCut first second meets = (meets (cut first) → ⊥) × (meets (cut second) → ⊥)
+
+-- the first that is tried and meets the checksum
+abbrev pub IsFirstTried : List ℕ → List ℕ → (List ℕ → Type 0) → List ℕ → Type 0
+IsFirstTried first second meets j =
+    IsFirstCut first second meets j ⊎ (HasNoCut first second meets × IsFirstOfSectors first second meets j)
 
 -- none that is tried meets it
 abbrev pub IsNoneTried : List ℕ → List ℕ → (List ℕ → Type 0) → Type 0

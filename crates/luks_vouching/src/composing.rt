@@ -3,11 +3,12 @@ ghost use Rattle.std.specs.Prelude.{◌≡◌, ◌↔◌, ◌++◌, ◌*◌, ◌
 ghost use Rattle.sha2.specs.Hashers.{Holds256};
 ghost use Rattle.sha2.specs.Sha256.{sha256};
 ghost use Rattle.luks_vouching.specs.Composed.{bordered, IsWholeSectors};
-ghost use Rattle.luks_vouching.specs.Tried.{bytes_of_all, most_hashed, HasNoBorder, IsCutShort, IsFirstOfBorders, IsFirstTried, IsNoneTried};
+ghost use Rattle.luks_vouching.specs.Tried.{bytes_of_all, most_hashed, HasNoBorder, IsCutShort, IsFirstOfBorders, IsFirstOfSectors, IsFirstTried, IsNoneTried, IsTriedOfSectors};
 
 use crate::areas::{SECTOR, differing};
 use crate::borders::least_border;
 use crate::bound::all_may;
+use crate::cutting::try_cut;
 use crate::search::search;
 use sha2::Sha256;
 
@@ -27,6 +28,25 @@ pub(crate) fn compose(
         → IsFirstTried first.now second.now (λ j. sum.now ≡ sha256 (done ++ j)) json.new }
     ensures none { (done : List ℕ) → Holds256 hasher done → result ≡ false
         → IsNoneTried first.now second.now (λ j. sum.now ≡ sha256 (done ++ j)) }
+{
+    if try_cut(first, json, &hasher, sum) {
+        return true;
+    }
+    if try_cut(second, json, &hasher, sum) {
+        return true;
+    }
+    compose_sectors(first, second, json, hasher, sum)
+}
+
+/// The same, of the compositions of sectors.
+fn compose_sectors(first: &[u8], second: &[u8], json: &mut [u8], hasher: Sha256, sum: &[u8]) -> bool
+    requires whole { IsWholeSectors first.now }
+    requires long { length second.now ≡ length first.now }
+    requires room { length json.old ≡ length first.now }
+    ensures found { (done : List ℕ) → Holds256 hasher done → result ≡ true
+        → IsFirstOfSectors first.now second.now (λ j. sum.now ≡ sha256 (done ++ j)) json.new }
+    ensures none { (done : List ℕ) → Holds256 hasher done → result ≡ false
+        → (j : List ℕ) → IsTriedOfSectors first.now second.now j → sum.now ≡ sha256 (done ++ j) → ⊥ }
 {
     if may_try_all(first, second) {
         search(first, second, json, hasher, sum)

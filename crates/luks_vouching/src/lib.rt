@@ -6,6 +6,7 @@ mod areas;
 mod borders;
 mod bound;
 mod composing;
+mod cutting;
 mod laws;
 mod search;
 mod standing;

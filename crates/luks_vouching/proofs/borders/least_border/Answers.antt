@@ -36,8 +36,8 @@ few a b n passed inside is =
     omega (arith, inside, is, le)
 
 -- a border that is too far
-too_far : (a b : List ℕ) (n passed : ℕ) → passed ≡ differing_before a b n → (2 * (passed + 1) * length a ≤ 67108864 → ⊥) → IsNear a b n → ⊥
-too_far a b n passed is far near = far (subst (λ k. 2 * (k + 1) * length a ≤ 67108864) (sym is) near)
+too_far : (a b : List ℕ) (n passed : ℕ) → passed ≡ differing_before a b n → ((2 + 2 * (passed + 1)) * length a ≤ 67108864 → ⊥) → IsNear a b n → ⊥
+too_far a b n passed is far near = far (subst (λ k. (2 + 2 * (k + 1)) * length a ≤ 67108864) (sym is) near)
 
 pub borders_may-requires : goal.borders_may-requires
 borders_may-requires c = few c.args.front.now c.args.rest.now c.loop-n.n c.loop-n.passed (omega arith) c.loop-n.invariant.passed
