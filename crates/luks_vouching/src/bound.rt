@@ -38,3 +38,16 @@ pub(crate) fn borders_may(passed: usize, len: usize) -> bool
 {
     passed < MOST_HASHED && may_hash(CUT + 2 * (passed + 1), len)
 }
+
+/// Whether all compositions of so many pieces may be hashed, beside those of sectors.
+pub(crate) fn pieces_may(differing: usize, count: usize, len: usize) -> bool
+    requires few { count ≤ 32 }
+    requires inside { differing ≤ len }
+    ensures { IsTrue result ↔ ((2 + 2 ^ differing + 2 ^ count) * len ≤ most_hashed) }
+{
+    if differing < 32 {
+        may_hash(CUT + (1 << differing) + (1 << count), len)
+    } else {
+        false
+    }
+}

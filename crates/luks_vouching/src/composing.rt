@@ -3,13 +3,14 @@ ghost use Rattle.std.specs.Prelude.{◌≡◌, ◌↔◌, ◌++◌, ◌*◌, ◌
 ghost use Rattle.sha2.specs.Hashers.{Holds256};
 ghost use Rattle.sha2.specs.Sha256.{sha256};
 ghost use Rattle.luks_vouching.specs.Composed.{bordered, IsWholeSectors};
-ghost use Rattle.luks_vouching.specs.Tried.{bytes_of_all, most_hashed, HasNoBorder, IsCutShort, IsFirstOfBorders, IsFirstOfSectors, IsFirstTried, IsNoneTried, IsTriedOfSectors};
+ghost use Rattle.luks_vouching.specs.Tried.{bytes_of_all, most_hashed, HasNoBorder, IsFirstOfBorders, IsFirstOfSectors, IsFirstTried, IsNoneTried, IsTriedOfSectors};
 
 use crate::areas::{SECTOR, differing};
 use crate::borders::least_border;
 use crate::bound::all_may;
 use crate::cutting::try_cut;
-use crate::search::search;
+use crate::piecing::compose_pieces;
+use crate::search::{fed, search};
 use sha2::Sha256;
 
 /// Whether a composition that is tried meets the checksum, by a hasher that was fed what stands before
@@ -35,7 +36,11 @@ pub(crate) fn compose(
     if try_cut(second, json, &hasher, sum) {
         return true;
     }
-    compose_sectors(first, second, json, hasher, sum)
+    let again = fed(&hasher, &[]);
+    if compose_sectors(first, second, json, hasher, sum) {
+        return true;
+    }
+    compose_pieces(first, second, json, &again, sum)
 }
 
 /// The same, of the compositions of sectors.
@@ -62,15 +67,6 @@ fn may_try_all(first: &[u8], second: &[u8]) -> bool
     ensures { IsTrue result ↔ (bytes_of_all first.now second.now ≤ most_hashed) }
 {
     all_may(differing(first, second), first.len())
-}
-
-/// Whether not all compositions are tried.
-pub(crate) fn are_cut_short(first: &[u8], second: &[u8]) -> bool
-    requires whole { IsWholeSectors first.now }
-    requires long { length second.now ≡ length first.now }
-    ensures { IsTrue result ↔ IsCutShort first.now second.now }
-{
-    !may_try_all(first, second)
 }
 
 /// The same, of the compositions by one border alone.

@@ -3,6 +3,7 @@ ghost use Rattle.std.specs.Prelude.{◌≡◌, ◌⊎◌, ℕ, List};
 ghost use Rattle.luks2_header.specs.Header2.{hdr_size, header_at, IsSound};
 ghost use Rattle.luks_vouching.specs.Composed.{IsComposed};
 ghost use Rattle.luks_vouching.specs.Cut.{IsCut};
+ghost use Rattle.luks_vouching.specs.Pieces.{IsOfPieces};
 ghost use Rattle.luks_vouching.specs.Tried.{IsTried};
 ghost use Rattle.luks_vouching.specs.Vouched.{area_at, IsVouched, Meets, VouchesForNone};
 
@@ -15,11 +16,12 @@ pub fn one_vouched()
 {}
 
 /// What a binary header vouches for is one copy's JSON area, cut where its text ends, or composed of the
-/// sectors of both; it is one of those that are tried, and meets the checksum.
+/// sectors of both, or of pieces of both; it is one of those that are tried, and meets the checksum.
 pub fn vouched_is_composed()
     ensures composed { (v : List ℕ) (size o : ℕ) (j : List ℕ) → IsVouched v size o j
         → IsCut (area_at v 0 size) (area_at v size size) j
-        ⊎ IsComposed (area_at v 0 size) (area_at v size size) j }
+        ⊎ (IsComposed (area_at v 0 size) (area_at v size size) j
+        ⊎ IsOfPieces (area_at v 0 size) (area_at v size size) j) }
     ensures tried { (v : List ℕ) (size o : ℕ) (j : List ℕ) → IsVouched v size o j
         → IsTried (area_at v 0 size) (area_at v size size) j }
     ensures met { (v : List ℕ) (size o : ℕ) (j : List ℕ) → IsVouched v size o j → Meets v o j }

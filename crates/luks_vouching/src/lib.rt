@@ -8,6 +8,8 @@ mod bound;
 mod composing;
 mod cutting;
 mod laws;
+mod pieces;
+mod piecing;
 mod search;
 mod standing;
 mod vouch_fault;

@@ -8,7 +8,8 @@ ghost use Rattle.luks_meta.specs.Content.{content};
 ghost use Rattle.luks_vouching.specs.Composed.{IsWholeSectors};
 ghost use Rattle.luks_vouching.specs.Vouched.{area_at, mended_header, FindsComposed, FindsVouched, IsCutShortAt, IsVouchedWithin, JudgesArea, Stands};
 
-use crate::composing::{are_cut_short, compose};
+use crate::composing::compose;
+use crate::piecing::are_cut_short;
 use crate::standing::{HEADER, hasher_of, is_standing, mend, sum_of};
 use crate::vouch_fault::VouchFault;
 use luks_area::Device;
