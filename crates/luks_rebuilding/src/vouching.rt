@@ -112,7 +112,7 @@ fn candidate_of(place: Place, found: Vouched) -> Candidate
 }
 
 /// Whether the copy at the place is asked for.
-fn is_asked(which: Which, place: Place) -> bool
+pub(crate) fn is_asked(which: Which, place: Place) -> bool
     ensures { IsTrue result ↔ IsAsked which place }
 {
     match which {

@@ -1,4 +1,4 @@
-use Rattle.std.proofs.Common.{◌≡◌, ℕ, List, IfOk, Option, Some, Ok, Err, Result, subst, sym}
+use Rattle.std.proofs.Common.{◌≡◌, ℕ, List, IfOk, Option, Ok, Err, Result, subst, sym}
 use Rattle.luks_rebuilding.specs.Found.{EarlierHalf, FindsVouchedFirst, IsBestOf, IsDone}
 use Rattle.luks_rebuilding.specs.declared.candidate.Candidate.{Candidate}
 use Rattle.luks_rebuilding.specs.declared.place.Half.TheVariants.{Second}
