@@ -38,15 +38,16 @@ def candidate(source, second, named=None):
 
 def newest_vouched(source, second, named):
     """Of what checksums vouch for that of the highest sequence number, of one number the first."""
-    best = None
+    best, newest = None, -1
     for size, at in places(second, named):
         found = vouching.vouched(source, size, at)
         if found is None:
             continue
         head, area, value = found
-        seqid = min(int.from_bytes(head[16:24], "big") + 1, GREATEST)
-        if best is None or best[4]["seqid"] < seqid:
-            best = size, at, area, value, {"seqid": seqid, "label": head[24:72], "subsystem": head[208:256]}
+        number = int.from_bytes(head[16:24], "big")
+        if newest < number:
+            newest = number
+            best = size, at, area, value, {"seqid": min(number + 1, GREATEST), "label": head[24:72], "subsystem": head[208:256]}
     return best
 
 

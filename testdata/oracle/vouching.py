@@ -1,11 +1,11 @@
-"""What the checksum of a copy vouches for, in Python: the composition of the sectors of both JSON areas that meets the checksum of one binary header."""
+"""What the checksum of a copy vouches for, in Python: one JSON area, cut where its text ends, or a composition of the sectors or, where few bytes of a sector differ, the bytes of both, that meets the checksum of one binary header."""
 import hashlib
 import itertools
 
 import reader
 from reader import Fault
 
-SECTOR, HEAD, MOST = 512, 4096, 16
+SECTOR, HEAD, MOST, FEW = 512, 4096, 64 << 20, 16
 MAGIC = {True: b"LUKS\xba\xbe", False: b"SKUL\xba\xbe"}
 
 
@@ -19,21 +19,71 @@ def stands(head, size, at):
     return head[6:8] == b"\0\x02" and int.from_bytes(head[8:16], "big") == size and int.from_bytes(head[256:264], "big") == at and text == b"sha256"
 
 
-def tried(first, second):
-    """The compositions that are tried, in their order."""
+def sectors(first, second):
+    """Both areas by their sectors, and the numbers of those that differ."""
     count = len(first) // SECTOR
     one, two = ([area[k * SECTOR:(k + 1) * SECTOR] for k in range(count)] for area in (first, second))
-    differing = [k for k in range(count) if one[k] != two[k]]
-    if len(differing) <= MOST:
+    return one, two, [k for k in range(count) if one[k] != two[k]]
+
+
+def pieces(first, second):
+    """Where a composition has all of one area or all of the other: each byte that differs, or the whole sector where more than 16 do."""
+    found = []
+    for k in sectors(first, second)[2]:
+        places = [p for p in range(k * SECTOR, (k + 1) * SECTOR) if first[p] != second[p]]
+        found += [(p, 1) for p in places] if len(places) <= FEW else [(k * SECTOR, SECTOR)]
+    return found
+
+
+def fit(first, second, count):
+    """So many compositions, and the two areas that are cut, have no more than 64 MiB together."""
+    return (2 + count) * len(first) <= MOST
+
+
+def is_cut_short(first, second):
+    """Not all compositions of pieces are tried."""
+    return not fit(first, second, 2 ** len(sectors(first, second)[2]) + 2 ** len(pieces(first, second)))
+
+
+def cut(area):
+    """The area with zeros for all that stands behind its text."""
+    return area.split(b"\0")[0].ljust(len(area), b"\0")
+
+
+def of_sectors(first, second):
+    """The compositions of sectors that are tried, in their order."""
+    one, two, differing = sectors(first, second)
+    if fit(first, second, 2 ** len(differing)):
         for choice in itertools.product((one, two), repeat=len(differing)):
             area = list(one)
             for k, chosen in zip(differing, choice):
                 area[k] = chosen[k]
             yield b"".join(area)
     else:
+        most = (MOST // len(first) - 2) // 2
         for front, rest in ((first, second), (second, first)):
-            for k in range(count + 1):
+            for k in [0, *(k + 1 for k in differing)][:most]:
                 yield front[:k * SECTOR] + rest[k * SECTOR:]
+
+
+def of_pieces(first, second):
+    """All compositions of pieces, by the digits of their number, the lowest first."""
+    found = pieces(first, second)
+    for number in range(2 ** len(found)):
+        area = bytearray(first)
+        for k, (at, count) in enumerate(found):
+            if number >> k & 1:
+                area[at:at + count] = second[at:at + count]
+        yield bytes(area)
+
+
+def tried(first, second):
+    """What is tried, in its order."""
+    yield cut(first)
+    yield cut(second)
+    yield from of_sectors(first, second)
+    if not is_cut_short(first, second):
+        yield from of_pieces(first, second)
 
 
 def vouched(source, size, at):

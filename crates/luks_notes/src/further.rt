@@ -38,7 +38,7 @@ pub(crate) fn say_further<D: Device, E: Write>(
 }
 
 /// The candidate of these copies, if there is one.
-fn candidate_of<D: Device>(
+pub(crate) fn candidate_of<D: Device>(
     alloc: Global,
     device: &mut D,
     which: Which,

@@ -18,6 +18,7 @@ mod older;
 mod older_keyslot;
 mod passed_over;
 mod telling;
+mod untried;
 
 pub use ending::header_end;
 pub use front::{FrontFault, read_front};
@@ -30,3 +31,4 @@ pub use noted::{leftovers, note_leftovers};
 pub use older_keyslot::{OlderNote, older_note};
 pub use passed_over::note_passed_over;
 pub use telling::{note_all_wanting, note_refused, note_wanting};
+pub use untried::note_untried;

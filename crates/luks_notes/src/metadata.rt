@@ -3,8 +3,9 @@
 ghost use Rattle.std.specs.Prelude.{◌+◌, ◌^◌, ◌<◌};
 ghost use Rattle.luks_area.specs.Device.{IsUnchanged};
 
-use crate::further::say_further;
+use crate::further::{candidate_of, say_further};
 use crate::older::say_older;
+use crate::untried::say_untried;
 use luks_area::Device;
 use luks_meta::Meta;
 use luks_rebuilding::{Candidate, Place, RebuildFault, Which, find_candidate};
@@ -13,8 +14,9 @@ use std::io::Write;
 
 /// Says to `err` of a volume of which no header counts in which copy metadata is whole, the first in
 /// the order of `rebuild`, and that a header can be made of it; whether a checksum vouches for it, and
-/// whether it is of an older volume; and what other metadata is whole there. Where a header counts or
-/// no metadata is whole it says nothing, and where the device fails or memory is refused no more.
+/// whether it is of an older volume; and what other metadata is whole there. Where no metadata is whole it
+/// says of which copy not all was tried; where a header counts nothing, and where the device fails or memory
+/// is refused no more.
 pub fn note_whole<D: Device, E: Write>(alloc: Global, device: &mut D, err: &mut E)
     requires { D.failed device.old + 1 < 2 ^ 64 }
     ensures { IsUnchanged D.tells D.size D.bytes D.unsettled device.old device.new }
@@ -31,14 +33,16 @@ fn say_whole<D: Device, E: Write>(
     requires { D.failed device.old + 1 < 2 ^ 64 }
     ensures { IsUnchanged D.tells D.size D.bytes D.unsettled device.old device.new }
 {
-    let found = find_candidate(alloc, device, Which::Any)?;
+    let Some(found) = candidate_of(alloc, device, Which::Any)? else {
+        return say_untried(alloc, device, Which::Any, err);
+    };
     let (count, keyslots) = counted(&found.meta);
     let copy = copy_of(&found.place);
     let _ = writeln!(
         err,
         "luks: metadata of {count} {keyslots} is whole in the {copy} copy: luks rebuild makes a header of it"
     );
-    say_origin(alloc, device, &found, err)
+    say_origin(alloc, device, Which::Any, &found, err)
 }
 
 /// Says to `err` of which copy's metadata a header was made, and how many keyslots it has; and the same
@@ -67,14 +71,15 @@ fn say_taken<D: Device, E: Write>(
         err,
         "luks: made of the metadata in the {copy} copy, which has {count} {keyslots}"
     );
-    say_origin(alloc, device, &found, err)
+    say_origin(alloc, device, which, &found, err)
 }
 
-/// Says whether a checksum vouches for the metadata and whether it is of an older volume, and what
-/// other metadata is whole.
+/// Says whether a checksum vouches for the metadata, of which copy not all was tried where none does, whether
+/// it is of an older volume, and what other metadata is whole.
 fn say_origin<D: Device, E: Write>(
     alloc: Global,
     device: &mut D,
+    which: Which,
     found: &Candidate,
     err: &mut E,
 ) -> Result<(), RebuildFault>
@@ -82,6 +87,9 @@ fn say_origin<D: Device, E: Write>(
     ensures { IsUnchanged D.tells D.size D.bytes D.unsettled device.old device.new }
 {
     say_vouch(found, err);
+    if found.vouch.is_none() {
+        say_untried(alloc, device, which, err)?;
+    }
     say_older(device, found, err)?;
     say_further(alloc, device, found, err)
 }
@@ -99,7 +107,7 @@ fn say_vouch<E: Write>(found: &Candidate, err: &mut E) {
 }
 
 /// Which copy the metadata was read from.
-fn copy_of(place: &Place) -> &'static str {
+pub(crate) fn copy_of(place: &Place) -> &'static str {
     if place.at == 0 { "first" } else { "second" }
 }
 

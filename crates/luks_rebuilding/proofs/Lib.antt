@@ -11,3 +11,4 @@ pub mod RegionFacts
 pub mod WrittenFacts
 pub mod GivesFacts
 pub mod RebuildFacts
+pub mod UntriedFacts

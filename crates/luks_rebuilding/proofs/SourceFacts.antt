@@ -9,7 +9,7 @@ use Rattle.luks2_header.specs.Header2.{header_at, seqid}
 use Rattle.luks_vouching.specs.Vouched.{IsVouched}
 use Rattle.luks_vouching.proofs.LawFacts.{vouched_once}
 use Rattle.luks_rebuilding.specs.Candidates.{json_of, next_seqid, place_key, place_of_source, source_key, IsCandidate, IsPlainSource, IsVouchedOf, Source, Taken}
-use Rattle.luks_rebuilding.specs.Found.{kept_label, kept_seqid, kept_subsystem, source_of, TakenPlace}
+use Rattle.luks_rebuilding.specs.Found.{kept_label, kept_seqid, kept_subsystem, own_seqid, source_of, TakenPlace}
 use Rattle.luks_rebuilding.specs.Outcome.{HasNoSource}
 use Rattle.luks_rebuilding.specs.declared.candidate.Candidate.{Candidate}
 use Rattle.luks_rebuilding.specs.declared.place.Place.{Place}
@@ -31,11 +31,11 @@ same_keys (x ∷ xs) (y ∷ ys) le ge =
 pub not_after_as : (a b xs ys : List ℕ) → a ≡ xs → b ≡ ys → NotAfter xs ys → NotAfter a b
 not_after_as a b xs ys p q n = subst (λ l. NotAfter l b) (sym p) (subst (λ l. NotAfter xs l) (sym q) n)
 
-pub key_vouched : (s : Source) → s.vouched ≡ true → source_key s ≡ 1 ∷ (0xFFFF_FFFF_FFFF_FFFF - s.seqid) ∷ place_key (place_of_source s)
-key_vouched s is = ap (λ (b : Bool). if b then (1 ∷ (0xFFFF_FFFF_FFFF_FFFF - s.seqid) ∷ place_key (place_of_source s)) else (2 ∷ place_key (place_of_source s))) is
+pub key_vouched : (s : Source) → s.vouched ≡ true → source_key s ≡ 1 ∷ (0xFFFF_FFFF_FFFF_FFFF - s.number) ∷ place_key (place_of_source s)
+key_vouched s is = ap (λ (b : Bool). if b then (1 ∷ (0xFFFF_FFFF_FFFF_FFFF - s.number) ∷ place_key (place_of_source s)) else (2 ∷ place_key (place_of_source s))) is
 
 pub key_plain : (s : Source) → s.vouched ≡ false → source_key s ≡ 2 ∷ place_key (place_of_source s)
-key_plain s is = ap (λ (b : Bool). if b then (1 ∷ (0xFFFF_FFFF_FFFF_FFFF - s.seqid) ∷ place_key (place_of_source s)) else (2 ∷ place_key (place_of_source s))) is
+key_plain s is = ap (λ (b : Bool). if b then (1 ∷ (0xFFFF_FFFF_FFFF_FFFF - s.number) ∷ place_key (place_of_source s)) else (2 ∷ place_key (place_of_source s))) is
 
 -- ---- sources
 
@@ -69,6 +69,7 @@ module _ (v : List ℕ) (which : Which) (c : Candidate) (plain : c.vouch ≡ Non
   is_plain x = record {
     candidate = x;
     json = read;
+    number = ap own_seqid plain;
     seqid = ap kept_seqid plain;
     label = ap kept_label plain;
     subsystem = ap kept_subsystem plain;
@@ -110,15 +111,16 @@ same_at a b la lb (inr p) (inr q) e =
 same_at a b la lb (inl p) (inr q) e = absurd (halves_differ a b lb p q e)
 same_at a b la lb (inr p) (inl q) e = absurd (halves_differ b a la q p (sym e))
 
-same_source : (a b : Source) → a.size ≡ b.size → a.at ≡ b.at → a.json ≡ b.json → a.vouched ≡ b.vouched → a.seqid ≡ b.seqid → a.label ≡ b.label → a.subsystem ≡ b.subsystem → a ≡ b
-same_source a b size at json vouched seqid label subsystem =
+same_source : (a b : Source) → a.size ≡ b.size → a.at ≡ b.at → a.json ≡ b.json → a.vouched ≡ b.vouched → a.number ≡ b.number → a.seqid ≡ b.seqid → a.label ≡ b.label → a.subsystem ≡ b.subsystem → a ≡ b
+same_source a b size at json vouched number seqid label subsystem =
     ap (λ x. let r : Source = record a { size = x } in r) size
     ∙ ap (λ x. let r : Source = record a { size = b.size; at = x } in r) at
     ∙ ap (λ x. let r : Source = record a { size = b.size; at = b.at; json = x } in r) json
     ∙ ap (λ (x : Bool). let r : Source = record a { size = b.size; at = b.at; json = b.json; vouched = x } in r) vouched
-    ∙ ap (λ x. let r : Source = record a { size = b.size; at = b.at; json = b.json; vouched = b.vouched; seqid = x } in r) seqid
-    ∙ ap (λ x. let r : Source = record a { size = b.size; at = b.at; json = b.json; vouched = b.vouched; seqid = b.seqid; label = x } in r) label
-    ∙ ap (λ x. let r : Source = record a { size = b.size; at = b.at; json = b.json; vouched = b.vouched; seqid = b.seqid; label = b.label; subsystem = x } in r) subsystem
+    ∙ ap (λ x. let r : Source = record a { size = b.size; at = b.at; json = b.json; vouched = b.vouched; number = x } in r) number
+    ∙ ap (λ x. let r : Source = record a { size = b.size; at = b.at; json = b.json; vouched = b.vouched; number = b.number; seqid = x } in r) seqid
+    ∙ ap (λ x. let r : Source = record a { size = b.size; at = b.at; json = b.json; vouched = b.vouched; number = b.number; seqid = b.seqid; label = x } in r) label
+    ∙ ap (λ x. let r : Source = record a { size = b.size; at = b.at; json = b.json; vouched = b.vouched; number = b.number; seqid = b.seqid; label = b.label; subsystem = x } in r) subsystem
 
 module _ (v : List ℕ) (which : Which) (a b : Source) where
   -- two that are vouched for by one copy
@@ -127,6 +129,7 @@ module _ (v : List ℕ) (which : Which) (a b : Source) where
       let there = subst (λ (o : ℕ). IsVouched v a.size o a.json) at (x.1.vouched) in
       let json : a.json ≡ b.json = vouched_once v b.size b.at a.json b.json (subst (λ (n : ℕ). IsVouched v n b.at a.json) size there) y.1.vouched in
       same_source a b size at json (x.0 ∙ sym y.0)
+      (x.1.number ∙ ap (λ o. seqid (header_at v o)) at ∙ sym y.1.number)
       (x.1.seqid ∙ ap (λ o. next_seqid (seqid (header_at v o))) at ∙ sym y.1.seqid)
       (x.1.label ∙ ap (λ o. part (header_at v o) 24 48) at ∙ sym y.1.label)
       (x.1.subsystem ∙ ap (λ o. part (header_at v o) 208 48) at ∙ sym y.1.subsystem)
@@ -134,7 +137,7 @@ module _ (v : List ℕ) (which : Which) (a b : Source) where
   one_plain_source : (a.vouched ≡ false) → (b.vouched ≡ false) → IsPlainSource v which a → IsPlainSource v which b → a.size ≡ b.size → a.at ≡ b.at → a ≡ b
   one_plain_source p q x y size at =
       let place : place_of_source a ≡ place_of_source b = ap (λ n. let r : Place = record { size = n; at = a.at } in r) size ∙ ap (λ o. let r : Place = record { size = b.size; at = o } in r) at in
-      same_source a b size at (x.json ∙ ap (json_of v) place ∙ sym y.json) (p ∙ sym q) (x.seqid ∙ sym y.seqid) (x.label ∙ sym y.label) (x.subsystem ∙ sym y.subsystem)
+      same_source a b size at (x.json ∙ ap (json_of v) place ∙ sym y.json) (p ∙ sym q) (x.number ∙ sym y.number) (x.seqid ∙ sym y.seqid) (x.label ∙ sym y.label) (x.subsystem ∙ sym y.subsystem)
 
 -- of two sources neither of which stands before the other
 pub one_source : (v : List ℕ) (which : Which) (a b : Source) → Taken v which a → Taken v which b → a ≡ b

@@ -72,12 +72,12 @@ tried_broken v which place f x = memory_so (HasToBeTried v which place) ((q : Pl
 
 module _ (a b : Source) (va : a.vouched ≡ true) (vb : b.vouched ≡ true) where
   -- the one with the higher sequence number
-  pub newer_first : b.seqid < a.seqid → a.seqid ≤ 0xFFFF_FFFF_FFFF_FFFF → NotAfter (source_key a) (source_key b)
+  pub newer_first : b.number < a.number → a.number ≤ 0xFFFF_FFFF_FFFF_FFFF → NotAfter (source_key a) (source_key b)
   newer_first newer fits =
       not_after_as (source_key a) (source_key b) _ _ (key_vouched a va) (key_vouched b vb) (omega arith, λ e. (omega (arith, newer, fits), λ same. absurd (omega (arith, newer, fits, same))))
 
   -- or of one number the one by its place
-  pub same_number : a.seqid ≡ b.seqid → NotAfter (place_key (place_of_source a)) (place_key (place_of_source b)) → NotAfter (source_key a) (source_key b)
+  pub same_number : a.number ≡ b.number → NotAfter (place_key (place_of_source a)) (place_key (place_of_source b)) → NotAfter (source_key a) (source_key b)
   same_number same places =
       not_after_as (source_key a) (source_key b) _ _ (key_vouched a va) (key_vouched b vb) (omega arith, λ e. (omega (arith, same), λ f. places))
 

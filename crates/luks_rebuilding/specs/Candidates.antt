@@ -41,12 +41,14 @@ place_key place = (if place.at == 0 then 1 else 2) ∷ place.size ∷ []
 
 -- ---- what a header is made of
 
--- metadata, the copy that it belongs to, and what the new header keeps of that copy's binary header
+-- metadata, the copy that it belongs to, the sequence number of that copy's binary header where it vouches,
+-- and what the new header keeps of it
 pub record Source : Type 0 where
   pub size : ℕ
   pub at : ℕ
   pub json : List ℕ
   pub vouched : Bool
+  pub number : ℕ
   pub seqid : ℕ
   pub label : List ℕ
   pub subsystem : List ℕ
@@ -63,6 +65,7 @@ next_seqid n = min (n + 1) 0xFFFF_FFFF_FFFF_FFFF
 pub record IsVouchedSource (v : List ℕ) (which : Which) (s : Source) : Type 0 where
   pub asked : IsAsked which (place_of_source s)
   pub vouched : IsVouched v s.size s.at s.json
+  pub number : s.number ≡ seqid (header_at v s.at)
   pub seqid : s.seqid ≡ next_seqid (seqid (header_at v s.at))
   pub label : s.label ≡ part (header_at v s.at) 24 48
   pub subsystem : s.subsystem ≡ part (header_at v s.at) 208 48
@@ -71,6 +74,7 @@ pub record IsVouchedSource (v : List ℕ) (which : Which) (s : Source) : Type 0 
 pub record IsPlainSource (v : List ℕ) (which : Which) (s : Source) : Type 0 where
   pub candidate : IsCandidate v which (place_of_source s)
   pub json : s.json ≡ json_of v (place_of_source s)
+  pub number : s.number ≡ 0
   pub seqid : s.seqid ≡ 1
   pub label : s.label ≡ replicate 48 0
   pub subsystem : s.subsystem ≡ replicate 48 0
@@ -89,7 +93,7 @@ IsSource v which s = IsVouchedOf v which s ⊎ IsPlainOf v which s
 -- their order: those that a checksum vouches for, the newest first, then the others
 abbrev pub source_key : Source → List ℕ
 source_key s = if s.vouched
-    then (1 ∷ (0xFFFF_FFFF_FFFF_FFFF - s.seqid) ∷ place_key (place_of_source s))
+    then (1 ∷ (0xFFFF_FFFF_FFFF_FFFF - s.number) ∷ place_key (place_of_source s))
     else (2 ∷ place_key (place_of_source s))
 
 -- the first of them

@@ -37,7 +37,11 @@ pub record IsWhole (total : ℕ) (c : Candidate) : Type 0 where
   pub long : length c.json.items ≡ c.place.size - 4096
   pub meta : IsMeta c.json.items (content c.meta)
 
--- what the new header keeps of a binary header that vouches for its metadata
+-- the sequence number of a binary header that vouches for its metadata, and what the new header keeps of it
+abbrev pub own_seqid : Option Bin2 → ℕ
+own_seqid None = 0
+own_seqid (Some h) = h.seqid
+
 abbrev pub kept_seqid : Option Bin2 → ℕ
 kept_seqid None = 1
 kept_seqid (Some h) = next_seqid h.seqid
@@ -57,6 +61,7 @@ source_of c = record {
   at = c.place.at;
   json = c.json.items;
   vouched = is_some c.vouch;
+  number = own_seqid c.vouch;
   seqid = kept_seqid c.vouch;
   label = kept_label c.vouch;
   subsystem = kept_subsystem c.vouch;

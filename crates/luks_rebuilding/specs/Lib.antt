@@ -6,3 +6,4 @@ pub mod Rebuilt
 pub mod Outcome
 pub mod Gives
 pub mod Found
+pub mod Untried

@@ -12,6 +12,7 @@ mod place;
 mod rebuild_fault;
 mod rebuilding;
 mod search;
+mod untried;
 mod vouching;
 
 pub use candidate::{Candidate, find_candidate};
@@ -19,3 +20,4 @@ pub use laws::{one_candidate, rebuilt_header_opens_alike};
 pub use place::{Place, Which};
 pub use rebuild_fault::RebuildFault;
 pub use rebuilding::{REBUILD_RANDOM, rebuild};
+pub use untried::find_untried;

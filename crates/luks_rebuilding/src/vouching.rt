@@ -4,7 +4,7 @@ ghost use Rattle.luks_area.specs.Device.{CountsFailure, IsUnchanged};
 ghost use Rattle.luks_area.specs.First.{NotAfter};
 ghost use Rattle.luks2_header.specs.Sizes.{IsListed};
 ghost use Rattle.luks_rebuilding.specs.Candidates.{source_key, IsAsked};
-ghost use Rattle.luks_rebuilding.specs.Found.{kept_seqid, source_of, BreaksVouched, BreaksVouchedAt, EarlierHalf, FindsVouchedAt, FindsVouchedFirst, IsBestOf, IsBetter, IsDone, IsFromOutside, IsVouch, IsWhole};
+ghost use Rattle.luks_rebuilding.specs.Found.{kept_seqid, own_seqid, source_of, BreaksVouched, BreaksVouchedAt, EarlierHalf, FindsVouchedAt, FindsVouchedFirst, IsBestOf, IsBetter, IsDone, IsFromOutside, IsVouch, IsWhole};
 ghost use Rattle.luks_rebuilding.specs.RebuildFaults.{is_rebuild_failure};
 
 use crate::candidate::Candidate;
@@ -112,7 +112,7 @@ fn candidate_of(place: Place, found: Vouched) -> Candidate
 }
 
 /// Whether the copy at the place is asked for.
-fn is_asked(which: Which, place: Place) -> bool
+pub(crate) fn is_asked(which: Which, place: Place) -> bool
     ensures { IsTrue result ↔ IsAsked which place }
 {
     match which {
@@ -159,13 +159,23 @@ fn is_before(a: &Candidate, b: &Candidate) -> bool
     ensures behind { result ≡ false
         → NotAfter (source_key (source_of b.now)) (source_key (source_of a.now)) }
 {
-    let (first, second) = (next_seqid(a), next_seqid(b));
+    let (first, second) = (own_seqid(a), own_seqid(b));
     if first != second {
         first > second
     } else if (a.place.at == 0) != (b.place.at == 0) {
         a.place.at == 0
     } else {
         a.place.size < b.place.size
+    }
+}
+
+/// The sequence number of the binary header that vouches for the candidate.
+fn own_seqid(candidate: &Candidate) -> u64
+    ensures { result ≡ own_seqid candidate.now.vouch }
+{
+    match &candidate.vouch {
+        Some(header) => header.seqid,
+        None => 0,
     }
 }
 

@@ -4,7 +4,8 @@ use Rattle.std.proofs.lemmas.Bool.{cases_lt}
 use Rattle.std.proofs.lemmas.List.{append-nil, drop_all, drop-append-le, length-take-le, take_all, take-append-le}
 use Rattle.std.proofs.Math.Seq.{drop-append-add}
 use Rattle.luks_vouching.specs.Composed.{bordered, sector, IsComposed}
-use Rattle.luks_vouching.specs.Tried.{HasNoBorder}
+use Rattle.luks_vouching.specs.Tried.{HasNoBorder, IsNear}
+use Rattle.luks_vouching.proofs.BoundFacts.{near_before}
 use Rattle.luks_vouching.proofs.SectorFacts.{composed_own, sector_drop, sector_take}
 
 module _ (front rest : List ℕ) (long : length rest ≡ length front) where
@@ -53,10 +54,18 @@ module _ (front rest : List ℕ) (long : length rest ≡ length front) where
     }
   ]
 
+  -- where none of the borders before one that isn't near enough meets the checksum, none that is does
+  pub no_border_before : (meets : List ℕ → Type 0) (n : ℕ) → (IsNear front rest n → ⊥)
+      → ((m : ℕ) → m < n → meets (bordered front rest m) → ⊥) → HasNoBorder front rest meets
+  no_border_before meets n far before m near met = elim (cases_lt m n) [
+    | inl below ↦ before m below met
+    | inr past ↦ far (near_before front rest n m past near)
+  ]
+
   -- where none of the borders up to the end meets the checksum none does
   pub no_border : (meets : List ℕ → Type 0) (count : ℕ) → 512 * count ≡ length front
       → ((m : ℕ) → m < count → meets (bordered front rest m) → ⊥) → (meets front → ⊥) → HasNoBorder front rest meets
-  no_border meets count whole before at_end n met = elim (cases_lt n count) [
+  no_border meets count whole before at_end n near met = elim (cases_lt n count) [
     | inl below ↦ before n below met
     | inr past ↦ at_end (subst meets (border_all n (omega (arith, whole, past))) met)
   ]

@@ -1,5 +1,7 @@
 pub mod SectorFacts
 pub mod SearchFacts
+pub mod BoundFacts
+pub mod PieceFacts
 pub mod BorderFacts
 pub mod LawFacts
 pub mod FoundFacts

@@ -42,7 +42,7 @@ next_front a m =
 pub three_parts : (a : List ℕ) (m : ℕ) → a ≡ (take (512 * m) a ++ sector a m) ++ drop (512 * (m + 1)) a
 three_parts a m = sym (take-append-drop (512 * (m + 1)) a) ∙ ap (λ l. l ++ drop (512 * (m + 1)) a) (next_front a m)
 
-not_false : (r : Bool) → not r ≡ false → r ≡ true
+pub not_false : (r : Bool) → not r ≡ false → r ≡ true
 not_false true e = refl
 not_false false e = absurd (false≢true (sym e))
 

@@ -22,10 +22,14 @@ pub record IsComposed (first second j : List ℕ) : Type 0 where
   pub as_second : length j ≡ length second
   pub each : (k : ℕ) → 512 * k < length j → (sector j k ≡ sector first k) ⊎ (sector j k ≡ sector second k)
 
+-- how many of the first `n` sectors of the two areas differ
+abbrev pub differing_before : List ℕ → List ℕ → ℕ → ℕ
+differing_before first second n =
+    count_by (λ k. not (bytes_eq (sector first k) (sector second k))) (range_with_len 0 n)
+
 -- how many sectors of the two areas differ
 abbrev pub differing : List ℕ → List ℕ → ℕ
-differing first second =
-    count_by (λ k. not (bytes_eq (sector first k) (sector second k))) (range_with_len 0 (sector_count first))
+differing first second = differing_before first second (sector_count first)
 
 -- the first `n` sectors of one area, and the rest of the other: a composition by one border
 abbrev pub bordered : List ℕ → List ℕ → ℕ → List ℕ

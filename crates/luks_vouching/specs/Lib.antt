@@ -1,4 +1,6 @@
 pub mod Composed
+pub mod Cut
+pub mod Pieces
 pub mod Tried
 pub mod Vouched
 pub mod Faults

@@ -8,7 +8,7 @@ use Rattle.luks_meta.specs.Accepted.{IsMeta}
 use Rattle.luks_meta.specs.Content.{content}
 use Rattle.luks_meta.specs.MetaFault.{IsMetaFault}
 use Rattle.luks_rules.specs.declared.fault.MetaFault.{MetaFault}
-use Rattle.luks_vouching.specs.Tried.{IsFirstTried, IsNoneTried}
+use Rattle.luks_vouching.specs.Tried.{IsCutShort, IsFirstTried, IsNoneTried}
 use Rattle.luks_vouching.specs.declared.vouched.Vouched.{Vouched}
 
 -- the JSON area of the copy at `o` of a header of `size` bytes: what follows its binary header
@@ -87,3 +87,7 @@ pub record IsVouchedWithin (size total : ℕ) (w : Vouched) : Type 0 where
   pub both_inside : 2 * size ≤ total
   pub long : length w.json.items ≡ size - 4096
   pub meta : IsMeta w.json.items (content w.meta)
+
+-- the binary header of the copy at `o` stands, and not all compositions are tried by its checksum
+abbrev pub IsCutShortAt : List ℕ → ℕ → ℕ → Type 0
+IsCutShortAt v size o = Stands v size o × IsCutShort (area_at v 0 size) (area_at v size size)

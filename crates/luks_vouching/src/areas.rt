@@ -23,7 +23,7 @@ pub(crate) fn differing(first: &[u8], second: &[u8]) -> usize
 }
 
 /// Whether the two areas differ in the sector `k`.
-fn differ(first: &[u8], second: &[u8], k: usize) -> bool
+pub(crate) fn differ(first: &[u8], second: &[u8], k: usize) -> bool
     requires inside { 512 * k + 512 ≤ length first.now }
     requires long { length second.now ≡ length first.now }
     ensures { result ≡ not (bytes_eq (sector first.now k) (sector second.now k)) }

@@ -1,17 +1,17 @@
 //! The first composition of two JSON areas that is tried and meets a checksum.
-ghost use Rattle.std.specs.Prelude.{◌≡◌, ◌++◌, ◌*◌, ◌<◌, ◌≤◌, ℕ, List, length, true, false};
+ghost use Rattle.std.specs.Prelude.{◌≡◌, ◌↔◌, ◌++◌, ◌*◌, ◌<◌, ◌≤◌, ℕ, List, IsTrue, length, true, false};
 ghost use Rattle.sha2.specs.Hashers.{Holds256};
 ghost use Rattle.sha2.specs.Sha256.{sha256};
 ghost use Rattle.luks_vouching.specs.Composed.{bordered, IsWholeSectors};
-ghost use Rattle.luks_vouching.specs.Tried.{HasNoBorder, IsFirstOfBorders, IsFirstTried, IsNoneTried};
+ghost use Rattle.luks_vouching.specs.Tried.{bytes_of_all, most_hashed, HasNoBorder, IsFirstOfBorders, IsFirstOfSectors, IsFirstTried, IsNoneTried, IsTriedOfSectors};
 
 use crate::areas::{SECTOR, differing};
 use crate::borders::least_border;
-use crate::search::search;
+use crate::bound::all_may;
+use crate::cutting::try_cut;
+use crate::piecing::compose_pieces;
+use crate::search::{fed, search};
 use sha2::Sha256;
-
-/// Where more sectors differ, only compositions by one border are tried.
-const MOST_DIFFERING: usize = 16;
 
 /// Whether a composition that is tried meets the checksum, by a hasher that was fed what stands before
 /// it. Then `json` holds the first one.
@@ -30,11 +30,43 @@ pub(crate) fn compose(
     ensures none { (done : List ℕ) → Holds256 hasher done → result ≡ false
         → IsNoneTried first.now second.now (λ j. sum.now ≡ sha256 (done ++ j)) }
 {
-    if differing(first, second) <= MOST_DIFFERING {
+    if try_cut(first, json, &hasher, sum) {
+        return true;
+    }
+    if try_cut(second, json, &hasher, sum) {
+        return true;
+    }
+    let again = fed(&hasher, &[]);
+    if compose_sectors(first, second, json, hasher, sum) {
+        return true;
+    }
+    compose_pieces(first, second, json, &again, sum)
+}
+
+/// The same, of the compositions of sectors.
+fn compose_sectors(first: &[u8], second: &[u8], json: &mut [u8], hasher: Sha256, sum: &[u8]) -> bool
+    requires whole { IsWholeSectors first.now }
+    requires long { length second.now ≡ length first.now }
+    requires room { length json.old ≡ length first.now }
+    ensures found { (done : List ℕ) → Holds256 hasher done → result ≡ true
+        → IsFirstOfSectors first.now second.now (λ j. sum.now ≡ sha256 (done ++ j)) json.new }
+    ensures none { (done : List ℕ) → Holds256 hasher done → result ≡ false
+        → (j : List ℕ) → IsTriedOfSectors first.now second.now j → sum.now ≡ sha256 (done ++ j) → ⊥ }
+{
+    if may_try_all(first, second) {
         search(first, second, json, hasher, sum)
     } else {
         compose_by_border(first, second, json, &hasher, sum)
     }
+}
+
+/// Whether all compositions may be tried.
+fn may_try_all(first: &[u8], second: &[u8]) -> bool
+    requires whole { IsWholeSectors first.now }
+    requires long { length second.now ≡ length first.now }
+    ensures { IsTrue result ↔ (bytes_of_all first.now second.now ≤ most_hashed) }
+{
+    all_may(differing(first, second), first.len())
 }
 
 /// The same, of the compositions by one border alone.

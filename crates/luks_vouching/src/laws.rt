@@ -1,7 +1,9 @@
 //! Laws on the definitions of this crate. Each function does nothing; its contract is the law.
-ghost use Rattle.std.specs.Prelude.{◌≡◌, ℕ, List};
+ghost use Rattle.std.specs.Prelude.{◌≡◌, ◌⊎◌, ℕ, List};
 ghost use Rattle.luks2_header.specs.Header2.{hdr_size, header_at, IsSound};
 ghost use Rattle.luks_vouching.specs.Composed.{IsComposed};
+ghost use Rattle.luks_vouching.specs.Cut.{IsCut};
+ghost use Rattle.luks_vouching.specs.Pieces.{IsOfPieces};
 ghost use Rattle.luks_vouching.specs.Tried.{IsTried};
 ghost use Rattle.luks_vouching.specs.Vouched.{area_at, IsVouched, Meets, VouchesForNone};
 
@@ -13,11 +15,13 @@ pub fn one_vouched()
         → VouchesForNone v size o → IsVouched v size o j → ⊥ }
 {}
 
-/// What a binary header vouches for is composed of the sectors of both copies' JSON areas, is one of
-/// the compositions that are tried, and meets the checksum.
+/// What a binary header vouches for is one copy's JSON area, cut where its text ends, or composed of the
+/// sectors of both, or of pieces of both; it is one of those that are tried, and meets the checksum.
 pub fn vouched_is_composed()
     ensures composed { (v : List ℕ) (size o : ℕ) (j : List ℕ) → IsVouched v size o j
-        → IsComposed (area_at v 0 size) (area_at v size size) j }
+        → IsCut (area_at v 0 size) (area_at v size size) j
+        ⊎ (IsComposed (area_at v 0 size) (area_at v size size) j
+        ⊎ IsOfPieces (area_at v 0 size) (area_at v size size) j) }
     ensures tried { (v : List ℕ) (size o : ℕ) (j : List ℕ) → IsVouched v size o j
         → IsTried (area_at v 0 size) (area_at v size size) j }
     ensures met { (v : List ℕ) (size o : ℕ) (j : List ℕ) → IsVouched v size o j → Meets v o j }

@@ -4,8 +4,12 @@
 
 mod areas;
 mod borders;
+mod bound;
 mod composing;
+mod cutting;
 mod laws;
+mod pieces;
+mod piecing;
 mod search;
 mod standing;
 mod vouch_fault;
@@ -13,4 +17,4 @@ mod vouched;
 
 pub use laws::{one_vouched, sound_copy_meets, vouched_is_composed};
 pub use vouch_fault::VouchFault;
-pub use vouched::{Vouched, find_vouched};
+pub use vouched::{Vouched, find_vouched, is_cut_short};

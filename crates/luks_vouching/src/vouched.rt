@@ -1,14 +1,15 @@
 //! What the checksum of a copy's binary header vouches for.
-ghost use Rattle.std.specs.Prelude.{◌≡◌, ◌≢◌, ◌↔◌, ◌+◌, ◌-◌, ◌*◌, ◌^◌, ◌<◌, ◌≤◌, ◌⊎◌, ◌++◌, length, IfOk, IfErr, IfSome, IsTrue, OnOk};
+ghost use Rattle.std.specs.Prelude.{◌≡◌, ◌≢◌, ◌↔◌, ◌+◌, ◌-◌, ◌*◌, ◌^◌, ◌<◌, ◌≤◌, ◌⊎◌, ◌++◌, length, IfOk, IfErr, IfSome, IsTrue, OnOk, true};
 ghost use Rattle.luks_area.specs.Device.{CountsFailure, IsUnchanged};
 ghost use Rattle.luks2_header.specs.Sizes.{IsListed};
 ghost use Rattle.luks_vouching.specs.Faults.{is_vouch_failure, IsMemoryWhereStands};
 ghost use Rattle.luks_meta.specs.Accepted.{IsMeta};
 ghost use Rattle.luks_meta.specs.Content.{content};
 ghost use Rattle.luks_vouching.specs.Composed.{IsWholeSectors};
-ghost use Rattle.luks_vouching.specs.Vouched.{area_at, FindsComposed, FindsVouched, IsVouchedWithin, JudgesArea};
+ghost use Rattle.luks_vouching.specs.Vouched.{area_at, mended_header, FindsComposed, FindsVouched, IsCutShortAt, IsVouchedWithin, JudgesArea, Stands};
 
 use crate::composing::compose;
+use crate::piecing::are_cut_short;
 use crate::standing::{HEADER, hasher_of, is_standing, mend, sum_of};
 use crate::vouch_fault::VouchFault;
 use luks_area::Device;
@@ -31,9 +32,10 @@ pub struct Vouched {
 /// binary header stands there but for its magic, and a JSON area that is composed of the sectors of
 /// both copies meets its checksum (LUKS2 On-Disk Format 1.1, 2.1).
 ///
-/// Where at most 16 sectors of the two areas differ all compositions are tried, and at most 2^16; else
-/// those that have the first sectors of one copy and the rest of the other. Takes memory, for three
-/// JSON areas and the metadata, only where the binary header stands.
+/// At most 64 MiB of JSON areas are hashed. All compositions are tried where these have no more bytes
+/// together; else those that have the first sectors of one copy and the rest of the other, as many. What
+/// isn't tried `is_cut_short` tells. Takes memory, for three JSON areas and the metadata, only where the
+/// binary header stands.
 pub fn find_vouched<D: Device>(
     alloc: Global,
     source: &mut D,
@@ -50,17 +52,67 @@ pub fn find_vouched<D: Device>(
     ensures found { D.tells → IfOk result (FindsVouched (D.bytes source.old) size at) }
     ensures refused { D.tells → IfErr result (IsMemoryWhereStands (D.bytes source.old) size at) }
 {
-    let total = source.len();
-    if !are_both_inside(size, total) {
-        return Ok(None);
-    }
     let mut head = [0; HEADER];
-    source.read_at(at, &mut head)?;
-    mend(&mut head, at);
-    if !is_standing(&head, size, at, total) {
+    if !reads_standing(source, size, at, &mut head)? {
         return Ok(None);
     }
     vouched_by(alloc, source, size, &head)
+}
+
+/// Whether, of what the checksum of the copy at `at` may vouch for, not all is tried by `find_vouched`: its
+/// binary header stands, and all compositions of both copies' sectors have more than 64 MiB together. Takes
+/// memory, for two JSON areas, only where it stands. Nothing is hashed.
+pub fn is_cut_short<D: Device>(
+    alloc: Global,
+    source: &mut D,
+    size: u64,
+    at: u64,
+) -> Result<bool, VouchFault>
+    requires listed { IsListed size }
+    requires half { (at ≡ 0) ⊎ (at ≡ size) }
+    requires room { D.failed source.old + 1 < 2 ^ 64 }
+    ensures unchanged { IsUnchanged D.tells D.size D.bytes D.unsettled source.old source.new }
+    ensures count { CountsFailure is_vouch_failure result
+        (D.failed source.old) (D.failed source.new) }
+    ensures told { D.tells → IfOk result (λ is. IsTrue is ↔ IsCutShortAt (D.bytes source.old) size at) }
+    ensures refused { D.tells → IfErr result (IsMemoryWhereStands (D.bytes source.old) size at) }
+{
+    let mut head = [0; HEADER];
+    if !reads_standing(source, size, at, &mut head)? {
+        return Ok(false);
+    }
+    let first = read_area(alloc, source, size, 0)?;
+    let second = read_area(alloc, source, size, size)?;
+    Ok(are_cut_short(&first, &second))
+}
+
+/// Whether the binary header of the copy at `at` stands. Then `head` holds it, with the magic of its place.
+fn reads_standing<D: Device>(
+    source: &mut D,
+    size: u64,
+    at: u64,
+    head: &mut [u8],
+) -> Result<bool, VouchFault>
+    requires listed { IsListed size }
+    requires half { (at ≡ 0) ⊎ (at ≡ size) }
+    requires long { length head.old ≡ 4096 }
+    requires room { D.failed source.old + 1 < 2 ^ 64 }
+    ensures unchanged { IsUnchanged D.tells D.size D.bytes D.unsettled source.old source.new }
+    ensures count { CountsFailure is_vouch_failure result
+        (D.failed source.old) (D.failed source.new) }
+    ensures both { IfOk result (λ is. is ≡ true → 2 * size ≤ D.size source.old) }
+    ensures stands { D.tells → IfOk result (λ is. IsTrue is ↔ Stands (D.bytes source.old) size at) }
+    ensures head { D.tells → IfOk result (λ is. is ≡ true
+        → head.new ≡ mended_header (D.bytes source.old) at) }
+    ensures device { IfErr result (λ fault. fault ≡ VouchFault.Device) }
+{
+    let total = source.len();
+    if !are_both_inside(size, total) {
+        return Ok(false);
+    }
+    source.read_at(at, head)?;
+    mend(head, at);
+    Ok(is_standing(head, size, at, total))
 }
 
 /// Whether both copies of a header of `size` bytes lie inside a device of `total`. No sum is made.

@@ -5,12 +5,12 @@ use Rattle.std.proofs.Math.Seq.{drop-append-add}
 use Rattle.byteorder.specs.Endian.{big_number}
 use Rattle.luks_area.specs.Ranges.{part}
 use Rattle.luks1_header.specs.Header1.{luks_magic}
-use Rattle.luks2_header.specs.Header2.{header_at, magic_of, second_magic, HoldsBin2}
+use Rattle.luks2_header.specs.Header2.{header_at, magic_of, second_magic, seqid, HoldsBin2}
 use Rattle.luks_vouching.proofs.LawFacts.{none_vouched}
 use Rattle.luks_vouching.specs.Vouched.{mended_header, IsVouched, VouchesForNone}
 use Rattle.luks_vouching.specs.declared.vouched.Vouched.{Vouched}
 use Rattle.luks_rebuilding.specs.Candidates.{next_seqid, IsAsked, IsVouchedOf}
-use Rattle.luks_rebuilding.specs.Found.{kept_label, kept_seqid, kept_subsystem, source_of, FindsVouchedAt}
+use Rattle.luks_rebuilding.specs.Found.{kept_label, kept_seqid, kept_subsystem, own_seqid, source_of, FindsVouchedAt}
 use Rattle.luks_rebuilding.specs.declared.candidate.Candidate.{Candidate}
 use Rattle.luks_rebuilding.specs.declared.place.Place.{Place}
 use Rattle.luks_rebuilding.specs.declared.place.Which.{Which}
@@ -39,16 +39,18 @@ none_at v which place none s is there = none_vouched v place.size place.at s.jso
 -- of the place itself
 found_there : (v : List ℕ) (which : Which) (w : Vouched) (c : Candidate) → IsAsked which c.place → IsVouched v c.place.size c.place.at c.json.items
     → HoldsBin2 (mended_header v c.place.at) w.header → c.vouch ≡ Some w.header → IsVouchedOf v which (source_of c)
-found_there v which w c asked vouched holds vouch = (
-  ap is_some vouch,
-  record {
-    asked = asked;
-    vouched = vouched;
-    seqid = ap kept_seqid vouch ∙ ap next_seqid (sym holds.seqid ∙ ap (big_number 8) (mended_part v c.place.at 16 8 (omega arith)));
-    label = ap kept_label vouch ∙ sym holds.label ∙ mended_part v c.place.at 24 48 (omega arith);
-    subsystem = ap kept_subsystem vouch ∙ sym holds.subsystem ∙ mended_part v c.place.at 208 48 (omega arith);
-  },
-)
+found_there v which w c asked vouched holds vouch =
+    let said : w.header.seqid ≡ seqid (header_at v c.place.at) = sym holds.seqid ∙ ap (big_number 8) (mended_part v c.place.at 16 8 (omega arith)) in (
+      ap is_some vouch,
+      record {
+        asked = asked;
+        vouched = vouched;
+        number = ap own_seqid vouch ∙ said;
+        seqid = ap kept_seqid vouch ∙ ap next_seqid said;
+        label = ap kept_label vouch ∙ sym holds.label ∙ mended_part v c.place.at 24 48 (omega arith);
+        subsystem = ap kept_subsystem vouch ∙ sym holds.subsystem ∙ mended_part v c.place.at 208 48 (omega arith);
+      },
+    )
 
 pub returns-in-Ok-None-clause-found : goal.returns-in-Ok-None-clause-found
 returns-in-Ok-None-clause-found g c = λ t.
