@@ -87,14 +87,14 @@ module _ (h : List ℕ) (k total : ℕ) where
 
   module _ (r i : ℕ) (a : ℕ → Bool) (are : AreKeptSoFar h k total r i a) where
     -- one that has been judged and meets the next one comes before it
-    found_by : rank h k i ≡ r → (m : ℕ) → MeetsOne h k a i m → Found a i
+    found_by : rank h k i ≡ r → (m : ℕ) → MeetsOne h k a (own_area h k i) m → Found a i
     found_by ranked m x =
         (m, (x.among, record { before = subst (λ (q : ℕ). Before (rank h k m) m q i) (sym ranked) (are.judged m x.among); meet = x.meet }))
 
     found_here : IsPassedOver h k total r a i → (n : ℕ) → n ≡ i → rank h k n ≡ r → IsSound h k total n → Found a n
     found_here over n same =
         subst (λ (q : ℕ). rank h k q ≡ r → IsSound h k total q → Found a q) (sym same)
-        (λ ranked sound. (let met : (m : ℕ) × MeetsOne h k a i m = over ranked sound in found_by ranked met.0 met.1))
+        (λ ranked sound. (let met : (m : ℕ) × MeetsOne h k a (own_area h k i) m = over ranked sound in found_by ranked met.0 met.1))
 
     -- the next one is passed over
     pub so_far_without : IsPassedOver h k total r a i → AreKeptSoFar h k total r (i + 1) a

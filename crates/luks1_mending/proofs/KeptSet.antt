@@ -111,23 +111,23 @@ module _ (h : List ℕ) (k total : ℕ) where
 
   -- ---- whether it meets one of the set
 
-  decide_one : (kept : ℕ → Bool) (n m : ℕ) → Decided (MeetsOne h k kept n m)
-  decide_one kept n m = elim (cases_Bool (kept m)) [
+  decide_one : (kept : ℕ → Bool) (area : Area) (m : ℕ) → Decided (MeetsOne h k kept area m)
+  decide_one kept area m = elim (cases_Bool (kept m)) [
     | inr out ↦ inr (λ x. (let here : kept m ≡ true = x.among in absurd (cc)))
-    | inl here ↦ elim (decide_meet (own_area h k m) (own_area h k n)) [
+    | inl here ↦ elim (decide_meet (own_area h k m) area) [
       | inl meet ↦ inl (record { among = here; meet = meet })
       | inr apart ↦ inr (λ x. apart x.meet)
     ]
   ]
 
-  decide_below : (kept : ℕ → Bool) (n b : ℕ) → ((m : ℕ) × MeetsOne h k kept n m) ⊎ ((m : ℕ) → m < b → MeetsOne h k kept n m → ⊥)
-  decide_below kept n zero = inr (λ m low x. omega (arith, low))
-  decide_below kept n (suc b) = elim (decide_below kept n b) [
+  decide_below : (kept : ℕ → Bool) (area : Area) (b : ℕ) → ((m : ℕ) × MeetsOne h k kept area m) ⊎ ((m : ℕ) → m < b → MeetsOne h k kept area m → ⊥)
+  decide_below kept area zero = inr (λ m low x. omega (arith, low))
+  decide_below kept area (suc b) = elim (decide_below kept area b) [
     | inl found ↦ inl found
-    | inr before ↦ elim (decide_one kept n b) [
+    | inr before ↦ elim (decide_one kept area b) [
       | inl meets ↦ inl (b, meets)
       | inr apart ↦ inr (λ m low x. elim (same_or_other m b) [
-        | inl same ↦ apart (subst (λ (q : ℕ). MeetsOne h k kept n q) same x)
+        | inl same ↦ apart (subst (λ (q : ℕ). MeetsOne h k kept area q) same x)
         | inr other ↦ before m (omega (arith, low, other)) x
       ])
     ]
@@ -156,7 +156,7 @@ module _ (h : List ℕ) (k total : ℕ) where
     | inr other ↦ passed r i x (λ ranked sound. absurd (other ranked))
     | inl ranked ↦ elim (decide_sound i) [
       | inr broken ↦ passed r i x (λ also sound. absurd (broken sound))
-      | inl sound ↦ elim (decide_below (set_of x.kept) i 8) [
+      | inl sound ↦ elim (decide_below (set_of x.kept) (own_area h k i) 8) [
         | inl found ↦ passed r i x (λ also well. found)
         | inr apart ↦ one_more r i x low (record { ranked = ranked; sound = sound; apart = λ m meets. apart m (x.are.sound m meets.among).numbered meets })
       ]

@@ -6,6 +6,7 @@ ghost use Rattle.luks1_mending.specs.Judging.{set_of, AreKeptSoFar, IsNext, IsPa
 ghost use Rattle.luks1_mending.specs.Kept.{rank, AreKept, IsSound};
 
 use crate::entries::{do_meet, entry_of, is_usual, own_area, word_of};
+use luks_area::Area;
 use luks1_header::Luks1;
 
 /// The bytes of the header.
@@ -58,37 +59,32 @@ fn is_next(header: &[u8], key_bytes: u32, total: u64, rank: u8, kept: &[bool; 8]
     if !is_sound(header, key_bytes, total, n) {
         return false;
     }
-    !meets_one(header, key_bytes, kept, n)
+    !meets_kept(header, key_bytes, kept, own_area(header, key_bytes, n))
 }
 
-/// Whether the area of the keyslot `n` meets that of one that is kept.
-fn meets_one(header: &[u8], key_bytes: u32, kept: &[bool; 8], n: u8) -> bool
-    requires long { length header.now ≡ luks1_size }
-    requires numbered { n < 8 }
-    ensures { IsTrue result ↔ ((m : ℕ) × MeetsOne header.now key_bytes (set_of kept.now) n m) }
+/// Whether this area meets that of a keyslot that is kept.
+pub(crate) fn meets_kept(header: &[u8], key_bytes: u32, kept: &[bool; 8], area: Area) -> bool
+    requires { length header.now ≡ luks1_size }
+    ensures { IsTrue result ↔ ((m : ℕ) × MeetsOne header.now key_bytes (set_of kept.now) area m) }
 {
     for m in 0..8 {
-        if is_met(header, key_bytes, kept, n, m) {
+        if is_met(header, key_bytes, kept, area, m) {
             return true;
         }
     }
     false
 }
 
-/// Whether the keyslot `m` is kept, and its area meets that of the keyslot `n`.
-fn is_met(header: &[u8], key_bytes: u32, kept: &[bool; 8], n: u8, m: u8) -> bool
+/// Whether the keyslot `m` is kept, and its area meets this one.
+fn is_met(header: &[u8], key_bytes: u32, kept: &[bool; 8], area: Area, m: u8) -> bool
     requires long { length header.now ≡ luks1_size }
-    requires numbered { n < 8 }
-    requires other { m < 8 }
-    ensures { IsTrue result ↔ MeetsOne header.now key_bytes (set_of kept.now) n m }
+    requires numbered { m < 8 }
+    ensures { IsTrue result ↔ MeetsOne header.now key_bytes (set_of kept.now) area m }
 {
     if !kept[m as usize] {
         return false;
     }
-    do_meet(
-        own_area(header, key_bytes, m),
-        own_area(header, key_bytes, n),
-    )
+    do_meet(own_area(header, key_bytes, m), area)
 }
 
 /// Whether the keyslot `n` meets its own rules, and its area lies behind the header and inside the

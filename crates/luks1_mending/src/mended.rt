@@ -2,16 +2,13 @@
 ghost use Rattle.std.specs.Prelude.{◌≡◌, ◌↔◌, ◌+◌, ◌^◌, ◌<◌, ◌≤◌, ℕ, length, slice_index_or, IfNone, IfSome, IsTrue};
 ghost use Rattle.luks1_header.specs.Header1.{luks1_size};
 ghost use Rattle.luks1_header.specs.declared.luks1.Luks1Slot.{Luks1Slot as TheSlot};
-ghost use Rattle.luks_area.specs.Area.{Meet};
-ghost use Rattle.luks1_mending.specs.Areas.{own_area, sector_of};
-ghost use Rattle.luks1_mending.specs.Judging.{set_of};
-ghost use Rattle.luks1_mending.specs.Kept.{AreKept, IsKept};
-ghost use Rattle.luks1_mending.specs.Mended.{IsFirstPair, IsFree, IsInPattern, IsInStep, IsMadeSlot, IsMended, IsNewPlace, IsPair, LacksPattern};
+ghost use Rattle.luks1_mending.specs.Areas.{sector_of};
+ghost use Rattle.luks1_mending.specs.Judging.{set_of, IsFirstPairAmong, IsPairAmong};
+ghost use Rattle.luks1_mending.specs.Kept.{AreKept};
+ghost use Rattle.luks1_mending.specs.Mended.{IsFirstPair, IsFree, IsInPattern, IsInStep, IsMadeSlot, IsMended, IsNewPlace, LacksPattern};
 
-use crate::entries::{
-    USUAL_STRIPES, do_meet, entry_of, own_area, sector_of, stripes_area, stripes_of, usual_sector,
-};
-use crate::kept::{HEADER, kept_slots};
+use crate::entries::{USUAL_STRIPES, entry_of, sector_of, stripes_area, stripes_of, usual_sector};
+use crate::kept::{HEADER, kept_slots, meets_kept};
 use luks_area::Area;
 use luks1_header::{Luks1, Luks1Slot, SlotState};
 
@@ -96,14 +93,13 @@ fn place_in_pattern(
     n: u8,
 ) -> Option<Place>
     requires long { length header.now ≡ luks1_size }
-    requires key { key_bytes ≤ 128 }
     requires kept { AreKept header.now key_bytes total (set_of kept.now) }
     requires numbered { n < 8 }
     ensures some { IfSome result (λ p.
         IsInPattern header.now key_bytes total n p.sector p.stripes) }
     ensures none { IfNone result (LacksPattern header.now key_bytes total n) }
 {
-    match first_pair(header, key_bytes, total, kept) {
+    match first_pair(header, kept) {
         Some(pair) => place_by_pair(header, key_bytes, total, kept, pair, n),
         None => None,
     }
@@ -119,7 +115,6 @@ fn place_by_pair(
     n: u8,
 ) -> Option<Place>
     requires long { length header.now ≡ luks1_size }
-    requires key { key_bytes ≤ 128 }
     requires kept { AreKept header.now key_bytes total (set_of kept.now) }
     requires numbered { n < 8 }
     requires pair { IsFirstPair header.now key_bytes total pair }
@@ -147,27 +142,23 @@ fn place_by_pair(
 }
 
 /// The first two keyslots, one after the other, that give a pattern.
-fn first_pair(header: &[u8], key_bytes: u32, total: u64, kept: &[bool; 8]) -> Option<u8>
-    requires long { length header.now ≡ luks1_size }
-    requires key { key_bytes ≤ 128 }
-    requires kept { AreKept header.now key_bytes total (set_of kept.now) }
-    ensures some { IfSome result (IsFirstPair header.now key_bytes total) }
-    ensures none { IfNone result ((a : ℕ) → IsPair header.now key_bytes total a → ⊥) }
+fn first_pair(header: &[u8], kept: &[bool; 8]) -> Option<u8>
+    requires { length header.now ≡ luks1_size }
+    ensures some { IfSome result (IsFirstPairAmong header.now (set_of kept.now)) }
+    ensures none { IfNone result ((a : ℕ) → IsPairAmong header.now (set_of kept.now) a → ⊥) }
 {
     for a in 0..7 {
-        if is_pair(header, key_bytes, total, kept, a) {
+        if is_pair(header, kept, a) {
             return Some(a);
         }
     }
     None
 }
 
-fn is_pair(header: &[u8], key_bytes: u32, total: u64, kept: &[bool; 8], a: u8) -> bool
+fn is_pair(header: &[u8], kept: &[bool; 8], a: u8) -> bool
     requires long { length header.now ≡ luks1_size }
-    requires key { key_bytes ≤ 128 }
-    requires kept { AreKept header.now key_bytes total (set_of kept.now) }
     requires numbered { a < 7 }
-    ensures { IsTrue result ↔ IsPair header.now key_bytes total a }
+    ensures { IsTrue result ↔ IsPairAmong header.now (set_of kept.now) a }
 {
     if !kept[a as usize] {
         return false;
@@ -206,32 +197,11 @@ fn sector_in_step(header: &[u8], a: u8, n: u8) -> Option<u32>
 /// is kept.
 fn is_free(header: &[u8], key_bytes: u32, total: u64, kept: &[bool; 8], area: Area) -> bool
     requires long { length header.now ≡ luks1_size }
-    requires key { key_bytes ≤ 128 }
     requires kept { AreKept header.now key_bytes total (set_of kept.now) }
     ensures { IsTrue result ↔ IsFree header.now key_bytes total area }
 {
     if area.start < HEADER || !area.is_inside(total) {
         return false;
     }
-    for m in 0..8 {
-        if is_taken(header, key_bytes, total, kept, m, area) {
-            return false;
-        }
-    }
-    true
-}
-
-/// Whether the keyslot `m` is kept, and its area meets this one.
-fn is_taken(header: &[u8], key_bytes: u32, total: u64, kept: &[bool; 8], m: u8, area: Area) -> bool
-    requires long { length header.now ≡ luks1_size }
-    requires key { key_bytes ≤ 128 }
-    requires kept { AreKept header.now key_bytes total (set_of kept.now) }
-    requires numbered { m < 8 }
-    ensures { IsTrue result
-        ↔ (IsKept header.now key_bytes total m × Meet (own_area header.now key_bytes m) area) }
-{
-    if !kept[m as usize] {
-        return false;
-    }
-    do_meet(own_area(header, key_bytes, m), area)
+    !meets_kept(header, key_bytes, kept, area)
 }

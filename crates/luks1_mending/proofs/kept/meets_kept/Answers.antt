@@ -1,6 +1,6 @@
 use Rattle.std.proofs.Common.{below_more, arith}
 use Rattle.luks1_mending.proofs.KeptFacts.{within}
-use Rattle.luks1_mending.proofs.kept.meets_one.Goals as goal
+use Rattle.luks1_mending.proofs.kept.meets_kept.Goals as goal
 
 pub loop-m-preserved : goal.loop-m-preserved
 loop-m-preserved c = below_more _ _ c.loop-m.invariant (λ x. (let yes = c.is_met.ensures.1 x in let no = c.if-is_met.false in absurd (cc)))
