@@ -1,5 +1,5 @@
 -- Whether a set of refusals has a first one.
-use Rattle.std.proofs.Common.{◌≡◌, true, false, Option, Some, None, is_some, sym}
+use Rattle.std.proofs.Common.{◌≡◌, ◌≢◌, Bool, true, false, Option, Some, None, is_some, sym, ◌∙◌}
 use Rattle.luks_reading.specs.declared.open_fault.OpenFault.{OpenFault}
 use Rattle.luks_reading.specs.Answer.{FirstRefusal}
 

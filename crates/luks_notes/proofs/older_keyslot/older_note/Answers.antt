@@ -1,6 +1,7 @@
 use Rattle.std.proofs.Common.{None, Some, ap, not, refl, sym, subst, ◌∙◌}
 use Rattle.luks_slot.specs.declared.allowed.Allowed.{Allowed}
 use Rattle.luks_reading.specs.Answer.{FirstRefusal, IsRefusalWithin}
+use Rattle.luks_notes.specs.OlderNotes.{all_memory}
 use Rattle.luks_notes.proofs.RefusalFacts.{first_of, none_first, none_of, some_first}
 use Rattle.luks_notes.proofs.older_keyslot.older_note.Goals as goal
 
