@@ -7,7 +7,7 @@ use crate::metadata::keyslots_of;
 use crate::older::say_older;
 use luks_area::Device;
 use luks_meta::Meta;
-use luks_rebuilding::{Candidate, RebuildFault, Which, find_candidate};
+use luks_rebuilding::{Candidate, RebuildFault, Which, find_candidate, find_plain};
 use std::alloc::Global;
 use std::io::Write;
 
@@ -17,24 +17,71 @@ const SIZES: [u64; 9] = [
 ];
 
 /// Says to `err` what other metadata is whole, of a second copy or of a header of another size, how
-/// many keyslots it has that this hasn't, and by which option `rebuild` takes it.
+/// many keyslots it has that this hasn't, and by which option `rebuild` takes it. Where it is known that no
+/// checksum vouches for any, that isn't sought once more.
 pub(crate) fn say_further<D: Device, E: Write>(
     alloc: Global,
     device: &mut D,
     found: &Candidate,
+    seek: Seek,
     err: &mut E,
 ) -> Result<(), RebuildFault>
     requires { D.failed device.old + 1 < 2 ^ 64 }
     ensures { IsUnchanged D.tells D.size D.bytes D.unsettled device.old device.new }
 {
-    let second = candidate_of(alloc, device, Which::Second)?;
+    let second = further_of(alloc, device, Which::Second, seek)?;
     if let Some(further) = &second {
         if !is_same(found, further) {
             say_second(found, further, err);
             say_older(device, further, err)?;
         }
     }
-    say_sizes(alloc, device, found, &second, err)
+    say_sizes(alloc, device, found, &second, seek, err)
+}
+
+/// What is sought of other copies.
+#[derive(Clone, Copy)]
+pub(crate) enum Seek {
+    /// What a checksum vouches for, or else what is whole.
+    Any,
+    /// What is whole: no checksum vouches for any.
+    Whole,
+}
+
+/// What is found so of these copies, if there is anything.
+fn further_of<D: Device>(
+    alloc: Global,
+    device: &mut D,
+    which: Which,
+    seek: Seek,
+) -> Result<Option<Candidate>, RebuildFault>
+    requires { D.failed device.old + 1 < 2 ^ 64 }
+    ensures unchanged { IsUnchanged D.tells D.size D.bytes D.unsettled device.old device.new }
+    ensures count { CountsFailure is_rebuild_failure result
+        (D.failed device.old) (D.failed device.new) }
+{
+    match seek {
+        Seek::Any => candidate_of(alloc, device, which),
+        Seek::Whole => whole_of(alloc, device, which),
+    }
+}
+
+/// What is whole of these copies, if there is anything.
+fn whole_of<D: Device>(
+    alloc: Global,
+    device: &mut D,
+    which: Which,
+) -> Result<Option<Candidate>, RebuildFault>
+    requires { D.failed device.old + 1 < 2 ^ 64 }
+    ensures unchanged { IsUnchanged D.tells D.size D.bytes D.unsettled device.old device.new }
+    ensures count { CountsFailure is_rebuild_failure result
+        (D.failed device.old) (D.failed device.new) }
+{
+    match find_plain(alloc, device, which) {
+        Ok(found) => Ok(Some(found)),
+        Err(RebuildFault::NoMetadata) => Ok(None),
+        Err(fault) => Err(fault),
+    }
 }
 
 /// The candidate of these copies, if there is one.
@@ -61,6 +108,7 @@ fn say_sizes<D: Device, E: Write>(
     device: &mut D,
     found: &Candidate,
     second: &Option<Candidate>,
+    seek: Seek,
     err: &mut E,
 ) -> Result<(), RebuildFault>
     requires { D.failed device.old + 1 < 2 ^ 64 }
@@ -69,7 +117,7 @@ fn say_sizes<D: Device, E: Write>(
     let mut left = SIZES.as_slice();
     while let [size, later @ ..] = left {
         if *size != found.place.size {
-            say_size(alloc, device, found, second, *size, err)?;
+            say_size(alloc, device, found, second, *size, seek, err)?;
         }
         left = later;
     }
@@ -83,6 +131,7 @@ fn say_size<D: Device, E: Write>(
     found: &Candidate,
     second: &Option<Candidate>,
     size: u64,
+    seek: Seek,
     err: &mut E,
 ) -> Result<(), RebuildFault>
     requires { D.failed device.old + 1 < 2 ^ 64 }
@@ -90,7 +139,7 @@ fn say_size<D: Device, E: Write>(
     ensures count { CountsFailure is_rebuild_failure result
         (D.failed device.old) (D.failed device.new) }
 {
-    if let Some(further) = candidate_of(alloc, device, Which::OfSize(size))? {
+    if let Some(further) = further_of(alloc, device, Which::OfSize(size), seek)? {
         if !is_same(found, &further) && !is_said(second, &further) {
             say_of_size(found, &further, err);
             say_older(device, &further, err)?;

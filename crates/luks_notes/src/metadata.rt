@@ -3,7 +3,7 @@
 ghost use Rattle.std.specs.Prelude.{◌+◌, ◌^◌, ◌<◌};
 ghost use Rattle.luks_area.specs.Device.{IsUnchanged};
 
-use crate::further::{candidate_of, say_further};
+use crate::further::{Seek, candidate_of, say_further};
 use crate::older::say_older;
 use crate::untried::say_untried;
 use luks_area::Device;
@@ -91,7 +91,15 @@ fn say_origin<D: Device, E: Write>(
         say_untried(alloc, device, which, err)?;
     }
     say_older(device, found, err)?;
-    say_further(alloc, device, found, err)
+    say_further(alloc, device, found, seek_of(which, found), err)
+}
+
+/// What is left to be sought of other copies, of a volume in which this was found first.
+fn seek_of(which: Which, found: &Candidate) -> Seek {
+    match (which, &found.vouch) {
+        (Which::Any, None) => Seek::Whole,
+        _ => Seek::Any,
+    }
 }
 
 /// Says whether a checksum vouches for the metadata.

@@ -11,12 +11,7 @@ use std::io::Write;
 
 /// Says to `err` of which copy that is asked for not all was tried that its checksum may vouch for, since that
 /// has more than 64 MiB together. Where all was tried, the device fails or memory is refused it says nothing.
-pub fn note_untried<D: Device, E: Write>(
-    alloc: Global,
-    device: &mut D,
-    which: Which,
-    err: &mut E,
-)
+pub fn note_untried<D: Device, E: Write>(alloc: Global, device: &mut D, which: Which, err: &mut E)
     requires { D.failed device.old + 1 < 2 ^ 64 }
     ensures { IsUnchanged D.tells D.size D.bytes D.unsettled device.old device.new }
 {

@@ -51,7 +51,7 @@ pub fn find_candidate<D: Device>(
     pass_counting(source, which)?;
     match first_vouched(alloc, source, which)? {
         Some(vouched) => Ok(vouched),
-        None => first_plain(alloc, source, which),
+        None => find_plain(alloc, source, which),
     }
 }
 
@@ -97,8 +97,11 @@ fn nothing_counts<D: Device>(source: &mut D) -> Result<(), RebuildFault>
     }
 }
 
-/// The first of the candidates that are asked for, where no checksum vouches for any.
-fn first_plain<D: Device>(
+/// The first metadata that is whole, of the copies that are asked for, whatever checksums vouch for: what
+/// `find_candidate` finds where they vouch for none. Nothing is hashed, and whether a header counts isn't asked.
+///
+/// Refused by `NoMetadata`; `Device` comes exactly where a device call failed.
+pub fn find_plain<D: Device>(
     alloc: Global,
     source: &mut D,
     which: Which,

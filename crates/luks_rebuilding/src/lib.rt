@@ -15,7 +15,7 @@ mod search;
 mod untried;
 mod vouching;
 
-pub use candidate::{Candidate, find_candidate};
+pub use candidate::{Candidate, find_candidate, find_plain};
 pub use laws::{one_candidate, rebuilt_header_opens_alike};
 pub use place::{Place, Which};
 pub use rebuild_fault::RebuildFault;

@@ -14,7 +14,7 @@ struct Row {
     vouch: (bool, bool),
 }
 
-const ROWS: [Row; 17] = [
+const ROWS: [Row; 22] = [
     Row {
         what: "no damage",
         runs: &[],
@@ -76,9 +76,39 @@ const ROWS: [Row; 17] = [
         vouch: (false, true),
     },
     Row {
-        what: "one sector of both areas",
+        what: "two bytes of one sector, one in each area",
         runs: &[(4200, 0x58, 1), (20490, 0x58, 1)],
+        vouch: (true, true),
+    },
+    Row {
+        what: "the same, and seventeen of another sector in each area",
+        runs: &[
+            (4200, 0x58, 1),
+            (20490, 0x58, 1),
+            (4700, 0x58, 17),
+            (21600, 0x58, 17),
+        ],
+        vouch: (true, true),
+    },
+    Row {
+        what: "one byte of both areas",
+        runs: &[(4200, 0x58, 1), (20584, 0x58, 1)],
         vouch: (false, false),
+    },
+    Row {
+        what: "a sector of both areas",
+        runs: &[(4608, 0xFF, 512), (20992, 0xEE, 512)],
+        vouch: (false, false),
+    },
+    Row {
+        what: "what stands behind both texts",
+        runs: &[(8192, 0xFF, 8192), (24576, 0xEE, 8192)],
+        vouch: (true, true),
+    },
+    Row {
+        what: "the same, and the first text",
+        runs: &[(4096, 0xFF, 12288), (24576, 0xEE, 8192)],
+        vouch: (true, true),
     },
     Row {
         what: "a partition table over the first copy",
@@ -91,13 +121,18 @@ const ROWS: [Row; 17] = [
         vouch: (true, true),
     },
     Row {
-        what: "more than 16 sectors, on both sides of a border",
+        what: "more sectors than are tried, on both sides of a border",
         runs: &[(4096, 0xFF, 5120), (25600, 0xFF, 7168)],
         vouch: (true, true),
     },
     Row {
-        what: "more than 16 sectors, and two borders",
-        runs: &[(4096, 0xFF, 4096), (24576, 0xFF, 4096), (12288, 0xFF, 4096)],
+        what: "more sectors than are tried, and two borders",
+        runs: &[
+            (4096, 0xFF, 512),
+            (20992, 0xFF, 512),
+            (8192, 0xFF, 4096),
+            (28672, 0xFF, 4096),
+        ],
         vouch: (false, false),
     },
 ];

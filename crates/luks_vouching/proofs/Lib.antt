@@ -3,5 +3,6 @@ pub mod SearchFacts
 pub mod BoundFacts
 pub mod PieceFacts
 pub mod BorderFacts
+pub mod WorkFacts
 pub mod LawFacts
 pub mod FoundFacts

@@ -1,10 +1,11 @@
 //! Laws on the definitions of this crate. Each function does nothing; its contract is the law.
-ghost use Rattle.std.specs.Prelude.{◌≡◌, ◌⊎◌, ℕ, List};
+ghost use Rattle.std.specs.Prelude.{◌≡◌, ◌≤◌, ◌⊎◌, ℕ, List, length};
 ghost use Rattle.luks2_header.specs.Header2.{hdr_size, header_at, IsSound};
-ghost use Rattle.luks_vouching.specs.Composed.{IsComposed};
+ghost use Rattle.luks_vouching.specs.Composed.{IsComposed, IsWholeSectors};
 ghost use Rattle.luks_vouching.specs.Cut.{IsCut};
 ghost use Rattle.luks_vouching.specs.Pieces.{IsOfPieces};
 ghost use Rattle.luks_vouching.specs.Tried.{IsTried};
+ghost use Rattle.luks_vouching.specs.Work.{HashesFew};
 ghost use Rattle.luks_vouching.specs.Vouched.{area_at, IsVouched, Meets, VouchesForNone};
 
 /// A copy's binary header vouches for one JSON area at most.
@@ -31,4 +32,11 @@ pub fn vouched_is_composed()
 pub fn sound_copy_meets()
     ensures { (v : List ℕ) (o : ℕ) → IsSound v o
         → Meets v o (area_at v o (hdr_size (header_at v o))) }
+{}
+
+/// What is tried to find what one checksum vouches for has at most 64 MiB together: so many compositions, times
+/// the bytes of a JSON area.
+pub fn work_is_bounded()
+    ensures { (first second : List ℕ) → IsWholeSectors first → length second ≡ length first
+        → length first ≤ 4194304 → HashesFew first second }
 {}
