@@ -1,4 +1,4 @@
-use Rattle.luks1_mending.proofs.KeptSet.{kept_apart, kept_exactly, kept_or_meets}
+use Rattle.luks1_mending.proofs.KeptSetFacts.{kept_apart, kept_exactly, kept_or_meets}
 use Rattle.luks1_mending.proofs.laws.kept_keyslots_are_apart.Goals as goal
 
 pub returns-clause-apart : goal.returns-clause-apart

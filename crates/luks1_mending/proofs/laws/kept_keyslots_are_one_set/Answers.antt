@@ -1,5 +1,5 @@
 use Rattle.luks1_mending.proofs.KeptFacts.{one_set}
-use Rattle.luks1_mending.proofs.KeptSet.{there_is}
+use Rattle.luks1_mending.proofs.KeptSetFacts.{there_is}
 use Rattle.luks1_mending.proofs.laws.kept_keyslots_are_one_set.Goals as goal
 
 pub returns-clause-there : goal.returns-clause-there
