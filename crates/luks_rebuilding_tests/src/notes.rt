@@ -40,3 +40,17 @@ fn of_a_volume_with_nothing_to_make_a_header_of(rt: HostRuntime) -> Result<(), F
     assert!(rt; is_said(alloc, covered, ""), "no metadata is whole");
     Ok(())
 }
+
+#[test]
+fn of_a_volume_of_which_not_all_was_tried(rt: HostRuntime) -> Result<(), Fail> {
+    let alloc = rt.alloc();
+    let mut covered = damaged(alloc)?;
+    for place in 0..12288 {
+        put(&mut covered, 20480 + place, &[0xFF]);
+    }
+    put(&mut covered, 4096, &[0]);
+    let line =
+        "luks: not all was tried that the checksum of the first copy may vouch for: the copies differ in too much\n";
+    assert!(rt; is_said(alloc, covered, line), "the second area is garbage");
+    Ok(())
+}

@@ -3,7 +3,7 @@ ghost use Rattle.std.specs.Prelude.{◌≡◌, ◌⊎◌};
 
 use luks_area::MemDevice;
 use luks_test_devices::{part, put, two_hashes};
-use luks_vouching::find_vouched;
+use luks_vouching::{find_vouched, is_cut_short};
 use std::alloc::Global;
 use std::test::Fail;
 
@@ -47,4 +47,24 @@ fn put_run(volume: &mut [u8], at: usize, byte: u8, count: usize) {
 /// The volume, without damage.
 pub(crate) fn whole(alloc: Global) -> Result<Vec<u8>, Fail> {
     Ok(two_hashes(alloc)?)
+}
+
+/// Whether not all is tried that the checksum of the first copy may vouch for, where so many bytes from the
+/// start of the first JSON area on are others.
+fn is_cut(alloc: Global, count: usize) -> Result<bool, Fail> {
+    let mut volume = whole(alloc)?;
+    put_run(&mut volume, 4096, 0xAA, count);
+    Ok(is_cut_short(alloc, &mut MemDevice::new(volume), SIZE, 0)?)
+}
+
+// Of 16 bytes of a sector each is a piece, and 2^16 compositions are too many; 17 are one piece.
+#[test]
+fn cut_short(rt: HostRuntime) -> Result<(), Fail> {
+    let alloc = rt.alloc();
+    assert!(rt; !is_cut(alloc, 0)?, "no sector");
+    assert!(rt; is_cut(alloc, 16)?, "16 bytes");
+    assert!(rt; !is_cut(alloc, 17)?, "17 bytes");
+    assert!(rt; !is_cut(alloc, 11 * 512)?, "11 sectors");
+    assert!(rt; is_cut(alloc, 12 * 512)?, "12 sectors");
+    Ok(())
 }
