@@ -164,3 +164,8 @@ Executes device words chance (command.Rebuild rebuilding) name old new answer = 
 Executes device words chance (command.Backup backing_up) name old new answer = BacksUp device backing_up name old new answer
 Executes device words chance (command.Restore restoring) name old new answer = Restores device restoring name old new answer
 Executes device words chance (command.Compare comparing) name old new answer = Compares device comparing name old new answer
+
+-- the command has kept that promise; a record, so that what it is said of can be told from it
+pub record IsExecuted {D R N : Type 0} (device : Device D) (words : R → Option (List ℕ)) (chance : N → Option (List ℕ)) (command_ : Command) (name : List ℕ)
+    (old new : Inputs D R N) (answer : Answer) : Type 0 where
+  pub kept : Executes device words chance command_ name old new answer

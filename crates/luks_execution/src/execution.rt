@@ -5,7 +5,7 @@ ghost use Rattle.luks_area.specs.Device.{IsSettled};
 ghost use Rattle.luks_commands.specs.Answer.{answer_status};
 ghost use Rattle.luks_commands.specs.Files.{KeepsVolume, LeavesSettled};
 ghost use Rattle.luks_commands.specs.declared.answers.Status.{Status as TheStatus};
-ghost use Rattle.luks_execution.specs.Executed.{Executes, UnlessBeside, UnlessRestore, UnlessWriter};
+ghost use Rattle.luks_execution.specs.Executed.{IsExecuted, UnlessBeside, UnlessRestore, UnlessWriter};
 
 use luks_commands::open::Tried;
 use luks_commands::{Answer, Inputs, Status, check, format, open, show};
@@ -49,7 +49,7 @@ pub fn execute<D: Device, R: Read, N: Read, E: Write, G: Progress>(
     // Without its volume no command succeeds.
     ensures unread { IfErr inputs.old.volume (λ _. (answer_status result ≢ Status.Done)
         × (answer_status result ≢ Status.NotInStep)) }
-    ensures executes { Executes D.Device R.Read.remaining N.Read.remaining line.now.command
+    ensures executes { IsExecuted D.Device R.Read.remaining N.Read.remaining line.now.command
         line.now.volume.now inputs.old inputs.new result }
 {
     let name = line.volume;

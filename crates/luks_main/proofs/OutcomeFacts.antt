@@ -1,5 +1,5 @@
 -- What a command answers, by what it promises, and with which status the program ends then.
-use Rattle.std.proofs.Common.{◌≡◌, ◌⊎◌, ℕ, List, Bool, true, false, Option, Result, Err, refl, sym, subst, inl, inr}
+use Rattle.std.proofs.Common.{◌≡◌, ◌⊎◌, ℕ, List, Bool, true, false, Option, Result, Ok, Err, IfOk, refl, sym, subst, inl, inr}
 use Rattle.std.specs.Bool.{Decides}
 use Rattle.std.specs.Str.{bytes_eq}
 use Rattle.std.proofs.lemmas.Slice.Eq.{bytes_eq-Decides}
@@ -13,8 +13,8 @@ use Rattle.luks_commands.specs.declared.inputs.InputFault.TheVariants.{Unreadabl
 use Rattle.luks_commands.specs.declared.inputs.Inputs.{Inputs}
 use Rattle.luks_commands.specs.declared.inputs.Reason.TheVariants.{SameFile}
 use Rattle.luks_header_commands.specs.Target.{AreOneFile}
-use Rattle.luks_execution.specs.Executed.{Executes}
-use Rattle.luks_main.specs.Outcomes.{EndsTold, told, refused, failed}
+use Rattle.luks_execution.specs.Executed.{Executes, IsExecuted}
+use Rattle.luks_main.specs.Outcomes.{EndsTold, IsMade, told, refused, failed}
 use Rattle.luks_main.specs.Statuses.{EndsWith, MayEnd}
 use Rattle.luks_timing.specs.Timed.{IsTimed}
 use Rattle.luks_main.proofs.StatusFacts.{backup_ends, backup_same_file_ends, check_ends, compare_ends, compare_same_file_ends, convert_ends, converted_same_file_ends, edit_ends, format_ends, memory_ends, open_ends, own, rebuild_ends, rebuilt_same_file_ends, restore_ends, restore_same_file_ends, show_ends}
@@ -44,7 +44,7 @@ by_one_file (inr two) of_one of_two = of_two two
 -- ---- what a command answers
 
 -- what a command promises of its answer is one of those that it ends with
-pub commands_end : {D R N : Type 0} (device : Device D) (words : R → Option (List ℕ)) (chance : N → Option (List ℕ)) (c : Command) (name : List ℕ) (old new : Inputs D R N) (a : Answer)
+commands_end : {D R N : Type 0} (device : Device D) (words : R → Option (List ℕ)) (chance : N → Option (List ℕ)) (c : Command) (name : List ℕ) (old new : Inputs D R N) (a : Answer)
     → Executes device words chance c name old new a → EndsWith c a (own a)
 commands_end device words chance (command.Check payload) name old new a said = check_ends _ _ _ payload _ _ a said.answers
 commands_end device words chance (command.Show shown_as) name old new a said = show_ends shown_as _ _ _ _ _ a said
@@ -59,15 +59,32 @@ commands_end device words chance (command.Rebuild rebuilding) name old new a sai
     (λ two. rebuild_ends _ _ _ _ rebuilding _ _ _ _ _ _ _ _ _ a (said.answers two))
 commands_end device words chance (command.Backup backing_up) name old new a said =
     by_one_file (one_file name backing_up.target.now old.target) (λ one. backup_same_file_ends a (said.same one).1)
-    (λ two. backup_ends _ _ _ _ backing_up.payload _ _ _ _ a (said.answers two))
+    (λ two. backup_ends device.tells device.size device.bytes device.failed backing_up.payload old.volume new.volume old.target new.target a (said.answers two))
 commands_end device words chance (command.Restore restoring) name old new a said =
     by_one_file (one_file name restoring.backup.now old.target) (λ one. restore_same_file_ends a (said.same one).1)
-    (λ two. restore_ends _ _ _ _ restoring _ _ _ _ a (said.answers two))
+    (λ two. restore_ends device.tells device.size device.bytes device.failed restoring old.volume new.volume old.target new.target a (said.answers two))
 commands_end device words chance (command.Compare comparing) name old new a said =
     by_one_file (one_file name comparing.backup.now old.target) (λ one. compare_same_file_ends a (said.same one).1)
-    (λ two. compare_ends _ _ _ _ comparing.payload _ _ _ _ a (said.answers two))
+    (λ two. compare_ends device.tells device.size device.bytes device.failed comparing.payload old.volume new.volume old.target new.target a (said.answers two))
+
+-- so of one that was run
+pub executed_ends : {D R N : Type 0} (device : Device D) (words : R → Option (List ℕ)) (chance : N → Option (List ℕ)) (c : Command) (name : List ℕ) (old new : Inputs D R N) (a : Answer)
+    → IsExecuted device words chance c name old new a → EndsWith c a (own a)
+executed_ends device words chance c name old new a is = commands_end device words chance c name old new a is.kept
 
 -- ---- how it is told
+
+-- a text that is one of these is one of those
+pub told_as : (P Q : List ℕ → Type 0) → ((t : List ℕ) → P t → Q t) → (own before after : ℕ) (held holds : Option (List ℕ)) (n : ℕ)
+    → EndsTold P own before after held holds n → EndsTold Q own before after held holds n
+told_as P Q of own before after held holds n (told text is more same ends) = told text (of text is) more same ends
+told_as P Q of own before after held holds n (refused more same ends) = refused more same ends
+told_as P Q of own before after held holds n (failed rises ends) = failed rises ends
+
+-- what holds of a text that was made
+pub made_as : {T E : Type 0} (bytes : T → List ℕ) (made : Result T E) (Q : List ℕ → Type 0) → IfOk made (λ t. Q (bytes t)) → (x : List ℕ) → IsMade bytes made x → Q x
+made_as bytes (Ok t) Q holds x is = subst Q (sym is) holds
+made_as bytes (Err e) Q holds x is = absurd is
 
 ends_by : (c : Command) (status n : ℕ) → MayEnd c status → (n ≡ status) ⊎ (n ≡ 4) → MayEnd c n
 ends_by c status n may (inl is) = subst (MayEnd c) (sym is) may

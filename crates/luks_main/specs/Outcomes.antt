@@ -1,5 +1,5 @@
 -- What a command has come to, and how that is told.
-use Rattle.std.specs.Prelude.{◌≡◌, ◌⊎◌, ℕ, ◌+◌, List, codes, Bool, false, Option, IfSome}
+use Rattle.std.specs.Prelude.{◌≡◌, ◌⊎◌, ℕ, ◌+◌, List, codes, Bool, false, Option, IfSome, MatchResult, Result}
 use Rattle.std.specs.Io.KnownBytes.{Appends}
 use Rattle.luks_request.specs.declared.request.Command.{Command}
 use Rattle.luks_commands.specs.declared.answers.Answer.{Answer}
@@ -40,3 +40,7 @@ pub data EndsTold (IsText : List ℕ → Type 0) (own before after : ℕ) (held 
   told : (text : List ℕ) → IsText text → Appends held holds text → after ≡ before → status ≡ own → EndsTold IsText own before after held holds status
   refused : Appends held holds (line (codes "no memory")) → after ≡ before → status ≡ 4 → EndsTold IsText own before after held holds status
   failed : after ≡ before + 1 → status ≡ 4 → EndsTold IsText own before after held holds status
+
+-- the text is the one that was made, of these bytes: a word of private contracts
+abbrev pub IsMade : {T E : Type 0} → (T → List ℕ) → Result T E → List ℕ → Type 0
+IsMade bytes made text = MatchResult made (λ t. text ≡ bytes t) (λ _. ⊥)

@@ -14,7 +14,7 @@ use luks_files::{Volume, reopened};
 use luks_header_commands::copies_asked;
 use luks_notes::{
     FrontFault, header_end, leftovers, note_leftovers, note_lost, note_no_keyslots, note_taken,
-    note_whole, read_front,
+    note_untried, note_whole, read_front,
 };
 use luks_request::{AskedKdf, EditRequest, Meant, Rebuilding};
 use luks_signatures::{first_use, is_reencrypted};
@@ -134,6 +134,10 @@ fn tell_more(
         }
         (Command::Rebuild(rebuilding), Status::Done) => {
             tell_rebuilt(alloc, &rebuilding, volume, target, notes)
+        }
+        (Command::Rebuild(rebuilding), Status::Refused)
+            if matches!(ended.fault(), Some(Fault::NoMetadata)) => {
+            note_untried(alloc, volume, copies_asked(&rebuilding), notes)
         }
         (Command::Check { payload: _ }, Status::NotInStep) => note_other_use(volume, name, notes),
         (Command::Check { payload: _ } | Command::Show(_), Status::Refused) => {

@@ -1,11 +1,9 @@
 //! What a command has come to, and how its answer is told.
-ghost use Rattle.std.specs.Prelude.{◌≡◌, ◌↔◌, ◌+◌, ◌<◌, ◌^◌, List, ℕ, IfOk, IfSome, IsTrue, MatchResult, string_bytes};
-ghost use Rattle.std.specs.Io.KnownBytes.{Appends};
+ghost use Rattle.std.specs.Prelude.{◌≡◌, ◌↔◌, ◌+◌, ◌<◌, ◌^◌, IfOk, IsTrue, string_bytes};
 ghost use Rattle.luks_guarded_files.specs.Cached.{cached_failures};
-ghost use Rattle.luks_commands.specs.Answer.{answer_status, line, line_of};
+ghost use Rattle.luks_commands.specs.Answer.{answer_status};
 ghost use Rattle.luks_commands.specs.Exit.{exit_status};
-ghost use Rattle.luks_execution.specs.AnswerValue.{IsAnswerText};
-ghost use Rattle.luks_main.specs.Outcomes.{EndsTold, IsLinesOf, IsNoted, IsObjectOf, IsOutcome};
+ghost use Rattle.luks_main.specs.Outcomes.{EndsTold, IsLinesOf, IsMade, IsNoted, IsObjectOf, IsOutcome};
 
 use crate::FAULT;
 use luks_execution::{
@@ -68,9 +66,8 @@ impl Outcome {
 /// Prints the text of an answer that ends with this status; gives the exit status.
 fn print_text<P: Printer>(status: u8, text: Result<String, AllocError>, out: &mut P) -> u8
     requires { P.failures out.old + 1 < 2 ^ 64 }
-    ensures { (IsText : List ℕ → Type 0) → IfOk text (λ t. IsText (string_bytes t))
-        → EndsTold IsText status (P.failures out.old) (P.failures out.new) (P.printed out.old)
-        (P.printed out.new) result }
+    ensures { EndsTold (IsMade string_bytes text) status (P.failures out.old) (P.failures out.new)
+        (P.printed out.old) (P.printed out.new) result }
 {
     match text {
         Ok(text) => match out.print(&text) {

@@ -6,60 +6,72 @@ use Rattle.luks_keeping_commands.proofs.RestoreFacts.{restore_holds}
 use Rattle.luks_execution.proofs.execution.execute.Goals as goal
 
 pub returns-in-Open-clause-executes : goal.returns-in-Open-clause-executes
-returns-in-Open-clause-executes g c = rw c.in-Open.is c.run-in-Open.ensures.answers
+returns-in-Open-clause-executes g c = rw c.in-Open.is (record { kept = c.run-in-Open.ensures.answers })
 
 pub returns-in-Format-clause-executes : goal.returns-in-Format-clause-executes
 returns-in-Format-clause-executes g c = rw c.in-Format.is (record {
-  left = c.run-in-Format.ensures.left;
-  answers = c.run-in-Format.ensures.answers;
-  over = format_holds g.D.Device.tells g.D.Device.size g.D.Device.bytes g.D.Device.failed c.in-Format.making _ _ _ _ _ _ c.run-in-Format.result
-      c.run-in-Format.ensures.answers;
+  kept = record {
+    left = c.run-in-Format.ensures.left;
+    answers = c.run-in-Format.ensures.answers;
+    over = format_holds g.D.Device.tells g.D.Device.size g.D.Device.bytes g.D.Device.failed c.in-Format.making _ _ _ _ _ _ c.run-in-Format.result
+        c.run-in-Format.ensures.answers;
+  };
 })
 
 pub returns-in-Convert-clause-executes : goal.returns-in-Convert-clause-executes
 returns-in-Convert-clause-executes g c = rw c.in-Convert.is (record {
-  same = c.run-in-Convert.ensures.same;
-  answers = c.run-in-Convert.ensures.answers;
-  over = λ two. header_holds g.D.Device.tells g.D.Device.size g.D.Device.bytes g.D.Device.failed c.in-Convert.converting.over _ _ _ _ _ _ _ c.run-in-Convert.result
-      (c.run-in-Convert.ensures.answers two);
-  rest = c.run-in-Convert.ensures.rest;
-  settled = c.run-in-Convert.ensures.settled;
+  kept = record {
+    same = c.run-in-Convert.ensures.same;
+    answers = c.run-in-Convert.ensures.answers;
+    over = λ two. header_holds g.D.Device.tells g.D.Device.size g.D.Device.bytes g.D.Device.failed c.in-Convert.converting.over _ _ _ _ _ _ _ c.run-in-Convert.result
+        (c.run-in-Convert.ensures.answers two);
+    rest = c.run-in-Convert.ensures.rest;
+    settled = c.run-in-Convert.ensures.settled;
+  };
 })
 
 pub returns-in-Rebuild-clause-executes : goal.returns-in-Rebuild-clause-executes
 returns-in-Rebuild-clause-executes g c = rw c.in-Rebuild.is (record {
-  same = c.run-in-Rebuild.ensures.same;
-  answers = c.run-in-Rebuild.ensures.answers;
-  over = λ two. rebuild_holds c.in-Rebuild.rebuilding.passphrase g.D.Device.tells g.D.Device.size g.D.Device.bytes g.D.Device.failed c.in-Rebuild.rebuilding
-      _ _ _ _ _ _ _ _ _ c.run-in-Rebuild.result (c.run-in-Rebuild.ensures.answers two);
-  rest = c.run-in-Rebuild.ensures.rest;
-  settled = c.run-in-Rebuild.ensures.settled;
+  kept = record {
+    same = c.run-in-Rebuild.ensures.same;
+    answers = c.run-in-Rebuild.ensures.answers;
+    over = λ two. rebuild_holds c.in-Rebuild.rebuilding.passphrase g.D.Device.tells g.D.Device.size g.D.Device.bytes g.D.Device.failed c.in-Rebuild.rebuilding
+        _ _ _ _ _ _ _ _ _ c.run-in-Rebuild.result (c.run-in-Rebuild.ensures.answers two);
+    rest = c.run-in-Rebuild.ensures.rest;
+    settled = c.run-in-Rebuild.ensures.settled;
+  };
 })
 
 pub returns-in-Backup-clause-executes : goal.returns-in-Backup-clause-executes
 returns-in-Backup-clause-executes g c = rw c.in-Backup.is (record {
-  same = c.run-in-Backup.ensures.same;
-  answers = c.run-in-Backup.ensures.answers;
-  rest = c.run-in-Backup.ensures.rest;
-  settled = c.run-in-Backup.ensures.settled;
+  kept = record {
+    same = c.run-in-Backup.ensures.same;
+    answers = c.run-in-Backup.ensures.answers;
+    rest = c.run-in-Backup.ensures.rest;
+    settled = c.run-in-Backup.ensures.settled;
+  };
 })
 
 pub returns-in-Restore-clause-executes : goal.returns-in-Restore-clause-executes
 returns-in-Restore-clause-executes g c = rw c.in-Restore.is (record {
-  same = c.run-in-Restore.ensures.same;
-  answers = c.run-in-Restore.ensures.answers;
-  over = λ two. restore_holds g.D.Device.tells g.D.Device.size g.D.Device.bytes g.D.Device.failed c.in-Restore.restoring _ _ _ _ c.run-in-Restore.result
-      (c.run-in-Restore.ensures.answers two);
-  rest = c.run-in-Restore.ensures.rest;
-  kept = c.run-in-Restore.ensures.unchanged;
-  settled = c.run-in-Restore.ensures.settled;
+  kept = record {
+    same = c.run-in-Restore.ensures.same;
+    answers = c.run-in-Restore.ensures.answers;
+    over = λ two. restore_holds g.D.Device.tells g.D.Device.size g.D.Device.bytes g.D.Device.failed c.in-Restore.restoring _ _ _ _ c.run-in-Restore.result
+        (c.run-in-Restore.ensures.answers two);
+    rest = c.run-in-Restore.ensures.rest;
+    kept = c.run-in-Restore.ensures.unchanged;
+    settled = c.run-in-Restore.ensures.settled;
+  };
 })
 
 pub returns-in-Compare-clause-executes : goal.returns-in-Compare-clause-executes
 returns-in-Compare-clause-executes g c = rw c.in-Compare.is (record {
-  same = c.run-in-Compare.ensures.same;
-  answers = c.run-in-Compare.ensures.answers;
-  kept = c.run-in-Compare.ensures.kept;
+  kept = record {
+    same = c.run-in-Compare.ensures.same;
+    answers = c.run-in-Compare.ensures.answers;
+    kept = c.run-in-Compare.ensures.kept;
+  };
 })
 
 pub returns-in-Show-clause-settled : goal.returns-in-Show-clause-settled
@@ -77,3 +89,21 @@ returns-in-Backup-clause-settled g c = rw c.in-Backup.is (settled_kept g.D.Devic
 pub returns-in-Compare-clause-settled : goal.returns-in-Compare-clause-settled
 returns-in-Compare-clause-settled g c = rw c.in-Compare.is (settled_kept g.D.Device.tells g.D.Device.size g.D.Device.failed g.D.Device.bytes g.D.Device.unsettled _ _
     c.requires.settled c.run-in-Compare.ensures.unchanged)
+
+pub returns-in-Check-clause-executes : goal.returns-in-Check-clause-executes
+returns-in-Check-clause-executes g c = rw c.in-Check.is (record { kept = record { ends = c.run.ensures.ends; answers = c.run.ensures.answers } })
+
+pub returns-in-Show-clause-executes : goal.returns-in-Show-clause-executes
+returns-in-Show-clause-executes g c = rw c.in-Show.is (record { kept = c.run-in-Show.ensures.answers })
+
+pub returns-in-Edit-clause-executes : goal.returns-in-Edit-clause-executes
+returns-in-Edit-clause-executes g c = rw c.in-Edit.is (record {
+  kept = record {
+    left = c.run-in-Edit.ensures.left;
+    keeps = c.run-in-Edit.ensures.keeps;
+    failure = c.run-in-Edit.ensures.failure;
+    spared = c.run-in-Edit.ensures.spared;
+    answers = c.run-in-Edit.ensures.answers;
+    over = c.run-in-Edit.ensures.over;
+  };
+})
