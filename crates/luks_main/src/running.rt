@@ -1,5 +1,5 @@
 //! The command line, and what is done for it.
-ghost use Rattle.std.specs.Prelude.{◌≡◌, ◌↔◌, IfOk, IfSome, IsOk, IsSome};
+ghost use Rattle.std.specs.Prelude.{◌≡◌, ◌↔◌, ◌+◌, ◌<◌, ◌^◌, IfOk, IfSome, IsNone, IsOk, IsSome};
 ghost use Rattle.luks_guarded_files.specs.Cached.{cached_failures};
 ghost use Rattle.luks_commands.specs.Exit.{IsExitStatus};
 ghost use Rattle.luks_guarded_files.specs.Lazy.{file_name};
@@ -12,7 +12,9 @@ use crate::searching::search;
 use crate::told::{device_fault, explain, list_faults, no_memory, tell_untimed, tell_usage};
 use crate::trial::TrialLines;
 use crate::{FAULT, TOLD, USAGE};
-use luks_execution::{CountingPrinter, InputFault, Inputs, Line, OtherUse, Progress, Reason};
+use luks_execution::{
+    CountingPrinter, InputFault, Inputs, Line, OtherUse, Printer, Progress, Reason,
+};
 use luks_files::{
     Openings, Passphrases, Volume, Volumes, has_changed, open_volumes, reader, take_away,
 };
@@ -188,15 +190,17 @@ fn run_read<R: AllocGlobal + Clock + Files<File = File> + Input + Print + Eprint
         tell(rt, noticed.as_slice());
     }
     let mut out = CountingPrinter::new(io::writer(rt));
-    let printed = if manner.json {
-        None
-    } else {
-        Some(outcome.print_lines(rt.alloc(), &mut out))
-    };
+    let printed = print_lines(rt.alloc(), line, &outcome, manner, &mut out);
     take_unfinished(rt, line, made, outcome.status());
-    if is_noted || manner.json {
-        note_ended(rt.alloc(), line, standing, &mut inputs, &mut outcome);
-    }
+    let is_wanted = is_noted || manner.json;
+    note_ended(
+        rt.alloc(),
+        line,
+        standing,
+        &mut inputs,
+        &mut outcome,
+        is_wanted,
+    );
     drop(inputs);
     if is_noted {
         tell(rt, outcome.notes.as_slice());
@@ -244,16 +248,40 @@ fn take_unfinished<R: Clock + Files<File = File>>(
     }
 }
 
-/// Notes what is to be known of how the command has ended, beside what it noted itself.
+/// Prints the answer's lines, where they tell it; gives the exit status then.
+fn print_lines<P: Printer>(
+    alloc: Global,
+    line: &Line<'_>,
+    outcome: &Outcome,
+    manner: Manner,
+    out: &mut P,
+) -> Option<u8>
+    requires printer { P.failures out.old + 1 < 2 ^ 64 }
+    requires outcome { IsOutcome line.now.command outcome.now }
+    ensures ends { IfSome result (MayEnd line.now.command) }
+    ensures status { IfSome result IsExitStatus }
+    ensures object { IsNone result → out.new ≡ out.old }
+{
+    if manner.json {
+        return None;
+    }
+    Some(outcome.print_lines(alloc, out))
+}
+
+/// Notes what is to be known of how the command has ended, beside what it noted itself, where that is wanted.
 fn note_ended<R: Files<File = File>>(
     alloc: Global,
     line: &Line<'_>,
     standing: Option<OtherUse>,
     inputs: &mut Inputs<Volume, &[u8], LazyFile<'_, R>>,
     outcome: &mut Outcome,
+    is_wanted: bool,
 )
     ensures { outcome.new.answer ≡ outcome.old.answer }
 {
+    if !is_wanted {
+        return;
+    }
     let is_silent = outcome.notes.is_empty();
     if has_changed(&inputs.volume) {
         note_changed(line.volume, &mut outcome.notes);

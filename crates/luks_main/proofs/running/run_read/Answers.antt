@@ -1,0 +1,14 @@
+use Rattle.std.proofs.Common.{subst, sym}
+use Rattle.luks_commands.specs.declared.answers.Answer.{Answer}
+use Rattle.luks_main.specs.Outcomes.{IsObjectOf}
+use Rattle.luks_main.specs.Statuses.{EndsWith}
+use Rattle.luks_main.proofs.OutcomeFacts.{told_ends}
+use Rattle.luks_main.proofs.StatusFacts.{own}
+use Rattle.luks_main.proofs.running.run_read.Goals as goal
+
+pub returns-clause-ends : goal.returns-clause-ends
+returns-clause-ends g c =
+    let a : Answer = c.note_ended.new.outcome.answer in
+    told_ends c.args.line.now.command a
+    (subst (λ (x : Answer). EndsWith c.args.line.now.command x (own x)) (sym c.note_ended.ensures) c.outcome_beside-outcome.ensures)
+    (IsObjectOf a) _ _ _ _ c.print_object.result c.print_object.ensures
