@@ -4,5 +4,6 @@ pub mod BoundFacts
 pub mod PieceFacts
 pub mod BorderFacts
 pub mod WorkFacts
+pub mod AllPiecesFacts
 pub mod LawFacts
 pub mod FoundFacts

@@ -1,5 +1,5 @@
 -- The pieces of which two JSON areas are composed where few bytes of a sector differ: each of these bytes.
-use Rattle.std.specs.Prelude.{◌≡◌, ℕ, zero, suc, ◌+◌, ◌*◌, ◌/◌, ◌%◌, ◌<◌, ◌≤◌, ◌==◌, ◌^◌, List, [], ◌∷◌, ◌++◌, Bool, All, length, not, map, nat_le, slice_index, if◌then◌else◌}
+use Rattle.std.specs.Prelude.{◌≡◌, ℕ, zero, suc, ◌+◌, ◌*◌, ◌/◌, ◌%◌, ◌<◌, ◌≤◌, ◌==◌, ◌^◌, List, [], ◌∷◌, ◌++◌, ◌⊎◌, Bool, All, length, not, map, nat_le, slice_index, if◌then◌else◌}
 use Rattle.std.specs.List.{filter, range_with_len}
 use Rattle.luks_area.specs.Ranges.{part, written}
 use Rattle.luks_vouching.specs.Composed.{sector_count}
@@ -57,3 +57,9 @@ IsOfPieces first second j = (n : ℕ) × (n < piece_count first second) × (j �
 -- each piece lies inside an area of `total` bytes
 abbrev pub AreInside : ℕ → List Piece → Type 0
 AreInside total pieces_ = All (λ piece. piece.at + piece.len ≤ total) pieces_
+
+-- `j` has of each piece the bytes of one of both areas, and where these have the same byte that one
+pub record IsComposedOfPieces (first second j : List ℕ) : Type 0 where
+  pub as_first : length j ≡ length first
+  pub each : All (λ piece. (part j piece.at piece.len ≡ part first piece.at piece.len) ⊎ (part j piece.at piece.len ≡ part second piece.at piece.len)) (pieces first second)
+  pub rest : (p : ℕ) → p < length j → slice_index first p ≡ slice_index second p → slice_index j p ≡ slice_index first p

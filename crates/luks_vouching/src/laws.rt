@@ -3,7 +3,7 @@ ghost use Rattle.std.specs.Prelude.{◌≡◌, ◌≤◌, ◌⊎◌, ℕ, List, 
 ghost use Rattle.luks2_header.specs.Header2.{hdr_size, header_at, IsSound};
 ghost use Rattle.luks_vouching.specs.Composed.{IsComposed, IsWholeSectors};
 ghost use Rattle.luks_vouching.specs.Cut.{IsCut};
-ghost use Rattle.luks_vouching.specs.Pieces.{IsOfPieces};
+ghost use Rattle.luks_vouching.specs.Pieces.{IsComposedOfPieces, IsOfPieces};
 ghost use Rattle.luks_vouching.specs.Tried.{IsTried};
 ghost use Rattle.luks_vouching.specs.Work.{HashesFew};
 ghost use Rattle.luks_vouching.specs.Vouched.{area_at, IsVouched, Meets, VouchesForNone};
@@ -39,4 +39,11 @@ pub fn sound_copy_meets()
 pub fn work_is_bounded()
     ensures { (first second : List ℕ) → IsWholeSectors first → length second ≡ length first
         → length first ≤ 4194304 → HashesFew first second }
+{}
+
+/// Each composition of pieces has a number: where both areas have another wrong digit in one sector, what is
+/// right is tried.
+pub fn pieces_are_all()
+    ensures { (first second j : List ℕ) → IsWholeSectors first → length second ≡ length first
+        → IsComposedOfPieces first second j → IsOfPieces first second j }
 {}

@@ -15,6 +15,8 @@ mod standing;
 mod vouch_fault;
 mod vouched;
 
-pub use laws::{one_vouched, sound_copy_meets, vouched_is_composed, work_is_bounded};
+pub use laws::{
+    one_vouched, pieces_are_all, sound_copy_meets, vouched_is_composed, work_is_bounded,
+};
 pub use vouch_fault::VouchFault;
 pub use vouched::{Vouched, find_vouched, is_cut_short};
