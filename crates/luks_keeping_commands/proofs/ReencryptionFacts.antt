@@ -131,10 +131,13 @@ not_false tells p = let e = tells.1 p in cc
 
 -- what isn't so of LUKS1 is so by the metadata alone
 either_by : {L M : Type 0} (b : Bool) → IsTrue false ↔ L → IsTrue b ↔ M → IsTrue b ↔ (L ⊎ M)
-either_by b one two = (λ is. inr (two.0 is), λ either. elim either [
-  | inl l ↦ absurd (not_false one l)
-  | inr m ↦ two.1 m
-])
+either_by b one two = (
+  λ is. inr (two.0 is),
+  λ either. elim either [
+    | inl l ↦ absurd (not_false one l)
+    | inr m ↦ two.1 m
+  ],
+)
 
 -- the same of an answer
 pub either_told : (L M : Type 0) (r : Result Bool Bar) → IsTrue false ↔ L → IfOk r (λ b. IsTrue b ↔ M) → IfOk r (λ b. IsTrue b ↔ (L ⊎ M))
