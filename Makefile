@@ -47,7 +47,7 @@ demo: toolchain
 # The program that is run here only prints its help: its status is 0 exactly where it was proved, built and runs.
 define build_program
 	@RT="$(RT)" tools/prove luks
-	cd crates/luks && $(RT) run -- --help >/dev/null
+	cd crates/luks && RT="$(RT)" ../../tools/rt run -- --help >/dev/null
 	install -D -m 755 crates/luks/out/luks bin/luks
 endef
 
@@ -59,7 +59,7 @@ bin/luks: $(SOURCES)
 
 library: toolchain
 	@RT="$(RT)" tools/prove luks_c
-	cd crates/luks_c && $(RT) lib
+	cd crates/luks_c && RT="$(RT)" ../../tools/rt lib
 	@RT="$(RT)" tools/library
 
 bin/libluks.so.0: $(SOURCES) tools/library $(wildcard library/*)

@@ -46,6 +46,19 @@ def cryptsetup(words, folder):
     return out
 
 
+def counted(call, words, folder):
+    """How many such calls cryptsetup makes, which runs to its end."""
+    done = ran(["strace", "-f", "-qq", "-e", f"trace={call}", "-e", "signal=none", "cryptsetup", "--batch-mode", *words.split()], folder, text=True, errors="replace")
+    return sum(f"{call}(" in line for line in done.stderr.splitlines())
+
+
+def killed(call, when, words, folder):
+    """cryptsetup, killed at its call of this kind and number, counted from 1; it has to come that far."""
+    status = ran(["strace", "-f", "-qq", "-o", os.devnull, "-e", f"trace={call}", "-e", f"inject={call}:signal=KILL:when={when}", "cryptsetup", "--batch-mode", *words.split()], folder).returncode
+    if status != -9:
+        sys.exit(f"cryptsetup {words}: it ended with {status} before its {call} {when}")
+
+
 def put(folder, name, data):
     with open(os.path.join(folder, name), "wb") as out:
         out.write(data)

@@ -8,6 +8,7 @@
 #include <stdlib.h>
 #include <string.h>
 #include <sys/ioctl.h>
+#include <sys/mman.h>
 #include <sys/random.h>
 #include <sys/stat.h>
 #include <unistd.h>
@@ -108,6 +109,43 @@ static void end(struct held *held)
     errno = kept;
 }
 
+/* Whole pages that are kept out of swap and of core dumps for as long as a call takes; none where `count` is 0. */
+struct guarded {
+    void *pages;
+    size_t count;
+};
+
+/* Guards the pages in which so many bytes lie from this address on. Where the system refuses it, as beyond RLIMIT_MEMLOCK, the call goes on without.
+ * Pages that are locked already are the caller's to keep so: msync tells by EBUSY, and they are left as they are. */
+static struct guarded guard(uintptr_t at, size_t count)
+{
+    struct guarded none = {NULL, 0}, found;
+    int kept = errno;
+    uintptr_t page = (uintptr_t)sysconf(_SC_PAGESIZE);
+    uintptr_t first = at / page * page;
+    if (count == 0 || count > UINTPTR_MAX - page - at)
+        return none;
+    found.pages = (void *)first;
+    found.count = (at + count - first + page - 1) / page * page;
+    if (msync(found.pages, found.count, MS_ASYNC | MS_INVALIDATE) != 0 || mlock(found.pages, found.count) != 0)
+        found = none;
+    else
+        (void)madvise(found.pages, found.count, MADV_DONTDUMP);
+    errno = kept;
+    return found;
+}
+
+/* Undoes it. */
+static void unguard(const struct guarded *guarded)
+{
+    int kept = errno;
+    if (guarded->count > 0) {
+        (void)madvise(guarded->pages, guarded->count, MADV_DODUMP);
+        (void)munlock(guarded->pages, guarded->count);
+    }
+    errno = kept;
+}
+
 uint32_t luks_signature(int fd, uint64_t offset, uint64_t length, uint64_t within, uint32_t *shows)
 {
     struct luks_signature signature;
@@ -177,6 +215,7 @@ static uint32_t open_one(int fd, uint64_t offset, uint64_t length, int n, const 
         return LUKS_USAGE;
     const uint8_t *words = passphrase != NULL ? passphrase : &nothing;
     uint8_t *into = key != NULL ? key : &nowhere;
+    struct guarded words_pages = guard((uintptr_t)words, passphrase_bytes), key_pages = guard((uintptr_t)into, key_room);
     memset(opened, 0, sizeof *opened);
     uint32_t answer = begin(&held, fd, offset, length, WITH_KEY_AREAS);
     if (answer == LUKS_DONE)
@@ -189,6 +228,8 @@ static uint32_t open_one(int fd, uint64_t offset, uint64_t length, int n, const 
         } while (answer == LUKS_BEYOND);
     opened->beyond = 0;
     end(&held);
+    unguard(&key_pages);
+    unguard(&words_pages);
     return answer;
 }
 
@@ -413,14 +454,35 @@ static uint32_t carry_out_by_chance(struct held *held, struct asked *it, uint64_
     uint8_t *random = count < SIZE_MAX ? malloc((size_t)count + 1) : NULL;
     if (random == NULL)
         return LUKS_MEMORY;
+    struct guarded pages = guard((uintptr_t)random, (size_t)count);
     it->random = random;
     it->random_bytes = (size_t)count;
     uint32_t answer = take_random(random, (size_t)count) == 0 ? carry_out(held, it, slot) : LUKS_DEVICE;
     int kept = errno;
     explicit_bzero(random, (size_t)count);
+    unguard(&pages);
     free(random);
     errno = kept;
     return answer;
+}
+
+/* The pages of what is asked that may hold passphrases and keys. */
+struct secrets {
+    struct guarded passphrase, text, random;
+};
+
+static struct secrets guard_all(const struct asked *it)
+{
+    struct secrets found = {guard((uintptr_t)it->passphrase, it->passphrase_bytes), guard((uintptr_t)it->text, it->text_bytes),
+                            guard((uintptr_t)it->random, it->random_bytes)};
+    return found;
+}
+
+static void unguard_all(const struct secrets *secrets)
+{
+    unguard(&secrets->random);
+    unguard(&secrets->text);
+    unguard(&secrets->passphrase);
 }
 
 /* How many random bytes the edit takes. */
@@ -458,10 +520,12 @@ uint32_t luks_needed(int fd, uint64_t offset, uint64_t length, bool is_detached,
     struct asked it = {.is_detached = is_detached, .edit = edit, .passphrase = given(passphrase), .passphrase_bytes = passphrase_bytes,
                        .text = given(text), .text_bytes = text_bytes};
     *random_bytes = 0;
+    struct secrets secrets = guard_all(&it);
     uint32_t answer = begin(&held, fd, offset, length, HEADS);
     if (answer == LUKS_DONE)
         answer = need(&held, &it, random_bytes);
     end(&held);
+    unguard_all(&secrets);
     return answer;
 }
 
@@ -476,12 +540,14 @@ uint32_t luks_apply(int fd, uint64_t offset, uint64_t length, bool is_detached, 
     uint64_t count = random_bytes;
     if (flush(fd) != 0)
         return LUKS_DEVICE;
+    struct secrets secrets = guard_all(&it);
     uint32_t answer = begin(&held, fd, offset, length, WITH_KEY_AREAS);
     if (answer == LUKS_DONE && random == NULL)
         answer = need(&held, &it, &count);
     if (answer == LUKS_DONE)
         answer = carry_out_by_chance(&held, &it, count, slot);
     end(&held);
+    unguard_all(&secrets);
     return answer;
 }
 
@@ -538,10 +604,12 @@ static uint32_t format(int fd, uint64_t offset, uint64_t length, struct asked *i
     it->passphrase = given(it->passphrase);
     if (flush(fd) != 0)
         return LUKS_DEVICE;
+    struct secrets secrets = guard_all(it);
     uint32_t answer = begin(&held, fd, offset, length, HEADS);
     if (answer == LUKS_DONE)
         answer = carry_out_by_chance(&held, it, count, NULL);
     end(&held);
+    unguard_all(&secrets);
     return answer;
 }
 
@@ -749,15 +817,18 @@ uint32_t luks_compare(int backup_fd, uint64_t backup_offset, uint64_t backup_len
 
 /* ---- volumes on a disk ---- */
 
-/* A disk is searched by blocks, small ones first. What tells of a volume ends 8 MiB behind its start: two copies of 4 MiB. So
- * a block tells all volumes that begin in it, but for its last 8 MiB, which the next block begins with. */
-#define LEAST_BLOCK ((uint64_t)1 << 24)
+/* A disk is searched by blocks, small ones first. What tells of a volume ends 8 MiB behind its start: two copies of 4 MiB.
+ * What says that its second copy is the first one of another volume ends 4 MiB further, and what says that its first is the
+ * second one of another begins 4 MiB before it. So a block tells all volumes that begin in it, but for its first 4 MiB, which
+ * the block before it told of, and its last 12, which the next block tells of. */
+#define LEAST_BLOCK ((uint64_t)1 << 25)
 #define MOST_BLOCK ((uint64_t)1 << 26)
-#define TELLS ((uint64_t)1 << 23)
+#define EXPLAINS ((uint64_t)4 << 20)
+#define TELLS ((uint64_t)12 << 20)
 #define SECTOR ((uint64_t)512)
 
-/* The least start in the block that is held, before this end; LUKS_TO_END where there is none. */
-static uint32_t find_in(const struct held *held, uint64_t before, uint64_t *place)
+/* The least start in the block that is held, at `from` or behind it and before this end; LUKS_TO_END where there is none. */
+static uint32_t find_in(const struct held *held, uint64_t from, uint64_t before, uint64_t *place)
 {
     struct luks_found found = {.count = 64};
     uint64_t *starts = NULL;
@@ -772,7 +843,7 @@ static uint32_t find_in(const struct held *held, uint64_t before, uint64_t *plac
     }
     *place = LUKS_TO_END;
     for (uint64_t i = 0; answer == LUKS_DONE && i < found.count; i++)
-        if (starts[i] < before)
+        if (starts[i] >= from && starts[i] < before)
             *place = least(*place, starts[i]);
     free(starts);
     return answer;
@@ -792,19 +863,20 @@ uint32_t luks_find(int fd, uint64_t offset, uint64_t length, uint64_t from, uint
         at = least(from, total) / SECTOR * SECTOR + SECTOR;
     while (at < total) {
         struct held held;
-        uint64_t found = LUKS_TO_END, count = least(block, total - at);
-        uint64_t before = count < total - at ? count - TELLS : count;
-        uint32_t answer = begin(&held, fd, start + at, count, count);
+        uint64_t front = least(at, EXPLAINS), first = at - front;
+        uint64_t found = LUKS_TO_END, count = least(block, total - first);
+        uint64_t before = count < total - first ? count - TELLS : count;
+        uint32_t answer = begin(&held, fd, start + first, count, count);
         if (answer == LUKS_DONE)
-            answer = find_in(&held, before, &found);
+            answer = find_in(&held, front, before, &found);
         end(&held);
         if (answer != LUKS_DONE)
             return answer;
         if (found != LUKS_TO_END) {
-            *place = at + found;
+            *place = first + found;
             return LUKS_DONE;
         }
-        at += before;
+        at = first + before;
         block = least(block * 2, MOST_BLOCK);
     }
     return LUKS_DONE;

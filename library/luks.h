@@ -14,6 +14,11 @@
  * prints, keeps anything after it has returned, or leaves memory for the caller to free. Two threads
  * may call at once, each with arguments of its own and volumes of its own.
  *
+ * The calls through a descriptor keep the whole pages in which a passphrase, a key or random bytes lie out of swap and of core
+ * dumps while they run (mlock, MADV_DONTDUMP), and undo it then. Where the system refuses it, as beyond RLIMIT_MEMLOCK, they go on
+ * without. Pages that the caller has locked are left as they are. Memory in which keys are derived isn't locked: a caller that
+ * can't have it swapped turns swap off, or encrypts it, or calls mlockall; setrlimit(RLIMIT_CORE) keeps it out of core dumps.
+ *
  * The caller holds the lock, as `luks` does: flock(LOCK_SH) on the volume's file while it is read,
  * LOCK_EX from before it is read until it was written; of a block device also on the file
  * /run/cryptsetup/L_MAJOR:MINOR, which cryptsetup locks.
@@ -185,9 +190,9 @@ uint32_t luks_open(int fd, uint64_t offset, uint64_t length, uint8_t n, const vo
  * luks_signature_name has: a partition table, a file system, swap and so on, as libblkid knows them. LUKS is none. */
 uint32_t luks_signature(int fd, uint64_t offset, uint64_t length, uint64_t within, uint32_t *shows);
 
-/* The least place, at `from` or behind it, at which a LUKS volume begins in the window, as its header, its second copy or whole
- * metadata tells; LUKS_TO_END where there is none. It is in bytes from the window's start, a multiple of 512. Up to 64 MiB are
- * held. */
+/* The least place, at `from` or behind it, at which a LUKS volume begins in the window, as its header (of LUKS1 also without its
+ * magic), its second copy or whole metadata tells; LUKS_TO_END where there is none. It is in bytes from the window's start, a
+ * multiple of 512. Up to 64 MiB are held. */
 uint32_t luks_find(int fd, uint64_t offset, uint64_t length, uint64_t from, uint64_t *place);
 
 /* How the keyslots of a backup, which is the first descriptor's, stand to those of the volume, by their salts and key areas;

@@ -410,7 +410,7 @@ class Volume:
     def find(self, start: int = 0) -> Iterator[int]:
         """The places at which LUKS volumes begin on this disk, from `start` on and in ascending order, in bytes from its own offset.
 
-        Its header, its second copy or whole metadata tells of a volume: `check` of one at that offset says more.
+        Its header (of LUKS1 also without its magic), its second copy or whole metadata tells of a volume: `check` of one at that offset says more.
         """
         if not 0 <= start <= TO_END:
             raise ValueError("a place is a number of bytes")

@@ -197,13 +197,21 @@ def taken(table, options):
     return f"{names} {told}" + (f" (default: {value.preset})" if value.preset else "")
 
 
+def elsewhere(table):
+    """What stands here for words of other programs, those that have one answer together."""
+    rows = {}
+    for it in table.others.values():
+        rows.setdefault(it.here, []).append(f"`{it.word}`")
+    return ["| There | Here |", "|---|---|", *(f"| {', '.join(words)} | {here} |" for here, words in rows.items())]
+
+
 def series(words, last="and"):
     return f" {last} ".join([", ".join(words[:-1]), words[-1]] if len(words) > 1 else words)
 
 
 def pages(table, old):
     lists = ["```", *(line for command in table.commands for line in listed(command)), "```", "", *numbers(table)]
-    return with_parts(old, "<!-- ", " -->", {"the list": lists})
+    return with_parts(old, "<!-- ", " -->", {"the list": lists, "the words of other programs": elsewhere(table)})
 
 
 MAKERS = {"docs/luks.1": page, "docs/COMMANDS.md": pages}

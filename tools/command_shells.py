@@ -10,13 +10,23 @@ _luks() {
 @options@
         [help]="--help"
     )
-    local word=${COMP_WORDS[COMP_CWORD]} before=${COMP_WORDS[COMP_CWORD - 1]} words= value=
-    # of --slot=3 bash makes three words, --slot and = and 3
+    local at=$COMP_CWORD word=${COMP_WORDS[COMP_CWORD]} begun= words= value=
+    # of --slot=3 bash makes three words, --slot and = and 3, and likewise of what has a colon, as aes-cbc-essiv:sha256
+    if [[ $word == : ]]; then
+        word=
+    elif [[ ${COMP_WORDS[at - 1]} == : ]]; then
+        at=$((at - 1))
+    fi
+    if [[ ${COMP_WORDS[at]} == : ]]; then
+        at=$((at - 1))
+        begun=${COMP_WORDS[at]}:
+    fi
     if [[ $word == = ]]; then
         word=
-    elif [[ $before == = ]] && ((COMP_CWORD > 2)); then
-        before=${COMP_WORDS[COMP_CWORD - 2]}
+    elif [[ ${COMP_WORDS[at - 1]} == = ]] && ((at > 2)); then
+        at=$((at - 1))
     fi
+    local before=${COMP_WORDS[at - 1]}
     # what stands behind these options is no file, but one of these words, where some are known
     case $before in
 @values@
@@ -34,8 +44,9 @@ _luks() {
         compopt +o default 2>/dev/null
         words=$("${COMP_WORDS[0]}" explain 2>/dev/null | cut -d' ' -f1)
     fi
-    # where nothing is offered, -o default names files
-    mapfile -t COMPREPLY < <(compgen -W "$words" -- "$word")
+    # where nothing is offered, -o default names files; what stands before a colon is there already
+    mapfile -t COMPREPLY < <(compgen -W "$words" -- "$begun$word")
+    COMPREPLY=("${COMPREPLY[@]#"$begun"}")
 }
 
 complete -o default -F _luks luks

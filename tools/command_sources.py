@@ -147,7 +147,14 @@ def names(table, old):
     return found
 
 
-MAKERS = {**{f"crates/luks_helps/src/{file}.rt": helps(file) for file in ("helps", "rescue_helps")},
+def other_words(table, old):
+    for it in table.others.values():
+        narrow([f"  tip: here that is {it.here}"])
+    return with_item(old, "static OTHER_WORDS: [OtherWord; N] = [", [line for it in table.others.values() for line in
+                                                                    row("OtherWord", word=literal(it.word), here=literal(it.here))])
+
+
+MAKERS = {**{f"crates/luks_helps/src/{file}.rt": helps(file) for file in ("helps", "rescue_helps")}, "crates/luks_helps/src/other_words.rt": other_words,
           **{f"{LINE}/{file}.rt": maker for file, maker in
              (("options", options), ("operands", operands), ("choices", choices), ("commands", commands), ("command_name", names))}}
 
@@ -167,8 +174,8 @@ def texts(told, constants):
 
 
 def range_of(parser):
-    """The least and the most number that is taken, where it is one."""
-    return re.findall(r"\d+", parser.replace("u64::MAX", str(2**64 - 1))) if "Unsigned" in parser else []
+    """The least and the most number that is taken, where it is one or a size."""
+    return re.findall(r"\d+", parser.replace("u64::MAX", str(2**64 - 1))) if re.search(r"Unsigned|Sizes::(Bytes|Mib)", parser) else []
 
 
 def spelled(shown, numbers, names, preset):
@@ -181,10 +188,10 @@ def unlike_values(table, read):
     source = read(TAKES)
     constants = {"COPY_SIZES": re.search(r"static COPY_SIZES.*?= \[(.*?)\]", source, re.S)[1],
                  "HashName::NAMES": re.search(r"const NAMES.*?= &\[(.*?)\]", read(HASHES))[1]}
-    parsers, shown, presets = (arms(source, function) for function in ("parser", "names", "preset"))
+    parsers, sizes, shown, presets = (arms(source, function) for function in ("parser", "sizes", "names", "preset"))
     wrong = [f"{TAKES} has Takes::{name}, docs/commands.table hasn't" for name in sorted(set(shown) - set(table.values))]
     for name, value in table.values.items():
-        parser = parsers.get(name, "")
+        parser = sizes.get(name) or parsers.get(name, "")
         told = spelled(texts(shown.get(name, ""), {}), range_of(parser), texts(parser, constants), texts(presets.get(name, ""), {}))
         owed = spelled(filter(None, [value.shown]), value.range, value.names, filter(None, [value.preset]))
         if told != owed or name not in shown:

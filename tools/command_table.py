@@ -12,7 +12,7 @@ WIDTH = 80
 HELPED = ", or help was asked for"
 # of each kind how many words its line has at least and at most, and what stands beneath it: the fields that it has to have, and those that it may have
 KINDS = {"program": (0, 0, "date version line more status last", ""), "value": (1, 3, "", "range names default offers file alone"),
-         "option": (3, 4, "help", "in-code shells"), "operand": (3, 4, "help", ""), "choice": (2, 9, "name", ""), "text": (1, 1, "", ""),
+         "option": (3, 4, "help", "in-code shells"), "operand": (3, 4, "help", ""), "choice": (2, 9, "name", ""), "text": (1, 1, "", ""), "other": (2, 20, "", ""),
          "command": (1, 1, "line operands prints more status", "file overwrites options choices form shells page")}
 
 
@@ -130,6 +130,14 @@ class Choice:
         self.name = record.rest("name")
 
 
+class Other:
+    """A word of another program, and what stands for it here."""
+
+    def __init__(self, record):
+        self.word, *here = record.words
+        self.here = " ".join(here)
+
+
 class Command:
     """A command, and what may follow its name."""
 
@@ -203,6 +211,10 @@ class Table:
         self.operands = Rows("operand", [(it.row, it) for it in map(Operand, of_kind["operand"])])
         self.choices = Rows("choice", [(it.row, it) for it in map(Choice, of_kind["choice"])])
         self.commands = [Command(record, self) for record in of_kind["command"]]
+        self.others = Rows("other", [(it.word, it) for it in map(Other, of_kind["other"])])
+        known = {command.name for command in self.commands} | {option.name for option in self.options.values()}
+        if known & set(self.others):
+            raise Fault(f"a word of this program is one of another: {' '.join(sorted(known & set(self.others)))}")
 
     def with_texts(self, lines):
         """The lines, with those of a text in the place of a line that names it."""

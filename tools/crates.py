@@ -7,6 +7,8 @@ import sys
 
 TOP = os.path.dirname(os.path.dirname(os.path.abspath(__file__)))
 RT = os.environ.get("RT", "rt")
+# the same, by which each sum is taken once
+QUICK_RT = os.path.join(TOP, "tools", "rt")
 
 
 def lines():

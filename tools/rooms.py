@@ -156,7 +156,7 @@ class Runs:
             task.status = 0
             return
         with room(self.uses, task.crate) as top:
-            self.run(task, [crates.RT, task.verb, *words], crates.folder(task.crate, top), nice)
+            self.run(task, [crates.QUICK_RT, task.verb, *words], crates.folder(task.crate, top), nice)
         if proves and task.status == 0:
             self.record.add(task.crate)
 

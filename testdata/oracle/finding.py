@@ -6,9 +6,11 @@ names this distance as its size and its place (`copy`); metadata of a first or o
 follows its start to the end of the disk.
 
 A JSON area doesn't say whether it is a first copy's or a second one's: so each would tell two starts. Where the magic of one of them stands 4096
-bytes before it, it tells the start of that one alone, and where neither does, both.
+bytes before it, it tells the start of that one alone, and where neither does, both: but none of which another volume says by its own sound copy
+that the area is its other one.
 """
 import reader
+import rebuilding1
 from reader import Fault
 
 SECTOR = 512
@@ -18,6 +20,23 @@ SIZES = [0x4000 << k for k in range(9)]
 def begins_header(disk, start):
     """A header that counts, or that of a LUKS1 volume which cryptsetup is reencrypting."""
     return disk[start:start + 8] in (b"LUKS\xba\xbe\x00\x01", b"LUKS\xba\xbe\x00\x02", b"LUKS\xde\xad\x00\x01")
+
+
+def begins_luks1(disk, start):
+    """A LUKS1 header without its magic or its version, of which one is made with nothing given."""
+    if not 1 <= int.from_bytes(disk[start + 108:start + 112], "big") <= 128 or disk[start:start + 1] == b"{" or disk[start:start + 6] == reader.SECOND_MAGIC:
+        return False
+    return rebuilding1.faults(disk[start:], {}) == []
+
+
+def sound_of(disk, start, size, at):
+    """Whether a volume that begins there has a sound copy of this size at this place."""
+    return start >= 0 and (reader.sound(disk[start:], at) or {}).get("size") == size
+
+
+def explained(disk, start, size, at):
+    """Whether a sound copy of another volume says that this copy is that volume's other one."""
+    return sound_of(disk, start - size, size, 0) if at == 0 else sound_of(disk, start + size, size, size)
 
 
 def whole_metadata(disk, start, size, at):
@@ -33,7 +52,7 @@ def whole_metadata(disk, start, size, at):
 
 def signs_of(disk, start):
     """The signs of a volume that begins at the start: pairs of their place on the disk and their name."""
-    found = [(start, "header")] if begins_header(disk, start) else []
+    found = [(start, "header")] if begins_header(disk, start) or begins_luks1(disk, start) else []
     for size in SIZES:
         copy = start + size
         if disk[copy:copy + 4] == b"SKUL" and reader.sound(disk[start:], size):
@@ -41,7 +60,8 @@ def signs_of(disk, start):
         for at, other in ((0, reader.SECOND_MAGIC), (size, reader.FIRST_MAGIC)):
             text = start + at + 4096
             if disk[text:text + 1] == b"{" and disk[text - 4096:text - 4090] != other and whole_metadata(disk, start, size, at):
-                found.append((text, "metadata"))
+                if not explained(disk, start, size, at):
+                    found.append((text, "metadata"))
     return sorted(found)
 
 

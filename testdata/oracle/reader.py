@@ -14,6 +14,7 @@ UUID = re.compile(rb"[0-9a-fA-F]{8}(-[0-9a-fA-F]{4}){3}-[0-9a-fA-F]{12}")
 NAME = re.compile(r"(0|[1-9]|[12][0-9]|3[01])\Z")
 DECIMAL = re.compile(r"(0|[1-9][0-9]{0,19})\Z")
 SMALL = (1, 4294967295)
+STEERING = re.compile("[\x7f-\x9f\u202a-\u202e\u2066-\u2069]")
 
 
 class Fault(Exception):
@@ -451,18 +452,25 @@ def map_lines(rows, total):
     for place, _, length, name in rows:
         reached = max((start + size for start, size in above), default=0)
         if place > reached:
-            yield f"{reached:20} .{place - reached:20}  gap{outside(place)}"
+            yield f"{reached:20} . {place - reached:20}  gap{outside(place)}"
         if length is None:
-            yield f"{place:20} -{'':20}  {name}{outside(place)}"
+            yield f"{place:20} - {'':20}  {name}{outside(place)}"
         else:
             meets = any(max(place, start) < min(place + length, start + size) for start, size in above)
-            yield f"{place:20} #{length:20}  {name}{outside(place + length)}{'  overlap' if meets else ''}"
+            marks = ["outside"] * (place + length > total) + ["overlap"] * meets
+            yield f"{place:20} # {length:20}  {name}{'  ' if marks else ''}{' '.join(marks)}"
         above.append((place, length or 0))
 
 
 def show_json(volume):
     """Like `show`; the text is the object's, with its members by name."""
-    return answer(lambda: (0, json.dumps(shown_json(volume), ensure_ascii=False, separators=(",", ":"), sort_keys=True) + "\n"))
+    return answer(lambda: (0, json_text(shown_json(volume)) + "\n"))
+
+
+def json_text(value):
+    """The value as the program prints it: characters that steer a terminal as their escapes."""
+    text = json.dumps(value, ensure_ascii=False, separators=(",", ":"), sort_keys=True)
+    return STEERING.sub(lambda found: f"\\u{ord(found[0]):04x}", text)
 
 
 def shown_json(volume):
@@ -645,6 +653,16 @@ def open_found(volume, passphrase, slot, memory, older):
         if key is not None:
             return 0, f"slot {n} opens\n", key
     return 1, "no slot opens\n", None
+
+
+def unbound(volume, slot):
+    """What standard error says of a keyslot that opens where the digest that names it names no segment."""
+    chosen = select(volume)
+    if chosen == 1:
+        return []
+    digests = metadata(chosen[0])["digests"].values()
+    bound = any(str(slot) in it["keyslots"] and it["segments"] for it in digests)
+    return [] if bound else [f"luks: keyslot {slot}: its key is of no segment, so that it opens no data"]
 
 
 def almost_met(volume, passphrase, slot=None, memory=0, older=False):

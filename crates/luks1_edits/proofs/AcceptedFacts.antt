@@ -1,5 +1,5 @@
 -- What the verdict on a header says of the volume, and the edits that open no keyslot.
-use Rattle.std.proofs.Common.{◌≡◌, ◌≢◌, ℕ, List, length, subst, refl, sym, ◌∙◌, Option, Some, None, Result, Ok, Err, MatchResult}
+use Rattle.std.proofs.Common.{◌≡◌, ◌≢◌, ℕ, ◌<◌, List, arith, length, subst, refl, sym, ◌∙◌, Option, Some, None, Result, Ok, Err, MatchResult}
 use Rattle.std.specs.Prelude.{MatchOption}
 use Rattle.std.specs.Borrow.{Bor}
 use Rattle.luks_area.specs.Ranges.{part}
@@ -18,6 +18,7 @@ use Rattle.luks_edit.specs.declared.deed.Deed.TheVariants as deed
 use Rattle.luks_edit.specs.declared.edit_fault.EditFault.{EditFault}
 use Rattle.luks_edit.specs.declared.edit_fault.EditFault.TheVariants as fault
 use Rattle.luks_edit.specs.Asked.{deed_of}
+use Rattle.luks_edit.specs.EditFaults.{edit_row}
 use Rattle.luks_edit.proofs.RowFacts.{Passed, first_of_check, first_of_row, next}
 use Rattle.luks1_edits.specs.Accepted.{IsHeaderOf, IsUnaccepted}
 use Rattle.luks1_edits.specs.Refused.{IsEditFault1, Need1, Refusal1}
@@ -44,9 +45,15 @@ header_of h payload total v chosen begins size whole =
     }
 
 -- the volume isn't accepted
-pub unaccepted_ends : (v : List ℕ) (payload : Data) (e : Edit) (r : List ℕ) (f : EditFault) → IsUnaccepted v payload f → EndsBy1 payload v e r f v
-unaccepted_ends v payload e r (fault.NotAccepted f) first = (first_of_check (IsEditFault1 v payload e r) f first.0 first.1, refl)
-unaccepted_ends v payload e r f bad = absurd bad
+pub unaccepted_first : (v : List ℕ) (payload : Data) (e : Edit) (r : List ℕ) (f : EditFault) → IsUnaccepted v payload f → Refusal1 v payload e r f
+unaccepted_first v payload e r (fault.NotAccepted f) first = first_of_check (IsEditFault1 v payload e r) f first.0 first.1
+unaccepted_first v payload e r f bad = absurd bad
+
+-- an edit that is refused before a keyslot is opened ends so
+pub early_ends : (v : List ℕ) (payload : Data) (e : Edit) (r : List ℕ) (f : EditFault) → edit_row f < 4 → Refusal1 v payload e r f → EndsBy1 payload v e r f v
+early_ends v payload e r fault.Memory low first = absurd (omega (arith, low))
+early_ends v payload e r fault.Device low first = absurd (omega (arith, low))
+early_ends v payload e r f low first = (first, refl)
 
 -- ---- edits that open no keyslot
 

@@ -1,5 +1,5 @@
 -- What an edit that makes a keyslot replies, from what was judged of it.
-use Rattle.std.proofs.Common.{◌≡◌, ℕ, ◌<◌, ◌≤◌, List, length, true, subst, refl, sym, ap, ◌∙◌, arith, inr, Option, Some, None, Bool}
+use Rattle.std.proofs.Common.{◌≡◌, ℕ, List, length, true, subst, refl, sym, ap, ◌∙◌, arith, inr, Option, Some, None, Bool}
 use Rattle.luks_area.specs.Ranges.{part}
 use Rattle.luks1_header.specs.Header1.{active_word, disabled_word, enabled_word, entry}
 use Rattle.luks2_header.specs.Selection.{luks1}

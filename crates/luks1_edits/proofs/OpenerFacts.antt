@@ -21,7 +21,7 @@ use Rattle.luks_slot.specs.Refusal.{slot_refusal_within}
 use Rattle.luks_reading.specs.declared.open_fault.OpenFault.{OpenFault}
 use Rattle.luks_reading.specs.declared.open_fault.OpenFault.TheVariants as opening
 use Rattle.luks_reading.specs.declared.report.Data.{Data}
-use Rattle.luks_reading.specs.Answer.{AnswerWithin, HasRefusedPlanWithin, IsLuks1Refusal, IsRefusalWithin, IsRefusalAsWithin, no_key, open_key, OpensWithin, opens, refused}
+use Rattle.luks_reading.specs.Answer.{AnswerWithin, HasRefusedPlanWithin, IsLuks1Refusal, IsRefusalWithin, IsRefusalAsWithin, open_key, OpensWithin, opens, refused}
 use Rattle.luks_reading.specs.Checked.{IsLuks1Volume}
 use Rattle.luks_reading.specs.PlanAnswers.{IsOpenable}
 use Rattle.luks_reading.specs.Plans.{HasLuks1Plan, IsLuks1Plan}

@@ -1,8 +1,6 @@
 -- What a removal replies, from what was judged of it.
-use Rattle.std.proofs.Common.{◌≡◌, ◌≢◌, ◌⊎◌, ℕ, List, length, subst, refl, sym, ◌∙◌, inl, inr, Option, Some, None, Bool}
-use Rattle.luks_reading.specs.declared.check_fault.CheckFault.{CheckFault}
+use Rattle.std.proofs.Common.{◌≡◌, ◌≢◌, ◌⊎◌, ℕ, List, length, subst, refl, sym, ◌∙◌, inl, inr, Option, Some, None, Bool, Result, Ok, Err, MatchResult}
 use Rattle.luks_reading.specs.declared.report.Data.{Data}
-use Rattle.luks_reading.specs.Checked.{IsFault}
 use Rattle.luks_edit.specs.declared.edit.Edit.{Edit}
 use Rattle.luks_edit.specs.declared.deed.Deed.TheVariants.{Remove}
 use Rattle.luks_edit.specs.declared.deed.Removed.{Removed}
@@ -10,12 +8,12 @@ use Rattle.luks_edit.specs.declared.edit_fault.EditFault.TheVariants as fault
 use Rattle.luks_edit.specs.declared.edit_fault.EditFault.{EditFault}
 use Rattle.luks_edit.specs.Asked.{allowed_by, ChoosesArgon2, deed_of, HasFewIterations, NamesItself, opener_of, OpensBy, Wants}
 use Rattle.luks_edit.proofs.RowFacts.{Passed, first_of_row}
-use Rattle.luks1_edits.specs.Accepted.{HasOther, IsHeaderOf, IsNamedTwice, IsOpenedBy, IsRemovable, IsUnremovable}
+use Rattle.luks1_edits.specs.Accepted.{AreAllThere, HasOther, IsHeaderOf, IsMisnamed, IsNamedTwice, IsOpenedBy, IsRemovable, IsUnremovable}
 use Rattle.luks1_edits.specs.Edited.{After1, IsInUse, IsRemoved}
 use Rattle.luks1_edits.specs.Leftovers.{IsHalfRemoved, IsTorn1, Leftover1}
 use Rattle.luks1_edits.specs.Refused.{HasNoFree, IsEditFault1, IsLabel, IsLast, IsTaken, IsUnrefused1, Need1, Refusal1}
-use Rattle.luks1_edits.specs.Replies.{EndsBy1, IsDone1, Tells1}
-use Rattle.luks1_edits.proofs.RowFacts.{absent_refused, AreAllThere, IsOpener, itself_refused, opener_passed, past_label, past_new, unrefused}
+use Rattle.luks1_edits.specs.Replies.{IsDone1, Tells1}
+use Rattle.luks1_edits.proofs.RowFacts.{IsOpener, opener_passed, past_label, past_new, unrefused}
 
 -- the edit removes the keyslot `slot`, and opens by the passphrase the one that it opens for that, with ciphers and
 -- hashes of older disks where `older` says so
@@ -71,23 +69,33 @@ both_there {v = v} is opener removed n wants = elim (is.wants_only n wants) [
   | inr y ↦ subst (λ k. IsInUse v k) (sym y) removed
 ]
 
-pub removable_there : {older : Bool} {v : List ℕ} {e : Edit} {slot : ℕ} {by_ : Option ℕ} {p r : List ℕ} → IsRemoval older v e slot by_ p r → IsRemovable v slot by_ → AreAllThere v e
+removable_there : {older : Bool} {v : List ℕ} {e : Edit} {slot : ℕ} {by_ : Option ℕ} {p r : List ℕ} → IsRemoval older v e slot by_ p r → IsRemovable v slot by_ → AreAllThere v e
 removable_there is x = record { there = both_there is x.opener x.removed; other = λ bad. x.other (is.itself_only bad) }
 
 -- they are one
-pub twice_there : {older : Bool} {v : List ℕ} {e : Edit} {slot : ℕ} {by_ : Option ℕ} {p r : List ℕ} → IsRemoval older v e slot by_ p r → IsNamedTwice v slot by_ → (n : ℕ) → Wants e n → IsInUse v n
+twice_there : {older : Bool} {v : List ℕ} {e : Edit} {slot : ℕ} {by_ : Option ℕ} {p r : List ℕ} → IsRemoval older v e slot by_ p r → IsNamedTwice v slot by_ → (n : ℕ) → Wants e n → IsInUse v n
 twice_there {v} {slot = slot} {by_ = by_} is x =
     let opener : IsInUse v (opener_of slot by_) = subst (λ b. IsInUse v (opener_of slot b)) (sym x.same) x.removed in
     both_there is opener x.removed
 
-module _ (v : List ℕ) (payload : Data) (e : Edit) (r : List ℕ) (slot : ℕ) (by_ : Option ℕ) (p : List ℕ) {older : Bool} (is : IsRemoval older v e slot by_ p r) where
-  -- a keyslot isn't there, or it is named twice
-  pub unremovable_ends : ((f : CheckFault) → IsFault v payload f → ⊥) → (f : EditFault) → IsUnremovable v slot by_ f → EndsBy1 payload v e r f v
-  unremovable_ends accepted fault.NoSuchSlot (inl unused) = (absent_refused v payload e r accepted (record { slot = opener_of slot by_; wanted = is.wants_opener; unused = unused }), refl)
-  unremovable_ends accepted fault.NoSuchSlot (inr unused) = (absent_refused v payload e r accepted (record { slot = slot; wanted = is.wants_removed; unused = unused }), refl)
-  unremovable_ends accepted fault.SameSlot bad = (itself_refused v payload e r accepted (twice_there is bad) (is.itself_is bad.same), refl)
-  unremovable_ends accepted f bad = absurd bad
+-- a keyslot isn't there, or it is named twice
+unremovable_misnamed : {older : Bool} {v : List ℕ} {e : Edit} {slot : ℕ} {by_ : Option ℕ} {p r : List ℕ} → IsRemoval older v e slot by_ p r → (f : EditFault) → IsUnremovable v slot by_ f → IsMisnamed v e f
+unremovable_misnamed {slot = slot} {by_ = by_} is fault.NoSuchSlot (inl unused) = record { slot = opener_of slot by_; wanted = is.wants_opener; unused = unused }
+unremovable_misnamed {slot = slot} is fault.NoSuchSlot (inr unused) = record { slot = slot; wanted = is.wants_removed; unused = unused }
+unremovable_misnamed is fault.SameSlot bad = record { there = twice_there is bad; same = is.itself_is bad.same }
+unremovable_misnamed is f bad = absurd bad
 
+pub removal_judged : {older : Bool} {v : List ℕ} {e : Edit} {slot : ℕ} {by_ : Option ℕ} {p r : List ℕ} {A : Type 0} → IsRemoval older v e slot by_ p r → (result : Result A EditFault)
+    → MatchResult result (λ _. IsRemovable v slot by_) (IsUnremovable v slot by_) → MatchResult result (λ _. AreAllThere v e) (IsMisnamed v e)
+removal_judged is (Ok a) x = removable_there is x
+removal_judged is (Err f) x = unremovable_misnamed is f x
+
+-- where all is there that it wants it can be done
+pub removable_of : {older : Bool} {v : List ℕ} {e : Edit} {slot : ℕ} {by_ : Option ℕ} {p r : List ℕ} → IsRemoval older v e slot by_ p r → AreAllThere v e → IsRemovable v slot by_
+removable_of {slot = slot} {by_ = by_} is all =
+    record { opener = all.there (opener_of slot by_) is.wants_opener; removed = all.there slot is.wants_removed; other = λ bad. all.other (is.itself_is bad) }
+
+module _ (v : List ℕ) (payload : Data) (e : Edit) (r : List ℕ) (slot : ℕ) (by_ : Option ℕ) (p : List ℕ) {older : Bool} (is : IsRemoval older v e slot by_ p r) where
   -- the keyslot that it opens
   pub removal_opener : IsRemovable v slot by_ → (n : ℕ) → n ≡ opener_of slot by_ → IsOpener older v e n p
   removal_opener x n same = subst (λ k. IsOpener older v e k p) (sym same) (record { asked = is.asked; wanted = is.wants_opener; all = λ used. removable_there is x; allowed = is.allowed })

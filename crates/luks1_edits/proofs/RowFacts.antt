@@ -19,7 +19,7 @@ use Rattle.luks_edit.specs.Asked.{allowed_by, ChoosesArgon2, deed_of, HasFewIter
 use Rattle.luks_edit.specs.Opener.{IsLocked, IsShut}
 use Rattle.luks_edit.proofs.AllowedMemory.{luks1_answers_alike}
 use Rattle.luks_edit.proofs.RowFacts.{Passed, after_check, after_plan, first_of_plan, first_of_row, next, none_at_all}
-use Rattle.luks1_edits.specs.Accepted.{IsOpenedBy, IsUnopened}
+use Rattle.luks1_edits.specs.Accepted.{AreAllThere, IsMisnamed, IsOpenedBy, IsUnopened}
 use Rattle.luks1_edits.specs.Edited.{IsInUse}
 use Rattle.luks1_edits.specs.Refused.{HasNoFree, IsAbsent, IsEditFault1, IsLabel, IsLast, IsMiscounted, IsTaken, IsUnrefused1, Refusal1}
 use Rattle.luks1_edits.specs.Replies.{EndsBy1}
@@ -32,11 +32,6 @@ once_in (Some o) n m p q x y = (y.0 ∙ sym x.0, y.1 ∙ sym x.1)
 
 pub opens_once : (e : Edit) (n m : ℕ) (p q : List ℕ) → OpensBy e n p → OpensBy e m q → (m ≡ n) × (q ≡ p)
 opens_once e n m p q x y = once_in (opener_in (deed_of e)) n m p q x y
-
--- each keyslot that the edit wants is there, and the removed one isn't named to open by
-pub record AreAllThere (v : List ℕ) (e : Edit) : Type 0 where
-  pub there : (n : ℕ) → Wants e n → IsInUse v n
-  pub other : NamesItself e → ⊥
 
 -- the edit opens the keyslot by the passphrase, with ciphers and hashes of older disks where `older` says so, and
 -- once that one is there, all are that it wants
@@ -102,14 +97,20 @@ module _ (v : List ℕ) (payload : Data) (e : Edit) (r : List ℕ) where
     past_requirements = let s = IsEditFault1 v payload e r in next s fault.Requirements refl (after_check s accepted) (λ bad. bad)
 
     -- the keyslots that it wants aren't there
-    pub absent_refused : IsAbsent v e → Refusal1 v payload e r fault.NoSuchSlot
+    absent_refused : IsAbsent v e → Refusal1 v payload e r fault.NoSuchSlot
     absent_refused bad = first_of_row (IsEditFault1 v payload e r) fault.NoSuchSlot refl past_requirements bad
 
     -- they are, and it names the one to remove as the one to open by
-    pub itself_refused : ((n : ℕ) → Wants e n → IsInUse v n) → NamesItself e → Refusal1 v payload e r fault.SameSlot
+    itself_refused : ((n : ℕ) → Wants e n → IsInUse v n) → NamesItself e → Refusal1 v payload e r fault.SameSlot
     itself_refused there bad =
         let s = IsEditFault1 v payload e r in
         first_of_row s fault.SameSlot refl (next s fault.NoSuchSlot refl past_requirements (λ absent. absent.unused (there absent.slot absent.wanted))) bad
+
+    -- so it isn't judged further
+    pub misnamed_refused : (f : EditFault) → IsMisnamed v e f → Refusal1 v payload e r f
+    misnamed_refused fault.NoSuchSlot bad = absent_refused bad
+    misnamed_refused fault.SameSlot bad = itself_refused bad.there bad.same
+    misnamed_refused f bad = absurd bad
 
     past_wanted : AreAllThere v e → Passed (IsEditFault1 v payload e r) 4
     past_wanted all =
@@ -147,7 +148,6 @@ module _ (v : List ℕ) (payload : Data) (e : Edit) (r : List ℕ) where
 
       -- it doesn't open
       pub unopened_ends : (w : List ℕ) (f : EditFault) → w ≡ v → IsUnopened older v n p f → EndsBy1 payload v e r f w
-      unopened_ends w fault.NoSuchSlot same bad = (absent_refused (record { slot = n; wanted = opener.wanted; unused = bad }), same)
       unopened_ends w fault.Locked same bad = (
         let s = IsEditFault1 v payload e r in
             first_of_row s fault.Locked refl (past_wanted (opener.all bad.used))

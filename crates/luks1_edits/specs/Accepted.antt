@@ -1,5 +1,5 @@
 -- The header of a LUKS1 volume that was accepted, and what is judged by it.
-use Rattle.std.specs.Prelude.{◌≡◌, ◌≢◌, ℕ, Bool, ◌<◌, ◌⊎◌, List, length, true, false, Option, Some, ⊤}
+use Rattle.std.specs.Prelude.{◌≡◌, ◌≢◌, ℕ, Bool, ◌⊎◌, List, length, true, false, Option, Some, ⊤}
 use Rattle.luks_area.specs.Ranges.{part}
 use Rattle.luks1_header.specs.Header1.{luks1_size, IsLuks1}
 use Rattle.luks1_header.specs.declared.luks1.Luks1.{Luks1}
@@ -19,10 +19,10 @@ use Rattle.luks_edit.specs.declared.edit_fault.EditFault.TheVariants as fault
 use Rattle.luks_edit.specs.declared.deed.Deed.TheVariants.{Seal}
 use Rattle.luks_edit.specs.declared.deed.Sealed.{Sealed}
 use Rattle.luks_edit.specs.declared.edit.Edit.{Edit}
-use Rattle.luks_edit.specs.Asked.{deed_of, opener_of}
+use Rattle.luks_edit.specs.Asked.{deed_of, NamesItself, opener_of, Wants}
 use Rattle.luks1_edits.specs.declared.accepted.AcceptedHeader.{AcceptedHeader}
 use Rattle.luks1_edits.specs.Edited.{IsFree, IsInUse, IsNewKeyslot, IsSealedIn, iterations_of}
-use Rattle.luks1_edits.specs.Refused.{IsTakenFor, IsUnrefused1, keyslot_need, LacksFree, NeedsFor}
+use Rattle.luks1_edits.specs.Refused.{IsAbsent, IsTakenFor, IsUnrefused1, keyslot_need, LacksFree}
 use Rattle.luks1_edits.specs.Steps.{IsKeyslotMade}
 
 -- `h` and `d` are the bytes and the fields of the header of a well formed volume of `total` bytes
@@ -63,9 +63,8 @@ pub record IsShutBy (older : Bool) (v : List ℕ) (n : ℕ) (passphrase : List �
   pub unlocked : AnswerWithin (without_memory older) v n passphrase no_key → ⊥
   pub answer : AnswerWithin (without_memory older) v n passphrase (refused (opening.Slot f))
 
--- why the keyslot doesn't open by the passphrase, unless the device failed
+-- why the keyslot, which is in use, doesn't open by the passphrase, unless the device failed
 abbrev pub IsUnopened : Bool → List ℕ → ℕ → List ℕ → EditFault → Type 0
-IsUnopened older v n passphrase fault.NoSuchSlot = IsInUse v n → ⊥
 IsUnopened older v n passphrase fault.Locked = IsLockedBy older v n passphrase
 IsUnopened older v n passphrase (fault.Slot f) = IsShutBy older v n passphrase f
 IsUnopened older v n passphrase fault.Device = ⊤
@@ -76,6 +75,24 @@ abbrev pub keyslot_fault : SlotFault → EditFault
 keyslot_fault slot.Device = fault.Device
 keyslot_fault slot.Memory = fault.Memory
 keyslot_fault f = fault.Slot f
+
+-- ---- the keyslots that an edit names
+
+-- each keyslot that the edit wants is in use, and the removed one isn't named to open by
+pub record AreAllThere (v : List ℕ) (e : Edit) : Type 0 where
+  pub there : (n : ℕ) → Wants e n → IsInUse v n
+  pub other : NamesItself e → ⊥
+
+-- each is in use, but the removed one is named so
+pub record IsItsOwnOpener (v : List ℕ) (e : Edit) : Type 0 where
+  pub there : (n : ℕ) → Wants e n → IsInUse v n
+  pub same : NamesItself e
+
+-- why the edit isn't judged further
+abbrev pub IsMisnamed : List ℕ → Edit → EditFault → Type 0
+IsMisnamed v e fault.NoSuchSlot = IsAbsent v e
+IsMisnamed v e fault.SameSlot = IsItsOwnOpener v e
+IsMisnamed v e f = ⊥
 
 -- ---- the keyslots that a removal names
 
@@ -90,7 +107,7 @@ pub record IsNamedTwice (v : List ℕ) (slot : ℕ) (by_ : Option ℕ) : Type 0 
   pub removed : IsInUse v slot
   pub same : by_ ≡ Some slot
 
--- why the removal isn't judged further
+-- why it isn't judged further
 abbrev pub IsUnremovable : List ℕ → ℕ → Option ℕ → EditFault → Type 0
 IsUnremovable v slot by_ fault.NoSuchSlot = (IsInUse v (opener_of slot by_) → ⊥) ⊎ (IsInUse v slot → ⊥)
 IsUnremovable v slot by_ fault.SameSlot = IsNamedTwice v slot by_
@@ -146,19 +163,3 @@ pub record IsSealedNew (payload : Data) (v : List ℕ) (s : Sealed) (random : Li
   pub is_new : IsSealedIn v s n
   pub made : IsKeyslotMade v n (iterations_of s.derivation) s.passphrase.now key random w
   pub unrefused : (e : Edit) → deed_of e ≡ Seal s → IsUnrefused1 v payload e random
-
--- ---- the random bytes that an edit asks for
-
--- a new keyslot, which is free, takes `k` random bytes, and the one to open is in use
-pub record IsNewNeed (v : List ℕ) (opener : ℕ) (to : Option ℕ) (k : ℕ) : Type 0 where
-  pub used : IsInUse v opener
-  pub need : NeedsFor v (IsNewFree v to) k
-
-pub record IsNewFaultOfUsed (v : List ℕ) (opener : ℕ) (to : Option ℕ) (f : EditFault) : Type 0 where
-  pub used : IsInUse v opener
-  pub is : IsNewFault v to f
-
--- why it isn't made
-abbrev pub IsNewNeedFault : List ℕ → ℕ → Option ℕ → EditFault → Type 0
-IsNewNeedFault v opener to fault.NoSuchSlot = IsInUse v opener → ⊥
-IsNewNeedFault v opener to f = IsNewFaultOfUsed v opener to f

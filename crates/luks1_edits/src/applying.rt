@@ -6,7 +6,7 @@ ghost use Rattle.luks_reading.specs.Header.{IsHeader};
 ghost use Rattle.luks_reading.specs.declared.header.Header.TheVariants.{Luks1 as OfLuks1};
 ghost use Rattle.luks1_edits.specs.Replies.{Replies1};
 
-use crate::accepted::accepted_header;
+use crate::accepted::judge_without_key;
 use crate::removing::remove;
 use crate::sealing::seal;
 use luks_area::Device;
@@ -38,7 +38,7 @@ pub fn apply_luks1<D: Device>(
     ensures replies { D.tells → IsHeader (D.bytes device.old) (OfLuks1 header.now)
         → Replies1 payload (D.bytes device.old) edit.now random.now result (D.bytes device.new) }
 {
-    let header = match accepted_header(header, payload, device.len()) {
+    let header = match judge_without_key(header, payload, device.len(), edit) {
         Ok(header) => header,
         Err(fault) => return Err(fault),
     };

@@ -2,12 +2,12 @@
 ghost use Rattle.std.specs.Prelude.{◌≡◌, ◌≢◌, ◌<◌, ℕ, List, false, length, IfErr, IfOk, IfSome, IsTrue, MatchOption, MatchResult, OnOk};
 ghost use Rattle.luks1_header.specs.Header1.{key_bytes_of, HoldsSlots};
 ghost use Rattle.luks_making.specs.Derivations.{takes_memory};
-ghost use Rattle.luks_edit.specs.EditFaults.{is_edit_failure};
-ghost use Rattle.luks1_edits.specs.Accepted.{HasOther, IsIterated, IsNewFault, IsNewFree, IsNewRefused, IsRemovable, IsUnremovable};
+ghost use Rattle.luks_edit.specs.EditFaults.{edit_row, is_edit_failure};
+ghost use Rattle.luks1_edits.specs.Accepted.{AreAllThere, HasOther, IsIterated, IsMisnamed, IsNewFault, IsNewFree, IsNewRefused, IsRemovable, IsUnremovable};
 ghost use Rattle.luks1_edits.specs.Edited.{IsFree, IsInUse, IsLeastFree, iterations_of, number_asked};
 ghost use Rattle.luks1_edits.specs.Refused.{keyslot_need};
 
-use luks_edit::{AskedDerivation, EditFault, NewDerivation, Place, opener_of};
+use luks_edit::{AskedDerivation, Deed, Edit, EditFault, NewDerivation, Place, opener_of};
 use luks2_header::{Luks1, SlotState};
 
 /// Whether the keyslot is in use.
@@ -35,12 +35,34 @@ fn is_there(header: &Luks1, n: u8) -> bool
     n < 8 && is_used(header, n)
 }
 
-/// Whether the keyslots are there that a removal of `slot` names: `by_`, which is to open, must be
-/// another one. Refused by `NoSuchSlot`, `SameSlot`.
-pub(crate) fn judge_removal(header: &Luks1, slot: u8, by_: Option<u8>) -> Result<(), EditFault>
+/// Whether the keyslots are there that the edit opens and removes; one that is named to open by must be
+/// another one than that to remove. Refused by `NoSuchSlot`, `SameSlot`.
+pub(crate) fn judge_named(header: &Luks1, edit: &Edit<'_>) -> Result<(), EditFault>
     ensures own { IfErr result (λ f. is_edit_failure f ≡ false) }
     ensures memory { IfErr result (λ f. f ≢ EditFault.Memory) }
-    ensures numbered { OnOk result (slot < 8) }
+    ensures early { IfErr result (λ f. edit_row f < 4) }
+    ensures judged { (v : List ℕ) → HoldsSlots v header.now.slots
+        → MatchResult result (λ _. AreAllThere v edit.now) (IsMisnamed v edit.now) }
+{
+    match edit.deed() {
+        Deed::Seal(sealed) => {
+            if is_there(header, sealed.opener.slot) {
+                Ok(())
+            } else {
+                Err(EditFault::NoSuchSlot)
+            }
+        }
+        Deed::Remove(removed) => judge_removal(header, removed.slot, removed.by_),
+        Deed::Rewrite { label: _ } => Ok(()),
+    }
+}
+
+/// Whether the keyslots are there that a removal of `slot` names: `by_`, which is to open, must be
+/// another one. Refused by `NoSuchSlot`, `SameSlot`.
+fn judge_removal(header: &Luks1, slot: u8, by_: Option<u8>) -> Result<(), EditFault>
+    ensures own { IfErr result (λ f. is_edit_failure f ≡ false) }
+    ensures memory { IfErr result (λ f. f ≢ EditFault.Memory) }
+    ensures early { IfErr result (λ f. edit_row f < 4) }
     ensures judged { (v : List ℕ) → HoldsSlots v header.now.slots
         → MatchResult result (λ _. IsRemovable v slot by_) (IsUnremovable v slot by_) }
 {

@@ -4,11 +4,12 @@ ghost use Rattle.luks1_header.specs.Header1.{key_bytes_of, HoldsSlots};
 ghost use Rattle.luks_edit.specs.EditFaults.{is_edit_failure};
 ghost use Rattle.luks_reading.specs.Header.{IsHeader};
 ghost use Rattle.luks_reading.specs.declared.header.Header.TheVariants.{Luks1 as OfLuks1};
-ghost use Rattle.luks1_edits.specs.Accepted.{IsNewNeed, IsNewNeedFault, IsRemovable, IsUnremovable};
+ghost use Rattle.luks1_edits.specs.Accepted.{IsNewFault, IsNewFree};
 ghost use Rattle.luks1_edits.specs.Needed.{TellsNeed1};
+ghost use Rattle.luks1_edits.specs.Refused.{NeedsFor};
 
-use crate::accepted::accepted_header;
-use crate::keyslots::{is_used, judge_removal, keyslot_need, new_keyslot, number_asked};
+use crate::accepted::judge_without_key;
+use crate::keyslots::{keyslot_need, new_keyslot, number_asked};
 use luks_edit::{Deed, Edit, EditFault};
 use luks_reading::Data;
 use luks2_header::Luks1;
@@ -29,45 +30,27 @@ pub fn needed_luks1(
     ensures tells { (v : List ℕ) → IsHeader v (OfLuks1 header.now) → length v ≡ total
         → TellsNeed1 payload v edit.now result }
 {
-    let header = match accepted_header(header, payload, total) {
+    let header = match judge_without_key(header, payload, total, edit) {
         Ok(header) => header,
         Err(fault) => return Err(fault),
     };
     match edit.deed() {
-        Deed::Seal(sealed) => new_need(
-            &header.fields,
-            sealed.opener.slot,
-            number_asked(sealed.place),
-        ),
-        Deed::Remove(removed) => removal_need(&header.fields, removed.slot, removed.by_),
+        Deed::Seal(sealed) => new_need(&header.fields, number_asked(sealed.place)),
+        Deed::Remove(_) => Ok(0),
         Deed::Rewrite { label: _ } => Ok(0),
     }
 }
 
-/// What the new keyslot takes, where the keyslot that the edit opens is in use.
-fn new_need(header: &Luks1, opener: u8, to: Option<u8>) -> Result<u64, EditFault>
+/// What the new keyslot takes. Refused by `SlotTaken`, `NoFreeSlot`.
+fn new_need(header: &Luks1, to: Option<u8>) -> Result<u64, EditFault>
     ensures own { IfErr result (λ f. is_edit_failure f ≡ false) }
     ensures memory { IfErr result (λ f. f ≢ EditFault.Memory) }
     ensures need { (v : List ℕ) → HoldsSlots v header.now.slots
         → key_bytes_of v ≡ header.now.common.key_bytes
-        → MatchResult result (IsNewNeed v opener to) (IsNewNeedFault v opener to) }
+        → MatchResult result (NeedsFor v (IsNewFree v to)) (IsNewFault v to) }
 {
-    if opener > 7 || !is_used(header, opener) {
-        return Err(EditFault::NoSuchSlot);
-    }
-    let n = new_keyslot(header, to)?;
-    Ok(keyslot_need(header, n))
-}
-
-/// Nothing, where the keyslots are there that the removal names.
-fn removal_need(header: &Luks1, slot: u8, by_: Option<u8>) -> Result<u64, EditFault>
-    ensures own { IfErr result (λ f. is_edit_failure f ≡ false) }
-    ensures memory { IfErr result (λ f. f ≢ EditFault.Memory) }
-    ensures need { (v : List ℕ) → HoldsSlots v header.now.slots
-        → MatchResult result (λ k. (k ≡ 0) × IsRemovable v slot by_) (IsUnremovable v slot by_) }
-{
-    match judge_removal(header, slot, by_) {
-        Ok(()) => Ok(0),
+    match new_keyslot(header, to) {
+        Ok(n) => Ok(keyslot_need(header, n)),
         Err(fault) => Err(fault),
     }
 }

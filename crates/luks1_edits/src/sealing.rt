@@ -1,11 +1,13 @@
 //! Sealing the key of a LUKS1 volume in a new keyslot.
-ghost use Rattle.std.specs.Prelude.{◌≡◌, ◌≢◌, ◌+◌, ◌^◌, ◌<◌, IfErr, IfOk, OnOk};
+ghost use Rattle.std.specs.Prelude.{◌≡◌, ◌≢◌, ◌+◌, ◌^◌, ◌<◌, ℕ, List, IfErr, IfOk};
 ghost use Rattle.luks_area.specs.Device.{CountsFailure, IsSettled};
+ghost use Rattle.luks1_header.specs.Header1.{HoldsSlots};
 ghost use Rattle.luks_edit.specs.Asked.{deed_of};
 ghost use Rattle.luks_edit.specs.EditFaults.{is_edit_failure};
 ghost use Rattle.luks_edit.specs.declared.deed.Deed.TheVariants.{Seal as Seals};
 ghost use Rattle.luks_edit.specs.declared.edit.Edit.{Edit as TheEdit};
 ghost use Rattle.luks1_edits.specs.Accepted.{IsAcceptedAt, IsHeaderOf, IsSealedNew};
+ghost use Rattle.luks1_edits.specs.Edited.{IsInUse};
 ghost use Rattle.luks1_edits.specs.Replies.{EndsBy1, Replies1};
 
 use crate::accepted::AcceptedHeader;
@@ -19,7 +21,7 @@ use luks_reading::luks1_area;
 use std::alloc::Global;
 
 /// Makes a keyslot, the one that is asked for or the least that is free, in which the new passphrase
-/// opens the key that the old one opens. Where the key was to be sealed in the keyslot that was opened,
+/// opens the key that the old one opens; the old one's keyslot is in use. Where the key was to be sealed in the keyslot that was opened,
 /// that one is then removed.
 pub(crate) fn seal<D: Device>(
     alloc: Global,
@@ -31,6 +33,8 @@ pub(crate) fn seal<D: Device>(
     requires room { D.failed device.old + 1 < 2 ^ 64 }
     requires settled { D.tells → IsSettled D.unsettled device.old }
     requires accepted { IsAcceptedAt header.now (D.size device.old) }
+    requires used { (v : List ℕ) → HoldsSlots v header.now.fields.slots
+        → IsInUse v sealed.now.opener.slot }
     ensures size { D.size device.new ≡ D.size device.old }
     ensures settled { D.tells → D.failed device.new ≡ D.failed device.old → IsSettled D.unsettled device.new }
     ensures count { CountsFailure is_edit_failure result
@@ -66,12 +70,13 @@ fn make<D: Device>(
     requires room { D.failed device.old + 1 < 2 ^ 64 }
     requires settled { D.tells → IsSettled D.unsettled device.old }
     requires accepted { IsAcceptedAt header.now (D.size device.old) }
+    requires used { (v : List ℕ) → HoldsSlots v header.now.fields.slots
+        → IsInUse v sealed.now.opener.slot }
     ensures size { D.size device.new ≡ D.size device.old }
     ensures settled { D.tells → D.failed device.new ≡ D.failed device.old → IsSettled D.unsettled device.new }
     ensures count { CountsFailure is_edit_failure result
         (D.failed device.old) (D.failed device.new) }
     ensures memory { IfErr result (λ f. f ≢ EditFault.Memory) }
-    ensures opener { OnOk result (sealed.now.opener.slot < 8) }
     ensures made { D.tells
         → IsHeaderOf header.now.bytes.now header.now.payload (D.bytes device.old)
         → IfOk result (λ n. IsSealedNew header.now.payload (D.bytes device.old) sealed.now random.now n

@@ -1,13 +1,12 @@
 //! Opening the keyslot that an edit of a LUKS1 volume names.
-ghost use Rattle.std.specs.Prelude.{◌≡◌, ◌≢◌, ◌+◌, ◌^◌, ◌<◌, ℕ, List, length, IfOk, IfErr, OnOk};
+ghost use Rattle.std.specs.Prelude.{◌≡◌, ◌≢◌, ◌+◌, ◌^◌, ◌<◌, ℕ, List, length, IfOk, IfErr};
 ghost use Rattle.luks_area.specs.Device.{CountsFailure, IsUnchanged};
-ghost use Rattle.luks1_header.specs.Header1.{key_bytes_of};
+ghost use Rattle.luks1_header.specs.Header1.{key_bytes_of, HoldsSlots};
 ghost use Rattle.luks_edit.specs.EditFaults.{is_edit_failure};
 ghost use Rattle.luks1_edits.specs.Accepted.{IsAcceptedAt, IsHeaderOf, IsOpenedBy, IsUnopened, keyslot_fault};
 ghost use Rattle.luks1_edits.specs.Edited.{IsInUse};
 
 use crate::accepted::AcceptedHeader;
-use crate::keyslots::is_used;
 use luks_area::Device;
 use luks_edit::{EditFault, Passphrase};
 use luks_reading::luks1_plan;
@@ -25,8 +24,8 @@ pub(crate) fn keyslot_fault(fault: SlotFault) -> EditFault
     }
 }
 
-/// The key that the keyslot `n` opens to, or why it doesn't open: `NoSuchSlot`, `Locked`, `Slot`,
-/// or the device's failure. Ciphers and hashes of older disks are accepted where the passphrase allows
+/// The key that the keyslot `n` opens to, which is in use, or why it doesn't open: `Locked`, `Slot`, or
+/// the device's failure. Ciphers and hashes of older disks are accepted where the passphrase allows
 /// them.
 pub(crate) fn unlock<D: Device>(
     alloc: Global,
@@ -37,11 +36,11 @@ pub(crate) fn unlock<D: Device>(
 ) -> Result<Key, EditFault>
     requires room { D.failed device.old + 1 < 2 ^ 64 }
     requires accepted { IsAcceptedAt header.now (D.size device.old) }
+    requires used { (v : List ℕ) → HoldsSlots v header.now.fields.slots → IsInUse v n }
     ensures unchanged { IsUnchanged D.tells D.size D.bytes D.unsettled device.old device.new }
     ensures count { CountsFailure is_edit_failure result
         (D.failed device.old) (D.failed device.new) }
     ensures memory { IfErr result (λ f. f ≢ EditFault.Memory) }
-    ensures numbered { OnOk result (n < 8) }
     ensures length { IfOk result (λ key. length key ≡ key_bytes_of header.now.bytes.now) }
     ensures opened { D.tells
         → IsHeaderOf header.now.bytes.now header.now.payload (D.bytes device.old)
@@ -52,9 +51,6 @@ pub(crate) fn unlock<D: Device>(
         → IfErr result (IsUnopened passphrase.now.allowed.older (D.bytes device.old) n
         passphrase.now.bytes.now) }
 {
-    if n > 7 || !is_used(&header.fields, n) {
-        return Err(EditFault::NoSuchSlot);
-    }
     let slot = &header.fields.slots[n as usize];
     let plan = luks1_plan(&header.fields.common, slot);
     let allowed = Allowed {

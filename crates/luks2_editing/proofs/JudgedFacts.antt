@@ -33,9 +33,9 @@ pub record IsJudgedEdit (v : List ℕ) (payload : Data) (it : Edit) (judged : Ju
   pub seals : Seals (hdr_size (header_at v judged.copy.header.hdr_offset)) v payload (content judged.copy.meta) it judged.edit
 
 module _ {u v : List ℕ} {e it : Edit} (same : v ≡ u) (asked : e ≡ it) where
-  pub judged_edit : {payload : Data} {copy : ChosenCopy} {judged : Judged} → judged.copy ≡ copy → IsChosenCopy u copy
+  pub judged_edit : {payload : Data} {copy : ChosenCopy} (judged : Judged) → judged.copy ≡ copy → IsChosenCopy u copy
       → IsUnrefusedSoFar u payload e judged → IsJudgedEdit v payload it judged
-  judged_edit {payload} {copy} {judged} kept is x =
+  judged_edit {payload} {copy} judged kept is x =
       let there : IsUnrefusedSoFar v payload it judged =
       subst (λ y. IsUnrefusedSoFar v payload y judged) asked (subst (λ b. IsUnrefusedSoFar b payload e judged) (sym same) x) in
       record {

@@ -1,6 +1,7 @@
 mod NewCopyFacts
 mod RewritingFacts
 mod RenewalFacts
+mod RepairFacts
 mod JudgedFacts
 mod LostFacts
 mod RemovalFacts

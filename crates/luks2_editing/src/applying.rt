@@ -7,14 +7,13 @@ ghost use Rattle.luks2_editing.specs.Replies.{Replies2};
 
 use crate::adding::add;
 use crate::changing::change;
-use crate::labelling::set_label;
 use crate::removing::remove;
 use crate::repairing::repair;
 use crate::secrets::Secrets;
 use luks_area::Device;
 use luks_edit::{Done, Edit, EditFault};
 use luks_reading::{ChosenCopy, Data};
-use luks2_judging::{JudgedEdit, judge_luks2};
+use luks2_judging::{JudgedEdit, JudgedPlace, judge_luks2};
 use std::alloc::Global;
 
 /// Applies the edit to the LUKS2 volume with this copy, with as many random bytes as
@@ -52,24 +51,18 @@ pub fn apply_luks2<D: Device>(
     let judged = judge_luks2(alloc, device, copy, payload, edit)?;
     let copy = judged.copy;
     match judged.edit {
-        JudgedEdit::Add {
-            addition,
+        JudgedEdit::Seal {
+            place,
             key,
             passphrase,
         } => {
             let secrets = Secrets::new(&key, passphrase, allowed, random);
-            add(alloc, device, copy, &addition, &secrets)
-        }
-        JudgedEdit::Change {
-            renewal,
-            key,
-            passphrase,
-        } => {
-            let secrets = Secrets::new(&key, passphrase, allowed, random);
-            change(alloc, device, copy, &renewal, &secrets)
+            match place {
+                JudgedPlace::New(addition) => add(alloc, device, copy, &addition, &secrets),
+                JudgedPlace::Opened(renewal) => change(alloc, device, copy, &renewal, &secrets),
+            }
         }
         JudgedEdit::Remove { slot, area } => remove(alloc, device, copy, slot, area, random),
-        JudgedEdit::Repair => repair(alloc, device, &copy, random),
-        JudgedEdit::Label { field } => set_label(alloc, device, &copy, field, random),
+        JudgedEdit::Rewrite { label } => repair(alloc, device, &copy, label, random),
     }
 }

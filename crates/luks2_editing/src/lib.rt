@@ -4,7 +4,6 @@
 mod adding;
 mod applying;
 mod changing;
-mod labelling;
 mod new_copy;
 mod preparing;
 mod random;

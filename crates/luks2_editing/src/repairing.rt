@@ -1,13 +1,12 @@
-//! Repairing a LUKS2 volume.
-ghost use Rattle.std.specs.Prelude.{◌≡◌, ◌+◌, ◌^◌, ◌<◌, None};
+//! Repairing a LUKS2 volume, and setting its label.
+ghost use Rattle.std.specs.Prelude.{◌≡◌, ◌+◌, ◌^◌, ◌<◌};
 ghost use Rattle.luks_area.specs.Device.{CountsFailure, IsSettled};
 ghost use Rattle.luks_reading.specs.Checked.{WellFormed};
 ghost use Rattle.luks_reading.specs.Header.{IsChosenCopy};
 ghost use Rattle.luks_reading.specs.declared.report.Data.{Data as Payload};
-ghost use Rattle.luks_edit.specs.Asked.{deed_of};
 ghost use Rattle.luks_edit.specs.EditFaults.{is_edit_failure};
-ghost use Rattle.luks_edit.specs.declared.deed.Deed.TheVariants.{Rewrite};
 ghost use Rattle.luks_edit.specs.declared.edit.Edit.{Edit};
+ghost use Rattle.luks2_judging.specs.Judging.{IsRewriting};
 ghost use Rattle.luks2_judging.specs.Rows.{HasNoFaultBefore};
 ghost use Rattle.luks2_editing.specs.Replies.{Replies2};
 
@@ -17,8 +16,8 @@ use luks_edit::{Done, EditFault};
 use luks_reading::ChosenCopy;
 use std::alloc::Global;
 
-/// Writes both copies of the header anew from the one that counts: the other copy first, each with a
-/// flush. The rows of the faults up to `BadLabel` were judged.
+/// Writes both copies of the header anew from the one that counts, with this field for the label: the
+/// other copy first, each with a flush. The rows of the faults up to `BadLabel` were judged.
 ///
 /// Refused by `SeqExhausted`, `MetadataFull` or `RandomLength`; 128 random bytes are needed, the salts
 /// of the copies. Takes memory for the JSON area, before the first write.
@@ -26,6 +25,7 @@ pub(crate) fn repair<D: Device>(
     alloc: Global,
     device: &mut D,
     copy: &ChosenCopy,
+    label: [u8; 48],
     random: &[u8],
 ) -> Result<Done, EditFault>
     requires room { D.failed device.old + 1 < 2 ^ 64 }
@@ -35,18 +35,12 @@ pub(crate) fn repair<D: Device>(
         → IsSettled D.unsettled device.new }
     ensures count { CountsFailure is_edit_failure result
         (D.failed device.old) (D.failed device.new) }
-    ensures replies { D.tells → (payload : Payload) (e : Edit) → deed_of e ≡ Rewrite None
+    ensures replies { D.tells → (payload : Payload) (e : Edit)
+        → IsRewriting copy.now.header.label e label
         → IsChosenCopy (D.bytes device.old) copy.now → WellFormed (D.bytes device.old) payload
         → HasNoFaultBefore 13 (D.bytes device.old) payload e random.now
         → Replies2 payload (D.bytes device.old) e random.now result (D.bytes device.new) }
 {
-    rewrite(
-        alloc,
-        device,
-        &copy.header,
-        &copy.meta,
-        copy.header.label,
-        random,
-    )?;
+    rewrite(alloc, device, &copy.header, &copy.meta, label, random)?;
     Ok(Done { slot: None })
 }

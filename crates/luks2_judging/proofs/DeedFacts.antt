@@ -1,7 +1,5 @@
 -- The edit that does a deed.
-use Rattle.std.proofs.Common.{◌≡◌, ℕ, refl, sym, ap, subst, ◌∙◌, Option, Some, None}
-use Rattle.std.specs.Borrow.{Bor}
-use Rattle.std.specs.Prelude.{List}
+use Rattle.std.proofs.Common.{◌≡◌, ℕ, refl, ap, ◌∙◌, Option, Some, None}
 use Rattle.luks_making.specs.declared.derivation.AskedDerivation.{AskedDerivation}
 use Rattle.luks_edit.specs.declared.deed.Deed.{Deed}
 use Rattle.luks_edit.specs.declared.deed.Deed.TheVariants as deed
@@ -52,7 +50,3 @@ sealed_as e s place n asked is at like same = rw (like, same, ← at) is
 -- what it allows
 pub sealed_allowed : (e : Edit) (s : Sealed) → deed_of e ≡ deed.Seal s → allowed_by e ≡ allowed_for s.opener.passphrase s.passphrase.now
 sealed_allowed e s is = ap allowed_in is
-
--- one that rewrites the header, by its label
-pub rewritten : (e : Edit) (label is : Option (Bor (List ℕ))) → deed.Rewrite label ≡ deed_of e → label ≡ is → deed_of e ≡ deed.Rewrite is
-rewritten e label is deed_is same = subst (λ l. deed_of e ≡ deed.Rewrite l) same (sym deed_is)

@@ -1,5 +1,5 @@
 -- An edit judged row by row, up to `BadLabel`: the first fault, and what stands where none does.
-use Rattle.std.proofs.Common.{◌≡◌, ◌↔◌, ℕ, ◌<◌, ◌≤◌, Bor, List, length, true, false, Option, arith, refl, subst}
+use Rattle.std.proofs.Common.{◌≡◌, ◌↔◌, ℕ, ◌≤◌, Bor, List, length, true, Option, refl, subst}
 use Rattle.std.proofs.lemmas.Bool.{both_ways}
 use Rattle.serde_json.specs.Data.{Data as Value}
 use Rattle.luks2_header.specs.Header2.{hdr_size, header_at}

@@ -1,6 +1,8 @@
 -- An edit judged by the header that was read: a fault of it is the volume's first, and where none was
 -- found none stands.
-use Rattle.std.proofs.Common.{◌≡◌, ℕ, ◌+◌, ◌≤◌, Bor, List, [], length, Option, Result, Ok, Err, OnOk, IfErr, arith, inl, inr, subst, sym}
+use Rattle.std.proofs.Common.{◌≡◌, ℕ, ◌+◌, ◌<◌, ◌⊎◌, Bor, List, [], length, true, Option, Result, Ok, Err, OnOk, IfErr, arith, inl, inr, subst, sym}
+use Rattle.std.specs.Prelude.{IsSomeAnd}
+use Rattle.luks_area.specs.Text.{is_plain}
 use Rattle.luks_area.specs.declared.area.Area.{Area}
 use Rattle.luks_area.specs.declared.areas.Entry.{Entry}
 use Rattle.luks2_header.specs.Header2.{hdr_size, header_at}
@@ -11,12 +13,13 @@ use Rattle.luks_reading.specs.declared.report.Data.{Data}
 use Rattle.luks_reading.specs.Layout2.{Luks2Area}
 use Rattle.luks_reading.specs.Listing.{Lists}
 use Rattle.luks_edit.specs.declared.edit.Edit.{Edit}
-use Rattle.luks_edit.specs.declared.edit.Edit.TheVariants.{Add, Change, Remove, Repair, Label}
+use Rattle.luks_edit.specs.declared.deed.Deed.TheVariants as deed
+use Rattle.luks_edit.specs.declared.edit.Edit.TheVariants.{Add, Change, Remove}
 use Rattle.luks_making.specs.declared.derivation.AskedDerivation.{AskedDerivation}
 use Rattle.luks_edit.specs.declared.edit.Passphrase.{Passphrase}
 use Rattle.luks_edit.specs.declared.edit_fault.EditFault.{EditFault}
 use Rattle.luks_edit.specs.declared.edit_fault.EditFault.TheVariants as fault
-use Rattle.luks_edit.specs.Asked.{allowed_for, OpensBy}
+use Rattle.luks_edit.specs.Asked.{allowed_for, deed_of}
 use Rattle.luks2_edit_laws.specs.Metadata.{HasMetadata}
 use Rattle.luks2_edit_laws.specs.Places.{IsNewArea}
 use Rattle.luks2_edit_laws.specs.Refused.{HasSaid, IsAbsent, IsBadLabel, IsOnlyOne}
@@ -32,6 +35,10 @@ use Rattle.luks2_judging.proofs.ChosenFacts.{metadata_of}
 use Rattle.luks2_judging.proofs.JudgedFacts.{added_past, changed_past, label_first, label_past, none_opened, number_first, only_first, passed_of, past_opened}
 use Rattle.luks2_judging.proofs.JudgedFacts.{removed_past, unadded_first, unchanged_first, unopened_first, IsPast}
 use Rattle.luks2_judging.proofs.RoomFacts.{area_excludes}
+
+-- the label is one that can't be set
+abbrev pub IsBadIn : Option (Bor (List ℕ)) → Type 0
+IsBadIn label = IsSomeAnd label (λ text. (47 < length text.now) ⊎ (is_plain text.now ≡ true → ⊥))
 
 -- a volume of `total` bytes with the areas `entries`, whose metadata `meta` is that of the copy at the
 -- place `o`; no row up to `SameSlot` refuses the edit
@@ -115,30 +122,22 @@ module _ {v : List ℕ} {payload : Data} {e : Edit} {o : ℕ} {meta : Meta} {ent
       removed_passed other random = subst (λ y. HasNoFaultBefore 13 v payload y random) (sym is)
           (removed_past v payload o (content meta) r.metadata slot by_ passphrase (six_of (Remove slot by_ passphrase) is) other random)
 
-  -- the copies are written anew
-  pub repaired_passed : e ≡ Repair → (random : List ℕ) → HasNoFaultBefore 13 v payload e random
-  repaired_passed is random = subst (λ y. HasNoFaultBefore 13 v payload y random) (sym is)
-      (label_past v payload o (content meta) r.metadata Repair (λ x. x) (λ x. x) (λ x. x) (λ x. x) (λ x. x) (λ x. x)
-      (six_of (none_opened v e (λ n p asked. subst (λ y. OpensBy y n p) is asked)) Repair is) (λ x. x) random)
+  -- the header is written anew
+  module _ {label : Option (Bor (List ℕ))} (is : deed_of e ≡ deed.Rewrite label) where
+    six_of_none : (random : List ℕ) → IsPast 6 v payload e random
+    six_of_none random = past_opened v payload e random (none_opened v e (λ n p asked. rw is at asked)) (r.four random)
 
-  -- the label is set
-  module _ {text : Bor (List ℕ)} (is : e ≡ Label text) where
-    six_of_label : (random : List ℕ) → IsPast 6 v payload (Label text) random
-    six_of_label = six_of (none_opened v e (λ n p asked. subst (λ y. OpensBy y n p) is asked)) (Label text) is
+    label_refused : IsBadLabel e → IsRefusedEarly v payload e fault.BadLabel
+    label_refused bad = label_first v payload o (content meta) r.metadata e (λ x. rw is at x) (λ x. rw is at x) (λ x. rw is at x) (λ x. rw is at x) (λ x. rw is at x) (λ x. rw is at x) six_of_none bad
 
-    label_refused : IsBadLabel (Label text) → IsRefusedEarly v payload e fault.BadLabel
-    label_refused bad = subst (λ y. IsRefusedEarly v payload y fault.BadLabel) (sym is)
-        (label_first v payload o (content meta) r.metadata (Label text) (λ x. x) (λ x. x) (λ x. x) (λ x. x) (λ x. x) (λ x. x) six_of_label bad)
+    label_passed : (IsBadLabel e → ⊥) → (random : List ℕ) → HasNoFaultBefore 13 v payload e random
+    label_passed good random =
+        label_past v payload o (content meta) r.metadata e (λ x. rw is at x) (λ x. rw is at x) (λ x. rw is at x) (λ x. rw is at x) (λ x. rw is at x) (λ x. rw is at x) six_of_none good random
 
-    label_passed : (IsBadLabel (Label text) → ⊥) → (random : List ℕ) → HasNoFaultBefore 13 v payload e random
-    label_passed good random = subst (λ y. HasNoFaultBefore 13 v payload y random) (sym is)
-        (label_past v payload o (content meta) r.metadata (Label text) (λ x. x) (λ x. x) (λ x. x) (λ x. x) (λ x. x) (λ x. x) six_of_label good random)
+    pub rewriting_judged : (it : Result JudgedEdit EditFault) → Judges (IsBadIn label) fault.BadLabel it → OnOk it ((random : List ℕ) → HasNoFaultBefore 13 v payload e random)
+    rewriting_judged (Ok it) good = label_passed (λ bad. good (rw is at bad))
+    rewriting_judged (Err f) bad = tt
 
-    pub label_judged : (it : Result JudgedEdit EditFault) → Judges (IsBadLabel (Label text)) fault.BadLabel it
-        → OnOk it ((random : List ℕ) → HasNoFaultBefore 13 v payload e random)
-    label_judged (Ok it) good = label_passed good
-    label_judged (Err f) bad = tt
-
-    pub label_ended : (it : Result JudgedEdit EditFault) → Judges (IsBadLabel (Label text)) fault.BadLabel it → IfErr it (IsRefusedEarly v payload e)
-    label_ended (Ok it) good = tt
-    label_ended (Err f) bad = subst (IsRefusedEarly v payload e) (sym bad.0) (label_refused bad.1)
+    pub rewriting_ended : (it : Result JudgedEdit EditFault) → Judges (IsBadIn label) fault.BadLabel it → IfErr it (IsRefusedEarly v payload e)
+    rewriting_ended (Ok it) good = tt
+    rewriting_ended (Err f) bad = subst (IsRefusedEarly v payload e) (sym bad.0) (label_refused (rw is bad.1))

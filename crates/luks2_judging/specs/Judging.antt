@@ -1,5 +1,5 @@
 -- What judging an edit of a LUKS2 volume by the rows up to `BadLabel` gives.
-use Rattle.std.specs.Prelude.{◌≡◌, ℕ, ◌++◌, ◌-◌, List, length, replicate, Option, Some, None, ⊤}
+use Rattle.std.specs.Prelude.{◌≡◌, ℕ, List, length, Option, ⊤}
 use Rattle.std.specs.Borrow.{Bor}
 use Rattle.serde_json.specs.Data.{Data as Value}
 use Rattle.luks_area.specs.declared.area.Area.{Area}
@@ -26,6 +26,7 @@ use Rattle.luks_edit.specs.declared.edit.Passphrase.{Passphrase}
 use Rattle.luks_edit.specs.declared.edit_fault.EditFault.{EditFault}
 use Rattle.luks_edit.specs.Asked.{deed_of, allowed_for}
 use Rattle.luks_edit.specs.Endings.{EndsBy}
+use Rattle.luks2_edit_laws.specs.Copies.{labelled}
 use Rattle.luks2_edit_laws.specs.Metadata.{IsInUse, IsKeyArea}
 use Rattle.luks2_edit_laws.specs.Places.{IsNewArea}
 use Rattle.luks2_edit_laws.specs.Refused.{IsAbsent, Refusal2}
@@ -33,6 +34,7 @@ use Rattle.luks2_judging.specs.declared.judged.Addition.{Addition}
 use Rattle.luks2_judging.specs.declared.judged.Judged.{Judged}
 use Rattle.luks2_judging.specs.declared.judged.JudgedEdit.{JudgedEdit}
 use Rattle.luks2_judging.specs.declared.judged.JudgedEdit.TheVariants as judged
+use Rattle.luks2_judging.specs.declared.judged.JudgedPlace.TheVariants as sealed_in
 use Rattle.luks2_judging.specs.declared.judged.Renewal.{Renewal}
 use Rattle.luks2_judging.specs.Judged.{IsNewNumber}
 use Rattle.luks2_judging.specs.Opened.{IsOpenedTo, TakesMemoryToOpen}
@@ -88,23 +90,23 @@ pub record IsRemoval (j : Value) (total : ℕ) (e : Edit) (slot : ℕ) (area : A
   pub there : IsInUse j slot
   pub lost : IsLostArea j total slot area
 
--- it sets the label of this field of 48 bytes
-pub record IsLabelling (e : Edit) (field_ : List ℕ) : Type 0 where
-  pub text : Bor (List ℕ)
-  pub asked : deed_of e ≡ deed.Rewrite (Some text)
-  pub is : field_ ≡ text.now ++ replicate (48 - length text.now) 0
+-- it writes the header anew, whose label's field is `own`, with this field of 48 bytes for it
+pub record IsRewriting (own : List ℕ) (e : Edit) (field_ : List ℕ) : Type 0 where
+  pub label : Option (Bor (List ℕ))
+  pub asked : deed_of e ≡ deed.Rewrite label
+  pub is : field_ ≡ labelled label own
 
-abbrev pub Takes : ℕ → Value → ℕ → Edit → JudgedEdit → Type 0
-Takes len j total e (judged.Add a key passphrase) = IsAddition len j total e a key passphrase
-Takes len j total e (judged.Change r key passphrase) = IsRenewal len j total e r key passphrase
-Takes len j total e (judged.Remove slot area) = IsRemoval j total e slot area
-Takes len j total e judged.Repair = deed_of e ≡ deed.Rewrite None
-Takes len j total e (judged.Label field_) = IsLabelling e field_
+-- by the copy of the header
+abbrev pub Takes : ChosenCopy → ℕ → Edit → JudgedEdit → Type 0
+Takes copy total e (judged.Seal (sealed_in.New a) key passphrase) = IsAddition (area_len copy.meta) (content copy.meta) total e a key passphrase
+Takes copy total e (judged.Seal (sealed_in.Opened r) key passphrase) = IsRenewal (area_len copy.meta) (content copy.meta) total e r key passphrase
+Takes copy total e (judged.Remove slot area) = IsRemoval (content copy.meta) total e slot area
+Takes copy total e (judged.Rewrite field_) = IsRewriting copy.header.label e field_
 
 -- by the copy that was read
 pub record IsJudged (copy : ChosenCopy) (total : ℕ) (e : Edit) (it : Judged) : Type 0 where
   pub is : it.copy ≡ copy
-  pub takes : Takes (area_len it.copy.meta) (content it.copy.meta) total e it.edit
+  pub takes : Takes it.copy total e it.edit
 
 -- the areas and the key areas of the copy lie inside `total` bytes, and it has the keyslots that the edit
 -- opens and removes
@@ -118,21 +120,18 @@ pub record IsAcceptedFor (copy : ChosenCopy) (areas : List Entry) (total : ℕ) 
 -- the keyslot that a key is sealed again from opens to it, and a new one's area is the one that the
 -- header of `h` bytes leaves for it
 abbrev pub Seals : ℕ → List ℕ → Data → Value → Edit → JudgedEdit → Type 0
-Seals h v payload j e (judged.Add a key passphrase) = IsOpenedTo v e key × IsNewArea h (length v) payload j a.by_ a.area
-Seals h v payload j e (judged.Change r key passphrase) = IsOpenedTo v e key × IsNewArea h (length v) payload j r.slot r.area
+Seals h v payload j e (judged.Seal (sealed_in.New a) key passphrase) = IsOpenedTo v e key × IsNewArea h (length v) payload j a.by_ a.area
+Seals h v payload j e (judged.Seal (sealed_in.Opened r) key passphrase) = IsOpenedTo v e key × IsNewArea h (length v) payload j r.slot r.area
 Seals h v payload j e it = ⊤
 
--- none of the rows up to `BadLabel` refuses the edit, and this is what it takes
-pub record IsUnrefusedSoFar (v : List ℕ) (payload : Data) (e : Edit) (it : Judged) : Type 0 where
-  pub well : WellFormed v payload
-  pub seals : Seals (hdr_size (header_at v it.copy.header.hdr_offset)) v payload (content it.copy.meta) e it.edit
-  pub none : (random : List ℕ) → HasNoFaultBefore 13 v payload e random
-
--- the same, by the copy that counts
+-- none of the rows up to `BadLabel` refuses the edit, and this is what it takes by the copy that counts
 pub record IsUnrefusedOf (copy : ChosenCopy) (v : List ℕ) (payload : Data) (e : Edit) (it : JudgedEdit) : Type 0 where
   pub well : WellFormed v payload
   pub seals : Seals (hdr_size (header_at v copy.header.hdr_offset)) v payload (content copy.meta) e it
   pub none : (random : List ℕ) → HasNoFaultBefore 13 v payload e random
+
+abbrev pub IsUnrefusedSoFar : List ℕ → Data → Edit → Judged → Type 0
+IsUnrefusedSoFar v payload e it = IsUnrefusedOf it.copy v payload e it.edit
 
 -- one of them does, whatever the random bytes are; or memory was refused that opening its keyslot
 -- takes; or the device failed

@@ -1,4 +1,5 @@
 pub mod Accepted
+pub mod Calls
 pub mod Judged
 pub mod Judging
 pub mod Needed

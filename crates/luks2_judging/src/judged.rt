@@ -13,22 +13,13 @@ pub struct Judged<'a> {
     pub edit: JudgedEdit<'a>,
 }
 
-/// What an edit takes.
+/// What an edit takes, by what it does.
 #[derive(Drop)]
 pub enum JudgedEdit<'a> {
-    /// A keyslot is added, and the volume key sealed in it under the passphrase.
-    Add {
+    /// The volume key is sealed under a new passphrase.
+    Seal {
         /// The keyslot.
-        addition: Addition,
-        /// The volume key, which the old passphrase opened.
-        key: Key,
-        /// The new passphrase.
-        passphrase: &'a [u8],
-    },
-    /// The volume key is sealed again in a keyslot, under the passphrase.
-    Change {
-        /// The keyslot, with its new area.
-        renewal: Renewal,
+        place: JudgedPlace,
         /// The volume key, which the old passphrase opened.
         key: Key,
         /// The new passphrase.
@@ -42,12 +33,19 @@ pub enum JudgedEdit<'a> {
         area: Area,
     },
     /// Both copies of the header are written anew.
-    Repair,
-    /// The label is set.
-    Label {
-        /// Its field of the header, 48 bytes: its text and zeros.
-        field: [u8; 48],
+    Rewrite {
+        /// The label's field of both, 48 bytes: the new label and zeros, or the field as it was.
+        label: [u8; 48],
     },
+}
+
+/// The keyslot that a key is sealed in.
+#[derive(Clone, Copy, Drop)]
+pub enum JudgedPlace {
+    /// A new one.
+    New(Addition),
+    /// The one that was opened, with a new area.
+    Opened(Renewal),
 }
 
 /// A keyslot that is added.

@@ -1,14 +1,12 @@
 //! Judging an edit of a LUKS2 volume by the rows that nothing has to be made for.
-ghost use Rattle.std.specs.Prelude.{◌≡◌, ◌≢◌, ◌+◌, ◌-◌, ◌^◌, ◌<◌, ℕ, List, false, length, IfErr, IfOk, OnOk};
+ghost use Rattle.std.specs.Prelude.{◌≡◌, ◌≢◌, ◌+◌, ◌-◌, ◌^◌, ◌<◌, false, IfErr, IfOk};
 ghost use Rattle.luks_area.specs.declared.area.Area.{Area as TheArea};
 ghost use Rattle.luks_area.specs.declared.area.AreaName.{AreaName};
 ghost use Rattle.luks_area.specs.Area.{IsInside};
 ghost use Rattle.luks_area.specs.Device.{CountsFailure, IsUnchanged};
 ghost use Rattle.luks_area.specs.Names.{HasArea};
-ghost use Rattle.luks2_header.specs.Header2.{hdr_size, header_at};
 ghost use Rattle.luks_meta.specs.Content.{area_len, content};
 ghost use Rattle.luks_reading.specs.declared.report.Data.{Data as Payload};
-ghost use Rattle.luks_reading.specs.Checked.{WellFormed};
 ghost use Rattle.luks_reading.specs.Layout2.{Luks2Area};
 ghost use Rattle.luks_reading.specs.Listing.{Lists};
 ghost use Rattle.luks2_edit_laws.specs.Metadata.{IsInUse, IsKeyArea};
@@ -17,17 +15,16 @@ ghost use Rattle.luks_reading.specs.Header.{IsAcceptedCopy, IsChosenCopy};
 ghost use Rattle.luks_edit.specs.Asked.{allowed_by, deed_of};
 ghost use Rattle.luks_edit.specs.declared.deed.Deed.TheVariants.{Remove as RemovesKeyslot, Seal as SealsKey};
 ghost use Rattle.luks_edit.specs.EditFaults.{is_edit_failure};
-ghost use Rattle.luks2_edit_laws.specs.Refused.{Refusal2};
+ghost use Rattle.luks2_judging.specs.Calls.{IsReadyToJudge, PassesOf, Reads, RefusesOf, SealsOf, TakesOf};
 ghost use Rattle.luks2_judging.specs.Judged.{IsNewNumber};
-ghost use Rattle.luks2_judging.specs.Judging.{IsAcceptedFor, IsJudged, IsJudgedTo, IsRefusedEarly, IsUnrefusedOf, IsUnrefusedSoFar, Seals, Takes};
+ghost use Rattle.luks2_judging.specs.Judging.{IsJudged, IsRefusedEarly, IsUnrefusedOf, IsUnrefusedSoFar};
 ghost use Rattle.luks2_judging.specs.Room.{IsAllowed, IsPlaced, IsUnsealable};
-ghost use Rattle.luks2_judging.specs.Rows.{HasNoFaultBefore};
 ghost use Rattle.luks2_judging.specs.Sealing.{IsUnadded};
 
-use crate::accepted::accepted_areas;
-use crate::judged::{Addition, Judged, JudgedEdit, Renewal};
-use crate::keyslots::{judge_opener, judge_requirements, judge_wanted, key_area, new_number};
-use crate::labels::judge_label;
+use crate::accepted::judge_without_key;
+use crate::judged::{Addition, Judged, JudgedEdit, JudgedPlace, Renewal};
+use crate::keyslots::{key_area, new_number};
+use crate::labels::judge_rewriting;
 use crate::room::{Room, judge_sealing};
 use crate::rows::judge_removal;
 use crate::unlocking::unlock;
@@ -105,8 +102,7 @@ fn taken_by<'a, D: Device>(
     ensures count { CountsFailure is_edit_failure result
         (D.failed device.old) (D.failed device.new) }
     ensures no_memory { (allowed_by edit.now).memory ≡ 0 → IfErr result (λ f. f ≢ EditFault.Memory) }
-    ensures takes { IfOk result
-        (Takes (area_len copy.now.meta) (content copy.now.meta) (D.size device.old) edit.now) }
+    ensures takes { TakesOf D.Device copy.now edit.now device.old result }
     ensures unrefused { D.tells → IsChosenCopy (D.bytes device.old) copy.now
         → IfOk result (IsUnrefusedOf copy.now (D.bytes device.old) payload edit.now) }
     ensures refused { D.tells → IsChosenCopy (D.bytes device.old) copy.now
@@ -118,31 +114,6 @@ fn taken_by<'a, D: Device>(
     judge_with_key(alloc, device, &accepted, edit)
 }
 
-/// The rows before the opening of a keyslot, `NotAccepted`, `Requirements`, `NoSuchSlot` and `SameSlot`,
-/// or the volume's areas.
-fn judge_without_key(
-    copy: &ChosenCopy,
-    payload: Data,
-    total: u64,
-    edit: &Edit<'_>,
-) -> Result<Areas, EditFault>
-    ensures own { IfErr result (λ f. is_edit_failure f ≡ false) }
-    ensures memory { IfErr result (λ f. f ≢ EditFault.Memory) }
-    ensures accepted { IfOk result (λ areas. IsAcceptedFor copy.now areas total edit.now) }
-    ensures well { (v : List ℕ) → IsChosenCopy v copy.now → length v ≡ total
-        → OnOk result (WellFormed v payload) }
-    ensures passed { (v random : List ℕ) → IsChosenCopy v copy.now → length v ≡ total
-        → IfOk result (λ areas. IsJudgedTo 4 copy.now areas v payload edit.now random) }
-    ensures refused { (v random : List ℕ) → IsChosenCopy v copy.now → length v ≡ total
-        → IfErr result (Refusal2 v payload edit.now random) }
-{
-    let areas = accepted_areas(copy, payload, total)?;
-    judge_requirements(&copy.meta)?;
-    judge_wanted(&copy.meta, edit)?;
-    judge_opener(edit)?;
-    Ok(areas)
-}
-
 /// The rows from the opening of a keyslot on: `Locked`, `Slot`, `SlotTaken`, `NoFreeSlot`, `NoRoom`,
 /// `LastSlot`, `Iterations`, `Argon2`, `BadLabel`.
 fn judge_with_key<'a, D: Device>(
@@ -151,43 +122,22 @@ fn judge_with_key<'a, D: Device>(
     accepted: &Accepted<'_>,
     edit: &Edit<'a>,
 ) -> Result<JudgedEdit<'a>, EditFault>
-    requires room { D.failed device.old + 1 < 2 ^ 64 }
-    requires accepted { IsAcceptedCopy accepted.now.copy.now }
-    requires total { accepted.now.total ≡ D.size device.old }
-    requires own { IsAcceptedFor accepted.now.copy.now accepted.now.areas accepted.now.total edit.now }
-    ensures unchanged { IsUnchanged D.tells D.size D.bytes D.unsettled device.old device.new }
-    ensures count { CountsFailure is_edit_failure result
-        (D.failed device.old) (D.failed device.new) }
+    requires ready { IsReadyToJudge D.Device accepted.now.copy.now accepted.now.areas
+        accepted.now.total edit.now device.old }
+    ensures reads { Reads D.Device is_edit_failure result device.old device.new }
     ensures no_memory { (allowed_by edit.now).memory ≡ 0 → IfErr result (λ f. f ≢ EditFault.Memory) }
-    ensures takes { let meta = accepted.now.copy.now.meta in
-        IfOk result (Takes (area_len meta) (content meta) (D.size device.old) edit.now) }
-    ensures seals { D.tells → IsChosenCopy (D.bytes device.old) accepted.now.copy.now
-        → (payload : Payload)
-        → ((random : List ℕ) → IsJudgedTo 4 accepted.now.copy.now accepted.now.areas
-        (D.bytes device.old) payload edit.now random)
-        → let copy = accepted.now.copy.now in
-        IfOk result (Seals (hdr_size (header_at (D.bytes device.old) copy.header.hdr_offset))
-        (D.bytes device.old) payload (content copy.meta) edit.now) }
-    ensures passed { D.tells → IsChosenCopy (D.bytes device.old) accepted.now.copy.now
-        → (payload : Payload)
-        → ((random : List ℕ) → IsJudgedTo 4 accepted.now.copy.now accepted.now.areas
-        (D.bytes device.old) payload edit.now random)
-        → OnOk result
-        ((random : List ℕ) → HasNoFaultBefore 13 (D.bytes device.old) payload edit.now random) }
-    ensures refused { D.tells → IsChosenCopy (D.bytes device.old) accepted.now.copy.now
-        → (payload : Payload)
-        → WellFormed (D.bytes device.old) payload
-        → ((random : List ℕ) → IsJudgedTo 4 accepted.now.copy.now accepted.now.areas
-        (D.bytes device.old) payload edit.now random)
-        → IfErr result (IsRefusedEarly (D.bytes device.old) payload edit.now) }
+    ensures takes { TakesOf D.Device accepted.now.copy.now edit.now device.old result }
+    ensures seals { SealsOf D.Device accepted.now.copy.now accepted.now.areas edit.now
+        device.old result }
+    ensures passed { PassesOf D.Device accepted.now.copy.now accepted.now.areas edit.now
+        device.old result }
+    ensures refused { RefusesOf D.Device accepted.now.copy.now accepted.now.areas edit.now
+        device.old result }
 {
     match edit.deed() {
         Deed::Seal(sealed) => judge_sealing_of(alloc, device, accepted, edit, &sealed),
         Deed::Remove(removed) => judge_removal_of(alloc, device, accepted, edit, &removed),
-        Deed::Rewrite { label } => match label {
-            None => Ok(JudgedEdit::Repair),
-            Some(text) => judge_label(text),
-        },
+        Deed::Rewrite { label } => judge_rewriting(label, accepted.copy.header.label),
     }
 }
 
@@ -200,36 +150,18 @@ fn judge_sealing_of<'a, D: Device>(
     edit: &Edit<'a>,
     sealed: &Sealed<'a>,
 ) -> Result<JudgedEdit<'a>, EditFault>
-    requires room { D.failed device.old + 1 < 2 ^ 64 }
-    requires accepted { IsAcceptedCopy accepted.now.copy.now }
-    requires total { accepted.now.total ≡ D.size device.old }
-    requires own { IsAcceptedFor accepted.now.copy.now accepted.now.areas accepted.now.total edit.now }
+    requires ready { IsReadyToJudge D.Device accepted.now.copy.now accepted.now.areas
+        accepted.now.total edit.now device.old }
     requires asked { deed_of edit.now ≡ SealsKey sealed.now }
-    ensures unchanged { IsUnchanged D.tells D.size D.bytes D.unsettled device.old device.new }
-    ensures count { CountsFailure is_edit_failure result
-        (D.failed device.old) (D.failed device.new) }
+    ensures reads { Reads D.Device is_edit_failure result device.old device.new }
     ensures no_memory { (allowed_by edit.now).memory ≡ 0 → IfErr result (λ f. f ≢ EditFault.Memory) }
-    ensures takes { let meta = accepted.now.copy.now.meta in
-        IfOk result (Takes (area_len meta) (content meta) (D.size device.old) edit.now) }
-    ensures seals { D.tells → IsChosenCopy (D.bytes device.old) accepted.now.copy.now
-        → (payload : Payload)
-        → ((random : List ℕ) → IsJudgedTo 4 accepted.now.copy.now accepted.now.areas
-        (D.bytes device.old) payload edit.now random)
-        → let copy = accepted.now.copy.now in
-        IfOk result (Seals (hdr_size (header_at (D.bytes device.old) copy.header.hdr_offset))
-        (D.bytes device.old) payload (content copy.meta) edit.now) }
-    ensures passed { D.tells → IsChosenCopy (D.bytes device.old) accepted.now.copy.now
-        → (payload : Payload)
-        → ((random : List ℕ) → IsJudgedTo 4 accepted.now.copy.now accepted.now.areas
-        (D.bytes device.old) payload edit.now random)
-        → OnOk result
-        ((random : List ℕ) → HasNoFaultBefore 13 (D.bytes device.old) payload edit.now random) }
-    ensures refused { D.tells → IsChosenCopy (D.bytes device.old) accepted.now.copy.now
-        → (payload : Payload)
-        → WellFormed (D.bytes device.old) payload
-        → ((random : List ℕ) → IsJudgedTo 4 accepted.now.copy.now accepted.now.areas
-        (D.bytes device.old) payload edit.now random)
-        → IfErr result (IsRefusedEarly (D.bytes device.old) payload edit.now) }
+    ensures takes { TakesOf D.Device accepted.now.copy.now edit.now device.old result }
+    ensures seals { SealsOf D.Device accepted.now.copy.now accepted.now.areas edit.now
+        device.old result }
+    ensures passed { PassesOf D.Device accepted.now.copy.now accepted.now.areas edit.now
+        device.old result }
+    ensures refused { RefusesOf D.Device accepted.now.copy.now accepted.now.areas edit.now
+        device.old result }
 {
     let room = accepted.room();
     let allowed = edit.allowed();
@@ -252,16 +184,16 @@ fn judge_sealing_of<'a, D: Device>(
                 sealed.derivation,
                 allowed.memory,
             )?;
-            Ok(JudgedEdit::Add {
-                addition,
+            Ok(JudgedEdit::Seal {
+                place: JudgedPlace::New(addition),
                 key,
                 passphrase,
             })
         }
         Place::Opened => {
             let renewal = judge_renewal(&room, opener.slot, sealed.derivation, allowed.memory)?;
-            Ok(JudgedEdit::Change {
-                renewal,
+            Ok(JudgedEdit::Seal {
+                place: JudgedPlace::Opened(renewal),
                 key,
                 passphrase,
             })
@@ -277,36 +209,18 @@ fn judge_removal_of<'a, D: Device>(
     edit: &Edit<'a>,
     removed: &Removed<'a>,
 ) -> Result<JudgedEdit<'a>, EditFault>
-    requires room { D.failed device.old + 1 < 2 ^ 64 }
-    requires accepted { IsAcceptedCopy accepted.now.copy.now }
-    requires total { accepted.now.total ≡ D.size device.old }
-    requires own { IsAcceptedFor accepted.now.copy.now accepted.now.areas accepted.now.total edit.now }
+    requires ready { IsReadyToJudge D.Device accepted.now.copy.now accepted.now.areas
+        accepted.now.total edit.now device.old }
     requires asked { deed_of edit.now ≡ RemovesKeyslot removed.now }
-    ensures unchanged { IsUnchanged D.tells D.size D.bytes D.unsettled device.old device.new }
-    ensures count { CountsFailure is_edit_failure result
-        (D.failed device.old) (D.failed device.new) }
+    ensures reads { Reads D.Device is_edit_failure result device.old device.new }
     ensures no_memory { (allowed_by edit.now).memory ≡ 0 → IfErr result (λ f. f ≢ EditFault.Memory) }
-    ensures takes { let meta = accepted.now.copy.now.meta in
-        IfOk result (Takes (area_len meta) (content meta) (D.size device.old) edit.now) }
-    ensures seals { D.tells → IsChosenCopy (D.bytes device.old) accepted.now.copy.now
-        → (payload : Payload)
-        → ((random : List ℕ) → IsJudgedTo 4 accepted.now.copy.now accepted.now.areas
-        (D.bytes device.old) payload edit.now random)
-        → let copy = accepted.now.copy.now in
-        IfOk result (Seals (hdr_size (header_at (D.bytes device.old) copy.header.hdr_offset))
-        (D.bytes device.old) payload (content copy.meta) edit.now) }
-    ensures passed { D.tells → IsChosenCopy (D.bytes device.old) accepted.now.copy.now
-        → (payload : Payload)
-        → ((random : List ℕ) → IsJudgedTo 4 accepted.now.copy.now accepted.now.areas
-        (D.bytes device.old) payload edit.now random)
-        → OnOk result
-        ((random : List ℕ) → HasNoFaultBefore 13 (D.bytes device.old) payload edit.now random) }
-    ensures refused { D.tells → IsChosenCopy (D.bytes device.old) accepted.now.copy.now
-        → (payload : Payload)
-        → WellFormed (D.bytes device.old) payload
-        → ((random : List ℕ) → IsJudgedTo 4 accepted.now.copy.now accepted.now.areas
-        (D.bytes device.old) payload edit.now random)
-        → IfErr result (IsRefusedEarly (D.bytes device.old) payload edit.now) }
+    ensures takes { TakesOf D.Device accepted.now.copy.now edit.now device.old result }
+    ensures seals { SealsOf D.Device accepted.now.copy.now accepted.now.areas edit.now
+        device.old result }
+    ensures passed { PassesOf D.Device accepted.now.copy.now accepted.now.areas edit.now
+        device.old result }
+    ensures refused { RefusesOf D.Device accepted.now.copy.now accepted.now.areas edit.now
+        device.old result }
 {
     let room = accepted.room();
     let allowed = edit.allowed();

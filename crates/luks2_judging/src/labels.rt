@@ -1,9 +1,10 @@
-//! Judging the label that an edit sets.
-ghost use Rattle.std.specs.Prelude.{◌≡◌, ◌≢◌, ◌++◌, ◌-◌, ◌<◌, ◌≤◌, ◌⊎◌, length, replicate, false, true, IfErr, IfOk};
+//! Judging an edit that writes the header anew, by the label that it sets.
+ghost use Rattle.std.specs.Prelude.{◌≡◌, ◌≢◌, ◌++◌, ◌-◌, ◌<◌, ◌≤◌, ◌⊎◌, length, replicate, false, true, IfErr, IfOk, IsSomeAnd};
 ghost use Rattle.luks_area.specs.Text.{is_plain, is_printable};
 ghost use Rattle.luks_edit.specs.EditFaults.{is_edit_failure};
+ghost use Rattle.luks2_edit_laws.specs.Copies.{labelled};
 ghost use Rattle.luks2_judging.specs.Judged.{Judges};
-ghost use Rattle.luks2_judging.specs.declared.judged.JudgedEdit.TheVariants.{Label as TheLabel};
+ghost use Rattle.luks2_judging.specs.declared.judged.JudgedEdit.TheVariants.{Rewrite as Rewrites};
 
 use crate::judged::JudgedEdit;
 use luks_edit::EditFault;
@@ -11,17 +12,25 @@ use luks_edit::EditFault;
 /// The most bytes of a label; a zero byte ends it.
 const MOST_LABEL: usize = 47;
 
-/// What setting the label takes. Refused by `BadLabel`.
-pub(crate) fn judge_label<'a>(text: &[u8]) -> Result<JudgedEdit<'a>, EditFault>
+/// What writing the header anew takes: by the label that is given, or else the label's field as it was,
+/// which is `kept`. Refused by `BadLabel`.
+pub(crate) fn judge_rewriting<'a>(
+    label: Option<&[u8]>,
+    kept: [u8; 48],
+) -> Result<JudgedEdit<'a>, EditFault>
     ensures own { IfErr result (λ f. is_edit_failure f ≡ false) }
     ensures memory { IfErr result (λ f. f ≢ EditFault.Memory) }
-    ensures row { Judges ((47 < length text.now) ⊎ (is_plain text.now ≡ true → ⊥))
-        EditFault.BadLabel result }
-    ensures field { IfOk result (λ it.
-        it ≡ TheLabel (text.now ++ replicate (48 - length text.now) 0)) }
+    ensures row { Judges (IsSomeAnd label.entry
+        (λ text. (47 < length text.now) ⊎ (is_plain text.now ≡ true → ⊥))) EditFault.BadLabel result }
+    ensures field { IfOk result (λ it. it ≡ Rewrites (labelled label.entry kept)) }
 {
-    let field = label_field(text)?;
-    Ok(JudgedEdit::Label { field })
+    match label {
+        None => Ok(JudgedEdit::Rewrite { label: kept }),
+        Some(text) => {
+            let field = label_field(text)?;
+            Ok(JudgedEdit::Rewrite { label: field })
+        }
+    }
 }
 
 /// The label's field of the header: its text, which has at most 47 bytes, all printable, and zeros.

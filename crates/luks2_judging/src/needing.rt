@@ -7,8 +7,8 @@ ghost use Rattle.luks2_edit_laws.specs.Metadata.{IsInUse};
 ghost use Rattle.luks2_edit_laws.specs.Refused.{NeedsLike};
 ghost use Rattle.luks2_judging.specs.Needed.{TellsNeed2};
 
-use crate::accepted::accepted_areas;
-use crate::keyslots::{judge_opener, judge_requirements, judge_wanted, new_number};
+use crate::accepted::judge_without_key;
+use crate::keyslots::new_number;
 use luks_edit::{Deed, Edit, EditFault, Place};
 use luks_meta::Meta;
 use luks_reading::{ChosenCopy, Data};
@@ -36,10 +36,7 @@ pub fn needed_luks2(
     ensures tells { (v : List ℕ) → IsChosenCopy v copy.now → length v ≡ total
         → TellsNeed2 payload v edit.now result }
 {
-    let _areas = accepted_areas(copy, payload, total)?;
-    judge_requirements(&copy.meta)?;
-    judge_wanted(&copy.meta, edit)?;
-    judge_opener(edit)?;
+    judge_without_key(copy, payload, total, edit)?;
     match edit.deed() {
         Deed::Seal(sealed) => match sealed.place {
             Place::New { to } => {

@@ -20,7 +20,8 @@ pub struct LuksFound {
 }
 
 /// Tells where volumes begin on the disk of `total` bytes that begins with these, in bytes, in the order of
-/// the first of what is left of each: its header, its second copy or metadata that is whole.
+/// the first of what is left of each: its header (of LUKS1 also without its magic), its second copy or metadata
+/// that is whole.
 ///
 /// All bytes are read. Takes memory for a block of 1 MiB, for the places, and for one JSON area at a time.
 #[unsafe(no_mangle)]

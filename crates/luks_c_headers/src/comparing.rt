@@ -6,7 +6,7 @@ ghost use Rattle.luks_c_headers.specs.KeepAnswers.{AnswersCompare, TellsKeyslots
 use luks_c_answers::{BEYOND, DONE, check_number, restore_number};
 use luks_given::{FirstBytes, Given};
 use luks_keeping::{
-    Comparison, Keeping, RestoreFault, accepted_header, compare_areas, is_other_volume,
+    Comparison, Keeping, RestoreFault, compare_areas, is_other_volume, read_outline,
 };
 use luks_reading::{CheckFault, Data};
 use std::alloc::Global;
@@ -52,8 +52,8 @@ pub fn compare_given<S: Given, K: Given>(
     ensures inside { result ≡ 102 → told.new.beyond ≤ total }
 {
     let mut kept: FirstBytes<'_, S> = FirstBytes::new(backup, backup_total);
-    let here = match accepted_header(alloc, &mut kept, Data::Elsewhere) {
-        Ok(header) => header,
+    let here = match read_outline(alloc, &mut kept, Data::Elsewhere) {
+        Ok(found) => found,
         Err(CheckFault::Device) => {
             told.backup_beyond = kept.reached();
             return BEYOND;
@@ -61,8 +61,8 @@ pub fn compare_given<S: Given, K: Given>(
         Err(fault) => return restore_number(&RestoreFault::from(fault)),
     };
     let mut device: FirstBytes<'_, K> = FirstBytes::new(first, total);
-    let there = match accepted_header(alloc, &mut device, payload) {
-        Ok(header) => header,
+    let there = match read_outline(alloc, &mut device, payload) {
+        Ok(found) => found,
         Err(CheckFault::Device) => {
             told.beyond = device.reached();
             return BEYOND;

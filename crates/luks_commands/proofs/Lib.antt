@@ -1,3 +1,4 @@
+pub mod BesideFacts
 pub mod CheckFacts
 pub mod EndFacts
 pub mod ExitFacts

@@ -4,6 +4,7 @@ pub mod FirstLine
 pub mod Printing
 pub mod Checked
 pub mod Answer
+pub mod Beside
 pub mod CheckAnswers
 pub mod Chosen
 pub mod Formatting

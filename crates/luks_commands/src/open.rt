@@ -13,7 +13,7 @@ use crate::inputs::Inputs;
 use crate::passphrase_file::{PassphraseFault, passphrase};
 pub use almost_met::note_line_feed;
 use almost_met::note_unopened;
-use luks_notes::{note_all_wanting, note_passed_over, note_refused, note_wanting};
+use luks_notes::{note_all_wanting, note_passed_over, note_refused, note_unbound, note_wanting};
 use luks_reading::{Allowed, Device, Key, OpenFault, read_header, try_header, try_header_slot};
 use std::alloc::Global;
 use std::io::{Read, Write};
@@ -128,6 +128,9 @@ fn open_one<D: Device, E: Write>(
     let mut nearest = None;
     let opened = try_header_slot(alloc, device, &header, n, passphrase, allowed, &mut nearest);
     match &opened {
+        Ok(Some(_)) => {
+            let _ = note_unbound(&header, n, err);
+        }
         Ok(None) => note_unopened(nearest, passphrase, err),
         Err(OpenFault::Slot(_)) => note_refused(&header, n, device.len(), allowed, err),
         Err(OpenFault::Memory) => note_wanting(&header, n, device.len(), allowed, err),
@@ -175,6 +178,9 @@ fn open_any<D: Device, E: Write>(
     let mut nearest = None;
     let opened = try_header(alloc, device, &header, passphrase, allowed, &mut nearest);
     match &opened {
+        Ok(Some((n, _))) => {
+            let _ = note_unbound(&header, *n, err);
+        }
         Ok(None) => {
             note_unopened(nearest, passphrase, err);
             note_passed_over(&header, device.len(), allowed, err);

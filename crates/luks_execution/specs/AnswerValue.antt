@@ -1,10 +1,11 @@
 -- The JSON object of an answer, with its members in the order of their names.
-use Rattle.std.specs.Prelude.{◌≡◌, ℕ, List, map, codes, Some, None}
+use Rattle.std.specs.Prelude.{◌≡◌, ℕ, List, All, chars, map, codes, Some, None}
 use Rattle.serde_json.specs.Data.{Data, Members, array, member, no_members, number, object, string, unsigned}
 use Rattle.serde_json.specs.View.{items_of}
 use Rattle.serde_json.specs.Written.{compact_text}
 use Rattle.luks_reading.specs.declared.report.Version.{Version}
 use Rattle.luks_reading.specs.declared.report.Version.TheVariants.{Luks1, Luks2}
+use Rattle.luks_show.specs.Steering.{IsSteerless, unsteering}
 use Rattle.luks_show.specs.Texts.{copies_text}
 use Rattle.luks_commands.specs.declared.answers.Answer.{Answer}
 use Rattle.luks_commands.specs.declared.answers.Answer.TheVariants.{Accepted, Listed, ListedFully, Mapped, Json, Opens, Closed, NoneOpens, Done, Compared, Refused, DeviceFault, NoMemory}
@@ -96,7 +97,9 @@ IsAnswerWith NoMemory hints status d = d ≡ bare_value (codes "no memory") hint
 abbrev pub IsAnswerValue : Answer → List (List ℕ) → Data → Type 0
 IsAnswerValue answer hints d = IsAnswerWith answer (texts_value hints) (exit_status (answer_status answer)) d
 
+-- the compact text of the object, in which each character that steers a terminal is escaped, so that none stands in it
 pub record IsAnswerText (answer : Answer) (hints : List (List ℕ)) (text : List ℕ) : Type 0 where
   pub value : Data
   pub is : IsAnswerValue answer hints value
-  pub compact : text ≡ compact_text value
+  pub compact : text ≡ unsteering (compact_text value)
+  pub plain : All IsSteerless (chars text)

@@ -25,7 +25,8 @@ use Rattle.luks_commands.specs.ShowAnswers.{AnswersShow}
 use Rattle.luks_commands.specs.Standing.{HasOther, HoldsBackDevice}
 use Rattle.luks_header_commands.specs.Converting.{AnswersConvert, KeepsRest, random_count}
 use Rattle.luks_header_commands.specs.Rebuilding.{random_count as rebuild_count}
-use Rattle.luks_header_commands.specs.Target.{AreOneFile, HoldsBackHeader, IsSameFile, LeavesTarget, SettlesTarget}
+use Rattle.luks_commands.specs.Beside.{AreOneFile, IsSameFile, LeavesTarget, SettlesTarget}
+use Rattle.luks_header_commands.specs.Target.{HoldsBackHeader}
 use Rattle.luks_header_commands.specs.Trying.{AnswersRebuild, KeepsRebuilt}
 use Rattle.luks_keeping_commands.specs.BackingUp.{AnswersBackup, KeepsRest as KeepsBesideBackup}
 use Rattle.luks_keeping_commands.specs.Comparing.{AnswersCompare}

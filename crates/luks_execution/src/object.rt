@@ -6,11 +6,12 @@ ghost use Rattle.luks_execution.specs.AnswerValue.{IsAnswerText, IsAnswerValue};
 use crate::members::{accepted_value, bare_value, refused_value, slot_value};
 use crate::texts::texts_value;
 use luks_commands::Answer;
+use luks_show::unsteering;
 use serde_json::Value;
 use std::alloc::{AllocError, Global};
 
 /// The JSON object of the answer with these hints, in the compact form and without a newline. A hint
-/// is a line of standard error, without its newline.
+/// is a line of standard error, without its newline. Characters that steer a terminal are escaped in it.
 ///
 /// Takes memory for the object, and for its text.
 pub fn answer_json(alloc: Global, answer: &Answer, hints: &[&str]) -> Result<String, AllocError>
@@ -18,7 +19,8 @@ pub fn answer_json(alloc: Global, answer: &Answer, hints: &[&str]) -> Result<Str
         (string_bytes text)) }
 {
     let value = answer_value(alloc, answer, hints)?;
-    value.to_string(alloc)
+    let written = value.to_string(alloc)?;
+    unsteering(alloc, written.as_str())
 }
 
 fn answer_value(alloc: Global, answer: &Answer, hints: &[&str]) -> Result<Value, AllocError>

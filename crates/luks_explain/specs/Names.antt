@@ -1,7 +1,7 @@
 -- The faults that the program prints, by their names: what stands before a bracket.
 use Rattle.std.specs.Prelude.{◌≡◌, ◌==◌, ℕ, List, [], ◌∷◌, Option, Some, codes, find, refl}
 use Rattle.std.specs.List.{before_first}
-use Rattle.std.specs.Str.{bytes_eq}
+use Rattle.std.specs.Str.{bytes_eq, str_eq_ignore_ascii_case}
 use Rattle.luks_explain.specs.declared.fault.Fault.{Fault}
 use Rattle.luks_explain.specs.declared.fault.Fault.TheVariants as fault
 
@@ -178,3 +178,62 @@ named fault.DoesNotFit = refl
 named fault.OtherVolume = refl
 named fault.OtherUse = refl
 named fault.Reencrypting = refl
+
+-- the fault of a name as a person writes it, with capital letters or small ones, if there is one
+abbrev pub fault_called : List ℕ → Option Fault
+fault_called name = find (λ f. str_eq_ignore_ascii_case name (name_of f)) all_faults
+
+-- each is known by its name so, too: no two names differ in capital and small letters alone
+pub called : (f : Fault) → fault_called (name_of f) ≡ Some f
+called fault.TooShort = refl
+called fault.NotLuks = refl
+called fault.Version = refl
+called fault.NoSoundCopy = refl
+called fault.Text = refl
+called fault.Uuid = refl
+called fault.SlotState = refl
+called fault.KeyBytes = refl
+called fault.Stripes = refl
+called fault.Iterations = refl
+called fault.JsonArea = refl
+called fault.BadJson = refl
+called fault.NotWhole = refl
+called fault.Shape = refl
+called fault.Kind = refl
+called fault.NoSuchName = refl
+called fault.Assigned = refl
+called fault.Sizes = refl
+called fault.AreaTooSmall = refl
+called fault.Region = refl
+called fault.Outside = refl
+called fault.Overlap = refl
+called fault.NoSuchSlot = refl
+called fault.SameSlot = refl
+called fault.SlotFree = refl
+called fault.Argon2 = refl
+called fault.Cipher = refl
+called fault.Hash = refl
+called fault.KeySize = refl
+called fault.Locked = refl
+called fault.Passphrase = refl
+called fault.Requirements = refl
+called fault.SlotTaken = refl
+called fault.NoFreeSlot = refl
+called fault.NoRoom = refl
+called fault.LastSlot = refl
+called fault.BadLabel = refl
+called fault.SeqExhausted = refl
+called fault.MetadataFull = refl
+called fault.RandomLength = refl
+called fault.TooSmall = refl
+called fault.NotLuks1 = refl
+called fault.SameFile = refl
+called fault.Counts = refl
+called fault.NoMetadata = refl
+called fault.NoHeader = refl
+called fault.Exists = refl
+called fault.NotAccepted = refl
+called fault.DoesNotFit = refl
+called fault.OtherVolume = refl
+called fault.OtherUse = refl
+called fault.Reencrypting = refl

@@ -1,5 +1,6 @@
 ghost use Rattle.std.specs.Prelude.{◌≡◌, Some};
-ghost use Rattle.luks_explain.specs.Names.{fault_named, name_in, name_of};
+ghost use Rattle.std.specs.Str.{str_eq_ignore_ascii_case};
+ghost use Rattle.luks_explain.specs.Names.{fault_called, fault_named, name_in, name_of};
 
 use crate::explanation::Explanation;
 use crate::texts::{means, next, place, safe};
@@ -182,18 +183,20 @@ impl Fault {
         Fault::Reencrypting,
     ];
 
-    /// The fault that is so printed, or that has this name; None where none has.
+    /// The fault that is so printed, or that has this name, written with capital letters or small ones;
+    /// None where none has.
     pub fn find(printed: &str) -> Option<Fault>
-        ensures { result ≡ fault_named (name_in printed.now) }
+        ensures { result ≡ fault_called (name_in printed.now) }
     {
         fault_of(front(printed))
     }
 
     /// What it prints before a bracket, by which it is found.
-    #[tactic(auto, using(crate::specs::Names::named))]
+    #[tactic(auto, using(crate::specs::Names::named, crate::specs::Names::called))]
     pub fn name(self) -> &'static str
         ensures value { result.now ≡ name_of self }
         ensures known { fault_named result.now ≡ Some self }
+        ensures called { fault_called result.now ≡ Some self }
     {
         variant_name!(self;
             TooShort NotLuks Version NoSoundCopy Text Uuid SlotState KeyBytes Stripes Iterations
@@ -231,10 +234,17 @@ fn front(printed: &str) -> &str
 
 // The fault of this name.
 fn fault_of(name: &str) -> Option<Fault>
-    ensures { result ≡ fault_named name.now }
+    ensures { result ≡ fault_called name.now }
 {
     Fault::ALL
         .iter()
         .copied()
-        .find(|fault| name == fault.name())
+        .find(|fault| is_same(name, fault.name()))
+}
+
+// Whether both are one name, in capital letters or small ones.
+fn is_same(name: &str, other: &str) -> bool
+    ensures { result ≡ str_eq_ignore_ascii_case name.now other.now }
+{
+    name.eq_ignore_ascii_case(other)
 }

@@ -65,7 +65,11 @@ pub(crate) fn place(fault: Fault) -> &'static str {
         Fault::TooShort => "the whole volume, of either version",
         Fault::NotLuks => "byte 0, and the nine places where a second copy of LUKS2 can stand",
         Fault::Version => "bytes 6 and 7 of the header",
-        Fault::NoSoundCopy => "both copies, with their metadata",
+        Fault::NoSoundCopy => {
+            "both copies, with their metadata; a partition table of the kind GPT by
+       sgdisk leaves the first magic, and luks check says on standard error that
+       it stands there"
+        }
         Fault::Text => {
             "Text(FIELD): of LUKS1 cipher-name, cipher-mode, hash-spec or uuid, of
        LUKS2 uuid"
@@ -279,10 +283,11 @@ pub(crate) fn next(fault: Fault) -> &'static str {
        header backup"
         }
         Fault::NotLuks => {
-            "see whether it is the right device: a partition of a disk's image begins
-       further in; luks rebuild makes a header where luks check says that
-       metadata is whole, and of what is left of one of LUKS1, as after wipefs;
-       else restore a header backup"
+            "see whether it is the right device: luks find on the whole disk tells
+       where a partition begins; a qcow2 file, or one of another image format,
+       goes through qemu-img convert -O raw first; luks rebuild makes a header
+       where luks check says that metadata is whole, and of what is left of one
+       of LUKS1, as after wipefs; else restore a header backup"
         }
         Fault::Version => {
             "luks rebuild makes a header of what is left of one of LUKS1, and of LUKS2
@@ -290,9 +295,10 @@ pub(crate) fn next(fault: Fault) -> &'static str {
        backup"
         }
         Fault::NoSoundCopy => {
-            "see whether the image is whole; read a disk that fails again, to an
-       image; luks rebuild makes a header where luks check says that metadata is
-       whole; else restore a header backup (no repair helps)"
+            "see whether the image is whole, and what else luks check says stands
+       there; read a disk that fails again, to an image; luks rebuild makes a
+       header where luks check says that metadata is whole; else restore a
+       header backup (no repair helps)"
         }
         Fault::Text => {
             "of LUKS1 luks rebuild makes a header with the text that --cipher, --hash
@@ -329,9 +335,12 @@ pub(crate) fn next(fault: Fault) -> &'static str {
        backup"
         }
         Fault::Kind => {
-            "it is mostly a reencryption under way: finish it by cryptsetup reencrypt
-       --resume-only, after a backup; else where cryptsetup opens the volume it
-       is right to"
+            "it is mostly a reencryption that broke off: restore no header backup.
+       Copy the first 32 MiB, then cryptsetup repair and cryptsetup reencrypt
+       --resume-only; but not where cryptsetup luksDump has one segment without
+       a flag, like that of backup-final, and your old keyslots unbound or gone:
+       all is done then, and it would begin anew. Else where cryptsetup opens
+       the volume it is right to"
         }
         Fault::Region => {
             "Region(Segment(0)) is mostly a detached header: give --detached; else
@@ -372,7 +381,8 @@ pub(crate) fn next(fault: Fault) -> &'static str {
         }
         Fault::Passphrase => "see whether it is the right file; a longer passphrase isn't taken",
         Fault::Requirements => {
-            "finish the reencryption by cryptsetup; such metadata is left to it"
+            "finish the reencryption by cryptsetup, as luks explain Kind says; such
+       metadata is left to it"
         }
         Fault::SlotTaken => {
             "luks show lists those in use; without --to the least that is free is made"
@@ -424,8 +434,7 @@ pub(crate) fn next(fault: Fault) -> &'static str {
         }
         Fault::OtherVolume => {
             "look for the right device, and for the backup of this volume; if the
-       header that stands there is the wrong one, say --over, of restore
-       --other"
+       header that stands there is the wrong one, say --over, of restore --other"
         }
         Fault::OtherUse => {
             "is it the right device? If the other use counts, leave it: luks open and
@@ -435,9 +444,9 @@ pub(crate) fn next(fault: Fault) -> &'static str {
             "let cryptsetup go on. LUKS1: in the folder where it was begun, with the
        files LUKS-UUID.log, .org and .new, by the same cryptsetup reencrypt;
        .log has how far it is, .org and .new the old and the new header: copy
-       the three and lose none. LUKS2: cryptsetup repair, then cryptsetup
-       reencrypt --resume-only; a backup from before it loses what is done, and
-       restore takes it by --over-reencryption alone"
+       the three and lose none. LUKS2: as luks explain Kind says; a backup from
+       before it loses what is done, and restore takes it by --over-reencryption
+       alone"
         }
     }
 }

@@ -5,11 +5,22 @@ use luks_finding::FindFault;
 use std::io::Write;
 
 /// Says what to do next with the volume that begins at this byte of the file, of which `check` answers
-/// so.
-pub(crate) fn note_next<E: Write>(verdict: &Answer, name: &str, offset: u128, err: &mut E) {
+/// so; `luks1` says whether what stands there is a LUKS1 header, whatever its magic.
+pub(crate) fn note_next<E: Write>(
+    verdict: &Answer,
+    luks1: bool,
+    name: &str,
+    offset: u128,
+    err: &mut E,
+) {
     if let Answer::Accepted { .. } = verdict {
         let _ = writeln!(err, "luks: luks open {name} --offset {offset} ..");
         let _ = writeln!(err, "luks: losetup --find --show --offset {offset} {name}");
+    } else if luks1 {
+        let _ = writeln!(
+            err,
+            "luks: what is left of a LUKS1 header: luks rebuild {name} TARGET --offset {offset} .."
+        );
     } else {
         let _ = writeln!(
             err,

@@ -1,6 +1,7 @@
 //! A volume that was found is told.
-ghost use Rattle.std.specs.Prelude.{◌≡◌, ◌+◌, ◌<◌, ◌≤◌, ◌^◌, [], ◌∷◌, IfErr, OnOk};
+ghost use Rattle.std.specs.Prelude.{◌≡◌, ◌+◌, ◌<◌, ◌≤◌, ◌^◌, [], ◌∷◌, drop, IfErr, OnOk};
 ghost use Rattle.luks_area.specs.Device.{IsSettled, IsUnchanged};
+ghost use Rattle.luks_find_command.specs.Lines.{IsVerdict};
 ghost use Rattle.luks_find_command.specs.Searches.{TellsStep};
 ghost use Rattle.luks_find_command.specs.Stops.{StopsBy};
 
@@ -10,6 +11,7 @@ use crate::notes::note_next;
 use crate::searched::Searched;
 use crate::stop::Stop;
 use luks_commands::{Answer, Printer, Unprinted};
+use luks_finding::begins_luks1;
 use luks_reading::Device;
 use std::alloc::Global;
 use std::io::Write;
@@ -39,18 +41,45 @@ pub(crate) fn tell<D: Device, P: Printer, E: Write>(
     match verdict {
         Answer::DeviceFault => (device, Err(Stop::Device)),
         Answer::NoMemory => (device, Err(Stop::Memory)),
-        verdict => {
-            let line = StartLine {
-                offset: u128::from(file.offset) + u128::from(start),
-                verdict,
-            };
-            match out.print(&line) {
-                Ok(()) => {
-                    note_next(&line.verdict, file.name, line.offset, err);
-                    (device, Ok(()))
-                }
-                Err(Unprinted) => (device, Err(Stop::Unprinted)),
-            }
+        verdict => tell_verdict(device, start, verdict, file, out, err),
+    }
+}
+
+/// The same of a volume of which `check` answers so.
+fn tell_verdict<D: Device, P: Printer, E: Write>(
+    device: D,
+    start: u64,
+    verdict: Answer,
+    file: &Searched<'_>,
+    out: &mut P,
+    err: &mut E,
+) -> (D, Result<(), Stop>)
+    requires inside { start ≤ D.size device }
+    requires room { D.failed device + 1 < 2 ^ 64 }
+    requires says { D.tells → IsVerdict (drop start (D.bytes device)) verdict }
+    requires printer { P.failures out.old + 1 < 2 ^ 64 }
+    ensures unchanged { IsUnchanged D.tells D.size D.bytes D.unsettled device result.0 }
+    ensures counts { IfErr result.1 (λ stop. StopsBy stop (D.failed device) (D.failed result.0)
+        (P.failures out.old) (P.failures out.new)) }
+    ensures count { OnOk result.1 ((D.failed result.0 ≡ D.failed device)
+        × (P.failures out.new ≡ P.failures out.old)) }
+    ensures told { D.tells → TellsStep file.now.offset (D.bytes device) (start ∷ [])
+        (P.printed out.old) (P.printed out.new) result.1 }
+{
+    let mut device = device;
+    let luks1 = match begins_luks1(&mut device, start) {
+        Ok(luks1) => luks1,
+        Err(_) => return (device, Err(Stop::Device)),
+    };
+    let line = StartLine {
+        offset: u128::from(file.offset) + u128::from(start),
+        verdict,
+    };
+    match out.print(&line) {
+        Ok(()) => {
+            note_next(&line.verdict, luks1, file.name, line.offset, err);
+            (device, Ok(()))
         }
+        Err(Unprinted) => (device, Err(Stop::Unprinted)),
     }
 }

@@ -8,7 +8,7 @@ use Rattle.luks2_header.specs.Header2.{copy_at, hdr_size, header_at, with_zero_c
 use Rattle.luks2_header.specs.Sizes.{is_among, IsListed}
 use Rattle.luks2_header.proofs.CopyFacts.{among_pass, listed_at_least}
 use Rattle.luks2_header.proofs.SecondCopyFacts.{is_rising}
-use Rattle.luks_finding.specs.Starts.{volume_at}
+use Rattle.luks_finding.specs.Starts.{volume_at, IsSoundOf}
 use Rattle.luks_finding.specs.Telling.{HasNearerCopy}
 
 -- a part of a volume is one of the disk
@@ -62,6 +62,53 @@ sound-inside v s size listed sound =
     let long : length (volume_at v s) ≡ length v - s = length-drop s v in
     let least : 16384 ≤ size = listed_at_least size listed in
     omega (arith, inside, named, long, least)
+
+-- ---- first copies
+
+-- a part of a volume from its start on
+part-start : (v : List ℕ) (s len : ℕ) → part (volume_at v s) 0 len ≡ part v s len
+part-start v s len = let same : s + 0 ≡ s = omega arith in part-volume v s 0 len ∙ ap (λ p. part v p len) same
+
+-- the header that was read is formed and has the size, where the first copy is sound and has it
+pub formed-first : (v head : List ℕ) (s size total : ℕ) → total ≡ length v - s → head ≡ part v s 4096
+    → IsSoundOf (volume_at v s) size 0 → IsFormed head 0 total × (hdr_size head ≡ size)
+formed-first v head s size total long is sound =
+    let N : ℕ → Type 0 = λ n. IsFormed head 0 n in
+    let F : List ℕ → Type 0 = λ b. IsFormed b 0 (length (volume_at v s)) in
+    let same : header_at (volume_at v s) 0 ≡ head = part-start v s 4096 ∙ sym is in
+    (subst N (length-drop s v ∙ sym long) (subst F same sound.sound.form), ap hdr_size (sym same) ∙ sound.sized)
+
+-- what the digest is made of is the first copy
+copy-first : (v : List ℕ) (s size : ℕ) → hdr_size (header_at (volume_at v s) 0) ≡ size → part v s size ≡ copy_at (volume_at v s) 0
+copy-first v s size is = sym (part-start v s size) ∙ ap (part (volume_at v s) 0) (sym is)
+
+-- the first copy is sound, where its header is formed and has the digest
+pub sound-first : (v head digest : List ℕ) (s size total : ℕ) → total ≡ length v - s → head ≡ part v s 4096
+    → IsFormed head 0 total → hdr_size head ≡ size → digest ≡ sha256 (with_zero_checksum (part v s size)) → part head 448 32 ≡ digest
+    → IsSoundOf (volume_at v s) size 0
+sound-first v head digest s size total long is form sized taken sum =
+    let N : ℕ → Type 0 = λ n. IsFormed head 0 n in
+    let F : List ℕ → Type 0 = λ b. IsFormed b 0 (length (volume_at v s)) in
+    let same : head ≡ header_at (volume_at v s) 0 = is ∙ sym (part-start v s 4096) in
+    let formed : IsFormed (header_at (volume_at v s) 0) 0 (length (volume_at v s)) = subst F same (subst N (long ∙ sym (length-drop s v)) form) in
+    let named : hdr_size (header_at (volume_at v s) 0) ≡ size = ap hdr_size (sym same) ∙ sized in
+    record {
+      sound = record {
+        form = formed;
+        checksum = ap (λ b. part b 448 32) (sym same) ∙ sum ∙ taken ∙ ap (λ b. sha256 (with_zero_checksum b)) (copy-first v s size named);
+      };
+      sized = named;
+    }
+
+-- and where it is sound its header has it
+pub sum-first : (v head digest : List ℕ) (s size : ℕ) → head ≡ part v s 4096
+    → digest ≡ sha256 (with_zero_checksum (part v s size)) → IsSoundOf (volume_at v s) size 0 → part head 448 32 ≡ digest
+sum-first v head digest s size is taken sound =
+    let same : head ≡ header_at (volume_at v s) 0 = is ∙ sym (part-start v s 4096) in
+    ap (λ b. part b 448 32) same ∙ sound.sound.checksum
+    ∙ sym (taken ∙ ap (λ b. sha256 (with_zero_checksum b)) (copy-first v s size sound.sized))
+
+-- ---- through ascending sizes
 
 first-least : (xs : List ℕ) (p : ℕ) → is_rising xs ≡ true → is_among p xs ≡ true → get_or xs 0 0 ≤ p
 first-least [] p rising among = absurd (false≢true among)

@@ -1,5 +1,7 @@
 pub mod BlockFacts
 pub mod CopyFacts
+pub mod ExplainedFacts
+pub mod HeadFacts
 pub mod ListFacts
 pub mod MetadataFacts
 pub mod SignFacts

@@ -5,14 +5,14 @@ use Rattle.byteorder.specs.Endian.{big_number}
 use Rattle.luks_area.specs.Ranges.{part}
 use Rattle.luks_area.proofs.RangeFacts.{length-part_inside, part-part}
 use Rattle.luks1_header.specs.Bytes.{number_at}
-use Rattle.luks1_header.specs.Header1.{luks_magic}
+use Rattle.luks1_header.specs.Header1.{key_bytes_of, luks_magic}
 use Rattle.luks2_header.specs.Header2.{hdr_size, header_at, magic_of, second_magic, IsSound}
 use Rattle.luks2_header.specs.Sizes.{listed_sizes, IsListed}
 use Rattle.luks2_header.proofs.CopyFacts.{among_pass, listed_at_least}
 use Rattle.luks_rebuilding.specs.Candidates.{IsPlace}
 use Rattle.luks_rebuilding.specs.declared.place.Place.{Place}
-use Rattle.luks_finding.specs.Blocks.{BeginsSecond, BeginsSign, BeginsText}
-use Rattle.luks_finding.specs.Starts.{volume_at, BeginsHeader, HasSignBefore, IsCopySign, IsMetadataSign, IsSign}
+use Rattle.luks_finding.specs.Blocks.{BeginsFields, BeginsSecond, BeginsText, MayBegin}
+use Rattle.luks_finding.specs.Starts.{volume_at, BeginsHeader, BeginsLuks1, BeginsVolume, HasSignBefore, IsCopySign, IsMetadataSign, IsSign}
 use Rattle.luks_finding.specs.Telling.{HasNearer, NamesSize}
 use Rattle.luks_finding.proofs.CopyFacts.{listed-some, part-volume, sound-inside}
 use Rattle.luks_finding.proofs.MetadataFacts.{candidate-text, listed-sectors}
@@ -75,13 +75,29 @@ second-begins v s p sign =
 text-begins : (v : List ℕ) (s p : ℕ) → IsMetadataSign v s p → BeginsText (part v p 8)
 text-begins v s p sign = subst (λ (k : ℕ). BeginsText (part v k 8)) (sym sign.there) (candidate-text v s sign.copy sign.has.whole)
 
+-- the fields of a LUKS1 header begin so
+fields-begin : (v : List ℕ) (s : ℕ) → BeginsLuks1 v s → BeginsFields (part v s 112)
+fields-begin v s begins =
+    let whole : s + 592 ≤ length v = begins.whole in
+    let same : key_bytes_of (part v s 592) ≡ key_bytes_of (part v s 112) =
+    ap (big_number 4) (part-part v s 592 108 4 (omega arith) ∙ sym (part-part v s 112 108 4 (omega arith))) in
+    record {
+      long = length-part_inside v s 112 (omega (arith, whole));
+      key_at_least = subst (λ (n : ℕ). 1 ≤ n) same begins.header.usable.key_at_least;
+      key_at_most = subst (λ (n : ℕ). n ≤ 128) same begins.header.usable.key_at_most;
+    }
+
+volume-begins : (v : List ℕ) (s : ℕ) → BeginsVolume v s → MayBegin v s
+volume-begins v s (inl header) = inl (inl header)
+volume-begins v s (inr luks1) = inr (fields-begin v s luks1)
+
 -- a sign begins a header, a second copy or a JSON area
-pub sign-begins : (v : List ℕ) (s p : ℕ) → IsSign v s p → BeginsSign (part v p 8)
+pub sign-begins : (v : List ℕ) (s p : ℕ) → IsSign v s p → MayBegin v p
 sign-begins v s p sign = elim sign.is [
-  | inl header ↦ inl (subst (λ (k : ℕ). BeginsHeader (part v k 8)) (sym header.here) header.begins)
+  | inl header ↦ subst (MayBegin v) (sym header.here) (volume-begins v s header.begins)
   | inr other ↦ elim other [
-    | inl copy ↦ inr (inl (second-begins v s p copy))
-    | inr metadata ↦ inr (inr (text-begins v s p metadata))
+    | inl copy ↦ inl (inr (inl (second-begins v s p copy)))
+    | inr metadata ↦ inl (inr (inr (text-begins v s p metadata)))
   ]
 ]
 
@@ -98,7 +114,7 @@ first-byte : (b : List ℕ) → BeginsHeader b → get_or (part (part b 0 6) 0 1
 first-byte b (inl header) = ap (λ l. get_or (part l 0 1) 0 0) header.magic
 first-byte b (inr header) = ap (λ l. get_or (part l 0 1) 0 0) header.magic
 
-pub header-text : (b : List ℕ) → BeginsHeader b → BeginsText b → ⊥
+header-text : (b : List ℕ) → BeginsHeader b → BeginsText b → ⊥
 header-text b header text =
     let brace : get_or (part b 0 1) 0 0 ≡ 123 = ap (λ l. get_or l 0 0) text.brace in
     let magic : get_or (part (part b 0 6) 0 1) 0 0 ≡ 0x4C = first-byte b header in
@@ -113,6 +129,18 @@ second-text b second text =
     let same : part (part b 0 6) 0 1 ≡ part b 0 1 = part-part b 0 6 0 1 (omega arith) in
     let both : get_or (part (part b 0 6) 0 1) 0 0 ≡ get_or (part b 0 1) 0 0 = ap (λ l. get_or l 0 0) same in
     omega (arith, brace, magic, both)
+
+-- the first bytes of a header are those of its beginning
+front-same : (v : List ℕ) (p o l : ℕ) → o + l ≤ 8 → part (part v p 592) o l ≡ part (part v p 8) o l
+front-same v p o l inside = part-part v p 592 o l (omega (arith, inside)) ∙ sym (part-part v p 8 o l inside)
+
+volume-second : (v : List ℕ) (p : ℕ) → BeginsVolume v p → BeginsSecond (part v p 8) → ⊥
+volume-second v p (inl header) second = header-second (part v p 8) header second
+volume-second v p (inr luks1) second = luks1.header.no_copy (front-same v p 0 6 (omega arith) ∙ second.magic)
+
+volume-text : (v : List ℕ) (p : ℕ) → BeginsVolume v p → BeginsText (part v p 8) → ⊥
+volume-text v p (inl header) text = header-text (part v p 8) header text
+volume-text v p (inr luks1) text = luks1.header.no_text (front-same v p 0 1 (omega arith) ∙ text.brace)
 
 -- a second copy that is a sign names its size
 pub copy-named : (v : List ℕ) (s p : ℕ) (sign : IsCopySign v s p) → NamesSize v p sign.size
@@ -137,19 +165,19 @@ copy-sound v s p size named sign =
 -- ---- which sign stands at a place
 
 -- a sign where a header begins is that header
-pub sign-header : (v : List ℕ) (s p : ℕ) → BeginsHeader (part v p 8) → IsSign v s p → p ≡ s
+pub sign-header : (v : List ℕ) (s p : ℕ) → BeginsVolume v p → IsSign v s p → p ≡ s
 sign-header v s p begins sign = elim sign.is [
   | inl header ↦ header.here
   | inr other ↦ elim other [
-    | inl copy ↦ absurd (header-second (part v p 8) begins (second-begins v s p copy))
-    | inr metadata ↦ absurd (header-text (part v p 8) begins (text-begins v s p metadata))
+    | inl copy ↦ absurd (volume-second v p begins (second-begins v s p copy))
+    | inr metadata ↦ absurd (volume-text v p begins (text-begins v s p metadata))
   ]
 ]
 
 -- where neither a header nor a JSON area begins, it is a second copy
-pub sign-copy : (v : List ℕ) (s p : ℕ) → (BeginsHeader (part v p 8) → ⊥) → (BeginsText (part v p 8) → ⊥) → IsSign v s p → IsCopySign v s p
+pub sign-copy : (v : List ℕ) (s p : ℕ) → (BeginsVolume v p → ⊥) → (BeginsText (part v p 8) → ⊥) → IsSign v s p → IsCopySign v s p
 sign-copy v s p none no_text sign = elim sign.is [
-  | inl header ↦ absurd (none (subst (λ (k : ℕ). BeginsHeader (part v k 8)) (sym header.here) header.begins))
+  | inl header ↦ absurd (none (subst (BeginsVolume v) (sym header.here) header.begins))
   | inr other ↦ elim other [
     | inl copy ↦ copy
     | inr metadata ↦ absurd (no_text (text-begins v s p metadata))
@@ -159,7 +187,7 @@ sign-copy v s p none no_text sign = elim sign.is [
 -- where a JSON area begins, it is metadata
 pub sign-metadata : (v : List ℕ) (s p : ℕ) → BeginsText (part v p 8) → IsSign v s p → IsMetadataSign v s p
 sign-metadata v s p text sign = elim sign.is [
-  | inl header ↦ absurd (header-text (part v p 8) (subst (λ (k : ℕ). BeginsHeader (part v k 8)) (sym header.here) header.begins) text)
+  | inl header ↦ absurd (volume-text v p (subst (BeginsVolume v) (sym header.here) header.begins) text)
   | inr other ↦ elim other [
     | inl copy ↦ absurd (second-text (part v p 8) (second-begins v s p copy) text)
     | inr metadata ↦ metadata

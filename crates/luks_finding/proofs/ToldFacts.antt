@@ -1,5 +1,5 @@
 -- What a place of a disk tells.
-use Rattle.std.proofs.Common.{◌≡◌, ℕ, zero, suc, ◌+◌, ◌*◌, ◌<◌, ◌≤◌, ◌⊎◌, List, [], ◌∷◌, length, get_or, Option, None, Some, MatchOption, if◌then◌else◌, inl, inr, refl, sym, ap, ◌∙◌, subst, arith}
+use Rattle.std.proofs.Common.{◌≡◌, ℕ, zero, suc, ◌+◌, ◌*◌, ◌<◌, ◌≤◌, ◌⊎◌, List, [], ◌∷◌, length, get_or, Option, None, Some, if◌then◌else◌, inl, inr, refl, sym, ap, ◌∙◌, subst, arith}
 use Rattle.std.proofs.lemmas.Bool.{ne_eqb}
 use Rattle.luks_area.specs.Ranges.{part}
 use Rattle.luks_area.proofs.RangeFacts.{part-part}
@@ -9,10 +9,11 @@ use Rattle.luks2_header.specs.Sizes.{IsListed}
 use Rattle.luks2_header.proofs.CopyFacts.{listed_at_least}
 use Rattle.luks_rebuilding.specs.declared.place.Place.{Place}
 use Rattle.luks_finding.specs.Blocks.{BeginsText}
-use Rattle.luks_finding.specs.Starts.{other_magic, volume_at, BeginsHeader, BeginsLuks, BeginsReencrypting, HasSignBefore, IsCopySign, IsFirstSign, IsMetadataSign, IsSign}
-use Rattle.luks_finding.specs.Telling.{first_copy, joined, second_copy, FindsSize, FindsWhole, HasNearer, IsFirstAt, IsNoFirst, IsSecondAt, IsWholeAt, NamesSize, TellsAt, TellsKind}
+use Rattle.luks_finding.specs.Starts.{other_magic, volume_at, BeginsLuks, BeginsVolume, HasSignBefore, IsCopySign, IsExplained, IsFirstSign, IsMetadataSign, IsSign}
+use Rattle.luks_finding.specs.Telling.{first_copy, joined, second_copy, FindsSize, FindsWhole, HasNearer, IsFirstAt, IsSecondAt, IsWholeAt, NamesSize, TellsAt, TellsKind}
 use Rattle.luks_finding.specs.declared.told.Told.TheVariants.{Nothing, One, Two}
 use Rattle.luks_finding.proofs.CopyFacts.{listed-some}
+use Rattle.luks_finding.proofs.ExplainedFacts.{explained-as}
 use Rattle.luks_finding.proofs.MetadataFacts.{candidate-here, candidate-text, candidate-there, whole-one}
 use Rattle.luks_finding.proofs.SignFacts.{before-nearer, copy-named, copy-sound, nearer-before, sign-copy, sign-header, sign-metadata}
 
@@ -68,7 +69,7 @@ told-two v p s t below first second alone = record {
 -- ---- headers
 
 -- the start at a header
-pub told-header : (v : List ℕ) (k : ℕ) → BeginsHeader (part v (512 * k) 8) → TellsAt v (512 * k) (One (512 * k))
+pub told-header : (v : List ℕ) (k : ℕ) → BeginsVolume v (512 * k) → TellsAt v (512 * k) (One (512 * k))
 told-header v k begins =
     let p : ℕ = 512 * k in
     told-one v p p
@@ -90,13 +91,13 @@ told-header v k begins =
 -- ---- second copies
 
 -- where neither a header nor a JSON area begins and no size is named, there is no sign
-pub told-none : (v : List ℕ) (p : ℕ) → (BeginsHeader (part v p 8) → ⊥) → (BeginsText (part v p 8) → ⊥) → FindsSize v p None → TellsAt v p Nothing
+pub told-none : (v : List ℕ) (p : ℕ) → (BeginsVolume v p → ⊥) → (BeginsText (part v p 8) → ⊥) → FindsSize v p None → TellsAt v p Nothing
 told-none v p none no_text unnamed = told-nothing v p (λ s sign.
     let copy : IsCopySign v s p = sign-copy v s p none no_text sign in
     absurd (unnamed copy.size (copy-named v s p copy)))
 
 -- where the second copy isn't sound, there is no sign
-pub told-unsound : (v : List ℕ) (p size start : ℕ) → start + size ≡ p → (BeginsHeader (part v p 8) → ⊥) → (BeginsText (part v p 8) → ⊥) → NamesSize v p size
+pub told-unsound : (v : List ℕ) (p size start : ℕ) → start + size ≡ p → (BeginsVolume v p → ⊥) → (BeginsText (part v p 8) → ⊥) → NamesSize v p size
     → (IsSound (volume_at v start) size → ⊥) → TellsAt v p Nothing
 told-unsound v p size start back none no_text named unsound = told-nothing v p (λ s sign.
     let copy = copy-sound v s p size named (sign-copy v s p none no_text sign) in
@@ -105,7 +106,7 @@ told-unsound v p size start back none no_text named unsound = told-nothing v p (
     absurd (unsound (subst (λ (n : ℕ). IsSound (volume_at v n) size) same copy.1)))
 
 -- where a sign is nearer to the start, that is a sign before
-pub told-nearer : (v : List ℕ) (p k size : ℕ) → 512 * k + size ≡ p → (BeginsHeader (part v p 8) → ⊥) → (BeginsText (part v p 8) → ⊥) → NamesSize v p size
+pub told-nearer : (v : List ℕ) (p k size : ℕ) → 512 * k + size ≡ p → (BeginsVolume v p → ⊥) → (BeginsText (part v p 8) → ⊥) → NamesSize v p size
     → HasNearer v (512 * k) size → TellsAt v p Nothing
 told-nearer v p k size back none no_text named has = told-nothing v p (λ s sign.
     let copy = copy-sound v s p size named (sign-copy v s p none no_text sign) in
@@ -114,7 +115,7 @@ told-nearer v p k size back none no_text named has = told-nothing v p (λ s sign
     nearer-before v s p k size (sym same) named.listed (omega (arith, there)) (subst (λ (n : ℕ). HasNearer v n size) same has))
 
 -- else the copy is the first sign of its volume
-pub told-copy : (v : List ℕ) (p k size : ℕ) → 512 * k + size ≡ p → (BeginsHeader (part v p 8) → ⊥) → (BeginsText (part v p 8) → ⊥) → NamesSize v p size
+pub told-copy : (v : List ℕ) (p k size : ℕ) → 512 * k + size ≡ p → (BeginsVolume v p → ⊥) → (BeginsText (part v p 8) → ⊥) → NamesSize v p size
     → IsSound (volume_at v (512 * k)) size → (HasNearer v (512 * k) size → ⊥) → TellsAt v p (One (512 * k))
 told-copy v p k size back none no_text named sound far =
     let start : ℕ = 512 * k in
@@ -170,11 +171,14 @@ text-header v p h behind text begins = told-nothing v p (λ s sign.
     let magic : part v h 6 ≡ luks_magic = sym (part-front v h) ∙ begins.magic in
     elim (sign-kind v s p h behind metadata) [
       | inl first ↦
-          let B : ℕ → Type 0 = λ n. BeginsHeader (part v n 8) in
           record {
             place = s;
             before = omega (arith, first, behind);
-            sign = record { sector = sign.sector; there = sign.there; is = inl (record { here = refl; begins = subst B (sym first) (inl begins) }) };
+            sign = record {
+              sector = sign.sector;
+              there = sign.there;
+              is = inl (record { here = refl; begins = subst (BeginsVolume v) (sym first) (inl (inl begins)) });
+            };
           }
       | inr second ↦ absurd (kind-second v s p h behind second metadata magic)
     ])
@@ -198,31 +202,43 @@ whole-text v h size is =
 pub front-of : (v beginning : List ℕ) (h : ℕ) → beginning ≡ part v h 8 → part beginning 0 6 ≡ part v h 6
 front-of v beginning h read = ap (λ b. part b 0 6) read ∙ part-part v h 8 0 6 (omega arith) ∙ ap (λ k. part v k 6) (omega arith)
 
--- the first copy's volume
-pub first-told : (v beginning : List ℕ) (k size : ℕ) (o : Option ℕ) → IsWholeAt v (512 * k) size → (BeginsLuks (part v (512 * k) 8) → ⊥)
-    → beginning ≡ part v (512 * k) 8
-    → MatchOption o (IsNoFirst beginning) (λ s. (s ≡ 512 * k) × (IsNoFirst beginning → ⊥))
-    → TellsKind (IsFirstAt (512 * k)) v (512 * k + 4096) o
-first-told v beginning k size None whole none read (inr still) = λ s kind sign.
-    let h : ℕ = 512 * k in
-    let begins : BeginsReencrypting (part v h 8) = subst BeginsReencrypting read still in
-    let B : ℕ → Type 0 = λ n. BeginsHeader (part v n 8) in
-    record {
-      place = s;
-      before = omega (arith, kind);
-      sign = record { sector = sign.sector; there = sign.there; is = inl (record { here = refl; begins = subst B (sym kind) (inr begins) }) };
-    }
-first-told v beginning k size None whole none read (inl is) = λ s kind sign.
-    let h : ℕ = 512 * k in
+-- the first copy's volume, where the magic of a second copy stands there
+pub first-other : (v beginning : List ℕ) (h size : ℕ) → IsWholeAt v h size → beginning ≡ part v h 8 → part beginning 0 6 ≡ second_magic
+    → TellsKind (IsFirstAt h) v (h + 4096) None
+first-other v beginning h size whole read is = λ s kind sign.
     let text : BeginsText (part v (h + 4096) 8) = whole-text v h size whole in
     let magic : part v h 6 ≡ second_magic = sym (front-of v beginning h read) ∙ is in
     absurd (kind-first v (h + 4096) h refl (sign-metadata v h (h + 4096) text (subst (λ (n : ℕ). IsSign v n (h + 4096)) kind sign)) magic)
-first-told v beginning k size (Some s) whole none read is =
+
+-- where its header begins there
+pub first-header : (v : List ℕ) (h : ℕ) → BeginsVolume v h → TellsKind (IsFirstAt h) v (h + 4096) None
+first-header v h begins = λ s kind sign. record {
+  place = s;
+  before = omega (arith, kind);
+  sign = record {
+    sector = sign.sector;
+    there = sign.there;
+    is = inl (record { here = refl; begins = subst (BeginsVolume v) (sym kind) begins });
+  };
+}
+
+-- where it is explained
+pub first-another : (v : List ℕ) (h size : ℕ) → IsWholeAt v h size → IsExplained v h (first_copy size) → TellsKind (IsFirstAt h) v (h + 4096) None
+first-another v h size whole is = λ s kind sign.
+    let metadata : IsMetadataSign v s (h + 4096) = sign-metadata v s (h + 4096) (whole-text v h size whole) sign in
+    let there : s + metadata.copy.at ≡ h = header-there v s (h + 4096) h refl metadata in
+    let at : 0 ≡ metadata.copy.at = omega (arith, there, kind) in
+    let same : metadata.copy.size ≡ size = whole-one v h metadata.copy.size size (candidate-here v s h metadata.copy there metadata.has.whole) whole in
+    absurd (metadata.has.unexplained (explained-as v h s (first_copy size) metadata.copy (sym kind) (sym same) at is))
+
+-- and where nothing of these holds
+pub first-told : (v beginning : List ℕ) (k size : ℕ) → IsWholeAt v (512 * k) size → beginning ≡ part v (512 * k) 8
+    → (part beginning 0 6 ≡ second_magic → ⊥) → (BeginsVolume v (512 * k) → ⊥) → (IsExplained v (512 * k) (first_copy size) → ⊥)
+    → TellsKind (IsFirstAt (512 * k)) v (512 * k + 4096) (Some (512 * k))
+first-told v beginning k size whole read other none alone =
     let h : ℕ = 512 * k in
     let own : part v (h + 0) 6 ≡ other_magic 0 → ⊥ = λ magic.
-    is.1 (inl (front-of v beginning h read ∙ ap (λ n. part v n 6) (omega arith) ∙ magic)) in
-    let no_header : BeginsHeader (part v h 8) → ⊥ = λ begins.
-    elim begins [ inl luks ↦ none luks | inr still ↦ is.1 (inr (subst BeginsReencrypting (sym read) still)) ] in
+    other (front-of v beginning h read ∙ ap (λ n. part v n 6) (omega arith) ∙ magic) in
     let at_h : IsFirstSign v h (h + 4096) = record {
       sign = record {
         sector = k;
@@ -230,14 +246,14 @@ first-told v beginning k size (Some s) whole none read is =
         is = inr (inr (record {
           copy = first_copy size;
           there = omega arith;
-          has = record { whole = whole.whole; own = own };
+          has = record { whole = whole.whole; own = own; unexplained = alone };
         }));
       };
-      first = λ before. first-alone v h before no_header;
+      first = λ before. first-alone v h before none;
     } in
-    (is.0, subst (λ (n : ℕ). IsFirstSign v n (h + 4096)) (sym is.0) at_h, λ t kind sign. kind ∙ sym is.0)
+    (refl, at_h, λ t kind sign. kind)
   where
-    first-alone : (v : List ℕ) (h : ℕ) → HasSignBefore v h (h + 4096) → (BeginsHeader (part v h 8) → ⊥) → ⊥
+    first-alone : (v : List ℕ) (h : ℕ) → HasSignBefore v h (h + 4096) → (BeginsVolume v h → ⊥) → ⊥
     first-alone v h before none =
         let low : before.place < h + 4096 = before.before in
         elim before.sign.is [
@@ -294,11 +310,26 @@ sound-before v h k size listed back sound = record {
 pub has-before : (v : List ℕ) (h k size : ℕ) → IsListed size → 512 * k + size ≡ h → HasNearer v (512 * k) size → HasSignBefore v (512 * k) (h + 4096)
 has-before v h k size listed back has = nearer-before v (512 * k) (h + 4096) k size refl listed (omega (arith, back)) has
 
--- none does
+-- it is explained
+pub second-another : (v : List ℕ) (h k size : ℕ) → IsWholeAt v h size → 512 * k + size ≡ h → IsExplained v (512 * k) (second_copy size)
+    → TellsKind (IsSecondAt h) v (h + 4096) None
+second-another v h k size whole back is = λ s below sign.
+    let metadata : IsMetadataSign v s (h + 4096) = sign-metadata v s (h + 4096) (whole-text v h size whole) sign in
+    let there : s + metadata.copy.at ≡ h = header-there v s (h + 4096) h refl metadata in
+    let same : metadata.copy.size ≡ size = whole-one v h metadata.copy.size size (candidate-here v s h metadata.copy there metadata.has.whole) whole in
+    elim metadata.has.whole.is_place.first_or_second [
+      | inl first ↦ absurd (omega (arith, there, first, below))
+      | inr second ↦
+          let start : 512 * k ≡ s = omega (arith, there, second, same, back) in
+          let at : size ≡ metadata.copy.at = omega (arith, second, same) in
+          absurd (metadata.has.unexplained (explained-as v (512 * k) s (second_copy size) metadata.copy start (sym same) at is))
+    ]
+
+-- nothing of these holds
 pub second-told : (v beginning : List ℕ) (h k size : ℕ) → IsWholeAt v h size → 512 * k + size ≡ h → beginning ≡ part v h 8
     → (part beginning 0 6 ≡ luks_magic → ⊥) → (IsSound (volume_at v (512 * k)) size → ⊥) → (HasNearer v (512 * k) size → ⊥)
-    → TellsKind (IsSecondAt h) v (h + 4096) (Some (512 * k))
-second-told v beginning h k size whole back read own unsound far =
+    → (IsExplained v (512 * k) (second_copy size) → ⊥) → TellsKind (IsSecondAt h) v (h + 4096) (Some (512 * k))
+second-told v beginning h k size whole back read own unsound far alone =
     let start : ℕ = 512 * k in
     let copy : Place = second_copy size in
     let listed : IsListed size = whole.whole.is_place.listed in
@@ -315,6 +346,7 @@ second-told v beginning h k size whole back read own unsound far =
             has = record {
               whole = candidate-there v start h copy (inr refl) back whole;
               own = λ magic. own (front-of v beginning h read ∙ ap (λ n. part v n 6) (sym back) ∙ magic ∙ other);
+              unexplained = alone;
             };
           }));
         };

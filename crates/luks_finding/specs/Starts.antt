@@ -1,9 +1,12 @@
 -- Where LUKS volumes begin on a disk, by what is left of them.
-use Rattle.std.specs.Prelude.{◌≡◌, ℕ, ◌+◌, ◌*◌, ◌<◌, ◌⊎◌, ◌==◌, List, drop, length, slice_index, if◌then◌else◌}
+use Rattle.std.specs.Prelude.{◌≡◌, ◌≢◌, ℕ, ◌+◌, ◌*◌, ◌<◌, ◌≤◌, ◌⊎◌, ◌==◌, List, codes, drop, length, slice_index, if◌then◌else◌}
 use Rattle.luks_area.specs.Ranges.{part}
-use Rattle.luks1_header.specs.Header1.{luks_magic, HasMagic, version_of}
+use Rattle.luks1_header.specs.Header1.{header_text, key_bytes_of, luks_magic, luks1_size, mk_digest_iterations_of, version_of, HasMagic}
+use Rattle.luks1_header.specs.declared.fault.TextField.{TextField}
+use Rattle.luks1_mending.specs.Signs.{HasSigns}
+use Rattle.luks1_mending.specs.Taken.{IsUsable}
 use Rattle.luks_signatures.specs.Reencryption.{reencrypting_magic}
-use Rattle.luks2_header.specs.Header2.{binary_header_size, second_magic, IsSound}
+use Rattle.luks2_header.specs.Header2.{binary_header_size, hdr_size, header_at, second_magic, IsSound}
 use Rattle.luks2_header.specs.Sizes.{IsListed}
 use Rattle.luks_rebuilding.specs.Candidates.{IsCandidate}
 use Rattle.luks_rebuilding.specs.declared.place.Place.{Place}
@@ -29,14 +32,40 @@ pub record BeginsReencrypting (b : List ℕ) : Type 0 where
 abbrev pub BeginsHeader : List ℕ → Type 0
 BeginsHeader b = BeginsLuks b ⊎ BeginsReencrypting b
 
+-- each field before the keyslots of these 592 bytes is usable as it stands
+pub record IsUsableHead (h : List ℕ) : Type 0 where
+  pub texts : (t : TextField) → IsUsable t (header_text h t)
+  pub key_at_least : 1 ≤ key_bytes_of h
+  pub key_at_most : key_bytes_of h ≤ 128
+  pub iterated : mk_digest_iterations_of h ≡ 0 → ⊥
+
+-- They are a LUKS1 header in a volume of `total` bytes of which `rebuild` makes one, with nothing given: they have signs of one,
+-- and their fields are usable. Neither the magic of a second copy nor that of a reencryption stands first, nor the brace of a
+-- JSON area.
+pub record IsLuks1Header (h : List ℕ) (total : ℕ) : Type 0 where
+  pub no_copy : part h 0 6 ≡ second_magic → ⊥
+  pub settled : part h 0 6 ≡ reencrypting_magic → ⊥
+  pub no_text : part h 0 1 ≡ codes "{" → ⊥
+  pub signs : HasSigns h total
+  pub usable : IsUsableHead h
+
 -- the volume that begins at the place `s` of the disk `v`: what follows, to the disk's end
 abbrev pub volume_at : List ℕ → ℕ → List ℕ
 volume_at v s = drop s v
 
--- the sign at the place `p` of a volume that begins at `s`: its first bytes
+-- one begins at the place `s` of the disk, whatever stands in the place of its magic and its version
+pub record BeginsLuks1 (v : List ℕ) (s : ℕ) : Type 0 where
+  pub whole : s + luks1_size ≤ length v
+  pub header : IsLuks1Header (part v s luks1_size) (length (volume_at v s))
+
+-- a header begins there, with its magic or without it
+abbrev pub BeginsVolume : List ℕ → ℕ → Type 0
+BeginsVolume v s = BeginsHeader (part v s 8) ⊎ BeginsLuks1 v s
+
+-- the sign at the place `p` of a volume that begins at `s`: its header, of LUKS1 also without its magic
 pub record IsHeaderSign (v : List ℕ) (s p : ℕ) : Type 0 where
   pub here : p ≡ s
-  pub begins : BeginsHeader (part v s 8)
+  pub begins : BeginsVolume v s
 
 -- the sign at the place `p` of a volume that begins at `s`: its second copy, which is sound, and so names its distance
 -- from the start as its size and as its place (LUKS2 On-Disk Format 1.1, 2.1)
@@ -50,11 +79,28 @@ pub record IsCopySign (v : List ℕ) (s p : ℕ) : Type 0 where
 abbrev pub other_magic : ℕ → List ℕ
 other_magic o = if o == 0 then second_magic else luks_magic
 
+-- the copy of the volume `w` at the place `at` is sound, and has this size
+pub record IsSoundOf (w : List ℕ) (size at : ℕ) : Type 0 where
+  pub sound : IsSound w at
+  pub sized : hdr_size (header_at w at) ≡ size
+
+-- Another volume has a copy of the same size in the place of this one of the volume that begins at `s`, and its other copy,
+-- which stands `at` bytes behind its start, is sound: so what stands here is explained by that volume.
+pub record IsExplained (v : List ℕ) (s : ℕ) (copy : Place) : Type 0 where
+  pub start : ℕ
+  pub another : start ≢ s
+  pub at : ℕ
+  pub half : (at ≡ 0) ⊎ (at ≡ copy.size)
+  pub sound : IsSoundOf (volume_at v start) copy.size at
+  pub there : start + copy.size ≡ s + copy.at + at
+
 -- the copy of the volume that begins at `s` has metadata that is whole, as `rebuild` takes it. A JSON area doesn't say of
--- which copy it is: it counts for none of one where the magic of the other stands before it.
+-- which copy it is: it counts for none of one where the magic of the other stands before it, or where a sound copy says
+-- that it is the other copy of another volume.
 pub record HasMetadata (v : List ℕ) (s : ℕ) (copy : Place) : Type 0 where
   pub whole : IsCandidate (volume_at v s) Any copy
   pub own : part v (s + copy.at) 6 ≡ other_magic copy.at → ⊥
+  pub unexplained : IsExplained v s copy → ⊥
 
 -- the sign at the place `p` of a volume that begins at `s`: the JSON area of its first or of its second copy
 pub record IsMetadataSign (v : List ℕ) (s p : ℕ) : Type 0 where

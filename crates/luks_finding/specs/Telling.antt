@@ -1,13 +1,13 @@
 -- What a place of a disk tells.
 use Rattle.std.specs.Prelude.{◌≡◌, ◌⊎◌, ℕ, ◌+◌, ◌<◌, ◌≤◌, List, [], ◌∷◌, Option, None, Some, length, slice_index}
 use Rattle.luks_area.specs.Ranges.{part}
-use Rattle.luks2_header.specs.Header2.{binary_header_size, hdr_size, second_magic, IsSound}
+use Rattle.luks2_header.specs.Header2.{binary_header_size, hdr_size, IsSound}
 use Rattle.luks2_header.specs.Sizes.{IsListed}
 use Rattle.luks_rebuilding.specs.Candidates.{IsCandidate}
 use Rattle.luks_rebuilding.specs.declared.place.Place.{Place}
 use Rattle.luks_rebuilding.specs.declared.place.Which.TheVariants.{Any}
 use Rattle.luks_finding.specs.Blocks.{HasText}
-use Rattle.luks_finding.specs.Starts.{volume_at, BeginsHeader, BeginsReencrypting, HasMetadata, HasSignBefore, IsAmong, IsFirstSign, IsSign}
+use Rattle.luks_finding.specs.Starts.{volume_at, BeginsVolume, HasMetadata, HasSignBefore, IsAmong, IsFirstSign, IsSign}
 use Rattle.luks_finding.specs.declared.find_fault.FindFault.{FindFault}
 use Rattle.luks_finding.specs.declared.find_fault.FindFault.TheVariants.{Memory, Device}
 use Rattle.luks_finding.specs.declared.told.Told.{Told}
@@ -39,11 +39,6 @@ abbrev pub LieBefore : ℕ → Told → Type 0
 LieBefore p Nothing = Unit {0}
 LieBefore p (One s) = s ≤ p
 LieBefore p (Two s t) = (s < t) × (t ≤ p)
-
--- what stands before a JSON area that is no sign of a first copy: the magic of a second one, or a header of LUKS1 whose
--- volume is being reencrypted, which is a sign of its own
-abbrev pub IsNoFirst : List ℕ → Type 0
-IsNoFirst b = (part b 0 6 ≡ second_magic) ⊎ BeginsReencrypting b
 
 -- the starts of a second and of a first copy
 abbrev pub joined : Option ℕ → Option ℕ → Told
@@ -86,7 +81,7 @@ HasMetadataOf v s near size = HasMetadata v s (first_copy near) ⊎ ((near < siz
 
 -- a sign of the volume at `s` stands before one of its second copy of this size: a header, a copy or metadata
 abbrev pub HasNearer : List ℕ → ℕ → ℕ → Type 0
-HasNearer v s size = BeginsHeader (part v s 8) ⊎ HasNearerCopy (volume_at v s) size ⊎ HasNearerMetadata v s size
+HasNearer v s size = BeginsVolume v s ⊎ HasNearerCopy (volume_at v s) size ⊎ HasNearerMetadata v s size
 
 -- the size that a binary header at the place `p` names: a listed one, with room for a start so far before it
 pub record NamesSize (v : List ℕ) (p size : ℕ) : Type 0 where

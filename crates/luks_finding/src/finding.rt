@@ -64,9 +64,20 @@ impl Finding {
     /// The sector, of 512 bytes, from which on the search looks. The starts with a sign before it have
     /// been told.
     pub fn sector(&self) -> u64
-        ensures { result ≡ looks_from self.now }
+        ensures is { result ≡ looks_from self.now }
+        ensures fits { result ≤ 36028797018963968 }
     {
         self.sector
+    }
+
+    /// Goes on at the sector, whatever stands before it. The next block has this sector alone, and each
+    /// further one twice as many.
+    pub fn go_on_at(&mut self, sector: u64)
+        requires { sector ≤ 36028797018963968 }
+        ensures { looks_from self.new ≡ sector }
+    {
+        self.sector = sector;
+        self.sectors = 1;
     }
 
     /// Looks for the next sector of the device at which a header, a second copy or a JSON area begins,
@@ -88,6 +99,7 @@ impl Finding {
         ensures unchanged { IsUnchanged D.tells D.size D.bytes D.unsettled device.old device.new }
         ensures count { CountsFailure is_find_failure result (D.failed device.old) (D.failed device.new) }
         ensures stays { OnErr result (looks_from self.new ≡ looks_from self.old) }
+        ensures within { OnErr result (512 * looks_from self.old < D.size device.old) }
         ensures goes_on { IfOk result
             (GoesOn (D.size device.old) (looks_from self.old) (looks_from self.new)) }
         ensures next { D.tells → IfOk result

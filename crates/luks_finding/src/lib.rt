@@ -3,6 +3,7 @@
 
 mod find_fault;
 mod finding;
+mod luks1_headers;
 mod metadata;
 mod metadata_signs;
 mod second_copies;
@@ -13,4 +14,5 @@ mod told;
 
 pub use find_fault::FindFault;
 pub use finding::{Finding, Step};
+pub use luks1_headers::begins_luks1;
 pub use starts::all_starts;

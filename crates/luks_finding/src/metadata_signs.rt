@@ -1,16 +1,17 @@
 //! Metadata as a sign of the volume that begins before it.
 ghost use Rattle.std.specs.Prelude.{◌≡◌, ◌↔◌, ◌+◌, ◌*◌, ◌^◌, ◌<◌, ◌≤◌, ◌⊎◌, IsTrue, IfErr, IfOk, IfSome};
-ghost use Rattle.luks_area.specs.Device.{CountsFailure, IsUnchanged};
+ghost use Rattle.luks_area.specs.Device.{CountsFailure, IsUnchanged, is_failure};
+ghost use Rattle.luks_area.specs.Ranges.{part};
 ghost use Rattle.luks2_header.specs.Sizes.{IsListed};
 ghost use Rattle.luks_finding.specs.Faults.{is_find_failure};
-ghost use Rattle.luks_finding.specs.Starts.{other_magic, HasMetadata};
+ghost use Rattle.luks_finding.specs.Starts.{other_magic, HasMetadata, IsExplained};
 ghost use Rattle.luks_finding.specs.Telling.{FindsWhole, HasMetadataOf, HasNearerMetadata, IsMemoryOnly};
 
 use crate::find_fault::FindFault;
 use crate::metadata::is_whole;
-use crate::second_copies::LISTED_SIZES;
+use crate::second_copies::{LISTED_SIZES, is_sound, is_sound_first};
 use crate::signs::{SECOND_MAGIC, SECTOR};
-use luks_area::Device;
+use luks_area::{Device, DeviceFault};
 use luks_rebuilding::Place;
 use luks1_header::luks1_places::MAGIC;
 use std::alloc::Global;
@@ -40,8 +41,36 @@ pub(crate) fn whole_size<D: Device>(
     Ok(None)
 }
 
+/// Whether a sound copy of another volume says that what stands in the place of this copy, of the volume
+/// that begins at the sector `sector`, is its other copy. Reads a binary header, and only where that is
+/// of the right form the whole copy.
+pub(crate) fn is_explained<D: Device>(
+    device: &mut D,
+    sector: u64,
+    place: Place,
+) -> Result<bool, DeviceFault>
+    requires listed { IsListed place.size }
+    requires half { (place.at ≡ 0) ⊎ (place.at ≡ place.size) }
+    requires inside { 512 * sector + place.at ≤ D.size device.old }
+    requires room { D.failed device.old + 1 < 2 ^ 64 }
+    ensures unchanged { IsUnchanged D.tells D.size D.bytes D.unsettled device.old device.new }
+    ensures count { CountsFailure is_failure result (D.failed device.old) (D.failed device.new) }
+    ensures explained { D.tells → IfOk result
+        (λ is. IsTrue is ↔ IsExplained (D.bytes device.old) (512 * sector) place) }
+{
+    let _total = device.len();
+    let start = SECTOR as u64 * sector;
+    if place.at > 0 {
+        return is_sound(device, start + place.size, place.size);
+    }
+    if place.size > start {
+        return Ok(false);
+    }
+    is_sound_first(device, start - place.size, place.size)
+}
+
 /// Whether the copy at the place, of the volume that begins at the sector `sector`, has whole metadata,
-/// and the other copy's magic doesn't stand before it.
+/// the other copy's magic doesn't stand before it, and no sound copy of another volume explains it.
 fn has_metadata<D: Device>(
     alloc: Global,
     device: &mut D,
@@ -61,6 +90,24 @@ fn has_metadata<D: Device>(
     if !is_whole(alloc, device, sector, place)? {
         return Ok(false);
     }
+    if !is_own(device, sector, place)? {
+        return Ok(false);
+    }
+    if is_explained(device, sector, place)? {
+        return Ok(false);
+    }
+    Ok(true)
+}
+
+/// Whether the other copy's magic doesn't stand before the copy at the place.
+fn is_own<D: Device>(device: &mut D, sector: u64, place: Place) -> Result<bool, DeviceFault>
+    requires inside { 512 * sector + place.at + 6 ≤ D.size device.old }
+    requires room { D.failed device.old + 1 < 2 ^ 64 }
+    ensures unchanged { IsUnchanged D.tells D.size D.bytes D.unsettled device.old device.new }
+    ensures count { CountsFailure is_failure result (D.failed device.old) (D.failed device.new) }
+    ensures own { D.tells → IfOk result (λ own. IsTrue own
+        ↔ (part (D.bytes device.old) (512 * sector + place.at) 6 ≡ other_magic place.at → ⊥)) }
+{
     let _total = device.len();
     let mut magic = [0; 6];
     device.read_at(SECTOR as u64 * sector + place.at, &mut magic)?;

@@ -1,18 +1,19 @@
-//! Second copies of LUKS2 headers, and whether they are sound in a volume that begins before them.
+//! Copies of LUKS2 headers, and whether they are sound in a volume that begins with them or before them.
 ghost use Rattle.std.specs.Prelude.{◌≡◌, ◌↔◌, ◌+◌, ◌^◌, ◌<◌, ◌≤◌, codes, IsTrue, IfOk, IfSome, length};
 ghost use Rattle.sha2.specs.Hashers.{Holds256};
 ghost use Rattle.sha2.specs.Sha256.{sha256};
 ghost use Rattle.luks_area.specs.Device.{CountsFailure, IsUnchanged, is_failure};
 ghost use Rattle.luks_area.specs.Ranges.{part};
 ghost use Rattle.luks_area.specs.Text.{text_of};
-ghost use Rattle.luks2_header.specs.Header2.{binary_header_size, csum_at, header_at, sha256_size, with_zero_checksum, IsFormed, IsSound};
+ghost use Rattle.luks2_header.specs.Header2.{binary_header_size, csum_at, hdr_size, header_at, sha256_size, with_zero_checksum, IsFormed, IsSound};
 ghost use Rattle.luks2_header.specs.Sizes.{is_listed, IsListed};
-ghost use Rattle.luks_finding.specs.Starts.{volume_at};
+ghost use Rattle.luks_finding.specs.Starts.{volume_at, IsSoundOf};
 ghost use Rattle.luks_finding.specs.Telling.{FindsSize, HasNearerCopy};
 
 use crate::signs::SECOND_MAGIC;
 use luks_area::{Device, DeviceFault, text_field};
 use luks1_header::fields::field;
+use luks1_header::luks1_places::MAGIC;
 use luks2_header::Bin2;
 use sha2::{Digest, Sha256};
 
@@ -88,6 +89,21 @@ fn is_formed(head: &[u8], size: u64, total: u64) -> bool
         && header.hdr_offset == size
         && size <= total
         && size <= total - size
+        && has_sha256(&header)
+}
+
+/// The same of a first copy of `size` bytes.
+fn is_formed_first(head: &[u8], size: u64, total: u64) -> bool
+    requires header { length head.now ≡ binary_header_size }
+    requires listed { IsListed size }
+    ensures { IsTrue result ↔ (IsFormed head.now 0 total × (hdr_size head.now ≡ size)) }
+{
+    let header = Bin2::read(head);
+    header.magic == MAGIC
+        && header.version == 2
+        && header.hdr_size == size
+        && header.hdr_offset == 0
+        && size <= total
         && has_sha256(&header)
 }
 
@@ -168,6 +184,30 @@ pub(crate) fn is_sound<D: Device>(
     }
     let digest = digest_of_copy(device, start + size, size, &head)?;
     Ok(has_sum(&head, &digest))
+}
+
+/// Whether the volume that begins at `start` has a sound first copy of `size` bytes. Reads as much.
+pub(crate) fn is_sound_first<D: Device>(
+    device: &mut D,
+    start: u64,
+    size: u64,
+) -> Result<bool, DeviceFault>
+    requires listed { IsListed size }
+    requires inside { start + size ≤ D.size device.old }
+    requires room { D.failed device.old + 1 < 2 ^ 64 }
+    ensures unchanged { IsUnchanged D.tells D.size D.bytes D.unsettled device.old device.new }
+    ensures count { CountsFailure is_failure result (D.failed device.old) (D.failed device.new) }
+    ensures sound { D.tells → IfOk result
+        (λ is. IsTrue is ↔ IsSoundOf (volume_at (D.bytes device.old) start) size 0) }
+{
+    let total = device.len() - start;
+    let mut head = [0; HEAD];
+    device.read_at(start, &mut head)?;
+    if !is_formed_first(&head, size, total) {
+        return Ok(false);
+    }
+    let sum = digest_of_copy(device, start, size, &head)?;
+    Ok(has_sum(&head, &sum))
 }
 
 /// Whether the volume that begins at `start` has a sound second copy nearer than `size` bytes.

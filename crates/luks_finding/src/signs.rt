@@ -1,8 +1,10 @@
 //! The signs of a volume that are seen in a block of a disk.
 ghost use Rattle.std.specs.Prelude.{◌≡◌, ◌↔◌, ◌+◌, ◌*◌, ◌≤◌, IsTrue, IfSome, length};
-ghost use Rattle.luks_finding.specs.Blocks.{BeginsSecond, BeginsSign, BeginsText, FindsIn};
+ghost use Rattle.luks_area.specs.Ranges.{part};
+ghost use Rattle.luks_finding.specs.Blocks.{BeginsFields, BeginsSecond, BeginsSign, BeginsText, FindsIn, MayBegin};
 ghost use Rattle.luks_finding.specs.Starts.{BeginsHeader, BeginsLuks, BeginsReencrypting};
 
+use byteorder::{BigEndian, ByteOrder};
 use luks1_header::fields::{field, u16_at};
 use luks1_header::luks1_places::{MAGIC, VERSION};
 
@@ -12,11 +14,16 @@ pub(crate) const SECTOR: usize = 512;
 /// The bytes of a magic and of the version behind it.
 pub(crate) const BEGINNING: usize = 8;
 
+/// Where the length of the volume key stands in a LUKS1 header, and where that field ends.
+const KEY_BYTES: usize = 108;
+
+const FIELDS: usize = 112;
+
 /// The magic of a second copy: `SKUL`, 0xBA, 0xBE.
 pub(crate) const SECOND_MAGIC: [u8; 6] = [0x53, 0x4B, 0x55, 0x4C, 0xBA, 0xBE];
 
 /// The magic of a LUKS1 header while cryptsetup reencrypts its volume: `LUKS`, 0xDE, 0xAD.
-const REENCRYPTING_MAGIC: [u8; 6] = [0x4C, 0x55, 0x4B, 0x53, 0xDE, 0xAD];
+pub(crate) const REENCRYPTING_MAGIC: [u8; 6] = [0x4C, 0x55, 0x4B, 0x53, 0xDE, 0xAD];
 
 /// Whether a header begins with these 8 bytes: one that counts, or that of a LUKS1 volume which is being
 /// reencrypted.
@@ -67,7 +74,29 @@ fn is_sign(beginning: &[u8]) -> bool
     is_header(beginning) || is_second(beginning) || is_text(beginning)
 }
 
-/// The first sector of a block at which a header, a second copy or a JSON area begins. The block
+/// Whether a length of a volume key ends the 112 bytes from the place `at` of a block on, as it does in
+/// a LUKS1 header.
+fn begins_fields(block: &[u8], at: usize) -> bool
+    requires { at ≤ length block.now }
+    ensures { IsTrue result ↔ BeginsFields (part block.now at 112) }
+{
+    if block.len() - at < FIELDS {
+        return false;
+    }
+    let fields = field(block, at, FIELDS);
+    let key_bytes = BigEndian::read_u32(field(fields, KEY_BYTES, 4));
+    key_bytes >= 1 && key_bytes <= 128
+}
+
+/// Whether a header, a second copy or a JSON area may begin at the place `at` of a block.
+fn may_begin(block: &[u8], at: usize) -> bool
+    requires { at + 8 ≤ length block.now }
+    ensures { IsTrue result ↔ MayBegin block.now at }
+{
+    is_sign(field(block, at, BEGINNING)) || begins_fields(block, at)
+}
+
+/// The first sector of a block at which a header, a second copy or a JSON area may begin. The block
 /// begins at a sector.
 pub(crate) fn first_sign(block: &[u8]) -> Option<usize>
     requires { length block.now ≤ 1048576 }
@@ -77,7 +106,7 @@ pub(crate) fn first_sign(block: &[u8]) -> Option<usize>
     let whole = (block.len() + (SECTOR - BEGINNING)) / SECTOR;
     for index in 0..whole {
         let at = SECTOR * index;
-        if is_sign(&block[at..at + BEGINNING]) {
+        if may_begin(block, at) {
             return Some(index);
         }
     }

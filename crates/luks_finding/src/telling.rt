@@ -1,20 +1,22 @@
 //! What a place of a disk tells: the volumes whose first sign stands there.
-ghost use Rattle.std.specs.Prelude.{◌≡◌, ◌↔◌, ◌+◌, ◌*◌, ◌^◌, ◌<◌, ◌≤◌, length, IsTrue, IfErr, IfOk, IfSome, MatchOption};
+ghost use Rattle.std.specs.Prelude.{◌≡◌, ◌↔◌, ◌+◌, ◌*◌, ◌^◌, ◌<◌, ◌≤◌, length, IsTrue, IfErr, IfOk, IfSome};
 ghost use Rattle.luks_area.specs.Device.{CountsFailure, IsUnchanged, is_failure};
 ghost use Rattle.luks_area.specs.Ranges.{part};
 ghost use Rattle.luks2_header.specs.Header2.{second_magic};
 ghost use Rattle.luks2_header.specs.Sizes.{IsListed};
 ghost use Rattle.luks_finding.specs.Blocks.{BeginsText};
 ghost use Rattle.luks_finding.specs.Faults.{is_find_failure};
-ghost use Rattle.luks_finding.specs.Starts.{BeginsHeader};
-ghost use Rattle.luks_finding.specs.Telling.{joined, HasNearer, IsMemoryOnly, IsNoFirst, IsSecondAt, IsWholeAt, LieBefore, NamesSize, TellsAt, TellsKind};
+ghost use Rattle.luks_finding.specs.Starts.{BeginsVolume};
+ghost use Rattle.luks_finding.specs.Telling.{joined, HasNearer, IsFirstAt, IsMemoryOnly, IsSecondAt, IsWholeAt, LieBefore, NamesSize, TellsAt, TellsKind};
 
 use crate::find_fault::FindFault;
-use crate::metadata_signs::{has_nearer_metadata, whole_size};
+use crate::luks1_headers::begins_luks1;
+use crate::metadata_signs::{has_nearer_metadata, is_explained, whole_size};
 use crate::second_copies::{HEAD, has_nearer_copy, is_sound, named_size};
-use crate::signs::{BEGINNING, SECOND_MAGIC, SECTOR, is_header, is_luks, is_reencrypting, is_text};
+use crate::signs::{BEGINNING, SECOND_MAGIC, SECTOR, is_header, is_luks, is_text};
 use crate::told::Told;
 use luks_area::{Device, DeviceFault};
+use luks_rebuilding::Place;
 use luks1_header::fields::field;
 use luks1_header::luks1_places::MAGIC;
 use std::alloc::Global;
@@ -33,6 +35,22 @@ fn beginning_at<D: Device>(device: &mut D, sector: u64) -> Result<[u8; BEGINNING
     let mut beginning = [0; BEGINNING];
     device.read_at(SECTOR as u64 * sector, &mut beginning)?;
     Ok(beginning)
+}
+
+/// Whether a header begins at the sector, with its magic or, of LUKS1, without it.
+fn begins_volume<D: Device>(device: &mut D, sector: u64) -> Result<bool, DeviceFault>
+    requires within { 512 * sector + 8 ≤ D.size device.old }
+    requires room { D.failed device.old + 1 < 2 ^ 64 }
+    ensures unchanged { IsUnchanged D.tells D.size D.bytes D.unsettled device.old device.new }
+    ensures count { CountsFailure is_failure result (D.failed device.old) (D.failed device.new) }
+    ensures begins { D.tells → IfOk result
+        (λ begins. IsTrue begins ↔ BeginsVolume (D.bytes device.old) (512 * sector)) }
+{
+    let beginning = beginning_at(device, sector)?;
+    if is_header(&beginning) {
+        return Ok(true);
+    }
+    begins_luks1(device, SECTOR as u64 * sector)
 }
 
 /// The starts of the volumes whose first sign stands at this sector.
@@ -55,10 +73,10 @@ pub(crate) fn told_at<D: Device>(
     ensures told { D.tells → IfOk result (TellsAt (D.bytes device.old) (512 * sector)) }
     ensures memory { D.tells → IfErr result (IsMemoryOnly (D.bytes device.old)) }
 {
-    let beginning = beginning_at(device, sector)?;
-    if is_header(&beginning) {
+    if begins_volume(device, sector)? {
         return Ok(Told::One(SECTOR as u64 * sector));
     }
+    let beginning = beginning_at(device, sector)?;
     if is_text(&beginning) {
         return told_by_text(alloc, device, sector);
     }
@@ -68,7 +86,7 @@ pub(crate) fn told_at<D: Device>(
 /// The same where neither a header nor a JSON area begins at the sector.
 fn told_by_copy<D: Device>(alloc: Global, device: &mut D, sector: u64) -> Result<Told, FindFault>
     requires within { 512 * sector + 8 ≤ D.size device.old }
-    requires none { D.tells → BeginsHeader (part (D.bytes device.old) (512 * sector) 8) → ⊥ }
+    requires none { D.tells → BeginsVolume (D.bytes device.old) (512 * sector) → ⊥ }
     requires no_text { D.tells → BeginsText (part (D.bytes device.old) (512 * sector) 8) → ⊥ }
     requires room { D.failed device.old + 1 < 2 ^ 64 }
     ensures unchanged { IsUnchanged D.tells D.size D.bytes D.unsettled device.old device.new }
@@ -93,7 +111,7 @@ fn told_before<D: Device>(
     requires listed { IsListed size }
     requires before { size ≤ 512 * sector }
     requires within { 512 * sector + 8 ≤ D.size device.old }
-    requires none { D.tells → BeginsHeader (part (D.bytes device.old) (512 * sector) 8) → ⊥ }
+    requires none { D.tells → BeginsVolume (D.bytes device.old) (512 * sector) → ⊥ }
     requires no_text { D.tells → BeginsText (part (D.bytes device.old) (512 * sector) 8) → ⊥ }
     requires named { D.tells → NamesSize (D.bytes device.old) (512 * sector) size }
     requires room { D.failed device.old + 1 < 2 ^ 64 }
@@ -130,8 +148,7 @@ fn has_nearer<D: Device>(
         (λ has. IsTrue has ↔ HasNearer (D.bytes device.old) (512 * start) size) }
     ensures memory { D.tells → IfErr result (IsMemoryOnly (D.bytes device.old)) }
 {
-    let beginning = beginning_at(device, start)?;
-    if is_header(&beginning) {
+    if begins_volume(device, start)? {
         return Ok(true);
     }
     if has_nearer_copy(device, SECTOR as u64 * start, size)? {
@@ -161,7 +178,7 @@ fn told_by_text<D: Device>(alloc: Global, device: &mut D, sector: u64) -> Result
     }
     match whole_size(alloc, device, header)? {
         Some(size) => {
-            let first = first_start(header, &beginning);
+            let first = first_start(device, header, size, &beginning)?;
             let second = second_start(alloc, device, header, size, &beginning)?;
             Ok(join(second, first))
         }
@@ -179,19 +196,36 @@ fn join(second: Option<u64>, first: Option<u64>) -> Told
     }
 }
 
-/// The start of the volume whose first sign is the metadata of its first copy, the binary header of
-/// which is at the sector `header` and begins so.
-fn first_start(header: u64, beginning: &[u8]) -> Option<u64>
-    requires fits { 512 * header < 2 ^ 64 }
+/// The start of the volume whose first sign is the metadata of its first copy, of `size` bytes, the
+/// binary header of which is at the sector `header` and begins so.
+fn first_start<D: Device>(
+    device: &mut D,
+    header: u64,
+    size: u64,
+    beginning: &[u8],
+) -> Result<Option<u64>, DeviceFault>
+    requires within { 512 * header + 4104 ≤ D.size device.old }
+    requires listed { IsListed size }
+    requires whole { D.tells → IsWholeAt (D.bytes device.old) (512 * header) size }
+    requires beginning { D.tells → beginning.now ≡ part (D.bytes device.old) (512 * header) 8 }
     requires long { length beginning.now ≡ 8 }
-    ensures start { MatchOption result (IsNoFirst beginning.now)
-        (λ s. (s ≡ 512 * header) × (IsNoFirst beginning.now → ⊥)) }
+    requires room { D.failed device.old + 1 < 2 ^ 64 }
+    ensures unchanged { IsUnchanged D.tells D.size D.bytes D.unsettled device.old device.new }
+    ensures count { CountsFailure is_failure result (D.failed device.old) (D.failed device.new) }
+    ensures before { IfOk result (λ told. IfSome told (λ s. s ≡ 512 * header)) }
+    ensures told { D.tells → IfOk result
+        (TellsKind (IsFirstAt (512 * header)) (D.bytes device.old) (512 * header + 4096)) }
 {
-    if begins_with(beginning, SECOND_MAGIC) || is_reencrypting(beginning) {
-        None
-    } else {
-        Some(SECTOR as u64 * header)
+    if begins_with(beginning, SECOND_MAGIC) {
+        return Ok(None);
     }
+    if begins_volume(device, header)? {
+        return Ok(None);
+    }
+    if is_explained(device, header, Place { size, at: 0 })? {
+        return Ok(None);
+    }
+    Ok(Some(SECTOR as u64 * header))
 }
 
 fn begins_with(beginning: &[u8], magic: [u8; 6]) -> bool
@@ -233,6 +267,9 @@ fn second_start<D: Device>(
         return Ok(None);
     }
     if has_nearer(alloc, device, start, size)? {
+        return Ok(None);
+    }
+    if is_explained(device, start, Place { size, at: size })? {
         return Ok(None);
     }
     Ok(Some(SECTOR as u64 * start))

@@ -13,7 +13,8 @@ use Rattle.luks_commands.specs.declared.answers.Answer.{Answer}
 use Rattle.luks_commands.specs.declared.inputs.InputFault.{InputFault}
 use Rattle.luks_commands.specs.Answer.{IsWordless, rebuild1_fault_answer}
 use Rattle.luks_header_commands.specs.Rebuilding.{IsGiven, IsLuks1Answer, IsRebuildAnswer, KeepsRest, KeepsRest1}
-use Rattle.luks_header_commands.specs.Target.{AnswersHeader, HoldsBackHeader, IsLater, IsOtherTarget, LeavesTarget, Pair}
+use Rattle.luks_commands.specs.Beside.{LeavesTarget}
+use Rattle.luks_header_commands.specs.Target.{AnswersHeader, HoldsBackHeader, IsLater, IsOtherTarget, Pair}
 use Rattle.luks_header_commands.specs.Trying.{no_header, none_open, one_opens, trial_failed, AnswersBy, IsTriedRest, IsWithPassphrase, IsTriedAnswer, KeepsBy, KeepsTried, TriedAnswer}
 use Rattle.luks_header_commands.proofs.RebuildFacts.{luks1_later}
 use Rattle.luks_header_commands.proofs.TargetFacts.{header_holds, none_later, one_later, same_later}

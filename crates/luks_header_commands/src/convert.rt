@@ -5,8 +5,8 @@ ghost use Rattle.luks_area.specs.Device.{IsSettled};
 ghost use Rattle.luks_commands.specs.Answer.{answer_status, convert_fault_answer};
 ghost use Rattle.luks_commands.specs.Files.{AreFirstBytes, IsUnreadRandom, KeepsVolume};
 ghost use Rattle.luks_header_commands.specs.Converting.{AnswersConvert, IsConvertAnswer, KeepsRest, random_count};
-ghost use Rattle.luks_header_commands.specs.Target.{AreOneFile, IsSameFile, LeavesTarget};
-ghost use Rattle.luks_header_commands.specs.Target.{SettlesTarget};
+ghost use Rattle.luks_commands.specs.Beside.{AreOneFile, IsSameFile, LeavesTarget};
+ghost use Rattle.luks_commands.specs.Beside.{SettlesTarget};
 
 use crate::header_work::{HeaderFiles, HeaderWork, READING_FAILED, TARGET_FAILED, make_header};
 use luks_commands::{Answer, Inputs, RandomBytes, Refusal, Status, device_fault, few_random_bytes};

@@ -5,16 +5,16 @@ ghost use Rattle.luks_area.specs.Device.{IsSettled, IsUnchanged};
 ghost use Rattle.luks_commands.specs.Answer.{answer_status};
 ghost use Rattle.luks_commands.specs.Files.{AreFirstBytes, IsUnreadRandom, KeepsVolume};
 ghost use Rattle.luks_commands.specs.declared.answers.Answer.{Answer as TheAnswer};
-ghost use Rattle.luks_commands.specs.declared.inputs.InputFault.TheVariants.{Unreadable};
-ghost use Rattle.luks_commands.specs.declared.inputs.Reason.TheVariants as reason;
 ghost use Rattle.luks_commands.specs.Standing.{bar_answer, is_bar_failure, IsBar, IsClear};
 ghost use Rattle.luks_writing.specs.TwoDevices.{CountsEither};
-ghost use Rattle.luks_header_commands.specs.Target.{AnswersHeader, AreOneFile, IsLater, IsOtherTarget};
-ghost use Rattle.luks_header_commands.specs.Target.{IsSameFile, LeavesTarget, Pair, pair_of, SettlesTarget};
+ghost use Rattle.luks_commands.specs.Beside.{AreOneFile};
+ghost use Rattle.luks_header_commands.specs.Target.{AnswersHeader, IsLater, IsOtherTarget};
+ghost use Rattle.luks_commands.specs.Beside.{IsSameFile, LeavesTarget, SettlesTarget};
+ghost use Rattle.luks_header_commands.specs.Target.{Pair, pair_of};
 
 use luks_commands::{
-    Answer, Bar, InputFault, Inputs, Reason, Refusal, Status, held_back, judge_standing,
-    random_bytes, unread, uuid_of,
+    Answer, Bar, Inputs, Refusal, Status, are_one_file, held_back, judge_standing, random_bytes,
+    unread, uuid_of,
 };
 use luks_reading::Device;
 use luks_request::Place;
@@ -96,7 +96,7 @@ pub(crate) trait HeaderWork {
 /// Does the work, or answers which of the files is missing: the volume is looked at before the target,
 /// and the random bytes are read last. Nothing is done where the target is the volume itself, nor, unless
 /// it may be, where another volume's header or another use stands there.
-#[tactic(auto, using(luks_commands::proofs::FileFacts::keeps_same, crate::proofs::TargetFacts::leaves_same, crate::proofs::TargetFacts::settles_same))]
+#[tactic(auto, using(luks_commands::proofs::FileFacts::keeps_same, luks_commands::proofs::BesideFacts::leaves_same, luks_commands::proofs::BesideFacts::settles_same))]
 pub(crate) fn make_header<W: HeaderWork, D: Device, R: Read, N: Read, E: Write, G: Progress>(
     alloc: Global,
     inputs: &mut Inputs<D, R, N>,
@@ -126,7 +126,7 @@ pub(crate) fn make_header<W: HeaderWork, D: Device, R: Read, N: Read, E: Write, 
         (AreFirstBytes files.now.needed N.remaining inputs.old.random)
         inputs.old.volume inputs.new.volume inputs.old.target inputs.new.target result }
 {
-    if is_one_file(files, &inputs.target) {
+    if are_one_file(files.volume, files.target, &inputs.target) {
         return Answer::Refused(Refusal::SameFile);
     }
     let volume = match &mut inputs.volume {
@@ -187,18 +187,4 @@ fn judge_target<D: Device>(
     }
     let uuid = uuid_of(volume)?;
     judge_standing(alloc, target, uuid, over)
-}
-
-/// Whether the target is the volume itself, by its name or by what was found.
-pub(crate) fn is_one_file<D>(files: &HeaderFiles<'_>, target: &Result<D, InputFault>) -> bool
-    ensures { IsTrue result ↔ AreOneFile files.now.volume.now files.now.target.now target.now }
-{
-    files.volume == files.target || is_volume_itself(target)
-}
-
-/// Whether it was found to be the volume itself.
-fn is_volume_itself<D>(target: &Result<D, InputFault>) -> bool
-    ensures { IsTrue result ↔ (target.now ≡ Err (Unreadable reason.SameFile)) }
-{
-    matches!(target, Err(InputFault::Unreadable(Reason::SameFile)))
 }

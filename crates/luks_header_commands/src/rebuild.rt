@@ -8,8 +8,9 @@ ghost use Rattle.luks_commands.specs.Files.{AreFirstBytes, IsLong, IsUnread, IsU
 ghost use Rattle.luks_header_commands.specs.Rebuilding.{IsAnswerOf, IsFieldOf, IsGiven, IsInField};
 ghost use Rattle.luks_header_commands.specs.Rebuilding.{IsRebuildAnswer, KeepsMeant, KeepsRest};
 ghost use Rattle.luks_header_commands.specs.Rebuilding.{random_count};
-ghost use Rattle.luks_header_commands.specs.Target.{AreOneFile, IsSameFile, LeavesTarget};
-ghost use Rattle.luks_header_commands.specs.Target.{pair_of, SettlesTarget};
+ghost use Rattle.luks_commands.specs.Beside.{AreOneFile, IsSameFile, LeavesTarget};
+ghost use Rattle.luks_commands.specs.Beside.{SettlesTarget};
+ghost use Rattle.luks_header_commands.specs.Target.{pair_of};
 ghost use Rattle.luks_header_commands.specs.Trying.{AnswersRebuild, KeepsRebuilt};
 
 use crate::header_work::{HeaderFiles, HeaderWork, make_header};

@@ -5,15 +5,18 @@ ghost use Rattle.std.specs.Result.{ForOk};
 ghost use Rattle.luks_area.specs.Device.{IsSettled, IsUnchanged};
 ghost use Rattle.luks_commands.specs.Answer.{answer_status};
 ghost use Rattle.luks_commands.specs.Files.{AreFirstBytes, IsLong, IsUnread, IsUnreadRandom, IsWhole, KeepsVolume};
-ghost use Rattle.luks_header_commands.specs.Target.{AreOneFile, IsSameFile, LeavesTarget, pair_of, SettlesTarget};
+ghost use Rattle.luks_commands.specs.Beside.{AreOneFile, IsSameFile, LeavesTarget, SettlesTarget};
+ghost use Rattle.luks_header_commands.specs.Target.{pair_of};
 ghost use Rattle.luks_header_commands.specs.Trying.{IsTriedAnswer, IsTriedRest, IsWithPassphrase};
 ghost use Rattle.luks_header_commands.specs.Trying.{KeepsTried, TriedAnswer};
 
-use crate::header_work::{HeaderFiles, HeaderWork, READING_FAILED, is_one_file, make_header};
+use crate::header_work::{HeaderFiles, HeaderWork, READING_FAILED, make_header};
 use crate::of_fields::{make_of_fields, not_of_fields};
 use crate::rebuild::given_of;
 use luks_commands::open::note_line_feed;
-use luks_commands::{Answer, Inputs, PassphraseFault, Refusal, Status, passphrase, unread};
+use luks_commands::{
+    Answer, Inputs, PassphraseFault, Refusal, Status, are_one_file, passphrase, unread,
+};
 use luks_reading::Device;
 use luks_request::Rebuilding;
 use luks1_rebuilding::Given;
@@ -23,7 +26,7 @@ use std::io::{Read, Write};
 
 /// Reads the passphrase of this file and makes a header by it, or answers which of the files is missing.
 /// Nothing is read where the target is the volume itself.
-#[tactic(auto, using(luks_commands::proofs::FileFacts::keeps_same, crate::proofs::TargetFacts::leaves_same, crate::proofs::TargetFacts::settles_same))]
+#[tactic(auto, using(luks_commands::proofs::FileFacts::keeps_same, luks_commands::proofs::BesideFacts::leaves_same, luks_commands::proofs::BesideFacts::settles_same))]
 pub(crate) fn make_tried<D: Device, R: Read, N: Read, E: Write, G: Progress>(
     alloc: Global,
     inputs: &mut Inputs<D, R, N>,
@@ -54,7 +57,7 @@ pub(crate) fn make_tried<D: Device, R: Read, N: Read, E: Write, G: Progress>(
         (AreFirstBytes files.now.needed N.remaining inputs.old.random)
         inputs.old.volume inputs.new.volume inputs.old.target inputs.new.target result }
 {
-    if is_one_file(files, &inputs.target) {
+    if are_one_file(files.volume, files.target, &inputs.target) {
         return Answer::Refused(Refusal::SameFile);
     }
     let words = match passphrase(alloc, &mut inputs.passphrase) {

@@ -17,6 +17,9 @@ and to the areas of the keyslots that they name, restore to all of them, and
 format to those of a new volume. Only find reads the data, in which a volume may
 stand. explain says what a fault means.
 
+Behind a number of bytes or of MiB may stand K, M, G or T, for 1024 bytes, 1024
+of these and so on: --offset 1M is 1048576, --memory 1G is 1024 MiB.
+
 Each command prints its answer on standard output, in the lines that its help
 lists: luks COMMAND --help. What stops it is an answer too: 'refused FAULT',
 'device fault' where a file can't be read, 'no memory'. Standard error says what
@@ -87,7 +90,8 @@ At most one of these is given:
           is
   --map   the areas in the order of their places, with the gaps between them, in
           bytes: place, length, what it is. Those that end past the volume are
-          marked 'outside', those that begin inside one above 'overlap'
+          marked 'outside', those that have bytes and begin inside one above
+          'overlap'
   --json  one JSON object on one line, with all that the lines tell and more,
           and every place in bytes
 

@@ -2,4 +2,5 @@
 #![tactic(auto)]
 
 pub mod helps;
+pub mod other_words;
 pub mod rescue_helps;

@@ -7,9 +7,10 @@ pub const FIND: &str = "Finds the volumes of a disk by any sign left of them";
 pub const FIND_MORE: &str = "\
 DEVICE is read once, from its beginning to its end, and nothing is written. A
 volume begins at a multiple of 512 where one of these signs is left of it: the
-LUKS magic with version 1 or 2 behind it; a sound second copy of a LUKS2 header;
-metadata of LUKS2 that is whole, as rebuild takes it, in either copy. That the
-magic or the whole first copy is gone hides no other sign.
+LUKS magic with version 1 or 2 behind it; a LUKS1 header without its magic, of
+which rebuild makes one; a sound second copy of a LUKS2 header; metadata of
+LUKS2 that is whole, as rebuild takes it, in either copy. That the magic or the
+whole first copy is gone hides no other sign.
 
 Prints a line for each, as soon as it is certain:
   OFFSET VERDICT  the byte of DEVICE where it begins, and the line that
@@ -73,9 +74,10 @@ pub const RESTORE: &str = "Puts a header backup back onto its volume";
 pub const RESTORE_MORE: &str = "\
 The header and the key areas of FILE, a backup by luks backup or by cryptsetup
 luksHeaderBackup, are written to VOLUME, each byte to its own place. FILE is
-only read, and no byte of the data changes. Afterwards the passphrases of the
-backup open the volume, and no others: one that was added since is gone, and one
-that was removed comes back. Before that standard error says of how many.
+only read, and no byte of the data changes, where FILE's header places it.
+Afterwards the passphrases of the backup open the volume, and no others: one
+that was added since is gone, and one that was removed comes back. Before that
+standard error says which keyslots these are.
 
 What stands on VOLUME is written over, but the header of another volume, one
 that counts and has another uuid and another digest of the volume key, with

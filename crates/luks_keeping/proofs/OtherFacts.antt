@@ -19,9 +19,8 @@ use Rattle.luks_reading.specs.declared.read_fault.ReadFault.{ReadFault}
 use Rattle.luks_reading.specs.declared.read_fault.ReadFault.TheVariants as read
 use Rattle.luks_keeping.specs.Laid.{choice_of}
 use Rattle.luks_keeping.specs.OtherHeaders.{read_uuid, selected_choice, selected_uuid, TellsOther}
-use Rattle.luks_keeping.specs.SameKeys.{SharesHeader}
+use Rattle.luks_keeping.specs.SameKey.{SharesDigest}
 use Rattle.luks_keeping.specs.SameVolume.{uuid_bytes, HasOtherUuid, IsOtherVolume}
-use Rattle.luks_keeping.proofs.KeyFacts.{shares_digest, shares_header}
 use Rattle.luks_keeping.proofs.LaidFacts.{chosen_of}
 
 -- ---- nothing counts
@@ -123,11 +122,11 @@ module _ (b t : List ℕ) (h k : Header) (is : IsHeader b h) (other : IsHeader t
   one_uuid false on e = absurd (false≢true on)
 
   -- another uuid, and no digest in common
-  pub is_other : (same shares : Bool) → (IsTrue same ↔ (read_uuid k ≡ read_uuid h)) → (IsTrue shares ↔ SharesHeader h k)
+  pub is_other : (same shares : Bool) → (IsTrue same ↔ (read_uuid k ≡ read_uuid h)) → (IsTrue shares ↔ SharesDigest b t)
       → IsTrue (not same && not shares) ↔ IsOtherVolume b t
   is_other true shares e s = (λ q. absurd (false≢true q), λ x. absurd (uuid_agrees (e.0 refl) x.uuid))
-  is_other false true e s = (λ q. absurd (false≢true q), λ x. absurd (x.key (shares_digest b t h k is other (s.0 refl))))
+  is_other false true e s = (λ q. absurd (false≢true q), λ x. absurd (x.key (s.0 refl)))
   is_other false false e s = (
-    λ q. record { uuid = uuid_differs (λ p. false≢true (e.1 p)); key = λ d. false≢true (s.1 (shares_header b t h k is other d)) },
+    λ q. record { uuid = uuid_differs (λ p. false≢true (e.1 p)); key = λ d. false≢true (s.1 d) },
     λ x. refl,
   )

@@ -1,5 +1,6 @@
 -- The salts of keyslots, and how they stand to each other.
-use Rattle.std.proofs.Common.{◌≡◌, ◌↔◌, ℕ, List, Some, IsTrue, sym, ap, subst, ◌∙◌}
+use Rattle.std.proofs.Common.{◌≡◌, ◌↔◌, ℕ, ◌<◌, List, length, Option, Some, None, slice_index_or, IsTrue, refl, sym, ap, subst, ◌∙◌}
+use Rattle.std.proofs.lemmas.List.{get_or_default}
 use Rattle.serde_json.specs.Data.{Data as Value}
 use Rattle.luks_rules.proofs.AreaFaults.{one_value}
 use Rattle.luks_meta.specs.Content.{content}
@@ -12,8 +13,12 @@ use Rattle.luks_reading.specs.declared.header.Header.{Header}
 use Rattle.luks_reading.specs.declared.header.Header.TheVariants.{Luks1, Luks2}
 use Rattle.luks_keeping.specs.Compared.{HasSalt2, HasSaltAs, IsCompared, IsUsedSalt, StandsSo}
 use Rattle.luks_keeping.specs.Laid.{choice_of}
-use Rattle.luks_keeping.specs.SameKeys.{SharesHeader}
-use Rattle.luks_keeping.specs.Salts.{HasHeaderSalt, HoldsKeeping, IsSameOrOlder}
+use Rattle.luks_keeping.specs.Outlines.{IsOutline}
+use Rattle.luks_keeping.specs.SameKey.{SharesDigest}
+use Rattle.luks_keeping.specs.SameKeys.{Shares}
+use Rattle.luks_keeping.specs.Salts.{FindsSalt, HasHeaderSalt, HoldsKeeping, IsListedSalt, IsSameOrOlder}
+use Rattle.luks_keeping.specs.declared.outline.Outline.{Outline}
+use Rattle.luks_keeping.specs.declared.salts.Salt.{Salt}
 use Rattle.luks_keeping.specs.declared.comparison.Comparison.{Comparison}
 use Rattle.luks_keeping.specs.declared.comparison.Keeping.{Keeping}
 use Rattle.luks_keeping.specs.declared.comparison.Keeping.TheVariants.{Absent, Same, Older, Missing, Removed, Damaged}
@@ -34,11 +39,50 @@ one_salt : (h : Header) (n : ℕ) (s t : List ℕ) → HasHeaderSalt h n s → H
 one_salt (Luks1 bytes) n s t x y = sym x.salted ∙ y.salted
 one_salt (Luks2 copy) n s t x y = one_salt2 (content copy.meta) n s t x y
 
+-- ---- as it is listed
+
+there : (o : Option Salt) (x : Salt) → o ≡ Some x → IsListedSalt o x.bytes.items
+there o x e = subst (λ (q : Option Salt). IsListedSalt q x.bytes.items) (sym e) refl
+
+gone : (o : Option Salt) → o ≡ None → (s : List ℕ) → IsListedSalt o s → ⊥
+gone o e s y = subst (λ (q : Option Salt). IsListedSalt q s) e y
+
+only : (o : Option Salt) (x : Salt) → o ≡ Some x → (s : List ℕ) → IsListedSalt o s → x.bytes.items ≡ s
+only o x e s y = subst (λ (q : Option Salt). IsListedSalt q s) e y
+
 -- two keyslots that are there
-pub both_there : (h k : Header) (n : ℕ) (s t : List ℕ) → HasHeaderSalt h n s → HasHeaderSalt k n t → (state : Keeping) → IsSameOrOlder s t state → StandsSo (HasHeaderSalt h n) (HasHeaderSalt k n) state
-both_there h k n s t x y Same e = (s, (x, subst (HasHeaderSalt k n) (sym e) y))
-both_there h k n s t x y Older e = ((s, x), (t, y), λ u here there. e (one_salt h n s u x here ∙ one_salt k n u t there y))
-both_there h k n s t x y other e = absurd e
+pub both_there : (o p : Option Salt) (x y : Salt) → o ≡ Some x → p ≡ Some y → (state : Keeping) → IsSameOrOlder x.bytes.items y.bytes.items state
+    → StandsSo (IsListedSalt o) (IsListedSalt p) state
+both_there o p x y e f Same same = (x.bytes.items, (there o x e, subst (IsListedSalt p) (sym same) (there p y f)))
+both_there o p x y e f Older other = ((x.bytes.items, there o x e), (y.bytes.items, there p y f), λ s here stands. other (only o x e s here ∙ sym (only p y f s stands)))
+both_there o p x y e f state other = absurd other
+
+-- one of them alone, or neither
+pub first_there : (o p : Option Salt) (x : Salt) → o ≡ Some x → p ≡ None → StandsSo (IsListedSalt o) (IsListedSalt p) Removed
+first_there o p x e f = ((x.bytes.items, there o x e), gone p f)
+
+pub second_there : (o p : Option Salt) (y : Salt) → o ≡ None → p ≡ Some y → StandsSo (IsListedSalt o) (IsListedSalt p) Missing
+second_there o p y e f = (gone o e, (y.bytes.items, there p y f))
+
+pub none_there : (o p : Option Salt) → o ≡ None → p ≡ None → StandsSo (IsListedSalt o) (IsListedSalt p) Absent
+none_there o p e f = (gone o e, gone p f)
+
+-- whatever stands behind the list's end
+pub stands_at : (o p : List (Option Salt)) (n : ℕ) (d e : Option Salt) (state : Keeping) → n < length o → n < length p
+    → StandsSo (IsListedSalt (slice_index_or o n d)) (IsListedSalt (slice_index_or p n e)) state
+    → StandsSo (IsListedSalt (slice_index_or o n None)) (IsListedSalt (slice_index_or p n None)) state
+stands_at o p n d e state low under x =
+    subst (λ (q : Option Salt). StandsSo (IsListedSalt q) (IsListedSalt (slice_index_or p n None)) state) (get_or_default o n d None low)
+    (subst (λ (q : Option Salt). StandsSo (IsListedSalt (slice_index_or o n d)) (IsListedSalt q) state) (get_or_default p n e None under) x)
+
+-- the salt that is listed is the header's
+salt_in : (has : List ℕ → Type 0) (o : Option Salt) → FindsSalt has o → (s : List ℕ) → IsListedSalt o s → has s
+salt_in has None found s x = absurd x
+salt_in has (Some salt) found s x = subst has x found
+
+salt_out : (has : List ℕ → Type 0) (o : Option Salt) → ((s t : List ℕ) → has s → has t → s ≡ t) → FindsSalt has o → (s : List ℕ) → has s → IsListedSalt o s
+salt_out has None one found s x = absurd (found s x)
+salt_out has (Some salt) one found s x = one salt.bytes.items s found x
 
 -- ---- the same of volumes
 
@@ -63,13 +107,22 @@ module _
     stands_as Removed x = ((x.0.0, p x.0.0 x.0.1), λ s y. x.1 s (q' s y))
     stands_as Damaged x = absurd x
 
-pub is_compared : (h k : Header) (c : Comparison) → (IsTrue c.same_key ↔ SharesHeader h k) → HoldsKeeping h k 32 c.keyslots → (b t : List ℕ) → IsHeader b h → IsHeader t k → IsCompared b t c
-is_compared h k c key held b t is other = record {
+pub is_compared : (h k : Header) (o p : Outline) → IsOutline h o → IsOutline k p → (c : Comparison) → (IsTrue c.same_key ↔ Shares o.identity p.identity) → HoldsKeeping o.salts p.salts 32 c.keyslots
+    → (b t : List ℕ) → IsHeader b h → IsHeader t k → IsCompared b t c
+is_compared h k o p own others c key held b t is other = record {
   choice = choice_of h;
   chosen = chosen_of b h is;
   other = choice_of k;
   counts = chosen_of t k other;
-  key = (λ e. shares_digest b t h k is other (key.0 e), λ x. key.1 (shares_header b t h k is other x));
-  each = λ n low. stands_as (HasHeaderSalt h n) (HasHeaderSalt k n) (HasSaltAs b (choice_of h) n) (HasSaltAs t (choice_of k) n)
-      (salt_to b h is n) (salt_from b h is n) (salt_to t k other n) (salt_from t k other n) _ (held.each n low);
+  key = (
+    λ e. shares_digest b t h k o.identity p.identity own.identity others.identity is other (key.0 e),
+    λ x. key.1 (shares_header b t h k o.identity p.identity own.identity others.identity is other x),
+  );
+  each = λ n low.
+      stands_as (IsListedSalt (slice_index_or o.salts n None)) (IsListedSalt (slice_index_or p.salts n None)) (HasSaltAs b (choice_of h) n) (HasSaltAs t (choice_of k) n)
+      (λ s x. salt_to b h is n s (salt_in (HasHeaderSalt h n) (slice_index_or o.salts n None) (own.salts.each n low) s x))
+      (λ s x. salt_out (HasHeaderSalt h n) (slice_index_or o.salts n None) (one_salt h n) (own.salts.each n low) s (salt_from b h is n s x))
+      (λ s x. salt_to t k other n s (salt_in (HasHeaderSalt k n) (slice_index_or p.salts n None) (others.salts.each n low) s x))
+      (λ s x. salt_out (HasHeaderSalt k n) (slice_index_or p.salts n None) (one_salt k n) (others.salts.each n low) s (salt_from t k other n s x))
+      _ (held.each n low);
 }

@@ -18,3 +18,4 @@ pub mod Compared
 pub mod ComparisonTexts
 pub mod Salts
 pub mod AreasCompared
+pub mod Outlines

@@ -4,44 +4,38 @@ ghost use Rattle.luks_area.specs.Area.{IsInside};
 ghost use Rattle.luks_area.specs.Device.{IsUnchanged, is_failure};
 ghost use Rattle.luks_area.specs.Ranges.{part};
 ghost use Rattle.luks_writing.specs.TwoDevices.{CountsEither};
-ghost use Rattle.luks_reading.specs.Header.{IsAcceptedHeader, IsHeader};
-ghost use Rattle.luks_keeping.specs.AreasCompared.{AreAlike, IsJudgedBy, LiesWithin};
+ghost use Rattle.luks_keeping.specs.AreasCompared.{AreAlike, IsJudgedBy};
 ghost use Rattle.luks_keeping.specs.Compared.{IsComparedInFull};
-ghost use Rattle.luks_keeping.specs.Judged.{HasFields};
+ghost use Rattle.luks_keeping.specs.Outlines.{IsWithin, Outlines};
 
 use crate::comparing::compare;
 use crate::comparison::{Comparison, Keeping};
-use crate::slots::places_of;
+use crate::outline::Outline;
 use luks_area::{Area, Device, DeviceFault};
-use luks_reading::Header;
 
-/// How a backup stands to a volume, by their headers as `accepted_header` answers them, and by the key areas
-/// of the keyslots that have one salt in both, which are read. Nothing is written.
+/// How a backup stands to a volume, by their headers as `read_outline` answers them, and by the key areas of the
+/// keyslots that have one salt in both, which are read. Nothing is written.
 pub fn compare_areas<B: Device, T: Device>(
     backup: &mut B,
-    held: &Header,
+    held: &Outline,
     target: &mut T,
-    there: &Header,
+    there: &Outline,
 ) -> Result<Comparison, DeviceFault>
     requires backup_room { B.failed backup.old + 1 < 2 ^ 64 }
     requires target_room { T.failed target.old + 1 < 2 ^ 64 }
-    requires backup_fields { HasFields held.now }
-    requires volume_fields { HasFields there.now }
-    requires backup { IsAcceptedHeader held.now }
-    requires volume { IsAcceptedHeader there.now }
-    requires backup_within { LiesWithin held.now (B.size backup.old) }
-    requires volume_within { LiesWithin there.now (T.size target.old) }
+    requires backup_within { IsWithin held.now (B.size backup.old) }
+    requires volume_within { IsWithin there.now (T.size target.old) }
     ensures count { CountsEither is_failure result (B.failed backup.old) (B.failed backup.new)
         (T.failed target.old) (T.failed target.new) }
     ensures kept { IsUnchanged B.tells B.size B.bytes B.unsettled backup.old backup.new }
     ensures unchanged { IsUnchanged T.tells T.size T.bytes T.unsettled target.old target.new }
-    ensures compared { B.tells → T.tells → IsHeader (B.bytes backup.old) held.now
-        → IsHeader (T.bytes target.old) there.now
+    ensures compared { B.tells → T.tells → Outlines (B.bytes backup.old) held.now
+        → Outlines (T.bytes target.old) there.now
         → IfOk result (IsComparedInFull (B.bytes backup.old) (T.bytes target.old)) }
 {
     let salts = compare(held, there);
-    let here = places_of(held);
-    let other = places_of(there);
+    let here = held.places;
+    let other = there.places;
     let mut keyslots = salts.keyslots;
     for n in 0..32 {
         keyslots[n] = judged(backup, here.areas[n], target, other.areas[n], keyslots[n])?;

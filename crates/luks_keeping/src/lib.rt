@@ -9,12 +9,15 @@ mod comparing_areas;
 mod comparison;
 mod copying;
 mod erasing;
+mod identity;
 mod judging;
 mod laws;
+mod outline;
 mod over;
 mod places;
 mod restore_fault;
 mod restoring;
+mod salts;
 mod same_key;
 mod same_volume;
 mod second_places;
@@ -33,6 +36,7 @@ pub use laws::{
     kept_keyslots_answer_alike, kept_of_kept_is_kept, restored_backup_gives_back,
     sound_copies_begin,
 };
+pub use outline::{Outline, read_outline};
 pub use over::Over;
 pub use restore_fault::RestoreFault;
 pub use restoring::restore;

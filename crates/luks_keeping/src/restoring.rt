@@ -19,11 +19,11 @@ ghost use Rattle.luks_keeping.specs.declared.restore_fault.RestoreFault.{Restore
 
 use crate::accepted::accepted_header;
 use crate::judging::judge_header;
+use crate::outline::outline_of;
 use crate::over::Over;
 use crate::restore_fault::RestoreFault;
 use crate::same_volume::judge_other;
 use crate::size::data_start;
-use crate::slots::places_of;
 use crate::writing_over::write_over;
 use luks_area::Device;
 use luks_reading::{Data, Header};
@@ -35,8 +35,8 @@ use std::alloc::Global;
 /// `payload` says where the payload of the target's volume lies. First the first sectors of both copies'
 /// places become zeros, and those of each second copy that begins at any listed place before the data, one
 /// after the other: an older header would still count while its key areas are overwritten. Then the key areas are written, then the second copy of the header, then the
-/// first, a flush after each; a broken-off restore is done again. Takes memory for the metadata of both,
-/// before the first write.
+/// first, a flush after each; a broken-off restore is done again. Takes memory for the metadata of both, of one
+/// after the other, before the first write.
 pub fn restore<B: Device, T: Device>(
     alloc: Global,
     backup: &mut B,
@@ -88,10 +88,11 @@ pub fn restore<B: Device, T: Device>(
 {
     let header = accepted_header(alloc, backup, Data::Elsewhere)?;
     judge_fit(&header, payload, target.len())?;
-    judge_other(alloc, &header, target, over)?;
     let limit = data_start(&header, payload, target.len());
-    let places = places_of(&header);
-    write_over(backup, target, &places, limit)?;
+    let outline = outline_of(&header);
+    drop(header);
+    judge_other(alloc, &outline.identity, target, over)?;
+    write_over(backup, target, &outline.places, limit)?;
     Ok(())
 }
 

@@ -1,3 +1,4 @@
 pub mod BackupFacts
 pub mod RestoreFacts
 pub mod ReencryptionFacts
+pub mod DifferenceFacts

@@ -3,3 +3,4 @@ pub mod BackingUp
 pub mod Reencrypting
 pub mod Restoring
 pub mod Comparing
+pub mod Differences

@@ -6,12 +6,13 @@ ghost use Rattle.luks_commands.specs.Answer.{answer_status, backup_fault_answer}
 ghost use Rattle.luks_commands.specs.Files.{KeepsVolume};
 ghost use Rattle.luks_commands.specs.declared.inputs.InputFault.TheVariants.{Unreadable};
 ghost use Rattle.luks_commands.specs.declared.inputs.Reason.TheVariants as reason;
-ghost use Rattle.luks_header_commands.specs.Target.{AreOneFile, IsSameFile, LeavesTarget, SettlesTarget};
+ghost use Rattle.luks_commands.specs.Beside.{AreOneFile, IsSameFile, LeavesTarget, SettlesTarget};
 ghost use Rattle.luks_keeping_commands.specs.BackingUp.{AnswersBackup, IsBackupAnswer, IsWithoutFile, KeepsRest};
 ghost use Rattle.luks_keeping_commands.specs.TwoFiles.{pair_of};
 
-use crate::one_file::are_one_file;
-use luks_commands::{Answer, InputFault, Inputs, Reason, Refusal, Status, device_fault, unread};
+use luks_commands::{
+    Answer, InputFault, Inputs, Reason, Refusal, Status, are_one_file, device_fault, unread,
+};
 use luks_keeping::{BackupFault, backup, backup_length};
 use luks_reading::{Data, Device};
 use luks_request::BackingUp;
@@ -23,7 +24,7 @@ use std::io::{Read, Write};
 ///
 /// It isn't inlined, so that it takes no stack where another command runs.
 #[inline(never)]
-#[tactic(auto, using(luks_commands::proofs::FileFacts::keeps_same, luks_header_commands::proofs::TargetFacts::leaves_same, luks_header_commands::proofs::TargetFacts::settles_same))]
+#[tactic(auto, using(luks_commands::proofs::FileFacts::keeps_same, luks_commands::proofs::BesideFacts::leaves_same, luks_commands::proofs::BesideFacts::settles_same))]
 pub fn run<D: Device, R: Read, N: Read, E: Write>(
     alloc: Global,
     inputs: &mut Inputs<D, R, N>,

@@ -4,14 +4,13 @@ ghost use Rattle.std.specs.Result.{ForOk};
 ghost use Rattle.luks_area.specs.Device.{IsUnchanged};
 ghost use Rattle.luks_commands.specs.Answer.{answer_status, restore_fault_answer};
 ghost use Rattle.luks_commands.specs.Files.{KeepsVolume};
-ghost use Rattle.luks_header_commands.specs.Target.{AreOneFile, IsSameFile};
+ghost use Rattle.luks_commands.specs.Beside.{AreOneFile, IsSameFile};
 ghost use Rattle.luks_keeping.specs.RestoreFaults.{checked_restore};
 ghost use Rattle.luks_keeping_commands.specs.Comparing.{AnswersCompare, IsCompareAnswer};
 ghost use Rattle.luks_keeping_commands.specs.TwoFiles.{pair_of};
 
-use crate::one_file::are_one_file;
-use luks_commands::{Answer, Inputs, Refusal, Status, device_fault, refused, unread};
-use luks_keeping::{RestoreFault, accepted_header, compare_areas, is_other_volume};
+use luks_commands::{Answer, Inputs, Refusal, Status, are_one_file, device_fault, refused, unread};
+use luks_keeping::{RestoreFault, compare_areas, is_other_volume, read_outline};
 use luks_reading::{CheckFault, Data, Device};
 use luks_request::Comparing;
 use std::alloc::Global;
@@ -73,12 +72,12 @@ fn compare_headers<D: Device, E: Write>(
     ensures answers { IsCompareAnswer D.tells comparing.now.payload (pair_of D.size D.bytes D.failed
         backup.old backup.new volume.old volume.new) result }
 {
-    let held = match accepted_header(alloc, backup, Data::Elsewhere) {
-        Ok(header) => header,
+    let held = match read_outline(alloc, backup, Data::Elsewhere) {
+        Ok(found) => found,
         Err(fault) => return no_backup(fault, comparing.backup, err),
     };
-    let there = match accepted_header(alloc, volume, comparing.payload) {
-        Ok(header) => header,
+    let there = match read_outline(alloc, volume, comparing.payload) {
+        Ok(found) => found,
         Err(fault) => return refused(fault, name, err),
     };
     if is_other_volume(&held, &there) {

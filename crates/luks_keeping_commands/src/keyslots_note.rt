@@ -1,19 +1,20 @@
 //! What standard error says of the keyslots before a backup is restored.
-ghost use Rattle.std.specs.Prelude.{◌≡◌, ◌+◌, ◌<◌, ◌^◌, IfOk, IfSome};
+ghost use Rattle.std.specs.Prelude.{◌≡◌, ◌+◌, ◌<◌, ◌^◌, OnOk};
+ghost use Rattle.std.specs.Io.KnownBytes.{Appends};
+ghost use Rattle.luks_keeping_commands.specs.Differences.{difference_lines};
 ghost use Rattle.luks_area.specs.Device.{CountsFailure, IsUnchanged, is_failure};
 ghost use Rattle.luks_writing.specs.TwoDevices.{CountsEither};
-ghost use Rattle.luks_reading.specs.Header.{IsAcceptedHeader};
-ghost use Rattle.luks_keeping.specs.Judged.{HasFields};
 
+use crate::differences::Differences;
 use luks_area::DeviceFault;
-use luks_keeping::{Comparison, Keeping, accepted_header, compare};
-use luks_reading::{CheckFault, Data, Device, Header};
+use luks_keeping::{Comparison, Keeping, Outline, compare, read_outline};
+use luks_reading::{CheckFault, Data, Device};
 use std::alloc::Global;
-use std::io::Write;
+use std::io::{self, Write};
 
 /// Says how many keyslots the backup has, and where an accepted header stands on the volume too, how
-/// many of that the backup lacks and how many it alone has, by their salts. Where the backup's header
-/// isn't accepted, or memory for it is refused, nothing is said.
+/// many of that the backup lacks, how many it alone has, and which these are, by their salts. Where the
+/// backup's header isn't accepted, or memory for it is refused, nothing is said.
 pub(crate) fn note_keyslots<D: Device, E: Write>(
     alloc: Global,
     backup: &mut D,
@@ -29,7 +30,7 @@ pub(crate) fn note_keyslots<D: Device, E: Write>(
     ensures count { CountsEither is_failure result (D.failed backup.old) (D.failed backup.new)
         (D.failed volume.old) (D.failed volume.new) }
 {
-    let Some(held) = header_of(alloc, backup)? else {
+    let Some(held) = outline_of(alloc, backup)? else {
         return Ok(());
     };
     let count = counted(&compare(&held, &held).keyslots, Keeping::Same);
@@ -38,29 +39,27 @@ pub(crate) fn note_keyslots<D: Device, E: Write>(
         err,
         "luks: {backup_name}: the backup has {count} keyslot{plural}"
     );
-    if let Some(there) = header_of(alloc, volume)? {
+    if let Some(there) = outline_of(alloc, volume)? {
         note_differences(&compare(&held, &there), volume_name, err);
     }
     Ok(())
 }
 
-/// The header of the device, if it is accepted as a detached one and memory for it isn't refused.
-fn header_of<D: Device>(alloc: Global, device: &mut D) -> Result<Option<Header>, DeviceFault>
+/// The outline of the device's header, if that is accepted as a detached one and memory for it isn't refused.
+fn outline_of<D: Device>(alloc: Global, device: &mut D) -> Result<Option<Outline>, DeviceFault>
     requires { D.failed device.old + 1 < 2 ^ 64 }
     ensures unchanged { IsUnchanged D.tells D.size D.bytes D.unsettled device.old device.new }
     ensures count { CountsFailure is_failure result (D.failed device.old) (D.failed device.new) }
-    ensures accepted { IfOk result (λ found. IfSome found IsAcceptedHeader) }
-    ensures fields { IfOk result (λ found. IfSome found HasFields) }
 {
-    match accepted_header(alloc, device, Data::Elsewhere) {
-        Ok(header) => Ok(Some(header)),
+    match read_outline(alloc, device, Data::Elsewhere) {
+        Ok(found) => Ok(Some(found)),
         Err(CheckFault::Device) => Err(DeviceFault),
         Err(_) => Ok(None),
     }
 }
 
-/// Says how many keyslots of the volume the backup lacks, and how many it alone has: of a keyslot that
-/// was made anew since, both.
+/// Says how many keyslots of the volume the backup lacks, and how many it alone has, of a keyslot that
+/// was made anew since both; and which these are.
 fn note_differences<E: Write>(comparison: &Comparison, volume_name: &str, err: &mut E) {
     let older = counted(&comparison.keyslots, Keeping::Older);
     let lacking = older.saturating_add(counted(&comparison.keyslots, Keeping::Missing));
@@ -69,6 +68,19 @@ fn note_differences<E: Write>(comparison: &Comparison, volume_name: &str, err: &
         err,
         "luks: {volume_name}: the backup lacks {lacking} of its keyslots, and alone has {alone}"
     );
+    let _ = note_each(comparison, volume_name, err);
+}
+
+/// Says which keyslots come and go.
+fn note_each<E: Write>(comparison: &Comparison, volume_name: &str, err: &mut E) -> io::Result<()>
+    ensures { OnOk result (Appends (E.contents err.old) (E.contents err.new)
+        (difference_lines volume_name.now 0 comparison.now.keyslots)) }
+{
+    let differences = Differences {
+        volume: volume_name,
+        keyslots: comparison.keyslots,
+    };
+    write!(err, "{differences}")
 }
 
 /// How many of these keyslots stand so.

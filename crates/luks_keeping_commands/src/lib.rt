@@ -4,8 +4,8 @@
 
 pub mod backup;
 pub mod compare;
+mod differences;
 mod keyslots_note;
-mod one_file;
 mod reencrypting;
 pub mod restore;
 mod volume_use;

@@ -4,15 +4,16 @@ ghost use Rattle.std.specs.Result.{ForOk};
 ghost use Rattle.luks_area.specs.Device.{IsSettled, IsUnchanged};
 ghost use Rattle.luks_commands.specs.Answer.{answer_status, restore_fault_answer};
 ghost use Rattle.luks_commands.specs.Files.{KeepsVolume};
-ghost use Rattle.luks_header_commands.specs.Target.{AreOneFile, IsSameFile, LeavesTarget, SettlesTarget};
+ghost use Rattle.luks_commands.specs.Beside.{AreOneFile, IsSameFile, LeavesTarget, SettlesTarget};
 ghost use Rattle.luks_keeping_commands.specs.Restoring.{AnswersBoth, AnswersRestore};
 ghost use Rattle.luks_keeping_commands.specs.Restoring.{IsRestoreAnswer, KeepsRest, over_of};
 ghost use Rattle.luks_keeping_commands.specs.TwoFiles.{pair_of};
 
 use crate::keyslots_note::note_keyslots;
-use crate::one_file::are_one_file;
 use crate::volume_use::judge_volume;
-use luks_commands::{Answer, Inputs, Refusal, Status, device_fault, held_back, unread};
+use luks_commands::{
+    Answer, Inputs, Refusal, Status, are_one_file, device_fault, held_back, unread,
+};
 use luks_keeping::{Over, RestoreFault, restore};
 use luks_reading::Device;
 use luks_request::Restoring;
@@ -21,11 +22,11 @@ use std::io::{Read, Write};
 
 /// Puts the header and the key areas of the backup, which `inputs.target` is, onto the volume of this name.
 /// Before all else a reencryption of the volume is asked for, and another use of its disk; before the first
-/// write standard error says by how many keyslots the two differ.
+/// write standard error says which keyslots of the two differ.
 ///
 /// It isn't inlined, so that it takes no stack where another command runs.
 #[inline(never)]
-#[tactic(auto, using(luks_commands::proofs::FileFacts::keeps_same, luks_header_commands::proofs::TargetFacts::leaves_same, luks_header_commands::proofs::TargetFacts::settles_same))]
+#[tactic(auto, using(luks_commands::proofs::FileFacts::keeps_same, luks_commands::proofs::BesideFacts::leaves_same, luks_commands::proofs::BesideFacts::settles_same))]
 pub fn run<D: Device, R: Read, N: Read, E: Write>(
     alloc: Global,
     inputs: &mut Inputs<D, R, N>,

@@ -10,7 +10,7 @@ ghost use Rattle.luks_keeping_commands.specs.Restoring.{IsSpared, IsUnspared, Is
 
 use crate::reencrypting::is_reencrypting;
 use luks_commands::{Bar, standing_use_of};
-use luks_keeping::{RestoreFault, accepted_header, counts_same_volume};
+use luks_keeping::{RestoreFault, counts_same_volume, read_outline};
 use luks_reading::{CheckFault, Data, Device};
 use luks_request::Restoring;
 use std::alloc::Global;
@@ -103,8 +103,8 @@ fn is_spared<D: Device>(alloc: Global, backup: &mut D, volume: &mut D) -> Result
     ensures fault { IfErr result
         (IsUnspared D.tells (D.bytes backup.old) (D.bytes volume.old)) }
 {
-    match accepted_header(alloc, backup, Data::Elsewhere) {
-        Ok(header) => match counts_same_volume(alloc, &header, volume) {
+    match read_outline(alloc, backup, Data::Elsewhere) {
+        Ok(held) => match counts_same_volume(alloc, &held, volume) {
             Ok(counts) => Ok(counts),
             Err(fault) => Err(bar_of(fault)),
         },

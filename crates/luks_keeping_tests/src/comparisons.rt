@@ -1,33 +1,27 @@
 //! How backups stand to volumes, as the command `compare` prints it.
-ghost use Rattle.std.specs.Prelude.{IfOk};
-ghost use Rattle.luks_reading.specs.Header.{IsAcceptedHeader};
-ghost use Rattle.luks_keeping.specs.Judged.{HasFields};
 
 use crate::sources::{backup_of, renamed};
 use luks_area::MemDevice;
 use luks_kdf::HashName;
-use luks_keeping::{accepted_header, compare_areas, is_other_volume};
-use luks_reading::{Data, Header};
+use luks_keeping::{Outline, compare_areas, is_other_volume, read_outline};
+use luks_reading::Data;
 use luks_test_devices::{put, small1, small2, two_keyslots};
 use std::alloc::Global;
 use std::process::Abort;
 use std::test::Fail;
 
-/// The header of these bytes, as one without its payload.
-fn header_of(alloc: Global, bytes: &[u8]) -> Result<Header, Fail>
-    ensures accepted { IfOk result IsAcceptedHeader }
-    ensures fields { IfOk result HasFields }
-{
+/// The outline of the header of these bytes, as one without its payload.
+fn outline_of(alloc: Global, bytes: &[u8]) -> Result<Outline, Fail> {
     let mut device = MemDevice::new(bytes.to_vec(alloc)?);
-    Ok(accepted_header(alloc, &mut device, Data::Elsewhere)?)
+    Ok(read_outline(alloc, &mut device, Data::Elsewhere)?)
 }
 
 /// What is printed of the backup of the one volume, compared with the other.
 fn printed(alloc: Global, kept: &[u8], volume: &[u8]) -> Result<String, Fail> {
     let mut backup = MemDevice::new(backup_of(alloc, kept)?);
-    let held = accepted_header(alloc, &mut backup, Data::Elsewhere)?;
+    let held = read_outline(alloc, &mut backup, Data::Elsewhere)?;
     let mut target = MemDevice::new(volume.to_vec(alloc)?);
-    let there = accepted_header(alloc, &mut target, Data::Elsewhere)?;
+    let there = read_outline(alloc, &mut target, Data::Elsewhere)?;
     let comparison = compare_areas(&mut backup, &held, &mut target, &there)?;
     Ok(format!(in alloc; "{comparison}")?)
 }
@@ -88,8 +82,8 @@ fn of_damaged_key_areas(rt: HostRuntime) -> Result<(), Fail> {
 
 /// Whether the volume is another than the backup's.
 fn is_other(alloc: Global, kept: &[u8], volume: &[u8]) -> Result<bool, Fail> {
-    let backup = header_of(alloc, &backup_of(alloc, kept)?)?;
-    Ok(is_other_volume(&backup, &header_of(alloc, volume)?))
+    let backup = outline_of(alloc, &backup_of(alloc, kept)?)?;
+    Ok(is_other_volume(&backup, &outline_of(alloc, volume)?))
 }
 
 #[test]

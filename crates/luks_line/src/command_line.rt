@@ -1,11 +1,13 @@
 use crate::command_name::CommandName;
-use crate::commands::command_named;
+use crate::commands::command_row;
 use crate::derivation::wrong_derivation;
 use crate::fields::wrong_field;
 use crate::manner::{Manner, manner_of};
+use crate::other_words::other_word;
 use crate::program::program;
 use crate::requests::{line_of, search_of};
 use crate::search::Search;
+use crate::sized::wrong_size;
 use clap::error::ErrorKind;
 use clap::{ArgMatches, Error};
 use luks_request::Line;
@@ -29,8 +31,8 @@ pub enum Asked<'a> {
 /// refused. No clause says what words mean: `luks_line_transcript` tests it, and of `line` likewise.
 pub fn parse<'a>(alloc: Global, words: &'a [&'a str]) -> Result<Asked<'a>, Error> {
     let matches = matches_of(alloc, words)?;
-    if let Some(text) = mistake_in(&matches) {
-        return Err(mistake(alloc, ErrorKind::ValueValidation, text)?);
+    if let Some(text) = mistake_in(alloc, &matches)? {
+        return Err(mistake(alloc, ErrorKind::ValueValidation, text.as_str())?);
     }
     match asked_by(&matches) {
         Some(asked) => Ok(asked),
@@ -60,13 +62,21 @@ fn matches_of<'a>(alloc: Global, words: &'a [&'a str]) -> Result<ArgMatches<'a>,
     let program = program(alloc, true)?;
     match program.try_get_matches_from(words) {
         Ok(matches) => Ok(matches),
-        Err(fault) => Err(without_overwriting(alloc, words, fault)),
+        Err(fault) => Err(told(alloc, words, fault)?),
     }
 }
 
-/// The fault as it is told. Where no command has the name that the words begin with, it is told as if there
-/// were neither `format` nor `restore`: what overwrites a volume without a question is suggested for no
-/// other word.
+/// The fault as it is told: where another program has the word, by what stands for it here.
+fn told(alloc: Global, words: &[&str], fault: Error) -> Result<Error, AllocError> {
+    match other_word(alloc, fault.kind(), words)? {
+        Some(text) => mistake(alloc, fault.kind(), text.as_str()),
+        None => Ok(without_overwriting(alloc, words, fault)),
+    }
+}
+
+/// The fault as `clap` tells it. Where no command has the name that the words begin with, it is told as if
+/// there were neither `format` nor `restore`: what overwrites a volume without a question is suggested for
+/// no word that is only like its own.
 fn without_overwriting(alloc: Global, words: &[&str], fault: Error) -> Error {
     if fault.kind() == ErrorKind::InvalidSubcommand {
         if let Err(told) = try_without_overwriting(alloc, words) {
@@ -83,9 +93,25 @@ fn try_without_overwriting(alloc: Global, words: &[&str]) -> Result<(), Error> {
 }
 
 /// What is wrong in the words of a command, beside what `clap` judges.
-fn mistake_in(matches: &ArgMatches<'_>) -> Option<&'static str> {
-    let (name, given) = matches.subcommand()?;
-    match command_named(name)? {
+fn mistake_in(alloc: Global, matches: &ArgMatches<'_>) -> Result<Option<String>, AllocError> {
+    let Some((name, given)) = matches.subcommand() else {
+        return Ok(None);
+    };
+    let Some(described) = command_row(name) else {
+        return Ok(None);
+    };
+    if let Some(text) = wrong_size(alloc, described, given)? {
+        return Ok(Some(text));
+    }
+    match wrong_words(described.command, given) {
+        Some(text) => Ok(Some(String::from_str(alloc, text)?)),
+        None => Ok(None),
+    }
+}
+
+/// What doesn't go together in the words of the command, or is no field of a header.
+fn wrong_words(name: CommandName, given: &ArgMatches<'_>) -> Option<&'static str> {
+    match name {
         CommandName::Rebuild => wrong_field(given),
         CommandName::Format | CommandName::Add | CommandName::Change => wrong_derivation(given),
         _ => None,
@@ -94,7 +120,7 @@ fn mistake_in(matches: &ArgMatches<'_>) -> Option<&'static str> {
 
 fn asked_by<'a>(matches: &ArgMatches<'a>) -> Option<Asked<'a>> {
     let (name, given) = matches.subcommand()?;
-    let name = command_named(name)?;
+    let name = command_row(name)?.command;
     match name {
         CommandName::Explain => Some(Asked::Explain(given.get_str("FAULT"))),
         CommandName::Find => Some(Asked::Find(search_of(given)?, manner_of(name, given))),

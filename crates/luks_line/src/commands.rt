@@ -25,14 +25,9 @@ pub(crate) fn commands() -> &'static [Described] {
     &COMMANDS
 }
 
-/// The command of this name.
-pub(crate) fn command_named(name: &str) -> Option<CommandName> {
-    for described in commands().iter() {
-        if described.name == name {
-            return Some(described.command);
-        }
-    }
-    None
+/// The command of this name, and what may follow it.
+pub(crate) fn command_row(name: &str) -> Option<&'static Described> {
+    commands().iter().find(|described| described.name == name)
 }
 
 static COMMANDS: [Described; 16] = [

@@ -1,5 +1,6 @@
 //! What a new keyslot derives by, as the words of a command line say it.
 
+use crate::sized::mib_of;
 use clap::ArgMatches;
 use clap::parser::ValueSource;
 use luks_request::{AskedArgon2, AskedKdf, AskedKind};
@@ -72,7 +73,7 @@ pub(crate) fn argon2_of(given: &ArgMatches<'_>) -> Option<Option<AskedKdf>> {
     Some(Some(AskedKdf::Argon2(AskedArgon2 {
         kind,
         passes: given.get_one::<u32>("passes")?,
-        memory: given.get_one::<u32>("kdf-memory")?,
+        memory: mib_of(given, "kdf-memory")?,
         lanes: given.get_one::<u32>("lanes")?,
     })))
 }

@@ -10,9 +10,12 @@ mod fields;
 mod manner;
 mod operands;
 mod options;
+mod other_words;
 mod program;
 mod requests;
 mod search;
+mod sized;
+mod sizes;
 mod takes;
 
 pub use command_line::{Asked, line, parse};
@@ -22,3 +25,4 @@ pub use luks_request::{
 };
 pub use manner::Manner;
 pub use search::Search;
+pub use sizes::bytes_in;

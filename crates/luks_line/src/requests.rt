@@ -4,6 +4,7 @@ use crate::command_name::CommandName;
 use crate::derivation::{argon2_of, kdf_of};
 use crate::fields::fields_of;
 use crate::search::Search;
+use crate::sized::{bytes_of, mib_of};
 use clap::ArgMatches;
 use luks_kdf::HashName;
 use luks_reading::{Data, Format};
@@ -37,8 +38,8 @@ pub(crate) fn search_of<'a>(given: &ArgMatches<'a>) -> Option<Search<'a>> {
 /// Which bytes of its file are the volume.
 fn place_of(given: &ArgMatches<'_>) -> Option<Place> {
     Some(Place {
-        offset: given.get_one::<u64>("offset")?,
-        length: given.get_one::<u64>("length"),
+        offset: bytes_of(given, "offset")?,
+        length: bytes_of(given, "length"),
     })
 }
 
@@ -83,7 +84,7 @@ fn opening_of<'a>(given: &ArgMatches<'a>) -> Option<Command<'a>> {
     Some(Command::Open {
         passphrase: passphrase_of(given)?,
         slot: given.get_one::<u8>("slot"),
-        memory: given.get_one::<u32>("memory")?,
+        memory: mib_of(given, "memory")?,
         older: given.get_flag("older"),
     })
 }
@@ -112,7 +113,7 @@ fn adding_of<'a>(given: &ArgMatches<'a>) -> Option<EditRequest<'a>> {
     Some(EditRequest::Add {
         by_: given.get_one::<u8>("slot")?,
         passphrase: passphrase_of(given)?,
-        memory: given.get_one::<u32>("memory")?,
+        memory: mib_of(given, "memory")?,
         older: given.get_flag("older"),
         new: new_of(given)?,
         to: given.get_one::<u8>("to"),
@@ -125,7 +126,7 @@ fn changing_of<'a>(given: &ArgMatches<'a>) -> Option<EditRequest<'a>> {
     Some(EditRequest::Change {
         slot: given.get_one::<u8>("slot")?,
         passphrase: passphrase_of(given)?,
-        memory: given.get_one::<u32>("memory")?,
+        memory: mib_of(given, "memory")?,
         older: given.get_flag("older"),
         new: new_of(given)?,
         iterations: given.get_one::<u32>("iterations")?,
@@ -138,7 +139,7 @@ fn removing_of<'a>(given: &ArgMatches<'a>) -> Option<EditRequest<'a>> {
         slot: given.get_one::<u8>("slot")?,
         by_: given.get_one::<u8>("by"),
         passphrase: passphrase_of(given)?,
-        memory: given.get_one::<u32>("memory")?,
+        memory: mib_of(given, "memory")?,
         older: given.get_flag("older"),
     })
 }
@@ -159,7 +160,7 @@ fn formatting_of<'a>(given: &ArgMatches<'a>) -> Option<Command<'a>> {
             iterations: given.get_one::<u32>("iterations")?,
         },
         kdf: argon2_of(given)?,
-        memory: given.get_one::<u32>("memory")?,
+        memory: mib_of(given, "memory")?,
         payload: data_of(given),
         over: given.get_flag("over"),
     }))
@@ -187,7 +188,7 @@ fn rebuilding_of<'a>(given: &ArgMatches<'a>) -> Option<Command<'a>> {
         random: given.get_str("random")?,
         passphrase: passphrase_of(given),
         second: given.get_flag("second"),
-        size: given.get_one::<u64>("size"),
+        size: bytes_of(given, "size"),
         uuid: given.get_str("uuid"),
         luks1: fields_of(given),
         over: given.get_flag("over"),

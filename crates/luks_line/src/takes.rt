@@ -1,5 +1,6 @@
 //! What an option takes: which values, how the help calls them, and what counts without one.
 
+use crate::sized::Sizes;
 use clap::ArgAction;
 use clap::builder::ValueParser;
 use luks_kdf::HashName;
@@ -75,18 +76,27 @@ impl Takes {
             Takes::Nothing | Takes::Form | Takes::SecondCopy => ValueParser::Bool,
             Takes::File | Takes::OnePassphrase | Takes::Uuid | Takes::Cipher | Takes::Name =>
                 ValueParser::String,
+            Takes::Memory | Takes::KdfMemory | Takes::Offset | Takes::Bytes | Takes::CopySize =>
+                ValueParser::String,
             Takes::Slot => ValueParser::Unsigned(0, 31),
-            Takes::Memory => ValueParser::Unsigned(0, 4194303),
             Takes::Iterations | Takes::Sector => ValueParser::Unsigned(0, 4294967295),
             Takes::KeyBytes => ValueParser::Unsigned(1, 128),
             Takes::Kdf | Takes::ChosenKdf => ValueParser::Names(&["pbkdf2", "argon2i", "argon2id"]),
-            Takes::KdfMemory => ValueParser::Unsigned(1, 4095),
             Takes::Passes | Takes::Milliseconds => ValueParser::Unsigned(1, 4294967295),
             Takes::Lanes => ValueParser::Unsigned(1, 4),
-            Takes::CopySize => ValueParser::Names(&COPY_SIZES),
-            Takes::Offset | Takes::Bytes => ValueParser::Unsigned(0, u64::MAX),
             Takes::Version => ValueParser::Names(&["1", "2"]),
             Takes::Hash => ValueParser::Names(HashName::NAMES),
+        }
+    }
+
+    /// The sizes that it takes, where it takes one: a text, which is judged once `clap` has told the words apart.
+    pub(crate) fn sizes(self) -> Option<Sizes> {
+        match self {
+            Takes::Memory => Some(Sizes::Mib(0, 4194303)),
+            Takes::KdfMemory => Some(Sizes::Mib(1, 4095)),
+            Takes::Offset | Takes::Bytes => Some(Sizes::Bytes(0, u64::MAX)),
+            Takes::CopySize => Some(Sizes::Copy(&COPY_SIZES)),
+            _ => None,
         }
     }
 

@@ -12,7 +12,7 @@ use Rattle.luks_commands.specs.declared.inputs.InputFault.{InputFault}
 use Rattle.luks_commands.specs.declared.inputs.InputFault.TheVariants.{Unreadable}
 use Rattle.luks_commands.specs.declared.inputs.Inputs.{Inputs}
 use Rattle.luks_commands.specs.declared.inputs.Reason.TheVariants.{SameFile}
-use Rattle.luks_header_commands.specs.Target.{AreOneFile}
+use Rattle.luks_commands.specs.Beside.{AreOneFile}
 use Rattle.luks_execution.specs.Executed.{Executes, IsExecuted}
 use Rattle.luks_main.specs.Outcomes.{EndsTold, IsMade, told, refused, failed}
 use Rattle.luks_main.specs.Statuses.{EndsWith, MayEnd}

@@ -36,7 +36,8 @@ use Rattle.luks_commands.specs.ShowAnswers.{AnswersShow, IsFullAnswer, IsJsonAns
 use Rattle.luks_header_commands.specs.Converting.{AnswersConvert, IsConvertAnswer}
 use Rattle.luks_header_commands.specs.Trying.{no_header, none_open, one_opens, trial_failed, AnswersBy, AnswersRebuild, IsTriedAnswer, TriedAnswer}
 use Rattle.luks_header_commands.specs.Rebuilding.{given_of, copies_asked, IsAnswerOf, IsLuks1Answer, IsLuks2Answer, IsRebuildAnswer}
-use Rattle.luks_header_commands.specs.Target.{AnswersHeader, IsOtherTarget, IsSameFile, IsWithoutRandom, IsWithRandom, Pair, pair_of as header_pair}
+use Rattle.luks_commands.specs.Beside.{IsSameFile}
+use Rattle.luks_header_commands.specs.Target.{AnswersHeader, IsOtherTarget, IsWithoutRandom, IsWithRandom, Pair, pair_of as header_pair}
 use Rattle.luks_keeping.specs.ComparisonTexts.{is_current}
 use Rattle.luks_keeping.specs.declared.backup_fault.BackupFault.TheVariants as backing_up
 use Rattle.luks_keeping.specs.declared.comparison.Comparison.{Comparison}

@@ -21,33 +21,33 @@ column_is n =
 -- ---- the lines, piece by piece
 
 pub joined_gap : (p l o : List ℕ) →
-    p ++ (codes " ." ++ (l ++ (codes "  gap" ++ (o ++ 10 ∷ []))))
-    ≡ p ++ codes " ." ++ l ++ codes "  gap" ++ line o
+    p ++ (codes " . " ++ (l ++ (codes "  gap" ++ (o ++ 10 ∷ []))))
+    ≡ p ++ codes " . " ++ l ++ codes "  gap" ++ line o
 joined_gap p l o = simp append_assoc refl
 
 pub joined_end : (p n o : List ℕ) →
-    p ++ (codes " -                      " ++ (n ++ (o ++ 10 ∷ [])))
-    ≡ p ++ codes " -                      " ++ n ++ line o
+    p ++ (codes " -                       " ++ (n ++ (o ++ 10 ∷ [])))
+    ≡ p ++ codes " -                       " ++ n ++ line o
 joined_end p n o = simp append_assoc refl
 
 pub joined_area : (p l t o m : List ℕ) →
-    p ++ (codes " #" ++ (l ++ (codes "  " ++ (t ++ (o ++ (m ++ 10 ∷ []))))))
-    ≡ p ++ codes " #" ++ l ++ codes "  " ++ t ++ o ++ line m
+    p ++ (codes " # " ++ (l ++ (codes "  " ++ (t ++ (o ++ (m ++ 10 ∷ []))))))
+    ≡ p ++ codes " # " ++ l ++ codes "  " ++ t ++ o ++ line m
 joined_area p l t o m = simp append_assoc refl
 
 pub gap_drawn : (total from to : ℕ) → from < to →
-    right from ++ (codes " ." ++ (right (to - from) ++ (codes "  gap" ++ (outside_text total to ++ 10 ∷ []))))
+    right from ++ (codes " . " ++ (right (to - from) ++ (codes "  gap" ++ (outside_text total to ++ 10 ∷ []))))
     ≡ gap_line total from to
 gap_drawn total from to lt =
     rw (column_is from, column_is (to - from), lt-ltb from to lt) (joined_gap (column from) (column (to - from)) (outside_text total to))
 
 pub end_drawn : (total at : ℕ) (name : List ℕ) →
-    right at ++ (codes " -                      " ++ (name ++ (outside_text total at ++ 10 ∷ []))) ≡ end_line total at name
+    right at ++ (codes " -                       " ++ (name ++ (outside_text total at ++ 10 ∷ []))) ≡ end_line total at name
 end_drawn total at name = rw (column_is at) (joined_end (column at) name (outside_text total at))
 
 pub area_drawn : (total reached : ℕ) (part : Part) (a : TheArea) →
-    right a.start ++ (codes " #" ++ (right a.len ++ (codes "  " ++ (part_text part ++ (outside_text total (a.start + a.len) ++ (overlap_text reached a ++ 10 ∷ []))))))
+    right a.start ++ (codes " # " ++ (right a.len ++ (codes "  " ++ (part_text part ++ (outside_text total (a.start + a.len) ++ (overlap_text total reached a ++ 10 ∷ []))))))
     ≡ area_line total reached part a
 area_drawn total reached part a =
     rw (column_is a.start, column_is a.len)
-    (joined_area (column a.start) (column a.len) (part_text part) (outside_text total (a.start + a.len)) (overlap_text reached a))
+    (joined_area (column a.start) (column a.len) (part_text part) (outside_text total (a.start + a.len)) (overlap_text total reached a))

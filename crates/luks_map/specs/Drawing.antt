@@ -17,19 +17,23 @@ column n = replicate (20 - length (decimal n)) 32 ++ decimal n
 abbrev pub outside_text : ℕ → ℕ → List ℕ
 outside_text total end = if nat_lt total end then codes "  outside" else []
 
--- and an area that begins inside one above it: those above reach to `reached`
-abbrev pub overlap_text : ℕ → TheArea → List ℕ
-overlap_text reached a = if nat_lt 0 a.len && nat_lt a.start reached then codes "  overlap" else []
+-- two spaces part the first mark from what stands before it, one space the second from the first
+abbrev pub overlap_mark : ℕ → TheArea → List ℕ
+overlap_mark total a = if nat_lt total (a.start + a.len) then codes " overlap" else codes "  overlap"
+
+-- and an area that has bytes and begins inside one above it: those above reach to `reached`
+abbrev pub overlap_text : ℕ → ℕ → TheArea → List ℕ
+overlap_text total reached a = if nat_lt 0 a.len && nat_lt a.start reached then overlap_mark total a else []
 
 -- an area: its place, its length, what it is
 abbrev pub area_line : ℕ → ℕ → Part → TheArea → List ℕ
 area_line total reached part a =
-    column a.start ++ codes " #" ++ column a.len ++ codes "  " ++ part_text part ++ outside_text total (a.start + a.len)
-    ++ line (overlap_text reached a)
+    column a.start ++ codes " # " ++ column a.len ++ codes "  " ++ part_text part ++ outside_text total (a.start + a.len)
+    ++ line (overlap_text total reached a)
 
 -- an end: its place, and of what
 abbrev pub end_line : ℕ → ℕ → List ℕ → List ℕ
-end_line total at name = column at ++ codes " -                      " ++ name ++ line (outside_text total at)
+end_line total at name = column at ++ codes " -                       " ++ name ++ line (outside_text total at)
 
 abbrev pub row_line : ℕ → ℕ → Row → List ℕ
 row_line total reached (Area part a) = area_line total reached part a
@@ -39,7 +43,7 @@ row_line total reached (VolumeEnd at) = end_line total at (codes "end of the vol
 -- the gap between two places, where there is one: its place and its length
 abbrev pub gap_line : ℕ → ℕ → ℕ → List ℕ
 gap_line total from to =
-    if nat_lt from to then column from ++ codes " ." ++ column (to - from) ++ codes "  gap" ++ line (outside_text total to) else []
+    if nat_lt from to then column from ++ codes " . " ++ column (to - from) ++ codes "  gap" ++ line (outside_text total to) else []
 
 -- the rows, each behind the gap between what those above reach to and its place
 abbrev pub map_lines : ℕ → ℕ → List Row → List ℕ

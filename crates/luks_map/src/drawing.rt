@@ -1,7 +1,8 @@
 //! The lines of a map.
 ghost use Rattle.std.specs.Prelude.{◌≡◌, ◌<◌, ◌^◌, max};
 ghost use Rattle.std.specs.Fmt.{WritesOnOk};
-ghost use Rattle.luks_map.specs.Drawing.{area_line, end_line, gap_line, map_lines, outside_text, overlap_text, row_line};
+ghost use Rattle.luks_map.specs.Drawing.{area_line, end_line, gap_line, map_lines, outside_text, overlap_mark, overlap_text};
+ghost use Rattle.luks_map.specs.Drawing.{row_line};
 
 use crate::part::Part;
 use crate::row::{Row, end_of};
@@ -45,7 +46,7 @@ fn draw_gap<W: fmt::Write>(
     }
     let len = to - from;
     let outside = outside_mark(total, to);
-    writeln!(f, "{from:>20} .{len:>20}  gap{outside}")
+    writeln!(f, "{from:>20} . {len:>20}  gap{outside}")
 }
 
 /// Draws a row; the rows above it reach to `reached`.
@@ -76,8 +77,8 @@ fn draw_area<W: fmt::Write>(
     let start = area.start;
     let len = area.len;
     let outside = outside_mark(total, end_of(area));
-    let overlap = overlap_mark(reached, area);
-    writeln!(f, "{start:>20} #{len:>20}  {part}{outside}{overlap}")
+    let overlap = overlap_mark(total, reached, area);
+    writeln!(f, "{start:>20} # {len:>20}  {part}{outside}{overlap}")
 }
 
 fn draw_end<W: fmt::Write>(
@@ -89,7 +90,7 @@ fn draw_end<W: fmt::Write>(
     ensures { WritesOnOk W.write_str_gives f.old result (end_line total at name.now) f.new }
 {
     let outside = outside_mark(total, at);
-    writeln!(f, "{at:>20} -                      {name}{outside}")
+    writeln!(f, "{at:>20} -                       {name}{outside}")
 }
 
 /// The mark of what ends past the volume's end.
@@ -103,13 +104,24 @@ fn outside_mark(total: u64, end: u128) -> &'static str
     }
 }
 
-/// The mark of an area that begins inside one above it.
-fn overlap_mark(reached: u128, area: &Area) -> &'static str
-    ensures { result.now ≡ overlap_text reached area.now }
+/// The mark of an area that has bytes and begins inside one above it.
+fn overlap_mark(total: u64, reached: u128, area: &Area) -> &'static str
+    ensures { result.now ≡ overlap_text total reached area.now }
 {
     if 0 < area.len && u128::from(area.start) < reached {
-        "  overlap"
+        overlap_behind(total, area)
     } else {
         ""
+    }
+}
+
+/// The mark, as it stands behind what goes before: that the area ends outside, or what it is.
+fn overlap_behind(total: u64, area: &Area) -> &'static str
+    ensures { result.now ≡ overlap_mark total area.now }
+{
+    if u128::from(total) < end_of(area) {
+        " overlap"
+    } else {
+        "  overlap"
     }
 }

@@ -3,3 +3,4 @@ pub mod EndFacts
 pub mod ThoseFacts
 pub mod NotedFacts
 pub mod RefusalFacts
+mod UnboundFacts

@@ -6,3 +6,4 @@ pub mod Lost
 pub mod Noted
 pub mod MemoryNotes
 pub mod OlderNotes
+pub mod Unbound

@@ -1,8 +1,9 @@
 //! Says on standard error what a command's answer doesn't tell of a volume: in which copy of a LUKS2 header
 //! metadata is whole, of a volume of which no header counts and of one whose header was rebuilt; which
 //! keyslots were lost where that was a LUKS1 header; that a volume has no keyslot; which keyslots weren't
-//! tried, and why; and what stands on a volume that was just made where nothing was written, as second copies
-//! of older headers, and the signatures of file systems and of swap.
+//! tried, and why; that the key of one that opens is of no segment; and what stands on a volume that was just
+//! made where nothing was written, as second copies of older headers, and the signatures of file systems and
+//! of swap.
 #![tactic(auto)]
 
 mod ending;
@@ -18,6 +19,7 @@ mod older;
 mod older_keyslot;
 mod passed_over;
 mod telling;
+mod unbound;
 mod untried;
 
 pub use ending::header_end;
@@ -31,4 +33,5 @@ pub use noted::{leftovers, note_leftovers};
 pub use older_keyslot::{OlderNote, older_note};
 pub use passed_over::note_passed_over;
 pub use telling::{note_all_wanting, note_refused, note_wanting};
+pub use unbound::{is_unbound, note_unbound};
 pub use untried::note_untried;

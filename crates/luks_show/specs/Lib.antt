@@ -4,6 +4,7 @@ pub mod AllLines
 pub mod Listed
 pub mod SegmentValues
 pub mod ValueTexts
+pub mod Steering
 pub mod Luks1Value
 pub mod Luks2Value
 pub mod JsonText

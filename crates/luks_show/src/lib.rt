@@ -11,7 +11,7 @@ mod luks1;
 mod luks2;
 mod objects;
 
-pub use as_json::json_text;
+pub use as_json::{json_text, unsteering};
 pub use copies::copies_name;
 pub use costs::{CostsLine, EncryptionLine};
 pub use escaped::before_zero;

@@ -1,19 +1,29 @@
 //! The JSON object of a header, as a text.
 ghost use Rattle.std.specs.Prelude.{string_bytes, IfOk};
 ghost use Rattle.serde_json.specs.View.{view};
-ghost use Rattle.luks_show.specs.JsonText.{IsJsonText, IsListingValue};
+ghost use Rattle.luks_show.specs.JsonText.{IsJsonText, IsListingValue, IsWrittenText};
 
 use crate::Listing;
 use crate::as_json::luks1::luks1_value;
 use crate::as_json::luks2::luks2_value;
+use crate::as_json::steering::unsteering;
 use serde_json::Value;
 use std::alloc::{AllocError, Global};
 
-/// The JSON object of the header, in the compact form and without a newline.
+/// The JSON object of the header, in the compact form and without a newline. Characters that steer a terminal are
+/// escaped in it.
 ///
-/// Takes memory for the object, and for its text.
+/// Takes memory for the object, and for its text; the object is gone before the text is escaped.
 pub fn json_text(alloc: Global, listing: &Listing) -> Result<String, AllocError>
     ensures { IfOk result (λ text. IsJsonText listing.now (string_bytes text)) }
+{
+    let written = written_text(alloc, listing)?;
+    unsteering(alloc, written.as_str())
+}
+
+/// The same with no character escaped that needn't be.
+fn written_text(alloc: Global, listing: &Listing) -> Result<String, AllocError>
+    ensures { IfOk result (λ text. IsWrittenText listing.now (string_bytes text)) }
 {
     let value = listing_value(alloc, listing)?;
     value.to_string(alloc)

@@ -1,13 +1,16 @@
-use Rattle.std.proofs.Common.{subst, sym, ◌∙◌}
+use Rattle.std.proofs.Common.{[], subst, sym, ◌∙◌}
 use Rattle.luks1_edits.specs.Accepted.{IsHeaderOf}
 use Rattle.luks1_edits.specs.Replies.{Replies1}
-use Rattle.luks1_edits.proofs.AcceptedFacts.{rewrite_replies, unaccepted_ends}
+use Rattle.luks1_edits.proofs.AcceptedFacts.{early_ends, rewrite_replies}
+use Rattle.luks1_edits.proofs.NewKeyslotFacts.{making}
+use Rattle.luks1_edits.proofs.RemovalFacts.{removable_of, removal}
 use Rattle.luks1_edits.proofs.applying.apply_luks1.Goals as goal
 
 pub returns-in-Err-clause-replies : goal.returns-in-Err-clause-replies
 returns-in-Err-clause-replies g c = λ tells is.
     let v = g.D.Device.bytes c.args.device.now in
-    unaccepted_ends v c.args.payload c.args.edit.now c.args.random.now c.in-Err.fault (c.in-Err.ensures.refused v is (g.met.D.Device.sized c.args.device.now tells ∙ sym c.len.ensures))
+    early_ends v c.args.payload c.args.edit.now c.args.random.now c.in-Err.fault c.in-Err.ensures.early
+    (c.in-Err.ensures.refused v c.args.random.now is (g.met.D.Device.sized c.args.device.now tells ∙ sym c.len.ensures))
 
 pub returns-in-Seal-clause-replies : goal.returns-in-Seal-clause-replies
 returns-in-Seal-clause-replies g c = λ tells is.
@@ -30,3 +33,10 @@ returns-in-Rewrite-clause-replies g c = λ tells is.
     let v = g.D.Device.bytes c.args.device.now in
     let header = c.in-Ok.ensures.header v is (g.met.D.Device.sized c.args.device.now tells ∙ sym c.len.ensures) in
     rewrite_replies v c.args.payload c.args.random.now header.faultless c.args.edit.now c.in-Rewrite.label (sym c.in-Rewrite.ensures) c.repair.result c.repair.ensures
+
+pub seal-requires-clause-used : goal.seal-requires-clause-used
+seal-requires-clause-used g c = λ v holds.
+    (c.in-Ok.ensures.there v holds).there c.in-Seal.sealed.opener.slot (making v c.args.edit.now c.in-Seal.sealed (sym c.in-Seal.ensures)).opening.wanted
+
+pub remove-requires-clause-removable : goal.remove-requires-clause-removable
+remove-requires-clause-removable g c = λ v holds. removable_of (removal v c.args.edit.now c.in-Remove.removed [] (sym c.in-Remove.ensures)) (c.in-Ok.ensures.there v holds)

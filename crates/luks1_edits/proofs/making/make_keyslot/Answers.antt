@@ -1,4 +1,4 @@
-use Rattle.std.proofs.Common.{ℕ, ◌≤◌, length, sym, take, refl, ap, subst, ◌∙◌, arith, inl, inr}
+use Rattle.std.proofs.Common.{◌≤◌, length, sym, take, refl, ap, subst, ◌∙◌, arith, inl, inr}
 use Rattle.luks1_edits.proofs.KeptFacts.{header_inside}
 use Rattle.luks1_edits.proofs.MakingFacts.{area_torn, entry_torn, IsNewPlan, keyslot_made, new_plan, plan_inside, plan_key_length, plan_random_length, sealed_rest, unsealed_unmade}
 use Rattle.luks_slot.specs.Opening.{area_bytes}

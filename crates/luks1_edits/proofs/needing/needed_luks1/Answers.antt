@@ -1,34 +1,38 @@
-use Rattle.std.proofs.Common.{[], subst, sym, MatchResult}
-use Rattle.luks1_edits.specs.Accepted.{IsNewNeed, IsNewNeedFault}
+use Rattle.std.proofs.Common.{[], ap, subst, sym, MatchResult}
+use Rattle.luks_edit.specs.Asked.{sealed_in}
+use Rattle.luks1_edits.specs.Accepted.{IsNewFault, IsNewFree}
 use Rattle.luks1_edits.specs.Edited.{number_asked}
+use Rattle.luks1_edits.specs.Refused.{NeedsFor}
 use Rattle.luks1_edits.proofs.KeyslotPlaces.{key_bytes_in}
-use Rattle.luks1_edits.proofs.NeedFacts.{idle_need, need_unaccepted, new_need_tells, removal_need_tells}
+use Rattle.luks1_edits.proofs.NeedFacts.{idle_need, need_first, new_need_tells}
 use Rattle.luks1_edits.proofs.NewKeyslotFacts.{making}
 use Rattle.luks1_edits.proofs.OpenerFacts.{slots_in}
-use Rattle.luks1_edits.proofs.RemovalFacts.{removal}
 use Rattle.luks1_edits.proofs.needing.needed_luks1.Goals as goal
 
 pub returns-in-Err-clause-tells : goal.returns-in-Err-clause-tells
-returns-in-Err-clause-tells c = λ v is size. need_unaccepted v c.args.payload c.args.edit.now c.in-Err.fault (c.in-Err.ensures.refused v is size)
+returns-in-Err-clause-tells c = λ v is size. need_first v c.args.payload c.args.edit.now c.in-Err.fault c.in-Err.ensures.early (c.in-Err.ensures.refused v [] is size)
 
 pub returns-in-Seal-clause-tells : goal.returns-in-Seal-clause-tells
 returns-in-Seal-clause-tells c = λ v is size.
     let a = c.in-Ok.header in
     let header = c.in-Ok.ensures.header v is size in
     let fields = c.in-Ok.ensures.accepted.fields in
+    let slots = slots_in a.bytes.now c.args.payload v a.fields.slots header fields.slots in
     let s = c.in-Seal.sealed in
-    new_need_tells v c.args.payload c.args.edit.now header.faultless s.opener.slot s.opener.passphrase.bytes.now (number_asked s.place) s.derivation (making v c.args.edit.now s (sym c.in-Seal.ensures)) c.new_need.result
-    (subst (λ t. MatchResult c.new_need.result (IsNewNeed v s.opener.slot t) (IsNewNeedFault v s.opener.slot t)) c.number_asked.ensures
-    (c.new_need.ensures.need v (slots_in a.bytes.now c.args.payload v a.fields.slots header fields.slots) (key_bytes_in a.bytes.now a.fields c.args.payload v header fields)))
+    new_need_tells v c.args.payload c.args.edit.now header.faultless (c.in-Ok.ensures.there v slots) s.opener.slot s.opener.passphrase.bytes.now (number_asked s.place) s.derivation (making v c.args.edit.now s (sym c.in-Seal.ensures)) c.new_need.result
+    (subst (λ t. MatchResult c.new_need.result (NeedsFor v (IsNewFree v t)) (IsNewFault v t)) c.number_asked.ensures
+    (c.new_need.ensures.need v slots (key_bytes_in a.bytes.now a.fields c.args.payload v header fields)))
 
 pub returns-in-Remove-clause-tells : goal.returns-in-Remove-clause-tells
 returns-in-Remove-clause-tells c = λ v is size.
     let a = c.in-Ok.header in
     let header = c.in-Ok.ensures.header v is size in
-    let fields = c.in-Ok.ensures.accepted.fields in
-    let d = c.in-Remove.removed in
-    removal_need_tells v c.args.payload c.args.edit.now header.faultless d.slot d.by_ d.passphrase.bytes.now [] (removal v c.args.edit.now d [] (sym c.in-Remove.ensures)) c.removal_need.result
-    (c.removal_need.ensures.need v (slots_in a.bytes.now c.args.payload v a.fields.slots header fields.slots))
+    let slots = slots_in a.bytes.now c.args.payload v a.fields.slots header c.in-Ok.ensures.accepted.fields.slots in
+    idle_need v c.args.payload c.args.edit.now header.faultless (c.in-Ok.ensures.there v slots) (ap sealed_in (sym c.in-Remove.ensures))
 
 pub returns-in-Rewrite-clause-tells : goal.returns-in-Rewrite-clause-tells
-returns-in-Rewrite-clause-tells c = λ v is size. idle_need v c.args.payload c.args.edit.now (c.in-Ok.ensures.header v is size).faultless c.in-Rewrite.label (sym c.in-Rewrite.ensures)
+returns-in-Rewrite-clause-tells c = λ v is size.
+    let a = c.in-Ok.header in
+    let header = c.in-Ok.ensures.header v is size in
+    let slots = slots_in a.bytes.now c.args.payload v a.fields.slots header c.in-Ok.ensures.accepted.fields.slots in
+    idle_need v c.args.payload c.args.edit.now header.faultless (c.in-Ok.ensures.there v slots) (ap sealed_in (sym c.in-Rewrite.ensures))

@@ -1,43 +1,35 @@
-use Rattle.std.proofs.Common.{refl, arith}
+use Rattle.std.proofs.Common.{refl, subst, sym, arith}
 use Rattle.std.proofs.lemmas.Result.{err_from_is_err_and}
 use Rattle.luks_area.proofs.DeviceFacts.{settled_unchanged}
+use Rattle.luks1_edits.specs.Edited.{IsInUse}
 use Rattle.luks1_edits.proofs.KeyslotPlaces.{half_removed_same, keyslot_at, keyslot_at_same, keyslot_inside, removed_same}
 use Rattle.luks1_edits.proofs.KeptFacts.{header_inside}
 use Rattle.luks1_edits.proofs.OpenerFacts.{slots_in}
-use Rattle.luks1_edits.proofs.RemovalFacts.{last_refused, random_refused, removal, removal_done, removal_opener, removal_torn, unremovable_ends}
+use Rattle.luks1_edits.proofs.RemovalFacts.{last_refused, random_refused, removal, removal_done, removal_opener, removal_torn}
 use Rattle.luks1_edits.proofs.RowFacts.{unopened_ends}
 use Rattle.luks1_edits.proofs.removing.remove.Goals as goal
-
-pub returns-in_err-judge_removal-clause-replies : goal.returns-in_err-judge_removal-clause-replies
-returns-in_err-judge_removal-clause-replies g c = λ tells e is x.
-    let v = g.D.Device.bytes c.args.device.now in
-    let a = c.args.header.now in
-    let p = err_from_is_err_and c.from_residual.result c.from_residual.ensures.1 in
-    rw (p.1, p.2)
-    (unremovable_ends v a.payload e c.args.random.now c.args.removed.now.slot c.args.removed.now.by_ c.args.removed.now.passphrase.bytes.now (removal v e c.args.removed.now c.args.random.now is) x.faultless c.in_err-judge_removal.field-0.0
-    (c.in_err-judge_removal.ensures.judged v (slots_in a.bytes.now a.payload v a.fields.slots x c.requires.accepted.fields.slots)))
 
 pub returns-in_err-unlock-clause-replies : goal.returns-in_err-unlock-clause-replies
 returns-in_err-unlock-clause-replies g c = λ tells e is x.
     let v = g.D.Device.bytes c.args.device.now in
     let a = c.args.header.now in
-    let p = err_from_is_err_and c.from_residual-in_err-unlock.result c.from_residual-in_err-unlock.ensures.1 in
+    let p = err_from_is_err_and c.from_residual.result c.from_residual.ensures.1 in
     rw (p.1, p.2)
     (unopened_ends v a.payload e c.args.random.now x.faultless x.chosen c.opener_of.result c.args.removed.now.passphrase.bytes.now
-    (removal_opener v a.payload e c.args.random.now c.args.removed.now.slot c.args.removed.now.by_ c.args.removed.now.passphrase.bytes.now (removal v e c.args.removed.now c.args.random.now is) (c.in_ok-judge_removal.ensures.judged v (slots_in a.bytes.now a.payload v a.fields.slots x c.requires.accepted.fields.slots)) c.opener_of.result c.opener_of.ensures)
+    (removal_opener v a.payload e c.args.random.now c.args.removed.now.slot c.args.removed.now.by_ c.args.removed.now.passphrase.bytes.now (removal v e c.args.removed.now c.args.random.now is) (c.requires.removable v (slots_in a.bytes.now a.payload v a.fields.slots x c.requires.accepted.fields.slots)) c.opener_of.result c.opener_of.ensures)
     (g.D.Device.bytes c.unlock.new.device) c.in_err-unlock.field-0.0 (c.unlock.ensures.unchanged.same tells) (c.in_err-unlock.ensures.refused tells x))
 
 pub returns-then-is_last-clause-replies : goal.returns-then-is_last-clause-replies
 returns-then-is_last-clause-replies g c = λ tells e is x.
     let v = g.D.Device.bytes c.args.device.now in
     let a = c.args.header.now in
-    (last_refused v a.payload e c.args.random.now c.args.removed.now.slot c.args.removed.now.by_ c.args.removed.now.passphrase.bytes.now c.in_ok-unlock.field-0 (removal v e c.args.removed.now c.args.random.now is) a.bytes.now x (c.in_ok-judge_removal.ensures.judged v (slots_in a.bytes.now a.payload v a.fields.slots x c.requires.accepted.fields.slots)) c.opener_of.result c.opener_of.ensures (c.in_ok-unlock.ensures.opened tells x) (c.if-is_last.ensures.last refl v (slots_in a.bytes.now a.payload v a.fields.slots x c.requires.accepted.fields.slots)), c.unlock.ensures.unchanged.same tells)
+    (last_refused v a.payload e c.args.random.now c.args.removed.now.slot c.args.removed.now.by_ c.args.removed.now.passphrase.bytes.now c.in_ok-unlock.field-0 (removal v e c.args.removed.now c.args.random.now is) a.bytes.now x (c.requires.removable v (slots_in a.bytes.now a.payload v a.fields.slots x c.requires.accepted.fields.slots)) c.opener_of.result c.opener_of.ensures (c.in_ok-unlock.ensures.opened tells x) (c.if-is_last.ensures.last refl v (slots_in a.bytes.now a.payload v a.fields.slots x c.requires.accepted.fields.slots)), c.unlock.ensures.unchanged.same tells)
 
 pub returns-then-random-ne0-clause-replies : goal.returns-then-random-ne0-clause-replies
 returns-then-random-ne0-clause-replies g c = λ tells e is x.
     let v = g.D.Device.bytes c.args.device.now in
     let a = c.args.header.now in
-    (random_refused v a.payload e c.args.random.now c.args.removed.now.slot c.args.removed.now.by_ c.args.removed.now.passphrase.bytes.now c.in_ok-unlock.field-0 (removal v e c.args.removed.now c.args.random.now is) a.bytes.now x (c.in_ok-judge_removal.ensures.judged v (slots_in a.bytes.now a.payload v a.fields.slots x c.requires.accepted.fields.slots)) c.opener_of.result c.opener_of.ensures (c.in_ok-unlock.ensures.opened tells x) (c.if-is_last.ensures.other refl v (slots_in a.bytes.now a.payload v a.fields.slots x c.requires.accepted.fields.slots)) c.if-random-ne0.true, c.unlock.ensures.unchanged.same tells)
+    (random_refused v a.payload e c.args.random.now c.args.removed.now.slot c.args.removed.now.by_ c.args.removed.now.passphrase.bytes.now c.in_ok-unlock.field-0 (removal v e c.args.removed.now c.args.random.now is) a.bytes.now x (c.requires.removable v (slots_in a.bytes.now a.payload v a.fields.slots x c.requires.accepted.fields.slots)) c.opener_of.result c.opener_of.ensures (c.in_ok-unlock.ensures.opened tells x) (c.if-is_last.ensures.other refl v (slots_in a.bytes.now a.payload v a.fields.slots x c.requires.accepted.fields.slots)) c.if-random-ne0.true, c.unlock.ensures.unchanged.same tells)
 
 pub free_keyslot-requires-clause-within : goal.free_keyslot-requires-clause-within
 free_keyslot-requires-clause-within g c =
@@ -49,7 +41,7 @@ pub free_keyslot-requires-clause-inside : goal.free_keyslot-requires-clause-insi
 free_keyslot-requires-clause-inside g c =
     let size = c.unlock.ensures.unchanged.size in
     let inside = keyslot_inside c.args.header.now.bytes.now c.args.header.now.fields c.args.header.now.payload (g.D.Device.size c.args.device.now) c.args.removed.now.slot _ c.luks1_area-area.result
-    c.requires.accepted.fields c.requires.accepted.volume c.in_ok-judge_removal.ensures.numbered c.luks1_area-area.ensures.start c.luks1_area-area.ensures.len in
+    c.requires.accepted.fields c.requires.accepted.volume (c.requires.removable c.args.header.now.bytes.now c.requires.accepted.fields.slots).removed.0 c.luks1_area-area.ensures.start c.luks1_area-area.ensures.len in
     omega (arith, size, inside)
 
 pub returns-in-Ok-clause-replies : goal.returns-in-Ok-clause-replies
@@ -57,10 +49,10 @@ returns-in-Ok-clause-replies g c = λ tells e is x.
     let v = g.D.Device.bytes c.args.device.now in
     let a = c.args.header.now in
     let at = keyslot_at a.bytes.now a.fields a.payload v c.args.removed.now.slot _ c.luks1_area-area.result x c.requires.accepted.fields
-    c.in_ok-judge_removal.ensures.numbered c.luks1_area-area.ensures.start c.luks1_area-area.ensures.len in
+    (c.requires.removable c.args.header.now.bytes.now c.requires.accepted.fields.slots).removed.0 c.luks1_area-area.ensures.start c.luks1_area-area.ensures.len in
     let same = c.unlock.ensures.unchanged.same tells in
     let w = g.D.Device.bytes c.free_keyslot.new.device in
-    removal_done v a.payload e c.args.random.now c.args.removed.now.slot c.args.removed.now.by_ c.args.removed.now.passphrase.bytes.now c.in_ok-unlock.field-0 (removal v e c.args.removed.now c.args.random.now is) a.bytes.now x (c.in_ok-judge_removal.ensures.judged v (slots_in a.bytes.now a.payload v a.fields.slots x c.requires.accepted.fields.slots)) c.opener_of.result c.opener_of.ensures (c.in_ok-unlock.ensures.opened tells x)
+    removal_done v a.payload e c.args.random.now c.args.removed.now.slot c.args.removed.now.by_ c.args.removed.now.passphrase.bytes.now c.in_ok-unlock.field-0 (removal v e c.args.removed.now c.args.random.now is) a.bytes.now x (c.requires.removable v (slots_in a.bytes.now a.payload v a.fields.slots x c.requires.accepted.fields.slots)) c.opener_of.result c.opener_of.ensures (c.in_ok-unlock.ensures.opened tells x)
     (c.if-is_last.ensures.other refl v (slots_in a.bytes.now a.payload v a.fields.slots x c.requires.accepted.fields.slots)) c.if-random-ne0.false w (removed_same same (c.in-Ok.ensures.removed tells (keyslot_at_same same at)))
 
 pub returns-in-Err-clause-replies : goal.returns-in-Err-clause-replies
@@ -68,10 +60,10 @@ returns-in-Err-clause-replies g c = λ tells e is x.
     let v = g.D.Device.bytes c.args.device.now in
     let a = c.args.header.now in
     let at = keyslot_at a.bytes.now a.fields a.payload v c.args.removed.now.slot _ c.luks1_area-area.result x c.requires.accepted.fields
-    c.in_ok-judge_removal.ensures.numbered c.luks1_area-area.ensures.start c.luks1_area-area.ensures.len in
+    (c.requires.removable c.args.header.now.bytes.now c.requires.accepted.fields.slots).removed.0 c.luks1_area-area.ensures.start c.luks1_area-area.ensures.len in
     let same = c.unlock.ensures.unchanged.same tells in
     let w = g.D.Device.bytes c.free_keyslot.new.device in
-    removal_torn v a.payload e c.args.random.now c.args.removed.now.slot c.args.removed.now.by_ c.args.removed.now.passphrase.bytes.now c.in_ok-unlock.field-0 (removal v e c.args.removed.now c.args.random.now is) a.bytes.now x (c.in_ok-judge_removal.ensures.judged v (slots_in a.bytes.now a.payload v a.fields.slots x c.requires.accepted.fields.slots)) c.opener_of.result c.opener_of.ensures (c.in_ok-unlock.ensures.opened tells x)
+    removal_torn v a.payload e c.args.random.now c.args.removed.now.slot c.args.removed.now.by_ c.args.removed.now.passphrase.bytes.now c.in_ok-unlock.field-0 (removal v e c.args.removed.now c.args.random.now is) a.bytes.now x (c.requires.removable v (slots_in a.bytes.now a.payload v a.fields.slots x c.requires.accepted.fields.slots)) c.opener_of.result c.opener_of.ensures (c.in_ok-unlock.ensures.opened tells x)
     (c.if-is_last.ensures.other refl v (slots_in a.bytes.now a.payload v a.fields.slots x c.requires.accepted.fields.slots)) c.if-random-ne0.false w (half_removed_same same (c.in-Err.ensures.torn tells (keyslot_at_same same at)))
 
 pub returns-in_err-unlock-clause-settled : goal.returns-in_err-unlock-clause-settled
@@ -85,3 +77,12 @@ returns-then-random-ne0-clause-settled g c = λ tells same. settled_unchanged te
 
 pub free_keyslot-requires-clause-settled : goal.free_keyslot-requires-clause-settled
 free_keyslot-requires-clause-settled g c = λ tells. settled_unchanged tells c.unlock.ensures.unchanged (c.requires.settled tells)
+
+pub unlock-requires-clause-used : goal.unlock-requires-clause-used
+unlock-requires-clause-used g c = λ v holds. subst (λ n. IsInUse v n) (sym c.opener_of.ensures) (c.requires.removable v holds).opener
+
+pub bounds-header-removed : goal.bounds-header-removed
+bounds-header-removed g c = (c.requires.removable c.args.header.now.bytes.now c.requires.accepted.fields.slots).removed.0
+
+pub free_keyslot-requires-clause-numbered : goal.free_keyslot-requires-clause-numbered
+free_keyslot-requires-clause-numbered g c = (c.requires.removable c.args.header.now.bytes.now c.requires.accepted.fields.slots).removed.0

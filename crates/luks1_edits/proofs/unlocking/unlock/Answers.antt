@@ -1,22 +1,12 @@
-use Rattle.std.proofs.Common.{◌≡◌, IfSome, length, refl, subst, ◌∙◌, arith, rules}
+use Rattle.std.proofs.Common.{◌≡◌, IfSome, length, subst, ◌∙◌, arith, rules}
 use Rattle.luks_area.specs.declared.area.AreaName.TheVariants.{Slot}
-use Rattle.luks1_edits.proofs.OpenerFacts.{locked_by, never_memory, opened_by, plan_openable, plan_there, slots_in, unopened_by, used_or_free}
+use Rattle.luks1_edits.proofs.OpenerFacts.{locked_by, never_memory, opened_by, plan_openable, plan_there, slots_in, unopened_by}
 use Rattle.luks1_edits.proofs.unlocking.unlock.Goals as goal
-use Rattle.luks1_edits.proofs.unlocking.unlock.Goals.{then-n-gt7-via-then-n-gt7, then-n-gt7-via-else-n-gt7+then-not-is_used}
-
-pub returns-then-n-gt7-clause-refused : goal.returns-then-n-gt7-clause-refused
-returns-then-n-gt7-clause-refused g c = λ tells x used. elim c.then-n-gt7.branch [
-  | then-n-gt7-via-then-n-gt7 w ↦ (let over = w.if-n-gt7.true in let low = used.0 in omega (arith, over, low))
-  | then-n-gt7-via-else-n-gt7+then-not-is_used w ↦
-      used_or_free (g.D.Device.bytes c.args.device.now) c.args.n used
-      (w.if-not-is_used.ensures.free refl (g.D.Device.bytes c.args.device.now)
-      (slots_in c.args.header.now.bytes.now c.args.header.now.payload (g.D.Device.bytes c.args.device.now) c.args.header.now.fields.slots x c.requires.accepted.fields.slots))
-]
 
 pub open_within-requires : goal.open_within-requires
 open_within-requires g c =
     let a = c.args.header.now in
-    let used = c.if-not-is_used.ensures.used refl in
+    let used = c.requires.used in
     let ready = plan_openable a.bytes.now a.fields c.args.n _ c.luks1_plan-plan.result c.requires.accepted.fields used c.luks1_plan-plan.ensures.judged in
     let there = plan_there a.bytes.now a.fields c.args.n _ c.luks1_plan-plan.result c.requires.accepted.fields used c.luks1_plan-plan.ensures.is in
     record {
@@ -35,15 +25,15 @@ open_within-requires g c =
 pub returns-in-Some-clause-length : goal.returns-in-Some-clause-length
 returns-in-Some-clause-length g c =
     let a = c.args.header.now in
-    let there = plan_there a.bytes.now a.fields c.args.n _ c.luks1_plan-plan.result c.requires.accepted.fields (c.if-not-is_used.ensures.used refl) c.luks1_plan-plan.ensures.is in
+    let there = plan_there a.bytes.now a.fields c.args.n _ c.luks1_plan-plan.result c.requires.accepted.fields c.requires.used c.luks1_plan-plan.ensures.is in
     subst (λ o. IfSome o (λ k. length k ≡ c.luks1_plan-plan.result.key_bytes)) c.in-Some.is c.in-Ok.ensures.length ∙ there.is.key_bytes
 
 pub returns-in-Some-clause-opened : goal.returns-in-Some-clause-opened
 returns-in-Some-clause-opened g c = λ tells x.
     let v = g.D.Device.bytes c.args.device.now in
     let a = c.args.header.now in
-    let there = plan_there a.bytes.now a.fields c.args.n _ c.luks1_plan-plan.result c.requires.accepted.fields (c.if-not-is_used.ensures.used refl) c.luks1_plan-plan.ensures.is in
-    let used = c.if-not-is_used.ensures.used refl v (slots_in a.bytes.now a.payload v a.fields.slots x c.requires.accepted.fields.slots) in
+    let there = plan_there a.bytes.now a.fields c.args.n _ c.luks1_plan-plan.result c.requires.accepted.fields c.requires.used c.luks1_plan-plan.ensures.is in
+    let used = c.requires.used v (slots_in a.bytes.now a.payload v a.fields.slots x c.requires.accepted.fields.slots) in
     opened_by a.bytes.now a.payload v x c.args.n used c.luks1_plan-plan.result there c.args.passphrase.now.allowed.older c.args.passphrase.now.bytes.now c.in-Some.key c.in-Ok.found
     c.in-Ok.ensures.accepted (c.in-Ok.ensures.value tells) c.in-Some.is
 
@@ -51,8 +41,8 @@ pub returns-in-None-clause-refused : goal.returns-in-None-clause-refused
 returns-in-None-clause-refused g c = λ tells x.
     let v = g.D.Device.bytes c.args.device.now in
     let a = c.args.header.now in
-    let there = plan_there a.bytes.now a.fields c.args.n _ c.luks1_plan-plan.result c.requires.accepted.fields (c.if-not-is_used.ensures.used refl) c.luks1_plan-plan.ensures.is in
-    let used = c.if-not-is_used.ensures.used refl v (slots_in a.bytes.now a.payload v a.fields.slots x c.requires.accepted.fields.slots) in
+    let there = plan_there a.bytes.now a.fields c.args.n _ c.luks1_plan-plan.result c.requires.accepted.fields c.requires.used c.luks1_plan-plan.ensures.is in
+    let used = c.requires.used v (slots_in a.bytes.now a.payload v a.fields.slots x c.requires.accepted.fields.slots) in
     locked_by a.bytes.now a.payload v x c.args.n used c.luks1_plan-plan.result there c.args.passphrase.now.allowed.older c.args.passphrase.now.bytes.now c.in-Ok.found
     c.in-Ok.ensures.accepted (c.in-Ok.ensures.value tells) c.in-None.is
 
@@ -60,13 +50,16 @@ pub returns-in-Err-clause-refused : goal.returns-in-Err-clause-refused
 returns-in-Err-clause-refused g c = λ tells x.
     let v = g.D.Device.bytes c.args.device.now in
     let a = c.args.header.now in
-    let there = plan_there a.bytes.now a.fields c.args.n _ c.luks1_plan-plan.result c.requires.accepted.fields (c.if-not-is_used.ensures.used refl) c.luks1_plan-plan.ensures.is in
-    let used = c.if-not-is_used.ensures.used refl v (slots_in a.bytes.now a.payload v a.fields.slots x c.requires.accepted.fields.slots) in
+    let there = plan_there a.bytes.now a.fields c.args.n _ c.luks1_plan-plan.result c.requires.accepted.fields c.requires.used c.luks1_plan-plan.ensures.is in
+    let used = c.requires.used v (slots_in a.bytes.now a.payload v a.fields.slots x c.requires.accepted.fields.slots) in
     rw c.keyslot_fault.ensures
     (unopened_by a.bytes.now a.payload v x c.args.n used c.luks1_plan-plan.result there c.args.passphrase.now.allowed.older c.args.passphrase.now.bytes.now c.in-Err.fault c.in-Err.ensures.fault)
 
 pub returns-in-Err-clause-memory : goal.returns-in-Err-clause-memory
 returns-in-Err-clause-memory g c =
     let a = c.args.header.now in
-    let there = plan_there a.bytes.now a.fields c.args.n _ c.luks1_plan-plan.result c.requires.accepted.fields (c.if-not-is_used.ensures.used refl) c.luks1_plan-plan.ensures.is in
+    let there = plan_there a.bytes.now a.fields c.args.n _ c.luks1_plan-plan.result c.requires.accepted.fields c.requires.used c.luks1_plan-plan.ensures.is in
     rw c.keyslot_fault.ensures (never_memory c.args.passphrase.now.allowed.older a.bytes.now c.args.n c.luks1_plan-plan.result there c.in-Err.fault c.in-Err.ensures.fault)
+
+pub bounds-header-n : goal.bounds-header-n
+bounds-header-n g c = (c.requires.used c.args.header.now.bytes.now c.requires.accepted.fields.slots).0

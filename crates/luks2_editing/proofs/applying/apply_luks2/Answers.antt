@@ -1,12 +1,13 @@
 use Rattle.std.proofs.Common.{ℕ, ◌∙◌, ◌<◌, ap, refl, subst, sym}
 use Rattle.std.proofs.lemmas.Result.{err_from_is_err_and}
 use Rattle.luks2_header.specs.Header2.{hdr_size, header_at}
-use Rattle.luks_meta.specs.Content.{area_len, content}
+use Rattle.luks_meta.specs.Content.{content}
 use Rattle.luks_slot.specs.declared.allowed.Allowed.{Allowed}
 use Rattle.luks_edit.proofs.AllowedMemory.{short_where_allowed}
 use Rattle.luks_edit.specs.Asked.{allowed_by, HasShortPassphrases}
 use Rattle.luks_edit.specs.declared.edit.Edit.{Edit}
-use Rattle.luks_edit.specs.declared.edit.Edit.TheVariants.{Add, Change, Remove, Repair, Label}
+use Rattle.luks_edit.specs.declared.edit.Edit.TheVariants.{Add, Change}
+use Rattle.luks2_judging.specs.declared.judged.JudgedEdit.TheVariants as judged
 use Rattle.luks2_judging.specs.Judging.{IsLostArea, Seals, Takes}
 use Rattle.luks2_judging.specs.Room.{IsAllowed}
 use Rattle.luks2_judging.proofs.DeedFacts.{edit_is}
@@ -23,87 +24,88 @@ returns-in_err-judged-clause-replies g c = λ tells is.
 pub remove-requires-clause-numbered : goal.remove-requires-clause-numbered
 remove-requires-clause-numbered g c =
     let copy = c.in_ok-judged.judged.copy in
-    let takes = subst (λ t. Takes (area_len copy.meta) (content copy.meta) (g.D.Device.size c.args.device.now) c.args.edit.now t) c.in-Remove.is c.in_ok-judged.ensures.judged.takes in
+    let takes = subst (λ t. Takes copy (g.D.Device.size c.args.device.now) c.args.edit.now t) c.in-Remove.is c.in_ok-judged.ensures.judged.takes in
     takes.there.0
 
 pub remove-requires-clause-lost : goal.remove-requires-clause-lost
 remove-requires-clause-lost g c =
     let copy = c.in_ok-judged.judged.copy in
-    let takes = subst (λ t. Takes (area_len copy.meta) (content copy.meta) (g.D.Device.size c.args.device.now) c.args.edit.now t) c.in-Remove.is c.in_ok-judged.ensures.judged.takes in
+    let takes = subst (λ t. Takes copy (g.D.Device.size c.args.device.now) c.args.edit.now t) c.in-Remove.is c.in_ok-judged.ensures.judged.takes in
     subst (λ (n : ℕ). IsLostArea (content copy.meta) n c.in-Remove.slot c.in-Remove.area) (sym c.judge_luks2.ensures.unchanged.size) takes.lost
 
-pub returns-in-Repair-clause-replies : goal.returns-in-Repair-clause-replies
-returns-in-Repair-clause-replies g c = λ tells is.
+pub returns-in-Rewrite-clause-replies : goal.returns-in-Rewrite-clause-replies
+returns-in-Rewrite-clause-replies g c = λ tells is.
     let copy = c.in_ok-judged.judged.copy in
-    let takes = subst (λ t. Takes (area_len copy.meta) (content copy.meta) (g.D.Device.size c.args.device.now) c.args.edit.now t) c.in-Repair.is c.in_ok-judged.ensures.judged.takes in
+    let takes = subst (λ t. Takes copy (g.D.Device.size c.args.device.now) c.args.edit.now t) c.in-Rewrite.is c.in_ok-judged.ensures.judged.takes in
     let same = c.judge_luks2.ensures.unchanged.same tells in
-    let judged = judged_edit same (edit_is c.args.edit.now _ takes) c.in_ok-judged.ensures.judged.is is (c.in_ok-judged.ensures.unrefused tells is) in
-    replied same (edit_is c.args.edit.now _ takes) c.args.payload c.args.random.now _ _ (c.repair.ensures.replies tells c.args.payload Repair refl judged.chosen judged.well (judged.none c.args.random.now))
+    let now = judged_edit same refl c.in_ok-judged.judged c.in_ok-judged.ensures.judged.is is (c.in_ok-judged.ensures.unrefused tells is) in
+    replied same refl c.args.payload c.args.random.now _ _ (c.repair.ensures.replies tells c.args.payload c.args.edit.now takes now.chosen now.well (now.none c.args.random.now))
 
 pub returns-in-Remove-clause-replies : goal.returns-in-Remove-clause-replies
 returns-in-Remove-clause-replies g c = λ tells is.
     let copy = c.in_ok-judged.judged.copy in
-    let takes = subst (λ t. Takes (area_len copy.meta) (content copy.meta) (g.D.Device.size c.args.device.now) c.args.edit.now t) c.in-Remove.is c.in_ok-judged.ensures.judged.takes in
+    let takes = subst (λ t. Takes copy (g.D.Device.size c.args.device.now) c.args.edit.now t) c.in-Remove.is c.in_ok-judged.ensures.judged.takes in
     let same = c.judge_luks2.ensures.unchanged.same tells in
-    let judged = judged_edit same (edit_is c.args.edit.now _ takes.asked) c.in_ok-judged.ensures.judged.is is (c.in_ok-judged.ensures.unrefused tells is) in
-    replied same (edit_is c.args.edit.now _ takes.asked) c.args.payload c.args.random.now _ _ (c.remove.ensures.replies tells c.args.payload (Remove c.in-Remove.slot takes.by_ takes.passphrase) takes.by_ takes.passphrase refl judged.chosen judged.well (judged.none c.args.random.now))
+    let now = judged_edit same refl c.in_ok-judged.judged c.in_ok-judged.ensures.judged.is is (c.in_ok-judged.ensures.unrefused tells is) in
+    replied same refl c.args.payload c.args.random.now _ _
+    (c.remove.ensures.replies tells c.args.payload c.args.edit.now takes.by_ takes.passphrase takes.asked now.chosen now.well (now.none c.args.random.now))
 
-pub returns-in-Label-clause-replies : goal.returns-in-Label-clause-replies
-returns-in-Label-clause-replies g c = λ tells is.
+pub returns-in-Opened-clause-replies : goal.returns-in-Opened-clause-replies
+returns-in-Opened-clause-replies g c = λ tells is.
     let copy = c.in_ok-judged.judged.copy in
-    let takes = subst (λ t. Takes (area_len copy.meta) (content copy.meta) (g.D.Device.size c.args.device.now) c.args.edit.now t) c.in-Label.is c.in_ok-judged.ensures.judged.takes in
+    let takes = subst (λ t. Takes copy (g.D.Device.size c.args.device.now) c.args.edit.now (judged.Seal t c.in-Seal.key c.in-Seal.passphrase)) c.in-Opened.is
+    (subst (λ t. Takes copy (g.D.Device.size c.args.device.now) c.args.edit.now t) c.in-Seal.is c.in_ok-judged.ensures.judged.takes) in
     let same = c.judge_luks2.ensures.unchanged.same tells in
-    let judged = judged_edit same (edit_is c.args.edit.now _ takes.asked) c.in_ok-judged.ensures.judged.is is (c.in_ok-judged.ensures.unrefused tells is) in
-    replied same (edit_is c.args.edit.now _ takes.asked) c.args.payload c.args.random.now _ _ (c.set_label.ensures.replies tells c.args.payload (Label takes.text) takes.text refl judged.chosen judged.well (judged.none c.args.random.now) takes.is)
-
-pub returns-in-Change-clause-replies : goal.returns-in-Change-clause-replies
-returns-in-Change-clause-replies g c = λ tells is.
-    let copy = c.in_ok-judged.judged.copy in
-    let takes = subst (λ t. Takes (area_len copy.meta) (content copy.meta) (g.D.Device.size c.args.device.now) c.args.edit.now t) c.in-Change.is c.in_ok-judged.ensures.judged.takes in
-    let same = c.judge_luks2.ensures.unchanged.same tells in
-    let judged = judged_edit same (edit_is c.args.edit.now _ takes.asked) c.in_ok-judged.ensures.judged.is is (c.in_ok-judged.ensures.unrefused tells is) in
+    let now = judged_edit same (edit_is c.args.edit.now _ takes.asked) c.in_ok-judged.judged c.in_ok-judged.ensures.judged.is is (c.in_ok-judged.ensures.unrefused tells is) in
     let v = g.D.Device.bytes c.judge_luks2.new.device in
-    let e : Edit = Change c.in-Change.renewal.slot takes.old c.in-Change.passphrase c.in-Change.renewal.derivation.iterations c.in-Change.renewal.derivation.chosen in
-    let seals = subst (λ t. Seals (hdr_size (header_at v copy.header.hdr_offset)) v c.args.payload (content copy.meta) e t) c.in-Change.is judged.seals in
-    let replies = rw (c.new-secrets-in-Change.ensures, c.in-Change.is) at (c.change.ensures.replies tells c.args.payload) in
-    replied same (edit_is c.args.edit.now _ takes.asked) c.args.payload c.args.random.now _ _ (replies e takes.old refl judged.chosen judged.well (judged.none c.args.random.now)
-    (sym (c.allowed-allowed.ensures ∙ ap allowed_by (edit_is c.args.edit.now _ takes.asked))) (seals.0 c.in-Change.renewal.slot takes.old.bytes.now (refl, refl)) seals.1)
+    let e : Edit = Change c.in-Opened.renewal.slot takes.old c.in-Seal.passphrase c.in-Opened.renewal.derivation.iterations c.in-Opened.renewal.derivation.chosen in
+    let seals = subst (λ t. Seals (hdr_size (header_at v copy.header.hdr_offset)) v c.args.payload (content copy.meta) e (judged.Seal t c.in-Seal.key c.in-Seal.passphrase)) c.in-Opened.is
+    (subst (λ t. Seals (hdr_size (header_at v copy.header.hdr_offset)) v c.args.payload (content copy.meta) e t) c.in-Seal.is now.seals) in
+    let replies = rw (c.new-secrets.ensures, c.in-Seal.is) at (c.change.ensures.replies tells c.args.payload) in
+    replied same (edit_is c.args.edit.now _ takes.asked) c.args.payload c.args.random.now _ _ (replies e takes.old refl now.chosen now.well (now.none c.args.random.now)
+    (sym (c.allowed-allowed.ensures ∙ ap allowed_by (edit_is c.args.edit.now _ takes.asked))) (seals.0 c.in-Opened.renewal.slot takes.old.bytes.now (refl, refl)) seals.1)
 
-pub returns-in-Add-clause-replies : goal.returns-in-Add-clause-replies
-returns-in-Add-clause-replies g c = λ tells is.
+pub returns-in-New-clause-replies : goal.returns-in-New-clause-replies
+returns-in-New-clause-replies g c = λ tells is.
     let copy = c.in_ok-judged.judged.copy in
-    let takes = subst (λ t. Takes (area_len copy.meta) (content copy.meta) (g.D.Device.size c.args.device.now) c.args.edit.now t) c.in-Add.is c.in_ok-judged.ensures.judged.takes in
+    let takes = subst (λ t. Takes copy (g.D.Device.size c.args.device.now) c.args.edit.now (judged.Seal t c.in-Seal.key c.in-Seal.passphrase)) c.in-New.is
+    (subst (λ t. Takes copy (g.D.Device.size c.args.device.now) c.args.edit.now t) c.in-Seal.is c.in_ok-judged.ensures.judged.takes) in
     let same = c.judge_luks2.ensures.unchanged.same tells in
-    let judged = judged_edit same (edit_is c.args.edit.now _ takes.asked) c.in_ok-judged.ensures.judged.is is (c.in_ok-judged.ensures.unrefused tells is) in
+    let now = judged_edit same (edit_is c.args.edit.now _ takes.asked) c.in_ok-judged.judged c.in_ok-judged.ensures.judged.is is (c.in_ok-judged.ensures.unrefused tells is) in
     let v = g.D.Device.bytes c.judge_luks2.new.device in
-    let e : Edit = Add c.in-Add.addition.by_ takes.old c.in-Add.passphrase takes.to c.in-Add.addition.derivation.iterations c.in-Add.addition.derivation.chosen in
-    let seals = subst (λ t. Seals (hdr_size (header_at v copy.header.hdr_offset)) v c.args.payload (content copy.meta) e t) c.in-Add.is judged.seals in
-    let replies = rw (c.new-secrets.ensures, c.in-Add.is) at (c.add.ensures.replies tells c.args.payload) in
-    replied same (edit_is c.args.edit.now _ takes.asked) c.args.payload c.args.random.now _ _ (replies e takes.old takes.to refl judged.chosen judged.well (judged.none c.args.random.now)
-    (sym (c.allowed-allowed.ensures ∙ ap allowed_by (edit_is c.args.edit.now _ takes.asked))) (seals.0 c.in-Add.addition.by_ takes.old.bytes.now (refl, refl)) takes.number.is_new seals.1)
+    let e : Edit = Add c.in-New.addition.by_ takes.old c.in-Seal.passphrase takes.to c.in-New.addition.derivation.iterations c.in-New.addition.derivation.chosen in
+    let seals = subst (λ t. Seals (hdr_size (header_at v copy.header.hdr_offset)) v c.args.payload (content copy.meta) e (judged.Seal t c.in-Seal.key c.in-Seal.passphrase)) c.in-New.is
+    (subst (λ t. Seals (hdr_size (header_at v copy.header.hdr_offset)) v c.args.payload (content copy.meta) e t) c.in-Seal.is now.seals) in
+    let replies = rw (c.new-secrets.ensures, c.in-Seal.is) at (c.add.ensures.replies tells c.args.payload) in
+    replied same (edit_is c.args.edit.now _ takes.asked) c.args.payload c.args.random.now _ _ (replies e takes.old takes.to refl now.chosen now.well (now.none c.args.random.now)
+    (sym (c.allowed-allowed.ensures ∙ ap allowed_by (edit_is c.args.edit.now _ takes.asked))) (seals.0 c.in-New.addition.by_ takes.old.bytes.now (refl, refl)) takes.number.is_new seals.1)
 
 pub add-requires-clause-passphrase : goal.add-requires-clause-passphrase
 add-requires-clause-passphrase g c =
     let copy = c.in_ok-judged.judged.copy in
-    let takes = subst (λ t. Takes (area_len copy.meta) (content copy.meta) (g.D.Device.size c.args.device.now) c.args.edit.now t) c.in-Add.is c.in_ok-judged.ensures.judged.takes in
-    rw (c.new-secrets.ensures, c.in-Add.is)
+    let takes = subst (λ t. Takes copy (g.D.Device.size c.args.device.now) c.args.edit.now (judged.Seal t c.in-Seal.key c.in-Seal.passphrase)) c.in-New.is
+    (subst (λ t. Takes copy (g.D.Device.size c.args.device.now) c.args.edit.now t) c.in-Seal.is c.in_ok-judged.ensures.judged.takes) in
+    rw (c.new-secrets.ensures, c.in-Seal.is)
     (λ some. (subst HasShortPassphrases (edit_is c.args.edit.now _ takes.asked) (short_where_allowed c.args.edit.now (subst (λ (m : Allowed). 0 < m.memory) c.allowed-allowed.ensures some))).1)
 
 pub change-requires-clause-passphrase : goal.change-requires-clause-passphrase
 change-requires-clause-passphrase g c =
     let copy = c.in_ok-judged.judged.copy in
-    let takes = subst (λ t. Takes (area_len copy.meta) (content copy.meta) (g.D.Device.size c.args.device.now) c.args.edit.now t) c.in-Change.is c.in_ok-judged.ensures.judged.takes in
-    rw (c.new-secrets-in-Change.ensures, c.in-Change.is)
+    let takes = subst (λ t. Takes copy (g.D.Device.size c.args.device.now) c.args.edit.now (judged.Seal t c.in-Seal.key c.in-Seal.passphrase)) c.in-Opened.is
+    (subst (λ t. Takes copy (g.D.Device.size c.args.device.now) c.args.edit.now t) c.in-Seal.is c.in_ok-judged.ensures.judged.takes) in
+    rw (c.new-secrets.ensures, c.in-Seal.is)
     (λ some. (subst HasShortPassphrases (edit_is c.args.edit.now _ takes.asked) (short_where_allowed c.args.edit.now (subst (λ (m : Allowed). 0 < m.memory) c.allowed-allowed.ensures some))).1)
 
 pub add-requires-clause-allowed : goal.add-requires-clause-allowed
 add-requires-clause-allowed g c =
     let copy = c.in_ok-judged.judged.copy in
-    let takes = subst (λ t. Takes (area_len copy.meta) (content copy.meta) (g.D.Device.size c.args.device.now) c.args.edit.now t) c.in-Add.is c.in_ok-judged.ensures.judged.takes in
-    rw c.new-secrets.ensures (subst (λ (m : Allowed). IsAllowed m.memory c.in-Add.addition.derivation) (sym (c.allowed-allowed.ensures ∙ ap allowed_by (edit_is c.args.edit.now _ takes.asked))) takes.allowed)
+    let takes = subst (λ t. Takes copy (g.D.Device.size c.args.device.now) c.args.edit.now (judged.Seal t c.in-Seal.key c.in-Seal.passphrase)) c.in-New.is
+    (subst (λ t. Takes copy (g.D.Device.size c.args.device.now) c.args.edit.now t) c.in-Seal.is c.in_ok-judged.ensures.judged.takes) in
+    rw c.new-secrets.ensures (subst (λ (m : Allowed). IsAllowed m.memory c.in-New.addition.derivation) (sym (c.allowed-allowed.ensures ∙ ap allowed_by (edit_is c.args.edit.now _ takes.asked))) takes.allowed)
 
 pub change-requires-clause-allowed : goal.change-requires-clause-allowed
 change-requires-clause-allowed g c =
     let copy = c.in_ok-judged.judged.copy in
-    let takes = subst (λ t. Takes (area_len copy.meta) (content copy.meta) (g.D.Device.size c.args.device.now) c.args.edit.now t) c.in-Change.is c.in_ok-judged.ensures.judged.takes in
-    rw c.new-secrets-in-Change.ensures (subst (λ (m : Allowed). IsAllowed m.memory c.in-Change.renewal.derivation) (sym (c.allowed-allowed.ensures ∙ ap allowed_by (edit_is c.args.edit.now _ takes.asked))) takes.allowed)
+    let takes = subst (λ t. Takes copy (g.D.Device.size c.args.device.now) c.args.edit.now (judged.Seal t c.in-Seal.key c.in-Seal.passphrase)) c.in-Opened.is
+    (subst (λ t. Takes copy (g.D.Device.size c.args.device.now) c.args.edit.now t) c.in-Seal.is c.in_ok-judged.ensures.judged.takes) in
+    rw c.new-secrets.ensures (subst (λ (m : Allowed). IsAllowed m.memory c.in-Opened.renewal.derivation) (sym (c.allowed-allowed.ensures ∙ ap allowed_by (edit_is c.args.edit.now _ takes.asked))) takes.allowed)

@@ -11,6 +11,4 @@ pub returns-clause-judged : goal.returns-clause-judged
 returns-clause-judged g c = record { is = refl; takes = c.in_ok-taken.ensures.takes }
 
 pub returns-clause-unrefused : goal.returns-clause-unrefused
-returns-clause-unrefused g c = λ tells is.
-    let known = c.in_ok-taken.ensures.unrefused tells is in
-    record { well = known.well; seals = known.seals; none = known.none }
+returns-clause-unrefused g c = λ tells is. c.in_ok-taken.ensures.unrefused tells is

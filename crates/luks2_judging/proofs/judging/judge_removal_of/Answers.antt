@@ -14,7 +14,7 @@ use Rattle.luks2_judging.proofs.judging.judge_removal_of.Goals as goal
 pub returns-in_err-_key-clause-refused : goal.returns-in_err-_key-clause-refused
 returns-in_err-_key-clause-refused g c = λ tells is payload well judged.
     let read = read_as c.room-room.ensures.meta c.room-room.ensures.entries
-    (g.met.D.Device.sized c.args.device.now tells ∙ sym c.requires.total ∙ sym c.room-room.ensures.total) judged in
+    (g.met.D.Device.sized c.args.device.now tells ∙ sym c.requires.ready.total ∙ sym c.room-room.ensures.total) judged in
     let p = err_from_is_err_and c.from_residual.result c.from_residual.ensures.1 in
     rw (p.1, p.2)
     (unopened_refused read c.in_err-_key.field-0.0 (c.in_err-_key.ensures.refused tells is payload c.args.edit.now well (sym c.allowed-allowed.ensures)
@@ -23,7 +23,7 @@ returns-in_err-_key-clause-refused g c = λ tells is payload well judged.
 pub returns-in_err-area-clause-refused : goal.returns-in_err-area-clause-refused
 returns-in_err-area-clause-refused g c = λ tells is payload well judged.
     let read = read_as c.room-room.ensures.meta c.room-room.ensures.entries
-    (g.met.D.Device.sized c.args.device.now tells ∙ sym c.requires.total ∙ sym c.room-room.ensures.total) judged in
+    (g.met.D.Device.sized c.args.device.now tells ∙ sym c.requires.ready.total ∙ sym c.room-room.ensures.total) judged in
     let p = err_from_is_err_and c.from_residual-in_err-area.result c.from_residual-in_err-area.ensures.1 in
     rw (p.1, p.2)
     rw c.in_err-area.ensures.row.0
@@ -37,19 +37,19 @@ returns-clause-takes g c =
       by_ = c.args.removed.now.by_;
       passphrase = c.args.removed.now.passphrase;
       asked = c.requires.asked;
-      there = removed_used (content c.args.accepted.now.copy.now.meta) c.args.edit.now c.args.removed.now c.requires.asked c.requires.own.there;
-      lost = record { is = is; inside = subst (λ (t : ℕ). IsInside area t) c.requires.total (c.requires.own.key_areas c.args.removed.now.slot area is) };
+      there = removed_used (content c.args.accepted.now.copy.now.meta) c.args.edit.now c.args.removed.now c.requires.asked c.requires.ready.own.there;
+      lost = record { is = is; inside = subst (λ (t : ℕ). IsInside area t) c.requires.ready.total (c.requires.ready.own.key_areas c.args.removed.now.slot area is) };
     }
 
 pub judge_removal-requires : goal.judge_removal-requires
 judge_removal-requires g c =
     subst (λ (m : Meta). IsInUse (content m) c.args.removed.now.slot) (sym c.room-room.ensures.meta)
-    (removed_used (content c.args.accepted.now.copy.now.meta) c.args.edit.now c.args.removed.now c.requires.asked c.requires.own.there)
+    (removed_used (content c.args.accepted.now.copy.now.meta) c.args.edit.now c.args.removed.now c.requires.asked c.requires.ready.own.there)
 
 pub returns-clause-passed : goal.returns-clause-passed
 returns-clause-passed g c = λ tells is payload judged.
     let read = read_as c.room-room.ensures.meta c.room-room.ensures.entries
-    (g.met.D.Device.sized c.args.device.now tells ∙ sym c.requires.total ∙ sym c.room-room.ensures.total) judged in
+    (g.met.D.Device.sized c.args.device.now tells ∙ sym c.requires.ready.total ∙ sym c.room-room.ensures.total) judged in
     removed_passed read (c.in_ok-_key.ensures.opened tells is c.args.edit.now (sym c.allowed-allowed.ensures) (removed_opens c.args.edit.now c.args.removed.now c.opener_of-opener.result c.requires.asked c.opener_of-opener.ensures)).past
     (edit_is c.args.edit.now _ c.requires.asked) c.in_ok-area.ensures.row
 

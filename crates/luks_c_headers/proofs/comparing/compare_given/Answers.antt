@@ -2,32 +2,32 @@ use Rattle.std.proofs.Common.{◌≡◌, ◌≢◌, ◌<◌, inl, inr, length, �
 use Rattle.luks_given.specs.Given.{given_bytes}
 use Rattle.luks_given.specs.Volume.{volume}
 use Rattle.luks_keeping.specs.Compared.{IsComparedInFull}
+use Rattle.luks_keeping.specs.Outlines.{Outlines}
 use Rattle.luks_keeping.specs.SameVolume.{IsOtherVolume}
 use Rattle.luks_reading.specs.Checked.{IsCheckRefusal, WellFormed}
 use Rattle.luks_reading.specs.Failures.{is_check_failure}
-use Rattle.luks_reading.specs.Header.{IsHeader}
 use Rattle.luks_reading.specs.declared.report.Data.TheVariants.{Elsewhere}
 use Rattle.luks_c_answers.proofs.NumberFacts.{check_number_other, check_number_range, check_number_usage}
 use Rattle.luks_c_headers.proofs.HeaderFacts.{none_still}
 use Rattle.luks_c_headers.proofs.comparing.compare_given.Goals as goal
 
-pub returns-in-Err-Device-accepted_header-clause-more : goal.returns-in-Err-Device-accepted_header-clause-more
-returns-in-Err-Device-accepted_header-clause-more g c =
-    let e = c.in-Err-Device-accepted_header.ensures in
-    let unwritten : c.accepted_header-2.new.device.refused ≡ None = none_still _ _ c.new-device.ensures.unwritten (e.unchanged.unsettled tt) in
-    let failed : c.accepted_header-2.new.device.failures ≢ 0 = search rules in
-    let far = c.reached-told-in-Err-Device-accepted_header.ensures.far unwritten failed in
+pub returns-in-Err-Device-read_outline-clause-more : goal.returns-in-Err-Device-read_outline-clause-more
+returns-in-Err-Device-read_outline-clause-more g c =
+    let e = c.in-Err-Device-read_outline.ensures in
+    let unwritten : c.read_outline-2.new.device.refused ≡ None = none_still _ _ c.new-device.ensures.unwritten (e.unchanged.unsettled tt) in
+    let failed : c.read_outline-2.new.device.failures ≢ 0 = search rules in
+    let far = c.reached-told-in-Err-Device-read_outline.ensures.far unwritten failed in
     let all = c.requires.given in
-    λ asked. inr (subst (λ (l : List ℕ). length l < c.reached-told-in-Err-Device-accepted_header.result) all far)
+    λ asked. inr (subst (λ (l : List ℕ). length l < c.reached-told-in-Err-Device-read_outline.result) all far)
 
-pub returns-in-Err-accepted_header : goal.returns-in-Err-accepted_header
-returns-in-Err-accepted_header g c =
-    let f = c.in-Err-accepted_header.fault in
+pub returns-in-Err-read_outline : goal.returns-in-Err-read_outline
+returns-in-Err-read_outline g c =
+    let f = c.in-Err-read_outline.fault in
     let is = c.check_number.ensures in
     let own : is_check_failure f ≡ false = search rules in
     let low = (check_number_range f).0 in
     let kept = subst (λ (v : List ℕ). WellFormed v Elsewhere) c.new-kept.ensures.bytes (c.in-Ok.ensures.formed tt) in
-    let refusal = subst (λ (v : List ℕ). IsCheckRefusal v c.args.payload f) c.new-device.ensures.bytes (c.in-Err-accepted_header.ensures.refused tt) in
+    let refusal = subst (λ (v : List ℕ). IsCheckRefusal v c.args.payload f) c.new-device.ensures.bytes (c.in-Err-read_outline.ensures.refused tt) in
     record {
       own = λ usage. check_number_usage f (sym is ∙ usage);
       answers = record {
@@ -44,19 +44,19 @@ pub returns-clause-answers : goal.returns-clause-answers
 returns-clause-answers g c =
     let b : List ℕ = volume c.args.backup.now c.args.backup_total in
     let t : List ℕ = volume c.args.first.now c.args.total in
-    let here = subst (λ (v : List ℕ). IsHeader v c.in-Ok.header) c.new-kept.ensures.bytes (c.in-Ok.ensures.read tt) in
-    let there = subst (λ (v : List ℕ). IsHeader v c.in-Ok-accepted_header.header) c.new-device.ensures.bytes (c.in-Ok-accepted_header.ensures.read tt) in
+    let here = subst (λ (v : List ℕ). Outlines v c.in-Ok.found) c.new-kept.ensures.bytes (c.in-Ok.ensures.read tt) in
+    let there = subst (λ (v : List ℕ). Outlines v c.in-Ok-read_outline.found) c.new-device.ensures.bytes (c.in-Ok-read_outline.ensures.read tt) in
     let kept = subst (λ (v : List ℕ). WellFormed v Elsewhere) c.new-kept.ensures.bytes (c.in-Ok.ensures.formed tt) in
-    let formed = subst (λ (v : List ℕ). WellFormed v c.args.payload) c.new-device.ensures.bytes (c.in-Ok-accepted_header.ensures.formed tt) in
+    let formed = subst (λ (v : List ℕ). WellFormed v c.args.payload) c.new-device.ensures.bytes (c.in-Ok-read_outline.ensures.formed tt) in
     let none : IsTrue c.is_other_volume.result → ⊥ = search rules in
     let backup = c.in-Ok.ensures.unchanged.same tt in
-    let volume_ = c.in-Ok-accepted_header.ensures.unchanged.same tt in
+    let volume_ = c.in-Ok-read_outline.ensures.unchanged.same tt in
     let compared : IsComparedInFull b t c.in-Ok-compare_areas.found =
     subst (λ (v : List ℕ). IsComparedInFull v t c.in-Ok-compare_areas.found) (backup ∙ c.new-kept.ensures.bytes)
-    (subst (λ (v : List ℕ). IsComparedInFull (given_bytes c.accepted_header.new.device) v c.in-Ok-compare_areas.found) (volume_ ∙ c.new-device.ensures.bytes)
+    (subst (λ (v : List ℕ). IsComparedInFull (given_bytes c.read_outline.new.device) v c.in-Ok-compare_areas.found) (volume_ ∙ c.new-device.ensures.bytes)
     (c.in-Ok-compare_areas.ensures.compared tt tt
-    (subst (λ (v : List ℕ). IsHeader v c.in-Ok.header) (sym backup) (c.in-Ok.ensures.read tt))
-    (subst (λ (v : List ℕ). IsHeader v c.in-Ok-accepted_header.header) (sym volume_) (c.in-Ok-accepted_header.ensures.read tt)))) in
+    (subst (λ (v : List ℕ). Outlines v c.in-Ok.found) (sym backup) (c.in-Ok.ensures.read tt))
+    (subst (λ (v : List ℕ). Outlines v c.in-Ok-read_outline.found) (sym volume_) (c.in-Ok-read_outline.ensures.read tt)))) in
     record {
       told = λ zero. record {
         kept = kept;
@@ -79,7 +79,7 @@ returns-in-Err-compare_areas-clause-more g c =
     let kept : c.compare_areas.new.backup.refused ≡ None =
     none_still _ _ (none_still _ _ c.new-kept.ensures.unwritten (c.in-Ok.ensures.unchanged.unsettled tt)) (e.kept.unsettled tt) in
     let stands : c.compare_areas.new.target.refused ≡ None =
-    none_still _ _ (none_still _ _ c.new-device.ensures.unwritten (c.in-Ok-accepted_header.ensures.unchanged.unsettled tt)) (e.unchanged.unsettled tt) in
+    none_still _ _ (none_still _ _ c.new-device.ensures.unwritten (c.in-Ok-read_outline.ensures.unchanged.unsettled tt)) (e.unchanged.unsettled tt) in
     let backup = c.requires.backup_given in
     let all = c.requires.given in
     λ asked. elim e.count [

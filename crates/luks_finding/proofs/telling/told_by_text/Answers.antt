@@ -1,9 +1,8 @@
 use Rattle.std.proofs.Common.{◌≡◌, ℕ, ◌+◌, ◌-◌, ◌*◌, List, None, sym, ◌∙◌, subst, arith}
-use Rattle.std.proofs.lemmas.Bool.{false≢true}
 use Rattle.luks_finding.specs.Starts.{BeginsLuks}
-use Rattle.luks_finding.specs.Telling.{joined, FindsWhole, IsSecondAt, IsWholeAt, TellsAt, TellsKind}
+use Rattle.luks_finding.specs.Telling.{joined, FindsWhole, IsFirstAt, IsSecondAt, IsWholeAt, TellsAt, TellsKind}
 use Rattle.luks_finding.specs.declared.told.Told.{Told}
-use Rattle.luks_finding.proofs.ToldFacts.{first-told, joined-told, text-header, text-none}
+use Rattle.luks_finding.proofs.ToldFacts.{joined-told, text-header, text-none}
 use Rattle.luks_finding.proofs.telling.told_by_text.Goals as goal
 
 pub returns-then-is_luks-clause-told : goal.returns-then-is_luks-clause-told
@@ -12,10 +11,15 @@ returns-then-is_luks-clause-told g c = λ t.
     text-header (g.D.Device.bytes c.args.device.now) (512 * c.args.sector) h (omega arith) (c.requires.text t)
     (subst BeginsLuks (c.in_ok-beginning.ensures.read t) (c.is_luks.ensures.0 c.if-is_luks.true))
 
+pub first_start-requires-clause-whole : goal.first_start-requires-clause-whole
+first_start-requires-clause-whole g c = λ t.
+    let W : List ℕ → Type 0 = λ w. IsWholeAt w (512 * (c.args.sector - 8)) c.in-Some.size in
+    subst W (sym (c.in_ok-size.ensures.unchanged.same t)) (rw c.in-Some.is at c.in_ok-size.ensures.found t)
+
 pub second_start-requires-clause-whole : goal.second_start-requires-clause-whole
 second_start-requires-clause-whole g c = λ t.
     let W : List ℕ → Type 0 = λ w. IsWholeAt w (512 * (c.args.sector - 8)) c.in-Some.size in
-    subst W (sym (c.in_ok-size.ensures.unchanged.same t)) (rw c.in-Some.is at c.in_ok-size.ensures.found t)
+    subst W (sym (c.in_ok-first-in-Some.ensures.unchanged.same t ∙ c.in_ok-size.ensures.unchanged.same t)) (rw c.in-Some.is at c.in_ok-size.ensures.found t)
 
 pub returns-in_ok-second-in-Some-clause-told : goal.returns-in_ok-second-in-Some-clause-told
 returns-in_ok-second-in-Some-clause-told g c = λ t.
@@ -26,15 +30,15 @@ returns-in_ok-second-in-Some-clause-told g c = λ t.
     let behind : h + 4096 ≡ 512 * c.args.sector = omega arith in
     let before : g.D.Device.bytes c.beginning_at.new.device ≡ v = c.in_ok-beginning.ensures.unchanged.same t in
     let same : g.D.Device.bytes c.whole_size.new.device ≡ v = c.in_ok-size.ensures.unchanged.same t ∙ before in
-    let read = c.in_ok-beginning.ensures.read t in
+    let last : g.D.Device.bytes c.first_start.new.device ≡ v = c.in_ok-first-in-Some.ensures.unchanged.same t ∙ same in
     let W : List ℕ → Type 0 = λ w. IsWholeAt w h size in
+    let F : List ℕ → Type 0 = λ w. TellsKind (IsFirstAt h) w (h + 4096) c.in_ok-first-in-Some.first in
     let K : List ℕ → Type 0 = λ w. TellsKind (IsSecondAt h) w (h + 4096) c.in_ok-second-in-Some.second in
     let whole : IsWholeAt v h size = subst W before (rw c.in-Some.is at c.in_ok-size.ensures.found t) in
-    let second = subst K same (c.in_ok-second-in-Some.ensures.told t) in
-    let first = first-told v c.in_ok-beginning.beginning k size c.first_start-first.result whole
-    (λ begins. false≢true (sym c.if-is_luks.false ∙ c.is_luks.ensures.1 (subst BeginsLuks (sym read) begins))) read c.first_start-first.ensures.start in
-    let told = joined-told v h size c.in_ok-second-in-Some.second c.first_start-first.result whole second first in
-    let T : ℕ → Type 0 = λ p. TellsAt v p (joined c.in_ok-second-in-Some.second c.first_start-first.result) in
+    let first = subst F same (c.in_ok-first-in-Some.ensures.told t) in
+    let second = subst K last (c.in_ok-second-in-Some.ensures.told t) in
+    let told = joined-told v h size c.in_ok-second-in-Some.second c.in_ok-first-in-Some.first whole second first in
+    let T : ℕ → Type 0 = λ p. TellsAt v p (joined c.in_ok-second-in-Some.second c.in_ok-first-in-Some.first) in
     let J : Told → Type 0 = λ x. TellsAt v (512 * c.args.sector) x in
     subst J (sym c.join.ensures) (subst T behind told)
 

@@ -1,7 +1,7 @@
 use Rattle.std.proofs.Common.{List, ℕ, refl, sym, subst, ◌∙◌, inl, inr}
 use Rattle.luks_area.proofs.DeviceFacts.{settled_unchanged}
 use Rattle.luks_commands.specs.Files.{AreFirstBytes}
-use Rattle.luks_header_commands.proofs.TargetFacts.{leaves_unchanged, left_after}
+use Rattle.luks_commands.proofs.BesideFacts.{leaves_unchanged, left_after}
 use Rattle.luks_header_commands.proofs.header_work.make_header.Goals as goal
 
 pub returns-clause-answers : goal.returns-clause-answers

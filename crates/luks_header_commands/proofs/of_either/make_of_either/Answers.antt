@@ -7,7 +7,7 @@ use Rattle.luks_commands.specs.declared.answers.Answer.TheVariants.{Done}
 use Rattle.luks_header_commands.specs.Rebuilding.{given_of, IsLuks2Answer, KeepsRest2, StaysLuks2, copies_asked}
 use Rattle.luks_header_commands.specs.Target.{pair_of, Pair}
 use Rattle.luks_header_commands.proofs.RebuildFacts.{answers_fault, counts_unfailed, other_stays, turned_answers, turned_rest, unfailed_as}
-use Rattle.luks_header_commands.proofs.TargetFacts.{settled_by}
+use Rattle.luks_commands.proofs.BesideFacts.{settled_by}
 use Rattle.luks_header_commands.proofs.of_either.make_of_either.Goals as goal
 
 pub returns-in-Ok-clause-answers : goal.returns-in-Ok-clause-answers

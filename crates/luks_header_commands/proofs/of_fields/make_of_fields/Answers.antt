@@ -2,7 +2,7 @@ use Rattle.std.proofs.Common.{refl, sym, subst}
 use Rattle.luks1_rebuilding.specs.RebuildFaults.{is_rebuild_failure}
 use Rattle.luks_header_commands.specs.Rebuilding.{IsLuks1Answer}
 use Rattle.luks_header_commands.proofs.RebuildFacts.{answers_fault1}
-use Rattle.luks_header_commands.proofs.TargetFacts.{settled_by}
+use Rattle.luks_commands.proofs.BesideFacts.{settled_by}
 use Rattle.luks_header_commands.proofs.of_fields.make_of_fields.Goals as goal
 
 pub returns-in-Ok-clause-answers : goal.returns-in-Ok-clause-answers

@@ -7,7 +7,7 @@ use Rattle.luks_commands.specs.declared.answers.Answer.TheVariants.{Done}
 use Rattle.luks_header_commands.specs.Target.{pair_of}
 use Rattle.luks_header_commands.specs.Rebuilding.{given_of, copies_asked, IsLuks2Answer}
 use Rattle.luks_header_commands.proofs.RebuildFacts.{answers_fault}
-use Rattle.luks_header_commands.proofs.TargetFacts.{settled_by}
+use Rattle.luks_commands.proofs.BesideFacts.{settled_by}
 use Rattle.luks_header_commands.proofs.of_metadata.make_of_metadata.Goals as goal
 
 pub returns-in-Ok-clause-answers : goal.returns-in-Ok-clause-answers

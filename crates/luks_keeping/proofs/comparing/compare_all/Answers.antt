@@ -1,5 +1,6 @@
 use Rattle.std.proofs.Common.{◌≡◌, ◌≢◌, ◌<◌, length, inl, inr, arith, length-set, get_or-set_other, get_or-set_same}
 use Rattle.std.proofs.lemmas.Bool.{cases_lt}
+use Rattle.luks_keeping.proofs.SaltFacts.{stands_at}
 use Rattle.luks_keeping.proofs.comparing.compare_all.Goals as goal
 
 pub loop-n-preserved : goal.loop-n-preserved
@@ -9,6 +10,6 @@ loop-n-preserved c =
       long = simp length-set c.loop-n.invariant.long;
       each = λ k lt. elim (cases_lt k c.loop-n.n) [
         | inl under ↦ (let other : k ≢ c.loop-n.n = (λ e. omega arith) in rw get_or-set_other (c.loop-n.invariant.each k under))
-        | inr over ↦ (let same : k ≡ c.loop-n.n = omega arith in rw same (rw get_or-set_same c.compare_at.ensures))
+        | inr over ↦ (let same : k ≡ c.loop-n.n = omega arith in rw same (rw get_or-set_same (stands_at c.args.backup.now c.args.volume.now c.loop-n.n c.index-backup-n.result c.index-volume-n.result c.keeping_of.result (omega arith) (omega arith) c.keeping_of.ensures)))
       ];
     }

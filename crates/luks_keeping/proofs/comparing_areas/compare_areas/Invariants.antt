@@ -13,7 +13,7 @@ invariant-loop-n g l = record {
   count : g.T.Device.failed l.target ≡ g.T.Device.failed l.initial.target;
   long : length l.keyslots ≡ 32;
   before : g.B.Device.tells → g.T.Device.tells → (k : ℕ) → k < l.n
-      → IsJudgedBy (slice_index_or l.salts.keyslots k Absent) (slice_index_or l.here.areas k None) (slice_index_or l.other.areas k None)
+      → IsJudgedBy (slice_index_or l.salts.keyslots k Absent) (slice_index_or l.held.places.areas k None) (slice_index_or l.there.places.areas k None)
       (g.B.Device.bytes l.initial.backup) (g.T.Device.bytes l.initial.target) (slice_index_or l.keyslots k Absent);
   after : (k : ℕ) → l.n ≤ k → slice_index_or l.keyslots k Absent ≡ slice_index_or l.salts.keyslots k Absent;
 }

@@ -19,20 +19,20 @@ use Rattle.luks_keeping.proofs.TurnFacts.{turn_over}
 use Rattle.luks_keeping.proofs.restoring.restore.Goals as goal
 
 pub write_over-requires-clause-lead : goal.write_over-requires-clause-lead
-write_over-requires-clause-lead g c = lead_below c.in_ok-header.header c.places_of-places.result c.places_of-places.ensures
+write_over-requires-clause-lead g c = lead_below c.in_ok-header.header c.outline_of-outline.result.places c.outline_of-outline.ensures.laid
 
 pub write_over-requires-clause-apart : goal.write_over-requires-clause-apart
-write_over-requires-clause-apart g c = apart c.in_ok-header.header c.places_of-places.result c.places_of-places.ensures _ _ c.in_ok-header.ensures.fits
+write_over-requires-clause-apart g c = apart c.in_ok-header.header c.outline_of-outline.result.places c.outline_of-outline.ensures.laid _ _ c.in_ok-header.ensures.fits
 
 pub write_over-requires-clause-there : goal.write_over-requires-clause-there
 write_over-requires-clause-there g c =
-    subst (AreInside c.places_of-places.result) (sym c.in_ok-header.ensures.unchanged.size)
-    (inside c.in_ok-header.header c.places_of-places.result c.places_of-places.ensures _ (g.B.Device.size c.args.backup.now) c.in_ok-header.ensures.fits)
+    subst (AreInside c.outline_of-outline.result.places) (sym c.in_ok-header.ensures.unchanged.size)
+    (inside c.in_ok-header.header c.outline_of-outline.result.places c.outline_of-outline.ensures.laid _ (g.B.Device.size c.args.backup.now) c.in_ok-header.ensures.fits)
 
 pub write_over-requires-clause-within : goal.write_over-requires-clause-within
 write_over-requires-clause-within g c =
-    subst (AreInside c.places_of-places.result) (c.len.ensures ∙ sym c.in_ok-judge_other.ensures.unchanged.size)
-    (inside c.in_ok-header.header c.places_of-places.result c.places_of-places.ensures _ _ c.in_ok-judge_fit.ensures.fits)
+    subst (AreInside c.outline_of-outline.result.places) (c.len.ensures ∙ sym c.in_ok-judge_other.ensures.unchanged.size)
+    (inside c.in_ok-header.header c.outline_of-outline.result.places c.outline_of-outline.ensures.laid _ _ c.in_ok-judge_fit.ensures.fits)
 
 pub returns-in_err-header-clause-count : goal.returns-in_err-header-clause-count
 returns-in_err-header-clause-count g c =
@@ -66,12 +66,12 @@ returns-clause-restored g c = λ source tells.
     let is = c.in_ok-header.ensures.read source in
     let front : IsFrontAs b c.args.payload (length t) (choice_of c.in_ok-header.header) c.data_start-limit.result =
     subst (λ (n : ℕ). IsFrontAs b c.args.payload n (choice_of c.in_ok-header.header) c.data_start-limit.result)
-    (c.len-2.ensures ∙ c.in_ok-judge_other.ensures.unchanged.size ∙ sym (g.met.T.Device.sized c.args.target.now tells)) (c.data_start-limit.ensures.start b is) in
+    (c.len-2.ensures ∙ sym (g.met.T.Device.sized c.args.target.now tells)) (c.data_start-limit.ensures.start b is) in
     let w : List ℕ = g.T.Device.bytes c.write_over.new.target in
     let long : c.len.result ≡ length w = c.len.ensures ∙ sym c.in_ok-judge_other.ensures.unchanged.size ∙ sym c.write_over.ensures.size ∙ sym (g.met.T.Device.sized c.write_over.new.target tells) in
-    let over = written_over b c.args.payload c.in_ok-header.header is c.places_of-places.result c.places_of-places.ensures (c.in_ok-header.ensures.formed source) _ t _ w c.len.result c.data_start-limit.result front (c.in_ok-header.ensures.unchanged.same source)
+    let over = written_over b c.args.payload c.in_ok-header.header is c.outline_of-outline.result.places c.outline_of-outline.ensures.laid (c.in_ok-header.ensures.formed source) _ t _ w c.len.result c.data_start-limit.result front (c.in_ok-header.ensures.unchanged.same source)
     (c.in_ok-judge_other.ensures.unchanged.same tells) long (c.in_ok-judge_fit.ensures.formed b is) (c.write_over.ensures.rest tells) (c.in_ok-write_over.ensures.gone tells) (c.in_ok-write_over.ensures.copied source tells) (c.in_ok-write_over.ensures.lead tells) in
-    is_restored b c.args.payload c.in_ok-header.header c.places_of-places.result t w over
+    is_restored b c.args.payload c.in_ok-header.header c.outline_of-outline.result.places t w over
 
 -- ---- nothing was written
 
@@ -109,7 +109,7 @@ returns-in_err-judge_other-clause-fault g c = λ source tells.
     let fits : IsFormedOn b c.args.payload (length t) = subst (λ (n : ℕ). IsFormedOn b c.args.payload n) long (c.in_ok-judge_fit.ensures.formed b is) in
     let p = err_from_is_err_and c.from_residual-in_err-judge_other.result c.from_residual-in_err-judge_other.ensures.1 in
     rw (p.1, p.2) (answered_other b t c.args.payload c.args.over (c.in_ok-header.ensures.formed source) (faultless_on b c.args.payload (length t) fits) c.in_err-judge_other.field-0.0
-    (c.in_err-judge_other.ensures.refused tells b is))
+    (c.in_err-judge_other.ensures.refused tells b (record { header = c.in_ok-header.header; is_header = is; is = c.outline_of-outline.ensures.identity })))
 
 -- ---- the backup was written
 
@@ -135,7 +135,7 @@ returns-clause-faultless g c = λ source tells.
     let t : List ℕ = g.T.Device.bytes c.args.target.now in
     let is = c.in_ok-header.ensures.read source in
     can_fit b t c.args.payload c.args.over (c.in_ok-header.ensures.formed source) c.len.result (c.len.ensures ∙ sym (g.met.T.Device.sized c.args.target.now tells)) (c.in_ok-judge_fit.ensures.formed b is)
-    (c.in_ok-judge_other.ensures.clear tells b is)
+    (c.in_ok-judge_other.ensures.clear tells b (record { header = c.in_ok-header.header; is_header = is; is = c.outline_of-outline.ensures.identity }))
 
 pub returns-clause-same : goal.returns-clause-same
 returns-clause-same g c = λ source tells f bad.
@@ -143,7 +143,7 @@ returns-clause-same g c = λ source tells f bad.
     let t : List ℕ = g.T.Device.bytes c.args.target.now in
     let is = c.in_ok-header.ensures.read source in
     absurd ((can_fit b t c.args.payload c.args.over (c.in_ok-header.ensures.formed source) c.len.result (c.len.ensures ∙ sym (g.met.T.Device.sized c.args.target.now tells)) (c.in_ok-judge_fit.ensures.formed b is)
-    (c.in_ok-judge_other.ensures.clear tells b is)).none f bad)
+    (c.in_ok-judge_other.ensures.clear tells b (record { header = c.in_ok-header.header; is_header = is; is = c.outline_of-outline.ensures.identity }))).none f bad)
 
 pub returns-in_err-write_over-clause-same : goal.returns-in_err-write_over-clause-same
 returns-in_err-write_over-clause-same g c = λ source tells f bad.
@@ -151,7 +151,7 @@ returns-in_err-write_over-clause-same g c = λ source tells f bad.
     let t : List ℕ = g.T.Device.bytes c.args.target.now in
     let is = c.in_ok-header.ensures.read source in
     absurd ((can_fit b t c.args.payload c.args.over (c.in_ok-header.ensures.formed source) c.len.result (c.len.ensures ∙ sym (g.met.T.Device.sized c.args.target.now tells)) (c.in_ok-judge_fit.ensures.formed b is)
-    (c.in_ok-judge_other.ensures.clear tells b is)).none f bad)
+    (c.in_ok-judge_other.ensures.clear tells b (record { header = c.in_ok-header.header; is_header = is; is = c.outline_of-outline.ensures.identity }))).none f bad)
 
 pub returns-clause-rest : goal.returns-clause-rest
 returns-clause-rest g c = λ source tells.
@@ -160,9 +160,9 @@ returns-clause-rest g c = λ source tells.
     let is = c.in_ok-header.ensures.read source in
     let front : IsFrontAs b c.args.payload (length t) (choice_of c.in_ok-header.header) c.data_start-limit.result =
     subst (λ (n : ℕ). IsFrontAs b c.args.payload n (choice_of c.in_ok-header.header) c.data_start-limit.result)
-    (c.len-2.ensures ∙ c.in_ok-judge_other.ensures.unchanged.size ∙ sym (g.met.T.Device.sized c.args.target.now tells)) (c.data_start-limit.ensures.start b is) in
+    (c.len-2.ensures ∙ sym (g.met.T.Device.sized c.args.target.now tells)) (c.data_start-limit.ensures.start b is) in
     of_restored b c.args.payload t c.in_ok-header.header is
-    (changed_rest b c.args.payload c.in_ok-header.header is c.places_of-places.result c.places_of-places.ensures t _ (g.T.Device.bytes c.write_over.new.target) c.data_start-limit.result front
+    (changed_rest b c.args.payload c.in_ok-header.header is c.outline_of-outline.result.places c.outline_of-outline.ensures.laid t _ (g.T.Device.bytes c.write_over.new.target) c.data_start-limit.result front
     (c.in_ok-judge_other.ensures.unchanged.same tells) (c.write_over.ensures.rest tells))
 
 pub returns-in_err-write_over-clause-rest : goal.returns-in_err-write_over-clause-rest
@@ -172,9 +172,9 @@ returns-in_err-write_over-clause-rest g c = λ source tells.
     let is = c.in_ok-header.ensures.read source in
     let front : IsFrontAs b c.args.payload (length t) (choice_of c.in_ok-header.header) c.data_start-limit.result =
     subst (λ (n : ℕ). IsFrontAs b c.args.payload n (choice_of c.in_ok-header.header) c.data_start-limit.result)
-    (c.len-2.ensures ∙ c.in_ok-judge_other.ensures.unchanged.size ∙ sym (g.met.T.Device.sized c.args.target.now tells)) (c.data_start-limit.ensures.start b is) in
+    (c.len-2.ensures ∙ sym (g.met.T.Device.sized c.args.target.now tells)) (c.data_start-limit.ensures.start b is) in
     of_restored b c.args.payload t c.in_ok-header.header is
-    (changed_rest b c.args.payload c.in_ok-header.header is c.places_of-places.result c.places_of-places.ensures t _ (g.T.Device.bytes c.write_over.new.target) c.data_start-limit.result front
+    (changed_rest b c.args.payload c.in_ok-header.header is c.outline_of-outline.result.places c.outline_of-outline.ensures.laid t _ (g.T.Device.bytes c.write_over.new.target) c.data_start-limit.result front
     (c.in_ok-judge_other.ensures.unchanged.same tells) (c.write_over.ensures.rest tells))
 
 pub returns-clause-segments : goal.returns-clause-segments
@@ -184,10 +184,10 @@ returns-clause-segments g c = λ source tells n a seg.
     let is = c.in_ok-header.ensures.read source in
     let front : IsFrontAs b c.args.payload (length t) (choice_of c.in_ok-header.header) c.data_start-limit.result =
     subst (λ (n : ℕ). IsFrontAs b c.args.payload n (choice_of c.in_ok-header.header) c.data_start-limit.result)
-    (c.len-2.ensures ∙ c.in_ok-judge_other.ensures.unchanged.size ∙ sym (g.met.T.Device.sized c.args.target.now tells)) (c.data_start-limit.ensures.start b is) in
+    (c.len-2.ensures ∙ sym (g.met.T.Device.sized c.args.target.now tells)) (c.data_start-limit.ensures.start b is) in
     let size : length t ≡ g.T.Device.size c.args.target.now = g.met.T.Device.sized c.args.target.now tells in
     segment_stays b c.args.payload t c.in_ok-header.header is (subst (λ (n : ℕ). IsFormedOn b c.args.payload n) (c.len.ensures ∙ sym size) (c.in_ok-judge_fit.ensures.formed b is))
-    (changed_rest b c.args.payload c.in_ok-header.header is c.places_of-places.result c.places_of-places.ensures t _ (g.T.Device.bytes c.write_over.new.target) c.data_start-limit.result front
+    (changed_rest b c.args.payload c.in_ok-header.header is c.outline_of-outline.result.places c.outline_of-outline.ensures.laid t _ (g.T.Device.bytes c.write_over.new.target) c.data_start-limit.result front
     (c.in_ok-judge_other.ensures.unchanged.same tells) (c.write_over.ensures.rest tells)) n a (subst (λ (m : ℕ). IsSegmentOn b c.args.payload m n a) (sym size) seg)
 
 pub returns-in_err-write_over-clause-segments : goal.returns-in_err-write_over-clause-segments
@@ -197,10 +197,10 @@ returns-in_err-write_over-clause-segments g c = λ source tells n a seg.
     let is = c.in_ok-header.ensures.read source in
     let front : IsFrontAs b c.args.payload (length t) (choice_of c.in_ok-header.header) c.data_start-limit.result =
     subst (λ (n : ℕ). IsFrontAs b c.args.payload n (choice_of c.in_ok-header.header) c.data_start-limit.result)
-    (c.len-2.ensures ∙ c.in_ok-judge_other.ensures.unchanged.size ∙ sym (g.met.T.Device.sized c.args.target.now tells)) (c.data_start-limit.ensures.start b is) in
+    (c.len-2.ensures ∙ sym (g.met.T.Device.sized c.args.target.now tells)) (c.data_start-limit.ensures.start b is) in
     let size : length t ≡ g.T.Device.size c.args.target.now = g.met.T.Device.sized c.args.target.now tells in
     segment_stays b c.args.payload t c.in_ok-header.header is (subst (λ (n : ℕ). IsFormedOn b c.args.payload n) (c.len.ensures ∙ sym size) (c.in_ok-judge_fit.ensures.formed b is))
-    (changed_rest b c.args.payload c.in_ok-header.header is c.places_of-places.result c.places_of-places.ensures t _ (g.T.Device.bytes c.write_over.new.target) c.data_start-limit.result front
+    (changed_rest b c.args.payload c.in_ok-header.header is c.outline_of-outline.result.places c.outline_of-outline.ensures.laid t _ (g.T.Device.bytes c.write_over.new.target) c.data_start-limit.result front
     (c.in_ok-judge_other.ensures.unchanged.same tells) (c.write_over.ensures.rest tells)) n a (subst (λ (m : ℕ). IsSegmentOn b c.args.payload m n a) (sym size) seg)
 
 pub returns-clause-order : goal.returns-clause-order
@@ -210,8 +210,8 @@ returns-clause-order g c = λ source tells.
     let is = c.in_ok-header.ensures.read source in
     let front : IsFrontAs b c.args.payload (length t) (choice_of c.in_ok-header.header) c.data_start-limit.result =
     subst (λ (n : ℕ). IsFrontAs b c.args.payload n (choice_of c.in_ok-header.header) c.data_start-limit.result)
-    (c.len-2.ensures ∙ c.in_ok-judge_other.ensures.unchanged.size ∙ sym (g.met.T.Device.sized c.args.target.now tells)) (c.data_start-limit.ensures.start b is) in
-    turn_over b c.in_ok-header.header is c.places_of-places.result c.places_of-places.ensures c.args.payload _ t _ (g.T.Device.bytes c.write_over.new.target) c.data_start-limit.result front
+    (c.len-2.ensures ∙ sym (g.met.T.Device.sized c.args.target.now tells)) (c.data_start-limit.ensures.start b is) in
+    turn_over b c.in_ok-header.header is c.outline_of-outline.result.places c.outline_of-outline.ensures.laid c.args.payload _ t _ (g.T.Device.bytes c.write_over.new.target) c.data_start-limit.result front
     (c.in_ok-header.ensures.unchanged.same source) (c.in_ok-judge_other.ensures.unchanged.same tells) (c.write_over.ensures.order source tells)
 
 pub returns-in_err-write_over-clause-order : goal.returns-in_err-write_over-clause-order
@@ -221,8 +221,8 @@ returns-in_err-write_over-clause-order g c = λ source tells.
     let is = c.in_ok-header.ensures.read source in
     let front : IsFrontAs b c.args.payload (length t) (choice_of c.in_ok-header.header) c.data_start-limit.result =
     subst (λ (n : ℕ). IsFrontAs b c.args.payload n (choice_of c.in_ok-header.header) c.data_start-limit.result)
-    (c.len-2.ensures ∙ c.in_ok-judge_other.ensures.unchanged.size ∙ sym (g.met.T.Device.sized c.args.target.now tells)) (c.data_start-limit.ensures.start b is) in
-    turn_over b c.in_ok-header.header is c.places_of-places.result c.places_of-places.ensures c.args.payload _ t _ (g.T.Device.bytes c.write_over.new.target) c.data_start-limit.result front
+    (c.len-2.ensures ∙ sym (g.met.T.Device.sized c.args.target.now tells)) (c.data_start-limit.ensures.start b is) in
+    turn_over b c.in_ok-header.header is c.outline_of-outline.result.places c.outline_of-outline.ensures.laid c.args.payload _ t _ (g.T.Device.bytes c.write_over.new.target) c.data_start-limit.result front
     (c.in_ok-header.ensures.unchanged.same source) (c.in_ok-judge_other.ensures.unchanged.same tells) (c.write_over.ensures.order source tells)
 
 pub returns-clause-well_formed : goal.returns-clause-well_formed
@@ -232,12 +232,12 @@ returns-clause-well_formed g c = λ source tells.
     let is = c.in_ok-header.ensures.read source in
     let front : IsFrontAs b c.args.payload (length t) (choice_of c.in_ok-header.header) c.data_start-limit.result =
     subst (λ (n : ℕ). IsFrontAs b c.args.payload n (choice_of c.in_ok-header.header) c.data_start-limit.result)
-    (c.len-2.ensures ∙ c.in_ok-judge_other.ensures.unchanged.size ∙ sym (g.met.T.Device.sized c.args.target.now tells)) (c.data_start-limit.ensures.start b is) in
+    (c.len-2.ensures ∙ sym (g.met.T.Device.sized c.args.target.now tells)) (c.data_start-limit.ensures.start b is) in
     let w : List ℕ = g.T.Device.bytes c.write_over.new.target in
     let long : c.len.result ≡ length w = c.len.ensures ∙ sym c.in_ok-judge_other.ensures.unchanged.size ∙ sym c.write_over.ensures.size ∙ sym (g.met.T.Device.sized c.write_over.new.target tells) in
-    let over = written_over b c.args.payload c.in_ok-header.header is c.places_of-places.result c.places_of-places.ensures (c.in_ok-header.ensures.formed source) _ t _ w c.len.result c.data_start-limit.result front (c.in_ok-header.ensures.unchanged.same source)
+    let over = written_over b c.args.payload c.in_ok-header.header is c.outline_of-outline.result.places c.outline_of-outline.ensures.laid (c.in_ok-header.ensures.formed source) _ t _ w c.len.result c.data_start-limit.result front (c.in_ok-header.ensures.unchanged.same source)
     (c.in_ok-judge_other.ensures.unchanged.same tells) long (c.in_ok-judge_fit.ensures.formed b is) (c.write_over.ensures.rest tells) (c.in_ok-write_over.ensures.gone tells) (c.in_ok-write_over.ensures.copied source tells) (c.in_ok-write_over.ensures.lead tells) in
-    well_formed b c.args.payload c.in_ok-header.header c.places_of-places.result t w over
+    well_formed b c.args.payload c.in_ok-header.header c.outline_of-outline.result.places t w over
 
 pub returns-clause-answers : goal.returns-clause-answers
 returns-clause-answers g c = λ source tells.
@@ -246,9 +246,9 @@ returns-clause-answers g c = λ source tells.
     let is = c.in_ok-header.ensures.read source in
     let front : IsFrontAs b c.args.payload (length t) (choice_of c.in_ok-header.header) c.data_start-limit.result =
     subst (λ (n : ℕ). IsFrontAs b c.args.payload n (choice_of c.in_ok-header.header) c.data_start-limit.result)
-    (c.len-2.ensures ∙ c.in_ok-judge_other.ensures.unchanged.size ∙ sym (g.met.T.Device.sized c.args.target.now tells)) (c.data_start-limit.ensures.start b is) in
+    (c.len-2.ensures ∙ sym (g.met.T.Device.sized c.args.target.now tells)) (c.data_start-limit.ensures.start b is) in
     let w : List ℕ = g.T.Device.bytes c.write_over.new.target in
     let long : c.len.result ≡ length w = c.len.ensures ∙ sym c.in_ok-judge_other.ensures.unchanged.size ∙ sym c.write_over.ensures.size ∙ sym (g.met.T.Device.sized c.write_over.new.target tells) in
-    let over = written_over b c.args.payload c.in_ok-header.header is c.places_of-places.result c.places_of-places.ensures (c.in_ok-header.ensures.formed source) _ t _ w c.len.result c.data_start-limit.result front (c.in_ok-header.ensures.unchanged.same source)
+    let over = written_over b c.args.payload c.in_ok-header.header is c.outline_of-outline.result.places c.outline_of-outline.ensures.laid (c.in_ok-header.ensures.formed source) _ t _ w c.len.result c.data_start-limit.result front (c.in_ok-header.ensures.unchanged.same source)
     (c.in_ok-judge_other.ensures.unchanged.same tells) long (c.in_ok-judge_fit.ensures.formed b is) (c.write_over.ensures.rest tells) (c.in_ok-write_over.ensures.gone tells) (c.in_ok-write_over.ensures.copied source tells) (c.in_ok-write_over.ensures.lead tells) in
-    answers_alike b c.args.payload c.in_ok-header.header c.places_of-places.result t w over
+    answers_alike b c.args.payload c.in_ok-header.header c.outline_of-outline.result.places t w over

@@ -1,12 +1,15 @@
-use Rattle.std.proofs.Common.{◌≢◌, ℕ, List, ap, ◌∙◌}
+use Rattle.std.proofs.Common.{◌≡◌, ◌≢◌, ◌↔◌, ℕ, List, IsTrue, ap, subst, ◌∙◌}
 use Rattle.luks_area.specs.Device.{count_after}
 use Rattle.luks_reading.specs.Conversions.{head_unread}
 use Rattle.luks_reading.specs.declared.read_fault.ReadFault.TheVariants as read
+use Rattle.luks_keeping.specs.OtherHeaders.{selected_uuid}
 use Rattle.luks_keeping.proofs.OtherFacts.{no_call_failed, none_other, not_device, told_by, unselected}
 use Rattle.luks_keeping.proofs.same_volume.has_other_uuid.Goals as goal
 
 pub returns-in-Ok-clause-told : goal.returns-in-Ok-clause-told
-returns-in-Ok-clause-told g c = λ tells b is. told_by b (g.T.Device.bytes c.args.target.now) c.args.header.now is c.in-Ok.selected (c.in-Ok.ensures.found tells) c.has_uuid.result c.has_uuid.ensures
+returns-in-Ok-clause-told g c = λ tells b x.
+    told_by b (g.T.Device.bytes c.args.target.now) x.header x.is_header c.in-Ok.selected (c.in-Ok.ensures.found tells) c.has_selected_uuid.result
+    (subst (λ (u : List ℕ). IsTrue c.has_selected_uuid.result ↔ (selected_uuid c.in-Ok.selected ≡ u)) x.is.uuid c.has_selected_uuid.ensures)
 
 pub returns-in-Head : goal.returns-in-Head
 returns-in-Head g c =
@@ -15,6 +18,6 @@ returns-in-Head g c =
     record {
       unchanged = c.in-Err.ensures.unchanged;
       count = c.in-Err.ensures.count ∙ ap (λ f. count_after f (g.T.Device.failed c.args.target.now)) (no_call_failed c.in-Err.fault own);
-      told = λ tells b is. none_other b t (unselected t c.in-Err.fault own (c.in-Err.ensures.refused tells));
+      told = λ tells b x. none_other b t (unselected t c.in-Err.fault own (c.in-Err.ensures.refused tells));
       device = tt;
     }

@@ -1,6 +1,6 @@
 use Rattle.std.proofs.Common.{sym, subst}
 use Rattle.luks_keeping.specs.BackupFaults.{is_backup_failure}
-use Rattle.luks_header_commands.proofs.TargetFacts.{settled_by}
+use Rattle.luks_commands.proofs.BesideFacts.{settled_by}
 use Rattle.luks_keeping_commands.specs.BackingUp.{IsBackupAnswer}
 use Rattle.luks_keeping_commands.proofs.BackupFacts.{answers_fault}
 use Rattle.luks_keeping_commands.proofs.backup.back_up.Goals as goal

@@ -3,7 +3,7 @@ use Rattle.luks_commands.specs.declared.answers.Answer.TheVariants.{Done}
 use Rattle.luks_header_commands.specs.Converting.{IsConvertAnswer}
 use Rattle.luks_converting.specs.ConvertFaults.{is_convert_failure}
 use Rattle.luks_header_commands.proofs.ConvertFacts.{answers_fault, convert_later}
-use Rattle.luks_header_commands.proofs.TargetFacts.{settled_by}
+use Rattle.luks_commands.proofs.BesideFacts.{settled_by}
 use Rattle.luks_header_commands.proofs.convert.ConversionHeaderWork.run.Goals as goal
 
 pub returns-in-Ok-clause-answers : goal.returns-in-Ok-clause-answers
