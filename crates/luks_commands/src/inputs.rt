@@ -25,6 +25,9 @@ pub enum Reason {
     SameFile,
     /// What a backup is to be written to is there and isn't empty: neither was opened.
     Exists,
+    /// What is to be written is the file of standard output or standard error: what is printed would
+    /// land in it.
+    Stream,
     /// Anything else, as a disk's failure.
     Other,
 }
@@ -40,6 +43,7 @@ impl fmt::Display for Reason {
             Reason::Edited => "another program is editing it",
             Reason::SameFile => "is the volume itself",
             Reason::Exists => "is there and isn't empty",
+            Reason::Stream => "what is printed goes there, so nothing else is written to it",
             Reason::Other => "can't be opened or read",
         })
     }

@@ -8,8 +8,8 @@ use std::rt::{Clock, Files};
 /// The names of the files of standard output and standard error.
 const STREAMS: [&str; 2] = ["/proc/self/fd/1", "/proc/self/fd/2"];
 
-/// Why nothing is written to the file of this name, which is noted: it is standard output or standard
-/// error, or their word, `-`. What is printed would land in it.
+/// Why nothing is written to the file of this name: it is standard output or standard error, or their
+/// word, `-`, of which a note tells how a file of that name is named. What is printed would land in it.
 pub(crate) fn refused_name<R: Clock + Files<File = File>>(
     rt: &R,
     name: &str,
@@ -22,14 +22,7 @@ pub(crate) fn refused_name<R: Clock + Files<File = File>>(
         );
         return Some(InputFault::Unreadable(Reason::NoVolume));
     }
-    if is_stream(rt, name) {
-        let _ = writeln!(
-            notes,
-            "luks: {name}: what is printed goes there, so nothing else is written to it"
-        );
-        return Some(InputFault::Unreadable(Reason::Other));
-    }
-    None
+    is_stream(rt, name).then_some(InputFault::Unreadable(Reason::Stream))
 }
 
 /// Whether what is printed goes to the file of this name.
