@@ -375,7 +375,7 @@ def show(volume):
 
 
 def show_all(volume):
-    """Like `show`, with a second line of each keyslot of LUKS2 and of each segment of the type `crypt`."""
+    """Like `show`, with the places of LUKS1 in bytes, its salts, and the subsystem, costs, salts and encryption of LUKS2."""
     return answer(lambda: shown(volume, True))
 
 
@@ -391,22 +391,28 @@ def shown(volume, whole=False):
         d = common1(volume, range(8))
         lines = ["luks1", f"uuid {shown_text(d['uuid'])}", f"cipher {shown_text(d['cipher'])}-{shown_text(d['mode'])} key-bytes {d['key_bytes']}",
                  f"hash {shown_text(d['hash'])}", f"payload {d['payload']}"]
-        for n, (active, iterations, _, offset, stripes) in enumerate(d["slots"]):
+        if whole:
+            lines.append(f"payload-bytes {512 * d['payload']}")
+        for n, (active, iterations, salt, offset, stripes) in enumerate(d["slots"]):
             state = f"enabled iterations {iterations}" if active == ENABLED else "disabled"
             lines.append(f"slot {n} {state} offset {offset} stripes {stripes}")
+            if whole:
+                lines.append("area {} {} {}".format(n, *slot_area1(d, n)))
+            if whole and active == ENABLED:
+                lines.append(f"salt {n} {salt.hex()}")
         return 0, "\n".join(lines) + "\n"
     copy, state = chosen
     uuid = checked_uuid(copy["uuid"])
     value = metadata(copy)
-    lines = ["luks2", f"uuid {shown_text(uuid)}", f"label {shown_text(copy['label'])}", f"copies {state} seqid {copy['seqid']}",
-             f"header-size {copy['size']} keyslots-size {value['config']['keyslots_size']}"]
+    lines = ["luks2", f"uuid {shown_text(uuid)}", f"label {shown_text(copy['label'])}", *([f"subsystem {shown_text(copy['subsystem'])}"] if whole else []),
+             f"copies {state} seqid {copy['seqid']}", f"header-size {copy['size']} keyslots-size {value['config']['keyslots_size']}"]
     for n, slot in by_number(value["keyslots"]):
         digest = next(name for name, it in value["digests"].items() if str(n) in it["keyslots"])
         area = slot["area"]
         lines.append(f"keyslot {n} key-bytes {slot['key_size']} kdf {slot['kdf']['type']} area {area['offset']} {area['size']} "
                      f"{shown_text(area['encryption'])} digest {digest}")
         if whole:
-            lines.append(costs_line(n, slot["kdf"]))
+            lines += [costs_line(n, slot["kdf"]), f"salt {n} {base64.b64decode(slot['kdf']['salt']).hex()}"]
     for n, token in by_number(value["tokens"]):
         lines.append(f"token {n} {shown_text(token['type'])} keyslots {shown_list(token['keyslots'])}")
     for n, segment in by_number(value["segments"]):

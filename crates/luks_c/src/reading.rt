@@ -79,16 +79,16 @@ fn give_header(alloc: Global, header: Header, json: &mut [u8], told: &mut LuksRe
 {
     match header {
         Header::Luks1(bytes) => match Luks1::read(&bytes) {
-            Ok(read) => give_json(alloc, &Listing::Luks1(read), json, told),
+            Ok(read) => give_json(alloc, Listing::Luks1(read), json, told),
             Err(fault) => read_number(&ReadFault::from(fault)),
         },
-        Header::Luks2(copy) => give_json(alloc, &Listing::Luks2(copy), json, told),
+        Header::Luks2(copy) => give_json(alloc, Listing::Luks2(copy), json, told),
     }
 }
 
 /// Puts the text of the listing into the buffer, where it fits.
-fn give_json(alloc: Global, listing: &Listing, json: &mut [u8], told: &mut LuksRead) -> u32
-    ensures given { IsJsonGiven listing.now json.old json.new told.new result }
+fn give_json(alloc: Global, listing: Listing, json: &mut [u8], told: &mut LuksRead) -> u32
+    ensures given { IsJsonGiven listing json.old json.new told.new result }
     ensures own { result ≢ 102 }
 {
     match json_text(alloc, listing) {

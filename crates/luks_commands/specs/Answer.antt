@@ -40,7 +40,7 @@ use Rattle.luks_commands.specs.declared.answers.Status.TheVariants as status
 use Rattle.luks_commands.specs.declared.inputs.InputFault.{InputFault}
 use Rattle.luks_commands.specs.declared.inputs.InputFault.TheVariants.{Absent, Unreadable, NoMemory as NoMemoryToRead}
 use Rattle.luks_map.specs.Map.{map_text}
-use Rattle.luks_show.specs.Listed.{listing_text}
+use Rattle.luks_show.specs.Listed.{full_text, listing_text}
 pub use Rattle.luks_show.specs.Texts.{copies_text, line}
 use Rattle.luks_commands.specs.Checked.{status_of}
 use Rattle.luks_commands.specs.Exit.{exit_status}
@@ -75,7 +75,7 @@ refusal_text refusal.Reencrypting = codes "Reencrypting"
 abbrev pub line_of : Answer → Option (List ℕ)
 line_of (Accepted version areas) = Some (accepted_line version areas)
 line_of (Listed listing) = listing_text listing
-line_of (ListedFully listing) = listing_text listing.0
+line_of (ListedFully listing) = full_text listing.0
 line_of (Mapped map) = Some (map_text map)
 line_of (Json text) = Some (line (string_bytes text))
 line_of (Opens n) = Some (codes "slot " ++ decimal n ++ line (codes " opens"))

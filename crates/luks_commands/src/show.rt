@@ -83,7 +83,7 @@ fn as_json(alloc: Global, answer: Answer) -> Answer
         → answer_status result ≢ Status.NotInStep }
 {
     match answer {
-        Answer::Listed(listing) => match json_text(alloc, &listing) {
+        Answer::Listed(listing) => match json_text(alloc, listing) {
             Ok(text) => Answer::Json(text),
             Err(_) => Answer::NoMemory,
         },

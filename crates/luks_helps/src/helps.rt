@@ -85,9 +85,11 @@ backslash, as a backslash and two hexadecimal digits. An empty list is a hyphen.
 Places are in sectors of 512 bytes in LUKS1, in bytes in LUKS2.
 
 At most one of these is given:
-  --all   of LUKS2 a second line behind each keyslot, the costs of its
-          derivation (memory in KiB), and behind each encrypted segment, how it
-          is
+  --all   further lines. Of LUKS2: the subsystem, of each keyslot the costs of
+          its derivation (memory in KiB) and its salt, and of each encrypted
+          segment how it is. Of LUKS1: where the payload and each keyslot's area
+          begin, and how long the area is, in bytes, and of each enabled keyslot
+          its salt. Salts are in hexadecimal digits
   --map   the areas in the order of their places, with the gaps between them, in
           bytes: place, length, what it is. Those that end past the volume are
           marked 'outside', those that have bytes and begin inside one above

@@ -84,7 +84,7 @@ static OPTIONS: [OptionRow; 45] = [
     OptionRow {
         name: "all",
         needed: false,
-        help: "With costs of keyslots and encryption of segments",
+        help: "With costs, salts and encryption, LUKS1 in bytes too",
         takes: Takes::Form,
     },
     OptionRow {

@@ -63,7 +63,7 @@ pub enum Command<'a> {
 pub enum ShowAs {
     /// Line by line, for who reads them.
     Lines,
-    /// Line by line, with the costs of keyslots and the encryption of segments.
+    /// Line by line, with costs, salts and encryption, and the places of LUKS1 in bytes.
     All,
     /// A map of its areas.
     Map,

@@ -1,4 +1,4 @@
--- The second lines of keyslots and segments, piece by piece.
+-- The further lines of keyslots and segments, piece by piece.
 use Rattle.std.proofs.Common.{◌≡◌, ℕ, List, [], ◌∷◌, ◌++◌, refl, append_assoc, codes}
 use Rattle.luks_show.specs.Texts.{line}
 

@@ -4,7 +4,8 @@ use Rattle.std.specs.Fmt.{digit_glyph}
 use Rattle.std.proofs.lemmas.Grind.{common_steps}
 use Rattle.std.proofs.lemmas.List.Elements.{All-append, All-cons, All-head, All-nil, All-tail, All-weaker}
 use Rattle.std.proofs.lemmas.Str.{chars_from_encodes, encodes-append, encodes-IsAscii}
-use Rattle.luks_show.specs.Steering.{IsSteerless, steers, two_digits, unsteering, unsteering_letter}
+use Rattle.luks_show.specs.Digits.{two_digits}
+use Rattle.luks_show.specs.Steering.{IsSteerless, steers, unsteering, unsteering_letter}
 
 -- what stands for a character, in characters
 abbrev escape : ℕ → List ℕ

@@ -1,4 +1,5 @@
 pub mod Texts
+pub mod Digits
 pub mod Luks1Lines
 pub mod AllLines
 pub mod Listed

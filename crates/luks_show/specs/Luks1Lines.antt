@@ -28,11 +28,11 @@ slot_line_as Disabled n s =
 abbrev pub slot_line : ℕ → Luks1Slot → List ℕ
 slot_line n s = slot_line_as s.state n s
 
--- the keyslots from the number n on
-abbrev pub slot_lines : ℕ → List Luks1Slot → List ℕ
-slot_lines n [] = []
-slot_lines n (s ∷ ss) = slot_line n s ++ slot_lines (n + 1) ss
+-- the keyslots from the number n on, each listed so
+abbrev pub slot_lines : (ℕ → Luks1Slot → List ℕ) → ℕ → List Luks1Slot → List ℕ
+slot_lines listed n [] = []
+slot_lines listed n (s ∷ ss) = listed n s ++ slot_lines listed (n + 1) ss
 
 -- the whole header
 abbrev pub luks1_lines : Luks1 → List ℕ
-luks1_lines header = common_lines header.common ++ slot_lines 0 header.slots
+luks1_lines header = common_lines header.common ++ slot_lines slot_line 0 header.slots

@@ -1,6 +1,6 @@
 -- A JSON text without the characters by which a terminal is steered.
-use Rattle.std.specs.Prelude.{◌≡◌, ℕ, List, [], ◌∷◌, ◌++◌, ◌/◌, ◌%◌, ◌&&◌, ◌||◌, Bool, false, nat_le, chars, flat_map, encode_utf8, if◌then◌else◌}
-use Rattle.std.specs.Fmt.{digit_glyph}
+use Rattle.std.specs.Prelude.{◌≡◌, ℕ, List, ◌∷◌, ◌++◌, ◌/◌, ◌%◌, ◌&&◌, ◌||◌, Bool, false, nat_le, chars, flat_map, encode_utf8, if◌then◌else◌}
+use Rattle.luks_show.specs.Digits.{two_digits}
 
 -- the delete character, the controls U+0080 to U+009F (ECMA-48), and the embeddings, overrides and isolates of the
 -- bidirectional algorithm with what ends them (Unicode Standard Annex 9): U+202A to U+202E and U+2066 to U+2069
@@ -9,10 +9,6 @@ steers c = (nat_le 0x7F c && nat_le c 0x9F) || ((nat_le 0x202A c && nat_le c 0x2
 
 abbrev pub IsSteerless : ℕ → Type 0
 IsSteerless c = steers c ≡ false
-
--- a byte by two lower hexadecimal digits
-abbrev pub two_digits : ℕ → List ℕ
-two_digits n = digit_glyph false (n / 16) ∷ digit_glyph false (n % 16) ∷ []
 
 -- such a character is the escape `\u` with its four digits (RFC 8259, section 7), any other is itself
 abbrev pub unsteering_letter : ℕ → List ℕ

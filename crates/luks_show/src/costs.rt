@@ -1,8 +1,9 @@
-//! The second lines of keyslots and segments, which `show --all` prints.
+//! The further lines of keyslots and segments, which `show --all` prints.
 ghost use Rattle.std.specs.Prelude.{Some};
 ghost use Rattle.std.specs.Fmt.{WritesOnOk};
-ghost use Rattle.luks_show.specs.AllLines.{argon2_line, costs_line, encryption_line};
+ghost use Rattle.luks_show.specs.AllLines.{argon2_line, costs_line, encryption_line, salt_line};
 
+use crate::digits::Hex;
 use crate::escaped::Escaped;
 use luks_meta::{Argon2, Cost, Encryption};
 use std::fmt;
@@ -43,6 +44,20 @@ fn write_argon2<W: fmt::Write>(
         f,
         "costs {n} {kind} time {time} memory {memory} cpus {cpus}"
     )
+}
+
+/// The salt of the keyslot of this number; it prints as its line.
+#[derive(Clone, Copy)]
+pub struct SaltLine<'a>(pub usize, pub &'a [u8]);
+
+impl fmt::Display for SaltLine<'_> {
+    ghost output = { λ l. Some (salt_line l.0 l.1.now) };
+
+    fn fmt<W: fmt::Write>(&self, f: &mut fmt::Formatter<W>) -> fmt::Result {
+        let n = self.0;
+        let salt = Hex(self.1);
+        writeln!(f, "salt {n} {salt}")
+    }
 }
 
 /// How the segment of this number is encrypted; it prints as its line.

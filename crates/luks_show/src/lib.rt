@@ -4,6 +4,7 @@
 mod as_json;
 mod copies;
 mod costs;
+mod digits;
 mod escaped;
 mod listing;
 mod lists;
@@ -13,6 +14,7 @@ mod objects;
 
 pub use as_json::{json_text, unsteering};
 pub use copies::copies_name;
-pub use costs::{CostsLine, EncryptionLine};
+pub use costs::{CostsLine, EncryptionLine, SaltLine};
 pub use escaped::before_zero;
 pub use listing::{FullListing, Listing};
+pub use luks2::SubsystemLine;

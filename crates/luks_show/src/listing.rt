@@ -1,7 +1,7 @@
 //! The header that is shown.
-ghost use Rattle.luks_show.specs.Listed.{listing_text};
+ghost use Rattle.luks_show.specs.Listed.{full_text, listing_text};
 
-use crate::luks1::list_luks1;
+use crate::luks1::{list_luks1, list_luks1_fully};
 use crate::luks2::{list_luks2, list_luks2_fully};
 use luks_reading::{ChosenCopy, Luks1};
 use std::fmt;
@@ -26,17 +26,18 @@ impl fmt::Display for Listing {
     }
 }
 
-/// The header that is shown with all that its lines may tell: those of a `Listing`, and of LUKS2 a
-/// second one of each keyslot, and of each segment that is encrypted.
+/// The header that is shown with all that its lines may tell: those of a `Listing`, and further ones. Of
+/// LUKS1 they tell places in bytes, and the salts of enabled keyslots; of LUKS2 the subsystem, the costs and
+/// salts of keyslots, and how segments are encrypted.
 #[derive(Drop)]
 pub struct FullListing(pub Listing);
 
 impl fmt::Display for FullListing {
-    ghost output = { λ full. listing_text full.0 };
+    ghost output = { λ full. full_text full.0 };
 
     fn fmt<W: fmt::Write>(&self, f: &mut fmt::Formatter<W>) -> fmt::Result {
         match &self.0 {
-            Listing::Luks1(header) => list_luks1(header, f),
+            Listing::Luks1(header) => list_luks1_fully(header, f),
             Listing::Luks2(copy) => list_luks2_fully(copy, f),
         }
     }

@@ -1,15 +1,15 @@
 //! The lines of the objects of LUKS2 metadata.
-use crate::costs::{CostsLine, EncryptionLine};
+use crate::costs::{CostsLine, EncryptionLine, SaltLine};
 use crate::escaped::Escaped;
 use crate::lists::Numbers;
 use luks_reading::{Cost, Digest, Extent, Keyslot, Meta, Segment, SegmentKind, Token};
 use std::fmt;
 
-/// How many lines a keyslot has, and a segment that is encrypted.
+/// Which lines are listed: those of `show`, or those of `show --all`.
 #[derive(Clone, Copy)]
 pub(crate) enum Lines {
-    One,
-    Two,
+    Few,
+    All,
 }
 
 pub(crate) fn list_keyslots<W: fmt::Write>(
@@ -33,8 +33,12 @@ fn list_costs<W: fmt::Write>(
     f: &mut fmt::Formatter<W>,
 ) -> fmt::Result {
     match lines {
-        Lines::One => Ok(()),
-        Lines::Two => write!(f, "{}", CostsLine(n, keyslot.kdf.cost)),
+        Lines::Few => Ok(()),
+        Lines::All => {
+            write!(f, "{}", CostsLine(n, keyslot.kdf.cost))?;
+            let salt = keyslot.kdf.salt.as_slice();
+            write!(f, "{}", SaltLine(usize::from(n), salt))
+        }
     }
 }
 
@@ -95,7 +99,7 @@ fn list_encryption<W: fmt::Write>(
     f: &mut fmt::Formatter<W>,
 ) -> fmt::Result {
     match (lines, segment.kind) {
-        (Lines::Two, SegmentKind::Crypt(encryption)) => {
+        (Lines::All, SegmentKind::Crypt(encryption)) => {
             write!(f, "{}", EncryptionLine(n, encryption))
         }
         _ => Ok(()),

@@ -34,15 +34,16 @@ pub(crate) struct Objects {
     metadata: Value,
 }
 
-/// The object of the chosen copy of a LUKS2 header.
-pub(crate) fn luks2_value(alloc: Global, copy: &ChosenCopy) -> Result<Value, AllocError>
-    ensures { IfOk result (λ v. IsLuks2Value copy.now (view v)) }
+/// The object of the chosen copy of a LUKS2 header, which the metadata's value is moved into: it is never
+/// there twice.
+pub(crate) fn luks2_value(alloc: Global, copy: ChosenCopy) -> Result<Value, AllocError>
+    ensures { IfOk result (λ v. IsLuks2Value copy (view v)) }
 {
     let config = copy.meta.config();
     let sizes = sizes_value(alloc, copy.header.hdr_size, config)?;
     let texts = read_texts(alloc, &copy.header)?;
-    let objects = read_objects(alloc, &copy.meta)?;
-    let mut members = header_members(alloc, copy, sizes, texts)?;
+    let mut members = header_members(alloc, &copy, sizes, texts)?;
+    let objects = read_objects(alloc, copy.meta)?;
     put_objects(&mut members, alloc, objects)?;
     Ok(Value::from(members))
 }
@@ -105,17 +106,17 @@ fn read_texts(alloc: Global, header: &Bin2) -> Result<Texts, AllocError>
     })
 }
 
-fn read_objects(alloc: Global, meta: &Meta) -> Result<Objects, AllocError>
-    ensures { IfOk result (AreObjectsOf meta.now) }
+fn read_objects(alloc: Global, meta: Meta) -> Result<Objects, AllocError>
+    ensures { IfOk result (AreObjectsOf meta) }
 {
     Ok(Objects {
-        flags: configured(alloc, meta, "flags")?,
-        requirements: configured(alloc, meta, "requirements")?,
-        keyslots: keyslots_value(alloc, meta)?,
-        tokens: tokens_value(alloc, meta)?,
-        segments: segments_value(alloc, meta)?,
-        digests: digests_value(alloc, meta)?,
-        metadata: meta.value().clone()?,
+        flags: configured(alloc, &meta, "flags")?,
+        requirements: configured(alloc, &meta, "requirements")?,
+        keyslots: keyslots_value(alloc, &meta)?,
+        tokens: tokens_value(alloc, &meta)?,
+        segments: segments_value(alloc, &meta)?,
+        digests: digests_value(alloc, &meta)?,
+        metadata: meta.into_value(),
     })
 }
 

@@ -1,7 +1,8 @@
 //! A JSON text without the characters by which a terminal is steered.
 ghost use Rattle.std.specs.Prelude.{◌≡◌, ◌++◌, IfOk, OnOk, Some, string_bytes};
-ghost use Rattle.luks_show.specs.Steering.{steers, two_digits, unsteering, unsteering_letter};
+ghost use Rattle.luks_show.specs.Steering.{steers, unsteering, unsteering_letter};
 
+use crate::digits::TwoDigits;
 use std::alloc::{AllocError, Global};
 use std::fmt;
 
@@ -45,19 +46,6 @@ impl fmt::Display for SteerlessLetter {
         let high = TwoDigits((code / 256 % 256) as u8);
         let low = TwoDigits((code % 256) as u8);
         write!(f, "\\u{high}{low}")
-    }
-}
-
-/// A byte by two lower hexadecimal digits.
-#[derive(Clone, Copy)]
-struct TwoDigits(u8);
-
-impl fmt::Display for TwoDigits {
-    ghost output = { λ byte. Some (two_digits byte.0) };
-
-    fn fmt<W: fmt::Write>(&self, f: &mut fmt::Formatter<W>) -> fmt::Result {
-        let byte = self.0;
-        write!(f, "{byte:02x}")
     }
 }
 

@@ -13,27 +13,28 @@ use std::alloc::{AllocError, Global};
 /// The JSON object of the header, in the compact form and without a newline. Characters that steer a terminal are
 /// escaped in it.
 ///
-/// Takes memory for the object, and for its text; the object is gone before the text is escaped.
-pub fn json_text(alloc: Global, listing: &Listing) -> Result<String, AllocError>
-    ensures { IfOk result (λ text. IsJsonText listing.now (string_bytes text)) }
+/// Takes memory for the object, which the metadata is moved into, and for its text; the object is gone before
+/// the text is escaped.
+pub fn json_text(alloc: Global, listing: Listing) -> Result<String, AllocError>
+    ensures { IfOk result (λ text. IsJsonText listing (string_bytes text)) }
 {
     let written = written_text(alloc, listing)?;
     unsteering(alloc, written.as_str())
 }
 
 /// The same with no character escaped that needn't be.
-fn written_text(alloc: Global, listing: &Listing) -> Result<String, AllocError>
-    ensures { IfOk result (λ text. IsWrittenText listing.now (string_bytes text)) }
+fn written_text(alloc: Global, listing: Listing) -> Result<String, AllocError>
+    ensures { IfOk result (λ text. IsWrittenText listing (string_bytes text)) }
 {
     let value = listing_value(alloc, listing)?;
     value.to_string(alloc)
 }
 
-fn listing_value(alloc: Global, listing: &Listing) -> Result<Value, AllocError>
-    ensures { IfOk result (λ v. IsListingValue listing.now (view v)) }
+fn listing_value(alloc: Global, listing: Listing) -> Result<Value, AllocError>
+    ensures { IfOk result (λ v. IsListingValue listing (view v)) }
 {
     match listing {
-        Listing::Luks1(header) => luks1_value(alloc, header),
+        Listing::Luks1(header) => luks1_value(alloc, &header),
         Listing::Luks2(copy) => luks2_value(alloc, copy),
     }
 }

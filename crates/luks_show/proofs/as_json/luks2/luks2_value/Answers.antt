@@ -15,5 +15,5 @@ returns c = record {
       c.from.ensures
       ∙ ap object (c.in_ok-put_objects.ensures
       ∙ ap (with_objects c.in_ok-objects.objects) (c.in_ok-members.ensures
-      ∙ ap (λ sizes. header_members c.args.copy.now sizes c.in_ok-texts.texts) c.in_ok-sizes.ensures));
+      ∙ ap (λ sizes. header_members c.args.copy sizes c.in_ok-texts.texts) c.in_ok-sizes.ensures));
 }

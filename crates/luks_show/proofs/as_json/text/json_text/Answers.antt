@@ -10,7 +10,7 @@ pub returns : goal.returns
 returns c =
     let written = string_bytes c.in_ok-written.written in
     let same : c.as_str.result.now ≡ string_bytes c.in_ok-written.written = search rules in
-    IfOk-weaker c.unsteering.result (λ s. string_bytes s ≡ unsteering c.as_str.result.now) (λ s. IsJsonText c.args.listing.now (string_bytes s))
+    IfOk-weaker c.unsteering.result (λ s. string_bytes s ≡ unsteering c.as_str.result.now) (λ s. IsJsonText c.args.listing (string_bytes s))
     (λ s made. record {
       written = written;
       is = c.in_ok-written.ensures;
