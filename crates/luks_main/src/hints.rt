@@ -113,7 +113,10 @@ fn tell_missed(device: &Volume, file: &str, notes: &mut Vec<u8>)
 {
     if let Some(Area { start, len }) = device.missed() {
         let last = start.saturating_add(len).saturating_sub(1);
-        let _ = writeln!(notes, "luks: {file}: bytes {start} to {last} couldn't be read");
+        let _ = writeln!(
+            notes,
+            "luks: {file}: bytes {start} to {last} couldn't be read"
+        );
     }
 }
 
