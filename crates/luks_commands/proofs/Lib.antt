@@ -9,3 +9,4 @@ pub mod Fronts
 pub mod OpenFacts
 pub mod StandingFacts
 mod ShowFacts
+mod SearchFacts

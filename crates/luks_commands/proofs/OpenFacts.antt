@@ -1,5 +1,5 @@
 -- What `open` answers where nothing is opened.
-use Rattle.std.proofs.Common.{◌≡◌, ℕ, List, Option, Some, None, Result, Ok, Err, IfOk, IfErr, refl}
+use Rattle.std.proofs.Common.{◌≡◌, ◌∙◌, ℕ, ◌+◌, List, Option, Some, None, Result, Ok, Err, IfOk, IfErr, inl, inr, refl, subst, sym}
 use Rattle.luks_area.specs.Device.{count_after, CountsFailure}
 use Rattle.luks_slot.specs.declared.allowed.Allowed.{Allowed}
 use Rattle.luks_reading.specs.declared.open_fault.OpenFault.{OpenFault}
@@ -9,9 +9,14 @@ use Rattle.luks_reading.specs.declared.read_fault.ReadFault.TheVariants as readi
 use Rattle.luks_reading.specs.Answer.{opened_to, AnswerWithin as Gives, IsRefusedByWithin}
 use Rattle.luks_reading.specs.Conversions.{unread_opened}
 use Rattle.luks_reading.specs.Failures.{is_open_failure, is_read_failure}
-use Rattle.luks_reading.specs.Unlocking.{IsVolumeRefusedBy, Unlocks}
+use Rattle.luks_reading.specs.Header.{NeedsMetadata}
+use Rattle.luks_reading.specs.Unlocking.{gives, locked, IsVolumeRefusedBy, UnlockAnswer, Unlocks}
 use Rattle.luks_commands.specs.Answer.{open_fault_answer}
-use Rattle.luks_commands.specs.OpenAnswers.{any_answer, IsAnyAnswer, IsOneAnswer, one_answer}
+use Rattle.luks_commands.specs.declared.answers.Answer.{Answer}
+use Rattle.luks_commands.specs.declared.answers.Answer.TheVariants.{Opens, NoneOpens, Refused, DeviceFault, NoMemory}
+use Rattle.luks_commands.specs.declared.answers.Refusal.TheVariants.{Open}
+use Rattle.luks_commands.specs.Searched.{Searches, UnlocksBeside, WithKey}
+use Rattle.luks_commands.specs.OpenAnswers.{any_answer, IsAnswerBeside, IsAnyAnswer, IsOneAnswer, one_answer}
 
 -- a fault of the keyslot that is named
 one_fault : (tells : Type 0) (allowed : Allowed) (v : List ℕ) (n : ℕ) (p : List ℕ) (before after : ℕ) (f : OpenFault) → after ≡ count_after (is_open_failure f) before
@@ -34,7 +39,7 @@ any_fault tells allowed v p before after NoSuchSlot count is = (count, is)
 any_fault tells allowed v p before after SlotFree count is = (count, is)
 any_fault tells allowed v p before after Outside count is = (count, is)
 any_fault tells allowed v p before after (Slot f) count is = (count, is)
-any_fault tells allowed v p before after Device count is = count
+any_fault tells allowed v p before after Device count is = inl count
 any_fault tells allowed v p before after Memory count is = (count, is)
 
 -- a header that isn't read is answered as its fault
@@ -42,7 +47,7 @@ pub answers_unread_header : (tells : Type 0) (allowed : Allowed) (v p : List ℕ
     → (tells → IsVolumeRefusedBy v (unread_opened f)) → IsAnyAnswer tells allowed v p before after (open_fault_answer (unread_opened f))
 answers_unread_header tells allowed v p before after (reading.Head f) count is = (count, is)
 answers_unread_header tells allowed v p before after (reading.Meta f) count is = (count, is)
-answers_unread_header tells allowed v p before after reading.Device count is = count
+answers_unread_header tells allowed v p before after reading.Device count is = inl count
 answers_unread_header tells allowed v p before after reading.Memory count is = (count, is)
 
 pub one_unread_header : (tells : Type 0) (allowed : Allowed) (v : List ℕ) (n : ℕ) (p : List ℕ) (before after : ℕ) (f : ReadFault) → after ≡ count_after (is_read_failure f) before
@@ -64,6 +69,35 @@ answers_one tells allowed v n p before after (Err f) count opens refused = one_f
 pub answers_any : (tells : Type 0) (allowed : Allowed) (v p : List ℕ) (before after : ℕ) (r : Result (Option (ℕ × List ℕ)) OpenFault)
     → CountsFailure is_open_failure r before after → (tells → IfOk r (Unlocks allowed v p)) → (tells → IfErr r (IsVolumeRefusedBy v))
     → IsAnyAnswer tells allowed v p before after (any_answer r)
-answers_any tells allowed v p before after (Ok (Some found)) count opens refused = (count, λ t. (found.1, opens t))
+answers_any tells allowed v p before after (Ok (Some found)) count opens refused = inl (count, λ t. (found.1, opens t))
 answers_any tells allowed v p before after (Ok None) count opens refused = (count, opens)
 answers_any tells allowed v p before after (Err f) count opens refused = any_fault tells allowed v p before after f count refused
+
+-- where a call failed, what is answered beside that
+pub answers_beside : (tells : Type 0) (allowed : Allowed) (v p : List ℕ) (before mid after : ℕ) (a : Answer) → mid ≡ before + 1
+    → IsAnswerBeside tells allowed v p mid after a → IsAnyAnswer tells allowed v p before after a
+answers_beside tells allowed v p before mid after (Opens n) count x = inr (subst (λ m. Searches tells allowed v p m after (Some n)) count x)
+answers_beside tells allowed v p before mid after DeviceFault count (inl none) = inl (none ∙ count)
+answers_beside tells allowed v p before mid after DeviceFault count (inr x) = inr (subst (λ m. Searches tells allowed v p m after None) count x)
+answers_beside tells allowed v p before mid after a count x = absurd x
+
+-- what is answered by the volume's header, that was read while its bytes were `v`, is answered of it; `w` are they now
+pub answers_header : (tells : Type 0) (is : List ℕ → Type 0) (allowed : Allowed) (v w p : List ℕ) (before after : ℕ) (a : Answer) → (tells → w ≡ v) → (tells → is v)
+    → IsAnyAnswer (tells × is w) allowed w p before after a → IsAnyAnswer tells allowed v p before after a
+answers_header tells is allowed v w p before after a same read = answered a
+  where
+    now : tells → tells × is w
+    now t = (t, subst is (sym (same t)) (read t))
+
+    searched : (found : Option ℕ) → Searches (tells × is w) allowed w p (before + 1) after found → Searches tells allowed v p (before + 1) after found
+    searched found x = record { lost = x.lost; count = x.count; gives = λ t. subst (λ u. WithKey (UnlocksBeside allowed u p x.lost) found) (same t) (x.gives (now t)) }
+
+    answered : (b : Answer) → IsAnyAnswer (tells × is w) allowed w p before after b → IsAnyAnswer tells allowed v p before after b
+    answered (Opens n) (inl x) = inl (x.0, λ t. subst (λ u. (key : List ℕ) × UnlockAnswer allowed u p (gives (Some (n, key)))) (same t) (x.1 (now t)))
+    answered (Opens n) (inr x) = inr (searched (Some n) x)
+    answered NoneOpens x = (x.0, λ t. subst (λ u. UnlockAnswer allowed u p (gives None)) (same t) (x.1 (now t)))
+    answered (Refused (Open f)) x = (x.0, λ t. subst (λ u. UnlockAnswer allowed u p (locked f)) (same t) (x.1 (now t)))
+    answered DeviceFault (inl x) = inl x
+    answered DeviceFault (inr x) = inr (searched None x)
+    answered NoMemory x = (x.0, λ t. subst NeedsMetadata (same t) (x.1 (now t)))
+    answered b x = absurd x

@@ -2,6 +2,7 @@ pub mod Exit
 pub mod Files
 pub mod FirstLine
 pub mod Printing
+pub mod Searched
 pub mod Checked
 pub mod Answer
 pub mod Beside
@@ -11,4 +12,5 @@ pub mod Formatting
 pub mod OpenAnswers
 pub mod FormatAnswers
 pub mod Standing
+pub mod Turns
 pub mod ShowAnswers

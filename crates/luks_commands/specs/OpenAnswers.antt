@@ -10,6 +10,7 @@ use Rattle.luks_commands.specs.declared.answers.Refusal.TheVariants.{Open}
 use Rattle.luks_commands.specs.declared.inputs.InputFault.{InputFault}
 use Rattle.luks_reading.specs.declared.open_fault.OpenFault.{OpenFault}
 use Rattle.luks_commands.specs.Answer.{IsWordless, open_fault_answer, unread_answer}
+use Rattle.luks_commands.specs.Searched.{Searches}
 
 -- what opening the keyslot `n` gave, or opening the volume, as it is answered
 abbrev pub one_answer : ℕ → Result (Option (List ℕ)) OpenFault → Answer
@@ -40,17 +41,25 @@ IsOneAnswer tells allowed v n p before after DeviceFault = after ≡ before + 1
 IsOneAnswer tells allowed v n p before after NoMemory = (after ≡ before) × (tells → NeedsMetadata v)
 IsOneAnswer tells allowed v n p before after a = ⊥
 
--- where none is named: the first that opens
+-- Where none is named: the first that opens. Where a call failed, that is all that is answered, or the keyslots have been tried one
+-- by one besides: then the first opens that isn't lost by a further failed call, or none does.
 abbrev pub IsAnyAnswer : Type 0 → Allowed → List ℕ → List ℕ → ℕ → ℕ → Answer → Type 0
-IsAnyAnswer tells allowed v p before after (Opens n) = (after ≡ before) × (tells → (key : List ℕ) × UnlockAnswer allowed v p (gives (Some (n, key))))
+IsAnyAnswer tells allowed v p before after (Opens n) =
+    ((after ≡ before) × (tells → (key : List ℕ) × UnlockAnswer allowed v p (gives (Some (n, key))))) ⊎ Searches tells allowed v p (before + 1) after (Some n)
 IsAnyAnswer tells allowed v p before after NoneOpens = (after ≡ before) × (tells → UnlockAnswer allowed v p (gives None))
 IsAnyAnswer tells allowed v p before after (Refused (Open f)) = (after ≡ before) × (tells → UnlockAnswer allowed v p (locked f))
-IsAnyAnswer tells allowed v p before after DeviceFault = after ≡ before + 1
+IsAnyAnswer tells allowed v p before after DeviceFault = (after ≡ before + 1) ⊎ Searches tells allowed v p (before + 1) after None
 IsAnyAnswer tells allowed v p before after NoMemory = (after ≡ before) × (tells → NeedsMetadata v)
 IsAnyAnswer tells allowed v p before after a = ⊥
 
+-- what is answered then, where none is named: no search is begun where the count of failures has no room for it
+abbrev pub IsAnswerBeside : Type 0 → Allowed → List ℕ → List ℕ → ℕ → ℕ → Answer → Type 0
+IsAnswerBeside tells allowed v p before after (Opens n) = Searches tells allowed v p before after (Some n)
+IsAnswerBeside tells allowed v p before after DeviceFault = (after ≡ before) ⊎ Searches tells allowed v p before after None
+IsAnswerBeside tells allowed v p before after a = ⊥
+
 -- of the volume `v` and the passphrase `p`, while the device's count of failures went from `before` to
--- `after`: `device fault` comes exactly where a call failed
+-- `after`: `device fault` comes only where a call failed, and where a keyslot is named exactly there
 abbrev pub IsOpenAnswer : Type 0 → Allowed → List ℕ → Option ℕ → List ℕ → ℕ → ℕ → Answer → Type 0
 IsOpenAnswer tells allowed v (Some n) p before after a = IsOneAnswer tells allowed v n p before after a
 IsOpenAnswer tells allowed v None p before after a = IsAnyAnswer tells allowed v p before after a

@@ -4,9 +4,11 @@ ghost use Rattle.std.specs.Result.{ForOk};
 ghost use Rattle.luks_area.specs.Device.{IsUnchanged};
 ghost use Rattle.luks_commands.specs.Answer.{answer_status};
 ghost use Rattle.luks_commands.specs.Files.{IsLong, IsUnread, IsWhole, KeepsVolume};
-ghost use Rattle.luks_commands.specs.OpenAnswers.{any_answer, AnswersOpen, IsAnyAnswer, IsOneAnswer, IsOpenAnswer, allowed_of, kib_of, one_answer};
+ghost use Rattle.luks_reading.specs.Header.{IsAcceptedHeader, IsHeader};
+ghost use Rattle.luks_commands.specs.OpenAnswers.{any_answer, AnswersOpen, IsAnswerBeside, IsAnyAnswer, IsOneAnswer, IsOpenAnswer, allowed_of, kib_of, one_answer};
 
 mod almost_met;
+mod searching;
 
 use crate::answers::{Answer, Refusal, Status, unread};
 use crate::inputs::Inputs;
@@ -15,6 +17,7 @@ pub use almost_met::note_line_feed;
 use almost_met::note_unopened;
 use luks_notes::{note_all_wanting, note_passed_over, note_refused, note_unbound, note_wanting};
 use luks_reading::{Allowed, Device, Key, OpenFault, read_header, try_header, try_header_slot};
+use searching::{Trial, search};
 use std::alloc::Global;
 use std::io::{Read, Write};
 
@@ -175,23 +178,86 @@ fn open_any<D: Device, E: Write>(
             return answer;
         }
     };
-    let mut nearest = None;
-    let opened = try_header(alloc, device, &header, passphrase, allowed, &mut nearest);
-    match &opened {
-        Ok(Some((n, _))) => {
-            let _ = note_unbound(&header, *n, err);
-        }
-        Ok(None) => {
-            note_unopened(nearest, passphrase, err);
-            note_passed_over(&header, device.len(), allowed, err);
-        }
-        Err(OpenFault::Memory) => note_all_wanting(&header, device.len(), allowed, err),
-        _ => {}
-    }
-    let answer = any_answer(&opened);
+    let trial = Trial {
+        volume,
+        header: &header,
+        passphrase,
+        allowed,
+    };
+    let answer = open_header(alloc, device, &trial, err);
     note_failure(&answer, volume, err);
     answer
 }
+
+/// What is answered of a volume whose header was read.
+fn open_header<D: Device, E: Write>(
+    alloc: Global,
+    device: &mut D,
+    trial: &Trial<'_>,
+    err: &mut E,
+) -> Answer
+    requires room { D.failed device.old + 1 < 2 ^ 64 }
+    requires accepted { IsAcceptedHeader trial.now.header.now }
+    requires passphrase { length trial.now.passphrase.now < 2 ^ 32 }
+    ensures unchanged { IsUnchanged D.tells D.size D.bytes D.unsettled device.old device.new }
+    ensures kinds { answer_status result ≢ Status.NotInStep }
+    ensures answers { IsAnyAnswer (D.tells × IsHeader (D.bytes device.old) trial.now.header.now)
+        trial.now.allowed (D.bytes device.old) trial.now.passphrase.now
+        (D.failed device.old) (D.failed device.new) result }
+{
+    let Trial {
+        header,
+        passphrase,
+        allowed,
+        ..
+    } = *trial;
+    let mut nearest = None;
+    let opened = try_header(alloc, device, header, passphrase, allowed, &mut nearest);
+    match &opened {
+        Ok(Some((n, _))) => {
+            let _ = note_unbound(header, *n, err);
+        }
+        Ok(None) => {
+            note_unopened(nearest, passphrase, err);
+            note_passed_over(header, device.len(), allowed, err);
+        }
+        Err(OpenFault::Memory) => note_all_wanting(header, device.len(), allowed, err),
+        Err(OpenFault::Device) => return open_beside(alloc, device, trial, err),
+        _ => {}
+    }
+    any_answer(&opened)
+}
+
+/// What is answered once a call has failed as the keyslots were tried: they are tried one by one, while
+/// fewer calls have failed than can be counted.
+fn open_beside<D: Device, E: Write>(
+    alloc: Global,
+    device: &mut D,
+    trial: &Trial<'_>,
+    err: &mut E,
+) -> Answer
+    requires accepted { IsAcceptedHeader trial.now.header.now }
+    requires passphrase { length trial.now.passphrase.now < 2 ^ 32 }
+    ensures unchanged { IsUnchanged D.tells D.size D.bytes D.unsettled device.old device.new }
+    ensures kinds { answer_status result ≢ Status.NotInStep }
+    ensures answers { IsAnswerBeside (D.tells × IsHeader (D.bytes device.old) trial.now.header.now)
+        trial.now.allowed (D.bytes device.old) trial.now.passphrase.now
+        (D.failed device.old) (D.failed device.new) result }
+{
+    if device.failures() >= MOST_FAILURES {
+        return Answer::DeviceFault;
+    }
+    match search(alloc, device, trial, err) {
+        Some(n) => {
+            let _ = note_unbound(trial.header, n, err);
+            Answer::Opens(n)
+        }
+        None => Answer::DeviceFault,
+    }
+}
+
+/// So many calls may have failed that a search, in which at most 64 do, isn't begun.
+const MOST_FAILURES: u64 = u64::MAX - 64;
 
 /// What is answered where opening the volume gave this.
 fn any_answer(opened: &Result<Option<(u8, Key)>, OpenFault>) -> Answer

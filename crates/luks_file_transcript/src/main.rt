@@ -22,7 +22,8 @@
 //!                            numbers, and with the metadata in which NEW stands for OLD, both with no space
 //!     typed TEXT             standard input of the commands behind
 //!     hold NAME, release NAME   another program takes the lock of the file, and lets it go
-//!     meanwhile NAME OTHER LEN  as soon as a command makes the file NAME, another program cuts OTHER to so many bytes
+//!     meanwhile NAME OTHER LEN  as soon as a command opens or makes the file NAME, another program cuts OTHER to so
+//!                            many bytes
 //!     $ WORDS                runs the command, its words parted by single spaces: prints standard output,
 //!                            standard error behind `!`, the status behind `=`, and the files that were opened
 //!                            behind `<` (to be read) and `>` (to be written too)

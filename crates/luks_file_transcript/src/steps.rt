@@ -13,8 +13,8 @@ pub struct Folder<'a, R> {
     name: &'a str,
     typed: String,
     held: Option<File>,
-    /// What another program cuts during the commands: a file, its name that of a file whose making it
-    /// waits for, and the length that it leaves.
+    /// What another program cuts during the commands: the name of a file whose opening or making it waits
+    /// for, that of the file that it cuts, and the length that it leaves.
     meanwhile: String,
 }
 
@@ -184,12 +184,12 @@ pub fn number_of(text: &str) -> io::Result<u64> {
     text.parse().map_err(|_| unknown())
 }
 
-/// The words of `meanwhile`: what is made, what is cut then, and to which length; nothing where there are
+/// The words of `meanwhile`: what is opened, what is cut then, and to which length; nothing where there are
 /// none.
 fn cut_of(words: &str) -> Option<(&str, &str, u64)> {
-    let (made, rest) = words.split_once(' ')?;
+    let (opened, rest) = words.split_once(' ')?;
     let (other, len) = rest.split_once(' ')?;
-    Some((made, other, len.parse().ok()?))
+    Some((opened, other, len.parse().ok()?))
 }
 
 fn octal_of(text: &str) -> io::Result<u32> {

@@ -1,5 +1,6 @@
 -- A device that remembers its first bytes.
-use Rattle.std.specs.Prelude.{◌≡◌, ℕ, ◌+◌, ◌≤◌, List}
+use Rattle.std.specs.Prelude.{◌≡◌, ℕ, ◌+◌, ◌≤◌, List, Option}
+use Rattle.luks_area.specs.declared.area.Area.{Area}
 use Rattle.luks_area.specs.declared.device.Device.{Ghosts}
 use Rattle.luks_guarded_files.specs.declared.cached.CachedDevice.{CachedDevice}
 
@@ -38,3 +39,7 @@ IsRemembered cached at len = at + len ≤ remembered cached
 -- they follow those that are remembered, and there is room for them
 abbrev pub Follows : {D : Type 0} {ghosts : Ghosts D} → CachedDevice D ghosts → ℕ → ℕ → Type 0
 Follows cached at len = (at ≡ remembered cached) × (at + len ≤ 32768)
+
+-- the first range whose reading failed, as it was asked for
+abbrev pub missed_by : {D : Type 0} {ghosts : Ghosts D} → CachedDevice D ghosts → Option Area
+missed_by cached = cached.missed

@@ -6,6 +6,7 @@ pub mod Identity
 pub mod Kinds
 pub mod Lazy
 pub mod Locked
+pub mod Missed
 pub mod Node
 pub mod Notices
 pub mod OpenFaults

@@ -1,8 +1,10 @@
-ghost use Rattle.std.specs.Prelude.{◌≡◌, ◌≢◌, ◌+◌, ◌^◌, ◌<◌, ◌≤◌, ◌↔◌, IfOk, IsOk, IsTrue, length, take};
+ghost use Rattle.std.specs.Prelude.{◌≡◌, ◌≢◌, ◌+◌, ◌^◌, ◌<◌, ◌≤◌, ◌↔◌, None, IfOk, IfSome, IsOk, IsTrue, length, take};
+ghost use Rattle.luks_area.specs.Area.{IsInside};
 ghost use Rattle.luks_area.specs.Ranges.{part, written};
+ghost use Rattle.luks_guarded_files.specs.Missed.{IsCounted, LiesIn};
 
 use crate::guarded::GuardedDevice;
-use luks_area::{Device, DeviceFault};
+use luks_area::{Area, Device, DeviceFault};
 use std::alloc::{AllocError, Global};
 
 /// How many bytes there is room for: both copies of a LUKS2 header of the least size.
@@ -18,18 +20,25 @@ pub const ROOM: usize = 32768;
 /// most `ROOM`; others aren't compared. Its calls take no memory: the place for `ROOM` bytes is taken
 /// as it is made, so that the value itself is small. Over a device that tells its bytes its calls
 /// fail exactly where those of the device behind do.
+///
+/// It also remembers the first range whose reading failed, as it was asked for. What a write reads to
+/// compare it isn't such a range.
 #[derive(Drop)]
 pub struct CachedDevice<D: Device> {
     behind: GuardedDevice<D>,
     bytes: Vec<u8>,
+    missed: Option<Area>,
     ghost room: { length bytes.items ≡ 32768 },
     ghost fits: { behind.known ≤ 32768 },
     ghost same: { D.tells → take behind.known bytes.items ≡ part (D.bytes behind.device) 0 behind.known },
+    ghost lies: { LiesIn missed (D.size behind.device) },
+    ghost counted: { IsCounted missed (D.failed behind.device + behind.changes) },
 }
 
 impl<D: Device> CachedDevice<D> {
-    ghost use Rattle.luks_guarded_files.specs.Cached.{Follows, IsRemembered, cached_size, changes_seen};
-    ghost use Rattle.luks_guarded_files.specs.Cached.{device_behind, remembered};
+    ghost use Rattle.luks_guarded_files.specs.Cached.{Follows, IsRemembered, cached_failures, cached_size, changes_seen};
+    ghost use Rattle.luks_guarded_files.specs.Cached.{device_behind, missed_by, remembered};
+    ghost use Rattle.luks_guarded_files.specs.Missed.{missed_first};
 
     /// A device over `device` that remembers nothing yet. It takes memory for `ROOM` bytes; where that
     /// is refused, the device behind is given up.
@@ -37,10 +46,12 @@ impl<D: Device> CachedDevice<D> {
         ensures device { IfOk result (λ cached. device_behind cached ≡ device) }
         ensures nothing { IfOk result (λ cached. remembered cached ≡ 0) }
         ensures none_seen { IfOk result (λ cached. changes_seen cached ≡ 0) }
+        ensures none_missed { IfOk result (λ cached. missed_by cached ≡ None) }
     {
         Ok(CachedDevice {
             behind: GuardedDevice::new(device),
             bytes: vec![in alloc; 0u8; ROOM]?,
+            missed: None,
         })
     }
 
@@ -50,6 +61,32 @@ impl<D: Device> CachedDevice<D> {
         ensures { IsTrue result ↔ (changes_seen self.now ≢ 0) }
     {
         self.behind.has_changed()
+    }
+
+    /// The first range whose reading failed, as it was asked for; None where none has.
+    pub fn missed(&self) -> Option<Area>
+        ensures first { result ≡ missed_by self.now }
+        ensures inside { IfSome result (λ area. IsInside area (cached_size self.now)) }
+        ensures unfailed { cached_failures self.now ≡ 0 → result ≡ None }
+    {
+        self.missed
+    }
+
+    /// Remembers that reading `len` bytes at `at` has failed, where it is the first range.
+    fn miss(&mut self, at: u64, len: usize)
+        requires within { at + len ≤ cached_size self.old }
+        requires failed { cached_failures self.old ≢ 0 }
+        ensures device { device_behind self.new ≡ device_behind self.old }
+        ensures changes { changes_seen self.new ≡ changes_seen self.old }
+        ensures missed { missed_by self.new ≡ missed_first (missed_by self.old) at len }
+    {
+        let first = &mut self.missed;
+        if first.is_none() {
+            *first = Some(Area {
+                start: at,
+                len: len as u64,
+            });
+        }
     }
 
     /// Whether the bytes of this range are remembered.
@@ -67,6 +104,7 @@ impl<D: Device> CachedDevice<D> {
         requires told { D.tells → read.now ≡ part (D.bytes (device_behind self.old)) at (length read.now) }
         ensures device { device_behind self.new ≡ device_behind self.old }
         ensures changes { changes_seen self.new ≡ changes_seen self.old }
+        ensures missed { missed_by self.new ≡ missed_by self.old }
         ensures follows { Follows self.old at (length read.now)
             → IsRemembered self.new at (length read.now) }
     {
@@ -89,11 +127,12 @@ fn put(bytes: &mut Vec<u8>, at: usize, from: &[u8])
 
 impl<D: Device> Device for CachedDevice<D> {
     ghost use Rattle.std.specs.Prelude.{OnOk};
-    ghost use Rattle.luks_area.specs.Device.{CountsFailure, IsUnchanged, Touches, is_failure};
+    ghost use Rattle.luks_area.specs.Device.{CountsFailure, IsSettled, IsUnchanged, Touches, is_failure, no_place};
     ghost use Rattle.luks_area.specs.Ranges.{IsAt};
     ghost use Rattle.luks_guarded_files.specs.Cached.{Follows, IsRemembered};
     ghost use Rattle.luks_guarded_files.specs.Cached.{cached_bytes, cached_failures, cached_size, cached_unsettled};
-    ghost use Rattle.luks_guarded_files.specs.Cached.{changes_seen};
+    ghost use Rattle.luks_guarded_files.specs.Cached.{changes_seen, missed_by};
+    ghost use Rattle.luks_guarded_files.specs.Missed.{missed_after};
 
     ghost tells = { D.tells };
 
@@ -120,6 +159,8 @@ impl<D: Device> Device for CachedDevice<D> {
         ensures follows { OnOk result (Follows self.old at (length into.old)
             → IsRemembered self.new at (length into.old)) }
         ensures changes { changes_seen self.new ≡ changes_seen self.old }
+        ensures missed { missed_by self.new
+            ≡ missed_after result (missed_by self.old) at (length into.old) }
         ensures count { CountsFailure is_failure result
             (cached_failures self.old) (cached_failures self.new) }
         ensures unchanged { IsUnchanged D.tells cached_size cached_bytes cached_unsettled self.old self.new }
@@ -131,7 +172,10 @@ impl<D: Device> Device for CachedDevice<D> {
             into.copy_from_slice(&self.bytes[at..at + into.len()]);
             return Ok(());
         }
-        self.behind.read_at(at, into)?;
+        if let Err(fault) = self.behind.read_at(at, into) {
+            self.miss(at, into.len());
+            return Err(fault);
+        }
         self.remember(at, into);
         Ok(())
     }
@@ -140,6 +184,7 @@ impl<D: Device> Device for CachedDevice<D> {
         requires within { at + length from.now ≤ cached_size self.old }
         requires room { cached_failures self.old + 1 < 2 ^ 64 }
         ensures still { D.tells → changes_seen self.new ≡ changes_seen self.old }
+        ensures missed { missed_by self.new ≡ missed_by self.old }
         ensures count { CountsFailure is_failure result
             (cached_failures self.old) (cached_failures self.new) }
         ensures size { cached_size self.new ≡ cached_size self.old }
@@ -153,7 +198,16 @@ impl<D: Device> Device for CachedDevice<D> {
         self.behind.write_at(same, at, from)
     }
 
-    fn flush(&mut self) -> Result<(), DeviceFault> {
+    fn flush(&mut self) -> Result<(), DeviceFault>
+        requires { cached_failures self.old + 1 < 2 ^ 64 }
+        ensures missed { missed_by self.new ≡ missed_by self.old }
+        ensures count { CountsFailure is_failure result
+            (cached_failures self.old) (cached_failures self.new) }
+        ensures size { cached_size self.new ≡ cached_size self.old }
+        ensures same { D.tells → OnOk result (cached_bytes self.new ≡ cached_bytes self.old) }
+        ensures settled { D.tells → OnOk result (IsSettled cached_unsettled self.new) }
+        ensures touches { D.tells → Touches cached_bytes cached_unsettled no_place self.old self.new }
+    {
         self.behind.flush()
     }
 

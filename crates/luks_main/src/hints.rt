@@ -2,11 +2,11 @@
 //! for. Its devices, which are still open, are read for it; where they can't be, or memory is refused, nothing
 //! is noted.
 ghost use Rattle.std.specs.Prelude.{◌≡◌, ◌≢◌, ◌+◌, ◌<◌, ◌^◌, IsTrue, None};
-ghost use Rattle.luks_guarded_files.specs.Cached.{cached_failures};
+ghost use Rattle.luks_guarded_files.specs.Cached.{cached_failures, missed_by};
 ghost use Rattle.luks_commands.specs.Answer.{answer_status};
 
 use crate::refusals::fault_of;
-use luks_area::Device;
+use luks_area::{Area, Device};
 use luks_edit_commands::{note_other_use, note_overwritten, standing_use};
 use luks_execution::{Answer, Command, InputFault, Line, OtherUse, Status};
 use luks_explain::Fault;
@@ -89,6 +89,10 @@ pub(crate) fn tell_ended(
     if let Ok(device) = volume {
         tell_instead(device, line.volume, refused, notes);
         tell_more(alloc, line, ended, device, target, notes);
+        tell_missed(device, line.volume, notes);
+    }
+    if let (Ok(device), Some(name)) = (target, line.target().or(line.backup())) {
+        tell_missed(device, name, notes);
     }
     if let Some(fault) = refused {
         let name = fault.name();
@@ -98,6 +102,20 @@ pub(crate) fn tell_ended(
         let _ = writeln!(
             notes,
             "luks: {volume}: memory was refused: end other programs, or try it on a machine with more"
+        );
+    }
+}
+
+/// Notes which bytes of the file couldn't be read, if some were missed: the first range, counted from the
+/// volume's first byte.
+fn tell_missed(device: &Volume, file: &str, notes: &mut Vec<u8>)
+    ensures { missed_by device.now ≡ None → notes.new ≡ notes.old }
+{
+    if let Some(Area { start, len }) = device.missed() {
+        let last = start.saturating_add(len).saturating_sub(1);
+        let _ = writeln!(
+            notes,
+            "luks: {file}: bytes {start} to {last} couldn't be read"
         );
     }
 }

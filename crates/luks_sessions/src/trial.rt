@@ -23,7 +23,7 @@ pub struct Trial<'a, R> {
     err: Cell<Vec<u8>>,
     opened: Cell<Vec<u8>>,
     seconds: Cell<u64>,
-    /// The file whose making cuts another one, that one, and the length that is left of it.
+    /// The file whose opening or making cuts another one, that one, and the length that is left of it.
     cuts: Option<(&'a str, &'a str, u64)>,
 }
 
@@ -62,8 +62,8 @@ impl<'a, R: AllocGlobal + Files<File = File>> Trial<'a, R> {
         }
     }
 
-    /// The same, but that another program cuts a file as soon as one is made: the name of that, of the
-    /// file that is cut, and the length that is left of it.
+    /// The same, but that another program cuts a file as soon as one is opened or made: the name of that, of
+    /// the file that is cut, and the length that is left of it.
     pub fn cutting(self, cuts: Option<(&'a str, &'a str, u64)>) -> Self {
         Trial { cuts, ..self }
     }
@@ -197,8 +197,8 @@ impl<R: AllocGlobal + Files<File = File>> Files for Trial<'_, R> {
             add(self.alloc, &self.opened, way, path)?;
             add(self.alloc, &self.opened, "", "\n")?;
         }
-        if let Some((made, other, len)) = self.cuts {
-            if how.asks_create_new() && path == made {
+        if let Some((opened, other, len)) = self.cuts {
+            if path == opened {
                 let mut options = OpenOptions::new();
                 let place = self.place(other)?;
                 let other = options.write(true).open(self.rt, place.as_str())?;
