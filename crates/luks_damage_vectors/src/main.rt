@@ -4,6 +4,7 @@
 //! printed by `testdata/oracle`: `rebuild_values`, `rebuild1_rows`, `finding_rows`.
 #![tactic(auto)]
 
+mod bad_disk;
 mod disk;
 mod given;
 mod luks1_headers;
