@@ -56,8 +56,12 @@ impl Disk {
 
     /// `bad FROM TO`: the bytes from one place up to the other can't be read.
     fn spoil(&mut self, words: &mut Words<'_>) -> Result<(), Malformed> {
-        self.bad.push((words.number()?, words.number()?))?;
-        Ok(())
+        let from = words.number()?;
+        let to = words.number()?;
+        match self.bad.push((from, to)) {
+            Ok(()) => Ok(()),
+            Err(_) => Err(Malformed::Memory),
+        }
     }
 
     /// `find`: the status of `luks find`, its lines, and what it passes over.

@@ -120,6 +120,14 @@ GoesOnTelling tells offset total v before failed failed_now heard hears held hol
 abbrev pub IsToldOn : Type 0 → ℕ → ℕ → List ℕ → ℕ → ℕ → Option (List Unread) → Option (List Unread) → Option (List ℕ) → Option (List ℕ) → Stop → Type 0
 IsToldOn tells offset total v failed failed_now heard hears held holds why = GoesOnTelling tells offset total v [] failed failed_now heard hears held holds why
 
+-- a step from the sector `from` on to `next` passed some sectors over, at most 1 MiB for each read that failed in it, and said
+-- so: with what it found all are told of which a sign can be read before `next`, where all before `from` were told
+pub record PassesBy (tells : Type 0) (offset total : ℕ) (v told : List ℕ) (from next failed failed_now : ℕ) (heard hears : Option (List Unread)) (step : Step) : Type 0 where
+  pub over : List Passed
+  pub names : Hears heard hears (all_named offset total over)
+  pub bounded : sectors_of over ≤ 2048 * (failed_now - failed)
+  pub tells_all : tells → (passed : List Passed) → AreReadTo v passed from told → AreReadTo v (passed ++ over) next (told ++ starts_in step)
+
 -- the volumes of a list were told, which are those with a sign that can be read before the sector `sectors`; then it stopped
 -- for this reason, maybe with further ones that weren't told: where none was passed over
 abbrev pub IsToldCalmly : Type 0 → ℕ → List ℕ → ℕ → List ℕ → Option (List ℕ) → Option (List ℕ) → Stop → Type 0

@@ -33,12 +33,9 @@ pub(crate) fn note_found<E: Write>(found: u64, err: &mut E) {
     let _ = writeln!(err, "luks: {found} found");
 }
 
-/// Says of the file of this name that reading it failed, and that the search goes on.
+/// Says of the file of this name that reading it failed.
 pub(crate) fn note_fault<E: Write>(name: &str, err: &mut E) {
-    let _ = writeln!(
-        err,
-        "luks: {name}: reading failed: the search goes on with what can be read; make an image of a failing disk first (ddrescue), and search that"
-    );
+    let _ = writeln!(err, "luks: {name}: reading failed");
 }
 
 /// Says that not all could be read of the volume that begins at this byte of the file.

@@ -1,9 +1,10 @@
 //! A device is searched, and each volume told as soon as it is found.
-ghost use Rattle.std.specs.Prelude.{◌≡◌, ◌≢◌, ◌+◌, ◌++◌, ◌<◌, ◌≤◌, ◌^◌, ◌⊎◌, ◌∷◌, [], length, IfErr, IfOk, OnOk};
+ghost use Rattle.std.specs.Prelude.{◌≡◌, ◌≢◌, ◌+◌, ◌++◌, ◌<◌, ◌≤◌, ◌^◌, ◌⊎◌, ◌∷◌, [], length, IfErr, IfOk, OnErr, OnOk};
 ghost use Rattle.luks_area.specs.Device.{IsSettled, IsUnchanged};
-ghost use Rattle.luks_finding.specs.Finding.{looks_from};
+ghost use Rattle.luks_finding.specs.Finding.{looks_from, GoesOn};
 ghost use Rattle.luks_finding.specs.Readable.{AreReadTo};
-ghost use Rattle.luks_find_command.specs.Searches.{starts_in, GoesOnTelling, IsToldAll, IsToldCalmly, IsToldFirst, IsToldOn, LieInside, TellsStepBy};
+ghost use Rattle.luks_finding.specs.declared.find_fault.FindFault.{FindFault};
+ghost use Rattle.luks_find_command.specs.Searches.{starts_in, GoesOnTelling, IsToldAll, IsToldCalmly, IsToldFirst, IsToldOn, LieInside, PassesBy, TellsStepBy};
 ghost use Rattle.luks_find_command.specs.Stops.{PrintsBy, StopsBy};
 ghost use Rattle.luks_find_command.specs.declared.stop.Stop.{Stop};
 
@@ -14,7 +15,7 @@ use crate::stop::Stop;
 use crate::telling::{tell, tell_unread};
 use crate::unread::unread_of;
 use luks_commands::Printer;
-use luks_finding::{Finding, Further, Step};
+use luks_finding::{FindFault, Finding, Further, Step};
 use luks_reading::Device;
 use std::alloc::{AllocError, Global};
 use std::io::Write;
@@ -219,6 +220,38 @@ fn search_calmly<D: Device, P: Printer, E: Write, G: Progress>(
     }
 }
 
+/// Looks on at a device that can't be read everywhere: what the step found that wasn't told, and what it
+/// passes over is said.
+fn step_further<D: Device, G: Progress>(
+    alloc: Global,
+    device: &mut D,
+    searching: &mut Searching,
+    file: &Searched<'_>,
+    progress: &mut G,
+) -> Result<Step, FindFault>
+    requires { D.failed device.old + 100 < 2 ^ 64 }
+    ensures unchanged { IsUnchanged D.tells D.size D.bytes D.unsettled device.old device.new }
+    ensures counts { (D.failed device.old ≤ D.failed device.new) × (D.failed device.new ≤ D.failed device.old + 99) }
+    ensures kept { searching.new.told.items ≡ searching.old.told.items }
+    ensures refused { IfErr result (λ fault. fault ≡ FindFault.Memory) }
+    ensures stays { OnErr result (looks_from searching.new.finding ≡ looks_from searching.old.finding) }
+    ensures silent { OnErr result (G.heard progress.new ≡ G.heard progress.old) }
+    ensures goes_on { IfOk result (GoesOn (D.size device.old)
+        (looks_from searching.old.finding) (looks_from searching.new.finding)) }
+    ensures passes { IfOk result (PassesBy D.tells file.now.offset (D.size device.old) (D.bytes device.old)
+        searching.old.told.items (looks_from searching.old.finding) (looks_from searching.new.finding)
+        (D.failed device.old) (D.failed device.new) (G.heard progress.old) (G.heard progress.new)) }
+{
+    let total = device.len();
+    match searching.finding.step_on(alloc, device, &searching.told)? {
+        Further::Step(step) => Ok(step),
+        Further::Passed(passed) => {
+            progress.pass(unread_of(passed, file.offset, total));
+            Ok(Step::On)
+        }
+    }
+}
+
 /// Goes on with a search of a device of which a read failed: tells each volume of which a sign can be
 /// read, says what it passes over, and answers why it stopped; `Device` at the end of the device.
 fn search_on<D: Device, P: Printer, E: Write, G: Progress>(
@@ -240,20 +273,14 @@ fn search_on<D: Device, P: Printer, E: Write, G: Progress>(
         searching.old.told.items (D.failed device) (D.failed result.0)
         (G.heard progress.old) (G.heard progress.new) (P.printed out.old) (P.printed out.new) result.1 }
 {
-    let total = device.len();
     let mut device = device;
     loop {
         if device.failures() > u64::MAX - 100 {
             return (device, Stop::Device);
         }
-        let further = searching.finding.step_on(alloc, &mut device, &searching.told);
-        let step = match further {
-            Ok(Further::Step(Step::End)) => return (device, Stop::Device),
-            Ok(Further::Step(step)) => step,
-            Ok(Further::Passed(passed)) => {
-                progress.pass(unread_of(passed, file.offset, total));
-                Step::On
-            }
+        let step = match step_further(alloc, &mut device, searching, file, progress) {
+            Ok(Step::End) => return (device, Stop::Device),
+            Ok(step) => step,
             Err(_) => return (device, Stop::Memory),
         };
         let (left, told) = take_step(alloc, device, step, searching, file, out, err, progress);

@@ -68,7 +68,7 @@ pub(crate) fn tell_unread<P: Printer, E: Write>(
         (Appends (P.printed out.old) (P.printed out.new))) }
 {
     let line = StartLine {
-        offset: u128::from(file.offset) + u128::from(start),
+        offset: u128::from(start) + u128::from(file.offset),
         verdict: Answer::DeviceFault,
     };
     match out.print(&line) {

@@ -181,11 +181,12 @@ impl Finding {
                 let to = first_behind(device, from);
                 self.sector = to;
                 self.sectors = 1;
-                Ok(Further::Passed(Passed {
+                let passed = Passed {
                     from,
                     to,
                     is_read: false,
-                }))
+                };
+                Ok(Further::Passed(passed))
             }
         }
     }

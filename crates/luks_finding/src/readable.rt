@@ -68,13 +68,14 @@ pub(crate) fn judge<D: Device>(
     ensures judged { D.tells → IfOk result (UntoldAt (D.bytes device.old) sector told.now) }
     ensures inside { IfOk result (JudgesAt sector (D.failed device.new - D.failed device.old)) }
 {
+    let here = Passed {
+        from: sector,
+        to: sector + 1,
+        is_read: true,
+    };
     match signs_at(alloc, device, sector) {
         Ok(signs) => Ok(Further::Step(Step::from(untold(signs, told)))),
-        Err(FindFault::Device) => Ok(Further::Passed(Passed {
-            from: sector,
-            to: sector + 1,
-            is_read: true,
-        })),
+        Err(FindFault::Device) => Ok(Further::Passed(here)),
         Err(FindFault::Memory) => Err(FindFault::Memory),
     }
 }
