@@ -11,6 +11,7 @@ use Rattle.luks_finding.proofs.FurtherFacts.{read-so-far}
 use Rattle.luks_finding.proofs.ListFacts.{none-yet}
 use Rattle.luks_finding.proofs.ReadFacts.{sectors-join}
 use Rattle.luks_find_command.specs.Searches.{starts_in, GoesOnTelling, HasGoneOn, HasToldBy, HasToldPart, HasToldRead, IsToldCalmly, IsToldOn, PassesBy, TellsPart}
+use Rattle.luks_find_command.specs.Stops.{PrintsBy, StopsBy}
 use Rattle.luks_find_command.specs.Unreads.{all_named, named, Hears}
 use Rattle.luks_find_command.specs.declared.stop.Stop.{Stop}
 use Rattle.luks_find_command.specs.declared.stop.Stop.TheVariants as stop
@@ -29,9 +30,9 @@ hears-same a b same = subst (λ (o : Option (List Unread)). Hears a o []) (sym s
 hears-join : (a b c : Option (List Unread)) (xs ys : List Unread) → Hears a b xs → Hears b c ys → Hears a c (xs ++ ys)
 hears-join None None c xs ys left right = right
 hears-join None (Some us) c xs ys left right = absurd (cc)
-hears-join (Some as) b c xs ys left right =
-    let more : Hears (Some (as ++ xs)) c ys = subst (λ (o : Option (List Unread)). Hears o c ys) left right in
-    more ∙ ap Some (append_assoc as xs ys)
+hears-join (Some us) b c xs ys left right =
+    let more : Hears (Some (us ++ xs)) c ys = subst (λ (o : Option (List Unread)). Hears o c ys) left right in
+    more ∙ ap Some (append_assoc us xs ys)
 
 named-join : (offset total : ℕ) (xs ys : List Passed) → all_named offset total (xs ++ ys) ≡ all_named offset total xs ++ all_named offset total ys
 named-join offset total [] ys = refl
@@ -64,6 +65,16 @@ passes-some tells offset total v told from next failed failed_now heard hears x 
   names = subst (λ (w : Unread). Hears heard hears (w ∷ [])) is said;
   bounded = bounded;
   tells_all = λ t passed so_far. so t passed so_far;
+}
+
+-- the same device behind
+pub passes-as : (tells : Type 0) (offset total size : ℕ) (v w told : List ℕ) (from next failed failed_now : ℕ) (heard hears : Option (List Unread)) (step : Step) → size ≡ total → (tells → w ≡ v)
+    → PassesBy tells offset size w told from next failed failed_now heard hears step → PassesBy tells offset total v told from next failed failed_now heard hears step
+passes-as tells offset total size v w told from next failed failed_now heard hears step sized same passes = record {
+  over = passes.over;
+  names = subst (λ (n : ℕ). Hears heard hears (all_named offset n passes.over)) sized passes.names;
+  bounded = passes.bounded;
+  tells_all = λ t. subst (λ (u : List ℕ). (passed : List Passed) → AreReadTo u passed from told → AreReadTo u (passed ++ passes.over) next (told ++ starts_in step)) (same t) (passes.tells_all t);
 }
 
 -- ---- the search
@@ -136,7 +147,7 @@ ends-by tells offset total v before list sectors failed failed_now heard hears h
         starts = gone.more;
         later = [];
         sectors = sectors;
-        first = subst (AreReadTo v going.passed sectors) (gone.is ∙ ap (λ l. before ++ l) (sym (append-nil gone.more))) gone.so_far;
+        first = subst (AreReadTo v going.passed sectors) (gone.is ∙ sym (append-nil (before ++ gone.more))) gone.so_far;
         has = gone.has;
         whole = elim (whole t) [
           | inl end ↦ inl (refl, end)
@@ -175,7 +186,7 @@ going-memory tells offset total v before list sectors failed mid_failed failed_n
         starts = gone.more;
         later = [];
         sectors = sectors;
-        first = subst (AreReadTo v going.passed sectors) (gone.is ∙ ap (λ l. before ++ l) (sym (append-nil gone.more))) gone.so_far;
+        first = subst (AreReadTo v going.passed sectors) (gone.is ∙ sym (append-nil (before ++ gone.more))) gone.so_far;
         has = told-weaker (failed < mid_failed) (failed < failed_now) offset v gone.more held holds (λ is. omega (arith, is, high)) gone.has;
         whole = tt;
       };
@@ -199,8 +210,8 @@ part-memory tells offset total v before list from next failed mid_failed step_fa
           let gone = going.told t in
           let is = part t in
           let all : list ++ starts_in step ≡ before ++ (gone.more ++ is.told) ++ is.untold =
-          ap (λ l. list ++ l) is.is ∙ (ap (λ l. l ++ is.told ++ is.untold) gone.is
-          ∙ (append_assoc before gone.more (is.told ++ is.untold) ∙ ap (λ l. before ++ l) (sym (append_assoc gone.more is.told is.untold)))) in
+          ap (λ l. list ++ l) is.is ∙ (ap (λ l. l ++ (is.told ++ is.untold)) gone.is
+          ∙ (sym (append_assoc (before ++ gone.more) is.told is.untold) ∙ ap (λ l. l ++ is.untold) (append_assoc before gone.more is.told))) in
           record {
             starts = gone.more ++ is.told;
             later = is.untold;
@@ -238,7 +249,7 @@ joins tells offset total v list failed mid_failed failed_now heard hears held mi
         starts = list ++ gone.starts;
         later = gone.later;
         sectors = gone.sectors;
-        first = subst (AreReadTo v on.passed gone.sectors) (sym (append_assoc list gone.starts gone.later)) gone.first;
+        first = gone.first;
         has = told-join (failed < failed_now) offset v list gone.starts held mid holds
         (told-weaker (failed < mid_failed) (failed < failed_now) offset v list held mid (λ is. omega (arith, is, two)) (before t))
         (told-weaker (mid_failed < failed_now) (failed < failed_now) offset v gone.starts mid holds (λ is. omega (arith, is, one)) gone.has);
@@ -255,20 +266,49 @@ on-joins tells offset total v list failed mid_failed failed_now heard hears held
     joins tells offset total v list failed mid_failed failed_now heard hears held mid holds stop.Memory one two before on
 on-joins tells offset total v list failed mid_failed failed_now heard hears held mid holds stop.Unprinted one two before on = tt
 
+on-same : (tells : Type 0) (offset total size : ℕ) (v w list : List ℕ) (failed failed_now : ℕ) (heard other hears : Option (List Unread)) (held holds : Option (List ℕ)) (why : Stop) → size ≡ total
+    → (tells → w ≡ v) → other ≡ heard → HasGoneOn tells offset size w list failed failed_now other hears held holds why
+    → HasGoneOn tells offset total v list failed failed_now heard hears held holds why
+on-same tells offset total size v w list failed failed_now heard other hears held holds why sized same silent on = record {
+  passed = on.passed;
+  names = subst (λ (o : Option (List Unread)). Hears o hears (all_named offset total on.passed)) silent
+    (subst (λ (n : ℕ). Hears other hears (all_named offset n on.passed)) sized on.names);
+  bounded = on.bounded;
+  told = λ t. subst (λ (u : List ℕ). HasToldRead (failed < failed_now) offset u on.passed list held holds why failed_now) (same t) (on.told t);
+}
+
+-- the same device behind
+pub on-as : (tells : Type 0) (offset total size : ℕ) (v w list : List ℕ) (failed failed_now : ℕ) (heard other hears : Option (List Unread)) (held holds : Option (List ℕ)) (why : Stop) → size ≡ total
+    → (tells → w ≡ v) → other ≡ heard → GoesOnTelling tells offset size w list failed failed_now other hears held holds why
+    → GoesOnTelling tells offset total v list failed failed_now heard hears held holds why
+on-as tells offset total size v w list failed failed_now heard other hears held holds stop.Device sized same silent on =
+    on-same tells offset total size v w list failed failed_now heard other hears held holds stop.Device sized same silent on
+on-as tells offset total size v w list failed failed_now heard other hears held holds stop.Memory sized same silent on =
+    on-same tells offset total size v w list failed failed_now heard other hears held holds stop.Memory sized same silent on
+on-as tells offset total size v w list failed failed_now heard other hears held holds stop.Unprinted sized same silent on = tt
+
+pub stop-prints : (why : Stop) (failed failed_now prints prints_now : ℕ) → StopsBy why failed failed_now prints prints_now → PrintsBy why prints prints_now
+stop-prints stop.Device failed failed_now prints prints_now stopped = stopped.1
+stop-prints stop.Memory failed failed_now prints prints_now stopped = stopped.1
+stop-prints stop.Unprinted failed failed_now prints prints_now stopped = stopped.1
+
+-- it went on behind a read that failed
+pub stops-on : (why : Stop) (failed mid_failed failed_now prints between prints_now : ℕ) → failed < mid_failed → mid_failed ≤ failed_now → between ≡ prints → PrintsBy why between prints_now
+    → StopsBy why failed failed_now prints prints_now
+stops-on stop.Device failed mid_failed failed_now prints between prints_now rose high same printed = (omega (arith, rose, high), printed ∙ same)
+stops-on stop.Memory failed mid_failed failed_now prints between prints_now rose high same printed = (omega (arith, rose, high), printed ∙ same)
+stops-on stop.Unprinted failed mid_failed failed_now prints between prints_now rose high same printed = (omega (arith, rose, high), printed ∙ ap (λ n. n + 1) same)
+
 -- it stopped before a read failed, or with the first one
-pub calm-on : (tells : Type 0) (offset total : ℕ) (v : List ℕ) (sectors : ℕ) (list : List ℕ) (failed failed_now : ℕ) (heard hears : Option (List Unread)) (held holds : Option (List ℕ)) (why : Stop)
-    → (why ≡ stop.Device → ⊥) → hears ≡ heard → (tells → IsToldCalmly (failed < failed_now) offset v sectors list held holds why)
-    → IsToldOn tells offset total v failed failed_now heard hears held holds why
-calm-on tells offset total v sectors list failed failed_now heard hears held holds stop.Device another silent told = absurd (another refl)
-calm-on tells offset total v sectors list failed failed_now heard hears held holds stop.Memory another silent told = record {
+pub calm-memory : (tells : Type 0) (offset total : ℕ) (v : List ℕ) (sectors : ℕ) (list : List ℕ) (failed failed_now : ℕ) (heard hears : Option (List Unread)) (held holds : Option (List ℕ))
+    → hears ≡ heard → (tells → IsToldCalmly (failed < failed_now) offset v sectors list held holds stop.Memory)
+    → IsToldOn tells offset total v failed failed_now heard hears held holds stop.Memory
+calm-memory tells offset total v sectors list failed failed_now heard hears held holds silent told = record {
   passed = [];
   names = hears-same heard hears silent;
   bounded = omega arith;
-  told = λ t.
-      let is = told t in
-      record { starts = is.starts; later = is.later; sectors = is.sectors; first = is.first; has = is.has; whole = tt };
+  told = λ t. let is = told t in record { starts = is.starts; later = is.later; sectors = is.sectors; first = is.first; has = is.has; whole = tt };
 }
-calm-on tells offset total v sectors list failed failed_now heard hears held holds stop.Unprinted another silent told = tt
 
 -- nothing was told
 pub none-on : (tells : Type 0) (offset total : ℕ) (v : List ℕ) (failed : ℕ) (heard : Option (List Unread)) (held : Option (List ℕ)) → IsToldOn tells offset total v failed failed heard heard held held stop.Memory

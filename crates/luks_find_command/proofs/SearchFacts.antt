@@ -22,7 +22,7 @@ use Rattle.luks_find_command.specs.Unreads.{all_named, Hears}
 use Rattle.luks_find_command.specs.declared.stop.Stop.{Stop}
 use Rattle.luks_find_command.specs.declared.stop.Stop.TheVariants as stop
 use Rattle.luks_find_command.specs.declared.unread.Unread.{Unread}
-use Rattle.luks_find_command.proofs.TellingFacts.{told-any, told-exact, told-join, told-none, told-weaker}
+use Rattle.luks_find_command.proofs.TellingFacts.{lines-weaker, told-any, told-exact, told-join, told-none}
 
 -- ---- as long as no read fails
 
@@ -217,7 +217,7 @@ tells-device failing offset v passed failed_now text held mid holds is told prin
     | inr full ↦ inr full
   ];
   lines = told.has.lines;
-  are = (told-weaker failing (Unit {0}) offset v told.starts held mid (λ fails. tt) told.has).are;
+  are = lines-weaker failing (Unit {0}) offset v told.starts told.has.lines (λ fails. tt) told.has.are;
   text = text;
   answered = is;
   printed = Appends-trans held mid holds told.has.lines text told.has.printed printed;
@@ -232,7 +232,7 @@ tells-memory failing offset v passed failed_now text held mid holds is told prin
   first = told.first;
   whole = tt;
   lines = told.has.lines;
-  are = (told-weaker failing (Unit {0}) offset v told.starts held mid (λ fails. tt) told.has).are;
+  are = lines-weaker failing (Unit {0}) offset v told.starts told.has.lines (λ fails. tt) told.has.are;
   text = text;
   answered = is;
   printed = Appends-trans held mid holds told.has.lines text told.has.printed printed;

@@ -81,7 +81,7 @@ told-join failing offset v xs ys a b c left right = record {
 
 -- ---- whether reads failed
 
-lines-weaker : (F G : Type 0) (offset : ℕ) (v xs text : List ℕ) → (F → G) → AreLinesBy F offset v xs text → AreLinesBy G offset v xs text
+pub lines-weaker : (F G : Type 0) (offset : ℕ) (v xs text : List ℕ) → (F → G) → AreLinesBy F offset v xs text → AreLinesBy G offset v xs text
 lines-weaker F G offset v [] text so are = are
 lines-weaker F G offset v (x ∷ xs) text so are = (
   are.0,

@@ -160,8 +160,9 @@ fn take_step<D: Device, P: Printer, E: Write, G: Progress>(
         progress.clear();
     }
     let (device, told) = tell_step(alloc, device, step, file, out, err);
-    if let Err(stop) = told {
-        return (device, Err(stop));
+    match told {
+        Ok(()) => {}
+        Err(stop) => return (device, Err(stop)),
     }
     if keep(&mut searching.told, step).is_err() {
         return (device, Err(Stop::Memory));
@@ -211,8 +212,9 @@ fn search_calmly<D: Device, P: Printer, E: Write, G: Progress>(
         };
         let (left, told) = take_step(alloc, device, step, searching, file, out, err, progress);
         device = left;
-        if let Err(stop) = told {
-            return (device, Err(stop));
+        match told {
+            Ok(()) => {}
+            Err(stop) => return (device, Err(stop)),
         }
         if device.failures() > failures {
             return (device, Err(Stop::Device));
@@ -285,8 +287,9 @@ fn search_on<D: Device, P: Printer, E: Write, G: Progress>(
         };
         let (left, told) = take_step(alloc, device, step, searching, file, out, err, progress);
         device = left;
-        if let Err(stop) = told {
-            return (device, stop);
+        match told {
+            Ok(()) => {}
+            Err(stop) => return (device, stop),
         }
     }
 }
@@ -331,7 +334,8 @@ pub(crate) fn search<D: Device, P: Printer, E: Write, G: Progress>(
                 search_on(alloc, device, &mut searching, file, out, err, progress);
             (device, Err(stop))
         }
-        Err(stop) => (device, Err(stop)),
+        Err(Stop::Memory) => (device, Err(Stop::Memory)),
+        Err(Stop::Unprinted) => (device, Err(Stop::Unprinted)),
     }
 }
 

@@ -83,6 +83,7 @@ impl<R: Clock + Files<File = File> + Eprint> Progress for ProgressLine<'_, R> {
             self.stands = false;
         }
     }
+
     fn pass(&mut self, unread: Unread) {
         self.clear();
         let _ = eprintln!(self.rt; "luks: {}: {unread}", self.name);

@@ -5,8 +5,8 @@ use Rattle.luks_find_command.proofs.GoingOnFacts.{IsGoing}
 use Rattle.luks_find_command.proofs.searching.search_on.Given as goal
 
 -- the volumes of which a sign can be read before where the search looks were told, and the device is as it was
-abbrev pub invariant-loop-device : goal.invariant-loop-device
-invariant-loop-device g l = record {
+abbrev pub invariant-loop-alloc : goal.invariant-loop-alloc
+invariant-loop-alloc g l = record {
   unchanged : IsUnchanged g.D.Device.tells g.D.Device.size g.D.Device.bytes g.D.Device.unsettled l.fn.device l.device;
   failing : g.D.Device.failed l.fn.device ≤ g.D.Device.failed l.device;
   prints : g.P.Printer.failures l.out ≡ g.P.Printer.failures l.fn.out;
@@ -15,5 +15,5 @@ invariant-loop-device g l = record {
     (g.P.Printer.printed l.fn.out) (g.P.Printer.printed l.out);
 }
 
-abbrev pub decreases-loop-device : goal.decreases-loop-device
-decreases-loop-device g l = g.D.Device.size l.device - 512 * looks_from l.searching.finding
+abbrev pub decreases-loop-alloc : goal.decreases-loop-alloc
+decreases-loop-alloc g l = g.D.Device.size l.device - 512 * looks_from l.searching.finding
