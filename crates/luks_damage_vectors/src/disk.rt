@@ -1,13 +1,41 @@
 //! A disk in memory, and where volumes begin on it.
+use crate::bad_disk::BadDisk;
 use luks_area::{FaultyDevice, Leave, MemDevice};
+use luks_commands::CountingPrinter;
+use luks_find_command::{Progress, Unread, find};
 use luks_finding::all_starts;
+use luks_request::Place;
 use luks_vector_lines::{Functions, Malformed, Words, demand, shown};
 use std::alloc::Global;
+use std::io::Write;
+use std::str;
+
+/// What `find` passes over, each behind a semicolon.
+#[derive(Drop)]
+struct Passes {
+    text: Vec<u8>,
+}
+
+impl Progress for Passes {
+    ghost use Rattle.std.specs.Prelude.{None};
+
+    ghost heard = { λ _. None };
+
+    fn looked(&mut self, _at: u64, _total: u64) {}
+
+    fn clear(&mut self) {}
+
+    fn pass(&mut self, unread: Unread) {
+        let _ = write!(self.text, "; {unread}");
+    }
+}
 
 /// The disk that lines make.
 #[derive(Drop)]
 pub struct Disk {
     bytes: Vec<u8>,
+    /// From where up to where it can't be read.
+    bad: Vec<(u64, u64)>,
 }
 
 impl Disk {
@@ -15,13 +43,56 @@ impl Disk {
     pub fn new(alloc: Global) -> Disk {
         Disk {
             bytes: Vec::new(alloc),
+            bad: Vec::new(alloc),
         }
     }
 
     /// `disk LEN`: it has so many zeros.
     fn clear(&mut self, alloc: Global, words: &mut Words<'_>) -> Result<(), Malformed> {
         self.bytes = vec![in alloc; 0u8; words.len()?]?;
+        self.bad = Vec::new(alloc);
         Ok(())
+    }
+
+    /// `bad FROM TO`: the bytes from one place up to the other can't be read.
+    fn spoil(&mut self, words: &mut Words<'_>) -> Result<(), Malformed> {
+        let from = words.number()?;
+        let to = words.number()?;
+        match self.bad.push((from, to)) {
+            Ok(()) => Ok(()),
+            Err(_) => Err(Malformed::Memory),
+        }
+    }
+
+    /// `find`: the status of `luks find`, its lines, and what it passes over.
+    fn find(&self, alloc: Global) -> Result<String, Malformed> {
+        let mut volume = Ok(BadDisk::new(self.bytes.clone()?, self.bad.clone()?));
+        let mut out = CountingPrinter::new(Vec::new(alloc));
+        let mut err = Vec::new(alloc);
+        let mut passes = Passes {
+            text: Vec::new(alloc),
+        };
+        let place = Place {
+            offset: 0,
+            length: None,
+        };
+        let status = find::run(
+            alloc,
+            &mut volume,
+            "disk",
+            place,
+            &mut out,
+            &mut err,
+            &mut passes,
+        );
+        let mut text = format!(in alloc; "{status}")?;
+        let lines = str::from_utf8(out.writer.as_slice()).unwrap_or("no text");
+        for line in lines.lines() {
+            text.push_str("; ")?;
+            text.push_str(line)?;
+        }
+        text.push_str(str::from_utf8(passes.text.as_slice()).unwrap_or("no text"))?;
+        Ok(text)
     }
 
     /// `put AT BYTES`: these bytes stand there.
@@ -56,6 +127,8 @@ impl Functions for Disk {
         match function {
             "disk" => self.clear(alloc, words)?,
             "put" => self.put(alloc, words)?,
+            "bad" => self.spoil(words)?,
+            "find" => return Ok(Some(self.find(alloc)?)),
             "starts" => return Ok(Some(self.starts(alloc, words)?)),
             _ => return Err(Malformed::Function),
         }

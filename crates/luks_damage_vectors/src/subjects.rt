@@ -34,12 +34,13 @@ impl Subjects {
         }
     }
 
-    /// `on SUBJECT`: the next lines are of this one.
+    /// `on SUBJECT`: the next lines are of this one. `faulty` is the disk, too: lines on what of it can't be
+    /// read.
     fn pick(&mut self, words: &mut Words<'_>) -> Result<(), Malformed> {
         self.now = match words.word()? {
             "luks2" => Subject::Luks2,
             "luks1" => Subject::Luks1,
-            "disk" => Subject::Disk,
+            "disk" | "faulty" => Subject::Disk,
             _ => return Err(Malformed::Name),
         };
         Ok(())

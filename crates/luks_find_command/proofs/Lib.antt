@@ -1,3 +1,4 @@
+pub mod GoingOnFacts
 pub mod SearchFacts
 pub mod TellingFacts
 pub mod VolumeFacts

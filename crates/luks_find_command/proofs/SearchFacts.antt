@@ -1,5 +1,6 @@
 -- What a search has told, from step to step.
-use Rattle.std.proofs.Common.{◌≡◌, ℕ, ◌+◌, ◌<◌, ◌≤◌, List, [], ◌∷◌, ◌++◌, length, Option, Some, Result, Ok, Err, IfOk, IfErr, OnOk, inl, inr, refl, sym, ap, ◌∙◌, subst, arith, append_assoc}
+use Rattle.std.proofs.Common.{◌≡◌, ℕ, ◌+◌, ◌-◌, ◌*◌, ◌^◌, ◌<◌, ◌≤◌, ◌⊎◌, List, [], ◌∷◌, ◌++◌, length, Option, Some, Result, Ok, Err, IfOk, IfErr, OnOk, inl, inr, refl, sym, ap, ◌∙◌, subst, arith, append_assoc}
+use Rattle.std.proofs.lemmas.Bool.{cases_lt}
 use Rattle.std.proofs.lemmas.List.{append-nil}
 use Rattle.std.proofs.KnownBytes.{Appends-trans}
 use Rattle.std.specs.Io.KnownBytes.{Appends}
@@ -7,27 +8,31 @@ use Rattle.luks_commands.specs.Answer.{line_of}
 use Rattle.luks_commands.specs.declared.answers.Answer.{Answer}
 use Rattle.luks_commands.specs.declared.answers.Answer.TheVariants.{DeviceFault, NoMemory}
 use Rattle.luks_finding.specs.Finding.{AreStartsBetween, GoesOn, HasNoSignFrom, TellsNext}
-use Rattle.luks_finding.specs.declared.find_fault.FindFault.{FindFault}
-use Rattle.luks_finding.specs.declared.find_fault.FindFault.TheVariants as fault
+use Rattle.luks_finding.specs.Readable.{AreReadTo}
 use Rattle.luks_finding.specs.declared.finding.Step.{Step}
 use Rattle.luks_finding.specs.declared.finding.Step.TheVariants.{Start, Two, On, End}
+use Rattle.luks_finding.specs.declared.passed.Passed.{Passed}
+use Rattle.luks_finding.proofs.FurtherFacts.{read-all, read-so-far}
 use Rattle.luks_finding.proofs.ListFacts.{none-between, none-yet, starts-all, starts-join}
-use Rattle.luks_find_command.specs.FindAnswers.{run_of, HasTold, IsFindRun, TellsAll, TellsFirst}
+use Rattle.luks_find_command.specs.FindAnswers.{run_of, HasTold, IsFindRun, TellsAll, TellsFirst, TellsRead}
 use Rattle.luks_find_command.specs.Lines.{end_line, found_status, none_found}
-use Rattle.luks_find_command.specs.Searches.{starts_in, Finishes, HasToldFirst, HasToldPart, IsToldAll, IsToldFirst, TellsPart, TellsSoFar}
+use Rattle.luks_find_command.specs.Searches.{starts_in, CountsSome, Finishes, GoesOnTelling, HasGoneOn, HasToldBy, HasToldFirst, HasToldPart, HasToldRead, IsToldAll, IsToldCalmly, IsToldFirst, IsToldOn, IsWhole, TellsPart}
 use Rattle.luks_find_command.specs.Stops.{stop_of, StopsBy}
+use Rattle.luks_find_command.specs.Unreads.{all_named, Hears}
 use Rattle.luks_find_command.specs.declared.stop.Stop.{Stop}
 use Rattle.luks_find_command.specs.declared.stop.Stop.TheVariants as stop
-use Rattle.luks_find_command.proofs.TellingFacts.{told-join, told-none}
+use Rattle.luks_find_command.specs.declared.unread.Unread.{Unread}
+use Rattle.luks_find_command.proofs.TellingFacts.{lines-weaker, told-any, told-exact, told-join, told-none}
 
--- before the first step
-pub so-far-none : (offset : ℕ) (v : List ℕ) (held : Option (List ℕ)) → TellsSoFar offset v 0 held held 0
-so-far-none offset v held = record {
-  starts = [];
-  so_far = none-yet v;
-  has = told-none offset v held;
-  counts = record { none = λ is. refl; some = λ is. refl };
-}
+-- ---- as long as no read fails
+
+-- all volumes of which the first sign stands before the sector `sectors` are the list, and were told
+pub record IsCalm (offset : ℕ) (v : List ℕ) (sectors : ℕ) (list : List ℕ) (held holds : Option (List ℕ)) : Type 0 where
+  pub so_far : AreStartsBetween v 0 sectors list
+  pub has : HasTold offset v list held holds
+
+pub calm-none : (offset : ℕ) (v : List ℕ) (held : Option (List ℕ)) → IsCalm offset v 0 [] held held
+calm-none offset v held = record { so_far = none-yet v; has = told-exact ⊥ offset v [] held held (λ none. none) (told-none ⊥ offset v held) }
 
 -- what a step tells
 step-between : (v : List ℕ) (from next : ℕ) (step : Step) → TellsNext v from next step → AreStartsBetween v from next (starts_in step)
@@ -42,88 +47,111 @@ step-further total from next (Two s t) goes = let further : from < next = goes.0
 step-further total from next On goes = let further : from < next = goes.0 in omega (arith, further)
 step-further total from next End goes = let same : next ≡ from = goes.1 in omega (arith, same)
 
-both-none : (xs ys : List ℕ) → xs ≡ [] → ys ≡ [] → xs ++ ys ≡ []
-both-none xs ys left right = ap (λ l. l ++ ys) left ∙ right
+-- the list with what a step tells
+step-joins : (v : List ℕ) (total from next : ℕ) (step : Step) (list : List ℕ) → AreStartsBetween v 0 from list → TellsNext v from next step → GoesOn total from next step
+    → AreStartsBetween v 0 next (list ++ starts_in step)
+step-joins v total from next step list so_far tells goes =
+    starts-join v 0 from next list (starts_in step) (omega arith) (step-further total from next step goes) so_far (step-between v from next step tells)
 
-left-none : (xs ys : List ℕ) → xs ++ ys ≡ [] → xs ≡ []
-left-none [] ys none = refl
-left-none (x ∷ xs) ys none = absurd (cc)
+join-exact : (offset : ℕ) (v xs ys : List ℕ) (a b c : Option (List ℕ)) → HasTold offset v xs a b → HasTold offset v ys b c → HasTold offset v (xs ++ ys) a c
+join-exact offset v xs ys a b c left right = told-exact ⊥ offset v (xs ++ ys) a c (λ none. none) (told-join ⊥ offset v xs ys a b c (told-any ⊥ offset v xs a b left) (told-any ⊥ offset v ys b c right))
 
-right-none : (xs ys : List ℕ) → xs ++ ys ≡ [] → ys ≡ []
-right-none [] ys none = none
-right-none (x ∷ xs) ys none = absurd (cc)
+-- one step more
+pub calm-more : (offset : ℕ) (v : List ℕ) (total from next : ℕ) (step : Step) (list : List ℕ) (held mid holds : Option (List ℕ)) → IsCalm offset v from list held mid
+    → TellsNext v from next step → GoesOn total from next step → HasTold offset v (starts_in step) mid holds → IsCalm offset v next (list ++ starts_in step) held holds
+calm-more offset v total from next step list held mid holds calm tells goes has = record {
+  so_far = step-joins v total from next step list calm.so_far tells goes;
+  has = join-exact offset v list (starts_in step) held mid holds calm.has has;
+}
 
+-- one in which a read failed
+pub calm-failed : (failing : Type 0) (offset : ℕ) (v : List ℕ) (total from next : ℕ) (step : Step) (list : List ℕ) (held mid holds : Option (List ℕ)) → IsCalm offset v from list held mid
+    → TellsNext v from next step → GoesOn total from next step → HasToldBy failing offset v (starts_in step) mid holds
+    → IsToldCalmly failing offset v next (list ++ starts_in step) held holds stop.Device
+calm-failed failing offset v total from next step list held mid holds calm tells goes has = (
+  read-so-far v next (list ++ starts_in step) (step-joins v total from next step list calm.so_far tells goes),
+  told-join failing offset v list (starts_in step) held mid holds (told-any failing offset v list held mid calm.has) has,
+)
+
+-- the end of the device
 length-none : (xs : List ℕ) → length xs ≡ 0 → xs ≡ []
 length-none [] none = refl
 length-none (x ∷ xs) none = absurd (omega (arith, none))
 
--- one step more
-pub so-far-more : (offset : ℕ) (v : List ℕ) (total from next found now : ℕ) (step : Step) (held mid holds : Option (List ℕ)) → TellsSoFar offset v from held mid found
-    → TellsNext v from next step → GoesOn total from next step → HasTold offset v (starts_in step) mid holds
-    → (now ≡ 0 → found + length (starts_in step) ≡ 0) → (found + length (starts_in step) ≡ 0 → now ≡ 0) → TellsSoFar offset v next held holds now
-so-far-more offset v total from next found now step held mid holds told tells goes has up down =
-    let more : List ℕ = starts_in step in
-    let further : from ≤ next = step-further total from next step goes in
-    record {
-      starts = told.starts ++ more;
-      so_far = starts-join v 0 from next told.starts more (omega arith) further told.so_far (step-between v from next step tells);
-      has = told-join offset v told.starts more held mid holds told.has has;
-      counts = record {
-        none = λ is. let sum : found + length more ≡ 0 = up is in
-            both-none told.starts more (told.counts.none (omega (arith, sum))) (length-none more (omega (arith, sum)));
-        some = λ is.
-            let one : found ≡ 0 = told.counts.some (left-none told.starts more is) in
-            let two : length more ≡ 0 = ap length (right-none told.starts more is) in
-            down (omega (arith, one, two));
-      };
-    }
+pub counts-length : (list : List ℕ) → CountsSome (length list) list
+counts-length list = record { none = length-none list; some = λ is. ap length is }
 
--- the end of the device
-pub all-told : (offset : ℕ) (v : List ℕ) (from found : ℕ) (held holds : Option (List ℕ)) → TellsSoFar offset v from held holds found → HasNoSignFrom v from → IsToldAll offset v held holds found
-all-told offset v from found held holds told none = record {
-  starts = told.starts;
-  all = starts-all v from told.starts told.so_far none;
-  has = told.has;
-  counts = told.counts;
+pub calm-all : (offset : ℕ) (v : List ℕ) (from : ℕ) (list : List ℕ) (held holds : Option (List ℕ)) → IsCalm offset v from list held holds → HasNoSignFrom v from
+    → IsToldAll offset v held holds (length list)
+calm-all offset v from list held holds calm none = record {
+  starts = list;
+  all = starts-all v from list calm.so_far none;
+  has = calm.has;
+  counts = counts-length list;
 }
 
-first-of : (offset : ℕ) (v : List ℕ) (from found : ℕ) (held holds : Option (List ℕ)) → TellsSoFar offset v from held holds found → HasToldFirst offset v held holds
-first-of offset v from found held holds told = record {
-  starts = told.starts;
+first-of : (offset : ℕ) (v : List ℕ) (from : ℕ) (list : List ℕ) (held holds : Option (List ℕ)) → IsCalm offset v from list held holds → HasToldFirst offset v held holds
+first-of offset v from list held holds calm = record {
+  starts = list;
   later = [];
   sectors = from;
-  first = subst (AreStartsBetween v 0 from) (sym (append-nil told.starts)) told.so_far;
-  has = told.has;
+  first = subst (AreStartsBetween v 0 from) (sym (append-nil list)) calm.so_far;
+  has = calm.has;
 }
 
 -- a step that failed
-pub first-so-far : (offset : ℕ) (v : List ℕ) (from found : ℕ) (held holds : Option (List ℕ)) (f : FindFault) → TellsSoFar offset v from held holds found
-    → IsToldFirst offset v held holds (stop_of f)
-first-so-far offset v from found held holds fault.Memory told = first-of offset v from found held holds told
-first-so-far offset v from found held holds fault.Device told = first-of offset v from found held holds told
+pub calm-first : (offset : ℕ) (v : List ℕ) (from : ℕ) (list : List ℕ) (held holds : Option (List ℕ)) (why : Stop) → IsCalm offset v from list held holds → IsToldFirst offset v held holds why
+calm-first offset v from list held holds stop.Device calm = first-of offset v from list held holds calm
+calm-first offset v from list held holds stop.Memory calm = first-of offset v from list held holds calm
+calm-first offset v from list held holds stop.Unprinted calm = tt
 
-pub first-none : (offset : ℕ) (v : List ℕ) (held : Option (List ℕ)) → HasToldFirst offset v held held
-first-none offset v held = first-of offset v 0 0 held held (so-far-none offset v held)
-
-part-first : (offset : ℕ) (v : List ℕ) (total from next found : ℕ) (step : Step) (held mid holds : Option (List ℕ)) → TellsSoFar offset v from held mid found
-    → TellsNext v from next step → GoesOn total from next step → HasToldPart offset v (starts_in step) mid holds → HasToldFirst offset v held holds
-part-first offset v total from next found step held mid holds told tells goes is =
-    let further : from ≤ next = step-further total from next step goes in
-    let whole = starts-join v 0 from next told.starts (starts_in step) (omega arith) further told.so_far (step-between v from next step tells) in
-    record {
-      starts = told.starts ++ is.told;
-      later = is.untold;
-      sectors = next;
-      first = subst (AreStartsBetween v 0 next) (ap (λ l. told.starts ++ l) is.is ∙ sym (append_assoc told.starts is.told is.untold)) whole;
-      has = told-join offset v told.starts is.told held mid holds told.has is.has;
-    }
+pub calm-stops : (failing : Type 0) (offset : ℕ) (v : List ℕ) (from : ℕ) (list : List ℕ) (held holds : Option (List ℕ)) (why : Stop) → IsCalm offset v from list held holds
+    → IsToldCalmly failing offset v from list held holds why
+calm-stops failing offset v from list held holds stop.Device calm = (read-so-far v from list calm.so_far, told-any failing offset v list held holds calm.has)
+calm-stops failing offset v from list held holds stop.Memory calm = record {
+  starts = list;
+  later = [];
+  sectors = from;
+  first = subst (AreReadTo v [] from) (sym (append-nil list)) (read-so-far v from list calm.so_far);
+  has = told-any failing offset v list held holds calm.has;
+  whole = tt;
+}
+calm-stops failing offset v from list held holds stop.Unprinted calm = tt
 
 -- a volume of a step that couldn't be told
-pub first-stopped : (offset : ℕ) (v : List ℕ) (total from next found : ℕ) (step : Step) (held mid holds : Option (List ℕ)) (why : Stop) → TellsSoFar offset v from held mid found
-    → TellsNext v from next step → GoesOn total from next step → TellsPart offset v (starts_in step) mid holds why → IsToldFirst offset v held holds why
-first-stopped offset v total from next found step held mid holds stop.Device told tells goes is = part-first offset v total from next found step held mid holds told tells goes is
-first-stopped offset v total from next found step held mid holds stop.Memory told tells goes is = part-first offset v total from next found step held mid holds told tells goes is
-first-stopped offset v total from next found step held mid holds stop.Unprinted told tells goes is = tt
+part-first : (failing : Type 0) (offset : ℕ) (v : List ℕ) (total from next : ℕ) (step : Step) (list : List ℕ) (held mid holds : Option (List ℕ)) → (failing → ⊥) → IsCalm offset v from list held mid
+    → TellsNext v from next step → GoesOn total from next step → HasToldPart failing offset v (starts_in step) mid holds → HasToldFirst offset v held holds
+part-first failing offset v total from next step list held mid holds none calm tells goes is = record {
+  starts = list ++ is.told;
+  later = is.untold;
+  sectors = next;
+  first = subst (AreStartsBetween v 0 next) (ap (λ l. list ++ l) is.is ∙ sym (append_assoc list is.told is.untold)) (step-joins v total from next step list calm.so_far tells goes);
+  has = join-exact offset v list is.told held mid holds calm.has (told-exact failing offset v is.told mid holds none is.has);
+}
+
+pub step-first : (failing : Type 0) (offset : ℕ) (v : List ℕ) (total from next : ℕ) (step : Step) (list : List ℕ) (held mid holds : Option (List ℕ)) (why : Stop) → (failing → ⊥)
+    → IsCalm offset v from list held mid → TellsNext v from next step → GoesOn total from next step → TellsPart failing offset v (starts_in step) mid holds why → IsToldFirst offset v held holds why
+step-first failing offset v total from next step list held mid holds stop.Device none calm tells goes is = part-first failing offset v total from next step list held mid holds none calm tells goes is
+step-first failing offset v total from next step list held mid holds stop.Memory none calm tells goes is = part-first failing offset v total from next step list held mid holds none calm tells goes is
+step-first failing offset v total from next step list held mid holds stop.Unprinted none calm tells goes is = tt
+
+pub step-stops : (failing : Type 0) (offset : ℕ) (v : List ℕ) (total from next sectors : ℕ) (step : Step) (list other : List ℕ) (held mid holds : Option (List ℕ)) (why : Stop) → (why ≡ stop.Device → ⊥)
+    → IsCalm offset v from list held mid → TellsNext v from next step → GoesOn total from next step → TellsPart failing offset v (starts_in step) mid holds why
+    → IsToldCalmly failing offset v sectors other held holds why
+step-stops failing offset v total from next sectors step list other held mid holds stop.Device another calm tells goes is = absurd (another refl)
+step-stops failing offset v total from next sectors step list other held mid holds stop.Memory another calm tells goes is = record {
+  starts = list ++ is.told;
+  later = is.untold;
+  sectors = next;
+  first = subst (AreReadTo v [] next) (ap (λ l. list ++ l) is.is ∙ sym (append_assoc list is.told is.untold))
+  (read-so-far v next (list ++ starts_in step) (step-joins v total from next step list calm.so_far tells goes));
+  has = told-join failing offset v list is.told held mid holds (told-any failing offset v list held mid calm.has) is.has;
+  whole = tt;
+}
+step-stops failing offset v total from next sectors step list other held mid holds stop.Unprinted another calm tells goes is = tt
+
+pub first-none : (offset : ℕ) (v : List ℕ) (held : Option (List ℕ)) → HasToldFirst offset v held held
+first-none offset v held = first-of offset v 0 [] held held (calm-none offset v held)
 
 -- ---- the end
 
@@ -175,25 +203,95 @@ tells-first offset v a text held mid holds is told printed = record {
   printed = Appends-trans held mid holds told.has.lines text told.has.printed printed;
 }
 
+tells-device : (failing : Type 0) (offset : ℕ) (v : List ℕ) (passed : List Passed) (failed_now : ℕ) (text : List ℕ) (held mid holds : Option (List ℕ)) → line_of DeviceFault ≡ Some text
+    → HasToldRead failing offset v passed [] held mid stop.Device failed_now → Appends mid holds text → TellsRead offset v passed DeviceFault failed_now held holds
+tells-device failing offset v passed failed_now text held mid holds is told printed = record {
+  starts = told.starts;
+  later = told.later;
+  sectors = told.sectors;
+  first = told.first;
+  whole = elim told.whole [
+    | inl ends ↦
+        let all : told.starts ++ told.later ≡ told.starts = ap (λ l. told.starts ++ l) ends.0 ∙ append-nil told.starts in
+        inl (ends.0, read-all v passed told.sectors told.starts ends.1 (subst (AreReadTo v passed told.sectors) all told.first))
+    | inr full ↦ inr full
+  ];
+  lines = told.has.lines;
+  are = lines-weaker failing (Unit {0}) offset v told.starts told.has.lines (λ fails. tt) told.has.are;
+  text = text;
+  answered = is;
+  printed = Appends-trans held mid holds told.has.lines text told.has.printed printed;
+}
+
+tells-memory : (failing : Type 0) (offset : ℕ) (v : List ℕ) (passed : List Passed) (failed_now : ℕ) (text : List ℕ) (held mid holds : Option (List ℕ)) → line_of NoMemory ≡ Some text
+    → HasToldRead failing offset v passed [] held mid stop.Memory failed_now → Appends mid holds text → TellsRead offset v passed NoMemory failed_now held holds
+tells-memory failing offset v passed failed_now text held mid holds is told printed = record {
+  starts = told.starts;
+  later = told.later;
+  sectors = told.sectors;
+  first = told.first;
+  whole = tt;
+  lines = told.has.lines;
+  are = lines-weaker failing (Unit {0}) offset v told.starts told.has.lines (λ fails. tt) told.has.are;
+  text = text;
+  answered = is;
+  printed = Appends-trans held mid holds told.has.lines text told.has.printed printed;
+}
+
+-- a count that didn't fall rose, or is as before
+rose-or-not : (m n : ℕ) → m ≤ n → (n ≡ m) ⊎ (m < n)
+rose-or-not m n le = elim (cases_lt m n) [
+  | inl rose ↦ inr rose
+  | inr not ↦ inl (omega (arith, le, not))
+]
+
 -- what became of the run
-pub find-run : (tells : Type 0) (offset : ℕ) (v : List ℕ) (r : Result ℕ Stop) (failed failed_now prints between prints_now : ℕ) (held mid holds : Option (List ℕ)) (status : ℕ)
+pub find-run : (tells : Type 0) (offset total : ℕ) (v : List ℕ) (r : Result ℕ Stop) (failed failed_now prints between prints_now : ℕ) (heard hears : Option (List Unread)) (held mid holds : Option (List ℕ)) (status : ℕ)
     → IfErr r (λ why. StopsBy why failed failed_now prints between) → OnOk r ((failed_now ≡ failed) × (between ≡ prints))
-    → (tells → IfOk r (IsToldAll offset v held mid)) → (tells → IfErr r (IsToldFirst offset v held mid)) → Finishes r between prints_now mid holds status
-    → IsFindRun tells offset v (run_of failed failed_now prints prints_now held holds status)
-find-run tells offset v (Ok found) failed failed_now prints between prints_now held mid holds status stopped ended all first finish = elim finish [
+    → (tells → IfOk r (IsToldAll offset v held mid)) → (tells → failed_now ≡ failed → IfErr r (IsToldFirst offset v held mid))
+    → IfErr r (IsToldOn tells offset total v failed failed_now heard hears held mid) → Finishes r between prints_now mid holds status
+    → IsFindRun tells offset total v (run_of failed failed_now prints prints_now held holds heard hears status)
+find-run tells offset total v (Ok found) failed failed_now prints between prints_now heard hears held mid holds status stopped ended all first on finish = elim finish [
   | inl some ↦ inl (record { read = ended.0; printed = some.1 ∙ ended.1; status = inl some.3; told = λ t. tells-some offset v held mid holds found status (all t) some.0 some.2 some.3 })
   | inr other ↦ elim other [
     | inl none ↦ inl (record { read = ended.0; printed = none.1 ∙ ended.1; status = inr none.3; told = λ t. tells-none offset v held mid holds found status (all t) none.0 none.2 none.3 })
-    | inr failed_print ↦ inr (inr (record { read = inl ended.0; printed = failed_print.0 ∙ ap (λ n. n + 1) ended.1; status = failed_print.1 }))
+    | inr failed_print ↦
+        let same : failed_now ≡ failed = ended.0 in
+        inr (inr (inr (record { read = omega (arith, same); printed = failed_print.0 ∙ ap (λ n. n + 1) ended.1; status = failed_print.1 })))
   ]
 ]
-find-run tells offset v (Err stop.Device) failed failed_now prints between prints_now held mid holds status stopped ended all first finish = elim finish [
-  | inl printed ↦ inr (inl (record { answer = DeviceFault; broken = stopped.0; printed = printed.0 ∙ stopped.1; status = printed.1; told = λ t. tells-first offset v DeviceFault _ held mid holds refl (first t) printed.2 }))
-  | inr failed_print ↦ inr (inr (record { read = inr stopped.0; printed = failed_print.0 ∙ ap (λ n. n + 1) stopped.1; status = failed_print.1 }))
+find-run tells offset total v (Err stop.Device) failed failed_now prints between prints_now heard hears held mid holds status stopped ended all first on finish = elim finish [
+  | inl printed ↦ inr (inr (inl (record {
+      answer = DeviceFault;
+      ends = record { is = inl refl };
+      failing = stopped.0;
+      printed = printed.0 ∙ stopped.1;
+      status = printed.1;
+      passed = on.passed;
+      names = on.names;
+      bounded = on.bounded;
+      told = λ t. tells-device (failed < failed_now) offset v on.passed failed_now _ held mid holds refl (on.told t) printed.2;
+    })))
+  | inr failed_print ↦
+      let rose : failed < failed_now = stopped.0 in
+      inr (inr (inr (record { read = omega (arith, rose); printed = failed_print.0 ∙ ap (λ n. n + 1) stopped.1; status = failed_print.1 })))
 ]
-find-run tells offset v (Err stop.Memory) failed failed_now prints between prints_now held mid holds status stopped ended all first finish = elim finish [
-  | inl printed ↦ inr (inl (record { answer = NoMemory; broken = stopped.0; printed = printed.0 ∙ stopped.1; status = printed.1; told = λ t. tells-first offset v NoMemory _ held mid holds refl (first t) printed.2 }))
-  | inr failed_print ↦ inr (inr (record { read = inl stopped.0; printed = failed_print.0 ∙ ap (λ n. n + 1) stopped.1; status = failed_print.1 }))
+find-run tells offset total v (Err stop.Memory) failed failed_now prints between prints_now heard hears held mid holds status stopped ended all first on finish = elim finish [
+  | inl printed ↦ elim (rose-or-not failed failed_now stopped.0) [
+    | inl same ↦ inr (inl (record { read = same; printed = printed.0 ∙ stopped.1; status = printed.1; told = λ t. tells-first offset v NoMemory _ held mid holds refl (first t same) printed.2 }))
+    | inr rose ↦ inr (inr (inl (record {
+        answer = NoMemory;
+        ends = record { is = inr refl };
+        failing = rose;
+        printed = printed.0 ∙ stopped.1;
+        status = printed.1;
+        passed = on.passed;
+        names = on.names;
+        bounded = on.bounded;
+        told = λ t. tells-memory (failed < failed_now) offset v on.passed failed_now _ held mid holds refl (on.told t) printed.2;
+      })))
+  ]
+  | inr failed_print ↦ inr (inr (inr (record { read = stopped.0; printed = failed_print.0 ∙ ap (λ n. n + 1) stopped.1; status = failed_print.1 })))
 ]
-find-run tells offset v (Err stop.Unprinted) failed failed_now prints between prints_now held mid holds status stopped ended all first finish =
-    inr (inr (record { read = inl stopped.0; printed = finish.0 ∙ stopped.1; status = finish.1 }))
+find-run tells offset total v (Err stop.Unprinted) failed failed_now prints between prints_now heard hears held mid holds status stopped ended all first on finish =
+    inr (inr (inr (record { read = stopped.0; printed = finish.0 ∙ stopped.1; status = finish.1 })))

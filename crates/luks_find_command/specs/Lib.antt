@@ -2,4 +2,5 @@ pub mod FindAnswers
 pub mod Lines
 pub mod Searches
 pub mod Stops
+pub mod Unreads
 pub mod Volumes

@@ -1,12 +1,12 @@
 -- The lines that `find` prints.
-use Rattle.std.specs.Prelude.{◌≡◌, ℕ, ◌+◌, List, [], ◌∷◌, ◌++◌, codes, Option, Some, drop, option_map}
+use Rattle.std.specs.Prelude.{◌≡◌, ◌⊎◌, ℕ, ◌+◌, List, [], ◌∷◌, ◌++◌, codes, Option, Some, drop, option_map}
 use Rattle.std.specs.Fmt.{decimal}
 use Rattle.luks_reading.specs.Checked.{First}
 use Rattle.luks_reading.specs.declared.report.Data.TheVariants.{Here}
 use Rattle.luks_commands.specs.Answer.{line, line_of}
 use Rattle.luks_commands.specs.CheckAnswers.{IsAccepted}
 use Rattle.luks_commands.specs.declared.answers.Answer.{Answer}
-use Rattle.luks_commands.specs.declared.answers.Answer.TheVariants.{Accepted, Refused}
+use Rattle.luks_commands.specs.declared.answers.Answer.TheVariants.{Accepted, DeviceFault, Refused}
 use Rattle.luks_commands.specs.declared.answers.Refusal.TheVariants.{Check}
 
 -- what `check` answers of the volume `v`, which has its payload itself, where no call fails and memory is given
@@ -33,6 +33,19 @@ pub record IsStartLine (offset : ℕ) (v : List ℕ) (s : ℕ) (text : List ℕ)
 abbrev pub AreLines : ℕ → List ℕ → List ℕ → List ℕ → Type 0
 AreLines offset v [] text = text ≡ []
 AreLines offset v (s ∷ starts) text = (first : List ℕ) × (rest : List ℕ) × IsStartLine offset v s first × AreLines offset v starts rest × (text ≡ first ++ rest)
+
+-- the same where not all could be read that `check` needs
+pub record IsUnreadLine (offset s : ℕ) (text : List ℕ) : Type 0 where
+  pub is : start_line (offset + s) DeviceFault ≡ Some text
+
+-- either of these, the second one only where `failing` holds
+abbrev pub IsLineBy : Type 0 → ℕ → List ℕ → ℕ → List ℕ → Type 0
+IsLineBy failing offset v s text = IsStartLine offset v s text ⊎ (failing × IsUnreadLine offset s text)
+
+abbrev pub AreLinesBy : Type 0 → ℕ → List ℕ → List ℕ → List ℕ → Type 0
+AreLinesBy failing offset v [] text = text ≡ []
+AreLinesBy failing offset v (s ∷ starts) text =
+    (first : List ℕ) × (rest : List ℕ) × IsLineBy failing offset v s first × AreLinesBy failing offset v starts rest × (text ≡ first ++ rest)
 
 -- what follows the lines of all starts: where there is none, that line
 abbrev pub end_line : List ℕ → List ℕ

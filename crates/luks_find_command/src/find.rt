@@ -21,7 +21,8 @@ use std::io::Write;
 
 /// Prints where volumes begin on the file of this name, and what `check` says of each, as soon as it is
 /// found; answers the exit status. `volume` is the bytes of the file at this place. `progress` is told
-/// after each step how far the search is.
+/// after each step how far the search is, and what it passes over where reading fails: the search goes on
+/// behind it, and ends with `device fault`.
 pub fn run<D: Device, P: Printer, E: Write, G: Progress>(
     alloc: Global,
     volume: &mut Result<D, InputFault>,
@@ -38,8 +39,9 @@ pub fn run<D: Device, P: Printer, E: Write, G: Progress>(
     ensures status { IsExitStatus result }
     ensures kinds { result ≢ 3 }
     ensures unread { IfErr volume.old (λ _. result ≡ 4) }
-    ensures answers { AnswersFind D.tells D.bytes D.failed place.offset volume.old volume.new
-        (P.failures out.old) (P.failures out.new) (P.printed out.old) (P.printed out.new) result }
+    ensures answers { AnswersFind D.tells D.size D.bytes D.failed place.offset volume.old volume.new
+        (P.failures out.old) (P.failures out.new) (P.printed out.old) (P.printed out.new)
+        (G.heard progress.old) (G.heard progress.new) result }
 {
     let file = Searched {
         name,
@@ -71,9 +73,9 @@ fn find_on<D: Device, P: Printer, E: Write, G: Progress>(
     requires settled { D.tells → IsSettled D.unsettled device }
     requires printer { P.failures out.old + 1 < 2 ^ 64 }
     ensures unchanged { IsUnchanged D.tells D.size D.bytes D.unsettled device result.0 }
-    ensures answers { IsFindRun D.tells file.now.offset (D.bytes device)
+    ensures answers { IsFindRun D.tells file.now.offset (D.size device) (D.bytes device)
         (run_of (D.failed device) (D.failed result.0) (P.failures out.old) (P.failures out.new)
-        (P.printed out.old) (P.printed out.new) result.1) }
+        (P.printed out.old) (P.printed out.new) (G.heard progress.old) (G.heard progress.new) result.1) }
 {
     let (device, ended) = search(alloc, device, file, out, err, progress);
     let status = finish(ended, out, err);

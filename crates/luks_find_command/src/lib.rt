@@ -10,6 +10,8 @@ mod searched;
 mod searching;
 mod stop;
 mod telling;
+mod unread;
 mod volume_at;
 
 pub use progress::{Progress, Untold};
+pub use unread::Unread;

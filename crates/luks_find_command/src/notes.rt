@@ -1,7 +1,6 @@
 //! What standard error says of what was found.
 
 use luks_commands::Answer;
-use luks_finding::FindFault;
 use std::io::Write;
 
 /// Says what to do next with the volume that begins at this byte of the file, of which `check` answers
@@ -34,9 +33,15 @@ pub(crate) fn note_found<E: Write>(found: u64, err: &mut E) {
     let _ = writeln!(err, "luks: {found} found");
 }
 
-/// Says of the file of this name that reading it failed, where the search stopped by that.
-pub(crate) fn note_fault<E: Write>(fault: FindFault, name: &str, err: &mut E) {
-    if fault == FindFault::Device {
-        let _ = writeln!(err, "luks: {name}: reading failed");
-    }
+/// Says of the file of this name that reading it failed.
+pub(crate) fn note_fault<E: Write>(name: &str, err: &mut E) {
+    let _ = writeln!(err, "luks: {name}: reading failed");
+}
+
+/// Says that not all could be read of the volume that begins at this byte of the file.
+pub(crate) fn note_unread<E: Write>(name: &str, offset: u128, err: &mut E) {
+    let _ = writeln!(
+        err,
+        "luks: {name}: not all of the header at byte {offset} can be read"
+    );
 }

@@ -1,13 +1,16 @@
 //! A volume that was found is told.
-ghost use Rattle.std.specs.Prelude.{◌≡◌, ◌+◌, ◌<◌, ◌≤◌, ◌^◌, [], ◌∷◌, drop, IfErr, OnOk};
+ghost use Rattle.std.specs.Prelude.{◌≡◌, ◌≢◌, ◌+◌, ◌<◌, ◌≤◌, ◌^◌, [], ◌∷◌, drop, IfErr, IfSome, OnOk};
+ghost use Rattle.std.specs.Io.KnownBytes.{Appends};
 ghost use Rattle.luks_area.specs.Device.{IsSettled, IsUnchanged};
-ghost use Rattle.luks_find_command.specs.Lines.{IsVerdict};
-ghost use Rattle.luks_find_command.specs.Searches.{TellsStep};
+ghost use Rattle.luks_commands.specs.declared.answers.Answer.{Answer};
+ghost use Rattle.luks_find_command.specs.Lines.{start_line, IsVerdict};
+ghost use Rattle.luks_find_command.specs.Searches.{TellsStepBy};
 ghost use Rattle.luks_find_command.specs.Stops.{StopsBy};
+ghost use Rattle.luks_find_command.specs.declared.stop.Stop.{Stop};
 
 use crate::check_at::check_at;
 use crate::lines::StartLine;
-use crate::notes::note_next;
+use crate::notes::{note_next, note_unread};
 use crate::searched::Searched;
 use crate::stop::Stop;
 use luks_commands::{Answer, Printer, Unprinted};
@@ -16,7 +19,8 @@ use luks_reading::Device;
 use std::alloc::Global;
 use std::io::Write;
 
-/// Prints the line of the volume that begins at `start`, and says what to do next with it.
+/// Prints the line of the volume that begins at `start`, and says what to do next with it. Where not all
+/// can be read that `check` needs, the line ends with `device fault`.
 pub(crate) fn tell<D: Device, P: Printer, E: Write>(
     alloc: Global,
     device: D,
@@ -30,18 +34,49 @@ pub(crate) fn tell<D: Device, P: Printer, E: Write>(
     requires settled { D.tells → IsSettled D.unsettled device }
     requires printer { P.failures out.old + 1 < 2 ^ 64 }
     ensures unchanged { IsUnchanged D.tells D.size D.bytes D.unsettled device result.0 }
+    ensures failing { (D.failed device ≤ D.failed result.0) × (D.failed result.0 ≤ D.failed device + 1) }
     ensures counts { IfErr result.1 (λ stop. StopsBy stop (D.failed device) (D.failed result.0)
         (P.failures out.old) (P.failures out.new)) }
-    ensures count { OnOk result.1 ((D.failed result.0 ≡ D.failed device)
-        × (P.failures out.new ≡ P.failures out.old)) }
-    ensures told { D.tells → TellsStep file.now.offset (D.bytes device) (start ∷ [])
-        (P.printed out.old) (P.printed out.new) result.1 }
+    ensures kinds { IfErr result.1 (λ stop. stop ≢ Stop.Device) }
+    ensures count { OnOk result.1 (P.failures out.new ≡ P.failures out.old) }
+    ensures told { D.tells → TellsStepBy (D.failed device < D.failed result.0) file.now.offset (D.bytes device)
+        (start ∷ []) (P.printed out.old) (P.printed out.new) result.1 }
 {
     let (verdict, device) = check_at(alloc, device, start, file, err);
     match verdict {
-        Answer::DeviceFault => (device, Err(Stop::Device)),
+        Answer::DeviceFault => {
+            let told = tell_unread(start, file, out, err);
+            (device, told)
+        }
         Answer::NoMemory => (device, Err(Stop::Memory)),
         verdict => tell_verdict(device, start, verdict, file, out, err),
+    }
+}
+
+/// The same of a volume of which not all can be read that `check` needs, whoever found that.
+pub(crate) fn tell_unread<P: Printer, E: Write>(
+    start: u64,
+    file: &Searched<'_>,
+    out: &mut P,
+    err: &mut E,
+) -> Result<(), Stop>
+    requires { P.failures out.old + 1 < 2 ^ 64 }
+    ensures unprinted { IfErr result (λ stop. (stop ≡ Stop.Unprinted)
+        × (P.failures out.new ≡ P.failures out.old + 1)) }
+    ensures count { OnOk result (P.failures out.new ≡ P.failures out.old) }
+    ensures told { OnOk result (IfSome (start_line (file.now.offset + start) Answer.DeviceFault)
+        (Appends (P.printed out.old) (P.printed out.new))) }
+{
+    let line = StartLine {
+        offset: u128::from(start) + u128::from(file.offset),
+        verdict: Answer::DeviceFault,
+    };
+    match out.print(&line) {
+        Ok(()) => {
+            note_unread(file.name, line.offset, err);
+            Ok(())
+        }
+        Err(Unprinted) => Err(Stop::Unprinted),
     }
 }
 
@@ -59,17 +94,18 @@ fn tell_verdict<D: Device, P: Printer, E: Write>(
     requires says { D.tells → IsVerdict (drop start (D.bytes device)) verdict }
     requires printer { P.failures out.old + 1 < 2 ^ 64 }
     ensures unchanged { IsUnchanged D.tells D.size D.bytes D.unsettled device result.0 }
+    ensures failing { (D.failed device ≤ D.failed result.0) × (D.failed result.0 ≤ D.failed device + 1) }
     ensures counts { IfErr result.1 (λ stop. StopsBy stop (D.failed device) (D.failed result.0)
         (P.failures out.old) (P.failures out.new)) }
-    ensures count { OnOk result.1 ((D.failed result.0 ≡ D.failed device)
-        × (P.failures out.new ≡ P.failures out.old)) }
-    ensures told { D.tells → TellsStep file.now.offset (D.bytes device) (start ∷ [])
-        (P.printed out.old) (P.printed out.new) result.1 }
+    ensures kinds { IfErr result.1 (λ stop. stop ≢ Stop.Device) }
+    ensures count { OnOk result.1 (P.failures out.new ≡ P.failures out.old) }
+    ensures told { D.tells → TellsStepBy (D.failed device < D.failed result.0) file.now.offset (D.bytes device)
+        (start ∷ []) (P.printed out.old) (P.printed out.new) result.1 }
 {
     let mut device = device;
     let luks1 = match begins_luks1(&mut device, start) {
         Ok(luks1) => luks1,
-        Err(_) => return (device, Err(Stop::Device)),
+        Err(_) => false,
     };
     let line = StartLine {
         offset: u128::from(file.offset) + u128::from(start),

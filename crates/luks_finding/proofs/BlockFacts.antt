@@ -51,14 +51,14 @@ into-block v sector len k room (inr fields) =
     (subst (λ (p : ℕ). BeginsFields (part v p 112)) (sym there) fields))
 
 -- so a sign on the disk is seen in the block, if that is long enough
-sign-seen : (v : List ℕ) (sector len k s : ℕ) → sector ≤ k → (512 * (k - sector) + 512 ≤ len) ⊎ (512 * sector + len ≡ length v) → IsSign v s (512 * k)
+pub sign-seen : (v : List ℕ) (sector len k s : ℕ) → sector ≤ k → (512 * (k - sector) + 512 ≤ len) ⊎ (512 * sector + len ≡ length v) → IsSign v s (512 * k)
     → BeginsAt (part v (512 * sector) len) (k - sector)
 sign-seen v sector len k s low room sign =
     let back : k ≡ sector + (k - sector) = omega (arith, low) in
     into-block v sector len (k - sector) room (subst (λ (n : ℕ). MayBegin v (512 * n)) back (sign-begins v s (512 * k) sign))
 
 -- a block ends with a sector or with the disk
-block-room : (v : List ℕ) (sector sectors len count k : ℕ) → len ≡ min (length v - 512 * sector) (512 * sectors) → 512 * count < len + 512
+pub block-room : (v : List ℕ) (sector sectors len count k : ℕ) → len ≡ min (length v - 512 * sector) (512 * sectors) → 512 * count < len + 512
     → 512 * k + 8 ≤ length v → sector ≤ k → k < sector + count → (512 * (k - sector) + 512 ≤ len) ⊎ (512 * sector + len ≡ length v)
 block-room v sector sectors len count k is fewest inside low high = elim (cases_lt (512 * sectors) (length v - 512 * sector)) [
   | inl short ↦ inl (omega (arith, is, fewest, low, high, short))
@@ -73,7 +73,7 @@ none-block v sector sectors len count is fewest none = none-between v sector (se
     none (k - sector) (sign-seen v sector len k s low (block-room v sector sectors len count k is fewest inside low high) sign))
 
 -- before the first sign that begins in a block
-before-first : (v : List ℕ) (sector len index : ℕ) → IsFirstIn (part v (512 * sector) len) index → (k s : ℕ) → sector ≤ k → k < sector + index → IsSign v s (512 * k) → ⊥
+pub before-first : (v : List ℕ) (sector len index : ℕ) → IsFirstIn (part v (512 * sector) len) index → (k s : ℕ) → sector ≤ k → k < sector + index → IsSign v s (512 * k) → ⊥
 before-first v sector len index first k s low high sign =
     let long : length (part v (512 * sector) len) ≡ min len (length v - 512 * sector) = length-part v (512 * sector) len in
     let inside : 512 * index + 8 ≤ length (part v (512 * sector) len) = begins-inside (part v (512 * sector) len) (512 * index) first.begins in

@@ -1,9 +1,12 @@
+pub mod AllSignsFacts
 pub mod BlockFacts
 pub mod CopyFacts
 pub mod ExplainedFacts
+pub mod FurtherFacts
 pub mod HeadFacts
 pub mod ListFacts
 pub mod MetadataFacts
+pub mod ReadFacts
 pub mod SignFacts
 pub mod SizeFacts
 pub mod ToldFacts

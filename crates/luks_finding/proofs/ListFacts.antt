@@ -52,7 +52,7 @@ told-between v from k list low none told = record {
 }
 
 -- what is among a list is among a longer one
-among-left : (list more : List ℕ) (s : ℕ) → IsAmong list s → IsAmong (list ++ more) s
+pub among-left : (list more : List ℕ) (s : ℕ) → IsAmong list s → IsAmong (list ++ more) s
 among-left list more s among =
     let inside : among.index < length list = among.within in
     let long : length (list ++ more) ≡ length list + length more = length-append list more in
@@ -63,7 +63,7 @@ right-index list more i =
     let back : (length list + i) - length list ≡ i = omega arith in
     get_or-append_right list more (length list + i) 0 (omega arith) ∙ ap (λ k. get_or more k 0) back
 
-among-right : (list more : List ℕ) (s : ℕ) → IsAmong more s → IsAmong (list ++ more) s
+pub among-right : (list more : List ℕ) (s : ℕ) → IsAmong more s → IsAmong (list ++ more) s
 among-right list more s among =
     let inside : among.index < length more = among.within in
     let long : length (list ++ more) ≡ length list + length more = length-append list more in

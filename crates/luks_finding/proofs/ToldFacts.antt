@@ -137,11 +137,11 @@ told-copy v p k size back none no_text named sound far =
 -- ---- metadata
 
 -- the binary header before it, of metadata that is a sign
-header-there : (v : List ℕ) (s p h : ℕ) → p ≡ h + 4096 → (sign : IsMetadataSign v s p) → s + sign.copy.at ≡ h
+pub header-there : (v : List ℕ) (s p h : ℕ) → p ≡ h + 4096 → (sign : IsMetadataSign v s p) → s + sign.copy.at ≡ h
 header-there v s p h behind sign = let there : p ≡ s + sign.copy.at + 4096 = sign.there in omega (arith, there, behind)
 
 -- is that of a first copy or of a second one
-sign-kind : (v : List ℕ) (s p h : ℕ) → p ≡ h + 4096 → IsMetadataSign v s p → IsFirstAt h s ⊎ IsSecondAt h s
+pub sign-kind : (v : List ℕ) (s p h : ℕ) → p ≡ h + 4096 → IsMetadataSign v s p → IsFirstAt h s ⊎ IsSecondAt h s
 sign-kind v s p h behind sign =
     let there : s + sign.copy.at ≡ h = header-there v s p h behind sign in
     elim sign.has.whole.is_place.first_or_second [
@@ -268,7 +268,7 @@ first-told v beginning k size whole read other none alone =
         ]
 
 -- what stands there of a volume before is its second copy of this size
-second-there : (v : List ℕ) (s h size : ℕ) → IsWholeAt v h size → s < h → IsSign v s (h + 4096) → s + size ≡ h
+pub second-there : (v : List ℕ) (s h size : ℕ) → IsWholeAt v h size → s < h → IsSign v s (h + 4096) → s + size ≡ h
 second-there v s h size whole below sign =
     let p : ℕ = h + 4096 in
     let metadata : IsMetadataSign v s p = sign-metadata v s p (whole-text v h size whole) sign in

@@ -1,5 +1,6 @@
 pub mod Blocks
 pub mod Faults
 pub mod Finding
+pub mod Readable
 pub mod Starts
 pub mod Telling

@@ -1,10 +1,13 @@
 //! A search for starts of volumes, step by step.
-ghost use Rattle.std.specs.Prelude.{◌≡◌, ◌+◌, ◌*◌, ◌^◌, ◌<◌, ◌≤◌, IfErr, IfOk, IfSome, OnErr, length};
+ghost use Rattle.std.specs.Prelude.{◌≡◌, ◌+◌, ◌-◌, ◌*◌, ◌^◌, ◌<◌, ◌≤◌, IfErr, IfOk, IfSome, OnErr, length};
 ghost use Rattle.luks_area.specs.Device.{CountsFailure, IsUnchanged, is_failure};
 ghost use Rattle.luks_area.specs.Ranges.{part};
 ghost use Rattle.luks_finding.specs.Blocks.{FindsIn};
 
+use crate::behind::first_behind;
 use crate::find_fault::FindFault;
+use crate::passed::{Further, Passed};
+use crate::readable::{judge, look_shorter};
 use crate::signs::{SECTOR, first_sign};
 use crate::telling::told_at;
 use crate::told::Told;
@@ -48,6 +51,7 @@ pub struct Finding {
 impl Finding {
     ghost use Rattle.luks_finding.specs.Faults.{is_find_failure};
     ghost use Rattle.luks_finding.specs.Finding.{looks_from, GoesOn, TellsNext};
+    ghost use Rattle.luks_finding.specs.Readable.{passed_by, sectors_of, GoesFurther, TellsFurther};
     ghost use Rattle.luks_finding.specs.Telling.{IsMemoryOnly};
 
     /// A search from the disk's start on. Takes memory for a block.
@@ -127,6 +131,65 @@ impl Finding {
             }
         }
     }
+
+    /// The same of a disk that can't be read everywhere, of which the starts in `told` were told: it
+    /// tells the others of which a sign stands at the next sector at which something begins, whatever
+    /// stands before. So none is told twice, and one is told by what is left of it where that can be read.
+    ///
+    /// A block that can't be read is tried by halves. Where its first sector can't be, that one is passed
+    /// over with those behind that can't be either: these are looked for by strides of up to 1 MiB. A sector
+    /// at which a sign may begin is passed over where not all can be read that a sign there needs.
+    ///
+    /// Only refused memory is an error. The search stays where it was then.
+    pub fn step_on<D: Device>(
+        &mut self,
+        alloc: Global,
+        device: &mut D,
+        told: &[u64],
+    ) -> Result<Further, FindFault>
+        requires { D.failed device.old + 100 < 2 ^ 64 }
+        ensures unchanged { IsUnchanged D.tells D.size D.bytes D.unsettled device.old device.new }
+        ensures counts { (D.failed device.old ≤ D.failed device.new) × (D.failed device.new ≤ D.failed device.old + 99) }
+        ensures refused { IfErr result (λ fault. fault ≡ FindFault.Memory) }
+        ensures stays { OnErr result (looks_from self.new ≡ looks_from self.old) }
+        ensures goes_on { IfOk result
+            (GoesFurther (D.size device.old) (looks_from self.old) (looks_from self.new)) }
+        ensures bounded { IfOk result (λ further.
+            sectors_of (passed_by further) ≤ 2048 * (D.failed device.new - D.failed device.old)) }
+        ensures told { D.tells → IfOk result
+            (TellsFurther (D.bytes device.old) told.now (looks_from self.old) (looks_from self.new)) }
+    {
+        let total = device.len();
+        if self.sector >= sectors_in(total) {
+            return Ok(Further::Step(Step::End));
+        }
+        match look_shorter(device, &mut self.block, self.sector, self.sectors) {
+            Some((_, Some(index))) => {
+                let found = self.sector + index as u64;
+                let further = judge(alloc, device, found, told)?;
+                self.sector = found + 1;
+                self.sectors = FEWEST;
+                Ok(further)
+            }
+            Some((len, None)) => {
+                self.sector += sectors_in(len);
+                self.sectors = (2 * self.sectors).min(MOST);
+                Ok(Further::Step(Step::On))
+            }
+            None => {
+                let from = self.sector;
+                let to = first_behind(device, from);
+                self.sector = to;
+                self.sectors = 1;
+                let passed = Passed {
+                    from,
+                    to,
+                    is_read: false,
+                };
+                Ok(Further::Passed(passed))
+            }
+        }
+    }
 }
 
 impl From<Told> for Step {
@@ -145,7 +208,7 @@ impl From<Told> for Step {
 
 /// The first sector at which a header, a second copy or a JSON area begins, of the `len` bytes at
 /// `at`, which are read into `block`.
-fn look<D: Device>(
+pub(crate) fn look<D: Device>(
     device: &mut D,
     block: &mut [u8],
     at: u64,
@@ -166,7 +229,7 @@ fn look<D: Device>(
 }
 
 /// The sectors that so many bytes begin.
-fn sectors_in(len: u64) -> u64
+pub(crate) fn sectors_in(len: u64) -> u64
     ensures all { len ≤ 512 * result }
     ensures fewest { 512 * result < len + 512 }
 {

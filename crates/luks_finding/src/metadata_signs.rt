@@ -71,7 +71,7 @@ pub(crate) fn is_explained<D: Device>(
 
 /// Whether the copy at the place, of the volume that begins at the sector `sector`, has whole metadata,
 /// the other copy's magic doesn't stand before it, and no sound copy of another volume explains it.
-fn has_metadata<D: Device>(
+pub(crate) fn has_metadata<D: Device>(
     alloc: Global,
     device: &mut D,
     sector: u64,

@@ -22,10 +22,13 @@ use luks1_header::luks1_places::MAGIC;
 use std::alloc::Global;
 
 /// The sectors of a binary header, behind which its JSON area begins.
-const HEAD_SECTORS: u64 = (HEAD / SECTOR) as u64;
+pub(crate) const HEAD_SECTORS: u64 = (HEAD / SECTOR) as u64;
 
 /// The 8 bytes at the sector.
-fn beginning_at<D: Device>(device: &mut D, sector: u64) -> Result<[u8; BEGINNING], DeviceFault>
+pub(crate) fn beginning_at<D: Device>(
+    device: &mut D,
+    sector: u64,
+) -> Result<[u8; BEGINNING], DeviceFault>
     requires within { 512 * sector + 8 ≤ D.size device.old }
     requires room { D.failed device.old + 1 < 2 ^ 64 }
     ensures unchanged { IsUnchanged D.tells D.size D.bytes D.unsettled device.old device.new }
@@ -38,7 +41,7 @@ fn beginning_at<D: Device>(device: &mut D, sector: u64) -> Result<[u8; BEGINNING
 }
 
 /// Whether a header begins at the sector, with its magic or, of LUKS1, without it.
-fn begins_volume<D: Device>(device: &mut D, sector: u64) -> Result<bool, DeviceFault>
+pub(crate) fn begins_volume<D: Device>(device: &mut D, sector: u64) -> Result<bool, DeviceFault>
     requires within { 512 * sector + 8 ≤ D.size device.old }
     requires room { D.failed device.old + 1 < 2 ^ 64 }
     ensures unchanged { IsUnchanged D.tells D.size D.bytes D.unsettled device.old device.new }
@@ -186,7 +189,8 @@ fn told_by_text<D: Device>(alloc: Global, device: &mut D, sector: u64) -> Result
     }
 }
 
-fn join(second: Option<u64>, first: Option<u64>) -> Told
+/// Both together.
+pub(crate) fn join(second: Option<u64>, first: Option<u64>) -> Told
     ensures { result ≡ joined second first }
 {
     match (second, first) {

@@ -1,6 +1,6 @@
-//! How far a search of a disk is.
+//! How far a search of a disk is, and what it passes over.
 use luks_files::{ERROR, is_terminal};
-use luks_find_command::Progress;
+use luks_find_command::{Progress, Unread};
 use std::fs::File;
 use std::rt::{Clock, Files};
 use std::time::Duration;
@@ -12,10 +12,12 @@ const LONG: u64 = 1 << 30;
 const PAUSE: u128 = 500;
 
 /// How far a search is and how fast, in one line of standard error that is written over: where that is a
-/// terminal, and the disk has more than 1 GiB.
+/// terminal, and the disk has more than 1 GiB. What is passed over is said always, by a line of its own.
 #[derive(Drop)]
 pub(crate) struct ProgressLine<'a, R> {
     rt: &'a R,
+    /// The disk's name.
+    name: &'a str,
     /// When the search began; nothing where nothing is said of it.
     begun: Option<Duration>,
     /// When the line was written last, as milliseconds of the search.
@@ -25,8 +27,9 @@ pub(crate) struct ProgressLine<'a, R> {
 }
 
 impl<'a, R: Clock + Files<File = File> + Eprint> ProgressLine<'a, R> {
-    /// The line of a search that begins now; it is never written where that isn't wanted.
-    pub(crate) fn new(rt: &'a R, wanted: bool) -> Self {
+    /// The line of a search that begins now, of the disk of this name; it is never written where that
+    /// isn't wanted.
+    pub(crate) fn new(rt: &'a R, name: &'a str, wanted: bool) -> Self {
         let begun = if wanted && is_terminal(rt, ERROR) {
             rt.monotonic().ok()
         } else {
@@ -34,6 +37,7 @@ impl<'a, R: Clock + Files<File = File> + Eprint> ProgressLine<'a, R> {
         };
         ProgressLine {
             rt,
+            name,
             begun,
             written: 0,
             stands: false,
@@ -48,6 +52,10 @@ impl<'a, R: Clock + Files<File = File> + Eprint> ProgressLine<'a, R> {
 }
 
 impl<R: Clock + Files<File = File> + Eprint> Progress for ProgressLine<'_, R> {
+    ghost use Rattle.std.specs.Prelude.{None};
+
+    ghost heard = { λ _. None };
+
     fn looked(&mut self, at: u64, total: u64) {
         if total <= LONG {
             return;
@@ -74,5 +82,10 @@ impl<R: Clock + Files<File = File> + Eprint> Progress for ProgressLine<'_, R> {
             let _ = eprint!(self.rt; "\r{:60}\r", "");
             self.stands = false;
         }
+    }
+
+    fn pass(&mut self, unread: Unread) {
+        self.clear();
+        let _ = eprintln!(self.rt; "luks: {}: {unread}", self.name);
     }
 }

@@ -62,7 +62,7 @@ pub(crate) fn search<R: AllocGlobal + Clock + Files<File = File> + Print + Eprin
         held: if manner.quiet { Some(notices) } else { None },
     };
     let mut out = CountingPrinter::new(io::writer(rt));
-    let mut progress = ProgressLine::new(rt, !manner.quiet);
+    let mut progress = ProgressLine::new(rt, search.disk, !manner.quiet);
     let status = find::run(
         rt.alloc(),
         &mut disk,

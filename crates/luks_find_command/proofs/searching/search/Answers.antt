@@ -1,87 +1,73 @@
-use Rattle.std.proofs.Common.{◌≡◌, ℕ, List, refl, sym, ◌∙◌, subst, arith}
-use Rattle.luks_area.specs.Device.{unchanged-same, unchanged-then}
-use Rattle.luks_finding.specs.Finding.{looks_from, HasNoSignFrom, TellsNext}
-use Rattle.luks_find_command.specs.Searches.{starts_in, IsToldFirst, TellsPart, TellsSoFar}
-use Rattle.luks_find_command.specs.FindAnswers.{HasTold}
-use Rattle.luks_find_command.specs.Stops.{StopsBy}
-use Rattle.luks_find_command.specs.declared.stop.Stop.{Stop}
-use Rattle.luks_find_command.proofs.SearchFacts.{all-told, first-none, first-so-far, first-stopped, so-far-more, so-far-none}
+use Rattle.std.proofs.Common.{◌≡◌, ℕ, ◌+◌, ◌<◌, ◌≤◌, List, [], length, sym, ◌∙◌, subst, arith}
+use Rattle.luks_finding.specs.Finding.{looks_from}
+use Rattle.luks_finding.specs.Readable.{AreReadTo}
+use Rattle.luks_find_command.proofs.GoingOnFacts.{calm-memory, none-on, on-as, on-joins, stops-on}
+use Rattle.luks_find_command.proofs.SearchFacts.{first-none}
 use Rattle.luks_find_command.proofs.searching.search.Goals as goal
 
 pub returns-in-Err-clause-first : goal.returns-in-Err-clause-first
-returns-in-Err-clause-first g c = λ t. first-none c.args.file.now.offset (g.D.Device.bytes c.args.device) (g.P.Printer.printed c.args.out.now)
+returns-in-Err-clause-first g c = λ t same. first-none c.args.file.now.offset (g.D.Device.bytes c.args.device) (g.P.Printer.printed c.args.out.now)
 
-pub loop-device-init : goal.loop-device-init
-loop-device-init g c = record {
-  unchanged = unchanged-same c.args.device;
-  count = refl;
-  prints = refl;
-  told = λ t.
-      let v : List ℕ = g.D.Device.bytes c.args.device in
-      let held = g.P.Printer.printed c.args.out.now in
-      let S : ℕ → Type 0 = λ n. TellsSoFar c.args.file.now.offset v n held held 0 in
-      subst S (sym c.in-Ok.ensures) (so-far-none c.args.file.now.offset v held);
-}
+pub returns-in-Err-clause-on : goal.returns-in-Err-clause-on
+returns-in-Err-clause-on g c =
+    none-on g.D.Device.tells c.args.file.now.offset (g.D.Device.size c.args.device) (g.D.Device.bytes c.args.device) (g.D.Device.failed c.args.device)
+    (g.G.Progress.heard c.args.progress.now) (g.P.Printer.printed c.args.out.now)
 
-pub returns-in-Ok-End-clause-all : goal.returns-in-Ok-End-clause-all
-returns-in-Ok-End-clause-all g c = λ t.
+pub search_on-device-requires-clause-told : goal.search_on-device-requires-clause-told
+search_on-device-requires-clause-told g c = λ t.
+    let A : List ℕ → Type 0 = λ w. AreReadTo w [] (looks_from c.search_calmly-device.new.searching.finding) c.search_calmly-device.new.searching.told.items in
+    let told = rw c.in-Err-Device.is at c.search_calmly-device.ensures.on t in
+    let paused = rw c.in-Err-Device.field-0-is at told in
+    subst A (sym (c.search_calmly-device.ensures.unchanged.same t)) paused.0
+
+pub returns-in-Err-Device-clause-counts : goal.returns-in-Err-Device-clause-counts
+returns-in-Err-Device-clause-counts g c =
+    let stopped = rw c.in-Err-Device.is at c.search_calmly-device.ensures.counts in
+    let paused = rw c.in-Err-Device.field-0-is at stopped in
+    stops-on c.search_on-device.result.1 (g.D.Device.failed c.args.device) (g.D.Device.failed c.search_calmly-device.result.0) (g.D.Device.failed c.search_on-device.result.0)
+    (g.P.Printer.failures c.args.out.now) (g.P.Printer.failures c.search_calmly-device.new.out) (g.P.Printer.failures c.search_on-device.new.out)
+    paused.0 c.search_on-device.ensures.failing paused.1 c.search_on-device.ensures.prints
+
+pub returns-in-Err-Device-clause-on : goal.returns-in-Err-Device-clause-on
+returns-in-Err-Device-clause-on g c =
     let v : List ℕ = g.D.Device.bytes c.args.device in
-    let from : ℕ = looks_from c.loop-device.finding in
-    let N : List ℕ → Type 0 = λ w. HasNoSignFrom w from in
-    let none = rw c.in-Ok-End.field-0-is at c.in-Ok-End.ensures.next t in
-    all-told c.args.file.now.offset v from c.loop-device.found (g.P.Printer.printed c.args.out.now) (g.P.Printer.printed c.loop-device.out)
-    (c.loop-device.invariant.told t) (subst N (c.loop-device.invariant.unchanged.same t) none)
+    let total : ℕ = g.D.Device.size c.args.device in
+    let offset : ℕ = c.args.file.now.offset in
+    let list : List ℕ = c.search_calmly-device.new.searching.told.items in
+    let zero_failed : ℕ = g.D.Device.failed c.args.device in
+    let mid_failed : ℕ = g.D.Device.failed c.search_calmly-device.result.0 in
+    let now_failed : ℕ = g.D.Device.failed c.search_on-device.result.0 in
+    let heard = g.G.Progress.heard c.args.progress.now in
+    let hears = g.G.Progress.heard c.search_on-device.new.progress in
+    let held = g.P.Printer.printed c.args.out.now in
+    let mid = g.P.Printer.printed c.search_calmly-device.new.out in
+    let holds = g.P.Printer.printed c.search_on-device.new.out in
+    let stopped = rw c.in-Err-Device.is at c.search_calmly-device.ensures.counts in
+    let paused = rw c.in-Err-Device.field-0-is at stopped in
+    let rose : zero_failed < mid_failed = paused.0 in
+    let on = on-as g.D.Device.tells offset total (g.D.Device.size c.search_calmly-device.result.0) v (g.D.Device.bytes c.search_calmly-device.result.0) list mid_failed now_failed
+    heard (g.G.Progress.heard c.search_calmly-device.new.progress) hears mid holds c.search_on-device.result.1
+    c.search_calmly-device.ensures.unchanged.size (λ t. c.search_calmly-device.ensures.unchanged.same t) c.search_calmly-device.ensures.heard c.search_on-device.ensures.on in
+    on-joins g.D.Device.tells offset total v list zero_failed mid_failed now_failed heard hears held mid holds c.search_on-device.result.1
+    (omega (arith, rose)) c.search_on-device.ensures.failing
+    (λ t. let told = rw c.in-Err-Device.is at c.search_calmly-device.ensures.on t in
+    let before = rw c.in-Err-Device.field-0-is at told in
+    before.1)
+    on
 
-pub returns-in-Err-step-clause-first : goal.returns-in-Err-step-clause-first
-returns-in-Err-step-clause-first g c = λ t.
-    let v : List ℕ = g.D.Device.bytes c.args.device in
-    let F : Stop → Type 0 = λ why. IsToldFirst c.args.file.now.offset v (g.P.Printer.printed c.args.out.now) (g.P.Printer.printed c.loop-device.out) why in
-    subst F (sym c.from.ensures) (first-so-far c.args.file.now.offset v (looks_from c.loop-device.finding) c.loop-device.found
-    (g.P.Printer.printed c.args.out.now) (g.P.Printer.printed c.loop-device.out) c.in-Err-step.fault (c.loop-device.invariant.told t))
+pub returns-in-Err-Device-clause-first : goal.returns-in-Err-Device-clause-first
+returns-in-Err-Device-clause-first g c = λ t same.
+    let stopped = rw c.in-Err-Device.is at c.search_calmly-device.ensures.counts in
+    let paused = rw c.in-Err-Device.field-0-is at stopped in
+    let rose : g.D.Device.failed c.args.device < g.D.Device.failed c.search_calmly-device.result.0 = paused.0 in
+    let high : g.D.Device.failed c.search_calmly-device.result.0 ≤ g.D.Device.failed c.search_on-device.result.0 = c.search_on-device.ensures.failing in
+    absurd (omega (arith, rose, high, same))
 
-pub returns-in-Err-told : goal.returns-in-Err-told
-returns-in-Err-told g c = record {
-  unchanged = unchanged-then c.loop-device.invariant.unchanged (unchanged-then c.in-Ok-step.ensures.unchanged c.tell_step-left.ensures.unchanged);
-  counts =
-      let stopped = rw c.in-Err-told.is at c.tell_step-left.ensures.counts in
-      let failed : g.D.Device.failed c.step.new.device ≡ g.D.Device.failed c.args.device = c.in-Ok-step.ensures.count ∙ c.loop-device.invariant.count in
-      let S : ℕ → Type 0 = λ n. StopsBy c.in-Err-told.stop n (g.D.Device.failed c.tell_step-left.result.0) (g.P.Printer.failures c.loop-device.out) (g.P.Printer.failures c.tell_step-left.new.out) in
-      let Q : ℕ → Type 0 = λ n. StopsBy c.in-Err-told.stop (g.D.Device.failed c.args.device) (g.D.Device.failed c.tell_step-left.result.0) n (g.P.Printer.failures c.tell_step-left.new.out) in
-      subst Q c.loop-device.invariant.prints (subst S failed stopped);
-  count = tt;
-  all = λ t. tt;
-  first = λ t.
-      let v : List ℕ = g.D.Device.bytes c.args.device in
-      let offset : ℕ = c.args.file.now.offset in
-      let from : ℕ = looks_from c.loop-device.finding in
-      let next : ℕ = looks_from c.step.new.self in
-      let step = c.in-Ok-step.step in
-      let same : g.D.Device.bytes c.step.new.device ≡ v = c.in-Ok-step.ensures.unchanged.same t ∙ c.loop-device.invariant.unchanged.same t in
-      let N : List ℕ → Type 0 = λ w. TellsNext w from next step in
-      let P : List ℕ → Type 0 = λ w. TellsPart offset w (starts_in step) (g.P.Printer.printed c.loop-device.out) (g.P.Printer.printed c.tell_step-left.new.out) c.in-Err-told.stop in
-      first-stopped offset v (g.D.Device.size c.loop-device.device) from next c.loop-device.found step
-      (g.P.Printer.printed c.args.out.now) (g.P.Printer.printed c.loop-device.out) (g.P.Printer.printed c.tell_step-left.new.out) c.in-Err-told.stop
-      (c.loop-device.invariant.told t) (subst N (c.loop-device.invariant.unchanged.same t) (c.in-Ok-step.ensures.next t)) c.in-Ok-step.ensures.goes_on
-      (subst P same (rw c.in-Err-told.is at c.tell_step-left.ensures.told t));
-}
-
-pub loop-device-preserved : goal.loop-device-preserved
-loop-device-preserved g c = record {
-  unchanged = unchanged-then c.loop-device.invariant.unchanged (unchanged-then c.in-Ok-step.ensures.unchanged c.tell_step-left.ensures.unchanged);
-  count = (rw c.in-Ok-told.is at c.tell_step-left.ensures.count).0 ∙ c.in-Ok-step.ensures.count ∙ c.loop-device.invariant.count;
-  prints = (rw c.in-Ok-told.is at c.tell_step-left.ensures.count).1 ∙ c.loop-device.invariant.prints;
-  told = λ t.
-      let v : List ℕ = g.D.Device.bytes c.args.device in
-      let offset : ℕ = c.args.file.now.offset in
-      let from : ℕ = looks_from c.loop-device.finding in
-      let next : ℕ = looks_from c.step.new.self in
-      let step = c.in-Ok-step.step in
-      let same : g.D.Device.bytes c.step.new.device ≡ v = c.in-Ok-step.ensures.unchanged.same t ∙ c.loop-device.invariant.unchanged.same t in
-      let N : List ℕ → Type 0 = λ w. TellsNext w from next step in
-      let H : List ℕ → Type 0 = λ w. HasTold offset w (starts_in step) (g.P.Printer.printed c.loop-device.out) (g.P.Printer.printed c.tell_step-left.new.out) in
-      so-far-more offset v (g.D.Device.size c.loop-device.device) from next c.loop-device.found c.saturating_add-found.result step
-      (g.P.Printer.printed c.args.out.now) (g.P.Printer.printed c.loop-device.out) (g.P.Printer.printed c.tell_step-left.new.out)
-      (c.loop-device.invariant.told t) (subst N (c.loop-device.invariant.unchanged.same t) (c.in-Ok-step.ensures.next t)) c.in-Ok-step.ensures.goes_on
-      (subst H same (rw c.in-Ok-told.is at c.tell_step-left.ensures.told t))
-      (λ is. omega (arith, is)) (λ is. omega (arith, is));
-}
+pub returns-in-Err-Memory-clause-on : goal.returns-in-Err-Memory-clause-on
+returns-in-Err-Memory-clause-on g c =
+    calm-memory g.D.Device.tells c.args.file.now.offset (g.D.Device.size c.args.device) (g.D.Device.bytes c.args.device)
+    (looks_from c.search_calmly-device.new.searching.finding) c.search_calmly-device.new.searching.told.items
+    (g.D.Device.failed c.args.device) (g.D.Device.failed c.search_calmly-device.result.0) (g.G.Progress.heard c.args.progress.now) (g.G.Progress.heard c.search_calmly-device.new.progress)
+    (g.P.Printer.printed c.args.out.now) (g.P.Printer.printed c.search_calmly-device.new.out) c.search_calmly-device.ensures.heard
+    (λ t. let told = rw c.in-Err-Memory.is at c.search_calmly-device.ensures.on t in
+    rw c.in-Err-Memory.field-0-is at told)

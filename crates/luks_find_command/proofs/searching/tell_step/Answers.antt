@@ -1,7 +1,7 @@
-use Rattle.std.proofs.Common.{ℕ, List, [], ◌∷◌, sym, subst}
+use Rattle.std.proofs.Common.{◌≡◌, ℕ, ◌+◌, ◌^◌, ◌<◌, ◌≤◌, ◌⊎◌, List, [], ◌∷◌, inl, inr, sym, subst, arith}
 use Rattle.luks_finding.specs.declared.finding.Step.{Step}
-use Rattle.luks_find_command.specs.Searches.{starts_in, TellsPart, TellsStep}
-use Rattle.luks_find_command.proofs.TellingFacts.{step-two, stops-longer}
+use Rattle.luks_find_command.specs.Searches.{starts_in, TellsPart, TellsStepBy}
+use Rattle.luks_find_command.proofs.TellingFacts.{step-two, step-weaker, stops-longer, told-weaker}
 use Rattle.luks_find_command.proofs.searching.tell_step.Goals as goal
 
 pub returns-in-Ok-clause-told : goal.returns-in-Ok-clause-told
@@ -10,12 +10,25 @@ returns-in-Ok-clause-told g c = λ t.
     let offset : ℕ = c.args.file.now.offset in
     let held = g.P.Printer.printed c.args.out.now in
     let mid = g.P.Printer.printed c.tell-device.new.out in
-    let holds = g.P.Printer.printed c.tell-in-Ok.new.out in
-    let S : Step → Type 0 = λ step. TellsStep offset v (starts_in step) held holds c.tell-in-Ok.result.1 in
-    let T : List ℕ → Type 0 = λ w. TellsStep offset w (c.in-Two.second ∷ []) mid holds c.tell-in-Ok.result.1 in
+    let holds = g.P.Printer.printed c.tell_second.new.out in
+    let one : ℕ = g.D.Device.failed c.args.device in
+    let two : ℕ = g.D.Device.failed c.tell-device.result.0 in
+    let three : ℕ = g.D.Device.failed c.tell_second.result.0 in
+    let F : Type 0 = one < three in
+    let room : one + 1 < 2 ^ 64 = c.requires.room in
+    let low : one ≤ two = c.tell-device.ensures.failing.0 in
+    let high : two ≤ three = c.tell_second.ensures.failing in
+    let S : Step → Type 0 = λ step. TellsStepBy F offset v (starts_in step) held holds c.tell_second.result.1 in
+    let G : Type 0 = (2 ^ 64 ≤ two + 1) ⊎ (two < three) in
+    let T : List ℕ → Type 0 = λ w. TellsStepBy G offset w (c.in-Two.second ∷ []) mid holds c.tell_second.result.1 in
     let first = rw c.in-Ok.is at c.tell-device.ensures.told t in
-    subst S (sym c.in-Two.is) (step-two offset v c.in-Two.first c.in-Two.second held mid holds c.tell-in-Ok.result.1 first
-    (subst T (c.tell-device.ensures.unchanged.same t) (c.tell-in-Ok.ensures.told t)))
+    let so : G → F = λ is. elim is [
+      | inl full ↦ omega (arith, full, room, low, high)
+      | inr rose ↦ omega (arith, rose, low)
+    ] in
+    subst S (sym c.in-Two.is) (step-two F offset v c.in-Two.first c.in-Two.second held mid holds c.tell_second.result.1
+    (told-weaker (one < two) F offset v (c.in-Two.first ∷ []) held mid (λ is. omega (arith, is, high)) first)
+    (step-weaker G F offset v (c.in-Two.second ∷ []) mid holds c.tell_second.result.1 so (subst T (c.tell-device.ensures.unchanged.same t) (c.tell_second.ensures.told t))))
 
 pub returns-in-Err-clause-told : goal.returns-in-Err-clause-told
 returns-in-Err-clause-told g c = λ t.
@@ -23,6 +36,7 @@ returns-in-Err-clause-told g c = λ t.
     let offset : ℕ = c.args.file.now.offset in
     let held = g.P.Printer.printed c.args.out.now in
     let mid = g.P.Printer.printed c.tell-device.new.out in
-    let S : Step → Type 0 = λ step. TellsPart offset v (starts_in step) held mid c.in-Err.stop in
+    let F : Type 0 = g.D.Device.failed c.args.device < g.D.Device.failed c.tell-device.result.0 in
+    let S : Step → Type 0 = λ step. TellsPart F offset v (starts_in step) held mid c.in-Err.stop in
     let first = rw c.in-Err.is at c.tell-device.ensures.told t in
-    subst S (sym c.in-Two.is) (stops-longer offset v (c.in-Two.first ∷ []) (c.in-Two.second ∷ []) held mid c.in-Err.stop first)
+    subst S (sym c.in-Two.is) (stops-longer F offset v (c.in-Two.first ∷ []) (c.in-Two.second ∷ []) held mid c.in-Err.stop first)

@@ -1,9 +1,9 @@
-use Rattle.std.proofs.Common.{◌≡◌, ℕ, ◌+◌, ◌^◌, ◌<◌, List, [], ◌∷◌, IfErr, OnOk, drop, sym, subst, arith}
+use Rattle.std.proofs.Common.{◌≡◌, ℕ, ◌+◌, ◌^◌, ◌<◌, ◌≤◌, List, [], ◌∷◌, IfErr, OnOk, drop, sym, subst, arith}
 use Rattle.luks_area.specs.Device.{unchanged-then}
 use Rattle.luks_find_command.specs.Lines.{IsVerdict}
-use Rattle.luks_find_command.specs.Searches.{TellsStep}
+use Rattle.luks_find_command.specs.Searches.{TellsStepBy}
 use Rattle.luks_find_command.specs.Stops.{StopsBy}
-use Rattle.luks_find_command.proofs.TellingFacts.{verdict-of}
+use Rattle.luks_find_command.proofs.TellingFacts.{unread-step, verdict-of}
 use Rattle.luks_find_command.proofs.telling.tell.Goals as goal
 
 pub tell_verdict-requires-clause-room : goal.tell_verdict-requires-clause-room
@@ -24,22 +24,13 @@ tell_verdict-requires-clause-says g c = λ t.
     let V : List ℕ → Type 0 = λ w. IsVerdict (drop c.args.start w) c.check_at-verdict.result.0 in
     subst V (sym (c.check_at-verdict.ensures.unchanged.same t)) (verdict.1 t)
 
-pub returns-in_default : goal.returns-in_default
-returns-in_default g c =
+pub returns-in-DeviceFault-clause-told : goal.returns-in-DeviceFault-clause-told
+returns-in-DeviceFault-clause-told g c = λ t.
     let v : List ℕ = g.D.Device.bytes c.args.device in
     let before : ℕ = g.D.Device.failed c.args.device in
-    let between : ℕ = g.D.Device.failed c.check_at-verdict.result.1 in
-    let after : ℕ = g.D.Device.failed c.tell_verdict.result.0 in
-    let prints : ℕ = g.P.Printer.failures c.args.out.now in
-    let prints_now : ℕ = g.P.Printer.failures c.tell_verdict.new.out in
-    let same : between ≡ before = (verdict-of g.D.Device.tells (drop c.args.start v) before between c.check_at-verdict.result.0
-    c.check_at-verdict.ensures.answers c.in_default.not-DeviceFault c.in_default.not-NoMemory).0 in
-    let E : ℕ → Type 0 = λ n. IfErr c.tell_verdict.result.1 (λ stop. StopsBy stop n after prints prints_now) in
-    let O : ℕ → Type 0 = λ n. OnOk c.tell_verdict.result.1 ((after ≡ n) × (prints_now ≡ prints)) in
-    let T : List ℕ → Type 0 = λ w. TellsStep c.args.file.now.offset w (c.args.start ∷ []) (g.P.Printer.printed c.args.out.now) (g.P.Printer.printed c.tell_verdict.new.out) c.tell_verdict.result.1 in
-    record {
-      unchanged = unchanged-then c.check_at-verdict.ensures.unchanged c.tell_verdict.ensures.unchanged;
-      counts = subst E same c.tell_verdict.ensures.counts;
-      count = subst O same c.tell_verdict.ensures.count;
-      told = λ t. subst T (c.check_at-verdict.ensures.unchanged.same t) (c.tell_verdict.ensures.told t);
-    }
+    let after : ℕ = g.D.Device.failed c.check_at-verdict.result.1 in
+    let rose : after ≡ before + 1 = rw c.in-DeviceFault.is at c.check_at-verdict.ensures.answers in
+    let failing : before < after = omega (arith, rose) in
+    unread-step (before < after) c.args.file.now.offset v c.args.start (g.P.Printer.failures c.args.out.now) (g.P.Printer.failures c.tell_unread-told.new.out)
+    (g.P.Printer.printed c.args.out.now) (g.P.Printer.printed c.tell_unread-told.new.out) c.tell_unread-told.result failing
+    c.tell_unread-told.ensures.unprinted c.tell_unread-told.ensures.told
