@@ -4,3 +4,5 @@ pub mod ThoseFacts
 pub mod NotedFacts
 pub mod RefusalFacts
 mod UnboundFacts
+mod UntypableFacts
+mod MovedFacts

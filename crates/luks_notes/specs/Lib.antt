@@ -7,3 +7,5 @@ pub mod Noted
 pub mod MemoryNotes
 pub mod OlderNotes
 pub mod Unbound
+pub mod Untypable
+pub mod MovedAreas

@@ -15,6 +15,6 @@ mod objects;
 pub use as_json::{json_text, unsteering};
 pub use copies::copies_name;
 pub use costs::{CostsLine, EncryptionLine, SaltLine};
-pub use escaped::before_zero;
+pub use escaped::{Escaped, before_zero};
 pub use listing::{FullListing, Listing};
 pub use luks2::SubsystemLine;
