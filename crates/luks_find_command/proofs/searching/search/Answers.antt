@@ -1,4 +1,4 @@
-use Rattle.std.proofs.Common.{◌≡◌, ℕ, ◌+◌, ◌<◌, ◌≤◌, List, [], length, sym, ◌∙◌, subst, arith}
+use Rattle.std.proofs.Common.{◌≡◌, ℕ, ◌<◌, ◌≤◌, List, [], sym, subst, arith}
 use Rattle.luks_finding.specs.Finding.{looks_from}
 use Rattle.luks_finding.specs.Readable.{AreReadTo}
 use Rattle.luks_find_command.specs.Searches.{IsToldCalmly}
