@@ -1,8 +1,7 @@
 -- What a search of a device that can't be read everywhere has told, from step to step.
 use Rattle.std.proofs.Common.{◌≡◌, ℕ, ◌+◌, ◌-◌, ◌*◌, ◌^◌, ◌<◌, ◌≤◌, ◌⊎◌, List, [], ◌∷◌, ◌++◌, length, Option, None, Some, inl, inr, refl, sym, ap, ◌∙◌, subst, arith, append_assoc}
 use Rattle.std.proofs.lemmas.List.{append-nil}
-use Rattle.luks_finding.specs.Finding.{GoesOn}
-use Rattle.luks_finding.specs.Readable.{passed_by, sectors_of, told_by, told_by_step, AreReadTo, GoesFurther, TellsFurther}
+use Rattle.luks_finding.specs.Readable.{sectors_of, told_by_step, AreReadTo, TellsFurther}
 use Rattle.luks_finding.specs.declared.finding.Step.{Step}
 use Rattle.luks_finding.specs.declared.finding.Step.TheVariants.{Start, Two, On, End}
 use Rattle.luks_finding.specs.declared.passed.Further.TheVariants as further
@@ -119,7 +118,7 @@ going-more tells offset total v before list from next failed mid_failed step_fai
     record {
       passed = going.passed ++ passes.over;
       names = subst (Hears heard hears) (sym (named-join offset total going.passed passes.over))
-      (hears-join heard mid_heard hears (all_named offset total going.passed) (all_named offset total passes.over) going.names passes.names);
+          (hears-join heard mid_heard hears (all_named offset total going.passed) (all_named offset total passes.over) going.names passes.names);
       bounded = omega (arith, some, one, two, three);
       told = λ t.
           let gone = going.told t in
@@ -128,8 +127,8 @@ going-more tells offset total v before list from next failed mid_failed step_fai
             is = ap (λ l. l ++ starts_in step) gone.is ∙ append_assoc before gone.more (starts_in step);
             so_far = passes.tells_all t going.passed gone.so_far;
             has = told-join (failed < failed_now) offset v gone.more (starts_in step) held mid holds
-            (told-weaker (failed < mid_failed) (failed < failed_now) offset v gone.more held mid (λ is. omega (arith, is, two, three)) gone.has)
-            (told-weaker (step_failed < failed_now) (failed < failed_now) offset v (starts_in step) mid holds (λ is. omega (arith, is, one, two)) (has t));
+                (told-weaker (failed < mid_failed) (failed < failed_now) offset v gone.more held mid (λ is. omega (arith, is, two, three)) gone.has)
+                (told-weaker (step_failed < failed_now) (failed < failed_now) offset v (starts_in step) mid holds (λ is. omega (arith, is, one, two)) (has t));
           };
     }
 
@@ -204,7 +203,7 @@ part-memory tells offset total v before list from next failed mid_failed step_fa
     record {
       passed = going.passed ++ passes.over;
       names = subst (Hears heard hears) (sym (named-join offset total going.passed passes.over))
-      (hears-join heard mid_heard hears (all_named offset total going.passed) (all_named offset total passes.over) going.names passes.names);
+          (hears-join heard mid_heard hears (all_named offset total going.passed) (all_named offset total passes.over) going.names passes.names);
       bounded = omega (arith, some, one, two, three);
       told = λ t.
           let gone = going.told t in
@@ -218,8 +217,8 @@ part-memory tells offset total v before list from next failed mid_failed step_fa
             sectors = next;
             first = subst (AreReadTo v (going.passed ++ passes.over) next) all (passes.tells_all t going.passed gone.so_far);
             has = told-join (failed < failed_now) offset v gone.more is.told held mid holds
-            (told-weaker (failed < mid_failed) (failed < failed_now) offset v gone.more held mid (λ so. omega (arith, so, two, three)) gone.has)
-            (told-weaker (step_failed < failed_now) (failed < failed_now) offset v is.told mid holds (λ so. omega (arith, so, one, two)) is.has);
+                (told-weaker (failed < mid_failed) (failed < failed_now) offset v gone.more held mid (λ so. omega (arith, so, two, three)) gone.has)
+                (told-weaker (step_failed < failed_now) (failed < failed_now) offset v is.told mid holds (λ so. omega (arith, so, one, two)) is.has);
             whole = tt;
           };
     }
@@ -251,8 +250,8 @@ joins tells offset total v list failed mid_failed failed_now heard hears held mi
         sectors = gone.sectors;
         first = gone.first;
         has = told-join (failed < failed_now) offset v list gone.starts held mid holds
-        (told-weaker (failed < mid_failed) (failed < failed_now) offset v list held mid (λ is. omega (arith, is, two)) (before t))
-        (told-weaker (mid_failed < failed_now) (failed < failed_now) offset v gone.starts mid holds (λ is. omega (arith, is, one)) gone.has);
+            (told-weaker (failed < mid_failed) (failed < failed_now) offset v list held mid (λ is. omega (arith, is, two)) (before t))
+            (told-weaker (mid_failed < failed_now) (failed < failed_now) offset v gone.starts mid holds (λ is. omega (arith, is, one)) gone.has);
         whole = gone.whole;
       };
 }
@@ -272,7 +271,7 @@ on-same : (tells : Type 0) (offset total size : ℕ) (v w list : List ℕ) (fail
 on-same tells offset total size v w list failed failed_now heard other hears held holds why sized same silent on = record {
   passed = on.passed;
   names = subst (λ (o : Option (List Unread)). Hears o hears (all_named offset total on.passed)) silent
-    (subst (λ (n : ℕ). Hears other hears (all_named offset n on.passed)) sized on.names);
+      (subst (λ (n : ℕ). Hears other hears (all_named offset n on.passed)) sized on.names);
   bounded = on.bounded;
   told = λ t. subst (λ (u : List ℕ). HasToldRead (failed < failed_now) offset u on.passed list held holds why failed_now) (same t) (on.told t);
 }

@@ -1,5 +1,5 @@
 -- What a search has told, from step to step.
-use Rattle.std.proofs.Common.{◌≡◌, ℕ, ◌+◌, ◌-◌, ◌*◌, ◌^◌, ◌<◌, ◌≤◌, ◌⊎◌, List, [], ◌∷◌, ◌++◌, length, Option, Some, Result, Ok, Err, IfOk, IfErr, OnOk, inl, inr, refl, sym, ap, ◌∙◌, subst, arith, append_assoc}
+use Rattle.std.proofs.Common.{◌≡◌, ℕ, ◌+◌, ◌<◌, ◌≤◌, ◌⊎◌, List, [], ◌∷◌, ◌++◌, length, Option, Some, Result, Ok, Err, IfOk, IfErr, OnOk, inl, inr, refl, sym, ap, ◌∙◌, subst, arith, append_assoc}
 use Rattle.std.proofs.lemmas.Bool.{cases_lt}
 use Rattle.std.proofs.lemmas.List.{append-nil}
 use Rattle.std.proofs.KnownBytes.{Appends-trans}
@@ -16,9 +16,8 @@ use Rattle.luks_finding.proofs.FurtherFacts.{read-all, read-so-far}
 use Rattle.luks_finding.proofs.ListFacts.{none-between, none-yet, starts-all, starts-join}
 use Rattle.luks_find_command.specs.FindAnswers.{run_of, HasTold, IsFindRun, TellsAll, TellsFirst, TellsRead}
 use Rattle.luks_find_command.specs.Lines.{end_line, found_status, none_found}
-use Rattle.luks_find_command.specs.Searches.{starts_in, CountsSome, Finishes, GoesOnTelling, HasGoneOn, HasToldBy, HasToldFirst, HasToldPart, HasToldRead, IsToldAll, IsToldCalmly, IsToldFirst, IsToldOn, IsWhole, TellsPart}
-use Rattle.luks_find_command.specs.Stops.{stop_of, StopsBy}
-use Rattle.luks_find_command.specs.Unreads.{all_named, Hears}
+use Rattle.luks_find_command.specs.Searches.{starts_in, CountsSome, Finishes, HasToldBy, HasToldFirst, HasToldPart, HasToldRead, IsToldAll, IsToldCalmly, IsToldFirst, IsToldOn, TellsPart}
+use Rattle.luks_find_command.specs.Stops.{StopsBy}
 use Rattle.luks_find_command.specs.declared.stop.Stop.{Stop}
 use Rattle.luks_find_command.specs.declared.stop.Stop.TheVariants as stop
 use Rattle.luks_find_command.specs.declared.unread.Unread.{Unread}
@@ -144,7 +143,7 @@ step-stops failing offset v total from next sectors step list other held mid hol
   later = is.untold;
   sectors = next;
   first = subst (AreReadTo v [] next) (ap (λ l. list ++ l) is.is ∙ sym (append_assoc list is.told is.untold))
-  (read-so-far v next (list ++ starts_in step) (step-joins v total from next step list calm.so_far tells goes));
+      (read-so-far v next (list ++ starts_in step) (step-joins v total from next step list calm.so_far tells goes));
   has = told-join failing offset v list is.told held mid holds (told-any failing offset v list held mid calm.has) is.has;
   whole = tt;
 }
@@ -262,16 +261,16 @@ find-run tells offset total v (Ok found) failed failed_now prints between prints
 ]
 find-run tells offset total v (Err stop.Device) failed failed_now prints between prints_now heard hears held mid holds status stopped ended all first on finish = elim finish [
   | inl printed ↦ inr (inr (inl (record {
-      answer = DeviceFault;
-      ends = record { is = inl refl };
-      failing = stopped.0;
-      printed = printed.0 ∙ stopped.1;
-      status = printed.1;
-      passed = on.passed;
-      names = on.names;
-      bounded = on.bounded;
-      told = λ t. tells-device (failed < failed_now) offset v on.passed failed_now _ held mid holds refl (on.told t) printed.2;
-    })))
+    answer = DeviceFault;
+    ends = record { is = inl refl };
+    failing = stopped.0;
+    printed = printed.0 ∙ stopped.1;
+    status = printed.1;
+    passed = on.passed;
+    names = on.names;
+    bounded = on.bounded;
+    told = λ t. tells-device (failed < failed_now) offset v on.passed failed_now _ held mid holds refl (on.told t) printed.2;
+  })))
   | inr failed_print ↦
       let rose : failed < failed_now = stopped.0 in
       inr (inr (inr (record { read = omega (arith, rose); printed = failed_print.0 ∙ ap (λ n. n + 1) stopped.1; status = failed_print.1 })))
@@ -280,16 +279,16 @@ find-run tells offset total v (Err stop.Memory) failed failed_now prints between
   | inl printed ↦ elim (rose-or-not failed failed_now stopped.0) [
     | inl same ↦ inr (inl (record { read = same; printed = printed.0 ∙ stopped.1; status = printed.1; told = λ t. tells-first offset v NoMemory _ held mid holds refl (first t same) printed.2 }))
     | inr rose ↦ inr (inr (inl (record {
-        answer = NoMemory;
-        ends = record { is = inr refl };
-        failing = rose;
-        printed = printed.0 ∙ stopped.1;
-        status = printed.1;
-        passed = on.passed;
-        names = on.names;
-        bounded = on.bounded;
-        told = λ t. tells-memory (failed < failed_now) offset v on.passed failed_now _ held mid holds refl (on.told t) printed.2;
-      })))
+      answer = NoMemory;
+      ends = record { is = inr refl };
+      failing = rose;
+      printed = printed.0 ∙ stopped.1;
+      status = printed.1;
+      passed = on.passed;
+      names = on.names;
+      bounded = on.bounded;
+      told = λ t. tells-memory (failed < failed_now) offset v on.passed failed_now _ held mid holds refl (on.told t) printed.2;
+    })))
   ]
   | inr failed_print ↦ inr (inr (inr (record { read = stopped.0; printed = failed_print.0 ∙ ap (λ n. n + 1) stopped.1; status = failed_print.1 })))
 ]

@@ -324,14 +324,12 @@ pub(crate) fn search<D: Device, P: Printer, E: Write, G: Progress>(
         Ok(searching) => searching,
         Err(_) => return (device, Err(Stop::Memory)),
     };
-    let (device, ended) =
-        search_calmly(alloc, device, &mut searching, file, out, err, progress);
+    let (device, ended) = search_calmly(alloc, device, &mut searching, file, out, err, progress);
     match ended {
         Ok(()) => (device, Ok(searching.told.len() as u64)),
         Err(Stop::Device) => {
             note_fault(file.name, err);
-            let (device, stop) =
-                search_on(alloc, device, &mut searching, file, out, err, progress);
+            let (device, stop) = search_on(alloc, device, &mut searching, file, out, err, progress);
             (device, Err(stop))
         }
         Err(Stop::Memory) => (device, Err(Stop::Memory)),

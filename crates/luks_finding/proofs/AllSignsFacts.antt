@@ -1,19 +1,18 @@
 -- The volumes of which a sign stands at a place.
-use Rattle.std.proofs.Common.{◌≡◌, ℕ, zero, suc, ◌+◌, ◌*◌, ◌<◌, ◌≤◌, ◌⊎◌, ◌==◌, if◌then◌else◌, List, [], ◌∷◌, length, get_or, Bool, true, false, Option, None, Some, inl, inr, refl, sym, ap, ◌∙◌, subst, arith}
+use Rattle.std.proofs.Common.{◌≡◌, ℕ, zero, suc, ◌+◌, ◌*◌, ◌<◌, ◌⊎◌, ◌==◌, if◌then◌else◌, List, [], ◌∷◌, length, get_or, Bool, true, false, Option, None, Some, inl, inr, refl, sym, ap, ◌∙◌, subst, arith}
 use Rattle.std.proofs.lemmas.Bool.{eq-eqb, eqb-true, false≢true, or_cases}
 use Rattle.std.proofs.lemmas.List.Folds.{list_any_at}
 use Rattle.luks_area.specs.Ranges.{part}
 use Rattle.luks2_header.specs.Header2.{IsSound}
-use Rattle.luks2_header.specs.Sizes.{is_among, IsListed}
+use Rattle.luks2_header.specs.Sizes.{is_among}
 use Rattle.luks_rebuilding.specs.declared.place.Place.{Place}
 use Rattle.luks_finding.specs.Blocks.{BeginsText}
-use Rattle.luks_finding.specs.Readable.{told_by_step, untold_of, AreSignsAt, AreUntoldAt, HasAllAt, HasKindAt}
+use Rattle.luks_finding.specs.Readable.{told_by_step, untold_of, AreUntoldAt, HasAllAt, HasKindAt}
 use Rattle.luks_finding.specs.Finding.{step_of}
 use Rattle.luks_finding.specs.Starts.{volume_at, BeginsVolume, HasMetadata, IsAmong, IsCopySign, IsMetadataSign, IsSign}
 use Rattle.luks_finding.specs.Telling.{first_copy, joined, second_copy, starts_of, FindsSize, FindsWhole, IsFirstAt, IsSecondAt, IsWholeAt, NamesSize}
 use Rattle.luks_finding.specs.declared.told.Told.{Told}
 use Rattle.luks_finding.specs.declared.told.Told.TheVariants.{Nothing, One, Two}
-use Rattle.luks_finding.proofs.ExplainedFacts.{explained-as}
 use Rattle.luks_finding.proofs.MetadataFacts.{candidate-here, whole-one}
 use Rattle.luks_finding.proofs.SignFacts.{copy-named, copy-sound, sign-copy, sign-header, sign-metadata}
 use Rattle.luks_finding.proofs.ToldFacts.{header-there, second-there, sign-kind, whole-text}

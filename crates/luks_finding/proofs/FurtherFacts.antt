@@ -1,7 +1,6 @@
 -- What a step of a search tells of a disk that can't be read everywhere.
-use Rattle.std.proofs.Common.{◌≡◌, ℕ, zero, suc, ◌+◌, ◌-◌, ◌*◌, ◌<◌, ◌≤◌, ◌⊎◌, List, [], ◌∷◌, ◌++◌, None, inl, inr, length, get_or, min, refl, sym, subst, arith}
+use Rattle.std.proofs.Common.{◌≡◌, ℕ, zero, suc, ◌+◌, ◌-◌, ◌*◌, ◌<◌, ◌≤◌, List, [], ◌∷◌, ◌++◌, None, inl, inr, length, get_or, refl, sym, subst, arith}
 use Rattle.std.proofs.lemmas.Bool.{cases_lt}
-use Rattle.std.proofs.lemmas.List.{append-nil}
 use Rattle.luks_area.specs.Ranges.{part}
 use Rattle.luks_finding.specs.Blocks.{FindsIn, IsFirstIn}
 use Rattle.luks_finding.specs.Finding.{AreStartsBetween}
@@ -12,7 +11,7 @@ use Rattle.luks_finding.specs.declared.passed.Further.{Further}
 use Rattle.luks_finding.specs.declared.passed.Further.TheVariants as further
 use Rattle.luks_finding.specs.declared.passed.Passed.{Passed}
 use Rattle.luks_finding.proofs.BlockFacts.{before-first, begins-inside, block-room, sign-seen}
-use Rattle.luks_finding.proofs.ReadFacts.{before-both, before-further, passed-below, passed-either, passed-left, passed-right, read-further, read-one, AreSameBefore, IsNews}
+use Rattle.luks_finding.proofs.ReadFacts.{before-both, before-further, passed-below, passed-either, passed-left, passed-right, read-further, AreSameBefore}
 use Rattle.luks_finding.proofs.SignFacts.{sign-begins, sign-sector}
 
 -- no sign stands at the sectors from `from` on and before `next`

@@ -1,13 +1,12 @@
 -- The list of the starts that can be read.
-use Rattle.std.proofs.Common.{◌≡◌, ℕ, zero, suc, ◌+◌, ◌-◌, ◌*◌, ◌<◌, ◌≤◌, ◌⊎◌, List, [], ◌∷◌, ◌++◌, inl, inr, length, get_or, refl, sym, ap, ◌∙◌, subst, arith, length-append}
+use Rattle.std.proofs.Common.{◌≡◌, ℕ, ◌+◌, ◌-◌, ◌*◌, ◌<◌, ◌≤◌, ◌⊎◌, List, [], ◌∷◌, ◌++◌, inl, inr, length, get_or, sym, ◌∙◌, subst, arith, length-append}
 use Rattle.std.proofs.lemmas.Bool.{cases_lt}
-use Rattle.std.proofs.lemmas.List.{append-nil, get_or_append_left}
+use Rattle.std.proofs.lemmas.List.{get_or_append_left}
 use Rattle.std.proofs.Math.Seq.{get_or-append_right}
-use Rattle.luks_finding.specs.Finding.{AreStartsBetween}
-use Rattle.luks_finding.specs.Readable.{sectors_of, AreInReadOrder, AreReadStarts, AreReadTo, AreUntoldAt, EndBefore, HasReadBefore, IsFirstRead, IsPassed, IsReadSign, IsReadTo, LiesIn}
-use Rattle.luks_finding.specs.Starts.{HasSignBefore, IsAmong, IsFirstSign, IsSign}
+use Rattle.luks_finding.specs.Readable.{sectors_of, AreReadTo, EndBefore, IsFirstRead, IsPassed, IsReadSign}
+use Rattle.luks_finding.specs.Starts.{IsAmong}
 use Rattle.luks_finding.specs.declared.passed.Passed.{Passed}
-use Rattle.luks_finding.proofs.ListFacts.{among-left, among-right, first-one}
+use Rattle.luks_finding.proofs.ListFacts.{among-left, among-right}
 use Rattle.luks_finding.proofs.SignFacts.{sign-sector}
 
 -- ---- what was passed over

@@ -165,14 +165,14 @@ impl Finding {
         }
         match look_shorter(device, &mut self.block, self.sector, self.sectors) {
             Some((_, Some(index))) => {
-                let found = self.sector + index as u64;
-                let further = judge(alloc, device, found, told)?;
-                self.sector = found + 1;
+                let place = self.sector + index as u64;
+                let further = judge(alloc, device, place, told)?;
+                self.sector = place + 1;
                 self.sectors = FEWEST;
                 Ok(further)
             }
-            Some((len, None)) => {
-                self.sector += sectors_in(len);
+            Some((bytes, None)) => {
+                self.sector += sectors_in(bytes);
                 self.sectors = (2 * self.sectors).min(MOST);
                 Ok(Further::Step(Step::On))
             }

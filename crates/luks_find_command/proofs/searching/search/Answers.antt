@@ -1,6 +1,10 @@
-use Rattle.std.proofs.Common.{◌≡◌, ℕ, ◌+◌, ◌<◌, ◌≤◌, List, [], length, sym, ◌∙◌, subst, arith}
+use Rattle.std.proofs.Common.{◌≡◌, ℕ, ◌<◌, ◌≤◌, List, [], sym, subst, arith}
 use Rattle.luks_finding.specs.Finding.{looks_from}
 use Rattle.luks_finding.specs.Readable.{AreReadTo}
+use Rattle.luks_find_command.specs.Searches.{IsToldCalmly}
+use Rattle.luks_find_command.specs.Stops.{StopsBy}
+use Rattle.luks_find_command.specs.declared.stop.Stop.{Stop}
+use Rattle.luks_find_command.specs.declared.stop.Stop.TheVariants as stop
 use Rattle.luks_find_command.proofs.GoingOnFacts.{calm-memory, none-on, on-as, on-joins, stops-on}
 use Rattle.luks_find_command.proofs.SearchFacts.{first-none}
 use Rattle.luks_find_command.proofs.searching.search.Goals as goal
@@ -16,14 +20,19 @@ returns-in-Err-clause-on g c =
 pub search_on-device-requires-clause-told : goal.search_on-device-requires-clause-told
 search_on-device-requires-clause-told g c = λ t.
     let A : List ℕ → Type 0 = λ w. AreReadTo w [] (looks_from c.search_calmly-device.new.searching.finding) c.search_calmly-device.new.searching.told.items in
-    let told = rw c.in-Err-Device.is at c.search_calmly-device.ensures.on t in
-    let paused = rw c.in-Err-Device.field-0-is at told in
+    let is : c.in-Err-Device.field-0 ≡ stop.Device = rw c.in-Err-Device.is at c.in-Err-Device.field-0-is in
+    let F : Type 0 = g.D.Device.failed c.args.device < g.D.Device.failed c.search_calmly-device.result.0 in
+    let T : Stop → Type 0 = λ why. IsToldCalmly F c.args.file.now.offset (g.D.Device.bytes c.args.device) (looks_from c.search_calmly-device.new.searching.finding)
+    c.search_calmly-device.new.searching.told.items (g.P.Printer.printed c.args.out.now) (g.P.Printer.printed c.search_calmly-device.new.out) why in
+    let paused = subst T is (rw c.in-Err-Device.is at c.search_calmly-device.ensures.on t) in
     subst A (sym (c.search_calmly-device.ensures.unchanged.same t)) paused.0
 
 pub returns-in-Err-Device-clause-counts : goal.returns-in-Err-Device-clause-counts
 returns-in-Err-Device-clause-counts g c =
-    let stopped = rw c.in-Err-Device.is at c.search_calmly-device.ensures.counts in
-    let paused = rw c.in-Err-Device.field-0-is at stopped in
+    let is : c.in-Err-Device.field-0 ≡ stop.Device = rw c.in-Err-Device.is at c.in-Err-Device.field-0-is in
+    let B : Stop → Type 0 = λ why. StopsBy why (g.D.Device.failed c.args.device) (g.D.Device.failed c.search_calmly-device.result.0)
+    (g.P.Printer.failures c.args.out.now) (g.P.Printer.failures c.search_calmly-device.new.out) in
+    let paused = subst B is (rw c.in-Err-Device.is at c.search_calmly-device.ensures.counts) in
     stops-on c.search_on-device.result.1 (g.D.Device.failed c.args.device) (g.D.Device.failed c.search_calmly-device.result.0) (g.D.Device.failed c.search_on-device.result.0)
     (g.P.Printer.failures c.args.out.now) (g.P.Printer.failures c.search_calmly-device.new.out) (g.P.Printer.failures c.search_on-device.new.out)
     paused.0 c.search_on-device.ensures.failing paused.1 c.search_on-device.ensures.prints
@@ -42,23 +51,27 @@ returns-in-Err-Device-clause-on g c =
     let held = g.P.Printer.printed c.args.out.now in
     let mid = g.P.Printer.printed c.search_calmly-device.new.out in
     let holds = g.P.Printer.printed c.search_on-device.new.out in
-    let stopped = rw c.in-Err-Device.is at c.search_calmly-device.ensures.counts in
-    let paused = rw c.in-Err-Device.field-0-is at stopped in
+    let is : c.in-Err-Device.field-0 ≡ stop.Device = rw c.in-Err-Device.is at c.in-Err-Device.field-0-is in
+    let B : Stop → Type 0 = λ why. StopsBy why (g.D.Device.failed c.args.device) (g.D.Device.failed c.search_calmly-device.result.0)
+    (g.P.Printer.failures c.args.out.now) (g.P.Printer.failures c.search_calmly-device.new.out) in
+    let paused = subst B is (rw c.in-Err-Device.is at c.search_calmly-device.ensures.counts) in
     let rose : zero_failed < mid_failed = paused.0 in
     let on = on-as g.D.Device.tells offset total (g.D.Device.size c.search_calmly-device.result.0) v (g.D.Device.bytes c.search_calmly-device.result.0) list mid_failed now_failed
     heard (g.G.Progress.heard c.search_calmly-device.new.progress) hears mid holds c.search_on-device.result.1
     c.search_calmly-device.ensures.unchanged.size (λ t. c.search_calmly-device.ensures.unchanged.same t) c.search_calmly-device.ensures.heard c.search_on-device.ensures.on in
     on-joins g.D.Device.tells offset total v list zero_failed mid_failed now_failed heard hears held mid holds c.search_on-device.result.1
     (omega (arith, rose)) c.search_on-device.ensures.failing
-    (λ t. let told = rw c.in-Err-Device.is at c.search_calmly-device.ensures.on t in
-    let before = rw c.in-Err-Device.field-0-is at told in
-    before.1)
+    (λ t.
+    let T : Stop → Type 0 = λ why. IsToldCalmly (zero_failed < mid_failed) offset v (looks_from c.search_calmly-device.new.searching.finding) list held mid why in
+    (subst T is (rw c.in-Err-Device.is at c.search_calmly-device.ensures.on t)).1)
     on
 
 pub returns-in-Err-Device-clause-first : goal.returns-in-Err-Device-clause-first
 returns-in-Err-Device-clause-first g c = λ t same.
-    let stopped = rw c.in-Err-Device.is at c.search_calmly-device.ensures.counts in
-    let paused = rw c.in-Err-Device.field-0-is at stopped in
+    let is : c.in-Err-Device.field-0 ≡ stop.Device = rw c.in-Err-Device.is at c.in-Err-Device.field-0-is in
+    let B : Stop → Type 0 = λ why. StopsBy why (g.D.Device.failed c.args.device) (g.D.Device.failed c.search_calmly-device.result.0)
+    (g.P.Printer.failures c.args.out.now) (g.P.Printer.failures c.search_calmly-device.new.out) in
+    let paused = subst B is (rw c.in-Err-Device.is at c.search_calmly-device.ensures.counts) in
     let rose : g.D.Device.failed c.args.device < g.D.Device.failed c.search_calmly-device.result.0 = paused.0 in
     let high : g.D.Device.failed c.search_calmly-device.result.0 ≤ g.D.Device.failed c.search_on-device.result.0 = c.search_on-device.ensures.failing in
     absurd (omega (arith, rose, high, same))
@@ -69,5 +82,9 @@ returns-in-Err-Memory-clause-on g c =
     (looks_from c.search_calmly-device.new.searching.finding) c.search_calmly-device.new.searching.told.items
     (g.D.Device.failed c.args.device) (g.D.Device.failed c.search_calmly-device.result.0) (g.G.Progress.heard c.args.progress.now) (g.G.Progress.heard c.search_calmly-device.new.progress)
     (g.P.Printer.printed c.args.out.now) (g.P.Printer.printed c.search_calmly-device.new.out) c.search_calmly-device.ensures.heard
-    (λ t. let told = rw c.in-Err-Memory.is at c.search_calmly-device.ensures.on t in
-    rw c.in-Err-Memory.field-0-is at told)
+    (λ t.
+    let is : c.in-Err-Memory.field-0 ≡ stop.Memory = rw c.in-Err-Memory.is at c.in-Err-Memory.field-0-is in
+    let F : Type 0 = g.D.Device.failed c.args.device < g.D.Device.failed c.search_calmly-device.result.0 in
+    let T : Stop → Type 0 = λ why. IsToldCalmly F c.args.file.now.offset (g.D.Device.bytes c.args.device) (looks_from c.search_calmly-device.new.searching.finding)
+    c.search_calmly-device.new.searching.told.items (g.P.Printer.printed c.args.out.now) (g.P.Printer.printed c.search_calmly-device.new.out) why in
+    subst T is (rw c.in-Err-Memory.is at c.search_calmly-device.ensures.on t))

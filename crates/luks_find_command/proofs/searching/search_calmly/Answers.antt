@@ -1,7 +1,7 @@
-use Rattle.std.proofs.Common.{◌≡◌, ℕ, ◌+◌, ◌<◌, ◌≤◌, List, ◌++◌, sym, ◌∙◌, subst, arith}
+use Rattle.std.proofs.Common.{◌≡◌, ℕ, ◌<◌, ◌≤◌, List, sym, ◌∙◌, subst, arith}
 use Rattle.luks_area.specs.Device.{unchanged-then}
 use Rattle.luks_finding.specs.Finding.{looks_from, HasNoSignFrom, TellsNext}
-use Rattle.luks_find_command.specs.Searches.{starts_in, HasToldBy, IsToldCalmly, IsToldFirst, TellsPart}
+use Rattle.luks_find_command.specs.Searches.{starts_in, HasToldBy, IsToldCalmly, TellsPart}
 use Rattle.luks_find_command.specs.Stops.{StopsBy}
 use Rattle.luks_find_command.specs.declared.stop.Stop.{Stop}
 use Rattle.luks_find_command.specs.declared.stop.Stop.TheVariants as stop

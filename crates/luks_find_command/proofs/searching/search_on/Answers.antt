@@ -15,7 +15,7 @@ loop-alloc-init g c = record {
   failing = omega arith;
   prints = refl;
   going = going-none g.D.Device.tells c.args.file.now.offset (g.D.Device.size c.args.device) (g.D.Device.bytes c.args.device) c.args.searching.now.told.items
-    (looks_from c.args.searching.now.finding) (g.D.Device.failed c.args.device) (g.G.Progress.heard c.args.progress.now) (g.P.Printer.printed c.args.out.now) c.requires.told;
+      (looks_from c.args.searching.now.finding) (g.D.Device.failed c.args.device) (g.G.Progress.heard c.args.progress.now) (g.P.Printer.printed c.args.out.now) c.requires.told;
 }
 
 pub returns-then-failures-clause-on : goal.returns-then-failures-clause-on

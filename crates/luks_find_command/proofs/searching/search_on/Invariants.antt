@@ -11,8 +11,8 @@ invariant-loop-alloc g l = record {
   failing : g.D.Device.failed l.fn.device ≤ g.D.Device.failed l.device;
   prints : g.P.Printer.failures l.out ≡ g.P.Printer.failures l.fn.out;
   going : IsGoing g.D.Device.tells l.file.offset (g.D.Device.size l.fn.device) (g.D.Device.bytes l.fn.device) l.fn.searching.told.items l.searching.told.items
-    (looks_from l.searching.finding) (g.D.Device.failed l.fn.device) (g.D.Device.failed l.device) (g.G.Progress.heard l.fn.progress) (g.G.Progress.heard l.progress)
-    (g.P.Printer.printed l.fn.out) (g.P.Printer.printed l.out);
+      (looks_from l.searching.finding) (g.D.Device.failed l.fn.device) (g.D.Device.failed l.device) (g.G.Progress.heard l.fn.progress) (g.G.Progress.heard l.progress)
+      (g.P.Printer.printed l.fn.out) (g.P.Printer.printed l.out);
 }
 
 abbrev pub decreases-loop-alloc : goal.decreases-loop-alloc

@@ -1,4 +1,4 @@
-use Rattle.std.proofs.Common.{ℕ, ◌<◌, List}
+use Rattle.std.proofs.Common.{◌<◌}
 use Rattle.luks_find_command.specs.Searches.{starts_in}
 use Rattle.luks_find_command.proofs.TellingFacts.{part-all}
 use Rattle.luks_find_command.proofs.searching.take_step.Goals as goal

@@ -1,4 +1,4 @@
-use Rattle.std.proofs.Common.{◌≡◌, ℕ, ◌+◌, ◌^◌, ◌<◌, ◌≤◌, ◌⊎◌, List, [], ◌∷◌, inl, inr, sym, subst, arith}
+use Rattle.std.proofs.Common.{ℕ, ◌+◌, ◌^◌, ◌<◌, ◌≤◌, ◌⊎◌, List, [], ◌∷◌, inl, inr, sym, subst, arith}
 use Rattle.luks_finding.specs.declared.finding.Step.{Step}
 use Rattle.luks_find_command.specs.Searches.{starts_in, TellsPart, TellsStepBy}
 use Rattle.luks_find_command.proofs.TellingFacts.{step-two, step-weaker, stops-longer, told-weaker}

@@ -1,8 +1,5 @@
-use Rattle.std.proofs.Common.{◌≡◌, ℕ, ◌+◌, ◌^◌, ◌<◌, ◌≤◌, List, [], ◌∷◌, IfErr, OnOk, drop, sym, subst, arith}
-use Rattle.luks_area.specs.Device.{unchanged-then}
+use Rattle.std.proofs.Common.{◌≡◌, ℕ, ◌+◌, ◌^◌, ◌<◌, List, drop, sym, subst, arith}
 use Rattle.luks_find_command.specs.Lines.{IsVerdict}
-use Rattle.luks_find_command.specs.Searches.{TellsStepBy}
-use Rattle.luks_find_command.specs.Stops.{StopsBy}
 use Rattle.luks_find_command.proofs.TellingFacts.{unread-step, verdict-of}
 use Rattle.luks_find_command.proofs.telling.tell.Goals as goal
 

@@ -1,4 +1,4 @@
-use Rattle.std.proofs.Common.{◌≡◌, ◌+◌, ◌<◌, ◌≤◌}
+use Rattle.std.proofs.Common.{◌≡◌, ◌+◌, ◌≤◌}
 use Rattle.luks_area.specs.Device.{IsUnchanged}
 use Rattle.luks_finding.proofs.readable.look_shorter.Given as goal
 

@@ -1,4 +1,4 @@
-use Rattle.std.proofs.Common.{◌≡◌, ℕ, ◌+◌, ◌*◌, ◌<◌, List, length, false, refl, sym, subst, arith}
+use Rattle.std.proofs.Common.{◌≡◌, ℕ, ◌+◌, ◌<◌, List, length, false, refl, sym, subst, arith}
 use Rattle.luks_finding.specs.Readable.{IsBlock, UntoldAt}
 use Rattle.luks_finding.proofs.FurtherFacts.{judged-further, none-before, none-in-block, read-on, read-over}
 use Rattle.luks_finding.proofs.finding.Finding.step_on.Goals as goal
@@ -20,7 +20,7 @@ returns-in-Some-default-None-clause-told g c = λ t passed so_far.
     let v : List ℕ = g.D.Device.bytes c.args.device.now in
     let sector : ℕ = c.args.self.now.sector in
     let count : ℕ = c.sectors_in-in-Some-default-None.result in
-    let len : ℕ = c.in-Some-default-None.len in
+    let len : ℕ = c.in-Some-default-None.bytes in
     let long : length v ≡ g.D.Device.size c.args.device.now = g.met.D.Device.sized c.args.device.now t in
     let block : IsBlock (length v) sector len = subst (λ (n : ℕ). IsBlock n sector len) (sym long) c.in-Some-default-None.ensures.len in
     let none = rw c.in-Some-default-None.field-0-1-is at c.in-Some-default-None.ensures.found t in
