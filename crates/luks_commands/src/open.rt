@@ -11,7 +11,6 @@ mod almost_met;
 use crate::answers::{Answer, Refusal, Status, unread};
 use crate::inputs::Inputs;
 use crate::passphrase_file::{PassphraseFault, passphrase};
-pub use almost_met::note_line_feed;
 use almost_met::note_unopened;
 use luks_notes::{note_all_wanting, note_passed_over, note_refused, note_unbound, note_wanting};
 use luks_reading::{Allowed, Device, Key, OpenFault, read_header, try_header, try_header_slot};

@@ -13,10 +13,10 @@ ghost use Rattle.luks_header_commands.specs.Trying.{KeepsTried, TriedAnswer};
 use crate::header_work::{HeaderFiles, HeaderWork, READING_FAILED, make_header};
 use crate::of_fields::{make_of_fields, not_of_fields};
 use crate::rebuild::given_of;
-use luks_commands::open::note_line_feed;
 use luks_commands::{
     Answer, Inputs, PassphraseFault, Refusal, Status, are_one_file, passphrase, unread,
 };
+use luks_notes::note_tried_passphrase;
 use luks_reading::Device;
 use luks_request::Rebuilding;
 use luks1_rebuilding::Given;
@@ -140,7 +140,7 @@ fn make_opened<D: Device, E: Write, G: Progress>(
             make_of_fields(volume, target, files, &opening.given, err)
         }
         Ok(None) => {
-            note_line_feed(trying.passphrase, err);
+            let _ = note_tried_passphrase(trying.passphrase, err);
             Answer::NoneOpens
         }
         Err(fault) => not_of_fields(fault, files.volume, READING_FAILED, files, err),

@@ -6,6 +6,7 @@
 #![tactic(auto)]
 
 mod hints;
+mod new_passphrase;
 mod outcome;
 mod progress;
 mod refusals;

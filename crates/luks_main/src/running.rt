@@ -7,6 +7,7 @@ ghost use Rattle.luks_main.specs.Outcomes.{IsOutcome};
 ghost use Rattle.luks_main.specs.Statuses.{IsProgramStatus, MayEnd};
 
 use crate::hints::{Ended, tell, tell_ended, tell_overwritten, use_before};
+use crate::new_passphrase::tell_new_passphrase;
 use crate::outcome::{Outcome, outcome_of};
 use crate::searching::search;
 use crate::told::{device_fault, explain, list_faults, no_memory, tell_untimed, tell_usage};
@@ -117,6 +118,9 @@ fn run_line<R: AllocGlobal + Clock + Files<File = File> + Input + Print + Eprint
 {
     let openings = Openings::of(line);
     let passphrases = Passphrases::read(rt, &openings, manner);
+    if !manner.quiet && !passphrases.end_command() {
+        tell_new_passphrase(rt, &line.command, &passphrases);
+    }
     let noticed = Vec::new(rt.alloc());
     match manner.iter_time {
         Some(milliseconds) if !passphrases.end_command() => {

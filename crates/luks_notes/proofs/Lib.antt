@@ -4,3 +4,4 @@ pub mod ThoseFacts
 pub mod NotedFacts
 pub mod RefusalFacts
 mod UnboundFacts
+mod UntypableFacts

@@ -7,3 +7,4 @@ pub mod Noted
 pub mod MemoryNotes
 pub mod OlderNotes
 pub mod Unbound
+pub mod Untypable

@@ -1,9 +1,9 @@
 //! Says on standard error what a command's answer doesn't tell of a volume: in which copy of a LUKS2 header
 //! metadata is whole, of a volume of which no header counts and of one whose header was rebuilt; which
 //! keyslots were lost where that was a LUKS1 header; that a volume has no keyslot; which keyslots weren't
-//! tried, and why; that the key of one that opens is of no segment; and what stands on a volume that was just
-//! made where nothing was written, as second copies of older headers, and the signatures of file systems and
-//! of swap.
+//! tried, and why; that the key of one that opens is of no segment; that nobody types a passphrase at a prompt;
+//! and what stands on a volume that was just made where nothing was written, as second copies of older headers,
+//! and the signatures of file systems and of swap.
 #![tactic(auto)]
 
 mod ending;
@@ -21,6 +21,7 @@ mod passed_over;
 mod telling;
 mod unbound;
 mod untried;
+mod untypable;
 
 pub use ending::header_end;
 pub use front::{FrontFault, read_front};
@@ -35,3 +36,4 @@ pub use passed_over::note_passed_over;
 pub use telling::{note_all_wanting, note_refused, note_wanting};
 pub use unbound::{is_unbound, note_unbound};
 pub use untried::note_untried;
+pub use untypable::{Untypable, note_new_passphrase, note_tried_passphrase, why_untypable};

@@ -1,6 +1,7 @@
-//! What is said of a passphrase that opened nothing: that a digest is damaged, or of the passphrase's
-//! file.
+//! What is said of a passphrase that opened nothing: that a digest is damaged, or what of its file's end was
+//! taken.
 
+use luks_notes::note_tried_passphrase;
 use luks_reading::Nearest;
 use std::io::Write;
 
@@ -9,11 +10,13 @@ use std::io::Write;
 const FEW_BITS: u32 = 8;
 
 /// Says of a passphrase that opened nothing what its reader may not know: that a digest is damaged, or
-/// else that the passphrase's file ends in a newline.
+/// else that it is empty, or ends in what nobody types.
 pub(crate) fn note_unopened<E: Write>(nearest: Option<Nearest>, passphrase: &[u8], err: &mut E) {
     match nearest {
         Some(near) if near.bits <= FEW_BITS => note_almost_met(near, err),
-        _ => note_line_feed(passphrase, err),
+        _ => {
+            let _ = note_tried_passphrase(passphrase, err);
+        }
     }
 }
 
@@ -25,14 +28,4 @@ fn note_almost_met<E: Write>(near: Nearest, err: &mut E) {
         err,
         "luks: keyslot {slot} is almost met: its digest differs in {bits} {unit}, so the passphrase is right and the digest is damaged"
     );
-}
-
-/// Says that the passphrase ends in a newline, where it does.
-pub fn note_line_feed<E: Write>(passphrase: &[u8], err: &mut E) {
-    if passphrase.last() == Some(&b'\n') {
-        let _ = writeln!(
-            err,
-            "luks: the passphrase's file ends in a newline, which was taken as part of it; --passphrase-line leaves it out"
-        );
-    }
 }
