@@ -1,3 +1,4 @@
 pub mod EditAnswerFacts
 pub mod EditFacts
 pub mod OtherUseFacts
+mod EditNoteFacts

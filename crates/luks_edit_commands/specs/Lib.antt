@@ -1,3 +1,4 @@
 pub mod Editing
 pub mod EditAnswers
 pub mod OtherUses
+pub mod EditNotes

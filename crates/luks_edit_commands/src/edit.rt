@@ -14,6 +14,7 @@ ghost use Rattle.luks_commands.specs.Files.{AreFirstBytes, IsUnreadRandom, Leave
 
 mod applying;
 mod asked;
+mod noted;
 mod seen;
 mod words;
 
@@ -26,6 +27,7 @@ use luks_commands::{
 use luks_notes::{MemoryNote, OlderNote};
 use luks_request::Editing;
 use luks_volume::{Device, Edit, EditFault};
+use noted::note_edit;
 use seen::{Unseen, look_at_volume, note_leaving_argon2, note_refused, note_wanting, note_weaker};
 use std::alloc::Global;
 use std::io::{Read, Write};
@@ -135,6 +137,7 @@ fn edit_device<D: Device, N: Read, E: Write>(
         Err(fault) => return unread(fault, editing.random.unwrap_or_default(), err),
     };
     note_leaving_argon2(seen.leaves_argon2, err);
+    let _ = note_edit(&seen.header, edit, err);
     match apply_of_header(alloc, device, seen.header, payload, edit, random.as_slice()) {
         Ok(made) => {
             note_weaker(seen.weaker, err);

@@ -8,7 +8,7 @@ use std::fmt;
 /// A text of which each byte outside 0x20 to 0x7E, and the backslash, is shown as a backslash and
 /// two lower hexadecimal digits.
 #[derive(Clone, Copy)]
-pub(crate) struct Escaped<'a>(pub(crate) &'a [u8]);
+pub struct Escaped<'a>(pub &'a [u8]);
 
 impl fmt::Display for Escaped<'_> {
     ghost output = { λ text. Some (escaped text.0.now) };

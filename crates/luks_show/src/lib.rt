@@ -14,5 +14,5 @@ mod objects;
 pub use as_json::{json_text, unsteering};
 pub use copies::copies_name;
 pub use costs::{CostsLine, EncryptionLine};
-pub use escaped::before_zero;
+pub use escaped::{Escaped, before_zero};
 pub use listing::{FullListing, Listing};
