@@ -13,8 +13,8 @@ use luks_explain::Fault;
 use luks_files::{Volume, reopened};
 use luks_header_commands::copies_asked;
 use luks_notes::{
-    FrontFault, header_end, leftovers, note_leftovers, note_lost, note_no_keyslots, note_taken,
-    note_untried, note_whole, read_front,
+    FrontFault, header_end, leftovers, note_leftovers, note_lost, note_moved_areas,
+    note_no_keyslots, note_taken, note_untried, note_whole, read_front,
 };
 use luks_request::{AskedKdf, EditRequest, Meant, Rebuilding};
 use luks_signatures::{first_use, is_reencrypted};
@@ -112,7 +112,7 @@ fn has_room(device: &Volume) -> bool
 /// Notes what formatting, converting and rebuilding have left of what stood there before, where the
 /// metadata of a volume is whole of which no header counts, what else its disk is used for where only
 /// one copy is sound, of which metadata a header was made or which keyslots it has lost, and that
-/// there is no keyslot.
+/// there is no keyslot, or why none opens.
 fn tell_more(
     alloc: Global,
     line: &Line<'_>,
@@ -144,11 +144,22 @@ fn tell_more(
             note_whole(alloc, volume, notes)
         }
         (Command::Open { .. }, Status::Refused) if matches!(ended.answer, Answer::NoneOpens) => {
-            note_no_keyslots(alloc, volume, name, notes)
+            tell_unopened(alloc, volume, name, notes)
         }
         (Command::Edit(_) | Command::Format(_), Status::Refused)
             if matches!(ended.fault(), Some(Fault::Argon2)) => { tell_wanted(line, volume, notes) }
         _ => {}
+    }
+}
+
+/// Notes of the volume of this name, which no passphrase has opened, that it has no keyslot, or that another
+/// program has moved its key areas.
+fn tell_unopened(alloc: Global, volume: &mut Volume, name: &str, notes: &mut Vec<u8>)
+    requires { cached_failures volume.old + 1 < 2 ^ 64 }
+{
+    note_no_keyslots(alloc, volume, name, notes);
+    if has_room(volume) {
+        note_moved_areas(volume, name, notes);
     }
 }
 

@@ -5,3 +5,4 @@ pub mod NotedFacts
 pub mod RefusalFacts
 mod UnboundFacts
 mod UntypableFacts
+mod MovedFacts

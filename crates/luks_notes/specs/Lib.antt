@@ -8,3 +8,4 @@ pub mod MemoryNotes
 pub mod OlderNotes
 pub mod Unbound
 pub mod Untypable
+pub mod MovedAreas
