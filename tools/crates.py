@@ -110,7 +110,7 @@ class Record:
             return False
 
     def add(self, crate):
-        """The crate was proved, if its files are as they were when this record first saw them."""
-        if own_sum(crate) == self.own[crate]:
+        """The crate was proved, if its files are as they were when this record first saw them. A static library leaves none that is kept."""
+        if own_sum(crate) == self.own[crate] and os.path.isfile(os.path.join(out(crate), "rlib", "stamp")):
             with open(os.path.join(out(crate), "proved"), "w") as it:
                 it.write(self.text(crate))
