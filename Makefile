@@ -1,19 +1,22 @@
 # luks: what can be done here, each by `make TARGET`.
 #
 #   demo      run the main job, unproved: luks check on the sample image; ends with 'accepted luks1 areas 10'
-#   test      run the tests and the transcripts, unproved, all that fit into some ten minutes
+#   test      run the tests and the transcripts, unproved, all that fit into some ten minutes; first it looks that the texts, the lists and the
+#             wrong bodies fit to the code
 #   build     prove and build the program, and leave it at bin/luks
 #   library   prove and build libluks, the calls for C and Python: bin/libluks.so.0 and bin/libluks.a
 #   gate      the merge gate: every proof from nothing, the wrong bodies that must be refused, each test, each program; and what it took:
 #             processor time by crate for its proof, its tests and its wrong bodies, and at its end the sums
 #   quick     between gates: proofs and tests of the crates that changed since BASE (the last commit) and of what stands on them
-#   plants    between gates: the wrong bodies of CRATE (of all), planted together, each refused at its own function
+#   plants    between gates: the wrong bodies of CRATE (of all), planted together, each refused at its own function; whether each can be planted,
+#             tools/plants --readable says in seconds
 #   texts     make of docs/commands.table what repeats it: the helps' texts, parts of the page and of COMMANDS, and the completions
 #   install   put the program into PREFIX/bin, its manual page into MANDIR, its completions into BASHCOMPDIR, ZSHCOMPDIR and FISHCOMPDIR
 #             (PREFIX is /usr/local, the others are Debian's places under it, for fish /etc/fish/completions, since fish looks into none there;
 #             all under DESTDIR where that is given)
-#   uninstall  take these away again
-#   install-library  put libluks, its header, libluks.pc and the Python module under PREFIX (PYTHONDIR is the module's folder)
+#   uninstall  take these away again, and those of install-library
+#   install-library  put libluks, its header, libluks.pc and the Python module under PREFIX; PYTHONDIR is the module's folder, where Debian's Python
+#             looks if it isn't given. Without DESTDIR the loader's list is made anew (LDCONFIG)
 #   dist      the archive dist/luks-VERSION-linux-x86_64.tar.gz: the program, also static, its pages, libluks and install.sh, for a system without rt
 #   deb       the package dist/luks_VERSION_amd64.deb, for Debian, and those of libluks: libluks0, libluks-dev and python3-luks; beside all,
 #             dist/SHA256SUMS has their sums
@@ -31,7 +34,11 @@ DESTDIR ?=
 MANDIR ?= $(PREFIX)/share/man
 BASHCOMPDIR ?= $(PREFIX)/share/bash-completion/completions
 ZSHCOMPDIR ?= $(PREFIX)/share/zsh/$(if $(filter /usr,$(PREFIX)),vendor-completions,site-functions)
-PYTHONDIR ?= $(PREFIX)/lib/python3/dist-packages
+# Debian's Python looks into one folder for all versions below /usr, and into one for each version below /usr/local
+PYTHONDIR ?= $(PREFIX)/lib/$(if $(filter /usr,$(PREFIX)),python3,$(shell /usr/bin/python3 -c 'import sys; print("python%d.%d" % sys.version_info[:2])' \
+  2>/dev/null || echo python3))/dist-packages
+LDCONFIG ?= $(if $(DESTDIR),:,/sbin/ldconfig)
+PYTHON_FILES := __init__.py library.py numbers.py records.py py.typed
 FISHCOMPDIR ?= $(if $(filter /usr/local,$(PREFIX)),/etc/fish/completions,$(PREFIX)/share/fish/vendor_completions.d)
 
 SOURCES := crates.txt $(shell find crates -name out -prune -o -type f -print)
@@ -62,7 +69,7 @@ library: toolchain
 	cd crates/luks_c && RT="$(RT)" ../../tools/rt lib
 	@RT="$(RT)" tools/library
 
-bin/libluks.so.0: $(SOURCES) tools/library $(wildcard library/*)
+bin/libluks.so.0: $(SOURCES) tools/library $(wildcard library/*) CHANGELOG.md
 	@$(MAKE) --no-print-directory library
 
 test: toolchain
@@ -92,14 +99,21 @@ install-library: bin/libluks.so.0
 	ln -sf libluks.so.0 "$(DESTDIR)$(PREFIX)/lib/libluks.so"
 	install -D -m 644 bin/libluks.a "$(DESTDIR)$(PREFIX)/lib/libluks.a"
 	install -D -m 644 library/luks.h "$(DESTDIR)$(PREFIX)/include/luks.h"
-	install -D -m 644 python/luks.py "$(DESTDIR)$(PYTHONDIR)/luks.py"
+	for name in $(PYTHON_FILES); do install -D -m 644 "python/luks/$$name" "$(DESTDIR)$(PYTHONDIR)/luks/$$name" || exit 1; done
 	mkdir -p "$(DESTDIR)$(PREFIX)/lib/pkgconfig"
 	sed -e 's|@PREFIX@|$(PREFIX)|' -e "s|@VERSION@|$$(sed -n 's/^## \([0-9.]*\) .*/\1/p' CHANGELOG.md | head -n 1)|" library/libluks.pc.in \
 	  >"$(DESTDIR)$(PREFIX)/lib/pkgconfig/libluks.pc"
+	-$(LDCONFIG)
 
 uninstall:
 	rm -f "$(DESTDIR)$(PREFIX)/bin/luks" "$(DESTDIR)$(MANDIR)/man1/luks.1" "$(DESTDIR)$(BASHCOMPDIR)/luks" \
 	  "$(DESTDIR)$(ZSHCOMPDIR)/_luks" "$(DESTDIR)$(FISHCOMPDIR)/luks.fish"
+	rm -f "$(DESTDIR)$(PREFIX)/lib/libluks.so.0" "$(DESTDIR)$(PREFIX)/lib/libluks.so" "$(DESTDIR)$(PREFIX)/lib/libluks.a" \
+	  "$(DESTDIR)$(PREFIX)/include/luks.h" "$(DESTDIR)$(PREFIX)/lib/pkgconfig/libluks.pc"
+	for name in $(PYTHON_FILES); do rm -f "$(DESTDIR)$(PYTHONDIR)/luks/$$name"; done
+	rm -rf "$(DESTDIR)$(PYTHONDIR)/luks/__pycache__"
+	-[ ! -d "$(DESTDIR)$(PYTHONDIR)/luks" ] || rmdir "$(DESTDIR)$(PYTHONDIR)/luks"
+	-$(LDCONFIG)
 
 dist: bin/luks bin/libluks.so.0
 	@RT="$(RT)" tools/package archive

@@ -5,7 +5,7 @@ _luks() {
     local -A options=(
         [check]="--detached --json --offset --length --quiet --help"
         [show]="--all --map --json --offset --length --quiet --help"
-        [open]="--passphrase --passphrase-line --slot --memory --older --json --offset --length --quiet --help"
+        [open]="--passphrase --passphrase-line --slot --memory --key --digest --older --json --offset --length --quiet --help"
         [add]="--slot --passphrase --passphrase-line --new --new-line --random --to --iterations --kdf --kdf-memory --passes --lanes --iter-time --memory --older --over --detached --offset --length --quiet --help"
         [change]="--slot --passphrase --passphrase-line --new --new-line --random --iterations --kdf --kdf-memory --passes --lanes --iter-time --memory --older --over --detached --offset --length --quiet --help"
         [remove]="--slot --by --passphrase --passphrase-line --random --memory --older --over --detached --offset --length --quiet --help"
@@ -13,9 +13,9 @@ _luks() {
         [label]="--random --over --detached --offset --length --quiet --help"
         [format]="--passphrase --passphrase-line --random --version --hash --iterations --kdf --kdf-memory --passes --lanes --iter-time --memory --over --detached --offset --length --quiet --help"
         [convert]="--random --over --detached --offset --length --quiet --help"
-        [rebuild]="--random --second --size --cipher --hash --key-bytes --payload --passphrase --passphrase-line --uuid --over --offset --length --quiet --help"
+        [rebuild]="--random --second --size --thorough --cipher --hash --key-bytes --payload --passphrase --passphrase-line --uuid --over --offset --length --quiet --help"
         [find]="--offset --length --quiet --help"
-        [backup]="--over --detached --offset --length --quiet --help"
+        [backup]="--over --rescue --detached --offset --length --quiet --help"
         [restore]="--other --over --over-reencryption --detached --offset --length --quiet --help"
         [compare]="--detached --offset --length --quiet --help"
         [explain]="--help"
@@ -40,7 +40,7 @@ _luks() {
     local before=${COMP_WORDS[at - 1]}
     # what stands behind these options is no file, but one of these words, where some are known
     case $before in
-        --slot | --to | --by) value=1 words="$(echo {0..31})" ;;
+        --slot | --to | --by | --digest) value=1 words="$(echo {0..31})" ;;
         --memory | --iterations | --uuid | --offset | --length | --payload | --kdf-memory | --passes | --iter-time) value=1 ;;
         --version) value=1 words="1 2" ;;
         --hash) value=1 words="sha1 sha256 sha512" ;;

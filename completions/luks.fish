@@ -21,12 +21,14 @@ complete -c luks -n '__fish_seen_subcommand_from show' -l offset -x -d 'The byte
 complete -c luks -n '__fish_seen_subcommand_from show' -l length -x -d 'How many bytes the volume has'
 complete -c luks -n '__fish_seen_subcommand_from show' -l quiet -d 'No hints on standard error'
 
-complete -c luks -n __fish_use_subcommand -a open -d 'Tells whether a passphrase opens a keyslot'
+complete -c luks -n __fish_use_subcommand -a open -d "Tells whether a passphrase opens a keyslot, or a key is the volume's"
 complete -c luks -n '__fish_seen_subcommand_from open' -F
 complete -c luks -n '__fish_seen_subcommand_from open' -l passphrase -r -F -d 'The file of the passphrase, taken whole'
 complete -c luks -n '__fish_seen_subcommand_from open' -l passphrase-line -r -F -d 'The file whose first line is the passphrase'
 complete -c luks -n '__fish_seen_subcommand_from open' -l slot -x -a '(seq 0 31)' -d 'The keyslot to try, 0 to 31; else all'
 complete -c luks -n '__fish_seen_subcommand_from open' -l memory -x -d 'The MiB that Argon2 may take'
+complete -c luks -n '__fish_seen_subcommand_from open' -l key -r -F -d 'The file of the key that is judged'
+complete -c luks -n '__fish_seen_subcommand_from open' -l digest -x -a '(seq 0 31)' -d 'The digest that the key is judged by'
 complete -c luks -n '__fish_seen_subcommand_from open' -l older -d 'Accept ciphers and hashes of older disks'
 complete -c luks -n '__fish_seen_subcommand_from open' -l json -d 'One JSON object in place of the line'
 complete -c luks -n '__fish_seen_subcommand_from open' -l offset -x -d 'The byte of the file where the volume begins'
@@ -145,6 +147,7 @@ complete -c luks -n '__fish_seen_subcommand_from rebuild' -F
 complete -c luks -n '__fish_seen_subcommand_from rebuild' -l random -r -F -d 'The file of the random bytes, as /dev/urandom'
 complete -c luks -n '__fish_seen_subcommand_from rebuild' -l second -d 'LUKS2: take the metadata of a second copy'
 complete -c luks -n '__fish_seen_subcommand_from rebuild' -l size -x -a '16384 32768 65536 131072 262144 524288 1048576 2097152 4194304' -d 'LUKS2: take that of a copy of so many bytes'
+complete -c luks -n '__fish_seen_subcommand_from rebuild' -l thorough -d 'LUKS2: seek longer what a checksum vouches for'
 complete -c luks -n '__fish_seen_subcommand_from rebuild' -l cipher -x -a 'aes-xts-plain64 aes-cbc-essiv:sha256' -d 'LUKS1: the cipher, as aes-xts-plain64'
 complete -c luks -n '__fish_seen_subcommand_from rebuild' -l hash -x -a 'sha1 sha256 sha512' -d 'LUKS1: the hash, as sha256'
 complete -c luks -n '__fish_seen_subcommand_from rebuild' -l key-bytes -x -a '16 32 64' -d 'LUKS1: how long the volume key is, 1 to 128'
@@ -166,6 +169,7 @@ complete -c luks -n '__fish_seen_subcommand_from find' -l quiet -d 'No hints on 
 complete -c luks -n __fish_use_subcommand -a backup -d "Copies a volume's header and key areas to a file"
 complete -c luks -n '__fish_seen_subcommand_from backup' -F
 complete -c luks -n '__fish_seen_subcommand_from backup' -l over -d "Write over a FILE that isn't empty"
+complete -c luks -n '__fish_seen_subcommand_from backup' -l rescue -d "Go on where a key area can't be read"
 complete -c luks -n '__fish_seen_subcommand_from backup' -l detached -d 'The data is on another device, no segment judged'
 complete -c luks -n '__fish_seen_subcommand_from backup' -l offset -x -d 'The byte of the file where the volume begins'
 complete -c luks -n '__fish_seen_subcommand_from backup' -l length -x -d 'How many bytes the volume has'

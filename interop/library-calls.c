@@ -59,7 +59,7 @@ static int opens(int fd, uint64_t offset, uint64_t length, const char *slot, con
     fclose(from);
     uint32_t memory = (uint32_t)strtoul(allowed, NULL, 10) * 1024, older = is_older(allowed);
     uint32_t answer = strcmp(slot, "any") == 0 ? luks_unlock(fd, offset, length, bytes ? exact : NULL, bytes, memory, older, key, key_room, &opened)
-                                               : luks_open(fd, offset, length, (uint8_t)strtoul(slot, NULL, 10), exact, bytes, memory, older, key, key_room,
+                                               : luks_open(fd, offset, length, (uint32_t)strtoul(slot, NULL, 10), exact, bytes, memory, older, key, key_room,
                                                            &opened);
     int status = 0;
     if (answer == LUKS_DONE)
@@ -391,7 +391,7 @@ static int wrong(int fd)
 
 static int texts(void)
 {
-    for (uint32_t number = 0; number < 110; number++) {
+    for (uint32_t number = 0; number < 120; number++) {
         uint8_t room[2048];
         size_t bytes = luks_fault_name(number, room, sizeof room);
         if (bytes == 0)
@@ -432,8 +432,11 @@ static int threads(const char *first, const char *second)
 {
     struct one ones[2] = {{.volume = first}, {.volume = second}};
     pthread_t ids[2];
+    pthread_attr_t small;
+    pthread_attr_init(&small);
+    pthread_attr_setstacksize(&small, (size_t)256 << 10);
     for (int i = 0; i < 2; i++)
-        pthread_create(&ids[i], NULL, many, &ones[i]);
+        pthread_create(&ids[i], &small, many, &ones[i]);
     for (int i = 0; i < 2; i++)
         pthread_join(ids[i], NULL);
     for (int i = 0; i < 2; i++)

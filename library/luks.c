@@ -4,13 +4,18 @@
 #include "luks.h"
 
 #include <errno.h>
+#include <fcntl.h>
 #include <linux/fs.h>
+#include <stdio.h>
 #include <stdlib.h>
 #include <string.h>
+#include <sys/file.h>
 #include <sys/ioctl.h>
 #include <sys/mman.h>
 #include <sys/random.h>
 #include <sys/stat.h>
+#include <sys/sysmacros.h>
+#include <time.h>
 #include <unistd.h>
 
 /* What is read at first: the heads of both copies as cryptsetup lays them out, and all that it puts before the data. */
@@ -28,6 +33,20 @@ struct held {
 static uint64_t least(uint64_t a, uint64_t b)
 {
     return a < b ? a : b;
+}
+
+/* Whether the calls here mean by this descriptor what they say: pwrite puts bytes at the file's end where it appends, and direct calls want buffers
+ * that aren't these. It is asked before anything is read. */
+static uint32_t judge(int fd, bool is_written)
+{
+    int flags = fcntl(fd, F_GETFL);
+    if (flags < 0)
+        return LUKS_DEVICE;
+    if (is_written && (flags & O_ACCMODE) == O_RDONLY)
+        return LUKS_READONLY;
+    if (is_written && (flags & O_APPEND) != 0)
+        return LUKS_APPENDS;
+    return (flags & O_DIRECT) != 0 ? LUKS_DIRECT : LUKS_DONE;
 }
 
 /* The length of a file or a block device, without moving its position. */
@@ -86,6 +105,9 @@ static uint32_t begin(struct held *held, int fd, uint64_t offset, uint64_t lengt
 {
     uint64_t total = 0;
     memset(held, 0, sizeof *held);
+    uint32_t answer = judge(fd, false);
+    if (answer != LUKS_DONE)
+        return answer;
     if (length_of(fd, &total) != 0)
         return LUKS_DEVICE;
     held->fd = fd;
@@ -204,8 +226,85 @@ uint32_t luks_read(int fd, uint64_t offset, uint64_t length, char *json, size_t 
     return answer;
 }
 
-/* What is asked of a passphrase: the keyslot `n`, or of any where it is -1. */
-static uint32_t open_one(int fd, uint64_t offset, uint64_t length, int n, const void *passphrase, size_t passphrase_bytes, uint32_t memory,
+/* ---- secrets ---- */
+
+/* More than the calls over bytes take of the stack. */
+#define STACK ((size_t)192 << 10)
+
+#ifdef __x86_64__
+/* The registers that copying leaves bytes in: the first call by a name that the loader hasn't looked up yet would put them onto the stack. */
+static __attribute__((target("avx512f"))) void wipe_upper_registers(void)
+{
+    __asm__ volatile("vpxorq %%zmm16, %%zmm16, %%zmm16; vpxorq %%zmm17, %%zmm17, %%zmm17; vpxorq %%zmm18, %%zmm18, %%zmm18;"
+                     "vpxorq %%zmm19, %%zmm19, %%zmm19; vpxorq %%zmm20, %%zmm20, %%zmm20; vpxorq %%zmm21, %%zmm21, %%zmm21;"
+                     "vpxorq %%zmm22, %%zmm22, %%zmm22; vpxorq %%zmm23, %%zmm23, %%zmm23; vpxorq %%zmm24, %%zmm24, %%zmm24;"
+                     "vpxorq %%zmm25, %%zmm25, %%zmm25; vpxorq %%zmm26, %%zmm26, %%zmm26; vpxorq %%zmm27, %%zmm27, %%zmm27;"
+                     "vpxorq %%zmm28, %%zmm28, %%zmm28; vpxorq %%zmm29, %%zmm29, %%zmm29; vpxorq %%zmm30, %%zmm30, %%zmm30;"
+                     "vpxorq %%zmm31, %%zmm31, %%zmm31" ::: "xmm16", "xmm17", "xmm18", "xmm19", "xmm20", "xmm21", "xmm22", "xmm23", "xmm24",
+                     "xmm25", "xmm26", "xmm27", "xmm28", "xmm29", "xmm30", "xmm31");
+}
+
+static __attribute__((target("avx"))) void wipe_wide_registers(void)
+{
+    __asm__ volatile("vzeroall" ::: "xmm0", "xmm1", "xmm2", "xmm3", "xmm4", "xmm5", "xmm6", "xmm7", "xmm8", "xmm9", "xmm10", "xmm11", "xmm12",
+                     "xmm13", "xmm14", "xmm15");
+}
+
+static void wipe_registers(void)
+{
+    if (__builtin_cpu_supports("avx512f"))
+        wipe_upper_registers();
+    if (__builtin_cpu_supports("avx"))
+        wipe_wide_registers();
+    else
+        __asm__ volatile("pxor %%xmm0, %%xmm0; pxor %%xmm1, %%xmm1; pxor %%xmm2, %%xmm2; pxor %%xmm3, %%xmm3; pxor %%xmm4, %%xmm4; pxor %%xmm5, %%xmm5;"
+                         "pxor %%xmm6, %%xmm6; pxor %%xmm7, %%xmm7; pxor %%xmm8, %%xmm8; pxor %%xmm9, %%xmm9; pxor %%xmm10, %%xmm10;"
+                         "pxor %%xmm11, %%xmm11; pxor %%xmm12, %%xmm12; pxor %%xmm13, %%xmm13; pxor %%xmm14, %%xmm14; pxor %%xmm15, %%xmm15" :::
+                         "xmm0", "xmm1", "xmm2", "xmm3", "xmm4", "xmm5", "xmm6", "xmm7", "xmm8", "xmm9", "xmm10", "xmm11", "xmm12", "xmm13", "xmm14",
+                         "xmm15");
+}
+#else
+static void wipe_registers(void)
+{
+}
+#endif
+
+/* Writes zeros over so much of the stack below its caller. */
+static __attribute__((noinline)) void wipe_stack(void)
+{
+    uint8_t room[STACK];
+    explicit_bzero(room, sizeof room);
+}
+
+/* Takes away what the calls that its caller made have left of what they derived: in registers first, since calling more puts these onto the stack. */
+static __attribute__((noinline)) void forget(void)
+{
+    wipe_registers();
+    wipe_stack();
+}
+
+/* Gives memory back, once zeros stand in it. */
+static void give_wiped(void *memory, size_t count)
+{
+    int kept = errno;
+    if (memory != NULL)
+        explicit_bzero(memory, count);
+    free(memory);
+    errno = kept;
+}
+
+/* ---- opening ---- */
+
+/* What is asked of a passphrase: the keyslot `n`, or of any where it is ANY. */
+#define ANY UINT32_MAX
+
+/* No volume has a keyslot of this number: it stands for those that don't fit into 8 bits. */
+static uint8_t keyslot_of(uint32_t n)
+{
+    return n < UINT8_MAX ? (uint8_t)n : UINT8_MAX;
+}
+
+static uint32_t open_one(int fd, uint64_t offset, uint64_t length, uint32_t n, const void *passphrase, size_t passphrase_bytes, uint32_t memory,
                          uint32_t older, void *key, size_t key_room, struct luks_opened *opened)
 {
     static const uint8_t nothing = 0;
@@ -220,12 +319,13 @@ static uint32_t open_one(int fd, uint64_t offset, uint64_t length, int n, const 
     uint32_t answer = begin(&held, fd, offset, length, WITH_KEY_AREAS);
     if (answer == LUKS_DONE)
         do {
-            answer = n < 0 ? luks_unlock_bytes(held.bytes, held.count, held.total, words, passphrase_bytes, memory, older, into, key_room, opened)
-                           : luks_open_bytes(held.bytes, held.count, held.total, (uint8_t)n, words, passphrase_bytes, memory, older, into, key_room,
-                                             opened);
+            answer = n == ANY ? luks_unlock_bytes(held.bytes, held.count, held.total, words, passphrase_bytes, memory, older, into, key_room, opened)
+                              : luks_open_bytes(held.bytes, held.count, held.total, keyslot_of(n), words, passphrase_bytes, memory, older, into,
+                                                key_room, opened);
             if (answer == LUKS_BEYOND)
                 answer = hold_more(&held, opened->beyond);
         } while (answer == LUKS_BEYOND);
+    forget();
     opened->beyond = 0;
     end(&held);
     unguard(&key_pages);
@@ -236,13 +336,39 @@ static uint32_t open_one(int fd, uint64_t offset, uint64_t length, int n, const 
 uint32_t luks_unlock(int fd, uint64_t offset, uint64_t length, const void *passphrase, size_t passphrase_bytes, uint32_t memory,
                      uint32_t older, void *key, size_t key_room, struct luks_opened *opened)
 {
-    return open_one(fd, offset, length, -1, passphrase, passphrase_bytes, memory, older, key, key_room, opened);
+    return open_one(fd, offset, length, ANY, passphrase, passphrase_bytes, memory, older, key, key_room, opened);
 }
 
-uint32_t luks_open(int fd, uint64_t offset, uint64_t length, uint8_t n, const void *passphrase, size_t passphrase_bytes, uint32_t memory,
+uint32_t luks_open(int fd, uint64_t offset, uint64_t length, uint32_t n, const void *passphrase, size_t passphrase_bytes, uint32_t memory,
                    uint32_t older, void *key, size_t key_room, struct luks_opened *opened)
 {
-    return open_one(fd, offset, length, n, passphrase, passphrase_bytes, memory, older, key, key_room, opened);
+    return open_one(fd, offset, length, n != ANY ? n : UINT8_MAX, passphrase, passphrase_bytes, memory, older, key, key_room, opened);
+}
+
+/* Whether the caller's function says to go on; it does where there is none. */
+static bool goes_on(luks_progress *progress, void *context, uint64_t done, uint64_t total)
+{
+    return progress == NULL || progress(context, done, total) == 0;
+}
+
+uint32_t luks_try(int fd, uint64_t offset, uint64_t length, const void *passphrase, size_t passphrase_bytes, uint32_t memory, uint32_t older,
+                  luks_progress *progress, void *context, uint32_t answers[LUKS_KEYSLOTS])
+{
+    struct luks_opened opened;
+    if (answers == NULL)
+        return LUKS_USAGE;
+    /* a number that no keyslot has: the faults of the header itself */
+    uint32_t answer = open_one(fd, offset, length, UINT8_MAX, passphrase, passphrase_bytes, 0, 0, NULL, 0, &opened);
+    if (answer != LUKS_FAULT_NO_SUCH_SLOT)
+        return answer;
+    for (uint32_t n = 0; n < LUKS_KEYSLOTS; n++) {
+        if (!goes_on(progress, context, n, LUKS_KEYSLOTS))
+            return LUKS_STOPPED;
+        answers[n] = open_one(fd, offset, length, n, passphrase, passphrase_bytes, memory, older, NULL, 0, &opened);
+        if (answers[n] == LUKS_DEVICE || answers[n] == LUKS_MEMORY)
+            return answers[n];
+    }
+    return LUKS_DONE;
 }
 
 /* ---- calls that write ---- */
@@ -323,6 +449,15 @@ static int flush(int fd)
     do
         answer = fsync(fd);
     while (answer != 0 && errno == EINTR);
+    return answer;
+}
+
+/* Asks that what was written before stays, of a descriptor by which a call can write. */
+static uint32_t settle(int fd)
+{
+    uint32_t answer = judge(fd, true);
+    if (answer == LUKS_DONE && flush(fd) != 0)
+        answer = LUKS_DEVICE;
     return answer;
 }
 
@@ -423,6 +558,7 @@ static uint32_t carry_out(struct held *held, const struct asked *it, uint32_t *s
         else if (answer == LUKS_ROOM && !take_room(&room, plan.calls, plan.bytes))
             answer = LUKS_MEMORY;
     }
+    forget();
     if (answer == LUKS_DONE)
         answer = play(held, &room, &plan);
     if (answer == LUKS_DONE && slot != NULL)
@@ -461,8 +597,8 @@ static uint32_t carry_out_by_chance(struct held *held, struct asked *it, uint64_
     int kept = errno;
     explicit_bzero(random, (size_t)count);
     unguard(&pages);
-    free(random);
     errno = kept;
+    give_wiped(random, (size_t)count);
     return answer;
 }
 
@@ -538,10 +674,11 @@ uint32_t luks_apply(int fd, uint64_t offset, uint64_t length, bool is_detached, 
     struct asked it = {.is_detached = is_detached, .edit = edit, .passphrase = given(passphrase), .passphrase_bytes = passphrase_bytes,
                        .text = given(text), .text_bytes = text_bytes, .random = random, .random_bytes = random_bytes};
     uint64_t count = random_bytes;
-    if (flush(fd) != 0)
-        return LUKS_DEVICE;
+    uint32_t answer = settle(fd);
+    if (answer != LUKS_DONE)
+        return answer;
     struct secrets secrets = guard_all(&it);
-    uint32_t answer = begin(&held, fd, offset, length, WITH_KEY_AREAS);
+    answer = begin(&held, fd, offset, length, WITH_KEY_AREAS);
     if (answer == LUKS_DONE && random == NULL)
         answer = need(&held, &it, &count);
     if (answer == LUKS_DONE)
@@ -602,10 +739,11 @@ static uint32_t format(int fd, uint64_t offset, uint64_t length, struct asked *i
     if (!are_given(it->passphrase, it->passphrase_bytes) || !are_given(it->random, it->random_bytes))
         return LUKS_USAGE;
     it->passphrase = given(it->passphrase);
-    if (flush(fd) != 0)
-        return LUKS_DEVICE;
+    uint32_t answer = settle(fd);
+    if (answer != LUKS_DONE)
+        return answer;
     struct secrets secrets = guard_all(it);
-    uint32_t answer = begin(&held, fd, offset, length, HEADS);
+    answer = begin(&held, fd, offset, length, HEADS);
     if (answer == LUKS_DONE)
         answer = carry_out_by_chance(&held, it, count, NULL);
     end(&held);
@@ -633,9 +771,6 @@ uint32_t luks_format2(int fd, uint64_t offset, uint64_t length, bool is_detached
 
 /* ---- a header that is made of a source ---- */
 
-/* Faults that are told or asked for here, by their numbers in luks_fault_name. */
-enum { SAME_FILE = 42, COUNTS = 43, NO_METADATA = 44, NO_HEADER = 51 };
-
 /* The bytes of a LUKS1 header. */
 #define HEADER1 592
 
@@ -658,10 +793,10 @@ static uint32_t begin_both(struct held *source, int source_fd, uint64_t source_o
     memset(held, 0, sizeof *held);
     int is_one = are_one(source_fd, fd);
     if (is_one != 0)
-        return is_one > 0 ? (uint32_t)SAME_FILE : (uint32_t)LUKS_DEVICE;
-    if (flush(fd) != 0)
-        return LUKS_DEVICE;
-    uint32_t answer = begin(source, source_fd, source_offset, source_length, WITH_KEY_AREAS);
+        return is_one > 0 ? (uint32_t)LUKS_FAULT_SAME_FILE : (uint32_t)LUKS_DEVICE;
+    uint32_t answer = settle(fd);
+    if (answer == LUKS_DONE)
+        answer = begin(source, source_fd, source_offset, source_length, WITH_KEY_AREAS);
     return answer == LUKS_DONE ? begin(held, fd, offset, length, WITH_KEY_AREAS) : answer;
 }
 
@@ -722,9 +857,9 @@ static bool leads_to_luks1(const struct held *source, uint32_t fault)
     if (source->count < HEADER1)
         return false;
     unsigned version = (unsigned)source->bytes[6] << 8 | source->bytes[7];
-    if (fault == NO_METADATA)
+    if (fault == LUKS_FAULT_NO_METADATA)
         return version != 2;
-    return fault == COUNTS && memcmp(source->bytes, magic, sizeof magic) == 0 && version == 1;
+    return fault == LUKS_FAULT_COUNTS && memcmp(source->bytes, magic, sizeof magic) == 0 && version == 1;
 }
 
 uint32_t luks_rebuild(int source_fd, uint64_t source_offset, uint64_t source_length, const char *uuid, int fd, uint64_t offset, uint64_t length,
@@ -740,7 +875,7 @@ uint32_t luks_rebuild(int source_fd, uint64_t source_offset, uint64_t source_len
     if (leads_to_luks1(&source, answer)) {
         it.kind = REBUILD1;
         uint32_t instead = carry_out(&held, &it, NULL);
-        answer = instead == NO_HEADER ? answer : instead;
+        answer = instead == LUKS_FAULT_NO_HEADER ? answer : instead;
     }
     end_both(&source, &held);
     return answer;
@@ -798,7 +933,7 @@ uint32_t luks_compare(int backup_fd, uint64_t backup_offset, uint64_t backup_len
         return LUKS_USAGE;
     int is_one = are_one(backup_fd, fd);
     if (is_one != 0)
-        return is_one > 0 ? (uint32_t)SAME_FILE : (uint32_t)LUKS_DEVICE;
+        return is_one > 0 ? (uint32_t)LUKS_FAULT_SAME_FILE : (uint32_t)LUKS_DEVICE;
     uint32_t answer = begin(&backup, backup_fd, backup_offset, backup_length, HEADS);
     if (answer == LUKS_DONE)
         answer = begin(&held, fd, offset, length, HEADS);
@@ -851,10 +986,18 @@ static uint32_t find_in(const struct held *held, uint64_t from, uint64_t before,
 
 uint32_t luks_find(int fd, uint64_t offset, uint64_t length, uint64_t from, uint64_t *place)
 {
+    return luks_find_watched(fd, offset, length, from, NULL, NULL, place);
+}
+
+uint32_t luks_find_watched(int fd, uint64_t offset, uint64_t length, uint64_t from, luks_progress *progress, void *context, uint64_t *place)
+{
     uint64_t total = 0, block = LEAST_BLOCK;
     if (place == NULL)
         return LUKS_USAGE;
     *place = LUKS_TO_END;
+    uint32_t judged = judge(fd, false);
+    if (judged != LUKS_DONE)
+        return judged;
     if (length_of(fd, &total) != 0)
         return LUKS_DEVICE;
     uint64_t start = least(offset, total), at = from;
@@ -866,6 +1009,8 @@ uint32_t luks_find(int fd, uint64_t offset, uint64_t length, uint64_t from, uint
         uint64_t front = least(at, EXPLAINS), first = at - front;
         uint64_t found = LUKS_TO_END, count = least(block, total - first);
         uint64_t before = count < total - first ? count - TELLS : count;
+        if (!goes_on(progress, context, at, total))
+            return LUKS_STOPPED;
         uint32_t answer = begin(&held, fd, start + first, count, count);
         if (answer == LUKS_DONE)
             answer = find_in(&held, front, before, &found);
@@ -880,4 +1025,153 @@ uint32_t luks_find(int fd, uint64_t offset, uint64_t length, uint64_t from, uint
         block = least(block * 2, MOST_BLOCK);
     }
     return LUKS_DONE;
+}
+
+/* Says to stop once one block was searched, and keeps where the next one begins. */
+struct step {
+    bool is_begun;
+    uint64_t reached;
+};
+
+static int step_once(void *context, uint64_t done, uint64_t total)
+{
+    struct step *step = context;
+    bool is_second = step->is_begun;
+    (void)total;
+    step->is_begun = true;
+    step->reached = done;
+    return is_second;
+}
+
+uint32_t luks_find_step(int fd, uint64_t offset, uint64_t length, uint64_t from, uint64_t *place, uint64_t *reached)
+{
+    struct step step = {.reached = from};
+    if (reached == NULL)
+        return LUKS_USAGE;
+    *reached = LUKS_TO_END;
+    uint32_t answer = luks_find_watched(fd, offset, length, from, step_once, &step, place);
+    if (answer != LUKS_STOPPED)
+        return answer;
+    *reached = step.reached;
+    return LUKS_DONE;
+}
+
+/* ---- a volume by its name ---- */
+
+/* Where cryptsetup's files stand for block devices. */
+#define LOCKS "/run/cryptsetup"
+
+/* The pause before a lock is asked for again, in milliseconds. */
+#define PAUSE 50
+
+/* What asking once for a lock came to: it is held, another holds it or may by now, or the file can't be locked. */
+enum lock { HELD, TAKEN, UNKNOWN };
+
+static enum lock lock_once(int fd, bool writes)
+{
+    int answer;
+    do
+        answer = flock(fd, (writes ? LOCK_EX : LOCK_SH) | LOCK_NB);
+    while (answer != 0 && errno == EINTR);
+    return answer == 0 ? HELD : errno == EWOULDBLOCK ? TAKEN : UNKNOWN;
+}
+
+/* Whether the name is still that of this file. */
+static bool is_at(int fd, const char *name)
+{
+    struct stat held, named;
+    return fstat(fd, &held) == 0 && lstat(name, &named) == 0 && held.st_dev == named.st_dev && held.st_ino == named.st_ino;
+}
+
+/* Asks once for the lock on the file that stands for a block device, which is made where it is missing, and keeps it open in `lock`. cryptsetup removes
+ * it when it lets go, and a lock on a removed file is worth nothing: so its name is looked at again. */
+static enum lock lock_name(dev_t device, bool writes, int *lock)
+{
+    char name[64];
+    struct stat folder, found;
+    snprintf(name, sizeof name, LOCKS "/L_%u:%u", major(device), minor(device));
+    (void)mkdir(LOCKS, 0700);
+    if (lstat(LOCKS, &folder) != 0 || !S_ISDIR(folder.st_mode))
+        return UNKNOWN;
+    int fd = open(name, O_RDWR | O_CREAT | O_NOFOLLOW | O_CLOEXEC | O_NONBLOCK, 0600);
+    if (fd < 0)
+        return UNKNOWN;
+    enum lock answer = fstat(fd, &found) == 0 && S_ISREG(found.st_mode) ? lock_once(fd, writes) : UNKNOWN;
+    if (answer == HELD && !is_at(fd, name))
+        answer = TAKEN;
+    if (answer == HELD)
+        *lock = fd;
+    else
+        close(fd);
+    return answer;
+}
+
+/* Asks once for all locks of the file that is open. */
+static enum lock lock_volume(const struct stat *about, bool writes, struct luks_volume *volume)
+{
+    enum lock answer = lock_once(volume->fd, writes);
+    if (answer != TAKEN && S_ISBLK(about->st_mode))
+        answer = lock_name(about->st_rdev, writes, &volume->lock);
+    return answer;
+}
+
+/* What is open has bytes at places, and may be written where it is to be. */
+static int judge_kind(const struct stat *about, int fd, bool writes)
+{
+    int is_read_only = 0;
+    if (!S_ISREG(about->st_mode) && !S_ISBLK(about->st_mode)) {
+        errno = ESPIPE;
+        return -1;
+    }
+    if (writes && S_ISBLK(about->st_mode) && ioctl(fd, BLKROGET, &is_read_only) == 0 && is_read_only) {
+        errno = EROFS;
+        return -1;
+    }
+    return 0;
+}
+
+/* Waits for the locks, for at most so many milliseconds. */
+static uint32_t wait_for_locks(const struct stat *about, bool writes, uint32_t milliseconds, struct luks_volume *volume)
+{
+    const struct timespec pause = {.tv_nsec = PAUSE * 1000000L};
+    for (uint32_t waited = 0; lock_volume(about, writes, volume) == TAKEN; waited += PAUSE) {
+        if (milliseconds <= waited)
+            return LUKS_BUSY;
+        (void)nanosleep(&pause, NULL);
+    }
+    return LUKS_DONE;
+}
+
+uint32_t luks_open_volume(const char *name, bool writes, uint32_t milliseconds, struct luks_volume *volume)
+{
+    struct stat about;
+    if (name == NULL || volume == NULL)
+        return LUKS_USAGE;
+    volume->lock = -1;
+    /* opening a pipe for reading would wait for its writer */
+    volume->fd = open(name, (writes ? O_RDWR : O_RDONLY) | O_CLOEXEC | O_NONBLOCK | O_NOCTTY);
+    uint32_t answer = LUKS_DEVICE;
+    if (volume->fd >= 0 && fstat(volume->fd, &about) == 0 && judge_kind(&about, volume->fd, writes) == 0)
+        answer = wait_for_locks(&about, writes, milliseconds, volume);
+    if (answer != LUKS_DONE)
+        luks_close_volume(volume);
+    return answer;
+}
+
+void luks_close_volume(struct luks_volume *volume)
+{
+    int kept = errno;
+    if (volume->lock >= 0)
+        close(volume->lock);
+    if (volume->fd >= 0)
+        close(volume->fd);
+    volume->fd = volume->lock = -1;
+    errno = kept;
+}
+
+/* ---- which library this is ---- */
+
+const char *luks_version(void)
+{
+    return VERSION;
 }

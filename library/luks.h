@@ -7,21 +7,38 @@
  *   luks_add, luks_format2 and so on                  write it through one
  *   luks_check_bytes and so on                        are given the volume's first bytes in memory
  *
- * The last family is proved (docs/PROOFS.md); the others read as many bytes as are needed, by pread,
- * and call it. A call of it that writes answers a plan of writes and flushes, which those through a
- * descriptor play: pwrite and fsync in its order. Each call answers a number: LUKS_DONE, the number of
- * a fault from 1 to 99, which luks_fault_name and luks_fault_text explain, or one of those below. None
- * prints, keeps anything after it has returned, or leaves memory for the caller to free. Two threads
- * may call at once, each with arguments of its own and volumes of its own.
+ * The last family is proved (docs/PROOFS.md); the others are a page of C that is tested: they read as many bytes as are needed, by
+ * pread, and call it. A call of it that writes answers a plan of writes and flushes, which those through a descriptor play: pwrite
+ * and fsync in its order. None prints, keeps anything after it has returned, starts a thread, catches a signal or leaves memory for
+ * the caller to free.
  *
- * The calls through a descriptor keep the whole pages in which a passphrase, a key or random bytes lie out of swap and of core
- * dumps while they run (mlock, MADV_DONTDUMP), and undo it then. Where the system refuses it, as beyond RLIMIT_MEMLOCK, they go on
- * without. Pages that the caller has locked are left as they are. Memory in which keys are derived isn't locked: a caller that
- * can't have it swapped turns swap off, or encrypts it, or calls mlockall; setrlimit(RLIMIT_CORE) keeps it out of core dumps.
+ * Answers. Each call answers a number: LUKS_DONE, a fault of the volume or of what is asked (LUKS_FAULT_..), or one of those below
+ * it; luks_fault_name and luks_fault_text explain both. A call that a fault refuses has written nothing. With LUKS_DEVICE errno has
+ * the reason, as pread, pwrite, fsync or fstat left it: ESPIPE where the descriptor is of neither a regular file nor a block device,
+ * EIO where the disk fails or the file has become shorter, EBUSY where the volume's first bytes changed between reading and writing,
+ * so that nothing was written. Any call may answer LUKS_USAGE, LUKS_MEMORY, LUKS_DEVICE and LUKS_DIRECT, and one that writes
+ * LUKS_READONLY and LUKS_APPENDS; which faults beside these, each says.
  *
- * The caller holds the lock, as `luks` does: flock(LOCK_SH) on the volume's file while it is read,
- * LOCK_EX from before it is read until it was written; of a block device also on the file
- * /run/cryptsetup/L_MAJOR:MINOR, which cryptsetup locks.
+ * What is read. Each call has a window: the `length` bytes from `offset` on, fewer where the file ends. Mostly the first 64 KiB of it
+ * are held in memory, and where a keyslot is opened or made the first 16 MiB; more where the header says so. That is more than is
+ * used: a sector among these that can't be read is LUKS_DEVICE, also where nothing uses it. The position in the file stays.
+ *
+ * Locks. No call but luks_open_volume locks anything. As `luks` does, the caller holds flock(LOCK_SH) on the volume's file while it is
+ * read, LOCK_EX from before it is read until it was written; of a block device also on the file /run/cryptsetup/L_MAJOR:MINOR, which
+ * cryptsetup locks, and removes when it lets go. luks_open_volume opens a name and does all that.
+ *
+ * Threads. The calls are re-entrant: two threads may call at once, each with arguments and volumes of its own. A thread with 256 KiB
+ * of stack has room for each.
+ *
+ * Secrets. The calls through a descriptor keep the whole pages in which a passphrase, a key or random bytes lie out of swap and of
+ * core dumps while they run (mlock, MADV_DONTDUMP), and undo it then. Where the system refuses it, as beyond RLIMIT_MEMLOCK, they go
+ * on without; so does one of two that run at once over the same page. Pages that the caller has locked are left as they are. Memory
+ * in which keys are derived isn't locked: a caller that can't have it swapped turns swap off, or encrypts it, or calls mlockall;
+ * setrlimit(RLIMIT_CORE) keeps it out of core dumps. Before they return they write zeros over the keys that they derived and the
+ * random bytes that they took themselves, and over 192 KiB of the stack below the caller. What stays with the caller are its own
+ * buffers: it writes over the passphrase, the key in `key` and its random bytes (explicit_bzero), and over what a FILE or a toolkit
+ * buffered of them. Of registers those of 16 bytes and more are cleared, on x86-64. The calls named _bytes leave the stack, registers
+ * and pages to their caller.
  */
 #ifndef LUKS_H
 #define LUKS_H
@@ -42,8 +59,75 @@ enum {
     LUKS_DEVICE = 104, /* a call of the descriptor failed, and errno says how; never from those named _bytes. A volume that
                           was to be written may have been changed in part: as by a power cut, what was left opens (docs/PROOFS.md) */
     LUKS_SHUT = 105,   /* the passphrase opens no keyslot that was tried */
-    LUKS_ROOM = 106    /* the caller's buffer is too short */
+    LUKS_ROOM = 106,   /* the caller's buffer is too short */
+
+    /* only from the calls through a descriptor, before anything is read or written: */
+    LUKS_APPENDS = 107,  /* it is to be written, and its writes go to the file's end (O_APPEND) */
+    LUKS_READONLY = 108, /* it is to be written, and is open for reading alone */
+    LUKS_DIRECT = 109,   /* it is open for direct calls (O_DIRECT), which want buffers at places of their own */
+    LUKS_STOPPED = 110,  /* the caller's luks_progress says to stop */
+    LUKS_BUSY = 111      /* of luks_open_volume alone: another program holds the volume's lock */
 };
+
+/* The faults, by the names of `luks explain`. A number stays its own in each later version; a new fault gets the next one. */
+/* made by tools/faults */
+enum luks_fault {
+    LUKS_FAULT_TOO_SHORT = 1,
+    LUKS_FAULT_NOT_LUKS = 2,
+    LUKS_FAULT_VERSION = 3,
+    LUKS_FAULT_NO_SOUND_COPY = 4,
+    LUKS_FAULT_TEXT = 5,
+    LUKS_FAULT_UUID = 6,
+    LUKS_FAULT_SLOT_STATE = 7,
+    LUKS_FAULT_KEY_BYTES = 8,
+    LUKS_FAULT_STRIPES = 9,
+    LUKS_FAULT_ITERATIONS = 10,
+    LUKS_FAULT_JSON_AREA = 11,
+    LUKS_FAULT_BAD_JSON = 12,
+    LUKS_FAULT_NOT_WHOLE = 13,
+    LUKS_FAULT_SHAPE = 14,
+    LUKS_FAULT_KIND = 15,
+    LUKS_FAULT_NO_SUCH_NAME = 16,
+    LUKS_FAULT_ASSIGNED = 17,
+    LUKS_FAULT_SIZES = 18,
+    LUKS_FAULT_AREA_TOO_SMALL = 19,
+    LUKS_FAULT_REGION = 20,
+    LUKS_FAULT_OUTSIDE = 21,
+    LUKS_FAULT_OVERLAP = 22,
+    LUKS_FAULT_NO_SUCH_SLOT = 23,
+    LUKS_FAULT_SLOT_FREE = 24,
+    LUKS_FAULT_ARGON2 = 25,
+    LUKS_FAULT_CIPHER = 26,
+    LUKS_FAULT_HASH = 27,
+    LUKS_FAULT_KEY_SIZE = 28,
+    LUKS_FAULT_LOCKED = 29,
+    LUKS_FAULT_PASSPHRASE = 30,
+    LUKS_FAULT_REQUIREMENTS = 31,
+    LUKS_FAULT_SLOT_TAKEN = 32,
+    LUKS_FAULT_NO_FREE_SLOT = 33,
+    LUKS_FAULT_NO_ROOM = 34,
+    LUKS_FAULT_LAST_SLOT = 35,
+    LUKS_FAULT_BAD_LABEL = 36,
+    LUKS_FAULT_SEQ_EXHAUSTED = 37,
+    LUKS_FAULT_METADATA_FULL = 38,
+    LUKS_FAULT_RANDOM_LENGTH = 39,
+    LUKS_FAULT_TOO_SMALL = 40,
+    LUKS_FAULT_NOT_LUKS1 = 41,
+    LUKS_FAULT_SAME_FILE = 42,
+    LUKS_FAULT_COUNTS = 43,
+    LUKS_FAULT_NO_METADATA = 44,
+    LUKS_FAULT_EXISTS = 45,
+    LUKS_FAULT_NOT_ACCEPTED = 46,
+    LUKS_FAULT_DOES_NOT_FIT = 47,
+    LUKS_FAULT_OTHER_VOLUME = 48,
+    LUKS_FAULT_OTHER_USE = 49,
+    LUKS_FAULT_SAME_SLOT = 50,
+    LUKS_FAULT_NO_HEADER = 51,
+    LUKS_FAULT_REENCRYPTING = 52,
+    LUKS_FAULT_NO_SUCH_DIGEST = 53,
+    LUKS_FAULT_KEY_LENGTH = 54
+};
+/* until here */
 
 /* As the length of a window: all that follows. */
 #define LUKS_TO_END UINT64_MAX
@@ -163,28 +247,63 @@ struct luks_read {
     uint64_t beyond;     /* with LUKS_BEYOND: how many of the first bytes have to be given */
 };
 
+/* What a call says while it runs, where it is given one: how far it is, of how much. It is called between two parts of the work, of
+ * the thread that made the call, and never while a secret is derived. Another answer than 0 ends the call by LUKS_STOPPED. */
+typedef int luks_progress(void *context, uint64_t done, uint64_t total);
+
+/* ---- a volume by its name ---- */
+
+/* What luks_open_volume opened. */
+struct luks_volume {
+    int fd;   /* for the calls below; -1 where it isn't open */
+    int lock; /* of a block device cryptsetup's file, which is locked; -1 of a regular file, and where it can't be made or locked, as
+                 by a user without rights: then cryptsetup isn't kept out */
+};
+
+/* Opens a file or a block device for reading, or where it `writes` for both, and takes its locks as `luks` does: shared to read,
+ * exclusive to write, of a block device also that of cryptsetup's file. Where another program holds one it is asked for each 50 ms,
+ * for so many milliseconds (`luks` waits 3000), and then this is LUKS_BUSY. Where the file system knows no locks it goes on without.
+ * LUKS_DEVICE has errno as open left it; ESPIPE of a folder, a pipe and so on, which are never waited for; EROFS of a device
+ * that is read-only and is to be written. Bytes that were read before the lock was held say nothing: read them again. */
+uint32_t luks_open_volume(const char *name, bool writes, uint32_t milliseconds, struct luks_volume *volume);
+
+/* Closes it, and so lets go of its locks; errno stays. */
+void luks_close_volume(struct luks_volume *volume);
+
 /* ---- through a descriptor of a file or a block device, open for reading ----
  *
  * The volume is the `length` bytes from `offset` on, fewer where the file ends; LUKS_TO_END takes all.
- * Its position in the file stays. As many bytes are held in memory as have to be read: mostly 16 MiB. */
+ *
+ * What a header may be refused by, of any call that reads one: LUKS_FAULT_TOO_SHORT to LUKS_FAULT_OVERLAP, the numbers 1 to 22. */
 
-/* Whether it is well formed, with its areas; else its first fault. `is_detached`: its data lies elsewhere. */
+/* Whether it is well formed, with its areas; else its first fault, one of these 22. `is_detached`: its data lies elsewhere. */
 uint32_t luks_check(int fd, uint64_t offset, uint64_t length, bool is_detached, struct luks_report *report);
 
 /* What the header says that counts, as the JSON object of `luks show --json`, without a 0 or a newline
- * behind it; `json_bytes` tells how many bytes it has, also with LUKS_ROOM. */
+ * behind it; `json_bytes` tells how many bytes it has, also with LUKS_ROOM: ask with no room first. A header's areas may
+ * lie where they can't, which luks_check tells; else its first fault. */
 uint32_t luks_read(int fd, uint64_t offset, uint64_t length, char *json, size_t json_room, uint64_t *json_bytes);
 
 /* The first keyslot that the passphrase opens, with Argon2 taking up to `memory` KiB for each. Where `older` isn't 0 the ciphers
  * and hashes of older disks are accepted (docs/PROFILE.md): key areas in aes-cbc-essiv:sha256, aes-cbc-plain and aes-cbc-plain64,
  * and sha224, sha384, ripemd160, whirlpool and blake2b-512; else such keyslots are passed over. The volume key is put into `key`,
- * where `key_room` isn't 0; 128 bytes hold any. */
+ * where `key_room` isn't 0; 128 bytes hold any, and with fewer than it has this is LUKS_ROOM, and `key_bytes` tells how many. Of LUKS2 those
+ * of priority 2 are tried first, those of priority 0 not at all. LUKS_SHUT: it opens no keyslot that was tried. That isn't
+ * yet a wrong passphrase: a keyslot may want more `memory`, or `older`, and luks_try tells which one wasn't tried. Else the header's first fault. */
 uint32_t luks_unlock(int fd, uint64_t offset, uint64_t length, const void *passphrase, size_t passphrase_bytes, uint32_t memory,
                      uint32_t older, void *key, size_t key_room, struct luks_opened *opened);
 
-/* The same of the keyslot `n` alone; its own faults are answered. */
-uint32_t luks_open(int fd, uint64_t offset, uint64_t length, uint8_t n, const void *passphrase, size_t passphrase_bytes, uint32_t memory,
+/* The same of the keyslot `n` alone, also of priority 0. LUKS_SHUT: the passphrase was tried, and doesn't open it. Why it isn't tried: the header's
+ * first fault, or LUKS_FAULT_NO_SUCH_SLOT (of any number above 31 of LUKS2, 7 of LUKS1, too), _SLOT_FREE, _OUTSIDE, _ARGON2 (it takes more than `memory`),
+ * _CIPHER or _HASH (unknown, or of an older disk), _KEY_SIZE. */
+uint32_t luks_open(int fd, uint64_t offset, uint64_t length, uint32_t n, const void *passphrase, size_t passphrase_bytes, uint32_t memory,
                    uint32_t older, void *key, size_t key_room, struct luks_opened *opened);
+
+/* Tries the passphrase on each keyslot alone, and puts what luks_open answers of the keyslot `n` into answers[n]: LUKS_DONE, LUKS_SHUT, or the
+ * fault by which it wasn't tried. It takes as long as luks_unlock where that finds none; `progress`, which may be NULL, is called before each. A header
+ * that is refused, LUKS_STOPPED, and what ends it in its midst, is the answer, and `answers` has those of the keyslots before. */
+uint32_t luks_try(int fd, uint64_t offset, uint64_t length, const void *passphrase, size_t passphrase_bytes, uint32_t memory, uint32_t older,
+                  luks_progress *progress, void *context, uint32_t answers[LUKS_KEYSLOTS]);
 
 /* What the signatures among the first `within` bytes show that the disk is used for: 0, or a number whose name
  * luks_signature_name has: a partition table, a file system, swap and so on, as libblkid knows them. LUKS is none. */
@@ -192,27 +311,40 @@ uint32_t luks_signature(int fd, uint64_t offset, uint64_t length, uint64_t withi
 
 /* The least place, at `from` or behind it, at which a LUKS volume begins in the window, as its header (of LUKS1 also without its
  * magic), its second copy or whole metadata tells; LUKS_TO_END where there is none. It is in bytes from the window's start, a
- * multiple of 512. Up to 64 MiB are held. */
+ * multiple of 512. Up to 64 MiB are held. A disk that can't be read somewhere is LUKS_DEVICE: ask again from behind that place. */
 uint32_t luks_find(int fd, uint64_t offset, uint64_t length, uint64_t from, uint64_t *place);
+
+/* The same, with a `progress` that is called before each block is read: `done` is the place up to which no volume began. */
+uint32_t luks_find_watched(int fd, uint64_t offset, uint64_t length, uint64_t from, luks_progress *progress, void *context, uint64_t *place);
+
+/* The same of one block alone, for callers that look for signals between two: where no volume begins in it `place` is LUKS_TO_END, and `reached` the place
+ * to ask from next, or LUKS_TO_END where the search is done. */
+uint32_t luks_find_step(int fd, uint64_t offset, uint64_t length, uint64_t from, uint64_t *place, uint64_t *reached);
 
 /* How the keyslots of a backup, which is the first descriptor's, stand to those of the volume, by their salts and key areas;
  * `is_same_key`, where it isn't NULL, tells whether a digest of the volume keys is one. The backup is current where each keyslot is LUKS_ABSENT or LUKS_SAME.
- * Nothing is written. */
+ * Nothing is written. LUKS_FAULT_SAME_FILE where both descriptors are of one file; LUKS_FAULT_NOT_ACCEPTED of the backup's header; else
+ * _OTHER_VOLUME where another volume's header counts, or that header's first fault. */
 uint32_t luks_compare(int backup_fd, uint64_t backup_offset, uint64_t backup_length, int fd, uint64_t offset, uint64_t length, bool is_detached,
                       uint8_t keyslots[LUKS_KEYSLOTS], bool *is_same_key);
 
-/* How many bytes a backup of the volume's header has. */
+/* How many bytes a backup of the volume's header has; or the header's first fault. */
 uint32_t luks_backup_length(int fd, uint64_t offset, uint64_t length, bool is_detached, uint64_t *bytes);
 
 /* ---- through a descriptor that is open for reading and writing ----
  *
- * What was written before is asked to stay first, by fsync, and then all of the volume that is needed is
- * read. Where a fault refuses the call, nothing is written. `is_detached`: the volume is a header alone, and
+ * LUKS_READONLY, LUKS_APPENDS and LUKS_DIRECT are answered before anything is read. Then what was written before is asked to stay, by
+ * fsync, and all of the volume that is needed is read. Where a fault refuses the call, nothing is written. `is_detached`: the volume is a header alone, and
  * its data lies elsewhere. `random` are bytes that nobody can guess, as many as luks_needed tells, or NULL:
  * then they are taken by getrandom. No call asks what else the disk is used for: before luks_format1 and so on, and of the
  * target of luks_convert and so on, ask luks_signature of the whole, and luks_check, detached, whether another volume's header
  * stands there; before an edit of a volume of which luks_check tells that one copy alone is sound ask luks_signature of the
- * places of both, which are twice the header's size: something else may stand in that of the other by now. */
+ * places of both, which are twice the header's size: something else may stand in that of the other by now.
+ *
+ * An edit may be refused by the header's first fault, by those of luks_open of the keyslot that the passphrase opens, and by
+ * LUKS_FAULT_REQUIREMENTS (of the metadata, as in the midst of a reencryption), _LOCKED (the passphrase doesn't open the keyslot),
+ * _SAME_SLOT, _SLOT_TAKEN, _NO_FREE_SLOT, _NO_ROOM, _LAST_SLOT, _ITERATIONS and _ARGON2 (costs of the new keyslot), _BAD_LABEL, _SEQ_EXHAUSTED,
+ * _METADATA_FULL, _RANDOM_LENGTH (of random bytes that are given). Where the power fails in its midst, all that opened before opens, or what the edit makes. */
 
 /* How many random bytes the edit takes; or its first fault, of those that are seen without opening a keyslot.
  * `text` is the new passphrase, or the label. It writes nothing. */
@@ -245,7 +377,8 @@ uint32_t luks_repair(int fd, uint64_t offset, uint64_t length, bool is_detached)
 /* LUKS2: sets the label, at most 47 bytes of 0x20 to 0x7E. */
 uint32_t luks_label(int fd, uint64_t offset, uint64_t length, bool is_detached, const char *label, size_t label_bytes);
 
-/* Makes a LUKS1 or a LUKS2 volume whose keyslot 0 opens by the passphrase. What stood there before is written over
+/* Makes a LUKS1 or a LUKS2 volume whose keyslot 0 opens by the passphrase; LUKS_FAULT_TOO_SMALL, _ITERATIONS, _ARGON2 and _RANDOM_LENGTH
+ * may refuse it. What stood there before is written over
  * without question. They take 256080 and 256208 random bytes. The keyslot of LUKS2 derives by `derivation`, Argon2 with up
  * to `memory` KiB, or where it is NULL as the digest of the volume key: by PBKDF2 with `iterations`. */
 uint32_t luks_format1(int fd, uint64_t offset, uint64_t length, bool is_detached, uint32_t hash, uint32_t iterations, const void *passphrase,
@@ -259,20 +392,23 @@ uint32_t luks_format2(int fd, uint64_t offset, uint64_t length, bool is_detached
  *
  * The source is only read, and its descriptor is the first; the other one is the target's, open for reading and writing,
  * another file. From the target's byte 0 on a header is written for the source's data, over whatever stands there. The
- * target has to be long enough: 16 MiB hold any of convert. Where a fault refuses the call, nothing is written. */
+ * target has to be long enough: 16 MiB hold any of convert. Where a fault refuses the call, nothing is written. LUKS_FAULT_SAME_FILE
+ * where both descriptors are of one file; LUKS_FAULT_TOO_SMALL where the target is too short. */
 
 /* A LUKS2 header of a LUKS1 volume, by which each enabled keyslot opens as before. `is_detached`: the source's data lies
- * elsewhere. It takes 128 random bytes. */
+ * elsewhere. It takes 128 random bytes. It is refused by the source's first fault, _NOT_LUKS1, _NO_ROOM, _METADATA_FULL. */
 uint32_t luks_convert(int source_fd, uint64_t source_offset, uint64_t source_length, bool is_detached, int fd, uint64_t offset, uint64_t length,
                       const void *random, size_t random_bytes);
 
 /* A LUKS2 header of metadata that a checksum vouches for or that is still whole, where no header counts: with `is_second`
  * of a second copy's, with a `size` that isn't 0 of a copy of so many bytes, and with either though a header counts.
- * `uuid` is a text or NULL. It takes 144 random bytes. */
+ * `uuid` is a text or NULL. It takes 144 random bytes. It is refused by LUKS_FAULT_COUNTS, where a header counts, _NO_METADATA, _UUID, or a fault of areas
+ * (_REGION, _OUTSIDE, _OVERLAP, _AREA_TOO_SMALL). */
 uint32_t luks_rebuild2(int source_fd, uint64_t source_offset, uint64_t source_length, bool is_second, uint64_t size, const char *uuid, int fd,
                        uint64_t offset, uint64_t length, const void *random, size_t random_bytes);
 
-/* A LUKS1 header of what still stands of one, and of what is given: `fields` and `uuid` may be NULL. */
+/* A LUKS1 header of what still stands of one, and of what is given: `fields` and `uuid` may be NULL. It is refused by LUKS_FAULT_COUNTS, _NO_HEADER,
+ * _REENCRYPTING, _TEXT, _KEY_BYTES, _ITERATIONS, or a fault of areas. */
 uint32_t luks_rebuild1(int source_fd, uint64_t source_offset, uint64_t source_length, const struct luks_fields *fields, const char *uuid, int fd,
                        uint64_t offset, uint64_t length);
 
@@ -283,12 +419,14 @@ uint32_t luks_rebuild(int source_fd, uint64_t source_offset, uint64_t source_len
 /* ---- header backups: the source is only read, and its descriptor is the first ---- */
 
 /* Writes a backup of the source's header to the target, from its byte 0 on: the header and the key areas of the keyslots in use,
- * at their places, with zeros between them. The target has to have as many bytes as luks_backup_length tells. */
+ * at their places, with zeros between them. The target has to have as many bytes as luks_backup_length tells, else
+ * it is LUKS_FAULT_TOO_SMALL; it is a file of its own, else LUKS_FAULT_SAME_FILE. */
 uint32_t luks_backup(int source_fd, uint64_t source_offset, uint64_t source_length, bool is_detached, int fd, uint64_t offset, uint64_t length);
 
 /* Puts the header and the key areas of a backup onto the volume, where `is_detached` says whether that is a header alone. One
  * whose header that counts is another volume's is refused, unless it `is_over_any`. It doesn't ask for another use of the disk,
- * which luks_signature tells, nor whether a reencryption of the volume isn't finished. */
+ * which luks_signature tells, nor whether a reencryption of the volume isn't finished. LUKS_FAULT_NOT_ACCEPTED: the backup has no header that is
+ * accepted; _DOES_NOT_FIT: it has, but not on this volume; _OTHER_VOLUME; _SAME_FILE. */
 uint32_t luks_restore(int backup_fd, uint64_t backup_offset, uint64_t backup_length, int fd, uint64_t offset, uint64_t length, bool is_detached,
                       bool is_over_any);
 
@@ -304,6 +442,7 @@ uint32_t luks_read_bytes(const uint8_t *first, size_t first_bytes, uint64_t tota
 uint32_t luks_unlock_bytes(const uint8_t *first, size_t first_bytes, uint64_t total, const uint8_t *passphrase, size_t passphrase_bytes,
                            uint32_t memory, uint32_t older, uint8_t *key, size_t key_room, struct luks_opened *opened);
 
+/* `n` is a number of 8 bits: of a larger one C takes the remainder. */
 uint32_t luks_open_bytes(const uint8_t *first, size_t first_bytes, uint64_t total, uint8_t n, const uint8_t *passphrase, size_t passphrase_bytes,
                          uint32_t memory, uint32_t older, uint8_t *key, size_t key_room, struct luks_opened *opened);
 
@@ -376,6 +515,9 @@ size_t luks_fault_text(uint32_t number, uint32_t part, uint8_t *buffer, size_t r
 
 /* The name of what luks_signature shows. */
 size_t luks_signature_name(uint32_t shows, uint8_t *buffer, size_t room);
+
+/* The version of the library that is loaded, as "1.2.3". */
+const char *luks_version(void);
 
 #ifdef __cplusplus
 }

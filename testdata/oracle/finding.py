@@ -73,3 +73,20 @@ def starts(disk, names=("header", "copy", "metadata")):
         if signs:
             told.append((signs[0][0], start, signs[0][1]))
     return [(start, name) for _, start, name in sorted(told)]
+
+
+def same_uuids(disk, places):
+    """The pairs of volumes with one uuid, of those that begin at these places, in this order, and are accepted: each with the first that has its
+    uuid, of the first 64 uuids."""
+    first, pairs = {}, []
+    for start in places:
+        volume = disk[start:]
+        if reader.check(volume)[0] == 1:
+            continue
+        chosen = reader.select(volume)
+        uuid = volume[168:208] if chosen == 1 else chosen[0]["uuid"]
+        if uuid in first:
+            pairs.append((first[uuid], start))
+        elif len(first) < 64:
+            first[uuid] = start
+    return pairs

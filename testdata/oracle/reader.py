@@ -684,3 +684,39 @@ def almost_met(volume, passphrase, slot=None, memory=0, older=False):
     bits, n = min(distances, key=lambda it: it[0], default=(9, None))
     said = f"keyslot {n} is almost met: its digest differs in {bits} bit{'' if bits == 1 else 's'}, so the passphrase is right and the digest is damaged"
     return [said] if bits <= 8 else []
+
+
+# --- whether a key is the volume's
+
+def match_key(volume, key, digest=None, older=False):
+    """(status, line) and the number of the digest of LUKS2 that was asked; `older` accepts hashes of older disks."""
+    try:
+        number, name, salt, iterations, stored = key_digest(volume, len(key), digest)
+        if name not in (*HASHES, *(OLDER_HASHES if older else ())):
+            raise Fault("Hash")
+    except Fault as fault:
+        return 1, f"refused {fault}\n", None
+    matches = pbkdf2(name, key, salt, iterations, len(stored)) == stored
+    return (0, "key matches\n", number) if matches else (1, "key does not match\n", number)
+
+
+def key_digest(volume, length, digest):
+    """The digest that is asked for of a key of so many bytes: its number, none of LUKS1, its hash, salt and iterations, and itself."""
+    chosen = select(volume)
+    if chosen == 1:
+        d = common1(volume)
+        if digest not in (None, 0):
+            raise Fault("NoSuchDigest")
+        if length != d["key_bytes"]:
+            raise Fault("KeyLength")
+        return None, d["hash"].decode(), d["salt"], d["iterations"], d["digest"]
+    checked_uuid(chosen[0]["uuid"])
+    value = metadata(chosen[0])
+    asked = [n for n, it in by_number(value["digests"]) if "0" in it["segments"]][:1] if digest is None else [digest]
+    if not asked or str(asked[0]) not in value["digests"]:
+        raise Fault("NoSuchDigest")
+    it = value["digests"][str(asked[0])]
+    lengths = [value["keyslots"][n]["key_size"] for n in it["keyslots"]] or range(1, 129)
+    if length not in lengths:
+        raise Fault("KeyLength")
+    return asked[0], it["hash"], base64.b64decode(it["salt"]), it["iterations"], base64.b64decode(it["digest"])

@@ -12,10 +12,10 @@ NEEDED = 144
 GREATEST = 2 ** 64 - 1
 
 
-def rebuilt(source, second, given, target, random, named=None):
+def rebuilt(source, second, given, target, random, named=None, thorough=False):
     """The line that the program prints, and the target that is left; the second copy or a size may be named."""
     try:
-        parts = parts_of(source, second, given, len(target), random, named)
+        parts = parts_of(source, second, given, len(target), random, named, thorough)
     except Fault as fault:
         return f"refused {fault}", target
     out = bytearray(target)
@@ -31,16 +31,17 @@ def places(second, named=None):
     return firsts + [(size, size) for size in sizes]
 
 
-def candidate(source, second, named=None):
+def candidate(source, second, named=None, thorough=False):
     """Where the metadata is taken from, its JSON area and its value, and what its header keeps: sequence number, label and subsystem."""
-    return newest_vouched(source, second, named) or first_whole(source, second, named)
+    return newest_vouched(source, second, named, thorough) or first_whole(source, second, named)
 
 
-def newest_vouched(source, second, named):
+def newest_vouched(source, second, named, thorough):
     """Of what checksums vouch for that of the highest sequence number, of one number the first."""
     best, newest = None, -1
+    most = vouching.share(source, places(False), thorough)
     for size, at in places(second, named):
-        found = vouching.vouched(source, size, at)
+        found = vouching.vouched(source, size, at, most)
         if found is None:
             continue
         head, area, value = found
@@ -71,11 +72,11 @@ def counts(source):
     return True
 
 
-def parts_of(source, second, given, length, random, named=None):
+def parts_of(source, second, given, length, random, named=None, thorough=False):
     """What is written to a target of this length, in order: the key areas, the second copy, the first."""
     if not second and named is None and counts(source):
         raise Fault("Counts")
-    size, at, area, value, kept = candidate(source, second, named)
+    size, at, area, value, kept = candidate(source, second, named, thorough)
     slots = [(n, reader.slot_area2(slot)) for n, slot in reader.by_number(value["keyslots"])]
     reader.fit([("Head1", (0, size)), ("Head2", (size, size))] + [(f"Slot({n})", place) for n, place in slots], len(source))
     if length < 2 * size + int(value["config"]["keyslots_size"]):

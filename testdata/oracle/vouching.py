@@ -5,7 +5,9 @@ import itertools
 import reader
 from reader import Fault
 
-SECTOR, HEAD, MOST, FEW = 512, 4096, 64 << 20, 16
+SECTOR, HEAD, FEW = 512, 4096, 16
+# so many bytes of areas are hashed at most for all copies together, or where the search is to be thorough
+WHOLE = {False: 32 << 20, True: 1 << 40}
 MAGIC = {True: b"LUKS\xba\xbe", False: b"SKUL\xba\xbe"}
 
 
@@ -35,14 +37,14 @@ def pieces(first, second):
     return found
 
 
-def fit(first, second, count):
-    """So many compositions, and the two areas that are cut, have no more than 64 MiB together."""
-    return (2 + count) * len(first) <= MOST
+def fit(first, count, most):
+    """So many compositions, and the two areas that are cut, have no more bytes together."""
+    return (2 + count) * len(first) <= most
 
 
-def is_cut_short(first, second):
+def is_cut_short(first, second, most):
     """Not all compositions of pieces are tried."""
-    return not fit(first, second, 2 ** len(sectors(first, second)[2]) + 2 ** len(pieces(first, second)))
+    return not fit(first, 2 ** len(sectors(first, second)[2]) + 2 ** len(pieces(first, second)), most)
 
 
 def cut(area):
@@ -50,19 +52,19 @@ def cut(area):
     return area.split(b"\0")[0].ljust(len(area), b"\0")
 
 
-def of_sectors(first, second):
+def of_sectors(first, second, most):
     """The compositions of sectors that are tried, in their order."""
     one, two, differing = sectors(first, second)
-    if fit(first, second, 2 ** len(differing)):
+    if fit(first, 2 ** len(differing), most):
         for choice in itertools.product((one, two), repeat=len(differing)):
             area = list(one)
             for k, chosen in zip(differing, choice):
                 area[k] = chosen[k]
             yield b"".join(area)
     else:
-        most = (MOST // len(first) - 2) // 2
+        near = (most // len(first) - 2) // 2
         for front, rest in ((first, second), (second, first)):
-            for k in [0, *(k + 1 for k in differing)][:most]:
+            for k in [0, *(k + 1 for k in differing)][:near]:
                 yield front[:k * SECTOR] + rest[k * SECTOR:]
 
 
@@ -77,24 +79,35 @@ def of_pieces(first, second):
         yield bytes(area)
 
 
-def tried(first, second):
-    """What is tried, in its order."""
+def tried(first, second, most):
+    """What is tried, in its order: nothing where two areas have more bytes than may be hashed."""
+    if 2 * len(first) > most:
+        return
     yield cut(first)
     yield cut(second)
-    yield from of_sectors(first, second)
-    if not is_cut_short(first, second):
+    yield from of_sectors(first, second, most)
+    if not is_cut_short(first, second, most):
         yield from of_pieces(first, second)
 
 
-def vouched(source, size, at):
-    """The binary header, the JSON area and the metadata that the copy at this place vouches for; nothing where it vouches for none."""
-    if 2 * size > len(source):
+def standing(source, size, at):
+    """Both copies lie in the source, and the binary header of this one stands."""
+    return 2 * size <= len(source) and stands(mended(source, at), size, at)
+
+
+def share(source, places, thorough):
+    """How many bytes of areas may be hashed for each copy that stands."""
+    count = sum(standing(source, size, at) for size, at in places)
+    return WHOLE[thorough] // count if count else 0
+
+
+def vouched(source, size, at, most):
+    """The binary header, the JSON area and the metadata that the copy at this place vouches for by so many hashed bytes; nothing where it vouches for none."""
+    if not standing(source, size, at):
         return None
     head = mended(source, at)
-    if not stands(head, size, at):
-        return None
     fed = hashlib.sha256(head[:448] + bytes(64) + head[512:])
-    for area in tried(source[HEAD:size], source[size + HEAD:2 * size]):
+    for area in tried(source[HEAD:size], source[size + HEAD:2 * size], most):
         whole = fed.copy()
         whole.update(area)
         if whole.digest() == head[448:480]:

@@ -84,6 +84,8 @@ fault_number fault.OtherUse = 49
 fault_number fault.SameSlot = 50
 fault_number fault.NoHeader = 51
 fault_number fault.Reencrypting = 52
+fault_number fault.NoSuchDigest = 53
+fault_number fault.KeyLength = 54
 
 -- the fault of this number, if there is one
 abbrev pub fault_numbered : ℕ → Option Fault

@@ -111,6 +111,8 @@ fn number_of_call(fault: Fault) -> u32
         Fault::SameSlot => 50,
         Fault::NoHeader => 51,
         Fault::Reencrypting => 52,
+        Fault::NoSuchDigest => 53,
+        Fault::KeyLength => 54,
         _ => UNKNOWN,
     }
 }

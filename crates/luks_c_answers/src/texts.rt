@@ -50,6 +50,11 @@ fn other_name(number: u32) -> &'static str {
         104 => "Device",
         105 => "Shut",
         106 => "Room",
+        107 => "Appends",
+        108 => "ReadOnly",
+        109 => "Direct",
+        110 => "Stopped",
+        111 => "Busy",
         _ => "",
     }
 }
@@ -64,6 +69,11 @@ fn other_meaning(number: u32) -> &'static str {
         104 => "a call of the device failed",
         105 => "the passphrase opens no keyslot that was tried",
         106 => "a buffer of the caller's is too short",
+        107 => "the descriptor appends (O_APPEND): its writes would go to the file's end",
+        108 => "the descriptor isn't open for writing",
+        109 => "the descriptor is open for direct calls (O_DIRECT)",
+        110 => "the caller said to stop",
+        111 => "another program holds the volume's lock",
         _ => "",
     }
 }

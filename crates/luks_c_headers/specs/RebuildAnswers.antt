@@ -12,7 +12,9 @@ use Rattle.luks_rebuilding.specs.Outcome.{IsRebuildable, IsRebuildFault}
 use Rattle.luks_rebuilding.specs.RebuildFaults.{rebuild_key}
 use Rattle.luks_rebuilding.specs.Rebuilt.{IsRebuilt}
 use Rattle.luks_rebuilding.specs.declared.place.Which.{Which}
-use Rattle.luks_rebuilding.specs.declared.place.Which.TheVariants.{Any, Second, OfSize, SecondOfSize}
+use Rattle.luks_rebuilding.specs.declared.place.Copies.{Copies}
+use Rattle.luks_rebuilding.specs.declared.place.Copies.TheVariants.{Any, Second, OfSize, SecondOfSize}
+use Rattle.luks_rebuilding.specs.declared.place.Effort.TheVariants.{Usual}
 use Rattle.luks_rebuilding.specs.declared.rebuild_fault.RebuildFault.{RebuildFault}
 use Rattle.luks1_mending.specs.declared.given.Given.{Given}
 use Rattle.luks1_rebuilding.specs.Gives.{Gives as GivesKept}
@@ -29,9 +31,13 @@ use Rattle.luks_c_answers.specs.Plans.{AnswersPlan, Buffers}
 -- ---- a LUKS2 header, of metadata
 
 -- the copies that are asked for: second ones alone or any, of this size or, where it is 0, of any
+abbrev pub copies_of : Bool → ℕ → Copies
+copies_of false size = if size == 0 then Any else (OfSize size)
+copies_of true size = if size == 0 then Second else (SecondOfSize size)
+
+-- what their checksums vouch for is sought as the command does that isn't asked to be thorough
 abbrev pub which_asked : Bool → ℕ → Which
-which_asked false size = if size == 0 then Any else (OfSize size)
-which_asked true size = if size == 0 then Second else (SecondOfSize size)
+which_asked second size = record { copies = copies_of second size; effort = Usual }
 
 -- the uuid that is given: a text; or none, where it has no byte
 abbrev pub IsMaybeText : List ℕ → Option (List ℕ) → Type 0

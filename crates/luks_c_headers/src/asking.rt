@@ -4,7 +4,7 @@ ghost use Rattle.luks_c_headers.specs.RebuildAnswers.{IsGivenBy, IsMaybeField, I
 ghost use Rattle.arrayvec.specs.ArrayString.{ArrayString as TheString};
 
 use arrayvec::ArrayString;
-use luks_rebuilding::Which;
+use luks_rebuilding::{Copies, Effort, Which};
 use luks1_rebuilding::Given as Fields;
 use std::str;
 
@@ -19,11 +19,15 @@ pub struct NoText;
 pub fn copies_asked(is_second: bool, size: u64) -> Which
     ensures { result ≡ which_asked is_second size }
 {
-    match (is_second, size) {
-        (false, 0) => Which::Any,
-        (false, size) => Which::OfSize(size),
-        (true, 0) => Which::Second,
-        (true, size) => Which::SecondOfSize(size),
+    let copies = match (is_second, size) {
+        (false, 0) => Copies::Any,
+        (false, size) => Copies::OfSize(size),
+        (true, 0) => Copies::Second,
+        (true, size) => Copies::SecondOfSize(size),
+    };
+    Which {
+        copies,
+        effort: Effort::Usual,
     }
 }
 

@@ -6,6 +6,7 @@ pub mod FileFacts
 pub mod FirstLineFacts
 pub mod FormatFacts
 pub mod Fronts
+pub mod KeyFacts
 pub mod OpenFacts
 pub mod StandingFacts
 mod ShowFacts

@@ -30,8 +30,8 @@ use Rattle.luks_request.specs.declared.request.ShowAs.TheVariants.{Lines, All, M
 use Rattle.luks_map.specs.Map.{IsMap}
 use Rattle.luks_show.specs.declared.listing.Listing.TheVariants.{Luks1, Luks2}
 use Rattle.luks_commands.specs.declared.answers.Answer.{Answer}
-use Rattle.luks_commands.specs.declared.answers.Answer.TheVariants.{Accepted, Listed, ListedFully, Mapped, Json, Opens, Closed, NoneOpens, Done, Compared, Refused, DeviceFault, NoMemory}
-use Rattle.luks_commands.specs.declared.answers.Refusal.TheVariants.{LongPassphrase, Check, Open, Edit, Format, Convert, Rebuild, Rebuild1, Backup, Restore, SameFile, Exists, OtherUse, OtherVolume, Reencrypting}
+use Rattle.luks_commands.specs.declared.answers.Answer.TheVariants.{Accepted, Listed, ListedFully, Mapped, Json, Opens, Closed, NoneOpens, Matches, Differs, Done, Compared, Rescued, Refused, DeviceFault, NoMemory}
+use Rattle.luks_commands.specs.declared.answers.Refusal.TheVariants.{LongPassphrase, Check, Open, Key, Edit, Format, Convert, Rebuild, Rebuild1, Backup, Restore, SameFile, Exists, OtherUse, OtherVolume, Reencrypting}
 use Rattle.luks_commands.specs.Answer.{check_fault_answer}
 use Rattle.luks_commands.specs.ShowAnswers.{IsBeforeAreas, IsAsJson, IsAsMap, IsFirstShowFault, IsFullAnswer, IsInFull, IsJsonAnswer, IsListedAnswer, IsMapAnswer, IsShowAnswer, IsShowFault, IsShown, IsShownAs}
 
@@ -124,8 +124,11 @@ json_answer tells v before after (Listed listing) (Mapped m) made is = absurd ma
 json_answer tells v before after (Listed listing) (Opens n) made is = absurd made
 json_answer tells v before after (Listed listing) (Closed n) made is = absurd made
 json_answer tells v before after (Listed listing) NoneOpens made is = absurd made
+json_answer tells v before after (Listed listing) Matches made is = absurd made
+json_answer tells v before after (Listed listing) Differs made is = absurd made
 json_answer tells v before after (Listed listing) (Done slot) made is = absurd made
 json_answer tells v before after (Listed listing) (Compared comparison) made is = absurd made
+json_answer tells v before after (Listed listing) (Rescued lost) made is = absurd made
 json_answer tells v before after (Listed listing) (Refused by_) made is = absurd made
 json_answer tells v before after (Listed listing) DeviceFault made is = absurd made
 json_answer tells v before after (Accepted version areas) a made is = absurd is
@@ -135,11 +138,15 @@ json_answer tells v before after (Json text) a made is = absurd is
 json_answer tells v before after (Opens n) a made is = absurd is
 json_answer tells v before after (Closed n) a made is = absurd is
 json_answer tells v before after NoneOpens a made is = absurd is
+json_answer tells v before after Matches a made is = absurd is
+json_answer tells v before after Differs a made is = absurd is
 json_answer tells v before after (Done slot) a made is = absurd is
 json_answer tells v before after (Compared comparison) a made is = absurd is
+json_answer tells v before after (Rescued lost) a made is = absurd is
 json_answer tells v before after (Refused (Check f)) a made is = subst (IsJsonAnswer tells v before after) (sym made) is
 json_answer tells v before after (Refused LongPassphrase) a made is = absurd is
 json_answer tells v before after (Refused (Open f)) a made is = absurd is
+json_answer tells v before after (Refused (Key f)) a made is = absurd is
 json_answer tells v before after (Refused (Edit f)) a made is = absurd is
 json_answer tells v before after (Refused (Format f)) a made is = absurd is
 json_answer tells v before after (Refused (Convert f)) a made is = absurd is
@@ -167,11 +174,15 @@ full_answer tells v before after (Json text) a made is = absurd is
 full_answer tells v before after (Opens n) a made is = absurd is
 full_answer tells v before after (Closed n) a made is = absurd is
 full_answer tells v before after NoneOpens a made is = absurd is
+full_answer tells v before after Matches a made is = absurd is
+full_answer tells v before after Differs a made is = absurd is
 full_answer tells v before after (Done slot) a made is = absurd is
 full_answer tells v before after (Compared comparison) a made is = absurd is
+full_answer tells v before after (Rescued lost) a made is = absurd is
 full_answer tells v before after (Refused (Check f)) a made is = subst (IsFullAnswer tells v before after) (sym made) is
 full_answer tells v before after (Refused LongPassphrase) a made is = absurd is
 full_answer tells v before after (Refused (Open f)) a made is = absurd is
+full_answer tells v before after (Refused (Key f)) a made is = absurd is
 full_answer tells v before after (Refused (Edit f)) a made is = absurd is
 full_answer tells v before after (Refused (Format f)) a made is = absurd is
 full_answer tells v before after (Refused (Convert f)) a made is = absurd is
@@ -200,11 +211,15 @@ map_answer total tells v before after (Json text) a long made is = absurd is
 map_answer total tells v before after (Opens n) a long made is = absurd is
 map_answer total tells v before after (Closed n) a long made is = absurd is
 map_answer total tells v before after NoneOpens a long made is = absurd is
+map_answer total tells v before after Matches a long made is = absurd is
+map_answer total tells v before after Differs a long made is = absurd is
 map_answer total tells v before after (Done slot) a long made is = absurd is
 map_answer total tells v before after (Compared comparison) a long made is = absurd is
+map_answer total tells v before after (Rescued lost) a long made is = absurd is
 map_answer total tells v before after (Refused (Check f)) a long made is = subst (IsMapAnswer tells v before after) (sym made) is
 map_answer total tells v before after (Refused LongPassphrase) a long made is = absurd is
 map_answer total tells v before after (Refused (Open f)) a long made is = absurd is
+map_answer total tells v before after (Refused (Key f)) a long made is = absurd is
 map_answer total tells v before after (Refused (Edit f)) a long made is = absurd is
 map_answer total tells v before after (Refused (Format f)) a long made is = absurd is
 map_answer total tells v before after (Refused (Convert f)) a long made is = absurd is

@@ -6,9 +6,11 @@ use Rattle.luks_reading.specs.declared.report.Version.{Version}
 use Rattle.luks_reading.specs.declared.report.Version.TheVariants.{Luks1, Luks2}
 use Rattle.luks_reading.specs.declared.check_fault.CheckFault.{CheckFault}
 use Rattle.luks_reading.specs.declared.check_fault.CheckFault.TheVariants as checking
+use Rattle.luks_reading.specs.declared.key_fault.KeyFault.{KeyFault}
+use Rattle.luks_reading.specs.declared.key_fault.KeyFault.TheVariants as judging
 use Rattle.luks_reading.specs.declared.open_fault.OpenFault.{OpenFault}
 use Rattle.luks_reading.specs.declared.open_fault.OpenFault.TheVariants as opening
-use Rattle.luks_reading.specs.FaultTexts.{check_fault_text, open_fault_text}
+use Rattle.luks_reading.specs.FaultTexts.{check_fault_text, key_fault_text, open_fault_text}
 use Rattle.luks_edit.specs.declared.edit_fault.EditFault.{EditFault}
 use Rattle.luks_edit.specs.declared.edit_fault.EditFault.TheVariants as editing
 use Rattle.luks_edit.specs.FaultTexts.{edit_fault_text}
@@ -30,9 +32,10 @@ use Rattle.luks_keeping.specs.declared.backup_fault.BackupFault.TheVariants as b
 use Rattle.luks_keeping.specs.declared.restore_fault.RestoreFault.{RestoreFault}
 use Rattle.luks_keeping.specs.declared.restore_fault.RestoreFault.TheVariants as restoring
 use Rattle.luks_keeping.specs.FaultTexts.{backup_fault_text, restore_fault_text}
+use Rattle.luks_keeping.specs.LostTexts.{rescued_text}
 use Rattle.luks_signatures.specs.UseTexts.{use_text}
 use Rattle.luks_commands.specs.declared.answers.Answer.{Answer}
-use Rattle.luks_commands.specs.declared.answers.Answer.TheVariants.{Accepted, Listed, ListedFully, Mapped, Json, Opens, Closed, NoneOpens, Done, Compared, Refused, DeviceFault, NoMemory}
+use Rattle.luks_commands.specs.declared.answers.Answer.TheVariants.{Accepted, Listed, ListedFully, Mapped, Json, Opens, Closed, NoneOpens, Matches, Differs, Done, Compared, Rescued, Refused, DeviceFault, NoMemory}
 use Rattle.luks_commands.specs.declared.answers.Refusal.{Refusal}
 use Rattle.luks_commands.specs.declared.answers.Refusal.TheVariants as refusal
 use Rattle.luks_commands.specs.declared.answers.Status.{Status}
@@ -58,6 +61,7 @@ abbrev pub refusal_text : Refusal → List ℕ
 refusal_text refusal.LongPassphrase = codes "Passphrase"
 refusal_text (refusal.Check f) = check_fault_text f
 refusal_text (refusal.Open f) = open_fault_text f
+refusal_text (refusal.Key f) = key_fault_text f
 refusal_text (refusal.Edit f) = edit_fault_text f
 refusal_text (refusal.Format f) = format_fault_text f
 refusal_text (refusal.Convert f) = convert_fault_text f
@@ -81,9 +85,12 @@ line_of (Json text) = Some (line (string_bytes text))
 line_of (Opens n) = Some (codes "slot " ++ decimal n ++ line (codes " opens"))
 line_of (Closed n) = Some (codes "slot " ++ decimal n ++ line (codes " does not open"))
 line_of NoneOpens = Some (line (codes "no slot opens"))
+line_of Matches = Some (line (codes "key matches"))
+line_of Differs = Some (line (codes "key does not match"))
 line_of (Done None) = Some (line (codes "done"))
 line_of (Done (Some n)) = Some (codes "done slot " ++ line (decimal n))
 line_of (Compared comparison) = Some (comparison_text comparison)
+line_of (Rescued lost) = Some (rescued_text lost)
 line_of (Refused by_) = Some (codes "refused " ++ line (refusal_text by_))
 line_of DeviceFault = Some (line (codes "device fault"))
 line_of NoMemory = Some (line (codes "no memory"))
@@ -104,8 +111,11 @@ answer_status (Json text) = status.Done
 answer_status (Opens n) = status.Done
 answer_status (Closed n) = status.Refused
 answer_status NoneOpens = status.Refused
+answer_status Matches = status.Done
+answer_status Differs = status.Refused
 answer_status (Done slot) = status.Done
 answer_status (Compared comparison) = current_status (is_current comparison)
+answer_status (Rescued lost) = status.Refused
 answer_status (Refused by_) = status.Refused
 answer_status DeviceFault = status.Fault
 answer_status NoMemory = status.Fault
@@ -127,6 +137,11 @@ abbrev pub open_fault_answer : OpenFault → Answer
 open_fault_answer opening.Device = DeviceFault
 open_fault_answer opening.Memory = NoMemory
 open_fault_answer f = Refused (refusal.Open f)
+
+abbrev pub key_fault_answer : KeyFault → Answer
+key_fault_answer judging.Device = DeviceFault
+key_fault_answer judging.Memory = NoMemory
+key_fault_answer f = Refused (refusal.Key f)
 
 abbrev pub edit_fault_answer : EditFault → Answer
 edit_fault_answer editing.Device = DeviceFault

@@ -10,6 +10,7 @@ pub mod CheckAnswers
 pub mod Chosen
 pub mod Formatting
 pub mod OpenAnswers
+pub mod KeyAnswers
 pub mod FormatAnswers
 pub mod Standing
 pub mod Turns

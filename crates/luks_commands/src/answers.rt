@@ -2,7 +2,7 @@
 ghost use Rattle.std.specs.Prelude.{◌≡◌, ◌≢◌, ◌+◌, ◌<◌, ◌^◌, Some};
 ghost use Rattle.luks_commands.specs.Answer.{answer_status, backup_fault_answer, check_fault_answer};
 ghost use Rattle.luks_commands.specs.Answer.{convert_fault_answer, edit_fault_answer, restore_fault_answer};
-ghost use Rattle.luks_commands.specs.Answer.{format_fault_answer, IsPrinted, line_of, open_fault_answer};
+ghost use Rattle.luks_commands.specs.Answer.{format_fault_answer, IsPrinted, key_fault_answer, line_of, open_fault_answer};
 ghost use Rattle.luks_commands.specs.Answer.{rebuild_fault_answer, rebuild1_fault_answer, refusal_text, unread_answer};
 
 use crate::inputs::InputFault;
@@ -10,9 +10,9 @@ use crate::printer::{Printer, Unprinted};
 use luks_converting::ConvertFault;
 use luks_edit::EditFault;
 use luks_formatting::FormatFault;
-use luks_keeping::{BackupFault, Comparison, RestoreFault};
+use luks_keeping::{BackupFault, Comparison, LostKeyslots, RestoreFault};
 use luks_map::HeaderMap;
-use luks_reading::{CheckFault, Copies, OpenFault, Version};
+use luks_reading::{CheckFault, Copies, KeyFault, OpenFault, Version};
 use luks_rebuilding::RebuildFault;
 use luks_show::{FullListing, Listing, copies_name};
 use luks_signatures::OtherUse;
@@ -26,7 +26,7 @@ use std::io::Write;
 pub enum Status {
     /// Accepted, shown, opened or done.
     Done = 0,
-    /// Refused, or it doesn't open.
+    /// Refused, or it doesn't open; or not all could be done.
     Refused = 1,
     /// Accepted, but the two copies of the header aren't in step.
     NotInStep = 3,
@@ -43,6 +43,8 @@ pub enum Refusal {
     Check(CheckFault),
     /// The keyslot, or the volume, can't be opened whatever the passphrase.
     Open(OpenFault),
+    /// It can't be told whether the key is the volume's.
+    Key(KeyFault),
     /// The edit is refused.
     Edit(EditFault),
     /// The volume isn't made.
@@ -77,6 +79,7 @@ impl fmt::Display for Refusal {
             Refusal::LongPassphrase => f.write_str("Passphrase"),
             Refusal::Check(fault) => write!(f, "{fault}"),
             Refusal::Open(fault) => write!(f, "{fault}"),
+            Refusal::Key(fault) => write!(f, "{fault}"),
             Refusal::Edit(fault) => write!(f, "{fault}"),
             Refusal::Format(fault) => write!(f, "{fault}"),
             Refusal::Convert(fault) => write!(f, "{fault}"),
@@ -117,10 +120,16 @@ pub enum Answer {
     Closed(u8),
     /// It opens no keyslot.
     NoneOpens,
+    /// The key is the volume's.
+    Matches,
+    /// It is another.
+    Differs,
     /// The edit is done, or the volume made; the keyslot that was made or sealed again.
     Done(Option<u8>),
     /// How a backup stands to the volume.
     Compared(Comparison),
+    /// The backup is made, but for the key areas of these keyslots, which couldn't be read in full.
+    Rescued(LostKeyslots),
     /// The command is refused.
     Refused(Refusal),
     /// A device call failed, or a file can't be read.
@@ -152,9 +161,12 @@ impl fmt::Display for Answer {
             Answer::Opens(n) => writeln!(f, "slot {n} opens"),
             Answer::Closed(n) => writeln!(f, "slot {n} does not open"),
             Answer::NoneOpens => writeln!(f, "no slot opens"),
+            Answer::Matches => writeln!(f, "key matches"),
+            Answer::Differs => writeln!(f, "key does not match"),
             Answer::Done(Some(n)) => writeln!(f, "done slot {n}"),
             Answer::Done(None) => writeln!(f, "done"),
             Answer::Compared(comparison) => write!(f, "{comparison}"),
+            Answer::Rescued(lost) => write!(f, "{lost}"),
             Answer::Refused(refusal) => writeln!(f, "refused {refusal}"),
             Answer::DeviceFault => writeln!(f, "device fault"),
             Answer::NoMemory => writeln!(f, "no memory"),
@@ -182,9 +194,11 @@ impl Answer {
             Answer::Listed(_) | Answer::ListedFully(_) => Status::Done,
             Answer::Mapped(_) | Answer::Json(_) => Status::Done,
             Answer::Opens(_) | Answer::Done(_) => Status::Done,
+            Answer::Matches => Status::Done,
             Answer::Compared(comparison) if comparison.is_current() => Status::Done,
-            Answer::Compared(_) => Status::Refused,
+            Answer::Compared(_) | Answer::Rescued(_) => Status::Refused,
             Answer::Closed(_) | Answer::NoneOpens | Answer::Refused(_) => Status::Refused,
+            Answer::Differs => Status::Refused,
             Answer::DeviceFault | Answer::NoMemory => Status::Fault,
         }
     }
@@ -222,6 +236,18 @@ impl From<OpenFault> for Answer {
             OpenFault::Device => Answer::DeviceFault,
             OpenFault::Memory => Answer::NoMemory,
             fault => Answer::Refused(Refusal::Open(fault)),
+        }
+    }
+}
+
+impl From<KeyFault> for Answer {
+    ghost from_gives = { λ fault answer. answer ≡ key_fault_answer fault };
+
+    fn from(fault: KeyFault) -> Answer {
+        match fault {
+            KeyFault::Device => Answer::DeviceFault,
+            KeyFault::Memory => Answer::NoMemory,
+            fault => Answer::Refused(Refusal::Key(fault)),
         }
     }
 }

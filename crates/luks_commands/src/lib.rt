@@ -8,6 +8,7 @@ pub mod check;
 mod chosen;
 pub mod format;
 mod inputs;
+pub mod matching;
 mod one_file;
 pub mod open;
 mod passphrase_file;

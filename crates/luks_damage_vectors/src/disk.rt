@@ -2,7 +2,7 @@
 use crate::bad_disk::BadDisk;
 use luks_area::{FaultyDevice, Leave, MemDevice};
 use luks_commands::CountingPrinter;
-use luks_find_command::{Progress, Unread, find};
+use luks_find_command::{Progress, SameUuid, Unread, find};
 use luks_finding::all_starts;
 use luks_request::Place;
 use luks_vector_lines::{Functions, Malformed, Words, demand, shown};
@@ -10,7 +10,7 @@ use std::alloc::Global;
 use std::io::Write;
 use std::str;
 
-/// What `find` passes over, each behind a semicolon.
+/// What `find` passes over, and which volumes have one uuid, each behind a semicolon.
 #[derive(Drop)]
 struct Passes {
     text: Vec<u8>,
@@ -21,12 +21,18 @@ impl Progress for Passes {
 
     ghost heard = { λ _. None };
 
+    ghost paired = { λ _. None };
+
     fn looked(&mut self, _at: u64, _total: u64) {}
 
     fn clear(&mut self) {}
 
     fn pass(&mut self, unread: Unread) {
         let _ = write!(self.text, "; {unread}");
+    }
+
+    fn pair(&mut self, pair: SameUuid) {
+        let _ = write!(self.text, "; {pair}");
     }
 }
 
@@ -64,7 +70,7 @@ impl Disk {
         }
     }
 
-    /// `find`: the status of `luks find`, its lines, and what it passes over.
+    /// `find`: the status of `luks find`, its lines, what it passes over and which volumes have one uuid.
     fn find(&self, alloc: Global) -> Result<String, Malformed> {
         let mut volume = Ok(BadDisk::new(self.bytes.clone()?, self.bad.clone()?));
         let mut out = CountingPrinter::new(Vec::new(alloc));

@@ -2,7 +2,7 @@
 use luks_area::MemDevice;
 use luks_notes::note_taken;
 use luks_reading::{Data, check};
-use luks_rebuilding::{RebuildFault, Which, rebuild};
+use luks_rebuilding::{Copies, Effort, RebuildFault, Which, rebuild};
 use luks_test_devices::{counted, old_bytes, two_hashes};
 use luks_vector_lines::{Functions, Malformed, Words, demand};
 use sha2::{Digest, Sha256};
@@ -19,22 +19,25 @@ pub struct DamagedLuks2 {
 struct Asked {
     second: bool,
     size: Option<u64>,
+    thorough: bool,
     uuid: Option<String>,
 }
 
 impl Asked {
-    /// `[second] [size LEN] [uuid TEXT]`.
+    /// `[second] [size LEN] [thorough] [uuid TEXT]`.
     fn read(alloc: Global, words: &mut Words<'_>) -> Result<Asked, Malformed> {
         let mut asked = Asked {
             second: false,
             size: None,
+            thorough: false,
             uuid: None,
         };
-        for _ in 0..3 {
+        for _ in 0..4 {
             match words.next_word() {
                 None => break,
                 Some("second") => asked.second = true,
                 Some("size") => asked.size = Some(words.number()?),
+                Some("thorough") => asked.thorough = true,
                 Some("uuid") => asked.uuid = Some(words.text(alloc)?),
                 Some(_) => return Err(Malformed::Name),
             }
@@ -42,14 +45,20 @@ impl Asked {
         Ok(asked)
     }
 
-    /// The copies that are asked for.
+    /// The copies that are asked for, and how much may be hashed for them.
     fn which(&self) -> Which {
-        match (self.second, self.size) {
-            (false, None) => Which::Any,
-            (true, None) => Which::Second,
-            (false, Some(size)) => Which::OfSize(size),
-            (true, Some(size)) => Which::SecondOfSize(size),
-        }
+        let copies = match (self.second, self.size) {
+            (false, None) => Copies::Any,
+            (true, None) => Copies::Second,
+            (false, Some(size)) => Copies::OfSize(size),
+            (true, Some(size)) => Copies::SecondOfSize(size),
+        };
+        let effort = if self.thorough {
+            Effort::Thorough
+        } else {
+            Effort::Usual
+        };
+        Which { copies, effort }
     }
 
     /// What rebuilding answers.
@@ -90,7 +99,7 @@ impl DamagedLuks2 {
         self.volume.get(..words.len()?).ok_or(Malformed::Outside)
     }
 
-    /// `rebuild SOURCE TARGET RANDOM [second] [size LEN] [uuid TEXT]`: of so many bytes of the volume, to
+    /// `rebuild SOURCE TARGET RANDOM [second] [size LEN] [thorough] [uuid TEXT]`: of so many bytes of the volume, to
     /// a target of so many, by so many random bytes: the answer, and the SHA-256 of the target that is
     /// left. That the source has changed, or that a header isn't accepted, is told in its place.
     fn rebuild(&self, alloc: Global, words: &mut Words<'_>) -> Result<String, Malformed> {
@@ -113,12 +122,16 @@ impl DamagedLuks2 {
         }
     }
 
-    /// `note SOURCE [second] [size LEN]`: what is said of so many bytes of the volume once a header was made.
+    /// `note SOURCE [second] [size LEN] [thorough]`: what is said of so many bytes of the volume once a header was
+    /// made of them on a target of as many bytes.
     fn note(&self, alloc: Global, words: &mut Words<'_>) -> Result<String, Malformed> {
-        let mut source = MemDevice::new(self.front(words)?.to_vec(alloc)?);
-        let which = Asked::read(alloc, words)?.which();
+        let image = self.front(words)?;
+        let mut source = MemDevice::new(image.to_vec(alloc)?);
+        let mut target = MemDevice::new(old_bytes(alloc, image.len())?);
+        let asked = Asked::read(alloc, words)?;
+        let _ = asked.rebuild(alloc, &mut source, &mut target, &counted(alloc, 0, 144)?);
         let mut said = Vec::new(alloc);
-        note_taken(alloc, &mut source, which, &mut said);
+        note_taken(alloc, &mut source, &mut target, asked.which(), &mut said);
         let said = str::from_utf8(said.as_slice()).unwrap_or("no text");
         Ok(String::from_str(alloc, said.trim_end())?)
     }

@@ -7,7 +7,7 @@ use Rattle.serde_json.specs.Written.{has_float, items_have_float}
 use Rattle.luks_reading.specs.declared.report.Version.{Version}
 use Rattle.luks_reading.specs.declared.report.Version.TheVariants.{Luks1, Luks2}
 use Rattle.luks_commands.specs.declared.answers.Answer.{Answer}
-use Rattle.luks_commands.specs.declared.answers.Answer.TheVariants.{Accepted, Listed, ListedFully, Mapped, Json, Opens, Closed, NoneOpens, Done, Compared, Refused, DeviceFault, NoMemory}
+use Rattle.luks_commands.specs.declared.answers.Answer.TheVariants.{Accepted, Listed, ListedFully, Mapped, Json, Opens, Closed, NoneOpens, Matches, Differs, Done, Compared, Rescued, Refused, DeviceFault, NoMemory}
 use Rattle.luks_execution.specs.AnswerValue.{accepted_value, bare_value, fault_value, IsAnswerWith, slot_value, texts_value}
 
 -- nor have texts
@@ -36,6 +36,8 @@ module _ (hints : List (List ℕ)) (status : ℕ) where
   answer_whole (Opens n) d is = ap has_float is ∙ slot_whole (codes "opens") n
   answer_whole (Closed n) d is = ap has_float is ∙ slot_whole (codes "does not open") n
   answer_whole NoneOpens d is = ap has_float is ∙ bare_whole (codes "no slot opens")
+  answer_whole Matches d is = ap has_float is ∙ bare_whole (codes "key matches")
+  answer_whole Differs d is = ap has_float is ∙ bare_whole (codes "key does not match")
   answer_whole (Done (Some n)) d is = ap has_float is ∙ slot_whole (codes "done") n
   answer_whole (Done None) d is = ap has_float is ∙ bare_whole (codes "done")
   answer_whole (Listed listing) d is = ap has_float is ∙ bare_whole (codes "shown")
@@ -43,5 +45,6 @@ module _ (hints : List (List ℕ)) (status : ℕ) where
   answer_whole (Mapped map) d is = ap has_float is ∙ bare_whole (codes "shown")
   answer_whole (Json text) d is = ap has_float is ∙ bare_whole (codes "shown")
   answer_whole (Compared comparison) d is = ap has_float is ∙ bare_whole (codes "compared")
+  answer_whole (Rescued lost) d is = ap has_float is ∙ bare_whole (codes "rescued")
   answer_whole DeviceFault d is = ap has_float is ∙ bare_whole (codes "device fault")
   answer_whole NoMemory d is = ap has_float is ∙ bare_whole (codes "no memory")

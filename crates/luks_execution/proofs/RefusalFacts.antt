@@ -20,9 +20,11 @@ use Rattle.luks_slot.specs.declared.fault.SlotFault.TheVariants as slot
 use Rattle.luks_slot.specs.Fault.{fault_text as slot_fault_text}
 use Rattle.luks_reading.specs.declared.check_fault.CheckFault.{CheckFault}
 use Rattle.luks_reading.specs.declared.check_fault.CheckFault.TheVariants as checking
+use Rattle.luks_reading.specs.declared.key_fault.KeyFault.{KeyFault}
+use Rattle.luks_reading.specs.declared.key_fault.KeyFault.TheVariants as judging
 use Rattle.luks_reading.specs.declared.open_fault.OpenFault.{OpenFault}
 use Rattle.luks_reading.specs.declared.open_fault.OpenFault.TheVariants as opening
-use Rattle.luks_reading.specs.FaultTexts.{check_fault_text, open_fault_text}
+use Rattle.luks_reading.specs.FaultTexts.{check_fault_text, key_fault_text, open_fault_text}
 use Rattle.luks_edit.specs.declared.edit_fault.EditFault.{EditFault}
 use Rattle.luks_edit.specs.declared.edit_fault.EditFault.TheVariants as editing
 use Rattle.luks_edit.specs.FaultTexts.{edit_fault_text}
@@ -116,6 +118,15 @@ open_parts (opening.Slot f) = slot_parts f
 open_parts opening.Device = bare (codes "Device") refl
 open_parts opening.Memory = bare (codes "Memory") refl
 
+key_parts : (f : KeyFault) → HasParts (key_fault_text f)
+key_parts (judging.Head f) = head_parts f
+key_parts (judging.Meta f) = meta_parts f
+key_parts judging.NoSuchDigest = bare (codes "NoSuchDigest") refl
+key_parts judging.KeyLength = bare (codes "KeyLength") refl
+key_parts judging.Hash = bare (codes "Hash") refl
+key_parts judging.Device = bare (codes "Device") refl
+key_parts judging.Memory = bare (codes "Memory") refl
+
 edit_parts : (f : EditFault) → HasParts (edit_fault_text f)
 edit_parts (editing.NotAccepted f) = check_parts f
 edit_parts (editing.Slot f) = slot_parts f
@@ -193,6 +204,7 @@ pub refusal_parts : (r : Refusal) → HasParts (refusal_text r)
 refusal_parts refusal.LongPassphrase = bare (codes "Passphrase") refl
 refusal_parts (refusal.Check f) = check_parts f
 refusal_parts (refusal.Open f) = open_parts f
+refusal_parts (refusal.Key f) = key_parts f
 refusal_parts (refusal.Edit f) = edit_parts f
 refusal_parts (refusal.Format f) = format_parts f
 refusal_parts (refusal.Convert f) = convert_parts f

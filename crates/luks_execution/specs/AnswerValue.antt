@@ -8,7 +8,7 @@ use Rattle.luks_reading.specs.declared.report.Version.TheVariants.{Luks1, Luks2}
 use Rattle.luks_show.specs.Steering.{IsSteerless, unsteering}
 use Rattle.luks_show.specs.Texts.{copies_text}
 use Rattle.luks_commands.specs.declared.answers.Answer.{Answer}
-use Rattle.luks_commands.specs.declared.answers.Answer.TheVariants.{Accepted, Listed, ListedFully, Mapped, Json, Opens, Closed, NoneOpens, Done, Compared, Refused, DeviceFault, NoMemory}
+use Rattle.luks_commands.specs.declared.answers.Answer.TheVariants.{Accepted, Listed, ListedFully, Mapped, Json, Opens, Closed, NoneOpens, Matches, Differs, Done, Compared, Rescued, Refused, DeviceFault, NoMemory}
 use Rattle.luks_commands.specs.Answer.{answer_status, refusal_text}
 use Rattle.luks_commands.specs.Exit.{exit_status}
 use Rattle.luks_execution.specs.Parted.{IsParted}
@@ -81,6 +81,8 @@ IsAnswerWith (Refused by_) hints status d = IsRefusedValue (refusal_text by_) hi
 IsAnswerWith (Opens n) hints status d = d ≡ slot_value (codes "opens") n hints status
 IsAnswerWith (Closed n) hints status d = d ≡ slot_value (codes "does not open") n hints status
 IsAnswerWith NoneOpens hints status d = d ≡ bare_value (codes "no slot opens") hints status
+IsAnswerWith Matches hints status d = d ≡ bare_value (codes "key matches") hints status
+IsAnswerWith Differs hints status d = d ≡ bare_value (codes "key does not match") hints status
 IsAnswerWith (Done (Some n)) hints status d = d ≡ slot_value (codes "done") n hints status
 IsAnswerWith (Done None) hints status d = d ≡ bare_value (codes "done") hints status
 IsAnswerWith (Listed listing) hints status d = d ≡ bare_value (codes "shown") hints status
@@ -88,6 +90,7 @@ IsAnswerWith (ListedFully listing) hints status d = d ≡ bare_value (codes "sho
 IsAnswerWith (Mapped map) hints status d = d ≡ bare_value (codes "shown") hints status
 IsAnswerWith (Json text) hints status d = d ≡ bare_value (codes "shown") hints status
 IsAnswerWith (Compared comparison) hints status d = d ≡ bare_value (codes "compared") hints status
+IsAnswerWith (Rescued lost) hints status d = d ≡ bare_value (codes "rescued") hints status
 IsAnswerWith DeviceFault hints status d = d ≡ bare_value (codes "device fault") hints status
 IsAnswerWith NoMemory hints status d = d ≡ bare_value (codes "no memory") hints status
 

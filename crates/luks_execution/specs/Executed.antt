@@ -20,6 +20,7 @@ use Rattle.luks_commands.specs.Checked.{EndsCheck}
 use Rattle.luks_commands.specs.Files.{AreFirstBytes, IsLong, IsUnread, IsUnreadRandom, IsWhole, KeepsVolume, LeavesVolume}
 use Rattle.luks_commands.specs.FormatAnswers.{AnswersFormat, IsUnreadEither}
 use Rattle.luks_commands.specs.Formatting.{needed, SaysFormat}
+use Rattle.luks_commands.specs.KeyAnswers.{AnswersKey}
 use Rattle.luks_commands.specs.OpenAnswers.{allowed_of, AnswersOpen}
 use Rattle.luks_commands.specs.ShowAnswers.{AnswersShow}
 use Rattle.luks_commands.specs.Standing.{HasOther, HoldsBackDevice}
@@ -125,7 +126,7 @@ pub record BacksUp {D R N : Type 0} (device : Device D)
     (backing_up : BackingUp) (name : List ℕ) (old new : Inputs D R N) (answer : Answer) : Type 0 where
   pub same : RefusesOneFile name backing_up.target.now old new answer
   pub answers : OfTwoFiles name backing_up.target.now old (AnswersBackup device.tells device.size device.bytes device.failed
-      backing_up.payload old.volume new.volume old.target new.target answer)
+      backing_up.rescue backing_up.payload old.volume new.volume old.target new.target answer)
   pub rest : LeavesTarget device.tells device.size device.bytes (KeepsBesideBackup backing_up.payload) old.volume old.target new.target
   pub settled : SettlesTarget device.tells device.failed device.unsettled old.volume new.volume old.target new.target
 
@@ -157,6 +158,9 @@ Executes device words chance (command.Show form) name old new answer =
     AnswersShow form device.tells device.bytes device.failed old.volume new.volume answer
 Executes device words chance (command.Open passphrase slot memory older) name old new answer =
     AnswersOpen device.tells device.bytes device.failed (allowed_of memory older) slot
+    (IsWhole words old.passphrase) (IsLong words old.passphrase) (IsUnread old.passphrase) old.volume new.volume answer
+Executes device words chance (command.Match matching) name old new answer =
+    AnswersKey device.tells device.bytes device.failed matching.digest matching.older
     (IsWhole words old.passphrase) (IsLong words old.passphrase) (IsUnread old.passphrase) old.volume new.volume answer
 Executes device words chance (command.Edit editing) name old new answer = Edits device words chance editing old new answer
 Executes device words chance (command.Format making) name old new answer = Formats device words chance making old new answer

@@ -8,7 +8,7 @@ ghost use Rattle.luks_commands.specs.declared.answers.Status.{Status as TheStatu
 ghost use Rattle.luks_execution.specs.Executed.{IsExecuted, UnlessBeside, UnlessRestore, UnlessWriter};
 
 use luks_commands::open::Tried;
-use luks_commands::{Answer, Inputs, Status, check, format, open, show};
+use luks_commands::{Answer, Inputs, Status, check, format, matching, open, show};
 use luks_edit_commands::edit;
 use luks_header_commands::{Progress, convert, rebuild};
 use luks_keeping_commands::{backup, compare, restore};
@@ -71,6 +71,7 @@ pub fn execute<D: Device, R: Read, N: Read, E: Write, G: Progress>(
             };
             open::run(alloc, inputs, &tried, err)
         }
+        Command::Match(asked) => matching::run(alloc, inputs, name, &asked, err),
         Command::Edit(editing) => edit::run(alloc, inputs, name, &editing, err),
         Command::Format(making) => format::run(alloc, inputs, name, &making, err),
         Command::Convert(converting) => {

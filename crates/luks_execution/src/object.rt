@@ -39,10 +39,13 @@ fn answer_value(alloc: Global, answer: &Answer, hints: &[&str]) -> Result<Value,
         Answer::Done(Some(n)) => slot_value(alloc, "done", *n, hints, status),
         Answer::Done(None) => bare_value(alloc, "done", hints, status),
         Answer::NoneOpens => bare_value(alloc, "no slot opens", hints, status),
+        Answer::Matches => bare_value(alloc, "key matches", hints, status),
+        Answer::Differs => bare_value(alloc, "key does not match", hints, status),
         Answer::Listed(_) | Answer::ListedFully(_) | Answer::Mapped(_) | Answer::Json(_) => {
             bare_value(alloc, "shown", hints, status)
         }
         Answer::Compared(_) => bare_value(alloc, "compared", hints, status),
+        Answer::Rescued(_) => bare_value(alloc, "rescued", hints, status),
         Answer::DeviceFault => bare_value(alloc, "device fault", hints, status),
         Answer::NoMemory => bare_value(alloc, "no memory", hints, status),
     }

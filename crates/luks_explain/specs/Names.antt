@@ -39,6 +39,8 @@ name_of fault.Argon2 = codes "Argon2"
 name_of fault.Cipher = codes "Cipher"
 name_of fault.Hash = codes "Hash"
 name_of fault.KeySize = codes "KeySize"
+name_of fault.NoSuchDigest = codes "NoSuchDigest"
+name_of fault.KeyLength = codes "KeyLength"
 name_of fault.Locked = codes "Locked"
 name_of fault.Passphrase = codes "Passphrase"
 name_of fault.Requirements = codes "Requirements"
@@ -95,6 +97,8 @@ all_faults =
     ∷ fault.Cipher
     ∷ fault.Hash
     ∷ fault.KeySize
+    ∷ fault.NoSuchDigest
+    ∷ fault.KeyLength
     ∷ fault.Locked
     ∷ fault.Passphrase
     ∷ fault.Requirements
@@ -155,6 +159,8 @@ named fault.Argon2 = refl
 named fault.Cipher = refl
 named fault.Hash = refl
 named fault.KeySize = refl
+named fault.NoSuchDigest = refl
+named fault.KeyLength = refl
 named fault.Locked = refl
 named fault.Passphrase = refl
 named fault.Requirements = refl
@@ -214,6 +220,8 @@ called fault.Argon2 = refl
 called fault.Cipher = refl
 called fault.Hash = refl
 called fault.KeySize = refl
+called fault.NoSuchDigest = refl
+called fault.KeyLength = refl
 called fault.Locked = refl
 called fault.Passphrase = refl
 called fault.Requirements = refl

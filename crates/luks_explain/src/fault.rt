@@ -67,6 +67,10 @@ pub enum Fault {
     Hash,
     /// The key of the key area's cipher hasn't a length of that cipher.
     KeySize,
+    /// The digest that is to be asked isn't there.
+    NoSuchDigest,
+    /// The key hasn't the length of the volume's.
+    KeyLength,
     /// The passphrase doesn't open the keyslot.
     Locked,
     /// A passphrase's file has more than 65536 bytes.
@@ -128,7 +132,7 @@ impl Fault {
     /// Every fault: of the header, the metadata of LUKS2, the areas, the keyslot that is to be opened,
     /// then of an edit, of formatting, of converting, of rebuilding and of header backups, and at last of
     /// another use of the disk and of a reencryption.
-    pub const ALL: [Fault; 52] = [
+    pub const ALL: [Fault; 54] = [
         Fault::TooShort,
         Fault::NotLuks,
         Fault::Version,
@@ -158,6 +162,8 @@ impl Fault {
         Fault::Cipher,
         Fault::Hash,
         Fault::KeySize,
+        Fault::NoSuchDigest,
+        Fault::KeyLength,
         Fault::Locked,
         Fault::Passphrase,
         Fault::Requirements,
@@ -201,8 +207,8 @@ impl Fault {
         variant_name!(self;
             TooShort NotLuks Version NoSoundCopy Text Uuid SlotState KeyBytes Stripes Iterations
             JsonArea BadJson NotWhole Shape Kind NoSuchName Assigned Sizes AreaTooSmall Region
-            Outside Overlap NoSuchSlot SameSlot SlotFree Argon2 Cipher Hash KeySize Locked Passphrase
-            Requirements SlotTaken NoFreeSlot NoRoom LastSlot BadLabel SeqExhausted MetadataFull
+            Outside Overlap NoSuchSlot SameSlot SlotFree Argon2 Cipher Hash KeySize NoSuchDigest KeyLength
+            Locked Passphrase Requirements SlotTaken NoFreeSlot NoRoom LastSlot BadLabel SeqExhausted MetadataFull
             RandomLength TooSmall NotLuks1 SameFile Counts NoMetadata NoHeader Exists NotAccepted DoesNotFit
             OtherVolume OtherUse Reencrypting
         )

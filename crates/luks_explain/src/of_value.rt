@@ -4,7 +4,7 @@ ghost use Rattle.luks_area.specs.Printed.{area_fault_text};
 ghost use Rattle.luks1_header.specs.FaultTexts.{fault_text as head_fault_text};
 ghost use Rattle.luks_rules.specs.MetaFault.{fault_text as meta_fault_text};
 ghost use Rattle.luks_slot.specs.Fault.{fault_text as slot_fault_text};
-ghost use Rattle.luks_reading.specs.FaultTexts.{check_fault_text, open_fault_text};
+ghost use Rattle.luks_reading.specs.FaultTexts.{check_fault_text, key_fault_text, open_fault_text};
 ghost use Rattle.luks_edit.specs.FaultTexts.{edit_fault_text};
 ghost use Rattle.luks_formatting.specs.FormatFaults.{fault_text as format_fault_text};
 ghost use Rattle.luks_converting.specs.FaultTexts.{convert_fault_text};
@@ -18,7 +18,7 @@ use luks_converting::ConvertFault;
 use luks_edit::EditFault;
 use luks_formatting::FormatFault;
 use luks_keeping::{BackupFault, RestoreFault};
-use luks_reading::{AreaFault, CheckFault, HeadFault, MetaFault, OpenFault};
+use luks_reading::{AreaFault, CheckFault, HeadFault, KeyFault, MetaFault, OpenFault};
 use luks_rebuilding::RebuildFault;
 use luks_slot::SlotFault;
 use luks1_rebuilding::Rebuild1Fault;
@@ -110,6 +110,20 @@ impl Fault {
             OpenFault::Outside => Some(Fault::Outside),
             OpenFault::Slot(fault) => Fault::of_slot(fault),
             OpenFault::Device | OpenFault::Memory => None,
+        }
+    }
+
+    /// That of a key of which it can't be told whether it is the volume's.
+    pub fn of_key(fault: &KeyFault) -> Option<Fault>
+        ensures { result ≡ fault_named (name_in (key_fault_text fault.now)) }
+    {
+        match fault {
+            KeyFault::Head(fault) => Fault::of_head(fault),
+            KeyFault::Meta(fault) => Fault::of_meta(fault),
+            KeyFault::NoSuchDigest => Some(Fault::NoSuchDigest),
+            KeyFault::KeyLength => Some(Fault::KeyLength),
+            KeyFault::Hash => Some(Fault::Hash),
+            KeyFault::Device | KeyFault::Memory => None,
         }
     }
 

@@ -33,6 +33,8 @@ pub(crate) fn means(fault: Fault) -> &'static str {
         Fault::Cipher => "the key area's cipher isn't aes-xts-plain64, nor one of --older",
         Fault::Hash => "a hash of the keyslot isn't of sha1, sha256, sha512 or of --older",
         Fault::KeySize => "the key of the key area's cipher hasn't a length of that cipher",
+        Fault::NoSuchDigest => "the digest isn't there, or segment 0 has none",
+        Fault::KeyLength => "the file of the key hasn't as many bytes as the volume's key",
         Fault::Locked => "the passphrase doesn't open the keyslot",
         Fault::Passphrase => "a passphrase's file has more than 65536 bytes",
         Fault::Requirements => "the metadata names requirements, as of a reencryption",
@@ -118,6 +120,14 @@ pub(crate) fn place(fault: Fault) -> &'static str {
             "open, add, change and remove: the keyslot of --slot or --by; the key of
        xts has 32 or 64 bytes, that of cbc 16, 24 or 32"
         }
+        Fault::NoSuchDigest => {
+            "open --key: the digest of --digest, or the one that segment 0 is assigned
+       to; LUKS1 has one, of the number 0"
+        }
+        Fault::KeyLength => {
+            "open --key: its FILE; LUKS1 says in its header how many bytes the key
+       has, LUKS2 in the keyslots of the digest"
+        }
         Fault::SameSlot => "remove: the keyslots of --by and --slot",
         Fault::SlotFree => "open: the keyslot of --slot",
         Fault::Argon2 => {
@@ -186,9 +196,9 @@ pub(crate) fn place(fault: Fault) -> &'static str {
        of the same volume counts"
         }
         Fault::Reencrypting => {
-            "LUKS1, of rebuild: the header begins with LUKS and the bytes DE AD, which
-       cryptsetup writes there until it is done; LUKS2, of restore: a keyslot of
-       type reencrypt, or a requirement of that kind"
+            "LUKS1, of rebuild and restore: the header begins with LUKS and the bytes
+       DE AD, which cryptsetup writes there until it is done; LUKS2, of restore:
+       a keyslot of type reencrypt, or a requirement of that kind"
         }
     }
 }
@@ -243,6 +253,8 @@ pub(crate) fn safe(fault: Fault) -> &'static str {
        opening one is safe"
         }
         Fault::NoSuchSlot
+        | Fault::NoSuchDigest
+        | Fault::KeyLength
         | Fault::SameSlot
         | Fault::SlotFree
         | Fault::Locked
@@ -258,7 +270,6 @@ pub(crate) fn safe(fault: Fault) -> &'static str {
         | Fault::RandomLength
         | Fault::TooSmall
         | Fault::NotLuks1
-        | Fault::SameFile
         | Fault::Counts
         | Fault::NoMetadata
         | Fault::NoHeader
@@ -268,6 +279,7 @@ pub(crate) fn safe(fault: Fault) -> &'static str {
         | Fault::OtherVolume
         | Fault::OtherUse
         | Fault::Reencrypting => { "everything: nothing was written" }
+        Fault::SameFile => "everything: nothing was written, or the bytes were put back",
         Fault::Argon2 => { "everything: the passphrase goes through Argon2, which takes memory" }
         Fault::Cipher | Fault::Hash | Fault::KeySize => {
             "everything: no passphrase was tried, and nothing was written"
@@ -375,6 +387,11 @@ pub(crate) fn next(fault: Fault) -> &'static str {
        it; else cryptsetup open --test-passphrase, on a copy of the header"
         }
         Fault::KeySize => { "try it by cryptsetup open --test-passphrase, on a copy of the header" }
+        Fault::NoSuchDigest => "luks show --json lists the digests that there are",
+        Fault::KeyLength => {
+            "see whether FILE is the key itself, no digits of it, and has no newline
+       behind it: luks show --all tells its length"
+        }
         Fault::Locked => {
             "luks open tells which keyslot it opens; a newline at the end of its file
        is a part of it, unless --passphrase-line leaves it out"
@@ -415,8 +432,9 @@ pub(crate) fn next(fault: Fault) -> &'static str {
        metadata of an older header say --second or --size"
         }
         Fault::NoMetadata => {
-            "where it was of LUKS1 name a field of it, as --cipher aes-xts-plain64;
-       else a backup of the header, by luks restore"
+            "where standard error says that not all was tried, say --thorough; where
+       it was of LUKS1 name a field of it, as --cipher aes-xts-plain64; else a
+       backup of the header, by luks restore"
         }
         Fault::NoHeader => {
             "see that it is the right device, and where it begins (luks find); of

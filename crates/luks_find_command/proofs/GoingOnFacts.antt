@@ -9,29 +9,15 @@ use Rattle.luks_finding.specs.declared.passed.Passed.{Passed}
 use Rattle.luks_finding.proofs.FurtherFacts.{read-so-far}
 use Rattle.luks_finding.proofs.ListFacts.{none-yet}
 use Rattle.luks_finding.proofs.ReadFacts.{sectors-join}
-use Rattle.luks_find_command.specs.Searches.{starts_in, GoesOnTelling, HasGoneOn, HasToldBy, HasToldPart, HasToldRead, IsToldCalmly, IsToldOn, PassesBy, TellsPart}
+use Rattle.luks_find_command.specs.Searches.{starts_in, GoesOnTelling, HasGoneOn, HasToldBy, HasToldPart, HasToldRead, IsToldCalmly, IsToldOn, PassesBy, TellsPart, Told}
 use Rattle.luks_find_command.specs.Stops.{PrintsBy, StopsBy}
 use Rattle.luks_find_command.specs.Unreads.{all_named, named, Hears}
 use Rattle.luks_find_command.specs.declared.stop.Stop.{Stop}
 use Rattle.luks_find_command.specs.declared.stop.Stop.TheVariants as stop
 use Rattle.luks_find_command.specs.declared.unread.Unread.{Unread}
-use Rattle.luks_find_command.proofs.TellingFacts.{told-join, told-none, told-weaker}
+use Rattle.luks_find_command.proofs.TellingFacts.{hears-join, hears-none, hears-same, told-join, told-none, told-weaker}
 
 -- ---- what was said
-
-pub hears-none : (a : Option (List Unread)) → Hears a a []
-hears-none None = refl
-hears-none (Some us) = ap Some (sym (append-nil us))
-
-pub hears-same : (a b : Option (List Unread)) → b ≡ a → Hears a b []
-hears-same a b same = subst (λ (o : Option (List Unread)). Hears a o []) (sym same) (hears-none a)
-
-hears-join : (a b c : Option (List Unread)) (xs ys : List Unread) → Hears a b xs → Hears b c ys → Hears a c (xs ++ ys)
-hears-join None None c xs ys left right = right
-hears-join None (Some us) c xs ys left right = absurd (cc)
-hears-join (Some us) b c xs ys left right =
-    let more : Hears (Some (us ++ xs)) c ys = subst (λ (o : Option (List Unread)). Hears o c ys) left right in
-    more ∙ ap Some (append_assoc us xs ys)
 
 named-join : (offset total : ℕ) (xs ys : List Passed) → all_named offset total (xs ++ ys) ≡ all_named offset total xs ++ all_named offset total ys
 named-join offset total [] ys = refl
@@ -79,19 +65,19 @@ passes-as tells offset total size v w told from next failed failed_now heard hea
 -- ---- the search
 
 -- what was told behind the list `before`, where the list is all that was told
-pub record HasGone (failing : Type 0) (offset : ℕ) (v : List ℕ) (passed : List Passed) (before list : List ℕ) (sectors : ℕ) (held holds : Option (List ℕ)) : Type 0 where
+pub record HasGone (failing : Type 0) (offset : ℕ) (v : List ℕ) (passed : List Passed) (before list : List ℕ) (sectors : ℕ) (held holds : Told) : Type 0 where
   pub more : List ℕ
   pub is : list ≡ before ++ more
   pub so_far : AreReadTo v passed sectors list
   pub has : HasToldBy failing offset v more held holds
 
-pub record IsGoing (tells : Type 0) (offset total : ℕ) (v before list : List ℕ) (sectors failed failed_now : ℕ) (heard hears : Option (List Unread)) (held holds : Option (List ℕ)) : Type 0 where
+pub record IsGoing (tells : Type 0) (offset total : ℕ) (v before list : List ℕ) (sectors failed failed_now : ℕ) (heard hears : Option (List Unread)) (held holds : Told) : Type 0 where
   pub passed : List Passed
   pub names : Hears heard hears (all_named offset total passed)
   pub bounded : sectors_of passed ≤ 2048 * (failed_now - failed)
   pub told : tells → HasGone (failed < failed_now) offset v passed before list sectors held holds
 
-pub going-none : (tells : Type 0) (offset total : ℕ) (v list : List ℕ) (sectors failed : ℕ) (heard : Option (List Unread)) (held : Option (List ℕ)) → (tells → AreReadTo v [] sectors list)
+pub going-none : (tells : Type 0) (offset total : ℕ) (v list : List ℕ) (sectors failed : ℕ) (heard : Option (List Unread)) (held : Told) → (tells → AreReadTo v [] sectors list)
     → IsGoing tells offset total v list list sectors failed failed heard heard held held
 going-none tells offset total v list sectors failed heard held so_far = record {
   passed = [];
@@ -107,7 +93,7 @@ bounded-both xs ys a b c low high left right =
     omega (arith, sum, left, right, low, high)
 
 -- a step more, and what it found is told
-pub going-more : (tells : Type 0) (offset total : ℕ) (v before list : List ℕ) (from next failed mid_failed step_failed failed_now : ℕ) (heard mid_heard hears : Option (List Unread)) (held mid holds : Option (List ℕ)) (step : Step)
+pub going-more : (tells : Type 0) (offset total : ℕ) (v before list : List ℕ) (from next failed mid_failed step_failed failed_now : ℕ) (heard mid_heard hears : Option (List Unread)) (held mid holds : Told) (step : Step)
     → failed ≤ mid_failed → mid_failed ≤ step_failed → step_failed ≤ failed_now
     → IsGoing tells offset total v before list from failed mid_failed heard mid_heard held mid → PassesBy tells offset total v list from next mid_failed step_failed mid_heard hears step
     → (tells → HasToldBy (step_failed < failed_now) offset v (starts_in step) mid holds)
@@ -133,7 +119,7 @@ going-more tells offset total v before list from next failed mid_failed step_fai
     }
 
 -- it ends
-ends-by : (tells : Type 0) (offset total : ℕ) (v before list : List ℕ) (sectors failed failed_now : ℕ) (heard hears : Option (List Unread)) (held holds : Option (List ℕ))
+ends-by : (tells : Type 0) (offset total : ℕ) (v before list : List ℕ) (sectors failed failed_now : ℕ) (heard hears : Option (List Unread)) (held holds : Told)
     → IsGoing tells offset total v before list sectors failed failed_now heard hears held holds → (tells → (length v ≤ 512 * sectors) ⊎ (2 ^ 64 ≤ failed_now + 100))
     → HasGoneOn tells offset total v before failed failed_now heard hears held holds stop.Device
 ends-by tells offset total v before list sectors failed failed_now heard hears held holds going whole = record {
@@ -155,14 +141,14 @@ ends-by tells offset total v before list sectors failed failed_now heard hears h
       };
 }
 
-pub going-ends : (tells : Type 0) (offset total : ℕ) (v before list : List ℕ) (sectors failed failed_now : ℕ) (heard hears : Option (List Unread)) (held holds : Option (List ℕ))
+pub going-ends : (tells : Type 0) (offset total : ℕ) (v before list : List ℕ) (sectors failed failed_now : ℕ) (heard hears : Option (List Unread)) (held holds : Told)
     → IsGoing tells offset total v before list sectors failed failed_now heard hears held holds → (tells → (length v ≤ 512 * sectors) ⊎ (2 ^ 64 ≤ failed_now + 100))
     → GoesOnTelling tells offset total v before failed failed_now heard hears held holds stop.Device
 going-ends tells offset total v before list sectors failed failed_now heard hears held holds going whole =
     ends-by tells offset total v before list sectors failed failed_now heard hears held holds going whole
 
 -- it passes over a last stretch and comes to the end in one step
-pub passes-end : (tells : Type 0) (offset total : ℕ) (v before list : List ℕ) (from next failed mid_failed failed_now : ℕ) (heard mid_heard hears : Option (List Unread)) (held holds : Option (List ℕ))
+pub passes-end : (tells : Type 0) (offset total : ℕ) (v before list : List ℕ) (from next failed mid_failed failed_now : ℕ) (heard mid_heard hears : Option (List Unread)) (held holds : Told)
     → failed ≤ mid_failed → mid_failed ≤ failed_now → IsGoing tells offset total v before list from failed mid_failed heard mid_heard held holds
     → PassesBy tells offset total v list from next mid_failed failed_now mid_heard hears End → (tells → length v ≤ 512 * next)
     → GoesOnTelling tells offset total v before failed failed_now heard hears held holds stop.Device
@@ -172,7 +158,7 @@ passes-end tells offset total v before list from next failed mid_failed failed_n
     going-ends tells offset total v before (list ++ []) next failed failed_now heard hears held holds at_end (λ t. inl (long t))
 
 -- memory is refused
-pub going-memory : (tells : Type 0) (offset total : ℕ) (v before list : List ℕ) (sectors failed mid_failed failed_now : ℕ) (heard mid_heard hears : Option (List Unread)) (held holds : Option (List ℕ))
+pub going-memory : (tells : Type 0) (offset total : ℕ) (v before list : List ℕ) (sectors failed mid_failed failed_now : ℕ) (heard mid_heard hears : Option (List Unread)) (held holds : Told)
     → mid_failed ≤ failed_now → hears ≡ mid_heard → IsGoing tells offset total v before list sectors failed mid_failed heard mid_heard held holds
     → GoesOnTelling tells offset total v before failed failed_now heard hears held holds stop.Memory
 going-memory tells offset total v before list sectors failed mid_failed failed_now heard mid_heard hears held holds high silent going = record {
@@ -192,7 +178,7 @@ going-memory tells offset total v before list sectors failed mid_failed failed_n
 }
 
 -- a volume of a step couldn't be told, since memory was refused
-part-memory : (tells : Type 0) (offset total : ℕ) (v before list : List ℕ) (from next failed mid_failed step_failed failed_now : ℕ) (heard mid_heard hears : Option (List Unread)) (held mid holds : Option (List ℕ)) (step : Step)
+part-memory : (tells : Type 0) (offset total : ℕ) (v before list : List ℕ) (from next failed mid_failed step_failed failed_now : ℕ) (heard mid_heard hears : Option (List Unread)) (held mid holds : Told) (step : Step)
     → failed ≤ mid_failed → mid_failed ≤ step_failed → step_failed ≤ failed_now
     → IsGoing tells offset total v before list from failed mid_failed heard mid_heard held mid → PassesBy tells offset total v list from next mid_failed step_failed mid_heard hears step
     → (tells → HasToldPart (step_failed < failed_now) offset v (starts_in step) mid holds)
@@ -223,7 +209,7 @@ part-memory tells offset total v before list from next failed mid_failed step_fa
           };
     }
 
-pub going-stops : (tells : Type 0) (offset total : ℕ) (v before list : List ℕ) (from next failed mid_failed step_failed failed_now : ℕ) (heard mid_heard hears : Option (List Unread)) (held mid holds : Option (List ℕ)) (step : Step) (why : Stop)
+pub going-stops : (tells : Type 0) (offset total : ℕ) (v before list : List ℕ) (from next failed mid_failed step_failed failed_now : ℕ) (heard mid_heard hears : Option (List Unread)) (held mid holds : Told) (step : Step) (why : Stop)
     → (why ≡ stop.Device → ⊥) → failed ≤ mid_failed → mid_failed ≤ step_failed → step_failed ≤ failed_now
     → IsGoing tells offset total v before list from failed mid_failed heard mid_heard held mid → PassesBy tells offset total v list from next mid_failed step_failed mid_heard hears step
     → (tells → TellsPart (step_failed < failed_now) offset v (starts_in step) mid holds why) → GoesOnTelling tells offset total v before failed failed_now heard hears held holds why
@@ -235,7 +221,7 @@ going-stops tells offset total v before list from next failed mid_failed step_fa
 -- ---- the whole
 
 -- what was told before a read failed, and then
-joins : (tells : Type 0) (offset total : ℕ) (v list : List ℕ) (failed mid_failed failed_now : ℕ) (heard hears : Option (List Unread)) (held mid holds : Option (List ℕ)) (why : Stop)
+joins : (tells : Type 0) (offset total : ℕ) (v list : List ℕ) (failed mid_failed failed_now : ℕ) (heard hears : Option (List Unread)) (held mid holds : Told) (why : Stop)
     → failed ≤ mid_failed → mid_failed ≤ failed_now → (tells → HasToldBy (failed < mid_failed) offset v list held mid)
     → HasGoneOn tells offset total v list mid_failed failed_now heard hears mid holds why → HasGoneOn tells offset total v [] failed failed_now heard hears held holds why
 joins tells offset total v list failed mid_failed failed_now heard hears held mid holds why one two before on = record {
@@ -256,7 +242,7 @@ joins tells offset total v list failed mid_failed failed_now heard hears held mi
       };
 }
 
-pub on-joins : (tells : Type 0) (offset total : ℕ) (v list : List ℕ) (failed mid_failed failed_now : ℕ) (heard hears : Option (List Unread)) (held mid holds : Option (List ℕ)) (why : Stop)
+pub on-joins : (tells : Type 0) (offset total : ℕ) (v list : List ℕ) (failed mid_failed failed_now : ℕ) (heard hears : Option (List Unread)) (held mid holds : Told) (why : Stop)
     → failed ≤ mid_failed → mid_failed ≤ failed_now → (tells → HasToldBy (failed < mid_failed) offset v list held mid)
     → GoesOnTelling tells offset total v list mid_failed failed_now heard hears mid holds why → IsToldOn tells offset total v failed failed_now heard hears held holds why
 on-joins tells offset total v list failed mid_failed failed_now heard hears held mid holds stop.Device one two before on =
@@ -265,7 +251,7 @@ on-joins tells offset total v list failed mid_failed failed_now heard hears held
     joins tells offset total v list failed mid_failed failed_now heard hears held mid holds stop.Memory one two before on
 on-joins tells offset total v list failed mid_failed failed_now heard hears held mid holds stop.Unprinted one two before on = tt
 
-on-same : (tells : Type 0) (offset total size : ℕ) (v w list : List ℕ) (failed failed_now : ℕ) (heard other hears : Option (List Unread)) (held holds : Option (List ℕ)) (why : Stop) → size ≡ total
+on-same : (tells : Type 0) (offset total size : ℕ) (v w list : List ℕ) (failed failed_now : ℕ) (heard other hears : Option (List Unread)) (held holds : Told) (why : Stop) → size ≡ total
     → (tells → w ≡ v) → other ≡ heard → HasGoneOn tells offset size w list failed failed_now other hears held holds why
     → HasGoneOn tells offset total v list failed failed_now heard hears held holds why
 on-same tells offset total size v w list failed failed_now heard other hears held holds why sized same silent on = record {
@@ -277,7 +263,7 @@ on-same tells offset total size v w list failed failed_now heard other hears hel
 }
 
 -- the same device behind
-pub on-as : (tells : Type 0) (offset total size : ℕ) (v w list : List ℕ) (failed failed_now : ℕ) (heard other hears : Option (List Unread)) (held holds : Option (List ℕ)) (why : Stop) → size ≡ total
+pub on-as : (tells : Type 0) (offset total size : ℕ) (v w list : List ℕ) (failed failed_now : ℕ) (heard other hears : Option (List Unread)) (held holds : Told) (why : Stop) → size ≡ total
     → (tells → w ≡ v) → other ≡ heard → GoesOnTelling tells offset size w list failed failed_now other hears held holds why
     → GoesOnTelling tells offset total v list failed failed_now heard hears held holds why
 on-as tells offset total size v w list failed failed_now heard other hears held holds stop.Device sized same silent on =
@@ -299,7 +285,7 @@ stops-on stop.Memory failed mid_failed failed_now prints between prints_now rose
 stops-on stop.Unprinted failed mid_failed failed_now prints between prints_now rose high same printed = (omega (arith, rose, high), printed ∙ ap (λ n. n + 1) same)
 
 -- it stopped before a read failed, or with the first one
-pub calm-memory : (tells : Type 0) (offset total : ℕ) (v : List ℕ) (sectors : ℕ) (list : List ℕ) (failed failed_now : ℕ) (heard hears : Option (List Unread)) (held holds : Option (List ℕ))
+pub calm-memory : (tells : Type 0) (offset total : ℕ) (v : List ℕ) (sectors : ℕ) (list : List ℕ) (failed failed_now : ℕ) (heard hears : Option (List Unread)) (held holds : Told)
     → hears ≡ heard → (tells → IsToldCalmly (failed < failed_now) offset v sectors list held holds stop.Memory)
     → IsToldOn tells offset total v failed failed_now heard hears held holds stop.Memory
 calm-memory tells offset total v sectors list failed failed_now heard hears held holds silent told = record {
@@ -310,7 +296,7 @@ calm-memory tells offset total v sectors list failed failed_now heard hears held
 }
 
 -- nothing was told
-pub none-on : (tells : Type 0) (offset total : ℕ) (v : List ℕ) (failed : ℕ) (heard : Option (List Unread)) (held : Option (List ℕ)) → IsToldOn tells offset total v failed failed heard heard held held stop.Memory
+pub none-on : (tells : Type 0) (offset total : ℕ) (v : List ℕ) (failed : ℕ) (heard : Option (List Unread)) (held : Told) → IsToldOn tells offset total v failed failed heard heard held held stop.Memory
 none-on tells offset total v failed heard held = record {
   passed = [];
   names = hears-none heard;

@@ -1,4 +1,5 @@
 pub mod GoingOnFacts
 pub mod SearchFacts
 pub mod TellingFacts
+pub mod UuidFacts
 pub mod VolumeFacts

@@ -14,23 +14,26 @@ use Rattle.luks_finding.specs.declared.finding.Step.TheVariants.{Start, Two, On,
 use Rattle.luks_finding.specs.declared.passed.Passed.{Passed}
 use Rattle.luks_finding.proofs.FurtherFacts.{read-all, read-so-far}
 use Rattle.luks_finding.proofs.ListFacts.{none-between, none-yet, starts-all, starts-join}
-use Rattle.luks_find_command.specs.FindAnswers.{run_of, HasTold, IsFindRun, TellsAll, TellsFirst, TellsRead}
+use Rattle.luks_find_command.specs.FindAnswers.{run_of, IsFindRun, TellsAll, TellsFirst, TellsRead}
 use Rattle.luks_find_command.specs.Lines.{end_line, found_status, none_found}
-use Rattle.luks_find_command.specs.Searches.{starts_in, CountsSome, Finishes, HasToldBy, HasToldFirst, HasToldPart, HasToldRead, IsToldAll, IsToldCalmly, IsToldFirst, IsToldOn, TellsPart}
+use Rattle.luks_find_command.specs.SameUuids.{SaysPairs}
+use Rattle.luks_find_command.specs.Searches.{starts_in, told_of, CountsSome, Finishes, HasPaired, HasTold, HasToldBy, HasToldFirst, HasToldPart, HasToldRead, IsToldAll, IsToldCalmly, IsToldFirst, SearchesAll, SearchesFirst, SearchesOn, TellsPart, Told}
 use Rattle.luks_find_command.specs.Stops.{StopsBy}
+use Rattle.luks_find_command.specs.declared.met.Met.{Met}
+use Rattle.luks_find_command.specs.declared.same_uuid.SameUuid.{SameUuid}
 use Rattle.luks_find_command.specs.declared.stop.Stop.{Stop}
 use Rattle.luks_find_command.specs.declared.stop.Stop.TheVariants as stop
 use Rattle.luks_find_command.specs.declared.unread.Unread.{Unread}
-use Rattle.luks_find_command.proofs.TellingFacts.{lines-weaker, told-any, told-exact, told-join, told-none}
+use Rattle.luks_find_command.proofs.TellingFacts.{lines-weaker, paired-weaker, told-any, told-exact, told-join, told-none}
 
 -- ---- as long as no read fails
 
 -- all volumes of which the first sign stands before the sector `sectors` are the list, and were told
-pub record IsCalm (offset : ℕ) (v : List ℕ) (sectors : ℕ) (list : List ℕ) (held holds : Option (List ℕ)) : Type 0 where
+pub record IsCalm (offset : ℕ) (v : List ℕ) (sectors : ℕ) (list : List ℕ) (held holds : Told) : Type 0 where
   pub so_far : AreStartsBetween v 0 sectors list
   pub has : HasTold offset v list held holds
 
-pub calm-none : (offset : ℕ) (v : List ℕ) (held : Option (List ℕ)) → IsCalm offset v 0 [] held held
+pub calm-none : (offset : ℕ) (v : List ℕ) (held : Told) → IsCalm offset v 0 [] held held
 calm-none offset v held = record { so_far = none-yet v; has = told-exact ⊥ offset v [] held held (λ none. none) (told-none ⊥ offset v held) }
 
 -- what a step tells
@@ -52,11 +55,11 @@ step-joins : (v : List ℕ) (total from next : ℕ) (step : Step) (list : List �
 step-joins v total from next step list so_far tells goes =
     starts-join v 0 from next list (starts_in step) (omega arith) (step-further total from next step goes) so_far (step-between v from next step tells)
 
-join-exact : (offset : ℕ) (v xs ys : List ℕ) (a b c : Option (List ℕ)) → HasTold offset v xs a b → HasTold offset v ys b c → HasTold offset v (xs ++ ys) a c
+join-exact : (offset : ℕ) (v xs ys : List ℕ) (a b c : Told) → HasTold offset v xs a b → HasTold offset v ys b c → HasTold offset v (xs ++ ys) a c
 join-exact offset v xs ys a b c left right = told-exact ⊥ offset v (xs ++ ys) a c (λ none. none) (told-join ⊥ offset v xs ys a b c (told-any ⊥ offset v xs a b left) (told-any ⊥ offset v ys b c right))
 
 -- one step more
-pub calm-more : (offset : ℕ) (v : List ℕ) (total from next : ℕ) (step : Step) (list : List ℕ) (held mid holds : Option (List ℕ)) → IsCalm offset v from list held mid
+pub calm-more : (offset : ℕ) (v : List ℕ) (total from next : ℕ) (step : Step) (list : List ℕ) (held mid holds : Told) → IsCalm offset v from list held mid
     → TellsNext v from next step → GoesOn total from next step → HasTold offset v (starts_in step) mid holds → IsCalm offset v next (list ++ starts_in step) held holds
 calm-more offset v total from next step list held mid holds calm tells goes has = record {
   so_far = step-joins v total from next step list calm.so_far tells goes;
@@ -64,7 +67,7 @@ calm-more offset v total from next step list held mid holds calm tells goes has 
 }
 
 -- one in which a read failed
-pub calm-failed : (failing : Type 0) (offset : ℕ) (v : List ℕ) (total from next : ℕ) (step : Step) (list : List ℕ) (held mid holds : Option (List ℕ)) → IsCalm offset v from list held mid
+pub calm-failed : (failing : Type 0) (offset : ℕ) (v : List ℕ) (total from next : ℕ) (step : Step) (list : List ℕ) (held mid holds : Told) → IsCalm offset v from list held mid
     → TellsNext v from next step → GoesOn total from next step → HasToldBy failing offset v (starts_in step) mid holds
     → IsToldCalmly failing offset v next (list ++ starts_in step) held holds stop.Device
 calm-failed failing offset v total from next step list held mid holds calm tells goes has = (
@@ -80,7 +83,7 @@ length-none (x ∷ xs) none = absurd (omega (arith, none))
 pub counts-length : (list : List ℕ) → CountsSome (length list) list
 counts-length list = record { none = length-none list; some = λ is. ap length is }
 
-pub calm-all : (offset : ℕ) (v : List ℕ) (from : ℕ) (list : List ℕ) (held holds : Option (List ℕ)) → IsCalm offset v from list held holds → HasNoSignFrom v from
+pub calm-all : (offset : ℕ) (v : List ℕ) (from : ℕ) (list : List ℕ) (held holds : Told) → IsCalm offset v from list held holds → HasNoSignFrom v from
     → IsToldAll offset v held holds (length list)
 calm-all offset v from list held holds calm none = record {
   starts = list;
@@ -89,7 +92,7 @@ calm-all offset v from list held holds calm none = record {
   counts = counts-length list;
 }
 
-first-of : (offset : ℕ) (v : List ℕ) (from : ℕ) (list : List ℕ) (held holds : Option (List ℕ)) → IsCalm offset v from list held holds → HasToldFirst offset v held holds
+first-of : (offset : ℕ) (v : List ℕ) (from : ℕ) (list : List ℕ) (held holds : Told) → IsCalm offset v from list held holds → HasToldFirst offset v held holds
 first-of offset v from list held holds calm = record {
   starts = list;
   later = [];
@@ -99,12 +102,12 @@ first-of offset v from list held holds calm = record {
 }
 
 -- a step that failed
-pub calm-first : (offset : ℕ) (v : List ℕ) (from : ℕ) (list : List ℕ) (held holds : Option (List ℕ)) (why : Stop) → IsCalm offset v from list held holds → IsToldFirst offset v held holds why
+pub calm-first : (offset : ℕ) (v : List ℕ) (from : ℕ) (list : List ℕ) (held holds : Told) (why : Stop) → IsCalm offset v from list held holds → IsToldFirst offset v held holds why
 calm-first offset v from list held holds stop.Device calm = first-of offset v from list held holds calm
 calm-first offset v from list held holds stop.Memory calm = first-of offset v from list held holds calm
 calm-first offset v from list held holds stop.Unprinted calm = tt
 
-pub calm-stops : (failing : Type 0) (offset : ℕ) (v : List ℕ) (from : ℕ) (list : List ℕ) (held holds : Option (List ℕ)) (why : Stop) → IsCalm offset v from list held holds
+pub calm-stops : (failing : Type 0) (offset : ℕ) (v : List ℕ) (from : ℕ) (list : List ℕ) (held holds : Told) (why : Stop) → IsCalm offset v from list held holds
     → IsToldCalmly failing offset v from list held holds why
 calm-stops failing offset v from list held holds stop.Device calm = (read-so-far v from list calm.so_far, told-any failing offset v list held holds calm.has)
 calm-stops failing offset v from list held holds stop.Memory calm = record {
@@ -118,7 +121,7 @@ calm-stops failing offset v from list held holds stop.Memory calm = record {
 calm-stops failing offset v from list held holds stop.Unprinted calm = tt
 
 -- a volume of a step that couldn't be told
-part-first : (failing : Type 0) (offset : ℕ) (v : List ℕ) (total from next : ℕ) (step : Step) (list : List ℕ) (held mid holds : Option (List ℕ)) → (failing → ⊥) → IsCalm offset v from list held mid
+part-first : (failing : Type 0) (offset : ℕ) (v : List ℕ) (total from next : ℕ) (step : Step) (list : List ℕ) (held mid holds : Told) → (failing → ⊥) → IsCalm offset v from list held mid
     → TellsNext v from next step → GoesOn total from next step → HasToldPart failing offset v (starts_in step) mid holds → HasToldFirst offset v held holds
 part-first failing offset v total from next step list held mid holds none calm tells goes is = record {
   starts = list ++ is.told;
@@ -128,13 +131,13 @@ part-first failing offset v total from next step list held mid holds none calm t
   has = join-exact offset v list is.told held mid holds calm.has (told-exact failing offset v is.told mid holds none is.has);
 }
 
-pub step-first : (failing : Type 0) (offset : ℕ) (v : List ℕ) (total from next : ℕ) (step : Step) (list : List ℕ) (held mid holds : Option (List ℕ)) (why : Stop) → (failing → ⊥)
+pub step-first : (failing : Type 0) (offset : ℕ) (v : List ℕ) (total from next : ℕ) (step : Step) (list : List ℕ) (held mid holds : Told) (why : Stop) → (failing → ⊥)
     → IsCalm offset v from list held mid → TellsNext v from next step → GoesOn total from next step → TellsPart failing offset v (starts_in step) mid holds why → IsToldFirst offset v held holds why
 step-first failing offset v total from next step list held mid holds stop.Device none calm tells goes is = part-first failing offset v total from next step list held mid holds none calm tells goes is
 step-first failing offset v total from next step list held mid holds stop.Memory none calm tells goes is = part-first failing offset v total from next step list held mid holds none calm tells goes is
 step-first failing offset v total from next step list held mid holds stop.Unprinted none calm tells goes is = tt
 
-pub step-stops : (failing : Type 0) (offset : ℕ) (v : List ℕ) (total from next sectors : ℕ) (step : Step) (list other : List ℕ) (held mid holds : Option (List ℕ)) (why : Stop) → (why ≡ stop.Device → ⊥)
+pub step-stops : (failing : Type 0) (offset : ℕ) (v : List ℕ) (total from next sectors : ℕ) (step : Step) (list other : List ℕ) (held mid holds : Told) (why : Stop) → (why ≡ stop.Device → ⊥)
     → IsCalm offset v from list held mid → TellsNext v from next step → GoesOn total from next step → TellsPart failing offset v (starts_in step) mid holds why
     → IsToldCalmly failing offset v sectors other held holds why
 step-stops failing offset v total from next sectors step list other held mid holds stop.Device another calm tells goes is = absurd (another refl)
@@ -149,7 +152,7 @@ step-stops failing offset v total from next sectors step list other held mid hol
 }
 step-stops failing offset v total from next sectors step list other held mid holds stop.Unprinted another calm tells goes is = tt
 
-pub first-none : (offset : ℕ) (v : List ℕ) (held : Option (List ℕ)) → HasToldFirst offset v held held
+pub first-none : (offset : ℕ) (v : List ℕ) (held : Told) → HasToldFirst offset v held held
 first-none offset v held = first-of offset v 0 [] held held (calm-none offset v held)
 
 -- ---- the end
@@ -161,9 +164,14 @@ end-some (x ∷ xs) some = (refl, refl)
 end-none : (list : List ℕ) → list ≡ [] → (end_line list ≡ none_found) × (found_status list ≡ 1)
 end-none list none = (ap end_line none, ap found_status none)
 
-tells-some : (offset : ℕ) (v : List ℕ) (held mid holds : Option (List ℕ)) (found status : ℕ) → IsToldAll offset v held mid found → 0 < found → holds ≡ mid → status ≡ 0
-    → TellsAll offset v held holds status
-tells-some offset v held mid holds found status told some same is =
+-- the pairs among the volumes of a search that began
+says-pairs : (failing : Type 0) (offset : ℕ) (v starts : List ℕ) (held mid : Option (List ℕ)) (met : List Met) (said says : Option (List SameUuid))
+    → HasPaired failing offset v starts (told_of held [] said) (told_of mid met says) → SaysPairs failing offset v starts said says
+says-pairs failing offset v starts held mid met said says paired = record { met = met; pairs = paired.pairs; are = paired.are; names = paired.names }
+
+tells-some : (offset : ℕ) (v : List ℕ) (held mid holds : Option (List ℕ)) (met : List Met) (said says : Option (List SameUuid)) (found status : ℕ) → IsToldAll offset v (told_of held [] said) (told_of mid met says) found → 0 < found → holds ≡ mid → status ≡ 0
+    → TellsAll offset v held holds said says status
+tells-some offset v held mid holds met said says found status told some same is =
     let ends = end-some told.starts (λ none. let zero_found : found ≡ 0 = told.counts.some none in omega (arith, zero_found, some)) in
     let text : told.has.lines ≡ told.has.lines ++ end_line told.starts = sym (append-nil told.has.lines) ∙ ap (λ l. told.has.lines ++ l) (sym ends.0) in
     record {
@@ -172,12 +180,13 @@ tells-some offset v held mid holds found status told some same is =
       lines = told.has.lines;
       are = told.has.are;
       printed = subst (Appends held holds) text (subst (λ (o : Option (List ℕ)). Appends held o told.has.lines) (sym same) told.has.printed);
+      pairs = says-pairs ⊥ offset v told.starts held mid met said says told.has.paired;
       ends = is ∙ sym ends.1;
     }
 
-tells-none : (offset : ℕ) (v : List ℕ) (held mid holds : Option (List ℕ)) (found status : ℕ) → IsToldAll offset v held mid found → found ≡ 0 → Appends mid holds none_found → status ≡ 1
-    → TellsAll offset v held holds status
-tells-none offset v held mid holds found status told none printed is =
+tells-none : (offset : ℕ) (v : List ℕ) (held mid holds : Option (List ℕ)) (met : List Met) (said says : Option (List SameUuid)) (found status : ℕ) → IsToldAll offset v (told_of held [] said) (told_of mid met says) found → found ≡ 0 → Appends mid holds none_found → status ≡ 1
+    → TellsAll offset v held holds said says status
+tells-none offset v held mid holds met said says found status told none printed is =
     let ends = end-none told.starts (told.counts.none none) in
     record {
       starts = told.starts;
@@ -185,12 +194,13 @@ tells-none offset v held mid holds found status told none printed is =
       lines = told.has.lines;
       are = told.has.are;
       printed = subst (λ (l : List ℕ). Appends held holds (told.has.lines ++ l)) (sym ends.0) (Appends-trans held mid holds told.has.lines none_found told.has.printed printed);
+      pairs = says-pairs ⊥ offset v told.starts held mid met said says told.has.paired;
       ends = is ∙ sym ends.1;
     }
 
-tells-first : (offset : ℕ) (v : List ℕ) (a : Answer) (text : List ℕ) (held mid holds : Option (List ℕ)) → line_of a ≡ Some text → HasToldFirst offset v held mid → Appends mid holds text
-    → TellsFirst offset v a held holds
-tells-first offset v a text held mid holds is told printed = record {
+tells-first : (offset : ℕ) (v : List ℕ) (a : Answer) (text : List ℕ) (held mid holds : Option (List ℕ)) (met : List Met) (said says : Option (List SameUuid)) → line_of a ≡ Some text → HasToldFirst offset v (told_of held [] said) (told_of mid met says) → Appends mid holds text
+    → TellsFirst offset v a held holds said says
+tells-first offset v a text held mid holds met said says is told printed = record {
   starts = told.starts;
   later = told.later;
   sectors = told.sectors;
@@ -200,11 +210,12 @@ tells-first offset v a text held mid holds is told printed = record {
   text = text;
   answered = is;
   printed = Appends-trans held mid holds told.has.lines text told.has.printed printed;
+  pairs = says-pairs ⊥ offset v told.starts held mid met said says told.has.paired;
 }
 
-tells-device : (failing : Type 0) (offset : ℕ) (v : List ℕ) (passed : List Passed) (failed_now : ℕ) (text : List ℕ) (held mid holds : Option (List ℕ)) → line_of DeviceFault ≡ Some text
-    → HasToldRead failing offset v passed [] held mid stop.Device failed_now → Appends mid holds text → TellsRead offset v passed DeviceFault failed_now held holds
-tells-device failing offset v passed failed_now text held mid holds is told printed = record {
+tells-device : (failing : Type 0) (offset : ℕ) (v : List ℕ) (passed : List Passed) (failed_now : ℕ) (text : List ℕ) (held mid holds : Option (List ℕ)) (met : List Met) (said says : Option (List SameUuid)) → line_of DeviceFault ≡ Some text
+    → HasToldRead failing offset v passed [] (told_of held [] said) (told_of mid met says) stop.Device failed_now → Appends mid holds text → TellsRead offset v passed DeviceFault failed_now held holds said says
+tells-device failing offset v passed failed_now text held mid holds met said says is told printed = record {
   starts = told.starts;
   later = told.later;
   sectors = told.sectors;
@@ -220,11 +231,13 @@ tells-device failing offset v passed failed_now text held mid holds is told prin
   text = text;
   answered = is;
   printed = Appends-trans held mid holds told.has.lines text told.has.printed printed;
+  pairs = says-pairs (Unit {0}) offset v told.starts held mid met said says
+      (paired-weaker failing (Unit {0}) offset v told.starts (told_of held [] said) (told_of mid met says) (λ fails. tt) told.has.paired);
 }
 
-tells-memory : (failing : Type 0) (offset : ℕ) (v : List ℕ) (passed : List Passed) (failed_now : ℕ) (text : List ℕ) (held mid holds : Option (List ℕ)) → line_of NoMemory ≡ Some text
-    → HasToldRead failing offset v passed [] held mid stop.Memory failed_now → Appends mid holds text → TellsRead offset v passed NoMemory failed_now held holds
-tells-memory failing offset v passed failed_now text held mid holds is told printed = record {
+tells-memory : (failing : Type 0) (offset : ℕ) (v : List ℕ) (passed : List Passed) (failed_now : ℕ) (text : List ℕ) (held mid holds : Option (List ℕ)) (met : List Met) (said says : Option (List SameUuid)) → line_of NoMemory ≡ Some text
+    → HasToldRead failing offset v passed [] (told_of held [] said) (told_of mid met says) stop.Memory failed_now → Appends mid holds text → TellsRead offset v passed NoMemory failed_now held holds said says
+tells-memory failing offset v passed failed_now text held mid holds met said says is told printed = record {
   starts = told.starts;
   later = told.later;
   sectors = told.sectors;
@@ -235,6 +248,8 @@ tells-memory failing offset v passed failed_now text held mid holds is told prin
   text = text;
   answered = is;
   printed = Appends-trans held mid holds told.has.lines text told.has.printed printed;
+  pairs = says-pairs (Unit {0}) offset v told.starts held mid met said says
+      (paired-weaker failing (Unit {0}) offset v told.starts (told_of held [] said) (told_of mid met says) (λ fails. tt) told.has.paired);
 }
 
 -- a count that didn't fall rose, or is as before
@@ -245,52 +260,52 @@ rose-or-not m n le = elim (cases_lt m n) [
 ]
 
 -- what became of the run
-pub find-run : (tells : Type 0) (offset total : ℕ) (v : List ℕ) (r : Result ℕ Stop) (failed failed_now prints between prints_now : ℕ) (heard hears : Option (List Unread)) (held mid holds : Option (List ℕ)) (status : ℕ)
+pub find-run : (tells : Type 0) (offset total : ℕ) (v : List ℕ) (r : Result ℕ Stop) (failed failed_now prints between prints_now : ℕ) (heard hears : Option (List Unread)) (held mid holds : Option (List ℕ)) (said says : Option (List SameUuid)) (status : ℕ)
     → IfErr r (λ why. StopsBy why failed failed_now prints between) → OnOk r ((failed_now ≡ failed) × (between ≡ prints))
-    → (tells → IfOk r (IsToldAll offset v held mid)) → (tells → failed_now ≡ failed → IfErr r (IsToldFirst offset v held mid))
-    → IfErr r (IsToldOn tells offset total v failed failed_now heard hears held mid) → Finishes r between prints_now mid holds status
-    → IsFindRun tells offset total v (run_of failed failed_now prints prints_now held holds heard hears status)
-find-run tells offset total v (Ok found) failed failed_now prints between prints_now heard hears held mid holds status stopped ended all first on finish = elim finish [
-  | inl some ↦ inl (record { read = ended.0; printed = some.1 ∙ ended.1; status = inl some.3; told = λ t. tells-some offset v held mid holds found status (all t) some.0 some.2 some.3 })
+    → (tells → IfOk r (SearchesAll offset v held mid said says)) → (tells → failed_now ≡ failed → IfErr r (SearchesFirst offset v held mid said says))
+    → IfErr r (SearchesOn tells offset total v failed failed_now heard hears held mid said says) → Finishes r between prints_now mid holds status
+    → IsFindRun tells offset total v (run_of failed failed_now prints prints_now held holds heard hears said says status)
+find-run tells offset total v (Ok found) failed failed_now prints between prints_now heard hears held mid holds said says status stopped ended all first on finish = elim finish [
+  | inl some ↦ inl (record { read = ended.0; printed = some.1 ∙ ended.1; status = inl some.3; told = λ t. tells-some offset v held mid holds (all t).0 said says found status (all t).1 some.0 some.2 some.3 })
   | inr other ↦ elim other [
-    | inl none ↦ inl (record { read = ended.0; printed = none.1 ∙ ended.1; status = inr none.3; told = λ t. tells-none offset v held mid holds found status (all t) none.0 none.2 none.3 })
+    | inl none ↦ inl (record { read = ended.0; printed = none.1 ∙ ended.1; status = inr none.3; told = λ t. tells-none offset v held mid holds (all t).0 said says found status (all t).1 none.0 none.2 none.3 })
     | inr failed_print ↦
         let same : failed_now ≡ failed = ended.0 in
         inr (inr (inr (record { read = omega (arith, same); printed = failed_print.0 ∙ ap (λ n. n + 1) ended.1; status = failed_print.1 })))
   ]
 ]
-find-run tells offset total v (Err stop.Device) failed failed_now prints between prints_now heard hears held mid holds status stopped ended all first on finish = elim finish [
+find-run tells offset total v (Err stop.Device) failed failed_now prints between prints_now heard hears held mid holds said says status stopped ended all first on finish = elim finish [
   | inl printed ↦ inr (inr (inl (record {
     answer = DeviceFault;
     ends = record { is = inl refl };
     failing = stopped.0;
     printed = printed.0 ∙ stopped.1;
     status = printed.1;
-    passed = on.passed;
-    names = on.names;
-    bounded = on.bounded;
-    told = λ t. tells-device (failed < failed_now) offset v on.passed failed_now _ held mid holds refl (on.told t) printed.2;
+    passed = on.1.passed;
+    names = on.1.names;
+    bounded = on.1.bounded;
+    told = λ t. tells-device (failed < failed_now) offset v on.1.passed failed_now _ held mid holds on.0 said says refl (on.1.told t) printed.2;
   })))
   | inr failed_print ↦
       let rose : failed < failed_now = stopped.0 in
       inr (inr (inr (record { read = omega (arith, rose); printed = failed_print.0 ∙ ap (λ n. n + 1) stopped.1; status = failed_print.1 })))
 ]
-find-run tells offset total v (Err stop.Memory) failed failed_now prints between prints_now heard hears held mid holds status stopped ended all first on finish = elim finish [
+find-run tells offset total v (Err stop.Memory) failed failed_now prints between prints_now heard hears held mid holds said says status stopped ended all first on finish = elim finish [
   | inl printed ↦ elim (rose-or-not failed failed_now stopped.0) [
-    | inl same ↦ inr (inl (record { read = same; printed = printed.0 ∙ stopped.1; status = printed.1; told = λ t. tells-first offset v NoMemory _ held mid holds refl (first t same) printed.2 }))
+    | inl same ↦ inr (inl (record { read = same; printed = printed.0 ∙ stopped.1; status = printed.1; told = λ t. tells-first offset v NoMemory _ held mid holds (first t same).0 said says refl (first t same).1 printed.2 }))
     | inr rose ↦ inr (inr (inl (record {
       answer = NoMemory;
       ends = record { is = inr refl };
       failing = rose;
       printed = printed.0 ∙ stopped.1;
       status = printed.1;
-      passed = on.passed;
-      names = on.names;
-      bounded = on.bounded;
-      told = λ t. tells-memory (failed < failed_now) offset v on.passed failed_now _ held mid holds refl (on.told t) printed.2;
+      passed = on.1.passed;
+      names = on.1.names;
+      bounded = on.1.bounded;
+      told = λ t. tells-memory (failed < failed_now) offset v on.1.passed failed_now _ held mid holds on.0 said says refl (on.1.told t) printed.2;
     })))
   ]
   | inr failed_print ↦ inr (inr (inr (record { read = stopped.0; printed = failed_print.0 ∙ ap (λ n. n + 1) stopped.1; status = failed_print.1 })))
 ]
-find-run tells offset total v (Err stop.Unprinted) failed failed_now prints between prints_now heard hears held mid holds status stopped ended all first on finish =
+find-run tells offset total v (Err stop.Unprinted) failed failed_now prints between prints_now heard hears held mid holds said says status stopped ended all first on finish =
     inr (inr (inr (record { read = stopped.0; printed = finish.0 ∙ stopped.1; status = finish.1 })))

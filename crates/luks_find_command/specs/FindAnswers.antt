@@ -10,26 +10,24 @@ use Rattle.luks_finding.specs.Readable.{sectors_of, AreReadStarts, AreReadTo}
 use Rattle.luks_finding.specs.Starts.{AreStarts}
 use Rattle.luks_finding.specs.declared.passed.Passed.{Passed}
 use Rattle.luks_find_command.specs.Lines.{end_line, found_status, AreLines, AreLinesBy}
+use Rattle.luks_find_command.specs.SameUuids.{SaysPairs}
 use Rattle.luks_find_command.specs.Unreads.{all_named, Hears}
+use Rattle.luks_find_command.specs.declared.same_uuid.SameUuid.{SameUuid}
 use Rattle.luks_find_command.specs.declared.unread.Unread.{Unread}
 
--- where the bytes `v` begin at the byte `offset` of their file: a line for each of these starts was printed
-pub record HasTold (offset : ℕ) (v starts : List ℕ) (held holds : Option (List ℕ)) : Type 0 where
-  pub lines : List ℕ
-  pub are : AreLines offset v starts lines
-  pub printed : Appends held holds lines
-
--- the same of all starts, with what follows them, and the exit status says whether there is one
-pub record TellsAll (offset : ℕ) (v : List ℕ) (held holds : Option (List ℕ)) (status : ℕ) : Type 0 where
+-- where the bytes `v` begin at the byte `offset` of their file: a line for each start was printed, and what follows them; it
+-- was said which of them have one uuid, and the exit status says whether there is one
+pub record TellsAll (offset : ℕ) (v : List ℕ) (held holds : Option (List ℕ)) (said says : Option (List SameUuid)) (status : ℕ) : Type 0 where
   pub starts : List ℕ
   pub all : AreStarts v starts
   pub lines : List ℕ
   pub are : AreLines offset v starts lines
   pub printed : Appends held holds (lines ++ end_line starts)
+  pub pairs : SaysPairs ⊥ offset v starts said says
   pub ends : status ≡ found_status starts
 
 -- the same of the first of the starts, and then this answer
-pub record TellsFirst (offset : ℕ) (v : List ℕ) (answer : Answer) (held holds : Option (List ℕ)) : Type 0 where
+pub record TellsFirst (offset : ℕ) (v : List ℕ) (answer : Answer) (held holds : Option (List ℕ)) (said says : Option (List SameUuid)) : Type 0 where
   pub starts : List ℕ
   pub later : List ℕ
   pub sectors : ℕ
@@ -39,6 +37,7 @@ pub record TellsFirst (offset : ℕ) (v : List ℕ) (answer : Answer) (held hold
   pub text : List ℕ
   pub answered : line_of answer ≡ Some text
   pub printed : Appends held holds (lines ++ text)
+  pub pairs : SaysPairs ⊥ offset v starts said says
 
 -- a search that ended by `device fault` told all volumes of which a sign can be read, or the device's count of failures is full
 abbrev pub IsWholeBy : Answer → List ℕ → List Passed → List ℕ → List ℕ → ℕ → Type 0
@@ -46,8 +45,8 @@ IsWholeBy DeviceFault v passed starts later failed_now = ((later ≡ []) × AreR
 IsWholeBy a v passed starts later failed_now = Unit {0}
 
 -- Reads failed, and these sectors were passed over: the volumes of which a sign stands elsewhere were told, in the order of
--- these signs, each by a line that may say `device fault` of it; then this answer.
-pub record TellsRead (offset : ℕ) (v : List ℕ) (passed : List Passed) (answer : Answer) (failed_now : ℕ) (held holds : Option (List ℕ)) : Type 0 where
+-- these signs, each by a line that may say `device fault` of it, and which of them have one uuid; then this answer.
+pub record TellsRead (offset : ℕ) (v : List ℕ) (passed : List Passed) (answer : Answer) (failed_now : ℕ) (held holds : Option (List ℕ)) (said says : Option (List SameUuid)) : Type 0 where
   pub starts : List ℕ
   pub later : List ℕ
   pub sectors : ℕ
@@ -58,9 +57,10 @@ pub record TellsRead (offset : ℕ) (v : List ℕ) (passed : List Passed) (answe
   pub text : List ℕ
   pub answered : line_of answer ≡ Some text
   pub printed : Appends held holds (lines ++ text)
+  pub pairs : SaysPairs (Unit {0}) offset v starts said says
 
 -- What became of a run: the counts of failures before and after, of the device and of the printer, what was printed
--- before and after, what was said of what was passed over, and the exit status.
+-- before and after, what was said of what was passed over and of volumes with one uuid, and the exit status.
 pub record Run : Type 0 where
   pub failed : ℕ
   pub failed_now : ℕ
@@ -70,10 +70,12 @@ pub record Run : Type 0 where
   pub holds : Option (List ℕ)
   pub heard : Option (List Unread)
   pub hears : Option (List Unread)
+  pub said : Option (List SameUuid)
+  pub says : Option (List SameUuid)
   pub status : ℕ
 
-abbrev pub run_of : ℕ → ℕ → ℕ → ℕ → Option (List ℕ) → Option (List ℕ) → Option (List Unread) → Option (List Unread) → ℕ → Run
-run_of failed failed_now prints prints_now held holds heard hears status = record {
+abbrev pub run_of : ℕ → ℕ → ℕ → ℕ → Option (List ℕ) → Option (List ℕ) → Option (List Unread) → Option (List Unread) → Option (List SameUuid) → Option (List SameUuid) → ℕ → Run
+run_of failed failed_now prints prints_now held holds heard hears said says status = record {
   failed = failed;
   failed_now = failed_now;
   prints = prints;
@@ -82,6 +84,8 @@ run_of failed failed_now prints prints_now held holds heard hears status = recor
   holds = holds;
   heard = heard;
   hears = hears;
+  said = said;
+  says = says;
   status = status;
 }
 
@@ -90,14 +94,14 @@ pub record FindsAll (tells : Type 0) (offset : ℕ) (v : List ℕ) (r : Run) : T
   pub read : r.failed_now ≡ r.failed
   pub printed : r.prints_now ≡ r.prints
   pub status : (r.status ≡ 0) ⊎ (r.status ≡ 1)
-  pub told : tells → TellsAll offset v r.held r.holds r.status
+  pub told : tells → TellsAll offset v r.held r.holds r.said r.says r.status
 
 -- memory was refused, and no read failed: the last line says so
 pub record FindsFirst (tells : Type 0) (offset : ℕ) (v : List ℕ) (r : Run) : Type 0 where
   pub read : r.failed_now ≡ r.failed
   pub printed : r.prints_now ≡ r.prints
   pub status : r.status ≡ 4
-  pub told : tells → TellsFirst offset v NoMemory r.held r.holds
+  pub told : tells → TellsFirst offset v NoMemory r.held r.holds r.said r.says
 
 -- the last line of a search in which reads failed: memory was refused too, or not
 pub record EndsRead (answer : Answer) : Type 0 where
@@ -113,7 +117,7 @@ pub record FindsRead (tells : Type 0) (offset total : ℕ) (v : List ℕ) (r : R
   pub passed : List Passed
   pub names : Hears r.heard r.hears (all_named offset total passed)
   pub bounded : sectors_of passed ≤ 2048 * (r.failed_now - r.failed)
-  pub told : tells → TellsRead offset v passed answer r.failed_now r.held r.holds
+  pub told : tells → TellsRead offset v passed answer r.failed_now r.held r.holds r.said r.says
 
 -- a line couldn't be printed
 pub record FailsToPrint (r : Run) : Type 0 where
@@ -127,9 +131,9 @@ IsFindRun tells offset total v r = FindsAll tells offset v r ⊎ FindsFirst tell
 
 -- the same of a volume that may not be there: its file was cut to it from the byte `offset` on
 abbrev pub AnswersFind : {D : Type 0} → Type 0 → (D → ℕ) → (D → List ℕ) → (D → ℕ) → ℕ → Result D InputFault → Result D InputFault
-    → ℕ → ℕ → Option (List ℕ) → Option (List ℕ) → Option (List Unread) → Option (List Unread) → ℕ → Type 0
-AnswersFind {D} tells size bytes failed offset (Ok old) (Ok new) prints prints_now held holds heard hears status =
-    IsFindRun tells offset (size old) (bytes old) (run_of (failed old) (failed new) prints prints_now held holds heard hears status)
-AnswersFind {D} tells size bytes failed offset (Ok old) (Err fault) prints prints_now held holds heard hears status = ⊥
-AnswersFind {D} tells size bytes failed offset (Err fault) new prints prints_now held holds heard hears status =
+    → ℕ → ℕ → Option (List ℕ) → Option (List ℕ) → Option (List Unread) → Option (List Unread) → Option (List SameUuid) → Option (List SameUuid) → ℕ → Type 0
+AnswersFind {D} tells size bytes failed offset (Ok old) (Ok new) prints prints_now held holds heard hears said says status =
+    IsFindRun tells offset (size old) (bytes old) (run_of (failed old) (failed new) prints prints_now held holds heard hears said says status)
+AnswersFind {D} tells size bytes failed offset (Ok old) (Err fault) prints prints_now held holds heard hears said says status = ⊥
+AnswersFind {D} tells size bytes failed offset (Err fault) new prints prints_now held holds heard hears said says status =
     Prints (λ a. a ≡ unread_answer fault) prints prints_now held holds status

@@ -1,5 +1,6 @@
 pub mod FindAnswers
 pub mod Lines
+pub mod SameUuids
 pub mod Searches
 pub mod Stops
 pub mod Unreads

@@ -24,6 +24,6 @@ all_named offset total [] = []
 all_named offset total (x ∷ xs) = named offset total x ∷ all_named offset total xs
 
 -- who had heard of some, where that is known, has heard of these too, in their order
-abbrev pub Hears : Option (List Unread) → Option (List Unread) → List Unread → Type 0
-Hears (Some us) hears more = hears ≡ Some (us ++ more)
-Hears None hears more = hears ≡ None
+abbrev pub Hears : {A : Type 0} → Option (List A) → Option (List A) → List A → Type 0
+Hears {A} (Some us) hears more = hears ≡ Some (us ++ more)
+Hears {A} None hears more = hears ≡ None

@@ -22,7 +22,8 @@ use std::io::Write;
 /// Prints where volumes begin on the file of this name, and what `check` says of each, as soon as it is
 /// found; answers the exit status. `volume` is the bytes of the file at this place. `progress` is told
 /// after each step how far the search is, and what it passes over where reading fails: the search goes on
-/// behind it, and ends with `device fault`.
+/// behind it, and ends with `device fault`. It is told, too, which volumes have one uuid, of the first 64
+/// uuids, each with the first volume that has it.
 pub fn run<D: Device, P: Printer, E: Write, G: Progress>(
     alloc: Global,
     volume: &mut Result<D, InputFault>,
@@ -41,7 +42,7 @@ pub fn run<D: Device, P: Printer, E: Write, G: Progress>(
     ensures unread { IfErr volume.old (λ _. result ≡ 4) }
     ensures answers { AnswersFind D.tells D.size D.bytes D.failed place.offset volume.old volume.new
         (P.failures out.old) (P.failures out.new) (P.printed out.old) (P.printed out.new)
-        (G.heard progress.old) (G.heard progress.new) result }
+        (G.heard progress.old) (G.heard progress.new) (G.paired progress.old) (G.paired progress.new) result }
 {
     let file = Searched {
         name,
@@ -75,7 +76,8 @@ fn find_on<D: Device, P: Printer, E: Write, G: Progress>(
     ensures unchanged { IsUnchanged D.tells D.size D.bytes D.unsettled device result.0 }
     ensures answers { IsFindRun D.tells file.now.offset (D.size device) (D.bytes device)
         (run_of (D.failed device) (D.failed result.0) (P.failures out.old) (P.failures out.new)
-        (P.printed out.old) (P.printed out.new) (G.heard progress.old) (G.heard progress.new) result.1) }
+        (P.printed out.old) (P.printed out.new) (G.heard progress.old) (G.heard progress.new)
+        (G.paired progress.old) (G.paired progress.new) result.1) }
 {
     let (device, ended) = search(alloc, device, file, out, err, progress);
     let status = finish(ended, out, err);

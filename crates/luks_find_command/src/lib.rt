@@ -4,8 +4,10 @@
 mod check_at;
 pub mod find;
 mod lines;
+mod met;
 mod notes;
 mod progress;
+mod same_uuid;
 mod searched;
 mod searching;
 mod stop;
@@ -14,4 +16,5 @@ mod unread;
 mod volume_at;
 
 pub use progress::{Progress, Untold};
+pub use same_uuid::SameUuid;
 pub use unread::Unread;

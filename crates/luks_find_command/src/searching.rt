@@ -4,16 +4,18 @@ ghost use Rattle.luks_area.specs.Device.{IsSettled, IsUnchanged};
 ghost use Rattle.luks_finding.specs.Finding.{looks_from, GoesOn};
 ghost use Rattle.luks_finding.specs.Readable.{AreReadTo};
 ghost use Rattle.luks_finding.specs.declared.find_fault.FindFault.{FindFault};
-ghost use Rattle.luks_find_command.specs.Searches.{starts_in, GoesOnTelling, IsToldAll, IsToldCalmly, IsToldFirst, IsToldOn, LieInside, PassesBy, TellsStepBy};
+ghost use Rattle.luks_find_command.specs.Searches.{starts_in, told_of, GoesOnTelling, IsToldAll, IsToldCalmly, IsToldFirst, LieInside, PassesBy, SearchesAll, SearchesFirst, SearchesOn, TellsStepBy};
 ghost use Rattle.luks_find_command.specs.Stops.{PrintsBy, StopsBy};
 ghost use Rattle.luks_find_command.specs.declared.stop.Stop.{Stop};
 
+use crate::met::{MOST_MET, Met};
 use crate::notes::note_fault;
 use crate::progress::Progress;
 use crate::searched::Searched;
 use crate::stop::Stop;
 use crate::telling::{tell, tell_unread};
 use crate::unread::unread_of;
+use arrayvec::ArrayVec;
 use luks_commands::Printer;
 use luks_finding::{FindFault, Finding, Further, Step};
 use luks_reading::Device;
@@ -21,13 +23,15 @@ use std::alloc::{AllocError, Global};
 use std::io::Write;
 
 /// Tells the volumes that a step of the search found.
-fn tell_step<D: Device, P: Printer, E: Write>(
+fn tell_step<D: Device, P: Printer, E: Write, G: Progress>(
     alloc: Global,
     device: D,
     step: Step,
+    met: &mut ArrayVec<Met, MOST_MET>,
     file: &Searched<'_>,
     out: &mut P,
     err: &mut E,
+    progress: &mut G,
 ) -> (D, Result<(), Stop>)
     requires inside { LieInside (D.size device) step }
     requires room { D.failed device + 1 < 2 ^ 64 }
@@ -39,15 +43,17 @@ fn tell_step<D: Device, P: Printer, E: Write>(
         (P.failures out.old) (P.failures out.new)) }
     ensures kinds { IfErr result.1 (λ stop. stop ≢ Stop.Device) }
     ensures count { OnOk result.1 (P.failures out.new ≡ P.failures out.old) }
+    ensures heard { G.heard progress.new ≡ G.heard progress.old }
     ensures told { D.tells → TellsStepBy (D.failed device < D.failed result.0) file.now.offset (D.bytes device)
-        (starts_in step) (P.printed out.old) (P.printed out.new) result.1 }
+        (starts_in step) (told_of (P.printed out.old) met.old.items (G.paired progress.old))
+        (told_of (P.printed out.new) met.new.items (G.paired progress.new)) result.1 }
 {
     match step {
-        Step::Start(start) => tell(alloc, device, start, file, out, err),
+        Step::Start(start) => tell(alloc, device, start, met, file, out, err, progress),
         Step::Two(first, second) => {
-            let (device, told) = tell(alloc, device, first, file, out, err);
+            let (device, told) = tell(alloc, device, first, met, file, out, err, progress);
             match told {
-                Ok(()) => tell_second(alloc, device, second, file, out, err),
+                Ok(()) => tell_second(alloc, device, second, met, file, out, err, progress),
                 Err(stop) => (device, Err(stop)),
             }
         }
@@ -56,13 +62,15 @@ fn tell_step<D: Device, P: Printer, E: Write>(
 }
 
 /// Tells a volume behind another one, after which the device may not be asked any more.
-fn tell_second<D: Device, P: Printer, E: Write>(
+fn tell_second<D: Device, P: Printer, E: Write, G: Progress>(
     alloc: Global,
     device: D,
     start: u64,
+    met: &mut ArrayVec<Met, MOST_MET>,
     file: &Searched<'_>,
     out: &mut P,
     err: &mut E,
+    progress: &mut G,
 ) -> (D, Result<(), Stop>)
     requires inside { start ≤ D.size device }
     requires settled { D.tells → IsSettled D.unsettled device }
@@ -73,14 +81,17 @@ fn tell_second<D: Device, P: Printer, E: Write>(
         (P.failures out.old) (P.failures out.new)) }
     ensures kinds { IfErr result.1 (λ stop. stop ≢ Stop.Device) }
     ensures count { OnOk result.1 (P.failures out.new ≡ P.failures out.old) }
+    ensures heard { G.heard progress.new ≡ G.heard progress.old }
     ensures told { D.tells → TellsStepBy ((2 ^ 64 ≤ D.failed device + 1) ⊎ (D.failed device < D.failed result.0))
-        file.now.offset (D.bytes device) (start ∷ []) (P.printed out.old) (P.printed out.new) result.1 }
+        file.now.offset (D.bytes device) (start ∷ [])
+        (told_of (P.printed out.old) met.old.items (G.paired progress.old))
+        (told_of (P.printed out.new) met.new.items (G.paired progress.new)) result.1 }
 {
     if device.failures() == u64::MAX {
         let told = tell_unread(start, file, out, err);
         (device, told)
     } else {
-        tell(alloc, device, start, file, out, err)
+        tell(alloc, device, start, met, file, out, err, progress)
     }
 }
 
@@ -116,17 +127,31 @@ struct Searching {
     finding: Finding,
     /// What was told.
     told: Vec<u64>,
+    /// The first of these that are accepted, each with another uuid.
+    met: ArrayVec<Met, MOST_MET>,
 }
 
 /// A search that begins.
 fn begin(alloc: Global) -> Result<Searching, AllocError>
     ensures from { IfOk result (λ begun. looks_from begun.finding ≡ 0) }
     ensures told { IfOk result (λ begun. begun.told.items ≡ []) }
+    ensures met { IfOk result (λ begun. begun.met.items ≡ []) }
 {
     Ok(Searching {
         finding: Finding::new(alloc)?,
         told: Vec::new(alloc),
+        met: ArrayVec::new(),
     })
+}
+
+/// What is shown of the search makes room, where a step found some.
+fn make_room<G: Progress>(step: Step, progress: &mut G)
+    ensures heard { G.heard progress.new ≡ G.heard progress.old }
+    ensures paired { G.paired progress.new ≡ G.paired progress.old }
+{
+    if count_of(step) > 0 {
+        progress.clear();
+    }
 }
 
 /// Tells the volumes that a step found, and keeps them.
@@ -151,15 +176,15 @@ fn take_step<D: Device, P: Printer, E: Write, G: Progress>(
     ensures kinds { IfErr result.1 (λ stop. stop ≢ Stop.Device) }
     ensures count { OnOk result.1 (P.failures out.new ≡ P.failures out.old) }
     ensures told { D.tells → TellsStepBy (D.failed device < D.failed result.0) file.now.offset (D.bytes device)
-        (starts_in step) (P.printed out.old) (P.printed out.new) result.1 }
+        (starts_in step) (told_of (P.printed out.old) searching.old.met.items (G.paired progress.old))
+        (told_of (P.printed out.new) searching.new.met.items (G.paired progress.new)) result.1 }
     ensures kept { OnOk result.1 (searching.new.told.items ≡ searching.old.told.items ++ starts_in step) }
     ensures stays { looks_from searching.new.finding ≡ looks_from searching.old.finding }
     ensures heard { G.heard progress.new ≡ G.heard progress.old }
 {
-    if count_of(step) > 0 {
-        progress.clear();
-    }
-    let (device, told) = tell_step(alloc, device, step, file, out, err);
+    make_room(step, progress);
+    let met = &mut searching.met;
+    let (device, told) = tell_step(alloc, device, step, met, file, out, err, progress);
     match told {
         Ok(()) => {}
         Err(stop) => return (device, Err(stop)),
@@ -185,6 +210,7 @@ fn search_calmly<D: Device, P: Printer, E: Write, G: Progress>(
 ) -> (D, Result<(), Stop>)
     requires begun { looks_from searching.old.finding ≡ 0 }
     requires untold { searching.old.told.items ≡ [] }
+    requires unmet { searching.old.met.items ≡ [] }
     requires room { D.failed device + 1 < 2 ^ 64 }
     requires settled { D.tells → IsSettled D.unsettled device }
     requires printer { P.failures out.old + 1 < 2 ^ 64 }
@@ -195,12 +221,17 @@ fn search_calmly<D: Device, P: Printer, E: Write, G: Progress>(
         × (P.failures out.new ≡ P.failures out.old)) }
     ensures heard { G.heard progress.new ≡ G.heard progress.old }
     ensures all { D.tells → OnOk result.1 (IsToldAll file.now.offset (D.bytes device)
-        (P.printed out.old) (P.printed out.new) (length searching.new.told.items)) }
+        (told_of (P.printed out.old) [] (G.paired progress.old))
+        (told_of (P.printed out.new) searching.new.met.items (G.paired progress.new))
+        (length searching.new.told.items)) }
     ensures first { D.tells → D.failed result.0 ≡ D.failed device → IfErr result.1
-        (IsToldFirst file.now.offset (D.bytes device) (P.printed out.old) (P.printed out.new)) }
+        (IsToldFirst file.now.offset (D.bytes device)
+        (told_of (P.printed out.old) [] (G.paired progress.old))
+        (told_of (P.printed out.new) searching.new.met.items (G.paired progress.new))) }
     ensures on { D.tells → IfErr result.1 (IsToldCalmly (D.failed device < D.failed result.0) file.now.offset
         (D.bytes device) (looks_from searching.new.finding) searching.new.told.items
-        (P.printed out.old) (P.printed out.new)) }
+        (told_of (P.printed out.old) [] (G.paired progress.old))
+        (told_of (P.printed out.new) searching.new.met.items (G.paired progress.new))) }
 {
     let failures = device.failures();
     let mut device = device;
@@ -235,6 +266,8 @@ fn step_further<D: Device, G: Progress>(
     ensures unchanged { IsUnchanged D.tells D.size D.bytes D.unsettled device.old device.new }
     ensures counts { (D.failed device.old ≤ D.failed device.new) × (D.failed device.new ≤ D.failed device.old + 99) }
     ensures kept { searching.new.told.items ≡ searching.old.told.items }
+    ensures met { searching.new.met.items ≡ searching.old.met.items }
+    ensures paired { G.paired progress.new ≡ G.paired progress.old }
     ensures refused { IfErr result (λ fault. fault ≡ FindFault.Memory) }
     ensures stays { OnErr result (looks_from searching.new.finding ≡ looks_from searching.old.finding) }
     ensures silent { OnErr result (G.heard progress.new ≡ G.heard progress.old) }
@@ -273,7 +306,9 @@ fn search_on<D: Device, P: Printer, E: Write, G: Progress>(
     ensures prints { PrintsBy result.1 (P.failures out.old) (P.failures out.new) }
     ensures on { GoesOnTelling D.tells file.now.offset (D.size device) (D.bytes device)
         searching.old.told.items (D.failed device) (D.failed result.0)
-        (G.heard progress.old) (G.heard progress.new) (P.printed out.old) (P.printed out.new) result.1 }
+        (G.heard progress.old) (G.heard progress.new)
+        (told_of (P.printed out.old) searching.old.met.items (G.paired progress.old))
+        (told_of (P.printed out.new) searching.new.met.items (G.paired progress.new)) result.1 }
 {
     let mut device = device;
     loop {
@@ -312,13 +347,14 @@ pub(crate) fn search<D: Device, P: Printer, E: Write, G: Progress>(
         (P.failures out.old) (P.failures out.new)) }
     ensures count { OnOk result.1 ((D.failed result.0 ≡ D.failed device)
         × (P.failures out.new ≡ P.failures out.old)) }
-    ensures all { D.tells → IfOk result.1 (IsToldAll file.now.offset (D.bytes device)
-        (P.printed out.old) (P.printed out.new)) }
+    ensures all { D.tells → IfOk result.1 (SearchesAll file.now.offset (D.bytes device)
+        (P.printed out.old) (P.printed out.new) (G.paired progress.old) (G.paired progress.new)) }
     ensures first { D.tells → D.failed result.0 ≡ D.failed device → IfErr result.1
-        (IsToldFirst file.now.offset (D.bytes device) (P.printed out.old) (P.printed out.new)) }
-    ensures on { IfErr result.1 (IsToldOn D.tells file.now.offset (D.size device) (D.bytes device)
+        (SearchesFirst file.now.offset (D.bytes device)
+        (P.printed out.old) (P.printed out.new) (G.paired progress.old) (G.paired progress.new)) }
+    ensures on { IfErr result.1 (SearchesOn D.tells file.now.offset (D.size device) (D.bytes device)
         (D.failed device) (D.failed result.0) (G.heard progress.old) (G.heard progress.new)
-        (P.printed out.old) (P.printed out.new)) }
+        (P.printed out.old) (P.printed out.new) (G.paired progress.old) (G.paired progress.new)) }
 {
     let mut searching = match begin(alloc) {
         Ok(searching) => searching,

@@ -4,15 +4,19 @@ ghost use Rattle.std.specs.Io.KnownBytes.{Appends};
 ghost use Rattle.luks_area.specs.Device.{IsSettled, IsUnchanged};
 ghost use Rattle.luks_commands.specs.declared.answers.Answer.{Answer};
 ghost use Rattle.luks_find_command.specs.Lines.{start_line, IsVerdict};
-ghost use Rattle.luks_find_command.specs.Searches.{TellsStepBy};
+ghost use Rattle.luks_find_command.specs.SameUuids.{HasUuid};
+ghost use Rattle.luks_find_command.specs.Searches.{told_of, TellsStepBy};
 ghost use Rattle.luks_find_command.specs.Stops.{StopsBy};
 ghost use Rattle.luks_find_command.specs.declared.stop.Stop.{Stop};
 
-use crate::check_at::check_at;
+use crate::check_at::{Checked, check_at};
 use crate::lines::StartLine;
+use crate::met::{MOST_MET, Met, tell_pair};
 use crate::notes::{note_next, note_unread};
+use crate::progress::Progress;
 use crate::searched::Searched;
 use crate::stop::Stop;
+use arrayvec::ArrayVec;
 use luks_commands::{Answer, Printer, Unprinted};
 use luks_finding::begins_luks1;
 use luks_reading::Device;
@@ -20,14 +24,17 @@ use std::alloc::Global;
 use std::io::Write;
 
 /// Prints the line of the volume that begins at `start`, and says what to do next with it. Where not all
-/// can be read that `check` needs, the line ends with `device fault`.
-pub(crate) fn tell<D: Device, P: Printer, E: Write>(
+/// can be read that `check` needs, the line ends with `device fault`. Where a volume with its uuid was met
+/// before, `progress` is told so.
+pub(crate) fn tell<D: Device, P: Printer, E: Write, G: Progress>(
     alloc: Global,
     device: D,
     start: u64,
+    met: &mut ArrayVec<Met, MOST_MET>,
     file: &Searched<'_>,
     out: &mut P,
     err: &mut E,
+    progress: &mut G,
 ) -> (D, Result<(), Stop>)
     requires inside { start ≤ D.size device }
     requires room { D.failed device + 1 < 2 ^ 64 }
@@ -39,17 +46,25 @@ pub(crate) fn tell<D: Device, P: Printer, E: Write>(
         (P.failures out.old) (P.failures out.new)) }
     ensures kinds { IfErr result.1 (λ stop. stop ≢ Stop.Device) }
     ensures count { OnOk result.1 (P.failures out.new ≡ P.failures out.old) }
+    ensures heard { G.heard progress.new ≡ G.heard progress.old }
     ensures told { D.tells → TellsStepBy (D.failed device < D.failed result.0) file.now.offset (D.bytes device)
-        (start ∷ []) (P.printed out.old) (P.printed out.new) result.1 }
+        (start ∷ []) (told_of (P.printed out.old) met.old.items (G.paired progress.old))
+        (told_of (P.printed out.new) met.new.items (G.paired progress.new)) result.1 }
 {
-    let (verdict, device) = check_at(alloc, device, start, file, err);
-    match verdict {
+    let (checked, device) = check_at(alloc, device, start, file, err);
+    match checked.verdict {
         Answer::DeviceFault => {
             let told = tell_unread(start, file, out, err);
             (device, told)
         }
         Answer::NoMemory => (device, Err(Stop::Memory)),
-        verdict => tell_verdict(device, start, verdict, file, out, err),
+        verdict => {
+            let checked = Checked {
+                verdict,
+                uuid: checked.uuid,
+            };
+            tell_verdict(device, start, checked, met, file, out, err, progress)
+        }
     }
 }
 
@@ -81,17 +96,20 @@ pub(crate) fn tell_unread<P: Printer, E: Write>(
 }
 
 /// The same of a volume of which `check` answers so.
-fn tell_verdict<D: Device, P: Printer, E: Write>(
+fn tell_verdict<D: Device, P: Printer, E: Write, G: Progress>(
     device: D,
     start: u64,
-    verdict: Answer,
+    checked: Checked,
+    met: &mut ArrayVec<Met, MOST_MET>,
     file: &Searched<'_>,
     out: &mut P,
     err: &mut E,
+    progress: &mut G,
 ) -> (D, Result<(), Stop>)
     requires inside { start ≤ D.size device }
     requires room { D.failed device + 1 < 2 ^ 64 }
-    requires says { D.tells → IsVerdict (drop start (D.bytes device)) verdict }
+    requires says { D.tells → IsVerdict (drop start (D.bytes device)) checked.verdict }
+    requires uuid { D.tells → HasUuid (drop start (D.bytes device)) checked.uuid }
     requires printer { P.failures out.old + 1 < 2 ^ 64 }
     ensures unchanged { IsUnchanged D.tells D.size D.bytes D.unsettled device result.0 }
     ensures failing { (D.failed device ≤ D.failed result.0) × (D.failed result.0 ≤ D.failed device + 1) }
@@ -99,8 +117,10 @@ fn tell_verdict<D: Device, P: Printer, E: Write>(
         (P.failures out.old) (P.failures out.new)) }
     ensures kinds { IfErr result.1 (λ stop. stop ≢ Stop.Device) }
     ensures count { OnOk result.1 (P.failures out.new ≡ P.failures out.old) }
+    ensures heard { G.heard progress.new ≡ G.heard progress.old }
     ensures told { D.tells → TellsStepBy (D.failed device < D.failed result.0) file.now.offset (D.bytes device)
-        (start ∷ []) (P.printed out.old) (P.printed out.new) result.1 }
+        (start ∷ []) (told_of (P.printed out.old) met.old.items (G.paired progress.old))
+        (told_of (P.printed out.new) met.new.items (G.paired progress.new)) result.1 }
 {
     let mut device = device;
     let luks1 = match begins_luks1(&mut device, start) {
@@ -109,11 +129,12 @@ fn tell_verdict<D: Device, P: Printer, E: Write>(
     };
     let line = StartLine {
         offset: u128::from(file.offset) + u128::from(start),
-        verdict,
+        verdict: checked.verdict,
     };
     match out.print(&line) {
         Ok(()) => {
             note_next(&line.verdict, luks1, file.name, line.offset, err);
+            tell_pair(checked.uuid, line.offset, met, progress);
             (device, Ok(()))
         }
         Err(Unprinted) => (device, Err(Stop::Unprinted)),

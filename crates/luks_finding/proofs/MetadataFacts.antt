@@ -21,7 +21,7 @@ use Rattle.luks_rules.specs.declared.fault.MetaFault.{MetaFault}
 use Rattle.luks_rules.specs.declared.fault.MetaFault.TheVariants as fault
 use Rattle.luks_rebuilding.specs.Candidates.{json_of, IsCandidate}
 use Rattle.luks_rebuilding.specs.declared.place.Place.{Place}
-use Rattle.luks_rebuilding.specs.declared.place.Which.TheVariants.{Any}
+use Rattle.luks_rebuilding.specs.declared.place.Copies.TheVariants.{Any}
 use Rattle.luks_finding.specs.Blocks.{BeginsText, HasText}
 use Rattle.luks_finding.specs.Starts.{volume_at}
 use Rattle.luks_finding.specs.Telling.{first_copy, IsMemoryOnly, IsWholeAt}

@@ -10,7 +10,7 @@ use Rattle.luks2_header.specs.Header2.{binary_header_size, hdr_size, header_at, 
 use Rattle.luks2_header.specs.Sizes.{IsListed}
 use Rattle.luks_rebuilding.specs.Candidates.{IsCandidate}
 use Rattle.luks_rebuilding.specs.declared.place.Place.{Place}
-use Rattle.luks_rebuilding.specs.declared.place.Which.TheVariants.{Any}
+use Rattle.luks_rebuilding.specs.declared.place.Copies.TheVariants.{Any}
 
 -- the bytes of a sector
 abbrev pub sector_size : ℕ

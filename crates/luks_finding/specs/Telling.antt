@@ -5,7 +5,7 @@ use Rattle.luks2_header.specs.Header2.{binary_header_size, hdr_size, IsSound}
 use Rattle.luks2_header.specs.Sizes.{IsListed}
 use Rattle.luks_rebuilding.specs.Candidates.{IsCandidate}
 use Rattle.luks_rebuilding.specs.declared.place.Place.{Place}
-use Rattle.luks_rebuilding.specs.declared.place.Which.TheVariants.{Any}
+use Rattle.luks_rebuilding.specs.declared.place.Copies.TheVariants.{Any}
 use Rattle.luks_finding.specs.Blocks.{HasText}
 use Rattle.luks_finding.specs.Starts.{volume_at, BeginsVolume, HasMetadata, HasSignBefore, IsAmong, IsFirstSign, IsSign}
 use Rattle.luks_finding.specs.declared.find_fault.FindFault.{FindFault}

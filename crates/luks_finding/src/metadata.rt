@@ -6,7 +6,7 @@ ghost use Rattle.luks2_header.specs.Sizes.{IsListed};
 ghost use Rattle.luks_json.specs.AreaText.{JsonText};
 ghost use Rattle.luks_meta.specs.MetaFault.{IsMetaFault};
 ghost use Rattle.luks_rebuilding.specs.Candidates.{IsCandidate};
-ghost use Rattle.luks_rebuilding.specs.declared.place.Which.TheVariants.{Any};
+ghost use Rattle.luks_rebuilding.specs.declared.place.Copies.TheVariants.{Any};
 ghost use Rattle.luks_finding.specs.Faults.{is_find_failure};
 ghost use Rattle.luks_finding.specs.Starts.{volume_at};
 ghost use Rattle.luks_finding.specs.Telling.{IsMemoryOnly};

@@ -13,7 +13,10 @@ use Rattle.luks_rebuilding.specs.Gives.{Gives}
 use Rattle.luks_rebuilding.specs.Outcome.{IsAnsweredFault, IsRebuildable, IsRebuildFault}
 use Rattle.luks_rebuilding.specs.Rebuilt.{IsOfRebuilt, IsRebuilt}
 use Rattle.luks_rebuilding.specs.declared.place.Which.{Which}
-use Rattle.luks_rebuilding.specs.declared.place.Which.TheVariants.{Any, Second, OfSize, SecondOfSize}
+use Rattle.luks_rebuilding.specs.declared.place.Copies.{Copies}
+use Rattle.luks_rebuilding.specs.declared.place.Copies.TheVariants.{Any, Second, OfSize, SecondOfSize}
+use Rattle.luks_rebuilding.specs.declared.place.Effort.{Effort}
+use Rattle.luks_rebuilding.specs.declared.place.Effort.TheVariants.{Usual, Thorough}
 use Rattle.luks_rebuilding.specs.declared.rebuild_fault.RebuildFault.{RebuildFault}
 use Rattle.luks_rebuilding.specs.declared.rebuild_fault.RebuildFault.TheVariants as fault
 use Rattle.luks1_mending.specs.declared.given.Given.{Given}
@@ -36,14 +39,19 @@ abbrev pub random_count : ℕ
 random_count = 144
 
 -- what the words of the command line ask for
-abbrev pub which_by : Bool → Option ℕ → Which
-which_by false None = Any
-which_by true None = Second
-which_by false (Some size) = OfSize size
-which_by true (Some size) = SecondOfSize size
+abbrev pub copies_by : Bool → Option ℕ → Copies
+copies_by false None = Any
+copies_by true None = Second
+copies_by false (Some size) = OfSize size
+copies_by true (Some size) = SecondOfSize size
+
+-- and how much may be hashed for it
+abbrev pub effort_by : Bool → Effort
+effort_by false = Usual
+effort_by true = Thorough
 
 abbrev pub copies_asked : Rebuilding → Which
-copies_asked rebuilding = which_by rebuilding.second rebuilding.size
+copies_asked rebuilding = record { copies = copies_by rebuilding.second rebuilding.size; effort = effort_by rebuilding.thorough }
 
 abbrev pub given_of : Rebuilding → Option (List ℕ)
 given_of rebuilding = option_map (λ text. text.now) rebuilding.uuid

@@ -2,14 +2,14 @@
 ghost use Rattle.std.specs.Prelude.{◌≡◌, ◌≢◌, ◌+◌, ◌<◌, ◌^◌};
 ghost use Rattle.luks_area.specs.Device.{IsSettled, IsUnchanged};
 ghost use Rattle.luks_commands.specs.Answer.{answer_status, rebuild_fault_answer};
-ghost use Rattle.luks_header_commands.specs.Rebuilding.{given_of, IsLuks2Answer, KeepsRest2, copies_asked};
+ghost use Rattle.luks_header_commands.specs.Rebuilding.{copies_asked, effort_by, given_of, IsLuks2Answer, KeepsRest2};
 ghost use Rattle.luks_header_commands.specs.Target.{pair_of};
 
 use crate::header_work::{HeaderFiles, READING_FAILED, TARGET_FAILED};
 use crate::rebuild::Making;
 use luks_commands::{Answer, RandomBytes, Refusal, Status, device_fault, few_random_bytes};
 use luks_reading::Device;
-use luks_rebuilding::{RebuildFault, Which, rebuild};
+use luks_rebuilding::{Copies, Effort, RebuildFault, Which, rebuild};
 use luks_request::Rebuilding;
 use std::alloc::Global;
 use std::io::Write;
@@ -76,15 +76,30 @@ pub(crate) fn not_of_metadata<E: Write>(
     }
 }
 
-/// Which copies the words of the command line ask for.
+/// Which copies the words of the command line ask for, and how much may be hashed for it.
 pub fn copies_asked(rebuilding: &Rebuilding<'_>) -> Which
     ensures { result ≡ copies_asked rebuilding.now }
 {
-    match (rebuilding.second, rebuilding.size) {
-        (false, None) => Which::Any,
-        (true, None) => Which::Second,
-        (false, Some(size)) => Which::OfSize(size),
-        (true, Some(size)) => Which::SecondOfSize(size),
+    let copies = match (rebuilding.second, rebuilding.size) {
+        (false, None) => Copies::Any,
+        (true, None) => Copies::Second,
+        (false, Some(size)) => Copies::OfSize(size),
+        (true, Some(size)) => Copies::SecondOfSize(size),
+    };
+    Which {
+        copies,
+        effort: effort_asked(rebuilding.thorough),
+    }
+}
+
+/// How much may be hashed for it.
+fn effort_asked(thorough: bool) -> Effort
+    ensures { result ≡ effort_by thorough }
+{
+    if thorough {
+        Effort::Thorough
+    } else {
+        Effort::Usual
     }
 }
 

@@ -29,7 +29,7 @@ fault.
 Exit status:
   0  accepted, shown, opened, done, found, current or explained, or help was
      asked for
-  1  refused, none found, outdated, or it doesn't open; nothing was written
+  1  refused, none found, outdated, rescued, or it doesn't open
   2  the command line is wrong; the text is on standard error
   3  check: accepted, but the two copies of the header aren't in step
   4  device fault, no memory, or the output can't be written
@@ -110,11 +110,12 @@ Exit status:
   4  device fault, no memory, or the output can't be written";
 
 /// What `open` does, in a line.
-pub const OPEN: &str = "Tells whether a passphrase opens a keyslot";
+pub const OPEN: &str = "Tells whether a passphrase opens a keyslot, or a key is the volume's";
 
 /// The usage of `open` after `Usage: `, on several lines, since one would have more than 80 columns.
 pub const OPEN_USAGE: &str = "\
-luks open [OPTIONS] <--passphrase <FILE>|--passphrase-line <FILE>>
+luks open [OPTIONS]
+                 <--passphrase <FILE>|--passphrase-line <FILE>|--key <FILE>>
                  <VOLUME>";
 
 /// The help of `open` after its words.
@@ -140,13 +141,20 @@ The header names the memory of Argon2, 1024 MiB for most volumes, and anybody
 may have written it: so none is taken but by --memory. Standard error says how
 much a keyslot takes that was refused.
 
+With --key no keyslot is tried: FILE is a volume key, all its bytes, and is
+compared with the digest that the header has of its key; of LUKS2 with that of
+segment 0, or by --digest with another, and standard error names it.
+
 Prints one line:
   slot N opens          the passphrase opens keyslot N
   slot N does not open  it doesn't open the keyslot that --slot names
   no slot opens         it opens none
+  key matches           the key is the volume's
+  key does not match    it is another
   refused FAULT         why it can't be tried, as Passphrase (the file is too
-                        long), SlotFree, NoSuchSlot, Argon2, Cipher or Hash
-  device fault          the volume or the passphrase can't be read
+                        long), SlotFree, NoSuchSlot, Argon2, Cipher, Hash,
+                        NoSuchDigest or KeyLength (of another length)
+  device fault          a file can't be read
   no memory             memory was refused; of Argon2 standard error says how
                         much was asked for
 With --json it prints one JSON object in place of the line, on one line: status,
@@ -154,8 +162,8 @@ the exit status; answer, as opens, and what the line tells beside it; hints, the
 lines that standard error says.
 
 Exit status:
-  0  the keyslot opens, or help was asked for
-  1  refused, or it doesn't open
+  0  the keyslot opens, or the key matches, or help was asked for
+  1  refused, or it doesn't open or match
   2  the command line is wrong; the text is on standard error
   4  device fault, no memory, or the output can't be written";
 

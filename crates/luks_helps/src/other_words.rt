@@ -14,7 +14,7 @@ pub fn other_words() -> &'static [OtherWord] {
     &OTHER_WORDS
 }
 
-static OTHER_WORDS: [OtherWord; 56] = [
+static OTHER_WORDS: [OtherWord; 58] = [
     OtherWord {
         word: "luksDump",
         here: "luks show",
@@ -166,6 +166,14 @@ static OTHER_WORDS: [OtherWord; 56] = [
     OtherWord {
         word: "--new-key-file",
         here: "--new FILE",
+    },
+    OtherWord {
+        word: "--volume-key-file",
+        here: "--key FILE",
+    },
+    OtherWord {
+        word: "--master-key-file",
+        here: "--key FILE",
     },
     OtherWord {
         word: "--key-slot",

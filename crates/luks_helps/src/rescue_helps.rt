@@ -20,8 +20,9 @@ or, in place of these lines or behind them:
   none found      no sign was found
   device fault    DEVICE can't be read
   no memory       memory was refused
-Standard error says after each what to do with it, and at the end how many there
-are; on a terminal also how far it is, of more than 1 GiB.
+Standard error says after each what to do with it, which of those that check
+accepts have the same uuid, and at the end how many there are; on a terminal
+also how far it is, of more than 1 GiB.
 
 Only what begins and ends between --offset and --length is looked for. What is
 found in the data of a volume may be a file, as a header backup.
@@ -49,8 +50,15 @@ restore it is put back, as by cryptsetup luksHeaderRestore. Whoever has it and a
 passphrase of it opens the volume, even after that passphrase was removed there:
 keep it apart from the disk, and as safe.
 
+With --rescue a key area that can't be read doesn't end it, on a disk that is
+failing: FILE has zeros for each sector of 512 bytes that can't be read, and all
+else. The header itself has to be read.
+
 Prints one line:
   done           the backup is made
+  rescued        with --rescue: it is made, but for sectors of key areas. A
+                 line for each such keyslot stands before it, keyslot N
+                 damaged: mostly no passphrase of it opens FILE
   refused FAULT  the first fault, and nothing was written: SameFile (FILE is
                  VOLUME), Exists (FILE isn't empty, without --over), what check
                  refuses of VOLUME, or TooSmall (FILE is a device that is too
@@ -63,7 +71,7 @@ backup. Run it again, with --over.
 
 Exit status:
   0  done, or help was asked for
-  1  refused; nothing was written
+  1  refused; nothing was written; or rescued
   2  the command line is wrong; the text is on standard error
   4  device fault, no memory, or the output can't be written";
 

@@ -3,6 +3,7 @@ use Rattle.std.proofs.Common.{◌≡◌, ℕ, ◌+◌, ◌≤◌, ◌<◌, List,
 use Rattle.serde_json.specs.Data.{Data as Value}
 use Rattle.serde_json.specs.Find.{get}
 use Rattle.luks_area.specs.Ranges.{part}
+use Rattle.luks_area.specs.declared.area.Area.{Area}
 use Rattle.luks_area.specs.declared.area.AreaName.TheVariants.{Slot}
 use Rattle.luks1_header.specs.Header1.{active_word, disabled_word, enabled_word, entry, word_of, IsLuks1}
 use Rattle.luks1_header.specs.declared.luks1.Luks1.{Luks1}
@@ -28,33 +29,33 @@ use Rattle.luks_reading.specs.declared.open_fault.OpenFault.TheVariants.{SlotFre
 use Rattle.luks_reading.specs.declared.report.Data.{Data}
 use Rattle.luks_reading.specs.declared.report.Data.TheVariants.{Elsewhere}
 use Rattle.luks_keeping.specs.Judged.{IsFormedOnAs}
-use Rattle.luks_keeping.specs.Kept.{HasKept}
+use Rattle.luks_keeping.specs.Kept.{HasHeader, KeptArea}
 use Rattle.luks_keeping.proofs.KeptFacts.{fields_same, header_same, json_same}
 
 -- two volumes of which the same counts: nothing refuses a keyslot of the one that doesn't in the other, it
--- has the same plan, and where it opens its area has the same bytes
-pub record AreAlike (v w : List ℕ) (c : Choice) : Type 0 where
+-- has the same plan, and where it opens its area has the same bytes, if it is of these keyslots
+pub record AreAlike (v w : List ℕ) (c : Choice) (slots : ℕ → Type 0) : Type 0 where
   pub chosen : Chosen v c
   pub other_chosen : Chosen w c
   pub refusals : (allowed : Allowed) (n : ℕ) (f : OpenFault) → IsRefusalAsWithin allowed v n c f → IsRefusalAsWithin allowed w n c f
   pub refusals_back : (allowed : Allowed) (n : ℕ) (f : OpenFault) → IsRefusalAsWithin allowed w n c f → IsRefusalAsWithin allowed v n c f
   pub plans : (n : ℕ) (plan : SlotPlan) → HasPlanAs v n c plan → HasPlanAs w n c plan
   pub plans_back : (n : ℕ) (plan : SlotPlan) → HasPlanAs w n c plan → HasPlanAs v n c plan
-  pub bytes : (allowed : Allowed) (n : ℕ) (plan : SlotPlan) → HasPlanAs v n c plan → ((f : OpenFault) → IsRefusalAsWithin allowed v n c f → ⊥)
+  pub bytes : (allowed : Allowed) (n : ℕ) (plan : SlotPlan) → slots n → HasPlanAs v n c plan → ((f : OpenFault) → IsRefusalAsWithin allowed v n c f → ⊥)
       → part w plan.area.start plan.area.len ≡ part v plan.area.start plan.area.len
 
-turned : (v w : List ℕ) (c : Choice) → AreAlike v w c → AreAlike w v c
-turned v w c x = record {
+turned : (v w : List ℕ) (c : Choice) (slots : ℕ → Type 0) → AreAlike v w c slots → AreAlike w v c slots
+turned v w c slots x = record {
   chosen = x.other_chosen;
   other_chosen = x.chosen;
   refusals = x.refusals_back;
   refusals_back = x.refusals;
   plans = x.plans_back;
   plans_back = x.plans;
-  bytes = λ allowed n plan is free. sym (x.bytes allowed n plan (x.plans_back n plan is) (λ f bad. free f (x.refusals allowed n f bad)));
+  bytes = λ allowed n plan own is free. sym (x.bytes allowed n plan own (x.plans_back n plan is) (λ f bad. free f (x.refusals allowed n f bad)));
 }
 
-module _ (v w : List ℕ) (c : Choice) (x : AreAlike v w c) (allowed : Allowed) (n : ℕ) where
+module _ (v w : List ℕ) (c : Choice) (slots : ℕ → Type 0) (x : AreAlike v w c slots) (allowed : Allowed) (n : ℕ) (own : slots n) where
   refused_there : (f : OpenFault) → IsRefusalWithin allowed v n f → IsRefusalWithin allowed w n f
   refused_there f z = record {
     choice = c;
@@ -80,7 +81,7 @@ module _ (v w : List ℕ) (c : Choice) (x : AreAlike v w c) (allowed : Allowed) 
         plan = z.plan;
         is = x.plans n z.plan plan;
         unrefused = λ f bad. free f (x.refusals_back allowed n f bad);
-        key = ap (λ (b : List ℕ). slot_key z.plan b p) (x.bytes allowed n z.plan plan free) ∙ z.key;
+        key = ap (λ (b : List ℕ). slot_key z.plan b p) (x.bytes allowed n z.plan own plan free) ∙ z.key;
       }
 
   answers_one_way : (p : List ℕ) (a : Opened) → AnswerWithin allowed v n p a → AnswerWithin allowed w n p a
@@ -88,11 +89,15 @@ module _ (v w : List ℕ) (c : Choice) (x : AreAlike v w c) (allowed : Allowed) 
   answers_one_way p (opens k) z = opens_there p (Some k) z
   answers_one_way p no_key z = opens_there p None z
 
-pub answers_there : (v w : List ℕ) (c : Choice) → AreAlike v w c → (allowed : Allowed) (n : ℕ) (p : List ℕ) (a : Opened) → AnswerWithin allowed v n p a → AnswerWithin allowed w n p a
-answers_there v w c x allowed n p a z = answers_one_way v w c x allowed n p a z
+pub answers_there : (v w : List ℕ) (c : Choice) (slots : ℕ → Type 0) → AreAlike v w c slots → (allowed : Allowed) (n : ℕ) → slots n → (p : List ℕ) (a : Opened) → AnswerWithin allowed v n p a → AnswerWithin allowed w n p a
+answers_there v w c slots x allowed n own p a z = answers_one_way v w c slots x allowed n own p a z
 
-pub answers_here : (v w : List ℕ) (c : Choice) → AreAlike v w c → (allowed : Allowed) (n : ℕ) (p : List ℕ) (a : Opened) → AnswerWithin allowed w n p a → AnswerWithin allowed v n p a
-answers_here v w c x allowed n p a z = answers_one_way w v c (turned v w c x) allowed n p a z
+pub answers_here : (v w : List ℕ) (c : Choice) (slots : ℕ → Type 0) → AreAlike v w c slots → (allowed : Allowed) (n : ℕ) → slots n → (p : List ℕ) (a : Opened) → AnswerWithin allowed w n p a → AnswerWithin allowed v n p a
+answers_here v w c slots x allowed n own p a z = answers_one_way w v c slots (turned v w c slots x) allowed n own p a z
+
+-- the key areas of these keyslots are there
+abbrev pub HasAreasOf : (ℕ → Type 0) → List ℕ → Choice → List ℕ → Type 0
+HasAreasOf slots v c w = (n : ℕ) (a : Area) → slots n → KeptArea v c n a → part w a.start a.len ≡ part v a.start a.len
 
 -- ---- LUKS1
 
@@ -115,12 +120,12 @@ in_use h n low read free =
     let is = read.1.slots.each n any low in
     state_word _ (active_word (entry h n)) is.fields.state free
 
-module _ (v w : List ℕ) (payload other : Data) (x : Chosen v luks1) (y : Chosen w luks1) (kept : HasKept v luks1 w)
+module _ (v w : List ℕ) (payload other : Data) (x : Chosen v luks1) (y : Chosen w luks1) (h : HasHeader v luks1 w) (slots : ℕ → Type 0) (areas : HasAreasOf slots v luks1 w)
     (formed : IsLuks1Volume (part v 0 592) payload (length v)) (formed_w : IsLuks1Volume (part w 0 592) other (length w)) where
   same : part w 0 592 ≡ part v 0 592
-  same = fields_same v w kept.header
+  same = fields_same v w h
 
-  pub alike1 : AreAlike v w luks1
+  pub alike1 : AreAlike v w luks1 slots
   alike1 = record {
     chosen = x;
     other_chosen = y;
@@ -130,7 +135,7 @@ module _ (v w : List ℕ) (payload other : Data) (x : Chosen v luks1) (y : Chose
         (moved1 allowed.older (part w 0 592) n (length w) (length v) (plan1_inside (part w 0 592) other (length w) n formed_w) f z);
     plans = λ n plan is. subst (λ (h : List ℕ). HasLuks1Plan h n plan) (sym same) is;
     plans_back = λ n plan is. subst (λ (h : List ℕ). HasLuks1Plan h n plan) same is;
-    bytes = λ allowed n plan is free. kept.areas n plan.area (record {
+    bytes = λ allowed n plan own is free. areas n plan.area own (record {
       area = (is.numbered, is.is.start, is.is.len);
       enabled = in_use (part v 0 592) n is.numbered formed.header (λ off. free SlotFree (is.numbered, off));
     });
@@ -160,13 +165,13 @@ plan2_inside b json payload total n formed plan is =
     let same : its.value ≡ formed.layout.0 = one_value json its.value formed.layout.0 its.holds formed.layout.1.metadata.json in
     formed.layout.1.fit.inside (Slot n) plan.area (subst (λ (j : Value). Luks2Area j 0 Elsewhere 0 (Slot n) plan.area) same its.area)
 
-module _ (v w : List ℕ) (payload other : Data) (o : ℕ) (copies : Copies) (x : Chosen v (luks2 o copies)) (y : Chosen w (luks2 o copies)) (kept : HasKept v (luks2 o copies) w)
+module _ (v w : List ℕ) (payload other : Data) (o : ℕ) (copies : Copies) (x : Chosen v (luks2 o copies)) (y : Chosen w (luks2 o copies)) (h : HasHeader v (luks2 o copies) w) (slots : ℕ → Type 0) (areas : HasAreasOf slots v (luks2 o copies) w)
     (formed : IsLuks2Volume (header_at v o) (json_at v o) payload (length v)) (formed_w : IsLuks2Volume (header_at w o) (json_at w o) other (length w)) where
   b_same : header_at w o ≡ header_at v o
-  b_same = header_same v w o copies x.1 kept.header
+  b_same = header_same v w o copies x.1 h
 
   j_same : json_at w o ≡ json_at v o
-  j_same = json_same v w o copies x.1 kept.header
+  j_same = json_same v w o copies x.1 h
 
   to_w : (allowed : Allowed) (n : ℕ) (f : OpenFault) → IsLuks2RefusalWithin allowed (header_at v o) (json_at v o) (length v) n f → IsLuks2RefusalWithin allowed (header_at w o) (json_at w o) (length w) n f
   to_w allowed n f z =
@@ -180,7 +185,7 @@ module _ (v w : List ℕ) (payload other : Data) (o : ℕ) (copies : Copies) (x 
       (subst (λ (j : List ℕ). IsLuks2RefusalWithin allowed (header_at w o) j (length v) n f) j_same
       (moved2 allowed (header_at w o) (json_at w o) n (length w) (length v) (plan2_inside (header_at w o) (json_at w o) other (length w) n formed_w) f z))
 
-  pub alike2 : AreAlike v w (luks2 o copies)
+  pub alike2 : AreAlike v w (luks2 o copies) slots
   alike2 = record {
     chosen = x;
     other_chosen = y;
@@ -188,12 +193,13 @@ module _ (v w : List ℕ) (payload other : Data) (o : ℕ) (copies : Copies) (x 
     refusals_back = to_v;
     plans = λ n plan is. subst (λ (j : List ℕ). HasLuks2Plan j n plan) (sym j_same) is;
     plans_back = λ n plan is. subst (λ (j : List ℕ). HasLuks2Plan j n plan) j_same is;
-    bytes = λ allowed n plan is free. kept.areas n plan.area (plan_area (header_at v o) (json_at v o) n plan is);
+    bytes = λ allowed n plan own is free. areas n plan.area own (plan_area (header_at v o) (json_at v o) n plan is);
   }
 
 -- ---- whatever counts
 
-pub alike : (v w : List ℕ) (payload other : Data) (c : Choice) → Chosen v c → Chosen w c → HasKept v c w → IsFormedOnAs v payload (length v) c → IsFormedOnAs w other (length w) c → AreAlike v w c
-alike v w payload other luks1 x y kept formed formed_w = alike1 v w payload other x y kept formed formed_w
-alike v w payload other (luks2 o copies) x y kept formed formed_w = alike2 v w payload other o copies x y kept formed formed_w
-alike v w payload other nothing x y kept formed formed_w = absurd formed
+pub alike : (v w : List ℕ) (payload other : Data) (c : Choice) → Chosen v c → Chosen w c → HasHeader v c w → (slots : ℕ → Type 0) → HasAreasOf slots v c w
+    → IsFormedOnAs v payload (length v) c → IsFormedOnAs w other (length w) c → AreAlike v w c slots
+alike v w payload other luks1 x y h slots areas formed formed_w = alike1 v w payload other x y h slots areas formed formed_w
+alike v w payload other (luks2 o copies) x y h slots areas formed formed_w = alike2 v w payload other o copies x y h slots areas formed formed_w
+alike v w payload other nothing x y h slots areas formed formed_w = absurd formed

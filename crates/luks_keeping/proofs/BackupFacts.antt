@@ -24,7 +24,7 @@ use Rattle.luks_keeping.specs.Kept.{HasKept}
 use Rattle.luks_keeping.specs.Laid.{choice_of, IsLaidOut}
 use Rattle.luks_keeping.specs.Places.{HoldsAll, IsOfPlaces}
 use Rattle.luks_keeping.specs.declared.backup_fault.BackupFault.{BackupFault}
-use Rattle.luks_keeping.specs.declared.backup_fault.BackupFault.TheVariants.{NotAccepted, TooSmall, Memory, Device}
+use Rattle.luks_keeping.specs.declared.backup_fault.BackupFault.TheVariants.{NotAccepted, TooSmall}
 use Rattle.luks_keeping.specs.declared.places.Places.{Places}
 
 -- ---- what was made

@@ -3,7 +3,7 @@ use Rattle.std.proofs.Common.{◌≡◌, ◌⊎◌, ℕ, ◌+◌, ◌-◌, ◌*�
 use Rattle.std.proofs.lemmas.Bool.{cases_lt, eqb-true, leb-true, ne_eqb, false≢true}
 use Rattle.std.proofs.lemmas.Grind.{same_number_lists}
 use Rattle.std.proofs.lemmas.List.{get_or-replicate, length-replicate}
-use Rattle.luks_area.specs.Ranges.{part, written, IsAt, IsOfEither, SameBut}
+use Rattle.luks_area.specs.Ranges.{part, written, IsAt, SameBut}
 use Rattle.luks_area.proofs.RangeFacts.{get_or-part, length-part_inside, part-part, part-same_but, same_but-either, same_but-same_outside, same_but-then, same_but-wider, same_outside-written}
 use Rattle.luks2_header.proofs.CopyFacts.{among_pass, listed_at_least}
 use Rattle.luks1_header.specs.Header1.{luks_magic}
@@ -12,7 +12,7 @@ use Rattle.luks2_header.specs.Sizes.{is_listed, listed_sizes, IsListed}
 use Rattle.luks_writing.specs.Cleared.{IsCleared}
 use Rattle.luks_keeping.proofs.ErasedFacts.{zeros_stand}
 use Rattle.luks_keeping.proofs.OverFacts.{inside_stays}
-use Rattle.luks_keeping.specs.Clearing.{IsBetween, IsOfFronts, IsOfOne, IsToClear, KeepsZeros, WipesInTurn}
+use Rattle.luks_keeping.specs.Clearing.{IsBetween, IsOfOne, IsToClear, KeepsZeros, WipesInTurn}
 use Rattle.luks_keeping.specs.SecondPlaces.{AreZeros, BeginsCopy, IsOfCopies, IsOfFirst, IsOfListed}
 use Rattle.luks_keeping.specs.declared.second_places.Which.{Which}
 use Rattle.luks_keeping.specs.declared.second_places.Which.TheVariants.{EachPlace, EachCopy}

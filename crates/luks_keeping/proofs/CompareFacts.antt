@@ -1,5 +1,5 @@
 -- Key areas that are compared.
-use Rattle.std.proofs.Common.{◌≡◌, ℕ, ◌+◌, ◌<◌, ◌≤◌, ◌++◌, List, length, Option, Some, None, IfSome, slice_index_or, Bool, IsTrue, ◌↔◌, refl, sym, ap, ◌∙◌, arith, inl, inr, subst}
+use Rattle.std.proofs.Common.{◌≡◌, ℕ, ◌+◌, ◌<◌, ◌≤◌, ◌++◌, List, length, Option, Some, None, IfSome, slice_index_or, Bool, IsTrue, ◌↔◌, refl, sym, ap, ◌∙◌, inl, inr, subst}
 use Rattle.luks_area.specs.Ranges.{part}
 use Rattle.luks_area.proofs.RangeFacts.{length-part_inside, part-add, part-part}
 use Rattle.luks_area.specs.declared.area.Area.{Area}

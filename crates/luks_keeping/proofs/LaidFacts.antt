@@ -20,9 +20,9 @@ use Rattle.luks_reading.specs.Reported.{HeaderArea}
 use Rattle.luks_reading.specs.declared.header.Header.{Header}
 use Rattle.luks_reading.specs.declared.header.Header.TheVariants.{Luks1, Luks2}
 use Rattle.luks_reading.specs.declared.report.Data.{Data}
-use Rattle.luks_keeping.specs.Kept.{header_size, lead_of, lead_size, HasKept, IsKept, IsUsedArea, KeptArea}
+use Rattle.luks_keeping.specs.Kept.{header_size, lead_of, lead_size, HasHeader, HasKept, IsKept, IsUsedArea, KeptArea}
 use Rattle.luks_keeping.specs.Laid.{choice_of, first_size, header_lead, second_size, HasSlot, HasSlot2, IsLaidOut}
-use Rattle.luks_keeping.specs.Places.{header_end, AreApart, AreInside, HoldsAll, HoldsAreas, IsOfPlaces, IsOfWhole}
+use Rattle.luks_keeping.specs.Places.{header_end, AreApart, AreInside, HoldsAll, HoldsAreas, HoldsHeader, IsOfPlaces, IsOfWhole}
 use Rattle.luks_keeping.specs.declared.places.Places.{Places}
 
 -- ---- as areas that fit
@@ -130,15 +130,15 @@ module _ (v : List ℕ) (header : Header) (is : IsHeader v header) (places : Pla
   pub kept_areas : (w : List ℕ) → HoldsAreas places v w → (n : ℕ) (a : Area) → KeptArea v (choice_of header) n a → part w a.start a.len ≡ part v a.start a.len
   kept_areas w held n a kept = held n a (laid.all n a (from_kept v header is n a kept))
 
-  pub has_kept : (w : List ℕ) → HoldsAll places v w → part w 0 places.lead ≡ replicate places.lead 0 → HasKept v (choice_of header) w
-  has_kept w held zeros = record {
-    header = record {
-      lead = subst (λ (n : ℕ). part w 0 n ≡ replicate n 0) lead_same zeros;
-      behind = subst (λ (l : ℕ). part w l (header_size v (choice_of header) - l) ≡ part v l (header_size v (choice_of header) - l)) lead_same
-          (subst (λ (n : ℕ). part w places.lead (n - places.lead) ≡ part v places.lead (n - places.lead)) end_is held.header);
-    };
-    areas = kept_areas w held.areas;
+  pub has_header : (w : List ℕ) → HoldsHeader places v w → part w 0 places.lead ≡ replicate places.lead 0 → HasHeader v (choice_of header) w
+  has_header w held zeros = record {
+    lead = subst (λ (n : ℕ). part w 0 n ≡ replicate n 0) lead_same zeros;
+    behind = subst (λ (l : ℕ). part w l (header_size v (choice_of header) - l) ≡ part v l (header_size v (choice_of header) - l)) lead_same
+        (subst (λ (n : ℕ). part w places.lead (n - places.lead) ≡ part v places.lead (n - places.lead)) end_is held);
   }
+
+  pub has_kept : (w : List ℕ) → HoldsAll places v w → part w 0 places.lead ≡ replicate places.lead 0 → HasKept v (choice_of header) w
+  has_kept w held zeros = record { header = has_header w held.header zeros; areas = kept_areas w held.areas }
 
   -- the places are of what is kept
   pub place_kept : (p : ℕ) → IsOfPlaces places p → IsKept v (choice_of header) p

@@ -16,9 +16,14 @@ pub mod SoundFacts
 pub mod RestoreFacts
 pub mod RestoreFaultFacts
 pub mod TurnFacts
+pub mod PieceFacts
+pub mod ReadFacts
+pub mod AsReadFacts
+pub mod RescueFacts
 pub mod KeyFacts
 pub mod OtherFacts
 pub mod SaltFacts
 pub mod CompareFacts
 pub mod ComparisonFacts
+pub mod LostFacts
 pub mod SameFacts

@@ -4,7 +4,7 @@ use Rattle.std.proofs.lemmas.Bool.{cases_eq}
 use Rattle.luks_area.specs.Ranges.{part, IsAt, SameBut}
 use Rattle.luks_area.proofs.RangeFacts.{part-add, part-part, part-same_but, same_but-wider}
 use Rattle.luks_area.specs.declared.area.Area.{Area}
-use Rattle.luks_keeping.specs.Places.{header_end, AreApart, CopiesInTurn, HasPlace, HoldsAll, HoldsAllButFirst, HoldsAreas, IsOfAreas, IsOfPlace, IsOfPlaces}
+use Rattle.luks_keeping.specs.Places.{header_end, AreApart, CopiesHeader, CopiesInTurn, HasPlace, HoldsAll, HoldsAreas, HoldsHeader, IsOfAreas, IsOfHeader, IsOfPlace, IsOfPlaces}
 use Rattle.luks_keeping.specs.declared.places.Places.{Places}
 
 some_same : {A : Type 0} (x y : A) → Some x ≡ Some y → x ≡ y
@@ -82,49 +82,55 @@ module _ (places : Places) (apart : AreApart places) where
     wide : {u w : List ℕ} (start len : ℕ) → start + len ≤ header_end places → SameBut (IsAt start len) u w → SameBut (IsAt 0 (header_end places)) u w
     wide start len inside same = same_but-wider (λ p here. (let low = here.0 in omega (arith, low), let high = here.1 in omega (arith, high, inside))) same
 
-    pub of_second : {u w : List ℕ} → SameBut (IsAt places.first places.second) u w → SameBut (IsOfPlaces places) u w
-    of_second same = same_but-wider (λ p here. inl (let low = here.0 in omega (arith, low, lead), let high = here.1 in omega (arith, high, lead))) same
-
-    pub of_first : {u w : List ℕ} → SameBut (IsAt places.lead (places.first - places.lead)) u w → SameBut (IsOfPlaces places) u w
-    of_first same = same_but-wider (λ p here. inl (let low = here.0 in omega (arith, low, lead), let high = here.1 in omega (arith, high, lead))) same
+    pub of_header : {u w : List ℕ} → SameBut (IsOfHeader places) u w → SameBut (IsOfPlaces places) u w
+    of_header same = same_but-wider (λ p here. inl here) same
 
     pub of_areas : {u w : List ℕ} → SameBut (IsOfAreas places) u w → SameBut (IsOfPlaces places) u w
     of_areas same = same_but-wider (λ p here. inr here) same
 
+    -- the header that is written leaves the key areas
+    pub areas_held : (s a c : List ℕ) → SameBut (IsOfHeader places) a c → HoldsAreas places s a → HoldsAreas places s c
+    areas_held s a c same held = areas_stay s a c (wide places.lead (header_end places - places.lead) (omega (arith, lead)) same) held
+
+    -- the bytes from 0 on, behind the key areas' step
     front : (v : List ℕ) → part (part v 0 (header_end places)) 0 places.first ≡ part v 0 places.first
     front v = part-part v 0 (header_end places) 0 places.first (omega arith)
 
-    -- the steps: `u` before, `a` after the key areas, `b` after the second copy, `c` after the first
-    module _ (s u a : List ℕ) (areas : SameBut (IsOfAreas places) u a) (held : HoldsAreas places s a) where
-      pub turn_second : (b : List ℕ) → SameBut (IsAt places.first places.second) a b → CopiesInTurn places s u b
-      turn_second b same =
-          let first : part b 0 places.first ≡ part a 0 places.first =
+    -- the steps: `u` before, `a` after the key areas, `c` at any time after that
+    pub turn_header : (s u a c : List ℕ) → SameBut (IsOfAreas places) u a → HoldsAreas places s a → CopiesHeader places s a c → CopiesInTurn places s u c
+    turn_header s u a c areas held turn = elim turn [
+      | inl same ↦ (
+          let first : part c 0 places.first ≡ part a 0 places.first =
           part-same_but 0 places.first same (λ p here other. (let low = other.0 in let high = here.1 in absurd (omega (arith, low, high)))) in
           let before : part a 0 places.first ≡ part u 0 places.first = sym (front a) ∙ ap (λ l. part l 0 places.first) (header_stays u a areas) ∙ front u in
-          inr (inl (first ∙ before, areas_stay s a b (wide places.first places.second (omega arith) same) held))
+          inr (inl (first ∙ before, areas_stay s a c (wide places.first places.second (omega arith) same) held)))
+      | inr x ↦ inr (inr (record { areas = areas_held s a c x.0 held; second = x.1 }))
+    ]
 
-      module _ (b : List ℕ) (same : SameBut (IsAt places.first places.second) a b) (there : part b places.first places.second ≡ part s places.first places.second) where
-        areas_held : HoldsAreas places s b
-        areas_held = areas_stay s a b (wide places.first places.second (omega arith) same) held
+    pub all_held : (s a c : List ℕ) → SameBut (IsOfHeader places) a c → HoldsAreas places s a → HoldsHeader places s c → HoldsAll places s c
+    all_held s a c same held header = record { areas = areas_held s a c same held; header = header }
 
-        module _ (c : List ℕ) (last : SameBut (IsAt places.lead (places.first - places.lead)) b c) where
-          second_held : part c places.first places.second ≡ part s places.first places.second
-          second_held = part-same_but places.first places.second last (λ p here other. (let low = here.0 in let high = other.1 in absurd (omega (arith, low, high, lead)))) ∙ there
+-- ---- the header's two copies, the second first
 
-          but_first : HoldsAllButFirst places s c
-          but_first = record { areas = areas_stay s b c (wide places.lead (places.first - places.lead) (omega (arith, lead)) last) areas_held; second = second_held }
+module _ (places : Places) (lead : places.lead ≤ places.first) where
+  pub of_second : {u w : List ℕ} → SameBut (IsAt places.first places.second) u w → SameBut (IsOfHeader places) u w
+  of_second same = same_but-wider (λ p here. (let low = here.0 in omega (arith, low, lead), let high = here.1 in omega (arith, high, lead))) same
 
-          pub turn_first : CopiesInTurn places s u c
-          turn_first = inr (inr but_first)
+  pub of_first : {u w : List ℕ} → SameBut (IsAt places.lead (places.first - places.lead)) u w → SameBut (IsOfHeader places) u w
+  of_first same = same_but-wider (λ p here. (here.0, let high = here.1 in omega (arith, high, lead))) same
 
-          pub all_held : part c places.lead (places.first - places.lead) ≡ part s places.lead (places.first - places.lead) → HoldsAll places s c
-          all_held begins =
-              let n : ℕ = places.first - places.lead in
-              let from : places.lead + n ≡ places.first = omega (arith, lead) in
-              let len : header_end places - places.lead ≡ n + places.second = omega (arith, lead) in
-              let both : (v : List ℕ) → part v places.lead (header_end places - places.lead) ≡ part v places.lead n ++ part v places.first places.second =
-              λ v. ap (part v places.lead) len ∙ part-add v places.lead n places.second ∙ ap (λ k. part v places.lead n ++ part v k places.second) from in
-              record {
-                areas = but_first.areas;
-                header = both c ∙ ap (λ l. l ++ part c places.first places.second) begins ∙ ap (λ l. part s places.lead n ++ l) second_held ∙ sym (both s);
-              }
+  -- the second stays while the first is written
+  pub second_stays : (s b c : List ℕ) → SameBut (IsAt places.lead (places.first - places.lead)) b c → part b places.first places.second ≡ part s places.first places.second
+      → part c places.first places.second ≡ part s places.first places.second
+  second_stays s b c last there = part-same_but places.first places.second last (λ p here other. (let low = here.0 in let high = other.1 in absurd (omega (arith, low, high, lead)))) ∙ there
+
+  -- both make the header
+  pub header_held : (s c : List ℕ) → part c places.first places.second ≡ part s places.first places.second → part c places.lead (places.first - places.lead) ≡ part s places.lead (places.first - places.lead)
+      → HoldsHeader places s c
+  header_held s c second begins =
+      let n : ℕ = places.first - places.lead in
+      let from : places.lead + n ≡ places.first = omega (arith, lead) in
+      let len : header_end places - places.lead ≡ n + places.second = omega (arith, lead) in
+      let both : (v : List ℕ) → part v places.lead (header_end places - places.lead) ≡ part v places.lead n ++ part v places.first places.second =
+      λ v. ap (part v places.lead) len ∙ part-add v places.lead n places.second ∙ ap (λ k. part v places.lead n ++ part v k places.second) from in
+      both c ∙ ap (λ l. l ++ part c places.first places.second) begins ∙ ap (λ l. part s places.lead n ++ l) second ∙ sym (both s)

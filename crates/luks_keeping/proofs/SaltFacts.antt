@@ -14,7 +14,6 @@ use Rattle.luks_reading.specs.declared.header.Header.TheVariants.{Luks1, Luks2}
 use Rattle.luks_keeping.specs.Compared.{HasSalt2, HasSaltAs, IsCompared, IsUsedSalt, StandsSo}
 use Rattle.luks_keeping.specs.Laid.{choice_of}
 use Rattle.luks_keeping.specs.Outlines.{IsOutline}
-use Rattle.luks_keeping.specs.SameKey.{SharesDigest}
 use Rattle.luks_keeping.specs.SameKeys.{Shares}
 use Rattle.luks_keeping.specs.Salts.{FindsSalt, HasHeaderSalt, HoldsKeeping, IsListedSalt, IsSameOrOlder}
 use Rattle.luks_keeping.specs.declared.outline.Outline.{Outline}

@@ -1,5 +1,5 @@
 -- Whether a header that counts on a device is of the backup's volume.
-use Rattle.std.proofs.Common.{◌≡◌, ◌↔◌, ℕ, List, Bool, true, false, IsTrue, refl, sym, ◌∙◌}
+use Rattle.std.proofs.Common.{◌≡◌, ◌↔◌, ℕ, List, Bool, false, IsTrue, sym, ◌∙◌}
 use Rattle.std.proofs.lemmas.Bool.{false≢true}
 use Rattle.luks2_header.specs.Selection.{nothing, luks1, luks2, Chosen, IsSelected}
 use Rattle.luks2_header.specs.declared.selection.Selected.{Selected}

@@ -116,7 +116,7 @@ module _ (b : List ℕ) (header : Header) (is : IsHeader b header) (places : Pla
 
   -- ---- backing up
 
-  large_size : (size : ℕ) → AreInside places size → 512 ≤ size
+  pub large_size : (size : ℕ) → AreInside places size → 512 ≤ size
   large_size size inside = (let large = large_head b header is in let first = laid.first in let all = inside.header in omega (arith, large, first, all))
 
   anew_as : (size : ℕ) (old new : List ℕ) → WritesAnew places size b old new → BacksUpInTurn b (choice_of header) size old new

@@ -1,5 +1,6 @@
 -- A volume whose header and key areas stand on another device makes a volume there that opens alike.
 use Rattle.std.proofs.Common.{◌≡◌, ℕ, ◌+◌, ◌≤◌, List, length, refl, subst, arith}
+use Rattle.std.specs.Bool.{⊤}
 use Rattle.luks_area.specs.declared.area.AreaName.TheVariants.{Head1, Head2}
 use Rattle.luks2_header.proofs.ChoiceFacts.{choices_agree}
 use Rattle.luks2_header.specs.Header2.{hdr_size, header_at}
@@ -11,9 +12,9 @@ use Rattle.luks_reading.specs.Checked.{WellFormed, WellFormedAs}
 use Rattle.luks_reading.specs.declared.report.Data.{Data}
 use Rattle.luks_keeping.specs.Backup.{IsBackup, IsSizeAs}
 use Rattle.luks_keeping.specs.Judged.{IsFormedOn, IsFormedOnAs}
-use Rattle.luks_keeping.specs.Kept.{header_size, HasKept}
+use Rattle.luks_keeping.specs.Kept.{header_size, HasHeader, HasKept}
 use Rattle.luks_keeping.specs.Restored.{IsRestored}
-use Rattle.luks_keeping.proofs.AnswerFacts.{alike, answers_here, answers_there}
+use Rattle.luks_keeping.proofs.AnswerFacts.{alike, answers_here, answers_there, HasAreasOf}
 use Rattle.luks_keeping.proofs.KeptFacts.{chosen_there, formed_there, kept_then}
 
 -- on its own device a header is judged as the volume is
@@ -50,29 +51,42 @@ something v payload total luks1 x is = (let e : luks1 ≡ nothing = is in cc)
 something v payload total (luks2 o copies) x is = (let e : luks2 o copies ≡ nothing = is in cc)
 something v payload total nothing x is = x
 
--- `v` is well formed, `w` has what is kept of it, and is long enough
-module _ (v w : List ℕ) (payload other : Data) (c : Choice) (x : Chosen v c) (kept : HasKept v c w) (well : WellFormed v payload) (fits : IsFormedOn v other (length w)) where
+-- `v` is well formed, `w` has its header, and is long enough
+module _ (v w : List ℕ) (payload other : Data) (c : Choice) (x : Chosen v c) (h : HasHeader v c w) (well : WellFormed v payload) (fits : IsFormedOn v other (length w)) where
   formed_v : IsFormedOnAs v payload (length v) c
   formed_v = on_own v payload c (formed_as v payload c x well)
 
   on_w : IsFormedOnAs v other (length w) c
   on_w = on_chosen v other (length w) c x fits
 
-  pub counts_there : Chosen w c
-  counts_there = chosen_there v w c x kept.header (header_inside v payload (length v) c formed_v) (header_inside v other (length w) c on_w) (something v payload (length v) c formed_v)
+  pub header_counts : Chosen w c
+  header_counts = chosen_there v w c x h (header_inside v payload (length v) c formed_v) (header_inside v other (length w) c on_w) (something v payload (length v) c formed_v)
 
   formed_w : IsFormedOnAs w other (length w) c
-  formed_w = formed_there v w other (length w) c x kept.header on_w
+  formed_w = formed_there v w other (length w) c x h on_w
 
+  pub header_formed : WellFormed w other
+  header_formed = record { choice = c; chosen = header_counts; formed = of_own w other c formed_w }
+
+  -- each keyslot whose key area is there answers alike
+  module _ (slots : ℕ → Type 0) (areas : HasAreasOf slots v c w) (allowed : Allowed) (n : ℕ) (own : slots n) (p : List ℕ) (a : Opened) where
+    pub slot_there : AnswerWithin allowed v n p a → AnswerWithin allowed w n p a
+    slot_there z = answers_there v w c slots (alike v w payload other c x header_counts h slots areas formed_v formed_w) allowed n own p a z
+
+    pub slot_here : AnswerWithin allowed w n p a → AnswerWithin allowed v n p a
+    slot_here z = answers_here v w c slots (alike v w payload other c x header_counts h slots areas formed_v formed_w) allowed n own p a z
+
+-- the same where all is there that is kept of it
+module _ (v w : List ℕ) (payload other : Data) (c : Choice) (x : Chosen v c) (kept : HasKept v c w) (well : WellFormed v payload) (fits : IsFormedOn v other (length w)) where
   pub well_formed_there : WellFormed w other
-  well_formed_there = record { choice = c; chosen = counts_there; formed = of_own w other c formed_w }
+  well_formed_there = header_formed v w payload other c x kept.header well fits
 
   module _ (allowed : Allowed) (n : ℕ) (p : List ℕ) (a : Opened) where
     pub answer_there : AnswerWithin allowed v n p a → AnswerWithin allowed w n p a
-    answer_there z = answers_there v w c (alike v w payload other c x counts_there kept formed_v formed_w) allowed n p a z
+    answer_there z = slot_there v w payload other c x kept.header well fits (λ k. ⊤) (λ k b own is. kept.areas k b is) allowed n tt p a z
 
     pub answer_here : AnswerWithin allowed w n p a → AnswerWithin allowed v n p a
-    answer_here z = answers_here v w c (alike v w payload other c x counts_there kept formed_v formed_w) allowed n p a z
+    answer_here z = slot_here v w payload other c x kept.header well fits (λ k. ⊤) (λ k b own is. kept.areas k b is) allowed n tt p a z
 
 -- ---- a backup that was restored
 

@@ -7,7 +7,7 @@ use Rattle.luks_reading.specs.Reported.{HeaderArea}
 use Rattle.luks_reading.specs.declared.header.Header.{Header}
 use Rattle.luks_reading.specs.declared.report.Data.{Data}
 use Rattle.luks_keeping.specs.declared.comparison.Keeping.{Keeping}
-use Rattle.luks_keeping.specs.declared.comparison.Keeping.TheVariants.{Absent, Same, Older, Missing, Removed, Damaged}
+use Rattle.luks_keeping.specs.declared.comparison.Keeping.TheVariants.{Same, Damaged}
 
 -- the header's areas lie inside a device of `total` bytes, wherever its payload is
 pub record LiesWithin (header : Header) (total : ℕ) : Type 0 where

@@ -3,7 +3,7 @@ use Rattle.std.specs.Prelude.{◌≡◌, ◌⊎◌, ℕ, ◌+◌, ◌<◌, ◌�
 use Rattle.luks_area.specs.Ranges.{IsAt, IsOfEither, SameBut}
 use Rattle.luks2_header.specs.Sizes.{IsListed}
 use Rattle.luks_writing.specs.Cleared.{cleared_size, IsCleared}
-use Rattle.luks_keeping.specs.SecondPlaces.{AreZeros, BeginsCopy, IsOfFirst, IsOfListed}
+use Rattle.luks_keeping.specs.SecondPlaces.{AreZeros, BeginsCopy, IsOfListed}
 use Rattle.luks_keeping.specs.declared.second_places.Which.{Which}
 use Rattle.luks_keeping.specs.declared.second_places.Which.TheVariants.{EachPlace, EachCopy}
 

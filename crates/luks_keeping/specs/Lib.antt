@@ -19,3 +19,7 @@ pub mod ComparisonTexts
 pub mod Salts
 pub mod AreasCompared
 pub mod Outlines
+pub mod Unread
+pub mod ReadPlaces
+pub mod Rescued
+pub mod LostTexts

@@ -36,9 +36,13 @@ pub record IsOfAreas (places : Places) (p : ℕ) : Type 0 where
   pub number : ℕ
   pub of_place : IsOfPlace places number p
 
--- it is of what is kept of the header, or of a key area
+-- it is of what is kept of the header
+abbrev pub IsOfHeader : Places → ℕ → Type 0
+IsOfHeader places = IsAt places.lead (header_end places - places.lead)
+
+-- or of that or a key area
 abbrev pub IsOfPlaces : Places → ℕ → Type 0
-IsOfPlaces places = IsOfEither (IsAt places.lead (header_end places - places.lead)) (IsOfAreas places)
+IsOfPlaces places = IsOfEither (IsOfHeader places) (IsOfAreas places)
 
 -- ---- what `w` has of the bytes `s`
 
@@ -49,9 +53,18 @@ pub record HoldsAllButFirst (places : Places) (s w : List ℕ) : Type 0 where
   pub areas : HoldsAreas places s w
   pub second : part w places.first places.second ≡ part s places.first places.second
 
+abbrev pub HoldsHeader : Places → List ℕ → List ℕ → Type 0
+HoldsHeader places s w = part w places.lead (header_end places - places.lead) ≡ part s places.lead (header_end places - places.lead)
+
 pub record HoldsAll (places : Places) (s w : List ℕ) : Type 0 where
   pub areas : HoldsAreas places s w
-  pub header : part w places.lead (header_end places - places.lead) ≡ part s places.lead (header_end places - places.lead)
+  pub header : HoldsHeader places s w
+
+-- what copying the header leaves at any time: nothing but the second copy's place has changed; or that stands
+abbrev pub CopiesHeader : Places → List ℕ → List ℕ → List ℕ → Type 0
+CopiesHeader places s old new =
+    SameBut (IsAt places.first places.second) old new
+    ⊎ (SameBut (IsOfHeader places) old new × (part new places.first places.second ≡ part s places.first places.second))
 
 -- what copying leaves at any time: the header's places are as they were; or the first copy's is, and
 -- the key areas stand; or all but the first copy stands

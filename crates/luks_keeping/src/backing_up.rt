@@ -118,7 +118,7 @@ pub fn backup_length<S: Device>(
 }
 
 /// The bytes of the backup, which a device of `total` bytes holds.
-fn fitting_size(header: &Header, payload: Data, total: u64) -> Result<u64, BackupFault>
+pub(crate) fn fitting_size(header: &Header, payload: Data, total: u64) -> Result<u64, BackupFault>
     requires fields { HasFields header.now }
     requires accepted { IsAcceptedHeader header.now }
     ensures within { IfOk result (λ size. size ≤ total) }

@@ -99,7 +99,7 @@ fn write_keyslots<W: fmt::Write>(keyslots: &[Keeping], f: &mut fmt::Formatter<W>
 }
 
 /// The line of the keyslot `n`, where either has it.
-fn write_keyslot<W: fmt::Write>(
+pub(crate) fn write_keyslot<W: fmt::Write>(
     n: usize,
     keeping: Keeping,
     f: &mut fmt::Formatter<W>,

@@ -4,7 +4,7 @@ ghost use Rattle.luks_area.specs.Device.{IsSettled, IsUnchanged, is_failure};
 ghost use Rattle.luks_area.specs.Ranges.{part, SameBut};
 ghost use Rattle.luks_area.specs.declared.area.Area.{Area as TheArea};
 ghost use Rattle.luks_writing.specs.TwoDevices.{CountsEither};
-ghost use Rattle.luks_keeping.specs.Places.{AreApart, AreInside, CopiesInTurn, HasPlace, HoldsAll, HoldsAreas, IsOfAreas, IsOfPlace, IsOfPlaces};
+ghost use Rattle.luks_keeping.specs.Places.{header_end, AreApart, AreInside, CopiesHeader, CopiesInTurn, HasPlace, HoldsAll, HoldsAreas, HoldsHeader, IsOfAreas, IsOfHeader, IsOfPlace, IsOfPlaces};
 
 use crate::places::Places;
 use luks_area::{Area, Device, DeviceFault};
@@ -37,6 +37,33 @@ pub(crate) fn copy_places<S: Device, T: Device>(
         → OnOk result (HoldsAll places.now (S.bytes source.old) (T.bytes target.new)) }
 {
     copy_areas(source, target, places)?;
+    copy_header(source, target, places)
+}
+
+/// Copies the second copy of the header, then the first, a flush after each.
+pub(crate) fn copy_header<S: Device, T: Device>(
+    source: &mut S,
+    target: &mut T,
+    places: &Places,
+) -> Result<(), DeviceFault>
+    requires lead { places.now.lead ≤ places.now.first }
+    requires there { header_end places.now ≤ S.size source.old }
+    requires within { header_end places.now ≤ T.size target.old }
+    requires source_room { S.failed source.old + 1 < 2 ^ 64 }
+    requires target_room { T.failed target.old + 1 < 2 ^ 64 }
+    requires settled { T.tells → IsSettled T.unsettled target.old }
+    ensures count { CountsEither is_failure result (S.failed source.old) (S.failed source.new)
+        (T.failed target.old) (T.failed target.new) }
+    ensures kept { IsUnchanged S.tells S.size S.bytes S.unsettled source.old source.new }
+    ensures size { T.size target.new ≡ T.size target.old }
+    ensures settled { T.tells → OnOk result (IsSettled T.unsettled target.new) }
+    ensures rest { T.tells
+        → SameBut (IsOfHeader places.now) (T.bytes target.old) (T.bytes target.new) }
+    ensures order { S.tells → T.tells → CopiesHeader places.now (S.bytes source.old)
+        (T.bytes target.old) (T.bytes target.new) }
+    ensures copied { S.tells → T.tells
+        → OnOk result (HoldsHeader places.now (S.bytes source.old) (T.bytes target.new)) }
+{
     let second = Area {
         start: places.first,
         len: places.second,

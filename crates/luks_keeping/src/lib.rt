@@ -12,9 +12,12 @@ mod erasing;
 mod identity;
 mod judging;
 mod laws;
+mod lost;
 mod outline;
 mod over;
 mod places;
+mod reading_on;
+mod rescuing;
 mod restore_fault;
 mod restoring;
 mod salts;
@@ -36,8 +39,10 @@ pub use laws::{
     kept_keyslots_answer_alike, kept_of_kept_is_kept, restored_backup_gives_back,
     sound_copies_begin,
 };
+pub use lost::LostKeyslots;
 pub use outline::{Outline, read_outline};
 pub use over::Over;
+pub use rescuing::rescue;
 pub use restore_fault::RestoreFault;
 pub use restoring::restore;
 pub use same_volume::{counts_same_volume, is_other_volume};

@@ -1,7 +1,8 @@
 -- What the command `backup` leaves of its file, and what it may answer.
-use Rattle.std.specs.Prelude.{◌≡◌, ◌⊎◌, ◌↔◌, ℕ, ◌+◌, List, None, Result, Ok, Err}
+use Rattle.std.specs.Prelude.{◌≡◌, ◌⊎◌, ◌↔◌, ℕ, ◌+◌, ◌<◌, List, Some, None, Bool, true, false, Result, Ok, Err}
 use Rattle.luks_area.specs.Ranges.{SameBut}
 use Rattle.luks_writing.specs.TwoDevices.{IsOneFailure}
+use Rattle.luks2_header.specs.Selection.{Choice, Chosen}
 use Rattle.luks_slot.specs.declared.allowed.Allowed.{Allowed}
 use Rattle.luks_reading.specs.Answer.{AnswerWithin, Opened}
 use Rattle.luks_reading.specs.Checked.{WellFormed}
@@ -10,10 +11,12 @@ use Rattle.luks_reading.specs.declared.report.Data.{Data}
 use Rattle.luks_reading.specs.declared.report.Data.TheVariants.{Elsewhere}
 use Rattle.luks_keeping.specs.Backup.{IsBackup}
 use Rattle.luks_keeping.specs.BackupFaults.{CanBackUp, IsAnsweredBackup, IsOfBackup}
+use Rattle.luks_keeping.specs.Rescued.{AnswersUnlessLost, EndsAfter, EndsBySource, IsRescue}
+use Rattle.luks_keeping.specs.declared.lost.LostKeyslots.{LostKeyslots}
 use Rattle.luks_keeping.specs.declared.backup_fault.BackupFault.TheVariants as fault
 use Rattle.luks_request.specs.declared.keeping.BackingUp.{BackingUp}
 use Rattle.luks_commands.specs.declared.answers.Answer.{Answer}
-use Rattle.luks_commands.specs.declared.answers.Answer.TheVariants.{Done, Refused, DeviceFault, NoMemory}
+use Rattle.luks_commands.specs.declared.answers.Answer.TheVariants.{Done, Rescued, Refused, DeviceFault, NoMemory}
 use Rattle.luks_commands.specs.declared.answers.Refusal.TheVariants.{Backup, Exists}
 use Rattle.luks_commands.specs.declared.inputs.InputFault.{InputFault}
 use Rattle.luks_commands.specs.declared.inputs.InputFault.TheVariants.{Unreadable}
@@ -49,6 +52,31 @@ IsBackupAnswer tells payload d NoMemory = NoneFailed d × (tells → d.new ≡ d
     × (tells → IsAnsweredBackup d.source payload d.total fault.Memory)
 IsBackupAnswer tells payload d a = ⊥
 
+-- ---- and with `--rescue`
+
+-- `new` is the file `old` after the volume `v` was backed up as far as it could be read, which `before` and then `after`
+-- calls have failed to; these keyslots are told
+pub record IsNewRescue (v : List ℕ) (payload : Data) (before after : ℕ) (old new : List ℕ) (lost : LostKeyslots) : Type 0 where
+  pub rescue : IsRescue v payload before after old new (Some lost)
+  pub well_formed : WellFormed new Elsewhere
+  -- each other keyslot answers each passphrase as it did
+  pub answers : AnswersUnlessLost v new (Some lost)
+
+-- where both files are there; `device fault` comes where a call of the file failed, or a read of the volume's header.
+-- All else is as without it
+abbrev pub IsRescueAnswer : Type 0 → Data → Pair → Answer → Type 0
+IsRescueAnswer tells payload d (Rescued lost) = (d.source_before < d.source_after) × (d.after ≡ d.before)
+    × (tells → CanBackUp d.source payload d.total) × (tells → IsNewRescue d.source payload d.source_before d.source_after d.old d.new lost)
+IsRescueAnswer tells payload d DeviceFault = EndsAfter true d.source_before d.source_after d.before d.after
+    × (tells → d.after ≡ d.before → (c : Choice) → Chosen d.source c → EndsBySource d.source c d.source_before d.source_after d.old d.new)
+IsRescueAnswer tells payload d a = IsBackupAnswer tells payload d a
+
+abbrev pub IsMadeAnswer : Bool → Type 0 → Data → Pair → Answer → Type 0
+IsMadeAnswer false tells payload d a = IsBackupAnswer tells payload d a
+IsMadeAnswer true tells payload d a = IsRescueAnswer tells payload d a
+
+-- ---- where there is no file
+
 -- why there is no backup of the volume `v`, of which so many calls had failed before and after, on however
 -- large a file
 abbrev pub IsNotKept : Type 0 → Data → List ℕ → ℕ → ℕ → Answer → Type 0
@@ -64,14 +92,16 @@ abbrev pub IsWithoutFile : Type 0 → Data → List ℕ → ℕ → ℕ → Inpu
 IsWithoutFile tells payload v before after missed a = IsNotKept tells payload v before after a
     ⊎ ((after ≡ before) × (tells → WellFormed v payload) × (a ≡ unread_answer missed))
 
--- of the volume and the file before the command and after it, where they aren't one: a file that is there and
--- isn't empty refuses it before the volume is opened
-abbrev pub AnswersBackup : {D : Type 0} → Type 0 → (D → ℕ) → (D → List ℕ) → (D → ℕ) → Data
+-- ---- the whole
+
+-- of the volume and the file before the command and after it, where they aren't one, with `--rescue` or without it: a
+-- file that is there and isn't empty refuses it before the volume is opened
+abbrev pub AnswersBackup : {D : Type 0} → Type 0 → (D → ℕ) → (D → List ℕ) → (D → ℕ) → Bool → Data
     → Result D InputFault → Result D InputFault → Result D InputFault → Result D InputFault → Answer → Type 0
-AnswersBackup {D} tells size bytes failed payload volume volume_new (Err (Unreadable reason.Exists)) new a = a ≡ Refused Exists
-AnswersBackup {D} tells size bytes failed payload (Ok volume) (Ok volume_new) (Ok old) (Ok new) a =
-    IsBackupAnswer tells payload (pair_of size bytes failed volume volume_new old new) a
-AnswersBackup {D} tells size bytes failed payload (Ok volume) (Ok volume_new) (Err missed) new a =
+AnswersBackup {D} tells size bytes failed rescue payload volume volume_new (Err (Unreadable reason.Exists)) new a = a ≡ Refused Exists
+AnswersBackup {D} tells size bytes failed rescue payload (Ok volume) (Ok volume_new) (Ok old) (Ok new) a =
+    IsMadeAnswer rescue tells payload (pair_of size bytes failed volume volume_new old new) a
+AnswersBackup {D} tells size bytes failed rescue payload (Ok volume) (Ok volume_new) (Err missed) new a =
     IsWithoutFile tells payload (bytes volume) (failed volume) (failed volume_new) missed a
-AnswersBackup {D} tells size bytes failed payload (Err missed) volume_new old new a = a ≡ unread_answer missed
-AnswersBackup {D} tells size bytes failed payload volume volume_new old new a = ⊥
+AnswersBackup {D} tells size bytes failed rescue payload (Err missed) volume_new old new a = a ≡ unread_answer missed
+AnswersBackup {D} tells size bytes failed rescue payload volume volume_new old new a = ⊥

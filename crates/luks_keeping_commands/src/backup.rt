@@ -7,13 +7,13 @@ ghost use Rattle.luks_commands.specs.Files.{KeepsVolume};
 ghost use Rattle.luks_commands.specs.declared.inputs.InputFault.TheVariants.{Unreadable};
 ghost use Rattle.luks_commands.specs.declared.inputs.Reason.TheVariants as reason;
 ghost use Rattle.luks_commands.specs.Beside.{AreOneFile, IsSameFile, LeavesTarget, SettlesTarget};
-ghost use Rattle.luks_keeping_commands.specs.BackingUp.{AnswersBackup, IsBackupAnswer, IsWithoutFile, KeepsRest};
+ghost use Rattle.luks_keeping_commands.specs.BackingUp.{AnswersBackup, IsBackupAnswer, IsRescueAnswer, IsWithoutFile, KeepsRest};
 ghost use Rattle.luks_keeping_commands.specs.TwoFiles.{pair_of};
 
 use luks_commands::{
     Answer, InputFault, Inputs, Reason, Refusal, Status, are_one_file, device_fault, unread,
 };
-use luks_keeping::{BackupFault, backup, backup_length};
+use luks_keeping::{BackupFault, backup, backup_length, rescue};
 use luks_reading::{Data, Device};
 use luks_request::BackingUp;
 use std::alloc::Global;
@@ -46,7 +46,7 @@ pub fn run<D: Device, R: Read, N: Read, E: Write>(
     ensures same { AreOneFile name.now backing_up.now.target.now inputs.old.target
         → (inputs.new ≡ inputs.old) × IsSameFile result }
     ensures answers { (AreOneFile name.now backing_up.now.target.now inputs.old.target → ⊥)
-        → AnswersBackup D.tells D.size D.bytes D.failed backing_up.now.payload
+        → AnswersBackup D.tells D.size D.bytes D.failed backing_up.now.rescue backing_up.now.payload
         inputs.old.volume inputs.new.volume inputs.old.target inputs.new.target result }
 {
     if are_one_file(name, backing_up.target, &inputs.target) {
@@ -60,7 +60,13 @@ pub fn run<D: Device, R: Read, N: Read, E: Write>(
         Err(fault) => return unread(*fault, name, err),
     };
     match &mut inputs.target {
-        Ok(target) => back_up(alloc, volume, name, target, backing_up, err),
+        Ok(target) => {
+            if backing_up.rescue {
+                back_up_readable(alloc, volume, name, target, backing_up, err)
+            } else {
+                back_up(alloc, volume, name, target, backing_up, err)
+            }
+        }
         Err(fault) => without_file(alloc, volume, name, *fault, backing_up, err),
     }
 }
@@ -107,6 +113,47 @@ fn back_up<D: Device, E: Write>(
             fault,
             backing_up.target,
             "reading or writing failed, the backup may be unfinished",
+            err,
+        ),
+    }
+}
+
+/// The same of a volume whose key areas can't be read everywhere: what can be read.
+fn back_up_readable<D: Device, E: Write>(
+    alloc: Global,
+    volume: &mut D,
+    name: &str,
+    target: &mut D,
+    backing_up: &BackingUp<'_>,
+    err: &mut E,
+) -> Answer
+    requires volume_room { D.failed volume.old + 1 < 2 ^ 64 }
+    requires target_room { D.failed target.old + 1 < 2 ^ 64 }
+    requires settled { D.tells → IsSettled D.unsettled target.old }
+    ensures unchanged { IsUnchanged D.tells D.size D.bytes D.unsettled volume.old volume.new }
+    ensures size { D.size target.new ≡ D.size target.old }
+    ensures rest { D.tells → KeepsRest backing_up.now.payload (D.bytes volume.old)
+        (D.bytes target.old) (D.bytes target.new) }
+    ensures settled { D.tells → D.failed volume.new ≡ D.failed volume.old
+        → D.failed target.new ≡ D.failed target.old → IsSettled D.unsettled target.new }
+    ensures kinds { answer_status result ≢ Status.NotInStep }
+    ensures answers { IsRescueAnswer D.tells backing_up.now.payload (pair_of D.size D.bytes D.failed
+        volume.old volume.new target.old target.new) result }
+{
+    let before = target.failures();
+    match rescue(alloc, volume, backing_up.payload, target) {
+        Ok(None) => Answer::Done(None),
+        Ok(Some(lost)) => Answer::Rescued(lost),
+        Err(fault) if target.failures() != before => not_kept(
+            fault,
+            backing_up.target,
+            "reading or writing failed, the backup may be unfinished",
+            err,
+        ),
+        Err(fault) => not_kept(
+            fault,
+            name,
+            "reading failed, the backup may be unfinished",
             err,
         ),
     }

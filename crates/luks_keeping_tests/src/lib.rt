@@ -17,6 +17,8 @@ mod refusals;
 #[cfg(test)]
 mod refused_memory;
 #[cfg(test)]
+mod rescues;
+#[cfg(test)]
 mod restores;
 #[cfg(test)]
 mod sources;

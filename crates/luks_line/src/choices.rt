@@ -4,6 +4,7 @@
 #[derive(Clone, Copy)]
 pub(crate) enum Choice {
     Passphrase,
+    Opener,
     New,
 }
 
@@ -22,10 +23,14 @@ pub(crate) struct ChoiceRow {
 }
 
 /// In the order of `Choice`.
-static CHOICES: [ChoiceRow; 2] = [
+static CHOICES: [ChoiceRow; 3] = [
     ChoiceRow {
         name: "file of the passphrase",
         options: &["passphrase", "passphrase-line"],
+    },
+    ChoiceRow {
+        name: "file of the passphrase or the key",
+        options: &["passphrase", "passphrase-line", "key"],
     },
     ChoiceRow {
         name: "file of the new passphrase",

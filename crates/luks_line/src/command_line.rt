@@ -3,6 +3,7 @@ use crate::commands::command_row;
 use crate::derivation::wrong_derivation;
 use crate::fields::wrong_field;
 use crate::manner::{Manner, manner_of};
+use crate::matching::wrong_key;
 use crate::other_words::other_word;
 use crate::program::program;
 use crate::requests::{line_of, search_of};
@@ -112,6 +113,7 @@ fn mistake_in(alloc: Global, matches: &ArgMatches<'_>) -> Result<Option<String>,
 /// What doesn't go together in the words of the command, or is no field of a header.
 fn wrong_words(name: CommandName, given: &ArgMatches<'_>) -> Option<&'static str> {
     match name {
+        CommandName::Open => wrong_key(given),
         CommandName::Rebuild => wrong_field(given),
         CommandName::Format | CommandName::Add | CommandName::Change => wrong_derivation(given),
         _ => None,

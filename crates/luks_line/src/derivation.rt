@@ -52,7 +52,7 @@ fn wrong_argon2(given: &ArgMatches<'_>) -> Option<&'static str> {
 }
 
 /// Whether the words have the option, and not only its preset value.
-fn is_given(given: &ArgMatches<'_>, name: &str) -> bool {
+pub(crate) fn is_given(given: &ArgMatches<'_>, name: &str) -> bool {
     given.value_source(name) == Some(ValueSource::CommandLine)
 }
 

@@ -8,6 +8,7 @@ mod commands;
 mod derivation;
 mod fields;
 mod manner;
+mod matching;
 mod operands;
 mod options;
 mod other_words;

@@ -24,6 +24,7 @@ pub(crate) enum LongOption {
     Version,
     Hash,
     Second,
+    Thorough,
     Uuid,
     Over,
     JsonAnswer,
@@ -33,6 +34,7 @@ pub(crate) enum LongOption {
     Offset,
     Length,
     OverFile,
+    Rescue,
     Other,
     RemovedSlot,
     By,
@@ -51,6 +53,8 @@ pub(crate) enum LongOption {
     IterTime,
     OverAny,
     OverReencryption,
+    Key,
+    Digest,
 }
 
 impl LongOption {
@@ -68,7 +72,7 @@ pub(crate) struct OptionRow {
 }
 
 /// In the order of `LongOption`.
-static OPTIONS: [OptionRow; 45] = [
+static OPTIONS: [OptionRow; 49] = [
     OptionRow {
         name: "detached",
         needed: false,
@@ -175,7 +179,13 @@ static OPTIONS: [OptionRow; 45] = [
         name: "second",
         needed: false,
         help: "LUKS2: take the metadata of a second copy",
-        takes: Takes::SecondCopy,
+        takes: Takes::OfLuks2,
+    },
+    OptionRow {
+        name: "thorough",
+        needed: false,
+        help: "LUKS2: seek longer what a checksum vouches for",
+        takes: Takes::OfLuks2,
     },
     OptionRow {
         name: "uuid",
@@ -229,6 +239,12 @@ static OPTIONS: [OptionRow; 45] = [
         name: "over",
         needed: false,
         help: "Write over a FILE that isn't empty",
+        takes: Takes::Nothing,
+    },
+    OptionRow {
+        name: "rescue",
+        needed: false,
+        help: "Go on where a key area can't be read",
         takes: Takes::Nothing,
     },
     OptionRow {
@@ -338,5 +354,17 @@ static OPTIONS: [OptionRow; 45] = [
         needed: false,
         help: "Write over a reencryption that isn't finished",
         takes: Takes::Nothing,
+    },
+    OptionRow {
+        name: "key",
+        needed: false,
+        help: "Instead, the file of a key, which is judged",
+        takes: Takes::File,
+    },
+    OptionRow {
+        name: "digest",
+        needed: false,
+        help: "LUKS2: by which digest; else that of segment 0",
+        takes: Takes::Digest,
     },
 ];

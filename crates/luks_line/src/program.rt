@@ -87,7 +87,7 @@ fn positional<'a>(alloc: Global, operand: &OperandRow) -> Arg<'a> {
         .help(operand.help)
 }
 
-/// The options of `rebuild` that mean a LUKS1 header, and go with none that names a copy of a LUKS2 header.
+/// The options of `rebuild` that mean a LUKS1 header, and go with none that speaks of a LUKS2 header.
 const LUKS1_FIELDS: &[&str] = &[
     "cipher",
     "hash",
@@ -106,7 +106,7 @@ fn long_option<'a>(alloc: Global, option: &OptionRow) -> Result<Arg<'a>, AllocEr
     match option.takes {
         Takes::Form => arg.group("form"),
         Takes::OnePassphrase => arg.group("one passphrase"),
-        Takes::SecondCopy | Takes::CopySize => arg.conflicts_with_all(LUKS1_FIELDS),
+        Takes::OfLuks2 | Takes::CopySize => arg.conflicts_with_all(LUKS1_FIELDS),
         _ => Ok(arg),
     }
 }

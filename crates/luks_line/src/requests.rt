@@ -3,6 +3,7 @@
 use crate::command_name::CommandName;
 use crate::derivation::{argon2_of, kdf_of};
 use crate::fields::fields_of;
+use crate::matching::matching_of;
 use crate::search::Search;
 use crate::sized::{bytes_of, mib_of};
 use clap::ArgMatches;
@@ -81,6 +82,9 @@ fn showing_of<'a>(given: &ArgMatches<'a>) -> Command<'a> {
 }
 
 fn opening_of<'a>(given: &ArgMatches<'a>) -> Option<Command<'a>> {
+    if let Some(matching) = matching_of(given) {
+        return Some(matching);
+    }
     Some(Command::Open {
         passphrase: passphrase_of(given)?,
         slot: given.get_one::<u8>("slot"),
@@ -189,6 +193,7 @@ fn rebuilding_of<'a>(given: &ArgMatches<'a>) -> Option<Command<'a>> {
         passphrase: passphrase_of(given),
         second: given.get_flag("second"),
         size: bytes_of(given, "size"),
+        thorough: given.get_flag("thorough"),
         uuid: given.get_str("uuid"),
         luks1: fields_of(given),
         over: given.get_flag("over"),
@@ -200,6 +205,7 @@ fn backing_up_of<'a>(given: &ArgMatches<'a>) -> Option<Command<'a>> {
         target: given.get_str("FILE")?,
         payload: data_of(given),
         over: given.get_flag("over"),
+        rescue: given.get_flag("rescue"),
     }))
 }
 

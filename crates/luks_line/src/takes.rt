@@ -18,6 +18,8 @@ pub(crate) enum Takes {
     OnePassphrase,
     /// The number of a keyslot.
     Slot,
+    /// The number of a digest.
+    Digest,
     /// MiB of memory.
     Memory,
     /// Iterations of PBKDF2.
@@ -32,8 +34,8 @@ pub(crate) enum Takes {
     Offset,
     /// A number of bytes.
     Bytes,
-    /// No value, and it names a copy of a LUKS2 header.
-    SecondCopy,
+    /// No value, and it speaks of a LUKS2 header: it goes with none of what means one of LUKS1.
+    OfLuks2,
     /// How many bytes a copy of a LUKS2 header has.
     CopySize,
     /// A cipher's name and mode, with a hyphen between.
@@ -66,19 +68,19 @@ static COPY_SIZES: [&str; 9] = [
 impl Takes {
     pub(crate) fn action(self) -> ArgAction {
         match self {
-            Takes::Nothing | Takes::Form | Takes::SecondCopy => ArgAction::SetTrue,
+            Takes::Nothing | Takes::Form | Takes::OfLuks2 => ArgAction::SetTrue,
             _ => ArgAction::Set,
         }
     }
 
     pub(crate) fn parser(self) -> ValueParser<'static> {
         match self {
-            Takes::Nothing | Takes::Form | Takes::SecondCopy => ValueParser::Bool,
+            Takes::Nothing | Takes::Form | Takes::OfLuks2 => ValueParser::Bool,
             Takes::File | Takes::OnePassphrase | Takes::Uuid | Takes::Cipher | Takes::Name =>
                 ValueParser::String,
             Takes::Memory | Takes::KdfMemory | Takes::Offset | Takes::Bytes | Takes::CopySize =>
                 ValueParser::String,
-            Takes::Slot => ValueParser::Unsigned(0, 31),
+            Takes::Slot | Takes::Digest => ValueParser::Unsigned(0, 31),
             Takes::Iterations | Takes::Sector => ValueParser::Unsigned(0, 4294967295),
             Takes::KeyBytes => ValueParser::Unsigned(1, 128),
             Takes::Kdf | Takes::ChosenKdf => ValueParser::Names(&["pbkdf2", "argon2i", "argon2id"]),
@@ -103,9 +105,9 @@ impl Takes {
     /// What the help calls its value: one name, or none where it takes no value.
     pub(crate) fn names(self) -> &'static [&'static str] {
         match self {
-            Takes::Nothing | Takes::Form | Takes::SecondCopy => &[],
+            Takes::Nothing | Takes::Form | Takes::OfLuks2 => &[],
             Takes::File | Takes::OnePassphrase => &["FILE"],
-            Takes::Slot | Takes::Iterations | Takes::KeyBytes => &["N"],
+            Takes::Slot | Takes::Digest | Takes::Iterations | Takes::KeyBytes => &["N"],
             Takes::Passes | Takes::Lanes => &["N"],
             Takes::Memory | Takes::KdfMemory => &["MIB"],
             Takes::Kdf | Takes::ChosenKdf => &["KDF"],

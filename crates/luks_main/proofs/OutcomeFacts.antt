@@ -17,7 +17,7 @@ use Rattle.luks_execution.specs.Executed.{Executes, IsExecuted}
 use Rattle.luks_main.specs.Outcomes.{EndsTold, IsMade, told, refused, failed}
 use Rattle.luks_main.specs.Statuses.{EndsWith, MayEnd}
 use Rattle.luks_timing.specs.Timed.{IsTimed}
-use Rattle.luks_main.proofs.StatusFacts.{backup_ends, backup_same_file_ends, check_ends, compare_ends, compare_same_file_ends, convert_ends, converted_same_file_ends, edit_ends, format_ends, memory_ends, open_ends, own, rebuild_ends, rebuilt_same_file_ends, restore_ends, restore_same_file_ends, show_ends}
+use Rattle.luks_main.proofs.StatusFacts.{backup_ends, backup_same_file_ends, check_ends, compare_ends, compare_same_file_ends, convert_ends, converted_same_file_ends, edit_ends, format_ends, key_ends, memory_ends, open_ends, own, rebuild_ends, rebuilt_same_file_ends, restore_ends, restore_same_file_ends, show_ends}
 
 -- ---- whether both files are one
 
@@ -49,6 +49,7 @@ commands_end : {D R N : Type 0} (device : Device D) (words : R → Option (List 
 commands_end device words chance (command.Check payload) name old new a said = check_ends _ _ _ payload _ _ a said.answers
 commands_end device words chance (command.Show shown_as) name old new a said = show_ends shown_as _ _ _ _ _ a said
 commands_end device words chance (command.Open passphrase slot memory older) name old new a said = open_ends _ _ _ _ slot _ _ _ _ _ a said
+commands_end device words chance (command.Match matching) name old new a said = key_ends _ _ _ _ _ _ _ _ _ _ a said
 commands_end device words chance (command.Edit editing) name old new a said = edit_ends _ _ _ _ _ _ _ _ a said.answers
 commands_end device words chance (command.Format making) name old new a said = format_ends _ _ _ _ making _ _ _ _ _ _ a said.answers
 commands_end device words chance (command.Convert converting) name old new a said =
@@ -59,7 +60,7 @@ commands_end device words chance (command.Rebuild rebuilding) name old new a sai
     (λ two. rebuild_ends _ _ _ _ rebuilding _ _ _ _ _ _ _ _ _ a (said.answers two))
 commands_end device words chance (command.Backup backing_up) name old new a said =
     by_one_file (one_file name backing_up.target.now old.target) (λ one. backup_same_file_ends a (said.same one).1)
-    (λ two. backup_ends device.tells device.size device.bytes device.failed backing_up.payload old.volume new.volume old.target new.target a (said.answers two))
+    (λ two. backup_ends device.tells device.size device.bytes device.failed backing_up.rescue backing_up.payload old.volume new.volume old.target new.target a (said.answers two))
 commands_end device words chance (command.Restore restoring) name old new a said =
     by_one_file (one_file name restoring.backup.now old.target) (λ one. restore_same_file_ends a (said.same one).1)
     (λ two. restore_ends device.tells device.size device.bytes device.failed restoring old.volume new.volume old.target new.target a (said.answers two))
@@ -111,6 +112,7 @@ timed_ends (command.Format making) timed status is ends = subst (λ (x : Command
 timed_ends (command.Check payload) timed status is ends = subst (λ (x : Command). MayEnd x status) is ends
 timed_ends (command.Show shown_as) timed status is ends = subst (λ (x : Command). MayEnd x status) is ends
 timed_ends (command.Open passphrase slot memory older) timed status is ends = subst (λ (x : Command). MayEnd x status) is ends
+timed_ends (command.Match matching) timed status is ends = subst (λ (x : Command). MayEnd x status) is ends
 timed_ends (command.Convert converting) timed status is ends = subst (λ (x : Command). MayEnd x status) is ends
 timed_ends (command.Rebuild rebuilding) timed status is ends = subst (λ (x : Command). MayEnd x status) is ends
 timed_ends (command.Backup backing_up) timed status is ends = subst (λ (x : Command). MayEnd x status) is ends

@@ -16,7 +16,7 @@ use Rattle.luks_request.specs.declared.rebuilding.Rebuilding.{Rebuilding}
 use Rattle.luks_request.specs.declared.request.ShowAs.{ShowAs}
 use Rattle.luks_request.specs.declared.request.ShowAs.TheVariants as form
 use Rattle.luks_commands.specs.declared.answers.Answer.{Answer}
-use Rattle.luks_commands.specs.declared.answers.Answer.TheVariants.{Accepted, Listed, ListedFully, Mapped, Json, Opens, Closed, NoneOpens, Done, Compared, Refused, DeviceFault, NoMemory}
+use Rattle.luks_commands.specs.declared.answers.Answer.TheVariants.{Accepted, Listed, ListedFully, Mapped, Json, Opens, Closed, NoneOpens, Matches, Differs, Done, Compared, Rescued, Refused, DeviceFault, NoMemory}
 use Rattle.luks_commands.specs.declared.answers.Refusal.TheVariants as refusal
 use Rattle.luks_commands.specs.declared.inputs.InputFault.{InputFault}
 use Rattle.luks_commands.specs.declared.inputs.InputFault.TheVariants.{Absent, Unreadable, NoMemory as NoMemoryToRead}
@@ -29,7 +29,11 @@ use Rattle.luks_commands.specs.declared.standing.Bar.TheVariants as bar
 use Rattle.luks_signatures.specs.declared.other_use.OtherUse.{OtherUse as Use}
 use Rattle.luks_commands.specs.CheckAnswers.{AnswersCheck, IsCheckAnswer}
 use Rattle.luks_slot.specs.declared.allowed.Allowed.{Allowed}
+use Rattle.luks_commands.specs.KeyAnswers.{AnswersKey, key_answer, matching_answer}
 use Rattle.luks_commands.specs.OpenAnswers.{AnswersOpen, IsAnyAnswer, IsOneAnswer, IsOpenAnswer}
+use Rattle.luks_reading.specs.declared.key_fault.KeyFault.{KeyFault}
+use Rattle.luks_reading.specs.declared.key_fault.KeyFault.TheVariants as judging
+use Rattle.luks_reading.specs.declared.matching.KeyMatch.{KeyMatch}
 use Rattle.luks_commands.specs.FormatAnswers.{AnswersFormat, IsFormatAnswer}
 use Rattle.luks_rebuilding.specs.declared.place.Which.{Which}
 use Rattle.luks_commands.specs.ShowAnswers.{AnswersShow, IsFullAnswer, IsJsonAnswer, IsListedAnswer, IsMapAnswer, IsShowAnswer}
@@ -43,13 +47,13 @@ use Rattle.luks_keeping.specs.declared.backup_fault.BackupFault.TheVariants as b
 use Rattle.luks_keeping.specs.declared.comparison.Comparison.{Comparison}
 use Rattle.luks_keeping.specs.declared.over.Over.{Over}
 use Rattle.luks_keeping.specs.declared.restore_fault.RestoreFault.TheVariants as restoring
-use Rattle.luks_keeping_commands.specs.BackingUp.{AnswersBackup, IsBackupAnswer, IsNotKept, IsWithoutFile}
+use Rattle.luks_keeping_commands.specs.BackingUp.{AnswersBackup, IsBackupAnswer, IsMadeAnswer, IsNotKept, IsRescueAnswer, IsWithoutFile}
 use Rattle.luks_keeping_commands.specs.Comparing.{AnswersCompare, IsCompareAnswer}
 use Rattle.luks_keeping_commands.specs.Restoring.{over_of, AnswersBoth, AnswersRestore, IsRestoreAnswer, IsRestoreBar}
 use Rattle.luks_keeping_commands.specs.TwoFiles.{pair_of, Pair as TwoFiles}
 use Rattle.luks_edit_commands.specs.EditAnswers.{AnswersEdit, IsEditAnswer}
 use Rattle.luks_edit_commands.specs.Editing.{Given, Lacking}
-use Rattle.luks_main.specs.Statuses.{EndsBackup, EndsCheck, EndsCompare, EndsConvert, EndsEdit, EndsFormat, EndsOpen, EndsRebuild, EndsTried, EndsUntried, EndsRestore, EndsShow, EndsWith}
+use Rattle.luks_main.specs.Statuses.{EndsBackup, EndsCheck, EndsCompare, EndsConvert, EndsEdit, EndsFormat, EndsKey, EndsOpen, EndsRebuild, EndsTried, EndsUntried, EndsRestore, EndsShow, EndsWith}
 
 -- an answer's own status
 abbrev pub own : Answer → ℕ
@@ -69,6 +73,7 @@ memory_ends (command.Show form.Map) = refl
 memory_ends (command.Show form.Json) = refl
 memory_ends (command.Open passphrase None memory older) = refl
 memory_ends (command.Open passphrase (Some n) memory older) = refl
+memory_ends (command.Match matching) = refl
 memory_ends (command.Edit editing) = refl
 memory_ends (command.Format making) = refl
 memory_ends (command.Convert converting) = refl
@@ -203,6 +208,30 @@ open_ends tells bytes failed allowed slot HasWords is_long unread (Ok old) (Ok n
 open_ends tells bytes failed allowed slot HasWords is_long unread (Ok old) (Err fault) a said = absurd said
 open_ends tells bytes failed allowed slot HasWords is_long unread (Err fault) new a (inl said) = open_wordless slot is_long unread a said
 open_ends tells bytes failed allowed slot HasWords is_long unread (Err fault) new a (inr said) = open_unread slot fault a said
+
+-- ---- `open` of a key
+
+matching_ends : (matches : Bool) → EndsKey (matching_answer matches) (own (matching_answer matches))
+matching_ends true = refl
+matching_ends false = refl
+
+judged_ends : (judged : Result KeyMatch KeyFault) → EndsKey (key_answer judged) (own (key_answer judged))
+judged_ends (Ok found) = matching_ends found.matches
+judged_ends (Err (judging.Head f)) = refl
+judged_ends (Err (judging.Meta f)) = refl
+judged_ends (Err judging.NoSuchDigest) = refl
+judged_ends (Err judging.KeyLength) = refl
+judged_ends (Err judging.Hash) = refl
+judged_ends (Err judging.Device) = refl
+judged_ends (Err judging.Memory) = refl
+
+pub key_ends : {D : Type 0} (tells : Type 0) (bytes : D → List ℕ) (failed : D → ℕ) (asked : Option ℕ) (older : Bool) (HasWords : List ℕ → Type 0) (is_long : Type 0) (unread : InputFault → Type 0)
+    (old new : Result D InputFault) (a : Answer) → AnswersKey tells bytes failed asked older HasWords is_long unread old new a → EndsKey a (own a)
+key_ends tells bytes failed asked older HasWords is_long unread (Ok old) (Ok new) a (inl said) = wordless_ends EndsKey refl refl refl is_long unread a said.0
+key_ends tells bytes failed asked older HasWords is_long unread (Ok old) (Ok new) a (inr said) = subst (λ x. EndsKey x (own x)) (sym said.is.is) (judged_ends said.is.judged)
+key_ends tells bytes failed asked older HasWords is_long unread (Ok old) (Err fault) a said = absurd said
+key_ends tells bytes failed asked older HasWords is_long unread (Err fault) new a (inl said) = wordless_ends EndsKey refl refl refl is_long unread a said
+key_ends tells bytes failed asked older HasWords is_long unread (Err fault) new a (inr said) = unread_ends EndsKey refl refl fault a said
 
 -- ---- the commands that edit
 
@@ -352,6 +381,18 @@ backup_there tells payload d DeviceFault said = refl
 backup_there tells payload d NoMemory said = refl
 backup_there tells payload d a said = absurd said
 
+rescue_there : (tells : Type 0) (payload : Data) (d : TwoFiles) (a : Answer) → IsRescueAnswer tells payload d a → EndsBackup a (own a)
+rescue_there tells payload d (Rescued lost) said = refl
+rescue_there tells payload d DeviceFault said = refl
+rescue_there tells payload d (Done slot) said = (said.1, refl)
+rescue_there tells payload d (Refused (refusal.Backup f)) said = refl
+rescue_there tells payload d NoMemory said = refl
+rescue_there tells payload d a said = absurd said
+
+made_there : (rescue : Bool) (tells : Type 0) (payload : Data) (d : TwoFiles) (a : Answer) → IsMadeAnswer rescue tells payload d a → EndsBackup a (own a)
+made_there false tells payload d a said = backup_there tells payload d a said
+made_there true tells payload d a said = rescue_there tells payload d a said
+
 not_kept_there : (tells : Type 0) (payload : Data) (v : List ℕ) (before after : ℕ) (a : Answer) → IsNotKept tells payload v before after a → EndsBackup a (own a)
 not_kept_there tells payload v before after (Refused (refusal.Backup f)) said = refl
 not_kept_there tells payload v before after DeviceFault said = refl
@@ -362,13 +403,13 @@ without_there : (tells : Type 0) (payload : Data) (v : List ℕ) (before after :
 without_there tells payload v before after missed a (inl said) = not_kept_there tells payload v before after a said
 without_there tells payload v before after missed a (inr said) = unread_ends EndsBackup refl refl missed a said.2
 
-pub backup_ends : {D : Type 0} (tells : Type 0) (size : D → ℕ) (bytes : D → List ℕ) (failed : D → ℕ) (payload : Data) (volume volume_new old new : Result D InputFault) (a : Answer)
-    → AnswersBackup tells size bytes failed payload volume volume_new old new a → EndsBackup a (own a)
-backup_ends tells size bytes failed payload volume volume_new (Err (Unreadable reason.Exists)) new a is = subst (λ x. EndsBackup x (own x)) (sym is) refl
-backup_ends tells size bytes failed payload (Ok volume) (Ok volume_new) (Ok old) (Ok new) a said = backup_there tells payload (pair_of size bytes failed volume volume_new old new) a said
-backup_ends tells size bytes failed payload (Ok volume) (Ok volume_new) (Err missed) new a said = without_there tells payload (bytes volume) (failed volume) (failed volume_new) missed a said
-backup_ends tells size bytes failed payload (Err missed) volume_new old new a is = unread_ends EndsBackup refl refl missed a is
-backup_ends tells size bytes failed payload volume volume_new old new a said = absurd said
+pub backup_ends : {D : Type 0} (tells : Type 0) (size : D → ℕ) (bytes : D → List ℕ) (failed : D → ℕ) (rescue : Bool) (payload : Data) (volume volume_new old new : Result D InputFault) (a : Answer)
+    → AnswersBackup tells size bytes failed rescue payload volume volume_new old new a → EndsBackup a (own a)
+backup_ends tells size bytes failed rescue payload volume volume_new (Err (Unreadable reason.Exists)) new a is = subst (λ x. EndsBackup x (own x)) (sym is) refl
+backup_ends tells size bytes failed rescue payload (Ok volume) (Ok volume_new) (Ok old) (Ok new) a said = made_there rescue tells payload (pair_of size bytes failed volume volume_new old new) a said
+backup_ends tells size bytes failed rescue payload (Ok volume) (Ok volume_new) (Err missed) new a said = without_there tells payload (bytes volume) (failed volume) (failed volume_new) missed a said
+backup_ends tells size bytes failed rescue payload (Err missed) volume_new old new a is = unread_ends EndsBackup refl refl missed a is
+backup_ends tells size bytes failed rescue payload volume volume_new old new a said = absurd said
 
 restore_there : (tells : Type 0) (payload : Data) (over : Over) (d : TwoFiles) (a : Answer) → IsRestoreAnswer tells payload over d a → EndsRestore a (own a)
 restore_there tells payload over d (Done slot) said = (said.1, refl)

@@ -1,9 +1,9 @@
 -- What a command has come to, and how that is told.
-use Rattle.std.specs.Prelude.{◌≡◌, ◌⊎◌, ℕ, ◌+◌, List, codes, Bool, false, Option, IfSome, MatchResult, Result}
+use Rattle.std.specs.Prelude.{◌≡◌, ◌⊎◌, ℕ, ◌+◌, List, codes, Bool, false, Option, IfSome, MatchResult, Result, ⊤}
 use Rattle.std.specs.Io.KnownBytes.{Appends}
 use Rattle.luks_request.specs.declared.request.Command.{Command}
 use Rattle.luks_commands.specs.declared.answers.Answer.{Answer}
-use Rattle.luks_commands.specs.declared.answers.Answer.TheVariants.{DeviceFault}
+use Rattle.luks_commands.specs.declared.answers.Answer.TheVariants.{Done, Rescued, DeviceFault}
 use Rattle.luks_commands.specs.Answer.{answer_status, line, line_of}
 use Rattle.luks_commands.specs.Exit.{exit_status}
 use Rattle.luks_execution.specs.AnswerValue.{IsAnswerText}
@@ -21,6 +21,12 @@ IsOutcome command_ outcome = EndsWith command_ outcome.answer (exit_status (answ
 -- standard error says what is noted: where that is wanted, or why a file can't be read
 abbrev pub IsNoted : Bool → Answer → Type 0
 IsNoted quiet answer = (quiet ≡ false) ⊎ (answer ≡ DeviceFault)
+
+-- a backup was made, whether keyslots were lost or not
+abbrev pub MakesBackup : Answer → Type 0
+MakesBackup (Done slot) = ⊤
+MakesBackup (Rescued lost) = ⊤
+MakesBackup answer = ⊥
 
 -- the text is the answer's lines, where these are told
 abbrev pub IsLinesOf : Answer → List ℕ → Type 0

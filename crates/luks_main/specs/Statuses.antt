@@ -8,7 +8,7 @@ use Rattle.luks_request.specs.declared.request.ShowAs.{ShowAs}
 use Rattle.luks_request.specs.declared.request.ShowAs.TheVariants as form
 use Rattle.luks_keeping.specs.ComparisonTexts.{is_current}
 use Rattle.luks_commands.specs.declared.answers.Answer.{Answer}
-use Rattle.luks_commands.specs.declared.answers.Answer.TheVariants.{Accepted, Listed, ListedFully, Mapped, Json, Opens, Closed, NoneOpens, Done, Compared, Refused, DeviceFault, NoMemory}
+use Rattle.luks_commands.specs.declared.answers.Answer.TheVariants.{Accepted, Listed, ListedFully, Mapped, Json, Opens, Closed, NoneOpens, Matches, Differs, Done, Compared, Rescued, Refused, DeviceFault, NoMemory}
 use Rattle.luks_commands.specs.declared.answers.Refusal.TheVariants as refusal
 
 -- of every command: a file or the device failed, or memory was refused
@@ -46,6 +46,14 @@ EndsOpen None NoneOpens status = status ≡ 1
 EndsOpen slot (Refused (refusal.Open fault)) status = status ≡ 1
 EndsOpen slot (Refused refusal.LongPassphrase) status = status ≡ 1
 EndsOpen slot answer status = EndsAny answer status
+
+-- `open` of a key
+abbrev pub EndsKey : Answer → ℕ → Type 0
+EndsKey Matches status = status ≡ 0
+EndsKey Differs status = status ≡ 1
+EndsKey (Refused (refusal.Key fault)) status = status ≡ 1
+EndsKey (Refused refusal.LongPassphrase) status = status ≡ 1
+EndsKey answer status = EndsAny answer status
 
 -- `add`, `change`, `remove`, `repair` and `label`
 abbrev pub EndsEdit : Answer → ℕ → Type 0
@@ -101,6 +109,7 @@ EndsRebuild (Some file) answer status = EndsTried answer status
 -- `backup`
 abbrev pub EndsBackup : Answer → ℕ → Type 0
 EndsBackup (Done slot) status = (slot ≡ None) × (status ≡ 0)
+EndsBackup (Rescued lost) status = status ≡ 1
 EndsBackup (Refused (refusal.Backup fault)) status = status ≡ 1
 EndsBackup (Refused refusal.SameFile) status = status ≡ 1
 EndsBackup (Refused refusal.Exists) status = status ≡ 1
@@ -132,6 +141,7 @@ abbrev pub EndsWith : Command → Answer → ℕ → Type 0
 EndsWith (command.Check payload) answer status = EndsCheck answer status
 EndsWith (command.Show shown_as) answer status = EndsShow shown_as answer status
 EndsWith (command.Open passphrase slot memory older) answer status = EndsOpen slot answer status
+EndsWith (command.Match matching) answer status = EndsKey answer status
 EndsWith (command.Edit editing) answer status = EndsEdit answer status
 EndsWith (command.Format making) answer status = EndsFormat answer status
 EndsWith (command.Convert converting) answer status = EndsConvert answer status

@@ -194,12 +194,28 @@ fn tell_rebuilt(
 {
     let meant = rebuilding.meant();
     if meant != Meant::Luks1 {
-        note_taken(alloc, volume, copies_asked(rebuilding), notes);
+        tell_taken(alloc, rebuilding, volume, target, notes);
     }
     if meant != Meant::Luks2 {
         tell_lost(volume, target, notes);
     }
     tell_target(alloc, target, rebuilding.target, notes);
+}
+
+/// Notes of which metadata of the volume the LUKS2 header was made that stands on the target.
+fn tell_taken(
+    alloc: Global,
+    rebuilding: &Rebuilding<'_>,
+    volume: &mut Volume,
+    target: &mut Result<Volume, InputFault>,
+    notes: &mut Vec<u8>,
+) {
+    let Ok(made) = target else {
+        return;
+    };
+    if has_room(volume) && has_room(made) {
+        note_taken(alloc, volume, made, copies_asked(rebuilding), notes);
+    }
 }
 
 /// Notes which keyslots of the volume are lost in the LUKS1 header that was made of it, if that is one.

@@ -12,6 +12,7 @@ mod progress;
 mod refusals;
 mod running;
 mod searching;
+mod thorough;
 mod told;
 mod trial;
 

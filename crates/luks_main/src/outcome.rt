@@ -3,7 +3,7 @@ ghost use Rattle.std.specs.Prelude.{◌≡◌, ◌↔◌, ◌+◌, ◌<◌, ◌^
 ghost use Rattle.luks_guarded_files.specs.Cached.{cached_failures};
 ghost use Rattle.luks_commands.specs.Answer.{answer_status};
 ghost use Rattle.luks_commands.specs.Exit.{exit_status};
-ghost use Rattle.luks_main.specs.Outcomes.{EndsTold, IsLinesOf, IsMade, IsNoted, IsObjectOf, IsOutcome};
+ghost use Rattle.luks_main.specs.Outcomes.{EndsTold, IsLinesOf, IsMade, IsNoted, IsObjectOf, IsOutcome, MakesBackup};
 
 use crate::FAULT;
 use luks_execution::{
@@ -38,6 +38,13 @@ impl Outcome {
         ensures { IsTrue result ↔ IsNoted quiet self.now.answer }
     {
         !quiet || matches!(self.answer, Answer::DeviceFault)
+    }
+
+    /// Whether a backup was made, whichever keyslots it costs: then its file stays.
+    pub(crate) fn is_backup(&self) -> bool
+        ensures { IsTrue result ↔ MakesBackup self.now.answer }
+    {
+        matches!(self.answer, Answer::Done(_) | Answer::Rescued(_))
     }
 
     /// Prints the answer's lines; gives the exit status. Where memory for them is refused, that is the

@@ -1,7 +1,8 @@
-//! How far a search of a disk is, and what it passes over.
+//! How far a search of a disk is, what it passes over, and which volumes have one uuid.
 use luks_files::{ERROR, is_terminal};
-use luks_find_command::{Progress, Unread};
+use luks_find_command::{Progress, SameUuid, Unread};
 use std::fs::File;
+use std::io::Write;
 use std::rt::{Clock, Files};
 use std::time::Duration;
 
@@ -12,7 +13,8 @@ const LONG: u64 = 1 << 30;
 const PAUSE: u128 = 500;
 
 /// How far a search is and how fast, in one line of standard error that is written over: where that is a
-/// terminal, and the disk has more than 1 GiB. What is passed over is said always, by a line of its own.
+/// terminal, and the disk has more than 1 GiB. What is passed over is said always, by a line of its own;
+/// which volumes have one uuid is held where it isn't wanted.
 #[derive(Drop)]
 pub(crate) struct ProgressLine<'a, R> {
     rt: &'a R,
@@ -24,12 +26,15 @@ pub(crate) struct ProgressLine<'a, R> {
     written: u128,
     /// Whether a line stands there.
     stands: bool,
+    /// What is held of volumes with one uuid; nothing where that is said at once.
+    held: Option<Vec<u8>>,
 }
 
 impl<'a, R: Clock + Files<File = File> + Eprint> ProgressLine<'a, R> {
-    /// The line of a search that begins now, of the disk of this name; it is never written where that
-    /// isn't wanted.
-    pub(crate) fn new(rt: &'a R, name: &'a str, wanted: bool) -> Self {
+    /// The line of a search that begins now, of the disk of this name; it is never written where what is
+    /// noted is to be held.
+    pub(crate) fn new(rt: &'a R, name: &'a str, held: Option<Vec<u8>>) -> Self {
+        let wanted = held.is_none();
         let begun = if wanted && is_terminal(rt, ERROR) {
             rt.monotonic().ok()
         } else {
@@ -41,6 +46,15 @@ impl<'a, R: Clock + Files<File = File> + Eprint> ProgressLine<'a, R> {
             begun,
             written: 0,
             stands: false,
+            held,
+        }
+    }
+
+    /// What was held.
+    pub(crate) fn held(&self) -> &[u8] {
+        match &self.held {
+            Some(held) => held.as_slice(),
+            None => &[],
         }
     }
 
@@ -55,6 +69,8 @@ impl<R: Clock + Files<File = File> + Eprint> Progress for ProgressLine<'_, R> {
     ghost use Rattle.std.specs.Prelude.{None};
 
     ghost heard = { λ _. None };
+
+    ghost paired = { λ _. None };
 
     fn looked(&mut self, at: u64, total: u64) {
         if total <= LONG {
@@ -87,5 +103,16 @@ impl<R: Clock + Files<File = File> + Eprint> Progress for ProgressLine<'_, R> {
     fn pass(&mut self, unread: Unread) {
         self.clear();
         let _ = eprintln!(self.rt; "luks: {}: {unread}", self.name);
+    }
+
+    fn pair(&mut self, pair: SameUuid) {
+        match &mut self.held {
+            Some(held) => {
+                let _ = writeln!(held, "luks: {}: {pair}", self.name);
+            }
+            None => {
+                let _ = eprintln!(self.rt; "luks: {}: {pair}", self.name);
+            }
+        }
     }
 }

@@ -14,6 +14,7 @@ pub(crate) fn fault_of(refusal: &Refusal) -> Option<Fault>
         Refusal::LongPassphrase => Some(Fault::Passphrase),
         Refusal::Check(fault) => Fault::of_check(fault),
         Refusal::Open(fault) => Fault::of_open(fault),
+        Refusal::Key(fault) => Fault::of_key(fault),
         Refusal::Edit(fault) => Fault::of_edit(fault),
         Refusal::Format(fault) => Fault::of_format(fault),
         Refusal::Convert(fault) => Fault::of_convert(fault),

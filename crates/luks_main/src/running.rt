@@ -10,9 +10,10 @@ use crate::hints::{Ended, tell, tell_ended, tell_overwritten, use_before};
 use crate::new_passphrase::tell_new_passphrase;
 use crate::outcome::{Outcome, outcome_of};
 use crate::searching::search;
+use crate::thorough::tell_search;
 use crate::told::{device_fault, explain, list_faults, no_memory, tell_untimed, tell_usage};
 use crate::trial::TrialLines;
-use crate::{FAULT, TOLD, USAGE};
+use crate::{FAULT, USAGE};
 use luks_execution::{
     CountingPrinter, InputFault, Inputs, Line, OtherUse, Printer, Progress, Reason,
 };
@@ -120,6 +121,7 @@ fn run_line<R: AllocGlobal + Clock + Files<File = File> + Input + Print + Eprint
     let passphrases = Passphrases::read(rt, &openings, manner);
     if !manner.quiet && !passphrases.end_command() {
         tell_new_passphrase(rt, &line.command, &passphrases);
+        tell_search(rt, &line.command);
     }
     let noticed = Vec::new(rt.alloc());
     match manner.iter_time {
@@ -195,7 +197,7 @@ fn run_read<R: AllocGlobal + Clock + Files<File = File> + Input + Print + Eprint
     }
     let mut out = CountingPrinter::new(io::writer(rt));
     let printed = print_lines(rt.alloc(), line, &outcome, manner, &mut out);
-    take_unfinished(rt, line, made, outcome.status());
+    take_unfinished(rt, line, made, outcome.is_backup());
     let is_wanted = is_noted || manner.json;
     note_ended(
         rt.alloc(),
@@ -238,15 +240,15 @@ fn outcome_beside<R: Files<File = File>, G: Progress>(
     }
 }
 
-/// Takes away the file that was made for a backup, where that ended with another status than 0.
+/// Takes away the file that was made for a backup, where none was made.
 fn take_unfinished<R: Clock + Files<File = File>>(
     rt: &R,
     line: &Line<'_>,
     made: Option<Found>,
-    status: u8,
+    is_backup: bool,
 ) {
     if let (Some(made), Some(name)) = (made, line.target()) {
-        if status != TOLD {
+        if !is_backup {
             take_away(rt, name, &made);
         }
     }

@@ -62,7 +62,12 @@ pub(crate) fn search<R: AllocGlobal + Clock + Files<File = File> + Print + Eprin
         held: if manner.quiet { Some(notices) } else { None },
     };
     let mut out = CountingPrinter::new(io::writer(rt));
-    let mut progress = ProgressLine::new(rt, search.disk, !manner.quiet);
+    let pairs = if manner.quiet {
+        Some(Vec::new(rt.alloc()))
+    } else {
+        None
+    };
+    let mut progress = ProgressLine::new(rt, search.disk, pairs);
     let status = find::run(
         rt.alloc(),
         &mut disk,
@@ -74,6 +79,7 @@ pub(crate) fn search<R: AllocGlobal + Clock + Files<File = File> + Print + Eprin
     );
     if let (Some(held), FAULT) = (&notes.held, status) {
         tell(rt, held.as_slice());
+        tell(rt, progress.held());
     }
     status
 }

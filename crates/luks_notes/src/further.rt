@@ -5,9 +5,9 @@ ghost use Rattle.luks_rebuilding.specs.RebuildFaults.{is_rebuild_failure};
 
 use crate::metadata::keyslots_of;
 use crate::older::say_older;
+use crate::told::Told;
 use luks_area::Device;
-use luks_meta::Meta;
-use luks_rebuilding::{Candidate, RebuildFault, Which, find_candidate, find_plain};
+use luks_rebuilding::{Copies, Effort, RebuildFault, Which, find_candidate, find_plain};
 use std::alloc::Global;
 use std::io::Write;
 
@@ -18,20 +18,21 @@ const SIZES: [u64; 9] = [
 
 /// Says to `err` what other metadata is whole, of a second copy or of a header of another size, how
 /// many keyslots it has that this hasn't, and by which option `rebuild` takes it. Where it is known that no
-/// checksum vouches for any, that isn't sought once more.
+/// checksum vouches for any, that isn't sought once more; else it is sought with the least effort. Each copy is of
+/// two searches at most.
 pub(crate) fn say_further<D: Device, E: Write>(
     alloc: Global,
     device: &mut D,
-    found: &Candidate,
+    found: &Told,
     seek: Seek,
     err: &mut E,
 ) -> Result<(), RebuildFault>
     requires { D.failed device.old + 1 < 2 ^ 64 }
     ensures { IsUnchanged D.tells D.size D.bytes D.unsettled device.old device.new }
 {
-    let second = further_of(alloc, device, Which::Second, seek)?;
+    let second = further_of(alloc, device, Copies::Second, seek)?;
     if let Some(further) = &second {
-        if !is_same(found, further) {
+        if !found.is_same(further) {
             say_second(found, further, err);
             say_older(device, further, err)?;
         }
@@ -52,33 +53,36 @@ pub(crate) enum Seek {
 fn further_of<D: Device>(
     alloc: Global,
     device: &mut D,
-    which: Which,
+    copies: Copies,
     seek: Seek,
-) -> Result<Option<Candidate>, RebuildFault>
+) -> Result<Option<Told>, RebuildFault>
     requires { D.failed device.old + 1 < 2 ^ 64 }
     ensures unchanged { IsUnchanged D.tells D.size D.bytes D.unsettled device.old device.new }
     ensures count { CountsFailure is_rebuild_failure result
         (D.failed device.old) (D.failed device.new) }
 {
     match seek {
-        Seek::Any => candidate_of(alloc, device, which),
-        Seek::Whole => whole_of(alloc, device, which),
+        Seek::Any => {
+            let effort = Effort::Brief;
+            candidate_of(alloc, device, Which { copies, effort })
+        }
+        Seek::Whole => whole_of(alloc, device, copies),
     }
 }
 
 /// What is whole of these copies, if there is anything.
-fn whole_of<D: Device>(
+pub(crate) fn whole_of<D: Device>(
     alloc: Global,
     device: &mut D,
-    which: Which,
-) -> Result<Option<Candidate>, RebuildFault>
+    copies: Copies,
+) -> Result<Option<Told>, RebuildFault>
     requires { D.failed device.old + 1 < 2 ^ 64 }
     ensures unchanged { IsUnchanged D.tells D.size D.bytes D.unsettled device.old device.new }
     ensures count { CountsFailure is_rebuild_failure result
         (D.failed device.old) (D.failed device.new) }
 {
-    match find_plain(alloc, device, which) {
-        Ok(found) => Ok(Some(found)),
+    match find_plain(alloc, device, copies) {
+        Ok(found) => Ok(Some(Told::of(found))),
         Err(RebuildFault::NoMetadata) => Ok(None),
         Err(fault) => Err(fault),
     }
@@ -89,14 +93,14 @@ pub(crate) fn candidate_of<D: Device>(
     alloc: Global,
     device: &mut D,
     which: Which,
-) -> Result<Option<Candidate>, RebuildFault>
+) -> Result<Option<Told>, RebuildFault>
     requires { D.failed device.old + 1 < 2 ^ 64 }
     ensures unchanged { IsUnchanged D.tells D.size D.bytes D.unsettled device.old device.new }
     ensures count { CountsFailure is_rebuild_failure result
         (D.failed device.old) (D.failed device.new) }
 {
     match find_candidate(alloc, device, which) {
-        Ok(found) => Ok(Some(found)),
+        Ok(found) => Ok(Some(Told::of(found))),
         Err(RebuildFault::NoMetadata) => Ok(None),
         Err(fault) => Err(fault),
     }
@@ -106,8 +110,8 @@ pub(crate) fn candidate_of<D: Device>(
 fn say_sizes<D: Device, E: Write>(
     alloc: Global,
     device: &mut D,
-    found: &Candidate,
-    second: &Option<Candidate>,
+    found: &Told,
+    second: &Option<Told>,
     seek: Seek,
     err: &mut E,
 ) -> Result<(), RebuildFault>
@@ -128,8 +132,8 @@ fn say_sizes<D: Device, E: Write>(
 fn say_size<D: Device, E: Write>(
     alloc: Global,
     device: &mut D,
-    found: &Candidate,
-    second: &Option<Candidate>,
+    found: &Told,
+    second: &Option<Told>,
     size: u64,
     seek: Seek,
     err: &mut E,
@@ -139,8 +143,8 @@ fn say_size<D: Device, E: Write>(
     ensures count { CountsFailure is_rebuild_failure result
         (D.failed device.old) (D.failed device.new) }
 {
-    if let Some(further) = further_of(alloc, device, Which::OfSize(size), seek)? {
-        if !is_same(found, &further) && !is_said(second, &further) {
+    if let Some(further) = further_of(alloc, device, Copies::OfSize(size), seek)? {
+        if !found.is_same(&further) && !is_said(second, &further) {
             say_of_size(found, &further, err);
             say_older(device, &further, err)?;
         }
@@ -148,22 +152,18 @@ fn say_size<D: Device, E: Write>(
     Ok(())
 }
 
-/// Whether both have the same metadata.
-fn is_same(one: &Candidate, other: &Candidate) -> bool {
-    one.json.as_slice() == other.json.as_slice()
-}
-
 /// Whether the second copy's is the same.
-fn is_said(second: &Option<Candidate>, other: &Candidate) -> bool {
+fn is_said(second: &Option<Told>, other: &Told) -> bool {
     match second {
-        Some(second) => is_same(second, other),
+        Some(second) => second.is_same(other),
         None => false,
     }
 }
 
 /// Says of the second copy's metadata how it is taken.
-fn say_second<E: Write>(found: &Candidate, further: &Candidate, err: &mut E) {
-    let (count, keyslots) = more_in(&further.meta, &found.meta);
+fn say_second<E: Write>(found: &Told, further: &Told, err: &mut E) {
+    let count = further.count_beside(found);
+    let keyslots = keyslots_of(count);
     let _ = writeln!(
         err,
         "luks: that of the second copy is whole too, and differs, with {count} {keyslots} that this hasn't: luks rebuild --second takes it"
@@ -171,22 +171,12 @@ fn say_second<E: Write>(found: &Candidate, further: &Candidate, err: &mut E) {
 }
 
 /// Says of the metadata of a header of another size how it is taken.
-fn say_of_size<E: Write>(found: &Candidate, further: &Candidate, err: &mut E) {
-    let (count, keyslots) = more_in(&further.meta, &found.meta);
+fn say_of_size<E: Write>(found: &Told, further: &Told, err: &mut E) {
+    let count = further.count_beside(found);
+    let keyslots = keyslots_of(count);
     let size = further.place.size;
     let _ = writeln!(
         err,
         "luks: that of a header of {size} bytes is whole too, and differs, with {count} {keyslots} that this hasn't: luks rebuild --size {size} takes it"
     );
-}
-
-/// How many keyslots the one has that the other hasn't, and what so many are called.
-fn more_in(one: &Meta, other: &Meta) -> (u8, &'static str) {
-    let mut count: u8 = 0;
-    for n in 0..32 {
-        if one.keyslot(n).is_some() && other.keyslot(n).is_none() {
-            count = count.saturating_add(1);
-        }
-    }
-    (count, keyslots_of(count))
 }

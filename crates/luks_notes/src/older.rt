@@ -2,8 +2,8 @@
 ghost use Rattle.std.specs.Prelude.{◌+◌, ◌^◌, ◌<◌};
 ghost use Rattle.luks_area.specs.Device.{CountsFailure, IsUnchanged, is_failure};
 
+use crate::told::Told;
 use luks_area::{Device, DeviceFault};
-use luks_rebuilding::Candidate;
 use luks2_header::Bin2;
 use std::io::Write;
 
@@ -16,7 +16,7 @@ const HEADER: usize = 4096;
 /// uuid than the second copy.
 pub(crate) fn say_older<D: Device, E: Write>(
     device: &mut D,
-    found: &Candidate,
+    found: &Told,
     err: &mut E,
 ) -> Result<(), DeviceFault>
     requires { D.failed device.old + 1 < 2 ^ 64 }
@@ -35,7 +35,7 @@ pub(crate) fn say_older<D: Device, E: Write>(
 }
 
 /// The header that begins at the place `at`, if the device doesn't end before.
-fn header_at<D: Device>(device: &mut D, at: u64) -> Result<Option<Bin2>, DeviceFault>
+pub(crate) fn header_at<D: Device>(device: &mut D, at: u64) -> Result<Option<Bin2>, DeviceFault>
     requires { D.failed device.old + 1 < 2 ^ 64 }
     ensures unchanged { IsUnchanged D.tells D.size D.bytes D.unsettled device.old device.new }
     ensures count { CountsFailure is_failure result (D.failed device.old) (D.failed device.new) }
@@ -51,8 +51,8 @@ fn header_at<D: Device>(device: &mut D, at: u64) -> Result<Option<Bin2>, DeviceF
 
 /// Whether the volume that begins with the one header is another than that of the second copy, from
 /// which the metadata is.
-fn is_older(found: &Candidate, start: &Bin2, second: &Bin2) -> bool {
-    let of_second = found.place.at != 0 || start.version == 1 && found.vouch.is_none();
+fn is_older(found: &Told, start: &Bin2, second: &Bin2) -> bool {
+    let of_second = found.place.at != 0 || start.version == 1 && !found.is_vouched;
     of_second && differ(start, second)
 }
 

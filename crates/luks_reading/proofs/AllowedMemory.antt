@@ -16,7 +16,7 @@ use Rattle.luks_slot.specs.declared.plan.SlotPlan.{SlotPlan}
 use Rattle.luks_slot.specs.Allowance.{none_allowed, without_memory}
 use Rattle.luks_slot.specs.Refusal.{are_known_hashes, is_argon2, is_argon2_refused, is_open_cipher, slot_refusal, slot_refusal_within}
 use Rattle.luks_reading.specs.declared.open_fault.OpenFault.{OpenFault}
-use Rattle.luks_reading.specs.declared.open_fault.OpenFault.TheVariants.{Head, Meta, NoSuchSlot, SlotFree, Outside, Slot, Device, Memory}
+use Rattle.luks_reading.specs.declared.open_fault.OpenFault.TheVariants.{Head, Meta, NoSuchSlot, SlotFree, Outside, Slot}
 use Rattle.luks_reading.specs.Answer.{HasPlanAs, HasRefusedPlanWithin, IsRefusalAsWithin, OpensWithin, TakesMemory}
 use Rattle.luks_reading.specs.declared.read_fault.ReadFault.TheVariants as reading
 use Rattle.luks_reading.specs.Header.{json_at, IsReadFaultAs, TakesNoMemory}

@@ -27,3 +27,5 @@ pub mod OneArea
 pub mod AllowedMemory
 pub mod MemoryFacts
 pub mod PlanFacts
+pub mod KeyFacts
+pub mod OpenedKeys

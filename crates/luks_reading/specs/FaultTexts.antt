@@ -6,6 +6,8 @@ use Rattle.luks_rules.specs.MetaFault.{fault_text as meta_fault_text}
 use Rattle.luks_slot.specs.Fault.{fault_text as slot_fault_text}
 use Rattle.luks_reading.specs.declared.check_fault.CheckFault.{CheckFault}
 use Rattle.luks_reading.specs.declared.check_fault.CheckFault.TheVariants as checking
+use Rattle.luks_reading.specs.declared.key_fault.KeyFault.{KeyFault}
+use Rattle.luks_reading.specs.declared.key_fault.KeyFault.TheVariants as judging
 use Rattle.luks_reading.specs.declared.open_fault.OpenFault.{OpenFault}
 use Rattle.luks_reading.specs.declared.open_fault.OpenFault.TheVariants as opening
 use Rattle.luks_reading.specs.declared.read_fault.ReadFault.{ReadFault}
@@ -33,3 +35,12 @@ open_fault_text opening.Outside = codes "Outside"
 open_fault_text (opening.Slot f) = slot_fault_text f
 open_fault_text opening.Device = codes "Device"
 open_fault_text opening.Memory = codes "Memory"
+
+abbrev pub key_fault_text : KeyFault → List ℕ
+key_fault_text (judging.Head f) = head_fault_text f
+key_fault_text (judging.Meta f) = meta_fault_text f
+key_fault_text judging.NoSuchDigest = codes "NoSuchDigest"
+key_fault_text judging.KeyLength = codes "KeyLength"
+key_fault_text judging.Hash = codes "Hash"
+key_fault_text judging.Device = codes "Device"
+key_fault_text judging.Memory = codes "Memory"

@@ -18,3 +18,5 @@ pub mod KeyslotsTried
 pub mod Unlocking
 pub mod Agreement
 pub mod HeaderAnswers
+pub mod KeyDigests
+pub mod KeyAnswers

@@ -1,11 +1,12 @@
 //! Laws on the definitions of this crate. Each function does nothing; its contract is the law.
-ghost use Rattle.std.specs.Prelude.{◌≡◌, ◌≤◌, ◌↔◌, ℕ, List, Option, Some, None, true};
+ghost use Rattle.std.specs.Prelude.{◌≡◌, ◌≤◌, ◌↔◌, ℕ, List, Option, Some, None, length, true};
 ghost use Rattle.luks_area.specs.declared.area.Area.{Area as TheArea};
 ghost use Rattle.luks_area.specs.declared.area.AreaName.{AreaName as TheName};
 ghost use Rattle.luks_slot.specs.declared.allowed.Allowed.{Allowed as TheAllowed};
 ghost use Rattle.luks_slot.specs.declared.plan.SlotPlan.{SlotPlan as ThePlan};
 ghost use Rattle.luks_slot.specs.Allowance.{none_allowed};
 ghost use Rattle.luks_slot.specs.Refusal.{is_argon2, slot_refusal};
+ghost use Rattle.luks_reading.specs.declared.header.Header.{Header as TheHeader};
 ghost use Rattle.luks_reading.specs.declared.read_fault.ReadFault.{ReadFault as TheReadFault};
 ghost use Rattle.luks_reading.specs.declared.report.Data.{Data as Payload};
 ghost use Rattle.luks_reading.specs.Agreement.{IsSameAnswer, IsSameUnlocking};
@@ -13,8 +14,9 @@ ghost use Rattle.luks_reading.specs.Answer.{AnswerWithin, HasRefusedPlanWithin, 
 ghost use Rattle.luks_reading.specs.Checked.{AreaOf, IsCheckRefusal, IsFault, WellFormed};
 ghost use Rattle.luks_reading.specs.Conversions.{unread_checked};
 ghost use Rattle.luks_reading.specs.FitsAndResolves.{FitsAndResolves};
-ghost use Rattle.luks_reading.specs.Header.{IsUnread};
-ghost use Rattle.luks_reading.specs.Plans.{HasLuks1Plan, HasLuks2Plan};
+ghost use Rattle.luks_reading.specs.Header.{IsHeader, IsUnread};
+ghost use Rattle.luks_reading.specs.KeyAnswers.{MatchesAsked};
+ghost use Rattle.luks_reading.specs.Plans.{HasKeyBytes, HasLuks1Plan, HasLuks2Plan};
 ghost use Rattle.luks_reading.specs.Unlocking.{Unlocked, UnlockAnswer};
 
 use crate::check_fault::CheckFault;
@@ -83,4 +85,12 @@ pub fn more_allowed_opens_alike()
     ensures { (allowed more : TheAllowed) (v : List ℕ) (n : ℕ) (p : List ℕ) (found : Option (List ℕ))
         → allowed.memory ≤ more.memory → (allowed.older ≡ true → more.older ≡ true)
         → OpensWithin allowed v n p found → OpensWithin more v n p found }
+{}
+
+/// The key that opening a keyslot answers, of the length that is promised of it, is one that matches,
+/// wherever the digest that names the keyslot is asked.
+pub fn opened_key_matches()
+    ensures { (allowed : TheAllowed) (v : List ℕ) (header : TheHeader) (n : ℕ) (p key : List ℕ)
+        → IsHeader v header → HasKeyBytes header n (length key) → OpensWithin allowed v n p (Some key)
+        → MatchesAsked allowed.older v n key }
 {}

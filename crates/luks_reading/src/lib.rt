@@ -8,9 +8,11 @@ mod checking;
 mod format;
 mod header;
 mod judging;
+mod key_fault;
 mod laws;
 mod layout;
 mod luks1_fields;
+mod matching;
 mod nearest;
 mod open_fault;
 mod opening;
@@ -25,9 +27,10 @@ pub use checking::{check, check_copy, check_header};
 pub use format::Format;
 pub use header::{ChosenCopy, Header, read_header};
 pub use judging::judge_luks1;
+pub use key_fault::KeyFault;
 pub use laws::{
     more_allowed_opens_alike, no_fault_is_well_formed, nothing_allowed_is_as_before, one_answer,
-    one_area, one_unlocking, unread_volume_is_refused, well_formed_volume,
+    one_area, one_unlocking, opened_key_matches, unread_volume_is_refused, well_formed_volume,
 };
 pub use layout::luks2_areas;
 pub use luks_area::{
@@ -38,10 +41,11 @@ pub use luks_meta::{
 };
 pub use luks_slot::{Allowed, Key};
 pub use luks2_header::{Bin2, Copies, HeadFault, Luks1, Luks1Slot, Selected, SlotState, select};
+pub use matching::{KeyMatch, match_header_key, match_key, meets};
 pub use nearest::Nearest;
 pub use open_fault::OpenFault;
 pub use opening::{open_header_slot, open_slot, try_copy_slot, try_header_slot};
-pub use plan::{luks1_area, luks1_plan, luks2_plan};
+pub use plan::{luks1_area, luks1_digest, luks1_plan, luks2_digest, luks2_plan};
 pub use read_fault::ReadFault;
 pub use refusing::refused_slot;
 pub use report::{Data, Report, Version};

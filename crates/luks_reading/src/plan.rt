@@ -1,5 +1,5 @@
 //! What it takes to open a keyslot, as the headers say it.
-ghost use Rattle.std.specs.Prelude.{◌≡◌, ◌*◌, ℕ, List, Some};
+ghost use Rattle.std.specs.Prelude.{◌≡◌, ◌≤◌, ◌*◌, ℕ, List, length, Some};
 ghost use Rattle.serde_json.specs.Data.{Data};
 ghost use Rattle.luks1_header.specs.Header1.{active_word, enabled_word, IsCommon, IsEntry};
 ghost use Rattle.luks_rules.specs.declared.table.Section.TheVariants.{Digests};
@@ -8,7 +8,8 @@ ghost use Rattle.luks_meta.specs.Naming.{IsDigestOf};
 ghost use Rattle.luks_meta.specs.Says.{TellsDigest, TellsKeyslot};
 ghost use Rattle.luks_area.specs.Sectors.{rounded_to_sectors};
 ghost use Rattle.luks_reading.specs.PlanAnswers.{IsOpenable};
-ghost use Rattle.luks_reading.specs.Plans.{IsLuks1Plan, IsLuks2Plan, IsLuks2Derivation};
+ghost use Rattle.luks_reading.specs.KeyDigests.{SaysDigest};
+ghost use Rattle.luks_reading.specs.Plans.{IsLuks1Digest, IsLuks1Plan, IsLuks2Plan, IsLuks2Derivation};
 
 use luks_area::{Area, SECTOR, rounded_to_sectors};
 use luks_meta::{Argon2, Cost, Digest, Keyslot};
@@ -39,12 +40,21 @@ pub fn luks1_plan<'a>(common: &'a Luks1Common, slot: &'a Luks1Slot) -> SlotPlan<
         key_bytes: common.key_bytes as usize,
         stripes: slot.stripes,
         splitter_hash: hash,
-        digest: DigestPlan {
-            hash,
-            iterations: common.mk_digest_iterations,
-            salt: &common.mk_digest_salt,
-            stored: &common.mk_digest,
-        },
+        digest: luks1_digest(common),
+    }
+}
+
+/// By what the volume key of a LUKS1 header is told.
+pub fn luks1_digest(common: &Luks1Common) -> DigestPlan<'_>
+    ensures is { (h : List ℕ) → IsCommon h common.now → IsLuks1Digest h result }
+    ensures turns { (h : List ℕ) → IsCommon h common.now → 1 ≤ result.iterations }
+    ensures length { length result.stored.now ≡ 20 }
+{
+    DigestPlan {
+        hash: common.hash_spec.as_str(),
+        iterations: common.mk_digest_iterations,
+        salt: &common.mk_digest_salt,
+        stored: &common.mk_digest,
     }
 }
 
@@ -78,12 +88,21 @@ pub fn luks2_plan<'a>(keyslot: &'a Keyslot<'a>, digest: &'a Digest<'a>) -> SlotP
         key_bytes: usize::from(keyslot.key_size),
         stripes: keyslot.af.stripes,
         splitter_hash: keyslot.af.hash,
-        digest: DigestPlan {
-            hash: digest.hash,
-            iterations: digest.iterations,
-            salt: digest.salt.as_slice(),
-            stored: digest.digest.as_slice(),
-        },
+        digest: luks2_digest(digest),
+    }
+}
+
+/// By what a volume key of LUKS2 is told (LUKS2 On-Disk Format 1.1, 3.4).
+pub fn luks2_digest<'a>(digest: &'a Digest<'a>) -> DigestPlan<'a>
+    ensures says { (object : Data) → TellsDigest object digest.now → SaysDigest object result }
+    ensures turns { (object : Data) → TellsDigest object digest.now → 1 ≤ result.iterations }
+    ensures length { (object : Data) → TellsDigest object digest.now → length result.stored.now ≤ 64 }
+{
+    DigestPlan {
+        hash: digest.hash,
+        iterations: digest.iterations,
+        salt: digest.salt.as_slice(),
+        stored: digest.digest.as_slice(),
     }
 }
 

@@ -182,7 +182,7 @@ module _
 
 -- where no checksum vouches for any, a search for others that was broken off or found none finds none
 pub plain_not_found : (v : List ℕ) (which : Which) (f : RebuildFault) → PassesCounts v which → ((s : Source) → IsVouchedOf v which s → ⊥)
-    → IsNotPlain v which f → IsNotFound v which f
+    → IsNotPlain v which.copies f → IsNotFound v which f
 plain_not_found v which NoMetadata passes none x = (passes, no_source v which none x)
 plain_not_found v which Memory passes none x = record { passes = passes; place = x.0; sought = inr x.1 }
 plain_not_found v which Device passes none x = tt

@@ -21,10 +21,10 @@ module _ (v : List ℕ) (which : Which) where
 
   module _ (passes : PassesCounts v which) (none : FindsVouchedFirst v which None) where
     -- or else the first that is whole
-    pub plain_found : {F : Type 0} (r : Result Candidate F) → IfOk r (λ c. c.vouch ≡ None) → IfOk r (λ c. FindsFirst v which (Some c)) → IfOk r (IsFoundIn v which)
+    pub plain_found : {F : Type 0} (r : Result Candidate F) → IfOk r (λ c. c.vouch ≡ None) → IfOk r (λ c. FindsFirst v which.copies (Some c)) → IfOk r (IsFoundIn v which)
     plain_found (Ok c) plain x = record { passes = passes; taken = plain_taken v which c plain x.1 none x.0 }
     plain_found (Err f) plain x = tt
 
-    pub plain_refused : {A : Type 0} (r : Result A RebuildFault) → IfErr r (IsNotPlain v which) → IfErr r (IsNotFound v which)
+    pub plain_refused : {A : Type 0} (r : Result A RebuildFault) → IfErr r (IsNotPlain v which.copies) → IfErr r (IsNotFound v which)
     plain_refused (Ok a) x = tt
     plain_refused (Err f) x = plain_not_found v which f passes none x

@@ -1,6 +1,8 @@
 pub mod SlotFacts
 pub mod SearchFacts
 pub mod SizedFacts
+pub mod ShareFacts
+pub mod StandingFacts
 pub mod SourceFacts
 pub mod VouchFacts
 pub mod CopyFacts
@@ -11,4 +13,4 @@ pub mod RegionFacts
 pub mod WrittenFacts
 pub mod GivesFacts
 pub mod RebuildFacts
-pub mod UntriedFacts
+pub mod HeaderFacts

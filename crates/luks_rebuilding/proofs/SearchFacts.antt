@@ -16,8 +16,8 @@ use Rattle.luks_rebuilding.specs.declared.candidate.Candidate.{Candidate}
 use Rattle.luks_rebuilding.specs.declared.place.Half.{Half}
 use Rattle.luks_rebuilding.specs.declared.place.Half.TheVariants.{First, Second}
 use Rattle.luks_rebuilding.specs.declared.place.Place.{Place}
-use Rattle.luks_rebuilding.specs.declared.place.Which.{Which}
-use Rattle.luks_rebuilding.specs.declared.place.Which.TheVariants as ask
+use Rattle.luks_rebuilding.specs.declared.place.Copies.{Copies}
+use Rattle.luks_rebuilding.specs.declared.place.Copies.TheVariants as ask
 use Rattle.luks_rebuilding.specs.declared.rebuild_fault.RebuildFault.{RebuildFault}
 use Rattle.luks_rebuilding.specs.declared.rebuild_fault.RebuildFault.TheVariants as fault
 
@@ -120,11 +120,11 @@ pub place_not_after : (a b : Place) (xs ys : List ℕ) → place_key a ≡ xs �
 place_not_after a b xs ys p q n = subst (λ (l : List ℕ). NotAfter l (place_key b)) (sym p) (subst (λ (l : List ℕ). NotAfter xs l) (sym q) n)
 
 module _ (v : List ℕ) where
-  whole_of : (which : Which) (q : Place) → IsCandidate v which q → IsWholeAt v q
+  whole_of : (which : Copies) (q : Place) → IsCandidate v which q → IsWholeAt v q
   whole_of which q x = record { is_place = x.is_place; faultless = x.faultless }
 
   -- a candidate is a first copy or a second one
-  as_half : (which : Which) (q : Place) → IsCandidate v which q
+  as_half : (which : Copies) (q : Place) → IsCandidate v which q
       → ((q.at ≡ 0) × IsWholeAt v (place_of First q.size)) ⊎ ((q.at ≢ 0) × IsWholeAt v (place_of Second q.size))
   as_half which q x = elim x.is_place.first_or_second [
     | inl zero ↦ inl (zero, subst (IsWholeAt v) (place_eta First q zero) (whole_of which q x))
@@ -159,7 +159,7 @@ module _ (v : List ℕ) where
   ]
 
   -- nor before the second copy, where no first copy is one
-  second_least_of : (which : Which) (q : Place) → q.at ≢ 0 → NoneLess Second q.size
+  second_least_of : (which : Copies) (q : Place) → q.at ≢ 0 → NoneLess Second q.size
       → ((g : Place) → IsCandidate v which g → g.at ≡ 0 → ⊥) → (g : Place) → IsCandidate v which g → NotAfter (place_key q) (place_key g)
   second_least_of which q other least none g is = elim (as_half which g is) [
     | inl first ↦ absurd (none g is first.0)
@@ -178,7 +178,7 @@ module _ (v : List ℕ) where
     x.read,
   )
 
-  second_least : (which : Which) (c : Candidate) → IsLeastOf v Second c
+  second_least : (which : Copies) (c : Candidate) → IsLeastOf v Second c
       → ((g : Place) → IsCandidate v which g → g.at ≡ 0 → ⊥) → (g : Place) → IsCandidate v which g → NotAfter (place_key c.place) (place_key g)
   second_least which c x none g is = second_least_of which c.place (second_at c x) x.least none g is
 
@@ -236,7 +236,7 @@ module _ (v : List ℕ) where
   abbrev pub SomeBegun : Half → Type 0
   SomeBegun half = (size : ℕ) × IsBegunOf v half size
 
-  abbrev pub SomeToBeRead : Which → Type 0
+  abbrev pub SomeToBeRead : Copies → Type 0
   SomeToBeRead which = (place : Place) × HasToBeRead v which place
 
   pub first_broken : (f : RebuildFault) → BreaksHalf v First f → BreaksFirst v ask.Any f

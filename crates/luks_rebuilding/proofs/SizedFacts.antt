@@ -8,8 +8,8 @@ use Rattle.luks_rebuilding.specs.Found.{place_of, BreaksAt, BreaksFirst, FindsAt
 use Rattle.luks_rebuilding.specs.declared.candidate.Candidate.{Candidate}
 use Rattle.luks_rebuilding.specs.declared.place.Half.TheVariants.{First, Second}
 use Rattle.luks_rebuilding.specs.declared.place.Place.{Place}
-use Rattle.luks_rebuilding.specs.declared.place.Which.{Which}
-use Rattle.luks_rebuilding.specs.declared.place.Which.TheVariants as ask
+use Rattle.luks_rebuilding.specs.declared.place.Copies.{Copies}
+use Rattle.luks_rebuilding.specs.declared.place.Copies.TheVariants as ask
 use Rattle.luks_rebuilding.specs.declared.rebuild_fault.RebuildFault.{RebuildFault}
 use Rattle.luks_rebuilding.proofs.SearchFacts.{key_first, key_second, memory_so, place_not_after}
 
@@ -18,11 +18,11 @@ second_apart : (size : ℕ) → IsListed size → size ≢ 0
 second_apart size listed e = let large = listed_at_least size listed in omega (arith, large, e)
 
 module _ (v : List ℕ) (size : ℕ) where
-  abbrev OneSize : Which → Type 0
+  abbrev OneSize : Copies → Type 0
   OneSize which = (q : Place) → IsCandidate v which q → q.size ≡ size
 
   -- a candidate of this size is the first copy or the second
-  as_copy : (which : Which) → OneSize which → (q : Place) → IsCandidate v which q
+  as_copy : (which : Copies) → OneSize which → (q : Place) → IsCandidate v which q
       → ((q.at ≡ 0) × IsWholeAt v (place_of First size)) ⊎ ((q.at ≢ 0) × IsWholeAt v (place_of Second size))
   as_copy which sized q x =
       let long : q.size ≡ size = sized q x in
@@ -51,7 +51,7 @@ module _ (v : List ℕ) (size : ℕ) where
   ]
 
   -- nor before the second copy, where the first isn't one
-  second_of_size : (which : Which) → OneSize which → IsListed size → ((g : Place) → IsCandidate v which g → g.at ≡ 0 → ⊥)
+  second_of_size : (which : Copies) → OneSize which → IsListed size → ((g : Place) → IsCandidate v which g → g.at ≡ 0 → ⊥)
       → (g : Place) → IsCandidate v which g → NotAfter (place_key (place_of Second size)) (place_key g)
   second_of_size which sized listed none g is = elim (as_copy which sized g is) [
     | inl first ↦ absurd (none g is first.0)
@@ -121,7 +121,7 @@ module _ (v : List ℕ) (size : ℕ) where
 
   -- ---- where the search was broken off
 
-  abbrev SomeToBeRead : Which → Type 0
+  abbrev SomeToBeRead : Copies → Type 0
   SomeToBeRead which = (place : Place) × HasToBeRead v which place
 
   pub first_broken : (f : RebuildFault) → BreaksAt v (place_of First size) f → BreaksFirst v (ask.OfSize size) f

@@ -11,6 +11,7 @@ use Rattle.luks_vouching.proofs.LawFacts.{vouched_once}
 use Rattle.luks_rebuilding.specs.Candidates.{json_of, next_seqid, place_key, place_of_source, source_key, IsCandidate, IsPlainSource, IsVouchedOf, Source, Taken}
 use Rattle.luks_rebuilding.specs.Found.{kept_label, kept_seqid, kept_subsystem, own_seqid, source_of, TakenPlace}
 use Rattle.luks_rebuilding.specs.Outcome.{HasNoSource}
+use Rattle.luks_rebuilding.proofs.ShareFacts.{one_share}
 use Rattle.luks_rebuilding.specs.declared.candidate.Candidate.{Candidate}
 use Rattle.luks_rebuilding.specs.declared.place.Place.{Place}
 use Rattle.luks_rebuilding.specs.declared.place.Which.{Which}
@@ -40,7 +41,7 @@ key_plain s is = ap (λ (b : Bool). if b then (1 ∷ (0xFFFF_FFFF_FFFF_FFFF - s.
 -- ---- sources
 
 -- where no checksum vouches for any, and no candidate is whole, there is none
-pub no_source : (v : List ℕ) (which : Which) → ((s : Source) → IsVouchedOf v which s → ⊥) → ((place : Place) → IsCandidate v which place → ⊥) → HasNoSource v which
+pub no_source : (v : List ℕ) (which : Which) → ((s : Source) → IsVouchedOf v which s → ⊥) → ((place : Place) → IsCandidate v which.copies place → ⊥) → HasNoSource v which
 no_source v which none missing s x = elim x [
   | inl vouched ↦ none s vouched
   | inr plain ↦ missing (place_of_source s) plain.1.candidate
@@ -65,7 +66,7 @@ module _ (v : List ℕ) (which : Which) (c : Candidate) (plain : c.vouch ≡ Non
   not_vouched : (source_of c).vouched ≡ false
   not_vouched = ap is_some plain
 
-  is_plain : IsCandidate v which c.place → IsPlainSource v which (source_of c)
+  is_plain : IsCandidate v which.copies c.place → IsPlainSource v which.copies (source_of c)
   is_plain x = record {
     candidate = x;
     json = read;
@@ -76,7 +77,7 @@ module _ (v : List ℕ) (which : Which) (c : Candidate) (plain : c.vouch ≡ Non
   }
 
   -- a candidate is taken where no checksum vouches for any
-  pub plain_taken : ((s : Source) → IsVouchedOf v which s → ⊥) → TakenPlace v which c.place → Taken v which (source_of c)
+  pub plain_taken : ((s : Source) → IsVouchedOf v which s → ⊥) → TakenPlace v which.copies c.place → Taken v which (source_of c)
   plain_taken none x = (
     inr (not_vouched, is_plain x.0),
     λ g is. elim is [
@@ -126,15 +127,17 @@ module _ (v : List ℕ) (which : Which) (a b : Source) where
   -- two that are vouched for by one copy
   pub one_vouched_source : IsVouchedOf v which a → IsVouchedOf v which b → a.size ≡ b.size → a.at ≡ b.at → a ≡ b
   one_vouched_source x y size at =
-      let there = subst (λ (o : ℕ). IsVouched v a.size o a.json) at (x.1.vouched) in
-      let json : a.json ≡ b.json = vouched_once v b.size b.at a.json b.json (subst (λ (n : ℕ). IsVouched v n b.at a.json) size there) y.1.vouched in
+      let same : x.1.most ≡ y.1.most = one_share v which.effort x.1.most y.1.most x.1.share y.1.share in
+      let there = subst (λ (o : ℕ). IsVouched x.1.most v a.size o a.json) at (x.1.vouched) in
+      let sized = subst (λ (n : ℕ). IsVouched x.1.most v n b.at a.json) size there in
+      let json : a.json ≡ b.json = vouched_once y.1.most v b.size b.at a.json b.json (subst (λ (m : ℕ). IsVouched m v b.size b.at a.json) same sized) y.1.vouched in
       same_source a b size at json (x.0 ∙ sym y.0)
       (x.1.number ∙ ap (λ o. seqid (header_at v o)) at ∙ sym y.1.number)
       (x.1.seqid ∙ ap (λ o. next_seqid (seqid (header_at v o))) at ∙ sym y.1.seqid)
       (x.1.label ∙ ap (λ o. part (header_at v o) 24 48) at ∙ sym y.1.label)
       (x.1.subsystem ∙ ap (λ o. part (header_at v o) 208 48) at ∙ sym y.1.subsystem)
 
-  one_plain_source : (a.vouched ≡ false) → (b.vouched ≡ false) → IsPlainSource v which a → IsPlainSource v which b → a.size ≡ b.size → a.at ≡ b.at → a ≡ b
+  one_plain_source : (a.vouched ≡ false) → (b.vouched ≡ false) → IsPlainSource v which.copies a → IsPlainSource v which.copies b → a.size ≡ b.size → a.at ≡ b.at → a ≡ b
   one_plain_source p q x y size at =
       let place : place_of_source a ≡ place_of_source b = ap (λ n. let r : Place = record { size = n; at = a.at } in r) size ∙ ap (λ o. let r : Place = record { size = b.size; at = o } in r) at in
       same_source a b size at (x.json ∙ ap (json_of v) place ∙ sym y.json) (p ∙ sym q) (x.number ∙ sym y.number) (x.seqid ∙ sym y.seqid) (x.label ∙ sym y.label) (x.subsystem ∙ sym y.subsystem)

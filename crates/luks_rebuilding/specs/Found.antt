@@ -1,5 +1,5 @@
 -- What has been found and judged on the way to a header: words of private contracts.
-use Rattle.std.specs.Prelude.{◌≡◌, ◌≢◌, ◌⊎◌, ℕ, ◌+◌, ◌-◌, ◌*◌, ◌≤◌, ◌++◌, List, length, replicate, Option, Some, None, is_some, true, ⊤}
+use Rattle.std.specs.Prelude.{◌≡◌, ◌≢◌, ◌⊎◌, ℕ, ◌+◌, ◌-◌, ◌*◌, ◌<◌, ◌≤◌, ◌++◌, List, [], ◌∷◌, get_or, length, replicate, Option, Some, None, is_some, true, ⊤}
 use Rattle.serde_json.specs.Data.{Data as Value}
 use Rattle.luks_area.specs.Area.{AreDisjoint, Fit}
 use Rattle.luks_area.specs.First.{IsLeast, NotAfter}
@@ -8,7 +8,7 @@ use Rattle.luks_area.specs.Text.{text_of}
 use Rattle.luks_area.specs.declared.area.Area.{Area}
 use Rattle.luks1_header.specs.Bytes.{IsUuid}
 use Rattle.luks_writing.specs.MadeInOrder.{ClearsFirst, WritesInTurn}
-use Rattle.luks2_header.specs.Header2.{header_at, uuid_field, IsUuidField}
+use Rattle.luks2_header.specs.Header2.{header_at, seqid, uuid_field, IsUuidField}
 use Rattle.luks2_header.specs.Selection.{nothing, Chosen}
 use Rattle.luks2_header.specs.declared.bin2.Bin2.{Bin2}
 use Rattle.luks2_header.specs.Sizes.{IsListed}
@@ -26,6 +26,9 @@ use Rattle.luks_rebuilding.specs.declared.candidate.Candidate.{Candidate}
 use Rattle.luks_rebuilding.specs.declared.place.Half.{Half}
 use Rattle.luks_rebuilding.specs.declared.place.Half.TheVariants.{First, Second}
 use Rattle.luks_rebuilding.specs.declared.place.Place.{Place}
+use Rattle.luks_rebuilding.specs.declared.standing.Standing.{Standing}
+use Rattle.luks_rebuilding.specs.Shares.{copies, Counts, StandsAt}
+use Rattle.luks_rebuilding.specs.declared.place.Copies.{Copies}
 use Rattle.luks_rebuilding.specs.declared.place.Which.{Which}
 use Rattle.luks_rebuilding.specs.declared.rebuild_fault.RebuildFault.{RebuildFault}
 use Rattle.luks_rebuilding.specs.declared.rebuild_fault.RebuildFault.TheVariants as fault
@@ -88,39 +91,62 @@ FindsVouchedAt v which place (Some c) = (c.place ≡ place) × IsVouchedOf v whi
 abbrev pub IsVouch : Candidate → Type 0
 IsVouch c = is_some c.vouch ≡ true
 
--- the source is of a copy of this half
-abbrev pub IsOfHalf : Half → Source → Type 0
-IsOfHalf First s = s.at ≡ 0
-IsOfHalf Second s = s.at ≡ s.size
+-- ---- the copies whose binary header stands
 
--- of a copy of the half that is searched before
-abbrev pub EarlierHalf : Half → Source → Type 0
-EarlierHalf First s = ⊥
-EarlierHalf Second s = s.at ≡ 0
+-- the key of a copy among them: that of what it vouches for
+abbrev pub standing_key : Standing → List ℕ
+standing_key x = (0xFFFF_FFFF_FFFF_FFFF - x.seqid) ∷ place_key x.place
 
--- of a copy that has been searched, when this half has
-abbrev pub IsDone : Half → Source → Type 0
-IsDone half s = EarlierHalf half s ⊎ IsOfHalf half s
+-- what is kept of the copy at the place
+abbrev pub standing : List ℕ → Place → Standing
+standing v place = record { place = place; seqid = seqid (header_at v place.at) }
 
--- the first of the sources that are vouched for, among these
-abbrev pub IsBestOf : List ℕ → Which → (Source → Type 0) → Option Candidate → Type 0
-IsBestOf v which among None = (s : Source) → IsVouchedOf v which s → among s → ⊥
-IsBestOf v which among (Some c) =
-    IsVouchedOf v which (source_of c)
-    × ((s : Source) → IsVouchedOf v which s → among s → NotAfter (source_key (source_of c)) (source_key s))
+-- the one with this number, if there are so many
+abbrev pub copy_at : List Standing → ℕ → Standing
+copy_at xs n = get_or xs n (record { place = record { size = 0; at = 0 }; seqid = 0 })
 
--- the one of two candidates that stands first
-abbrev pub IsBetter : Option Candidate → Option Candidate → Option Candidate → Type 0
-IsBetter None found result = result ≡ found
-IsBetter (Some a) None result = result ≡ Some a
-IsBetter (Some a) (Some b) None = ⊥
-IsBetter (Some a) (Some b) (Some c) =
-    ((c ≡ a) ⊎ (c ≡ b))
-    × NotAfter (source_key (source_of c)) (source_key (source_of a))
-    × NotAfter (source_key (source_of c)) (source_key (source_of b))
+-- it is one of these
+abbrev pub IsOf : Standing → List Standing → Type 0
+IsOf x [] = ⊥
+IsOf x (y ∷ ys) = (x ≡ y) ⊎ IsOf x ys
+
+-- it is a first or a second copy of a listed size
+pub record IsCopy (x : Standing) : Type 0 where
+  pub listed : IsListed x.place.size
+  pub half : (x.place.at ≡ 0) ⊎ (x.place.at ≡ x.place.size)
+
+abbrev pub AreCopies : List Standing → Type 0
+AreCopies xs = (x : Standing) → IsOf x xs → IsCopy x
+
+-- at most a copy at this place was added
+abbrev pub GrowsBy : Place → List Standing → List Standing → Type 0
+GrowsBy place old new = (new ≡ old) ⊎ ((n : ℕ) × (new ≡ old ++ record { place = place; seqid = n } ∷ []))
+
+-- the copy was, if its binary header stands
+abbrev pub AddsStanding : List ℕ → Place → List Standing → List Standing → Type 0
+AddsStanding v place old new =
+    (StandsAt v place × (new ≡ old ++ standing v place ∷ [])) ⊎ ((StandsAt v place → ⊥) × (new ≡ old))
+
+-- the one with this number stands first
+abbrev pub IsFirstAt : List Standing → ℕ → Type 0
+IsFirstAt xs n = (k : ℕ) → k < length xs → NotAfter (standing_key (copy_at xs n)) (standing_key (copy_at xs k))
+
+-- the first of them was taken away
+pub record TakesFirst (old : List Standing) (x : Standing) (new : List Standing) : Type 0 where
+  pub is : IsOf x old
+  pub first : (y : Standing) → IsOf y old → NotAfter (standing_key x) (standing_key y)
+  pub rest : (y : Standing) → IsOf y old → (y ≡ x) ⊎ IsOf y new
+  pub kept : (y : Standing) → IsOf y new → IsOf y old
+  pub fewer : length new < length old
+
+-- all whose binary header stands, and their number
+pub record AreStanding (v : List ℕ) (found : List Standing) : Type 0 where
+  pub all : (place : Place) → StandsAt v place → IsOf (standing v place) found
+  pub told : (x : Standing) → IsOf x found → x ≡ standing v x.place
+  pub counted : Counts (StandsAt v) copies (length found)
 
 -- the first of the copies whose own metadata is whole
-abbrev pub TakenPlace : List ℕ → Which → Place → Type 0
+abbrev pub TakenPlace : List ℕ → Copies → Place → Type 0
 TakenPlace v which place = IsLeast place_key (IsCandidate v which) place
 
 -- ---- the search, first copies or second copies, size by size
@@ -153,7 +179,7 @@ FindsHalf v half None = (size : ℕ) → IsListed size → IsWholeAt v (place_of
 FindsHalf v half (Some c) = IsLeastOf v half c
 
 -- what is found of all that is asked for
-abbrev pub FindsFirst : List ℕ → Which → Option Candidate → Type 0
+abbrev pub FindsFirst : List ℕ → Copies → Option Candidate → Type 0
 FindsFirst v which None = (place : Place) → IsCandidate v which place → ⊥
 FindsFirst v which (Some c) = TakenPlace v which c.place × (c.json.items ≡ json_of v c.place)
 
@@ -184,7 +210,7 @@ BreaksAt v place = IsMemoryWhere (IsBegun v place)
 abbrev pub BreaksHalf : List ℕ → Half → RebuildFault → Type 0
 BreaksHalf v half = IsMemoryWhere ((size : ℕ) × IsBegunOf v half size)
 
-abbrev pub BreaksFirst : List ℕ → Which → RebuildFault → Type 0
+abbrev pub BreaksFirst : List ℕ → Copies → RebuildFault → Type 0
 BreaksFirst v which = IsMemoryWhere ((place : Place) × HasToBeRead v which place)
 
 -- a header of the volume counts, unless the device failed
@@ -200,7 +226,7 @@ IsCountedFor v which fault.Device = ⊤
 IsCountedFor v which f = ⊥
 
 -- no candidate is whole, unless the search was broken off
-abbrev pub IsNotPlain : List ℕ → Which → RebuildFault → Type 0
+abbrev pub IsNotPlain : List ℕ → Copies → RebuildFault → Type 0
 IsNotPlain v which fault.Counts = ⊥
 IsNotPlain v which fault.NoMetadata = (place : Place) → IsCandidate v which place → ⊥
 IsNotPlain v which (fault.Area f) = ⊥

@@ -1,3 +1,4 @@
+pub mod Shares
 pub mod Candidates
 pub mod KeyAreas
 pub mod RebuildFaults
@@ -7,3 +8,4 @@ pub mod Outcome
 pub mod Gives
 pub mod Found
 pub mod Untried
+pub mod Vouchers

@@ -10,7 +10,8 @@ use Rattle.luks_rebuilding.specs.RebuildFaults.{rebuild_key}
 use Rattle.luks_rebuilding.specs.Rebuilt.{random_size}
 use Rattle.luks_rebuilding.specs.declared.place.Place.{Place}
 use Rattle.luks_rebuilding.specs.declared.place.Which.{Which}
-use Rattle.luks_rebuilding.specs.declared.place.Which.TheVariants.{Any, Second, OfSize, SecondOfSize}
+use Rattle.luks_rebuilding.specs.declared.place.Copies.{Copies}
+use Rattle.luks_rebuilding.specs.declared.place.Copies.TheVariants.{Any, Second, OfSize, SecondOfSize}
 use Rattle.luks_rebuilding.specs.declared.rebuild_fault.RebuildFault.{RebuildFault}
 use Rattle.luks_rebuilding.specs.declared.rebuild_fault.RebuildFault.TheVariants.{Counts, NoMetadata, Area, TooSmall, Uuid, RandomLength, Memory, Device}
 
@@ -21,7 +22,7 @@ IsNoUuid (Some text) = IsUuid text → ⊥
 
 -- whether a header of the source may count: where the second copy or a size is asked for, which names a
 -- place
-abbrev pub MayCount : Which → Type 0
+abbrev pub MayCount : Copies → Type 0
 MayCount Any = ⊥
 MayCount Second = ⊤
 MayCount (OfSize size) = ⊤
@@ -29,11 +30,11 @@ MayCount (SecondOfSize size) = ⊤
 
 -- a header counts, and may not
 abbrev pub AnswersCounts : List ℕ → Which → Type 0
-AnswersCounts v which = (Chosen v nothing → ⊥) × (MayCount which → ⊥)
+AnswersCounts v which = (Chosen v nothing → ⊥) × (MayCount which.copies → ⊥)
 
 -- nothing counts, or it may
 abbrev pub PassesCounts : List ℕ → Which → Type 0
-PassesCounts v which = Chosen v nothing ⊎ MayCount which
+PassesCounts v which = Chosen v nothing ⊎ MayCount which.copies
 
 -- there is nothing of which a header may be made
 abbrev pub HasNoSource : List ℕ → Which → Type 0
@@ -59,7 +60,7 @@ pub record IsRebuildable (v : List ℕ) (which : Which) (given : Option (List �
 pub record TakesMemory (v : List ℕ) (which : Which) : Type 0 where
   pub passes : PassesCounts v which
   pub place : Place
-  pub sought : HasToBeTried v which place ⊎ HasToBeRead v which place
+  pub sought : HasToBeTried v which place ⊎ HasToBeRead v which.copies place
 
 -- the answer is the first of the faults; or memory was refused where it is taken; or a device failed
 abbrev pub IsAnsweredFault : List ℕ → Which → Option (List ℕ) → ℕ → List ℕ → RebuildFault → Type 0

@@ -6,7 +6,7 @@ ghost use Rattle.luks_rebuilding.specs.Found.{BreaksFirst, FindsFirst, IsCounted
 ghost use Rattle.luks_rebuilding.specs.Outcome.{IsNotFound, MayCount, PassesCounts};
 ghost use Rattle.luks_rebuilding.specs.RebuildFaults.{is_rebuild_failure};
 
-use crate::place::{Half, Place, Which};
+use crate::place::{Copies, Half, Place, Which};
 use crate::rebuild_fault::RebuildFault;
 use crate::search::{found_of, least_of};
 use crate::vouching::first_vouched;
@@ -33,8 +33,9 @@ pub struct Candidate {
 /// are asked for. Where the second copy or a size is asked for, a header may count.
 ///
 /// Refused by `Counts` or `NoMetadata`; `Device` comes exactly where a device call failed. Takes
-/// memory for the JSON areas and the metadata of one copy at a time, and for what was found, where a
-/// copy's binary header stands or its JSON area begins with a brace; of others only these are read.
+/// memory for the JSON areas and the metadata of one copy at a time, where a copy's binary header stands or its
+/// JSON area begins with a brace; of others only these are read. For all that checksums vouch for at most as many
+/// bytes are hashed as `which.effort` says.
 pub fn find_candidate<D: Device>(
     alloc: Global,
     source: &mut D,
@@ -51,7 +52,7 @@ pub fn find_candidate<D: Device>(
     pass_counting(source, which)?;
     match first_vouched(alloc, source, which)? {
         Some(vouched) => Ok(vouched),
-        None => find_plain(alloc, source, which),
+        None => find_plain(alloc, source, which.copies),
     }
 }
 
@@ -64,7 +65,7 @@ fn pass_counting<D: Device>(source: &mut D, which: Which) -> Result<(), RebuildF
     ensures passes { D.tells → OnOk result (PassesCounts (D.bytes source.old) which) }
     ensures refused { D.tells → IfErr result (IsCountedFor (D.bytes source.old) which) }
 {
-    if may_count(which) {
+    if may_count(which.copies) {
         Ok(())
     } else {
         nothing_counts(source)
@@ -72,12 +73,12 @@ fn pass_counting<D: Device>(source: &mut D, which: Which) -> Result<(), RebuildF
 }
 
 /// Whether a header of the source may count.
-fn may_count(which: Which) -> bool
-    ensures { IsTrue result ↔ MayCount which }
+fn may_count(copies: Copies) -> bool
+    ensures { IsTrue result ↔ MayCount copies }
 {
-    match which {
-        Which::Any => false,
-        Which::Second | Which::OfSize(_) | Which::SecondOfSize(_) => true,
+    match copies {
+        Copies::Any => false,
+        Copies::Second | Copies::OfSize(_) | Copies::SecondOfSize(_) => true,
     }
 }
 
@@ -104,7 +105,7 @@ fn nothing_counts<D: Device>(source: &mut D) -> Result<(), RebuildFault>
 pub fn find_plain<D: Device>(
     alloc: Global,
     source: &mut D,
-    which: Which,
+    copies: Copies,
 ) -> Result<Candidate, RebuildFault>
     requires { D.failed source.old + 1 < 2 ^ 64 }
     ensures unchanged { IsUnchanged D.tells D.size D.bytes D.unsettled source.old source.new }
@@ -112,10 +113,10 @@ pub fn find_plain<D: Device>(
         (D.failed source.old) (D.failed source.new) }
     ensures whole { IfOk result (IsWhole (D.size source.old)) }
     ensures plain { IfOk result (λ c. c.vouch ≡ None) }
-    ensures found { D.tells → IfOk result (λ c. FindsFirst (D.bytes source.old) which (Some c)) }
-    ensures refused { D.tells → IfErr result (IsNotPlain (D.bytes source.old) which) }
+    ensures found { D.tells → IfOk result (λ c. FindsFirst (D.bytes source.old) copies (Some c)) }
+    ensures refused { D.tells → IfErr result (IsNotPlain (D.bytes source.old) copies) }
 {
-    match first_found(alloc, source, which)? {
+    match first_found(alloc, source, copies)? {
         Some(found) => Ok(found),
         None => Err(RebuildFault::NoMetadata),
     }
@@ -125,7 +126,7 @@ pub fn find_plain<D: Device>(
 fn first_found<D: Device>(
     alloc: Global,
     source: &mut D,
-    which: Which,
+    copies: Copies,
 ) -> Result<Option<Candidate>, RebuildFault>
     requires { D.failed source.old + 1 < 2 ^ 64 }
     ensures unchanged { IsUnchanged D.tells D.size D.bytes D.unsettled source.old source.new }
@@ -134,14 +135,14 @@ fn first_found<D: Device>(
     ensures kinds { IfErr result IsFromOutside }
     ensures whole { IfOk result (λ found. IfSome found (IsWhole (D.size source.old))) }
     ensures plain { IfOk result (λ found. IfSome found (λ c. c.vouch ≡ None)) }
-    ensures found { D.tells → IfOk result (FindsFirst (D.bytes source.old) which) }
-    ensures broken { D.tells → IfErr result (BreaksFirst (D.bytes source.old) which) }
+    ensures found { D.tells → IfOk result (FindsFirst (D.bytes source.old) copies) }
+    ensures broken { D.tells → IfErr result (BreaksFirst (D.bytes source.old) copies) }
 {
-    match which {
-        Which::Any => any_found(alloc, source),
-        Which::Second => least_of(alloc, source, Half::Second),
-        Which::OfSize(size) => sized_found(alloc, source, size),
-        Which::SecondOfSize(size) => found_of(alloc, source, Half::Second, size),
+    match copies {
+        Copies::Any => any_found(alloc, source),
+        Copies::Second => least_of(alloc, source, Half::Second),
+        Copies::OfSize(size) => sized_found(alloc, source, size),
+        Copies::SecondOfSize(size) => found_of(alloc, source, Half::Second, size),
     }
 }
 
@@ -154,8 +155,8 @@ fn any_found<D: Device>(alloc: Global, source: &mut D) -> Result<Option<Candidat
     ensures kinds { IfErr result IsFromOutside }
     ensures whole { IfOk result (λ found. IfSome found (IsWhole (D.size source.old))) }
     ensures plain { IfOk result (λ found. IfSome found (λ c. c.vouch ≡ None)) }
-    ensures found { D.tells → IfOk result (FindsFirst (D.bytes source.old) Which.Any) }
-    ensures broken { D.tells → IfErr result (BreaksFirst (D.bytes source.old) Which.Any) }
+    ensures found { D.tells → IfOk result (FindsFirst (D.bytes source.old) Copies.Any) }
+    ensures broken { D.tells → IfErr result (BreaksFirst (D.bytes source.old) Copies.Any) }
 {
     match least_of(alloc, source, Half::First)? {
         Some(first) => Ok(Some(first)),
@@ -176,9 +177,9 @@ fn sized_found<D: Device>(
     ensures kinds { IfErr result IsFromOutside }
     ensures whole { IfOk result (λ found. IfSome found (IsWhole (D.size source.old))) }
     ensures plain { IfOk result (λ found. IfSome found (λ c. c.vouch ≡ None)) }
-    ensures found { D.tells → IfOk result (FindsFirst (D.bytes source.old) (Which.OfSize size)) }
+    ensures found { D.tells → IfOk result (FindsFirst (D.bytes source.old) (Copies.OfSize size)) }
     ensures broken { D.tells → IfErr result
-        (BreaksFirst (D.bytes source.old) (Which.OfSize size)) }
+        (BreaksFirst (D.bytes source.old) (Copies.OfSize size)) }
 {
     match found_of(alloc, source, Half::First, size)? {
         Some(first) => Ok(Some(first)),

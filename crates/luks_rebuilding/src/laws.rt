@@ -13,12 +13,21 @@ ghost use Rattle.luks_rebuilding.specs.Candidates.{Source, Taken};
 ghost use Rattle.luks_rebuilding.specs.Found.{HasRegionInside};
 ghost use Rattle.luks_rebuilding.specs.Gives.{Gives};
 ghost use Rattle.luks_rebuilding.specs.Rebuilt.{IsMade};
+ghost use Rattle.luks_rebuilding.specs.Shares.{copies, whole, Counts, IsShare, StandsAt};
+ghost use Rattle.luks_rebuilding.specs.declared.place.Effort.{Effort as TheEffort};
 ghost use Rattle.luks_rebuilding.specs.declared.place.Which.{Which as TheWhich};
 
 /// A volume has one first candidate at most.
 pub fn one_candidate()
     ensures { (v : List ℕ) (which : TheWhich) (a b : Source) → Taken v which a → Taken v which b
         → a ≡ b }
+{}
+
+/// What is sought for all copies whose binary header stands has at most as many bytes together as may be hashed:
+/// so many copies, times what may be hashed for each (`work_is_bounded` of luks_vouching).
+pub fn search_is_bounded()
+    ensures { (v : List ℕ) (effort : TheEffort) (most count : ℕ) → IsShare v effort most
+        → Counts (StandsAt v) copies count → count * most ≤ whole effort }
 {}
 
 /// The header that is made of the metadata at a place is well formed where the payload is elsewhere;

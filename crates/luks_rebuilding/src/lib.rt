@@ -12,12 +12,15 @@ mod place;
 mod rebuild_fault;
 mod rebuilding;
 mod search;
+mod standing;
 mod untried;
+mod voucher;
 mod vouching;
 
 pub use candidate::{Candidate, find_candidate, find_plain};
-pub use laws::{one_candidate, rebuilt_header_opens_alike};
-pub use place::{Place, Which};
+pub use laws::{one_candidate, rebuilt_header_opens_alike, search_is_bounded};
+pub use place::{Copies, Effort, Place, Which};
 pub use rebuild_fault::RebuildFault;
 pub use rebuilding::{REBUILD_RANDOM, rebuild};
 pub use untried::find_untried;
+pub use voucher::find_voucher;

@@ -4,7 +4,7 @@ ghost use Rattle.luks_rebuilding.specs.Found.{place_of};
 ghost use Rattle.luks_rebuilding.specs.Rebuilt.{other_at};
 
 /// The place of a copy of a LUKS2 header (LUKS2 On-Disk Format 1.1, 2.1).
-#[derive(Clone, Copy, PartialEq, Eq)]
+#[derive(Clone, Copy, PartialEq, Eq, Default)]
 pub struct Place {
     /// The length of the copy in bytes, binary header and JSON area together: one of the nine that
     /// the standard lists.
@@ -13,9 +13,30 @@ pub struct Place {
     pub at: u64,
 }
 
+/// Which metadata is sought.
+#[derive(Clone, Copy, PartialEq, Eq)]
+pub struct Which {
+    /// Of which copies it may be.
+    pub copies: Copies,
+    /// How much may be hashed for it.
+    pub effort: Effort,
+}
+
+/// How many bytes of JSON areas may be hashed to find what the checksums of all copies together vouch for. Each
+/// copy whose binary header stands has the same part of it.
+#[derive(Clone, Copy, PartialEq, Eq)]
+pub enum Effort {
+    /// 16 MiB: what is looked for beside that of which a header is made.
+    Brief,
+    /// 32 MiB.
+    Usual,
+    /// 1 TiB: where two copies of 16384 bytes stand, that is enough for all compositions of their sectors.
+    Thorough,
+}
+
 /// Which copies' metadata may be taken.
 #[derive(Clone, Copy, PartialEq, Eq)]
-pub enum Which {
+pub enum Copies {
     /// Any: first copies by their size, then second copies by their size. No header may count.
     Any,
     /// That of second copies alone, though a header of the source may count.

@@ -1,8 +1,8 @@
 //! What opens by the header that is made, and what is found before it is made.
-use crate::sources::{LEN, RANDOM};
+use crate::sources::{ANY, LEN, RANDOM, SECOND};
 use luks_area::MemDevice;
 use luks_reading::{Allowed, OpenFault, open_slot};
-use luks_rebuilding::{Which, find_candidate, rebuild};
+use luks_rebuilding::{find_candidate, rebuild};
 use luks_test_devices::{VOLUME_KEY, counted, damaged, old_bytes};
 use std::alloc::Global;
 use std::test::Fail;
@@ -12,7 +12,7 @@ fn rebuilt(alloc: Global) -> Result<MemDevice, Fail> {
     let mut source = MemDevice::new(damaged(alloc)?);
     let mut made = MemDevice::new(old_bytes(alloc, LEN)?);
     let random = counted(alloc, 0, RANDOM)?;
-    match rebuild(alloc, &mut source, &mut made, Which::Any, None, &random) {
+    match rebuild(alloc, &mut source, &mut made, ANY, None, &random) {
         Ok(()) => Ok(made),
         Err(_) => Err("not rebuilt".into()),
     }
@@ -42,7 +42,7 @@ fn opening(rt: HostRuntime) -> Result<(), Fail> {
 fn finding(rt: HostRuntime) -> Result<(), Fail> {
     let alloc = rt.alloc();
     let mut source = MemDevice::new(damaged(alloc)?);
-    for (which, at) in [(Which::Any, 0u64), (Which::Second, 16384)] {
+    for (which, at) in [(ANY, 0u64), (SECOND, 16384)] {
         let Ok(found) = find_candidate(alloc, &mut source, which) else {
             return Err("none is found".into());
         };

@@ -50,7 +50,7 @@ fn of_a_volume_of_which_not_all_was_tried(rt: HostRuntime) -> Result<(), Fail> {
     }
     put(&mut covered, 4096, &[0]);
     let line =
-        "luks: not all was tried that the checksum of the first copy may vouch for: the copies differ in too much\n";
+        "luks: not all was tried that the checksum of the first copy may vouch for: luks rebuild --thorough tries more\n";
     assert!(rt; is_said(alloc, covered, line), "the second area is garbage");
     Ok(())
 }

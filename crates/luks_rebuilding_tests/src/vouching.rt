@@ -10,12 +10,15 @@ use std::test::Fail;
 /// The bytes of a copy, and the place of the second one.
 pub(crate) const SIZE: u64 = 16384;
 
+/// How many bytes may be hashed for one copy: 64 MiB.
+pub(crate) const MOST: usize = 67_108_864;
+
 /// Whether the checksum of the copy at `at` vouches for this JSON area.
 fn is_vouched_at(alloc: Global, volume: &[u8], at: u64, json: &[u8]) -> Result<bool, Fail>
     requires { (at ≡ 0) ⊎ (at ≡ 16384) }
 {
     let mut device = MemDevice::new(volume.to_vec(alloc)?);
-    match find_vouched(alloc, &mut device, SIZE, at) {
+    match find_vouched(alloc, &mut device, SIZE, at, MOST) {
         Ok(Some(found)) => Ok(found.json.as_slice() == json),
         _ => Ok(false),
     }
@@ -54,7 +57,7 @@ pub(crate) fn whole(alloc: Global) -> Result<Vec<u8>, Fail> {
 fn is_cut(alloc: Global, count: usize) -> Result<bool, Fail> {
     let mut volume = whole(alloc)?;
     put_run(&mut volume, 4096, 0xAA, count);
-    Ok(is_cut_short(alloc, &mut MemDevice::new(volume), SIZE, 0)?)
+    Ok(is_cut_short(alloc, &mut MemDevice::new(volume), SIZE, 0, MOST)?)
 }
 
 // Of 16 bytes of a sector each is a piece, and 2^16 compositions are too many; 17 are one piece.

@@ -1,7 +1,7 @@
 -- What a command does to its volume, and the files that it reads beside it, as the bytes of their names.
 use Rattle.std.specs.Prelude.{ℕ, List, Option, None, Some, option_map, Bool, true, false}
 use Rattle.luks_request.specs.declared.request.Command.{Command}
-use Rattle.luks_request.specs.declared.request.Command.TheVariants.{Check, Show, Open, Edit, Format, Convert, Rebuild, Backup, Restore, Compare}
+use Rattle.luks_request.specs.declared.request.Command.TheVariants.{Check, Show, Open, Match, Edit, Format, Convert, Rebuild, Backup, Restore, Compare}
 use Rattle.luks_request.specs.declared.request.EditRequest.{EditRequest}
 use Rattle.luks_request.specs.declared.request.EditRequest.TheVariants.{Add, Change, Remove, Repair, Label}
 
@@ -21,11 +21,12 @@ edit_new_of (Remove slot by_ passphrase memory older) = None
 edit_new_of Repair = None
 edit_new_of (Label text) = None
 
--- opening, editing and formatting need a passphrase; rebuilding takes one that is named
+-- opening, editing and formatting need a passphrase; rebuilding takes one that is named; a key is read as a passphrase
 abbrev pub passphrase_of : Command → Option (List ℕ)
 passphrase_of (Check payload) = None
 passphrase_of (Show form) = None
 passphrase_of (Open passphrase slot memory older) = Some passphrase.now
+passphrase_of (Match matching) = Some matching.key.now
 passphrase_of (Edit editing) = edit_passphrase_of editing.request
 passphrase_of (Format making) = Some making.passphrase.now
 passphrase_of (Convert converting) = None

@@ -11,6 +11,8 @@ pub struct BackingUp<'a> {
     pub payload: Data,
     /// Whether it may write over a file that is there and isn't empty.
     pub over: bool,
+    /// Whether key areas that can't be read don't end it.
+    pub rescue: bool,
 }
 
 /// Which backup is put back onto the volume.

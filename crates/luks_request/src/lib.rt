@@ -11,4 +11,6 @@ pub use derivation::{AskedArgon2, AskedKdf, AskedKind};
 pub use keeping::{BackingUp, Comparing, Restoring};
 pub use place::Place;
 pub use rebuilding::{Luks1Fields, Meant, Rebuilding};
-pub use request::{Command, Converting, EditRequest, Editing, Line, Making, NewVersion, ShowAs};
+pub use request::{
+    Command, Converting, EditRequest, Editing, Line, Making, Matching, NewVersion, ShowAs,
+};

@@ -16,6 +16,8 @@ pub struct Rebuilding<'a> {
     pub second: bool,
     /// How many bytes the copy of a LUKS2 header has whose metadata is asked for; without it any.
     pub size: Option<u64>,
+    /// Whether what the checksums of a LUKS2 header's copies vouch for is sought longer.
+    pub thorough: bool,
     /// The uuid of the new header; without one it is the volume's, or a new one.
     pub uuid: Option<&'a str>,
     /// What else is given of a LUKS1 header.

@@ -41,6 +41,8 @@ pub enum Command<'a> {
         /// Whether ciphers and hashes of older disks are accepted.
         older: bool,
     },
+    /// Judge whether a key is the volume's.
+    Match(Matching<'a>),
     /// Edit the volume's keyslots, its header or its label.
     Edit(Editing<'a>),
     /// Make a new volume.
@@ -56,6 +58,17 @@ pub enum Command<'a> {
     Restore(Restoring<'a>),
     /// Compare a backup with the volume.
     Compare(Comparing<'a>),
+}
+
+/// Which key is judged, and by what.
+#[derive(Debug, Clone, Copy)]
+pub struct Matching<'a> {
+    /// The file of the key.
+    pub key: &'a str,
+    /// The digest that it is judged by, 0 to 31; without one that of the volume key.
+    pub digest: Option<u8>,
+    /// Whether hashes of older disks are accepted.
+    pub older: bool,
 }
 
 /// In which form a header is shown.
@@ -216,7 +229,7 @@ pub enum NewVersion {
 }
 
 impl<'a> Line<'a> {
-    /// The file of the passphrase, where the command takes one.
+    /// The file of the passphrase, where the command takes one; a key is read as one.
     pub fn passphrase(&self) -> Option<&'a str>
         ensures { option_map (λ name. name.now) result ≡ passphrase_of self.now.command }
     {
@@ -229,6 +242,7 @@ impl<'a> Line<'a> {
             | Command::Compare(_) => None,
             Command::Rebuild(rebuilding) => rebuilding.passphrase,
             Command::Open { passphrase, .. } => Some(passphrase),
+            Command::Match(matching) => Some(matching.key),
             Command::Edit(editing) => editing.request.passphrase(),
             Command::Format(making) => Some(making.passphrase),
         }

@@ -95,6 +95,8 @@ pub use luks_reading::unlock;
 pub use luks_reading::unlock_header;
 pub use luks_reading::well_formed_volume;
 pub use luks_rebuilding::Candidate;
+pub use luks_rebuilding::Copies as AskedCopies;
+pub use luks_rebuilding::Effort;
 pub use luks_rebuilding::Place;
 pub use luks_rebuilding::REBUILD_RANDOM;
 pub use luks_rebuilding::RebuildFault;

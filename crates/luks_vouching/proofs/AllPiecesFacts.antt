@@ -1,16 +1,16 @@
 -- Each composition of pieces has a number.
-use Rattle.std.proofs.Common.{◌≡◌, ℕ, zero, suc, ◌+◌, ◌-◌, ◌*◌, ◌/◌, ◌%◌, ◌^◌, ◌<◌, ◌≤◌, ◌⊎◌, ◌==◌, List, [], ◌∷◌, ◌++◌, Bool, true, false, if◌then◌else◌, inl, inr, length, take, drop, get_or, not, refl, sym, ap, ◌∙◌, arith, subst, add-one, length-take}
+use Rattle.std.proofs.Common.{◌≡◌, ℕ, zero, suc, ◌+◌, ◌-◌, ◌*◌, ◌/◌, ◌%◌, ◌^◌, ◌<◌, ◌≤◌, ◌⊎◌, ◌==◌, List, [], ◌∷◌, ◌++◌, true, if◌then◌else◌, inl, inr, length, get_or, refl, sym, ap, ◌∙◌, arith, subst, add-one}
 use Rattle.std.specs.List.{All}
 use Rattle.std.proofs.lemmas.Bool.{cases_Bool, cases_lt, cond_both, eqb-true}
 use Rattle.std.proofs.lemmas.Grind.{same_number_lists}
 use Rattle.std.proofs.lemmas.List.{get_or-drop, get_or-take}
-use Rattle.std.proofs.Math.Nat.{div-add-mod, mod-lt, pow-suc}
+use Rattle.std.proofs.Math.Nat.{pow-suc}
 use Rattle.luks_area.specs.Ranges.{part, IsAt}
 use Rattle.luks_area.proofs.RangeFacts.{get_or-part, length-part_inside, length-written, part-written, same_outside-written}
 use Rattle.luks_vouching.specs.Composed.{IsWholeSectors}
-use Rattle.luks_vouching.specs.Pieces.{byte_piece, bytes_from, differ_at, numbered, of_pieces, piece_count, pieces, pieces_before, pieces_in, with_piece, AreInside, IsComposedOfPieces, IsOfPieces}
+use Rattle.luks_vouching.specs.Pieces.{byte_piece, bytes_from, differ_at, numbered, pieces, pieces_before, pieces_in, with_piece, AreInside, IsComposedOfPieces, IsOfPieces}
 use Rattle.luks_vouching.specs.declared.pieces.Piece.{Piece}
-use Rattle.luks_vouching.proofs.PieceFacts.{bytes_no, bytes_none, bytes_yes, pieces_inside, pieces_more}
+use Rattle.luks_vouching.proofs.PieceFacts.{bytes_no, bytes_yes, pieces_inside}
 use Rattle.luks_vouching.proofs.SectorFacts.{not_false}
 
 -- the place is of one of these pieces

@@ -55,17 +55,17 @@ module _ (front rest : List ℕ) (long : length rest ≡ length front) where
   ]
 
   -- where none of the borders before one that isn't near enough meets the checksum, none that is does
-  pub no_border_before : (meets : List ℕ → Type 0) (n : ℕ) → (IsNear front rest n → ⊥)
-      → ((m : ℕ) → m < n → meets (bordered front rest m) → ⊥) → HasNoBorder front rest meets
-  no_border_before meets n far before m near met = elim (cases_lt m n) [
+  pub no_border_before : (most : ℕ) (meets : List ℕ → Type 0) (n : ℕ) → (IsNear most front rest n → ⊥)
+      → ((m : ℕ) → m < n → meets (bordered front rest m) → ⊥) → HasNoBorder most front rest meets
+  no_border_before most meets n far before m near met = elim (cases_lt m n) [
     | inl below ↦ before m below met
-    | inr past ↦ far (near_before front rest n m past near)
+    | inr past ↦ far (near_before front rest most n m past near)
   ]
 
   -- where none of the borders up to the end meets the checksum none does
-  pub no_border : (meets : List ℕ → Type 0) (count : ℕ) → 512 * count ≡ length front
-      → ((m : ℕ) → m < count → meets (bordered front rest m) → ⊥) → (meets front → ⊥) → HasNoBorder front rest meets
-  no_border meets count whole before at_end n near met = elim (cases_lt n count) [
+  pub no_border : (most : ℕ) (meets : List ℕ → Type 0) (count : ℕ) → 512 * count ≡ length front
+      → ((m : ℕ) → m < count → meets (bordered front rest m) → ⊥) → (meets front → ⊥) → HasNoBorder most front rest meets
+  no_border most meets count whole before at_end n near met = elim (cases_lt n count) [
     | inl below ↦ before n below met
     | inr past ↦ at_end (subst meets (border_all n (omega (arith, whole, past))) met)
   ]

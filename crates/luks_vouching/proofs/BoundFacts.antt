@@ -49,8 +49,8 @@ module _ (a b : List ℕ) where
       subst (λ k. differing_before a b n ≤ differing_before a b k) at (omega (arith, more, so_far))
 
   -- before a border that is near enough each is
-  pub near_before : (n m : ℕ) → n ≤ m → IsNear a b m → IsNear a b n
-  near_before n m le near =
+  pub near_before : (most n m : ℕ) → n ≤ m → IsNear most a b m → IsNear most a b n
+  near_before most n m le near =
       let d : ℕ = m - n in
       let at : n + (m - n) ≡ m = omega (arith, le) in
       let grows : differing_before a b n ≤ differing_before a b m = subst (λ k. differing_before a b n ≤ differing_before a b k) at (before_grows n (m - n)) in

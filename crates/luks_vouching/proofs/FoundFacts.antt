@@ -17,17 +17,17 @@ same_items items new len long same =
     ∙ ap (take len) (append-nil new) ∙ take_all len new (omega (arith, long, same))
 
 -- the first composition, judged
-pub judged_area : {F : Type 0} (r : Result (Option Vouched) F) (head first second j : List ℕ) → IsFirstTried first second (MeetsSum head) j
-    → IfOk r (JudgesArea head j) → IfOk r (λ found. IfSome found (λ w. w.json.items ≡ j)) → IfOk r (FindsComposed head first second)
-judged_area (Ok None) head first second j tried x same = inr (record { area = j; meeting = tried; fault = x.0; is = x.1 })
-judged_area (Ok (Some w)) head first second j tried x same =
-    (subst (IsFirstTried first second (MeetsSum head)) (sym same) tried, subst (λ (l : List ℕ). (f : MetaFault) → IsMetaFault l f → ⊥) (sym same) x.0, x.1)
-judged_area (Err f) head first second j tried x same = tt
+pub judged_area : {F : Type 0} (r : Result (Option Vouched) F) (most : ℕ) (head first second j : List ℕ) → IsFirstTried most first second (MeetsSum head) j
+    → IfOk r (JudgesArea head j) → IfOk r (λ found. IfSome found (λ w. w.json.items ≡ j)) → IfOk r (FindsComposed most head first second)
+judged_area (Ok None) most head first second j tried x same = inr (record { area = j; meeting = tried; fault = x.0; is = x.1 })
+judged_area (Ok (Some w)) most head first second j tried x same =
+    (subst (IsFirstTried most first second (MeetsSum head)) (sym same) tried, subst (λ (l : List ℕ). (f : MetaFault) → IsMetaFault l f → ⊥) (sym same) x.0, x.1)
+judged_area (Err f) most head first second j tried x same = tt
 
-module _ (v : List ℕ) (size o : ℕ) (stands : Stands v size o) where
+module _ (most : ℕ) (v : List ℕ) (size o : ℕ) (stands : Stands v size o) where
   -- of a header that stands
   pub composed_vouched : {F : Type 0} (r : Result (Option Vouched) F)
-      → IfOk r (FindsComposed (mended_header v o) (area_at v 0 size) (area_at v size size)) → IfOk r (FindsVouched v size o)
+      → IfOk r (FindsComposed most (mended_header v o) (area_at v 0 size) (area_at v size size)) → IfOk r (FindsVouched most v size o)
   composed_vouched (Ok None) x = inr x
   composed_vouched (Ok (Some w)) x = (record { stands = stands; meeting = x.0; faultless = x.1 }, x.2)
   composed_vouched (Err f) x = tt

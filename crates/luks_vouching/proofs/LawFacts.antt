@@ -12,7 +12,7 @@ use Rattle.luks_meta.specs.MetaFault.{IsMetaFault}
 use Rattle.luks_vouching.specs.Composed.{bordered, sector, IsComposed, IsEarlier, IsNotLater}
 use Rattle.luks_vouching.specs.Cut.{IsCut}
 use Rattle.luks_vouching.specs.Pieces.{of_pieces, IsOfPieces}
-use Rattle.luks_vouching.specs.Tried.{bytes_of_all, most_hashed, HasNoBorder, HasNoCut, IsByBorder, IsFirstBorder, IsFirstComposed, IsFirstCut, IsFirstOfAll, IsFirstOfBorders, IsFirstOfPieces, IsFirstOfSectors, IsFirstTried, IsTried, IsTriedComposed, IsTriedOfPieces, IsTriedOfSectors}
+use Rattle.luks_vouching.specs.Tried.{bytes_of_all, HasNoBorder, HasNoCut, IsByBorder, IsFirstBorder, IsFirstComposed, IsFirstCut, IsFirstOfAll, IsFirstOfBorders, IsFirstOfPieces, IsFirstOfSectors, IsFirstTried, IsTried, IsTriedComposed, IsTriedOfPieces, IsTriedOfSectors}
 use Rattle.luks_vouching.specs.Vouched.{area_at, mended_header, IsVouched, Meets, Stands, VouchesForNone}
 use Rattle.luks_vouching.proofs.BorderFacts.{bordered_composed}
 use Rattle.luks_vouching.proofs.SectorFacts.{sector_take}
@@ -39,25 +39,25 @@ one_order a i j (inr x) (inr y) = absurd (not_both a i j x y)
 one_of_all : (a b i j : List ℕ) (meets : List ℕ → Type 0) → IsFirstOfAll a b meets i → IsFirstOfAll a b meets j → i ≡ j
 one_of_all a b i j meets x y = one_order a i j (x.earliest j y.composed y.met) (y.earliest i x.composed x.met)
 
-one_border : (a b i j : List ℕ) (meets : List ℕ → Type 0) → IsFirstBorder a b meets i → IsFirstBorder a b meets j → i ≡ j
-one_border a b i j meets x y =
+one_border : (most : ℕ) (a b i j : List ℕ) (meets : List ℕ → Type 0) → IsFirstBorder most a b meets i → IsFirstBorder most a b meets j → i ≡ j
+one_border most a b i j meets x y =
     let le : x.number ≤ y.number = x.least y.number (subst meets y.is y.met) in
     let ge : y.number ≤ x.number = y.least x.number (subst meets x.is x.met) in
     let same : x.number ≡ y.number = omega (arith, le, ge) in
     x.is ∙ ap (bordered a b) same ∙ sym y.is
 
-no_such : (a b j : List ℕ) (meets : List ℕ → Type 0) → HasNoBorder a b meets → IsFirstBorder a b meets j → ⊥
-no_such a b j meets none x = none x.number x.near (subst meets x.is x.met)
+no_such : (most : ℕ) (a b j : List ℕ) (meets : List ℕ → Type 0) → HasNoBorder most a b meets → IsFirstBorder most a b meets j → ⊥
+no_such most a b j meets none x = none x.number x.near (subst meets x.is x.met)
 
-one_of_borders : (a b i j : List ℕ) (meets : List ℕ → Type 0) → IsFirstOfBorders a b meets i → IsFirstOfBorders a b meets j → i ≡ j
-one_of_borders a b i j meets (inl x) (inl y) = one_border a b i j meets x y
-one_of_borders a b i j meets (inl x) (inr y) = absurd (no_such a b i meets y.0 x)
-one_of_borders a b i j meets (inr x) (inl y) = absurd (no_such a b j meets x.0 y)
-one_of_borders a b i j meets (inr x) (inr y) = one_border b a i j meets x.1 y.1
+one_of_borders : (most : ℕ) (a b i j : List ℕ) (meets : List ℕ → Type 0) → IsFirstOfBorders most a b meets i → IsFirstOfBorders most a b meets j → i ≡ j
+one_of_borders most a b i j meets (inl x) (inl y) = one_border most a b i j meets x y
+one_of_borders most a b i j meets (inl x) (inr y) = absurd (no_such most a b i meets y.0 x)
+one_of_borders most a b i j meets (inr x) (inl y) = absurd (no_such most a b j meets x.0 y)
+one_of_borders most a b i j meets (inr x) (inr y) = one_border most b a i j meets x.1 y.1
 
-one_of_sectors : (a b i j : List ℕ) (meets : List ℕ → Type 0) → IsFirstOfSectors a b meets i → IsFirstOfSectors a b meets j → i ≡ j
-one_of_sectors a b i j meets x y = elim (cases_lt most_hashed (bytes_of_all a b)) [
-  | inl many ↦ one_of_borders a b i j meets (x.many many) (y.many many)
+one_of_sectors : (most : ℕ) (a b i j : List ℕ) (meets : List ℕ → Type 0) → IsFirstOfSectors most a b meets i → IsFirstOfSectors most a b meets j → i ≡ j
+one_of_sectors most a b i j meets x y = elim (cases_lt most (bytes_of_all a b)) [
+  | inl many ↦ one_of_borders most a b i j meets (x.many many) (y.many many)
   | inr few ↦ one_of_all a b i j meets (x.few few) (y.few few)
 ]
 
@@ -71,8 +71,8 @@ no_cut : (a b j : List ℕ) (meets : List ℕ → Type 0) → HasNoCut a b meets
 no_cut a b j meets none (inl x) = none.0 (subst meets x.0 x.1)
 no_cut a b j meets none (inr x) = none.1 (subst meets x.1 x.2)
 
-one_of_pieces : (a b i j : List ℕ) (meets : List ℕ → Type 0) → IsFirstOfPieces a b meets i → IsFirstOfPieces a b meets j → i ≡ j
-one_of_pieces a b i j meets x y =
+one_of_pieces : (most : ℕ) (a b i j : List ℕ) (meets : List ℕ → Type 0) → IsFirstOfPieces most a b meets i → IsFirstOfPieces most a b meets j → i ≡ j
+one_of_pieces most a b i j meets x y =
     let le : x.number ≤ y.number = x.least y.number y.below (subst meets y.is y.met) in
     let ge : y.number ≤ x.number = y.least x.number x.below (subst meets x.is x.met) in
     let same : x.number ≡ y.number = omega (arith, le, ge) in
@@ -85,39 +85,39 @@ swapped a b j x = record {
   each = λ k lt. elim (x.each k lt) [ inl other ↦ inr other | inr own ↦ inl own ];
 }
 
-module _ (a b j : List ℕ) (meets : List ℕ → Type 0) (long : length b ≡ length a) where
-  border_composed : IsFirstOfBorders a b meets j → IsComposed a b j
+module _ (most : ℕ) (a b j : List ℕ) (meets : List ℕ → Type 0) (long : length b ≡ length a) where
+  border_composed : IsFirstOfBorders most a b meets j → IsComposed a b j
   border_composed (inl x) = subst (IsComposed a b) (sym x.is) (bordered_composed a b long x.number)
   border_composed (inr x) = swapped a b j (subst (IsComposed b a) (sym x.1.is) (bordered_composed b a (sym long) x.1.number))
 
-  border_of : IsFirstOfBorders a b meets j → IsByBorder a b j
+  border_of : IsFirstOfBorders most a b meets j → IsByBorder most a b j
   border_of (inl x) = inl (x.number, x.near, x.is)
   border_of (inr x) = inr (x.1.number, x.1.near, x.1.is)
 
-  border_met : IsFirstOfBorders a b meets j → meets j
+  border_met : IsFirstOfBorders most a b meets j → meets j
   border_met (inl x) = x.met
   border_met (inr x) = x.1.met
 
-  sectors_tried : IsFirstOfSectors a b meets j → IsTriedOfSectors a b j
-  sectors_tried x = elim (cases_lt most_hashed (bytes_of_all a b)) [
+  sectors_tried : IsFirstOfSectors most a b meets j → IsTriedOfSectors most a b j
+  sectors_tried x = elim (cases_lt most (bytes_of_all a b)) [
     | inl many ↦ record { composed = border_composed (x.many many); by_border = λ _. border_of (x.many many) }
     | inr few ↦ record { composed = (x.few few).composed; by_border = λ many. absurd (omega (arith, few, many)) }
   ]
 
-  sectors_met : IsFirstOfSectors a b meets j → meets j
-  sectors_met x = elim (cases_lt most_hashed (bytes_of_all a b)) [
+  sectors_met : IsFirstOfSectors most a b meets j → meets j
+  sectors_met x = elim (cases_lt most (bytes_of_all a b)) [
     | inl many ↦ border_met (x.many many)
     | inr few ↦ (x.few few).met
   ]
 
-  pieces_tried : IsFirstOfPieces a b meets j → IsTriedOfPieces a b j
+  pieces_tried : IsFirstOfPieces most a b meets j → IsTriedOfPieces most a b j
   pieces_tried x = (x.may, (x.number, x.below, x.is))
 
-  composed_tried : IsFirstComposed a b meets j → IsTriedComposed a b j
+  composed_tried : IsFirstComposed most a b meets j → IsTriedComposed most a b j
   composed_tried (inl x) = inl (sectors_tried x)
   composed_tried (inr x) = inr (pieces_tried x.1)
 
-  composed_met : IsFirstComposed a b meets j → meets j
+  composed_met : IsFirstComposed most a b meets j → meets j
   composed_met (inl x) = sectors_met x
   composed_met (inr x) = x.1.met
 
@@ -130,26 +130,36 @@ module _ (a b j : List ℕ) (meets : List ℕ → Type 0) (long : length b ≡ l
   cut_met (inr x) = x.2
 
   -- it is tried, and meets the checksum
-  pub first_tried : IsFirstTried a b meets j → IsTried a b j
-  first_tried (inl x) = inl (cut_tried x)
-  first_tried (inr x) = inr (composed_tried x.1)
+  pub first_tried : IsFirstTried most a b meets j → IsTried most a b j
+  first_tried x = elim x.1 [
+    | inl one ↦ (x.0, inl (cut_tried one))
+    | inr other ↦ (x.0, inr (composed_tried other.1))
+  ]
 
-  pub first_met : IsFirstTried a b meets j → meets j
-  first_met (inl x) = cut_met x
-  first_met (inr x) = composed_met x.1
+  pub first_met : IsFirstTried most a b meets j → meets j
+  first_met x = elim x.1 [
+    | inl one ↦ cut_met one
+    | inr other ↦ composed_met other.1
+  ]
 
-one_composed : (a b i j : List ℕ) (meets : List ℕ → Type 0) → length b ≡ length a → IsFirstComposed a b meets i → IsFirstComposed a b meets j → i ≡ j
-one_composed a b i j meets long (inl x) (inl y) = one_of_sectors a b i j meets x y
-one_composed a b i j meets long (inl x) (inr y) = absurd (y.0 i (sectors_tried a b i meets long x) (sectors_met a b i meets long x))
-one_composed a b i j meets long (inr x) (inl y) = absurd (x.0 j (sectors_tried a b j meets long y) (sectors_met a b j meets long y))
-one_composed a b i j meets long (inr x) (inr y) = one_of_pieces a b i j meets x.1 y.1
+one_composed : (most : ℕ) (a b i j : List ℕ) (meets : List ℕ → Type 0) → length b ≡ length a → IsFirstComposed most a b meets i → IsFirstComposed most a b meets j → i ≡ j
+one_composed most a b i j meets long (inl x) (inl y) = one_of_sectors most a b i j meets x y
+one_composed most a b i j meets long (inl x) (inr y) = absurd (y.0 i (sectors_tried most a b i meets long x) (sectors_met most a b i meets long x))
+one_composed most a b i j meets long (inr x) (inl y) = absurd (x.0 j (sectors_tried most a b j meets long y) (sectors_met most a b j meets long y))
+one_composed most a b i j meets long (inr x) (inr y) = one_of_pieces most a b i j meets x.1 y.1
 
 -- one is the first
-pub one_tried : (a b i j : List ℕ) (meets : List ℕ → Type 0) → length b ≡ length a → IsFirstTried a b meets i → IsFirstTried a b meets j → i ≡ j
-one_tried a b i j meets long (inl x) (inl y) = one_cut a b i j meets x y
-one_tried a b i j meets long (inl x) (inr y) = absurd (no_cut a b i meets y.0 x)
-one_tried a b i j meets long (inr x) (inl y) = absurd (no_cut a b j meets x.0 y)
-one_tried a b i j meets long (inr x) (inr y) = one_composed a b i j meets long x.1 y.1
+pub one_tried : (most : ℕ) (a b i j : List ℕ) (meets : List ℕ → Type 0) → length b ≡ length a → IsFirstTried most a b meets i → IsFirstTried most a b meets j → i ≡ j
+one_tried most a b i j meets long x y = elim x.1 [
+  | inl p ↦ elim y.1 [
+    | inl q ↦ one_cut a b i j meets p q
+    | inr q ↦ absurd (no_cut a b i meets q.0 p)
+  ]
+  | inr p ↦ elim y.1 [
+    | inl q ↦ absurd (no_cut a b j meets p.0 q)
+    | inr q ↦ one_composed most a b i j meets long p.1 q.1
+  ]
+]
 
 -- both areas are of one length
 pub areas_long : (v : List ℕ) (size : ℕ) → 4096 ≤ size → 2 * size ≤ length v → length (area_at v size size) ≡ length (area_at v 0 size)
@@ -157,34 +167,34 @@ areas_long v size large inside =
     length-part_inside v (size + 4096) (size - 4096) (omega (arith, large, inside))
     ∙ sym (length-part_inside v (0 + 4096) (size - 4096) (omega (arith, large, inside)))
 
-module _ (v : List ℕ) (size o : ℕ) where
+module _ (most : ℕ) (v : List ℕ) (size o : ℕ) where
   stands_long : Stands v size o → length (area_at v size size) ≡ length (area_at v 0 size)
   stands_long x =
       let large : 16384 ≤ size = listed_at_least size x.listed in
       areas_long v size (omega (arith, large)) x.both_inside
 
-  pub vouched_tried : (j : List ℕ) → IsVouched v size o j → IsTried (area_at v 0 size) (area_at v size size) j
-  vouched_tried j x = first_tried (area_at v 0 size) (area_at v size size) j (Meets v o) (stands_long x.stands) x.meeting
+  pub vouched_tried : (j : List ℕ) → IsVouched most v size o j → IsTried most (area_at v 0 size) (area_at v size size) j
+  vouched_tried j x = first_tried most (area_at v 0 size) (area_at v size size) j (Meets v o) (stands_long x.stands) x.meeting
 
-  pub vouched_composed : (j : List ℕ) → IsVouched v size o j
+  pub vouched_composed : (j : List ℕ) → IsVouched most v size o j
       → IsCut (area_at v 0 size) (area_at v size size) j
       ⊎ (IsComposed (area_at v 0 size) (area_at v size size) j ⊎ IsOfPieces (area_at v 0 size) (area_at v size size) j)
-  vouched_composed j x = elim (vouched_tried j x) [
+  vouched_composed j x = elim (vouched_tried j x).1 [
     | inl one ↦ inl one
     | inr composed ↦ inr (elim composed [ inl sectors ↦ inl sectors.composed | inr bytes ↦ inr bytes.1 ])
   ]
 
-  pub vouched_meets : (j : List ℕ) → IsVouched v size o j → Meets v o j
-  vouched_meets j x = first_met (area_at v 0 size) (area_at v size size) j (Meets v o) (stands_long x.stands) x.meeting
+  pub vouched_meets : (j : List ℕ) → IsVouched most v size o j → Meets v o j
+  vouched_meets j x = first_met most (area_at v 0 size) (area_at v size size) j (Meets v o) (stands_long x.stands) x.meeting
 
-  pub vouched_once : (i j : List ℕ) → IsVouched v size o i → IsVouched v size o j → i ≡ j
-  vouched_once i j x y = one_tried (area_at v 0 size) (area_at v size size) i j (Meets v o) (stands_long x.stands) x.meeting y.meeting
+  pub vouched_once : (i j : List ℕ) → IsVouched most v size o i → IsVouched most v size o j → i ≡ j
+  vouched_once i j x y = one_tried most (area_at v 0 size) (area_at v size size) i j (Meets v o) (stands_long x.stands) x.meeting y.meeting
 
-  pub none_vouched : (j : List ℕ) → VouchesForNone v size o → IsVouched v size o j → ⊥
+  pub none_vouched : (j : List ℕ) → VouchesForNone most v size o → IsVouched most v size o j → ⊥
   none_vouched j (inl not_there) x = not_there x.stands
   none_vouched j (inr (inl none)) x = none j (vouched_tried j x) (vouched_meets j x)
   none_vouched j (inr (inr bad)) x =
-      let same : bad.area ≡ j = one_tried (area_at v 0 size) (area_at v size size) bad.area j (Meets v o) (stands_long x.stands) bad.meeting x.meeting in
+      let same : bad.area ≡ j = one_tried most (area_at v 0 size) (area_at v size size) bad.area j (Meets v o) (stands_long x.stands) bad.meeting x.meeting in
       x.faultless bad.fault (subst (λ (l : List ℕ). IsMetaFault l bad.fault) same bad.is)
 
 -- a sound copy has the magic of its place, and its own area meets its checksum

@@ -8,7 +8,7 @@ use Rattle.std.proofs.Math.Nat.{mul-le-mul_right, pow-suc}
 use Rattle.luks_vouching.specs.Composed.{bordered, differing, differing_before, sector, IsComposed, IsWholeSectors}
 use Rattle.luks_vouching.specs.Cut.{cut, IsCut}
 use Rattle.luks_vouching.specs.Pieces.{of_pieces, piece_count, IsOfPieces}
-use Rattle.luks_vouching.specs.Tried.{bytes_of_all, bytes_of_borders, bytes_of_pieces, most_hashed, IsByBorder, IsNear, IsNearBorder, IsTried, IsTriedComposed, IsTriedOfPieces, IsTriedOfSectors}
+use Rattle.luks_vouching.specs.Tried.{bytes_of_all, bytes_of_borders, bytes_of_pieces, IsByBorder, IsNear, IsNearBorder, IsTried, IsTriedComposed, IsTriedOfPieces, IsTriedOfSectors}
 use Rattle.luks_vouching.specs.Work.{AreAtMost, HashesFew}
 use Rattle.luks_vouching.proofs.BorderFacts.{border_all}
 use Rattle.luks_vouching.proofs.BoundFacts.{before_no, before_yes, border_same, near_before}
@@ -136,21 +136,21 @@ module _ (a b : List ℕ) where
       subst (λ k. AreAtMost (IsBorderTo a b k) (differing_before a b k + 1)) (add-one n) next
 
   -- the last border up to `c` that is near enough, if there is one
-  last_near : (c : ℕ) → ((m : ℕ) → m ≤ c → IsNear a b m → ⊥) ⊎ ((n : ℕ) × IsNear a b n × ((m : ℕ) → m ≤ c → IsNear a b m → m ≤ n))
-  last_near zero = elim (cases_lt most_hashed (bytes_of_borders a b 0)) [
+  last_near : (most c : ℕ) → ((m : ℕ) → m ≤ c → IsNear most a b m → ⊥) ⊎ ((n : ℕ) × IsNear most a b n × ((m : ℕ) → m ≤ c → IsNear most a b m → m ≤ n))
+  last_near most zero = elim (cases_lt most (bytes_of_borders a b 0)) [
     | inl far ↦ inl (λ m le near.
         let none : m ≡ 0 = omega (arith, le) in
-        let near_none : IsNear a b 0 = subst (IsNear a b) none near in
+        let near_none : IsNear most a b 0 = subst (IsNear most a b) none near in
         omega (arith, far, near_none))
     | inr near ↦ inr (0, omega (arith, near), λ m le is. le)
   ]
-  last_near (suc c) = elim (cases_lt most_hashed (bytes_of_borders a b (suc c))) [
+  last_near most (suc c) = elim (cases_lt most (bytes_of_borders a b (suc c))) [
     | inl far ↦
-        let less : (m : ℕ) → m ≤ suc c → IsNear a b m → m ≤ c = λ m le near. elim (cases_lt c m) [
-          | inl past ↦ (let here : m ≡ suc c = omega (arith, le, past) in let is : IsNear a b (suc c) = subst (IsNear a b) here near in absurd (omega (arith, far, is)))
+        let less : (m : ℕ) → m ≤ suc c → IsNear most a b m → m ≤ c = λ m le near. elim (cases_lt c m) [
+          | inl past ↦ (let here : m ≡ suc c = omega (arith, le, past) in let is : IsNear most a b (suc c) = subst (IsNear most a b) here near in absurd (omega (arith, far, is)))
           | inr within ↦ omega (arith, within)
         ] in
-        elim (last_near c) [
+        elim (last_near most c) [
           | inl none ↦ inl (λ m le near. none m (less m le near) near)
           | inr x ↦ inr (x.0, x.1, λ m le near. x.2 m (less m le near) near)
         ]
@@ -158,42 +158,42 @@ module _ (a b : List ℕ) where
   ]
 
 -- so many borders are near enough
-record NearBorders (a b : List ℕ) : Type 0 where
+record NearBorders (most : ℕ) (a b : List ℕ) : Type 0 where
   count : ℕ
-  most : AreAtMost (IsNearBorder a b) count
-  few : (count ≡ 0) ⊎ ((2 + 2 * count) * length a ≤ most_hashed)
+  all : AreAtMost (IsNearBorder most a b) count
+  few : (count ≡ 0) ⊎ ((2 + 2 * count) * length a ≤ most)
 
-near_borders : (a b : List ℕ) → length b ≡ length a → IsWholeSectors a → NearBorders a b
-near_borders a b long whole =
+near_borders : (most : ℕ) (a b : List ℕ) → length b ≡ length a → IsWholeSectors a → NearBorders most a b
+near_borders most a b long whole =
     let c : ℕ = length a / 512 in
     let end : 512 * (length a / 512) ≡ length a = whole in
-    let to_end : (m : ℕ) → IsNear a b m → (k : ℕ) × (k ≤ length a / 512) × IsNear a b k × (bordered a b k ≡ bordered a b m) = λ m near. elim (cases_lt (length a / 512) m) [
+    let to_end : (m : ℕ) → IsNear most a b m → (k : ℕ) × (k ≤ length a / 512) × IsNear most a b k × (bordered a b k ≡ bordered a b m) = λ m near. elim (cases_lt (length a / 512) m) [
       | inl past ↦ (
         length a / 512,
         omega arith,
-        near_before a b (length a / 512) m (omega (arith, past)) near,
+        near_before a b most (length a / 512) m (omega (arith, past)) near,
         border_all a b long (length a / 512) (omega (arith, end)) ∙ sym (border_all a b long m (omega (arith, end, past))),
       )
       | inr within ↦ (m, omega (arith, within), near, refl)
     ] in
-    elim (last_near a b (length a / 512)) [
+    elim (last_near a b most (length a / 512)) [
       | inl none ↦ record {
         count = 0;
-        most = none_of (IsNearBorder a b) (λ j is. let x = to_end is.0 is.1 in none x.0 x.1 x.2);
+        all = none_of (IsNearBorder most a b) (λ j is. let x = to_end is.0 is.1 in none x.0 x.1 x.2);
         few = inl refl;
       }
       | inr last ↦ record {
         count = differing_before a b last.0 + 1;
-        most = fewer (IsBorderTo a b last.0) (IsNearBorder a b) (differing_before a b last.0 + 1)
+        all = fewer (IsBorderTo a b last.0) (IsNearBorder most a b) (differing_before a b last.0 + 1)
             (λ j is. let x = to_end is.0 is.1 in (x.0, last.2 x.0 x.1 x.2, x.3 ∙ sym is.2)) (borders_to a b last.0);
         few = inr last.1;
       }
     ]
 
 -- those with both fronts and the areas that are cut
-both_few : (m n len : ℕ) → 2 * len ≤ most_hashed → (m ≡ 0) ⊎ ((2 + 2 * m) * len ≤ most_hashed) → (n ≡ 0) ⊎ ((2 + 2 * n) * len ≤ most_hashed)
-    → (2 + (m + n)) * len ≤ most_hashed
-both_few m n len two x y = elim (cases_lt m n) [
+both_few : (most m n len : ℕ) → 2 * len ≤ most → (m ≡ 0) ⊎ ((2 + 2 * m) * len ≤ most) → (n ≡ 0) ⊎ ((2 + 2 * n) * len ≤ most)
+    → (2 + (m + n)) * len ≤ most
+both_few most m n len two x y = elim (cases_lt m n) [
   | inl less ↦ elim y [
     | inl none ↦ absurd (omega (arith, none, less))
     | inr few ↦ (
@@ -218,55 +218,68 @@ both_few m n len two x y = elim (cases_lt m n) [
 
 -- ---- all that is tried
 
-module _ (a b : List ℕ) (whole : IsWholeSectors a) (long : length b ≡ length a) (listed : length a ≤ 4194304) where
+module _ (most : ℕ) (a b : List ℕ) (whole : IsWholeSectors a) (long : length b ≡ length a) where
   two_cut : AreAtMost (IsCut a b) 2
   two_cut = either_of (λ j. j ≡ cut a) (λ j. j ≡ cut b) 1 1 (one_of (λ j. j ≡ cut a) (cut a) (λ j is. sym is)) (one_of (λ j. j ≡ cut b) (cut b) (λ j is. sym is))
 
-  all_sectors : AreAtMost (IsTriedOfSectors a b) (2 ^ differing a b)
-  all_sectors = fewer (IsComposed a b) (IsTriedOfSectors a b) (2 ^ differing a b) (λ j is. is.composed) (all_composed a b whole)
+  all_sectors : AreAtMost (IsTriedOfSectors most a b) (2 ^ differing a b)
+  all_sectors = fewer (IsComposed a b) (IsTriedOfSectors most a b) (2 ^ differing a b) (λ j is. is.composed) (all_composed a b whole)
 
-  all_pieces : AreAtMost (IsTriedOfPieces a b) (piece_count a b)
-  all_pieces = fewer (IsOfPieces a b) (IsTriedOfPieces a b) (piece_count a b) (λ j is. is.1) (of_pieces a b, λ j is. (is.0, is.1, sym is.2))
+  all_pieces : AreAtMost (IsTriedOfPieces most a b) (piece_count a b)
+  all_pieces = fewer (IsOfPieces a b) (IsTriedOfPieces most a b) (piece_count a b) (λ j is. is.1) (of_pieces a b, λ j is. (is.0, is.1, sym is.2))
 
-  with_cut : (m n : ℕ) → AreAtMost (IsTriedOfSectors a b) m → AreAtMost (IsTriedOfPieces a b) n → AreAtMost (IsTried a b) (2 + (m + n))
-  with_cut m n x y = either_of (IsCut a b) (IsTriedComposed a b) 2 (m + n) two_cut (either_of (IsTriedOfSectors a b) (IsTriedOfPieces a b) m n x y)
+  with_cut : (m n : ℕ) → AreAtMost (IsTriedOfSectors most a b) m → AreAtMost (IsTriedOfPieces most a b) n → AreAtMost (IsTried most a b) (2 + (m + n))
+  with_cut m n x y =
+      let either : List ℕ → Type 0 = λ j. IsCut a b j ⊎ IsTriedComposed most a b j in
+      fewer either (IsTried most a b) (2 + (m + n)) (λ j is. is.1)
+      (either_of (IsCut a b) (IsTriedComposed most a b) 2 (m + n) two_cut (either_of (IsTriedOfSectors most a b) (IsTriedOfPieces most a b) m n x y))
 
-  by_borders : most_hashed < bytes_of_all a b → HashesFew a b
-  by_borders many =
-      let x : NearBorders a b = near_borders a b long whole in
+  by_borders : 2 * length a ≤ most → most < bytes_of_all a b → HashesFew most a b
+  by_borders begin many =
+      let x : NearBorders most a b = near_borders most a b long whole in
       let wholes : IsWholeSectors b = subst (λ n. 512 * (n / 512) ≡ n) (sym long) whole in
-      let y : NearBorders b a = near_borders b a (sym long) wholes in
-      let of_second : (y.count ≡ 0) ⊎ ((2 + 2 * y.count) * length a ≤ most_hashed) = subst (λ n. (y.count ≡ 0) ⊎ ((2 + 2 * y.count) * n ≤ most_hashed)) long y.few in
-      let none : AreAtMost (IsTriedOfPieces a b) 0 = none_of (IsTriedOfPieces a b) (λ j is.
+      let y : NearBorders most b a = near_borders most b a (sym long) wholes in
+      let of_second : (y.count ≡ 0) ⊎ ((2 + 2 * y.count) * length a ≤ most) = subst (λ n. (y.count ≡ 0) ⊎ ((2 + 2 * y.count) * n ≤ most)) long y.few in
+      let none : AreAtMost (IsTriedOfPieces most a b) 0 = none_of (IsTriedOfPieces most a b) (λ j is.
       let may = is.0 in
       let more : (2 + 2 ^ differing a b) * length a ≤ (2 + 2 ^ differing a b + piece_count a b) * length a = mul-le-mul_right (length a) (omega arith) in
       omega (arith, many, may, more)) in
-      let near : AreAtMost (IsTriedOfSectors a b) (x.count + y.count) =
-      fewer (IsByBorder a b) (IsTriedOfSectors a b) (x.count + y.count) (λ j is. is.by_border many) (either_of (IsNearBorder a b) (IsNearBorder b a) x.count y.count x.most y.most) in
-      let all : (x.count + y.count) + 0 ≡ x.count + y.count = omega arith in
+      let near : AreAtMost (IsTriedOfSectors most a b) (x.count + y.count) =
+      fewer (IsByBorder most a b) (IsTriedOfSectors most a b) (x.count + y.count) (λ j is. is.by_border many) (either_of (IsNearBorder most a b) (IsNearBorder most b a) x.count y.count x.all y.all) in
+      let sum : (x.count + y.count) + 0 ≡ x.count + y.count = omega arith in
       record {
         count = 2 + (x.count + y.count);
-        most = subst (λ n. AreAtMost (IsTried a b) (2 + n)) all (with_cut (x.count + y.count) 0 near none);
-        few = both_few x.count y.count (length a) (omega (arith, listed)) x.few of_second;
+        all = subst (λ n. AreAtMost (IsTried most a b) (2 + n)) sum (with_cut (x.count + y.count) 0 near none);
+        few = both_few most x.count y.count (length a) begin x.few of_second;
       }
 
-  pub few_hashed : HashesFew a b
-  few_hashed = elim (cases_lt most_hashed (bytes_of_pieces a b)) [
-    | inl many ↦ elim (cases_lt most_hashed (bytes_of_all a b)) [
-      | inl most ↦ by_borders most
+  begun_few : 2 * length a ≤ most → HashesFew most a b
+  begun_few begin = elim (cases_lt most (bytes_of_pieces a b)) [
+    | inl many ↦ elim (cases_lt most (bytes_of_all a b)) [
+      | inl too_many ↦ by_borders begin too_many
       | inr few ↦ record {
         count = 2 + (2 ^ differing a b + 0);
-        most = with_cut (2 ^ differing a b) 0 all_sectors (none_of (IsTriedOfPieces a b) (λ j is. let may = is.0 in omega (arith, many, may)));
+        all = with_cut (2 ^ differing a b) 0 all_sectors (none_of (IsTriedOfPieces most a b) (λ j is. let may = is.0 in omega (arith, many, may)));
         few =
             let same : 2 + (2 ^ differing a b + 0) ≡ 2 + 2 ^ differing a b = omega arith in
-            subst (λ n. n * length a ≤ most_hashed) (sym same) (omega (arith, few));
+            subst (λ n. n * length a ≤ most) (sym same) (omega (arith, few));
       }
     ]
     | inr few ↦ record {
       count = 2 + (2 ^ differing a b + piece_count a b);
-      most = with_cut (2 ^ differing a b) (piece_count a b) all_sectors all_pieces;
+      all = with_cut (2 ^ differing a b) (piece_count a b) all_sectors all_pieces;
       few =
           let same : 2 + (2 ^ differing a b + piece_count a b) ≡ 2 + 2 ^ differing a b + piece_count a b = omega arith in
-          subst (λ n. n * length a ≤ most_hashed) (sym same) (omega (arith, few));
+          subst (λ n. n * length a ≤ most) (sym same) (omega (arith, few));
     }
+  ]
+
+  pub few_hashed : HashesFew most a b
+  few_hashed = elim (cases_lt most (2 * length a)) [
+    | inl far ↦ record {
+      count = 0;
+      all = none_of (IsTried most a b) (λ j is. let may = is.0 in omega (arith, far, may));
+      few = omega arith;
+    }
+    | inr begin ↦ begun_few (omega (arith, begin))
   ]

@@ -4,6 +4,7 @@ use Rattle.sha2.specs.Sha256.{sha256}
 use Rattle.luks_area.specs.Ranges.{part}
 use Rattle.luks2_header.specs.Header2.{csum_at, hdr_size, header_at, magic_of, sha256_size, with_zero_checksum, HoldsBin2, IsFormed}
 use Rattle.luks2_header.specs.Sizes.{IsListed}
+use Rattle.luks2_header.specs.declared.bin2.Bin2.{Bin2}
 use Rattle.luks_meta.specs.Accepted.{IsMeta}
 use Rattle.luks_meta.specs.Content.{content}
 use Rattle.luks_meta.specs.MetaFault.{IsMetaFault}
@@ -37,38 +38,43 @@ MeetsSum head j = part head csum_at sha256_size ≡ sha256 (with_zero_checksum h
 abbrev pub Meets : List ℕ → ℕ → List ℕ → Type 0
 Meets v o = MeetsSum (mended_header v o)
 
--- `j` is the first composition of both copies' JSON areas that meets the checksum of the copy at `o`
-abbrev pub IsMeeting : List ℕ → ℕ → ℕ → List ℕ → Type 0
-IsMeeting v size o j = IsFirstTried (area_at v 0 size) (area_at v size size) (Meets v o) j
+-- the binary header of the copy at `o` stands, and its checksum is met by this JSON area
+abbrev pub IsMetAt : List ℕ → ℕ → ℕ → List ℕ → Type 0
+IsMetAt v size o j = Stands v size o × Meets v o j
+
+-- `j` is the first composition of both copies' JSON areas that meets the checksum of the copy at `o`, of those for
+-- which at most so many bytes are hashed
+abbrev pub IsMeeting : ℕ → List ℕ → ℕ → ℕ → List ℕ → Type 0
+IsMeeting most v size o j = IsFirstTried most (area_at v 0 size) (area_at v size size) (Meets v o) j
 
 -- the binary header of the copy at `o` vouches for the metadata `j`: it stands, and `j` is the first
 -- composition that meets its checksum, and has none of the faults of metadata
-pub record IsVouched (v : List ℕ) (size o : ℕ) (j : List ℕ) : Type 0 where
+pub record IsVouched (most : ℕ) (v : List ℕ) (size o : ℕ) (j : List ℕ) : Type 0 where
   pub stands : Stands v size o
-  pub meeting : IsMeeting v size o j
+  pub meeting : IsMeeting most v size o j
   pub faultless : (f : MetaFault) → IsMetaFault j f → ⊥
 
 -- the first composition of the two areas that meets the checksum of the binary header `head` is no
 -- metadata
-pub record HasFault (head first second : List ℕ) : Type 0 where
+pub record HasFault (most : ℕ) (head first second : List ℕ) : Type 0 where
   pub area : List ℕ
-  pub meeting : IsFirstTried first second (MeetsSum head) area
+  pub meeting : IsFirstTried most first second (MeetsSum head) area
   pub fault : MetaFault
   pub is : IsMetaFault area fault
 
 -- no composition that is tried meets the checksum, or the first that does is no metadata
-abbrev pub ComposesNone : List ℕ → List ℕ → List ℕ → Type 0
-ComposesNone head first second = IsNoneTried first second (MeetsSum head) ⊎ HasFault head first second
+abbrev pub ComposesNone : ℕ → List ℕ → List ℕ → List ℕ → Type 0
+ComposesNone most head first second = IsNoneTried most first second (MeetsSum head) ⊎ HasFault most head first second
 
 -- the copy's binary header vouches for none: it doesn't stand, or else by the reasons above
-abbrev pub VouchesForNone : List ℕ → ℕ → ℕ → Type 0
-VouchesForNone v size o = (Stands v size o → ⊥) ⊎ ComposesNone (mended_header v o) (area_at v 0 size) (area_at v size size)
+abbrev pub VouchesForNone : ℕ → List ℕ → ℕ → ℕ → Type 0
+VouchesForNone most v size o = (Stands v size o → ⊥) ⊎ ComposesNone most (mended_header v o) (area_at v 0 size) (area_at v size size)
 
 -- what is composed of two areas by the checksum of a binary header
-abbrev pub FindsComposed : List ℕ → List ℕ → List ℕ → Option Vouched → Type 0
-FindsComposed head first second None = ComposesNone head first second
-FindsComposed head first second (Some w) =
-    IsFirstTried first second (MeetsSum head) w.json.items
+abbrev pub FindsComposed : ℕ → List ℕ → List ℕ → List ℕ → Option Vouched → Type 0
+FindsComposed most head first second None = ComposesNone most head first second
+FindsComposed most head first second (Some w) =
+    IsFirstTried most first second (MeetsSum head) w.json.items
     × ((f : MetaFault) → IsMetaFault w.json.items f → ⊥)
     × HoldsBin2 head w.header
 
@@ -77,10 +83,15 @@ abbrev pub JudgesArea : List ℕ → List ℕ → Option Vouched → Type 0
 JudgesArea head j None = (f : MetaFault) × IsMetaFault j f
 JudgesArea head j (Some w) = ((f : MetaFault) → IsMetaFault j f → ⊥) × HoldsBin2 head w.header
 
+-- the binary header of the copy, with the magic of its place, if it stands
+abbrev pub FindsStanding : List ℕ → ℕ → ℕ → Option Bin2 → Type 0
+FindsStanding v size o None = Stands v size o → ⊥
+FindsStanding v size o (Some h) = Stands v size o × HoldsBin2 (mended_header v o) h
+
 -- what is found for the copy
-abbrev pub FindsVouched : List ℕ → ℕ → ℕ → Option Vouched → Type 0
-FindsVouched v size o None = VouchesForNone v size o
-FindsVouched v size o (Some w) = IsVouched v size o w.json.items × HoldsBin2 (mended_header v o) w.header
+abbrev pub FindsVouched : ℕ → List ℕ → ℕ → ℕ → Option Vouched → Type 0
+FindsVouched most v size o None = VouchesForNone most v size o
+FindsVouched most v size o (Some w) = IsVouched most v size o w.json.items × HoldsBin2 (mended_header v o) w.header
 
 -- on any device of `total` bytes: a header of a listed size, and metadata that was accepted
 pub record IsVouchedWithin (size total : ℕ) (w : Vouched) : Type 0 where
@@ -89,5 +100,5 @@ pub record IsVouchedWithin (size total : ℕ) (w : Vouched) : Type 0 where
   pub meta : IsMeta w.json.items (content w.meta)
 
 -- the binary header of the copy at `o` stands, and not all compositions are tried by its checksum
-abbrev pub IsCutShortAt : List ℕ → ℕ → ℕ → Type 0
-IsCutShortAt v size o = Stands v size o × IsCutShort (area_at v 0 size) (area_at v size size)
+abbrev pub IsCutShortAt : ℕ → List ℕ → ℕ → ℕ → Type 0
+IsCutShortAt most v size o = Stands v size o × IsCutShort most (area_at v 0 size) (area_at v size size)

@@ -1,5 +1,5 @@
 //! The compositions of two JSON areas by one border, tried by a checksum.
-ghost use Rattle.std.specs.Prelude.{◌≡◌, ◌++◌, ◌*◌, ◌+◌, ◌<◌, ◌≤◌, ℕ, List, length, take, drop, IfSome, IsNone, Option, None, true, false};
+ghost use Rattle.std.specs.Prelude.{◌≡◌, ◌++◌, ◌*◌, ◌^◌, ◌+◌, ◌<◌, ◌≤◌, ℕ, List, length, take, drop, IfSome, IsNone, Option, None, true, false};
 ghost use Rattle.sha2.specs.Hashers.{Holds256};
 ghost use Rattle.sha2.specs.Sha256.{sha256};
 ghost use Rattle.luks_vouching.specs.Composed.{bordered, IsWholeSectors};
@@ -13,24 +13,31 @@ use sha2::{Digest, Sha256};
 /// The least number of sectors of the front that, with the rest of the other area, meet the checksum,
 /// by a hasher that was fed what stands before them, if it is near enough. Behind each sector that differs
 /// the rest is hashed once more.
-pub(crate) fn least_border(front: &[u8], rest: &[u8], hasher: &Sha256, sum: &[u8]) -> Option<usize>
+pub(crate) fn least_border(
+    front: &[u8],
+    rest: &[u8],
+    hasher: &Sha256,
+    sum: &[u8],
+    most: usize,
+) -> Option<usize>
     requires whole { IsWholeSectors front.now }
     requires long { length rest.now ≡ length front.now }
+    requires most { most ≤ 2 ^ 40 }
     ensures inside { IfSome result (λ n. 512 * n ≤ length front.now) }
-    ensures near { IfSome result (IsNear front.now rest.now) }
+    ensures near { IfSome result (IsNear most front.now rest.now) }
     ensures met { (done : List ℕ) → Holds256 hasher.now done → IfSome result
         (λ n. sum.now ≡ sha256 (done ++ bordered front.now rest.now n)) }
     ensures least { (done : List ℕ) → Holds256 hasher.now done → IfSome result
         (λ n. (m : ℕ) → sum.now ≡ sha256 (done ++ bordered front.now rest.now m) → n ≤ m) }
     ensures none { (done : List ℕ) → Holds256 hasher.now done → IsNone result
-        → HasNoBorder front.now rest.now (λ j. sum.now ≡ sha256 (done ++ j)) }
+        → HasNoBorder most front.now rest.now (λ j. sum.now ≡ sha256 (done ++ j)) }
 {
     let count = front.len() / SECTOR;
     let mut begun = fed(hasher, &[]);
     let mut passed = 0;
     let mut is_new = true;
     for n in 0..count {
-        if !borders_may(passed, front.len()) {
+        if !borders_may(passed, front.len(), most) {
             return None;
         }
         let at = n * SECTOR;
@@ -43,7 +50,7 @@ pub(crate) fn least_border(front: &[u8], rest: &[u8], hasher: &Sha256, sum: &[u8
             passed += 1;
         }
     }
-    if borders_may(passed, front.len()) && is_met(is_new, &begun, &[], sum) {
+    if borders_may(passed, front.len(), most) && is_met(is_new, &begun, &[], sum) {
         Some(count)
     } else {
         None

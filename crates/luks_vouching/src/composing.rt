@@ -1,35 +1,40 @@
 //! The first composition of two JSON areas that is tried and meets a checksum.
-ghost use Rattle.std.specs.Prelude.{◌≡◌, ◌↔◌, ◌++◌, ◌*◌, ◌<◌, ◌≤◌, ℕ, List, IsTrue, length, true, false};
+ghost use Rattle.std.specs.Prelude.{◌≡◌, ◌↔◌, ◌++◌, ◌*◌, ◌^◌, ◌<◌, ◌≤◌, ℕ, List, IsTrue, length, true, false};
 ghost use Rattle.sha2.specs.Hashers.{Holds256};
 ghost use Rattle.sha2.specs.Sha256.{sha256};
 ghost use Rattle.luks_vouching.specs.Composed.{bordered, IsWholeSectors};
-ghost use Rattle.luks_vouching.specs.Tried.{bytes_of_all, most_hashed, HasNoBorder, IsFirstOfBorders, IsFirstOfSectors, IsFirstTried, IsNoneTried, IsTriedOfSectors};
+ghost use Rattle.luks_vouching.specs.Tried.{bytes_of_all, HasNoBorder, IsFirstOfBorders, IsFirstOfSectors, IsFirstTried, IsNoneTried, IsTriedOfSectors};
 
 use crate::areas::{SECTOR, differing};
 use crate::borders::least_border;
-use crate::bound::all_may;
+use crate::bound::{all_may, may_begin};
 use crate::cutting::try_cut;
 use crate::piecing::compose_pieces;
 use crate::search::{fed, search};
 use sha2::Sha256;
 
 /// Whether a composition that is tried meets the checksum, by a hasher that was fed what stands before
-/// it. Then `json` holds the first one.
+/// it, where at most `most` bytes of areas may be hashed. Then `json` holds the first one.
 pub(crate) fn compose(
     first: &[u8],
     second: &[u8],
     json: &mut [u8],
     hasher: Sha256,
     sum: &[u8],
+    most: usize,
 ) -> bool
     requires whole { IsWholeSectors first.now }
     requires long { length second.now ≡ length first.now }
     requires room { length json.old ≡ length first.now }
+    requires most { most ≤ 2 ^ 40 }
     ensures found { (done : List ℕ) → Holds256 hasher done → result ≡ true
-        → IsFirstTried first.now second.now (λ j. sum.now ≡ sha256 (done ++ j)) json.new }
+        → IsFirstTried most first.now second.now (λ j. sum.now ≡ sha256 (done ++ j)) json.new }
     ensures none { (done : List ℕ) → Holds256 hasher done → result ≡ false
-        → IsNoneTried first.now second.now (λ j. sum.now ≡ sha256 (done ++ j)) }
+        → IsNoneTried most first.now second.now (λ j. sum.now ≡ sha256 (done ++ j)) }
 {
+    if !may_begin(first.len(), most) {
+        return false;
+    }
     if try_cut(first, json, &hasher, sum) {
         return true;
     }
@@ -37,36 +42,45 @@ pub(crate) fn compose(
         return true;
     }
     let again = fed(&hasher, &[]);
-    if compose_sectors(first, second, json, hasher, sum) {
+    if compose_sectors(first, second, json, hasher, sum, most) {
         return true;
     }
-    compose_pieces(first, second, json, &again, sum)
+    compose_pieces(first, second, json, &again, sum, most)
 }
 
 /// The same, of the compositions of sectors.
-fn compose_sectors(first: &[u8], second: &[u8], json: &mut [u8], hasher: Sha256, sum: &[u8]) -> bool
+fn compose_sectors(
+    first: &[u8],
+    second: &[u8],
+    json: &mut [u8],
+    hasher: Sha256,
+    sum: &[u8],
+    most: usize,
+) -> bool
     requires whole { IsWholeSectors first.now }
     requires long { length second.now ≡ length first.now }
     requires room { length json.old ≡ length first.now }
+    requires most { most ≤ 2 ^ 40 }
     ensures found { (done : List ℕ) → Holds256 hasher done → result ≡ true
-        → IsFirstOfSectors first.now second.now (λ j. sum.now ≡ sha256 (done ++ j)) json.new }
+        → IsFirstOfSectors most first.now second.now (λ j. sum.now ≡ sha256 (done ++ j)) json.new }
     ensures none { (done : List ℕ) → Holds256 hasher done → result ≡ false
-        → (j : List ℕ) → IsTriedOfSectors first.now second.now j → sum.now ≡ sha256 (done ++ j) → ⊥ }
+        → (j : List ℕ) → IsTriedOfSectors most first.now second.now j → sum.now ≡ sha256 (done ++ j) → ⊥ }
 {
-    if may_try_all(first, second) {
+    if may_try_all(first, second, most) {
         search(first, second, json, hasher, sum)
     } else {
-        compose_by_border(first, second, json, &hasher, sum)
+        compose_by_border(first, second, json, &hasher, sum, most)
     }
 }
 
 /// Whether all compositions may be tried.
-fn may_try_all(first: &[u8], second: &[u8]) -> bool
+fn may_try_all(first: &[u8], second: &[u8], most: usize) -> bool
     requires whole { IsWholeSectors first.now }
     requires long { length second.now ≡ length first.now }
-    ensures { IsTrue result ↔ (bytes_of_all first.now second.now ≤ most_hashed) }
+    requires most { most ≤ 2 ^ 40 }
+    ensures { IsTrue result ↔ (bytes_of_all first.now second.now ≤ most) }
 {
-    all_may(differing(first, second), first.len())
+    all_may(differing(first, second), first.len(), most)
 }
 
 /// The same, of the compositions by one border alone.
@@ -76,22 +90,24 @@ fn compose_by_border(
     json: &mut [u8],
     hasher: &Sha256,
     sum: &[u8],
+    most: usize,
 ) -> bool
     requires whole { IsWholeSectors first.now }
     requires long { length second.now ≡ length first.now }
     requires room { length json.old ≡ length first.now }
+    requires most { most ≤ 2 ^ 40 }
     ensures found { (done : List ℕ) → Holds256 hasher.now done → result ≡ true
-        → IsFirstOfBorders first.now second.now (λ j. sum.now ≡ sha256 (done ++ j)) json.new }
+        → IsFirstOfBorders most first.now second.now (λ j. sum.now ≡ sha256 (done ++ j)) json.new }
     ensures none_first { (done : List ℕ) → Holds256 hasher.now done → result ≡ false
-        → HasNoBorder first.now second.now (λ j. sum.now ≡ sha256 (done ++ j)) }
+        → HasNoBorder most first.now second.now (λ j. sum.now ≡ sha256 (done ++ j)) }
     ensures none_second { (done : List ℕ) → Holds256 hasher.now done → result ≡ false
-        → HasNoBorder second.now first.now (λ j. sum.now ≡ sha256 (done ++ j)) }
+        → HasNoBorder most second.now first.now (λ j. sum.now ≡ sha256 (done ++ j)) }
 {
-    if let Some(n) = least_border(first, second, hasher, sum) {
+    if let Some(n) = least_border(first, second, hasher, sum, most) {
         join(json, first, second, n);
         return true;
     }
-    if let Some(n) = least_border(second, first, hasher, sum) {
+    if let Some(n) = least_border(second, first, hasher, sum, most) {
         join(json, second, first, n);
         return true;
     }

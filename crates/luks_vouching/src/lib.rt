@@ -7,6 +7,7 @@ mod borders;
 mod bound;
 mod composing;
 mod cutting;
+mod headers;
 mod laws;
 mod pieces;
 mod piecing;
@@ -15,6 +16,7 @@ mod standing;
 mod vouch_fault;
 mod vouched;
 
+pub use headers::{meets, standing_header};
 pub use laws::{
     one_vouched, pieces_are_all, sound_copy_meets, vouched_is_composed, work_is_bounded,
 };

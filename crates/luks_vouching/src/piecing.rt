@@ -4,7 +4,7 @@ ghost use Rattle.sha2.specs.Hashers.{Holds256};
 ghost use Rattle.sha2.specs.Sha256.{sha256};
 ghost use Rattle.luks_vouching.specs.Composed.{IsWholeSectors};
 ghost use Rattle.luks_vouching.specs.Pieces.{numbered, of_pieces, piece_count, pieces, with_piece, AreInside};
-ghost use Rattle.luks_vouching.specs.Tried.{bytes_of_pieces, most_hashed, IsCutShort, IsFirstOfPieces, IsTriedOfPieces};
+ghost use Rattle.luks_vouching.specs.Tried.{bytes_of_pieces, IsCutShort, IsFirstOfPieces, IsTriedOfPieces};
 
 use crate::areas::differing;
 use crate::bound::pieces_may;
@@ -21,40 +21,44 @@ pub(crate) fn compose_pieces(
     json: &mut [u8],
     hasher: &Sha256,
     sum: &[u8],
+    most: usize,
 ) -> bool
     requires whole { IsWholeSectors first.now }
     requires long { length second.now ≡ length first.now }
     requires room { length json.old ≡ length first.now }
+    requires most { most ≤ 2 ^ 40 }
     ensures found { (done : List ℕ) → Holds256 hasher.now done → result ≡ true
-        → IsFirstOfPieces first.now second.now (λ j. sum.now ≡ sha256 (done ++ j)) json.new }
+        → IsFirstOfPieces most first.now second.now (λ j. sum.now ≡ sha256 (done ++ j)) json.new }
     ensures none { (done : List ℕ) → Holds256 hasher.now done → result ≡ false
-        → (j : List ℕ) → IsTriedOfPieces first.now second.now j → sum.now ≡ sha256 (done ++ j) → ⊥ }
+        → (j : List ℕ) → IsTriedOfPieces most first.now second.now j → sum.now ≡ sha256 (done ++ j) → ⊥ }
 {
-    match may_try_pieces(first, second) {
+    match may_try_pieces(first, second, most) {
         Some(found) => try_pieces(first, second, json, &found, hasher, sum),
         None => false,
     }
 }
 
 /// Whether not all compositions are tried.
-pub(crate) fn are_cut_short(first: &[u8], second: &[u8]) -> bool
+pub(crate) fn are_cut_short(first: &[u8], second: &[u8], most: usize) -> bool
     requires whole { IsWholeSectors first.now }
     requires long { length second.now ≡ length first.now }
-    ensures { IsTrue result ↔ IsCutShort first.now second.now }
+    requires most { most ≤ 2 ^ 40 }
+    ensures { IsTrue result ↔ IsCutShort most first.now second.now }
 {
-    may_try_pieces(first, second).is_none()
+    may_try_pieces(first, second, most).is_none()
 }
 
 /// The pieces of both areas, if all compositions of them may be hashed.
-fn may_try_pieces(first: &[u8], second: &[u8]) -> Option<ArrayVec<Piece, 32>>
+fn may_try_pieces(first: &[u8], second: &[u8], most: usize) -> Option<ArrayVec<Piece, 32>>
     requires whole { IsWholeSectors first.now }
     requires long { length second.now ≡ length first.now }
+    requires most { most ≤ 2 ^ 40 }
     ensures some { IfSome result (λ found. found.items ≡ pieces first.now second.now) }
-    ensures may { IfSome result (λ found. bytes_of_pieces first.now second.now ≤ most_hashed) }
-    ensures none { IsNone result → IsCutShort first.now second.now }
+    ensures may { IfSome result (λ found. bytes_of_pieces first.now second.now ≤ most) }
+    ensures none { IsNone result → IsCutShort most first.now second.now }
 {
     let found = pieces(first, second)?;
-    if pieces_may(differing(first, second), found.len(), first.len()) {
+    if pieces_may(differing(first, second), found.len(), first.len(), most) {
         Some(found)
     } else {
         None

@@ -1,16 +1,17 @@
 //! What the checksum of a copy's binary header vouches for.
-ghost use Rattle.std.specs.Prelude.{◌≡◌, ◌≢◌, ◌↔◌, ◌+◌, ◌-◌, ◌*◌, ◌^◌, ◌<◌, ◌≤◌, ◌⊎◌, ◌++◌, length, IfOk, IfErr, IfSome, IsTrue, OnOk, true};
+ghost use Rattle.std.specs.Prelude.{◌≡◌, ◌≢◌, ◌↔◌, ◌+◌, ◌-◌, ◌*◌, ◌^◌, ◌<◌, ◌≤◌, ◌⊎◌, length, IfOk, IfErr, IfSome, IsTrue, OnOk};
 ghost use Rattle.luks_area.specs.Device.{CountsFailure, IsUnchanged};
 ghost use Rattle.luks2_header.specs.Sizes.{IsListed};
 ghost use Rattle.luks_vouching.specs.Faults.{is_vouch_failure, IsMemoryWhereStands};
 ghost use Rattle.luks_meta.specs.Accepted.{IsMeta};
 ghost use Rattle.luks_meta.specs.Content.{content};
 ghost use Rattle.luks_vouching.specs.Composed.{IsWholeSectors};
-ghost use Rattle.luks_vouching.specs.Vouched.{area_at, mended_header, FindsComposed, FindsVouched, IsCutShortAt, IsVouchedWithin, JudgesArea, Stands};
+ghost use Rattle.luks_vouching.specs.Vouched.{area_at, FindsComposed, FindsVouched, IsCutShortAt, IsVouchedWithin, JudgesArea};
 
 use crate::composing::compose;
+use crate::headers::reads_standing;
 use crate::piecing::are_cut_short;
-use crate::standing::{HEADER, hasher_of, is_standing, mend, sum_of};
+use crate::standing::{HEADER, hasher_of, sum_of};
 use crate::vouch_fault::VouchFault;
 use luks_area::Device;
 use luks_meta::{Meta, MetaFault};
@@ -32,49 +33,53 @@ pub struct Vouched {
 /// binary header stands there but for its magic, and a JSON area that is composed of the sectors of
 /// both copies meets its checksum (LUKS2 On-Disk Format 1.1, 2.1).
 ///
-/// At most 64 MiB of JSON areas are hashed. All compositions are tried where these have no more bytes
-/// together; else those that have the first sectors of one copy and the rest of the other, as many. What
-/// isn't tried `is_cut_short` tells. Takes memory, for three JSON areas and the metadata, only where the
-/// binary header stands.
+/// At most `most` bytes of JSON areas are hashed: nothing where two have more. All compositions are tried where
+/// these have no more bytes together; else those that have the first sectors of one copy and the rest of the
+/// other, as many. What isn't tried `is_cut_short` tells. Takes memory, for three JSON areas and the metadata,
+/// only where the binary header stands.
 pub fn find_vouched<D: Device>(
     alloc: Global,
     source: &mut D,
     size: u64,
     at: u64,
+    most: usize,
 ) -> Result<Option<Vouched>, VouchFault>
     requires listed { IsListed size }
+    requires most { most ≤ 2 ^ 40 }
     requires half { (at ≡ 0) ⊎ (at ≡ size) }
     requires room { D.failed source.old + 1 < 2 ^ 64 }
     ensures unchanged { IsUnchanged D.tells D.size D.bytes D.unsettled source.old source.new }
     ensures count { CountsFailure is_vouch_failure result
         (D.failed source.old) (D.failed source.new) }
     ensures within { IfOk result (λ found. IfSome found (IsVouchedWithin size (D.size source.old))) }
-    ensures found { D.tells → IfOk result (FindsVouched (D.bytes source.old) size at) }
+    ensures found { D.tells → IfOk result (FindsVouched most (D.bytes source.old) size at) }
     ensures refused { D.tells → IfErr result (IsMemoryWhereStands (D.bytes source.old) size at) }
 {
     let mut head = [0; HEADER];
     if !reads_standing(source, size, at, &mut head)? {
         return Ok(None);
     }
-    vouched_by(alloc, source, size, &head)
+    vouched_by(alloc, source, size, &head, most)
 }
 
 /// Whether, of what the checksum of the copy at `at` may vouch for, not all is tried by `find_vouched`: its
-/// binary header stands, and all compositions of both copies' sectors have more than 64 MiB together. Takes
-/// memory, for two JSON areas, only where it stands. Nothing is hashed.
+/// binary header stands, and all compositions of both copies' sectors and bytes have more than `most` bytes
+/// together. Takes memory, for two JSON areas, only where it stands. Nothing is hashed.
 pub fn is_cut_short<D: Device>(
     alloc: Global,
     source: &mut D,
     size: u64,
     at: u64,
+    most: usize,
 ) -> Result<bool, VouchFault>
     requires listed { IsListed size }
+    requires most { most ≤ 2 ^ 40 }
     requires half { (at ≡ 0) ⊎ (at ≡ size) }
     requires room { D.failed source.old + 1 < 2 ^ 64 }
     ensures unchanged { IsUnchanged D.tells D.size D.bytes D.unsettled source.old source.new }
     ensures count { CountsFailure is_vouch_failure result
         (D.failed source.old) (D.failed source.new) }
-    ensures told { D.tells → IfOk result (λ is. IsTrue is ↔ IsCutShortAt (D.bytes source.old) size at) }
+    ensures told { D.tells → IfOk result (λ is. IsTrue is ↔ IsCutShortAt most (D.bytes source.old) size at) }
     ensures refused { D.tells → IfErr result (IsMemoryWhereStands (D.bytes source.old) size at) }
 {
     let mut head = [0; HEADER];
@@ -83,43 +88,7 @@ pub fn is_cut_short<D: Device>(
     }
     let first = read_area(alloc, source, size, 0)?;
     let second = read_area(alloc, source, size, size)?;
-    Ok(are_cut_short(&first, &second))
-}
-
-/// Whether the binary header of the copy at `at` stands. Then `head` holds it, with the magic of its place.
-fn reads_standing<D: Device>(
-    source: &mut D,
-    size: u64,
-    at: u64,
-    head: &mut [u8],
-) -> Result<bool, VouchFault>
-    requires listed { IsListed size }
-    requires half { (at ≡ 0) ⊎ (at ≡ size) }
-    requires long { length head.old ≡ 4096 }
-    requires room { D.failed source.old + 1 < 2 ^ 64 }
-    ensures unchanged { IsUnchanged D.tells D.size D.bytes D.unsettled source.old source.new }
-    ensures count { CountsFailure is_vouch_failure result
-        (D.failed source.old) (D.failed source.new) }
-    ensures both { IfOk result (λ is. is ≡ true → 2 * size ≤ D.size source.old) }
-    ensures stands { D.tells → IfOk result (λ is. IsTrue is ↔ Stands (D.bytes source.old) size at) }
-    ensures head { D.tells → IfOk result (λ is. is ≡ true
-        → head.new ≡ mended_header (D.bytes source.old) at) }
-    ensures device { IfErr result (λ fault. fault ≡ VouchFault.Device) }
-{
-    let total = source.len();
-    if !are_both_inside(size, total) {
-        return Ok(false);
-    }
-    source.read_at(at, head)?;
-    mend(head, at);
-    Ok(is_standing(head, size, at, total))
-}
-
-/// Whether both copies of a header of `size` bytes lie inside a device of `total`. No sum is made.
-fn are_both_inside(size: u64, total: u64) -> bool
-    ensures { IsTrue result ↔ (2 * size ≤ total) }
-{
-    size <= total && size <= total - size
+    Ok(are_cut_short(&first, &second, most))
 }
 
 /// The metadata that is composed of both copies' JSON areas and meets the checksum of the binary
@@ -129,8 +98,10 @@ fn vouched_by<D: Device>(
     source: &mut D,
     size: u64,
     head: &[u8],
+    most: usize,
 ) -> Result<Option<Vouched>, VouchFault>
     requires listed { IsListed size }
+    requires most { most ≤ 2 ^ 40 }
     requires both { 2 * size ≤ D.size source.old }
     requires header { length head.now ≡ 4096 }
     requires room { D.failed source.old + 1 < 2 ^ 64 }
@@ -138,12 +109,12 @@ fn vouched_by<D: Device>(
     ensures count { CountsFailure is_vouch_failure result
         (D.failed source.old) (D.failed source.new) }
     ensures within { IfOk result (λ found. IfSome found (IsVouchedWithin size (D.size source.old))) }
-    ensures found { D.tells → IfOk result (FindsComposed head.now
+    ensures found { D.tells → IfOk result (FindsComposed most head.now
         (area_at (D.bytes source.old) 0 size) (area_at (D.bytes source.old) size size)) }
 {
     let first = read_area(alloc, source, size, 0)?;
     let second = read_area(alloc, source, size, size)?;
-    composed(alloc, head, &first, &second)
+    composed(alloc, head, first, second, most)
 }
 
 /// The bytes of the JSON area of the copy at `at` of a header of `size` bytes.
@@ -168,26 +139,38 @@ fn read_area<D: Device>(
     Ok(json)
 }
 
-/// The metadata that is composed of these two JSON areas and meets the checksum of the binary header.
-/// Fails only where memory was refused.
+/// The metadata that is composed of these two JSON areas and meets the checksum of the binary header. They are
+/// given back before it is read. Fails only where memory was refused.
 fn composed(
     alloc: Global,
     head: &[u8],
-    first: &[u8],
-    second: &[u8],
+    first: Vec<u8>,
+    second: Vec<u8>,
+    most: usize,
 ) -> Result<Option<Vouched>, VouchFault>
+    requires most { most ≤ 2 ^ 40 }
     requires header { length head.now ≡ 4096 }
-    requires whole { IsWholeSectors first.now }
-    requires long { length second.now ≡ length first.now }
-    ensures found { IfOk result (FindsComposed head.now first.now second.now) }
+    requires whole { IsWholeSectors first.items }
+    requires long { length second.items ≡ length first.items }
+    ensures found { IfOk result (FindsComposed most head.now first.items second.items) }
     ensures meta { IfOk result (λ found. IfSome found
         (λ w. IsMeta w.json.items (content w.meta))) }
     ensures long { IfOk result (λ found. IfSome found
-        (λ w. length w.json.items ≡ length first.now)) }
+        (λ w. length w.json.items ≡ length first.items)) }
     ensures refused { IfErr result (λ fault. fault ≡ VouchFault.Memory) }
 {
     let mut json = vec![in alloc; 0u8; first.len()]?;
-    if !compose(first, second, &mut json, hasher_of(head), sum_of(head)) {
+    let is_met = compose(
+        &first,
+        &second,
+        &mut json,
+        hasher_of(head),
+        sum_of(head),
+        most,
+    );
+    drop(first);
+    drop(second);
+    if !is_met {
         return Ok(None);
     }
     judged(alloc, head, json)

@@ -8,6 +8,13 @@ use Rattle.luks_execution.proofs.execution.execute.Goals as goal
 pub returns-in-Open-clause-executes : goal.returns-in-Open-clause-executes
 returns-in-Open-clause-executes g c = rw c.in-Open.is (record { kept = c.run-in-Open.ensures.answers })
 
+pub returns-in-Match-clause-executes : goal.returns-in-Match-clause-executes
+returns-in-Match-clause-executes g c = rw c.in-Match.is (record { kept = c.run-in-Match.ensures.answers })
+
+pub returns-in-Match-clause-settled : goal.returns-in-Match-clause-settled
+returns-in-Match-clause-settled g c = rw c.in-Match.is (settled_kept g.D.Device.tells g.D.Device.size g.D.Device.failed g.D.Device.bytes g.D.Device.unsettled _ _
+    c.requires.settled c.run-in-Match.ensures.unchanged)
+
 pub returns-in-Format-clause-executes : goal.returns-in-Format-clause-executes
 returns-in-Format-clause-executes g c = rw c.in-Format.is (record {
   kept = record {

@@ -1,7 +1,7 @@
-use Rattle.std.proofs.Common.{◌≡◌, ℕ, ◌<◌, ◌≤◌, List, sym, ◌∙◌, subst, arith}
+use Rattle.std.proofs.Common.{◌≡◌, ℕ, ◌<◌, ◌≤◌, List, [], sym, ◌∙◌, subst, arith}
 use Rattle.luks_area.specs.Device.{unchanged-then}
 use Rattle.luks_finding.specs.Finding.{looks_from, HasNoSignFrom, TellsNext}
-use Rattle.luks_find_command.specs.Searches.{starts_in, HasToldBy, IsToldCalmly, TellsPart}
+use Rattle.luks_find_command.specs.Searches.{starts_in, told_of, HasToldBy, IsToldCalmly, TellsPart}
 use Rattle.luks_find_command.specs.Stops.{StopsBy}
 use Rattle.luks_find_command.specs.declared.stop.Stop.{Stop}
 use Rattle.luks_find_command.specs.declared.stop.Stop.TheVariants as stop
@@ -15,21 +15,22 @@ returns-in-Ok-End-clause-all g c = λ t.
     let from : ℕ = looks_from c.loop-device.searching.finding in
     let N : List ℕ → Type 0 = λ w. HasNoSignFrom w from in
     let none = rw c.in-Ok-End.field-0-is at c.in-Ok-End.ensures.next t in
-    calm-all c.args.file.now.offset v from c.loop-device.searching.told.items (g.P.Printer.printed c.args.out.now) (g.P.Printer.printed c.loop-device.out)
+    calm-all c.args.file.now.offset v from c.loop-device.searching.told.items
+    (told_of (g.P.Printer.printed c.args.out.now) [] (g.G.Progress.paired c.args.progress.now)) (told_of (g.P.Printer.printed c.loop-device.out) c.loop-device.searching.met.items (g.G.Progress.paired c.loop-device.progress))
     (c.loop-device.invariant.told t) (subst N (c.loop-device.invariant.unchanged.same t) none)
 
 pub returns-in-Err-clause-first : goal.returns-in-Err-clause-first
 returns-in-Err-clause-first g c = λ t same.
     calm-first c.args.file.now.offset (g.D.Device.bytes c.args.device) (looks_from c.loop-device.searching.finding) c.loop-device.searching.told.items
-    (g.P.Printer.printed c.args.out.now) (g.P.Printer.printed c.loop-device.out) c.from.result (c.loop-device.invariant.told t)
+    (told_of (g.P.Printer.printed c.args.out.now) [] (g.G.Progress.paired c.args.progress.now)) (told_of (g.P.Printer.printed c.loop-device.out) c.loop-device.searching.met.items (g.G.Progress.paired c.loop-device.progress)) c.from.result (c.loop-device.invariant.told t)
 
 pub returns-in-Err-clause-on : goal.returns-in-Err-clause-on
 returns-in-Err-clause-on g c = λ t.
     let v : List ℕ = g.D.Device.bytes c.args.device in
     let F : Type 0 = g.D.Device.failed c.args.device < g.D.Device.failed c.step.new.device in
     let list : List ℕ = c.loop-device.searching.told.items in
-    let held = g.P.Printer.printed c.args.out.now in
-    let mid = g.P.Printer.printed c.loop-device.out in
+    let held = told_of (g.P.Printer.printed c.args.out.now) [] (g.G.Progress.paired c.args.progress.now) in
+    let mid = told_of (g.P.Printer.printed c.loop-device.out) c.loop-device.searching.met.items (g.G.Progress.paired c.loop-device.progress) in
     let S : ℕ → Type 0 = λ n. IsToldCalmly F c.args.file.now.offset v n list held mid c.from.result in
     subst S (sym c.in-Err.ensures.stays)
     (calm-stops F c.args.file.now.offset v (looks_from c.loop-device.searching.finding) list held mid c.from.result (c.loop-device.invariant.told t))
@@ -46,9 +47,9 @@ returns-in-Err-told g c =
     let next : ℕ = looks_from c.step.new.self in
     let step = c.in-Ok.step in
     let list : List ℕ = c.loop-device.searching.told.items in
-    let held = g.P.Printer.printed c.args.out.now in
-    let mid = g.P.Printer.printed c.loop-device.out in
-    let holds = g.P.Printer.printed c.take_step-left.new.out in
+    let held = told_of (g.P.Printer.printed c.args.out.now) [] (g.G.Progress.paired c.args.progress.now) in
+    let mid = told_of (g.P.Printer.printed c.loop-device.out) c.loop-device.searching.met.items (g.G.Progress.paired c.loop-device.progress) in
+    let holds = told_of (g.P.Printer.printed c.take_step-left.new.out) c.take_step-left.new.searching.met.items (g.G.Progress.paired c.take_step-left.new.progress) in
     let why : Stop = c.in-Err-told.stop in
     let F : Type 0 = mid_failed < now_failed in
     let N : List ℕ → Type 0 = λ w. TellsNext w from next step in
@@ -92,9 +93,9 @@ returns-then-failures g c =
     let next : ℕ = looks_from c.step.new.self in
     let step = c.in-Ok.step in
     let list : List ℕ = c.loop-device.searching.told.items in
-    let held = g.P.Printer.printed c.args.out.now in
-    let mid = g.P.Printer.printed c.loop-device.out in
-    let holds = g.P.Printer.printed c.take_step-left.new.out in
+    let held = told_of (g.P.Printer.printed c.args.out.now) [] (g.G.Progress.paired c.args.progress.now) in
+    let mid = told_of (g.P.Printer.printed c.loop-device.out) c.loop-device.searching.met.items (g.G.Progress.paired c.loop-device.progress) in
+    let holds = told_of (g.P.Printer.printed c.take_step-left.new.out) c.take_step-left.new.searching.met.items (g.G.Progress.paired c.take_step-left.new.progress) in
     let F : Type 0 = mid_failed < now_failed in
     let G : Type 0 = zero_failed < now_failed in
     record {
@@ -139,9 +140,9 @@ loop-device-preserved g c =
           let next : ℕ = looks_from c.step.new.self in
           let step = c.in-Ok.step in
           let list : List ℕ = c.loop-device.searching.told.items in
-          let held = g.P.Printer.printed c.args.out.now in
-          let mid = g.P.Printer.printed c.loop-device.out in
-          let holds = g.P.Printer.printed c.take_step-left.new.out in
+          let held = told_of (g.P.Printer.printed c.args.out.now) [] (g.G.Progress.paired c.args.progress.now) in
+          let mid = told_of (g.P.Printer.printed c.loop-device.out) c.loop-device.searching.met.items (g.G.Progress.paired c.loop-device.progress) in
+          let holds = told_of (g.P.Printer.printed c.take_step-left.new.out) c.take_step-left.new.searching.met.items (g.G.Progress.paired c.take_step-left.new.progress) in
           let F : Type 0 = mid_failed < now_failed in
           let bytes_same : g.D.Device.bytes c.step.new.device ≡ v = c.in-Ok.ensures.unchanged.same t ∙ c.loop-device.invariant.unchanged.same t in
           let N : List ℕ → Type 0 = λ w. TellsNext w from next step in

@@ -1,6 +1,7 @@
-use Rattle.std.proofs.Common.{◌≡◌, ◌-◌, ◌*◌}
+use Rattle.std.proofs.Common.{◌≡◌, ◌-◌, ◌*◌, []}
 use Rattle.luks_area.specs.Device.{IsUnchanged}
 use Rattle.luks_finding.specs.Finding.{looks_from}
+use Rattle.luks_find_command.specs.Searches.{told_of}
 use Rattle.luks_find_command.proofs.SearchFacts.{IsCalm}
 use Rattle.luks_find_command.proofs.searching.search_calmly.Given as goal
 
@@ -11,7 +12,8 @@ invariant-loop-device g l = record {
   count : g.D.Device.failed l.device ≡ g.D.Device.failed l.fn.device;
   prints : g.P.Printer.failures l.out ≡ g.P.Printer.failures l.fn.out;
   silent : g.G.Progress.heard l.progress ≡ g.G.Progress.heard l.fn.progress;
-  told : g.D.Device.tells → IsCalm l.file.offset (g.D.Device.bytes l.fn.device) (looks_from l.searching.finding) l.searching.told.items (g.P.Printer.printed l.fn.out) (g.P.Printer.printed l.out);
+  told : g.D.Device.tells → IsCalm l.file.offset (g.D.Device.bytes l.fn.device) (looks_from l.searching.finding) l.searching.told.items
+      (told_of (g.P.Printer.printed l.fn.out) [] (g.G.Progress.paired l.fn.progress)) (told_of (g.P.Printer.printed l.out) l.searching.met.items (g.G.Progress.paired l.progress));
 }
 
 abbrev pub decreases-loop-device : goal.decreases-loop-device

@@ -1,6 +1,7 @@
 use Rattle.std.proofs.Common.{◌≡◌, ◌-◌, ◌*◌, ◌≤◌}
 use Rattle.luks_area.specs.Device.{IsUnchanged}
 use Rattle.luks_finding.specs.Finding.{looks_from}
+use Rattle.luks_find_command.specs.Searches.{told_of}
 use Rattle.luks_find_command.proofs.GoingOnFacts.{IsGoing}
 use Rattle.luks_find_command.proofs.searching.search_on.Given as goal
 
@@ -12,7 +13,7 @@ invariant-loop-alloc g l = record {
   prints : g.P.Printer.failures l.out ≡ g.P.Printer.failures l.fn.out;
   going : IsGoing g.D.Device.tells l.file.offset (g.D.Device.size l.fn.device) (g.D.Device.bytes l.fn.device) l.fn.searching.told.items l.searching.told.items
       (looks_from l.searching.finding) (g.D.Device.failed l.fn.device) (g.D.Device.failed l.device) (g.G.Progress.heard l.fn.progress) (g.G.Progress.heard l.progress)
-      (g.P.Printer.printed l.fn.out) (g.P.Printer.printed l.out);
+      (told_of (g.P.Printer.printed l.fn.out) l.fn.searching.met.items (g.G.Progress.paired l.fn.progress)) (told_of (g.P.Printer.printed l.out) l.searching.met.items (g.G.Progress.paired l.progress));
 }
 
 abbrev pub decreases-loop-alloc : goal.decreases-loop-alloc

@@ -1,16 +1,27 @@
 use Rattle.std.proofs.Common.{ℕ, ◌+◌, ◌^◌, ◌<◌, ◌≤◌, ◌⊎◌, List, [], ◌∷◌, inl, inr, sym, subst, arith}
 use Rattle.luks_finding.specs.declared.finding.Step.{Step}
-use Rattle.luks_find_command.specs.Searches.{starts_in, TellsPart, TellsStepBy}
-use Rattle.luks_find_command.proofs.TellingFacts.{step-two, step-weaker, stops-longer, told-weaker}
+use Rattle.luks_find_command.specs.Searches.{starts_in, told_of, HasToldBy, TellsPart, TellsStepBy}
+use Rattle.luks_find_command.proofs.TellingFacts.{step-two, step-weaker, stops-longer, told-none, told-weaker}
 use Rattle.luks_find_command.proofs.searching.tell_step.Goals as goal
+
+pub returns-in-On-clause-told : goal.returns-in-On-clause-told
+returns-in-On-clause-told g c = λ t.
+    let held = told_of (g.P.Printer.printed c.args.out.now) c.args.met.now.items (g.G.Progress.paired c.args.progress.now) in
+    let F : Type 0 = g.D.Device.failed c.args.device < g.D.Device.failed c.args.device in
+    let S : Step → Type 0 = λ step. HasToldBy F c.args.file.now.offset (g.D.Device.bytes c.args.device) (starts_in step) held held in
+    let none = told-none F c.args.file.now.offset (g.D.Device.bytes c.args.device) held in
+    elim c.in-On.is [
+      | inl on ↦ subst S (sym on) none
+      | inr end ↦ subst S (sym end) none
+    ]
 
 pub returns-in-Ok-clause-told : goal.returns-in-Ok-clause-told
 returns-in-Ok-clause-told g c = λ t.
     let v : List ℕ = g.D.Device.bytes c.args.device in
     let offset : ℕ = c.args.file.now.offset in
-    let held = g.P.Printer.printed c.args.out.now in
-    let mid = g.P.Printer.printed c.tell-device.new.out in
-    let holds = g.P.Printer.printed c.tell_second.new.out in
+    let held = told_of (g.P.Printer.printed c.args.out.now) c.args.met.now.items (g.G.Progress.paired c.args.progress.now) in
+    let mid = told_of (g.P.Printer.printed c.tell-device.new.out) c.tell-device.new.met.items (g.G.Progress.paired c.tell-device.new.progress) in
+    let holds = told_of (g.P.Printer.printed c.tell_second.new.out) c.tell_second.new.met.items (g.G.Progress.paired c.tell_second.new.progress) in
     let one : ℕ = g.D.Device.failed c.args.device in
     let two : ℕ = g.D.Device.failed c.tell-device.result.0 in
     let three : ℕ = g.D.Device.failed c.tell_second.result.0 in
@@ -34,8 +45,8 @@ pub returns-in-Err-clause-told : goal.returns-in-Err-clause-told
 returns-in-Err-clause-told g c = λ t.
     let v : List ℕ = g.D.Device.bytes c.args.device in
     let offset : ℕ = c.args.file.now.offset in
-    let held = g.P.Printer.printed c.args.out.now in
-    let mid = g.P.Printer.printed c.tell-device.new.out in
+    let held = told_of (g.P.Printer.printed c.args.out.now) c.args.met.now.items (g.G.Progress.paired c.args.progress.now) in
+    let mid = told_of (g.P.Printer.printed c.tell-device.new.out) c.tell-device.new.met.items (g.G.Progress.paired c.tell-device.new.progress) in
     let F : Type 0 = g.D.Device.failed c.args.device < g.D.Device.failed c.tell-device.result.0 in
     let S : Step → Type 0 = λ step. TellsPart F offset v (starts_in step) held mid c.in-Err.stop in
     let first = rw c.in-Err.is at c.tell-device.ensures.told t in

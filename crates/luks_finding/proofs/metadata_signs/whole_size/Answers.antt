@@ -3,7 +3,7 @@ use Rattle.std.proofs.lemmas.Bool.{false≢true}
 use Rattle.luks_area.specs.Device.{unchanged-then}
 use Rattle.luks2_header.proofs.SecondCopyFacts.{among_all}
 use Rattle.luks_rebuilding.specs.Candidates.{IsCandidate}
-use Rattle.luks_rebuilding.specs.declared.place.Which.TheVariants.{Any}
+use Rattle.luks_rebuilding.specs.declared.place.Copies.TheVariants.{Any}
 use Rattle.luks_finding.specs.Starts.{volume_at}
 use Rattle.luks_finding.specs.Telling.{first_copy, IsWholeAt}
 use Rattle.luks_finding.proofs.SizeFacts.{among-later}

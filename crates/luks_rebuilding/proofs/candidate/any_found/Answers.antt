@@ -2,7 +2,7 @@ use Rattle.std.proofs.Common.{ℕ, List, IfOk, IfErr, subst}
 use Rattle.std.proofs.lemmas.Result.{err_from_is_err_and}
 use Rattle.luks_rebuilding.specs.Found.{BreaksFirst, BreaksHalf, FindsHalf}
 use Rattle.luks_rebuilding.specs.declared.place.Half.TheVariants.{Second}
-use Rattle.luks_rebuilding.specs.declared.place.Which.TheVariants.{Any}
+use Rattle.luks_rebuilding.specs.declared.place.Copies.TheVariants.{Any}
 use Rattle.luks_rebuilding.proofs.SearchFacts.{after_broken, after_result, broken_so, first_broken, first_taken}
 use Rattle.luks_rebuilding.proofs.candidate.any_found.Goals as goal
 

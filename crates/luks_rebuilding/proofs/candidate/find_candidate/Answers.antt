@@ -19,7 +19,7 @@ returns-in-None-clause-found g c = λ t.
     plain_found v c.args.which (c.in_ok-pass_counting.ensures.passes t)
     (subst (λ (u : List ℕ). FindsVouchedFirst u c.args.which None) (c.in_ok-pass_counting.ensures.unchanged.same t) none)
     c.find_plain.result c.find_plain.ensures.plain
-    (subst (λ (u : List ℕ). IfOk c.find_plain.result (λ (k : Candidate). FindsFirst u c.args.which (Some k))) same (c.find_plain.ensures.found t))
+    (subst (λ (u : List ℕ). IfOk c.find_plain.result (λ (k : Candidate). FindsFirst u c.args.which.copies (Some k))) same (c.find_plain.ensures.found t))
 
 pub returns-in-None-clause-refused : goal.returns-in-None-clause-refused
 returns-in-None-clause-refused g c = λ t.
@@ -29,4 +29,4 @@ returns-in-None-clause-refused g c = λ t.
     plain_refused v c.args.which (c.in_ok-pass_counting.ensures.passes t)
     (subst (λ (u : List ℕ). FindsVouchedFirst u c.args.which None) (c.in_ok-pass_counting.ensures.unchanged.same t) none)
     c.find_plain.result
-    (subst (λ (u : List ℕ). IfErr c.find_plain.result (IsNotPlain u c.args.which)) same (c.find_plain.ensures.refused t))
+    (subst (λ (u : List ℕ). IfErr c.find_plain.result (IsNotPlain u c.args.which.copies)) same (c.find_plain.ensures.refused t))

@@ -1,7 +1,7 @@
 use Rattle.std.proofs.Common.{ℕ, List, IfOk, IfErr, subst}
 use Rattle.luks_rebuilding.specs.Found.{place_of, BreaksAt, BreaksFirst, FindsAt}
 use Rattle.luks_rebuilding.specs.declared.place.Half.TheVariants.{Second}
-use Rattle.luks_rebuilding.specs.declared.place.Which.TheVariants.{OfSize}
+use Rattle.luks_rebuilding.specs.declared.place.Copies.TheVariants.{OfSize}
 use Rattle.luks_rebuilding.proofs.SearchFacts.{broken_so}
 use Rattle.luks_rebuilding.proofs.SizedFacts.{after_broken, sized_first, sized_result}
 use Rattle.luks_rebuilding.proofs.candidate.sized_found.Goals as goal

@@ -36,14 +36,14 @@ few a b n passed inside is =
     omega (arith, inside, is, le)
 
 -- a border that is too far
-too_far : (a b : List ℕ) (n passed : ℕ) → passed ≡ differing_before a b n → ((2 + 2 * (passed + 1)) * length a ≤ 67108864 → ⊥) → IsNear a b n → ⊥
-too_far a b n passed is far near = far (subst (λ k. (2 + 2 * (k + 1)) * length a ≤ 67108864) (sym is) near)
+too_far : (most : ℕ) (a b : List ℕ) (n passed : ℕ) → passed ≡ differing_before a b n → ((2 + 2 * (passed + 1)) * length a ≤ most → ⊥) → IsNear most a b n → ⊥
+too_far most a b n passed is far near = far (subst (λ k. (2 + 2 * (k + 1)) * length a ≤ most) (sym is) near)
 
-pub borders_may-requires : goal.borders_may-requires
-borders_may-requires c = few c.args.front.now c.args.rest.now c.loop-n.n c.loop-n.passed (omega arith) c.loop-n.invariant.passed
+pub borders_may-requires-clause-inside : goal.borders_may-requires-clause-inside
+borders_may-requires-clause-inside c = few c.args.front.now c.args.rest.now c.loop-n.n c.loop-n.passed (omega arith) c.loop-n.invariant.passed
 
-pub borders_may-requires-2 : goal.borders_may-requires-2
-borders_may-requires-2 c = few c.args.front.now c.args.rest.now c.loop-n.n c.loop-n.passed (omega arith) c.loop-n.invariant.passed
+pub borders_may-requires-2-clause-inside : goal.borders_may-requires-2-clause-inside
+borders_may-requires-2-clause-inside c = few c.args.front.now c.args.rest.now c.loop-n.n c.loop-n.passed (omega arith) c.loop-n.invariant.passed
 
 pub overflow_add-passed : goal.overflow_add-passed
 overflow_add-passed c =
@@ -53,8 +53,8 @@ overflow_add-passed c =
 
 pub returns-then-not-borders_may-clause-none : goal.returns-then-not-borders_may-clause-none
 returns-then-not-borders_may-clause-none c = λ done held is.
-    no_border_before c.args.front.now c.args.rest.now c.requires.long (MeetsAfter c.args.sum.now done) c.loop-n.n
-    (too_far c.args.front.now c.args.rest.now c.loop-n.n c.loop-n.passed c.loop-n.invariant.passed (λ le. false≢true (c.if-not-borders_may.ensures.1 le)))
+    no_border_before c.args.front.now c.args.rest.now c.requires.long c.args.most (MeetsAfter c.args.sum.now done) c.loop-n.n
+    (too_far c.args.most c.args.front.now c.args.rest.now c.loop-n.n c.loop-n.passed c.loop-n.invariant.passed (λ le. false≢true (c.if-not-borders_may.ensures.1 le)))
     (c.loop-n.invariant.none done held)
 
 pub loop-n-preserved : goal.loop-n-preserved
@@ -105,14 +105,14 @@ returns-else-borders_may-clause-none c = λ done held is.
     let end : 512 * n ≡ length a = let whole = c.requires.whole in let past = c.loop-n-test.false in let within = c.loop-n.auto.n-end in omega (arith, whole, past, within) in
     elim c.else-borders_may.branch [
       | else-borders_may-via-then-borders_may+else-is_met-2 w ↦
-          no_border a b c.requires.long (MeetsAfter c.args.sum.now done) n end (c.loop-n.invariant.none done held) (λ met. elim (cases_Bool c.loop-n.is_new) [
+          no_border a b c.requires.long c.args.most (MeetsAfter c.args.sum.now done) n end (c.loop-n.invariant.none done held) (λ met. elim (cases_Bool c.loop-n.is_new) [
             | inl new ↦
                 w.is_met-then-borders_may.ensures.not_met (done ++ take (512 * n) a) (c.loop-n.invariant.fed done held) w.if-is_met-2.false new
                 (met ∙ ap (λ l. sha256 (done ++ l)) (sym (all_fed a b n c.requires.long (omega (arith, end)))) ∙ ap sha256 (sym (append_assoc done (take (512 * n) a) [])))
             | inr old ↦ c.loop-n.invariant.same old done held (subst (MeetsAfter c.args.sum.now done) (sym (border_all a b c.requires.long n (omega (arith, end)))) met)
           ])
       | else-borders_may-via-else-borders_may w ↦
-          no_border_before a b c.requires.long (MeetsAfter c.args.sum.now done) n
-          (too_far a b n c.loop-n.passed c.loop-n.invariant.passed (λ le. false≢true (sym w.if-borders_may.false ∙ c.borders_may-2.ensures.1 le)))
+          no_border_before a b c.requires.long c.args.most (MeetsAfter c.args.sum.now done) n
+          (too_far c.args.most a b n c.loop-n.passed c.loop-n.invariant.passed (λ le. false≢true (sym w.if-borders_may.false ∙ c.borders_may-2.ensures.1 le)))
           (c.loop-n.invariant.none done held)
     ]

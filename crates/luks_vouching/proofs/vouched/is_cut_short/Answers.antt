@@ -12,7 +12,7 @@ returns-clause-told g c = λ t.
     let second : c.deref-2.result.now ≡ area_at v c.args.size c.args.size = c.deref-2.ensures.value ∙ c.in_ok-second.ensures.read t ∙ ap (λ w. area_at w c.args.size c.args.size) two in (
       λ is. (
         (c.in_ok-reads_standing.ensures.stands t).0 c.if-not-branch.false,
-        subst (λ l. IsCutShort l (area_at v c.args.size c.args.size)) first (subst (IsCutShort c.deref.result.now) second (c.are_cut_short.ensures.0 is)),
+        subst (λ l. IsCutShort c.args.most l (area_at v c.args.size c.args.size)) first (subst (IsCutShort c.args.most c.deref.result.now) second (c.are_cut_short.ensures.0 is)),
       ),
-      λ x. c.are_cut_short.ensures.1 (subst (IsCutShort c.deref.result.now) (sym second) (subst (λ l. IsCutShort l (area_at v c.args.size c.args.size)) (sym first) x.1)),
+      λ x. c.are_cut_short.ensures.1 (subst (IsCutShort c.args.most c.deref.result.now) (sym second) (subst (λ l. IsCutShort c.args.most l (area_at v c.args.size c.args.size)) (sym first) x.1)),
     )

@@ -1,0 +1,97 @@
+//! The lines of the metadata of which a header was made.
+ghost use Rattle.std.specs.Prelude.{◌+◌, ◌^◌, ◌<◌};
+ghost use Rattle.luks_area.specs.Device.{CountsFailure, IsUnchanged};
+ghost use Rattle.luks_rebuilding.specs.RebuildFaults.{is_rebuild_failure};
+
+use crate::further::whole_of;
+use crate::metadata::{copy_of, keyslots_of, say_origin};
+use crate::older::header_at;
+use crate::told::Told;
+use luks_area::Device;
+use luks_rebuilding::{Candidate, Copies, Place, RebuildFault, Which, find_plain, find_voucher};
+use std::alloc::Global;
+use std::io::Write;
+
+/// Says to `err` of which copy's metadata the header on the target was made, if that is one of LUKS2, and how many
+/// keyslots it has; and the same of it as `note_whole`. The metadata is read from the target, so that what checksums
+/// vouch for isn't sought once more; where a device fails it says nothing.
+pub fn note_taken<S: Device, T: Device, E: Write>(
+    alloc: Global,
+    source: &mut S,
+    target: &mut T,
+    which: Which,
+    err: &mut E,
+)
+    requires source { S.failed source.old + 1 < 2 ^ 64 }
+    requires target { T.failed target.old + 1 < 2 ^ 64 }
+    ensures source { IsUnchanged S.tells S.size S.bytes S.unsettled source.old source.new }
+    ensures target { IsUnchanged T.tells T.size T.bytes T.unsettled target.old target.new }
+{
+    if let Ok(made) = made_on(alloc, target) {
+        let _ = say_taken(alloc, source, which, made, err);
+    }
+}
+
+/// The metadata of the LUKS2 header that begins the target; `NoMetadata` where none does.
+fn made_on<T: Device>(alloc: Global, target: &mut T) -> Result<Candidate, RebuildFault>
+    requires { T.failed target.old + 1 < 2 ^ 64 }
+    ensures unchanged { IsUnchanged T.tells T.size T.bytes T.unsettled target.old target.new }
+    ensures count { CountsFailure is_rebuild_failure result
+        (T.failed target.old) (T.failed target.new) }
+{
+    match header_at(target, 0)? {
+        Some(header) if header.version == 2 => {
+            find_plain(alloc, target, Copies::OfSize(header.hdr_size))
+        }
+        _ => Err(RebuildFault::NoMetadata),
+    }
+}
+
+/// The lines of this metadata, until a fault ends them.
+fn say_taken<S: Device, E: Write>(
+    alloc: Global,
+    source: &mut S,
+    which: Which,
+    made: Candidate,
+    err: &mut E,
+) -> Result<(), RebuildFault>
+    requires { S.failed source.old + 1 < 2 ^ 64 }
+    ensures { IsUnchanged S.tells S.size S.bytes S.unsettled source.old source.new }
+{
+    let voucher = find_voucher(source, which.copies, &made.json)?;
+    let mut found = Told::of(made);
+    let Some(place) = place_of(alloc, source, which.copies, voucher)? else {
+        return Ok(());
+    };
+    found.place = place;
+    found.is_vouched = voucher.is_some();
+    let count = found.count();
+    let keyslots = keyslots_of(count);
+    let copy = copy_of(&place);
+    let _ = writeln!(
+        err,
+        "luks: made of the metadata in the {copy} copy, which has {count} {keyslots}"
+    );
+    say_origin(alloc, source, which, &found, err)
+}
+
+/// The place of the copy of which it is: that whose checksum vouches for it, else the first that is whole.
+fn place_of<S: Device>(
+    alloc: Global,
+    source: &mut S,
+    copies: Copies,
+    voucher: Option<Place>,
+) -> Result<Option<Place>, RebuildFault>
+    requires { S.failed source.old + 1 < 2 ^ 64 }
+    ensures unchanged { IsUnchanged S.tells S.size S.bytes S.unsettled source.old source.new }
+    ensures count { CountsFailure is_rebuild_failure result
+        (S.failed source.old) (S.failed source.new) }
+{
+    if voucher.is_some() {
+        return Ok(voucher);
+    }
+    match whole_of(alloc, source, copies)? {
+        Some(found) => Ok(Some(found.place)),
+        None => Ok(None),
+    }
+}
