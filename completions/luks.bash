@@ -18,6 +18,7 @@ _luks() {
         [backup]="--over --rescue --detached --offset --length --quiet --help"
         [restore]="--other --over --over-reencryption --detached --offset --length --quiet --help"
         [compare]="--detached --offset --length --quiet --help"
+        [key]="--passphrase --passphrase-line --to --slot --memory --older --over --offset --length --quiet --help"
         [explain]="--help"
         [help]="--help"
     )

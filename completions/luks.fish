@@ -192,8 +192,21 @@ complete -c luks -n '__fish_seen_subcommand_from compare' -l offset -x -d 'The b
 complete -c luks -n '__fish_seen_subcommand_from compare' -l length -x -d 'How many bytes the volume has'
 complete -c luks -n '__fish_seen_subcommand_from compare' -l quiet -d 'No hints on standard error'
 
+complete -c luks -n __fish_use_subcommand -a key -d 'Writes the volume key to a file, for who keeps it safe'
+complete -c luks -n '__fish_seen_subcommand_from key' -F
+complete -c luks -n '__fish_seen_subcommand_from key' -l passphrase -r -F -d 'The file of the passphrase, taken whole'
+complete -c luks -n '__fish_seen_subcommand_from key' -l passphrase-line -r -F -d 'The file whose first line is the passphrase'
+complete -c luks -n '__fish_seen_subcommand_from key' -l to -r -F -d 'The file of the key, which is made'
+complete -c luks -n '__fish_seen_subcommand_from key' -l slot -x -a '(seq 0 31)' -d 'The keyslot to try, 0 to 31; else all'
+complete -c luks -n '__fish_seen_subcommand_from key' -l memory -x -d 'The MiB that Argon2 may take'
+complete -c luks -n '__fish_seen_subcommand_from key' -l older -d 'Accept ciphers and hashes of older disks'
+complete -c luks -n '__fish_seen_subcommand_from key' -l over -d "Write over a FILE that isn't empty"
+complete -c luks -n '__fish_seen_subcommand_from key' -l offset -x -d 'The byte of the file where the volume begins'
+complete -c luks -n '__fish_seen_subcommand_from key' -l length -x -d 'How many bytes the volume has'
+complete -c luks -n '__fish_seen_subcommand_from key' -l quiet -d 'No hints on standard error'
+
 complete -c luks -n __fish_use_subcommand -a explain -d 'Says what a fault means, and what to try next'
 complete -c luks -n '__fish_seen_subcommand_from explain' -a '(luks explain 2>/dev/null | cut -d" " -f1)'
 
 complete -c luks -n __fish_use_subcommand -a help -d 'Print help'
-complete -c luks -n '__fish_seen_subcommand_from help' -a 'check show open add change remove repair label format convert rebuild find backup restore compare explain'
+complete -c luks -n '__fish_seen_subcommand_from help' -a 'check show open add change remove repair label format convert rebuild find backup restore compare key explain'

@@ -14,7 +14,7 @@ pub fn other_words() -> &'static [OtherWord] {
     &OTHER_WORDS
 }
 
-static OTHER_WORDS: [OtherWord; 58] = [
+static OTHER_WORDS: [OtherWord; 60] = [
     OtherWord {
         word: "luksDump",
         here: "luks show",
@@ -166,6 +166,14 @@ static OTHER_WORDS: [OtherWord; 58] = [
     OtherWord {
         word: "--new-key-file",
         here: "--new FILE",
+    },
+    OtherWord {
+        word: "--dump-volume-key",
+        here: "luks key VOLUME --to FILE, with the passphrase",
+    },
+    OtherWord {
+        word: "--dump-master-key",
+        here: "luks key VOLUME --to FILE, with the passphrase",
     },
     OtherWord {
         word: "--volume-key-file",

@@ -30,7 +30,7 @@ pub(crate) fn command_row(name: &str) -> Option<&'static Described> {
     commands().iter().find(|described| described.name == name)
 }
 
-static COMMANDS: [Described; 16] = [
+static COMMANDS: [Described; 17] = [
     Described {
         name: "check",
         command: CommandName::Check,
@@ -304,6 +304,25 @@ static COMMANDS: [Described; 16] = [
             LongOption::Quiet,
         ],
         choices: &[],
+    },
+    Described {
+        name: "key",
+        command: CommandName::Key,
+        overwrites: false,
+        operands: &[Operand::Volume],
+        options: &[
+            LongOption::Passphrase,
+            LongOption::PassphraseLine,
+            LongOption::KeyFile,
+            LongOption::TriedSlot,
+            LongOption::Memory,
+            LongOption::Older,
+            LongOption::OverFile,
+            LongOption::Offset,
+            LongOption::Length,
+            LongOption::Quiet,
+        ],
+        choices: &[Choice::Passphrase],
     },
     Described {
         name: "explain",

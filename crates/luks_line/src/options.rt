@@ -34,6 +34,7 @@ pub(crate) enum LongOption {
     Offset,
     Length,
     OverFile,
+    KeyFile,
     Rescue,
     Other,
     RemovedSlot,
@@ -72,7 +73,7 @@ pub(crate) struct OptionRow {
 }
 
 /// In the order of `LongOption`.
-static OPTIONS: [OptionRow; 49] = [
+static OPTIONS: [OptionRow; 50] = [
     OptionRow {
         name: "detached",
         needed: false,
@@ -240,6 +241,12 @@ static OPTIONS: [OptionRow; 49] = [
         needed: false,
         help: "Write over a FILE that isn't empty",
         takes: Takes::Nothing,
+    },
+    OptionRow {
+        name: "to",
+        needed: true,
+        help: "The file of the key, which is made",
+        takes: Takes::File,
     },
     OptionRow {
         name: "rescue",

@@ -10,8 +10,8 @@ use clap::ArgMatches;
 use luks_kdf::HashName;
 use luks_reading::{Data, Format};
 use luks_request::{
-    BackingUp, Command, Comparing, Converting, EditRequest, Editing, Line, Making, NewVersion,
-    Place, Rebuilding, Restoring, ShowAs,
+    BackingUp, Command, Comparing, Converting, EditRequest, Editing, KeepingKey, Line, Making,
+    NewVersion, Place, Rebuilding, Restoring, ShowAs,
 };
 
 /// What the command asks for, of a volume.
@@ -55,6 +55,7 @@ fn command_of<'a>(name: CommandName, given: &ArgMatches<'a>) -> Option<Command<'
         CommandName::Backup => backing_up_of(given),
         CommandName::Restore => restoring_of(given),
         CommandName::Compare => comparing_of(given),
+        CommandName::Key => keeping_key_of(given),
         _ => editing_of(name, given),
     }
 }
@@ -223,6 +224,17 @@ fn comparing_of<'a>(given: &ArgMatches<'a>) -> Option<Command<'a>> {
     Some(Command::Compare(Comparing {
         backup: given.get_str("FILE")?,
         payload: data_of(given),
+    }))
+}
+
+fn keeping_key_of<'a>(given: &ArgMatches<'a>) -> Option<Command<'a>> {
+    Some(Command::KeepKey(KeepingKey {
+        target: given.get_str("to")?,
+        passphrase: passphrase_of(given)?,
+        slot: given.get_one::<u8>("slot"),
+        memory: mib_of(given, "memory")?,
+        older: given.get_flag("older"),
+        over: given.get_flag("over"),
     }))
 }
 

@@ -3,7 +3,7 @@ ghost use Rattle.luks_request.specs.Named.{backup_of, edit_new_of, edit_passphra
 ghost use Rattle.luks_request.specs.Named.{passphrase_of, random_of, target_of};
 
 use crate::derivation::AskedKdf;
-use crate::keeping::{BackingUp, Comparing, Restoring};
+use crate::keeping::{BackingUp, Comparing, KeepingKey, Restoring};
 use crate::place::Place;
 use crate::rebuilding::Rebuilding;
 use luks_reading::{Data, Format};
@@ -58,6 +58,8 @@ pub enum Command<'a> {
     Restore(Restoring<'a>),
     /// Compare a backup with the volume.
     Compare(Comparing<'a>),
+    /// Write the volume key that a keyslot opens to into a file.
+    KeepKey(KeepingKey<'a>),
 }
 
 /// Which key is judged, and by what.
@@ -245,6 +247,7 @@ impl<'a> Line<'a> {
             Command::Match(matching) => Some(matching.key),
             Command::Edit(editing) => editing.request.passphrase(),
             Command::Format(making) => Some(making.passphrase),
+            Command::KeepKey(keeping) => Some(keeping.passphrase),
         }
     }
 
@@ -280,6 +283,7 @@ impl<'a> Line<'a> {
             Command::Convert(converting) => Some(converting.target),
             Command::Rebuild(rebuilding) => Some(rebuilding.target),
             Command::Backup(backing_up) => Some(backing_up.target),
+            Command::KeepKey(keeping) => Some(keeping.target),
             _ => None,
         }
     }
