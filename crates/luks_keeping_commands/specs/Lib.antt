@@ -4,3 +4,4 @@ pub mod Reencrypting
 pub mod Restoring
 pub mod Comparing
 pub mod Differences
+pub mod KeepingKey

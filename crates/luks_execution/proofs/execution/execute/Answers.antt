@@ -114,3 +114,16 @@ returns-in-Edit-clause-executes g c = rw c.in-Edit.is (record {
     over = c.run-in-Edit.ensures.over;
   };
 })
+
+pub returns-in-KeepKey-clause-executes : goal.returns-in-KeepKey-clause-executes
+returns-in-KeepKey-clause-executes g c = rw c.in-KeepKey.is (record {
+  kept = record {
+    same = c.run-in-KeepKey.ensures.same;
+    exists = c.run-in-KeepKey.ensures.exists;
+    answers = c.run-in-KeepKey.ensures.answers;
+  };
+})
+
+pub returns-in-KeepKey-clause-settled : goal.returns-in-KeepKey-clause-settled
+returns-in-KeepKey-clause-settled g c = rw c.in-KeepKey.is (settled_kept g.D.Device.tells g.D.Device.size g.D.Device.failed g.D.Device.bytes g.D.Device.unsettled _ _
+    c.requires.settled c.run-in-KeepKey.ensures.unchanged)
