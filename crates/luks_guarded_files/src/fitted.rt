@@ -74,8 +74,10 @@ impl FittedFile {
             file.set_permissions(Permissions::from_mode(OWNERS))?;
         }
         Ok(Some(FittedFile {
+            file,
+            length: Cell::new(Some(length)),
             is_exact: true,
-            ..FittedFile::with_length(file, length)
+            watch: Cell::new(None),
         }))
     }
 

@@ -21,7 +21,7 @@ use Rattle.luks_commands.specs.declared.answers.Refusal.TheVariants as refusal
 use Rattle.luks_commands.specs.declared.inputs.InputFault.{InputFault}
 use Rattle.luks_commands.specs.declared.inputs.InputFault.TheVariants.{Absent, Unreadable, NoMemory as NoMemoryToRead}
 use Rattle.luks_commands.specs.declared.inputs.Reason.TheVariants as reason
-use Rattle.luks_commands.specs.Answer.{answer_status, current_status, IsWordless, unread_answer}
+use Rattle.luks_commands.specs.Answer.{answer_status, current_status, IsWordless, open_fault_answer, unread_answer}
 use Rattle.luks_commands.specs.Exit.{exit_status}
 use Rattle.luks_commands.specs.Standing.{bar_answer, HasOther, IsBar}
 use Rattle.luks_commands.specs.declared.standing.Bar.{Bar}
@@ -34,6 +34,9 @@ use Rattle.luks_commands.specs.OpenAnswers.{AnswersOpen, IsAnyAnswer, IsOneAnswe
 use Rattle.luks_reading.specs.declared.key_fault.KeyFault.{KeyFault}
 use Rattle.luks_reading.specs.declared.key_fault.KeyFault.TheVariants as judging
 use Rattle.luks_reading.specs.declared.matching.KeyMatch.{KeyMatch}
+use Rattle.luks_reading.specs.declared.open_fault.OpenFault.{OpenFault}
+use Rattle.luks_reading.specs.declared.open_fault.OpenFault.TheVariants as opening
+use Rattle.luks_area.specs.declared.device.Device.{Ghosts as Device}
 use Rattle.luks_commands.specs.FormatAnswers.{AnswersFormat, IsFormatAnswer}
 use Rattle.luks_rebuilding.specs.declared.place.Which.{Which}
 use Rattle.luks_commands.specs.ShowAnswers.{AnswersShow, IsFullAnswer, IsJsonAnswer, IsListedAnswer, IsMapAnswer, IsShowAnswer}
@@ -49,11 +52,12 @@ use Rattle.luks_keeping.specs.declared.over.Over.{Over}
 use Rattle.luks_keeping.specs.declared.restore_fault.RestoreFault.TheVariants as restoring
 use Rattle.luks_keeping_commands.specs.BackingUp.{AnswersBackup, IsBackupAnswer, IsMadeAnswer, IsNotKept, IsRescueAnswer, IsWithoutFile}
 use Rattle.luks_keeping_commands.specs.Comparing.{AnswersCompare, IsCompareAnswer}
+use Rattle.luks_keeping_commands.specs.KeepingKey.{shut_answer, unmade_answer, AnswersKeyKept, IsKept, IsKeyFileAnswer}
 use Rattle.luks_keeping_commands.specs.Restoring.{over_of, AnswersBoth, AnswersRestore, IsRestoreAnswer, IsRestoreBar}
 use Rattle.luks_keeping_commands.specs.TwoFiles.{pair_of, Pair as TwoFiles}
 use Rattle.luks_edit_commands.specs.EditAnswers.{AnswersEdit, IsEditAnswer}
 use Rattle.luks_edit_commands.specs.Editing.{Given, Lacking}
-use Rattle.luks_main.specs.Statuses.{EndsBackup, EndsCheck, EndsCompare, EndsConvert, EndsEdit, EndsFormat, EndsKey, EndsOpen, EndsRebuild, EndsTried, EndsUntried, EndsRestore, EndsShow, EndsWith}
+use Rattle.luks_main.specs.Statuses.{EndsBackup, EndsCheck, EndsCompare, EndsConvert, EndsEdit, EndsFormat, EndsKeepKey, EndsKey, EndsOpen, EndsRebuild, EndsTried, EndsUntried, EndsRestore, EndsShow, EndsWith}
 
 -- an answer's own status
 abbrev pub own : Answer → ℕ
@@ -81,6 +85,7 @@ memory_ends (command.Rebuild rebuilding) = rebuild_memory_ends rebuilding.passph
 memory_ends (command.Backup backing_up) = refl
 memory_ends (command.Restore restoring) = refl
 memory_ends (command.Compare comparing) = refl
+memory_ends (command.KeepKey keeping) = refl
 
 -- a file that can't be read
 unread_ends : (Ends : Answer → ℕ → Type 0) → Ends DeviceFault 4 → Ends NoMemory 4 → (f : InputFault) (a : Answer) → a ≡ unread_answer f → Ends a (own a)
@@ -465,3 +470,60 @@ restore_same_file_ends a is = subst (λ x. EndsRestore x (own x)) (sym is) refl
 
 pub compare_same_file_ends : (a : Answer) → IsSameFile a → EndsCompare a (own a)
 compare_same_file_ends a is = subst (λ x. EndsCompare x (own x)) (sym is) refl
+
+-- ---- `key`
+
+kept_unread : (slot : Option ℕ) (f : InputFault) (a : Answer) → a ≡ unread_answer f → EndsKeepKey slot a (own a)
+kept_unread slot f a is = unread_ends (EndsKeepKey slot) refl refl f a is
+
+unmade_ends : (slot : Option ℕ) (f : InputFault) → EndsKeepKey slot (unmade_answer f) (own (unmade_answer f))
+unmade_ends slot Absent = refl
+unmade_ends slot (Unreadable reason.Exists) = refl
+unmade_ends slot (Unreadable reason.SameFile) = refl
+unmade_ends slot (Unreadable r) = refl
+unmade_ends slot NoMemoryToRead = refl
+
+kept_there : {D : Type 0} (device : Device D) (slot : Option ℕ) (key : List ℕ) (new : Result D InputFault) (a : Answer) → IsKept device key new a → EndsKeepKey slot a (own a)
+kept_there device slot key (Ok file) (Done None) said = (refl, refl)
+kept_there device slot key (Ok file) DeviceFault said = refl
+kept_there device slot key (Ok file) a said = absurd said
+kept_there device slot key (Err missed) a said = subst (λ x. EndsKeepKey slot x (own x)) (sym said) (unmade_ends slot missed)
+
+shut_ends : (slot : Option ℕ) → EndsKeepKey slot (shut_answer slot) (own (shut_answer slot))
+shut_ends (Some n) = (refl, refl)
+shut_ends None = (refl, refl)
+
+unopened_ends : (slot : Option ℕ) (f : OpenFault) → EndsKeepKey slot (open_fault_answer f) (own (open_fault_answer f))
+unopened_ends slot (opening.Head f) = refl
+unopened_ends slot (opening.Meta f) = refl
+unopened_ends slot opening.NoSuchSlot = refl
+unopened_ends slot opening.SlotFree = refl
+unopened_ends slot opening.Outside = refl
+unopened_ends slot (opening.Slot f) = refl
+unopened_ends slot opening.Device = refl
+unopened_ends slot opening.Memory = refl
+
+key_file_ends : {D : Type 0} (device : Device D) (slot : Option ℕ) (opened : Result (Option (List ℕ)) OpenFault) (old new : Result D InputFault) (a : Answer)
+    → IsKeyFileAnswer device slot opened old new a → EndsKeepKey slot a (own a)
+key_file_ends device slot (Ok (Some key)) old new a said = kept_there device slot key new a said
+key_file_ends device slot (Ok None) old new a said = subst (λ x. EndsKeepKey slot x (own x)) (sym said.1) (shut_ends slot)
+key_file_ends device slot (Err f) old new a said = subst (λ x. EndsKeepKey slot x (own x)) (sym said.1) (unopened_ends slot f)
+
+without_volume : (slot : Option ℕ) (is_long : Type 0) (unread : InputFault → Type 0) (f : InputFault) (a : Answer) → IsWordless is_long unread a ⊎ (a ≡ unread_answer f) → EndsKeepKey slot a (own a)
+without_volume slot is_long unread f a (inl said) = wordless_ends (EndsKeepKey slot) refl refl refl is_long unread a said
+without_volume slot is_long unread f a (inr said) = kept_unread slot f a said
+
+pub kept_key_ends : {D : Type 0} (device : Device D) (allowed : Allowed) (slot : Option ℕ) (HasWords : List ℕ → Type 0) (is_long : Type 0) (unread : InputFault → Type 0)
+    (volume volume_new old new : Result D InputFault) (a : Answer) → AnswersKeyKept device allowed slot HasWords is_long unread volume volume_new old new a → EndsKeepKey slot a (own a)
+kept_key_ends device allowed slot HasWords is_long unread (Ok volume) (Ok volume_new) old new a (inl said) =
+    wordless_ends (EndsKeepKey slot) refl refl refl is_long unread a said.0
+kept_key_ends device allowed slot HasWords is_long unread (Ok volume) (Ok volume_new) old new a (inr said) = key_file_ends device slot said.opened old new a said.is
+kept_key_ends device allowed slot HasWords is_long unread (Ok volume) (Err f) old new a said = absurd said
+kept_key_ends device allowed slot HasWords is_long unread (Err f) volume_new old new a said = without_volume slot is_long unread f a said.1
+
+-- where the key's file is another of the command, and where it is there
+pub kept_same_file_ends : (slot : Option ℕ) (a : Answer) → IsSameFile a → EndsKeepKey slot a (own a)
+kept_same_file_ends slot a is = subst (λ x. EndsKeepKey slot x (own x)) (sym is) refl
+
+pub kept_existing_ends : (slot : Option ℕ) (a : Answer) → a ≡ Refused refusal.Exists → EndsKeepKey slot a (own a)
+kept_existing_ends slot a is = subst (λ x. EndsKeepKey slot x (own x)) (sym is) refl

@@ -161,7 +161,8 @@ fn tell_more(
         (Command::Check { payload: _ } | Command::Show(_), Status::Refused) => {
             note_whole(alloc, volume, notes)
         }
-        (Command::Open { .. }, Status::Refused) if matches!(ended.answer, Answer::NoneOpens) => {
+        (Command::Open { .. } | Command::KeepKey(_), Status::Refused)
+            if matches!(ended.answer, Answer::NoneOpens) => {
             tell_unopened(alloc, volume, name, notes)
         }
         (Command::Edit(_) | Command::Format(_), Status::Refused)
@@ -171,7 +172,7 @@ fn tell_more(
 }
 
 /// Notes of the volume of this name, which no passphrase has opened, that it has no keyslot, or that another
-/// program has moved its key areas.
+/// program has moved its key areas, and that there may be another way in.
 fn tell_unopened(alloc: Global, volume: &mut Volume, name: &str, notes: &mut Vec<u8>)
     requires { cached_failures volume.old + 1 < 2 ^ 64 }
 {
@@ -179,6 +180,10 @@ fn tell_unopened(alloc: Global, volume: &mut Volume, name: &str, notes: &mut Vec
     if has_room(volume) {
         note_moved_areas(volume, name, notes);
     }
+    let _ = writeln!(
+        notes,
+        "luks: {name}: whoever has the volume key needs no passphrase, as where a mapping is still open or luks key has kept it: luks open --key"
+    );
 }
 
 /// Notes of which metadata of the volume the header on the target was made, of the copies that were asked for,
