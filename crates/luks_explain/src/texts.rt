@@ -48,11 +48,11 @@ pub(crate) fn means(fault: Fault) -> &'static str {
         Fault::RandomLength => "the random file is too short, or none is given",
         Fault::TooSmall => "the volume, TARGET or FILE is too short",
         Fault::NotLuks1 => "of convert: SOURCE is of LUKS2",
-        Fault::SameFile => "TARGET is SOURCE, or FILE is VOLUME",
+        Fault::SameFile => "TARGET is SOURCE, or FILE is VOLUME or the passphrase's",
         Fault::Counts => "of rebuild: a header of SOURCE counts",
         Fault::NoMetadata => "of rebuild: no metadata of SOURCE is whole",
         Fault::NoHeader => "of rebuild: SOURCE has no signs of a LUKS1 header",
-        Fault::Exists => "of backup: FILE is there and isn't empty",
+        Fault::Exists => "of backup and key: FILE is there and isn't empty",
         Fault::NotAccepted => "of restore: check --detached refuses FILE",
         Fault::DoesNotFit => "of restore: check would refuse VOLUME with this header",
         Fault::OtherVolume => "another volume's header stands on what would be written over",
@@ -162,9 +162,9 @@ pub(crate) fn place(fault: Fault) -> &'static str {
         }
         Fault::NotLuks1 => "convert: SOURCE",
         Fault::SameFile => {
-            "convert and rebuild, and backup, restore and compare: one file or device,
-       by the same words or two names, or one that has bytes of the other, as a
-       loop device of its file"
+            "convert and rebuild, backup, restore, compare and key: one file or
+       device, by the same words or two names, or one that has bytes of the
+       other, as a loop device of its file"
         }
         Fault::Counts => "rebuild: SOURCE",
         Fault::NoMetadata => {
@@ -175,7 +175,7 @@ pub(crate) fn place(fault: Fault) -> &'static str {
             "rebuild: the first 592 bytes of SOURCE, where --cipher, --hash,
        --key-bytes or --payload means LUKS1"
         }
-        Fault::Exists => "backup: FILE, without --over",
+        Fault::Exists => "backup: FILE, and key: the file --to, without --over",
         Fault::NotAccepted => {
             "NotAccepted(FAULT), of restore and compare: FILE; FAULT is what check
        --detached answers of it"
@@ -299,7 +299,10 @@ pub(crate) fn next(fault: Fault) -> &'static str {
        where a partition begins; a qcow2 file, or one of another image format,
        goes through qemu-img convert -O raw first; luks rebuild makes a header
        where luks check says that metadata is whole, and of what is left of one
-       of LUKS1, as after wipefs; else restore a header backup"
+       of LUKS1, as after wipefs; else restore a header backup; who has the
+       volume key, of a mapping that is open or by luks key, reads the data
+       without one (RESCUE), and luks open --key tells by which header it is
+       the one"
         }
         Fault::Version => {
             "luks rebuild makes a header of what is left of one of LUKS1, and of LUKS2
@@ -310,7 +313,8 @@ pub(crate) fn next(fault: Fault) -> &'static str {
             "see whether the image is whole, and what else luks check says stands
        there; read a disk that fails again, to an image; luks rebuild makes a
        header where luks check says that metadata is whole; else restore a
-       header backup (no repair helps)"
+       header backup (no repair helps); who has the volume key, of a mapping
+       that is open or by luks key, reads the data without one (RESCUE)"
         }
         Fault::Text => {
             "of LUKS1 luks rebuild makes a header with the text that --cipher, --hash
@@ -426,7 +430,10 @@ pub(crate) fn next(fault: Fault) -> &'static str {
        takes 2 MiB"
         }
         Fault::NotLuks1 => "nothing is to be converted: luks opens it as it is",
-        Fault::SameFile => "give a file of its own as TARGET: truncate -s 16M TARGET makes one",
+        Fault::SameFile => {
+            "give a file of its own as TARGET: truncate -s 16M TARGET makes one; for a
+       backup or a key the name of a new file"
+        }
         Fault::Counts => {
             "luks opens it as it is, luks repair writes both copies anew; for the
        metadata of an older header say --second or --size"
@@ -441,7 +448,7 @@ pub(crate) fn next(fault: Fault) -> &'static str {
        LUKS2 leave these options out; else a backup of the header, by luks
        restore"
         }
-        Fault::Exists => "name a new file; or say --over, where that backup isn't needed any more",
+        Fault::Exists => "name a new file; or say --over, where that one isn't needed any more",
         Fault::NotAccepted => {
             "luks check FILE --detached, and luks explain FAULT; or take another
        backup"

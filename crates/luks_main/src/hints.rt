@@ -172,18 +172,21 @@ fn tell_more(
 }
 
 /// Notes of the volume of this name, which no passphrase has opened, that it has no keyslot, or that another
-/// program has moved its key areas, and that there may be another way in.
+/// program has moved its key areas; where it has none, that the volume key is another way in.
 fn tell_unopened(alloc: Global, volume: &mut Volume, name: &str, notes: &mut Vec<u8>)
     requires { cached_failures volume.old + 1 < 2 ^ 64 }
 {
+    let said = notes.len();
     note_no_keyslots(alloc, volume, name, notes);
+    if notes.len() != said {
+        let _ = writeln!(
+            notes,
+            "luks: {name}: the volume key still reads its data, of a mapping that is open or where it was kept: luks open --key tells whether it is the one"
+        );
+    }
     if has_room(volume) {
         note_moved_areas(volume, name, notes);
     }
-    let _ = writeln!(
-        notes,
-        "luks: {name}: whoever has the volume key needs no passphrase, as where a mapping is still open or luks key has kept it: luks open --key"
-    );
 }
 
 /// Notes of which metadata of the volume the header on the target was made, of the copies that were asked for,
