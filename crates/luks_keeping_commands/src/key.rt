@@ -197,7 +197,7 @@ fn write_key<D: Device>(file: &mut D, key: &[u8]) -> Result<(), DeviceFault>
 fn note_kept<E: Write>(file: &str, err: &mut E) {
     let _ = writeln!(
         err,
-        "luks: {file}: this is the volume key: whoever has it reads the data, and no change of passphrases revokes it"
+        "luks: {file}: whoever has this key reads the data, and no change of passphrases revokes it"
     );
 }
 
