@@ -12,10 +12,10 @@ pub const PROGRAM_MORE: &str = "\
 A volume is a device, an image, or the detached header of one; with --offset and
 --length it is the bytes of a disk or an image where it lies, and no other byte
 of that changes. The commands check, show, open, find and compare write nothing,
-convert, rebuild and backup only to another file; the others write to the header
-and to the areas of the keyslots that they name, restore to all of them, and
-format to those of a new volume. Only find reads the data, in which a volume may
-stand. explain says what a fault means.
+convert, rebuild, backup and key only to another file; the others write to the
+header and to the areas of the keyslots that they name, restore to all of them,
+and format to those of a new volume. Only find reads the data, in which a volume
+may stand. explain says what a fault means.
 
 Behind a number of bytes or of MiB may stand K, M, G or T, for 1024 bytes, 1024
 of these and so on: --offset 1M is 1048576, --memory 1G is 1024 MiB.
