@@ -99,12 +99,7 @@ pub fn open_volumes<R: AllocGlobal + Clock + Files<File = File>>(
             is_source: None,
         };
     };
-    match are_one(rt, openings, beside) {
-        Ok(false) => {}
-        Ok(true) => return Volumes::unopened(InputFault::Unreadable(Reason::SameFile)),
-        Err(AllocError) => return Volumes::without_memory(),
-    }
-    match is_of_passphrase(rt, line) {
+    match are_one(rt, line, openings, beside) {
         Ok(false) => {}
         Ok(true) => return Volumes::unopened(InputFault::Unreadable(Reason::SameFile)),
         Err(AllocError) => return Volumes::without_memory(),
@@ -129,9 +124,11 @@ pub fn open_volumes<R: AllocGlobal + Clock + Files<File = File>>(
     }
 }
 
-/// Whether the volume and what is opened beside it have a byte in common, as far as the system tells.
+/// Whether the volume and what is opened beside it have a byte in common, as far as the system tells, or the
+/// file of a key is that of its passphrase.
 fn are_one<R: AllocGlobal + Clock + Files<File = File>>(
     rt: &R,
+    line: &Line<'_>,
     openings: &Openings<'_>,
     beside: Opening<'_>,
 ) -> Result<bool, AllocError>
@@ -147,7 +144,10 @@ fn are_one<R: AllocGlobal + Clock + Files<File = File>>(
         },
     };
     let other = whole_file(beside.name);
-    have_common_bytes(rt.alloc(), &mut Host::new(rt), volume, other, BLOCKS)
+    if have_common_bytes(rt.alloc(), &mut Host::new(rt), volume, other, BLOCKS)? {
+        return Ok(true);
+    }
+    is_of_passphrase(rt, line)
 }
 
 /// All bytes of the file of this name.

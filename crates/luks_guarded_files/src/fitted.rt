@@ -63,22 +63,17 @@ impl FittedFile {
         ensures kept { IfOk result (λ fitted. (fitted ≡ None)
             ↔ ((over ≡ false) × IsSomeAnd (S.found system.new) HoldsSomething)) }
     {
-        let found = system.fstat(&file)?;
-        if !over && found.holds_something() {
+        let Some(mut fitted) = FittedFile::of_backup(system, file, length, over)? else {
             return Ok(None);
-        }
-        if found.kind != Kind::Regular {
+        };
+        if fitted.length.get().is_none() {
             return Err(io::Error::from(ErrorKind::InvalidInput));
         }
         if !is_made {
-            file.set_permissions(Permissions::from_mode(OWNERS))?;
+            fitted.file.set_permissions(Permissions::from_mode(OWNERS))?;
         }
-        Ok(Some(FittedFile {
-            file,
-            length: Cell::new(Some(length)),
-            is_exact: true,
-            watch: Cell::new(None),
-        }))
+        fitted.is_exact = true;
+        Ok(Some(fitted))
     }
 
     /// A file that keeps its length.
