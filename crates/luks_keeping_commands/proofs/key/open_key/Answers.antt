@@ -1,0 +1,17 @@
+use Rattle.std.proofs.Common.{sym}
+use Rattle.std.proofs.lemmas.Result.{err_from_is_err_and}
+use Rattle.luks_keeping_commands.proofs.KeyFacts.{counts_key, slot_key, unread_key, volume_key}
+use Rattle.luks_keeping_commands.proofs.key.open_key.Goals as goal
+
+pub returns-in_err-header-clause-opened : goal.returns-in_err-header-clause-opened
+returns-in_err-header-clause-opened g c = λ tells.
+    let p = err_from_is_err_and c.from_residual.result c.from_residual.ensures.1 in
+    rw (p.1, p.2)
+    (unread_key c.allowed_of-allowed.result (g.D.Device.bytes c.args.device.now) c.args.keeping.now.slot c.args.passphrase.now c.in_err-header.field-0.0
+    (c.in_err-header.ensures.refused tells))
+
+pub returns-in-Some-clause-opened : goal.returns-in-Some-clause-opened
+returns-in-Some-clause-opened g c = λ tells.
+    rw c.in-Some.is
+    (slot_key g.D.Device.tells c.allowed_of-allowed.result (g.D.Device.bytes c.args.device.now) _ c.in_ok-header.header c.args.passphrase.now
+    c.read_header.ensures.unchanged.same c.in_ok-header.ensures.read tells c.in-Some.n c.try_one.result c.try_one.ensures.answers)
