@@ -1,6 +1,7 @@
-use Rattle.std.proofs.Common.{sym}
+use Rattle.std.proofs.Common.{None, sym, subst}
 use Rattle.std.proofs.lemmas.Result.{err_from_is_err_and}
-use Rattle.luks_keeping_commands.proofs.KeyFacts.{counts_key, slot_key, unread_key, volume_key}
+use Rattle.luks_keeping_commands.specs.KeepingKey.{IsKeyOpened}
+use Rattle.luks_keeping_commands.proofs.KeyFacts.{slot_key, unread_key, volume_key}
 use Rattle.luks_keeping_commands.proofs.key.open_key.Goals as goal
 
 pub returns-in_err-header-clause-opened : goal.returns-in_err-header-clause-opened
@@ -15,3 +16,10 @@ returns-in-Some-clause-opened g c = λ tells.
     rw c.in-Some.is
     (slot_key g.D.Device.tells c.allowed_of-allowed.result (g.D.Device.bytes c.args.device.now) _ c.in_ok-header.header c.args.passphrase.now
     c.read_header.ensures.unchanged.same c.in_ok-header.ensures.read tells c.in-Some.n c.try_one.result c.try_one.ensures.answers)
+
+pub returns-in-None-clause-opened : goal.returns-in-None-clause-opened
+returns-in-None-clause-opened g c = λ tells.
+    rw c.in-None.is
+    (subst (IsKeyOpened c.allowed_of-allowed.result (g.D.Device.bytes c.args.device.now) None c.args.passphrase.now) (sym c.key_of.ensures)
+    (volume_key g.D.Device.tells c.allowed_of-allowed.result (g.D.Device.bytes c.args.device.now) _ c.in_ok-header.header c.args.passphrase.now
+    c.read_header.ensures.unchanged.same c.in_ok-header.ensures.read tells c.try_each.result c.try_each.ensures.answers))
