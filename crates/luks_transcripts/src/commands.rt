@@ -153,7 +153,14 @@ fn run_as(
         new_passphrase: reader(&files.new, &troubles.new),
         random: reader(&files.random, &troubles.random),
     };
-    let answer = execute(alloc, line, &mut inputs, &mut key_file, &mut err, &mut Untold);
+    let answer = execute(
+        alloc,
+        line,
+        &mut inputs,
+        &mut key_file,
+        &mut err,
+        &mut Untold,
+    );
     told.said = err.position() as usize;
     let said = told.err.get(..told.said).unwrap_or(&[]);
     let mut out = CountingPrinter::new(Cursor::new(told.out.as_mut_slice()));
