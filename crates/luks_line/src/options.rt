@@ -54,6 +54,7 @@ pub(crate) enum LongOption {
     OverAny,
     OverReencryption,
     Key,
+    OpenerKey,
     Digest,
 }
 
@@ -72,7 +73,7 @@ pub(crate) struct OptionRow {
 }
 
 /// In the order of `LongOption`.
-static OPTIONS: [OptionRow; 49] = [
+static OPTIONS: [OptionRow; 50] = [
     OptionRow {
         name: "detached",
         needed: false,
@@ -359,6 +360,12 @@ static OPTIONS: [OptionRow; 49] = [
         name: "key",
         needed: false,
         help: "Instead, the file of a key, which is judged",
+        takes: Takes::File,
+    },
+    OptionRow {
+        name: "key",
+        needed: false,
+        help: "Instead of the passphrase, the file of the keyslot's key",
         takes: Takes::File,
     },
     OptionRow {
