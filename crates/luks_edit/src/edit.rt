@@ -30,7 +30,7 @@ pub struct Secret<'a> {
 }
 
 /// Whether a secret is a keyslot's passphrase or the key that it gives.
-#[derive(Clone, Copy, PartialEq, Eq)]
+#[derive(Clone, Copy)]
 pub enum SecretKind {
     /// The passphrase.
     Passphrase,
