@@ -53,11 +53,7 @@ pub fn give_within<D: Device>(
 /// The key, where it is as long as that of the keyslot with this plan and meets the digest that names
 /// it, or None where it isn't its own (LUKS1 On-Disk Format 1.2.3, 4.3; LUKS2 On-Disk Format 1.1, 3.4);
 /// or why the keyslot is refused where so much is allowed.
-pub fn own_key(
-    plan: &SlotPlan<'_>,
-    key: &[u8],
-    allowed: Allowed,
-) -> Result<Option<Key>, SlotFault>
+pub fn own_key(plan: &SlotPlan<'_>, key: &[u8], allowed: Allowed) -> Result<Option<Key>, SlotFault>
     requires digest_iterations { 1 ≤ plan.now.digest.iterations }
     requires digest_length { length plan.now.digest.stored.now ≤ 64 }
     requires some_bytes { 1 ≤ plan.now.key_bytes }

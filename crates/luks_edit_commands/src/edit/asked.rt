@@ -25,7 +25,14 @@ pub(super) fn edit_of<'a>(request: &EditRequest<'a>, old: &'a [u8], new: &'a [u8
             iterations,
             kdf,
             ..
-        } => adding(by_, secret_of(opener, old, memory, older), new, to, iterations, kdf),
+        } => adding(
+            by_,
+            secret_of(opener, old, memory, older),
+            new,
+            to,
+            iterations,
+            kdf,
+        ),
         EditRequest::Change {
             slot,
             opener,
@@ -34,7 +41,13 @@ pub(super) fn edit_of<'a>(request: &EditRequest<'a>, old: &'a [u8], new: &'a [u8
             iterations,
             kdf,
             ..
-        } => changing(slot, secret_of(opener, old, memory, older), new, iterations, kdf),
+        } => changing(
+            slot,
+            secret_of(opener, old, memory, older),
+            new,
+            iterations,
+            kdf,
+        ),
         EditRequest::Remove {
             slot,
             by_,
