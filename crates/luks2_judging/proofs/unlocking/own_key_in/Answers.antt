@@ -15,11 +15,11 @@ own_key_by-requires c =
     let slot = c.in-Some.ensures.some in
     let naming = rw c.unwrap-number.ensures at c.digest_of_keyslot.ensures.some in
     let digest = rw c.unwrap-digest.ensures at c.digest.ensures.some in
-    luks2_judged c.requires.accepted.len c.args.n (content c.args.copy.now.meta) slot.object c.luks2_plan-plan.result c.requires.accepted.content c.requires.there.0 slot.is
-    (c.luks2_plan-plan.ensures (content c.args.copy.now.meta) c.args.n c.unwrap-number.result slot.object digest.object slot.tells_members naming digest.is digest.tells_members)
+    record { judged = luks2_judged c.requires.accepted.metadata.len c.args.n (content c.args.copy.now.meta) slot.object c.luks2_plan-plan.result c.requires.accepted.metadata.content c.requires.there.0 slot.is
+      (c.luks2_plan-plan.ensures (content c.args.copy.now.meta) c.args.n c.unwrap-number.result slot.object digest.object slot.tells_members naming digest.is digest.tells_members); }
 
-pub returns-in-Some-clause-gives : goal.returns-in-Some-clause-gives
-returns-in-Some-clause-gives c = λ b json clear.
+pub returns-clause-gives : goal.returns-clause-gives
+returns-clause-gives c = λ b json clear.
     let j = content c.args.copy.now.meta in
     let slot = c.in-Some.ensures.some in
     let naming = rw c.unwrap-number.ensures at c.digest_of_keyslot.ensures.some in
@@ -39,8 +39,8 @@ returns-in-Some-clause-gives c = λ b json clear.
     })
     c.own_key_by.ensures.gives
 
-pub returns-in-Some-clause-refused : goal.returns-in-Some-clause-refused
-returns-in-Some-clause-refused c = λ b json clear.
+pub returns-clause-refused : goal.returns-clause-refused
+returns-clause-refused c = λ b json clear.
     let j = content c.args.copy.now.meta in
     let slot = c.in-Some.ensures.some in
     let naming = rw c.unwrap-number.ensures at c.digest_of_keyslot.ensures.some in
@@ -56,8 +56,8 @@ returns-in-Some-clause-refused c = λ b json clear.
     plan_refused2 c.args.allowed b json c.args.total c.args.n j c.luks2_plan-plan.result fault clear only has refused)
     c.own_key_by.ensures.refused
 
-pub returns-in-Some-clause-length : goal.returns-in-Some-clause-length
-returns-in-Some-clause-length c =
+pub returns-clause-length : goal.returns-clause-length
+returns-clause-length c =
     let slot = c.in-Some.ensures.some in
     let naming = rw c.unwrap-number.ensures at c.digest_of_keyslot.ensures.some in
     let digest = rw c.unwrap-digest.ensures at c.digest.ensures.some in

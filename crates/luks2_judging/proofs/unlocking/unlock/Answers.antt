@@ -1,4 +1,4 @@
-use Rattle.std.proofs.Common.{◌≡◌, ◌∙◌, subst, sym}
+use Rattle.std.proofs.Common.{◌≡◌, ◌∙◌, None, subst, sym}
 use Rattle.luks_meta.specs.Content.{content}
 use Rattle.luks_edit.specs.Secrets.{AnswersTo}
 use Rattle.luks_reading.specs.declared.open_fault.OpenFault.TheVariants.{Memory}
@@ -21,7 +21,8 @@ returns-in-None-clause-refused g c = λ tells is payload e well same kind asked 
       slot = c.args.n;
       passphrase = c.args.secret.now.bytes.now;
       asked = asked;
-      answer = answered_as v c.args.n c.args.secret.now.bytes.now e (opened_to c.in-Ok.found) c.args.allowed c.args.secret.now.kind same kind (c.in-Ok.ensures.answers.gives tells is);
+      answer = answered_as v c.args.n c.args.secret.now.bytes.now e (opened_to None) c.args.allowed c.args.secret.now.kind same kind
+      (subst (λ o. AnswersTo c.args.secret.now.kind c.args.allowed v c.args.n c.args.secret.now.bytes.now (opened_to o)) c.in-None.is (c.in-Ok.ensures.answers.gives tells is));
     }
 
 pub returns-in-Err-clause-refused : goal.returns-in-Err-clause-refused
