@@ -136,7 +136,7 @@ module _ (v : List ℕ) (payload : Data) (copy : ChosenCopy) (addition : Additio
         (hdr_size (header_at v copy.header.hdr_offset)) (length v) payload p x.place at
 
     sealed_in : (w : List ℕ) → HoldsKey w k addition.made new.now key (stripes_random random)
-        → HoldsOpened (allowed_for old new.now) v addition.by_ old.bytes.now new.now (IsNewKeyslot (content copy.meta) to) random w k
+        → HoldsOpened old.kind (allowed_for old new.now) v addition.by_ old.bytes.now new.now (IsNewKeyslot (content copy.meta) to) random w k
     sealed_in w holds = record { slot = addition.made; is_made = x.is_new; key = key; opened = x.opened; holds = holds }
 
     pub addition_sealing : IsSealing v payload (Add addition.by_ old new to addition.derivation.iterations addition.derivation.chosen) random copy.header.hdr_offset (content copy.meta) k addition.made new.now key
