@@ -35,7 +35,7 @@ pub(crate) fn means(fault: Fault) -> &'static str {
         Fault::KeySize => "the key of the key area's cipher hasn't a length of that cipher",
         Fault::NoSuchDigest => "the digest isn't there, or segment 0 has none",
         Fault::KeyLength => "the file of the key hasn't as many bytes as the volume's key",
-        Fault::Locked => "the passphrase doesn't open the keyslot",
+        Fault::Locked => "the passphrase doesn't open the keyslot, or the key isn't its own",
         Fault::Passphrase => "a passphrase's file has more than 65536 bytes",
         Fault::Requirements => "the metadata names requirements, as of a reencryption",
         Fault::SlotTaken => "the keyslot of --to is in use",

@@ -173,7 +173,7 @@ pub const ADD: &str = "Adds a keyslot for a new passphrase";
 /// The usage of `add` after `Usage: `, on several lines, since one would have more than 80 columns.
 pub const ADD_USAGE: &str = "\
 luks add [OPTIONS] --slot <N> --random <FILE>
-                <--passphrase <FILE>|--passphrase-line <FILE>>
+                <--passphrase <FILE>|--passphrase-line <FILE>|--key <FILE>>
                 <--new <FILE>|--new-line <FILE>> <VOLUME>";
 
 /// The help of `add` after its words.
@@ -183,6 +183,10 @@ passphrase opens the same volume key: keyslot --to, or the least that is free,
 of 0 to 7 in LUKS1 and 0 to 31 in LUKS2. All others stay as they are. A
 passphrase is all bytes of its file, a last newline too, at most 65536; by
 --passphrase-line and --new-line what stands there before the first newline.
+
+Who has the volume key needs no passphrase: --key is its file in the place of
+--passphrase, and --slot a keyslot whose key it is, as long, and its digest's.
+That one's key area isn't read, so that it may be destroyed.
 
 Written are, with a flush after each: the area of the new keyslot; then of LUKS1
 its entry in the header, of LUKS2 the copy of the header that doesn't count and
@@ -209,7 +213,8 @@ Prints one line:
   done slot N    keyslot N is made
   refused FAULT  the first fault, and nothing was written: what check refuses,
                  OtherUse (as above), Requirements, NoSuchSlot, Locked (the
-                 passphrase doesn't open it), Argon2, Cipher, Hash, KeySize,
+                 passphrase doesn't open it, or it has another key), Argon2,
+                 Cipher, Hash, KeySize,
                  SlotTaken, NoFreeSlot, NoRoom, Iterations, Argon2 (the new one
                  takes more memory than is allowed, or LUKS1 has none),
                  SeqExhausted, MetadataFull, RandomLength (the random file is
@@ -233,7 +238,7 @@ pub const CHANGE: &str = "Puts a new passphrase in the place of an old one";
 /// The usage of `change` after `Usage: `, on several lines, since one would have more than 80 columns.
 pub const CHANGE_USAGE: &str = "\
 luks change [OPTIONS] --slot <N> --random <FILE>
-                   <--passphrase <FILE>|--passphrase-line <FILE>>
+                   <--passphrase <FILE>|--passphrase-line <FILE>|--key <FILE>>
                    <--new <FILE>|--new-line <FILE>> <VOLUME>";
 
 /// The help of `change` after its words.
@@ -242,7 +247,8 @@ The passphrase opens keyslot --slot; then the new one does, and the old no more.
 LUKS2 keeps the keyslot's number, and takes a free area. LUKS1 makes the least
 keyslot that is free, and disables the old one. All others stay as they are. A
 passphrase is all bytes of its file, a last newline too, at most 65536; by
---passphrase-line and --new-line what stands there before the first newline.
+--passphrase-line and --new-line what stands there before the first newline. Who
+has the volume key gives it by --key in the place of the old passphrase.
 
 Written are, with a flush after each: the new area; then of LUKS1 the new
 keyslot's entry and the old one's, of LUKS2 the copy of the header that doesn't
@@ -269,7 +275,8 @@ Prints one line:
   done slot N    the new passphrase opens keyslot N
   refused FAULT  the first fault, and nothing was written: what check refuses,
                  OtherUse (as above), Requirements, NoSuchSlot, Locked (the
-                 passphrase doesn't open it), Argon2, Cipher, Hash, KeySize,
+                 passphrase doesn't open it, or it has another key), Argon2,
+                 Cipher, Hash, KeySize,
                  NoFreeSlot, NoRoom, Iterations, Argon2 (the new one takes more
                  memory than is allowed, or LUKS1 has none), SeqExhausted,
                  MetadataFull, RandomLength (the random file is too short), or
@@ -294,7 +301,8 @@ pub const REMOVE: &str = "Removes a keyslot";
 /// The usage of `remove` after `Usage: `, on several lines, since one would have more than 80 columns.
 pub const REMOVE_USAGE: &str = "\
 luks remove [OPTIONS] --slot <N>
-                   <--passphrase <FILE>|--passphrase-line <FILE>> <VOLUME>";
+                   <--passphrase <FILE>|--passphrase-line <FILE>|--key <FILE>>
+                   <VOLUME>";
 
 /// The help of `remove` after its words.
 pub const REMOVE_MORE: &str = "\
@@ -303,7 +311,7 @@ passphrase opens it, or keyslot --by where that is given: then --slot needn't be
 one that opens here. The last keyslot of its key isn't removed. All others stay
 as they are. The passphrase is all bytes of its file, a last newline
 too, at most 65536; by --passphrase-line what stands there before the first
-newline.
+newline. Who has the volume key gives it by --key in its place.
 
 Written are, with a flush after each: of LUKS1 the keyslot's entry, of LUKS2 the
 copy of the header that doesn't count and the one that does; then the zeros. Of
@@ -320,10 +328,11 @@ Prints one line:
   done           the keyslot is removed
   refused FAULT  the first fault, and nothing was written: what check refuses,
                  OtherUse (as above), Requirements, NoSuchSlot, SameSlot (--by
-                 is --slot), Locked (the passphrase doesn't open it), Argon2,
-                 Cipher, Hash, KeySize, LastSlot, SeqExhausted, MetadataFull,
-                 RandomLength (of LUKS2, the random file is too short or none is
-                 named), or Passphrase (it is too long)
+                 is --slot), Locked (the passphrase doesn't open it, or it has
+                 another key), Argon2, Cipher, Hash, KeySize, LastSlot,
+                 SeqExhausted, MetadataFull, RandomLength (of LUKS2, the random
+                 file is too short or none is named), or Passphrase (it is too
+                 long)
   device fault   a file can't be read, or the volume read or written
   no memory      memory was refused; nothing was written
 

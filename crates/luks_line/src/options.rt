@@ -55,6 +55,7 @@ pub(crate) enum LongOption {
     OverAny,
     OverReencryption,
     Key,
+    OpenerKey,
     Digest,
 }
 
@@ -73,7 +74,7 @@ pub(crate) struct OptionRow {
 }
 
 /// In the order of `LongOption`.
-static OPTIONS: [OptionRow; 50] = [
+static OPTIONS: [OptionRow; 51] = [
     OptionRow {
         name: "detached",
         needed: false,
@@ -366,6 +367,12 @@ static OPTIONS: [OptionRow; 50] = [
         name: "key",
         needed: false,
         help: "Instead, the file of a key, which is judged",
+        takes: Takes::File,
+    },
+    OptionRow {
+        name: "key",
+        needed: false,
+        help: "Instead of the passphrase, the file of the keyslot's key",
         takes: Takes::File,
     },
     OptionRow {

@@ -11,7 +11,7 @@ use luks_kdf::HashName;
 use luks_reading::{Data, Format};
 use luks_request::{
     BackingUp, Command, Comparing, Converting, EditRequest, Editing, KeepingKey, Line, Making,
-    NewVersion, Place, Rebuilding, Restoring, ShowAs,
+    NewVersion, OpenerFile, Place, Rebuilding, Restoring, ShowAs,
 };
 
 /// What the command asks for, of a volume.
@@ -94,6 +94,14 @@ fn opening_of<'a>(given: &ArgMatches<'a>) -> Option<Command<'a>> {
     })
 }
 
+/// The file of what opens the keyslot of an edit: its passphrase or its key.
+fn opener_of<'a>(given: &ArgMatches<'a>) -> Option<OpenerFile<'a>> {
+    match given.get_str("key") {
+        Some(name) => Some(OpenerFile::Key(name)),
+        None => Some(OpenerFile::Passphrase(passphrase_of(given)?)),
+    }
+}
+
 fn editing_of<'a>(name: CommandName, given: &ArgMatches<'a>) -> Option<Command<'a>> {
     Some(Command::Edit(Editing {
         request: edit_of(name, given)?,
@@ -117,7 +125,7 @@ fn edit_of<'a>(name: CommandName, given: &ArgMatches<'a>) -> Option<EditRequest<
 fn adding_of<'a>(given: &ArgMatches<'a>) -> Option<EditRequest<'a>> {
     Some(EditRequest::Add {
         by_: given.get_one::<u8>("slot")?,
-        passphrase: passphrase_of(given)?,
+        opener: opener_of(given)?,
         memory: mib_of(given, "memory")?,
         older: given.get_flag("older"),
         new: new_of(given)?,
@@ -130,7 +138,7 @@ fn adding_of<'a>(given: &ArgMatches<'a>) -> Option<EditRequest<'a>> {
 fn changing_of<'a>(given: &ArgMatches<'a>) -> Option<EditRequest<'a>> {
     Some(EditRequest::Change {
         slot: given.get_one::<u8>("slot")?,
-        passphrase: passphrase_of(given)?,
+        opener: opener_of(given)?,
         memory: mib_of(given, "memory")?,
         older: given.get_flag("older"),
         new: new_of(given)?,
@@ -143,7 +151,7 @@ fn removing_of<'a>(given: &ArgMatches<'a>) -> Option<EditRequest<'a>> {
     Some(EditRequest::Remove {
         slot: given.get_one::<u8>("slot")?,
         by_: given.get_one::<u8>("by"),
-        passphrase: passphrase_of(given)?,
+        opener: opener_of(given)?,
         memory: mib_of(given, "memory")?,
         older: given.get_flag("older"),
     })

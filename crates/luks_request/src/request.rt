@@ -1,5 +1,5 @@
 ghost use Rattle.std.specs.Prelude.{◌≡◌, option_map};
-ghost use Rattle.luks_request.specs.Named.{backup_of, edit_new_of, edit_passphrase_of, is_writer, new_of};
+ghost use Rattle.luks_request.specs.Named.{backup_of, edit_new_of, edit_passphrase_of, file_of, is_writer, new_of};
 ghost use Rattle.luks_request.specs.Named.{passphrase_of, random_of, target_of};
 
 use crate::derivation::AskedKdf;
@@ -101,16 +101,16 @@ pub struct Editing<'a> {
 
 /// What an edit does. Its passphrases are named by their files.
 ///
-/// The keyslot that an edit names as `by_`, or else as `slot`, 0 to 31, is the one that the file
-/// `passphrase` opens.
+/// The keyslot that an edit names as `by_`, or else as `slot`, 0 to 31, is the one that the passphrase or
+/// the key in the file `opener` opens.
 #[derive(Debug, Clone, Copy)]
 pub enum EditRequest<'a> {
     /// Add a keyslot for a new passphrase.
     Add {
-        /// The keyslot that the old passphrase opens.
+        /// The keyslot that the old passphrase or the key opens.
         by_: u8,
-        /// The file of the old passphrase.
-        passphrase: &'a str,
+        /// The file of the old passphrase, or of the key.
+        opener: OpenerFile<'a>,
         /// How many MiB of memory Argon2 may take for each passphrase.
         memory: u32,
         /// Whether ciphers and hashes of older disks are accepted.
@@ -126,10 +126,10 @@ pub enum EditRequest<'a> {
     },
     /// Put a new passphrase in the place of an old one.
     Change {
-        /// The keyslot that the old passphrase opens.
+        /// The keyslot that the old passphrase or the key opens.
         slot: u8,
-        /// The file of the old passphrase.
-        passphrase: &'a str,
+        /// The file of the old passphrase, or of the key.
+        opener: OpenerFile<'a>,
         /// How many MiB of memory Argon2 may take for each passphrase.
         memory: u32,
         /// Whether ciphers and hashes of older disks are accepted.
@@ -141,14 +141,14 @@ pub enum EditRequest<'a> {
         /// What it derives by then; without it that is as before.
         kdf: Option<AskedKdf>,
     },
-    /// Remove a keyslot, by its own passphrase or by another keyslot's.
+    /// Remove a keyslot, by its own passphrase or key, or by another keyslot's.
     Remove {
         /// The keyslot.
         slot: u8,
-        /// The keyslot that the passphrase opens; without one `slot`.
+        /// The keyslot that the passphrase or the key opens; without one `slot`.
         by_: Option<u8>,
-        /// The file of the passphrase.
-        passphrase: &'a str,
+        /// The file of the passphrase, or of the key.
+        opener: OpenerFile<'a>,
         /// How many MiB of memory Argon2 may take for it.
         memory: u32,
         /// Whether ciphers and hashes of older disks are accepted.
@@ -163,15 +163,35 @@ pub enum EditRequest<'a> {
     },
 }
 
+/// The file of what opens the keyslot of an edit.
+#[derive(Debug, Clone, Copy)]
+pub enum OpenerFile<'a> {
+    /// That of its passphrase.
+    Passphrase(&'a str),
+    /// That of the key that it gives.
+    Key(&'a str),
+}
+
+impl<'a> OpenerFile<'a> {
+    /// The file.
+    pub fn name(&self) -> &'a str
+        ensures { result.now ≡ file_of self.now }
+    {
+        match *self {
+            OpenerFile::Passphrase(name) | OpenerFile::Key(name) => name,
+        }
+    }
+}
+
 impl<'a> EditRequest<'a> {
-    /// The file of the passphrase that opens a keyslot, where the edit opens one.
+    /// The file of the passphrase or the key that opens a keyslot, where the edit opens one.
     pub fn passphrase(&self) -> Option<&'a str>
         ensures { option_map (λ name. name.now) result ≡ edit_passphrase_of self.now }
     {
         match *self {
-            EditRequest::Add { passphrase, .. }
-            | EditRequest::Change { passphrase, .. }
-            | EditRequest::Remove { passphrase, .. } => Some(passphrase),
+            EditRequest::Add { opener, .. }
+            | EditRequest::Change { opener, .. }
+            | EditRequest::Remove { opener, .. } => Some(opener.name()),
             EditRequest::Repair | EditRequest::Label { .. } => None,
         }
     }
