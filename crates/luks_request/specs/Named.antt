@@ -35,9 +35,10 @@ passphrase_of (Backup backing_up) = None
 passphrase_of (Restore restoring) = None
 passphrase_of (Compare comparing) = None
 
--- some edits alone need a new one beside it
+-- some edits need a new one beside it; a new volume's key is read as one, where it is given
 abbrev pub new_of : Command → Option (List ℕ)
 new_of (Edit editing) = edit_new_of editing.request
+new_of (Format making) = option_map (λ name. name.now) making.given.key
 new_of command = None
 
 -- edits, where they name its file, formatting, converting and rebuilding take random bytes

@@ -12,5 +12,6 @@ pub use keeping::{BackingUp, Comparing, Restoring};
 pub use place::Place;
 pub use rebuilding::{Luks1Fields, Meant, Rebuilding};
 pub use request::{
-    Command, Converting, EditRequest, Editing, Line, Making, Matching, NewVersion, ShowAs,
+    Command, Converting, EditRequest, Editing, Line, Making, Matching, NewFields,
+    NewVersion, ShowAs,
 };

@@ -1,4 +1,5 @@
-use Rattle.std.proofs.Common.{◌≡◌, length, arith, ◌∙◌}
+use Rattle.std.proofs.Common.{◌≡◌, length, arith, sym, subst, ◌∙◌}
+use Rattle.luks_formatting.specs.Given.{IsSound2}
 use Rattle.luks_formatting.proofs.Formatted2Facts.{slot_opens, well_formed}
 use Rattle.luks_formatting.proofs.volume2.make.Goals as goal
 
@@ -13,8 +14,8 @@ returns-clause-well_formed g c tells =
     let least = ready.large in
     let total = c.len.ensures in
     let size : length w ≡ g.D.Device.size c.args.device.now = g.met.D.Device.sized c.write_made.new.device tells ∙ c.write_made.ensures.size in
-    well_formed volume.payload volume.format.now volume.chosen volume.passphrase.bytes.now volume.random.now (bytes c.args.device.now) w
-    (omega (arith, some)) (omega (arith, size, least, total)) ready.counted c.in-Ok.ensures.fits (c.in_ok-write_made.ensures.formatted tells)
+    well_formed volume.given.now volume.format.now volume.chosen volume.passphrase.bytes.now volume.random.now (bytes c.args.device.now) w
+    (omega (arith, some)) (omega (arith, size, least, total)) ready.counted (subst (IsSound2 volume.given.now) (sym (size ∙ sym total)) ready.sound) c.in-Ok.ensures.fits (c.in_ok-write_made.ensures.formatted tells)
 
 pub returns-clause-opens :
     goal.returns-clause-opens
@@ -27,6 +28,6 @@ returns-clause-opens g c tells allowed enough =
     let least = ready.large in
     let total = c.len.ensures in
     let size : length w ≡ g.D.Device.size c.args.device.now = g.met.D.Device.sized c.write_made.new.device tells ∙ c.write_made.ensures.size in
-    slot_opens volume.payload volume.format.now volume.chosen volume.passphrase.bytes.now volume.random.now (bytes c.args.device.now) w
-    (omega (arith, some)) (omega (arith, size, least, total)) ready.counted c.in-Ok.ensures.fits (c.in_ok-write_made.ensures.formatted tells)
+    slot_opens volume.given.now volume.format.now volume.chosen volume.passphrase.bytes.now volume.random.now (bytes c.args.device.now) w
+    (omega (arith, some)) (omega (arith, size, least, total)) ready.counted (subst (IsSound2 volume.given.now) (sym (size ∙ sym total)) ready.sound) c.in-Ok.ensures.fits (c.in_ok-write_made.ensures.formatted tells)
     volume.passphrase.allowed.memory allowed ready.makeable enough

@@ -1,6 +1,7 @@
-use Rattle.std.proofs.Common.{◌≡◌, length, arith, ◌∙◌}
+use Rattle.std.proofs.Common.{◌≡◌, ◌≤◌, ◌*◌, ℕ, List, Result, length, arith, sym, subst, ◌∙◌}
+use Rattle.luks_formatting.specs.Given.{IsSound1}
 use Rattle.luks_formatting.proofs.Formatted1Facts.{slot_opens, well_formed}
-use Rattle.luks_formatting.proofs.luks1.format1.Goals as goal
+use Rattle.luks_formatting.proofs.luks1.format1_as.Goals as goal
 
 pub returns-clause-well_formed : goal.returns-clause-well_formed
 returns-clause-well_formed g c tells =
@@ -11,8 +12,8 @@ returns-clause-well_formed g c tells =
     let least = ready.large in
     let total = c.len.ensures in
     let size : length w ≡ g.D.Device.size c.args.device.now = g.met.D.Device.sized c.write_volume.new.device tells ∙ c.write_volume.ensures.size in
-    well_formed c.args.payload c.args.format.now c.args.passphrase.now c.args.random.now (bytes c.args.device.now) w
-    (omega (arith, some)) (omega (arith, size, least, total)) (c.in_ok-write_volume.ensures.formatted tells)
+    well_formed c.args.given.now c.args.format.now c.args.passphrase.now c.args.random.now (bytes c.args.device.now) w
+    (omega (arith, some)) (omega (arith, size, least, total)) (subst (IsSound1 c.args.given.now) (sym (size ∙ sym total)) ready.sound) (c.in_ok-write_volume.ensures.formatted tells)
 
 pub returns-clause-opens : goal.returns-clause-opens
 returns-clause-opens g c tells =
@@ -23,5 +24,5 @@ returns-clause-opens g c tells =
     let least = ready.large in
     let total = c.len.ensures in
     let size : length w ≡ g.D.Device.size c.args.device.now = g.met.D.Device.sized c.write_volume.new.device tells ∙ c.write_volume.ensures.size in
-    slot_opens c.args.payload c.args.format.now c.args.passphrase.now c.args.random.now (bytes c.args.device.now) w
-    (omega (arith, some)) (omega (arith, size, least, total)) (c.in_ok-write_volume.ensures.formatted tells) ready.counted
+    slot_opens c.args.given.now c.args.format.now c.args.passphrase.now c.args.random.now (bytes c.args.device.now) w
+    (omega (arith, some)) (omega (arith, size, least, total)) (subst (IsSound1 c.args.given.now) (sym (size ∙ sym total)) ready.sound) (c.in_ok-write_volume.ensures.formatted tells) ready.counted
