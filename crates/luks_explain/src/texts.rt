@@ -158,12 +158,12 @@ pub(crate) fn place(fault: Fault) -> &'static str {
         Fault::MetadataFull => "add, change, remove, repair and label, of LUKS2",
         Fault::RandomLength => "the commands that write: the file of --random",
         Fault::Payload => {
-            "format: --payload, before sector 4036, of LUKS2 32768, where the data lies
-       on VOLUME itself"
+            "format: --payload, before sector 4036, of LUKS2 32768, but where the data
+       lies on another device"
         }
         Fault::TooSmall => {
-            "format: fewer than 2097152 bytes, of LUKS2 16777216, or VOLUME ends before
-       --payload; convert: TARGET, 16777216; backup: FILE, where that is a device"
+            "format: fewer than 2097152 bytes, of LUKS2 16777216, or up to --payload;
+       convert: TARGET, 16777216; backup: FILE, where that is a device"
         }
         Fault::NotLuks1 => "convert: SOURCE",
         Fault::SameFile => {

@@ -10,8 +10,8 @@ use clap::ArgMatches;
 use luks_kdf::HashName;
 use luks_reading::{Data, Format};
 use luks_request::{
-    BackingUp, Command, Comparing, Converting, EditRequest, Editing, Line, Making, NewVersion,
-    Place, Rebuilding, Restoring, ShowAs,
+    BackingUp, Command, Comparing, Converting, EditRequest, Editing, Line, Making, NewFields,
+    NewVersion, Place, Rebuilding, Restoring, ShowAs,
 };
 
 /// What the command asks for, of a volume.
@@ -166,8 +166,20 @@ fn formatting_of<'a>(given: &ArgMatches<'a>) -> Option<Command<'a>> {
         kdf: argon2_of(given)?,
         memory: mib_of(given, "memory")?,
         payload: data_of(given),
+        given: new_fields_of(given),
         over: given.get_flag("over"),
     }))
+}
+
+/// What is given of a new volume.
+fn new_fields_of<'a>(given: &ArgMatches<'a>) -> NewFields<'a> {
+    NewFields {
+        key: given.get_str("key"),
+        sector: given.get_one::<u32>("payload").map(u64::from),
+        uuid: given.get_str("uuid"),
+        label: given.get_str("label"),
+        subsystem: given.get_str("subsystem"),
+    }
 }
 
 fn version_of(given: &ArgMatches<'_>) -> Option<NewVersion> {
