@@ -2,17 +2,16 @@
 use Rattle.std.proofs.Common.{◌≡◌, ◌≤◌, ◌<◌, ◌^◌, ◌*◌, ℕ, List, length, Option, None, Some, arith, lit<, lit≤, sym, ap, subst}
 use Rattle.std.specs.Prelude.{IfSome}
 use Rattle.std.specs.Borrow.{Bor}
-use Rattle.luks_area.specs.Ranges.{IsAt, IsOfEither, SameBut}
-use Rattle.luks_area.proofs.RangeFacts.{length-part_inside, same_but-wider}
+use Rattle.luks_area.proofs.RangeFacts.{length-part_inside}
 use Rattle.luks1_header.specs.Bytes.{IsUuid}
 use Rattle.luks2_header.specs.NewUuid.{uuid_text}
-use Rattle.luks2_header.proofs.UuidFacts.{uuid_text-is}
+use Rattle.luks2_header.proofs.UuidFacts.{uuid_text-is, uuid_text-length}
 use Rattle.luks_reading.specs.declared.report.Data.{Data}
 use Rattle.luks_reading.specs.declared.report.Data.TheVariants.{Here, Elsewhere}
 use Rattle.luks_formatting.specs.declared.given.Given.{Given}
-use Rattle.luks_formatting.specs.Given.{bytes_or, key_of, nothing_given, number_or, uuid_of, IsBefore, IsPlaced, IsSound1, IsSound2}
+use Rattle.luks_formatting.specs.Given.{bytes_or, key_of, nothing_given, number_or, uuid_of, IsPlaced, IsSound1, IsSound2}
 use Rattle.luks_formatting.specs.NewHeader1.{own_sector, payload_sector}
-use Rattle.luks_formatting.specs.NewHeader2.{own_segment, segment_sector, segment_start}
+use Rattle.luks_formatting.specs.NewHeader2.{own_segment, segment_sector, AreTexts2}
 use Rattle.luks_formatting.specs.RandomBytes.{uuid_bytes, volume_key}
 
 -- the uuid is one
@@ -45,6 +44,25 @@ short_by (Some text) is = (let long = is.long in omega (arith, long))
 
 pub uuid_short : (given : Given) → IfSome given.uuid (λ text. IsUuid text.now) → IfSome given.uuid (λ text. length text.now ≤ 40)
 uuid_short given is = short_by given.uuid is
+
+-- the text of the uuid fills its field
+fills_by : (o : Option (Bor (List ℕ))) (random : List ℕ) → IfSome o (λ text. length text.now ≡ 36) → length (bytes_or o (uuid_text (uuid_bytes random))) ≡ 36
+fills_by None random is = uuid_text-length (uuid_bytes random)
+fills_by (Some text) random is = is
+
+pub length-uuid_of : (given : Given) (random : List ℕ) → IfSome given.uuid (λ text. length text.now ≡ 36) → length (uuid_of given random) ≡ 36
+length-uuid_of given random is = fills_by given.uuid random is
+
+fits_by : (o : Option (Bor (List ℕ))) → IfSome o (λ text. length text.now ≡ 36) → IfSome o (λ text. length text.now ≤ 40)
+fits_by None is = tt
+fits_by (Some text) is = omega (arith, is)
+
+pub uuid_fits : (given : Given) → IfSome given.uuid (λ text. length text.now ≡ 36) → IfSome given.uuid (λ text. length text.now ≤ 40)
+uuid_fits given is = fits_by given.uuid is
+
+-- the texts fit their fields
+pub texts_fit : (given : Given) (total : ℕ) → IsSound2 given total → AreTexts2 given
+texts_fit given total sound = record { uuid = uuid_long given sound.uuid; label = sound.label; subsystem = sound.subsystem }
 
 -- ---- the payload of LUKS1
 

@@ -1,7 +1,7 @@
 //! What is given of a new volume.
 ghost use Rattle.std.specs.Prelude.{◌≡◌, ◌+◌, ◌≤◌, ◌++◌, ◌-◌, length, replicate, IfSome};
 ghost use Rattle.luks1_header.specs.Bytes.{IsUuid};
-ghost use Rattle.luks_formatting.specs.Given.{key_of, name_field, nothing_given, uuid_of};
+ghost use Rattle.luks_formatting.specs.Given.{key_of, name_field, uuid_of};
 
 use crate::random::{KEY, KEY_BYTES, UUID, taken, taken_array};
 use arrayvec::ArrayString;
@@ -26,20 +26,16 @@ pub struct Given<'a> {
     pub subsystem: Option<&'a str>,
 }
 
-impl<'a> Given<'a> {
-    /// No more than where the payload lies.
-    pub fn nothing(payload: Data) -> Given<'a>
-        ensures { result ≡ nothing_given payload }
-    {
-        Given {
-            payload,
-            sector: None,
-            key: None,
-            uuid: None,
-            label: None,
-            subsystem: None,
-        }
-    }
+impl Given<'_> {
+    /// No more than that the payload lies on the volume itself.
+    pub const NOTHING: Given<'static> = Given {
+        payload: Data::Here,
+        sector: None,
+        key: None,
+        uuid: None,
+        label: None,
+        subsystem: None,
+    };
 }
 
 /// The volume key: the given one, or that of the random bytes.

@@ -100,7 +100,11 @@ pub fn format1<D: Device>(
     ensures opens { D.tells → OnOk result
         (Answer (D.bytes device.new) 0 passphrase.now (opens (volume_key random.now))) }
 {
-    format1_as(device, &Given::nothing(payload), format, passphrase, random)
+    let given = Given {
+        payload,
+        ..Given::NOTHING
+    };
+    format1_as(device, &given, format, passphrase, random)
 }
 
 /// The same of a volume of which something is given: where its payload begins, its key, its uuid. Where nothing

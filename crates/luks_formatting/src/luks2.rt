@@ -85,8 +85,12 @@ pub fn format2<D: Device>(
     ensures opens { D.tells → OnOk result
         (Answer (D.bytes device.new) 0 passphrase.now (opens (volume_key random.now))) }
 {
+    let given = Given {
+        payload,
+        ..Given::NOTHING
+    };
     let volume = Volume {
-        given: &Given::nothing(payload),
+        given: &given,
         format,
         chosen: None,
         passphrase: Passphrase {
@@ -156,7 +160,10 @@ pub fn format2_by<D: Device>(
         → AnswerWithin allowed (D.bytes device.new) 0 passphrase.now.bytes.now
         (opens (volume_key random.now))) }
 {
-    let given = Given::nothing(payload);
+    let given = Given {
+        payload,
+        ..Given::NOTHING
+    };
     format2_as(alloc, device, &given, format, chosen, passphrase, random)
 }
 

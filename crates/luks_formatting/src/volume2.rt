@@ -11,9 +11,10 @@ ghost use Rattle.luks_making.specs.Derivations.{IsMakeable, memory_by, takes_mem
 ghost use Rattle.luks_formatting.specs.Deriving.{slot_derivation};
 ghost use Rattle.luks_formatting.specs.FormatFaults.{HasNoFault, IsAnsweredFaultOrMemory, IsFormat2FaultAs, is_device_fault};
 ghost use Rattle.luks_formatting.specs.Formatted2.{IsOfLuks2};
-ghost use Rattle.luks_formatting.specs.NewHeader2.{copy_size};
+ghost use Rattle.luks_formatting.specs.NewHeader2.{copy_size, segment_start};
+ghost use Rattle.luks_reading.specs.declared.report.Data.TheVariants.{Here};
 ghost use Rattle.luks_formatting.specs.NewPlan.{key_digest, IsSealable, IsSealableWithin};
-ghost use Rattle.luks_formatting.specs.Given.{key_of, IsSound2};
+ghost use Rattle.luks_formatting.specs.Given.{key_of, IsBefore, IsSound2};
 ghost use Rattle.luks_formatting.specs.Volume2.{Fits, HasAllButFirst, HasArea, HasKeyArea, HasPlan, IsMade, IsReady};
 ghost use Rattle.luks_formatting.specs.declared.format_fault.FormatFault.{FormatFault as TheFault};
 
@@ -90,6 +91,8 @@ pub(crate) fn make<D: Device>(
     ensures settled { D.tells → D.failed device.new ≡ D.failed device.old
         → IsSettled D.unsettled device.new }
     ensures rest { D.tells → SameBut IsOfLuks2 (D.bytes device.old) (D.bytes device.new) }
+    ensures payload { D.tells → volume.now.given.now.payload ≡ Here
+        → SameBut (IsBefore (segment_start volume.now.given.now)) (D.bytes device.old) (D.bytes device.new) }
     ensures order { D.tells → ClearsFirst copy_size
         (HasKeyArea volume.now (D.bytes device.new))
         (HasAllButFirst volume.now (D.bytes device.new))

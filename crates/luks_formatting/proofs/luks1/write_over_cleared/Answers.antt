@@ -1,6 +1,6 @@
 use Rattle.std.proofs.Common.{◌≡◌, length, arith, ap, inl, ◌∙◌}
 use Rattle.luks_area.specs.declared.area.Area.{Area}
-use Rattle.luks_formatting.proofs.GivenFacts.{told1, uuid_is, uuid_short}
+use Rattle.luks_formatting.proofs.GivenFacts.{length-key_of, uuid_is}
 use Rattle.luks_formatting.proofs.Written1Facts.{area_stands, both_rest, first_waits, formatted, sealed_rest}
 use Rattle.luks_formatting.proofs.luks1.write_over_cleared.Goals as goal
 
@@ -61,8 +61,7 @@ returns-clause-formatted g c tells =
     (c.write_range.ensures.outside tells) c.key_of-key.ensures c.taken-stripes.ensures.value (c.in_ok-seal_key.ensures.sealed tells)
     (bytes c.args.device.now) (omega (arith, size, room)) (c.in_ok-write_range.ensures.wrote tells) (c.seal_key.ensures.rest tells)
 
-pub new_header-requires-clause-sector : goal.new_header-requires-clause-sector
-new_header-requires-clause-sector g c = told1 c.args.given.now (g.D.Device.size c.args.device.now) c.requires.sound
-
-pub new_header-requires-clause-uuid : goal.new_header-requires-clause-uuid
-new_header-requires-clause-uuid g c = uuid_short c.args.given.now c.requires.sound.uuid
+pub seal_key-requires-clause-key_length : goal.seal_key-requires-clause-key_length
+seal_key-requires-clause-key_length g c =
+    let counted = c.requires.long in
+    ap length c.key_of-key.ensures ∙ length-key_of c.args.given.now c.args.random.now c.requires.sound.key (omega (arith, counted))

@@ -1,4 +1,5 @@
-use Rattle.std.proofs.Common.{ℕ, List, arith, inl, subst}
+use Rattle.std.proofs.Common.{ℕ, List, length, arith, ap, ◌∙◌, inl, subst}
+use Rattle.luks_formatting.proofs.GivenFacts.{length-key_of, texts_fit}
 use Rattle.luks_formatting.specs.Formatted2.{HasNewCopy}
 use Rattle.luks_formatting.proofs.Keyslot2Facts.{plan_by}
 use Rattle.luks_formatting.proofs.Written2Facts.{all_but_first, all_rest, area_stands, copies_wait, formatted2}
@@ -81,3 +82,18 @@ returns-in_err-write_new_copy-2-clause-rest g c tells =
 
 pub returns-clause-settled : goal.returns-clause-settled
 returns-clause-settled g c tells same = c.write_new_copy-2.ensures.settled tells c.in_ok-write_new_copy-2.ensures.count
+
+pub put_key_area-requires-clause-key_length : goal.put_key_area-requires-clause-key_length
+put_key_area-requires-clause-key_length g c =
+    let volume = c.args.volume.now in
+    let counted = c.requires.long in
+    ap length c.key_of-key.ensures ∙ length-key_of volume.given.now volume.random.now c.requires.sound.key (omega (arith, counted))
+
+pub write_new_copy-requires-clause-texts : goal.write_new_copy-requires-clause-texts
+write_new_copy-requires-clause-texts g c = texts_fit c.args.volume.now.given.now (g.D.Device.size c.args.device.now) c.requires.sound
+
+pub write_new_copy-requires-2-clause-texts : goal.write_new_copy-requires-2-clause-texts
+write_new_copy-requires-2-clause-texts g c = texts_fit c.args.volume.now.given.now (g.D.Device.size c.args.device.now) c.requires.sound
+
+pub write_new_copy-requires-2-clause-settled : goal.write_new_copy-requires-2-clause-settled
+write_new_copy-requires-2-clause-settled g c tells = c.write_new_copy.ensures.settled tells c.in_ok-write_new_copy.ensures.count
