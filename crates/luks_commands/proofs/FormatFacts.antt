@@ -188,10 +188,10 @@ format_after tells making key passphrase random total total' old mid new before 
 format_after tells making key passphrase random total total' old mid new before between after (Unmade (refusal.Format Device)) long same count said = said
 format_after tells making key passphrase random total total' old mid new before between after (Unmade (refusal.Format Memory)) long same count said = said
 format_after tells making key passphrase random total total' old mid new before between after (Unmade (refusal.Format f)) long same count said =
-    (said.0 ∙ count, subst (λ (n : ℕ). IsMakingFault making passphrase n random f) long said.1, λ told. said.2 told ∙ same told)
+    (said.0 ∙ count, subst (λ (n : ℕ). IsMakingFault making key passphrase n random f) long said.1, λ told. said.2 told ∙ same told)
 format_after tells making key passphrase random total total' old mid new before between after DeviceFault long same count said = said ∙ ap (λ n. n + 1) count
 format_after tells making key passphrase random total total' old mid new before between after NoMemory long same count said =
-    (said.0 ∙ count, subst (λ (n : ℕ). IsMakingFault making passphrase n random Memory) long said.1, λ told. said.2 told ∙ same told)
+    (said.0 ∙ count, subst (λ (n : ℕ). IsMakingFault making key passphrase n random Memory) long said.1, λ told. said.2 told ∙ same told)
 format_after tells making key passphrase random total total' old mid new before between after a long same count said = absurd said
 
 -- a volume that isn't to be written over isn't

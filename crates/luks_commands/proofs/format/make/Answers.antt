@@ -24,7 +24,7 @@ use Rattle.luks_commands.proofs.format.make.Goals as goal
 pub returns-in-Luks1-clause-made : goal.returns-in-Luks1-clause-made
 returns-in-Luks1-clause-made g c = λ tells.
     let making = c.args.making.now in
-    let key = c.args.key.entry in
+    let key = c.args.key in
     let p = c.args.passphrase.now in
     let random = c.args.random.now in
     let old = g.D.Device.bytes c.args.device.now in
@@ -44,13 +44,13 @@ returns-in-Luks1-clause-fault g c =
     let making = c.args.making.now in
     let random = c.args.random.now in
     let total = g.D.Device.size c.args.device.now in
-    made1_fault c.format1_as.result making c.args.key.entry c.args.passphrase.now total random c.in-Luks1.is
+    made1_fault c.format1_as.result making c.args.key c.args.passphrase.now total random c.in-Luks1.is
     (subst (λ (given : Given). IfErr c.format1_as.result (IsAnsweredFault (IsFormat1FaultAs given total making.format random))) c.given_of-given.ensures c.format1_as.ensures.fault)
 
 pub returns-in-Luks2-clause-made : goal.returns-in-Luks2-clause-made
 returns-in-Luks2-clause-made g c = λ tells.
     let making = c.args.making.now in
-    let key = c.args.key.entry in
+    let key = c.args.key in
     let p = c.args.passphrase.now in
     let random = c.args.random.now in
     let old = g.D.Device.bytes c.args.device.now in
@@ -78,7 +78,7 @@ returns-in-Luks2-clause-refused g c = λ tells.
 pub returns-in-Luks2-clause-fault : goal.returns-in-Luks2-clause-fault
 returns-in-Luks2-clause-fault g c =
     let making = c.args.making.now in
-    let key = c.args.key.entry in
+    let key = c.args.key in
     let p = c.args.passphrase.now in
     let random = c.args.random.now in
     let total = g.D.Device.size c.args.device.now in
