@@ -11,7 +11,7 @@ _luks() {
         [remove]="--slot --by --passphrase --passphrase-line --key --random --memory --older --over --detached --offset --length --quiet --help"
         [repair]="--random --over --detached --offset --length --quiet --help"
         [label]="--random --over --detached --offset --length --quiet --help"
-        [format]="--passphrase --passphrase-line --random --version --hash --iterations --kdf --kdf-memory --passes --lanes --iter-time --memory --over --detached --offset --length --quiet --help"
+        [format]="--passphrase --passphrase-line --random --version --hash --iterations --kdf --kdf-memory --passes --lanes --iter-time --memory --key --payload --uuid --label --subsystem --over --detached --offset --length --quiet --help"
         [convert]="--random --over --detached --offset --length --quiet --help"
         [rebuild]="--random --second --size --thorough --cipher --hash --key-bytes --payload --passphrase --passphrase-line --uuid --over --offset --length --quiet --help"
         [find]="--offset --length --quiet --help"
@@ -42,7 +42,7 @@ _luks() {
     # what stands behind these options is no file, but one of these words, where some are known
     case $before in
         --slot | --to | --by | --digest) value=1 words="$(echo {0..31})" ;;
-        --memory | --iterations | --uuid | --offset | --length | --payload | --kdf-memory | --passes | --iter-time) value=1 ;;
+        --memory | --iterations | --uuid | --offset | --length | --payload | --kdf-memory | --passes | --iter-time | --label | --subsystem) value=1 ;;
         --version) value=1 words="1 2" ;;
         --hash) value=1 words="sha1 sha256 sha512" ;;
         --size) value=1 words="16384 32768 65536 131072 262144 524288 1048576 2097152 4194304" ;;

@@ -1,5 +1,5 @@
 -- What each command promises of its files and of its answer.
-use Rattle.std.specs.Prelude.{◌≡◌, ℕ, List, None, Option, IfOk, ⊤}
+use Rattle.std.specs.Prelude.{◌⊎◌, ◌≡◌, ℕ, List, None, Option, IfOk, ⊤}
 use Rattle.luks_area.specs.declared.device.Device.{Ghosts as Device}
 use Rattle.luks_reading.specs.declared.report.Data.{Data}
 use Rattle.luks_request.specs.declared.keeping.BackingUp.{BackingUp}
@@ -21,7 +21,7 @@ use Rattle.luks_commands.specs.Answer.{answer_status}
 use Rattle.luks_commands.specs.CheckAnswers.{AnswersCheck}
 use Rattle.luks_commands.specs.Checked.{EndsCheck}
 use Rattle.luks_commands.specs.Files.{AreFirstBytes, IsLong, IsUnread, IsUnreadRandom, IsWhole, KeepsVolume, LeavesVolume}
-use Rattle.luks_commands.specs.FormatAnswers.{AnswersFormat, IsUnreadEither}
+use Rattle.luks_commands.specs.FormatAnswers.{AnswersFormat, IsUnreadAny}
 use Rattle.luks_commands.specs.Formatting.{needed, SaysFormat}
 use Rattle.luks_commands.specs.KeyAnswers.{AnswersKey}
 use Rattle.luks_commands.specs.OpenAnswers.{allowed_of, AnswersOpen}
@@ -94,10 +94,12 @@ pub record Edits {D R N : Type 0} (device : Device D) (words : R → Option (Lis
 -- another use holds it back, and any accepted header
 pub record Formats {D R N : Type 0} (device : Device D) (words : R → Option (List ℕ)) (chance : N → Option (List ℕ))
     (making : Making) (old new : Inputs D R N) (answer : Answer) : Type 0 where
-  pub left : LeavesVolume device.tells device.size device.bytes (λ v w. SaysFormat making (IsWhole words old.passphrase)
+  pub left : LeavesVolume device.tells device.size device.bytes (λ v w. SaysFormat making (IsWhole words old.passphrase) (IsWhole words old.new_passphrase)
       (AreFirstBytes (needed making.version) chance old.random) v w (answer_status answer)) old.volume new.volume
   pub answers : AnswersFormat device.tells device.size device.bytes device.failed making
-      (IsWhole words old.passphrase) (IsLong words old.passphrase) (IsUnreadEither old.passphrase (needed making.version) old.random)
+      (IsWhole words old.passphrase) (IsWhole words old.new_passphrase)
+      (IsLong words old.passphrase ⊎ IsLong words old.new_passphrase)
+      (IsUnreadAny old.passphrase old.new_passphrase (needed making.version) old.random)
       (AreFirstBytes (needed making.version) chance old.random) old.volume new.volume answer
   pub over : HoldsBackDevice device.tells device.bytes making.over (HasOther None) old.volume new.volume answer
 

@@ -46,6 +46,7 @@ pub(crate) fn means(fault: Fault) -> &'static str {
         Fault::SeqExhausted => "there is no higher sequence number",
         Fault::MetadataFull => "the new metadata is longer than its area",
         Fault::RandomLength => "the random file is too short, or none is given",
+        Fault::Payload => "of format: the data would begin in the header or the key areas",
         Fault::TooSmall => "the volume, TARGET or FILE is too short",
         Fault::NotLuks1 => "of convert: SOURCE is of LUKS2",
         Fault::SameFile => "TARGET is SOURCE, or FILE is VOLUME or the passphrase's",
@@ -126,7 +127,7 @@ pub(crate) fn place(fault: Fault) -> &'static str {
         }
         Fault::KeyLength => {
             "open --key: its FILE; LUKS1 says in its header how many bytes the key
-       has, LUKS2 in the keyslots of the digest"
+       has, LUKS2 in the keyslots of the digest; format --key: 64 bytes"
         }
         Fault::SameSlot => "remove: the keyslots of --by and --slot",
         Fault::SlotFree => "open: the keyslot of --slot",
@@ -149,16 +150,20 @@ pub(crate) fn place(fault: Fault) -> &'static str {
         Fault::NoFreeSlot => "add, and change of LUKS1: LUKS1 has 0 to 7, LUKS2 0 to 31",
         Fault::NoRoom => "add and change, of LUKS2; convert: the areas would end past 16777216",
         Fault::LastSlot => "remove: the keyslot of --slot is the last one of its volume key",
-        Fault::BadLabel => "label: TEXT",
+        Fault::BadLabel => "label: TEXT; format: --label or --subsystem",
         Fault::SeqExhausted => {
             "add, change, remove, repair and label: seqid of the copy that counts, of
        LUKS2"
         }
         Fault::MetadataFull => "add, change, remove, repair and label, of LUKS2",
         Fault::RandomLength => "the commands that write: the file of --random",
+        Fault::Payload => {
+            "format: --payload, before sector 4036, of LUKS2 32768, but where the data
+       lies on another device"
+        }
         Fault::TooSmall => {
-            "format: fewer than 2097152 bytes, of LUKS2 16777216; convert: TARGET,
-       16777216; backup: FILE, where that is a device"
+            "format: fewer than 2097152 bytes, of LUKS2 16777216, or up to --payload;
+       convert: TARGET, 16777216; backup: FILE, where that is a device"
         }
         Fault::NotLuks1 => "convert: SOURCE",
         Fault::SameFile => {
@@ -268,6 +273,7 @@ pub(crate) fn safe(fault: Fault) -> &'static str {
         | Fault::SeqExhausted
         | Fault::MetadataFull
         | Fault::RandomLength
+        | Fault::Payload
         | Fault::TooSmall
         | Fault::NotLuks1
         | Fault::Counts
@@ -425,6 +431,10 @@ pub(crate) fn next(fault: Fault) -> &'static str {
             "remove a keyslot that isn't needed, or a token (cryptsetup token remove)"
         }
         Fault::RandomLength => "give --random /dev/urandom",
+        Fault::Payload => {
+            "give the sector of 512 bytes at which the data begins; where it lies on
+       another device than the header, --detached takes any"
+        }
         Fault::TooSmall => {
             "make the file longer, as by truncate -s 16M FILE; format --version 1
        takes 2 MiB"

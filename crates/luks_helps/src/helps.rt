@@ -433,14 +433,23 @@ to 288767, and no other. Where a LUKS header that check accepts, if only with
 partition table, nothing is written but with --over.
 
 The volume has at least 2097152 bytes, of LUKS2 16777216, and its data begins
-there; with --detached it lies on another device, from its byte 0 on.
+there; with --detached it lies on another device, from its byte 0 on. Where
+--payload says so it begins at that sector, behind the key areas: at 4036 of
+LUKS1 or behind it, at 32768 of LUKS2; with --detached at any.
+
+So a header is made anew for data that is there: --key is the volume key, as an
+open mapping or an escrow has it, 64 bytes, and --payload is where the data
+begins. No byte of it changes. With --detached VOLUME is a file of its own, and
+the disk stays as it is until the header is tried: luks open, and cryptsetup
+open --header. Sectors of 512 bytes are meant, and aes-xts-plain64.
 
 Keyslot 0 opens by the passphrase: all bytes of its file, a last newline too,
 at most 65536; by --passphrase-line what stands there before the first newline.
 The cipher is aes-xts-plain64 with a volume key of 64 bytes. The uuid, the key,
 the salts and the stripes are the first 256080 bytes of the random file, of
 LUKS2 256208, and no more are read. Give it /dev/urandom: whoever knows these
-bytes knows the volume key.
+bytes knows the volume key, unless --key gives it. In place of a key or a uuid
+that is given its random bytes are read, and not used.
 
 The passphrase's key is derived by PBKDF2, or of LUKS2 by Argon2 with --kdf
 argon2id or argon2i: --kdf-memory, --passes and --lanes are its costs, and
@@ -456,8 +465,13 @@ Standard error says what it chose.
 
 Prints one line:
   done slot 0            the volume is made
-  refused Passphrase     the passphrase's file is too long
-  refused TooSmall       the volume is
+  refused Passphrase     the passphrase's or the key's file is too long
+  refused Payload        --payload lies in the header or the key areas
+  refused TooSmall       the volume is, or it ends before --payload
+  refused Uuid           --uuid isn't one
+  refused BadLabel       --label or --subsystem has more than 47 bytes, or one
+                         that can't be printed, or the volume is LUKS1
+  refused KeyLength      the key hasn't 64 bytes
   refused Iterations     there are fewer than 1000
   refused Argon2         it takes more memory than --memory allows
   refused RandomLength   the random file has too few bytes

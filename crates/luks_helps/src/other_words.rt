@@ -14,7 +14,7 @@ pub fn other_words() -> &'static [OtherWord] {
     &OTHER_WORDS
 }
 
-static OTHER_WORDS: [OtherWord; 60] = [
+static OTHER_WORDS: [OtherWord; 59] = [
     OtherWord {
         word: "luksDump",
         here: "luks show",
@@ -246,10 +246,6 @@ static OTHER_WORDS: [OtherWord; 60] = [
     OtherWord {
         word: "--test-passphrase",
         here: "luks open, which does nothing else",
-    },
-    OtherWord {
-        word: "--label",
-        here: "luks label, once the volume is there",
     },
     OtherWord {
         word: "--batch-mode",

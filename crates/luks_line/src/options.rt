@@ -57,6 +57,11 @@ pub(crate) enum LongOption {
     Key,
     OpenerKey,
     Digest,
+    NewKey,
+    NewPayload,
+    NewUuid,
+    Label,
+    Subsystem,
 }
 
 impl LongOption {
@@ -74,7 +79,8 @@ pub(crate) struct OptionRow {
 }
 
 /// In the order of `LongOption`.
-static OPTIONS: [OptionRow; 51] = [
+<<<<<<< HEAD
+static OPTIONS: [OptionRow; 56] = [
     OptionRow {
         name: "detached",
         needed: false,
@@ -380,5 +386,35 @@ static OPTIONS: [OptionRow; 51] = [
         needed: false,
         help: "LUKS2: by which digest; else that of segment 0",
         takes: Takes::Digest,
+    },
+    OptionRow {
+        name: "key",
+        needed: false,
+        help: "The file of the volume key, taken whole; else random",
+        takes: Takes::File,
+    },
+    OptionRow {
+        name: "payload",
+        needed: false,
+        help: "Where the data begins, in sectors of 512 bytes",
+        takes: Takes::Sector,
+    },
+    OptionRow {
+        name: "uuid",
+        needed: false,
+        help: "The volume's uuid; else a new one",
+        takes: Takes::Uuid,
+    },
+    OptionRow {
+        name: "label",
+        needed: false,
+        help: "LUKS2: the volume's label",
+        takes: Takes::Label,
+    },
+    OptionRow {
+        name: "subsystem",
+        needed: false,
+        help: "LUKS2: the volume's subsystem",
+        takes: Takes::Label,
     },
 ];

@@ -11,7 +11,7 @@ use luks_kdf::HashName;
 use luks_reading::{Data, Format};
 use luks_request::{
     BackingUp, Command, Comparing, Converting, EditRequest, Editing, KeepingKey, Line, Making,
-    NewVersion, OpenerFile, Place, Rebuilding, Restoring, ShowAs,
+    NewFields, NewVersion, OpenerFile, Place, Rebuilding, Restoring, ShowAs,
 };
 
 /// What the command asks for, of a volume.
@@ -175,8 +175,20 @@ fn formatting_of<'a>(given: &ArgMatches<'a>) -> Option<Command<'a>> {
         kdf: argon2_of(given)?,
         memory: mib_of(given, "memory")?,
         payload: data_of(given),
+        given: new_fields_of(given),
         over: given.get_flag("over"),
     }))
+}
+
+/// What is given of a new volume.
+fn new_fields_of<'a>(given: &ArgMatches<'a>) -> NewFields<'a> {
+    NewFields {
+        key: given.get_str("key"),
+        sector: given.get_one::<u32>("payload").map(u64::from),
+        uuid: given.get_str("uuid"),
+        label: given.get_str("label"),
+        subsystem: given.get_str("subsystem"),
+    }
 }
 
 fn version_of(given: &ArgMatches<'_>) -> Option<NewVersion> {

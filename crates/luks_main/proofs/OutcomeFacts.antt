@@ -71,7 +71,7 @@ commands_end device words chance (command.Show shown_as) name old new a said = s
 commands_end device words chance (command.Open passphrase slot memory older) name old new a said = open_ends _ _ _ _ slot _ _ _ _ _ a said
 commands_end device words chance (command.Match matching) name old new a said = key_ends _ _ _ _ _ _ _ _ _ _ a said
 commands_end device words chance (command.Edit editing) name old new a said = edit_ends _ _ _ _ _ _ _ _ a said.answers
-commands_end device words chance (command.Format making) name old new a said = format_ends _ _ _ _ making _ _ _ _ _ _ a said.answers
+commands_end device words chance (command.Format making) name old new a said = format_ends _ _ _ _ making _ _ _ _ _ _ _ a said.answers
 commands_end device words chance (command.Convert converting) name old new a said =
     by_one_file (one_file name converting.target.now old.target) (λ one. converted_same_file_ends a (said.same one).1)
     (λ two. convert_ends _ _ _ _ converting _ _ _ _ _ _ a (said.answers two))

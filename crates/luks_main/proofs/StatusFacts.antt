@@ -1,5 +1,5 @@
 -- Each command's answers end with the statuses of the table.
-use Rattle.std.proofs.Common.{◌≡◌, ◌⊎◌, ℕ, List, Bool, true, false, Option, Some, None, Result, Ok, Err, refl, sym, ap, subst, inl, inr}
+use Rattle.std.proofs.Common.{◌≡◌, ◌⊎◌, ℕ, List, Bool, true, false, Option, Some, None, Bor, Result, Ok, Err, refl, sym, ap, subst, inl, inr}
 use Rattle.luks_reading.specs.declared.report.Data.{Data}
 use Rattle.luks_reading.specs.declared.report.Version.TheVariants.{Luks1, Luks2}
 use Rattle.luks2_header.specs.declared.selection.Copies.TheVariants.{InStep, FirstNewer, SecondNewer, FirstOnly, SecondOnly}
@@ -259,25 +259,25 @@ edit_ends tells bytes failed payload given lacks (Err fault) new a (inr said) = 
 
 -- ---- `format`
 
-format_there : (tells : Type 0) (making : Making) (passphrase random : List ℕ) (total : ℕ) (old new : List ℕ) (before after : ℕ) (a : Answer)
-    → IsFormatAnswer tells making passphrase random total old new before after a → EndsFormat a (own a)
-format_there tells making passphrase random total old new before after (Done slot) said = (said.1, refl)
-format_there tells making passphrase random total old new before after (Refused (refusal.Format f)) said = refl
-format_there tells making passphrase random total old new before after DeviceFault said = refl
-format_there tells making passphrase random total old new before after NoMemory said = refl
-format_there tells making passphrase random total old new before after a said = absurd said
+format_there : (tells : Type 0) (making : Making) (key : Option (Bor (List ℕ))) (passphrase random : List ℕ) (total : ℕ) (old new : List ℕ) (before after : ℕ) (a : Answer)
+    → IsFormatAnswer tells making key passphrase random total old new before after a → EndsFormat a (own a)
+format_there tells making key passphrase random total old new before after (Done slot) said = (said.1, refl)
+format_there tells making key passphrase random total old new before after (Refused (refusal.Format f)) said = refl
+format_there tells making key passphrase random total old new before after DeviceFault said = refl
+format_there tells making key passphrase random total old new before after NoMemory said = refl
+format_there tells making key passphrase random total old new before after a said = absurd said
 
-pub format_ends : {D : Type 0} (tells : Type 0) (size : D → ℕ) (bytes : D → List ℕ) (failed : D → ℕ) (making : Making) (HasWords : List ℕ → Type 0) (is_long : Type 0)
+pub format_ends : {D : Type 0} (tells : Type 0) (size : D → ℕ) (bytes : D → List ℕ) (failed : D → ℕ) (making : Making) (HasWords HasKey : List ℕ → Type 0) (is_long : Type 0)
     (unread : InputFault → Type 0) (HasRandom : List ℕ → Type 0) (old new : Result D InputFault) (a : Answer)
-    → AnswersFormat tells size bytes failed making HasWords is_long unread HasRandom old new a → EndsFormat a (own a)
-format_ends tells size bytes failed making HasWords is_long unread HasRandom (Ok old) (Ok new) a (inl said) = wordless_ends EndsFormat refl refl refl is_long unread a said.0
-format_ends tells size bytes failed making HasWords is_long unread HasRandom (Ok old) (Ok new) a (inr (inl held)) =
+    → AnswersFormat tells size bytes failed making HasWords HasKey is_long unread HasRandom old new a → EndsFormat a (own a)
+format_ends tells size bytes failed making HasWords HasKey is_long unread HasRandom (Ok old) (Ok new) a (inl said) = wordless_ends EndsFormat refl refl refl is_long unread a said.0
+format_ends tells size bytes failed making HasWords HasKey is_long unread HasRandom (Ok old) (Ok new) a (inr (inl held)) =
     barred_ends EndsFormat (λ found. refl) refl refl refl tells making.over (HasOther None (bytes old)) (bytes old) held.bar held.barred a held.is
-format_ends tells size bytes failed making HasWords is_long unread HasRandom (Ok old) (Ok new) a (inr (inr said)) =
-    format_there tells making said.passphrase said.random (size old) (bytes old) (bytes new) (failed old) (failed new) a said.is
-format_ends tells size bytes failed making HasWords is_long unread HasRandom (Ok old) (Err fault) a said = absurd said
-format_ends tells size bytes failed making HasWords is_long unread HasRandom (Err fault) new a (inl said) = wordless_ends EndsFormat refl refl refl is_long unread a said
-format_ends tells size bytes failed making HasWords is_long unread HasRandom (Err fault) new a (inr said) = unread_ends EndsFormat refl refl fault a said
+format_ends tells size bytes failed making HasWords HasKey is_long unread HasRandom (Ok old) (Ok new) a (inr (inr said)) =
+    format_there tells making said.key said.passphrase said.random (size old) (bytes old) (bytes new) (failed old) (failed new) a said.is
+format_ends tells size bytes failed making HasWords HasKey is_long unread HasRandom (Ok old) (Err fault) a said = absurd said
+format_ends tells size bytes failed making HasWords HasKey is_long unread HasRandom (Err fault) new a (inl said) = wordless_ends EndsFormat refl refl refl is_long unread a said
+format_ends tells size bytes failed making HasWords HasKey is_long unread HasRandom (Err fault) new a (inr said) = unread_ends EndsFormat refl refl fault a said
 
 -- ---- `convert` and `rebuild`
 

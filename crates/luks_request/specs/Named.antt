@@ -43,9 +43,10 @@ passphrase_of (Restore restoring) = None
 passphrase_of (Compare comparing) = None
 passphrase_of (KeepKey keeping) = Some keeping.passphrase.now
 
--- some edits alone need a new one beside it
+-- some edits need a new one beside it; a new volume's key is read as one, where it is given
 abbrev pub new_of : Command → Option (List ℕ)
 new_of (Edit editing) = edit_new_of editing.request
+new_of (Format making) = option_map (λ name. name.now) making.given.key
 new_of command = None
 
 -- edits, where they name its file, formatting, converting and rebuilding take random bytes

@@ -12,6 +12,6 @@ pub use keeping::{BackingUp, Comparing, KeepingKey, Restoring};
 pub use place::Place;
 pub use rebuilding::{Luks1Fields, Meant, Rebuilding};
 pub use request::{
-    Command, Converting, EditRequest, Editing, Line, Making, Matching, NewVersion, OpenerFile,
-    ShowAs,
+    Command, Converting, EditRequest, Editing, Line, Making, Matching, NewFields, NewVersion,
+    OpenerFile, ShowAs,
 };

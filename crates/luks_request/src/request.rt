@@ -224,8 +224,25 @@ pub struct Making<'a> {
     pub memory: u32,
     /// Where the payload lies.
     pub payload: Data,
+    /// What is given in the place of what is made for it.
+    pub given: NewFields<'a>,
     /// Whether it may write over another volume's header, and over another use of the disk.
     pub over: bool,
+}
+
+/// What is given of a new volume in the place of what is made for it.
+#[derive(Debug, Clone, Copy)]
+pub struct NewFields<'a> {
+    /// The file of the volume key.
+    pub key: Option<&'a str>,
+    /// Where the payload begins, in sectors of 512 bytes.
+    pub sector: Option<u64>,
+    /// The uuid.
+    pub uuid: Option<&'a str>,
+    /// LUKS2: the label.
+    pub label: Option<&'a str>,
+    /// LUKS2: the subsystem.
+    pub subsystem: Option<&'a str>,
 }
 
 /// What is made by converting, and of which files.
@@ -272,12 +289,13 @@ impl<'a> Line<'a> {
     }
 
     /// The file of the new passphrase, where the command seals a keyslot beside or in the place of
-    /// another.
+    /// another; of a new volume that of its key, where it is given.
     pub fn new_passphrase(&self) -> Option<&'a str>
         ensures { option_map (λ name. name.now) result ≡ new_of self.now.command }
     {
         match self.command {
             Command::Edit(editing) => editing.request.new_passphrase(),
+            Command::Format(making) => making.given.key,
             _ => None,
         }
     }

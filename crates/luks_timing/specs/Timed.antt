@@ -62,6 +62,8 @@ pub record IsTimedMaking (making timed : Making) : Type 0 where
   pub kdf : IsTimedOf making.version making timed.kdf
   pub memory : timed.memory ≡ making.memory
   pub payload : timed.payload ≡ making.payload
+  pub given : timed.given ≡ making.given
+  pub over : timed.over ≡ making.over
 
 -- a command that makes no keyslot stays as it is
 abbrev pub IsTimed : Command → Command → Type 0

@@ -152,6 +152,7 @@ impl<C: Clock> Timing<'_, C> {
             kdf,
             memory: making.memory,
             payload: making.payload,
+            given: making.given,
             over: making.over,
         })
     }

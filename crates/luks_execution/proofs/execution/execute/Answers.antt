@@ -20,7 +20,7 @@ returns-in-Format-clause-executes g c = rw c.in-Format.is (record {
   kept = record {
     left = c.run-in-Format.ensures.left;
     answers = c.run-in-Format.ensures.answers;
-    over = format_holds g.D.Device.tells g.D.Device.size g.D.Device.bytes g.D.Device.failed c.in-Format.making _ _ _ _ _ _ c.run-in-Format.result
+    over = format_holds g.D.Device.tells g.D.Device.size g.D.Device.bytes g.D.Device.failed c.in-Format.making _ _ _ _ _ _ _ c.run-in-Format.result
         c.run-in-Format.ensures.answers;
   };
 })
