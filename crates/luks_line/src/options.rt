@@ -79,7 +79,6 @@ pub(crate) struct OptionRow {
 }
 
 /// In the order of `LongOption`.
-<<<<<<< HEAD
 static OPTIONS: [OptionRow; 56] = [
     OptionRow {
         name: "detached",
@@ -378,7 +377,7 @@ static OPTIONS: [OptionRow; 56] = [
     OptionRow {
         name: "key",
         needed: false,
-        help: "Instead of the passphrase, the file of the keyslot's key",
+        help: "Instead, the file of the keyslot's key",
         takes: Takes::File,
     },
     OptionRow {
@@ -390,7 +389,7 @@ static OPTIONS: [OptionRow; 56] = [
     OptionRow {
         name: "key",
         needed: false,
-        help: "The file of the volume key, taken whole; else random",
+        help: "The file of the volume key; else it is random",
         takes: Takes::File,
     },
     OptionRow {
