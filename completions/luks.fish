@@ -130,7 +130,7 @@ complete -c luks -n '__fish_seen_subcommand_from format' -l passes -x -d 'The pa
 complete -c luks -n '__fish_seen_subcommand_from format' -l lanes -x -a '(seq 1 4)' -d 'The lanes of Argon2'
 complete -c luks -n '__fish_seen_subcommand_from format' -l iter-time -x -d 'Choose costs that take so many milliseconds'
 complete -c luks -n '__fish_seen_subcommand_from format' -l memory -x -d 'The MiB that Argon2 may take'
-complete -c luks -n '__fish_seen_subcommand_from format' -l key -r -F -d 'The file of the volume key, taken whole; else random'
+complete -c luks -n '__fish_seen_subcommand_from format' -l key -r -F -d 'The file of the volume key; else it is random'
 complete -c luks -n '__fish_seen_subcommand_from format' -l payload -x -d 'Where the data begins, in sectors of 512 bytes'
 complete -c luks -n '__fish_seen_subcommand_from format' -l uuid -x -d "The volume's uuid; else a new one"
 complete -c luks -n '__fish_seen_subcommand_from format' -l label -x -d "LUKS2: the volume's label"
