@@ -236,6 +236,7 @@ called fault.BadLabel = refl
 called fault.SeqExhausted = refl
 called fault.MetadataFull = refl
 called fault.RandomLength = refl
+called fault.Payload = refl
 called fault.TooSmall = refl
 called fault.NotLuks1 = refl
 called fault.SameFile = refl
