@@ -79,7 +79,16 @@ pub fn run<D: Device, R: Read, N: Read, E: Write>(
         Err(fault) => return unread(fault, making.random, err),
     };
     let (words, random) = (words.as_slice(), random.as_slice());
-    format_device(alloc, device, name, making, slice_of(&key), words, random, err)
+    format_device(
+        alloc,
+        device,
+        name,
+        making,
+        slice_of(&key),
+        words,
+        random,
+        err,
+    )
 }
 
 /// The volume key, the whole bytes of its file, where that is named.

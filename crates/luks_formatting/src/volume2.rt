@@ -160,7 +160,13 @@ fn write_made<D: Device>(
     ensures formatted { D.tells → OnOk result
         (IsMade volume.now (D.bytes device.old) (D.bytes device.new)) }
 {
-    let plan = slot_plan(volume.given, volume.format, volume.chosen, volume.random, digest);
+    let plan = slot_plan(
+        volume.given,
+        volume.format,
+        volume.chosen,
+        volume.random,
+        digest,
+    );
     if !takes_memory(volume.chosen) {
         write_volume(device, volume, &plan, None, json)?;
         return Ok(());

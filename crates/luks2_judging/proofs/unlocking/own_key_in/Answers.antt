@@ -15,8 +15,10 @@ own_key_by-requires c =
     let slot = c.in-Some.ensures.some in
     let naming = rw c.unwrap-number.ensures at c.digest_of_keyslot.ensures.some in
     let digest = rw c.unwrap-digest.ensures at c.digest.ensures.some in
-    record { judged = luks2_judged c.requires.accepted.metadata.len c.args.n (content c.args.copy.now.meta) slot.object c.luks2_plan-plan.result c.requires.accepted.metadata.content c.requires.there.0 slot.is
-      (c.luks2_plan-plan.ensures (content c.args.copy.now.meta) c.args.n c.unwrap-number.result slot.object digest.object slot.tells_members naming digest.is digest.tells_members); }
+    record {
+      judged = luks2_judged c.requires.accepted.metadata.len c.args.n (content c.args.copy.now.meta) slot.object c.luks2_plan-plan.result c.requires.accepted.metadata.content c.requires.there.0 slot.is
+          (c.luks2_plan-plan.ensures (content c.args.copy.now.meta) c.args.n c.unwrap-number.result slot.object digest.object slot.tells_members naming digest.is digest.tells_members);
+    }
 
 pub returns-clause-gives : goal.returns-clause-gives
 returns-clause-gives c = λ b json clear.

@@ -22,7 +22,7 @@ returns-in-None-clause-refused g c = λ tells is payload e well same kind asked 
       passphrase = c.args.secret.now.bytes.now;
       asked = asked;
       answer = answered_as v c.args.n c.args.secret.now.bytes.now e (opened_to None) c.args.allowed c.args.secret.now.kind same kind
-      (subst (λ o. AnswersTo c.args.secret.now.kind c.args.allowed v c.args.n c.args.secret.now.bytes.now (opened_to o)) c.in-None.is (c.in-Ok.ensures.answers.gives tells is));
+          (subst (λ o. AnswersTo c.args.secret.now.kind c.args.allowed v c.args.n c.args.secret.now.bytes.now (opened_to o)) c.in-None.is (c.in-Ok.ensures.answers.gives tells is));
     }
 
 pub returns-in-Err-clause-refused : goal.returns-in-Err-clause-refused

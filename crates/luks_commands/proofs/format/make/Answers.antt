@@ -61,12 +61,12 @@ returns-in-Luks2-clause-made g c = λ tells.
     let formatted : OnOk c.format2_as.result (IsFormatted2As (given_of making key) making.format (chosen_of making.kdf) p random old new) =
     subst (λ (chosen : Option NewDerivation). OnOk c.format2_as.result (IsFormatted2As (given_of making key) making.format chosen p random old new)) c.chosen_of-chosen.ensures made_so in
     let opened_so : OnOk c.format2_as.result ((allowed : Allowed) → memory_by (slot_derivation making.format c.chosen_of-chosen.result) ≤ allowed.memory
-        → AnswerWithin allowed new 0 p (opens (key_of (given_of making key) random))) =
+    → AnswerWithin allowed new 0 p (opens (key_of (given_of making key) random))) =
     subst (λ (given : Given). OnOk c.format2_as.result ((allowed : Allowed) → memory_by (slot_derivation making.format c.chosen_of-chosen.result) ≤ allowed.memory
-        → AnswerWithin allowed new 0 p (opens (key_of given random)))) is (c.format2_as.ensures.opens tells) in
+    → AnswerWithin allowed new 0 p (opens (key_of given random)))) is (c.format2_as.ensures.opens tells) in
     let opened : OnOk c.format2_as.result (OpensNew Luks2 making new p (key_of (given_of making key) random)) =
     subst (λ (chosen : Option NewDerivation). OnOk c.format2_as.result ((allowed : Allowed) → memory_by (slot_derivation making.format chosen) ≤ allowed.memory
-        → AnswerWithin allowed new 0 p (opens (key_of (given_of making key) random)))) c.chosen_of-chosen.ensures opened_so in
+    → AnswerWithin allowed new 0 p (opens (key_of (given_of making key) random)))) c.chosen_of-chosen.ensures opened_so in
     made c.format2_as.result making key Luks2 p random old new c.in-Luks2.is formatted
     (subst (λ (given : Given). OnOk c.format2_as.result (WellFormed new given.payload)) is (c.format2_as.ensures.well_formed tells)) opened
     (subst (λ (given : Given). given.payload ≡ Here → SameBut (IsBefore (segment_start given)) old new) is (c.format2_as.ensures.payload tells))
