@@ -82,18 +82,39 @@ fn run_words<R: AllocGlobal + Clock + Files<File = File> + Input + Print + Eprin
     ensures { IfOk result IsProgramStatus }
 {
     match parse(rt.alloc(), words) {
-        Ok(Asked::Volume(line, manner)) => {
-            let status = run_line(rt, &line, manner);
-            if line.passphrase().is_some() && !wipe_stack() {
-                return Ok(FAULT);
-            }
-            Ok(status)
-        }
-        Ok(Asked::Find(asked, manner)) => Ok(search(rt, asked, manner)),
-        Ok(Asked::Explain(Some(fault))) => explain(rt, fault),
-        Ok(Asked::Explain(None)) => list_faults(rt),
+        Ok(asked) => run_asked(rt, &asked),
         Err(fault) => tell_usage(rt, &fault),
     }
+}
+
+/// Does what the words ask for; gives the exit status.
+fn run_asked<R: AllocGlobal + Clock + Files<File = File> + Input + Print + Eprint>(
+    rt: &R,
+    asked: &Asked<'_>,
+) -> io::Result<u8>
+    ensures { IfOk result IsProgramStatus }
+{
+    match asked {
+        Asked::Volume(line, manner) => Ok(run_volume(rt, line, *manner)),
+        Asked::Find(asked, manner) => Ok(search(rt, *asked, *manner)),
+        Asked::Explain(Some(fault)) => explain(rt, fault),
+        Asked::Explain(None) => list_faults(rt),
+    }
+}
+
+/// Runs the command of this line, and writes over what the stack had of its passphrases.
+fn run_volume<R: AllocGlobal + Clock + Files<File = File> + Input + Print + Eprint>(
+    rt: &R,
+    line: &Line<'_>,
+    manner: Manner,
+) -> u8
+    ensures { IsProgramStatus result }
+{
+    let status = run_line(rt, line, manner);
+    if line.passphrase().is_some() && !wipe_stack() {
+        return FAULT;
+    }
+    status
 }
 
 /// Takes the numbers of standard streams that were closed when the program began, so that no volume
