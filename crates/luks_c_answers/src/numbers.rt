@@ -23,7 +23,7 @@ const UNKNOWN: u32 = 99;
 /// What the caller asks can't be: more bytes than the volume has, a passphrase that is too long.
 pub const USAGE: u32 = 101;
 
-/// More of the volume's first bytes have to be given.
+/// Another range of the volume has to be given.
 pub const BEYOND: u32 = 102;
 
 /// Memory was refused.

@@ -25,7 +25,7 @@ use Rattle.luks1_rebuilding.specs.RebuildFaults.{is_rebuild_failure as is_rebuil
 use Rattle.luks1_rebuilding.specs.declared.rebuild_fault.Rebuild1Fault.{Rebuild1Fault}
 use Rattle.luks1_rebuilding.specs.declared.rebuild_fault.Rebuild1Fault.TheVariants as rebuild1
 
--- what holds of the devices holds of the volumes whose first bytes they were given
+-- what holds of the devices holds of the volumes of which they were given ranges
 pub of_volumes : (P : List ℕ → ℕ → List ℕ → ℕ → Type 0) (u v : List ℕ) (n total m : ℕ) (o w : List ℕ) → u ≡ v → n ≡ total → o ≡ w → m ≡ total
     → P u n o m → P v total w total
 of_volumes P u v n total m o w source size target left holds =

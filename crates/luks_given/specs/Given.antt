@@ -20,10 +20,6 @@ given_failures device = device.failures
 abbrev pub wanted_by : {K : Type 0} {given : OfGiven K} → GivenParts K given → Part
 wanted_by device = device.missing
 
--- the ranges
-abbrev pub given_parts : {K : Type 0} {given : OfGiven K} → GivenParts K given → List Part
-given_parts device = device.parts.now
-
 -- no call tried to write a byte
 abbrev pub IsUnwritten : {K : Type 0} {given : OfGiven K} → GivenParts K given → Type 0
 IsUnwritten device = device.refused ≡ None

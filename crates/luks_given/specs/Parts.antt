@@ -44,11 +44,19 @@ unfoldable pub volume_of : List Part → ℕ → List ℕ → ℕ → List ℕ
 volume_of [] before bytes total = replicate total 0
 volume_of (r ∷ rs) before bytes total = written (volume_of rs (before + r.len) bytes total) r.at (part bytes before r.len)
 
+-- the same of all bytes
+abbrev pub volume : List Part → List ℕ → ℕ → List ℕ
+volume parts bytes total = volume_of parts 0 bytes total
+
 -- ranges of a volume of `total` bytes, with as many bytes as they have
 pub record ArePartsOf (parts : List Part) (bytes : List ℕ) (total : ℕ) : Type 0 where
   pub apart : AreApart 0 parts
   pub inside : AreInside total parts
   pub counted : parts_length parts ≡ length bytes
+
+-- they are none
+abbrev pub AreNoParts : List Part → List ℕ → ℕ → Type 0
+AreNoParts parts bytes total = ArePartsOf parts bytes total → ⊥
 
 -- the bytes are those of the volume `v` in these ranges; the others may be any
 pub record AreGiven (parts : List Part) (bytes : List ℕ) (total : ℕ) (v : List ℕ) : Type 0 where

@@ -1,7 +1,6 @@
 -- A volume of which ranges are given, as a device whose writes are planned.
 use Rattle.std.specs.Prelude.{ℕ, List, Bool}
 use Rattle.luks_given.specs.declared.given.Given.{Ghosts as OfGiven}
-use Rattle.luks_given.specs.declared.parts.Part.{Part}
 use Rattle.luks_given.specs.declared.planned_writes.PlannedCall.{PlannedCall}
 use Rattle.luks_given.specs.declared.planned_writes.PlannedWrites.{PlannedWrites}
 use Rattle.luks_given.specs.Plan.{played, IsUnflushed}
@@ -21,10 +20,6 @@ planned_bytes {given = given} device = played device.calls.items device.bytes.it
 -- how many these are
 abbrev pub planned_size : {K : Type 0} {given : OfGiven K} → PlannedWrites K given → ℕ
 planned_size device = device.total
-
--- the ranges that are given
-abbrev pub planned_parts : {K : Type 0} {given : OfGiven K} → PlannedWrites K given → List Part
-planned_parts device = device.parts.now
 
 -- how many of its calls have failed
 abbrev pub planned_failures : {K : Type 0} {given : OfGiven K} → PlannedWrites K given → ℕ

@@ -1,4 +1,5 @@
 ghost use Rattle.std.specs.Prelude.{ℕ, List, []};
+ghost use Rattle.luks_given.specs.declared.parts.Part.{Part as ThePart};
 
 use std::marker::Brand;
 
@@ -11,8 +12,13 @@ use std::marker::Brand;
 pub trait Given {
     /// The bytes of the volume, before the call.
     ghost bytes: { List ℕ };
+
+    /// The ranges that are given.
+    ghost parts: { List ThePart };
 }
 
 impl Given for Brand {
     ghost bytes = { [] };
+
+    ghost parts = { [] };
 }

@@ -25,21 +25,22 @@ pub struct GivenParts<'a, K: Given> {
     given: PhantomData<K>,
     ghost fits: { total < 2 ^ 64 },
     ghost whole: { length K.bytes ≡ total },
+    ghost same: { parts.now ≡ K.parts },
     ghost apart: { AreApart 0 parts.now } by { apart-prop 0 parts.now },
     ghost counted: { parts_length parts.now ≡ length held.now },
     ghost known: { AreParts parts.now 0 held.now K.bytes } by { parts-prop parts.now 0 held.now K.bytes },
-    ghost far: { refused ≡ None → failures ≢ 0 → IsWanted parts.now total missing },
+    ghost far: { refused ≡ None → failures ≢ 0 → IsWanted K.parts total missing },
 }
 
 impl<'a, K: Given> GivenParts<'a, K> {
-    ghost use Rattle.luks_given.specs.Given.{given_bytes, given_failures, given_parts, given_size, wanted_by, IsUnwritten};
+    ghost use Rattle.luks_given.specs.Given.{given_bytes, given_failures, given_size, wanted_by, IsUnwritten};
 
     /// The volume of `total` bytes that has these in these ranges.
     pub fn new(parts: &'a [Part], held: &'a [u8], total: u64) -> Self
-        requires { AreGiven parts.now held.now total K.bytes }
+        requires parts { K.parts ≡ parts.now }
+        requires given { AreGiven parts.now held.now total K.bytes }
         ensures bytes { given_bytes result ≡ K.bytes }
         ensures size { given_size result ≡ total }
-        ensures parts { given_parts result ≡ parts.now }
         ensures failures { given_failures result ≡ 0 }
         ensures unwritten { IsUnwritten result }
     {
@@ -59,7 +60,7 @@ impl<'a, K: Given> GivenParts<'a, K> {
     pub fn wanted(&self) -> Part
         ensures value { result ≡ wanted_by self.now }
         ensures wanted { IsUnwritten self.now → given_failures self.now ≢ 0
-            → IsWanted (given_parts self.now) (given_size self.now) result }
+            → IsWanted K.parts (given_size self.now) result }
     {
         self.missing
     }

@@ -1,6 +1,6 @@
 //! Ranges of a volume that are given, with their bytes.
 ghost use Rattle.std.specs.Prelude.{◌≡◌, ◌≤◌, ◌<◌, ◌+◌, ◌^◌, ◌↔◌, IfOk, IfErr, IsTrue, Option, length};
-ghost use Rattle.luks_given.specs.Parts.{AreApart, AreGiven, ArePartsOf, HasPlace, IsPlaced, free_behind, parts_length, volume_of};
+ghost use Rattle.luks_given.specs.Parts.{AreApart, AreGiven, ArePartsOf, HasPlace, IsPlaced, free_behind, parts_length, volume};
 
 /// A range of a volume.
 #[repr(C)]
@@ -17,7 +17,7 @@ pub struct Part {
 pub fn are_parts(parts: &[Part], held: &[u8], total: u64) -> bool
     ensures are { IsTrue result ↔ ArePartsOf parts.now held.now total }
     ensures given { IsTrue result
-        → AreGiven parts.now held.now total (volume_of parts.now 0 held.now total) }
+        → AreGiven parts.now held.now total (volume parts.now held.now total) }
 {
     let mut last = None;
     let mut left = held.len() as u64;

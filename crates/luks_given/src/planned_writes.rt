@@ -41,27 +41,28 @@ pub struct PlannedWrites<'a, K: Given> {
     given: PhantomData<K>,
     ghost fits: { total < 2 ^ 64 },
     ghost whole: { length K.bytes ≡ total },
+    ghost same: { parts.now ≡ K.parts },
     ghost apart: { AreApart 0 parts.now } by { apart-prop 0 parts.now },
     ghost ends: { AreInside total parts.now } by { inside-prop total parts.now },
     ghost counted: { parts_length parts.now ≡ length held.items },
     ghost known: { AreParts parts.now 0 held.items (played calls.items bytes.items K.bytes) } by { parts-prop parts.now 0 held.items (played calls.items bytes.items K.bytes) },
-    ghost far: { failures ≢ 0 → is_full ≡ false → IsWanted parts.now total missing },
+    ghost far: { failures ≢ 0 → is_full ≡ false → IsWanted K.parts total missing },
     ghost last: { furthest calls.items ≤ total },
     ghost planned: { planned_length calls.items ≡ length bytes.items },
-    ghost inside: { WritesGiven parts.now calls.items },
+    ghost inside: { WritesGiven K.parts calls.items },
 }
 
 impl<'a, K: Given> PlannedWrites<'a, K> {
     ghost use Rattle.std.specs.Prelude.{◌↔◌, ◌⊎◌, IfSome, IsNone, IsTrue};
-    ghost use Rattle.luks_given.specs.Planned.{lacked_memory, planned_bytes, planned_calls, planned_failures, planned_parts, planned_size, planned_unsettled, planned_written};
+    ghost use Rattle.luks_given.specs.Planned.{lacked_memory, planned_bytes, planned_calls, planned_failures, planned_size, planned_unsettled, planned_written};
     ghost use Rattle.luks_area.specs.Device.{IsSettled};
 
     /// The volume of `total` bytes that has these in these ranges, and an empty plan.
     pub fn new(alloc: Global, parts: &'a [Part], held: Vec<u8>, total: u64) -> Self
-        requires { AreGiven parts.now held.items total K.bytes }
+        requires parts { K.parts ≡ parts.now }
+        requires given { AreGiven parts.now held.items total K.bytes }
         ensures bytes { planned_bytes result ≡ K.bytes }
         ensures size { planned_size result ≡ total }
-        ensures parts { planned_parts result ≡ parts.now }
         ensures failures { planned_failures result ≡ 0 }
         ensures settled { IsSettled planned_unsettled result }
     {
@@ -83,7 +84,7 @@ impl<'a, K: Given> PlannedWrites<'a, K> {
     pub fn calls(&self) -> &[PlannedCall]
         ensures value { result.now ≡ planned_calls self.now }
         ensures inside { furthest result.now ≤ planned_size self.now }
-        ensures given { WritesGiven (planned_parts self.now) result.now }
+        ensures given { WritesGiven K.parts result.now }
         ensures plays { played result.now (planned_written self.now) K.bytes ≡ planned_bytes self.now }
     {
         self.calls.as_slice()
@@ -100,7 +101,7 @@ impl<'a, K: Given> PlannedWrites<'a, K> {
     /// What the last call wanted that met a byte which isn't given, from the first such place on; None where
     /// none did since the device was made, or memory was refused.
     pub fn wanted(&self) -> Option<Part>
-        ensures wanted { IfSome result (IsWanted (planned_parts self.now) (planned_size self.now)) }
+        ensures wanted { IfSome result (IsWanted K.parts (planned_size self.now)) }
         ensures none { IsNone result
             ↔ (planned_failures self.now ≡ 0) ⊎ IsTrue (lacked_memory self.now) }
     {

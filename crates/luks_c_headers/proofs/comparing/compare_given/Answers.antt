@@ -1,6 +1,5 @@
 use Rattle.std.proofs.Common.{◌≡◌, ◌≢◌, ◌<◌, inl, inr, length, ℕ, List, None, IsTrue, false, refl, ◌∙◌, arith, rules, subst, sym}
 use Rattle.luks_given.specs.Given.{given_bytes}
-use Rattle.luks_given.specs.Volume.{volume}
 use Rattle.luks_keeping.specs.Compared.{IsComparedInFull}
 use Rattle.luks_keeping.specs.Outlines.{Outlines}
 use Rattle.luks_keeping.specs.SameVolume.{IsOtherVolume}
@@ -11,8 +10,8 @@ use Rattle.luks_c_answers.proofs.NumberFacts.{check_number_other, check_number_r
 use Rattle.luks_c_headers.proofs.HeaderFacts.{none_still}
 use Rattle.luks_c_headers.proofs.comparing.compare_given.Goals as goal
 
-pub returns-in-Err-Device-read_outline-clause-more : goal.returns-in-Err-Device-read_outline-clause-more
-returns-in-Err-Device-read_outline-clause-more g c =
+pub returns-in-Err-Device-read_outline-clause-wanted : goal.returns-in-Err-Device-read_outline-clause-wanted
+returns-in-Err-Device-read_outline-clause-wanted g c =
     let e = c.in-Err-Device-read_outline.ensures in
     let unwritten : c.read_outline-2.new.device.refused ≡ None = none_still _ _ c.new-device.ensures.unwritten (e.unchanged.unsettled tt) in
     let failed : c.read_outline-2.new.device.failures ≢ 0 = search rules in
@@ -73,8 +72,8 @@ returns-clause-answers g c =
 
 -- ---- a key area wasn't given
 
-pub returns-in-Err-compare_areas-clause-more : goal.returns-in-Err-compare_areas-clause-more
-returns-in-Err-compare_areas-clause-more g c =
+pub returns-in-Err-compare_areas-clause-wanted : goal.returns-in-Err-compare_areas-clause-wanted
+returns-in-Err-compare_areas-clause-wanted g c =
     let e = c.in-Err-compare_areas.ensures in
     let kept : c.compare_areas.new.backup.refused ≡ None =
     none_still _ _ (none_still _ _ c.new-kept.ensures.unwritten (c.in-Ok.ensures.unchanged.unsettled tt)) (e.kept.unsettled tt) in

@@ -7,7 +7,7 @@ pub invariant_of-result-clause-known : goal.invariant_of-result-clause-known
 unfolding played
 invariant_of-result-clause-known g c =
     let all : played c.new.result.items c.new-2.result.items g.K.Given.bytes ≡ g.K.Given.bytes = ap (λ calls. played calls c.new-2.result.items g.K.Given.bytes) c.new.ensures.items in
-    subst (λ v. AreParts c.args.parts.now 0 c.args.held.items v) (sym all) c.requires.bytes_
+    subst (λ v. AreParts c.args.parts.now 0 c.args.held.items v) (sym all) c.requires.given.bytes_
 
 pub invariant_of-result-clause-last : goal.invariant_of-result-clause-last
 unfolding furthest

@@ -2,7 +2,7 @@ use Rattle.std.proofs.Common.{◌≡◌, ℕ, ◌+◌, List, [], ◌∷◌, ◌+
 use Rattle.luks_area.specs.Ranges.{written, IsAt, IsOfEither, SameBut}
 use Rattle.luks_area.proofs.RangeFacts.{length-written, same_but-same_outside, same_but-wider, same_outside-written}
 use Rattle.luks_given.specs.declared.planned_writes.PlannedCall.{PlannedCall}
-use Rattle.luks_given.specs.Parts.{AreInside, AreParts}
+use Rattle.luks_given.specs.Parts.{AreInside, AreParts, HasPlace}
 use Rattle.luks_given.specs.Plan.{planned_length, played, IsUnflushed, IsWrittenBy}
 use Rattle.luks_given.specs.PlanProps.{length-planned}
 use Rattle.luks_given.proofs.PartFacts.{placed-has, placed-within, placed-written}
@@ -72,7 +72,7 @@ invariant_of-self-in-Ok-clause-inside g c = λ p out by_.
     let from : List ℕ = c.args.from.now in
     elim (writes-more self.calls.items (record { at = at; len = length from }) p (subst (λ calls. IsWrittenBy calls p) (c.if-not-add_call.ensures.calls refl) by_)) [
       | inl before ↦ self.inside p out before
-      | inr last ↦ out (placed-has self.parts.now 0 at (at + length from) c.in-Ok.k p c.in-Ok.ensures.there last.0 last.1)
+      | inr last ↦ out (subst (λ l. HasPlace l p) self.same (placed-has self.parts.now 0 at (at + length from) c.in-Ok.k p c.in-Ok.ensures.there last.0 last.1))
     ]
 
 pub returns-else-not-add_call-clause-wrote : goal.returns-else-not-add_call-clause-wrote
