@@ -93,9 +93,7 @@ fn apply_given<K: Given>(
         return MEMORY;
     };
     match apply(alloc, &mut device, payload, edit, random) {
-        Ok(done) => give_edited(
-            payload, edit, random, done, &device, calls, bytes, told,
-        ),
+        Ok(done) => give_edited(payload, edit, random, done, &device, calls, bytes, told),
         Err(EditFault::Device) => tell_wanted(&device, told),
         Err(fault) => edit_number(&fault),
     }

@@ -180,13 +180,7 @@ fn make2<K: Given>(
 }
 
 /// How the volume is made, where these are ranges of a volume, and the number is a hash's.
-fn format_of(
-    parts: &[Part],
-    held: &[u8],
-    total: u64,
-    hash: u32,
-    iterations: u32,
-) -> Option<Format>
+fn format_of(parts: &[Part], held: &[u8], total: u64, hash: u32, iterations: u32) -> Option<Format>
     ensures { MatchOption result (AreNoParts parts.now held.now total ⊎ IsNoHash hash)
         (λ (format : TheFormat). AreGiven parts.now held.now total (volume parts.now held.now total) × IsFormat hash iterations format) }
 {

@@ -48,7 +48,9 @@ pub extern "C" fn luks_needed_bytes(
         return USAGE;
     }
     match edit_of(asked, passphrase, text) {
-        Ok(edit) => { need_given::<Brand>(alloc, parts, held, total, data_of(is_detached), &edit, told) }
+        Ok(edit) => {
+            need_given::<Brand>(alloc, parts, held, total, data_of(is_detached), &edit, told)
+        }
         Err(_) => USAGE,
     }
 }

@@ -111,7 +111,9 @@ pub extern "C" fn luks_open_bytes(
         return USAGE;
     }
     let allowed = allowed_of(memory, older);
-    open_given::<Brand>(alloc, parts, held, total, n, passphrase, allowed, key, opened)
+    open_given::<Brand>(
+        alloc, parts, held, total, n, passphrase, allowed, key, opened,
+    )
 }
 
 /// The same of the volume `K`, of which these are given, where the passphrase is short.

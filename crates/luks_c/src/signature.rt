@@ -46,7 +46,13 @@ pub extern "C" fn luks_signature_bytes(
 }
 
 /// The same of the disk `K`, of which these are given.
-fn find_given<K: Given>(parts: &[Part], held: &[u8], total: u64, len: u64, told: &mut LuksSignature) -> u32
+fn find_given<K: Given>(
+    parts: &[Part],
+    held: &[u8],
+    total: u64,
+    len: u64,
+    told: &mut LuksSignature,
+) -> u32
     requires parts { K.parts ≡ parts.now }
     requires given { AreGiven parts.now held.now total K.bytes }
     ensures answers { AnswersSignature (take len K.bytes) told.new.shows result }
