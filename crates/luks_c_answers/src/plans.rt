@@ -1,5 +1,5 @@
 //! The plan of a call that writes, in the caller's buffers.
-ghost use Rattle.std.specs.Prelude.{IsTrue, ◌≡◌, ◌≤◌, ◌≢◌, ◌<◌, ◌⊎◌, length, IfOk};
+ghost use Rattle.std.specs.Prelude.{IsTrue, ℕ, ◌≡◌, ◌≤◌, ◌≢◌, ◌<◌, ◌⊎◌, length, IfOk};
 ghost use Rattle.luks_area.specs.Device.{IsSettled};
 ghost use Rattle.luks_given.specs.Given.{given_failures, given_size, IsUnwritten};
 ghost use Rattle.luks_given.specs.Parts.{AreGiven, IsWanted};
@@ -83,8 +83,8 @@ pub fn tell_wanted<K: Given>(device: &PlannedWrites<'_, K>, told: &mut LuksPlan)
     requires { planned_failures device.now ≢ 0 }
     ensures answers { (result ≡ 102) ⊎ (result ≡ 103) }
     ensures memory { result ≡ 103 → IsTrue (lacked_memory device.now) }
-    ensures wanted { result ≡ 102
-        → IsWanted K.parts (planned_size device.now) told.new.beyond }
+    ensures wanted { (m : ℕ) → planned_size device.now ≡ m → result ≡ 102
+        → IsWanted K.parts m told.new.beyond }
     ensures source { told.new.source_beyond ≡ told.old.source_beyond }
 {
     match device.wanted() {
@@ -108,8 +108,8 @@ pub fn tell_either<S: Given, K: Given>(
     requires target { told.old.beyond.len ≡ 0 }
     ensures answers { (result ≡ 102) ⊎ (result ≡ 103) }
     ensures memory { result ≡ 103 → IsTrue (lacked_memory device.now) }
-    ensures wanted { result ≡ 102
-        → WantsEither S.parts (given_size source.now) K.parts (planned_size device.now) told.new }
+    ensures wanted { (n m : ℕ) → given_size source.now ≡ n → planned_size device.now ≡ m
+        → result ≡ 102 → WantsEither S.parts n K.parts m told.new }
 {
     if source.failures() > 0 {
         told.source_beyond = source.wanted();

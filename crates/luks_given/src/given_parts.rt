@@ -1,7 +1,7 @@
 //! A volume of which ranges are given.
-ghost use Rattle.std.specs.Prelude.{◌≡◌, ◌≢◌, ◌≤◌, ◌<◌, ◌^◌, None, length};
+ghost use Rattle.std.specs.Prelude.{◌≡◌, ◌≢◌, ◌+◌, ◌≤◌, ◌<◌, ◌^◌, None, length};
 ghost use Rattle.luks_given.specs.PartProps.{apart-prop, parts-prop};
-ghost use Rattle.luks_given.specs.Parts.{AreApart, AreGiven, AreParts, IsWanted, parts_length};
+ghost use Rattle.luks_given.specs.Parts.{AreApart, AreGiven, AreParts, HasPlace, IsWanted, parts_length};
 
 use crate::given::Given;
 use crate::parts::{Part, find};
@@ -30,6 +30,7 @@ pub struct GivenParts<'a, K: Given> {
     ghost counted: { parts_length parts.now ≡ length held.now },
     ghost known: { AreParts parts.now 0 held.now K.bytes } by { parts-prop parts.now 0 held.now K.bytes },
     ghost far: { refused ≡ None → failures ≢ 0 → IsWanted K.parts total missing },
+    ghost inside: { missing.at + missing.len ≤ total },
 }
 
 impl<'a, K: Given> GivenParts<'a, K> {
@@ -59,8 +60,10 @@ impl<'a, K: Given> GivenParts<'a, K> {
     /// that read not to fail. It has no byte where none failed.
     pub fn wanted(&self) -> Part
         ensures value { result ≡ wanted_by self.now }
-        ensures wanted { IsUnwritten self.now → given_failures self.now ≢ 0
-            → IsWanted K.parts (given_size self.now) result }
+        ensures missing { IsUnwritten self.now → given_failures self.now ≢ 0
+            → HasPlace K.parts result.at → ⊥ }
+        ensures some { IsUnwritten self.now → given_failures self.now ≢ 0 → 0 < result.len }
+        ensures inside { result.at + result.len ≤ given_size self.now }
     {
         self.missing
     }

@@ -2,7 +2,7 @@
 ghost use Rattle.std.specs.Prelude.{◌≡◌, ◌≢◌, ◌+◌, ◌≤◌, ◌<◌, ◌^◌, ◌∷◌, ◌++◌, [], IsTrue, IsFalse, false, length};
 ghost use Rattle.luks_area.specs.Ranges.{written};
 ghost use Rattle.luks_given.specs.PartProps.{apart-prop, inside-prop, parts-prop};
-ghost use Rattle.luks_given.specs.Parts.{AreApart, AreGiven, AreInside, AreParts, IsWanted, parts_length};
+ghost use Rattle.luks_given.specs.Parts.{AreApart, AreGiven, AreInside, AreParts, HasPlace, IsWanted, parts_length};
 ghost use Rattle.luks_given.specs.Plan.{WritesGiven, furthest, planned_length, played};
 
 use crate::given::Given;
@@ -101,7 +101,9 @@ impl<'a, K: Given> PlannedWrites<'a, K> {
     /// What the last call wanted that met a byte which isn't given, from the first such place on; None where
     /// none did since the device was made, or memory was refused.
     pub fn wanted(&self) -> Option<Part>
-        ensures wanted { IfSome result (IsWanted K.parts (planned_size self.now)) }
+        ensures missing { IfSome result (λ part. HasPlace K.parts part.at → ⊥) }
+        ensures some { IfSome result (λ part. 0 < part.len) }
+        ensures inside { IfSome result (λ part. part.at + part.len ≤ planned_size self.now) }
         ensures none { IsNone result
             ↔ (planned_failures self.now ≡ 0) ⊎ IsTrue (lacked_memory self.now) }
     {
