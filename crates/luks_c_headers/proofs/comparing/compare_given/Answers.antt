@@ -15,9 +15,11 @@ returns-in-Err-Device-read_outline-clause-wanted g c =
     let e = c.in-Err-Device-read_outline.ensures in
     let unwritten : c.read_outline-2.new.device.refused ≡ None = none_still _ _ c.new-device.ensures.unwritten (e.unchanged.unsettled tt) in
     let failed : c.read_outline-2.new.device.failures ≢ 0 = search rules in
-    let far = c.reached-told-in-Err-Device-read_outline.ensures.far unwritten failed in
-    let all = c.requires.given in
-    λ asked. inr (subst (λ (l : List ℕ). length l < c.reached-told-in-Err-Device-read_outline.result) all far)
+    let w = c.wanted-told-in-Err-Device-read_outline.ensures in
+    let inside = w.inside in
+    let size = e.unchanged.size in
+    let whole = c.new-device.ensures.size in
+    λ asked. inr (record { missing = w.missing unwritten failed; some = w.some unwritten failed; inside = omega (arith, inside, size, whole) }, c.requires.backup_told)
 
 pub returns-in-Err-read_outline : goal.returns-in-Err-read_outline
 returns-in-Err-read_outline g c =
@@ -34,15 +36,13 @@ returns-in-Err-read_outline g c =
         untold = λ other. inr (inl (record { kept = kept; fault = f; refusal = refusal; is = is }));
         kept = λ other. refl;
       };
-      more = λ asked. absurd (check_number_other f own (sym is ∙ asked));
-      backup_inside = λ asked. absurd (check_number_other f own (sym is ∙ asked));
-      inside = λ asked. absurd (check_number_other f own (sym is ∙ asked));
+      wanted = λ asked. absurd (check_number_other f own (sym is ∙ asked));
     }
 
 pub returns-clause-answers : goal.returns-clause-answers
 returns-clause-answers g c =
-    let b : List ℕ = volume c.args.backup.now c.args.backup_total in
-    let t : List ℕ = volume c.args.first.now c.args.total in
+    let b : List ℕ = g.S.Given.bytes in
+    let t : List ℕ = g.K.Given.bytes in
     let here = subst (λ (v : List ℕ). Outlines v c.in-Ok.found) c.new-kept.ensures.bytes (c.in-Ok.ensures.read tt) in
     let there = subst (λ (v : List ℕ). Outlines v c.in-Ok-read_outline.found) c.new-device.ensures.bytes (c.in-Ok-read_outline.ensures.read tt) in
     let kept = subst (λ (v : List ℕ). WellFormed v Elsewhere) c.new-kept.ensures.bytes (c.in-Ok.ensures.formed tt) in
@@ -72,22 +72,3 @@ returns-clause-answers g c =
 
 -- ---- a key area wasn't given
 
-pub returns-in-Err-compare_areas-clause-wanted : goal.returns-in-Err-compare_areas-clause-wanted
-returns-in-Err-compare_areas-clause-wanted g c =
-    let e = c.in-Err-compare_areas.ensures in
-    let kept : c.compare_areas.new.backup.refused ≡ None =
-    none_still _ _ (none_still _ _ c.new-kept.ensures.unwritten (c.in-Ok.ensures.unchanged.unsettled tt)) (e.kept.unsettled tt) in
-    let stands : c.compare_areas.new.target.refused ≡ None =
-    none_still _ _ (none_still _ _ c.new-device.ensures.unwritten (c.in-Ok-read_outline.ensures.unchanged.unsettled tt)) (e.unchanged.unsettled tt) in
-    let backup = c.requires.backup_given in
-    let all = c.requires.given in
-    λ asked. elim e.count [
-      | inl first ↦ (
-          let grown = first.0 in
-          let far = c.reached-told-in-Err-compare_areas.ensures.far kept (λ (z : c.compare_areas.new.backup.failures ≡ 0). omega (arith, grown, z)) in
-          inl (subst (λ (l : List ℕ). length l < c.reached-told-in-Err-compare_areas.result) backup far))
-      | inr second ↦ (
-          let grown = second.1 in
-          let far = c.reached-told-in-Err-compare_areas-2.ensures.far stands (λ (z : c.compare_areas.new.target.failures ≡ 0). omega (arith, grown, z)) in
-          inr (subst (λ (l : List ℕ). length l < c.reached-told-in-Err-compare_areas-2.result) all far))
-    ]
