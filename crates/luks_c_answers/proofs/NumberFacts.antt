@@ -14,11 +14,9 @@ use Rattle.luks_reading.specs.declared.check_fault.CheckFault.{CheckFault}
 use Rattle.luks_reading.specs.declared.check_fault.CheckFault.TheVariants as checking
 use Rattle.luks_reading.specs.declared.open_fault.OpenFault.{OpenFault}
 use Rattle.luks_reading.specs.declared.open_fault.OpenFault.TheVariants as opening
-use Rattle.luks_reading.specs.declared.read_fault.ReadFault.TheVariants as reading
 use Rattle.luks_edit.specs.EditFaults.{is_edit_failure}
 use Rattle.luks_edit.specs.declared.edit_fault.EditFault.{EditFault}
 use Rattle.luks_edit.specs.declared.edit_fault.EditFault.TheVariants as edit
-use Rattle.luks_formatting.specs.declared.format_fault.FormatFault.TheVariants as format
 use Rattle.luks_converting.specs.ConvertFaults.{is_convert_failure}
 use Rattle.luks_converting.specs.declared.convert_fault.ConvertFault.{ConvertFault}
 use Rattle.luks_converting.specs.declared.convert_fault.ConvertFault.TheVariants as convert
