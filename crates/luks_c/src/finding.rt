@@ -1,6 +1,6 @@
 //! Where volumes begin on a disk.
 ghost use Rattle.std.specs.Prelude.{◌≡◌, ◌≢◌, ◌↔◌, ◌≤◌, ◌<◌, length};
-ghost use Rattle.luks_given.specs.Parts.{AreGiven, AreNoParts, IsWanted, volume};
+ghost use Rattle.luks_given.specs.Parts.{AreGiven as AreGivenOf, AreNoParts, IsWanted, volume};
 ghost use Rattle.luks_c.specs.FindAnswers.{AnswersFind, AreGiven};
 
 use luks_c_answers::{BEYOND, DONE, MEMORY, ROOM, USAGE, fill_front};
@@ -55,7 +55,7 @@ fn find_given<K: Given>(
     told: &mut LuksFound,
 ) -> u32
     requires parts { K.parts ≡ parts.now }
-    requires given { AreGiven parts.now held.now total K.bytes }
+    requires given { AreGivenOf parts.now held.now total K.bytes }
     ensures own { result ≢ 101 }
     ensures answers { AnswersFind K.bytes starts.old starts.new told.new.count result }
     ensures wanted { result ≡ 102 → IsWanted K.parts total told.new.beyond }

@@ -3,6 +3,7 @@ ghost use Rattle.std.specs.Prelude.{◌≡◌, ◌≢◌, ◌⊎◌, ◌↔◌, 
 ghost use Rattle.luks_kdf.specs.declared.hash_name.HashName.{HashName as TheHash};
 ghost use Rattle.luks_making.specs.declared.derivation.NewDerivation.{NewDerivation as Chosen};
 ghost use Rattle.luks_reading.specs.declared.format.Format.{Format as TheFormat};
+ghost use Rattle.luks_given.specs.Parts.{AreGiven, AreNoParts, IsWanted, volume};
 ghost use Rattle.luks_c_answers.specs.Asked.{payload_of};
 ghost use Rattle.luks_c_answers.specs.ChoiceAsked.{IsNoChoice};
 ghost use Rattle.luks_c.specs.FormatAnswers.{AnswersChosen, AnswersFormat1, AnswersFormat2, AnswersNumbered, IsFormat, IsNoHash, hash_number};

@@ -17,3 +17,6 @@ returns g c =
       answers = edit_refused g.K.Given.parts g.K.Given.bytes c.args.payload c.args.edit.now c.args.random.now (planned_bytes c.apply.new.device) f (record { calls = c.args.calls.now; bytes = c.args.bytes.now }) c.args.told.now c.edit_number.result applied own c.edit_number.ensures;
       wanted = λ asked. absurd (edit_number_other f own (sym c.edit_number.ensures ∙ asked));
     }
+
+pub returns-in-Err-Device-clause-wanted : goal.returns-in-Err-Device-clause-wanted
+returns-in-Err-Device-clause-wanted g c = λ asked. c.tell_wanted.ensures.wanted c.args.total (c.in-Err-Device.ensures.size ∙ c.in-Ok.ensures.size) asked

@@ -7,7 +7,9 @@ use Rattle.luks_reading.specs.Checked.{IsCheckRefusal, WellFormed}
 use Rattle.luks_reading.specs.Failures.{is_check_failure}
 use Rattle.luks_reading.specs.declared.report.Data.TheVariants.{Elsewhere}
 use Rattle.luks_c_answers.proofs.NumberFacts.{check_number_other, check_number_range, check_number_usage}
-use Rattle.luks_c_headers.proofs.HeaderFacts.{none_still}
+use Rattle.luks_c_answers.specs.Numbers.{restore_number}
+use Rattle.luks_keeping.specs.RestoreFaults.{checked_restore}
+use Rattle.luks_c_headers.proofs.HeaderFacts.{checked_other, none_still}
 use Rattle.luks_c_headers.proofs.comparing.compare_given.Goals as goal
 
 pub returns-in-Err-Device-read_outline-clause-wanted : goal.returns-in-Err-Device-read_outline-clause-wanted
@@ -72,3 +74,44 @@ returns-clause-answers g c =
 
 -- ---- a key area wasn't given
 
+pub returns-then-failures-gt0-clause-wanted : goal.returns-then-failures-gt0-clause-wanted
+returns-then-failures-gt0-clause-wanted g c =
+    let e = c.in-Err-compare_areas.ensures in
+    let unwritten : c.compare_areas.new.backup.refused ≡ None =
+    none_still _ _ (none_still _ _ c.new-kept.ensures.unwritten (c.in-Ok.ensures.unchanged.unsettled tt)) (e.kept.unsettled tt) in
+    let some = c.if-failures-gt0.true in
+    let is = c.failures.ensures in
+    let failed : c.compare_areas.new.backup.failures ≢ 0 = λ (z : c.compare_areas.new.backup.failures ≡ 0). omega (arith, some, is, z) in
+    let w = c.wanted-told-then-failures-gt0.ensures in
+    let inside = w.inside in
+    let last = e.kept.size in
+    let size = c.in-Ok.ensures.unchanged.size in
+    let whole = c.new-kept.ensures.size in
+    λ asked. inl (record { missing = w.missing unwritten failed; some = w.some unwritten failed; inside = omega (arith, inside, last, size, whole) }, c.requires.volume_told)
+
+pub returns-else-failures-gt0-clause-wanted : goal.returns-else-failures-gt0-clause-wanted
+returns-else-failures-gt0-clause-wanted g c =
+    let e = c.in-Err-compare_areas.ensures in
+    let unwritten : c.compare_areas.new.target.refused ≡ None =
+    none_still _ _ (none_still _ _ c.new-device.ensures.unwritten (c.in-Ok-read_outline.ensures.unchanged.unsettled tt)) (e.unchanged.unsettled tt) in
+    let no = c.if-failures-gt0.false in
+    let is = c.failures.ensures in
+    let failed : c.compare_areas.new.target.failures ≢ 0 = λ (z : c.compare_areas.new.target.failures ≡ 0). elim e.count [
+      | inl first ↦ (let grown = first.0 in omega (arith, no, is, grown))
+      | inr second ↦ (let grown = second.1 in omega (arith, grown, z))
+    ] in
+    let w = c.wanted-told-else-failures-gt0.ensures in
+    let inside = w.inside in
+    let last = e.unchanged.size in
+    let size = c.in-Ok-read_outline.ensures.unchanged.size in
+    let whole = c.new-device.ensures.size in
+    λ asked. inr (record { missing = w.missing unwritten failed; some = w.some unwritten failed; inside = omega (arith, inside, last, size, whole) }, c.requires.backup_told)
+
+-- ---- the backup isn't accepted
+
+pub returns-in-Err-clause-wanted : goal.returns-in-Err-clause-wanted
+returns-in-Err-clause-wanted g c =
+    let f = c.in-Err.fault in
+    let own : is_check_failure f ≡ false = search rules in
+    let is : c.restore_number.result ≡ restore_number (checked_restore f) = search rules in
+    λ asked. absurd (checked_other f own (sym is ∙ asked))
