@@ -6,6 +6,7 @@ ghost use Rattle.luks_c_headers.specs.KeepAnswers.{AnswersCompare, WantsOneOf};
 
 use luks_c_answers::{USAGE, data_of};
 use luks_c_headers::{LuksCompared, compare_given};
+use luks_given::{Part, are_parts};
 use std::alloc::Global;
 use std::marker::Brand;
 
