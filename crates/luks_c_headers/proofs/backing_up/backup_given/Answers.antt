@@ -1,4 +1,4 @@
-use Rattle.std.proofs.Common.{◌≡◌, inl, inr, ℕ, List, false, ◌∙◌, ap, arith, rules, subst, sym}
+use Rattle.std.proofs.Common.{◌≡◌, inl, inr, ℕ, List, false, ◌∙◌, ap, arith, rules, sym}
 use Rattle.luks_keeping.specs.BackupFaults.{is_backup_failure, CanBackUp, IsAnsweredBackup}
 use Rattle.luks_given.specs.Given.{given_bytes}
 use Rattle.luks_given.specs.Planned.{planned_bytes, planned_calls, planned_size, planned_written}

@@ -6,7 +6,7 @@ use Rattle.luks_keeping.specs.SameVolume.{IsOtherVolume}
 use Rattle.luks_reading.specs.Checked.{IsCheckRefusal, WellFormed}
 use Rattle.luks_reading.specs.Failures.{is_check_failure}
 use Rattle.luks_reading.specs.declared.report.Data.TheVariants.{Elsewhere}
-use Rattle.luks_c_answers.proofs.NumberFacts.{check_number_other, check_number_range, check_number_usage}
+use Rattle.luks_c_answers.proofs.NumberFacts.{check_number_other, check_number_range, check_number_usage, restore_number_range}
 use Rattle.luks_c_answers.specs.Numbers.{restore_number}
 use Rattle.luks_keeping.specs.RestoreFaults.{checked_restore}
 use Rattle.luks_c_headers.proofs.HeaderFacts.{checked_other, none_still}
@@ -115,3 +115,14 @@ returns-in-Err-clause-wanted g c =
     let own : is_check_failure f ≡ false = search rules in
     let is : c.restore_number.result ≡ restore_number (checked_restore f) = search rules in
     λ asked. absurd (checked_other f own (sym is ∙ asked))
+
+pub returns-in-Err-clause-answers : goal.returns-in-Err-clause-answers
+returns-in-Err-clause-answers g c =
+    let f = c.in-Err.fault in
+    let is : c.restore_number.result ≡ restore_number (checked_restore f) = search rules in
+    let low = (restore_number_range (checked_restore f)).0 in
+    record {
+      told = λ zero. absurd (omega (arith, is, zero, low));
+      untold = λ other. inl (record { fault = f; refusal = c.in-Err.ensures.refused tt; is = is });
+      kept = λ other. refl;
+    }

@@ -1,4 +1,4 @@
-use Rattle.std.proofs.Common.{◌≡◌, ℕ, List, Option, option_map, false, ◌∙◌, ap, arith, rules, subst, sym}
+use Rattle.std.proofs.Common.{◌≡◌, ℕ, List, Option, option_map, false, ◌∙◌, ap, arith, rules, sym}
 use Rattle.luks_rebuilding.specs.Outcome.{IsAnsweredFault, IsRebuildable}
 use Rattle.luks_rebuilding.specs.RebuildFaults.{is_rebuild_failure}
 use Rattle.luks_given.specs.Given.{given_bytes}

@@ -1,4 +1,4 @@
-use Rattle.std.proofs.Common.{◌≡◌, ℕ, List, false, ◌∙◌, arith, rules, subst, sym}
+use Rattle.std.proofs.Common.{◌≡◌, ℕ, List, false, ◌∙◌, arith, rules, sym}
 use Rattle.luks1_rebuilding.specs.Outcome.{IsAnsweredFault, IsRebuildable}
 use Rattle.luks1_rebuilding.specs.RebuildFaults.{is_rebuild_failure}
 use Rattle.luks_given.specs.Given.{given_bytes}
