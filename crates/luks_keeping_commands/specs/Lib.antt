@@ -1,6 +1,5 @@
 pub mod TwoFiles
 pub mod BackingUp
-pub mod Reencrypting
 pub mod Restoring
 pub mod Comparing
 pub mod Differences

@@ -8,7 +8,6 @@ mod differences;
 pub mod key;
 mod key_file;
 mod keyslots_note;
-mod reencrypting;
 pub mod restore;
 mod volume_use;
 

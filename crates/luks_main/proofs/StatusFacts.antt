@@ -100,13 +100,13 @@ wordless_ends Ends long fault memory is_long unread a (inl said) = subst (λ x. 
 wordless_ends Ends long fault memory is_long unread a (inr said) = unread_ends Ends fault memory said.0 a said.2
 
 -- what bars `format`, `convert` and `rebuild`
-barred_ends : (Ends : Answer → ℕ → Type 0) → ((found : Use) → Ends (Refused (refusal.OtherUse found)) 1) → Ends (Refused refusal.OtherVolume) 1 → Ends DeviceFault 4 → Ends NoMemory 4
+barred_ends : (Ends : Answer → ℕ → Type 0) → ((found : Use) → Ends (Refused (refusal.OtherUse found)) 1) → Ends (Refused refusal.OtherVolume) 1 → Ends (Refused refusal.Reencrypting) 1 → Ends DeviceFault 4 → Ends NoMemory 4
     → (tells : Type 0) (over : Bool) (Other : Type 0) (v : List ℕ) (b : Bar) → IsBar tells over Other v b → (a : Answer) → a ≡ bar_answer b → Ends a (own a)
-barred_ends Ends use_of volume fault memory tells over Other v (bar.OtherUse found) is a same = subst (λ x. Ends x (own x)) (sym same) (use_of found)
-barred_ends Ends use_of volume fault memory tells over Other v bar.OtherVolume is a same = subst (λ x. Ends x (own x)) (sym same) volume
-barred_ends Ends use_of volume fault memory tells over Other v bar.Reencrypting is a same = absurd is
-barred_ends Ends use_of volume fault memory tells over Other v bar.Memory is a same = subst (λ x. Ends x (own x)) (sym same) memory
-barred_ends Ends use_of volume fault memory tells over Other v bar.Device is a same = subst (λ x. Ends x (own x)) (sym same) fault
+barred_ends Ends use_of volume reencrypting fault memory tells over Other v (bar.OtherUse found) is a same = subst (λ x. Ends x (own x)) (sym same) (use_of found)
+barred_ends Ends use_of volume reencrypting fault memory tells over Other v bar.OtherVolume is a same = subst (λ x. Ends x (own x)) (sym same) volume
+barred_ends Ends use_of volume reencrypting fault memory tells over Other v bar.Reencrypting is a same = subst (λ x. Ends x (own x)) (sym same) reencrypting
+barred_ends Ends use_of volume reencrypting fault memory tells over Other v bar.Memory is a same = subst (λ x. Ends x (own x)) (sym same) memory
+barred_ends Ends use_of volume reencrypting fault memory tells over Other v bar.Device is a same = subst (λ x. Ends x (own x)) (sym same) fault
 
 -- ---- `check`
 
@@ -272,7 +272,7 @@ pub format_ends : {D : Type 0} (tells : Type 0) (size : D → ℕ) (bytes : D �
     → AnswersFormat tells size bytes failed making HasWords is_long unread HasRandom old new a → EndsFormat a (own a)
 format_ends tells size bytes failed making HasWords is_long unread HasRandom (Ok old) (Ok new) a (inl said) = wordless_ends EndsFormat refl refl refl is_long unread a said.0
 format_ends tells size bytes failed making HasWords is_long unread HasRandom (Ok old) (Ok new) a (inr (inl held)) =
-    barred_ends EndsFormat (λ found. refl) refl refl refl tells making.over (HasOther None (bytes old)) (bytes old) held.bar held.barred a held.is
+    barred_ends EndsFormat (λ found. refl) refl refl refl refl tells making.over (HasOther None (bytes old)) (bytes old) held.bar held.barred a held.is
 format_ends tells size bytes failed making HasWords is_long unread HasRandom (Ok old) (Ok new) a (inr (inr said)) =
     format_there tells making said.passphrase said.random (size old) (bytes old) (bytes new) (failed old) (failed new) a said.is
 format_ends tells size bytes failed making HasWords is_long unread HasRandom (Ok old) (Err fault) a said = absurd said
@@ -289,19 +289,19 @@ unbarred_ends Ends fault memory tells says each unread HasRandom d a (inl said) 
 unbarred_ends Ends fault memory tells says each unread HasRandom d a (inr said) = each said.random d a said.is
 
 -- what both answer, by what is said with the random bytes
-header_ends : {D : Type 0} (Ends : Answer → ℕ → Type 0) → ((found : Use) → Ends (Refused (refusal.OtherUse found)) 1) → Ends (Refused refusal.OtherVolume) 1
+header_ends : {D : Type 0} (Ends : Answer → ℕ → Type 0) → ((found : Use) → Ends (Refused (refusal.OtherUse found)) 1) → Ends (Refused refusal.OtherVolume) 1 → Ends (Refused refusal.Reencrypting) 1
     → Ends DeviceFault 4 → Ends NoMemory 4 → (tells : Type 0) (size : D → ℕ) (bytes : D → List ℕ) (failed : D → ℕ) (over : Bool)
     (says : List ℕ → Pair → Answer → Type 0) → ((random : List ℕ) (d : Pair) (a : Answer) → says random d a → Ends a (own a)) → (unread : InputFault → Type 0) (HasRandom : List ℕ → Type 0)
     (volume volume_new old new : Result D InputFault) (a : Answer) → AnswersHeader tells size bytes failed over says unread HasRandom volume volume_new old new a → Ends a (own a)
-header_ends Ends use_of other fault memory tells size bytes failed over says each unread HasRandom (Ok volume) (Ok volume_new) (Ok old) (Ok new) a (inl held) =
-    barred_ends Ends use_of other fault memory tells over (IsOtherTarget (bytes volume) (bytes old)) (bytes old) held.bar held.barred a held.is
-header_ends Ends use_of other fault memory tells size bytes failed over says each unread HasRandom (Ok volume) (Ok volume_new) (Ok old) (Ok new) a (inr clear) =
+header_ends Ends use_of other reencrypting fault memory tells size bytes failed over says each unread HasRandom (Ok volume) (Ok volume_new) (Ok old) (Ok new) a (inl held) =
+    barred_ends Ends use_of other reencrypting fault memory tells over (IsOtherTarget (bytes volume) (bytes old)) (bytes old) held.bar held.barred a held.is
+header_ends Ends use_of other reencrypting fault memory tells size bytes failed over says each unread HasRandom (Ok volume) (Ok volume_new) (Ok old) (Ok new) a (inr clear) =
     unbarred_ends Ends fault memory tells says each unread HasRandom (header_pair size bytes failed volume volume_new old new) a clear.is
-header_ends Ends use_of other fault memory tells size bytes failed over says each unread HasRandom (Ok volume) (Ok volume_new) (Ok old) (Err f) a said = absurd said
-header_ends Ends use_of other fault memory tells size bytes failed over says each unread HasRandom (Ok volume) (Ok volume_new) (Err f) new a said = unread_ends Ends fault memory f a said
-header_ends Ends use_of other fault memory tells size bytes failed over says each unread HasRandom (Ok volume) (Err f) (Ok old) new a said = absurd said
-header_ends Ends use_of other fault memory tells size bytes failed over says each unread HasRandom (Ok volume) (Err g) (Err f) new a said = unread_ends Ends fault memory f a said
-header_ends Ends use_of other fault memory tells size bytes failed over says each unread HasRandom (Err f) volume_new old new a said = unread_ends Ends fault memory f a said
+header_ends Ends use_of other reencrypting fault memory tells size bytes failed over says each unread HasRandom (Ok volume) (Ok volume_new) (Ok old) (Err f) a said = absurd said
+header_ends Ends use_of other reencrypting fault memory tells size bytes failed over says each unread HasRandom (Ok volume) (Ok volume_new) (Err f) new a said = unread_ends Ends fault memory f a said
+header_ends Ends use_of other reencrypting fault memory tells size bytes failed over says each unread HasRandom (Ok volume) (Err f) (Ok old) new a said = absurd said
+header_ends Ends use_of other reencrypting fault memory tells size bytes failed over says each unread HasRandom (Ok volume) (Err g) (Err f) new a said = unread_ends Ends fault memory f a said
+header_ends Ends use_of other reencrypting fault memory tells size bytes failed over says each unread HasRandom (Err f) volume_new old new a said = unread_ends Ends fault memory f a said
 
 convert_there : (tells : Type 0) (payload : Data) (random : List ℕ) (d : Pair) (a : Answer) → IsConvertAnswer tells payload random d a → EndsConvert a (own a)
 convert_there tells payload random d (Done slot) said = (said.1, refl)
@@ -313,7 +313,7 @@ convert_there tells payload random d a said = absurd said
 pub convert_ends : {D : Type 0} (tells : Type 0) (size : D → ℕ) (bytes : D → List ℕ) (failed : D → ℕ) (converting : Converting) (unread : InputFault → Type 0) (HasRandom : List ℕ → Type 0)
     (volume volume_new old new : Result D InputFault) (a : Answer) → AnswersConvert tells size bytes failed converting unread HasRandom volume volume_new old new a → EndsConvert a (own a)
 convert_ends tells size bytes failed converting unread HasRandom volume volume_new old new a said =
-    header_ends EndsConvert (λ found. refl) refl refl refl tells size bytes failed converting.over (IsConvertAnswer tells converting.payload) (convert_there tells converting.payload) unread HasRandom volume volume_new old new a said
+    header_ends EndsConvert (λ found. refl) refl refl refl refl tells size bytes failed converting.over (IsConvertAnswer tells converting.payload) (convert_there tells converting.payload) unread HasRandom volume volume_new old new a said
 
 luks2_there : (tells : Type 0) (which : Which) (given : Option (List ℕ)) (random : List ℕ) (d : Pair) (a : Answer) → IsLuks2Answer tells which given random d a → EndsUntried a (own a)
 luks2_there tells which given random d (Done slot) said = (said.1, refl)
@@ -356,11 +356,11 @@ by_passphrase_ends : {A D : Type 0} (passphrase : Option A) (tells : Type 0) (si
     (wordless unread_ : InputFault → Type 0) (HasRandom : List ℕ → Type 0) (volume volume_new old new : Result D InputFault) (a : Answer)
     → AnswersBy passphrase tells size bytes failed r HasWords is_long wordless unread_ HasRandom volume volume_new old new a → EndsRebuild passphrase a (own a)
 by_passphrase_ends None tells size bytes failed r HasWords is_long wordless unread_ HasRandom volume volume_new old new a said =
-    header_ends EndsUntried (λ found. refl) refl refl refl tells size bytes failed r.over (IsRebuildAnswer tells r) (rebuild_there tells r) unread_ HasRandom volume volume_new old new a said
+    header_ends EndsUntried (λ found. refl) refl refl refl refl tells size bytes failed r.over (IsRebuildAnswer tells r) (rebuild_there tells r) unread_ HasRandom volume volume_new old new a said
 by_passphrase_ends (Some file) tells size bytes failed r HasWords is_long wordless unread_ HasRandom volume volume_new old new a (inl said) =
     wordless_ends EndsTried refl refl refl is_long wordless a said.is
 by_passphrase_ends (Some file) tells size bytes failed r HasWords is_long wordless unread_ HasRandom volume volume_new old new a (inr said) =
-    header_ends EndsTried (λ found. refl) refl refl refl tells size bytes failed r.over (λ random. IsTriedAnswer tells r said.words) (λ random d b it. tried_there tells it.given said.words d b it.says)
+    header_ends EndsTried (λ found. refl) refl refl refl refl tells size bytes failed r.over (λ random. IsTriedAnswer tells r said.words) (λ random d b it. tried_there tells it.given said.words d b it.says)
     unread_ HasRandom volume volume_new old new a said.is
 
 pub rebuild_ends : {D : Type 0} (tells : Type 0) (size : D → ℕ) (bytes : D → List ℕ) (failed : D → ℕ) (r : Rebuilding) (HasWords : List ℕ → Type 0) (is_long : Type 0)

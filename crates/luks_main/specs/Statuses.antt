@@ -70,6 +70,7 @@ EndsFormat (Refused (refusal.Format fault)) status = status ≡ 1
 EndsFormat (Refused refusal.LongPassphrase) status = status ≡ 1
 EndsFormat (Refused (refusal.OtherUse found)) status = status ≡ 1
 EndsFormat (Refused refusal.OtherVolume) status = status ≡ 1
+EndsFormat (Refused refusal.Reencrypting) status = status ≡ 1
 EndsFormat answer status = EndsAny answer status
 
 -- `convert`
@@ -79,6 +80,7 @@ EndsConvert (Refused (refusal.Convert fault)) status = status ≡ 1
 EndsConvert (Refused refusal.SameFile) status = status ≡ 1
 EndsConvert (Refused (refusal.OtherUse found)) status = status ≡ 1
 EndsConvert (Refused refusal.OtherVolume) status = status ≡ 1
+EndsConvert (Refused refusal.Reencrypting) status = status ≡ 1
 EndsConvert answer status = EndsAny answer status
 
 -- `rebuild`
@@ -89,6 +91,7 @@ EndsUntried (Refused (refusal.Rebuild1 fault)) status = status ≡ 1
 EndsUntried (Refused refusal.SameFile) status = status ≡ 1
 EndsUntried (Refused (refusal.OtherUse found)) status = status ≡ 1
 EndsUntried (Refused refusal.OtherVolume) status = status ≡ 1
+EndsUntried (Refused refusal.Reencrypting) status = status ≡ 1
 EndsUntried answer status = EndsAny answer status
 
 -- with a passphrase, which may be too long, or open no keyslot by what is tried
@@ -99,6 +102,7 @@ EndsTried (Refused (refusal.Rebuild1 fault)) status = status ≡ 1
 EndsTried (Refused refusal.SameFile) status = status ≡ 1
 EndsTried (Refused (refusal.OtherUse found)) status = status ≡ 1
 EndsTried (Refused refusal.OtherVolume) status = status ≡ 1
+EndsTried (Refused refusal.Reencrypting) status = status ≡ 1
 EndsTried (Refused refusal.LongPassphrase) status = status ≡ 1
 EndsTried answer status = EndsAny answer status
 

@@ -1,8 +1,8 @@
 use Rattle.std.proofs.Common.{ℕ, List, Bool, IfOk, IsTrue, ◌↔◌, subst}
 use Rattle.luks_signatures.specs.Reencryption.{IsReencrypting as IsReencryptingLuks1}
-use Rattle.luks_keeping_commands.specs.Reencrypting.{IsReencryptingLuks2}
-use Rattle.luks_keeping_commands.proofs.ReencryptionFacts.{either_told}
-use Rattle.luks_keeping_commands.proofs.reencrypting.is_reencrypting.Goals as goal
+use Rattle.luks_commands.specs.Reencrypting.{IsReencryptingLuks2}
+use Rattle.luks_commands.proofs.ReencryptionFacts.{either_told}
+use Rattle.luks_commands.proofs.reencrypting.is_reencrypting.Goals as goal
 
 pub returns-clause-is : goal.returns-clause-is
 returns-clause-is g c = λ tells.

@@ -1,8 +1,8 @@
 use Rattle.std.proofs.Common.{ℕ, List, IfOk, IsTrue, ◌↔◌, subst}
 use Rattle.luks_area.specs.Ranges.{part}
-use Rattle.luks_keeping_commands.specs.Reencrypting.{FindsMetadata, IsReencryptingArea}
-use Rattle.luks_keeping_commands.proofs.ReencryptionFacts.{at_by, no_area, untold_by}
-use Rattle.luks_keeping_commands.proofs.reencrypting.is_reencrypting_luks2.Goals as goal
+use Rattle.luks_commands.specs.Reencrypting.{FindsMetadata, IsReencryptingArea}
+use Rattle.luks_commands.proofs.ReencryptionFacts.{at_by, no_area, untold_by}
+use Rattle.luks_commands.proofs.reencrypting.is_reencrypting_luks2.Goals as goal
 
 pub returns-in-Some-clause-is : goal.returns-in-Some-clause-is
 returns-in-Some-clause-is g c = λ tells.

@@ -5,11 +5,11 @@ ghost use Rattle.serde_json.specs.View.{items_view, view};
 ghost use Rattle.luks_area.specs.Device.{CountsFailure, IsUnchanged, is_failure};
 ghost use Rattle.luks_area.specs.Ranges.{part};
 ghost use Rattle.luks_commands.specs.Standing.{is_bar_failure};
-ghost use Rattle.luks_keeping_commands.specs.Reencrypting.{asks_reencryption, HasReencryptingSlot, has_reencrypt_type, is_asking, is_reencrypting_slot, is_reencryption, is_reencryption_item};
-ghost use Rattle.luks_keeping_commands.specs.Reencrypting.{FindsMetadata, IsFromOutside, IsUntoldMetadata, mandatory_in};
-ghost use Rattle.luks_keeping_commands.specs.Reencrypting.{IsReencrypting, IsReencryptingArea, IsReencryptingLuks2, IsReencryptingValue, requires_reencryption};
+ghost use Rattle.luks_commands.specs.Reencrypting.{asks_reencryption, HasReencryptingSlot, has_reencrypt_type, is_asking, is_reencrypting_slot, is_reencryption, is_reencryption_item};
+ghost use Rattle.luks_commands.specs.Reencrypting.{FindsMetadata, IsFromOutside, IsUntoldMetadata, mandatory_in};
+ghost use Rattle.luks_commands.specs.Reencrypting.{IsReencrypting, IsReencryptingArea, IsReencryptingLuks2, IsReencryptingValue, requires_reencryption};
 
-use luks_commands::Bar;
+use crate::standing::Bar;
 use luks_json::{JsonFault, read_json};
 use luks_reading::{Device, DeviceFault, ReadFault};
 use luks_rules::{Outer, Section, object_at, section_at, type_at};
@@ -35,7 +35,7 @@ struct JsonPlace {
 /// magic, one of LUKS2 by its metadata.
 ///
 /// Takes memory for the JSON area and its value.
-pub(crate) fn is_reencrypting<D: Device>(alloc: Global, device: &mut D) -> Result<bool, Bar>
+pub fn is_reencrypting<D: Device>(alloc: Global, device: &mut D) -> Result<bool, Bar>
     requires { D.failed device.old + 1 < 2 ^ 64 }
     ensures unchanged { IsUnchanged D.tells D.size D.bytes D.unsettled device.old device.new }
     ensures count { CountsFailure is_bar_failure result

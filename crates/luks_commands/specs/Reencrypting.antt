@@ -17,7 +17,7 @@ use Rattle.luks_reading.specs.Header.{json_at}
 use Rattle.luks_signatures.specs.Reencryption.{IsReencrypting as IsReencryptingLuks1}
 use Rattle.luks_commands.specs.declared.standing.Bar.{Bar}
 use Rattle.luks_commands.specs.declared.standing.Bar.TheVariants.{Memory, Device}
-use Rattle.luks_keeping_commands.specs.declared.reencrypting.JsonPlace.{JsonPlace}
+use Rattle.luks_commands.specs.declared.reencrypting.JsonPlace.{JsonPlace}
 
 -- ---- by the metadata's value
 

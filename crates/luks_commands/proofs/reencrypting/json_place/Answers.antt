@@ -4,8 +4,8 @@ use Rattle.luks2_header.specs.Selection.{IsSelected}
 use Rattle.luks_reading.specs.Conversions.{head_unread}
 use Rattle.luks_reading.specs.declared.read_fault.ReadFault.TheVariants as read
 use Rattle.luks_keeping.proofs.OtherFacts.{no_call_failed, not_device, unselected}
-use Rattle.luks_keeping_commands.proofs.ReencryptionFacts.{found_by, lost_found, lost_within}
-use Rattle.luks_keeping_commands.proofs.reencrypting.json_place.Goals as goal
+use Rattle.luks_commands.proofs.ReencryptionFacts.{found_by, lost_found, lost_within}
+use Rattle.luks_commands.proofs.reencrypting.json_place.Goals as goal
 
 pub returns-in-Ok-V2-clause-place : goal.returns-in-Ok-V2-clause-place
 returns-in-Ok-V2-clause-place g c = λ tells.

@@ -1,9 +1,9 @@
 use Rattle.std.proofs.Common.{arith, below_more, sym, true, ◌≡◌, ◌∙◌}
 use Rattle.std.proofs.lemmas.Bool.{false≢true}
 use Rattle.serde_json.specs.View.{view}
-use Rattle.luks_keeping_commands.specs.Reencrypting.{is_reencrypting_slot}
-use Rattle.luks_keeping_commands.proofs.ReencryptionFacts.{no_slot}
-use Rattle.luks_keeping_commands.proofs.reencrypting.has_reencrypting_slot.Goals as goal
+use Rattle.luks_commands.specs.Reencrypting.{is_reencrypting_slot}
+use Rattle.luks_commands.proofs.ReencryptionFacts.{no_slot}
+use Rattle.luks_commands.proofs.reencrypting.has_reencrypting_slot.Goals as goal
 
 pub loop-n-preserved : goal.loop-n-preserved
 loop-n-preserved c =

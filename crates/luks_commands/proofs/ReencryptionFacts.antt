@@ -14,8 +14,8 @@ use Rattle.luks_rules.proofs.AreaFaults.{one_value}
 use Rattle.luks_reading.specs.Header.{json_at}
 use Rattle.luks_commands.specs.declared.standing.Bar.{Bar}
 use Rattle.luks_commands.specs.declared.standing.Bar.TheVariants as bar
-use Rattle.luks_keeping_commands.specs.declared.reencrypting.JsonPlace.{JsonPlace}
-use Rattle.luks_keeping_commands.specs.Reencrypting.{counts, is_reencrypting_slot, lost, requires_reencryption, FindsMetadata, HasReencryptingSlot, IsFromOutside, IsMetadataArea, IsReencryptingLuks2, IsReencryptingArea, IsReencryptingValue, IsUntoldMetadata}
+use Rattle.luks_commands.specs.declared.reencrypting.JsonPlace.{JsonPlace}
+use Rattle.luks_commands.specs.Reencrypting.{counts, is_reencrypting_slot, lost, requires_reencryption, FindsMetadata, HasReencryptingSlot, IsFromOutside, IsMetadataArea, IsReencryptingLuks2, IsReencryptingArea, IsReencryptingValue, IsUntoldMetadata}
 
 -- ---- the value
 

@@ -1,8 +1,8 @@
 use Rattle.std.proofs.Common.{subst}
 use Rattle.serde_json.specs.View.{view}
 use Rattle.luks_json.specs.AreaText.{IsJsonFault}
-use Rattle.luks_keeping_commands.proofs.ReencryptionFacts.{area_by, no_text, no_value}
-use Rattle.luks_keeping_commands.proofs.reencrypting.is_reencrypting_area.Goals as goal
+use Rattle.luks_commands.proofs.ReencryptionFacts.{area_by, no_text, no_value}
+use Rattle.luks_commands.proofs.reencrypting.is_reencrypting_area.Goals as goal
 
 pub returns-in-Ok-clause-is : goal.returns-in-Ok-clause-is
 returns-in-Ok-clause-is c =
