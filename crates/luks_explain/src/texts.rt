@@ -196,8 +196,9 @@ pub(crate) fn place(fault: Fault) -> &'static str {
        of the same volume counts"
         }
         Fault::Reencrypting => {
-            "LUKS1, of rebuild and restore: the header begins with LUKS and the bytes
-       DE AD, which cryptsetup writes there until it is done; LUKS2, of restore:
+            "LUKS1: the header begins with LUKS and the bytes DE AD, which cryptsetup
+       writes there until it is done: of rebuild SOURCE's, of restore and format
+       VOLUME's, of convert and rebuild TARGET's; LUKS2, of the same but SOURCE:
        a keyslot of type reencrypt, or a requirement of that kind"
         }
     }
