@@ -453,6 +453,7 @@ Prints one line:
   refused Argon2         it takes more memory than --memory allows
   refused RandomLength   the random file has too few bytes
   refused OtherVolume    a LUKS header stands there, without --over
+  refused Reencrypting   the metadata of a reencryption, without --over
   refused OtherUse(NAME) the disk has another use, without --over
   device fault           a file can't be read, or the volume can't be written;
                          a write that failed leaves any part of it written
@@ -490,8 +491,8 @@ Prints one line:
                  SOURCE), what check refuses of SOURCE, NotLuks1 (it is of
                  LUKS2), TooSmall (TARGET is), NoRoom (the new areas end past
                  16777216), RandomLength (the random file is too short), and
-                 before these OtherVolume or OtherUse(NAME) (what stands on
-                 TARGET, as above)
+                 before these OtherVolume, Reencrypting or OtherUse(NAME) (what
+                 stands on TARGET, as above)
   device fault   a file can't be read, SOURCE read, or TARGET read or written
   no memory      memory was refused; nothing was written
 
@@ -543,16 +544,16 @@ Prints one line:
   done           the header is made; standard error tells how cryptsetup opens
                  the data by it
   refused FAULT  the first fault, and nothing was written: SameFile (TARGET is
-                 SOURCE), OtherVolume or OtherUse(NAME) (what stands on TARGET,
-                 as above), Counts (a header of SOURCE counts: use it, or luks
-                 repair), NoMetadata (none is whole), Outside or Overlap (its
-                 areas in SOURCE), TooSmall (TARGET is), Uuid (that of --uuid),
-                 RandomLength (the random file is too short); of LUKS1
-                 Reencrypting (cryptsetup is in the midst of that), NoHeader (it
-                 has no signs of one), Text(FIELD) or KeyBytes (nothing usable
-                 stands there, or was given), Iterations(Digest) (they are
-                 lost), TooSmall and Overlap (the new areas in TARGET);
-                 Passphrase (its file is too long)
+                 SOURCE), OtherVolume, Reencrypting or OtherUse(NAME) (what
+                 stands on TARGET, as above), Counts (a header of SOURCE counts:
+                 use it, or luks repair), NoMetadata (none is whole), Outside or
+                 Overlap (its areas in SOURCE), TooSmall (TARGET is), Uuid (that
+                 of --uuid), RandomLength (the random file is too short); of
+                 LUKS1 Reencrypting (cryptsetup is in the midst of that),
+                 NoHeader (it has no signs of one), Text(FIELD) or KeyBytes
+                 (nothing usable stands there, or was given), Iterations(Digest)
+                 (they are lost), TooSmall and Overlap (the new areas in
+                 TARGET); Passphrase (its file is too long)
   no slot opens  by no way that was tried; nothing was written
   device fault   a file can't be read, SOURCE read, or TARGET read or written
   no memory      memory was refused; nothing was written
