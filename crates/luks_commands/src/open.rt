@@ -17,7 +17,9 @@ use crate::inputs::Inputs;
 use crate::passphrase_file::{PassphraseFault, passphrase};
 use almost_met::note_unopened;
 use luks_notes::{note_all_wanting, note_passed_over, note_refused, note_unbound, note_wanting};
-use luks_reading::{Allowed, Device, Key, OpenFault, read_header, try_header, try_header_slot};
+use luks_reading::{
+    Allowed, Device, Header, Key, OpenFault, read_header, try_header, try_header_slot,
+};
 use searching::{Trial, search};
 use std::alloc::Global;
 use std::io::{Read, Write};

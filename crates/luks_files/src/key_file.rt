@@ -1,5 +1,4 @@
 //! The file of a key.
-ghost use Rattle.std.specs.Prelude.{◌≡◌, None, option_map};
 
 use crate::target::{Shape, Source, Target};
 use crate::volume::Volume;

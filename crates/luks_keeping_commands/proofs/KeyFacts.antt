@@ -1,5 +1,5 @@
 -- What `key` opens, and what it leaves of its file.
-use Rattle.std.proofs.Common.{◌≡◌, ◌∙◌, ℕ, List, length, ◌++◌, drop, Option, Some, None, Result, Ok, Err, refl, sym, ap, subst}
+use Rattle.std.proofs.Common.{◌≡◌, ◌∙◌, ◌+◌, ℕ, arith, List, length, ◌++◌, drop, Option, Some, None, Result, Ok, Err, OnOk, refl, sym, ap, subst}
 use Rattle.std.proofs.Math.Seq.{drop-length}
 use Rattle.std.proofs.lemmas.List.{append-nil}
 use Rattle.luks_area.specs.Device.{CountsFailure}
@@ -48,4 +48,11 @@ counts_key (Err f) before after x = x
 
 -- bytes that are written over all of a volume are all that it has
 pub written_whole : (v key : List ℕ) → length v ≡ length key → written v 0 key ≡ key
-written_whole v key same = ap (λ n. key ++ drop n v) (sym same) ∙ ap (λ rest. key ++ rest) (drop-length v) ∙ append-nil key
+written_whole v key same =
+    let end : 0 + length key ≡ length v = omega (arith, same) in
+    ap (λ n. key ++ drop n v) end ∙ (ap (λ rest. key ++ rest) (drop-length v) ∙ append-nil key)
+
+-- what was written stays as it is flushed
+pub flushed_key : {X F : Type 0} (r : Result X F) (last mid key : List ℕ) → OnOk r (last ≡ mid) → mid ≡ key → OnOk r (last ≡ key)
+flushed_key (Ok x) last mid key same is = same ∙ is
+flushed_key (Err f) last mid key same is = tt

@@ -75,11 +75,7 @@ pub fn run<D: Device, R: Read, N: Read, M: MakesFile<D>, E: Write>(
 
 /// Whether the file of the key is the volume or that of the passphrase, as far as their names say it or it
 /// was found.
-fn are_not_three<D>(
-    name: &str,
-    keeping: &KeepingKey<'_>,
-    target: &Result<D, InputFault>,
-) -> bool
+fn are_not_three<D>(name: &str, keeping: &KeepingKey<'_>, target: &Result<D, InputFault>) -> bool
     ensures { IsTrue result ↔ AreNotThree name.now keeping.now target.now }
 {
     are_one_file(name, keeping.target, target) || keeping.passphrase == keeping.target
@@ -110,9 +106,7 @@ fn open_key<D: Device, E: Write>(
 }
 
 /// The key without its keyslot's number.
-fn key_of(
-    opened: Result<Option<(u8, Key)>, OpenFault>,
-) -> Result<Option<Key>, OpenFault>
+fn key_of(opened: Result<Option<(u8, Key)>, OpenFault>) -> Result<Option<Key>, OpenFault>
     ensures { result ≡ key_of opened }
 {
     match opened? {

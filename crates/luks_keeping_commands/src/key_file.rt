@@ -13,7 +13,7 @@ pub trait MakesFile<D: Device> {
 }
 
 /// Makes none.
-#[derive(Clone, Copy, PartialEq, Eq, Drop)]
+#[derive(Clone, Copy, PartialEq, Eq)]
 pub struct Unmade;
 
 impl<D: Device> MakesFile<D> for Unmade {

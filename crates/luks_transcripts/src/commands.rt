@@ -63,6 +63,16 @@ impl MakesFile<Disk> for KeyFile<'_> {
     }
 }
 
+/// What is opened beside the volume: the file of a key isn't yet.
+fn beside(line: &Line<'_>, key_file: &mut KeyFile<'_>) -> Result<Disk, InputFault>
+    ensures { IfOk result (λ disk. disk.failures ≡ 0) }
+{
+    match line.command {
+        Named::KeepKey(_) => Err(InputFault::Absent),
+        _ => opened(key_file.alloc, &mut key_file.kept, key_file.trouble),
+    }
+}
+
 /// Puts back what the command left of a device; what the device was asked for.
 fn put_back(kept: &mut Option<Kept>, device: Result<Disk, InputFault>) -> Option<Record> {
     let (left, record) = device.ok()?.into_parts();
@@ -138,15 +148,19 @@ fn run_as(
     };
     let mut inputs = Inputs {
         volume: opened(alloc, &mut volumes.volume, &troubles.volume),
-        target: match line.command {
-            Named::KeepKey(_) => Err(InputFault::Absent),
-            _ => opened(alloc, &mut key_file.kept, &troubles.target),
-        },
+        target: beside(line, &mut key_file),
         passphrase: reader(&files.passphrase, &troubles.passphrase),
         new_passphrase: reader(&files.new, &troubles.new),
         random: reader(&files.random, &troubles.random),
     };
-    let answer = execute(alloc, line, &mut inputs, &mut key_file, &mut err, &mut Untold);
+    let answer = execute(
+        alloc,
+        line,
+        &mut inputs,
+        &mut key_file,
+        &mut err,
+        &mut Untold,
+    );
     told.said = err.position() as usize;
     let said = told.err.get(..told.said).unwrap_or(&[]);
     let mut out = CountingPrinter::new(Cursor::new(told.out.as_mut_slice()));
@@ -163,7 +177,8 @@ fn run_as(
         random,
         ..
     } = inputs;
-    volumes.target = key_file.kept;
+    let KeyFile { kept, .. } = key_file;
+    volumes.target = kept;
     Asked {
         volume: put_back(&mut volumes.volume, volume),
         target: put_back(&mut volumes.target, target),
