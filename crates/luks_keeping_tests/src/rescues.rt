@@ -57,20 +57,21 @@ fn end_of(alloc: Global, volume: &[u8], call: u64) -> Result<(End, Vec<u8>), Fai
 /// Whether the file is the backup but for one sector of this key area, which holds zeros there.
 fn lacks_one_sector(made: &[u8], whole: &[u8], area: Range) -> bool {
     let (start, len) = area;
-    let mut zeros = 0;
-    for n in 0..len / 512 {
-        let at = start + 512 * n;
-        let sector = part(made, at, at + 512);
-        if sector != part(whole, at, at + 512) {
+    let end = start.saturating_add(len);
+    let mut zeros = 0_usize;
+    for at in (start..end).step_by(512) {
+        let behind = at.saturating_add(512);
+        let sector = part(made, at, behind);
+        if sector != part(whole, at, behind) {
             if sector.iter().any(|byte| *byte != 0) {
                 return false;
             }
-            zeros += 1;
+            zeros = zeros.saturating_add(1);
         }
     }
     zeros == 1
         && part(made, 0, start) == part(whole, 0, start)
-        && part(made, start + len, SIZE) == part(whole, start + len, SIZE)
+        && part(made, end, SIZE) == part(whole, end, SIZE)
 }
 
 /// Each read that fails costs a sector of its keyslot, or ends it where it is one of the header. Each sector of
@@ -82,15 +83,16 @@ fn loses_what_fails(
     areas: &[Range],
 ) -> Result<(), Fail> {
     let whole = backup_of(alloc, volume)?;
-    let mut lost = [0; 32];
-    let mut of_header = 0;
+    let mut lost = [0_usize; 32];
+    let mut of_header = 0_usize;
     for call in 0..256 {
         let (end, made) = end_of(alloc, volume, call)?;
         match end {
             End::Whole => {
                 assert!(rt; part(&made, 0, SIZE) == whole.as_slice(), "the whole");
-                for n in 0..areas.len() {
-                    assert!(rt; lost[n] == areas[n].1 / 512, "keyslot {n}");
+                for (n, area) in areas.iter().enumerate() {
+                    let count = lost.get(n).copied();
+                    assert!(rt; count == Some(area.1 / 512), "keyslot {n}");
                 }
                 assert!(rt; 2 < of_header, "the header's reads");
                 return Ok(());
@@ -98,9 +100,11 @@ fn loses_what_fails(
             End::Lost(n) => {
                 assert!(rt; n < areas.len(), "call {call}: keyslot {n}");
                 assert!(rt; lacks_one_sector(&made, &whole, areas[n]), "call {call}");
-                lost[n] += 1;
+                if let Some(count) = lost.get_mut(n) {
+                    *count = count.saturating_add(1);
+                }
             }
-            End::Header => of_header += 1,
+            End::Header => of_header = of_header.saturating_add(1),
             End::Other => assert!(rt; false, "call {call}: the answer"),
         }
     }
