@@ -21,8 +21,8 @@ use std::alloc::Global;
 use std::io::{Read, Write};
 
 /// Puts the header and the key areas of the backup, which `inputs.target` is, onto the volume of this name.
-/// Before all else a reencryption of the volume is asked for, and another use of its disk; before the first
-/// write standard error says which keyslots of the two differ.
+/// Before all else a reencryption of the volume is asked for, and another use of its disk. Which keyslots of
+/// the two differ is written to `err` before the first write; the program prints that once all has ended.
 ///
 /// It isn't inlined, so that it takes no stack where another command runs.
 #[inline(never)]
