@@ -6,18 +6,19 @@ _luks() {
         [check]="--detached --json --offset --length --quiet --help"
         [show]="--all --map --json --offset --length --quiet --help"
         [open]="--passphrase --passphrase-line --slot --memory --key --digest --older --json --offset --length --quiet --help"
-        [add]="--slot --passphrase --passphrase-line --new --new-line --random --to --iterations --kdf --kdf-memory --passes --lanes --iter-time --memory --older --over --detached --offset --length --quiet --help"
-        [change]="--slot --passphrase --passphrase-line --new --new-line --random --iterations --kdf --kdf-memory --passes --lanes --iter-time --memory --older --over --detached --offset --length --quiet --help"
-        [remove]="--slot --by --passphrase --passphrase-line --random --memory --older --over --detached --offset --length --quiet --help"
+        [add]="--slot --passphrase --passphrase-line --key --new --new-line --random --to --iterations --kdf --kdf-memory --passes --lanes --iter-time --memory --older --over --detached --offset --length --quiet --help"
+        [change]="--slot --passphrase --passphrase-line --key --new --new-line --random --iterations --kdf --kdf-memory --passes --lanes --iter-time --memory --older --over --detached --offset --length --quiet --help"
+        [remove]="--slot --by --passphrase --passphrase-line --key --random --memory --older --over --detached --offset --length --quiet --help"
         [repair]="--random --over --detached --offset --length --quiet --help"
         [label]="--random --over --detached --offset --length --quiet --help"
-        [format]="--passphrase --passphrase-line --random --version --hash --iterations --kdf --kdf-memory --passes --lanes --iter-time --memory --over --detached --offset --length --quiet --help"
+        [format]="--passphrase --passphrase-line --random --version --hash --iterations --kdf --kdf-memory --passes --lanes --iter-time --memory --key --payload --uuid --label --subsystem --over --detached --offset --length --quiet --help"
         [convert]="--random --over --detached --offset --length --quiet --help"
         [rebuild]="--random --second --size --thorough --cipher --hash --key-bytes --payload --passphrase --passphrase-line --uuid --over --offset --length --quiet --help"
         [find]="--offset --length --quiet --help"
         [backup]="--over --rescue --detached --offset --length --quiet --help"
         [restore]="--other --over --over-reencryption --detached --offset --length --quiet --help"
         [compare]="--detached --offset --length --quiet --help"
+        [key]="--passphrase --passphrase-line --to --slot --memory --older --over --offset --length --quiet --help"
         [explain]="--help"
         [help]="--help"
     )
@@ -41,7 +42,7 @@ _luks() {
     # what stands behind these options is no file, but one of these words, where some are known
     case $before in
         --slot | --to | --by | --digest) value=1 words="$(echo {0..31})" ;;
-        --memory | --iterations | --uuid | --offset | --length | --payload | --kdf-memory | --passes | --iter-time) value=1 ;;
+        --memory | --iterations | --uuid | --offset | --length | --payload | --kdf-memory | --passes | --iter-time | --label | --subsystem) value=1 ;;
         --version) value=1 words="1 2" ;;
         --hash) value=1 words="sha1 sha256 sha512" ;;
         --size) value=1 words="16384 32768 65536 131072 262144 524288 1048576 2097152 4194304" ;;

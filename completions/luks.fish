@@ -40,6 +40,7 @@ complete -c luks -n '__fish_seen_subcommand_from add' -F
 complete -c luks -n '__fish_seen_subcommand_from add' -l slot -x -a '(seq 0 31)' -d 'The keyslot that the passphrase opens, 0 to 31'
 complete -c luks -n '__fish_seen_subcommand_from add' -l passphrase -r -F -d 'The file of the passphrase, taken whole'
 complete -c luks -n '__fish_seen_subcommand_from add' -l passphrase-line -r -F -d 'The file whose first line is the passphrase'
+complete -c luks -n '__fish_seen_subcommand_from add' -l key -r -F -d 'The file of the key of the keyslot'
 complete -c luks -n '__fish_seen_subcommand_from add' -l new -r -F -d 'The file of the new passphrase, taken whole'
 complete -c luks -n '__fish_seen_subcommand_from add' -l new-line -r -F -d 'The file whose first line is the new passphrase'
 complete -c luks -n '__fish_seen_subcommand_from add' -l random -r -F -d 'The file of the random bytes, as /dev/urandom'
@@ -63,6 +64,7 @@ complete -c luks -n '__fish_seen_subcommand_from change' -F
 complete -c luks -n '__fish_seen_subcommand_from change' -l slot -x -a '(seq 0 31)' -d 'The keyslot that the passphrase opens, 0 to 31'
 complete -c luks -n '__fish_seen_subcommand_from change' -l passphrase -r -F -d 'The file of the passphrase, taken whole'
 complete -c luks -n '__fish_seen_subcommand_from change' -l passphrase-line -r -F -d 'The file whose first line is the passphrase'
+complete -c luks -n '__fish_seen_subcommand_from change' -l key -r -F -d 'The file of the key of the keyslot'
 complete -c luks -n '__fish_seen_subcommand_from change' -l new -r -F -d 'The file of the new passphrase, taken whole'
 complete -c luks -n '__fish_seen_subcommand_from change' -l new-line -r -F -d 'The file whose first line is the new passphrase'
 complete -c luks -n '__fish_seen_subcommand_from change' -l random -r -F -d 'The file of the random bytes, as /dev/urandom'
@@ -86,6 +88,7 @@ complete -c luks -n '__fish_seen_subcommand_from remove' -l slot -x -a '(seq 0 3
 complete -c luks -n '__fish_seen_subcommand_from remove' -l by -x -a '(seq 0 31)' -d 'The one that the passphrase opens; else --slot'
 complete -c luks -n '__fish_seen_subcommand_from remove' -l passphrase -r -F -d 'The file of the passphrase, taken whole'
 complete -c luks -n '__fish_seen_subcommand_from remove' -l passphrase-line -r -F -d 'The file whose first line is the passphrase'
+complete -c luks -n '__fish_seen_subcommand_from remove' -l key -r -F -d 'The file of the key of the keyslot'
 complete -c luks -n '__fish_seen_subcommand_from remove' -l random -r -F -d 'The file of the random bytes, as /dev/urandom'
 complete -c luks -n '__fish_seen_subcommand_from remove' -l memory -x -d 'The MiB that Argon2 may take'
 complete -c luks -n '__fish_seen_subcommand_from remove' -l older -d 'Accept ciphers and hashes of older disks'
@@ -127,6 +130,11 @@ complete -c luks -n '__fish_seen_subcommand_from format' -l passes -x -d 'The pa
 complete -c luks -n '__fish_seen_subcommand_from format' -l lanes -x -a '(seq 1 4)' -d 'The lanes of Argon2'
 complete -c luks -n '__fish_seen_subcommand_from format' -l iter-time -x -d 'Choose costs that take so many milliseconds'
 complete -c luks -n '__fish_seen_subcommand_from format' -l memory -x -d 'The MiB that Argon2 may take'
+complete -c luks -n '__fish_seen_subcommand_from format' -l key -r -F -d 'The file of the volume key; else it is random'
+complete -c luks -n '__fish_seen_subcommand_from format' -l payload -x -d 'Where the data begins, in sectors of 512 bytes'
+complete -c luks -n '__fish_seen_subcommand_from format' -l uuid -x -d "The volume's uuid; else a new one"
+complete -c luks -n '__fish_seen_subcommand_from format' -l label -x -d "LUKS2: the volume's label"
+complete -c luks -n '__fish_seen_subcommand_from format' -l subsystem -x -d "LUKS2: the volume's subsystem"
 complete -c luks -n '__fish_seen_subcommand_from format' -l over -d 'Write over another volume or another use of it'
 complete -c luks -n '__fish_seen_subcommand_from format' -l detached -d 'The data is on another device, no segment judged'
 complete -c luks -n '__fish_seen_subcommand_from format' -l offset -x -d 'The byte of the file where the volume begins'
@@ -192,8 +200,21 @@ complete -c luks -n '__fish_seen_subcommand_from compare' -l offset -x -d 'The b
 complete -c luks -n '__fish_seen_subcommand_from compare' -l length -x -d 'How many bytes the volume has'
 complete -c luks -n '__fish_seen_subcommand_from compare' -l quiet -d 'No hints on standard error'
 
+complete -c luks -n __fish_use_subcommand -a key -d 'Writes the volume key to a file, for who keeps it safe'
+complete -c luks -n '__fish_seen_subcommand_from key' -F
+complete -c luks -n '__fish_seen_subcommand_from key' -l passphrase -r -F -d 'The file of the passphrase, taken whole'
+complete -c luks -n '__fish_seen_subcommand_from key' -l passphrase-line -r -F -d 'The file whose first line is the passphrase'
+complete -c luks -n '__fish_seen_subcommand_from key' -l to -r -F -d 'The file of the key, which is made'
+complete -c luks -n '__fish_seen_subcommand_from key' -l slot -x -a '(seq 0 31)' -d 'The keyslot to try, 0 to 31; else all'
+complete -c luks -n '__fish_seen_subcommand_from key' -l memory -x -d 'The MiB that Argon2 may take'
+complete -c luks -n '__fish_seen_subcommand_from key' -l older -d 'Accept ciphers and hashes of older disks'
+complete -c luks -n '__fish_seen_subcommand_from key' -l over -d "Write over a FILE that isn't empty"
+complete -c luks -n '__fish_seen_subcommand_from key' -l offset -x -d 'The byte of the file where the volume begins'
+complete -c luks -n '__fish_seen_subcommand_from key' -l length -x -d 'How many bytes the volume has'
+complete -c luks -n '__fish_seen_subcommand_from key' -l quiet -d 'No hints on standard error'
+
 complete -c luks -n __fish_use_subcommand -a explain -d 'Says what a fault means, and what to try next'
 complete -c luks -n '__fish_seen_subcommand_from explain' -a '(luks explain 2>/dev/null | cut -d" " -f1)'
 
 complete -c luks -n __fish_use_subcommand -a help -d 'Print help'
-complete -c luks -n '__fish_seen_subcommand_from help' -a 'check show open add change remove repair label format convert rebuild find backup restore compare explain'
+complete -c luks -n '__fish_seen_subcommand_from help' -a 'check show open add change remove repair label format convert rebuild find backup restore compare key explain'

@@ -84,30 +84,73 @@ static int opens(int fd, uint64_t offset, uint64_t length, const char *slot, con
     return status;
 }
 
-/* Checking over bytes in memory: none at first, and then as many as are asked for. */
+/* Ranges of a volume: at most so many, in their order, with a gap between any two. */
+#define MOST_RANGES 64
+struct ranges {
+    struct luks_range all[MOST_RANGES];
+    size_t count;
+};
+
+/* Adds the range that is asked for, up to the next one that is there, and joins what touches. Whether it lies in the volume and begins with a place
+ * that isn't there. */
+static bool is_added(struct ranges *ranges, struct luks_range wanted, uint64_t total)
+{
+    size_t i = 0;
+    while (i < ranges->count && ranges->all[i].at <= wanted.at)
+        i++;
+    if (wanted.len == 0 || wanted.at > total || wanted.len > total - wanted.at || ranges->count == MOST_RANGES)
+        return false;
+    if (i > 0 && wanted.at < ranges->all[i - 1].at + ranges->all[i - 1].len)
+        return false;
+    if (i < ranges->count && wanted.at + wanted.len > ranges->all[i].at)
+        wanted.len = ranges->all[i].at - wanted.at;
+    memmove(ranges->all + i + 1, ranges->all + i, (ranges->count++ - i) * sizeof wanted);
+    ranges->all[i] = wanted;
+    for (size_t k = ranges->count - 1; k > 0; k--)
+        if (ranges->all[k - 1].at + ranges->all[k - 1].len == ranges->all[k].at) {
+            ranges->all[k - 1].len += ranges->all[k].len;
+            memmove(ranges->all + k, ranges->all + k + 1, (--ranges->count - k) * sizeof wanted);
+        }
+    return true;
+}
+
+/* Their bytes, in a block of just their number. */
+static uint8_t *read_ranges(int fd, uint64_t offset, const struct ranges *ranges, size_t *bytes)
+{
+    *bytes = 0;
+    for (size_t i = 0; i < ranges->count; i++)
+        *bytes += ranges->all[i].len;
+    uint8_t *held = malloc(*bytes ? *bytes : 1), *next = held;
+    for (size_t i = 0; i < ranges->count; next += ranges->all[i++].len)
+        if (pread(fd, next, ranges->all[i].len, (off_t)(offset + ranges->all[i].at)) != (ssize_t)ranges->all[i].len)
+            exit(2);
+    return held;
+}
+
+/* Checking over bytes in memory: none at first, and then the ranges that are asked for. */
 static int check_bytes(int fd, uint64_t offset, uint64_t length, bool is_detached)
 {
     off_t end = lseek(fd, 0, SEEK_END);
-    uint64_t total = (uint64_t)end > offset ? (uint64_t)end - offset : 0, held = 0;
+    uint64_t total = (uint64_t)end > offset ? (uint64_t)end - offset : 0;
     total = total < length ? total : length;
+    struct ranges ranges = {.count = 0};
     struct luks_report report;
-    for (int calls = 0; calls < 64; calls++) {
-        uint8_t *first = malloc(held ? held : 1);
-        if (pread(fd, first, held, (off_t)offset) != (ssize_t)held)
-            return 2;
-        uint32_t answer = luks_check_bytes(first, held, total, is_detached, &report);
-        free(first);
-        if (answer == LUKS_BEYOND && report.beyond > held && report.beyond <= total) {
-            held = report.beyond;
-            continue;
+    for (;;) {
+        size_t bytes;
+        uint8_t *held = read_ranges(fd, offset, &ranges, &bytes);
+        uint32_t answer = luks_check_bytes(ranges.all, ranges.count, held, bytes, total, is_detached, &report);
+        free(held);
+        if (answer == LUKS_BEYOND) {
+            if (is_added(&ranges, report.beyond, total))
+                continue;
+            puts("what is there is asked for, or what isn't of the volume");
+            return 1;
         }
         if (answer != LUKS_DONE)
             return told(answer);
         printf("accepted luks%u areas %ju\n", report.version, (uintmax_t)report.areas);
         return 0;
     }
-    puts("more and more is asked for");
-    return 1;
 }
 
 /* The listing into a buffer of this room. */
@@ -343,13 +386,14 @@ static int wrong(int fd)
     struct luks_report report;
     struct luks_opened opened;
     uint8_t byte = 0;
+    struct luks_range one = {.at = 0, .len = 1};
     printf("%u %u %u %u\n", luks_check(fd, 0, LUKS_TO_END, false, NULL), luks_unlock(fd, 0, LUKS_TO_END, NULL, 1, 0, 0, NULL, 0, &opened),
-           luks_unlock(fd, 0, LUKS_TO_END, &byte, 1, 0, 0, NULL, 1, &opened), luks_check_bytes(&byte, 1, 0, false, &report));
+           luks_unlock(fd, 0, LUKS_TO_END, &byte, 1, 0, 0, NULL, 1, &opened), luks_check_bytes(&one, 1, &byte, 1, 0, false, &report));
     printf("%zu %zu %zu\n", luks_fault_name(98, &byte, 0), luks_fault_text(1, 0, &byte, 0), luks_fault_text(1, 5, &byte, 1));
     size_t long_one = (size_t)1 << 32;
     uint8_t *words = mmap(NULL, long_one, PROT_READ, MAP_PRIVATE | MAP_ANONYMOUS | MAP_NORESERVE, -1, 0);
-    printf("%u %u\n", luks_unlock_bytes(&byte, 1, 1, words, long_one, 0, 0, &byte, 0, &opened),
-           luks_open_bytes(&byte, 1, 1, 0, words, long_one, 0, 0, &byte, 0, &opened));
+    printf("%u %u\n", luks_unlock_bytes(&one, 1, &byte, 1, 1, words, long_one, 0, 0, &byte, 0, &opened),
+           luks_open_bytes(&one, 1, &byte, 1, 1, 0, words, long_one, 0, 0, &byte, 0, &opened));
     munmap(words, long_one);
     struct luks_edit edit = {.kind = LUKS_ADD, .to = LUKS_NO_SLOT, .iterations = 1000}, no_edit = {.kind = 9}, no_slot = {.kind = LUKS_REMOVE, .slot = 256};
     uint64_t needed;
@@ -379,12 +423,17 @@ static int wrong(int fd)
     uint64_t start = 0;
     printf("%u %u %u %u\n", luks_find(fd, 0, LUKS_TO_END, 0, NULL), luks_backup_length(fd, 0, LUKS_TO_END, false, NULL),
            luks_compare(fd, 0, LUKS_TO_END, target, 0, LUKS_TO_END, false, NULL, NULL), luks_compare(fd, 0, LUKS_TO_END, fd, 0, LUKS_TO_END, false, keyslots, NULL));
-    printf("%u %u %u %u\n", luks_find_bytes(&byte, 1, 0, &start, 1, &found), luks_backup_length_bytes(&byte, 1, 0, false, &backup),
-           luks_compare_bytes(&byte, 1, 1, &byte, 1, 1, false, keyslots, LUKS_KEYSLOTS - 1, &compared), luks_compare_bytes(&byte, 1, 0, &byte, 1, 1, false, keyslots, LUKS_KEYSLOTS, &compared));
+    printf("%u %u %u %u\n", luks_find_bytes(&one, 1, &byte, 1, 0, &start, 1, &found), luks_backup_length_bytes(&one, 1, &byte, 1, 0, false, &backup),
+           luks_compare_bytes(&one, 1, &byte, 1, 1, &one, 1, &byte, 1, 1, false, keyslots, LUKS_KEYSLOTS - 1, &compared), luks_compare_bytes(&one, 1, &byte, 1, 0, &one, 1, &byte, 1, 1, false, keyslots, LUKS_KEYSLOTS, &compared));
     printf("%u %u %u %u\n", luks_backup(fd, 0, LUKS_TO_END, false, 1000, 0, LUKS_TO_END), luks_backup(fd, 0, LUKS_TO_END, false, fd, 0, LUKS_TO_END),
            luks_restore(fd, 0, LUKS_TO_END, 1000, 0, LUKS_TO_END, false, false), luks_restore(1000, 0, LUKS_TO_END, target, 0, LUKS_TO_END, false, false));
     answer = luks_find(fd, 0, 0, 7, &start);
     printf("%u %d\n", answer, start == LUKS_TO_END);
+    const struct luks_range touching[] = {{0, 1}, {1, 1}}, turned[] = {{3, 1}, {0, 1}}, twice[] = {{0, 2}, {1, 1}}, last[] = {{UINT64_MAX, 1}};
+    uint8_t bytes[3] = {0};
+    printf("%u %u %u %u %u\n", luks_check_bytes(touching, 2, bytes, 2, 8, false, &report), luks_check_bytes(turned, 2, bytes, 2, 8, false, &report),
+           luks_check_bytes(twice, 2, bytes, 3, 8, false, &report), luks_check_bytes(last, 1, bytes, 1, 8, false, &report),
+           luks_check_bytes(&one, 1, bytes, 2, 8, false, &report));
     close(target);
     return 0;
 }

@@ -1,5 +1,5 @@
-/* The calls of libluks through a descriptor: as many of the volume's first bytes are read as the
- * proved calls ask for, and these are given to them. Nothing here is proved. */
+/* The calls of libluks through a descriptor: the ranges of the volume are read that the proved calls ask for, and these are
+ * given to them. Nothing here is proved. */
 #define _GNU_SOURCE
 #include "luks.h"
 
@@ -18,17 +18,27 @@
 #include <time.h>
 #include <unistd.h>
 
-/* What is read at first: the heads of both copies as cryptsetup lays them out, and all that it puts before the data. */
+/* How many bytes are read at once, at first: the heads of both copies as cryptsetup lays them out, and the first key areas. Each
+ * asking reads twice as many as the one before, so that few calls are made. */
 #define HEADS ((uint64_t)1 << 16)
-#define WITH_KEY_AREAS ((uint64_t)1 << 24)
+#define WITH_KEY_AREAS ((uint64_t)1 << 20)
+#define MOST_AHEAD ((uint64_t)1 << 24)
 
-/* The first bytes of a volume, as many as were read. */
+/* What a disk reads at once, or not. */
+#define SECTOR ((uint64_t)512)
+
+/* Ranges of a volume that were read, in their order, with a gap between any two, and their bytes one after the other. */
 struct held {
     int fd;
-    uint64_t start, total;
+    uint64_t start, total, ahead;
+    struct luks_range *ranges;
+    size_t ranges_count;
     uint8_t *bytes;
-    size_t count;
+    size_t bytes_count;
 };
+
+/* As the calls over bytes take them. */
+#define GIVEN(held) (held)->ranges, (held)->ranges_count, (held)->bytes, (held)->bytes_count, (held)->total
 
 static uint64_t least(uint64_t a, uint64_t b)
 {
@@ -84,24 +94,117 @@ static int read_all(int fd, uint8_t *into, size_t count, uint64_t at)
     return 0;
 }
 
-/* Holds at least so many of the first bytes, or all. */
-static uint32_t hold(struct held *held, uint64_t wanted)
+/* Reads as many bytes from the place on as can be read, and answers how many these are: all up to the first sector that can't. What fails is tried
+ * again by smaller pieces, none of which lies in two sectors at last. The file's end is a failure. */
+static size_t read_some(int fd, uint8_t *into, size_t count, uint64_t at)
 {
-    uint64_t count = least(wanted, held->total);
-    if (count > (uint64_t)PTRDIFF_MAX)
+    uint64_t piece = MOST_AHEAD;
+    size_t done = 0;
+    while (done < count) {
+        uint64_t place = at + done;
+        ssize_t got = pread(fd, into + done, (size_t)least(piece - place % piece, count - done), (off_t)place);
+        if (got < 0 && errno == EINTR)
+            continue;
+        if (got > 0)
+            done += (size_t)got;
+        else if (got == 0)
+            break;
+        else if (piece > SECTOR)
+            piece = piece > SECTOR * 8 ? SECTOR * 8 : SECTOR;
+        else
+            return done;
+    }
+    if (done < count)
+        errno = EIO;
+    return done;
+}
+
+/* Adds a range before the one numbered `i`, for which there is room: to its neighbours, where it touches them. */
+static void add_range(struct held *held, size_t i, uint64_t at, uint64_t len)
+{
+    struct luks_range *ranges = held->ranges;
+    bool is_behind = i > 0 && ranges[i - 1].at + ranges[i - 1].len == at;
+    bool is_before = i < held->ranges_count && at + len == ranges[i].at;
+    if (is_behind) {
+        ranges[i - 1].len += len + (is_before ? ranges[i].len : 0);
+        if (is_before)
+            memmove(ranges + i, ranges + i + 1, (--held->ranges_count - i) * sizeof *ranges);
+    } else if (is_before) {
+        ranges[i].at = at;
+        ranges[i].len += len;
+    } else {
+        memmove(ranges + i + 1, ranges + i, (held->ranges_count++ - i) * sizeof *ranges);
+        ranges[i] = (struct luks_range){.at = at, .len = len};
+    }
+}
+
+/* Reads from the place on, which lies in the gap before the range numbered `i`, where `before` bytes are those of the ranges before it: at least to
+ * `needed`, else that is a failure, and at most to `most`, as far as can be read. */
+static uint32_t read_gap(struct held *held, size_t i, size_t before, uint64_t place, uint64_t needed, uint64_t most)
+{
+    if (most - place > (uint64_t)PTRDIFF_MAX - held->bytes_count)
         return LUKS_MEMORY;
-    uint8_t *bytes = realloc(held->bytes, count > 0 ? (size_t)count : 1);
+    size_t count = (size_t)(most - place), behind = held->bytes_count - before;
+    struct luks_range *ranges = realloc(held->ranges, (held->ranges_count + 1) * sizeof *ranges);
+    if (ranges == NULL)
+        return LUKS_MEMORY;
+    held->ranges = ranges;
+    uint8_t *bytes = realloc(held->bytes, held->bytes_count + count);
     if (bytes == NULL)
         return LUKS_MEMORY;
     held->bytes = bytes;
-    if (read_all(held->fd, bytes + held->count, (size_t)count - held->count, held->start + held->count) != 0)
-        return LUKS_DEVICE;
-    held->count = (size_t)count;
-    return LUKS_DONE;
+    memmove(bytes + before + count, bytes + before, behind);
+    size_t got = read_some(held->fd, bytes + before, count, held->start + place);
+    memmove(bytes + before + got, bytes + before + count, behind);
+    held->bytes_count += got;
+    if (got > 0)
+        add_range(held, i, place, got);
+    return place + got < needed ? LUKS_DEVICE : LUKS_DONE;
 }
 
-/* The window of the descriptor, of which the first bytes are held. */
-static uint32_t begin(struct held *held, int fd, uint64_t offset, uint64_t length, uint64_t wanted)
+/* The number of the first range that ends behind the place, and how many bytes those before it have. */
+static size_t range_behind(const struct held *held, uint64_t place, size_t *before)
+{
+    size_t i = 0;
+    *before = 0;
+    for (; i < held->ranges_count && held->ranges[i].at + held->ranges[i].len <= place; i++)
+        *before += (size_t)held->ranges[i].len;
+    return i;
+}
+
+/* Holds the range too that a call asked for; LUKS_BEYOND where it may be made again. */
+static uint32_t hold_more(struct held *held, struct luks_range wanted)
+{
+    uint64_t needed = wanted.at + wanted.len, place = wanted.at;
+    while (place < needed) {
+        size_t before, i = range_behind(held, place, &before);
+        uint64_t gap_end = i < held->ranges_count ? held->ranges[i].at : held->total;
+        if (gap_end <= place) {
+            place = held->ranges[i].at + held->ranges[i].len;
+            continue;
+        }
+        uint64_t ahead = least(held->ahead, held->total - place) + place;
+        uint64_t most = least(ahead > needed ? ahead : needed, gap_end);
+        uint32_t answer = read_gap(held, i, before, place, least(needed, gap_end), most);
+        if (answer != LUKS_DONE)
+            return answer;
+        place = most;
+    }
+    held->ahead = held->ahead < MOST_AHEAD ? held->ahead * 2 : held->ahead;
+    return LUKS_BEYOND;
+}
+
+/* The bytes of such a range, or NULL where they aren't held. */
+static const uint8_t *held_at(const struct held *held, uint64_t at, uint64_t len)
+{
+    size_t before, i = range_behind(held, at, &before);
+    if (i == held->ranges_count || at < held->ranges[i].at || len > held->ranges[i].at + held->ranges[i].len - at)
+        return NULL;
+    return held->bytes + before + (size_t)(at - held->ranges[i].at);
+}
+
+/* The window of the descriptor, of which nothing is held. */
+static uint32_t begin(struct held *held, int fd, uint64_t offset, uint64_t length, uint64_t ahead)
 {
     uint64_t total = 0;
     memset(held, 0, sizeof *held);
@@ -113,20 +216,16 @@ static uint32_t begin(struct held *held, int fd, uint64_t offset, uint64_t lengt
     held->fd = fd;
     held->start = least(offset, total);
     held->total = least(length, total - held->start);
-    return hold(held, wanted);
-}
-
-/* Holds what a call asked for, and twice what was held, so that few calls are made; LUKS_BEYOND where it may be made again. */
-static uint32_t hold_more(struct held *held, uint64_t beyond)
-{
-    uint64_t twice = (uint64_t)held->count * 2;
-    uint32_t answer = hold(held, beyond > twice ? beyond : twice);
-    return answer == LUKS_DONE ? LUKS_BEYOND : answer;
+    held->ahead = ahead;
+    held->ranges = malloc(sizeof *held->ranges);
+    held->bytes = malloc(1);
+    return held->ranges != NULL && held->bytes != NULL ? LUKS_DONE : LUKS_MEMORY;
 }
 
 static void end(struct held *held)
 {
     int kept = errno;
+    free(held->ranges);
     free(held->bytes);
     errno = kept;
 }
@@ -178,7 +277,7 @@ uint32_t luks_signature(int fd, uint64_t offset, uint64_t length, uint64_t withi
     uint32_t answer = begin(&held, fd, offset, length, HEADS);
     if (answer == LUKS_DONE)
         do {
-            answer = luks_signature_bytes(held.bytes, held.count, held.total, within, &signature);
+            answer = luks_signature_bytes(GIVEN(&held), within, &signature);
             if (answer == LUKS_BEYOND)
                 answer = hold_more(&held, signature.beyond);
             else if (answer == LUKS_DONE)
@@ -197,11 +296,11 @@ uint32_t luks_check(int fd, uint64_t offset, uint64_t length, bool is_detached, 
     uint32_t answer = begin(&held, fd, offset, length, HEADS);
     if (answer == LUKS_DONE)
         do {
-            answer = luks_check_bytes(held.bytes, held.count, held.total, is_detached, report);
+            answer = luks_check_bytes(GIVEN(&held), is_detached, report);
             if (answer == LUKS_BEYOND)
                 answer = hold_more(&held, report->beyond);
         } while (answer == LUKS_BEYOND);
-    report->beyond = 0;
+    report->beyond = (struct luks_range){0};
     end(&held);
     return answer;
 }
@@ -217,7 +316,7 @@ uint32_t luks_read(int fd, uint64_t offset, uint64_t length, char *json, size_t 
     uint32_t answer = begin(&held, fd, offset, length, HEADS);
     if (answer == LUKS_DONE)
         do {
-            answer = luks_read_bytes(held.bytes, held.count, held.total, (uint8_t *)(json != NULL ? json : &nowhere), json_room, &read);
+            answer = luks_read_bytes(GIVEN(&held), (uint8_t *)(json != NULL ? json : &nowhere), json_room, &read);
             *json_bytes = read.json_bytes;
             if (answer == LUKS_BEYOND)
                 answer = hold_more(&held, read.beyond);
@@ -319,14 +418,14 @@ static uint32_t open_one(int fd, uint64_t offset, uint64_t length, uint32_t n, c
     uint32_t answer = begin(&held, fd, offset, length, WITH_KEY_AREAS);
     if (answer == LUKS_DONE)
         do {
-            answer = n == ANY ? luks_unlock_bytes(held.bytes, held.count, held.total, words, passphrase_bytes, memory, older, into, key_room, opened)
-                              : luks_open_bytes(held.bytes, held.count, held.total, keyslot_of(n), words, passphrase_bytes, memory, older, into,
+            answer = n == ANY ? luks_unlock_bytes(GIVEN(&held), words, passphrase_bytes, memory, older, into, key_room, opened)
+                              : luks_open_bytes(GIVEN(&held), keyslot_of(n), words, passphrase_bytes, memory, older, into,
                                                 key_room, opened);
             if (answer == LUKS_BEYOND)
                 answer = hold_more(&held, opened->beyond);
         } while (answer == LUKS_BEYOND);
     forget();
-    opened->beyond = 0;
+    opened->beyond = (struct luks_range){0};
     end(&held);
     unguard(&key_pages);
     unguard(&words_pages);
@@ -377,7 +476,7 @@ uint32_t luks_try(int fd, uint64_t offset, uint64_t length, const void *passphra
 #define CALLS_ROOM ((size_t)1 << 16)
 #define BYTES_ROOM ((size_t)1 << 25)
 
-/* How many of the first bytes are compared before the first write. */
+/* Of how many of the first bytes those that were read are compared before the first write. */
 #define COMPARED ((uint64_t)1 << 15)
 
 struct room {
@@ -461,19 +560,31 @@ static uint32_t settle(int fd)
     return answer;
 }
 
-/* Whether the first bytes that were read stand there still; a program without a lock may have written. */
-static int is_as_read(const struct held *held)
+/* Whether these bytes stand there still. */
+static int is_range_as_read(const struct held *held, uint64_t at, const uint8_t *bytes, uint64_t count)
 {
     uint8_t again[4096];
-    uint64_t count = least(held->count, COMPARED);
-    for (uint64_t at = 0; at < count; at += sizeof again) {
-        size_t some = (size_t)least(sizeof again, count - at);
-        if (read_all(held->fd, again, some, held->start + at) != 0)
+    for (uint64_t done = 0; done < count; done += sizeof again) {
+        size_t some = (size_t)least(sizeof again, count - done);
+        if (read_all(held->fd, again, some, held->start + at + done) != 0)
             return -1;
-        if (memcmp(again, held->bytes + at, some) != 0) {
+        if (memcmp(again, bytes + done, some) != 0) {
             errno = EBUSY;
             return -1;
         }
+    }
+    return 0;
+}
+
+/* Whether what was read of the volume's beginning stands there still; a program without a lock may have written. */
+static int is_as_read(const struct held *held)
+{
+    const uint8_t *bytes = held->bytes;
+    for (size_t i = 0; i < held->ranges_count && held->ranges[i].at < COMPARED; i++) {
+        const struct luks_range *range = &held->ranges[i];
+        if (is_range_as_read(held, range->at, bytes, least(range->len, COMPARED - range->at)) != 0)
+            return -1;
+        bytes += range->len;
     }
     return 0;
 }
@@ -511,21 +622,21 @@ static uint32_t plan_of_source(const struct held *held, const struct asked *it, 
     const struct held *source = it->source;
     const struct luks_fields *given = &it->fields;
     if (it->kind == BACKUP)
-        return luks_backup_bytes(source->bytes, source->count, source->total, it->is_detached, held->bytes, held->count, held->total, room->calls,
+        return luks_backup_bytes(GIVEN(source), it->is_detached, GIVEN(held), room->calls,
                                  room->calls_room, room->bytes, room->bytes_room, plan);
     if (it->kind == RESTORE)
-        return luks_restore_bytes(source->bytes, source->count, source->total, held->bytes, held->count, held->total, it->is_detached,
+        return luks_restore_bytes(GIVEN(source), GIVEN(held), it->is_detached,
                                   it->is_over_any, room->calls, room->calls_room, room->bytes, room->bytes_room, plan);
     if (it->kind == CONVERT)
-        return luks_convert_bytes(source->bytes, source->count, source->total, it->is_detached, held->bytes, held->count, held->total, it->random,
+        return luks_convert_bytes(GIVEN(source), it->is_detached, GIVEN(held), it->random,
                                   it->random_bytes, room->calls, room->calls_room, room->bytes, room->bytes_room, plan);
     if (it->kind == REBUILD2)
-        return luks_rebuild2_bytes(source->bytes, source->count, source->total, it->is_second, it->size, bytes_of(it->uuid), count_of(it->uuid),
-                                   held->bytes, held->count, held->total, it->random, it->random_bytes, room->calls, room->calls_room, room->bytes,
+        return luks_rebuild2_bytes(GIVEN(source), it->is_second, it->size, bytes_of(it->uuid), count_of(it->uuid),
+                                   GIVEN(held), it->random, it->random_bytes, room->calls, room->calls_room, room->bytes,
                                    room->bytes_room, plan);
-    return luks_rebuild1_bytes(source->bytes, source->count, source->total, bytes_of(given->cipher_name), count_of(given->cipher_name),
+    return luks_rebuild1_bytes(GIVEN(source), bytes_of(given->cipher_name), count_of(given->cipher_name),
                                bytes_of(given->cipher_mode), count_of(given->cipher_mode), bytes_of(given->hash), count_of(given->hash),
-                               bytes_of(it->uuid), count_of(it->uuid), given->key_bytes, given->payload, held->bytes, held->count, held->total,
+                               bytes_of(it->uuid), count_of(it->uuid), given->key_bytes, given->payload, GIVEN(held),
                                room->calls, room->calls_room, room->bytes, room->bytes_room, plan);
 }
 
@@ -533,19 +644,19 @@ static uint32_t plan_of_source(const struct held *held, const struct asked *it, 
 static uint32_t plan_of(const struct held *held, const struct asked *it, struct room *room, struct luks_plan *plan)
 {
     if (it->kind == FORMAT1)
-        return luks_format1_bytes(held->bytes, held->count, held->total, it->is_detached, it->hash, it->iterations, it->passphrase,
+        return luks_format1_bytes(GIVEN(held), it->is_detached, it->hash, it->iterations, it->passphrase,
                                   it->passphrase_bytes, it->random, it->random_bytes, room->calls, room->calls_room, room->bytes, room->bytes_room, plan);
     if (it->kind == FORMAT2)
-        return luks_format2_bytes(held->bytes, held->count, held->total, it->is_detached, it->hash, it->iterations, &it->derivation, it->passphrase,
+        return luks_format2_bytes(GIVEN(held), it->is_detached, it->hash, it->iterations, &it->derivation, it->passphrase,
                                   it->passphrase_bytes, it->memory, it->random, it->random_bytes, room->calls, room->calls_room, room->bytes,
                                   room->bytes_room, plan);
     if (it->kind != EDIT)
         return plan_of_source(held, it, room, plan);
-    return luks_apply_bytes(held->bytes, held->count, held->total, it->is_detached, it->edit, it->passphrase, it->passphrase_bytes, it->text,
+    return luks_apply_bytes(GIVEN(held), it->is_detached, it->edit, it->passphrase, it->passphrase_bytes, it->text,
                             it->text_bytes, it->random, it->random_bytes, room->calls, room->calls_room, room->bytes, room->bytes_room, plan);
 }
 
-/* Plans it, with as many bytes held and as much room as it takes, and plays the plan. */
+/* Plans it, with as many ranges held and as much room as it takes, and plays the plan. */
 static uint32_t carry_out(struct held *held, const struct asked *it, uint32_t *slot)
 {
     struct room room = {0};
@@ -554,7 +665,7 @@ static uint32_t carry_out(struct held *held, const struct asked *it, uint32_t *s
     while (answer == LUKS_BEYOND || answer == LUKS_ROOM) {
         answer = plan_of(held, it, &room, &plan);
         if (answer == LUKS_BEYOND)
-            answer = plan.source_beyond > 0 ? hold_more(it->source, plan.source_beyond) : hold_more(held, plan.beyond);
+            answer = plan.source_beyond.len > 0 ? hold_more(it->source, plan.source_beyond) : hold_more(held, plan.beyond);
         else if (answer == LUKS_ROOM && !take_room(&room, plan.calls, plan.bytes))
             answer = LUKS_MEMORY;
     }
@@ -627,7 +738,7 @@ static uint32_t need(struct held *held, const struct asked *it, uint64_t *count)
     struct luks_needed needed;
     uint32_t answer;
     do {
-        answer = luks_needed_bytes(held->bytes, held->count, held->total, it->is_detached, it->edit, it->passphrase, it->passphrase_bytes,
+        answer = luks_needed_bytes(GIVEN(held), it->is_detached, it->edit, it->passphrase, it->passphrase_bytes,
                                    it->text, it->text_bytes, &needed);
         if (answer == LUKS_BEYOND)
             answer = hold_more(held, needed.beyond);
@@ -785,7 +896,7 @@ static int are_one(int first, int second)
     return one.st_dev == other.st_dev && one.st_ino == other.st_ino;
 }
 
-/* Holds the first bytes of the source and of the target, which is settled before. */
+/* Begins with the source and with the target, which is settled before. */
 static uint32_t begin_both(struct held *source, int source_fd, uint64_t source_offset, uint64_t source_length, struct held *held, int fd,
                            uint64_t offset, uint64_t length)
 {
@@ -854,12 +965,13 @@ uint32_t luks_rebuild1(int source_fd, uint64_t source_offset, uint64_t source_le
 static bool leads_to_luks1(const struct held *source, uint32_t fault)
 {
     static const uint8_t magic[] = {'L', 'U', 'K', 'S', 0xBA, 0xBE};
-    if (source->count < HEADER1)
+    const uint8_t *header = held_at(source, 0, HEADER1);
+    if (header == NULL)
         return false;
-    unsigned version = (unsigned)source->bytes[6] << 8 | source->bytes[7];
+    unsigned version = (unsigned)header[6] << 8 | header[7];
     if (fault == LUKS_FAULT_NO_METADATA)
         return version != 2;
-    return fault == LUKS_FAULT_COUNTS && memcmp(source->bytes, magic, sizeof magic) == 0 && version == 1;
+    return fault == LUKS_FAULT_COUNTS && memcmp(header, magic, sizeof magic) == 0 && version == 1;
 }
 
 uint32_t luks_rebuild(int source_fd, uint64_t source_offset, uint64_t source_length, const char *uuid, int fd, uint64_t offset, uint64_t length,
@@ -892,7 +1004,7 @@ uint32_t luks_backup_length(int fd, uint64_t offset, uint64_t length, bool is_de
     uint32_t answer = begin(&held, fd, offset, length, HEADS);
     if (answer == LUKS_DONE)
         do {
-            answer = luks_backup_length_bytes(held.bytes, held.count, held.total, is_detached, &told);
+            answer = luks_backup_length_bytes(GIVEN(&held), is_detached, &told);
             if (answer == LUKS_BEYOND)
                 answer = hold_more(&held, told.beyond);
         } while (answer == LUKS_BEYOND);
@@ -939,10 +1051,10 @@ uint32_t luks_compare(int backup_fd, uint64_t backup_offset, uint64_t backup_len
         answer = begin(&held, fd, offset, length, HEADS);
     if (answer == LUKS_DONE)
         do {
-            answer = luks_compare_bytes(backup.bytes, backup.count, backup.total, held.bytes, held.count, held.total, is_detached, keyslots,
+            answer = luks_compare_bytes(GIVEN(&backup), GIVEN(&held), is_detached, keyslots,
                                         LUKS_KEYSLOTS, &told);
             if (answer == LUKS_BEYOND)
-                answer = told.backup_beyond > 0 ? hold_more(&backup, told.backup_beyond) : hold_more(&held, told.beyond);
+                answer = told.backup_beyond.len > 0 ? hold_more(&backup, told.backup_beyond) : hold_more(&held, told.beyond);
         } while (answer == LUKS_BEYOND);
     if (answer == LUKS_DONE && is_same_key != NULL)
         *is_same_key = told.same_key == 1;
@@ -960,21 +1072,24 @@ uint32_t luks_compare(int backup_fd, uint64_t backup_offset, uint64_t backup_len
 #define MOST_BLOCK ((uint64_t)1 << 26)
 #define EXPLAINS ((uint64_t)4 << 20)
 #define TELLS ((uint64_t)12 << 20)
-#define SECTOR ((uint64_t)512)
 
 /* The least start in the block that is held, at `from` or behind it and before this end; LUKS_TO_END where there is none. */
-static uint32_t find_in(const struct held *held, uint64_t from, uint64_t before, uint64_t *place)
+static uint32_t find_in(struct held *held, uint64_t from, uint64_t before, uint64_t *place)
 {
     struct luks_found found = {.count = 64};
     uint64_t *starts = NULL;
     uint32_t answer = LUKS_ROOM;
-    while (answer == LUKS_ROOM) {
+    while (answer == LUKS_ROOM || answer == LUKS_BEYOND) {
         size_t room = (size_t)found.count;
         free(starts);
         starts = malloc(room * sizeof *starts);
         if (starts == NULL)
             return LUKS_MEMORY;
-        answer = luks_find_bytes(held->bytes, held->count, held->total, starts, room, &found);
+        answer = luks_find_bytes(GIVEN(held), starts, room, &found);
+        if (answer == LUKS_BEYOND) {
+            found.count = room;
+            answer = hold_more(held, found.beyond);
+        }
     }
     *place = LUKS_TO_END;
     for (uint64_t i = 0; answer == LUKS_DONE && i < found.count; i++)

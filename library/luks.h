@@ -5,9 +5,9 @@
  *
  *   luks_check, luks_read, luks_unlock, luks_open     read the volume through a descriptor
  *   luks_add, luks_format2 and so on                  write it through one
- *   luks_check_bytes and so on                        are given the volume's first bytes in memory
+ *   luks_check_bytes and so on                        are given ranges of the volume in memory
  *
- * The last family is proved (docs/PROOFS.md); the others are a page of C that is tested: they read as many bytes as are needed, by
+ * The last family is proved (docs/PROOFS.md); the others are a page of C that is tested: they read the ranges that it asks for, by
  * pread, and call it. A call of it that writes answers a plan of writes and flushes, which those through a descriptor play: pwrite
  * and fsync in its order. None prints, keeps anything after it has returned, starts a thread, catches a signal or leaves memory for
  * the caller to free.
@@ -19,9 +19,11 @@
  * so that nothing was written. Any call may answer LUKS_USAGE, LUKS_MEMORY, LUKS_DEVICE and LUKS_DIRECT, and one that writes
  * LUKS_READONLY and LUKS_APPENDS; which faults beside these, each says.
  *
- * What is read. Each call has a window: the `length` bytes from `offset` on, fewer where the file ends. Mostly the first 64 KiB of it
- * are held in memory, and where a keyslot is opened or made the first 16 MiB; more where the header says so. That is more than is
- * used: a sector among these that can't be read is LUKS_DEVICE, also where nothing uses it. The position in the file stays.
+ * What is read. Each call has a window: the `length` bytes from `offset` on, fewer where the file ends. Ranges of it are read as they
+ * are needed, and held in memory until the call returns: the header and the key areas that are opened or written, and behind each
+ * place that is asked for up to 64 KiB more, or 1 MiB where a keyslot is opened or made, which doubles with each asking. So it holds at
+ * most twice as much as the call needs, and 1 MiB. A sector that can't be read is LUKS_DEVICE only where a byte of it is needed. The
+ * position in the file stays.
  *
  * Locks. No call but luks_open_volume locks anything. As `luks` does, the caller holds flock(LOCK_SH) on the volume's file while it is
  * read, LOCK_EX from before it is read until it was written; of a block device also on the file /run/cryptsetup/L_MAJOR:MINOR, which
@@ -53,8 +55,8 @@ extern "C" {
 
 enum {
     LUKS_DONE = 0,
-    LUKS_USAGE = 101,  /* an argument that can't be: a passphrase of 4 GiB, more bytes than the volume has */
-    LUKS_BEYOND = 102, /* more of the first bytes have to be given; only from the calls named _bytes */
+    LUKS_USAGE = 101,  /* an argument that can't be: a passphrase of 4 GiB, ranges beyond the volume */
+    LUKS_BEYOND = 102, /* another range has to be given; only from the calls named _bytes */
     LUKS_MEMORY = 103, /* memory was refused */
     LUKS_DEVICE = 104, /* a call of the descriptor failed, and errno says how; never from those named _bytes. A volume that
                           was to be written may have been changed in part: as by a power cut, what was left opens (docs/PROOFS.md) */
@@ -125,7 +127,8 @@ enum luks_fault {
     LUKS_FAULT_NO_HEADER = 51,
     LUKS_FAULT_REENCRYPTING = 52,
     LUKS_FAULT_NO_SUCH_DIGEST = 53,
-    LUKS_FAULT_KEY_LENGTH = 54
+    LUKS_FAULT_KEY_LENGTH = 54,
+    LUKS_FAULT_PAYLOAD = 55
 };
 /* until here */
 
@@ -138,20 +141,25 @@ enum luks_fault {
 /* In the place of a number: none is given. */
 #define LUKS_NO_NUMBER UINT32_MAX
 
+/* A range of a volume: `len` bytes from the place `at` on. */
+struct luks_range {
+    uint64_t at, len;
+};
+
 /* What a volume is that is accepted; zeros else, but `beyond`. */
 struct luks_report {
     uint32_t version; /* 1 or 2 */
     uint32_t copies;  /* LUKS2: 1 in step, 2 the first is newer, 3 the second is newer, 4 only the first is sound, 5 only the second */
     uint64_t seqid;   /* LUKS2: the sequence number of the copy that counts */
     uint64_t areas;   /* how many areas it has: headers, keyslots, segments */
-    uint64_t beyond;  /* with LUKS_BEYOND: how many of the first bytes have to be given */
+    struct luks_range beyond;  /* with LUKS_BEYOND: the range that has to be given */
 };
 
 /* What a passphrase opens. */
 struct luks_opened {
     uint32_t slot;      /* the keyslot */
     uint32_t key_bytes; /* the bytes of the volume key; 0 where none opens */
-    uint64_t beyond;    /* with LUKS_BEYOND: how many of the first bytes have to be given */
+    struct luks_range beyond;    /* with LUKS_BEYOND: the range that has to be given */
 };
 
 /* How the key of a keyslot that is made is derived: 0 and all else 0 where none is chosen. Argon2 takes so many KiB, at least 8
@@ -190,8 +198,8 @@ struct luks_call {
 struct luks_plan {
     uint64_t calls;         /* how many calls it has, also with LUKS_ROOM */
     uint64_t bytes;         /* how many bytes they write together */
-    uint64_t beyond;        /* with LUKS_BEYOND: how many of the first bytes have to be given; 0 where the source's are */
-    uint64_t source_beyond; /* of a call with a source: the same of the source; 0 where the target's are */
+    struct luks_range beyond;        /* with LUKS_BEYOND: the range that has to be given; without a byte where one of the source's is */
+    struct luks_range source_beyond; /* of a call with a source: the same of the source; without a byte where one of the target's is */
     uint32_t slot;          /* of an edit the keyslot that is made or sealed again, LUKS_NO_SLOT where none is */
 };
 
@@ -213,38 +221,38 @@ enum { LUKS_ABSENT = 0, LUKS_SAME = 1, LUKS_OLDER = 2, LUKS_MISSING = 3, LUKS_RE
 /* How a backup stands to a volume, beside the keyslots; only of the call named _bytes. */
 struct luks_compared {
     uint32_t same_key;      /* 1 where a digest of the backup's volume key is one of the volume's */
-    uint64_t backup_beyond; /* with LUKS_BEYOND: how many of the backup's first bytes have to be given; 0 where the volume's are */
-    uint64_t beyond;        /* the same of the volume */
+    struct luks_range backup_beyond; /* with LUKS_BEYOND: the range of the backup that has to be given; without a byte where one of the volume's is */
+    struct luks_range beyond;        /* the same of the volume */
 };
 
 /* How long a backup is; only of the call named _bytes. */
 struct luks_length {
     uint64_t bytes;
-    uint64_t beyond; /* with LUKS_BEYOND: how many of the first bytes have to be given */
+    struct luks_range beyond; /* with LUKS_BEYOND: the range that has to be given */
 };
 
 /* Where volumes begin; only of the call named _bytes. */
 struct luks_found {
     uint64_t count;  /* how many do, also with LUKS_ROOM */
-    uint64_t beyond; /* with LUKS_BEYOND: how many of the first bytes have to be given */
+    struct luks_range beyond; /* with LUKS_BEYOND: the range that has to be given */
 };
 
 /* What else a disk is used for; only of the call named _bytes. */
 struct luks_signature {
     uint32_t shows;  /* the use, whose name luks_signature_name has; 0 where none is shown */
-    uint64_t beyond; /* with LUKS_BEYOND: how many of the first bytes have to be given */
+    struct luks_range beyond; /* with LUKS_BEYOND: the range that has to be given */
 };
 
 /* How many random bytes an edit takes; only of the call named _bytes. */
 struct luks_needed {
     uint64_t random;
-    uint64_t beyond; /* with LUKS_BEYOND: how many of the first bytes have to be given */
+    struct luks_range beyond; /* with LUKS_BEYOND: the range that has to be given */
 };
 
 /* What a header says; only of the call named _bytes. */
 struct luks_read {
     uint64_t json_bytes; /* how many bytes the text has; 0 where there is none */
-    uint64_t beyond;     /* with LUKS_BEYOND: how many of the first bytes have to be given */
+    struct luks_range beyond;     /* with LUKS_BEYOND: the range that has to be given */
 };
 
 /* What a call says while it runs, where it is given one: how far it is, of how much. It is called between two parts of the work, of
@@ -430,75 +438,86 @@ uint32_t luks_backup(int source_fd, uint64_t source_offset, uint64_t source_leng
 uint32_t luks_restore(int backup_fd, uint64_t backup_offset, uint64_t backup_length, int fd, uint64_t offset, uint64_t length, bool is_detached,
                       bool is_over_any);
 
-/* ---- over the first bytes of a volume of `total` bytes ----
+/* ---- over ranges of a volume of `total` bytes ----
+ *
+ * The ranges lie in the volume, in their order and with a gap between any two, and `held` are their bytes one after the other; else this is
+ * LUKS_USAGE. None may be given at first. LUKS_BEYOND asks for a range, from the first place on that isn't given: the call is made again with it
+ * too, joined to those that it touches. A caller who can't read it has the answer LUKS_DEVICE. What is answered else rests on the given bytes alone,
+ * whatever stands beside them.
  *
  * Pointers are valid for their lengths, and no two that are written to overlap, nor one of these and
  * one that is read. A pointer with length 0 may be anything but null. */
 
-uint32_t luks_check_bytes(const uint8_t *first, size_t first_bytes, uint64_t total, bool is_detached, struct luks_report *report);
+uint32_t luks_check_bytes(const struct luks_range *ranges, size_t ranges_count, const uint8_t *held, size_t held_bytes, uint64_t total, bool is_detached, struct luks_report *report);
 
-uint32_t luks_read_bytes(const uint8_t *first, size_t first_bytes, uint64_t total, uint8_t *json, size_t json_room, struct luks_read *read);
+uint32_t luks_read_bytes(const struct luks_range *ranges, size_t ranges_count, const uint8_t *held, size_t held_bytes, uint64_t total, uint8_t *json, size_t json_room, struct luks_read *read);
 
-uint32_t luks_unlock_bytes(const uint8_t *first, size_t first_bytes, uint64_t total, const uint8_t *passphrase, size_t passphrase_bytes,
+uint32_t luks_unlock_bytes(const struct luks_range *ranges, size_t ranges_count, const uint8_t *held, size_t held_bytes, uint64_t total, const uint8_t *passphrase, size_t passphrase_bytes,
                            uint32_t memory, uint32_t older, uint8_t *key, size_t key_room, struct luks_opened *opened);
 
 /* `n` is a number of 8 bits: of a larger one C takes the remainder. */
-uint32_t luks_open_bytes(const uint8_t *first, size_t first_bytes, uint64_t total, uint8_t n, const uint8_t *passphrase, size_t passphrase_bytes,
+uint32_t luks_open_bytes(const struct luks_range *ranges, size_t ranges_count, const uint8_t *held, size_t held_bytes, uint64_t total, uint8_t n, const uint8_t *passphrase, size_t passphrase_bytes,
                          uint32_t memory, uint32_t older, uint8_t *key, size_t key_room, struct luks_opened *opened);
 
-uint32_t luks_needed_bytes(const uint8_t *first, size_t first_bytes, uint64_t total, bool is_detached, const struct luks_edit *edit,
+uint32_t luks_needed_bytes(const struct luks_range *ranges, size_t ranges_count, const uint8_t *held, size_t held_bytes, uint64_t total, bool is_detached, const struct luks_edit *edit,
                            const uint8_t *passphrase, size_t passphrase_bytes, const uint8_t *text, size_t text_bytes, struct luks_needed *needed);
 
-uint32_t luks_signature_bytes(const uint8_t *first, size_t first_bytes, uint64_t total, uint64_t within, struct luks_signature *signature);
+uint32_t luks_signature_bytes(const struct luks_range *ranges, size_t ranges_count, const uint8_t *held, size_t held_bytes, uint64_t total, uint64_t within, struct luks_signature *signature);
 
-uint32_t luks_backup_length_bytes(const uint8_t *first, size_t first_bytes, uint64_t total, bool is_detached, struct luks_length *backup);
+uint32_t luks_backup_length_bytes(const struct luks_range *ranges, size_t ranges_count, const uint8_t *held, size_t held_bytes, uint64_t total, bool is_detached, struct luks_length *backup);
 
 /* `keyslots` has room for LUKS_KEYSLOTS numbers, else this is LUKS_USAGE. */
-uint32_t luks_compare_bytes(const uint8_t *backup, size_t backup_bytes, uint64_t backup_total, const uint8_t *first, size_t first_bytes,
-                            uint64_t total, bool is_detached, uint8_t *keyslots, size_t keyslots_room, struct luks_compared *compared);
+uint32_t luks_compare_bytes(const struct luks_range *backup_ranges, size_t backup_ranges_count, const uint8_t *backup, size_t backup_bytes,
+                            uint64_t backup_total, const struct luks_range *ranges, size_t ranges_count,
+                            const uint8_t *held, size_t held_bytes, uint64_t total, bool is_detached, uint8_t *keyslots, size_t keyslots_room, struct luks_compared *compared);
 
 /* All places at which volumes begin, in the order of the first of what is left of each; all bytes have to be given. */
-uint32_t luks_find_bytes(const uint8_t *first, size_t first_bytes, uint64_t total, uint64_t *starts, size_t starts_room, struct luks_found *found);
+uint32_t luks_find_bytes(const struct luks_range *ranges, size_t ranges_count, const uint8_t *held, size_t held_bytes, uint64_t total, uint64_t *starts, size_t starts_room, struct luks_found *found);
 
 /* The plans: all calls and bytes, or LUKS_ROOM and how many there are. Played over the volume they leave what the
- * call leaves; a flush comes behind each write, and nothing behind the given bytes is written. */
-uint32_t luks_apply_bytes(const uint8_t *first, size_t first_bytes, uint64_t total, bool is_detached, const struct luks_edit *edit,
+ * call leaves; a flush comes behind each write, and no place is written that isn't given. */
+uint32_t luks_apply_bytes(const struct luks_range *ranges, size_t ranges_count, const uint8_t *held, size_t held_bytes, uint64_t total, bool is_detached, const struct luks_edit *edit,
                           const uint8_t *passphrase, size_t passphrase_bytes, const uint8_t *text, size_t text_bytes, const uint8_t *random,
                           size_t random_bytes, struct luks_call *calls, size_t calls_room, uint8_t *bytes, size_t bytes_room, struct luks_plan *plan);
 
-uint32_t luks_format1_bytes(const uint8_t *first, size_t first_bytes, uint64_t total, bool is_detached, uint32_t hash, uint32_t iterations,
+uint32_t luks_format1_bytes(const struct luks_range *ranges, size_t ranges_count, const uint8_t *held, size_t held_bytes, uint64_t total, bool is_detached, uint32_t hash, uint32_t iterations,
                             const uint8_t *passphrase, size_t passphrase_bytes, const uint8_t *random, size_t random_bytes,
                             struct luks_call *calls, size_t calls_room, uint8_t *bytes, size_t bytes_room, struct luks_plan *plan);
 
 /* `derivation` is of kind 0 where none is chosen. */
-uint32_t luks_format2_bytes(const uint8_t *first, size_t first_bytes, uint64_t total, bool is_detached, uint32_t hash, uint32_t iterations,
+uint32_t luks_format2_bytes(const struct luks_range *ranges, size_t ranges_count, const uint8_t *held, size_t held_bytes, uint64_t total, bool is_detached, uint32_t hash, uint32_t iterations,
                             const struct luks_derivation *derivation, const uint8_t *passphrase, size_t passphrase_bytes, uint32_t memory,
                             const uint8_t *random, size_t random_bytes, struct luks_call *calls, size_t calls_room, uint8_t *bytes,
                             size_t bytes_room, struct luks_plan *plan);
 
 /* Those with a source: of a text that has no byte none is given. A uuid or another text that isn't UTF-8, and one that is
  * longer than its field of a LUKS1 header (32 bytes, of the uuid 40), is LUKS_USAGE. */
-uint32_t luks_convert_bytes(const uint8_t *source, size_t source_bytes, uint64_t source_total, bool is_detached, const uint8_t *first,
-                            size_t first_bytes, uint64_t total, const uint8_t *random, size_t random_bytes, struct luks_call *calls,
+uint32_t luks_convert_bytes(const struct luks_range *source_ranges, size_t source_ranges_count, const uint8_t *source, size_t source_bytes,
+                            uint64_t source_total, bool is_detached, const struct luks_range *ranges,
+                            size_t ranges_count, const uint8_t *held, size_t held_bytes, uint64_t total, const uint8_t *random, size_t random_bytes, struct luks_call *calls,
                             size_t calls_room, uint8_t *bytes, size_t bytes_room, struct luks_plan *plan);
 
-uint32_t luks_rebuild2_bytes(const uint8_t *source, size_t source_bytes, uint64_t source_total, bool is_second, uint64_t size,
-                             const uint8_t *uuid, size_t uuid_bytes, const uint8_t *first, size_t first_bytes, uint64_t total,
+uint32_t luks_rebuild2_bytes(const struct luks_range *source_ranges, size_t source_ranges_count, const uint8_t *source, size_t source_bytes,
+                            uint64_t source_total, bool is_second, uint64_t size,
+                             const uint8_t *uuid, size_t uuid_bytes, const struct luks_range *ranges, size_t ranges_count, const uint8_t *held, size_t held_bytes, uint64_t total,
                              const uint8_t *random, size_t random_bytes, struct luks_call *calls, size_t calls_room, uint8_t *bytes,
                              size_t bytes_room, struct luks_plan *plan);
 
-uint32_t luks_rebuild1_bytes(const uint8_t *source, size_t source_bytes, uint64_t source_total, const uint8_t *cipher_name,
+uint32_t luks_rebuild1_bytes(const struct luks_range *source_ranges, size_t source_ranges_count, const uint8_t *source, size_t source_bytes,
+                            uint64_t source_total, const uint8_t *cipher_name,
                              size_t cipher_name_bytes, const uint8_t *cipher_mode, size_t cipher_mode_bytes, const uint8_t *hash,
                              size_t hash_bytes, const uint8_t *uuid, size_t uuid_bytes, uint32_t key_bytes, uint32_t payload,
-                             const uint8_t *first, size_t first_bytes, uint64_t total, struct luks_call *calls, size_t calls_room,
+                             const struct luks_range *ranges, size_t ranges_count, const uint8_t *held, size_t held_bytes, uint64_t total, struct luks_call *calls, size_t calls_room,
                              uint8_t *bytes, size_t bytes_room, struct luks_plan *plan);
 
-uint32_t luks_backup_bytes(const uint8_t *source, size_t source_bytes, uint64_t source_total, bool is_detached, const uint8_t *first,
-                           size_t first_bytes, uint64_t total, struct luks_call *calls, size_t calls_room, uint8_t *bytes, size_t bytes_room,
+uint32_t luks_backup_bytes(const struct luks_range *source_ranges, size_t source_ranges_count, const uint8_t *source, size_t source_bytes,
+                            uint64_t source_total, bool is_detached, const struct luks_range *ranges,
+                           size_t ranges_count, const uint8_t *held, size_t held_bytes, uint64_t total, struct luks_call *calls, size_t calls_room, uint8_t *bytes, size_t bytes_room,
                            struct luks_plan *plan);
 
-uint32_t luks_restore_bytes(const uint8_t *backup, size_t backup_bytes, uint64_t backup_total, const uint8_t *first, size_t first_bytes,
-                            uint64_t total, bool is_detached, bool is_over_any, struct luks_call *calls, size_t calls_room, uint8_t *bytes,
+uint32_t luks_restore_bytes(const struct luks_range *backup_ranges, size_t backup_ranges_count, const uint8_t *backup, size_t backup_bytes,
+                            uint64_t backup_total, const struct luks_range *ranges, size_t ranges_count,
+                            const uint8_t *held, size_t held_bytes, uint64_t total, bool is_detached, bool is_over_any, struct luks_call *calls, size_t calls_room, uint8_t *bytes,
                             size_t bytes_room, struct luks_plan *plan);
 
 /* ---- what a number says ----

@@ -355,8 +355,8 @@ class Volume:
         """Makes a volume of LUKS1 or LUKS2 whose keyslot 0 opens by the passphrase.
 
         The keyslot of LUKS2 derives by the `derivation`, Argon2 with up to `memory` MiB, or where there is none by PBKDF2, as the digest.
-        Where a LUKS header stands that is accepted, at least as a detached one, it is refused by OtherVolume, and where `signature` shows
-        another use of the disk by OtherUse, unless it is to `force` that.
+        Where a LUKS header stands that is accepted, at least as a detached one, it is refused by OtherVolume, in the midst of a reencryption
+        by Reencrypting, and where `signature` shows another use of the disk by OtherUse, unless it is to `force` that.
         """
         if version not in (1, 2) or hash not in HASHES[1:]:
             raise ValueError("a version is 1 or 2, a hash sha1, sha256 or sha512")
@@ -451,7 +451,8 @@ class Volume:
         """Writes to the start of the target a LUKS2 header of this LUKS1 volume, by which each enabled keyslot opens as before.
 
         The target is another file, of 16 MiB or more. Where an accepted LUKS header of another uuid stands there it is refused by
-        OtherVolume, and where its `signature` shows another use by OtherUse, unless it is to `force` that. This volume is only read. Where it
+        OtherVolume, in the midst of a reencryption by Reencrypting, and where its `signature` shows another use by OtherUse, unless it is to
+        `force` that. This volume is only read. Where it
         `is_detached`, its data lies elsewhere.
         """
         if not force:
@@ -500,10 +501,12 @@ class Volume:
             return None
 
     def _refuse_standing(self, uuid: Optional[str]) -> None:
-        """Refuses to write over an accepted LUKS header of another uuid, and over another use of the disk."""
+        """Refuses to write over an accepted LUKS header of another uuid, over a reencryption, and over another use of the disk."""
         standing = self._uuid(needs_check=True)
         if standing is not None and standing != uuid:
             raise Fault(Number.OTHER_VOLUME)
+        if self._is_reencrypting():
+            raise Fault(Number.REENCRYPTING)
         self._refuse_use(self.signature())
 
     def _is_of(self, backup: Volume) -> bool:

@@ -15,12 +15,16 @@ KEYSLOTS = 32
 NAME = "libluks.so.0"
 
 
+class RangeRecord(ctypes.Structure):
+    _fields_ = [("at", ctypes.c_uint64), ("len", ctypes.c_uint64)]
+
+
 class ReportRecord(ctypes.Structure):
-    _fields_ = [("version", ctypes.c_uint32), ("copies", ctypes.c_uint32), ("seqid", ctypes.c_uint64), ("areas", ctypes.c_uint64), ("beyond", ctypes.c_uint64)]
+    _fields_ = [("version", ctypes.c_uint32), ("copies", ctypes.c_uint32), ("seqid", ctypes.c_uint64), ("areas", ctypes.c_uint64), ("beyond", RangeRecord)]
 
 
 class OpenedRecord(ctypes.Structure):
-    _fields_ = [("slot", ctypes.c_uint32), ("key_bytes", ctypes.c_uint32), ("beyond", ctypes.c_uint64)]
+    _fields_ = [("slot", ctypes.c_uint32), ("key_bytes", ctypes.c_uint32), ("beyond", RangeRecord)]
 
 
 class DerivationRecord(ctypes.Structure):

@@ -63,6 +63,7 @@ class Number(enum.IntEnum):
     REENCRYPTING = 52
     NO_SUCH_DIGEST = 53
     KEY_LENGTH = 54
+    PAYLOAD = 55
     USAGE = 101
     BEYOND = 102
     MEMORY = 103

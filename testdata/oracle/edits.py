@@ -17,6 +17,10 @@ from reader import Fault
 LARGEST_SEQID = (1 << 64) - 1
 
 
+class Key(bytes):
+    """A key, in the place of the passphrase that opens a keyslot."""
+
+
 @dataclass(frozen=True)
 class Add:
     by: int
@@ -61,7 +65,7 @@ class Label:
 
 
 def opened_by(edit):
-    """The keyslot that the edit's passphrase has to open, and that passphrase; none for Repair and Label."""
+    """The keyslot that the edit's passphrase, or key, has to open, and that; none for Repair and Label."""
     if isinstance(edit, Add):
         return edit.by, edit.old
     if isinstance(edit, Change):
@@ -294,12 +298,18 @@ def leaves_argon2(volume, edit):
 LEAVES_ARGON2 = "luks: no keyslot is left that opens by PBKDF2: each other one takes memory, which --memory allows"
 
 
+def own_key(plan, key):
+    """The key where it is as long as the keyslot's and its digest is the stored one, or none."""
+    salt, iterations, digest = plan[-1]
+    return key if len(key) == plan[3] and pbkdf2(plan[5][2], key, salt, iterations, len(digest)) == digest else None
+
+
 def key_of(v, edit):
-    """The key that the edit's passphrase opens."""
+    """The key that the edit's passphrase opens, or that is given."""
     if opened_by(edit) is None:
         return None
-    slot, passphrase = opened_by(edit)
-    key = reader.opened(v.plan(slot, edit), passphrase)
+    slot, secret = opened_by(edit)
+    key = (own_key if isinstance(secret, Key) else reader.opened)(v.plan(slot, edit), secret)
     if key is None:
         raise Fault("Locked")
     return key

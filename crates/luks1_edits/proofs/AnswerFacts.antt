@@ -23,7 +23,9 @@ use Rattle.luks_reading.specs.declared.open_fault.OpenFault.TheVariants.{Head, M
 use Rattle.luks_reading.specs.Answer.{AnswerWithin, IsLuks1HeadRefusal, IsLuks1Refusal, IsRefusalWithin, IsRefusalAsWithin, HasPlanAs, Opened, refused, opens, no_key, OpensWithin}
 use Rattle.luks_reading.specs.Plans.{HasLuks1Plan, IsLuks1Cipher, IsLuks1Derivation, IsLuks1Plan}
 use Rattle.luks_reading.proofs.Luks1Plans.{one_luks1_plan}
-use Rattle.luks_reading.proofs.SamePlans.{same_answer}
+use Rattle.luks_edit.specs.declared.edit.SecretKind.{SecretKind}
+use Rattle.luks_edit.specs.Secrets.{given_by, GivesWithin}
+use Rattle.luks_edit.proofs.SecretFacts.{same_given}
 use Rattle.luks1_edits.specs.Kept.{HasSameKeyslot}
 use Rattle.luks1_edits.specs.Places.{area_len, area_start}
 use Rattle.luks1_edits.proofs.HeaderFacts.{chosen_moves, common_moves, entry_is, front_moves, header_moves, len_is, number_same, start_is, text_same}
@@ -144,15 +146,19 @@ is_refusal_moves allowed n v w f chosen same x = record {
   fault = luks1_refusal_moves allowed.older n v w f same (subst (λ c. IsRefusalAsWithin allowed v n c f) (choices_agree v x.choice luks1 x.chosen chosen) x.fault);
 }
 
+-- its area has the same bytes
+area_moves : (n : ℕ) (v w : List ℕ) (plan : SlotPlan) → HasSameKeyslot n v w → HasLuks1Plan (part v 0 592) n plan → part w plan.area.start plan.area.len ≡ part v plan.area.start plan.area.len
+area_moves n v w plan same there =
+    let start : plan.area.start ≡ area_start v n = there.is.start ∙ start_is v n there.numbered in
+    let len : plan.area.len ≡ area_len v n = there.is.len ∙ len_is v n there.numbered in
+    subst (λ s. part w s plan.area.len ≡ part v s plan.area.len) (sym start)
+    (subst (λ l. part w (area_start v n) l ≡ part v (area_start v n) l) (sym len) (same.area there.numbered))
+
 opens_moves : (allowed : Allowed) (n : ℕ) (v w p : List ℕ) (found : Option (List ℕ)) → Chosen v luks1 → HasSameKeyslot n v w → OpensWithin allowed v n p found → OpensWithin allowed w n p found
 opens_moves allowed n v w p found chosen same x =
     let one = choices_agree v x.choice luks1 x.chosen chosen in
     let there : HasLuks1Plan (part v 0 592) n x.plan = subst (λ c. HasPlanAs v n c x.plan) one x.is in
-    let start : x.plan.area.start ≡ area_start v n = there.is.start ∙ start_is v n there.numbered in
-    let len : x.plan.area.len ≡ area_len v n = there.is.len ∙ len_is v n there.numbered in
-    let bytes : part w x.plan.area.start x.plan.area.len ≡ part v x.plan.area.start x.plan.area.len =
-    subst (λ s. part w s x.plan.area.len ≡ part v s x.plan.area.len) (sym start)
-    (subst (λ l. part w (area_start v n) l ≡ part v (area_start v n) l) (sym len) (same.area there.numbered)) in
+    let bytes : part w x.plan.area.start x.plan.area.len ≡ part v x.plan.area.start x.plan.area.len = area_moves n v w x.plan same there in
     record {
       choice = luks1;
       chosen = chosen_moves v w same.length_same same.common chosen;
@@ -181,13 +187,28 @@ answer_returns allowed n v w p a chosen same x =
 luks1_plan_of : (v : List ℕ) (n : ℕ) (c : Choice) (plan : SlotPlan) → Chosen v luks1 → Chosen v c → HasPlanAs v n c plan → HasLuks1Plan (part v 0 592) n plan
 luks1_plan_of v n c plan chosen counts is = subst (λ d. HasPlanAs v n d plan) (choices_agree v c luks1 counts chosen) is
 
--- a keyslot gives one key or none, whatever is allowed
-pub found_once : (v : List ℕ) → Chosen v luks1 → (less more : Allowed) (n : ℕ) (p : List ℕ) (a b : Option (List ℕ)) → OpensWithin less v n p a → OpensWithin more v n p b → a ≡ b
-found_once v chosen less more n p a b x y =
+-- a keyslot gives one key or none by a secret, whatever is allowed
+pub found_once : (kind : SecretKind) (v : List ℕ) → Chosen v luks1 → (less more : Allowed) (n : ℕ) (p : List ℕ) (a b : Option (List ℕ)) → GivesWithin kind less v n p a → GivesWithin kind more v n p b → a ≡ b
+found_once kind v chosen less more n p a b x y =
     sym x.key
-    ∙ same_answer x.plan y.plan v p (one_luks1_plan (part v 0 592) n x.plan y.plan (luks1_plan_of v n x.choice x.plan chosen x.chosen x.is) (luks1_plan_of v n y.choice y.plan chosen y.chosen y.is))
+    ∙ same_given kind x.plan y.plan v p (one_luks1_plan (part v 0 592) n x.plan y.plan (luks1_plan_of v n x.choice x.plan chosen x.chosen x.is) (luks1_plan_of v n y.choice y.plan chosen y.chosen y.is))
     ∙ y.key
 
--- and then no refusal
-pub found_unrefused : (allowed : Allowed) (v : List ℕ) (n : ℕ) (p : List ℕ) (found : Option (List ℕ)) (f : OpenFault) → OpensWithin allowed v n p found → AnswerWithin allowed v n p (refused f) → ⊥
-found_unrefused allowed v n p found f x y = x.unrefused f (subst (λ c. IsRefusalAsWithin allowed v n c f) (choices_agree v y.0.choice x.choice y.0.chosen x.chosen) y.0.fault)
+-- ---- by a secret
+
+-- what is given by it depends on the same bytes
+given_there : (kind : SecretKind) (plan : SlotPlan) (a b p : List ℕ) (found : Option (List ℕ)) → b ≡ a → given_by kind plan a p ≡ found → given_by kind plan b p ≡ found
+given_there kind plan a b p found same is = ap (λ x. given_by kind plan x p) same ∙ is
+
+pub gives_moves : (kind : SecretKind) (allowed : Allowed) (n : ℕ) (v w p : List ℕ) (found : Option (List ℕ)) → Chosen v luks1 → HasSameKeyslot n v w → GivesWithin kind allowed v n p found → GivesWithin kind allowed w n p found
+gives_moves kind allowed n v w p found chosen same x =
+    let there : HasLuks1Plan (part v 0 592) n x.plan = luks1_plan_of v n x.choice x.plan chosen x.chosen x.is in
+    record {
+      choice = luks1;
+      chosen = chosen_moves v w same.length_same same.common chosen;
+      plan = x.plan;
+      is = has_plan_moves (part v 0 592) (part w 0 592) n x.plan (same_front v w same.common) (entries_same n v w same) there;
+      unrefused = λ f y. x.unrefused f
+          (subst (λ c. IsRefusalAsWithin allowed v n c f) (sym (choices_agree v x.choice luks1 x.chosen chosen)) (luks1_refusal_moves allowed.older n w v f (same_keyslot_back n v w same) y));
+      key = given_there kind x.plan (part v x.plan.area.start x.plan.area.len) (part w x.plan.area.start x.plan.area.len) p found (area_moves n v w x.plan same there) x.key;
+    }

@@ -11,8 +11,10 @@ use Rattle.luks1_header.specs.declared.luks1.Luks1Slot.{Luks1Slot}
 use Rattle.luks_slot.specs.Allowance.{without_memory}
 use Rattle.luks_slot.specs.Sealing.{IsSealed}
 use Rattle.luks_reading.specs.declared.report.Data.{Data}
-use Rattle.luks_reading.specs.Answer.{AnswerWithin, opens}
+use Rattle.luks_reading.specs.Answer.{opens}
 use Rattle.luks_reading.specs.Layout1.{Luks1Area}
+use Rattle.luks_edit.specs.declared.edit.SecretKind.{SecretKind}
+use Rattle.luks_edit.specs.Secrets.{AnswersTo}
 use Rattle.luks1_edits.specs.Accepted.{IsHeaderOf}
 use Rattle.luks1_edits.specs.Edited.{HoldsKey, IsChanged, IsFreed, IsInUse, IsLeastFree, IsMade, IsRemoved, IsWiped}
 use Rattle.luks1_edits.specs.Kept.{AreKeyslots, HasSameKeyslot, IsEither}
@@ -140,7 +142,7 @@ module _ (h : List ℕ) (payload : Data) (v : List ℕ) (of : IsHeaderOf h paylo
         (subst (λ s. part w s (area_len u slot) ≡ replicate (area_len u slot) 0) start_same x.wiped)
 
   -- after both
-  pub changed : {older : Bool} (old w : List ℕ) → AnswerWithin (without_memory older) v slot old (opens key) → IsRemoved u slot w → IsChanged older v slot old p iterations random w
+  pub changed : {kind : SecretKind} {older : Bool} (old w : List ℕ) → AnswersTo kind (without_memory older) v slot old (opens key) → IsRemoved u slot w → IsChanged kind older v slot old p iterations random w
   changed old w opened x = record {
     fresh = n;
     is_free = least;
@@ -154,7 +156,7 @@ module _ (h : List ℕ) (payload : Data) (v : List ℕ) (of : IsHeaderOf h paylo
   }
 
   -- while the other one was removed
-  pub half_changed : {older : Bool} (old w : List ℕ) → AnswerWithin (without_memory older) v slot old (opens key) → IsHalfRemoved u slot w → IsHalfChanged older v slot old p iterations random w
+  pub half_changed : {kind : SecretKind} {older : Bool} (old w : List ℕ) → AnswersTo kind (without_memory older) v slot old (opens key) → IsHalfRemoved u slot w → IsHalfChanged kind older v slot old p iterations random w
   half_changed old w opened x = record {
     fresh = n;
     is_free = least;

@@ -21,6 +21,8 @@ use Rattle.luks_reading.specs.Answer.{AnswerWithin, opens}
 use Rattle.luks_reading.specs.Checked.{AreaOf, WellFormed}
 use Rattle.luks_reading.specs.Layout1.{Luks1Area}
 use Rattle.luks_edit.specs.declared.edit.Edit.{Edit}
+use Rattle.luks_edit.specs.declared.edit.SecretKind.{SecretKind}
+use Rattle.luks_edit.specs.Secrets.{AnswersTo}
 use Rattle.luks_edit.specs.declared.edit.Edit.TheVariants.{Add, Change, Remove, Repair, Label}
 use Rattle.luks_edit.specs.declared.edit_fault.EditFault.TheVariants as fault
 use Rattle.luks_edit.specs.Kept.{Keeps}
@@ -29,7 +31,7 @@ use Rattle.luks1_edits.specs.Kept.{AreKeyslots, ChangesKeyslots, IsEither, IsFit
 use Rattle.luks1_edits.specs.Leftovers.{IsSealedFirst, IsTorn1, IsUntorn, Leftover1, OpensEither1}
 use Rattle.luks1_edits.specs.Places.{area_len, area_start, IsOfKeyslots}
 use Rattle.luks1_edits.specs.Refused.{IsUnrefused1}
-use Rattle.luks1_edits.proofs.AnswerFacts.{answer_moves, found_once}
+use Rattle.luks1_edits.proofs.AnswerFacts.{found_once, gives_moves}
 use Rattle.luks1_edits.proofs.HeaderFacts.{entry_is, header_clear, len_is, start_is, volume_of}
 use Rattle.luks1_edits.proofs.KeptFacts.{either_decided, keeps_others, kept_common, luks1_after, luks1_area_of, same_keyslot, stays_well_formed}
 use Rattle.luks1_edits.proofs.MadeKeyslotFacts.{IsMadeFrom, made_opens}
@@ -186,36 +188,36 @@ module _ (payload : Data) (v : List ℕ) (chosen : Chosen v luks1) (well : WellF
 
   -- ---- what opens
 
-  -- a keyslot that was made opens to each key that the opener opened to, whatever is allowed
-  made_to : (older : Bool) (allowed : Allowed) (opener : ℕ) (old : List ℕ) (fresh iterations : ℕ) (salt new key other random w : List ℕ) → fresh < 8 → 1000 ≤ iterations
+  -- a keyslot that was made opens to each key that the opener gave, whatever is allowed
+  made_to : (kind : SecretKind) (older : Bool) (allowed : Allowed) (opener : ℕ) (old : List ℕ) (fresh iterations : ℕ) (salt new key other random w : List ℕ) → fresh < 8 → 1000 ≤ iterations
       → (a b : ℕ) → a < 8 → b < 8 → SameBut (IsOfKeyslots v (IsEither a b)) v w
       → IsMade (entry v fresh) (entry w fresh) iterations salt → HoldsKey w fresh new key random
-      → AnswerWithin (without_memory older) v opener old (opens key) → AnswerWithin allowed v opener old (opens other) → AnswerWithin allowed w fresh new (opens other)
-  made_to older allowed opener old fresh iterations salt new key other random w lt many a b lta ltb rest made holds opened again =
-      let same = same_Some key other (found_once v chosen (without_memory older) allowed opener old (Some key) (Some other) opened again) in
-      let x : IsMadeFrom allowed payload v opener old fresh iterations salt new key random w = record {
+      → AnswersTo kind (without_memory older) v opener old (opens key) → AnswersTo kind allowed v opener old (opens other) → AnswerWithin allowed w fresh new (opens other)
+  made_to kind older allowed opener old fresh iterations salt new key other random w lt many a b lta ltb rest made holds opened again =
+      let same = same_Some key other (found_once kind v chosen (without_memory older) allowed opener old (Some key) (Some other) opened again) in
+      let x : IsMadeFrom kind allowed payload v opener old fresh iterations salt new key random w = record {
         chosen = chosen;
         well = well;
         length_same = rest.length_same;
         common = kept_common v payload (volume_of v payload chosen well).fit w (IsEither a b) (either_keyslots a b lta ltb) rest;
-        opened = subst (λ k. AnswerWithin allowed v opener old (opens k)) (sym same) again;
+        opened = subst (λ k. AnswersTo kind allowed v opener old (opens k)) (sym same) again;
         numbered = lt;
         iterated = omega (arith, many);
         made = made;
         holds = holds;
       } in
-      subst (λ k. AnswerWithin allowed w fresh new (opens k)) same (made_opens allowed payload v opener old fresh iterations salt new key random w x)
+      subst (λ k. AnswerWithin allowed w fresh new (opens k)) same (made_opens kind allowed payload v opener old fresh iterations salt new key random w x)
 
   pub opens_after : (e : Edit) (r w : List ℕ) → IsUnrefused1 v payload e r → After1 v e r w → OpensAfter1 v e w
   opens_after (Add by_ old new to iterations d) r w free x = λ allowed n key is opened.
       let lt : x.slot < 8 = named_numbered v payload (Add by_ old new to iterations d) r free x.slot x.is_new in
       subst (λ k. AnswerWithin allowed w k new.now (opens key)) (new_once v to x.slot n x.is_new is)
-      (made_to old.allowed.older allowed by_ old.bytes.now x.slot (iterations_or iterations d) (take 32 r) new.now x.key key (drop 32 r) w lt (enough iterations d (λ few. free.none fault.Iterations few) (λ argon2. free.none fault.Argon2 argon2))
+      (made_to old.kind old.allowed.older allowed by_ old.bytes.now x.slot (iterations_or iterations d) (take 32 r) new.now x.key key (drop 32 r) w lt (enough iterations d (λ few. free.none fault.Iterations few) (λ argon2. free.none fault.Argon2 argon2))
       x.slot x.slot lt lt x.rest x.made x.holds x.opened opened)
   opens_after (Change slot old new iterations d) r w free x = λ allowed n key is opened.
       let used : slot < 8 = named_numbered v payload (Change slot old new iterations d) r free slot (inl refl) in
       subst (λ k. AnswerWithin allowed w k new.now (opens key)) (least_free_once v x.fresh n x.is_free is)
-      (made_to old.allowed.older allowed slot old.bytes.now x.fresh (iterations_or iterations d) (take 32 r) new.now x.key key (drop 32 r) w x.is_free.free.0 (enough iterations d (λ few. free.none fault.Iterations few) (λ argon2. free.none fault.Argon2 argon2))
+      (made_to old.kind old.allowed.older allowed slot old.bytes.now x.fresh (iterations_or iterations d) (take 32 r) new.now x.key key (drop 32 r) w x.is_free.free.0 (enough iterations d (λ few. free.none fault.Iterations few) (λ argon2. free.none fault.Argon2 argon2))
       slot x.fresh used x.is_free.free.0 x.rest x.made x.holds x.opened opened)
   opens_after (Remove slot by_ passphrase) r w free x = tt
   opens_after Repair r w free x = tt
@@ -232,7 +234,7 @@ module _ (payload : Data) (v : List ℕ) (chosen : Chosen v luks1) (well : WellF
       let one : slot ≡ x.slot = elim either [ inl y ↦ y | inr y ↦ y ] in
       let two : enabled_word ≡ disabled_word = sym used.1 ∙ ap (λ k. active_word (entry v k)) one ∙ x.is_new.free.1 in
       omega (arith, two) in
-      inl (answer_moves allowed slot v w old.bytes.now (opens key) chosen
+      inl (gives_moves old.kind allowed slot v w old.bytes.now (Some key) chosen
       (same_keyslot v payload (volume_of v payload chosen well).fit w (IsEither x.slot x.slot) (either_keyslots x.slot x.slot lt lt) (half_made_rest x.order) slot other) opened)
   opens_either (Change slot old new iterations d) r w free (inr x) = λ allowed key opened.
       let used : slot < 8 = named_numbered v payload (Change slot old new iterations d) r free slot (inl refl) in
@@ -240,7 +242,7 @@ module _ (payload : Data) (v : List ℕ) (chosen : Chosen v luks1) (well : WellF
         x.fresh,
         (
           x.is_free,
-          made_to old.allowed.older allowed slot old.bytes.now x.fresh (iterations_or iterations d) (take 32 r) new.now x.key key (drop 32 r) w x.is_free.free.0 (enough iterations d (λ few. free.none fault.Iterations few) (λ argon2. free.none fault.Argon2 argon2))
+          made_to old.kind old.allowed.older allowed slot old.bytes.now x.fresh (iterations_or iterations d) (take 32 r) new.now x.key key (drop 32 r) w x.is_free.free.0 (enough iterations d (λ few. free.none fault.Iterations few) (λ argon2. free.none fault.Argon2 argon2))
               slot x.fresh used x.is_free.free.0 x.rest x.made x.holds x.opened opened,
         ),
       )

@@ -23,7 +23,9 @@ use Rattle.luks_slot.specs.Refusal.{is_allowed_cipher, is_argon2, is_argon2_refu
 use Rattle.luks_kdf.specs.KeyslotNames.{each_keyslot_at_least, keyslot_digest, keyslot_digest_size, length-keyslot_digest}
 use Rattle.luks_kdf.proofs.SplitterFacts.{merge-split}
 use Rattle.luks_slot.specs.Opening.{hash_by_name}
-use Rattle.luks_slot.proofs.OpeningFacts.{found_meets}
+use Rattle.luks_edit.specs.declared.edit.SecretKind.{SecretKind}
+use Rattle.luks_edit.specs.Secrets.{AnswersTo}
+use Rattle.luks_edit.proofs.SecretFacts.{given_meets}
 use Rattle.luks_slot.proofs.SealingFacts.{sealed_opens}
 use Rattle.luks2_header.proofs.ChoiceFacts.{choices_agree}
 use Rattle.luks_reading.specs.declared.open_fault.OpenFault.{OpenFault}
@@ -115,20 +117,20 @@ some : (n : ℕ) → (n ≡ 0 → ⊥) → 1 ≤ n
 some n not = elim (cases_eq n 0) [ inl zero ↦ absurd (not zero) | inr other ↦ omega (arith, other) ]
 
 -- the keyslot `n` of the volume `w` was made, of a well formed volume `v` with the same front in which
--- the keyslot `opener` opens to the key
-pub record IsMadeFrom (allowed : Allowed) (payload : Data) (v : List ℕ) (opener : ℕ) (old : List ℕ) (n iterations : ℕ) (salt new key random w : List ℕ) : Type 0 where
+-- the keyslot `opener` gives the key by the secret `old`
+pub record IsMadeFrom (kind : SecretKind) (allowed : Allowed) (payload : Data) (v : List ℕ) (opener : ℕ) (old : List ℕ) (n iterations : ℕ) (salt new key random w : List ℕ) : Type 0 where
   pub chosen : Chosen v luks1
   pub well : WellFormed v payload
   pub length_same : length w ≡ length v
   pub common : part w 0 208 ≡ part v 0 208
-  pub opened : AnswerWithin allowed v opener old (opens key)
+  pub opened : AnswersTo kind allowed v opener old (opens key)
   pub numbered : n < 8
   pub iterated : 1 ≤ iterations
   pub made : IsMade (entry v n) (entry w n) iterations salt
   pub holds : HoldsKey w n new key random
 
-module _ (allowed : Allowed) (payload : Data) (v : List ℕ) (opener : ℕ) (old : List ℕ) (n iterations : ℕ) (salt new key random w : List ℕ)
-    (x : IsMadeFrom allowed payload v opener old n iterations salt new key random w) where
+module _ (kind : SecretKind) (allowed : Allowed) (payload : Data) (v : List ℕ) (opener : ℕ) (old : List ℕ) (n iterations : ℕ) (salt new key random w : List ℕ)
+    (x : IsMadeFrom kind allowed payload v opener old n iterations salt new key random w) where
   whole : IsLuks1Volume (part v 0 592) payload (length v)
   whole = volume_of v payload x.chosen x.well
 
@@ -159,7 +161,7 @@ module _ (allowed : Allowed) (payload : Data) (v : List ℕ) (opener : ℕ) (old
   -- the key meets the digest, which is the volume's
   meets : meets_digest x.holds.plan.digest key ≡ true
   meets = sym (same_digest x.opened.plan x.holds.plan key (terms x.holds.plan x.holds.is))
-      ∙ found_meets x.opened.plan (part v x.opened.plan.area.start x.opened.plan.area.len) old key x.opened.key
+      ∙ given_meets kind x.opened.plan (part v x.opened.plan.area.start x.opened.plan.area.len) old key x.opened.key
 
   found : slot_key x.holds.plan (part w x.holds.plan.area.start x.holds.plan.area.len) new ≡ Some key
   found = let hash = hash_by_name x.holds.plan.splitter_hash.now in

@@ -6,6 +6,7 @@ use Rattle.luks_reading.specs.declared.report.Data.{Data}
 use Rattle.luks_reading.specs.Checked.{IsFault}
 use Rattle.luks_making.specs.declared.derivation.AskedDerivation.{AskedDerivation}
 use Rattle.luks_edit.specs.declared.edit.Edit.{Edit}
+use Rattle.luks_edit.specs.declared.edit.SecretKind.{SecretKind}
 use Rattle.luks_edit.specs.declared.edit_fault.EditFault.{EditFault}
 use Rattle.luks_edit.specs.declared.edit_fault.EditFault.TheVariants as fault
 use Rattle.luks_edit.specs.Asked.{deed_of, sealed_in}
@@ -62,7 +63,7 @@ module _ (v : List ℕ) (payload : Data) (e : Edit) (accepted : (f : CheckFault)
       let asked : Passed s 2 = next s fault.Requirements refl (after_check s accepted) (λ bad. bad) in
       after_plan s (next s fault.Locked refl (next s fault.SameSlot refl (next s fault.NoSuchSlot refl asked (there_of v e all)) all.other) (λ bad. bad)) (λ f bad. bad)
 
-  module _ (opener : ℕ) (p : List ℕ) (to : Option ℕ) (asked : AskedDerivation) {older : Bool} (is : IsMaking older v e opener p to asked) where
+  module _ (opener : ℕ) (p : List ℕ) (to : Option ℕ) (asked : AskedDerivation) {kind : SecretKind} {older : Bool} (is : IsMaking kind older v e opener p to asked) where
     need_refused : (f : EditFault) → IsNewFault v to f → IsLeast edit_key (IsNeedFault1 v payload e) f
     need_refused fault.SlotTaken bad = first_of_row (IsNeedFault1 v payload e) fault.SlotTaken refl past_opener (is.taken_is bad)
     need_refused fault.NoFreeSlot bad =

@@ -11,9 +11,11 @@ use Rattle.luks_slot.specs.declared.fault.SlotFault.{SlotFault}
 use Rattle.luks2_header.proofs.ChoiceFacts.{choices_agree}
 use Rattle.luks_reading.specs.declared.open_fault.OpenFault.TheVariants as opening
 use Rattle.luks_reading.specs.declared.report.Data.{Data}
-use Rattle.luks_reading.specs.Answer.{AnswerWithin, HasPlanAs, IsLuks1Refusal, IsRefusalAsWithin, opens}
+use Rattle.luks_reading.specs.Answer.{HasPlanAs, IsLuks1Refusal, IsRefusalAsWithin, opens}
 use Rattle.luks_reading.specs.Plans.{HasLuks1Plan}
 use Rattle.luks_edit.specs.declared.edit.Edit.{Edit}
+use Rattle.luks_edit.specs.declared.edit.SecretKind.{SecretKind}
+use Rattle.luks_edit.specs.Secrets.{AnswersTo}
 use Rattle.luks_edit.specs.declared.deed.Deed.TheVariants.{Seal}
 use Rattle.luks_edit.specs.declared.deed.Sealed.{Sealed}
 use Rattle.luks_edit.specs.declared.edit_fault.EditFault.{EditFault}
@@ -31,10 +33,10 @@ use Rattle.luks1_edits.proofs.EditedFacts.{new_once}
 use Rattle.luks1_edits.proofs.MadeKeyslotFacts.{same_refusal, same_terms}
 use Rattle.luks1_edits.proofs.RowFacts.{alone, IsOpener, opener_passed, past_label, past_new, unrefused}
 
--- the edit opens the keyslot `opener` by the passphrase, with ciphers and hashes of older disks where `older` says
+-- the edit opens the keyslot `opener` by the secret, with ciphers and hashes of older disks where `older` says
 -- so, and makes the keyslot `to`, or the least free
-pub record IsMaking (older : Bool) (v : List ℕ) (e : Edit) (opener : ℕ) (p : List ℕ) (to : Option ℕ) (asked : AskedDerivation) : Type 0 where
-  pub opening : IsOpener older v e opener p
+pub record IsMaking (kind : SecretKind) (older : Bool) (v : List ℕ) (e : Edit) (opener : ℕ) (p : List ℕ) (to : Option ℕ) (asked : AskedDerivation) : Type 0 where
+  pub opening : IsOpener kind older v e opener p
   pub taken_is : IsTakenFor v to → IsTaken v e
   pub taken_only : IsTaken v e → IsTakenFor v to
   pub free_is : LacksFree v to → HasNoFree v e
@@ -49,9 +51,9 @@ pub record IsMaking (older : Bool) (v : List ℕ) (e : Edit) (opener : ℕ) (p :
   pub need_only : (k : ℕ) → Need1 v e k → NeedsFor v (IsNewKeyslot v to) k
 
 -- each edit does that seals a key
-pub making : (v : List ℕ) (e : Edit) (s : Sealed) → deed_of e ≡ Seal s → IsMaking s.opener.passphrase.allowed.older v e s.opener.slot s.opener.passphrase.bytes.now (number_asked s.place) s.derivation
+pub making : (v : List ℕ) (e : Edit) (s : Sealed) → deed_of e ≡ Seal s → IsMaking s.opener.secret.kind s.opener.secret.allowed.older v e s.opener.slot s.opener.secret.bytes.now (number_asked s.place) s.derivation
 making v e s is = record {
-  opening = alone s.opener.passphrase.allowed.older v e s.opener.slot s.opener.passphrase.bytes.now (rw is (refl, refl)) (rw is refl) (λ m y. rw is at y) (λ y. rw is at y) (rw is refl);
+  opening = alone s.opener.secret.kind s.opener.secret.allowed.older v e s.opener.slot s.opener.secret.bytes.now (rw is (refl, refl)) (rw is refl) (λ m y. rw is at y) (λ y. rw is at y) (rw is refl) (rw is refl);
   taken_is = λ y. rw is y;
   taken_only = λ y. rw is at y;
   free_is = λ y. rw is y;
@@ -83,9 +85,9 @@ taken_excludes v (Some t) used over = let low = used.0 in omega (arith, low, ove
 taken_excludes v None used over = used
 
 -- no keyslot of the header is refused by its plan where one of them opens
-not_refused : (older : Bool) (h : List ℕ) (payload : Data) (v : List ℕ) (opener : ℕ) (p key : List ℕ) (f : SlotFault) → IsHeaderOf h payload v
-    → AnswerWithin (without_memory older) v opener p (opens key) → HasRefusedKeyslot older h f → ⊥
-not_refused older h payload v opener p key f of x bad =
+not_refused : (kind : SecretKind) (older : Bool) (h : List ℕ) (payload : Data) (v : List ℕ) (opener : ℕ) (p key : List ℕ) (f : SlotFault) → IsHeaderOf h payload v
+    → AnswersTo kind (without_memory older) v opener p (opens key) → HasRefusedKeyslot older h f → ⊥
+not_refused kind older h payload v opener p key f of x bad =
     let one = choices_agree v x.choice luks1 x.chosen of.chosen in
     let there : HasLuks1Plan (part v 0 592) opener x.plan = subst (λ c. HasPlanAs v opener c x.plan) one x.is in
     let front : SameFront (part v 0 592) h = record { parts = λ o l within. ap (λ b. part b o l) (sym of.begins) } in
@@ -93,8 +95,8 @@ not_refused older h payload v opener p key f of x bad =
     let refusal : IsLuks1Refusal older (part v 0 592) (length v) opener (opening.Slot f) = record { plan = x.plan; is = there; refused = same_refusal (without_memory older) x.plan bad.plan terms ∙ bad.refused } in
     x.unrefused (opening.Slot f) (subst (λ c. IsRefusalAsWithin (without_memory older) v opener c (opening.Slot f)) (sym one) refusal)
 
-module _ (v : List ℕ) (payload : Data) (e : Edit) (r : List ℕ) (opener : ℕ) (p key : List ℕ) (to : Option ℕ) (asked : AskedDerivation) {older : Bool} (is : IsMaking older v e opener p to asked)
-    (h : List ℕ) (of : IsHeaderOf h payload v) (opened : IsOpenedBy older v opener p key) where
+module _ (v : List ℕ) (payload : Data) (e : Edit) (r : List ℕ) (opener : ℕ) (p key : List ℕ) (to : Option ℕ) (asked : AskedDerivation) {kind : SecretKind} {older : Bool} (is : IsMaking kind older v e opener p to asked)
+    (h : List ℕ) (of : IsHeaderOf h payload v) (opened : IsOpenedBy kind older v opener p key) where
   before : Passed (IsEditFault1 v payload e r) 6
   before = opener_passed v payload e r of.faultless of.chosen opener p is.opening key opened
 
@@ -144,7 +146,7 @@ module _ (v : List ℕ) (payload : Data) (e : Edit) (r : List ℕ) (opener : ℕ
 
       -- the keyslot wasn't made
       pub unmade_ends : (w : List ℕ) (f : EditFault) → IsTorn1 v e r w → IsUnmade older h f → EndsBy1 payload v e r f w
-      unmade_ends w (fault.Slot f) torn bad = absurd (not_refused older h payload v opener p key f of opened.opened bad)
+      unmade_ends w (fault.Slot f) torn bad = absurd (not_refused kind older h payload v opener p key f of opened.opened bad)
       unmade_ends w fault.Device torn bad = inr (making_unrefused, torn)
       unmade_ends w f torn bad = absurd bad
 

@@ -15,20 +15,22 @@ use Rattle.luks_slot.specs.declared.fault.SlotFault.{SlotFault}
 use Rattle.luks_slot.specs.declared.fault.SlotFault.TheVariants as slot
 use Rattle.luks_slot.specs.declared.plan.SlotPlan.{SlotPlan}
 use Rattle.luks_slot.specs.Fault.{IsAnsweredWithin}
-use Rattle.luks_slot.specs.Opening.{slot_key}
 use Rattle.luks_slot.specs.Allowance.{without_memory}
 use Rattle.luks_slot.specs.Refusal.{slot_refusal_within}
 use Rattle.luks_reading.specs.declared.open_fault.OpenFault.{OpenFault}
 use Rattle.luks_reading.specs.declared.open_fault.OpenFault.TheVariants as opening
 use Rattle.luks_reading.specs.declared.report.Data.{Data}
-use Rattle.luks_reading.specs.Answer.{AnswerWithin, HasRefusedPlanWithin, IsLuks1Refusal, IsRefusalWithin, IsRefusalAsWithin, open_key, OpensWithin, opens, refused}
+use Rattle.luks_reading.specs.Answer.{AnswerWithin, HasRefusedPlanWithin, IsLuks1Refusal, IsRefusalWithin, IsRefusalAsWithin, open_key, opens, refused}
 use Rattle.luks_reading.specs.Checked.{IsLuks1Volume}
 use Rattle.luks_reading.specs.PlanAnswers.{IsOpenable}
 use Rattle.luks_reading.specs.Plans.{HasLuks1Plan, IsLuks1Plan}
 use Rattle.luks_edit.specs.declared.edit_fault.EditFault.TheVariants as fault
 use Rattle.luks1_edits.specs.Accepted.{IsHeaderOf, IsLockedBy, IsOpenedBy, IsUnopened, keyslot_fault}
 use Rattle.luks1_edits.specs.Edited.{IsFree, IsInUse}
-use Rattle.luks1_edits.proofs.AnswerFacts.{common_or_entry, found_once, found_unrefused, same_front}
+use Rattle.luks_edit.specs.declared.edit.SecretKind.{SecretKind}
+use Rattle.luks_edit.specs.Secrets.{AnswersTo, given_by, GivesWithin}
+use Rattle.luks_edit.proofs.SecretFacts.{given_unrefused}
+use Rattle.luks1_edits.proofs.AnswerFacts.{common_or_entry, found_once, same_front}
 use Rattle.luks1_edits.proofs.MadeKeyslotFacts.{no_argon2, same_refusal, same_terms}
 use Rattle.luks1_edits.proofs.HeaderFacts.{entry_fault, entry_is, header_clear, volume_of}
 
@@ -88,8 +90,9 @@ module _ (h : List ℕ) (payload : Data) (v : List ℕ) (x : IsHeaderOf h payloa
         same_refusal (without_memory older) plan y.plan
         (same_terms (part v 0 592) (part v 0 592) (entry (part v 0 592) n) (entry (part v 0 592) n) plan y.plan (same_front v v refl) at.is y.is.is) ∙ y.refused
 
-    planned : (p : List ℕ) (found : Option (List ℕ)) → slot_refusal_within (without_memory older) plan ≡ None → slot_key plan (part v plan.area.start plan.area.len) p ≡ found → OpensWithin (without_memory older) v n p found
-    planned p found fine is = record {
+    planned : (kind : SecretKind) (p : List ℕ) (found : Option (List ℕ)) → slot_refusal_within (without_memory older) plan ≡ None → given_by kind plan (part v plan.area.start plan.area.len) p ≡ found
+        → GivesWithin kind (without_memory older) v n p found
+    planned kind p found fine is = record {
       choice = luks1;
       chosen = x.chosen;
       plan = plan;
@@ -110,27 +113,27 @@ module _ (h : List ℕ) (payload : Data) (v : List ℕ) (x : IsHeaderOf h payloa
             let same : s ≡ y.0 = same_Some s y.0 (sym why ∙ refused_alike y.0 y.1.1) in
             rw y.1.0 (subst (λ t. NotAfter (open_key (opening.Slot s)) (open_key (opening.Slot t))) same (omega arith, λ _. (omega arith, λ _. tt)))
 
-    module _ (p : List ℕ) where
-      pub opened_by : (key : List ℕ) (found : Option (List ℕ)) → slot_refusal_within (without_memory older) plan ≡ None → found ≡ slot_key plan (part v plan.area.start plan.area.len) p → found ≡ Some key → IsOpenedBy older v n p key
+    module _ (kind : SecretKind) (p : List ℕ) where
+      pub opened_by : (key : List ℕ) (found : Option (List ℕ)) → slot_refusal_within (without_memory older) plan ≡ None → found ≡ given_by kind plan (part v plan.area.start plan.area.len) p → found ≡ Some key → IsOpenedBy kind older v n p key
       opened_by key found fine is some =
-          let opened : AnswerWithin (without_memory older) v n p (opens key) = planned p (Some key) fine (sym is ∙ some) in
+          let opened : AnswersTo kind (without_memory older) v n p (opens key) = planned kind p (Some key) fine (sym is ∙ some) in
           record {
             used = used;
             opened = opened;
-            unlocked = λ locked. let two = found_once v x.chosen (without_memory older) (without_memory older) n p (Some key) None opened locked in cc;
-            unshut = λ f y. found_unrefused (without_memory older) v n p (Some key) (opening.Slot f) opened y;
+            unlocked = λ locked. let two = found_once kind v x.chosen (without_memory older) (without_memory older) n p (Some key) None opened locked in cc;
+            unshut = λ f y. given_unrefused kind (without_memory older) v n p (Some key) (opening.Slot f) opened y;
           }
 
-      pub locked_by : (found : Option (List ℕ)) → slot_refusal_within (without_memory older) plan ≡ None → found ≡ slot_key plan (part v plan.area.start plan.area.len) p → found ≡ None → IsLockedBy older v n p
-      locked_by found fine is none = record { used = used; answer = planned p None fine (sym is ∙ none) }
+      pub locked_by : (found : Option (List ℕ)) → slot_refusal_within (without_memory older) plan ≡ None → found ≡ given_by kind plan (part v plan.area.start plan.area.len) p → found ≡ None → IsLockedBy kind older v n p
+      locked_by found fine is none = record { used = used; answer = planned kind p None fine (sym is ∙ none) }
 
       -- or the device failed
-      pub unopened_by : (f : SlotFault) → IsAnsweredWithin (without_memory older) plan f → IsUnopened older v n p (keyslot_fault f)
+      pub unopened_by : (f : SlotFault) → IsAnsweredWithin (without_memory older) plan f → IsUnopened kind older v n p (keyslot_fault f)
       unopened_by slot.Device is = tt
       unopened_by slot.Memory is = absurd (no_argon2 (part v 0 592) (entry (part v 0 592) n) plan.derivation at.is.derivation is.1)
       unopened_by f is = record {
         used = used;
-        unlocked = λ locked. found_unrefused (without_memory older) v n p None (opening.Slot f) locked (shut p f is);
+        unlocked = λ locked. given_unrefused kind (without_memory older) v n p None (opening.Slot f) locked (shut p f is);
         answer = shut p f is;
       }
 

@@ -13,33 +13,36 @@ use Rattle.luks_reading.specs.Checked.{IsFault}
 use Rattle.luks_edit.specs.declared.edit.Edit.{Edit}
 use Rattle.luks_edit.specs.declared.deed.Deed.TheVariants as deed
 use Rattle.luks_edit.specs.declared.edit.Opener.{Opener}
+use Rattle.luks_edit.specs.declared.edit.SecretKind.{SecretKind}
 use Rattle.luks_edit.specs.declared.edit_fault.EditFault.{EditFault}
 use Rattle.luks_edit.specs.declared.edit_fault.EditFault.TheVariants as fault
-use Rattle.luks_edit.specs.Asked.{allowed_by, ChoosesArgon2, deed_of, HasFewIterations, NamesItself, opener_in, OpensBy, Wants}
+use Rattle.luks_edit.specs.Asked.{allowed_by, ChoosesArgon2, deed_of, HasFewIterations, kind_by, NamesItself, opener_in, OpensBy, Wants}
 use Rattle.luks_edit.specs.Opener.{IsLocked, IsShut}
-use Rattle.luks_edit.proofs.AllowedMemory.{luks1_answers_alike}
+use Rattle.luks_edit.specs.Secrets.{AnswersTo}
+use Rattle.luks_edit.proofs.AllowedMemory.{luks1_secrets_alike}
 use Rattle.luks_edit.proofs.RowFacts.{Passed, after_check, after_plan, first_of_plan, first_of_row, next, none_at_all}
 use Rattle.luks1_edits.specs.Accepted.{AreAllThere, IsMisnamed, IsOpenedBy, IsUnopened}
 use Rattle.luks1_edits.specs.Edited.{IsInUse}
 use Rattle.luks1_edits.specs.Refused.{HasNoFree, IsAbsent, IsEditFault1, IsLabel, IsLast, IsMiscounted, IsTaken, IsUnrefused1, Refusal1}
 use Rattle.luks1_edits.specs.Replies.{EndsBy1}
 
--- an edit opens one keyslot by one passphrase
-once_in : (o : Option Opener) (n m : ℕ) (p q : List ℕ) → IsSomeAnd o (λ x. (n ≡ x.slot) × (p ≡ x.passphrase.bytes.now))
-    → IsSomeAnd o (λ x. (m ≡ x.slot) × (q ≡ x.passphrase.bytes.now)) → (m ≡ n) × (q ≡ p)
+-- an edit opens one keyslot by one secret
+once_in : (o : Option Opener) (n m : ℕ) (p q : List ℕ) → IsSomeAnd o (λ x. (n ≡ x.slot) × (p ≡ x.secret.bytes.now))
+    → IsSomeAnd o (λ x. (m ≡ x.slot) × (q ≡ x.secret.bytes.now)) → (m ≡ n) × (q ≡ p)
 once_in None n m p q x y = absurd x
 once_in (Some o) n m p q x y = (y.0 ∙ sym x.0, y.1 ∙ sym x.1)
 
 pub opens_once : (e : Edit) (n m : ℕ) (p q : List ℕ) → OpensBy e n p → OpensBy e m q → (m ≡ n) × (q ≡ p)
 opens_once e n m p q x y = once_in (opener_in (deed_of e)) n m p q x y
 
--- the edit opens the keyslot by the passphrase, with ciphers and hashes of older disks where `older` says so, and
+-- the edit opens the keyslot by the secret, with ciphers and hashes of older disks where `older` says so, and
 -- once that one is there, all are that it wants
-pub record IsOpener (older : Bool) (v : List ℕ) (e : Edit) (n : ℕ) (p : List ℕ) : Type 0 where
+pub record IsOpener (kind : SecretKind) (older : Bool) (v : List ℕ) (e : Edit) (n : ℕ) (p : List ℕ) : Type 0 where
   pub asked : OpensBy e n p
   pub wanted : Wants e n
   pub all : IsInUse v n → AreAllThere v e
   pub allowed : (allowed_by e).older ≡ older
+  pub same_kind : kind_by e ≡ kind
 
 -- the edit opens no keyslot and wants none
 pub record OpensNone (e : Edit) : Type 0 where
@@ -52,13 +55,14 @@ pub opens_none : (e : Edit) (label : Option (Bor (List ℕ))) → deed_of e ≡ 
 opens_none e label is = record { opens = λ n p x. rw is at x; wants = λ n x. rw is at x; other = λ x. rw is at x }
 
 -- it wants none but the one that it opens
-pub alone : (older : Bool) (v : List ℕ) (e : Edit) (n : ℕ) (p : List ℕ) → OpensBy e n p → Wants e n → ((m : ℕ) → Wants e m → m ≡ n) → (NamesItself e → ⊥)
-    → (allowed_by e).older ≡ older → IsOpener older v e n p
-alone older v e n p asked wanted only other allowed = record {
+pub alone : (kind : SecretKind) (older : Bool) (v : List ℕ) (e : Edit) (n : ℕ) (p : List ℕ) → OpensBy e n p → Wants e n → ((m : ℕ) → Wants e m → m ≡ n) → (NamesItself e → ⊥)
+    → (allowed_by e).older ≡ older → kind_by e ≡ kind → IsOpener kind older v e n p
+alone kind older v e n p asked wanted only other allowed same_kind = record {
   asked = asked;
   wanted = wanted;
   all = λ used. record { there = λ m wants. subst (λ k. IsInUse v k) (sym (only m wants)) used; other = other };
   allowed = allowed;
+  same_kind = same_kind;
 }
 
 pub none_wanted : (v : List ℕ) (e : Edit) → OpensNone e → AreAllThere v e
@@ -124,18 +128,20 @@ module _ (v : List ℕ) (payload : Data) (e : Edit) (r : List ℕ) where
     pub none_to_open : OpensNone e → Passed (IsEditFault1 v payload e r) 6
     none_to_open none = past_opener (none_wanted v e none) (λ bad. none.opens bad.slot bad.passphrase bad.asked) (λ f bad. none.opens bad.slot bad.passphrase bad.asked)
 
-    module _ (chosen : Chosen v luks1) (n : ℕ) (p : List ℕ) {older : Bool} (opener : IsOpener older v e n p) where
+    module _ (chosen : Chosen v luks1) (n : ℕ) (p : List ℕ) {kind : SecretKind} {older : Bool} (opener : IsOpener kind older v e n p) where
       -- what is said where the edit's memory is allowed is said where none is, and so the other way round
-      without : (m : ℕ) (q : List ℕ) (a : Opened) → AnswerWithin (allowed_by e) v m q a → AnswerWithin (without_memory older) v m q a
-      without m q a x = luks1_answers_alike v chosen (allowed_by e) (without_memory older) m opener.allowed q a x
+      without : (m : ℕ) (q : List ℕ) (a : Opened) → AnswersTo (kind_by e) (allowed_by e) v m q a → AnswersTo kind (without_memory older) v m q a
+      without m q a x = luks1_secrets_alike v chosen (allowed_by e) (without_memory older) m opener.allowed kind q a
+          (subst (λ k. AnswersTo k (allowed_by e) v m q a) opener.same_kind x)
 
-      within : (a : Opened) → AnswerWithin (without_memory older) v n p a → AnswerWithin (allowed_by e) v n p a
-      within a x = luks1_answers_alike v chosen (without_memory older) (allowed_by e) n (sym opener.allowed) p a x
+      within : (a : Opened) → AnswersTo kind (without_memory older) v n p a → AnswersTo (kind_by e) (allowed_by e) v n p a
+      within a x = subst (λ k. AnswersTo k (allowed_by e) v n p a) (sym opener.same_kind)
+          (luks1_secrets_alike v chosen (without_memory older) (allowed_by e) n (sym opener.allowed) kind p a x)
 
-      unlocked_of : (AnswerWithin (without_memory older) v n p no_key → ⊥) → IsLocked v e → ⊥
+      unlocked_of : (AnswersTo kind (without_memory older) v n p no_key → ⊥) → IsLocked v e → ⊥
       unlocked_of not bad =
           let one = opens_once e n bad.slot p bad.passphrase opener.asked bad.asked in
-          not (subst (λ m. AnswerWithin (without_memory older) v m p no_key) one.0 (subst (λ q. AnswerWithin (without_memory older) v bad.slot q no_key) one.1 (without bad.slot bad.passphrase no_key bad.answer)))
+          not (subst (λ m. AnswersTo kind (without_memory older) v m p no_key) one.0 (subst (λ q. AnswersTo kind (without_memory older) v bad.slot q no_key) one.1 (without bad.slot bad.passphrase no_key bad.answer)))
 
       shut_here : (f : SlotFault) → IsShut v e f → AnswerWithin (without_memory older) v n p (refused (opening.Slot f))
       shut_here f bad =
@@ -143,11 +149,11 @@ module _ (v : List ℕ) (payload : Data) (e : Edit) (r : List ℕ) where
           subst (λ m. AnswerWithin (without_memory older) v m p (refused (opening.Slot f))) one.0 (subst (λ q. AnswerWithin (without_memory older) v bad.slot q (refused (opening.Slot f))) one.1 (without bad.slot bad.passphrase (refused (opening.Slot f)) bad.answer))
 
       -- it opens
-      pub opener_passed : (key : List ℕ) → IsOpenedBy older v n p key → Passed (IsEditFault1 v payload e r) 6
+      pub opener_passed : (key : List ℕ) → IsOpenedBy kind older v n p key → Passed (IsEditFault1 v payload e r) 6
       opener_passed key x = past_opener (opener.all x.used) (unlocked_of x.unlocked) (λ f bad. x.unshut f (shut_here f bad))
 
       -- it doesn't open
-      pub unopened_ends : (w : List ℕ) (f : EditFault) → w ≡ v → IsUnopened older v n p f → EndsBy1 payload v e r f w
+      pub unopened_ends : (w : List ℕ) (f : EditFault) → w ≡ v → IsUnopened kind older v n p f → EndsBy1 payload v e r f w
       unopened_ends w fault.Locked same bad = (
         let s = IsEditFault1 v payload e r in
             first_of_row s fault.Locked refl (past_wanted (opener.all bad.used))

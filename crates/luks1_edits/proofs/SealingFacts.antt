@@ -18,15 +18,15 @@ use Rattle.luks1_edits.proofs.ChangeFacts.{changed, half_changed, still_at}
 
 -- while its keyslot was made
 torn_at : (v : List ℕ) (s : Sealed) (r w : List ℕ) (place : Place)
-    → IsHalfMade s.opener.passphrase.allowed.older v s.opener.slot s.opener.passphrase.bytes.now s.passphrase.now (number_asked place) (iterations_of s.derivation) r w
-    → MatchPlace place (λ to. IsHalfMade s.opener.passphrase.allowed.older v s.opener.slot s.opener.passphrase.bytes.now s.passphrase.now to (iterations_of s.derivation) r w)
-    (IsHalfMade s.opener.passphrase.allowed.older v s.opener.slot s.opener.passphrase.bytes.now s.passphrase.now None (iterations_of s.derivation) r w
-    ⊎ IsHalfChanged s.opener.passphrase.allowed.older v s.opener.slot s.opener.passphrase.bytes.now s.passphrase.now (iterations_of s.derivation) r w)
+    → IsHalfMade s.opener.secret.kind s.opener.secret.allowed.older v s.opener.slot s.opener.secret.bytes.now s.passphrase.now (number_asked place) (iterations_of s.derivation) r w
+    → MatchPlace place (λ to. IsHalfMade s.opener.secret.kind s.opener.secret.allowed.older v s.opener.slot s.opener.secret.bytes.now s.passphrase.now to (iterations_of s.derivation) r w)
+    (IsHalfMade s.opener.secret.kind s.opener.secret.allowed.older v s.opener.slot s.opener.secret.bytes.now s.passphrase.now None (iterations_of s.derivation) r w
+    ⊎ IsHalfChanged s.opener.secret.kind s.opener.secret.allowed.older v s.opener.slot s.opener.secret.bytes.now s.passphrase.now (iterations_of s.derivation) r w)
 torn_at v s r w (New to) x = x
 torn_at v s r w Opened x = inl x
 
 pub half_made : (v : List ℕ) (e : Edit) (s : Sealed) (r w : List ℕ) → deed_of e ≡ Seal s
-    → IsHalfMade s.opener.passphrase.allowed.older v s.opener.slot s.opener.passphrase.bytes.now s.passphrase.now (number_asked s.place) (iterations_of s.derivation) r w → IsTorn1 v e r w
+    → IsHalfMade s.opener.secret.kind s.opener.secret.allowed.older v s.opener.slot s.opener.secret.bytes.now s.passphrase.now (number_asked s.place) (iterations_of s.derivation) r w → IsTorn1 v e r w
 half_made v e s r w is x = rw is (torn_at v s r w s.place x)
 
 module _ (payload : Data) (v : List ℕ) (e : Edit) (s : Sealed) (r : List ℕ) (n : ℕ) (u : List ℕ) (is : deed_of e ≡ Seal s) (x : IsSealedNew payload v s r n u) where
@@ -58,7 +58,7 @@ module _ (payload : Data) (v : List ℕ) (e : Edit) (s : Sealed) (r : List ℕ) 
     pub renewed : (w : List ℕ) → IsRemoved u s.opener.slot w → IsDone1 payload v e r (record { slot = Some n }) w
     renewed w removed = record {
       unrefused = x.unrefused e is;
-      after = rw (is, place) (changed h payload v of s.opener.slot n x.used least (iterations_of s.derivation) s.passphrase.now x.key r u x.made s.opener.passphrase.bytes.now w x.opened removed);
+      after = rw (is, place) (changed h payload v of s.opener.slot n x.used least (iterations_of s.derivation) s.passphrase.now x.key r u x.made s.opener.secret.bytes.now w x.opened removed);
       told = rw is x.is_new;
     }
 
@@ -67,5 +67,5 @@ module _ (payload : Data) (v : List ℕ) (e : Edit) (s : Sealed) (r : List ℕ) 
     half_renewed w half = inr (
       x.unrefused e is,
       rw (is, place)
-          (inr (half_changed h payload v of s.opener.slot n x.used least (iterations_of s.derivation) s.passphrase.now x.key r u x.made s.opener.passphrase.bytes.now w x.opened half)),
+          (inr (half_changed h payload v of s.opener.slot n x.used least (iterations_of s.derivation) s.passphrase.now x.key r u x.made s.opener.secret.bytes.now w x.opened half)),
     )

@@ -19,7 +19,9 @@ use Rattle.luks_edit.specs.declared.edit_fault.EditFault.TheVariants as fault
 use Rattle.luks_edit.specs.declared.deed.Deed.TheVariants.{Seal}
 use Rattle.luks_edit.specs.declared.deed.Sealed.{Sealed}
 use Rattle.luks_edit.specs.declared.edit.Edit.{Edit}
+use Rattle.luks_edit.specs.declared.edit.SecretKind.{SecretKind}
 use Rattle.luks_edit.specs.Asked.{deed_of, NamesItself, opener_of, Wants}
+use Rattle.luks_edit.specs.Secrets.{AnswersTo}
 use Rattle.luks1_edits.specs.declared.accepted.AcceptedHeader.{AcceptedHeader}
 use Rattle.luks1_edits.specs.Edited.{IsFree, IsInUse, IsNewKeyslot, IsSealedIn, iterations_of}
 use Rattle.luks1_edits.specs.Refused.{IsAbsent, IsTakenFor, IsUnrefused1, keyslot_need, LacksFree}
@@ -46,29 +48,29 @@ abbrev pub IsUnaccepted : List ℕ → Data → EditFault → Type 0
 IsUnaccepted v payload (fault.NotAccepted f) = First v payload f
 IsUnaccepted v payload f = ⊥
 
--- ---- the keyslot that an edit opens, with ciphers and hashes of older disks where `older` says so
+-- ---- the keyslot that an edit opens by a secret, with ciphers and hashes of older disks where `older` says so
 
-pub record IsOpenedBy (older : Bool) (v : List ℕ) (n : ℕ) (passphrase key : List ℕ) : Type 0 where
+pub record IsOpenedBy (kind : SecretKind) (older : Bool) (v : List ℕ) (n : ℕ) (passphrase key : List ℕ) : Type 0 where
   pub used : IsInUse v n
-  pub opened : AnswerWithin (without_memory older) v n passphrase (opens key)
-  pub unlocked : AnswerWithin (without_memory older) v n passphrase no_key → ⊥
+  pub opened : AnswersTo kind (without_memory older) v n passphrase (opens key)
+  pub unlocked : AnswersTo kind (without_memory older) v n passphrase no_key → ⊥
   pub unshut : (f : SlotFault) → AnswerWithin (without_memory older) v n passphrase (refused (opening.Slot f)) → ⊥
 
-pub record IsLockedBy (older : Bool) (v : List ℕ) (n : ℕ) (passphrase : List ℕ) : Type 0 where
+pub record IsLockedBy (kind : SecretKind) (older : Bool) (v : List ℕ) (n : ℕ) (passphrase : List ℕ) : Type 0 where
   pub used : IsInUse v n
-  pub answer : AnswerWithin (without_memory older) v n passphrase no_key
+  pub answer : AnswersTo kind (without_memory older) v n passphrase no_key
 
-pub record IsShutBy (older : Bool) (v : List ℕ) (n : ℕ) (passphrase : List ℕ) (f : SlotFault) : Type 0 where
+pub record IsShutBy (kind : SecretKind) (older : Bool) (v : List ℕ) (n : ℕ) (passphrase : List ℕ) (f : SlotFault) : Type 0 where
   pub used : IsInUse v n
-  pub unlocked : AnswerWithin (without_memory older) v n passphrase no_key → ⊥
+  pub unlocked : AnswersTo kind (without_memory older) v n passphrase no_key → ⊥
   pub answer : AnswerWithin (without_memory older) v n passphrase (refused (opening.Slot f))
 
--- why the keyslot, which is in use, doesn't open by the passphrase, unless the device failed
-abbrev pub IsUnopened : Bool → List ℕ → ℕ → List ℕ → EditFault → Type 0
-IsUnopened older v n passphrase fault.Locked = IsLockedBy older v n passphrase
-IsUnopened older v n passphrase (fault.Slot f) = IsShutBy older v n passphrase f
-IsUnopened older v n passphrase fault.Device = ⊤
-IsUnopened older v n passphrase f = ⊥
+-- why the keyslot, which is in use, doesn't open by the secret, unless the device failed
+abbrev pub IsUnopened : SecretKind → Bool → List ℕ → ℕ → List ℕ → EditFault → Type 0
+IsUnopened kind older v n passphrase fault.Locked = IsLockedBy kind older v n passphrase
+IsUnopened kind older v n passphrase (fault.Slot f) = IsShutBy kind older v n passphrase f
+IsUnopened kind older v n passphrase fault.Device = ⊤
+IsUnopened kind older v n passphrase f = ⊥
 
 -- the fault of a keyslot, opened or sealed, as that of an edit
 abbrev pub keyslot_fault : SlotFault → EditFault
@@ -154,12 +156,12 @@ IsNewRefused v n asked random fault.Argon2 = IsArgon2 asked
 IsNewRefused v n asked random fault.RandomLength = IsMiscountedNew v n asked random
 IsNewRefused v n asked random f = ⊥
 
--- the keyslot `n` was made for the key that is sealed, which the old passphrase opens; nothing refuses
+-- the keyslot `n` was made for the key that is sealed, which the secret gives; nothing refuses
 -- an edit that seals it
 pub record IsSealedNew (payload : Data) (v : List ℕ) (s : Sealed) (random : List ℕ) (n : ℕ) (w : List ℕ) : Type 0 where
   pub used : IsInUse v s.opener.slot
   pub key : List ℕ
-  pub opened : AnswerWithin (without_memory s.opener.passphrase.allowed.older) v s.opener.slot s.opener.passphrase.bytes.now (opens key)
+  pub opened : AnswersTo s.opener.secret.kind (without_memory s.opener.secret.allowed.older) v s.opener.slot s.opener.secret.bytes.now (opens key)
   pub is_new : IsSealedIn v s n
   pub made : IsKeyslotMade v n (iterations_of s.derivation) s.passphrase.now key random w
   pub unrefused : (e : Edit) → deed_of e ≡ Seal s → IsUnrefused1 v payload e random

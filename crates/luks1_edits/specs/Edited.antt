@@ -13,10 +13,12 @@ use Rattle.luks_slot.specs.Sealing.{IsSealed}
 use Rattle.luks_reading.specs.Answer.{AnswerWithin, opens}
 use Rattle.luks_reading.specs.Plans.{HasLuks1Plan}
 use Rattle.luks_edit.specs.declared.edit.Edit.{Edit}
+use Rattle.luks_edit.specs.declared.edit.SecretKind.{SecretKind}
 use Rattle.luks_edit.specs.declared.deed.Place.{Place}
 use Rattle.luks_edit.specs.declared.deed.Place.TheVariants.{New, Opened}
 use Rattle.luks_edit.specs.declared.deed.Sealed.{Sealed}
 use Rattle.luks_edit.specs.Asked.{deed_of, lost_by, MatchDeed, MatchPlace, sealed_by}
+use Rattle.luks_edit.specs.Secrets.{AnswersTo}
 use Rattle.luks1_edits.specs.Kept.{IsEither}
 use Rattle.luks1_edits.specs.Places.{area_len, area_start, IsOfKeyslots}
 
@@ -103,30 +105,30 @@ pub record IsRemoved (v : List ℕ) (slot : ℕ) (w : List ℕ) : Type 0 where
   pub freed : IsFreed (entry v slot) (entry w slot)
   pub wiped : IsWiped v slot w
 
--- a keyslot was made in which `new` opens the key that `old` opened in the keyslot `opener`, with ciphers
--- and hashes of older disks where `older` says so, with a salt and stripes of the random bytes, and
+-- a keyslot was made in which `new` opens the key that the keyslot `opener` gave by the secret `old`, with
+-- ciphers and hashes of older disks where `older` says so, with a salt and stripes of the random bytes, and
 -- nothing else changed
 pub record IsAdded
-    (older : Bool) (v : List ℕ) (opener : ℕ) (old new : List ℕ) (to : Option ℕ) (iterations : ℕ)
+    (kind : SecretKind) (older : Bool) (v : List ℕ) (opener : ℕ) (old new : List ℕ) (to : Option ℕ) (iterations : ℕ)
     (random w : List ℕ)
     : Type 0 where
   pub slot : ℕ
   pub is_new : IsNewKeyslot v to slot
   pub key : List ℕ
-  pub opened : AnswerWithin (without_memory older) v opener old (opens key)
+  pub opened : AnswersTo kind (without_memory older) v opener old (opens key)
   pub rest : SameBut (IsOfKeyslots v (IsEither slot slot)) v w
   pub made : IsMade (entry v slot) (entry w slot) iterations (take 32 random)
   pub holds : HoldsKey w slot new key (drop 32 random)
 
--- the least free keyslot was made, in which `new` opens the key that `old` opened in the keyslot
--- `slot`, that one was removed, and nothing else changed
+-- the least free keyslot was made, in which `new` opens the key that the keyslot `slot` gave by the secret
+-- `old`, that one was removed, and nothing else changed
 pub record IsChanged
-    (older : Bool) (v : List ℕ) (slot : ℕ) (old new : List ℕ) (iterations : ℕ) (random w : List ℕ)
+    (kind : SecretKind) (older : Bool) (v : List ℕ) (slot : ℕ) (old new : List ℕ) (iterations : ℕ) (random w : List ℕ)
     : Type 0 where
   pub fresh : ℕ
   pub is_free : IsLeastFree v fresh
   pub key : List ℕ
-  pub opened : AnswerWithin (without_memory older) v slot old (opens key)
+  pub opened : AnswersTo kind (without_memory older) v slot old (opens key)
   pub rest : SameBut (IsOfKeyslots v (IsEither slot fresh)) v w
   pub made : IsMade (entry v fresh) (entry w fresh) iterations (take 32 random)
   pub holds : HoldsKey w fresh new key (drop 32 random)
@@ -138,18 +140,18 @@ pub record IsChanged
 abbrev pub After1 : List ℕ → Edit → List ℕ → List ℕ → Type 0
 After1 v e random w = MatchDeed (deed_of e)
     (λ s. MatchPlace s.place
-    (λ to. IsAdded s.opener.passphrase.allowed.older v s.opener.slot s.opener.passphrase.bytes.now s.passphrase.now to (iterations_of s.derivation) random w)
-    (IsChanged s.opener.passphrase.allowed.older v s.opener.slot s.opener.passphrase.bytes.now s.passphrase.now (iterations_of s.derivation) random w))
+    (λ to. IsAdded s.opener.secret.kind s.opener.secret.allowed.older v s.opener.slot s.opener.secret.bytes.now s.passphrase.now to (iterations_of s.derivation) random w)
+    (IsChanged s.opener.secret.kind s.opener.secret.allowed.older v s.opener.slot s.opener.secret.bytes.now s.passphrase.now (iterations_of s.derivation) random w))
     (λ r. IsRemoved v r.slot w)
     (λ label. MatchOption label (w ≡ v) (λ text. ⊥))
 
 -- ---- what opens after an edit
 
--- a keyslot that the edit made opens by its new passphrase to the key that the old one opened, whatever is
+-- a keyslot that the edit made opens by its new passphrase to the key that the secret gave, whatever is
 -- allowed
 abbrev pub OpensAfter1 : List ℕ → Edit → List ℕ → Type 0
 OpensAfter1 v e w = IfSome (sealed_by e) (λ s. (allowed : Allowed) (n : ℕ) (key : List ℕ) → IsSealedIn v s n
-    → AnswerWithin allowed v s.opener.slot s.opener.passphrase.bytes.now (opens key)
+    → AnswersTo s.opener.secret.kind allowed v s.opener.slot s.opener.secret.bytes.now (opens key)
     → AnswerWithin allowed w n s.passphrase.now (opens key))
 
 -- the keyslot that the edit removes

@@ -9,7 +9,9 @@ use Rattle.luks_slot.specs.Allowance.{without_memory}
 use Rattle.luks_reading.specs.declared.report.Data.{Data}
 use Rattle.luks_reading.specs.Answer.{AnswerWithin, opens}
 use Rattle.luks_edit.specs.declared.edit.Edit.{Edit}
+use Rattle.luks_edit.specs.declared.edit.SecretKind.{SecretKind}
 use Rattle.luks_edit.specs.Asked.{again_by, deed_of, MatchDeed, MatchPlace}
+use Rattle.luks_edit.specs.Secrets.{AnswersTo}
 use Rattle.luks1_edits.specs.Edited.{HoldsKey, IsFreed, IsLeastFree, IsMade, IsNewKeyslot, iterations_of}
 use Rattle.luks1_edits.specs.Kept.{IsEither, IsFitFor}
 use Rattle.luks1_edits.specs.Places.{area_len, area_start, entry_place, IsOfKeyslots}
@@ -37,15 +39,15 @@ IsSealedFirst v n iterations passphrase key random w =
     SameBut (IsAt (area_start v n) (area_len v n)) v w
     ⊎ IsMadeButEntry v n iterations passphrase key random w
 
--- while a keyslot was made in which `new` opens the key that `old` opened in the keyslot `opener`
+-- while a keyslot was made in which `new` opens the key that the keyslot `opener` gave by the secret `old`
 pub record IsHalfMade
-    (older : Bool) (v : List ℕ) (opener : ℕ) (old new : List ℕ) (to : Option ℕ) (iterations : ℕ)
+    (kind : SecretKind) (older : Bool) (v : List ℕ) (opener : ℕ) (old new : List ℕ) (to : Option ℕ) (iterations : ℕ)
     (random w : List ℕ)
     : Type 0 where
   pub slot : ℕ
   pub is_new : IsNewKeyslot v to slot
   pub key : List ℕ
-  pub opened : AnswerWithin (without_memory older) v opener old (opens key)
+  pub opened : AnswersTo kind (without_memory older) v opener old (opens key)
   pub order : IsSealedFirst v slot iterations new key random w
 
 -- while a keyslot was removed: its entry has any bytes and its area its own, or the entry is freed
@@ -56,12 +58,12 @@ pub record IsHalfRemoved (v : List ℕ) (slot : ℕ) (w : List ℕ) : Type 0 whe
 
 -- while the keyslot was removed in whose place another one was made before
 pub record IsHalfChanged
-    (older : Bool) (v : List ℕ) (slot : ℕ) (old new : List ℕ) (iterations : ℕ) (random w : List ℕ)
+    (kind : SecretKind) (older : Bool) (v : List ℕ) (slot : ℕ) (old new : List ℕ) (iterations : ℕ) (random w : List ℕ)
     : Type 0 where
   pub fresh : ℕ
   pub is_free : IsLeastFree v fresh
   pub key : List ℕ
-  pub opened : AnswerWithin (without_memory older) v slot old (opens key)
+  pub opened : AnswersTo kind (without_memory older) v slot old (opens key)
   pub rest : SameBut (IsOfKeyslots v (IsEither slot fresh)) v w
   pub made : IsMade (entry v fresh) (entry w fresh) iterations (take 32 random)
   pub holds : HoldsKey w fresh new key (drop 32 random)
@@ -71,9 +73,9 @@ pub record IsHalfChanged
 abbrev pub IsTorn1 : List ℕ → Edit → List ℕ → List ℕ → Type 0
 IsTorn1 v e random w = MatchDeed (deed_of e)
     (λ s. MatchPlace s.place
-    (λ to. IsHalfMade s.opener.passphrase.allowed.older v s.opener.slot s.opener.passphrase.bytes.now s.passphrase.now to (iterations_of s.derivation) random w)
-    (IsHalfMade s.opener.passphrase.allowed.older v s.opener.slot s.opener.passphrase.bytes.now s.passphrase.now None (iterations_of s.derivation) random w
-    ⊎ IsHalfChanged s.opener.passphrase.allowed.older v s.opener.slot s.opener.passphrase.bytes.now s.passphrase.now (iterations_of s.derivation) random w))
+    (λ to. IsHalfMade s.opener.secret.kind s.opener.secret.allowed.older v s.opener.slot s.opener.secret.bytes.now s.passphrase.now to (iterations_of s.derivation) random w)
+    (IsHalfMade s.opener.secret.kind s.opener.secret.allowed.older v s.opener.slot s.opener.secret.bytes.now s.passphrase.now None (iterations_of s.derivation) random w
+    ⊎ IsHalfChanged s.opener.secret.kind s.opener.secret.allowed.older v s.opener.slot s.opener.secret.bytes.now s.passphrase.now (iterations_of s.derivation) random w))
     (λ r. IsHalfRemoved v r.slot w)
     (λ label. ⊥)
 
@@ -86,10 +88,10 @@ Leftover1 v payload e random w = (w ≡ v) ⊎ (IsUnrefused1 v payload e random 
 abbrev pub IsUntorn : List ℕ → List ℕ → ℕ → Type 0
 IsUntorn v w n = (entry w n ≡ entry v n) ⊎ IsFitFor (entry v n) (entry w n)
 
--- the keyslot that was changed opens by the old passphrase, or the new one by the new passphrase,
--- to the key that the old one opened before, whatever is allowed
+-- the keyslot that was changed gives by the old secret, or the new one opens by the new passphrase to, the
+-- key that the old one gave before, whatever is allowed
 abbrev pub OpensEither1 : List ℕ → Edit → List ℕ → Type 0
 OpensEither1 v e w = IfSome (again_by e) (λ s. (allowed : Allowed) (key : List ℕ)
-    → AnswerWithin allowed v s.opener.slot s.opener.passphrase.bytes.now (opens key)
-    → AnswerWithin allowed w s.opener.slot s.opener.passphrase.bytes.now (opens key)
+    → AnswersTo s.opener.secret.kind allowed v s.opener.slot s.opener.secret.bytes.now (opens key)
+    → AnswersTo s.opener.secret.kind allowed w s.opener.slot s.opener.secret.bytes.now (opens key)
     ⊎ ((n : ℕ) × (IsLeastFree v n × AnswerWithin allowed w n s.passphrase.now (opens key))))

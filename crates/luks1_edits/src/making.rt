@@ -80,7 +80,7 @@ pub(crate) fn make_keyslot<D: Device>(
     ensures settled { D.tells → D.failed device.new ≡ D.failed device.old → IsSettled D.unsettled device.new }
     ensures count { CountsFailure is_edit_failure result
         (D.failed device.old) (D.failed device.new) }
-    ensures fault { IfErr result (IsUnmade sealed.now.opener.passphrase.allowed.older
+    ensures fault { IfErr result (IsUnmade sealed.now.opener.secret.allowed.older
         header.now.bytes.now) }
     ensures made { D.tells
         → IsHeaderOf header.now.bytes.now header.now.payload (D.bytes device.old)
@@ -98,7 +98,7 @@ pub(crate) fn make_keyslot<D: Device>(
     let plan = luks1_plan(&header.fields.common, &slot);
     let allowed = Allowed {
         memory: 0,
-        older: sealed.opener.passphrase.allowed.older,
+        older: sealed.opener.secret.allowed.older,
     };
     let stripes = stripes_in(random);
     match seal_area_within(

@@ -18,7 +18,7 @@ use luks_edit::{Done, EditFault, Removed, opener_of};
 use luks_reading::luks1_area;
 use std::alloc::Global;
 
-/// Removes the keyslot, where the passphrase opens the one that it has to; both are in use.
+/// Removes the keyslot, where the secret opens the one that it has to; both are in use.
 pub(crate) fn remove<D: Device>(
     alloc: Global,
     device: &mut D,
@@ -45,7 +45,7 @@ pub(crate) fn remove<D: Device>(
         device,
         header,
         opener_of(removed.slot, removed.by_),
-        &removed.passphrase,
+        &removed.secret,
     )?;
     if is_last(&header.fields, removed.slot) {
         return Err(EditFault::LastSlot);

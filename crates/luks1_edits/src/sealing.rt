@@ -21,7 +21,7 @@ use luks_reading::luks1_area;
 use std::alloc::Global;
 
 /// Makes a keyslot, the one that is asked for or the least that is free, in which the new passphrase
-/// opens the key that the old one opens; the old one's keyslot is in use. Where the key was to be sealed in the keyslot that was opened,
+/// opens the key that the secret gives; the secret's keyslot is in use. Where the key was to be sealed in the keyslot that was opened,
 /// that one is then removed.
 pub(crate) fn seal<D: Device>(
     alloc: Global,
@@ -87,7 +87,7 @@ fn make<D: Device>(
         (D.bytes device.new)) }
 {
     let opener = sealed.opener;
-    let key = unlock(alloc, device, header, opener.slot, &opener.passphrase)?;
+    let key = unlock(alloc, device, header, opener.slot, &opener.secret)?;
     let n = new_keyslot(&header.fields, number_asked(sealed.place))?;
     judge_new(&header.fields, n, sealed.derivation, random)?;
     make_keyslot(alloc, device, header, n, sealed, &key, random)?;

@@ -1,4 +1,4 @@
-//! Opening the keyslot that an edit of a LUKS1 volume names.
+//! Opening the keyslot that an edit of a LUKS1 volume names, by its passphrase or its key.
 ghost use Rattle.std.specs.Prelude.{◌≡◌, ◌≢◌, ◌+◌, ◌^◌, ◌<◌, ℕ, List, length, IfOk, IfErr};
 ghost use Rattle.luks_area.specs.Device.{CountsFailure, IsUnchanged};
 ghost use Rattle.luks1_header.specs.Header1.{key_bytes_of, HoldsSlots};
@@ -8,9 +8,9 @@ ghost use Rattle.luks1_edits.specs.Edited.{IsInUse};
 
 use crate::accepted::AcceptedHeader;
 use luks_area::Device;
-use luks_edit::{EditFault, Passphrase};
+use luks_edit::{EditFault, Secret, give_within};
 use luks_reading::luks1_plan;
-use luks_slot::{Allowed, Key, SlotFault, open_within};
+use luks_slot::{Allowed, Key, SlotFault};
 use std::alloc::Global;
 
 /// The fault of a keyslot, opened or sealed, as that of an edit.
@@ -24,15 +24,15 @@ pub(crate) fn keyslot_fault(fault: SlotFault) -> EditFault
     }
 }
 
-/// The key that the keyslot `n` opens to, which is in use, or why it doesn't open: `Locked`, `Slot`, or
-/// the device's failure. Ciphers and hashes of older disks are accepted where the passphrase allows
-/// them.
+/// The key that the keyslot `n` gives by the secret, which is in use, or why it gives none: `Locked`,
+/// `Slot`, or the device's failure. Ciphers and hashes of older disks are accepted where the secret
+/// allows them.
 pub(crate) fn unlock<D: Device>(
     alloc: Global,
     device: &mut D,
     header: &AcceptedHeader<'_>,
     n: u8,
-    passphrase: &Passphrase<'_>,
+    secret: &Secret<'_>,
 ) -> Result<Key, EditFault>
     requires room { D.failed device.old + 1 < 2 ^ 64 }
     requires accepted { IsAcceptedAt header.now (D.size device.old) }
@@ -44,20 +44,20 @@ pub(crate) fn unlock<D: Device>(
     ensures length { IfOk result (λ key. length key ≡ key_bytes_of header.now.bytes.now) }
     ensures opened { D.tells
         → IsHeaderOf header.now.bytes.now header.now.payload (D.bytes device.old)
-        → IfOk result (IsOpenedBy passphrase.now.allowed.older (D.bytes device.old) n
-        passphrase.now.bytes.now) }
+        → IfOk result (IsOpenedBy secret.now.kind secret.now.allowed.older (D.bytes device.old) n
+        secret.now.bytes.now) }
     ensures refused { D.tells
         → IsHeaderOf header.now.bytes.now header.now.payload (D.bytes device.old)
-        → IfErr result (IsUnopened passphrase.now.allowed.older (D.bytes device.old) n
-        passphrase.now.bytes.now) }
+        → IfErr result (IsUnopened secret.now.kind secret.now.allowed.older (D.bytes device.old) n
+        secret.now.bytes.now) }
 {
     let slot = &header.fields.slots[n as usize];
     let plan = luks1_plan(&header.fields.common, slot);
     let allowed = Allowed {
         memory: 0,
-        older: passphrase.allowed.older,
+        older: secret.allowed.older,
     };
-    match open_within(alloc, device, &plan, passphrase.bytes, allowed) {
+    match give_within(alloc, device, &plan, secret, allowed) {
         Ok(found) => match found {
             Some(key) => Ok(key),
             None => Err(EditFault::Locked),

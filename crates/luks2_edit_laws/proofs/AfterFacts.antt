@@ -29,7 +29,8 @@ use Rattle.luks_making.proofs.RemovalFacts.{held_left, slot_lost}
 use Rattle.luks_making.proofs.RoomFacts.{gained_added, held_added, room as has_room, says_members}
 use Rattle.luks_slot.specs.declared.allowed.Allowed.{Allowed}
 use Rattle.luks_reading.specs.declared.report.Data.{Data}
-use Rattle.luks_reading.specs.Answer.{opens, AnswerWithin}
+use Rattle.luks_reading.specs.Answer.{opens}
+use Rattle.luks_edit.specs.Secrets.{AnswersTo}
 use Rattle.luks_reading.specs.Checked.{AreaOf, WellFormed}
 use Rattle.luks_reading.specs.Layout2.{slot_number}
 use Rattle.luks_edit.specs.declared.edit.Edit.{Edit}
@@ -202,8 +203,8 @@ module _ (allowed : Allowed) (v : List ℕ) (o h : ℕ) (payload : Data) (random
 
 -- the keyslot that the edit opens was opened
 abbrev pub WasOpened : List ℕ → Edit → Type 0
-WasOpened v (Add by_ old new to iterations d) = (key : List ℕ) × AnswerWithin (allowed_for old new.now) v by_ old.bytes.now (opens key)
-WasOpened v (Change slot old new iterations d) = (key : List ℕ) × AnswerWithin (allowed_for old new.now) v slot old.bytes.now (opens key)
+WasOpened v (Add by_ old new to iterations d) = (key : List ℕ) × AnswersTo old.kind (allowed_for old new.now) v by_ old.bytes.now (opens key)
+WasOpened v (Change slot old new iterations d) = (key : List ℕ) × AnswersTo old.kind (allowed_for old new.now) v slot old.bytes.now (opens key)
 WasOpened v (Remove slot by_ passphrase) = Unit {0}
 WasOpened v Repair = Unit {0}
 WasOpened v (Label text) = Unit {0}
@@ -222,7 +223,7 @@ pub edited_metadata : (v : List ℕ) (o : ℕ) (payload : Data) (e : Edit) (rand
     → KeepsMetadata (hdr_size (header_at v o)) (length v) payload (NamedKeyslots2 v e) j k
 edited_metadata v o payload (Add by_ old new to iterations d) random j k m before ranges free sealed is layout =
     let ready : IsReady (allowed_for old new.now) v o j by_ (asking iterations d) random = record {
-      opened = opened_plan (allowed_for old new.now) v o j by_ old.bytes.now sealed.0 m sealed.1;
+      opened = opened_plan old.kind (allowed_for old new.now) v o j by_ old.bytes.now sealed.0 m sealed.1;
       turns = false_from_ne_true _ (λ few. free.none Iterations few);
       within = false_from_ne_true _ (λ beyond. free.none Argon2 beyond);
       ranged = ranges.derivation;
@@ -236,7 +237,7 @@ edited_metadata v o payload (Add by_ old new to iterations d) random j k m befor
     is (record { place = o; value = j; metadata = m; is_new = is.is_new })
 edited_metadata v o payload (Change slot old new iterations d) random j k m before ranges free sealed is layout =
     let ready : IsReady (allowed_for old new.now) v o j slot (asking iterations d) random = record {
-      opened = opened_plan (allowed_for old new.now) v o j slot old.bytes.now sealed.0 m sealed.1;
+      opened = opened_plan old.kind (allowed_for old new.now) v o j slot old.bytes.now sealed.0 m sealed.1;
       turns = false_from_ne_true _ (λ few. free.none Iterations few);
       within = false_from_ne_true _ (λ beyond. free.none Argon2 beyond);
       ranged = ranges.derivation;

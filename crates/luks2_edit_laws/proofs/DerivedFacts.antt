@@ -55,7 +55,7 @@ module _ (v : List ℕ) (payload : Data) (random w : List ℕ) (well : WellForme
       let first = before v payload e random w well ranges free a in
       let whole = layout v payload e random w well ranges free a in
       let ready : IsReady (allowed_for old new.now) v a.place a.value by_ (asking iterations d) random = record {
-        opened = opened_plan (allowed_for old new.now) v a.place a.value by_ old.bytes.now a.sealed.key a.metadata a.sealed.opened;
+        opened = opened_plan old.kind (allowed_for old new.now) v a.place a.value by_ old.bytes.now a.sealed.key a.metadata a.sealed.opened;
         turns = false_from_ne_true _ (λ few. free.none Iterations few);
         within = false_from_ne_true _ (λ beyond. free.none Argon2 beyond);
         ranged = ranges.derivation;
@@ -81,7 +81,7 @@ module _ (v : List ℕ) (payload : Data) (random w : List ℕ) (well : WellForme
       let first = before v payload e random w well ranges free a in
       let whole = layout v payload e random w well ranges free a in
       let ready : IsReady (allowed_for old new.now) v a.place a.value slot (asking iterations d) random = record {
-        opened = opened_plan (allowed_for old new.now) v a.place a.value slot old.bytes.now a.sealed.key a.metadata a.sealed.opened;
+        opened = opened_plan old.kind (allowed_for old new.now) v a.place a.value slot old.bytes.now a.sealed.key a.metadata a.sealed.opened;
         turns = false_from_ne_true _ (λ few. free.none Iterations few);
         within = false_from_ne_true _ (λ beyond. free.none Argon2 beyond);
         ranged = ranges.derivation;

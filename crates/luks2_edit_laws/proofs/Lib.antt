@@ -2,6 +2,7 @@ pub mod AfterFacts
 pub mod AlikeFacts
 mod CopyFacts
 mod GapFacts
+mod GivenFacts
 mod KeptAnswers
 mod KeptFacts
 mod LeftoverFacts

@@ -19,6 +19,8 @@ use Rattle.luks_reading.specs.declared.report.Data.{Data}
 use Rattle.luks_reading.specs.Answer.{opens, AnswerWithin}
 use Rattle.luks_reading.specs.Header.{json_at}
 use Rattle.luks_reading.specs.Plans.{IsLuks2Derivation, IsLuks2Digest}
+use Rattle.luks_edit.specs.declared.edit.SecretKind.{SecretKind}
+use Rattle.luks_edit.specs.Secrets.{AnswersTo}
 use Rattle.luks2_edit_laws.specs.Edited.{HoldsKey}
 use Rattle.luks2_edit_laws.specs.Metadata.{HasMetadata, IsNewKeyslot}
 use Rattle.luks2_edit_laws.proofs.MetadataFacts.{digest_moves, some_same}
@@ -65,17 +67,17 @@ like_changed allowed d was f now new old is says long within = record {
 }
 
 module _
-    (allowed : Allowed) (v w : List ℕ) (payload : Data) (o p h : ℕ) (j k : Value) (opener n : ℕ)
-    (old new key random : List ℕ) (m : HasMetadata v o j) (opened : AnswerWithin allowed v opener old (opens key)) (before : HasCopy v o h j)
+    (kind : SecretKind) (allowed : Allowed) (v w : List ℕ) (payload : Data) (o p h : ℕ) (j k : Value) (opener n : ℕ)
+    (old new key random : List ℕ) (m : HasMetadata v o j) (opened : AnswersTo kind allowed v opener old (opens key)) (before : HasCopy v o h j)
     (was : IsLayout h (length v) payload j) (after : HasCopy w p h k) (layout : IsLayout h (length w) payload k) (y : HoldsKey w k n new key random)
   where
     abbrev plan_of : IsOpened allowed v o j opener
-    plan_of = opened_plan allowed v o j opener old key m opened
+    plan_of = opened_plan kind allowed v o j opener old key m opened
 
-    meets : meets_digest (opened_plan allowed v o j opener old key m opened).plan.digest key ≡ true
-    meets = opened_meets allowed v o j opener old key m opened
+    meets : meets_digest (opened_plan kind allowed v o j opener old key m opened).plan.digest key ≡ true
+    meets = opened_meets kind allowed v o j opener old key m opened
 
-    opens_by : SaysLike allowed (opened_plan allowed v o j opener old key m opened).object y.object
+    opens_by : SaysLike allowed (opened_plan kind allowed v o j opener old key m opened).object y.object
         → ((number : ℕ) → IsDigestOf j opener number → IsDigestOf k n number) → KeepsRest n j k → AnswerWithin allowed w n new (opens key)
     opens_by like names rest =
         let dx : IsLuks2Digest j opener plan_of.plan.digest = plan_of.is.digest in

@@ -6,7 +6,7 @@ use Rattle.luks_making.specs.Unchanged.{GainsSlot}
 use Rattle.luks_reading.specs.declared.report.Data.{Data}
 use Rattle.luks_reading.specs.Answer.{opens, AnswerWithin}
 use Rattle.luks_reading.specs.Checked.{WellFormed}
-use Rattle.luks_reading.proofs.VolumeLaws.{one_answer}
+use Rattle.luks_edit.proofs.SecretFacts.{one_answer_to}
 use Rattle.luks_edit.specs.declared.edit.Edit.{Edit}
 use Rattle.luks_edit.specs.declared.edit.Edit.TheVariants.{Add, Change, Remove, Repair, Label}
 use Rattle.luks_edit.specs.Asked.{allowed_for}
@@ -33,7 +33,7 @@ module _ (v : List ℕ) (payload : Data) (random w : List ℕ) (well : WellForme
       let first = before v payload e random w well ranges free a in
       let was = layout v payload e random w well ranges free a in
       let ready : IsReady (allowed_for old new.now) v a.place a.value by_ (asking iterations d) random = record {
-        opened = opened_plan (allowed_for old new.now) v a.place a.value by_ old.bytes.now a.sealed.key a.metadata a.sealed.opened;
+        opened = opened_plan old.kind (allowed_for old new.now) v a.place a.value by_ old.bytes.now a.sealed.key a.metadata a.sealed.opened;
         turns = false_from_ne_true _ (λ few. free.none Iterations few);
         within = false_from_ne_true _ (λ beyond. free.none Argon2 beyond);
         ranged = ranges.derivation;
@@ -47,7 +47,7 @@ module _ (v : List ℕ) (payload : Data) (random w : List ℕ) (well : WellForme
       let says = added_says (allowed_for old new.now) v a.place (hdr_size (header_at v a.place)) payload random a.value a.new first was by_ (asking iterations d) ready to taken none a.edited in
       let slot : a.edited.slot ≡ a.sealed.slot = one_new a.value to a.edited.slot a.sealed.slot a.edited.is_new a.sealed.is_made in
       let opened : AnswerWithin (allowed_for old new.now) w a.sealed.slot new.now (opens a.sealed.key) =
-      made_opens (allowed_for old new.now) v w payload a.place 0 (hdr_size (header_at v a.place)) a.value a.new by_ a.sealed.slot old.bytes.now new.now a.sealed.key (stripes_random random)
+      made_opens old.kind (allowed_for old new.now) v w payload a.place 0 (hdr_size (header_at v a.place)) a.value a.new by_ a.sealed.slot old.bytes.now new.now a.sealed.key (stripes_random random)
       a.metadata a.sealed.opened first was (after v payload e random w well ranges free a) (now e ranges free a) a.sealed.holds
       (members_of (asking iterations d) (keyslot_salt random) a.edited.area) a.edited.is.slot a.edited.is.digest a.edited.is.from a.edited.is.there.is a.edited.is.made a.edited.is.names
       says (long_salt (allowed_for old new.now) v a.place (hdr_size (header_at v a.place)) payload random a.value a.new first was by_ (asking iterations d) ready a.edited.area a.edited.place) ready.within
@@ -57,13 +57,13 @@ module _ (v : List ℕ) (payload : Data) (random w : List ℕ) (well : WellForme
       a.metadata.chosen a.metadata.holds is.metadata.chosen is.metadata.holds in
       let here : IsNewKeyslot a.value to n = subst (λ j. IsNewKeyslot j to n) value is.is_new in
       let same : a.sealed.slot ≡ n = one_new a.value to a.sealed.slot n a.sealed.is_made here in
-      let key_same : a.sealed.key ≡ key = one_answer (allowed_for old new.now) v by_ old.bytes.now (opens a.sealed.key) (opens key) a.sealed.opened by_key in
+      let key_same : a.sealed.key ≡ key = one_answer_to old.kind (allowed_for old new.now) v by_ old.bytes.now (opens a.sealed.key) (opens key) a.sealed.opened by_key in
       subst (λ k. AnswerWithin (allowed_for old new.now) w n new.now (opens k)) key_same (subst (λ q. AnswerWithin (allowed_for old new.now) w q new.now (opens a.sealed.key)) same opened))
   opens_after (Change slot old new iterations d) ranges free a =
       let e : Edit = Change slot old new iterations d in
       let first = before v payload e random w well ranges free a in
       let was = layout v payload e random w well ranges free a in
-      let plan = opened_plan (allowed_for old new.now) v a.place a.value slot old.bytes.now a.sealed.key a.metadata a.sealed.opened in
+      let plan = opened_plan old.kind (allowed_for old new.now) v a.place a.value slot old.bytes.now a.sealed.key a.metadata a.sealed.opened in
       let ready : IsReady (allowed_for old new.now) v a.place a.value slot (asking iterations d) random = record {
         opened = plan;
         turns = false_from_ne_true _ (λ few. free.none Iterations few);
@@ -77,12 +77,12 @@ module _ (v : List ℕ) (payload : Data) (random w : List ℕ) (well : WellForme
       let holds : HoldsKey w a.new slot new.now a.sealed.key (stripes_random random) =
       subst (λ n. HoldsKey w a.new n new.now a.sealed.key (stripes_random random)) a.sealed.is_made a.sealed.holds in
       let opened : AnswerWithin (allowed_for old new.now) w slot new.now (opens a.sealed.key) =
-      changed_opens (allowed_for old new.now) v w payload a.place 0 (hdr_size (header_at v a.place)) a.value a.new slot slot old.bytes.now new.now a.sealed.key (stripes_random random)
+      changed_opens old.kind (allowed_for old new.now) v w payload a.place 0 (hdr_size (header_at v a.place)) a.value a.new slot slot old.bytes.now new.now a.sealed.key (stripes_random random)
       a.metadata a.sealed.opened first was (after v payload e random w well ranges free a) (now e ranges free a) holds
       (members_of (asking iterations d) (keyslot_salt random) a.edited.area) refl
       (long_salt (allowed_for old new.now) v a.place (hdr_size (header_at v a.place)) payload random a.value a.new first was slot (asking iterations d) ready a.edited.area a.edited.place) ready.within changes in
       λ key by_key.
-      (let key_same : a.sealed.key ≡ key = one_answer (allowed_for old new.now) v slot old.bytes.now (opens a.sealed.key) (opens key) a.sealed.opened by_key in
+      (let key_same : a.sealed.key ≡ key = one_answer_to old.kind (allowed_for old new.now) v slot old.bytes.now (opens a.sealed.key) (opens key) a.sealed.opened by_key in
       subst (λ k. AnswerWithin (allowed_for old new.now) w slot new.now (opens k)) key_same opened)
   opens_after (Remove slot by_ passphrase) ranges free a = tt
   opens_after Repair ranges free a = tt

@@ -23,11 +23,13 @@ use Rattle.luks_slot.specs.declared.allowed.Allowed.{Allowed}
 use Rattle.luks_slot.specs.declared.fault.SlotFault.TheVariants.{Argon2}
 use Rattle.luks_slot.specs.declared.plan.SlotPlan.{SlotPlan}
 use Rattle.luks_slot.specs.Opening.{meets_digest}
-use Rattle.luks_slot.proofs.OpeningFacts.{found_meets}
+use Rattle.luks_edit.specs.declared.edit.SecretKind.{SecretKind}
+use Rattle.luks_edit.specs.Secrets.{AnswersTo}
+use Rattle.luks_edit.proofs.SecretFacts.{given_meets}
 use Rattle.luks_slot.specs.Refusal.{first_refusal, is_argon2_refused, slot_refusal_within}
 use Rattle.luks_reading.specs.declared.open_fault.OpenFault.TheVariants as opening
 use Rattle.luks_reading.specs.declared.report.Data.{Data}
-use Rattle.luks_reading.specs.Answer.{AnswerWithin, HasPlanAs, IsRefusalAsWithin, opens}
+use Rattle.luks_reading.specs.Answer.{HasPlanAs, IsRefusalAsWithin, opens}
 use Rattle.luks_reading.specs.Header.{json_at}
 use Rattle.luks_reading.specs.Plans.{HasLuks2Plan, IsLuks2Plan}
 use Rattle.luks2_edit_laws.specs.Edited.{keyslot_salt, members_of}
@@ -55,7 +57,7 @@ salt_length random enough = let long : length (part random 128 32) ≡ min 32 (l
 
 -- ---- the keyslot that was opened
 
--- the keyslot that a passphrase opened, by the metadata that count
+-- the keyslot that a secret opened, by the metadata that count
 pub record IsOpened (allowed : Allowed) (v : List ℕ) (o : ℕ) (j : Value) (n : ℕ) : Type 0 where
   pub numbered : n < 32
   pub plan : SlotPlan
@@ -77,8 +79,8 @@ none_of None h = refl
 none_of (Some a) h = absurd (h a refl)
 
 -- a keyslot that was opened has a plan that isn't refused
-pub opened_plan : (allowed : Allowed) (v : List ℕ) (o : ℕ) (j : Value) (n : ℕ) (p key : List ℕ) → HasMetadata v o j → AnswerWithin allowed v n p (opens key) → IsOpened allowed v o j n
-opened_plan allowed v o j n p key m a =
+pub opened_plan : (kind : SecretKind) (allowed : Allowed) (v : List ℕ) (o : ℕ) (j : Value) (n : ℕ) (p key : List ℕ) → HasMetadata v o j → AnswersTo kind allowed v n p (opens key) → IsOpened allowed v o j n
+opened_plan kind allowed v o j n p key m a =
     let choice = choices_agree v a.choice (luks2 o m.copies) a.chosen m.chosen in
     let is : HasLuks2Plan (json_at v o) n a.plan = subst (λ c. HasPlanAs v n c a.plan) choice a.is in
     let same : is.value ≡ j = one_value (json_at v o) is.value j is.holds m.holds in
@@ -93,10 +95,10 @@ opened_plan allowed v o j n p key m a =
     }
 
 -- its key meets the digest
-pub opened_meets : (allowed : Allowed) (v : List ℕ) (o : ℕ) (j : Value) (n : ℕ) (p key : List ℕ) (m : HasMetadata v o j) (a : AnswerWithin allowed v n p (opens key))
-    → meets_digest (opened_plan allowed v o j n p key m a).plan.digest key ≡ true
+pub opened_meets : (kind : SecretKind) (allowed : Allowed) (v : List ℕ) (o : ℕ) (j : Value) (n : ℕ) (p key : List ℕ) (m : HasMetadata v o j) (a : AnswersTo kind allowed v n p (opens key))
+    → meets_digest (opened_plan kind allowed v o j n p key m a).plan.digest key ≡ true
 unfolding opened_plan
-opened_meets allowed v o j n p key m a = found_meets a.plan (part v a.plan.area.start a.plan.area.len) p key a.key
+opened_meets kind allowed v o j n p key m a = given_meets kind a.plan (part v a.plan.area.start a.plan.area.len) p key a.key
 
 -- it is there
 pub opened_there : (allowed : Allowed) (v : List ℕ) (o : ℕ) (j : Value) (n : ℕ) → IsOpened allowed v o j n → IsThere j n

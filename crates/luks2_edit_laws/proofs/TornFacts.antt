@@ -1,5 +1,5 @@
 -- What a LUKS2 volume keeps that a failing device call left.
-use Rattle.std.proofs.Common.{◌≡◌, ℕ, ◌+◌, ◌-◌, ◌*◌, ◌<◌, ◌≤◌, ◌⊎◌, ◌==◌, Bool, true, false, List, length, None, inl, inr, refl, sym, ap, subst, ◌∙◌, arith}
+use Rattle.std.proofs.Common.{◌≡◌, ℕ, ◌+◌, ◌-◌, ◌*◌, ◌<◌, ◌≤◌, ◌⊎◌, ◌==◌, Bool, true, false, List, length, None, Some, inl, inr, refl, sym, ap, subst, ◌∙◌, arith}
 use Rattle.std.proofs.lemmas.Bool.{eqb-true, false_from_ne_true}
 use Rattle.serde_json.specs.Data.{Data as Value}
 use Rattle.luks_area.specs.declared.area.AreaName.TheVariants as name
@@ -20,7 +20,7 @@ use Rattle.luks_reading.specs.Answer.{opens, AnswerWithin}
 use Rattle.luks_reading.specs.Layout2.{Luks2Area}
 use Rattle.luks_reading.specs.Checked.{WellFormed, WellFormedAs}
 use Rattle.luks_reading.specs.Header.{json_at}
-use Rattle.luks_reading.proofs.VolumeLaws.{one_answer}
+use Rattle.luks_edit.proofs.SecretFacts.{one_answer_to}
 use Rattle.luks_edit.specs.declared.edit.Edit.{Edit}
 use Rattle.luks_edit.specs.declared.edit.Edit.TheVariants.{Add, Change, Remove, Repair, Label}
 use Rattle.luks_edit.specs.Asked.{allowed_for}
@@ -37,6 +37,7 @@ use Rattle.luks2_edit_laws.proofs.MetadataFacts.{some_same}
 use Rattle.luks2_edit_laws.proofs.OpenedFacts.{changed_opens}
 use Rattle.luks2_edit_laws.proofs.SealFacts.{opened_plan}
 use Rattle.luks2_edit_laws.proofs.AfterFacts.{asking, changed_changes, edited_metadata, lost_is_named, same_metadata, was_opened, IsReady, WasOpened, long_salt}
+use Rattle.luks2_edit_laws.proofs.GivenFacts.{gives_kept}
 use Rattle.luks2_edit_laws.proofs.KeptFacts.{all_kept}
 use Rattle.luks2_edit_laws.proofs.LeftoverFacts.{first_size_left, is_sound, left_of, not_other, place_is, same_header, Left}
 use Rattle.luks2_edit_laws.proofs.SoundCopyFacts.{copy_sound}
@@ -110,7 +111,16 @@ module _
     (v : List ℕ) (payload : Data) (e : Edit) (random w : List ℕ) (well : WellFormed v payload)
     (ranges : HasRanges v e random) (long : length w ≡ length v)
   where
-    -- where the copy that counted still counts, all is kept but what was touched
+    -- where the copy that counted still counts, it has the JSON area that it had
+    pub same_json : (o : ℕ) (c b : Copies) → Chosen v (luks2 o c) → Chosen w (luks2 o b) → copy_at w o ≡ copy_at v o → json_at w o ≡ json_at v o
+    same_json o c b counted counts same =
+        let h : ℕ = hdr_size (header_at v o) in
+        let size : hdr_size (header_at w o) ≡ h = ap (λ x. hdr_size x) (same_header v w long o same (copy_sound w o b counts)) in
+        let was : 4096 ≤ h = big (copy_sound v o c counted).form.listed in
+        let is : 4096 ≤ hdr_size (header_at w o) = big (copy_sound w o b counts).form.listed in
+        sym (json_of_copy w o is) ∙ ap (λ n. part (copy_at w o) 4096 (n - 4096)) size ∙ ap (λ x. part x 4096 (h - 4096)) same ∙ json_of_copy v o was
+
+    -- all is kept but what was touched
     pub kept_before : (named : ℕ → Type 0) (d : Edit) → ((n : ℕ) → Loses d n → named n) → (o : ℕ) (j : Value) (m : HasMetadata v o j) (b : Copies)
         → Chosen w (luks2 o b) → copy_at w o ≡ copy_at v o
         → SameBut (IsTouched (hdr_size (header_at v o)) (length v) payload j d) v w → Keeps payload named v w
@@ -120,10 +130,7 @@ module _
         let layout : IsLayout h (length v) payload j = layout_of v payload o j m well in
         let header : header_at w o ≡ header_at v o = same_header v w long o same (copy_sound w o b chosen) in
         let size : hdr_size (header_at w o) ≡ h = ap (λ x. hdr_size x) header in
-        let was : 4096 ≤ h = big (copy_sound v o m.copies m.chosen).form.listed in
-        let is : 4096 ≤ hdr_size (header_at w o) = big (copy_sound w o b chosen).form.listed in
-        let json : json_at w o ≡ json_at v o = sym (json_of_copy w o is) ∙ ap (λ n. part (copy_at w o) 4096 (n - 4096)) size
-        ∙ ap (λ c. part c 4096 (h - 4096)) same ∙ json_of_copy v o was in
+        let json : json_at w o ≡ json_at v o = same_json o m.copies b m.chosen chosen same in
         let after : HasCopy w o h j = record {
           copies = b;
           chosen = chosen;
@@ -206,7 +213,7 @@ opens_written v payload (Change slot old new iterations d) random w well ranges 
     let now : IsLayout h (length w) payload a.new = subst (λ n. IsLayout h n payload a.new) (sym long)
     (edited_metadata v a.place payload e random a.value a.new a.metadata before ranges free (sealed.key, sealed.opened) a.edited layout).layout in
     let ready : IsReady (allowed_for old new.now) v a.place a.value slot (asking iterations d) random = record {
-      opened = opened_plan (allowed_for old new.now) v a.place a.value slot old.bytes.now sealed.key a.metadata sealed.opened;
+      opened = opened_plan old.kind (allowed_for old new.now) v a.place a.value slot old.bytes.now sealed.key a.metadata sealed.opened;
       turns = false_from_ne_true _ (λ few. free.none Iterations few);
       within = false_from_ne_true _ (λ beyond. free.none Argon2 beyond);
       ranged = ranges.derivation;
@@ -220,12 +227,12 @@ opens_written v payload (Change slot old new iterations d) random w well ranges 
     subst (λ n. HoldsKey w k n new.now sealed.key (stripes_random random)) sealed.is_made sealed.holds in
     let holds : HoldsKey w a.new slot new.now sealed.key (stripes_random random) = subst (λ i. HoldsKey w i slot new.now sealed.key (stripes_random random)) same there in
     let opened : AnswerWithin (allowed_for old new.now) w slot new.now (opens sealed.key) =
-    changed_opens (allowed_for old new.now) v w payload a.place p h a.value a.new slot slot old.bytes.now new.now sealed.key (stripes_random random)
+    changed_opens old.kind (allowed_for old new.now) v w payload a.place p h a.value a.new slot slot old.bytes.now new.now sealed.key (stripes_random random)
     a.metadata sealed.opened before layout after now holds
     (members_of (asking iterations d) (keyslot_salt random) a.edited.area) refl
     (long_salt (allowed_for old new.now) v a.place h payload random a.value a.new before layout slot (asking iterations d) ready a.edited.area a.edited.place) ready.within changes in
     λ key was.
-    (let key_same : sealed.key ≡ key = one_answer (allowed_for old new.now) v slot old.bytes.now (opens sealed.key) (opens key) sealed.opened was in
+    (let key_same : sealed.key ≡ key = one_answer_to old.kind (allowed_for old new.now) v slot old.bytes.now (opens sealed.key) (opens key) sealed.opened was in
     inr (subst (λ x. AnswerWithin (allowed_for old new.now) w slot new.now (opens x)) key_same opened))
 opens_written v payload (Remove slot by_ passphrase) random w well ranges free long j k p b chosen a edited sealed = tt
 opens_written v payload Repair random w well ranges free long j k p b chosen a edited sealed = tt
@@ -251,7 +258,7 @@ pub record Outcome (v : List ℕ) (payload : Data) (e : Edit) (random w : List �
   pub keeps : Keeps payload (NamedKeyslots2 v e) v w
   pub opens_either : OpensEither2 v e w
 
--- while neither the copy that counted nor the keyslot's own area was touched, it opens by the old passphrase
+-- while neither the copy that counted nor the keyslot's own area was touched, it gives by the old secret what it gave
 opens_before : (v : List ℕ) (payload : Data) (e : Edit) (random w : List ℕ) → WellFormed v payload
     → HasRanges v e random → (o : ℕ) (j : Value) (m : HasMetadata v o j) (b : Copies) → Chosen w (luks2 o b) → copy_at w o ≡ copy_at v o
     → SameBut (IsOfEither (IsOfSealed (hdr_size (header_at v o)) (length v) payload j e) (IsOfCopies (hdr_size (header_at v o)))) v w → OpensEither2 v e w
@@ -262,7 +269,8 @@ opens_before v payload (Change slot old new iterations d) random w well ranges o
     let kept : Keeps payload (λ n. ⊥) v w =
     kept_before v payload (Change slot old new iterations d) random w well ranges rest.length_same (λ n. ⊥) (Add slot old new None iterations d) (λ n lost. lost)
     o j m b chosen same all in
-    inl (((kept.slots slot (λ x. x)).answers (allowed_for old new.now) old.bytes.now (opens key)).0 was))
+    inl (gives_kept old.kind (allowed_for old new.now) payload v w slot old.bytes.now (Some key) o m.copies b m.chosen chosen
+    (same_json v payload (Change slot old new iterations d) random w well ranges rest.length_same o m.copies b m.chosen chosen same) (kept.slots slot (λ x. x)) was))
 opens_before v payload (Remove slot by_ passphrase) random w well ranges o j m b chosen same rest = tt
 opens_before v payload Repair random w well ranges o j m b chosen same rest = tt
 opens_before v payload (Label text) random w well ranges o j m b chosen same rest = tt

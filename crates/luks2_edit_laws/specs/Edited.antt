@@ -21,7 +21,9 @@ use Rattle.luks_reading.specs.declared.report.Data.{Data}
 use Rattle.luks_reading.specs.Answer.{AnswerWithin, opens}
 use Rattle.luks_reading.specs.Plans.{IsLuks2Plan}
 use Rattle.luks_edit.specs.declared.edit.Edit.{Edit}
+use Rattle.luks_edit.specs.declared.edit.SecretKind.{SecretKind}
 use Rattle.luks_edit.specs.declared.deed.Sealed.{Sealed}
+use Rattle.luks_edit.specs.Secrets.{AnswersTo}
 use Rattle.luks_edit.specs.Asked.{deed_of, lost_by, MatchDeed, MatchPlace, allowed_for, sealed_by}
 use Rattle.luks2_edit_laws.specs.Copies.{IsWrittenAnew}
 use Rattle.luks2_edit_laws.specs.Metadata.{HasMetadata, IsKeyArea, IsNewKeyslot}
@@ -111,15 +113,15 @@ pub record HoldsKey (w : List ℕ) (j : Value) (n : ℕ) (passphrase key random 
   pub random_length : length random ≡ (plan.stripes - 1) * plan.key_bytes
   pub sealed : IsSealed plan (area_bytes w plan.area) passphrase key random
 
--- a keyslot of the set `made` holds under `new`, by the metadata `j`, the key that `old` opens in the
--- keyslot `opener` of the volume `v`, where so much is allowed
+-- a keyslot of the set `made` holds under `new`, by the metadata `j`, the key that the keyslot `opener` of the
+-- volume `v` gives by the secret `old`, where so much is allowed
 pub record HoldsOpened
-    (allowed : Allowed) (v : List ℕ) (opener : ℕ) (old new : List ℕ) (made : ℕ → Type 0) (random w : List ℕ) (j : Value)
+    (kind : SecretKind) (allowed : Allowed) (v : List ℕ) (opener : ℕ) (old new : List ℕ) (made : ℕ → Type 0) (random w : List ℕ) (j : Value)
     : Type 0 where
   pub slot : ℕ
   pub is_made : made slot
   pub key : List ℕ
-  pub opened : AnswerWithin allowed v opener old (opens key)
+  pub opened : AnswersTo kind allowed v opener old (opens key)
   pub holds : HoldsKey w j slot new key (stripes_random random)
 
 -- the keyslot that a key is sealed in by the metadata `j`
@@ -129,7 +131,7 @@ IsSealedBeside j s n = MatchPlace s.place (λ to. IsNewKeyslot j to n) (n ≡ s.
 -- the keyslot that the edit makes of the metadata `j`, or seals again, holds the key that was opened
 abbrev pub IsSealedBy : List ℕ → Edit → List ℕ → Value → List ℕ → Value → Type 0
 IsSealedBy v e random j w k = IfSome (sealed_by e) (λ s.
-    HoldsOpened (allowed_for s.opener.passphrase s.passphrase.now) v s.opener.slot s.opener.passphrase.bytes.now s.passphrase.now (IsSealedBeside j s) random w k)
+    HoldsOpened s.opener.secret.kind (allowed_for s.opener.secret s.passphrase.now) v s.opener.slot s.opener.secret.bytes.now s.passphrase.now (IsSealedBeside j s) random w k)
 
 -- the area that the keyslot `n` has by the metadata `j` is zeros
 abbrev pub IsWiped : Value → ℕ → List ℕ → Type 0
@@ -158,12 +160,12 @@ pub record After2 (v : List ℕ) (payload : Data) (e : Edit) (random w : List �
 
 -- ---- what opens after an edit
 
--- a keyslot that the edit made or sealed again opens by its new passphrase to the key that the old one
--- opened, where as much is allowed
+-- a keyslot that the edit made or sealed again opens by its new passphrase to the key that the secret
+-- gave, where as much is allowed
 abbrev pub OpensAfter2 : List ℕ → Edit → List ℕ → Type 0
 OpensAfter2 v e w = IfSome (sealed_by e) (λ s. MatchPlace s.place
     (λ to. (n : ℕ) (key : List ℕ) → IsMadeIn v to n
-    → AnswerWithin (allowed_for s.opener.passphrase s.passphrase.now) v s.opener.slot s.opener.passphrase.bytes.now (opens key)
-    → AnswerWithin (allowed_for s.opener.passphrase s.passphrase.now) w n s.passphrase.now (opens key))
-    ((key : List ℕ) → AnswerWithin (allowed_for s.opener.passphrase s.passphrase.now) v s.opener.slot s.opener.passphrase.bytes.now (opens key)
-    → AnswerWithin (allowed_for s.opener.passphrase s.passphrase.now) w s.opener.slot s.passphrase.now (opens key)))
+    → AnswersTo s.opener.secret.kind (allowed_for s.opener.secret s.passphrase.now) v s.opener.slot s.opener.secret.bytes.now (opens key)
+    → AnswerWithin (allowed_for s.opener.secret s.passphrase.now) w n s.passphrase.now (opens key))
+    ((key : List ℕ) → AnswersTo s.opener.secret.kind (allowed_for s.opener.secret s.passphrase.now) v s.opener.slot s.opener.secret.bytes.now (opens key)
+    → AnswerWithin (allowed_for s.opener.secret s.passphrase.now) w s.opener.slot s.passphrase.now (opens key)))

@@ -11,6 +11,7 @@ use Rattle.luks2_header.specs.Sizes.{IsListed}
 use Rattle.luks_reading.specs.declared.report.Data.{Data}
 use Rattle.luks_reading.specs.Answer.{opens, AnswerWithin}
 use Rattle.luks_edit.specs.declared.edit.Edit.{Edit}
+use Rattle.luks_edit.specs.Secrets.{AnswersTo}
 use Rattle.luks_edit.specs.Asked.{again_by, allowed_for}
 use Rattle.luks2_edit_laws.specs.Copies.{other_place, IsRenewed, IsWrittenAnew}
 use Rattle.luks2_edit_laws.specs.Edited.{keyslot_salt, IsEdited, IsSealedBy}
@@ -103,10 +104,10 @@ pub record CountsAsAfter (v : List ℕ) (payload : Data) (e : Edit) (random w : 
   pub chosen : Chosen w (luks2 place copies)
   pub written : IsAllowed v payload e random w place
 
--- a keyslot that was to be sealed again opens by the old passphrase or by the new one, to the same key,
--- where as much is allowed
+-- a keyslot that was to be sealed again gives by the old secret, or opens by the new passphrase to, the same
+-- key, where as much is allowed
 abbrev pub OpensEither2 : List ℕ → Edit → List ℕ → Type 0
 OpensEither2 v e w = IfSome (again_by e) (λ s. (key : List ℕ)
-    → AnswerWithin (allowed_for s.opener.passphrase s.passphrase.now) v s.opener.slot s.opener.passphrase.bytes.now (opens key)
-    → AnswerWithin (allowed_for s.opener.passphrase s.passphrase.now) w s.opener.slot s.opener.passphrase.bytes.now (opens key)
-    ⊎ AnswerWithin (allowed_for s.opener.passphrase s.passphrase.now) w s.opener.slot s.passphrase.now (opens key))
+    → AnswersTo s.opener.secret.kind (allowed_for s.opener.secret s.passphrase.now) v s.opener.slot s.opener.secret.bytes.now (opens key)
+    → AnswersTo s.opener.secret.kind (allowed_for s.opener.secret s.passphrase.now) w s.opener.slot s.opener.secret.bytes.now (opens key)
+    ⊎ AnswerWithin (allowed_for s.opener.secret s.passphrase.now) w s.opener.slot s.passphrase.now (opens key))

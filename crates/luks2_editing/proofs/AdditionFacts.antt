@@ -21,12 +21,13 @@ use Rattle.luks_slot.specs.declared.allowed.Allowed.{Allowed}
 use Rattle.luks_slot.specs.declared.fault.SlotFault.{SlotFault}
 use Rattle.luks_reading.specs.declared.header.ChosenCopy.{ChosenCopy}
 use Rattle.luks_reading.specs.declared.report.Data.{Data}
-use Rattle.luks_reading.specs.Answer.{opens, AnswerWithin}
+use Rattle.luks_reading.specs.Answer.{opens}
+use Rattle.luks_edit.specs.Secrets.{AnswersTo}
 use Rattle.luks_reading.specs.Checked.{WellFormed}
 use Rattle.luks_reading.specs.Header.{json_at, IsChosenCopy}
 use Rattle.luks_edit.specs.declared.edit.Edit.TheVariants.{Add}
 use Rattle.luks_edit.specs.Asked.{allowed_for}
-use Rattle.luks_edit.specs.declared.edit.Passphrase.{Passphrase}
+use Rattle.luks_edit.specs.declared.edit.Secret.{Secret}
 use Rattle.luks2_edit_laws.specs.Edited.{keyslot_salt, members_of, stripes_random, After2, HoldsKey, HoldsOpened, IsEdited, IsMadeIn}
 use Rattle.luks2_edit_laws.specs.Metadata.{HasStripes, IsKeyArea, IsNewKeyslot}
 use Rattle.luks2_edit_laws.specs.Places.{IsNewArea, IsOfCopies, IsOfNewKeyslot, IsTouched}
@@ -100,11 +101,11 @@ module _ (j k : Value) (slot like : ℕ) (derivation : AskedDerivation) (salt : 
 -- ---- the addition to a volume
 
 -- its rows up to that of the label were judged
-pub record IsJudgedAddition (v : List ℕ) (payload : Data) (copy : ChosenCopy) (addition : Addition) (old : Passphrase) (new : Bor (List ℕ)) (to : Option ℕ) (key random : List ℕ) : Type 0 where
+pub record IsJudgedAddition (v : List ℕ) (payload : Data) (copy : ChosenCopy) (addition : Addition) (old : Secret) (new : Bor (List ℕ)) (to : Option ℕ) (key random : List ℕ) : Type 0 where
   pub chosen : IsChosenCopy v copy
   pub well : WellFormed v payload
   pub before : HasNoFaultBefore 13 v payload (Add addition.by_ old new to addition.derivation.iterations addition.derivation.chosen) random
-  pub opened : AnswerWithin (allowed_for old new.now) v addition.by_ old.bytes.now (opens key)
+  pub opened : AnswersTo old.kind (allowed_for old new.now) v addition.by_ old.bytes.now (opens key)
   pub is_new : IsNewKeyslot (content copy.meta) to addition.made
   pub place : IsNewArea (hdr_size (header_at v copy.header.hdr_offset)) (length v) payload (content copy.meta) addition.by_ addition.area
 
@@ -112,7 +113,7 @@ pub record IsJudgedAddition (v : List ℕ) (payload : Data) (copy : ChosenCopy) 
 abbrev pub sealing_of : Addition → Sealing
 sealing_of a = record { keyslot = Made a.made a.by_; derivation = a.derivation; area = a.area }
 
-module _ (v : List ℕ) (payload : Data) (copy : ChosenCopy) (addition : Addition) (old : Passphrase) (new : Bor (List ℕ)) (to : Option ℕ) (key random : List ℕ)
+module _ (v : List ℕ) (payload : Data) (copy : ChosenCopy) (addition : Addition) (old : Secret) (new : Bor (List ℕ)) (to : Option ℕ) (key random : List ℕ)
     (x : IsJudgedAddition v payload copy addition old new to key random) where
   pub addition_seals : IsSealingEdit v payload (Add addition.by_ old new to addition.derivation.iterations addition.derivation.chosen) random copy (sealing_of addition)
   addition_seals = record {
@@ -135,7 +136,7 @@ module _ (v : List ℕ) (payload : Data) (copy : ChosenCopy) (addition : Additio
         (hdr_size (header_at v copy.header.hdr_offset)) (length v) payload p x.place at
 
     sealed_in : (w : List ℕ) → HoldsKey w k addition.made new.now key (stripes_random random)
-        → HoldsOpened (allowed_for old new.now) v addition.by_ old.bytes.now new.now (IsNewKeyslot (content copy.meta) to) random w k
+        → HoldsOpened old.kind (allowed_for old new.now) v addition.by_ old.bytes.now new.now (IsNewKeyslot (content copy.meta) to) random w k
     sealed_in w holds = record { slot = addition.made; is_made = x.is_new; key = key; opened = x.opened; holds = holds }
 
     pub addition_sealing : IsSealing v payload (Add addition.by_ old new to addition.derivation.iterations addition.derivation.chosen) random copy.header.hdr_offset (content copy.meta) k addition.made new.now key
@@ -145,7 +146,7 @@ module _ (v : List ℕ) (payload : Data) (copy : ChosenCopy) (addition : Additio
     pub addition_fine : 160 ≤ length random → asked_beyond (allowed_for old new.now).memory addition.derivation ≡ false → (g : SlotFault) → HasRefusedKeyslot (allowed_for old new.now) k addition.made g → ⊥
     addition_fine enough within g bad = made_unrefused (content copy.meta) k addition.made addition.by_ addition.derivation (keyslot_salt random) addition.area gained small g
         (long_salt random enough) within
-        (opened_plan (allowed_for old new.now) v copy.header.hdr_offset (content copy.meta) addition.by_ old.bytes.now key (metadata_here v payload copy x.chosen x.well) x.opened)
+        (opened_plan old.kind (allowed_for old new.now) v copy.header.hdr_offset (content copy.meta) addition.by_ old.bytes.now key (metadata_here v payload copy x.chosen x.well) x.opened)
         (one_digest (json_at v copy.header.hdr_offset) (content copy.meta) x.chosen.metadata addition.by_) bad
 
     module _ (edited : IsEdited (hdr_size (header_at v copy.header.hdr_offset)) (length v) payload (Add addition.by_ old new to addition.derivation.iterations addition.derivation.chosen) (keyslot_salt random) (content copy.meta) k)

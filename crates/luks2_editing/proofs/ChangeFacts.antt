@@ -20,12 +20,13 @@ use Rattle.luks_slot.specs.Sealing.{IsSealed}
 use Rattle.luks_meta.specs.Content.{content}
 use Rattle.luks_reading.specs.declared.header.ChosenCopy.{ChosenCopy}
 use Rattle.luks_reading.specs.declared.report.Data.{Data}
-use Rattle.luks_reading.specs.Answer.{AnswerWithin, opens}
+use Rattle.luks_reading.specs.Answer.{opens}
+use Rattle.luks_edit.specs.Secrets.{AnswersTo}
 use Rattle.luks_reading.specs.Checked.{WellFormed}
 use Rattle.luks_reading.specs.Header.{IsChosenCopy}
 use Rattle.luks_edit.specs.declared.edit.Edit.TheVariants.{Change}
 use Rattle.luks_edit.specs.Asked.{allowed_for}
-use Rattle.luks_edit.specs.declared.edit.Passphrase.{Passphrase}
+use Rattle.luks_edit.specs.declared.edit.Secret.{Secret}
 use Rattle.luks2_edit_laws.specs.Edited.{keyslot_salt, members_of, stripes_random, After2, HoldsKey, IsEdited}
 use Rattle.luks2_edit_laws.specs.Leftovers.{Leftover2}
 use Rattle.luks2_edit_laws.specs.Metadata.{HasStripes, IsKeyArea}
@@ -75,9 +76,9 @@ module _ (j k : Value) (slot : ℕ) (derivation : AskedDerivation) (salt : List 
 -- ---- the volume
 
 -- what an edit that seals it again seals, once its rows up to that of the label were judged
-pub renewal_seals : (v : List ℕ) (payload : Data) (copy : ChosenCopy) (r : Renewal) (old : Passphrase) (new : Bor (List ℕ)) (key random : List ℕ)
+pub renewal_seals : (v : List ℕ) (payload : Data) (copy : ChosenCopy) (r : Renewal) (old : Secret) (new : Bor (List ℕ)) (key random : List ℕ)
     → IsChosenCopy v copy → WellFormed v payload → HasNoFaultBefore 13 v payload (Change r.slot old new r.derivation.iterations r.derivation.chosen) random
-    → AnswerWithin (allowed_for old new.now) v r.slot old.bytes.now (opens key)
+    → AnswersTo old.kind (allowed_for old new.now) v r.slot old.bytes.now (opens key)
     → IsNewArea (hdr_size (header_at v copy.header.hdr_offset)) (length v) payload (content copy.meta) r.slot r.area
     → IsSealingEdit v payload (Change r.slot old new r.derivation.iterations r.derivation.chosen) random copy (record { keyslot = Renewed r.slot; derivation = r.derivation; area = r.area })
 renewal_seals v payload copy r old new key random x well before opened place = record {
@@ -92,8 +93,8 @@ renewal_seals v payload copy r old new key random x well before opened place = r
 }
 
 module _ (v : List ℕ) (payload : Data) (copy : ChosenCopy) (x : IsChosenCopy v copy) (well : WellFormed v payload)
-    (slot : ℕ) (old : Passphrase) (new : Bor (List ℕ)) (derivation : AskedDerivation) (key random : List ℕ) (area : Area) (k : Value)
-    (opened : AnswerWithin (allowed_for old new.now) v slot old.bytes.now (opens key))
+    (slot : ℕ) (old : Secret) (new : Bor (List ℕ)) (derivation : AskedDerivation) (key random : List ℕ) (area : Area) (k : Value)
+    (opened : AnswersTo old.kind (allowed_for old new.now) v slot old.bytes.now (opens key))
     (place : IsNewArea (hdr_size (header_at v copy.header.hdr_offset)) (length v) payload (content copy.meta) slot area)
     (made : IsSealedAgain slot (members_of derivation (keyslot_salt random) area) (content copy.meta) k) where
   -- what is sealed is of the edit
@@ -108,7 +109,7 @@ module _ (v : List ℕ) (payload : Data) (copy : ChosenCopy) (x : IsChosenCopy v
   pub renewed_unrefused : 160 ≤ length random → asked_beyond (allowed_for old new.now).memory derivation ≡ false → (g : SlotFault) → HasRefusedKeyslot (allowed_for old new.now) k slot g → ⊥
   renewed_unrefused enough within g y =
       let j : Value = content copy.meta in
-      let was : IsOpened (allowed_for old new.now) v copy.header.hdr_offset j slot = opened_plan (allowed_for old new.now) v copy.header.hdr_offset j slot old.bytes.now key (metadata_here v payload copy x well) opened in
+      let was : IsOpened (allowed_for old new.now) v copy.header.hdr_offset j slot = opened_plan old.kind (allowed_for old new.now) v copy.header.hdr_offset j slot old.bytes.now key (metadata_here v payload copy x well) opened in
       let now : renewed_slot (members_of derivation (keyslot_salt random) area) made.changes.was ≡ y.object =
       same_Some (renewed_slot (members_of derivation (keyslot_salt random) area) made.changes.was) y.object (sym made.changes.is ∙ y.there.is) in
       let object : made.changes.was ≡ was.object = same_Some made.changes.was was.object (sym made.changes.there.is ∙ was.there) in

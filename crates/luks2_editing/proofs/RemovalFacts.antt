@@ -12,7 +12,7 @@ use Rattle.luks_reading.specs.declared.report.Data.{Data}
 use Rattle.luks_reading.specs.Checked.{WellFormed}
 use Rattle.luks_reading.specs.Header.{IsChosenCopy}
 use Rattle.luks_edit.specs.declared.edit.Edit.TheVariants.{Remove}
-use Rattle.luks_edit.specs.declared.edit.Passphrase.{Passphrase}
+use Rattle.luks_edit.specs.declared.edit.Secret.{Secret}
 use Rattle.luks_edit.proofs.RowFacts.{passed_from, Passed}
 use Rattle.luks2_edit_laws.specs.Edited.{After2}
 use Rattle.luks2_edit_laws.specs.Leftovers.{Leftover2}
@@ -29,7 +29,7 @@ use Rattle.luks2_editing.proofs.RenewalFacts.{metadata_here, prepared_unrefused,
 -- ---- the keyslot's area
 
 module _ (v : List ℕ) (payload : Data) (copy : ChosenCopy) (x : IsChosenCopy v copy) (well : WellFormed v payload)
-    (slot : ℕ) (by_ : Option ℕ) (passphrase : Passphrase) (random : List ℕ) (before : HasNoFaultBefore 13 v payload (Remove slot by_ passphrase) random) where
+    (slot : ℕ) (by_ : Option ℕ) (passphrase : Secret) (random : List ℕ) (before : HasNoFaultBefore 13 v payload (Remove slot by_ passphrase) random) where
   pub removal_passed : Passed (IsEditFault2 v payload (Remove slot by_ passphrase) random) 13
   removal_passed = passed_from (IsEditFault2 v payload (Remove slot by_ passphrase) random) 13 before.each
 

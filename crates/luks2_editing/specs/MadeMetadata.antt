@@ -11,11 +11,12 @@ use Rattle.luks_making.specs.With.{IsAdded}
 use Rattle.luks_meta.specs.Content.{content}
 use Rattle.luks_reading.specs.declared.header.ChosenCopy.{ChosenCopy}
 use Rattle.luks_reading.specs.declared.report.Data.{Data}
-use Rattle.luks_reading.specs.Answer.{AnswerWithin, opens}
+use Rattle.luks_reading.specs.Answer.{opens}
 use Rattle.luks_reading.specs.Checked.{WellFormed}
 use Rattle.luks_reading.specs.Header.{IsChosenCopy}
 use Rattle.luks_edit.specs.declared.edit.Edit.{Edit}
-use Rattle.luks_edit.specs.Asked.{allowed_by, MatchPlace, sealed_by}
+use Rattle.luks_edit.specs.Secrets.{AnswersTo}
+use Rattle.luks_edit.specs.Asked.{allowed_by, kind_by, MatchPlace, sealed_by}
 use Rattle.luks2_edit_laws.specs.Metadata.{IsNewKeyslot}
 use Rattle.luks2_edit_laws.specs.Places.{IsNewArea}
 use Rattle.luks2_judging.specs.Rows.{HasNoFaultBefore}
@@ -74,4 +75,4 @@ pub record IsSealingEdit
       (content copy.meta) (like_of sealing.keyslot) sealing.area
   pub passphrase : List ℕ
   pub key : List ℕ
-  pub opened : AnswerWithin (allowed_by e) v (like_of sealing.keyslot) passphrase (opens key)
+  pub opened : AnswersTo (kind_by e) (allowed_by e) v (like_of sealing.keyslot) passphrase (opens key)

@@ -4,7 +4,7 @@ ghost use Rattle.luks_area.specs.Device.{CountsFailure, IsSettled};
 ghost use Rattle.luks2_header.specs.Header2.{hdr_size, header_at};
 ghost use Rattle.luks_meta.specs.Content.{area_len, content};
 ghost use Rattle.luks_reading.specs.declared.report.Data.{Data as Payload};
-ghost use Rattle.luks_reading.specs.Answer.{opens, AnswerWithin};
+ghost use Rattle.luks_reading.specs.Answer.{opens};
 ghost use Rattle.luks_reading.specs.Checked.{WellFormed};
 ghost use Rattle.luks_reading.specs.Header.{IsChosenCopy};
 ghost use Rattle.luks_reading.specs.Plans.{HasLuks2KeyBytes};
@@ -12,8 +12,9 @@ ghost use Rattle.luks_edit.specs.Asked.{allowed_for, deed_of};
 ghost use Rattle.luks_edit.specs.EditFaults.{is_edit_failure};
 ghost use Rattle.luks_edit.specs.declared.deed.Deed.TheVariants.{Seal};
 ghost use Rattle.luks_edit.specs.declared.deed.Place.TheVariants.{Opened};
+ghost use Rattle.luks_edit.specs.Secrets.{AnswersTo};
 ghost use Rattle.luks_edit.specs.declared.edit.Edit.{Edit};
-ghost use Rattle.luks_edit.specs.declared.edit.Passphrase.{Passphrase};
+ghost use Rattle.luks_edit.specs.declared.edit.Secret.{Secret};
 ghost use Rattle.luks2_edit_laws.specs.Metadata.{IsInUse};
 ghost use Rattle.luks2_edit_laws.specs.Places.{IsNewArea};
 ghost use Rattle.luks2_judging.specs.Judging.{IsLostArea, sealing};
@@ -31,7 +32,7 @@ use luks_writing::wipe_area;
 use luks2_judging::Renewal;
 use std::alloc::Global;
 
-/// Seals the key, which the old passphrase opens in the keyslot, under the new one in the keyslot's
+/// Seals the key, which the secret gives in the keyslot, under the new one in the keyslot's
 /// new area; writes both copies of the header anew, the other copy first; and then overwrites the
 /// keyslot's old area with zeros. A flush follows each. The old metadata is given up for the new.
 ///
@@ -60,13 +61,13 @@ pub(crate) fn change<D: Device>(
         → IsSettled D.unsettled device.new }
     ensures count { CountsFailure is_edit_failure result
         (D.failed device.old) (D.failed device.new) }
-    ensures replies { D.tells → (payload : Payload) (e : Edit) (old : Passphrase)
+    ensures replies { D.tells → (payload : Payload) (e : Edit) (old : Secret)
         → deed_of e ≡ Seal (sealing renewal.now.slot old Opened secrets.now.passphrase
         renewal.now.derivation)
         → IsChosenCopy (D.bytes device.old) copy → WellFormed (D.bytes device.old) payload
         → HasNoFaultBefore 13 (D.bytes device.old) payload e secrets.now.random.now
         → allowed_for old secrets.now.passphrase.now ≡ secrets.now.allowed
-        → AnswerWithin (allowed_for old secrets.now.passphrase.now) (D.bytes device.old) renewal.now.slot old.bytes.now
+        → AnswersTo old.kind (allowed_for old secrets.now.passphrase.now) (D.bytes device.old) renewal.now.slot old.bytes.now
         (opens secrets.now.key.now)
         → IsNewArea (hdr_size (header_at (D.bytes device.old) copy.header.hdr_offset))
         (length (D.bytes device.old)) payload (content copy.meta) renewal.now.slot

@@ -10,7 +10,7 @@ ghost use Rattle.luks_edit.specs.Asked.{deed_of};
 ghost use Rattle.luks_edit.specs.EditFaults.{is_edit_failure};
 ghost use Rattle.luks_edit.specs.declared.deed.Deed.TheVariants.{Remove};
 ghost use Rattle.luks_edit.specs.declared.edit.Edit.{Edit};
-ghost use Rattle.luks_edit.specs.declared.edit.Passphrase.{Passphrase};
+ghost use Rattle.luks_edit.specs.declared.edit.Secret.{Secret};
 ghost use Rattle.luks2_judging.specs.Judging.{IsLostArea, removing};
 ghost use Rattle.luks2_judging.specs.Rows.{HasNoFaultBefore};
 ghost use Rattle.luks2_editing.specs.Replies.{Replies2};
@@ -48,7 +48,7 @@ pub(crate) fn remove<D: Device>(
     ensures count { CountsFailure is_edit_failure result
         (D.failed device.old) (D.failed device.new) }
     ensures replies { D.tells → (payload : Payload) (e : Edit) (by_ : Option ℕ)
-        (passphrase : Passphrase) → deed_of e ≡ Remove (removing slot by_ passphrase)
+        (passphrase : Secret) → deed_of e ≡ Remove (removing slot by_ passphrase)
         → IsChosenCopy (D.bytes device.old) copy → WellFormed (D.bytes device.old) payload
         → HasNoFaultBefore 13 (D.bytes device.old) payload e random.now
         → Replies2 payload (D.bytes device.old) e random.now result (D.bytes device.new) }

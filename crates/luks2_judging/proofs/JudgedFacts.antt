@@ -12,7 +12,7 @@ use Rattle.luks_reading.specs.Answer.{AnswerWithin, refused, slot_row}
 use Rattle.luks_reading.specs.Checked.{IsFault}
 use Rattle.luks_edit.specs.declared.edit.Edit.{Edit}
 use Rattle.luks_edit.specs.declared.edit.Edit.TheVariants.{Add, Change, Remove}
-use Rattle.luks_edit.specs.declared.edit.Passphrase.{Passphrase}
+use Rattle.luks_edit.specs.declared.edit.Secret.{Secret}
 use Rattle.luks_edit.specs.declared.edit_fault.EditFault.{EditFault}
 use Rattle.luks_edit.specs.declared.edit_fault.EditFault.TheVariants as fault
 use Rattle.luks_making.specs.Derivations.{asked_beyond, asked_few_turns}
@@ -194,7 +194,7 @@ module _ (v : List ℕ) (payload : Data) (o : ℕ) (j : Value) (m : HasMetadata 
 
 -- ---- an addition
 
-module _ (v : List ℕ) (payload : Data) (o : ℕ) (j : Value) (m : HasMetadata v o j) (by_ : ℕ) (old : Passphrase) (new : Bor (List ℕ)) (to : Option ℕ) (asked : AskedDerivation)
+module _ (v : List ℕ) (payload : Data) (o : ℕ) (j : Value) (m : HasMetadata v o j) (by_ : ℕ) (old : Secret) (new : Bor (List ℕ)) (to : Option ℕ) (asked : AskedDerivation)
     (past : (random : List ℕ) → IsPast 6 v payload (Add by_ old new to asked.iterations asked.chosen) random) where
   pub number_first : (f : EditFault) → IsNumberFault j to f → IsRefusedEarly v payload (Add by_ old new to asked.iterations asked.chosen) f
   number_first fault.SlotTaken bad = λ random. taken_first v payload o j m (Add by_ old new to asked.iterations asked.chosen) random (past random) bad
@@ -216,7 +216,7 @@ module _ (v : List ℕ) (payload : Data) (o : ℕ) (j : Value) (m : HasMetadata 
 
 -- ---- the other edits
 
-module _ (v : List ℕ) (payload : Data) (o : ℕ) (j : Value) (m : HasMetadata v o j) (slot : ℕ) (old : Passphrase) (new : Bor (List ℕ)) (asked : AskedDerivation)
+module _ (v : List ℕ) (payload : Data) (o : ℕ) (j : Value) (m : HasMetadata v o j) (slot : ℕ) (old : Secret) (new : Bor (List ℕ)) (asked : AskedDerivation)
     (past : (random : List ℕ) → IsPast 6 v payload (Change slot old new asked.iterations asked.chosen) random) where
   change_eight : (random : List ℕ) → IsPast 8 v payload (Change slot old new asked.iterations asked.chosen) random
   change_eight random = past_number v payload o j m (Change slot old new asked.iterations asked.chosen) random (past random) (λ x. x) (λ x. x)
@@ -229,7 +229,7 @@ module _ (v : List ℕ) (payload : Data) (o : ℕ) (j : Value) (m : HasMetadata 
       → HasNoFaultBefore 13 v payload (Change slot old new asked.iterations asked.chosen) random
   changed_past = sealed_past v payload o j m (Change slot old new asked.iterations asked.chosen) slot (allowed_for old new.now).memory asked (λ x. x, λ x. x) (λ x. x, λ x. x) (λ x. x, λ x. x) (λ x. x) (λ x. x) change_eight
 
-module _ (v : List ℕ) (payload : Data) (o : ℕ) (j : Value) (m : HasMetadata v o j) (slot : ℕ) (by_ : Option ℕ) (passphrase : Passphrase)
+module _ (v : List ℕ) (payload : Data) (o : ℕ) (j : Value) (m : HasMetadata v o j) (slot : ℕ) (by_ : Option ℕ) (passphrase : Secret)
     (past : (random : List ℕ) → IsPast 6 v payload (Remove slot by_ passphrase) random) where
   nine : (random : List ℕ) → IsPast 9 v payload (Remove slot by_ passphrase) random
   nine random = past_room v payload o j m (Remove slot by_ passphrase) random

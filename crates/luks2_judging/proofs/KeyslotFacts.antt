@@ -12,7 +12,7 @@ use Rattle.luks_edit.specs.declared.edit_fault.EditFault.{EditFault}
 use Rattle.luks_edit.specs.declared.deed.Deed.TheVariants as deed
 use Rattle.luks_edit.specs.declared.deed.Removed.{Removed}
 use Rattle.luks_edit.specs.declared.deed.Sealed.{Sealed}
-use Rattle.luks_edit.specs.Asked.{AreShortIn, deed_of, HasShortPassphrases, NamesItself, opener_of, OpensBy, Wants}
+use Rattle.luks_edit.specs.Asked.{AreShortIn, deed_of, HasShortPassphrases, kind_by, kind_in, NamesItself, opener_of, OpensBy, Wants}
 use Rattle.luks2_edit_laws.specs.Metadata.{IsInUse, IsLeastFree}
 use Rattle.luks2_edit_laws.specs.Refused.{IsAbsent}
 use Rattle.luks2_judging.specs.Judged.{Judges}
@@ -74,11 +74,18 @@ pub used_of : (j : Value) (e : Edit) (n : ℕ) (p : List ℕ) → OpensBy e n p 
 used_of j e n p asked there = wanted_used j e n (opener_wanted e n p asked) there
 
 -- an edit opens the keyslot whose key it seals, and the one that removes another one
-pub sealed_opens : (e : Edit) (s : Sealed) → deed_of e ≡ deed.Seal s → OpensBy e s.opener.slot s.opener.passphrase.bytes.now
+pub sealed_opens : (e : Edit) (s : Sealed) → deed_of e ≡ deed.Seal s → OpensBy e s.opener.slot s.opener.secret.bytes.now
 sealed_opens e s is = rw is (refl, refl)
 
-pub removed_opens : (e : Edit) (d : Removed) (n : ℕ) → deed_of e ≡ deed.Remove d → n ≡ opener_of d.slot d.by_ → OpensBy e n d.passphrase.bytes.now
+pub removed_opens : (e : Edit) (d : Removed) (n : ℕ) → deed_of e ≡ deed.Remove d → n ≡ opener_of d.slot d.by_ → OpensBy e n d.secret.bytes.now
 removed_opens e d n is same = rw is (same, refl)
+
+-- each by its secret
+pub sealed_kind : (e : Edit) (s : Sealed) → deed_of e ≡ deed.Seal s → kind_by e ≡ s.opener.secret.kind
+sealed_kind e s is = ap kind_in is
+
+pub removed_kind : (e : Edit) (d : Removed) → deed_of e ≡ deed.Remove d → kind_by e ≡ d.secret.kind
+removed_kind e d is = ap kind_in is
 
 -- and it wants the one that it removes
 pub removed_wanted : (e : Edit) (d : Removed) → deed_of e ≡ deed.Remove d → Wants e d.slot
@@ -88,11 +95,11 @@ removed_wanted e d is = rw is (inr refl)
 pub removed_used : (j : Value) (e : Edit) (d : Removed) → deed_of e ≡ deed.Remove d → (IsAbsent j e → ⊥) → IsInUse j d.slot
 removed_used j e d is there = wanted_used j e d.slot (removed_wanted e d is) there
 
--- their passphrases are short where all of the edit's are
-pub sealed_short : (e : Edit) (s : Sealed) → deed_of e ≡ deed.Seal s → HasShortPassphrases e → length s.opener.passphrase.bytes.now < 2 ^ 32
+-- their secrets are short where all of the edit's are
+pub sealed_short : (e : Edit) (s : Sealed) → deed_of e ≡ deed.Seal s → HasShortPassphrases e → length s.opener.secret.bytes.now < 2 ^ 32
 sealed_short e s is x = (subst AreShortIn is x).0
 
-pub removed_short : (e : Edit) (d : Removed) → deed_of e ≡ deed.Remove d → HasShortPassphrases e → length d.passphrase.bytes.now < 2 ^ 32
+pub removed_short : (e : Edit) (d : Removed) → deed_of e ≡ deed.Remove d → HasShortPassphrases e → length d.secret.bytes.now < 2 ^ 32
 removed_short e d is x = subst AreShortIn is x
 
 -- an edit names itself where the keyslot that is to open is the one that it removes
@@ -112,12 +119,12 @@ rewriting_apart e label is same = rw is at same
 module _ (j : Value) (e : Edit) (opened : (n : ℕ) (p : List ℕ) → OpensBy e n p → IsInUse j n) where
   pub removal_there : (d : Removed) → deed_of e ≡ deed.Remove d → IsInUse j d.slot → IsAbsent j e → ⊥
   removal_there d is here absent = elim (rw is at absent.wanted) [
-    | inl opener ↦ absent.unused (opened absent.slot d.passphrase.bytes.now (rw is (opener, refl)))
+    | inl opener ↦ absent.unused (opened absent.slot d.secret.bytes.now (rw is (opener, refl)))
     | inr removed ↦ absent.unused (subst (λ n. IsInUse j n) (sym removed) here)
   ]
 
   pub sealing_there : (s : Sealed) → deed_of e ≡ deed.Seal s → IsAbsent j e → ⊥
-  sealing_there s is absent = absent.unused (opened absent.slot s.opener.passphrase.bytes.now (rw is (rw is at absent.wanted, refl)))
+  sealing_there s is absent = absent.unused (opened absent.slot s.opener.secret.bytes.now (rw is (rw is at absent.wanted, refl)))
 
 pub rewriting_there : (j : Value) (e : Edit) (label : Option (Bor (List ℕ))) → deed_of e ≡ deed.Rewrite label → IsAbsent j e → ⊥
 rewriting_there j e label is absent = rw is at absent.wanted

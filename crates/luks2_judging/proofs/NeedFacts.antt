@@ -9,7 +9,7 @@ use Rattle.luks_reading.specs.declared.report.Data.{Data}
 use Rattle.luks_making.specs.declared.derivation.AskedDerivation.{AskedDerivation}
 use Rattle.luks_edit.specs.declared.edit.Edit.{Edit}
 use Rattle.luks_edit.specs.declared.edit.Edit.TheVariants.{Add}
-use Rattle.luks_edit.specs.declared.edit.Passphrase.{Passphrase}
+use Rattle.luks_edit.specs.declared.edit.Secret.{Secret}
 use Rattle.luks_edit.specs.declared.edit_fault.EditFault.{EditFault}
 use Rattle.luks_edit.specs.declared.edit_fault.EditFault.TheVariants as fault
 use Rattle.luks_edit.specs.Asked.{deed_of, sealed_in}
@@ -90,7 +90,7 @@ module _ (v : List ℕ) (payload : Data) (o : ℕ) (j : Value) (m : HasMetadata 
   }
 
 -- there is no number for a keyslot that is added
-pub need_unnumbered : (v : List ℕ) (payload : Data) (o : ℕ) (j : Value) (m : HasMetadata v o j) (by_ : ℕ) (old : Passphrase) (new : Bor (List ℕ)) (to : Option ℕ) (asked : AskedDerivation)
+pub need_unnumbered : (v : List ℕ) (payload : Data) (o : ℕ) (j : Value) (m : HasMetadata v o j) (by_ : ℕ) (old : Secret) (new : Bor (List ℕ)) (to : Option ℕ) (asked : AskedDerivation)
     → Passed (IsNeedFault2 v payload (Add by_ old new to asked.iterations asked.chosen)) 4
     → (f : EditFault) → IsNumberFault j to f → IsLeast edit_key (IsNeedFault2 v payload (Add by_ old new to asked.iterations asked.chosen)) f
 need_unnumbered v payload o j m by_ old new to asked four fault.SlotTaken bad =

@@ -16,7 +16,7 @@ use Rattle.luks_edit.specs.declared.edit.Edit.{Edit}
 use Rattle.luks_edit.specs.declared.deed.Deed.TheVariants as deed
 use Rattle.luks_edit.specs.declared.edit.Edit.TheVariants.{Add, Change, Remove}
 use Rattle.luks_making.specs.declared.derivation.AskedDerivation.{AskedDerivation}
-use Rattle.luks_edit.specs.declared.edit.Passphrase.{Passphrase}
+use Rattle.luks_edit.specs.declared.edit.Secret.{Secret}
 use Rattle.luks_edit.specs.declared.edit_fault.EditFault.{EditFault}
 use Rattle.luks_edit.specs.declared.edit_fault.EditFault.TheVariants as fault
 use Rattle.luks_edit.specs.Asked.{allowed_for, deed_of}
@@ -83,7 +83,7 @@ module _ {v : List ℕ} {payload : Data} {e : Edit} {o : ℕ} {meta : Meta} {ent
     six_of it is random = subst (λ y. IsPast 6 v payload y random) is (past_opened v payload e random past (r.four random))
 
     -- a keyslot is added
-    module _ {by_ : ℕ} {old : Passphrase} {new : Bor (List ℕ)} {to : Option ℕ} (asked : AskedDerivation) (is : e ≡ Add by_ old new to asked.iterations asked.chosen) where
+    module _ {by_ : ℕ} {old : Secret} {new : Bor (List ℕ)} {to : Option ℕ} (asked : AskedDerivation) (is : e ≡ Add by_ old new to asked.iterations asked.chosen) where
       pub unadded_refused : (f : EditFault) → IsUnadded (area_len meta + 4096) total payload (content meta) by_ to (allowed_for old new.now).memory asked f
           → IsRefusedEarly v payload e f
       unadded_refused f (inl bad) = subst (λ y. IsRefusedEarly v payload y f) (sym is)
@@ -99,7 +99,7 @@ module _ {v : List ℕ} {payload : Data} {e : Edit} {o : ℕ} {meta : Meta} {ent
           (λ none. area_excludes (hdr_size (header_at v o)) (length v) payload (content meta) by_ a (free_of place) none) enough random)
 
     -- one is sealed again
-    module _ {slot : ℕ} {old : Passphrase} {new : Bor (List ℕ)} (asked : AskedDerivation) (is : e ≡ Change slot old new asked.iterations asked.chosen) where
+    module _ {slot : ℕ} {old : Secret} {new : Bor (List ℕ)} (asked : AskedDerivation) (is : e ≡ Change slot old new asked.iterations asked.chosen) where
       pub unchanged_refused : (f : EditFault) → IsUnsealable (area_len meta + 4096) total payload (content meta) slot (allowed_for old new.now).memory asked f
           → IsRefusedEarly v payload e f
       unchanged_refused f bad = subst (λ y. IsRefusedEarly v payload y f) (sym is)
@@ -113,7 +113,7 @@ module _ {v : List ℕ} {payload : Data} {e : Edit} {o : ℕ} {meta : Meta} {ent
           (λ none. area_excludes (hdr_size (header_at v o)) (length v) payload (content meta) slot a (free_of place) none) enough random)
 
     -- one is removed
-    module _ {slot : ℕ} {by_ : Option ℕ} {passphrase : Passphrase} (is : e ≡ Remove slot by_ passphrase) where
+    module _ {slot : ℕ} {by_ : Option ℕ} {passphrase : Secret} (is : e ≡ Remove slot by_ passphrase) where
       pub last_refused : IsOnlyOne (content meta) slot → IsRefusedEarly v payload e fault.LastSlot
       last_refused bad = subst (λ y. IsRefusedEarly v payload y fault.LastSlot) (sym is)
           (only_first v payload o (content meta) r.metadata slot by_ passphrase (six_of (Remove slot by_ passphrase) is) bad)

@@ -22,7 +22,7 @@ use Rattle.luks_edit.specs.declared.deed.Place.{Place}
 use Rattle.luks_edit.specs.declared.deed.Place.TheVariants.{New, Opened}
 use Rattle.luks_edit.specs.declared.deed.Removed.{Removed}
 use Rattle.luks_edit.specs.declared.deed.Sealed.{Sealed}
-use Rattle.luks_edit.specs.declared.edit.Passphrase.{Passphrase}
+use Rattle.luks_edit.specs.declared.edit.Secret.{Secret}
 use Rattle.luks_edit.specs.declared.edit_fault.EditFault.{EditFault}
 use Rattle.luks_edit.specs.Asked.{deed_of, allowed_for}
 use Rattle.luks_edit.specs.Endings.{EndsBy}
@@ -50,19 +50,19 @@ pub record IsLostArea (j : Value) (total n : ℕ) (a : Area) : Type 0 where
   pub inside : IsInside a total
 
 -- a key is sealed at this place under a new passphrase, which the old one opens in the keyslot `slot`
-abbrev pub sealing : ℕ → Passphrase → Place → Bor (List ℕ) → AskedDerivation → Sealed
+abbrev pub sealing : ℕ → Secret → Place → Bor (List ℕ) → AskedDerivation → Sealed
 sealing slot old place new asked =
-    record { opener = record { slot = slot; passphrase = old }; place = place; passphrase = new; derivation = asked }
+    record { opener = record { slot = slot; secret = old }; place = place; passphrase = new; derivation = asked }
 
 -- the keyslot `slot` is removed, by the passphrase of the keyslot `by_` where one is named
-abbrev pub removing : ℕ → Option ℕ → Passphrase → Removed
-removing slot by_ passphrase = record { slot = slot; by_ = by_; passphrase = passphrase }
+abbrev pub removing : ℕ → Option ℕ → Secret → Removed
+removing slot by_ secret = record { slot = slot; by_ = by_; secret = secret }
 
 -- it adds this keyslot, for the key under the passphrase
 pub record IsAddition
     (len : ℕ) (j : Value) (total : ℕ) (e : Edit) (a : Addition) (key : List ℕ) (passphrase : Bor (List ℕ))
     : Type 0 where
-  pub old : Passphrase
+  pub old : Secret
   pub to : Option ℕ
   pub asked : deed_of e ≡ deed.Seal (sealing a.by_ old (New to) passphrase a.derivation)
   pub number : IsNewNumber j to a.made
@@ -74,7 +74,7 @@ pub record IsAddition
 pub record IsRenewal
     (len : ℕ) (j : Value) (total : ℕ) (e : Edit) (r : Renewal) (key : List ℕ) (passphrase : Bor (List ℕ))
     : Type 0 where
-  pub old : Passphrase
+  pub old : Secret
   pub asked : deed_of e ≡ deed.Seal (sealing r.slot old Opened passphrase r.derivation)
   pub there : IsInUse j r.slot
   pub key_length : HasLuks2KeyBytes j r.slot (length key)
@@ -85,7 +85,7 @@ pub record IsRenewal
 -- it removes this keyslot, and its area with it
 pub record IsRemoval (j : Value) (total : ℕ) (e : Edit) (slot : ℕ) (area : Area) : Type 0 where
   pub by_ : Option ℕ
-  pub passphrase : Passphrase
+  pub passphrase : Secret
   pub asked : deed_of e ≡ deed.Remove (removing slot by_ passphrase)
   pub there : IsInUse j slot
   pub lost : IsLostArea j total slot area

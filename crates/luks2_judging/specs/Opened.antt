@@ -1,28 +1,37 @@
 -- What opening the keyslot of an edit says of a well formed LUKS2 volume.
-use Rattle.std.specs.Prelude.{ℕ, List, ⊤}
+use Rattle.std.specs.Prelude.{◌≡◌, ◌≢◌, ℕ, List, length, Option, Result, IfErr, IfOk, IfSome, ⊤}
 use Rattle.luks_area.specs.declared.area.AreaFault.TheVariants as areas
 use Rattle.luks_area.specs.declared.area.AreaName.TheVariants as area_name
 use Rattle.luks_slot.specs.declared.fault.SlotFault.{SlotFault}
 use Rattle.luks_reading.specs.declared.check_fault.CheckFault.TheVariants as checking
 use Rattle.luks_reading.specs.declared.open_fault.OpenFault.{OpenFault}
 use Rattle.luks_reading.specs.declared.open_fault.OpenFault.TheVariants as opening
-use Rattle.luks_reading.specs.Answer.{AnswerWithin, opens, refused, TakesMemory}
+use Rattle.luks_reading.specs.Answer.{AnswerWithin, IsLuks2RefusalWithin, IsRefusedByWithin, opened_to, opens, refused, TakesMemory}
+use Rattle.luks_reading.specs.Header.{IsChosenCopy}
+use Rattle.luks_reading.specs.PlanAnswers.{IsPlanAccepted}
+use Rattle.luks_reading.specs.Plans.{HasLuks2KeyBytes, HasLuks2Plan}
+use Rattle.luks_reading.specs.declared.header.ChosenCopy.{ChosenCopy}
+use Rattle.luks_meta.specs.Content.{content}
+use Rattle.luks_slot.specs.declared.allowed.Allowed.{Allowed}
+use Rattle.luks_slot.specs.declared.plan.SlotPlan.{SlotPlan}
+use Rattle.luks_edit.specs.declared.edit.SecretKind.{SecretKind}
 use Rattle.luks_edit.specs.declared.edit.Edit.{Edit}
 use Rattle.luks_edit.specs.declared.edit_fault.EditFault.{EditFault}
 use Rattle.luks_edit.specs.declared.edit_fault.EditFault.TheVariants as fault
-use Rattle.luks_edit.specs.Asked.{allowed_by, OpensBy}
+use Rattle.luks_edit.specs.Asked.{allowed_by, kind_by, OpensBy}
+use Rattle.luks_edit.specs.Secrets.{AnswersTo, own_key}
 use Rattle.luks_edit.specs.Opener.{IsLocked, IsShut}
 
--- the keyslot that the edit opens opens to the key
+-- the keyslot that the edit opens gives the key
 abbrev pub IsOpenedTo : List ℕ → Edit → List ℕ → Type 0
-IsOpenedTo v e key = (n : ℕ) (p : List ℕ) → OpensBy e n p → AnswerWithin (allowed_by e) v n p (opens key)
+IsOpenedTo v e key = (n : ℕ) (p : List ℕ) → OpensBy e n p → AnswersTo (kind_by e) (allowed_by e) v n p (opens key)
 
 -- the edit is past the opening of its keyslot, if it opens one
 pub record IsUnlocked (v : List ℕ) (e : Edit) : Type 0 where
   pub unlocked : IsLocked v e → ⊥
   pub unshut : (f : SlotFault) → IsShut v e f → ⊥
 
--- its keyslot opens to the key
+-- its keyslot gives the key
 pub record Opens (v : List ℕ) (e : Edit) (key : List ℕ) : Type 0 where
   pub gives : IsOpenedTo v e key
   pub past : IsUnlocked v e
@@ -61,3 +70,26 @@ unopened n opening.Outside = fault.NotAccepted (checking.Area (areas.Outside (ar
 unopened n (opening.Slot f) = fault.Slot f
 unopened n opening.Device = fault.Device
 unopened n opening.Memory = fault.Memory
+
+-- ---- by a secret: words of private contracts
+
+-- nothing refuses the plan in a volume of `total` bytes, and the key is its own where it is found
+pub record PlanKeeps (allowed : Allowed) (plan : SlotPlan) (total : ℕ) (key : List ℕ) (found : Option (List ℕ)) : Type 0 where
+  pub accepted : IsPlanAccepted allowed plan total
+  pub is : found ≡ own_key plan key
+
+-- nothing refuses the keyslot `n` by the JSON area `json` of the copy with the binary header `b`, and the key is its own
+-- where it is found
+pub record Luks2Keeps (allowed : Allowed) (b json : List ℕ) (total n : ℕ) (key : List ℕ) (found : Option (List ℕ)) : Type 0 where
+  pub plan : SlotPlan
+  pub is : HasLuks2Plan json n plan
+  pub unrefused : (f : OpenFault) → IsLuks2RefusalWithin allowed b json total n f → ⊥
+  pub own : own_key plan key ≡ found
+
+-- what the keyslot `n` answers to a secret, by the copy that counts
+pub record IsSecretAnswer (tells : Type 0) (v : List ℕ) (copy : ChosenCopy) (kind : SecretKind) (allowed : Allowed) (n : ℕ) (p : List ℕ) (result : Result (Option (List ℕ)) OpenFault) : Type 0 where
+  pub gives : tells → IsChosenCopy v copy → IfOk result (λ found. AnswersTo kind allowed v n p (opened_to found))
+  pub refused_by : tells → IsChosenCopy v copy → IfErr result (IsRefusedByWithin allowed v n p)
+  pub key_bytes : IfOk result (λ found. IfSome found (λ key. HasLuks2KeyBytes (content copy.meta) n (length key)))
+  pub memory : tells → IsChosenCopy v copy → IfErr result (λ f. f ≡ opening.Memory → TakesMemory allowed v n)
+  pub no_memory : allowed.memory ≡ 0 → IfErr result (λ f. f ≢ opening.Memory)

@@ -172,7 +172,7 @@ fn judge_sealing_of<'a, D: Device>(
         device,
         accepted.copy,
         opener.slot,
-        opener.passphrase.bytes,
+        &opener.secret,
         allowed,
     )?;
     match sealed.place {
@@ -231,7 +231,7 @@ fn judge_removal_of<'a, D: Device>(
         device,
         accepted.copy,
         opener,
-        removed.passphrase.bytes,
+        &removed.secret,
         allowed,
     )?;
     let area = judge_removal(room.meta, slot)?;

@@ -1,22 +1,28 @@
-//! Opening the keyslot that an edit of a LUKS2 volume names.
-ghost use Rattle.std.specs.Prelude.{◌≡◌, ◌≢◌, ◌+◌, ◌^◌, ◌<◌, length, IfOk, IfErr};
+//! Opening the keyslot that an edit of a LUKS2 volume names, by its passphrase or its key.
+ghost use Rattle.std.specs.Prelude.{◌≡◌, ◌≢◌, ◌+◌, ◌^◌, ◌<◌, ℕ, List, length, true, IfOk, IfErr, IfSome};
 ghost use Rattle.luks_area.specs.Device.{CountsFailure, IsUnchanged};
-ghost use Rattle.luks_edit.specs.Asked.{OpensBy, allowed_by};
+ghost use Rattle.luks2_header.specs.Header2.{uuid_field};
+ghost use Rattle.luks_edit.specs.Asked.{OpensBy, allowed_by, kind_by};
 ghost use Rattle.luks_edit.specs.EditFaults.{is_edit_failure};
 ghost use Rattle.luks_edit.specs.declared.edit.Edit.{Edit as TheEdit};
 ghost use Rattle.luks_reading.specs.Answer.{TakesMemory};
 ghost use Rattle.luks_reading.specs.Checked.{WellFormed};
 ghost use Rattle.luks_meta.specs.Content.{content};
+ghost use Rattle.luks_reading.specs.ChosenCopies.{IsCleared};
+ghost use Rattle.luks_reading.specs.Failures.{is_open_failure, is_own};
 ghost use Rattle.luks_reading.specs.Header.{IsAcceptedCopy, IsChosenCopy};
+ghost use Rattle.luks_reading.specs.Luks2Keyslots.{Luks2Refused};
+ghost use Rattle.luks_reading.specs.PlanAnswers.{IsOpenable, PlanRefused};
 ghost use Rattle.luks_reading.specs.Plans.{HasLuks2KeyBytes};
 ghost use Rattle.luks_reading.specs.declared.report.Data.{Data as Payload};
+ghost use Rattle.luks2_edit_laws.specs.Metadata.{IsInUse};
 ghost use Rattle.luks2_edit_laws.specs.Refused.{HasSaid, IsAbsent};
-ghost use Rattle.luks2_judging.specs.Opened.{IsUnopened, Opens, unopened};
+ghost use Rattle.luks2_judging.specs.Opened.{IsSecretAnswer, IsUnopened, Luks2Keeps, Opens, PlanKeeps, unopened};
 
 use luks_area::{AreaFault, AreaName, Device};
-use luks_edit::EditFault;
-use luks_reading::{CheckFault, ChosenCopy, OpenFault, try_copy_slot};
-use luks_slot::{Allowed, Key};
+use luks_edit::{EditFault, Secret, SecretKind, own_key};
+use luks_reading::{CheckFault, ChosenCopy, OpenFault, luks2_plan, try_copy_slot};
+use luks_slot::{Allowed, Key, SlotPlan};
 use std::alloc::Global;
 
 /// The fault of opening the keyslot `n` as that of an edit.
@@ -36,19 +42,20 @@ fn unopened(n: u8, fault: OpenFault) -> EditFault
     }
 }
 
-/// The key that the keyslot `n` opens to, which an edit opens; or why it doesn't open: `Locked`,
+/// The key that the keyslot `n` gives by the secret, which an edit opens; or why it gives none: `Locked`,
 /// `Slot`, or the device's failure. Argon2 may take as much memory as is allowed; else none is taken.
 pub(crate) fn unlock<D: Device>(
     alloc: Global,
     device: &mut D,
     copy: &ChosenCopy,
     n: u8,
-    passphrase: &[u8],
+    secret: &Secret<'_>,
     allowed: Allowed,
 ) -> Result<Key, EditFault>
     requires room { D.failed device.old + 1 < 2 ^ 64 }
     requires accepted { IsAcceptedCopy copy.now }
-    requires passphrase { 0 < allowed.memory → length passphrase.now < 2 ^ 32 }
+    requires there { IsInUse (content copy.now.meta) n }
+    requires passphrase { 0 < allowed.memory → length secret.now.bytes.now < 2 ^ 32 }
     ensures unchanged { IsUnchanged D.tells D.size D.bytes D.unsettled device.old device.new }
     ensures count { CountsFailure is_edit_failure result
         (D.failed device.old) (D.failed device.new) }
@@ -59,20 +66,98 @@ pub(crate) fn unlock<D: Device>(
     ensures no_memory { allowed.memory ≡ 0 → IfErr result (λ f. f ≢ EditFault.Memory) }
     ensures length { IfOk result (λ key. HasLuks2KeyBytes (content copy.now.meta) n (length key)) }
     ensures opened { D.tells → IsChosenCopy (D.bytes device.old) copy.now
-        → (e : TheEdit) → allowed_by e ≡ allowed → OpensBy e n passphrase.now
-        → IfOk result (Opens (D.bytes device.old) e) }
+        → (e : TheEdit) → allowed_by e ≡ allowed → kind_by e ≡ secret.now.kind
+        → OpensBy e n secret.now.bytes.now → IfOk result (Opens (D.bytes device.old) e) }
     ensures refused { D.tells → IsChosenCopy (D.bytes device.old) copy.now
         → (payload : Payload) (e : TheEdit) → WellFormed (D.bytes device.old) payload
-        → allowed_by e ≡ allowed → OpensBy e n passphrase.now
+        → allowed_by e ≡ allowed → kind_by e ≡ secret.now.kind → OpensBy e n secret.now.bytes.now
         → (HasSaid (D.bytes device.old) (λ o j. IsAbsent j e) → ⊥)
         → IfErr result (IsUnopened (D.bytes device.old) e) }
 {
-    let mut nearest = None;
-    match try_copy_slot(alloc, device, copy, n, passphrase, allowed, &mut nearest) {
+    match given(alloc, device, copy, n, secret, allowed) {
         Ok(found) => match found {
             Some(key) => Ok(key),
             None => Err(EditFault::Locked),
         },
         Err(fault) => Err(unopened(n, fault)),
+    }
+}
+
+/// What the keyslot `n`, which is there, answers to the secret.
+fn given<D: Device>(
+    alloc: Global,
+    device: &mut D,
+    copy: &ChosenCopy,
+    n: u8,
+    secret: &Secret<'_>,
+    allowed: Allowed,
+) -> Result<Option<Key>, OpenFault>
+    requires room { D.failed device.old + 1 < 2 ^ 64 }
+    requires accepted { IsAcceptedCopy copy.now }
+    requires there { IsInUse (content copy.now.meta) n }
+    requires passphrase { 0 < allowed.memory → length secret.now.bytes.now < 2 ^ 32 }
+    ensures unchanged { IsUnchanged D.tells D.size D.bytes D.unsettled device.old device.new }
+    ensures count { CountsFailure is_open_failure result
+        (D.failed device.old) (D.failed device.new) }
+    ensures answers { IsSecretAnswer D.tells (D.bytes device.old) copy.now secret.now.kind allowed n
+        secret.now.bytes.now result }
+{
+    match secret.kind {
+        SecretKind::Passphrase => {
+            let mut nearest = None;
+            try_copy_slot(alloc, device, copy, n, secret.bytes, allowed, &mut nearest)
+        }
+        SecretKind::Key => own_key_in(copy, n, secret.bytes, allowed, device.len()),
+    }
+}
+
+/// The key where it is that of the keyslot `n`, which is there, in a volume of `total` bytes.
+fn own_key_in(
+    copy: &ChosenCopy,
+    n: u8,
+    key: &[u8],
+    allowed: Allowed,
+    total: u64,
+) -> Result<Option<Key>, OpenFault>
+    requires accepted { IsAcceptedCopy copy.now }
+    requires there { IsInUse (content copy.now.meta) n }
+    ensures own { IfErr result (λ f. is_own f ≡ true) }
+    ensures length { IfOk result (λ found. IfSome found
+        (λ k. HasLuks2KeyBytes (content copy.now.meta) n (length k))) }
+    ensures gives { (b json : List ℕ) → IsCleared (uuid_field b) json (content copy.now.meta)
+        → IfOk result (Luks2Keeps allowed b json total n key.now) }
+    ensures refused { (b json : List ℕ) → IsCleared (uuid_field b) json (content copy.now.meta)
+        → IfErr result (Luks2Refused allowed b json total n) }
+{
+    match copy.meta.keyslot(n) {
+        Some(keyslot) => {
+            let number = copy.meta.digest_of_keyslot(n).unwrap();
+            let digest = copy.meta.digest(number).unwrap();
+            let plan = luks2_plan(&keyslot, &digest);
+            own_key_by(&plan, key, allowed, total)
+        }
+        None => unreachable!(),
+    }
+}
+
+/// The same by the plan of the keyslot.
+fn own_key_by(
+    plan: &SlotPlan<'_>,
+    key: &[u8],
+    allowed: Allowed,
+    total: u64,
+) -> Result<Option<Key>, OpenFault>
+    requires judged { IsOpenable plan.now }
+    ensures own { IfErr result (λ f. is_own f ≡ true) }
+    ensures length { IfOk result (λ found. IfSome found (λ k. length k ≡ plan.now.key_bytes)) }
+    ensures gives { IfOk result (PlanKeeps allowed plan.now total key.now) }
+    ensures refused { IfErr result (PlanRefused allowed plan.now total) }
+{
+    if !plan.area.is_inside(total) {
+        return Err(OpenFault::Outside);
+    }
+    match own_key(plan, key, allowed) {
+        Ok(found) => Ok(found),
+        Err(fault) => Err(OpenFault::Slot(fault)),
     }
 }

@@ -7,7 +7,7 @@ use Rattle.luks_edit.specs.declared.edit_fault.EditFault.{EditFault}
 use Rattle.luks_edit.specs.declared.edit_fault.EditFault.TheVariants as edit
 use Rattle.luks_edit.specs.EditFaults.{is_edit_failure}
 use Rattle.luks_formatting.specs.declared.format_fault.FormatFault.TheVariants as format
-use Rattle.luks_given.specs.Volume.{volume}
+use Rattle.luks_given.specs.declared.parts.Part.{Part}
 use Rattle.luks_given.specs.declared.planned_writes.PlannedCall.{PlannedCall}
 use Rattle.luks_given.specs.Plan.{IsFlushed}
 use Rattle.luks_reading.specs.declared.report.Data.{Data}
@@ -21,7 +21,7 @@ use Rattle.luks_c_answers.proofs.NumberFacts.{edit_number_memory, edit_number_ra
 use Rattle.luks_c_answers.proofs.PlanFacts.{given_or_room, planned_of, room_keeps}
 use Rattle.luks_c_answers.specs.Plans.{Buffers, IsPlan, IsPlanGiven, IsPlanned}
 
--- what holds of the device holds of the volume whose first bytes it was given
+-- what holds of the device holds of the volume of which it was given ranges
 pub of_volume : (P : ℕ → List ℕ → ℕ → Type 0) (n total m : ℕ) (o w : List ℕ) → n ≡ total → o ≡ w → m ≡ total → P n o m → P total w total
 of_volume P n total m o w size target left holds = subst (λ k. P total w k) left (subst (λ t. P total t m) target (subst (λ k. P k o m) size holds))
 
@@ -33,14 +33,14 @@ refusal_of payload v e random edit.Device w other own replies = absurd (true≢f
 refusal_of payload v e random f w other own replies = replies.0
 
 -- an edit that was done is answered with its plan
-pub edit_planned : (first left : List ℕ) (total : ℕ) (payload : Data) (e : Edit) (random : List ℕ) (done : Done) (calls : List PlannedCall) (bytes : List ℕ) (old new : Buffers)
-    (told : LuksPlan) (number : ℕ) → IsApplied payload (volume first total) e random (Ok done) (volume left total) → IsMaybeSlot told.slot done.slot
-    → IsPlan first left calls bytes → IsFlushed calls → told.calls ≡ length calls → told.bytes ≡ length bytes → IsPlanGiven calls bytes old new number
-    → AnswersEdit first total payload e random old new told number
-edit_planned first left total payload e random done calls bytes old new told number applied slot plan flushed calls_are bytes_are given =
-    let such : List ℕ → Type 0 = IsEdited payload (volume first total) e random told.slot in
-    let planned : IsPlanned first total such old new told number =
-    planned_of such first left total calls bytes old new told number (record { done = done; slot = slot; applied = applied }) plan flushed calls_are bytes_are given in
+pub edit_planned : (parts : List Part) (v w : List ℕ) (payload : Data) (e : Edit) (random : List ℕ) (done : Done) (calls : List PlannedCall) (bytes : List ℕ) (old new : Buffers)
+    (told : LuksPlan) (number : ℕ) → IsApplied payload v e random (Ok done) w → IsMaybeSlot told.slot done.slot
+    → IsPlan parts v w calls bytes → IsFlushed calls → told.calls ≡ length calls → told.bytes ≡ length bytes → IsPlanGiven calls bytes old new number
+    → AnswersEdit parts v payload e random old new told number
+edit_planned parts v w payload e random done calls bytes old new told number applied slot plan flushed calls_are bytes_are given =
+    let such : List ℕ → Type 0 = IsEdited payload v e random told.slot in
+    let planned : IsPlanned parts v such old new told number =
+    planned_of such parts v w calls bytes old new told number (record { done = done; slot = slot; applied = applied }) plan flushed calls_are bytes_are given in
     record {
       planned = λ zero. planned;
       room = λ six. planned;
@@ -49,10 +49,10 @@ edit_planned first left total payload e random done calls bytes old new told num
     }
 
 -- one that is refused, with its first fault
-pub edit_refused : (first : List ℕ) (total : ℕ) (payload : Data) (e : Edit) (random w : List ℕ) (f : EditFault) (old : Buffers) (told : LuksPlan) (number : ℕ)
-    → IsApplied payload (volume first total) e random (Err f) w → is_edit_failure f ≡ false → number ≡ edit_number f
-    → AnswersEdit first total payload e random old old told number
-edit_refused first total payload e random w f old told number applied own is =
+pub edit_refused : (parts : List Part) (v : List ℕ) (payload : Data) (e : Edit) (random w : List ℕ) (f : EditFault) (old : Buffers) (told : LuksPlan) (number : ℕ)
+    → IsApplied payload v e random (Err f) w → is_edit_failure f ≡ false → number ≡ edit_number f
+    → AnswersEdit parts v payload e random old old told number
+edit_refused parts v payload e random w f old told number applied own is =
     let r = edit_number_range f in
     let low = r.0 in
     let high = r.1 in
@@ -61,16 +61,16 @@ edit_refused first total payload e random w f old told number applied own is =
       room = λ six. absurd (omega (arith, six, is, high));
       refused = λ zero six beyond memory. record {
         fault = f;
-        refusal = refusal_of payload (volume first total) e random f w (edit_number_memory f (λ m. memory (is ∙ m))) own applied.replies;
+        refusal = refusal_of payload v e random f w (edit_number_memory f (λ m. memory (is ∙ m))) own applied.replies;
         is = is;
       };
       kept = λ other. refl;
     }
 
--- where more bytes have to be given, or memory was refused, nothing is said of the edit
-pub edit_unplanned : (first : List ℕ) (total : ℕ) (payload : Data) (e : Edit) (random : List ℕ) (old : Buffers) (told : LuksPlan) (number : ℕ) → (number ≡ 102) ⊎ (number ≡ 103)
-    → AnswersEdit first total payload e random old old told number
-edit_unplanned first total payload e random old told number is = record {
+-- where another range has to be given, or memory was refused, nothing is said of the edit
+pub edit_unplanned : (parts : List Part) (v : List ℕ) (payload : Data) (e : Edit) (random : List ℕ) (old : Buffers) (told : LuksPlan) (number : ℕ) → (number ≡ 102) ⊎ (number ≡ 103)
+    → AnswersEdit parts v payload e random old old told number
+edit_unplanned parts v payload e random old told number is = record {
   planned = λ zero. absurd (elim is [ inl b ↦ omega (arith, zero, b) | inr m ↦ omega (arith, zero, m) ]);
   room = λ six. absurd (elim is [ inl b ↦ omega (arith, six, b) | inr m ↦ omega (arith, six, m) ]);
   refused = λ zero six beyond memory. absurd (elim is [ inl b ↦ beyond b | inr m ↦ memory m ]);

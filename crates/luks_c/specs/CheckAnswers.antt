@@ -48,7 +48,7 @@ pub record IsTold (v : List ℕ) (payload : Data) (report : LuksReport) : Type 0
   pub listed : Lists list (AreaOf v payload)
   pub areas : report.areas ≡ length list
 
--- the volume `v` is refused, by a fault of this number; it is the first, unless more bytes have to be given or
+-- the volume `v` is refused, by a fault of this number; it is the first, unless another range has to be given or
 -- memory was refused
 pub record IsRefused (v : List ℕ) (payload : Data) (number : ℕ) : Type 0 where
   pub fault : CheckFault

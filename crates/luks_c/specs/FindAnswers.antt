@@ -14,6 +14,6 @@ pub record AreFound (v old new : List ℕ) (count number : ℕ) : Type 0 where
   pub counted : count ≡ length starts
   pub given : AreGiven starts old new number
 
--- or more bytes have to be given, or memory was refused
+-- or another range has to be given, or memory was refused
 abbrev pub AnswersFind : List ℕ → List ℕ → List ℕ → ℕ → ℕ → Type 0
 AnswersFind v old new count number = AreFound v old new count number ⊎ (((number ≡ 102) ⊎ (number ≡ 103)) × (new ≡ old))

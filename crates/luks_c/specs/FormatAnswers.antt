@@ -16,7 +16,7 @@ use Rattle.luks_formatting.specs.FormatFaults.{format_key, HasNoFault, IsFormat1
 use Rattle.luks_formatting.specs.Formatted1.{IsFormatted1}
 use Rattle.luks_formatting.specs.Formatted2.{IsFormatted2By}
 use Rattle.luks_formatting.specs.RandomBytes.{volume_key}
-use Rattle.luks_given.specs.Volume.{volume}
+use Rattle.luks_given.specs.declared.parts.Part.{Part}
 use Rattle.luks_c_answers.specs.ChoiceAsked.{IsChoice}
 use Rattle.luks_c_answers.specs.declared.asking.LuksDerivation.{LuksDerivation}
 use Rattle.luks_c_answers.specs.declared.plans.LuksPlan.{LuksPlan}
@@ -60,20 +60,20 @@ pub record IsFirstOf (faults : FormatFault → Type 0) (number : ℕ) : Type 0 w
   pub is : number ≡ format_number fault
 
 -- as of each call that writes by a plan: none of the faults stands, or this is the first
-abbrev pub AnswersFormat : List ℕ → ℕ → (FormatFault → Type 0) → (List ℕ → Type 0) → Buffers → Buffers → LuksPlan → ℕ → Type 0
-AnswersFormat first total faults = AnswersPlan first total (HasNoFault faults) (IsFirstOf faults)
+abbrev pub AnswersFormat : List Part → List ℕ → (FormatFault → Type 0) → (List ℕ → Type 0) → Buffers → Buffers → LuksPlan → ℕ → Type 0
+AnswersFormat parts v faults = AnswersPlan parts v (HasNoFault faults) (IsFirstOf faults)
 
 -- of a LUKS1 volume
-abbrev pub AnswersFormat1 : List ℕ → ℕ → Data → Format → List ℕ → List ℕ → Buffers → Buffers → LuksPlan → ℕ → Type 0
-AnswersFormat1 first total payload format passphrase random old new told number =
-    AnswersFormat first total (IsFormat1Fault total format random)
-    (IsMade1 payload format passphrase random (volume first total) told.slot) old new told number
+abbrev pub AnswersFormat1 : List Part → List ℕ → ℕ → Data → Format → List ℕ → List ℕ → Buffers → Buffers → LuksPlan → ℕ → Type 0
+AnswersFormat1 parts v total payload format passphrase random old new told number =
+    AnswersFormat parts v (IsFormat1Fault total format random)
+    (IsMade1 payload format passphrase random v told.slot) old new told number
 
 -- of a LUKS2 volume, by the derivation that is chosen, with so many KiB that Argon2 may take
-abbrev pub AnswersFormat2 : List ℕ → ℕ → Data → Format → Option NewDerivation → ℕ → List ℕ → List ℕ → Buffers → Buffers → LuksPlan → ℕ → Type 0
-AnswersFormat2 first total payload format chosen memory passphrase random old new told number =
-    AnswersFormat first total (IsFormat2FaultBy chosen (allowed_for memory passphrase) total format random)
-    (IsMade2 payload format chosen passphrase random (volume first total) told.slot) old new told number
+abbrev pub AnswersFormat2 : List Part → List ℕ → ℕ → Data → Format → Option NewDerivation → ℕ → List ℕ → List ℕ → Buffers → Buffers → LuksPlan → ℕ → Type 0
+AnswersFormat2 parts v total payload format chosen memory passphrase random old new told number =
+    AnswersFormat parts v (IsFormat2FaultBy chosen (allowed_for memory passphrase) total format random)
+    (IsMade2 payload format chosen passphrase random v told.slot) old new told number
 
 -- made by these numbers
 pub record AnswersNumbered (hash iterations : ℕ) (answers : Format → Type 0) : Type 0 where

@@ -7,7 +7,7 @@ use Rattle.luks_keeping.specs.BackupFaults.{IsAnsweredBackup}
 use Rattle.luks_keeping.specs.declared.backup_fault.BackupFault.{BackupFault}
 use Rattle.luks_c_answers.specs.Numbers.{backup_number}
 
--- no backup is made of the volume `v`, on however long a target, by a fault of this number: the first, unless more bytes have
+-- no backup is made of the volume `v`, on however long a target, by a fault of this number: the first, unless another range has
 -- to be given or memory was refused
 pub record HasNoLength (v : List ℕ) (payload : Data) (number : ℕ) : Type 0 where
   pub fault : BackupFault

@@ -32,7 +32,7 @@ pub record IsTextGiven (listing : Listing) (old new : List ℕ) (told : LuksRead
 abbrev pub IsJsonGiven : Listing → List ℕ → List ℕ → LuksRead → ℕ → Type 0
 IsJsonGiven listing old new told number = IsTextGiven listing old new told number ⊎ ((number ≡ 103) × (new ≡ old))
 
--- the header isn't read, by a fault of this number: the first, unless more bytes have to be given or memory was
+-- the header isn't read, by a fault of this number: the first, unless another range has to be given or memory was
 -- refused
 pub record IsUnreadBy (v : List ℕ) (number : ℕ) : Type 0 where
   pub fault : ReadFault

@@ -10,6 +10,6 @@ pub record IsShown (v : List ℕ) (number : ℕ) : Type 0 where
   pub finds : Finds table v found
   pub is : number ≡ shown_number found
 
--- it is told; or more bytes have to be given
+-- it is told; or another range has to be given
 abbrev pub AnswersSignature : List ℕ → ℕ → ℕ → Type 0
 AnswersSignature v shows number = ((number ≡ 0) × IsShown v shows) ⊎ (number ≡ 102)

@@ -1,11 +1,11 @@
 //! Checking a volume.
 ghost use Rattle.std.specs.Prelude.{◌≡◌, ◌≤◌, ◌<◌, length};
-ghost use Rattle.luks_given.specs.Volume.{volume};
+ghost use Rattle.luks_given.specs.Parts.{AreGiven, AreNoParts, ArePartsOf, IsWanted, volume};
 ghost use Rattle.luks_c_answers.specs.Asked.{payload_of};
 ghost use Rattle.luks_c.specs.CheckAnswers.{AnswersCheck, copies_number, number_of_copies, seqid_of, version_number};
 
 use luks_c_answers::{BEYOND, DONE, USAGE, check_number, data_of};
-use luks_given::{FirstBytes, Given};
+use luks_given::{Given, GivenParts, Part, are_parts};
 use luks_reading::{CheckFault, Copies, Data, Report, Version, check};
 use std::alloc::Global;
 use std::marker::Brand;
@@ -24,58 +24,58 @@ pub struct LuksReport {
     pub seqid: u64,
     /// How many areas the volume has.
     pub areas: u64,
-    /// With the answer BEYOND, how many of the first bytes have to be given.
-    pub beyond: u64,
+    /// With the answer BEYOND, the range that has to be given.
+    pub beyond: Part,
 }
 
-/// Judges the volume of `total` bytes that begins with these; `is_detached` says that its data lies on
-/// another device.
+/// Judges the volume of `total` bytes of which these ranges are given; `is_detached` says that its data lies
+/// on another device.
 ///
 /// Takes memory for the metadata of LUKS2 alone.
 #[unsafe(no_mangle)]
 pub extern "C" fn luks_check_bytes(
     alloc: Global,
-    first: &[u8],
+    parts: &[Part],
+    held: &[u8],
     total: u64,
     is_detached: bool,
     report: &mut LuksReport,
 ) -> u32
-    ensures usage { total < length first.now → result ≡ 101 }
-    ensures answers { length first.now ≤ total
-        → AnswersCheck (volume first.now total) (payload_of is_detached) result report.new }
-    // More bytes are asked for than were given, and no more than there are.
-    ensures more { result ≡ 102 → length first.now < report.new.beyond }
-    ensures within { result ≡ 102 → report.new.beyond ≤ total }
+    ensures usage { AreNoParts parts.now held.now total → result ≡ 101 }
+    ensures answers { ArePartsOf parts.now held.now total
+        → AnswersCheck (volume parts.now held.now total) (payload_of is_detached) result report.new }
+    // The range that is asked for begins with a place that isn't given, and ends within the volume.
+    ensures wanted { result ≡ 102 → IsWanted parts.now total report.new.beyond }
 {
     *report = LuksReport::default();
-    if first.len() as u64 > total {
+    if !are_parts(parts, held, total) {
         return USAGE;
     }
-    check_given::<Brand>(alloc, first, total, data_of(is_detached), report)
+    check_given::<Brand>(alloc, parts, held, total, data_of(is_detached), report)
 }
 
-/// The same where not more bytes are given than there are; the report is empty before.
+/// The same of the volume `K`, of which these are given; the report is empty before.
 fn check_given<K: Given>(
     alloc: Global,
-    first: &[u8],
+    parts: &[Part],
+    held: &[u8],
     total: u64,
     payload: Data,
     report: &mut LuksReport,
 ) -> u32
-    requires within { length first.now ≤ total }
-    requires given { K.bytes ≡ first.now }
-    ensures answers { AnswersCheck (volume first.now total) payload result report.new }
-    ensures more { result ≡ 102 → length first.now < report.new.beyond }
-    ensures inside { result ≡ 102 → report.new.beyond ≤ total }
+    requires parts { K.parts ≡ parts.now }
+    requires given { AreGiven parts.now held.now total K.bytes }
+    ensures answers { AnswersCheck K.bytes payload result report.new }
+    ensures wanted { result ≡ 102 → IsWanted K.parts total report.new.beyond }
 {
-    let mut device: FirstBytes<'_, K> = FirstBytes::new(first, total);
+    let mut device: GivenParts<'_, K> = GivenParts::new(parts, held, total);
     match check(alloc, &mut device, payload) {
         Ok(found) => {
             *report = told(&found);
             DONE
         }
         Err(CheckFault::Device) => {
-            report.beyond = device.reached();
+            report.beyond = device.wanted();
             BEYOND
         }
         Err(fault) => check_number(&fault),
@@ -96,14 +96,14 @@ fn told(found: &Report) -> LuksReport
             copies: 0,
             seqid: 0,
             areas,
-            beyond: 0,
+            beyond: Part::default(),
         },
         Version::Luks2 { copies, seqid } => LuksReport {
             version: 2,
             copies: number_of_copies(copies),
             seqid,
             areas,
-            beyond: 0,
+            beyond: Part::default(),
         },
     }
 }

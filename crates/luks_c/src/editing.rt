@@ -1,7 +1,7 @@
 //! Edits of a volume.
 ghost use Rattle.std.specs.Prelude.{◌≡◌, ◌≢◌, ◌⊎◌, ◌↔◌, ◌≤◌, ◌<◌, length, Ok, Option};
 ghost use Rattle.luks_area.specs.Device.{IsSettled};
-ghost use Rattle.luks_given.specs.Volume.{volume};
+ghost use Rattle.luks_given.specs.Parts.{AreGiven, AreNoParts, IsWanted, volume};
 ghost use Rattle.luks_given.specs.Planned.{planned_bytes, planned_size, planned_unsettled};
 ghost use Rattle.luks_volume.specs.Outcome.{IsApplied};
 ghost use Rattle.luks_c_answers.specs.Asked.{payload_of};
@@ -10,14 +10,14 @@ ghost use Rattle.luks_c_answers.specs.EditAsked.{IsUnasked};
 
 use luks_c_answers::{
     LuksEdit, LuksPlan, MEMORY, USAGE, data_of, edit_number, edit_of, give_plan, number_of_slot,
-    planned_writes, tell_reach,
+    planned_writes, tell_wanted,
 };
-use luks_given::{Given, PlannedCall, PlannedWrites};
+use luks_given::{Given, Part, PlannedCall, PlannedWrites, are_parts};
 use luks_volume::{Data, Done, Edit, EditFault, apply};
 use std::alloc::Global;
 use std::marker::Brand;
 
-/// Plans the edit of the volume of `total` bytes that begins with these, with as many random bytes as
+/// Plans the edit of the volume of `total` bytes of which these ranges are given, with as many random bytes as
 /// `luks_needed_bytes` tells: the calls, and the bytes that they write one after the other. Played in
 /// their order, they do the edit; a call that writes no byte is a flush.
 ///
@@ -26,7 +26,8 @@ use std::marker::Brand;
 #[unsafe(no_mangle)]
 pub extern "C" fn luks_apply_bytes(
     alloc: Global,
-    first: &[u8],
+    parts: &[Part],
+    held: &[u8],
     total: u64,
     is_detached: bool,
     asked: &LuksEdit,
@@ -37,23 +38,23 @@ pub extern "C" fn luks_apply_bytes(
     bytes: &mut [u8],
     told: &mut LuksPlan,
 ) -> u32
-    ensures usage { result ≡ 101 ↔ ((total < length first.now)
+    ensures usage { result ≡ 101 ↔ (AreNoParts parts.now held.now total
         ⊎ IsUnasked asked.now passphrase.now text.now) }
-    ensures answers { result ≢ 101 → AnswersAsked first.now total (payload_of is_detached)
+    ensures answers { result ≢ 101 → AnswersAsked parts.now (volume parts.now held.now total) (payload_of is_detached)
         asked.now passphrase.now text.now random.now
         (record { calls = calls.old; bytes = bytes.old })
         (record { calls = calls.new; bytes = bytes.new }) told.new result }
-    ensures more { result ≡ 102 → length first.now < told.new.beyond }
-    ensures within { result ≡ 102 → told.new.beyond ≤ total }
+    ensures wanted { result ≡ 102 → IsWanted parts.now total told.new.beyond }
 {
     *told = LuksPlan::default();
-    if first.len() as u64 > total {
+    if !are_parts(parts, held, total) {
         return USAGE;
     }
     match edit_of(asked, passphrase, text) {
         Ok(edit) => apply_given::<Brand>(
             alloc,
-            first,
+            parts,
+            held,
             total,
             data_of(is_detached),
             &edit,
@@ -66,11 +67,12 @@ pub extern "C" fn luks_apply_bytes(
     }
 }
 
-/// The same where not more bytes are given than there are, of this edit.
+/// The same of the volume `K`, of which these are given, and this edit.
 #[tactic(auto, using(crate::proofs::PlanFacts::edit_refused, crate::proofs::PlanFacts::edit_unplanned))]
 fn apply_given<K: Given>(
     alloc: Global,
-    first: &[u8],
+    parts: &[Part],
+    held: &[u8],
     total: u64,
     payload: Data,
     edit: &Edit<'_>,
@@ -79,46 +81,39 @@ fn apply_given<K: Given>(
     bytes: &mut [u8],
     told: &mut LuksPlan,
 ) -> u32
-    requires within { length first.now ≤ total }
-    requires given { K.bytes ≡ first.now }
+    requires parts { K.parts ≡ parts.now }
+    requires given { AreGiven parts.now held.now total K.bytes }
     ensures own { result ≢ 101 }
-    ensures answers { AnswersEdit first.now total payload edit.now random.now
+    ensures answers { AnswersEdit K.parts K.bytes payload edit.now random.now
         (record { calls = calls.old; bytes = bytes.old })
         (record { calls = calls.new; bytes = bytes.new }) told.new result }
-    ensures more { result ≡ 102 → length first.now < told.new.beyond }
-    ensures inside { result ≡ 102 → told.new.beyond ≤ total }
+    ensures wanted { result ≡ 102 → IsWanted K.parts total told.new.beyond }
 {
-    let Ok(mut device) = planned_writes::<K>(alloc, first, total) else {
+    let Ok(mut device) = planned_writes::<K>(alloc, parts, held, total) else {
         return MEMORY;
     };
     match apply(alloc, &mut device, payload, edit, random) {
-        Ok(done) => give_edited(
-            first, total, payload, edit, random, done, &device, calls, bytes, told,
-        ),
-        Err(EditFault::Device) => tell_reach(&device, told),
+        Ok(done) => give_edited(payload, edit, random, done, &device, calls, bytes, told),
+        Err(EditFault::Device) => tell_wanted(&device, told),
         Err(fault) => edit_number(&fault),
     }
 }
 
 /// Gives the plan of an edit that was done over the device.
 fn give_edited<K: Given>(
-    first: &[u8],
-    total: u64,
     payload: Data,
     edit: &Edit<'_>,
     random: &[u8],
     done: Done,
-    device: &PlannedWrites<K>,
+    device: &PlannedWrites<'_, K>,
     calls: &mut [PlannedCall],
     bytes: &mut [u8],
     told: &mut LuksPlan,
 ) -> u32
-    requires given { K.bytes ≡ first.now }
-    requires size { planned_size device.now ≡ total }
     requires settled { IsSettled planned_unsettled device.now }
-    requires applied { IsApplied payload (volume first.now total) edit.now random.now (Ok done)
+    requires applied { IsApplied payload K.bytes edit.now random.now (Ok done)
         (planned_bytes device.now) }
-    ensures answers { AnswersEdit first.now total payload edit.now random.now
+    ensures answers { AnswersEdit K.parts K.bytes payload edit.now random.now
         (record { calls = calls.old; bytes = bytes.old })
         (record { calls = calls.new; bytes = bytes.new }) told.new result }
     ensures given { (result ≡ 0) ⊎ (result ≡ 106) }

@@ -1,11 +1,11 @@
 //! Where volumes begin on a disk.
 ghost use Rattle.std.specs.Prelude.{◌≡◌, ◌≢◌, ◌↔◌, ◌≤◌, ◌<◌, length};
-ghost use Rattle.luks_given.specs.Volume.{volume};
+ghost use Rattle.luks_given.specs.Parts.{AreGiven as AreGivenOf, AreNoParts, IsWanted, volume};
 ghost use Rattle.luks_c.specs.FindAnswers.{AnswersFind, AreGiven};
 
 use luks_c_answers::{BEYOND, DONE, MEMORY, ROOM, USAGE, fill_front};
 use luks_finding::{FindFault, all_starts};
-use luks_given::{FirstBytes, Given};
+use luks_given::{Given, GivenParts, Part, are_parts};
 use std::alloc::Global;
 use std::marker::Brand;
 
@@ -15,11 +15,11 @@ use std::marker::Brand;
 pub struct LuksFound {
     /// How many volumes begin there.
     pub count: u64,
-    /// With the answer BEYOND, how many of the first bytes have to be given.
-    pub beyond: u64,
+    /// With the answer BEYOND, the range that has to be given.
+    pub beyond: Part,
 }
 
-/// Tells where volumes begin on the disk of `total` bytes that begins with these, in bytes, in the order of
+/// Tells where volumes begin on the disk of `total` bytes of which these ranges are given, in bytes, in the order of
 /// the first of what is left of each: its header (of LUKS1 also without its magic), its second copy or metadata
 /// that is whole.
 ///
@@ -27,44 +27,44 @@ pub struct LuksFound {
 #[unsafe(no_mangle)]
 pub extern "C" fn luks_find_bytes(
     alloc: Global,
-    first: &[u8],
+    parts: &[Part],
+    held: &[u8],
     total: u64,
     starts: &mut [u64],
     told: &mut LuksFound,
 ) -> u32
-    ensures usage { result ≡ 101 ↔ (total < length first.now) }
+    ensures usage { result ≡ 101 ↔ AreNoParts parts.now held.now total }
     ensures answers { result ≢ 101
-        → AnswersFind (volume first.now total) starts.old starts.new told.new.count result }
-    ensures more { result ≡ 102 → length first.now < told.new.beyond }
-    ensures within { result ≡ 102 → told.new.beyond ≤ total }
+        → AnswersFind (volume parts.now held.now total) starts.old starts.new told.new.count result }
+    ensures wanted { result ≡ 102 → IsWanted parts.now total told.new.beyond }
 {
     *told = LuksFound::default();
-    if first.len() as u64 > total {
+    if !are_parts(parts, held, total) {
         return USAGE;
     }
-    find_given::<Brand>(alloc, first, total, starts, told)
+    find_given::<Brand>(alloc, parts, held, total, starts, told)
 }
 
-/// The same where not more bytes are given than there are.
+/// The same of the disk `K`, of which these are given.
 fn find_given<K: Given>(
     alloc: Global,
-    first: &[u8],
+    parts: &[Part],
+    held: &[u8],
     total: u64,
     starts: &mut [u64],
     told: &mut LuksFound,
 ) -> u32
-    requires within { length first.now ≤ total }
-    requires given { K.bytes ≡ first.now }
+    requires parts { K.parts ≡ parts.now }
+    requires given { AreGivenOf parts.now held.now total K.bytes }
     ensures own { result ≢ 101 }
-    ensures answers { AnswersFind (volume first.now total) starts.old starts.new told.new.count result }
-    ensures more { result ≡ 102 → length first.now < told.new.beyond }
-    ensures inside { result ≡ 102 → told.new.beyond ≤ total }
+    ensures answers { AnswersFind K.bytes starts.old starts.new told.new.count result }
+    ensures wanted { result ≡ 102 → IsWanted K.parts total told.new.beyond }
 {
-    let mut device: FirstBytes<'_, K> = FirstBytes::new(first, total);
+    let mut device: GivenParts<'_, K> = GivenParts::new(parts, held, total);
     match all_starts(alloc, &mut device) {
         Ok(found) => give_starts(&found, starts, told),
         Err(FindFault::Device) => {
-            told.beyond = device.reached();
+            told.beyond = device.wanted();
             BEYOND
         }
         Err(FindFault::Memory) => MEMORY,

@@ -3,30 +3,32 @@ ghost use Rattle.std.specs.Prelude.{◌≡◌, ◌≢◌, ◌⊎◌, ◌↔◌, 
 ghost use Rattle.luks_kdf.specs.declared.hash_name.HashName.{HashName as TheHash};
 ghost use Rattle.luks_making.specs.declared.derivation.NewDerivation.{NewDerivation as Chosen};
 ghost use Rattle.luks_reading.specs.declared.format.Format.{Format as TheFormat};
+ghost use Rattle.luks_given.specs.Parts.{AreGiven, AreNoParts, IsWanted, volume};
 ghost use Rattle.luks_c_answers.specs.Asked.{payload_of};
 ghost use Rattle.luks_c_answers.specs.ChoiceAsked.{IsNoChoice};
 ghost use Rattle.luks_c.specs.FormatAnswers.{AnswersChosen, AnswersFormat1, AnswersFormat2, AnswersNumbered, IsFormat, IsNoHash, hash_number};
 
 use luks_c_answers::{
     LuksDerivation, LuksPlan, MEMORY, USAGE, chosen_of, data_of, format_number, give_plan,
-    planned_writes, tell_reach,
+    planned_writes, tell_wanted,
 };
 use luks_formatting::format2_by;
-use luks_given::{Given, PlannedCall};
+use luks_given::{Given, Part, PlannedCall, are_parts};
 use luks_reading::Allowed;
 use luks_volume::{Data, Format, FormatFault, HashName, NewDerivation, Passphrase, format1};
 use std::alloc::Global;
 use std::marker::Brand;
 
-/// Plans a LUKS1 volume in the place of the one of `total` bytes that begins with these, whose keyslot
-/// 0 opens by the passphrase; `luks_apply_bytes` says what a plan is.
+/// Plans a LUKS1 volume in the place of the one of `total` bytes of which these ranges are given, whose
+/// keyslot 0 opens by the passphrase; `luks_apply_bytes` says what a plan is.
 ///
 /// The hash is 1 for SHA-1, 2 for SHA-256, 3 for SHA-512; it takes 256080 random bytes. Takes memory
 /// for a copy of the given bytes and for the plan.
 #[unsafe(no_mangle)]
 pub extern "C" fn luks_format1_bytes(
     alloc: Global,
-    first: &[u8],
+    parts: &[Part],
+    held: &[u8],
     total: u64,
     is_detached: bool,
     hash: u32,
@@ -37,19 +39,18 @@ pub extern "C" fn luks_format1_bytes(
     bytes: &mut [u8],
     told: &mut LuksPlan,
 ) -> u32
-    ensures usage { result ≡ 101 ↔ ((total < length first.now) ⊎ IsNoHash hash) }
+    ensures usage { result ≡ 101 ↔ (AreNoParts parts.now held.now total ⊎ IsNoHash hash) }
     ensures answers { result ≢ 101 → AnswersNumbered hash iterations (λ (format : TheFormat).
-        AnswersFormat1 first.now total (payload_of is_detached) format passphrase.now random.now
+        AnswersFormat1 parts.now (volume parts.now held.now total) total (payload_of is_detached) format passphrase.now random.now
         (record { calls = calls.old; bytes = bytes.old })
         (record { calls = calls.new; bytes = bytes.new }) told.new result) }
-    ensures more { result ≡ 102 → length first.now < told.new.beyond }
-    ensures within { result ≡ 102 → told.new.beyond ≤ total }
+    ensures wanted { result ≡ 102 → IsWanted parts.now total told.new.beyond }
 {
     *told = LuksPlan::default();
     let payload = data_of(is_detached);
-    match format_of(first, total, hash, iterations) {
+    match format_of(parts, held, total, hash, iterations) {
         Some(format) => make1::<Brand>(
-            alloc, first, total, payload, &format, passphrase, random, calls, bytes, told,
+            alloc, parts, held, total, payload, &format, passphrase, random, calls, bytes, told,
         ),
         None => USAGE,
     }
@@ -60,7 +61,8 @@ pub extern "C" fn luks_format1_bytes(
 #[unsafe(no_mangle)]
 pub extern "C" fn luks_format2_bytes(
     alloc: Global,
-    first: &[u8],
+    parts: &[Part],
+    held: &[u8],
     total: u64,
     is_detached: bool,
     hash: u32,
@@ -74,14 +76,13 @@ pub extern "C" fn luks_format2_bytes(
     told: &mut LuksPlan,
 ) -> u32
     ensures usage { result ≡ 101 ↔ (IsNoChoice derivation.now
-        ⊎ ((total < length first.now) ⊎ IsNoHash hash)) }
+        ⊎ (AreNoParts parts.now held.now total ⊎ IsNoHash hash)) }
     ensures answers { result ≢ 101 → AnswersChosen hash iterations derivation.now
         (λ (format : TheFormat) (chosen : Option Chosen).
-        AnswersFormat2 first.now total (payload_of is_detached) format chosen memory
+        AnswersFormat2 parts.now (volume parts.now held.now total) total (payload_of is_detached) format chosen memory
         passphrase.now random.now (record { calls = calls.old; bytes = bytes.old })
         (record { calls = calls.new; bytes = bytes.new }) told.new result) }
-    ensures more { result ≡ 102 → length first.now < told.new.beyond }
-    ensures within { result ≡ 102 → told.new.beyond ≤ total }
+    ensures wanted { result ≡ 102 → IsWanted parts.now total told.new.beyond }
 {
     *told = LuksPlan::default();
     let payload = data_of(is_detached);
@@ -95,18 +96,19 @@ pub extern "C" fn luks_format2_bytes(
             older: false,
         },
     };
-    match format_of(first, total, hash, iterations) {
+    match format_of(parts, held, total, hash, iterations) {
         Some(format) => make2::<Brand>(
-            alloc, first, total, payload, &format, chosen, &by_, random, calls, bytes, told,
+            alloc, parts, held, total, payload, &format, chosen, &by_, random, calls, bytes, told,
         ),
         None => USAGE,
     }
 }
 
-/// The LUKS1 volume, where not more bytes are given than there are.
+/// The LUKS1 volume, in the place of the volume `K`.
 fn make1<K: Given>(
     alloc: Global,
-    first: &[u8],
+    parts: &[Part],
+    held: &[u8],
     total: u64,
     payload: Data,
     format: &Format,
@@ -116,22 +118,21 @@ fn make1<K: Given>(
     bytes: &mut [u8],
     told: &mut LuksPlan,
 ) -> u32
-    requires within { length first.now ≤ total }
-    requires given { K.bytes ≡ first.now }
+    requires parts { K.parts ≡ parts.now }
+    requires given { AreGiven parts.now held.now total K.bytes }
     requires slot { told.old.slot ≡ 0 }
     ensures own { result ≢ 101 }
-    ensures answers { AnswersFormat1 first.now total payload format.now passphrase.now random.now
+    ensures answers { AnswersFormat1 K.parts K.bytes total payload format.now passphrase.now random.now
         (record { calls = calls.old; bytes = bytes.old })
         (record { calls = calls.new; bytes = bytes.new }) told.new result }
-    ensures more { result ≡ 102 → length first.now < told.new.beyond }
-    ensures inside { result ≡ 102 → told.new.beyond ≤ total }
+    ensures wanted { result ≡ 102 → IsWanted K.parts total told.new.beyond }
 {
-    let Ok(mut device) = planned_writes::<K>(alloc, first, total) else {
+    let Ok(mut device) = planned_writes::<K>(alloc, parts, held, total) else {
         return MEMORY;
     };
     match format1(&mut device, payload, format, passphrase, random) {
         Ok(_) => give_plan(&device, calls, bytes, told),
-        Err(FormatFault::Device) => tell_reach(&device, told),
+        Err(FormatFault::Device) => tell_wanted(&device, told),
         Err(fault) => format_number(&fault),
     }
 }
@@ -139,7 +140,8 @@ fn make1<K: Given>(
 /// The LUKS2 volume.
 fn make2<K: Given>(
     alloc: Global,
-    first: &[u8],
+    parts: &[Part],
+    held: &[u8],
     total: u64,
     payload: Data,
     format: &Format,
@@ -150,18 +152,17 @@ fn make2<K: Given>(
     bytes: &mut [u8],
     told: &mut LuksPlan,
 ) -> u32
-    requires within { length first.now ≤ total }
-    requires given { K.bytes ≡ first.now }
+    requires parts { K.parts ≡ parts.now }
+    requires given { AreGiven parts.now held.now total K.bytes }
     requires slot { told.old.slot ≡ 0 }
     ensures own { result ≢ 101 }
-    ensures answers { AnswersFormat2 first.now total payload format.now chosen
+    ensures answers { AnswersFormat2 K.parts K.bytes total payload format.now chosen
         passphrase.now.allowed.memory passphrase.now.bytes.now random.now
         (record { calls = calls.old; bytes = bytes.old })
         (record { calls = calls.new; bytes = bytes.new }) told.new result }
-    ensures more { result ≡ 102 → length first.now < told.new.beyond }
-    ensures inside { result ≡ 102 → told.new.beyond ≤ total }
+    ensures wanted { result ≡ 102 → IsWanted K.parts total told.new.beyond }
 {
-    let Ok(mut device) = planned_writes::<K>(alloc, first, total) else {
+    let Ok(mut device) = planned_writes::<K>(alloc, parts, held, total) else {
         return MEMORY;
     };
     match format2_by(
@@ -174,17 +175,17 @@ fn make2<K: Given>(
         random,
     ) {
         Ok(_) => give_plan(&device, calls, bytes, told),
-        Err(FormatFault::Device) => tell_reach(&device, told),
+        Err(FormatFault::Device) => tell_wanted(&device, told),
         Err(fault) => format_number(&fault),
     }
 }
 
-/// How the volume is made, where not more bytes are given than there are, and the number is a hash's.
-fn format_of(first: &[u8], total: u64, hash: u32, iterations: u32) -> Option<Format>
-    ensures { MatchOption result ((total < length first.now) ⊎ IsNoHash hash)
-        (λ (format : TheFormat). (length first.now ≤ total) × IsFormat hash iterations format) }
+/// How the volume is made, where these are ranges of a volume, and the number is a hash's.
+fn format_of(parts: &[Part], held: &[u8], total: u64, hash: u32, iterations: u32) -> Option<Format>
+    ensures { MatchOption result (AreNoParts parts.now held.now total ⊎ IsNoHash hash)
+        (λ (format : TheFormat). AreGiven parts.now held.now total (volume parts.now held.now total) × IsFormat hash iterations format) }
 {
-    if first.len() as u64 > total {
+    if !are_parts(parts, held, total) {
         return None;
     }
     Some(Format {

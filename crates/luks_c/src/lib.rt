@@ -1,5 +1,5 @@
-//! The calls of this repository for programs in C, over the first bytes of a volume, which the caller
-//! read. `luks.h` says what a caller owes.
+//! The calls of this repository for programs in C, over ranges of a volume, which the caller read. `luks.h`
+//! says what a caller owes.
 #![tactic(auto)]
 
 mod backing_up;

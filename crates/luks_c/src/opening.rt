@@ -1,11 +1,11 @@
 //! Opening keyslots.
 ghost use Rattle.std.specs.Prelude.{◌≡◌, ◌≤◌, ◌<◌, ◌^◌, length};
-ghost use Rattle.luks_given.specs.Volume.{volume};
+ghost use Rattle.luks_given.specs.Parts.{AreGiven, AreNoParts, ArePartsOf, IsWanted, volume};
 ghost use Rattle.luks_c_answers.specs.Asked.{allowed_of};
 ghost use Rattle.luks_c.specs.OpenAnswers.{AnswersOpen, AnswersUnlock, IsGiven};
 
 use luks_c_answers::{BEYOND, DONE, ROOM, SHUT, USAGE, allowed_of, fill_front, open_number};
-use luks_given::{FirstBytes, Given};
+use luks_given::{Given, GivenParts, Part, are_parts};
 use luks_reading::{Allowed, Key, OpenFault, open_slot, unlock};
 use std::alloc::Global;
 use std::marker::Brand;
@@ -18,11 +18,11 @@ pub struct LuksOpened {
     pub slot: u32,
     /// The bytes of its volume key; 0 where none opens.
     pub key_bytes: u32,
-    /// With the answer BEYOND, how many of the first bytes have to be given.
-    pub beyond: u64,
+    /// With the answer BEYOND, the range that has to be given.
+    pub beyond: Part,
 }
 
-/// Opens the volume of `total` bytes that begins with these, by the first keyslot that the passphrase
+/// Opens the volume of `total` bytes of which these ranges are given, by the first keyslot that the passphrase
 /// opens. The volume key is put into `key`, where that has any byte.
 ///
 /// Argon2 may take `memory` KiB for each keyslot; one that takes more is passed over, and so is one with
@@ -31,7 +31,8 @@ pub struct LuksOpened {
 #[unsafe(no_mangle)]
 pub extern "C" fn luks_unlock_bytes(
     alloc: Global,
-    first: &[u8],
+    parts: &[Part],
+    held: &[u8],
     total: u64,
     passphrase: &[u8],
     memory: u32,
@@ -39,57 +40,57 @@ pub extern "C" fn luks_unlock_bytes(
     key: &mut [u8],
     opened: &mut LuksOpened,
 ) -> u32
-    ensures usage { total < length first.now → result ≡ 101 }
+    ensures usage { AreNoParts parts.now held.now total → result ≡ 101 }
     ensures long { 2 ^ 32 ≤ length passphrase.now → result ≡ 101 }
-    ensures answers { length first.now ≤ total → length passphrase.now < 2 ^ 32
-        → AnswersUnlock (allowed_of memory older) (volume first.now total) passphrase.now
+    ensures answers { ArePartsOf parts.now held.now total → length passphrase.now < 2 ^ 32
+        → AnswersUnlock (allowed_of memory older) (volume parts.now held.now total) passphrase.now
         key.old key.new opened.new result }
-    ensures more { result ≡ 102 → length first.now < opened.new.beyond }
-    ensures within { result ≡ 102 → opened.new.beyond ≤ total }
+    ensures wanted { result ≡ 102 → IsWanted parts.now total opened.new.beyond }
 {
     *opened = LuksOpened::default();
-    if first.len() as u64 > total || passphrase.len() as u64 >= 0x1_0000_0000 {
+    if !are_parts(parts, held, total) || passphrase.len() as u64 >= 0x1_0000_0000 {
         return USAGE;
     }
     let allowed = allowed_of(memory, older);
-    unlock_given::<Brand>(alloc, first, total, passphrase, allowed, key, opened)
+    unlock_given::<Brand>(alloc, parts, held, total, passphrase, allowed, key, opened)
 }
 
-/// The same where not more bytes are given than there are, and the passphrase is short.
+/// The same of the volume `K`, of which these are given, where the passphrase is short.
 fn unlock_given<K: Given>(
     alloc: Global,
-    first: &[u8],
+    parts: &[Part],
+    held: &[u8],
     total: u64,
     passphrase: &[u8],
     allowed: Allowed,
     key: &mut [u8],
     opened: &mut LuksOpened,
 ) -> u32
-    requires within { length first.now ≤ total }
-    requires given { K.bytes ≡ first.now }
+    requires parts { K.parts ≡ parts.now }
+    requires given { AreGiven parts.now held.now total K.bytes }
     requires passphrase { length passphrase.now < 2 ^ 32 }
-    ensures answers { AnswersUnlock allowed (volume first.now total) passphrase.now key.old key.new opened.new result }
-    ensures more { result ≡ 102 → length first.now < opened.new.beyond }
-    ensures inside { result ≡ 102 → opened.new.beyond ≤ total }
+    ensures answers { AnswersUnlock allowed K.bytes passphrase.now key.old key.new opened.new result }
+    ensures wanted { result ≡ 102 → IsWanted K.parts total opened.new.beyond }
 {
-    let mut device: FirstBytes<'_, K> = FirstBytes::new(first, total);
+    let mut device: GivenParts<'_, K> = GivenParts::new(parts, held, total);
     match unlock(alloc, &mut device, passphrase, allowed) {
         Ok(Some((slot, found))) => give_key(u32::from(slot), &found, key, opened),
         Ok(None) => SHUT,
         Err(OpenFault::Device) => {
-            opened.beyond = device.reached();
+            opened.beyond = device.wanted();
             BEYOND
         }
         Err(fault) => open_number(&fault),
     }
 }
 
-/// Opens the keyslot `n` of the volume of `total` bytes that begins with these, as `luks_unlock_bytes`
+/// Opens the keyslot `n` of the volume of `total` bytes of which these ranges are given, as `luks_unlock_bytes`
 /// does of the first that opens.
 #[unsafe(no_mangle)]
 pub extern "C" fn luks_open_bytes(
     alloc: Global,
-    first: &[u8],
+    parts: &[Part],
+    held: &[u8],
     total: u64,
     n: u8,
     passphrase: &[u8],
@@ -98,26 +99,28 @@ pub extern "C" fn luks_open_bytes(
     key: &mut [u8],
     opened: &mut LuksOpened,
 ) -> u32
-    ensures usage { total < length first.now → result ≡ 101 }
+    ensures usage { AreNoParts parts.now held.now total → result ≡ 101 }
     ensures long { 2 ^ 32 ≤ length passphrase.now → result ≡ 101 }
-    ensures answers { length first.now ≤ total → length passphrase.now < 2 ^ 32
-        → AnswersOpen (allowed_of memory older) (volume first.now total) n passphrase.now
+    ensures answers { ArePartsOf parts.now held.now total → length passphrase.now < 2 ^ 32
+        → AnswersOpen (allowed_of memory older) (volume parts.now held.now total) n passphrase.now
         key.old key.new opened.new result }
-    ensures more { result ≡ 102 → length first.now < opened.new.beyond }
-    ensures within { result ≡ 102 → opened.new.beyond ≤ total }
+    ensures wanted { result ≡ 102 → IsWanted parts.now total opened.new.beyond }
 {
     *opened = LuksOpened::default();
-    if first.len() as u64 > total || passphrase.len() as u64 >= 0x1_0000_0000 {
+    if !are_parts(parts, held, total) || passphrase.len() as u64 >= 0x1_0000_0000 {
         return USAGE;
     }
     let allowed = allowed_of(memory, older);
-    open_given::<Brand>(alloc, first, total, n, passphrase, allowed, key, opened)
+    open_given::<Brand>(
+        alloc, parts, held, total, n, passphrase, allowed, key, opened,
+    )
 }
 
-/// The same where not more bytes are given than there are, and the passphrase is short.
+/// The same of the volume `K`, of which these are given, where the passphrase is short.
 fn open_given<K: Given>(
     alloc: Global,
-    first: &[u8],
+    parts: &[Part],
+    held: &[u8],
     total: u64,
     n: u8,
     passphrase: &[u8],
@@ -125,19 +128,18 @@ fn open_given<K: Given>(
     key: &mut [u8],
     opened: &mut LuksOpened,
 ) -> u32
-    requires within { length first.now ≤ total }
-    requires given { K.bytes ≡ first.now }
+    requires parts { K.parts ≡ parts.now }
+    requires given { AreGiven parts.now held.now total K.bytes }
     requires passphrase { length passphrase.now < 2 ^ 32 }
-    ensures answers { AnswersOpen allowed (volume first.now total) n passphrase.now key.old key.new opened.new result }
-    ensures more { result ≡ 102 → length first.now < opened.new.beyond }
-    ensures inside { result ≡ 102 → opened.new.beyond ≤ total }
+    ensures answers { AnswersOpen allowed K.bytes n passphrase.now key.old key.new opened.new result }
+    ensures wanted { result ≡ 102 → IsWanted K.parts total opened.new.beyond }
 {
-    let mut device: FirstBytes<'_, K> = FirstBytes::new(first, total);
+    let mut device: GivenParts<'_, K> = GivenParts::new(parts, held, total);
     match open_slot(alloc, &mut device, n, passphrase, allowed) {
         Ok(Some(found)) => give_key(u32::from(n), &found, key, opened),
         Ok(None) => SHUT,
         Err(OpenFault::Device) => {
-            opened.beyond = device.reached();
+            opened.beyond = device.wanted();
             BEYOND
         }
         Err(fault) => open_number(&fault),

@@ -1,11 +1,11 @@
 //! What a header says.
 ghost use Rattle.std.specs.Prelude.{◌≡◌, ◌≢◌, ◌≤◌, ◌<◌, ℕ, List, length};
-ghost use Rattle.luks_given.specs.Volume.{volume};
+ghost use Rattle.luks_given.specs.Parts.{AreGiven, AreNoParts, ArePartsOf, IsWanted, volume};
 ghost use Rattle.luks_reading.specs.Header.{IsHeader};
 ghost use Rattle.luks_c.specs.ReadAnswers.{AnswersRead, IsJsonGiven};
 
 use luks_c_answers::{BEYOND, DONE, MEMORY, ROOM, USAGE, fill_front, read_number};
-use luks_given::{FirstBytes, Given};
+use luks_given::{Given, GivenParts, Part, are_parts};
 use luks_reading::{Header, Luks1, ReadFault, read_header};
 use luks_show::{Listing, json_text};
 use std::alloc::Global;
@@ -17,54 +17,54 @@ use std::marker::Brand;
 pub struct LuksRead {
     /// How many bytes the text has; 0 where there is none.
     pub json_bytes: u64,
-    /// With the answer BEYOND, how many of the first bytes have to be given.
-    pub beyond: u64,
+    /// With the answer BEYOND, the range that has to be given.
+    pub beyond: Part,
 }
 
-/// Puts what the header says that counts of the volume of `total` bytes that begins with these into
+/// Puts what the header says that counts of the volume of `total` bytes of which these ranges are given into
 /// the buffer, as the JSON object that `luks show --json` prints, without a newline.
 ///
 /// Takes memory for the metadata of LUKS2, for the object, and for its text.
 #[unsafe(no_mangle)]
 pub extern "C" fn luks_read_bytes(
     alloc: Global,
-    first: &[u8],
+    parts: &[Part],
+    held: &[u8],
     total: u64,
     json: &mut [u8],
     told: &mut LuksRead,
 ) -> u32
-    ensures usage { total < length first.now → result ≡ 101 }
-    ensures answers { length first.now ≤ total
-        → AnswersRead (volume first.now total) json.old json.new told.new result }
-    ensures more { result ≡ 102 → length first.now < told.new.beyond }
-    ensures within { result ≡ 102 → told.new.beyond ≤ total }
+    ensures usage { AreNoParts parts.now held.now total → result ≡ 101 }
+    ensures answers { ArePartsOf parts.now held.now total
+        → AnswersRead (volume parts.now held.now total) json.old json.new told.new result }
+    ensures wanted { result ≡ 102 → IsWanted parts.now total told.new.beyond }
 {
     *told = LuksRead::default();
-    if first.len() as u64 > total {
+    if !are_parts(parts, held, total) {
         return USAGE;
     }
-    read_given::<Brand>(alloc, first, total, json, told)
+    read_given::<Brand>(alloc, parts, held, total, json, told)
 }
 
-/// The same where not more bytes are given than there are.
+/// The same of the volume `K`, of which these are given.
 fn read_given<K: Given>(
     alloc: Global,
-    first: &[u8],
+    parts: &[Part],
+    held: &[u8],
     total: u64,
     json: &mut [u8],
     told: &mut LuksRead,
 ) -> u32
-    requires within { length first.now ≤ total }
-    requires given { K.bytes ≡ first.now }
-    ensures answers { AnswersRead (volume first.now total) json.old json.new told.new result }
-    ensures more { result ≡ 102 → length first.now < told.new.beyond }
-    ensures inside { result ≡ 102 → told.new.beyond ≤ total }
+    requires parts { K.parts ≡ parts.now }
+    requires given { AreGiven parts.now held.now total K.bytes }
+    ensures answers { AnswersRead K.bytes json.old json.new told.new result }
+    ensures wanted { result ≡ 102 → IsWanted K.parts total told.new.beyond }
 {
-    let mut device: FirstBytes<'_, K> = FirstBytes::new(first, total);
+    let mut device: GivenParts<'_, K> = GivenParts::new(parts, held, total);
     match read_header(alloc, &mut device) {
         Ok(header) => give_header(alloc, header, json, told),
         Err(ReadFault::Device) => {
-            told.beyond = device.reached();
+            told.beyond = device.wanted();
             BEYOND
         }
         Err(fault) => read_number(&fault),

@@ -3,12 +3,12 @@ ghost use Rattle.std.specs.Prelude.{◌≡◌, ◌≤◌, ◌<◌, drop, length,
 ghost use Rattle.luks_c_answers.specs.Buffers.{filled};
 ghost use Rattle.luks_signatures.specs.UseTexts.{use_text};
 ghost use Rattle.luks_signatures.specs.declared.other_use.OtherUse.{OtherUse as TheUse};
-ghost use Rattle.luks_given.specs.Volume.{volume};
+ghost use Rattle.luks_given.specs.Parts.{AreGiven, AreNoParts, ArePartsOf, IsWanted, volume};
 ghost use Rattle.luks_c.specs.SignatureAnswers.{AnswersSignature};
 ghost use Rattle.luks_c_answers.specs.Uses.{use_number};
 
 use luks_c_answers::{BEYOND, DONE, USAGE, fill_front, number_shown, use_name};
-use luks_given::{FirstBytes, Given};
+use luks_given::{Given, GivenParts, Part, are_parts};
 use luks_signatures::first_use;
 use std::marker::Brand;
 
@@ -18,49 +18,54 @@ use std::marker::Brand;
 pub struct LuksSignature {
     /// The use that is shown, by its number; 0 where none is.
     pub shows: u32,
-    /// With the answer BEYOND, how many of the first bytes have to be given.
-    pub beyond: u64,
+    /// With the answer BEYOND, the range that has to be given.
+    pub beyond: Part,
 }
 
-/// Tells what the signatures among the first `len` bytes show of the disk of `total` bytes that begins
-/// with these: a partition table, a file system or another use, by the first row of the table that
+/// Tells what the signatures among the first `len` bytes show of the disk of `total` bytes of which these
+/// ranges are given: a partition table, a file system or another use, by the first row of the table that
 /// stands there.
 #[unsafe(no_mangle)]
 pub extern "C" fn luks_signature_bytes(
-    first: &[u8],
+    parts: &[Part],
+    held: &[u8],
     total: u64,
     len: u64,
     told: &mut LuksSignature,
 ) -> u32
-    ensures usage { total < length first.now → result ≡ 101 }
-    ensures answers { length first.now ≤ total
-        → AnswersSignature (take len (volume first.now total)) told.new.shows result }
-    ensures more { result ≡ 102 → length first.now < told.new.beyond }
-    ensures within { result ≡ 102 → told.new.beyond ≤ total }
+    ensures usage { AreNoParts parts.now held.now total → result ≡ 101 }
+    ensures answers { ArePartsOf parts.now held.now total
+        → AnswersSignature (take len (volume parts.now held.now total)) told.new.shows result }
+    ensures wanted { result ≡ 102 → IsWanted parts.now total told.new.beyond }
 {
     *told = LuksSignature::default();
-    if first.len() as u64 > total {
+    if !are_parts(parts, held, total) {
         return USAGE;
     }
-    find_given::<Brand>(first, total, len, told)
+    find_given::<Brand>(parts, held, total, len, told)
 }
 
-/// The same where not more bytes are given than there are.
-fn find_given<K: Given>(first: &[u8], total: u64, len: u64, told: &mut LuksSignature) -> u32
-    requires within { length first.now ≤ total }
-    requires given { K.bytes ≡ first.now }
-    ensures answers { AnswersSignature (take len (volume first.now total)) told.new.shows result }
-    ensures more { result ≡ 102 → length first.now < told.new.beyond }
-    ensures inside { result ≡ 102 → told.new.beyond ≤ total }
+/// The same of the disk `K`, of which these are given.
+fn find_given<K: Given>(
+    parts: &[Part],
+    held: &[u8],
+    total: u64,
+    len: u64,
+    told: &mut LuksSignature,
+) -> u32
+    requires parts { K.parts ≡ parts.now }
+    requires given { AreGiven parts.now held.now total K.bytes }
+    ensures answers { AnswersSignature (take len K.bytes) told.new.shows result }
+    ensures wanted { result ≡ 102 → IsWanted K.parts total told.new.beyond }
 {
-    let mut device: FirstBytes<'_, K> = FirstBytes::new(first, total);
+    let mut device: GivenParts<'_, K> = GivenParts::new(parts, held, total);
     match first_use(&mut device, len) {
         Ok(found) => {
             told.shows = number_shown(found);
             DONE
         }
         Err(_) => {
-            told.beyond = device.reached();
+            told.beyond = device.wanted();
             BEYOND
         }
     }

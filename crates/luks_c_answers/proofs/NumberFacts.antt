@@ -14,11 +14,9 @@ use Rattle.luks_reading.specs.declared.check_fault.CheckFault.{CheckFault}
 use Rattle.luks_reading.specs.declared.check_fault.CheckFault.TheVariants as checking
 use Rattle.luks_reading.specs.declared.open_fault.OpenFault.{OpenFault}
 use Rattle.luks_reading.specs.declared.open_fault.OpenFault.TheVariants as opening
-use Rattle.luks_reading.specs.declared.read_fault.ReadFault.TheVariants as reading
 use Rattle.luks_edit.specs.EditFaults.{is_edit_failure}
 use Rattle.luks_edit.specs.declared.edit_fault.EditFault.{EditFault}
 use Rattle.luks_edit.specs.declared.edit_fault.EditFault.TheVariants as edit
-use Rattle.luks_formatting.specs.declared.format_fault.FormatFault.TheVariants as format
 use Rattle.luks_converting.specs.ConvertFaults.{is_convert_failure}
 use Rattle.luks_converting.specs.declared.convert_fault.ConvertFault.{ConvertFault}
 use Rattle.luks_converting.specs.declared.convert_fault.ConvertFault.TheVariants as convert
@@ -37,8 +35,8 @@ use Rattle.luks_keeping.specs.declared.restore_fault.RestoreFault.TheVariants as
 use Rattle.luks_reading.specs.FaultTexts.{check_fault_text}
 use Rattle.luks_c_answers.specs.Numbers.{backup_number, check_number, convert_number, edit_number, fault_number, number_printed, open_number, rebuild1_number, rebuild_number, restore_number}
 
--- that of a fault is 1 to 54
-fault_number_range : (f : Fault) → (1 ≤ fault_number f) × (fault_number f ≤ 54)
+-- that of a fault is 1 to 55
+fault_number_range : (f : Fault) → (1 ≤ fault_number f) × (fault_number f ≤ 55)
 fault_number_range fault.TooShort = (omega arith, omega arith)
 fault_number_range f = (omega arith, omega arith)
 

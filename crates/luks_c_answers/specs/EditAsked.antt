@@ -2,7 +2,8 @@
 use Rattle.std.specs.Prelude.{◌≡◌, ℕ, ◌<◌, List, Option, Some, None}
 use Rattle.luks_edit.specs.declared.edit.Edit.{Edit}
 use Rattle.luks_edit.specs.declared.edit.Edit.TheVariants.{Add, Change, Remove, Repair, Label}
-use Rattle.luks_edit.specs.declared.edit.Passphrase.{Passphrase}
+use Rattle.luks_edit.specs.declared.edit.Secret.{Secret}
+use Rattle.luks_edit.specs.declared.edit.SecretKind.TheVariants.{Passphrase}
 use Rattle.luks_c_answers.specs.Asked.{allowed_of}
 use Rattle.luks_c_answers.specs.ChoiceAsked.{IsChoice}
 use Rattle.luks_c_answers.specs.declared.asking.LuksEdit.{LuksEdit}
@@ -16,9 +17,9 @@ abbrev pub IsMaybeSlot : ℕ → Option ℕ → Type 0
 IsMaybeSlot number None = number ≡ 4294967295
 IsMaybeSlot number (Some n) = IsSlot number n
 
--- the passphrase has these bytes, and allows what the edit's numbers say
-abbrev pub IsPassphrase : List ℕ → LuksEdit → Passphrase → Type 0
-IsPassphrase bytes asked p = (p.bytes.now ≡ bytes) × (p.allowed ≡ allowed_of asked.memory asked.older)
+-- the secret is a passphrase of these bytes, and allows what the edit's numbers say
+abbrev pub IsPassphrase : List ℕ → LuksEdit → Secret → Type 0
+IsPassphrase bytes asked p = (p.kind ≡ Passphrase) × (p.bytes.now ≡ bytes) × (p.allowed ≡ allowed_of asked.memory asked.older)
 
 -- the edit is asked for, with these bytes as its old passphrase, and those as the new one or as the label
 abbrev pub IsAsked : LuksEdit → List ℕ → List ℕ → Edit → Type 0

@@ -86,6 +86,7 @@ fault_number fault.NoHeader = 51
 fault_number fault.Reencrypting = 52
 fault_number fault.NoSuchDigest = 53
 fault_number fault.KeyLength = 54
+fault_number fault.Payload = 55
 
 -- the fault of this number, if there is one
 abbrev pub fault_numbered : ℕ → Option Fault
@@ -144,7 +145,11 @@ edit_number edit.Device = 102
 
 -- of what formatting answers in place of a volume
 abbrev pub format_number : FormatFault → ℕ
+format_number format.Payload = 55
 format_number format.TooSmall = 40
+format_number format.Uuid = 6
+format_number format.BadLabel = 36
+format_number format.KeyLength = 54
 format_number format.Iterations = 10
 format_number format.Argon2 = 25
 format_number format.RandomLength = 39

@@ -1,23 +1,26 @@
 -- The plan of a call that writes, in the caller's buffers.
 use Rattle.std.specs.Prelude.{◌≡◌, ◌≢◌, ◌⊎◌, ℕ, ◌<◌, ◌≤◌, List, length}
-use Rattle.luks_given.specs.Volume.{volume}
+use Rattle.luks_given.specs.Parts.{IsWanted}
+use Rattle.luks_given.specs.declared.parts.Part.{Part}
 use Rattle.luks_given.specs.declared.planned_writes.PlannedCall.{PlannedCall}
-use Rattle.luks_given.specs.Plan.{furthest, planned_length, played, IsFlushed}
+use Rattle.luks_given.specs.Plan.{furthest, planned_length, played, IsFlushed, WritesGiven}
 use Rattle.luks_c_answers.specs.declared.plans.LuksPlan.{LuksPlan}
 use Rattle.luks_c_answers.specs.Buffers.{filled}
 
--- played over the first bytes of the volume of `total` bytes, the plan leaves such a volume; it writes none but
--- these, and a flush comes behind each write
-pub record Leaves (first : List ℕ) (total : ℕ) (such : List ℕ → Type 0) (calls : List PlannedCall) (bytes : List ℕ) : Type 0 where
-  pub leaves : such (volume (played calls bytes first) total)
-  pub inside : furthest calls ≤ length first
+-- played over the volume `v`, the plan leaves such a volume; it writes places of these ranges alone, and a flush comes
+-- behind each write
+pub record Leaves (parts : List Part) (v : List ℕ) (such : List ℕ → Type 0) (calls : List PlannedCall) (bytes : List ℕ) : Type 0 where
+  pub leaves : such (played calls bytes v)
+  pub inside : furthest calls ≤ length v
+  pub given : WritesGiven parts calls
   pub counted : planned_length calls ≡ length bytes
   pub flushed : IsFlushed calls
 
--- played over the given bytes, the plan leaves these in their place; it writes none but them
-pub record IsPlan (given left : List ℕ) (calls : List PlannedCall) (bytes : List ℕ) : Type 0 where
-  pub plays : played calls bytes given ≡ left
-  pub inside : furthest calls ≤ length given
+-- played over the volume `v`, the plan leaves `w`; it writes places of these ranges alone
+pub record IsPlan (parts : List Part) (v w : List ℕ) (calls : List PlannedCall) (bytes : List ℕ) : Type 0 where
+  pub plays : played calls bytes v ≡ w
+  pub inside : furthest calls ≤ length v
+  pub given : WritesGiven parts calls
   pub counted : planned_length calls ≡ length bytes
 
 -- the caller's buffers for a plan
@@ -32,19 +35,24 @@ IsPlanGiven calls bytes old new number =
     ⊎ ((number ≡ 106) × (new ≡ old) × ((length old.calls < length calls) ⊎ (length old.bytes < length bytes)))
 
 -- a plan that leaves such a volume is told and given
-pub record IsPlanned (first : List ℕ) (total : ℕ) (such : List ℕ → Type 0) (old new : Buffers) (told : LuksPlan) (number : ℕ) : Type 0 where
+pub record IsPlanned (parts : List Part) (v : List ℕ) (such : List ℕ → Type 0) (old new : Buffers) (told : LuksPlan) (number : ℕ) : Type 0 where
   pub calls : List PlannedCall
   pub bytes : List ℕ
-  pub leaves : Leaves first total such calls bytes
+  pub leaves : Leaves parts v such calls bytes
   pub calls_count : told.calls ≡ length calls
   pub bytes_count : told.bytes ≡ length bytes
   pub given : IsPlanGiven calls bytes old new number
 
--- what a call answers that writes by a plan. 0 and 106 say that it is planned, and that nothing is against it; 102 that more
--- bytes have to be given, 103 that memory was refused, any other number why it is refused; but for 0 the buffers are as
+-- what a call answers that writes by a plan. 0 and 106 say that it is planned, and that nothing is against it; 102 that another
+-- range has to be given, 103 that memory was refused, any other number why it is refused; but for 0 the buffers are as
 -- they were
-pub record AnswersPlan (first : List ℕ) (total : ℕ) (faultless : Type 0) (refusal : ℕ → Type 0) (such : List ℕ → Type 0) (old new : Buffers) (told : LuksPlan) (number : ℕ) : Type 0 where
-  pub planned : number ≡ 0 → faultless × IsPlanned first total such old new told number
-  pub room : number ≡ 106 → faultless × IsPlanned first total such old new told number
+pub record AnswersPlan (parts : List Part) (v : List ℕ) (faultless : Type 0) (refusal : ℕ → Type 0) (such : List ℕ → Type 0) (old new : Buffers) (told : LuksPlan) (number : ℕ) : Type 0 where
+  pub planned : number ≡ 0 → faultless × IsPlanned parts v such old new told number
+  pub room : number ≡ 106 → faultless × IsPlanned parts v such old new told number
   pub refused : number ≢ 0 → number ≢ 106 → number ≢ 102 → number ≢ 103 → refusal number
   pub kept : number ≢ 0 → new ≡ old
+
+-- of two volumes a range of one is wanted, which isn't given, and none of the other
+abbrev pub WantsEither : List Part → ℕ → List Part → ℕ → LuksPlan → Type 0
+WantsEither source_parts source_total parts total told =
+    (IsWanted source_parts source_total told.source_beyond × (told.beyond.len ≡ 0)) ⊎ (IsWanted parts total told.beyond × (told.source_beyond.len ≡ 0))

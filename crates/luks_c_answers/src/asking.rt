@@ -5,7 +5,7 @@ ghost use Rattle.luks_c_answers.specs.Asked.{allowed_of, payload_of};
 ghost use Rattle.luks_c_answers.specs.ChoiceAsked.{IsChoice, IsNoChoice};
 ghost use Rattle.luks_c_answers.specs.EditAsked.{IsAsked, IsMaybeSlot, IsPassphrase, IsSlot};
 
-use luks_edit::{Argon2Costs, Edit, NewDerivation, Passphrase};
+use luks_edit::{Argon2Costs, Edit, NewDerivation, Secret, SecretKind};
 use luks_reading::{Allowed, Data};
 
 /// The number that names no keyslot.
@@ -65,7 +65,8 @@ pub fn edit_of<'a>(
     ensures { MatchResult result (IsAsked asked.now passphrase.now text.now)
         (λ _. (e : TheEdit) → IsAsked asked.now passphrase.now text.now e → ⊥) }
 {
-    let old = Passphrase {
+    let old = Secret {
+        kind: SecretKind::Passphrase,
         bytes: passphrase,
         allowed: allowed_of(asked.memory, asked.older),
     };
@@ -88,7 +89,7 @@ pub fn edit_of<'a>(
         3 => Ok(Edit::Remove {
             slot: slot_of(asked.slot)?,
             by_: maybe_slot(asked.by_)?,
-            passphrase: old,
+            secret: old,
         }),
         4 => Ok(Edit::Repair),
         5 => Ok(Edit::Label { text }),

@@ -23,7 +23,7 @@ const UNKNOWN: u32 = 99;
 /// What the caller asks can't be: more bytes than the volume has, a passphrase that is too long.
 pub const USAGE: u32 = 101;
 
-/// More of the volume's first bytes have to be given.
+/// Another range of the volume has to be given.
 pub const BEYOND: u32 = 102;
 
 /// Memory was refused.
@@ -113,6 +113,7 @@ fn number_of_call(fault: Fault) -> u32
         Fault::Reencrypting => 52,
         Fault::NoSuchDigest => 53,
         Fault::KeyLength => 54,
+        Fault::Payload => 55,
         _ => UNKNOWN,
     }
 }
@@ -189,7 +190,11 @@ pub fn format_number(fault: &FormatFault) -> u32
     ensures { result ≡ format_number fault.now }
 {
     match fault {
+        FormatFault::Payload => number_of(Fault::Payload),
         FormatFault::TooSmall => number_of(Fault::TooSmall),
+        FormatFault::Uuid => number_of(Fault::Uuid),
+        FormatFault::BadLabel => number_of(Fault::BadLabel),
+        FormatFault::KeyLength => number_of(Fault::KeyLength),
         FormatFault::Iterations => number_of(Fault::Iterations),
         FormatFault::Argon2 => number_of(Fault::Argon2),
         FormatFault::RandomLength => number_of(Fault::RandomLength),

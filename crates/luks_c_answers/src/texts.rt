@@ -64,7 +64,7 @@ fn other_meaning(number: u32) -> &'static str {
     match number {
         0 => "done",
         101 => "an argument that can't be",
-        102 => "more of the volume's first bytes have to be given",
+        102 => "another range of the volume has to be given",
         103 => "memory was refused",
         104 => "a call of the device failed",
         105 => "the passphrase opens no keyslot that was tried",

@@ -1,7 +1,10 @@
 -- Facts on headers that are made of a source.
-use Rattle.std.proofs.Common.{◌≡◌, ◌≢◌, ℕ, List, Option, None, Some, false, refl, subst, sym, ◌∙◌}
+use Rattle.std.proofs.Common.{◌≡◌, ◌≢◌, ℕ, List, Option, None, Some, false, arith, refl, subst, sym, ◌∙◌}
 use Rattle.std.proofs.lemmas.Bool.{true≢false}
 use Rattle.luks_area.specs.First.{IsLeast}
+use Rattle.luks_reading.specs.Failures.{is_check_failure}
+use Rattle.luks_reading.specs.declared.check_fault.CheckFault.{CheckFault}
+use Rattle.luks_reading.specs.declared.check_fault.CheckFault.TheVariants as checking
 use Rattle.luks_reading.specs.declared.report.Data.{Data}
 use Rattle.luks_converting.specs.ConvertFaults.{convert_key, is_convert_failure}
 use Rattle.luks_converting.specs.Outcome.{IsAnsweredFault as IsAnsweredConvert, IsConvertFault}
@@ -13,19 +16,20 @@ use Rattle.luks_rebuilding.specs.declared.place.Which.{Which}
 use Rattle.luks_rebuilding.specs.declared.rebuild_fault.RebuildFault.{RebuildFault}
 use Rattle.luks_rebuilding.specs.declared.rebuild_fault.RebuildFault.TheVariants as rebuild
 use Rattle.luks_keeping.specs.BackupFaults.{backup_key, is_backup_failure, IsAnsweredBackup, IsBackupFault}
-use Rattle.luks_keeping.specs.RestoreFaults.{is_restore_failure, restore_key, IsAnsweredRestore, IsRestoreFault}
+use Rattle.luks_keeping.specs.RestoreFaults.{checked_restore, is_restore_failure, restore_key, IsAnsweredRestore, IsRestoreFault}
 use Rattle.luks_keeping.specs.declared.backup_fault.BackupFault.{BackupFault}
 use Rattle.luks_keeping.specs.declared.backup_fault.BackupFault.TheVariants as backup
 use Rattle.luks_keeping.specs.declared.over.Over.{Over}
 use Rattle.luks_keeping.specs.declared.restore_fault.RestoreFault.{RestoreFault}
 use Rattle.luks_keeping.specs.declared.restore_fault.RestoreFault.TheVariants as restore
+use Rattle.luks_c_answers.specs.Numbers.{restore_number}
 use Rattle.luks1_mending.specs.declared.given.Given.{Given}
 use Rattle.luks1_rebuilding.specs.Outcome.{IsAnsweredFault as IsAnsweredRebuild1, IsRebuildFault as IsRebuild1Fault}
 use Rattle.luks1_rebuilding.specs.RebuildFaults.{is_rebuild_failure as is_rebuild1_failure, rebuild_key as rebuild1_key}
 use Rattle.luks1_rebuilding.specs.declared.rebuild_fault.Rebuild1Fault.{Rebuild1Fault}
 use Rattle.luks1_rebuilding.specs.declared.rebuild_fault.Rebuild1Fault.TheVariants as rebuild1
 
--- what holds of the devices holds of the volumes whose first bytes they were given
+-- what holds of the devices holds of the volumes of which they were given ranges
 pub of_volumes : (P : List ℕ → ℕ → List ℕ → ℕ → Type 0) (u v : List ℕ) (n total m : ℕ) (o w : List ℕ) → u ≡ v → n ≡ total → o ≡ w → m ≡ total
     → P u n o m → P v total w total
 of_volumes P u v n total m o w source size target left holds =
@@ -73,3 +77,11 @@ restore_refusal b t payload over f other own answered = answered
 pub none_still : (old new : Option ℕ) → old ≡ None → ((p : ℕ) → new ≡ Some p → old ≡ Some p) → new ≡ None
 none_still old None is same = refl
 none_still old (Some p) is same = let both : None ≡ Some p = sym is ∙ same p refl in absurd (cc)
+
+-- a backup that isn't accepted asks for no range, unless its device failed
+pub checked_other : (f : CheckFault) → is_check_failure f ≡ false → restore_number (checked_restore f) ≢ 102
+checked_other (checking.Head f) own = λ e. absurd (omega (arith, e))
+checked_other (checking.Meta f) own = λ e. absurd (omega (arith, e))
+checked_other (checking.Area f) own = λ e. absurd (omega (arith, e))
+checked_other checking.Device own = absurd (true≢false own)
+checked_other checking.Memory own = λ e. absurd (omega (arith, e))

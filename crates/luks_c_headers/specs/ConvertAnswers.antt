@@ -14,7 +14,7 @@ use Rattle.luks_converting.specs.Converted.{IsConverted}
 use Rattle.luks_converting.specs.Outcome.{IsConvertFault, IsConvertible}
 use Rattle.luks_converting.specs.Source.{is_enabled}
 use Rattle.luks_converting.specs.declared.convert_fault.ConvertFault.{ConvertFault}
-use Rattle.luks_given.specs.Volume.{volume}
+use Rattle.luks_given.specs.declared.parts.Part.{Part}
 use Rattle.luks_c_answers.specs.declared.plans.LuksPlan.{LuksPlan}
 use Rattle.luks_c_answers.specs.Numbers.{convert_number}
 use Rattle.luks_c_answers.specs.Plans.{AnswersPlan, Buffers}
@@ -34,7 +34,7 @@ pub record IsUnconvertedBy (v : List ℕ) (payload : Data) (total : ℕ) (random
   pub least : IsLeast convert_key (IsConvertFault v payload total random) fault
   pub is : number ≡ convert_number fault
 
--- of the source `v`, and a target of `total` bytes that begins with these
-abbrev pub AnswersConvert : List ℕ → Data → List ℕ → ℕ → List ℕ → Buffers → Buffers → LuksPlan → ℕ → Type 0
-AnswersConvert v payload first total random = AnswersPlan first total (IsConvertible v payload total random) (IsUnconvertedBy v payload total random)
-    (IsConvertedTo v random (volume first total))
+-- of the source `v`, and the target `t` of `total` bytes, of which these ranges are given
+abbrev pub AnswersConvert : List ℕ → Data → List Part → List ℕ → ℕ → List ℕ → Buffers → Buffers → LuksPlan → ℕ → Type 0
+AnswersConvert v payload parts t total random = AnswersPlan parts t (IsConvertible v payload total random) (IsUnconvertedBy v payload total random)
+    (IsConvertedTo v random t)

@@ -22,8 +22,10 @@ use Rattle.luks_keeping.specs.declared.comparison.Keeping.TheVariants.{Absent, S
 use Rattle.luks_keeping.specs.declared.over.Over.{Over}
 use Rattle.luks_keeping.specs.declared.over.Over.TheVariants.{AnyVolume, SameVolume}
 use Rattle.luks_keeping.specs.declared.restore_fault.RestoreFault.{RestoreFault}
-use Rattle.luks_given.specs.Volume.{volume}
+use Rattle.luks_given.specs.Parts.{IsWanted}
+use Rattle.luks_given.specs.declared.parts.Part.{Part}
 use Rattle.luks_c_answers.specs.declared.plans.LuksPlan.{LuksPlan}
+use Rattle.luks_c_headers.specs.declared.comparing.LuksCompared.{LuksCompared}
 use Rattle.luks_c_answers.specs.Numbers.{backup_number, check_number, restore_number}
 use Rattle.luks_c_answers.specs.Plans.{AnswersPlan, Buffers}
 
@@ -42,10 +44,10 @@ pub record IsUnkeptBy (v : List ℕ) (payload : Data) (total number : ℕ) : Typ
   pub least : IsLeast backup_key (IsBackupFault v payload total) fault
   pub is : number ≡ backup_number fault
 
--- of the volume `v`, and a target of `total` bytes that begins with these
-abbrev pub AnswersBackup : List ℕ → Data → List ℕ → ℕ → Buffers → Buffers → LuksPlan → ℕ → Type 0
-AnswersBackup v payload first total = AnswersPlan first total (CanBackUp v payload total) (IsUnkeptBy v payload total)
-    (IsBackedUpTo v payload (volume first total))
+-- of the volume `v`, and the target `t` of `total` bytes, of which these ranges are given
+abbrev pub AnswersBackup : List ℕ → Data → List Part → List ℕ → ℕ → Buffers → Buffers → LuksPlan → ℕ → Type 0
+AnswersBackup v payload parts t total = AnswersPlan parts t (CanBackUp v payload total) (IsUnkeptBy v payload total)
+    (IsBackedUpTo v payload t)
 
 -- ---- a backup that is put back
 
@@ -68,10 +70,10 @@ pub record IsUnrestoredBy (b t : List ℕ) (payload : Data) (over : Over) (numbe
   pub least : IsLeast restore_key (IsRestoreFault b t payload over) fault
   pub is : number ≡ restore_number fault
 
--- of the backup `b`, and a volume of `total` bytes that begins with these
-abbrev pub AnswersRestore : List ℕ → Data → Over → List ℕ → ℕ → Buffers → Buffers → LuksPlan → ℕ → Type 0
-AnswersRestore b payload over first total = AnswersPlan first total (CanRestore b (volume first total) payload over)
-    (IsUnrestoredBy b (volume first total) payload over) (IsRestoredTo b payload total (volume first total))
+-- of the backup `b`, and the volume `t` of `total` bytes, of which these ranges are given
+abbrev pub AnswersRestore : List ℕ → Data → Over → List Part → List ℕ → ℕ → Buffers → Buffers → LuksPlan → ℕ → Type 0
+AnswersRestore b payload over parts t total = AnswersPlan parts t (CanRestore b t payload over)
+    (IsUnrestoredBy b t payload over) (IsRestoredTo b payload total t)
 
 -- ---- a comparison
 
@@ -124,6 +126,11 @@ pub record IsOtherBy (b t : List ℕ) (payload : Data) (number : ℕ) : Type 0 w
   pub formed : WellFormed t payload
   pub other : IsOtherVolume b t
   pub is : number ≡ 48
+
+-- a range of the backup or of the volume is wanted, which isn't given, and none of the other
+abbrev pub WantsOneOf : List Part → ℕ → List Part → ℕ → LuksCompared → Type 0
+WantsOneOf backup_parts backup_total parts total told =
+    (IsWanted backup_parts backup_total told.backup_beyond × (told.beyond.len ≡ 0)) ⊎ (IsWanted parts total told.beyond × (told.backup_beyond.len ≡ 0))
 
 -- 0 says that it is told, any other number why it isn't, and then the buffer is as it was
 pub record AnswersCompare (b t : List ℕ) (payload : Data) (old new : List ℕ) (same_key number : ℕ) : Type 0 where

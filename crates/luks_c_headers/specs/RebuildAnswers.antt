@@ -23,7 +23,7 @@ use Rattle.luks1_rebuilding.specs.Outcome.{IsRebuildable as IsRebuildable1, IsRe
 use Rattle.luks1_rebuilding.specs.RebuildFaults.{rebuild_key as rebuild1_key}
 use Rattle.luks1_rebuilding.specs.Rebuilt.{IsRebuilt as IsRebuilt1}
 use Rattle.luks1_rebuilding.specs.declared.rebuild_fault.Rebuild1Fault.{Rebuild1Fault}
-use Rattle.luks_given.specs.Volume.{volume}
+use Rattle.luks_given.specs.declared.parts.Part.{Part}
 use Rattle.luks_c_answers.specs.declared.plans.LuksPlan.{LuksPlan}
 use Rattle.luks_c_answers.specs.Numbers.{rebuild_number, rebuild1_number}
 use Rattle.luks_c_answers.specs.Plans.{AnswersPlan, Buffers}
@@ -61,10 +61,10 @@ pub record IsUnbuiltBy (v : List ℕ) (which : Which) (given : Option (List ℕ)
   pub least : IsLeast rebuild_key (IsRebuildFault v which given total random) fault
   pub is : number ≡ rebuild_number fault
 
--- of the source `v`, and a target of `total` bytes that begins with these
-abbrev pub AnswersRebuild : List ℕ → Which → Option (List ℕ) → List ℕ → ℕ → List ℕ → Buffers → Buffers → LuksPlan → ℕ → Type 0
-AnswersRebuild v which given first total random = AnswersPlan first total (IsRebuildable v which given total random)
-    (IsUnbuiltBy v which given total random) (IsRebuiltTo v which given random (volume first total))
+-- of the source `v`, and the target `t` of `total` bytes, of which these ranges are given
+abbrev pub AnswersRebuild : List ℕ → Which → Option (List ℕ) → List Part → List ℕ → ℕ → List ℕ → Buffers → Buffers → LuksPlan → ℕ → Type 0
+AnswersRebuild v which given parts t total random = AnswersPlan parts t (IsRebuildable v which given total random)
+    (IsUnbuiltBy v which given total random) (IsRebuiltTo v which given random t)
 
 -- with the uuid of these bytes
 pub record AnswersWithUuid (bytes : List ℕ) (answers : Option (List ℕ) → Type 0) : Type 0 where
@@ -111,10 +111,10 @@ pub record IsUnbuilt1By (v : List ℕ) (given : Given) (total number : ℕ) : Ty
   pub least : IsLeast rebuild1_key (IsRebuild1Fault v given total) fault
   pub is : number ≡ rebuild1_number fault
 
--- of the source `v`, and a target of `total` bytes that begins with these
-abbrev pub AnswersRebuild1 : List ℕ → Given → List ℕ → ℕ → Buffers → Buffers → LuksPlan → ℕ → Type 0
-AnswersRebuild1 v given first total = AnswersPlan first total (IsRebuildable1 v given total) (IsUnbuilt1By v given total)
-    (IsRebuilt1To v given (volume first total))
+-- of the source `v`, and the target `t` of `total` bytes, of which these ranges are given
+abbrev pub AnswersRebuild1 : List ℕ → Given → List Part → List ℕ → ℕ → Buffers → Buffers → LuksPlan → ℕ → Type 0
+AnswersRebuild1 v given parts t total = AnswersPlan parts t (IsRebuildable1 v given total) (IsUnbuilt1By v given total)
+    (IsRebuilt1To v given t)
 
 -- with what is given by these bytes and numbers
 pub record AnswersWithFields (cipher_name cipher_mode hash uuid : List ℕ) (key_bytes payload : ℕ) (answers : Given → Type 0) : Type 0 where

@@ -1,10 +1,11 @@
 //! Comparing a backup with a volume.
 ghost use Rattle.std.specs.Prelude.{◌≡◌, ◌≢◌, ◌⊎◌, ◌≤◌, ◌<◌, length};
-ghost use Rattle.luks_given.specs.Volume.{volume};
-ghost use Rattle.luks_c_headers.specs.KeepAnswers.{AnswersCompare, TellsKeyslots, key_number, keeping_number};
+ghost use Rattle.luks_given.specs.Parts.{AreGiven, IsWanted};
+ghost use Rattle.luks_c_headers.specs.KeepAnswers.{AnswersCompare, TellsKeyslots, WantsOneOf, key_number, keeping_number};
 
+use luks_area::Device;
 use luks_c_answers::{BEYOND, DONE, check_number, restore_number};
-use luks_given::{FirstBytes, Given};
+use luks_given::{Given, GivenParts, Part};
 use luks_keeping::{
     Comparison, Keeping, RestoreFault, compare_areas, is_other_volume, read_outline,
 };
@@ -17,54 +18,54 @@ use std::alloc::Global;
 pub struct LuksCompared {
     /// 1 where a digest of the backup's volume key is one of the volume's, else 0.
     pub same_key: u32,
-    /// With the answer BEYOND, how many of the backup's first bytes have to be given; 0 where enough are.
-    pub backup_beyond: u64,
+    /// With the answer BEYOND, the range of the backup that has to be given; it has no byte where one of the
+    /// volume is asked for.
+    pub backup_beyond: Part,
     /// The same of the volume.
-    pub beyond: u64,
+    pub beyond: Part,
 }
 
-/// Tells how the keyslots of the backup of `backup_total` bytes that begins with these stand to those of the
-/// volume of `total` bytes that begins with `first`. Not more bytes are given than there are, and the buffer
-/// has room for 32 numbers.
+/// Tells how the keyslots of the backup of which these ranges are given stand to those of the volume. No
+/// range is asked for as yet, and the buffer has room for 32 numbers.
 pub fn compare_given<S: Given, K: Given>(
     alloc: Global,
+    backup_parts: &[Part],
     backup: &[u8],
     backup_total: u64,
-    first: &[u8],
+    parts: &[Part],
+    held: &[u8],
     total: u64,
     payload: Data,
     keyslots: &mut [u8],
     told: &mut LuksCompared,
 ) -> u32
-    requires backup_within { length backup.now ≤ backup_total }
-    requires backup_given { S.bytes ≡ backup.now }
-    requires within { length first.now ≤ total }
-    requires given { K.bytes ≡ first.now }
+    requires backup_parts { S.parts ≡ backup_parts.now }
+    requires backup_given { AreGiven backup_parts.now backup.now backup_total S.bytes }
+    requires parts { K.parts ≡ parts.now }
+    requires given { AreGiven parts.now held.now total K.bytes }
     requires room { 32 ≤ length keyslots.old }
-    requires backup_told { told.old.backup_beyond ≡ 0 }
-    requires volume_told { told.old.beyond ≡ 0 }
+    requires backup_told { told.old.backup_beyond.len ≡ 0 }
+    requires volume_told { told.old.beyond.len ≡ 0 }
     ensures own { result ≢ 101 }
-    ensures answers { AnswersCompare (volume backup.now backup_total) (volume first.now total) payload
+    ensures answers { AnswersCompare S.bytes K.bytes payload
         keyslots.old keyslots.new told.new.same_key result }
-    ensures more { result ≡ 102 → (length backup.now < told.new.backup_beyond)
-        ⊎ (length first.now < told.new.beyond) }
-    ensures backup_inside { result ≡ 102 → told.new.backup_beyond ≤ backup_total }
-    ensures inside { result ≡ 102 → told.new.beyond ≤ total }
+    ensures wanted { result ≡ 102
+        → WantsOneOf S.parts backup_total K.parts total told.new }
 {
-    let mut kept: FirstBytes<'_, S> = FirstBytes::new(backup, backup_total);
+    let mut kept: GivenParts<'_, S> = GivenParts::new(backup_parts, backup, backup_total);
     let here = match read_outline(alloc, &mut kept, Data::Elsewhere) {
         Ok(found) => found,
         Err(CheckFault::Device) => {
-            told.backup_beyond = kept.reached();
+            told.backup_beyond = kept.wanted();
             return BEYOND;
         }
         Err(fault) => return restore_number(&RestoreFault::from(fault)),
     };
-    let mut device: FirstBytes<'_, K> = FirstBytes::new(first, total);
+    let mut device: GivenParts<'_, K> = GivenParts::new(parts, held, total);
     let there = match read_outline(alloc, &mut device, payload) {
         Ok(found) => found,
         Err(CheckFault::Device) => {
-            told.beyond = device.reached();
+            told.beyond = device.wanted();
             return BEYOND;
         }
         Err(fault) => return check_number(&fault),
@@ -75,8 +76,11 @@ pub fn compare_given<S: Given, K: Given>(
     let found = match compare_areas(&mut kept, &here, &mut device, &there) {
         Ok(found) => found,
         Err(_) => {
-            told.backup_beyond = kept.reached();
-            told.beyond = device.reached();
+            if kept.failures() > 0 {
+                told.backup_beyond = kept.wanted();
+            } else {
+                told.beyond = device.wanted();
+            }
             return BEYOND;
         }
     };

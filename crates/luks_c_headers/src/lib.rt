@@ -1,5 +1,5 @@
-//! Headers that are made of another volume's, backed up, put back and compared, over the first bytes of both
-//! volumes, as the calls for programs in C answer them.
+//! Headers that are made of another volume's, backed up, put back and compared, over ranges of both volumes,
+//! as the calls for programs in C answer them.
 #![tactic(auto)]
 
 mod asking;

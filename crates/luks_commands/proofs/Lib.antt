@@ -11,3 +11,4 @@ pub mod OpenFacts
 pub mod StandingFacts
 mod ShowFacts
 mod SearchFacts
+pub mod ReencryptionFacts

@@ -24,7 +24,8 @@ use Rattle.luks_signatures.specs.Signatures.{Finds, table}
 use Rattle.luks_signatures.specs.declared.other_use.OtherUse.{OtherUse as Use}
 use Rattle.luks_signatures.proofs.FirstFacts.{finds-one}
 use Rattle.luks_commands.specs.Answer.{answer_status, IsWordless, unread_answer}
-use Rattle.luks_commands.specs.Standing.{bar_answer, HasOther, HasUse, IsBar, IsBarAnswer, IsClear, IsUuidOf}
+use Rattle.luks_commands.specs.Reencrypting.{IsReencrypting, IsUnaskedMetadata, IsUntoldMetadata}
+use Rattle.luks_commands.specs.Standing.{bar_answer, HasOther, HasUse, IsBar, IsBarAnswer, IsClear, IsHeaderBar, IsUnasked, IsUuidOf}
 use Rattle.luks_commands.specs.declared.answers.Answer.{Answer}
 use Rattle.luks_commands.specs.declared.answers.Status.TheVariants.{Done, NotInStep}
 use Rattle.luks_commands.specs.declared.inputs.InputFault.{InputFault}
@@ -52,7 +53,7 @@ bar_undone Device = λ e. cc
 pub bar_answers : (tells : Type 0) → tells → (over : Bool) (Other : Type 0) (v : List ℕ) (b : Bar) → IsBar tells over Other v b → IsBarAnswer Other v (bar_answer b)
 bar_answers tells told over Other v (OtherUse found) is = is.1 told
 bar_answers tells told over Other v OtherVolume is = is.1 told
-bar_answers tells told over Other v Reencrypting is = absurd is
+bar_answers tells told over Other v Reencrypting is = is.1 told
 bar_answers tells told over Other v Memory is = tt
 bar_answers tells told over Other v Device is = tt
 
@@ -67,9 +68,10 @@ wordless_answers Other v is_long unread a (inl said) = subst (IsBarAnswer Other 
 wordless_answers Other v is_long unread a (inr said) = subst (IsBarAnswer Other v) (sym said.2) (unread_answers Other v said.0)
 
 -- where nothing does, nothing stands there
-pub clear_none : {P : Type 0} (over : Bool) (Other : Type 0) (v : List ℕ) → IsClear over Other v → over ≡ false → Other ⊎ ((found : Use) × HasUse v found) → P
+pub clear_none : {P : Type 0} (over : Bool) (Other : Type 0) (v : List ℕ) → IsClear over Other v → over ≡ false → Other ⊎ (IsReencrypting v ⊎ ((found : Use) × HasUse v found)) → P
 clear_none over Other v clear is (inl other) = absurd (clear.volume is other)
-clear_none over Other v clear is (inr use_of) = absurd (clear.use_of is use_of.0 use_of.1)
+clear_none over Other v clear is (inr (inl reencrypting)) = absurd (clear.reencryption is reencrypting)
+clear_none over Other v clear is (inr (inr use_of)) = absurd (clear.use_of is use_of.0 use_of.1)
 
 -- ---- the header
 
@@ -104,9 +106,10 @@ selected_uuid_of v s field_ is same = subst (λ (f : List ℕ). IsUuidOf v (Some
 
 -- ---- the use
 
-pub use_clears : (over : Bool) (Other : Type 0) (v : List ℕ) → (Other → ⊥) → Finds table v None → IsClear over Other v
-use_clears over Other v none finds = record {
+pub use_clears : (over : Bool) (Other : Type 0) (v : List ℕ) → (Other → ⊥) → (IsReencrypting v → ⊥) → Finds table v None → IsClear over Other v
+use_clears over Other v none done finds = record {
   volume = λ is other. none other;
+  reencryption = λ is reencrypting. done reencrypting;
   use_of = λ is found has. (let e : Some found ≡ None = finds-one table v (Some found) None has finds in cc);
 }
 
@@ -114,5 +117,31 @@ use_clears over Other v none finds = record {
 pub over_clears : (over : Bool) (Other : Type 0) (v : List ℕ) → over ≡ true → IsClear over Other v
 over_clears over Other v is = record {
   volume = λ e other. false≢true (sym e ∙ is);
+  reencryption = λ e reencrypting. false≢true (sym e ∙ is);
   use_of = λ e found has. false≢true (sym e ∙ is);
 }
+
+-- ---- what bars it by a header alone
+
+pub header_bars : (tells : Type 0) (over : Bool) (Other : Type 0) (v : List ℕ) (b : Bar) → over ≡ false → IsHeaderBar tells Other v b → IsBar tells over Other v b
+header_bars tells over Other v (OtherUse found) may is = absurd is
+header_bars tells over Other v OtherVolume may is = (may, is)
+header_bars tells over Other v Reencrypting may is = (may, is)
+header_bars tells over Other v Memory may is = (may, is)
+header_bars tells over Other v Device may is = tt
+
+-- why it isn't told whether another's header is accepted
+pub unasked_bars : (tells : Type 0) (Other : Type 0) (v : List ℕ) (b : Bar) → IsUnasked tells v b → IsHeaderBar tells Other v b
+unasked_bars tells Other v (OtherUse found) is = absurd is
+unasked_bars tells Other v OtherVolume is = absurd is
+unasked_bars tells Other v Reencrypting is = absurd is
+unasked_bars tells Other v Memory is = λ told. inl (is told)
+unasked_bars tells Other v Device is = tt
+
+-- and whether a reencryption is under way, by the bytes `w`, which are those of `v`
+pub untold_bars : (tells : Type 0) (Other : Type 0) (v w : List ℕ) (b : Bar) → (tells → w ≡ v) → IsUntoldMetadata tells w b → IsHeaderBar tells Other v b
+untold_bars tells Other v w (OtherUse found) same is = absurd is
+untold_bars tells Other v w OtherVolume same is = absurd is
+untold_bars tells Other v w Reencrypting same is = absurd is
+untold_bars tells Other v w Memory same is = λ told. inr (subst IsUnaskedMetadata (same told) (is told))
+untold_bars tells Other v w Device same is = tt

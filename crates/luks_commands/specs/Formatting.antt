@@ -1,15 +1,20 @@
 -- What the command `format` leaves of its volume.
-use Rattle.std.specs.Prelude.{◌≡◌, ℕ, ◌≤◌, List}
+use Rattle.std.specs.Prelude.{◌≡◌, ℕ, ◌*◌, ◌≤◌, List, Option, None, Some}
+use Rattle.std.specs.Borrow.{Bor}
 use Rattle.luks_area.specs.Ranges.{SameBut}
 use Rattle.luks_reading.specs.declared.report.Data.{Data}
+use Rattle.luks_reading.specs.declared.report.Data.TheVariants.{Here}
 use Rattle.luks_slot.specs.declared.allowed.Allowed.{Allowed}
 use Rattle.luks_reading.specs.Answer.{Answer, AnswerWithin, opens}
 use Rattle.luks_reading.specs.Checked.{WellFormed}
 use Rattle.luks_making.specs.Derivations.{memory_by}
 use Rattle.luks_formatting.specs.Deriving.{slot_derivation}
-use Rattle.luks_formatting.specs.Formatted1.{IsFormatted1, IsOfLuks1}
-use Rattle.luks_formatting.specs.Formatted2.{IsFormatted2By, IsOfLuks2}
-use Rattle.luks_formatting.specs.RandomBytes.{volume_key}
+use Rattle.luks_formatting.specs.Formatted1.{IsFormatted1As, IsOfLuks1}
+use Rattle.luks_formatting.specs.Formatted2.{IsFormatted2As, IsOfLuks2}
+use Rattle.luks_formatting.specs.Given.{key_of, IsBefore}
+use Rattle.luks_formatting.specs.NewHeader1.{payload_sector}
+use Rattle.luks_formatting.specs.NewHeader2.{segment_start}
+use Rattle.luks_formatting.specs.declared.given.Given.{Given}
 use Rattle.luks_request.specs.declared.request.Making.{Making}
 use Rattle.luks_request.specs.declared.request.NewVersion.{NewVersion}
 use Rattle.luks_request.specs.declared.request.NewVersion.TheVariants.{Luks1, Luks2}
@@ -27,10 +32,43 @@ abbrev pub IsOfNewVolume : NewVersion → ℕ → Type 0
 IsOfNewVolume Luks1 = IsOfLuks1
 IsOfNewVolume Luks2 = IsOfLuks2
 
+-- what is given of the volume, with the volume key if that is
+abbrev pub given_of : Making → Option (Bor (List ℕ)) → Given
+given_of making key = record {
+  payload = making.payload;
+  sector = making.given.sector;
+  key = key;
+  uuid = making.given.uuid;
+  label = making.given.label;
+  subsystem = making.given.subsystem;
+}
+
+-- a key is given where its file is named, and is what that has
+abbrev pub IsGivenKey : {N : Type 0} → (List ℕ → Type 0) → Option N → Option (Bor (List ℕ)) → Type 0
+IsGivenKey HasKey None key = key ≡ None
+IsGivenKey HasKey (Some name) None = ⊥
+IsGivenKey HasKey (Some name) (Some key) = HasKey key.now
+
+-- the same of the secret that is read of its file, and of the bytes of that
+abbrev pub IsGivenSecret : {N : Type 0} → (List ℕ → Type 0) → Option N → Option (List ℕ) → Type 0
+IsGivenSecret HasKey None secret = secret ≡ None
+IsGivenSecret HasKey (Some name) None = ⊥
+IsGivenSecret HasKey (Some name) (Some secret) = HasKey secret
+
+abbrev pub IsSliceOf : Option (List ℕ) → Option (Bor (List ℕ)) → Type 0
+IsSliceOf None bytes = bytes ≡ None
+IsSliceOf (Some secret) None = ⊥
+IsSliceOf (Some secret) (Some bytes) = bytes.now ≡ secret
+
+-- where the payload begins, in bytes
+abbrev pub payload_start : NewVersion → Given → ℕ
+payload_start Luks1 given = 512 * payload_sector given
+payload_start Luks2 given = segment_start given
+
 -- `new` is `old` formatted by this version
-abbrev pub IsFormatted : NewVersion → Making → List ℕ → List ℕ → List ℕ → List ℕ → Type 0
-IsFormatted Luks1 making = IsFormatted1 making.payload making.format
-IsFormatted Luks2 making = IsFormatted2By making.payload making.format (chosen_of making.kdf)
+abbrev pub IsFormatted : NewVersion → Making → Option (Bor (List ℕ)) → List ℕ → List ℕ → List ℕ → List ℕ → Type 0
+IsFormatted Luks1 making key = IsFormatted1As (given_of making key) making.format
+IsFormatted Luks2 making key = IsFormatted2As (given_of making key) making.format (chosen_of making.kdf)
 
 -- keyslot 0 of the volume `new` opens by the passphrase to the key: of LUKS2 wherever as much memory is
 -- allowed as its derivation takes
@@ -39,23 +77,26 @@ OpensNew Luks1 making new passphrase key = Answer new 0 passphrase (opens key)
 OpensNew Luks2 making new passphrase key =
     (allowed : Allowed) → memory_by (slot_derivation making.format (chosen_of making.kdf)) ≤ allowed.memory → AnswerWithin allowed new 0 passphrase (opens key)
 
--- what is made of the volume `old` for this passphrase and these random bytes: `new`
-pub record IsNewVolume (making : Making) (passphrase random old new : List ℕ) : Type 0 where
-  pub formatted : IsFormatted making.version making passphrase random old new
+-- what is made of the volume `old` for this key, if one is given, this passphrase and these random bytes: `new`
+pub record IsNewVolume (making : Making) (key : Option (Bor (List ℕ))) (passphrase random old new : List ℕ) : Type 0 where
+  pub formatted : IsFormatted making.version making key passphrase random old new
   pub well_formed : WellFormed new making.payload
-  pub opened : OpensNew making.version making new passphrase (volume_key random)
+  pub opened : OpensNew making.version making new passphrase (key_of (given_of making key) random)
+  pub payload : making.payload ≡ Here → SameBut (IsBefore (payload_start making.version (given_of making key))) old new
 
--- what was made where the command says that all is done: the passphrase is what its file has, and the
--- random bytes are the first that theirs has, as many as it takes
-pub record IsDone (making : Making) (HasWords HasRandom : List ℕ → Type 0) (old new : List ℕ) : Type 0 where
+-- what was made where the command says that all is done: the passphrase is what its file has, so is the key, if
+-- one is given, and the random bytes are the first that theirs has, as many as it takes
+pub record IsDone (making : Making) (HasWords HasKey HasRandom : List ℕ → Type 0) (old new : List ℕ) : Type 0 where
   pub passphrase : List ℕ
   pub words : HasWords passphrase
+  pub key : Option (Bor (List ℕ))
+  pub keyed : IsGivenKey HasKey making.given.key key
   pub random : List ℕ
   pub taken : HasRandom random
-  pub volume : IsNewVolume making passphrase random old new
+  pub volume : IsNewVolume making key passphrase random old new
 
 -- what the way in which the command ended tells of the volume `old` that it left as `new`
-pub record SaysFormat (making : Making) (HasWords HasRandom : List ℕ → Type 0) (old new : List ℕ) (status : Status) : Type 0 where
-  pub done : status ≡ Done → IsDone making HasWords HasRandom old new
+pub record SaysFormat (making : Making) (HasWords HasKey HasRandom : List ℕ → Type 0) (old new : List ℕ) (status : Status) : Type 0 where
+  pub done : status ≡ Done → IsDone making HasWords HasKey HasRandom old new
   pub refused : status ≡ Refused → new ≡ old
   pub rest : SameBut (IsOfNewVolume making.version) old new

@@ -15,3 +15,4 @@ pub mod FormatAnswers
 pub mod Standing
 pub mod Turns
 pub mod ShowAnswers
+pub mod Reencrypting

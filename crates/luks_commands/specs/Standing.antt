@@ -1,4 +1,4 @@
--- What stands on a disk that a command would write over: another use, or an accepted LUKS header of another volume.
+-- What stands on a disk that a command would write over: another use, an accepted LUKS header of another volume, or the metadata of a reencryption.
 use Rattle.std.specs.Prelude.{◌≡◌, ◌≢◌, ◌⊎◌, ℕ, List, Option, Some, None, Bool, true, false, Result, Ok, Err, ⊤}
 use Rattle.luks_area.specs.Device.{count_after}
 use Rattle.luks2_header.specs.Selection.{nothing, Choice, Chosen}
@@ -12,6 +12,7 @@ use Rattle.luks_commands.specs.declared.answers.Answer.{Answer}
 use Rattle.luks_commands.specs.declared.answers.Answer.TheVariants.{Refused, DeviceFault, NoMemory}
 use Rattle.luks_commands.specs.declared.answers.Refusal.TheVariants as refusal
 use Rattle.luks_commands.specs.declared.inputs.InputFault.{InputFault}
+use Rattle.luks_commands.specs.Reencrypting.{IsReencrypting, IsUnaskedMetadata}
 use Rattle.luks_commands.specs.declared.standing.Bar.{Bar}
 use Rattle.luks_commands.specs.declared.standing.Bar.TheVariants.{OtherUse, OtherVolume, Reencrypting, Memory, Device}
 
@@ -51,12 +52,12 @@ bar_answer Memory = NoMemory
 bar_answer Device = DeviceFault
 
 -- what bars a command that would write over the disk `v`, unless it may: another volume, where `Other` says that one stands
--- there, or another use; memory is taken for the metadata of LUKS2 alone
+-- there, a reencryption, or another use; memory is taken for the metadata of LUKS2 alone
 abbrev pub IsBar : Type 0 → Bool → Type 0 → List ℕ → Bar → Type 0
 IsBar tells over Other v (OtherUse found) = (over ≡ false) × (tells → HasUse v found)
 IsBar tells over Other v OtherVolume = (over ≡ false) × (tells → Other)
-IsBar tells over Other v Reencrypting = ⊥
-IsBar tells over Other v Memory = (over ≡ false) × (tells → NeedsMetadata v)
+IsBar tells over Other v Reencrypting = (over ≡ false) × (tells → IsReencrypting v)
+IsBar tells over Other v Memory = (over ≡ false) × (tells → NeedsMetadata v ⊎ IsUnaskedMetadata v)
 IsBar tells over Other v Device = ⊤
 
 -- why it isn't told whether an accepted header stands on the disk `v`: a word of private contracts
@@ -65,9 +66,21 @@ IsUnasked tells v Memory = tells → NeedsMetadata v
 IsUnasked tells v Device = ⊤
 IsUnasked tells v bar = ⊥
 
+-- what does so by a header alone, and where none does: words of private contracts, too
+abbrev pub IsHeaderBar : Type 0 → Type 0 → List ℕ → Bar → Type 0
+IsHeaderBar tells Other v (OtherUse found) = ⊥
+IsHeaderBar tells Other v OtherVolume = tells → Other
+IsHeaderBar tells Other v Reencrypting = tells → IsReencrypting v
+IsHeaderBar tells Other v Memory = tells → NeedsMetadata v ⊎ IsUnaskedMetadata v
+IsHeaderBar tells Other v Device = ⊤
+
+abbrev pub IsHeaderClear : Type 0 → List ℕ → Type 0
+IsHeaderClear Other v = (Other → ⊥) × (IsReencrypting v → ⊥)
+
 -- nothing does
 pub record IsClear (over : Bool) (Other : Type 0) (v : List ℕ) : Type 0 where
   pub volume : over ≡ false → Other → ⊥
+  pub reencryption : over ≡ false → IsReencrypting v → ⊥
   pub use_of : over ≡ false → (found : Use) → HasUse v found → ⊥
 
 -- ---- how a barred command ends
@@ -86,16 +99,17 @@ pub record IsHeldBack (tells : Type 0) (Bars : Bar → Type 0) (counts : Bool �
 abbrev pub IsBarAnswer : Type 0 → List ℕ → Answer → Type 0
 IsBarAnswer Other v (Refused (refusal.OtherUse found)) = HasUse v found
 IsBarAnswer Other v (Refused refusal.OtherVolume) = Other
+IsBarAnswer Other v (Refused refusal.Reencrypting) = IsReencrypting v
 IsBarAnswer Other v (Refused refusal.LongPassphrase) = ⊤
 IsBarAnswer Other v (Refused refusal.SameFile) = ⊤
 IsBarAnswer Other v DeviceFault = ⊤
 IsBarAnswer Other v NoMemory = ⊤
 IsBarAnswer Other v a = ⊥
 
--- where such a volume or another use stands on the disk `v`, that may not be written over, no byte of it changes, and this is
--- answered
+-- where such a volume, a reencryption or another use stands on the disk `v`, that may not be written over, no byte of it
+-- changes, and this is answered
 abbrev pub HoldsBack : Bool → Type 0 → List ℕ → List ℕ → Answer → Type 0
-HoldsBack over Other v w a = over ≡ false → Other ⊎ ((found : Use) × HasUse v found) → (w ≡ v) × IsBarAnswer Other v a
+HoldsBack over Other v w a = over ≡ false → Other ⊎ (IsReencrypting v ⊎ ((found : Use) × HasUse v found)) → (w ≡ v) × IsBarAnswer Other v a
 
 -- the same of a device that is there and tells its bytes
 abbrev pub HoldsBackDevice : {D : Type 0} → Type 0 → (D → List ℕ) → Bool → (List ℕ → Type 0) → Result D InputFault → Result D InputFault → Answer → Type 0

@@ -1,10 +1,12 @@
 //! The command `open`.
 ghost use Rattle.std.specs.Prelude.{◌≡◌, ◌≢◌, ◌+◌, ◌<◌, ◌^◌, IfErr, length};
 ghost use Rattle.std.specs.Result.{ForOk};
-ghost use Rattle.luks_area.specs.Device.{IsUnchanged};
+ghost use Rattle.luks_area.specs.Device.{CountsFailure, IsUnchanged};
 ghost use Rattle.luks_commands.specs.Answer.{answer_status};
 ghost use Rattle.luks_commands.specs.Files.{IsLong, IsUnread, IsWhole, KeepsVolume};
+ghost use Rattle.luks_reading.specs.Failures.{is_open_failure};
 ghost use Rattle.luks_reading.specs.Header.{IsAcceptedHeader, IsHeader};
+ghost use Rattle.luks_reading.specs.HeaderAnswers.{IsHeaderUnlocking, IsSlotOpening};
 ghost use Rattle.luks_commands.specs.OpenAnswers.{any_answer, AnswersOpen, IsAnswerBeside, IsAnyAnswer, IsOneAnswer, IsOpenAnswer, allowed_of, kib_of, one_answer};
 
 mod almost_met;
@@ -15,7 +17,9 @@ use crate::inputs::Inputs;
 use crate::passphrase_file::{PassphraseFault, passphrase};
 use almost_met::note_unopened;
 use luks_notes::{note_all_wanting, note_passed_over, note_refused, note_unbound, note_wanting};
-use luks_reading::{Allowed, Device, Key, OpenFault, read_header, try_header, try_header_slot};
+use luks_reading::{
+    Allowed, Device, Header, Key, OpenFault, read_header, try_header, try_header_slot,
+};
 use searching::{Trial, search};
 use std::alloc::Global;
 use std::io::{Read, Write};
@@ -127,20 +131,78 @@ fn open_one<D: Device, E: Write>(
             return answer;
         }
     };
-    let mut nearest = None;
-    let opened = try_header_slot(alloc, device, &header, n, passphrase, allowed, &mut nearest);
-    match &opened {
-        Ok(Some(_)) => {
-            let _ = note_unbound(&header, n, err);
-        }
-        Ok(None) => note_unopened(nearest, passphrase, err),
-        Err(OpenFault::Slot(_)) => note_refused(&header, n, device.len(), allowed, err),
-        Err(OpenFault::Memory) => note_wanting(&header, n, device.len(), allowed, err),
-        _ => {}
-    }
+    let opened = try_one(alloc, device, &header, n, passphrase, allowed, err);
     let answer = one_answer(n, &opened);
     note_failure(&answer, volume, err);
     answer
+}
+
+/// Tries the keyslot `n` of a volume with this header; `err` gets what is to be known of what that gave, but
+/// not that a device call failed.
+pub fn try_one<D: Device, E: Write>(
+    alloc: Global,
+    device: &mut D,
+    header: &Header,
+    n: u8,
+    passphrase: &[u8],
+    allowed: Allowed,
+    err: &mut E,
+) -> Result<Option<Key>, OpenFault>
+    requires room { D.failed device.old + 1 < 2 ^ 64 }
+    requires accepted { IsAcceptedHeader header.now }
+    requires passphrase { 0 < allowed.memory → length passphrase.now < 2 ^ 32 }
+    ensures unchanged { IsUnchanged D.tells D.size D.bytes D.unsettled device.old device.new }
+    ensures count { CountsFailure is_open_failure result
+        (D.failed device.old) (D.failed device.new) }
+    ensures answers { IsSlotOpening D.tells (D.bytes device.old) header.now allowed n passphrase.now
+        result }
+{
+    let mut nearest = None;
+    let opened = try_header_slot(alloc, device, header, n, passphrase, allowed, &mut nearest);
+    match &opened {
+        Ok(Some(_)) => {
+            let _ = note_unbound(header, n, err);
+        }
+        Ok(None) => note_unopened(nearest, passphrase, err),
+        Err(OpenFault::Slot(_)) => note_refused(header, n, device.len(), allowed, err),
+        Err(OpenFault::Memory) => note_wanting(header, n, device.len(), allowed, err),
+        _ => {}
+    }
+    opened
+}
+
+/// Tries the keyslots of a volume with this header in their turn, likewise.
+pub fn try_each<D: Device, E: Write>(
+    alloc: Global,
+    device: &mut D,
+    header: &Header,
+    passphrase: &[u8],
+    allowed: Allowed,
+    err: &mut E,
+) -> Result<Option<(u8, Key)>, OpenFault>
+    requires room { D.failed device.old + 1 < 2 ^ 64 }
+    requires accepted { IsAcceptedHeader header.now }
+    requires passphrase { 0 < allowed.memory → length passphrase.now < 2 ^ 32 }
+    ensures unchanged { IsUnchanged D.tells D.size D.bytes D.unsettled device.old device.new }
+    ensures count { CountsFailure is_open_failure result
+        (D.failed device.old) (D.failed device.new) }
+    ensures answers { IsHeaderUnlocking D.tells (D.bytes device.old) header.now allowed passphrase.now
+        result }
+{
+    let mut nearest = None;
+    let opened = try_header(alloc, device, header, passphrase, allowed, &mut nearest);
+    match &opened {
+        Ok(Some((n, _))) => {
+            let _ = note_unbound(header, *n, err);
+        }
+        Ok(None) => {
+            note_unopened(nearest, passphrase, err);
+            note_passed_over(header, device.len(), allowed, err);
+        }
+        Err(OpenFault::Memory) => note_all_wanting(header, device.len(), allowed, err),
+        _ => {}
+    }
+    opened
 }
 
 /// What is answered where opening the keyslot `n` gave this.
@@ -210,19 +272,9 @@ fn open_header<D: Device, E: Write>(
         allowed,
         ..
     } = *trial;
-    let mut nearest = None;
-    let opened = try_header(alloc, device, header, passphrase, allowed, &mut nearest);
-    match &opened {
-        Ok(Some((n, _))) => {
-            let _ = note_unbound(header, *n, err);
-        }
-        Ok(None) => {
-            note_unopened(nearest, passphrase, err);
-            note_passed_over(header, device.len(), allowed, err);
-        }
-        Err(OpenFault::Memory) => note_all_wanting(header, device.len(), allowed, err),
-        Err(OpenFault::Device) => return open_beside(alloc, device, trial, err),
-        _ => {}
+    let opened = try_each(alloc, device, header, passphrase, allowed, err);
+    if let Err(OpenFault::Device) = &opened {
+        return open_beside(alloc, device, trial, err);
     }
     any_answer(&opened)
 }

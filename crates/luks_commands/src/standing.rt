@@ -5,10 +5,11 @@ ghost use Rattle.luks_reading.specs.Header.{IsAcceptedHeader};
 ghost use Rattle.luks_signatures.specs.Signatures.{Finds, table};
 ghost use Rattle.luks_keeping.specs.OtherHeaders.{read_uuid, selected_uuid};
 ghost use Rattle.luks_commands.specs.Answer.{answer_status};
-ghost use Rattle.luks_commands.specs.Standing.{bar_answer, HasOther, is_bar_failure, IsBar, IsClear, IsUnasked, IsUuidOf};
+ghost use Rattle.luks_commands.specs.Standing.{bar_answer, HasOther, is_bar_failure, IsBar, IsClear, IsHeaderBar, IsHeaderClear, IsUnasked, IsUuidOf};
 ghost use Rattle.luks_area.specs.Ranges.{part};
 
 use crate::answers::{Answer, Refusal, Status, device_fault};
+use crate::reencrypting::is_reencrypting;
 use luks_keeping::accepted_header;
 use luks_reading::{CheckFault, Data, Device, DeviceFault, Header, ReadFault, Selected, select};
 use luks_signatures::{OtherUse, first_use};
@@ -73,8 +74,8 @@ pub fn held_back<E: Write>(bar: Bar, file: &str, err: &mut E) -> Answer
     }
 }
 
-/// Refuses where an accepted LUKS header stands on the device whose uuid's field isn't this one, or where
-/// the disk has another use. Where it may be written over nothing is asked, so that a place that can't be
+/// Refuses where an accepted LUKS header stands on the device whose uuid's field isn't this one, where the
+/// metadata of a reencryption does, or where the disk has another use. Where it may be written over nothing is asked, so that a place that can't be
 /// read stops nothing.
 ///
 /// Takes memory for the metadata of LUKS2 alone.
@@ -97,13 +98,36 @@ pub fn judge_standing<D: Device>(
     if over {
         return Ok(());
     }
-    if has_other(alloc, device, uuid)? {
-        return Err(Bar::OtherVolume);
-    }
+    judge_headers(alloc, device, uuid)?;
     match standing_use_of(device)? {
         Some(found) => Err(Bar::OtherUse(found)),
         None => Ok(()),
     }
+}
+
+/// Refuses where an accepted LUKS header stands there whose uuid's field isn't this one, or the metadata of a
+/// reencryption.
+fn judge_headers<D: Device>(
+    alloc: Global,
+    device: &mut D,
+    uuid: Option<[u8; 40]>,
+) -> Result<(), Bar>
+    requires { D.failed device.old + 1 < 2 ^ 64 }
+    ensures unchanged { IsUnchanged D.tells D.size D.bytes D.unsettled device.old device.new }
+    ensures count { CountsFailure is_bar_failure result
+        (D.failed device.old) (D.failed device.new) }
+    ensures barred { IfErr result
+        (IsHeaderBar D.tells (HasOther uuid (D.bytes device.old)) (D.bytes device.old)) }
+    ensures clear { D.tells → OnOk result
+        (IsHeaderClear (HasOther uuid (D.bytes device.old)) (D.bytes device.old)) }
+{
+    if has_other(alloc, device, uuid)? {
+        return Err(Bar::OtherVolume);
+    }
+    if is_reencrypting(alloc, device)? {
+        return Err(Bar::Reencrypting);
+    }
+    Ok(())
 }
 
 /// What else the disk is used for, by the signatures among all of its bytes.

@@ -6,7 +6,9 @@ use Rattle.std.proofs.lemmas.Bool.{and_parts, ltb-true}
 use Rattle.luks_edit.specs.declared.edit.Edit.{Edit}
 use Rattle.luks_edit.specs.declared.deed.Deed.{Deed}
 use Rattle.luks_edit.specs.declared.deed.Deed.TheVariants as deed
-use Rattle.luks_edit.specs.declared.edit.Passphrase.{Passphrase}
+use Rattle.luks_edit.specs.declared.edit.Secret.{Secret}
+use Rattle.luks_edit.specs.declared.edit.SecretKind.{SecretKind}
+use Rattle.luks_edit.specs.Secrets.{AnswersTo, GivesWithin}
 use Rattle.luks_edit.specs.Asked.{allowed_by, allowed_for, allowed_in, AreShortIn, deed_of, HasShortPassphrases}
 use Rattle.luks_slot.specs.declared.allowed.Allowed.{Allowed}
 use Rattle.luks2_header.specs.Selection.{Choice, luks1, luks2, nothing, Chosen}
@@ -20,15 +22,15 @@ tested : (b : Bool) (m : ℕ) → 0 < (if b then m else 0) → b ≡ true
 tested true m some = refl
 tested false m some = absurd (omega (arith, some))
 
-both_short : (old : Passphrase) (new : List ℕ) → 0 < (allowed_for old new).memory → (length old.bytes.now < 2 ^ 32) × (length new < 2 ^ 32)
+both_short : (old : Secret) (new : List ℕ) → 0 < (allowed_for old new).memory → (length old.bytes.now < 2 ^ 32) × (length new < 2 ^ 32)
 both_short old new some =
     let both = and_parts _ _ (tested (nat_lt (length old.bytes.now) (2 ^ 32) && nat_lt (length new) (2 ^ 32)) old.allowed.memory some) in
     (ltb-true (length old.bytes.now) (2 ^ 32) both.0, ltb-true (length new) (2 ^ 32) both.1)
 
 -- where an edit allows some, its passphrases are short enough for Argon2
 short_in : (d : Deed) → 0 < (allowed_in d).memory → AreShortIn d
-short_in (deed.Seal s) some = both_short s.opener.passphrase s.passphrase.now some
-short_in (deed.Remove r) some = (both_short r.passphrase [] some).0
+short_in (deed.Seal s) some = both_short s.opener.secret s.passphrase.now some
+short_in (deed.Remove r) some = (both_short r.secret [] some).0
 short_in (deed.Rewrite label) some = tt
 
 pub short_where_allowed : (e : Edit) → 0 < (allowed_by e).memory → HasShortPassphrases e
@@ -63,3 +65,21 @@ pub luks1_answers_alike : (v : List ℕ) → Chosen v luks1 → (less more : All
 luks1_answers_alike v chosen less more n alike p (refused f) x = (refusals_alike v chosen less more n alike f x.0, λ g bad. x.1 g (refusals_alike v chosen more less n (sym alike) g bad))
 luks1_answers_alike v chosen less more n alike p (opens k) x = opened_alike v chosen less more n alike p (Some k) x
 luks1_answers_alike v chosen less more n alike p no_key x = opened_alike v chosen less more n alike p None x
+
+-- so is what it answers to a secret
+given_alike : (v : List ℕ) → Chosen v luks1 → (less more : Allowed) (n : ℕ) → less.older ≡ more.older → (kind : SecretKind) (p : List ℕ) (found : Option (List ℕ))
+    → GivesWithin kind less v n p found → GivesWithin kind more v n p found
+given_alike v chosen less more n alike kind p found x = record {
+  choice = x.choice;
+  chosen = x.chosen;
+  plan = x.plan;
+  is = x.is;
+  unrefused = λ f bad. x.unrefused f (refusal_alike v more less n x.choice f (sym alike) (choices_agree v x.choice luks1 x.chosen chosen) bad);
+  key = x.key;
+}
+
+pub luks1_secrets_alike : (v : List ℕ) → Chosen v luks1 → (less more : Allowed) (n : ℕ) → less.older ≡ more.older → (kind : SecretKind) (p : List ℕ) (a : Opened)
+    → AnswersTo kind less v n p a → AnswersTo kind more v n p a
+luks1_secrets_alike v chosen less more n alike kind p (refused f) x = luks1_answers_alike v chosen less more n alike p (refused f) x
+luks1_secrets_alike v chosen less more n alike kind p (opens k) x = given_alike v chosen less more n alike kind p (Some k) x
+luks1_secrets_alike v chosen less more n alike kind p no_key x = given_alike v chosen less more n alike kind p None x

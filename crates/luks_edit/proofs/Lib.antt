@@ -1,2 +1,3 @@
 pub mod AllowedMemory
 pub mod RowFacts
+pub mod SecretFacts

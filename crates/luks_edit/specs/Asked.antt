@@ -13,22 +13,24 @@ use Rattle.luks_edit.specs.declared.deed.Sealed.{Sealed}
 use Rattle.luks_edit.specs.declared.edit.Edit.{Edit}
 use Rattle.luks_edit.specs.declared.edit.Edit.TheVariants.{Add, Change, Remove, Repair, Label}
 use Rattle.luks_edit.specs.declared.edit.Opener.{Opener}
-use Rattle.luks_edit.specs.declared.edit.Passphrase.{Passphrase}
+use Rattle.luks_edit.specs.declared.edit.Secret.{Secret}
+use Rattle.luks_edit.specs.declared.edit.SecretKind.{SecretKind}
+use Rattle.luks_edit.specs.declared.edit.SecretKind.TheVariants as kind
 
 -- ---- what an edit does: it is read here, and all else is said of its parts
 
--- the keyslot whose passphrase removes the keyslot `slot`: another one where it is named, else itself
+-- the keyslot whose secret removes the keyslot `slot`: another one where it is named, else itself
 abbrev pub opener_of : ℕ → Option ℕ → ℕ
 opener_of slot None = slot
 opener_of slot (Some other) = other
 
 abbrev pub deed_of : Edit → Deed
 deed_of (Add by_ old new to iterations chosen) =
-    deed.Seal (record { opener = record { slot = by_; passphrase = old }; place = New to; passphrase = new; derivation = record { iterations = iterations; chosen = chosen } })
+    deed.Seal (record { opener = record { slot = by_; secret = old }; place = New to; passphrase = new; derivation = record { iterations = iterations; chosen = chosen } })
 deed_of (Change slot old new iterations chosen) =
-    deed.Seal (record { opener = record { slot = slot; passphrase = old }; place = Opened; passphrase = new; derivation = record { iterations = iterations; chosen = chosen } })
-deed_of (Remove slot by_ passphrase) =
-    deed.Remove (record { slot = slot; by_ = by_; passphrase = passphrase })
+    deed.Seal (record { opener = record { slot = slot; secret = old }; place = Opened; passphrase = new; derivation = record { iterations = iterations; chosen = chosen } })
+deed_of (Remove slot by_ secret) =
+    deed.Remove (record { slot = slot; by_ = by_; secret = secret })
 deed_of Repair = deed.Rewrite None
 deed_of (Label text) = deed.Rewrite (Some text)
 
@@ -49,7 +51,7 @@ MatchPlace Opened N O = O
 
 abbrev pub opener_in : Deed → Option Opener
 opener_in (deed.Seal s) = Some s.opener
-opener_in (deed.Remove r) = Some (record { slot = opener_of r.slot r.by_; passphrase = r.passphrase })
+opener_in (deed.Remove r) = Some (record { slot = opener_of r.slot r.by_; secret = r.secret })
 opener_in (deed.Rewrite label) = None
 
 abbrev pub sealed_in : Deed → Option Sealed
@@ -106,9 +108,18 @@ lost_by e = lost_in (deed_of e)
 abbrev pub label_by : Edit → Option (Bor (List ℕ))
 label_by e = label_in (deed_of e)
 
--- the edit opens the keyslot `n` by the passphrase `p`
+-- the edit opens the keyslot `n` by the secret `p`, a passphrase or a key
 abbrev pub OpensBy : Edit → ℕ → List ℕ → Type 0
-OpensBy e n p = IsSomeAnd (opener_in (deed_of e)) (λ o. (n ≡ o.slot) × (p ≡ o.passphrase.bytes.now))
+OpensBy e n p = IsSomeAnd (opener_in (deed_of e)) (λ o. (n ≡ o.slot) × (p ≡ o.secret.bytes.now))
+
+-- whether it opens it by its passphrase or by its key; where it opens none it doesn't matter
+abbrev pub kind_in : Deed → SecretKind
+kind_in (deed.Seal s) = s.opener.secret.kind
+kind_in (deed.Remove r) = r.secret.kind
+kind_in (deed.Rewrite label) = kind.Passphrase
+
+abbrev pub kind_by : Edit → SecretKind
+kind_by e = kind_in (deed_of e)
 
 -- the edit wants the keyslot `n` to be there: the one that it opens, and the one that it removes
 abbrev pub Wants : Edit → ℕ → Type 0
@@ -118,28 +129,28 @@ Wants e n = MatchDeed (deed_of e) (λ s. n ≡ s.opener.slot) (λ r. (n ≡ open
 abbrev pub NamesItself : Edit → Type 0
 NamesItself e = IsSomeAnd (removed_by e) (λ r. r.by_ ≡ Some r.slot)
 
--- what may be spent on the passphrase, and on a new one beside it: no memory where one has 2^32 bytes
+-- what may be spent on the secret, and on a new passphrase beside it: no memory where one has 2^32 bytes
 -- or more, since Argon2 takes fewer (RFC 9106, 3.1)
-abbrev pub allowed_for : Passphrase → List ℕ → Allowed
+abbrev pub allowed_for : Secret → List ℕ → Allowed
 allowed_for old new = record {
   memory = if nat_lt (length old.bytes.now) (2 ^ 32) && nat_lt (length new) (2 ^ 32) then old.allowed.memory else 0;
   older = old.allowed.older;
 }
 
--- on the passphrase that opens, and the one that the key is sealed under
+-- on the secret that opens, and the passphrase that the key is sealed under
 abbrev pub allowed_in : Deed → Allowed
-allowed_in (deed.Seal s) = allowed_for s.opener.passphrase s.passphrase.now
-allowed_in (deed.Remove r) = allowed_for r.passphrase []
+allowed_in (deed.Seal s) = allowed_for s.opener.secret s.passphrase.now
+allowed_in (deed.Remove r) = allowed_for r.secret []
 allowed_in (deed.Rewrite label) = none_allowed
 
--- on each of the edit's passphrases
+-- on each of the edit's secrets
 abbrev pub allowed_by : Edit → Allowed
 allowed_by e = allowed_in (deed_of e)
 
--- the passphrases of the edit have fewer than 2^32 bytes
+-- the secrets of the edit have fewer than 2^32 bytes
 abbrev pub AreShortIn : Deed → Type 0
-AreShortIn (deed.Seal s) = (length s.opener.passphrase.bytes.now < 2 ^ 32) × (length s.passphrase.now < 2 ^ 32)
-AreShortIn (deed.Remove r) = length r.passphrase.bytes.now < 2 ^ 32
+AreShortIn (deed.Seal s) = (length s.opener.secret.bytes.now < 2 ^ 32) × (length s.passphrase.now < 2 ^ 32)
+AreShortIn (deed.Remove r) = length r.secret.bytes.now < 2 ^ 32
 AreShortIn (deed.Rewrite label) = ⊤
 
 abbrev pub HasShortPassphrases : Edit → Type 0
@@ -149,9 +160,9 @@ HasShortPassphrases e = AreShortIn (deed_of e)
 abbrev pub HasFewIterations : Edit → Type 0
 HasFewIterations e = IsSomeAnd (sealed_by e) (λ s. asked_few_turns s.derivation ≡ true)
 
--- it chooses an Argon2 that takes more memory than both of its passphrases may, or is outside the bounds
+-- it chooses an Argon2 that takes more memory than both of its secrets may, or is outside the bounds
 abbrev pub IsBeyondMemory : Edit → Type 0
-IsBeyondMemory e = IsSomeAnd (sealed_by e) (λ s. asked_beyond (allowed_for s.opener.passphrase s.passphrase.now).memory s.derivation ≡ true)
+IsBeyondMemory e = IsSomeAnd (sealed_by e) (λ s. asked_beyond (allowed_for s.opener.secret s.passphrase.now).memory s.derivation ≡ true)
 
 -- it chooses Argon2
 abbrev pub ChoosesArgon2 : Edit → Type 0

@@ -2,7 +2,7 @@
 ghost use Rattle.std.specs.Prelude.{◌≡◌};
 ghost use Rattle.luks_edit.specs.Asked.{opener_of};
 
-use crate::edit::{Opener, Passphrase, opener_of};
+use crate::edit::{Opener, Secret, opener_of};
 use luks_making::AskedDerivation;
 
 /// What an edit does of a volume.
@@ -53,21 +53,21 @@ pub enum Place {
 pub struct Removed<'a> {
     /// The keyslot.
     pub slot: u8,
-    /// The keyslot that the passphrase opens, another one than `slot`; where it isn't given, `slot`.
+    /// The keyslot that the secret opens, another one than `slot`; where it isn't given, `slot`.
     pub by_: Option<u8>,
-    /// The passphrase.
-    pub passphrase: Passphrase<'a>,
+    /// Its passphrase, or its key.
+    pub secret: Secret<'a>,
 }
 
 impl<'a> Removed<'a> {
     /// The keyslot that is opened for it.
     pub fn opener(&self) -> Opener<'a>
         ensures slot { result.slot ≡ opener_of self.now.slot self.now.by_ }
-        ensures passphrase { result.passphrase ≡ self.now.passphrase }
+        ensures secret { result.secret ≡ self.now.secret }
     {
         Opener {
             slot: opener_of(self.slot, self.by_),
-            passphrase: self.passphrase,
+            secret: self.secret,
         }
     }
 }

@@ -16,23 +16,45 @@ pub struct Passphrase<'a> {
     pub allowed: Allowed,
 }
 
+/// What opens a keyslot, and what may be spent on it.
+#[derive(Clone, Copy)]
+pub struct Secret<'a> {
+    /// What it is.
+    pub kind: SecretKind,
+    /// The passphrase, any bytes or none, or the key.
+    pub bytes: &'a [u8],
+    /// How many KiB of memory Argon2 may take, of which a passphrase of 2^32 bytes or more allows none,
+    /// and whether the keyslot that it opens may have a cipher or a hash of older disks. By a key nothing
+    /// is derived, but the keyslot is refused alike, and a new one may take as much.
+    pub allowed: Allowed,
+}
+
+/// Whether a secret is a keyslot's passphrase or the key that it gives.
+#[derive(Clone, Copy)]
+pub enum SecretKind {
+    /// The passphrase.
+    Passphrase,
+    /// The volume key, as whoever has it from elsewhere gives it: the key material isn't read.
+    Key,
+}
+
 /// An edit of a volume's keyslots, header or label.
 ///
-/// The keyslot that an edit names as `by_`, or else as `slot`, is the one that its old passphrase has
-/// to open.
+/// The keyslot that an edit names as `by_`, or else as `slot`, is the one that its secret has to open:
+/// its passphrase, or the key that it gives.
 /// Keyslots are numbered 0 to 7 in LUKS1 and 0 to 31 in LUKS2. A passphrase is any bytes, and may
-/// be empty; for the new one as much is allowed as for the old one.
+/// be empty; for the new one as much is allowed as for the secret.
 #[derive(Clone, Copy)]
 pub enum Edit<'a> {
-    /// Adds a keyslot in which a new passphrase opens the key that the old one opens.
+    /// Adds a keyslot in which a new passphrase opens the key that the secret opens or is.
     ///
-    /// Where no derivation is chosen, LUKS2 derives its key as that of the keyslot that the old
-    /// passphrase opens: by Argon2 of the same kind and costs, or by PBKDF2 with the same hash.
+    /// Where no derivation is chosen, LUKS2 derives its key as that of the keyslot that the secret
+    /// opens: by Argon2 of the same kind and costs, or by PBKDF2 with the same hash.
     Add {
-        /// The keyslot that the old passphrase opens.
+        /// The keyslot that the secret opens.
         by_: u8,
-        /// The old passphrase.
-        old: Passphrase<'a>,
+        /// Its passphrase, or its key.
+        old: Secret<'a>,
         /// The new passphrase.
         new: &'a [u8],
         /// The number of the new keyslot; where it isn't given, the least that is free.
@@ -43,15 +65,15 @@ pub enum Edit<'a> {
         /// The derivation that is chosen for the new keyslot. LUKS1 has PBKDF2 alone.
         derivation: Option<NewDerivation>,
     },
-    /// Puts a new passphrase in the place of an old one.
+    /// Puts a new passphrase in the place of an old one, by that or by the key.
     ///
     /// LUKS2 keeps the keyslot's number and, where no derivation is chosen, the kind and costs of
     /// Argon2; LUKS1 makes the least free keyslot, and then disables the old one.
     Change {
-        /// The keyslot that the old passphrase opens.
+        /// The keyslot that the secret opens.
         slot: u8,
-        /// The old passphrase.
-        old: Passphrase<'a>,
+        /// Its passphrase, or its key.
+        old: Secret<'a>,
         /// The new passphrase.
         new: &'a [u8],
         /// The iterations of the keyslot's derivation where none is chosen, at least 1000. Argon2 has
@@ -60,15 +82,15 @@ pub enum Edit<'a> {
         /// The derivation that is chosen for the keyslot. LUKS1 has PBKDF2 alone.
         derivation: Option<NewDerivation>,
     },
-    /// Removes a keyslot, and wipes its area: by its own passphrase or, as where somebody has left and
+    /// Removes a keyslot, and wipes its area: by its own secret or, as where somebody has left and
     /// the passphrase with them, by that of another keyslot. It needn't be one that can be opened here.
     Remove {
         /// The keyslot.
         slot: u8,
-        /// The keyslot that the passphrase opens, another one than `slot`; where it isn't given, `slot`.
+        /// The keyslot that the secret opens, another one than `slot`; where it isn't given, `slot`.
         by_: Option<u8>,
-        /// The passphrase.
-        passphrase: Passphrase<'a>,
+        /// Its passphrase, or its key.
+        secret: Secret<'a>,
     },
     /// LUKS2: writes both copies of the header anew from the one that counts. LUKS1: nothing.
     Repair,
@@ -79,13 +101,13 @@ pub enum Edit<'a> {
     },
 }
 
-/// The keyslot that an edit opens, and by which passphrase.
+/// The keyslot that an edit opens, and by what.
 #[derive(Clone, Copy)]
 pub struct Opener<'a> {
     /// The keyslot.
     pub slot: u8,
-    /// The passphrase that has to open it.
-    pub passphrase: Passphrase<'a>,
+    /// The passphrase that has to open it, or the key that has to be its own.
+    pub secret: Secret<'a>,
 }
 
 impl<'a> Edit<'a> {
@@ -119,15 +141,7 @@ impl<'a> Edit<'a> {
                 passphrase: new,
                 derivation: asked(iterations, derivation),
             }),
-            Edit::Remove {
-                slot,
-                by_,
-                passphrase,
-            } => Deed::Remove(Removed {
-                slot,
-                by_,
-                passphrase,
-            }),
+            Edit::Remove { slot, by_, secret } => Deed::Remove(Removed { slot, by_, secret }),
             Edit::Repair => Deed::Rewrite { label: None },
             Edit::Label { text } => Deed::Rewrite { label: Some(text) },
         }
@@ -136,7 +150,7 @@ impl<'a> Edit<'a> {
     /// The keyslot that the edit opens, if it opens one.
     pub fn opener(&self) -> Option<Opener<'a>>
         ensures { MatchOption result ((n : ℕ) (p : List ℕ) → OpensBy self.now n p → ⊥)
-            (λ o. OpensBy self.now o.slot o.passphrase.bytes.now) }
+            (λ o. OpensBy self.now o.slot o.secret.bytes.now) }
     {
         match self.deed() {
             Deed::Seal(sealed) => Some(sealed.opener),
@@ -146,12 +160,12 @@ impl<'a> Edit<'a> {
     }
 }
 
-/// The keyslot that is opened by this passphrase.
-fn opened_by(slot: u8, passphrase: Passphrase<'_>) -> Opener<'_>
+/// The keyslot that is opened by this secret.
+fn opened_by(slot: u8, secret: Secret<'_>) -> Opener<'_>
     ensures slot { result.slot ≡ slot }
-    ensures passphrase { result.passphrase ≡ passphrase.entry }
+    ensures secret { result.secret ≡ secret.entry }
 {
-    Opener { slot, passphrase }
+    Opener { slot, secret }
 }
 
 /// What is chosen, or so many iterations.
@@ -162,7 +176,7 @@ fn asked(iterations: u32, chosen: Option<NewDerivation>) -> AskedDerivation
     AskedDerivation { iterations, chosen }
 }
 
-/// The keyslot whose passphrase removes the keyslot `slot`: `by_` where it is given, else `slot`.
+/// The keyslot whose secret removes the keyslot `slot`: `by_` where it is given, else `slot`.
 pub fn opener_of(slot: u8, by_: Option<u8>) -> u8
     ensures { result ≡ opener_of slot by_ }
 {
@@ -173,21 +187,21 @@ pub fn opener_of(slot: u8, by_: Option<u8>) -> u8
 }
 
 impl Edit<'_> {
-    /// What may be spent on each of its passphrases: what the old one allows, but no memory where a
-    /// passphrase has 2^32 bytes or more; nothing where it opens no keyslot.
+    /// What may be spent on each of its secrets: what the one that opens allows, but no memory where one
+    /// has 2^32 bytes or more; nothing where it opens no keyslot.
     pub fn allowed(&self) -> Allowed
         ensures { result ≡ allowed_by self.now }
     {
         match self.deed() {
-            Deed::Seal(sealed) => allowed_for(&sealed.opener.passphrase, sealed.passphrase),
-            Deed::Remove(removed) => allowed_for(&removed.passphrase, b""),
+            Deed::Seal(sealed) => allowed_for(&sealed.opener.secret, sealed.passphrase),
+            Deed::Remove(removed) => allowed_for(&removed.secret, b""),
             Deed::Rewrite { label: _ } => Allowed::NOTHING,
         }
     }
 }
 
-/// What the passphrase allows, for itself and a new one.
-fn allowed_for(old: &Passphrase<'_>, new: &[u8]) -> Allowed
+/// What the secret allows, for itself and a new passphrase.
+fn allowed_for(old: &Secret<'_>, new: &[u8]) -> Allowed
     ensures { result ≡ allowed_for old.now new.now }
 {
     let memory = if is_short(old.bytes) && is_short(new) {

@@ -21,7 +21,7 @@ pub enum EditFault {
     NoSuchSlot,
     /// The keyslot to remove is the one that was named to open by.
     SameSlot,
-    /// The passphrase doesn't open the keyslot.
+    /// The passphrase doesn't open the keyslot, or the key isn't its own.
     Locked,
     /// What the keyslot says of its derivation or cipher can't be opened here.
     Slot(SlotFault),

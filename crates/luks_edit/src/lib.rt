@@ -5,8 +5,12 @@
 mod deed;
 mod edit;
 mod edit_fault;
+mod giving;
+mod laws;
 
 pub use deed::{Deed, Place, Removed, Sealed};
-pub use edit::{Done, Edit, Opener, Passphrase, Step, opener_of};
+pub use edit::{Done, Edit, Opener, Passphrase, Secret, SecretKind, Step, opener_of};
 pub use edit_fault::{EditFault, RunFault};
+pub use giving::{give_within, own_key};
+pub use laws::secrets_answer_once;
 pub use luks_making::{Argon2Costs, AskedDerivation, LEAST_ITERATIONS, NewDerivation};

@@ -9,6 +9,7 @@ use Rattle.luks_reading.specs.Checked.{WellFormed}
 use Rattle.luks_edit.specs.declared.edit.Done.{Done as Made}
 use Rattle.luks_edit.specs.declared.edit.Edit.{Edit}
 use Rattle.luks_edit.specs.declared.edit.Edit.TheVariants as edit
+use Rattle.luks_edit.specs.declared.edit.Secret.{Secret}
 use Rattle.luks_edit.specs.declared.edit_fault.EditFault.{EditFault}
 use Rattle.luks_edit.specs.declared.edit_fault.EditFault.TheVariants as fault
 use Rattle.luks_edit.specs.EditFaults.{edit_key, is_edit_failure}
@@ -21,6 +22,7 @@ use Rattle.luks_request.specs.declared.request.EditRequest.{EditRequest}
 use Rattle.luks_request.specs.declared.request.EditRequest.TheVariants.{Add, Change, Remove, Repair, Label}
 use Rattle.luks_request.specs.Named.{edit_new_of, edit_passphrase_of}
 use Rattle.luks_request.specs.declared.request.Editing.{Editing}
+use Rattle.luks_request.specs.declared.request.OpenerFile.{OpenerFile}
 use Rattle.luks_commands.specs.declared.answers.Answer.{Answer}
 use Rattle.luks_commands.specs.declared.answers.Status.{Status}
 use Rattle.luks_commands.specs.declared.answers.Status.TheVariants.{Done, Refused, Fault}
@@ -28,7 +30,7 @@ use Rattle.luks_commands.specs.Answer.{answer_status, edit_fault_answer, IsWordl
 use Rattle.luks_edit_commands.specs.declared.edit.seen.Unseen.{Unseen}
 use Rattle.luks_edit_commands.specs.declared.edit.seen.Unseen.TheVariants.{Untold, Used}
 use Rattle.luks_edit_commands.specs.OtherUses.{IsUnseen, unseen_answer}
-use Rattle.luks_edit_commands.specs.Editing.{Given, IsAsked, KeepsUnnamed, WhereFailed, IsRefused, IsReplied, SaysEdit, SparesEdit, given_edit}
+use Rattle.luks_edit_commands.specs.Editing.{Given, IsAsked, IsSecret, KeepsUnnamed, WhereFailed, IsRefused, IsReplied, SaysEdit, SparesEdit, given_edit}
 use Rattle.luks_commands.specs.declared.inputs.InputFault.{InputFault}
 use Rattle.luks_commands.specs.Files.{AreFirstBytes, LeavesVolume}
 use Rattle.luks_commands.proofs.EndFacts.{unread_is_fault}
@@ -306,19 +308,27 @@ spared_edit payload v u w over e has_random unchanged count random needs taken f
 
 -- ---- what is asked for
 
+-- the secret has the bytes that its file has
+secret_of : (opener : OpenerFile) (memory : ℕ) (older : Bool) (IsOld : List ℕ → Type 0) (p : List ℕ) (s : Secret) → IsOld p → IsSecret opener memory older (λ x. x ≡ p) s → IsSecret opener memory older IsOld s
+secret_of opener memory older IsOld p s old is = record { kind_is = is.kind_is; words = subst IsOld (sym is.words) old; allowed = is.allowed }
+
+-- whatever they are
+secret_somehow : (opener : OpenerFile) (memory : ℕ) (older : Bool) (IsOld : List ℕ → Type 0) (s : Secret) → IsSecret opener memory older IsOld s → IsSecret opener memory older (λ p. Unit {0}) s
+secret_somehow opener memory older IsOld s is = record { kind_is = is.kind_is; words = tt; allowed = is.allowed }
+
 -- the passphrases are those that the files have, where the edit needs them
 pub asked_of : (request : EditRequest) (IsOld IsNew : List ℕ → Type 0) (p q : List ℕ) (e : Edit) → IfSome (edit_passphrase_of request) (λ name. IsOld p)
     → IfSome (edit_new_of request) (λ name. IsNew q) → IsAsked request (λ x. x ≡ p) (λ x. x ≡ q) e → IsAsked request IsOld IsNew e
-asked_of (Add by_ passphrase memory older new to iterations kdf) IsOld IsNew p q (edit.Add b o n t i d) old fresh is =
-    (is.0, subst IsOld (sym is.1) old, is.2, subst IsNew (sym is.3) fresh, is.4, is.5, is.6)
-asked_of (Change slot passphrase memory older new iterations kdf) IsOld IsNew p q (edit.Change s o n i d) old fresh is =
-    (is.0, subst IsOld (sym is.1) old, is.2, subst IsNew (sym is.3) fresh, is.4, is.5)
-asked_of (Remove slot by_ passphrase memory older) IsOld IsNew p q (edit.Remove s b o) old fresh is = (is.0, is.1, subst IsOld (sym is.2) old, is.3)
+asked_of (Add by_ opener memory older new to iterations kdf) IsOld IsNew p q (edit.Add b o n t i d) old fresh is =
+    (is.0, secret_of opener memory older IsOld p o old is.1, subst IsNew (sym is.2) fresh, is.3, is.4, is.5)
+asked_of (Change slot opener memory older new iterations kdf) IsOld IsNew p q (edit.Change s o n i d) old fresh is =
+    (is.0, secret_of opener memory older IsOld p o old is.1, subst IsNew (sym is.2) fresh, is.3, is.4)
+asked_of (Remove slot by_ opener memory older) IsOld IsNew p q (edit.Remove s b o) old fresh is = (is.0, is.1, secret_of opener memory older IsOld p o old is.2)
 asked_of Repair IsOld IsNew p q edit.Repair old fresh is = is
 asked_of (Label text) IsOld IsNew p q (edit.Label t) old fresh is = is
-asked_of (Add by_ passphrase memory older new to iterations kdf) IsOld IsNew p q e old fresh is = absurd is
-asked_of (Change slot passphrase memory older new iterations kdf) IsOld IsNew p q e old fresh is = absurd is
-asked_of (Remove slot by_ passphrase memory older) IsOld IsNew p q e old fresh is = absurd is
+asked_of (Add by_ opener memory older new to iterations kdf) IsOld IsNew p q e old fresh is = absurd is
+asked_of (Change slot opener memory older new iterations kdf) IsOld IsNew p q e old fresh is = absurd is
+asked_of (Remove slot by_ opener memory older) IsOld IsNew p q e old fresh is = absurd is
 asked_of Repair IsOld IsNew p q e old fresh is = absurd is
 asked_of (Label text) IsOld IsNew p q e old fresh is = absurd is
 
@@ -330,14 +340,14 @@ some_as {A} {B} f (Some x) named P is held = subst (λ (x : Option B). IfSome x 
 -- whatever they are
 pub asked_somehow : (request : EditRequest) (IsOld IsNew : List ℕ → Type 0) (e : Edit) → IsAsked request IsOld IsNew e
     → IsAsked request (λ p. Unit {0}) (λ p. Unit {0}) e
-asked_somehow (Add by_ passphrase memory older new to iterations kdf) IsOld IsNew (edit.Add b o n t i d) is = (is.0, tt, is.2, tt, is.4, is.5, is.6)
-asked_somehow (Change slot passphrase memory older new iterations kdf) IsOld IsNew (edit.Change s o n i d) is = (is.0, tt, is.2, tt, is.4, is.5)
-asked_somehow (Remove slot by_ passphrase memory older) IsOld IsNew (edit.Remove s b o) is = (is.0, is.1, tt, is.3)
+asked_somehow (Add by_ opener memory older new to iterations kdf) IsOld IsNew (edit.Add b o n t i d) is = (is.0, secret_somehow opener memory older IsOld o is.1, tt, is.3, is.4, is.5)
+asked_somehow (Change slot opener memory older new iterations kdf) IsOld IsNew (edit.Change s o n i d) is = (is.0, secret_somehow opener memory older IsOld o is.1, tt, is.3, is.4)
+asked_somehow (Remove slot by_ opener memory older) IsOld IsNew (edit.Remove s b o) is = (is.0, is.1, secret_somehow opener memory older IsOld o is.2)
 asked_somehow Repair IsOld IsNew edit.Repair is = is
 asked_somehow (Label text) IsOld IsNew (edit.Label t) is = is
-asked_somehow (Add by_ passphrase memory older new to iterations kdf) IsOld IsNew e is = absurd is
-asked_somehow (Change slot passphrase memory older new iterations kdf) IsOld IsNew e is = absurd is
-asked_somehow (Remove slot by_ passphrase memory older) IsOld IsNew e is = absurd is
+asked_somehow (Add by_ opener memory older new to iterations kdf) IsOld IsNew e is = absurd is
+asked_somehow (Change slot opener memory older new iterations kdf) IsOld IsNew e is = absurd is
+asked_somehow (Remove slot by_ opener memory older) IsOld IsNew e is = absurd is
 asked_somehow Repair IsOld IsNew e is = absurd is
 asked_somehow (Label text) IsOld IsNew e is = absurd is
 

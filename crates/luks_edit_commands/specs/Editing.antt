@@ -6,6 +6,9 @@ use Rattle.luks_reading.specs.Checked.{WellFormed}
 use Rattle.luks_edit.specs.declared.edit.Done.{Done}
 use Rattle.luks_edit.specs.declared.edit.Edit.{Edit}
 use Rattle.luks_edit.specs.declared.edit.Edit.TheVariants as edit
+use Rattle.luks_edit.specs.declared.edit.Secret.{Secret}
+use Rattle.luks_edit.specs.declared.edit.SecretKind.{SecretKind}
+use Rattle.luks_edit.specs.declared.edit.SecretKind.TheVariants as kind
 use Rattle.luks_edit.specs.declared.edit_fault.EditFault.{EditFault}
 use Rattle.luks_edit.specs.declared.edit_fault.EditFault.TheVariants.{Device}
 use Rattle.luks_edit.specs.EditFaults.{edit_key}
@@ -18,6 +21,8 @@ use Rattle.luks_signatures.specs.declared.other_use.OtherUse.{OtherUse}
 use Rattle.luks_request.specs.declared.request.EditRequest.{EditRequest}
 use Rattle.luks_request.specs.declared.request.EditRequest.TheVariants.{Add, Change, Remove, Repair, Label}
 use Rattle.luks_request.specs.declared.request.Editing.{Editing}
+use Rattle.luks_request.specs.declared.request.OpenerFile.{OpenerFile}
+use Rattle.luks_request.specs.declared.request.OpenerFile.TheVariants as file
 use Rattle.luks_commands.specs.declared.inputs.InputFault.{InputFault}
 use Rattle.luks_commands.specs.declared.inputs.Inputs.{Inputs}
 use Rattle.luks_request.specs.Named.{edit_new_of, edit_passphrase_of}
@@ -28,15 +33,26 @@ use Rattle.luks_edit_commands.specs.OtherUses.{Bars}
 
 -- ---- what is asked for
 
+-- whether the file is that of a passphrase or of a key
+abbrev pub kind_of : OpenerFile → SecretKind
+kind_of (file.Passphrase name) = kind.Passphrase
+kind_of (file.Key name) = kind.Key
+
+-- the secret is such bytes out of that file, with so much allowed
+pub record IsSecret (opener : OpenerFile) (memory : ℕ) (older : Bool) (IsOld : List ℕ → Type 0) (secret : Secret) : Type 0 where
+  pub kind_is : secret.kind ≡ kind_of opener
+  pub words : IsOld secret.bytes.now
+  pub allowed : secret.allowed ≡ allowed_of memory older
+
 -- the edit is the one that the command line asks for, with what it allows and the derivation that it
--- chooses, its passphrases being such bytes
+-- chooses, its passphrases, or the key and the new passphrase, being such bytes
 abbrev pub IsAsked : EditRequest → (List ℕ → Type 0) → (List ℕ → Type 0) → Edit → Type 0
-IsAsked (Add by_ passphrase memory older new to iterations kdf) IsOld IsNew (edit.Add b o n t i d) =
-    (b ≡ by_) × IsOld o.bytes.now × (o.allowed ≡ allowed_of memory older) × IsNew n.now × (t ≡ to) × (i ≡ iterations) × (d ≡ chosen_of kdf)
-IsAsked (Change slot passphrase memory older new iterations kdf) IsOld IsNew (edit.Change s o n i d) =
-    (s ≡ slot) × IsOld o.bytes.now × (o.allowed ≡ allowed_of memory older) × IsNew n.now × (i ≡ iterations) × (d ≡ chosen_of kdf)
-IsAsked (Remove slot by_ passphrase memory older) IsOld IsNew (edit.Remove s b p) =
-    (s ≡ slot) × (b ≡ by_) × IsOld p.bytes.now × (p.allowed ≡ allowed_of memory older)
+IsAsked (Add by_ opener memory older new to iterations kdf) IsOld IsNew (edit.Add b o n t i d) =
+    (b ≡ by_) × IsSecret opener memory older IsOld o × IsNew n.now × (t ≡ to) × (i ≡ iterations) × (d ≡ chosen_of kdf)
+IsAsked (Change slot opener memory older new iterations kdf) IsOld IsNew (edit.Change s o n i d) =
+    (s ≡ slot) × IsSecret opener memory older IsOld o × IsNew n.now × (i ≡ iterations) × (d ≡ chosen_of kdf)
+IsAsked (Remove slot by_ opener memory older) IsOld IsNew (edit.Remove s b o) =
+    (s ≡ slot) × (b ≡ by_) × IsSecret opener memory older IsOld o
 IsAsked Repair IsOld IsNew edit.Repair = ⊤
 IsAsked (Label text) IsOld IsNew (edit.Label t) = t.now ≡ text.now
 IsAsked request IsOld IsNew e = ⊥

@@ -1,9 +1,10 @@
 -- What each command promises of its files and of its answer.
-use Rattle.std.specs.Prelude.{◌≡◌, ℕ, List, None, Option, IfOk, ⊤}
+use Rattle.std.specs.Prelude.{◌⊎◌, ◌≡◌, ℕ, List, None, Option, IfOk, ⊤}
 use Rattle.luks_area.specs.declared.device.Device.{Ghosts as Device}
 use Rattle.luks_reading.specs.declared.report.Data.{Data}
 use Rattle.luks_request.specs.declared.keeping.BackingUp.{BackingUp}
 use Rattle.luks_request.specs.declared.keeping.Comparing.{Comparing}
+use Rattle.luks_request.specs.declared.keeping.KeepingKey.{KeepingKey}
 use Rattle.luks_request.specs.declared.keeping.Restoring.{Restoring}
 use Rattle.luks_request.specs.declared.rebuilding.Rebuilding.{Rebuilding}
 use Rattle.luks_request.specs.declared.request.Command.{Command}
@@ -12,13 +13,15 @@ use Rattle.luks_request.specs.declared.request.Converting.{Converting}
 use Rattle.luks_request.specs.declared.request.Editing.{Editing}
 use Rattle.luks_request.specs.declared.request.Making.{Making}
 use Rattle.luks_commands.specs.declared.answers.Answer.{Answer}
+use Rattle.luks_commands.specs.declared.answers.Answer.TheVariants as answered
+use Rattle.luks_commands.specs.declared.answers.Refusal.TheVariants.{Exists}
 use Rattle.luks_commands.specs.declared.answers.Status.TheVariants.{Done, Refused, Fault}
 use Rattle.luks_commands.specs.declared.inputs.Inputs.{Inputs}
 use Rattle.luks_commands.specs.Answer.{answer_status}
 use Rattle.luks_commands.specs.CheckAnswers.{AnswersCheck}
 use Rattle.luks_commands.specs.Checked.{EndsCheck}
 use Rattle.luks_commands.specs.Files.{AreFirstBytes, IsLong, IsUnread, IsUnreadRandom, IsWhole, KeepsVolume, LeavesVolume}
-use Rattle.luks_commands.specs.FormatAnswers.{AnswersFormat, IsUnreadEither}
+use Rattle.luks_commands.specs.FormatAnswers.{AnswersFormat, IsUnreadAny}
 use Rattle.luks_commands.specs.Formatting.{needed, SaysFormat}
 use Rattle.luks_commands.specs.KeyAnswers.{AnswersKey}
 use Rattle.luks_commands.specs.OpenAnswers.{allowed_of, AnswersOpen}
@@ -31,6 +34,7 @@ use Rattle.luks_header_commands.specs.Target.{HoldsBackHeader}
 use Rattle.luks_header_commands.specs.Trying.{AnswersRebuild, KeepsRebuilt}
 use Rattle.luks_keeping_commands.specs.BackingUp.{AnswersBackup, KeepsRest as KeepsBesideBackup}
 use Rattle.luks_keeping_commands.specs.Comparing.{AnswersCompare}
+use Rattle.luks_keeping_commands.specs.KeepingKey.{AnswersKeyKept, AreNotThree, IsExisting}
 use Rattle.luks_keeping_commands.specs.Restoring.{AnswersRestore, HoldsBackRestore, KeepsRest as KeepsBesideRestored}
 use Rattle.luks_edit_commands.specs.EditAnswers.{AnswersEdit}
 use Rattle.luks_edit_commands.specs.Editing.{given_by, KeepsUnnamed, lacking_by, SaysEdit, SparesVolume, WhereFailed}
@@ -57,6 +61,7 @@ UnlessBeside (command.Rebuild rebuilding) holds = ⊤
 UnlessBeside (command.Backup backing_up) holds = ⊤
 UnlessBeside (command.Restore restoring) holds = ⊤
 UnlessBeside (command.Compare comparing) holds = ⊤
+UnlessBeside (command.KeepKey keeping) holds = ⊤
 UnlessBeside _ holds = holds
 
 -- ---- each command
@@ -89,10 +94,12 @@ pub record Edits {D R N : Type 0} (device : Device D) (words : R → Option (Lis
 -- another use holds it back, and any accepted header
 pub record Formats {D R N : Type 0} (device : Device D) (words : R → Option (List ℕ)) (chance : N → Option (List ℕ))
     (making : Making) (old new : Inputs D R N) (answer : Answer) : Type 0 where
-  pub left : LeavesVolume device.tells device.size device.bytes (λ v w. SaysFormat making (IsWhole words old.passphrase)
+  pub left : LeavesVolume device.tells device.size device.bytes (λ v w. SaysFormat making (IsWhole words old.passphrase) (IsWhole words old.new_passphrase)
       (AreFirstBytes (needed making.version) chance old.random) v w (answer_status answer)) old.volume new.volume
   pub answers : AnswersFormat device.tells device.size device.bytes device.failed making
-      (IsWhole words old.passphrase) (IsLong words old.passphrase) (IsUnreadEither old.passphrase (needed making.version) old.random)
+      (IsWhole words old.passphrase) (IsWhole words old.new_passphrase)
+      (IsLong words old.passphrase ⊎ IsLong words old.new_passphrase)
+      (IsUnreadAny old.passphrase old.new_passphrase (needed making.version) old.random)
       (AreFirstBytes (needed making.version) chance old.random) old.volume new.volume answer
   pub over : HoldsBackDevice device.tells device.bytes making.over (HasOther None) old.volume new.volume answer
 
@@ -150,6 +157,16 @@ pub record Compares {D R N : Type 0} (device : Device D)
       comparing.payload old.volume new.volume old.target new.target answer)
   pub kept : KeepsVolume device.tells device.size device.bytes device.unsettled old.target new.target
 
+-- `key` writes the file of the key alone: the answer where that is the volume or the passphrase's file, and where it is there and isn't empty,
+-- for which no call is made; else the file has exactly the key's bytes, or none was made or finished
+pub record KeepsKey {D R N : Type 0} (device : Device D) (words : R → Option (List ℕ))
+    (keeping : KeepingKey) (name : List ℕ) (old new : Inputs D R N) (answer : Answer) : Type 0 where
+  pub same : AreNotThree name keeping old.target → (new ≡ old) × IsSameFile answer
+  pub exists : (AreNotThree name keeping old.target → ⊥) → IsExisting old.target → (new ≡ old) × (answer ≡ answered.Refused Exists)
+  pub answers : (AreNotThree name keeping old.target → ⊥) → (IsExisting old.target → ⊥)
+      → AnswersKeyKept device (allowed_of keeping.memory keeping.older) keeping.slot
+      (IsWhole words old.passphrase) (IsLong words old.passphrase) (IsUnread old.passphrase) old.volume new.volume old.target new.target answer
+
 -- what the command promises, by its files before and after it, where its volume has this name
 abbrev pub Executes : {D R N : Type 0} → Device D → (R → Option (List ℕ)) → (N → Option (List ℕ)) → Command → List ℕ
     → Inputs D R N → Inputs D R N → Answer → Type 0
@@ -169,6 +186,7 @@ Executes device words chance (command.Rebuild rebuilding) name old new answer = 
 Executes device words chance (command.Backup backing_up) name old new answer = BacksUp device backing_up name old new answer
 Executes device words chance (command.Restore restoring) name old new answer = Restores device restoring name old new answer
 Executes device words chance (command.Compare comparing) name old new answer = Compares device comparing name old new answer
+Executes device words chance (command.KeepKey keeping) name old new answer = KeepsKey device words keeping name old new answer
 
 -- the command has kept that promise; a record, so that what it is said of can be told from it
 pub record IsExecuted {D R N : Type 0} (device : Device D) (words : R → Option (List ℕ)) (chance : N → Option (List ℕ)) (command_ : Command) (name : List ℕ)

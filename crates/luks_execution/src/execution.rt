@@ -11,7 +11,7 @@ use luks_commands::open::Tried;
 use luks_commands::{Answer, Inputs, Status, check, format, matching, open, show};
 use luks_edit_commands::edit;
 use luks_header_commands::{Progress, convert, rebuild};
-use luks_keeping_commands::{backup, compare, restore};
+use luks_keeping_commands::{MakesFile, backup, compare, key, restore};
 use luks_request::{Command, Line};
 use luks_volume::Device;
 use std::alloc::Global;
@@ -21,17 +21,18 @@ use std::io::{Read, Write};
 /// couldn't be read, is said by lines to `err`; that one of these can't be written changes no answer.
 ///
 /// The passphrase is read before the volume, a new one after the old one, and the random bytes after the volume
-/// and its target. A backup that is put back or compared is the target, too. `progress` is told of each
-/// combination that `rebuild` tries by a passphrase.
+/// and its target. A backup that is put back or compared is the target, too. The file of a key is made by
+/// `maker` once the key is there. `progress` is told of each combination that `rebuild` tries by a passphrase.
 ///
 /// The volume is the bytes of its file that `line.place` names: who calls it has taken that window of
 /// the file (`luks_window`), and gives it as the device. So all that is said here of the volume is said
 /// of the window, and that no byte beside it ever changes is what every value of a window's type has.
 #[tactic(auto, using(luks_commands::proofs::FileFacts::settled_kept))]
-pub fn execute<D: Device, R: Read, N: Read, E: Write, G: Progress>(
+pub fn execute<D: Device, R: Read, N: Read, M: MakesFile<D>, E: Write, G: Progress>(
     alloc: Global,
     line: &Line<'_>,
     inputs: &mut Inputs<D, R, N>,
+    maker: &mut M,
     err: &mut E,
     progress: &mut G,
 ) -> Answer
@@ -44,7 +45,7 @@ pub fn execute<D: Device, R: Read, N: Read, E: Write, G: Progress>(
     // No command changes its volume but those that edit, `format` and `restore`.
     ensures unchanged { UnlessWriter line.now.command
         (KeepsVolume D.tells D.size D.bytes D.unsettled inputs.old.volume inputs.new.volume) }
-    // `convert`, `rebuild` and the commands on header backups alone make calls on the target.
+    // `convert`, `rebuild`, the commands on header backups and `key` alone make calls on the target.
     ensures target { UnlessBeside line.now.command (inputs.new.target ≡ inputs.old.target) }
     // Without its volume no command succeeds.
     ensures unread { IfErr inputs.old.volume (λ _. (answer_status result ≢ Status.Done)
@@ -84,5 +85,6 @@ pub fn execute<D: Device, R: Read, N: Read, E: Write, G: Progress>(
         Command::Backup(backing_up) => backup::run(alloc, inputs, name, &backing_up, err),
         Command::Restore(restoring) => restore::run(alloc, inputs, name, &restoring, err),
         Command::Compare(comparing) => compare::run(alloc, inputs, name, &comparing, err),
+        Command::KeepKey(keeping) => key::run(alloc, inputs, name, &keeping, maker, err),
     }
 }

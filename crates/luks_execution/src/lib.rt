@@ -15,9 +15,10 @@ pub use luks_commands::{
     first_bytes, first_line,
 };
 pub use luks_header_commands::{Progress, Untold};
+pub use luks_keeping_commands::{MakesFile, Unmade};
 pub use luks_request::{
-    BackingUp, Command, Comparing, Converting, EditRequest, Editing, Line, Luks1Fields, Making,
-    Meant, NewVersion, Rebuilding, Restoring, ShowAs,
+    BackingUp, Command, Comparing, Converting, EditRequest, Editing, KeepingKey, Line, Luks1Fields,
+    Making, Meant, NewVersion, Rebuilding, Restoring, ShowAs,
 };
 pub use luks_signatures::OtherUse;
 pub use luks_volume::Data;

@@ -52,6 +52,7 @@ name_of fault.BadLabel = codes "BadLabel"
 name_of fault.SeqExhausted = codes "SeqExhausted"
 name_of fault.MetadataFull = codes "MetadataFull"
 name_of fault.RandomLength = codes "RandomLength"
+name_of fault.Payload = codes "Payload"
 name_of fault.TooSmall = codes "TooSmall"
 name_of fault.NotLuks1 = codes "NotLuks1"
 name_of fault.SameFile = codes "SameFile"
@@ -110,6 +111,7 @@ all_faults =
     ∷ fault.SeqExhausted
     ∷ fault.MetadataFull
     ∷ fault.RandomLength
+    ∷ fault.Payload
     ∷ fault.TooSmall
     ∷ fault.NotLuks1
     ∷ fault.SameFile
@@ -172,6 +174,7 @@ named fault.BadLabel = refl
 named fault.SeqExhausted = refl
 named fault.MetadataFull = refl
 named fault.RandomLength = refl
+named fault.Payload = refl
 named fault.TooSmall = refl
 named fault.NotLuks1 = refl
 named fault.SameFile = refl
@@ -233,6 +236,7 @@ called fault.BadLabel = refl
 called fault.SeqExhausted = refl
 called fault.MetadataFull = refl
 called fault.RandomLength = refl
+called fault.Payload = refl
 called fault.TooSmall = refl
 called fault.NotLuks1 = refl
 called fault.SameFile = refl

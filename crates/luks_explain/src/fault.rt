@@ -69,7 +69,7 @@ pub enum Fault {
     KeySize,
     /// The digest that is to be asked isn't there.
     NoSuchDigest,
-    /// The key hasn't the length of the volume's.
+    /// The key hasn't the length of the volume's; of format: not 64 bytes.
     KeyLength,
     /// The passphrase doesn't open the keyslot.
     Locked,
@@ -93,6 +93,8 @@ pub enum Fault {
     MetadataFull,
     /// The random file is too short, or none is given.
     RandomLength,
+    /// Of format: --payload lies in the header or the key areas, or past what the header can tell.
+    Payload,
     /// The volume, or TARGET, is too short.
     TooSmall,
     /// Of convert: SOURCE is of LUKS2.
@@ -132,7 +134,7 @@ impl Fault {
     /// Every fault: of the header, the metadata of LUKS2, the areas, the keyslot that is to be opened,
     /// then of an edit, of formatting, of converting, of rebuilding and of header backups, and at last of
     /// another use of the disk and of a reencryption.
-    pub const ALL: [Fault; 54] = [
+    pub const ALL: [Fault; 55] = [
         Fault::TooShort,
         Fault::NotLuks,
         Fault::Version,
@@ -175,6 +177,7 @@ impl Fault {
         Fault::SeqExhausted,
         Fault::MetadataFull,
         Fault::RandomLength,
+        Fault::Payload,
         Fault::TooSmall,
         Fault::NotLuks1,
         Fault::SameFile,
@@ -209,7 +212,7 @@ impl Fault {
             JsonArea BadJson NotWhole Shape Kind NoSuchName Assigned Sizes AreaTooSmall Region
             Outside Overlap NoSuchSlot SameSlot SlotFree Argon2 Cipher Hash KeySize NoSuchDigest KeyLength
             Locked Passphrase Requirements SlotTaken NoFreeSlot NoRoom LastSlot BadLabel SeqExhausted MetadataFull
-            RandomLength TooSmall NotLuks1 SameFile Counts NoMetadata NoHeader Exists NotAccepted DoesNotFit
+            RandomLength Payload TooSmall NotLuks1 SameFile Counts NoMetadata NoHeader Exists NotAccepted DoesNotFit
             OtherVolume OtherUse Reencrypting
         )
     }

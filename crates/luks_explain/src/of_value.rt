@@ -157,7 +157,11 @@ impl Fault {
         ensures { result ≡ fault_named (name_in (format_fault_text fault.now)) }
     {
         match fault {
+            FormatFault::Payload => Some(Fault::Payload),
             FormatFault::TooSmall => Some(Fault::TooSmall),
+            FormatFault::Uuid => Some(Fault::Uuid),
+            FormatFault::BadLabel => Some(Fault::BadLabel),
+            FormatFault::KeyLength => Some(Fault::KeyLength),
             FormatFault::Iterations => Some(Fault::Iterations),
             FormatFault::Argon2 => Some(Fault::Argon2),
             FormatFault::RandomLength => Some(Fault::RandomLength),

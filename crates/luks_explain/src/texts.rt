@@ -35,7 +35,7 @@ pub(crate) fn means(fault: Fault) -> &'static str {
         Fault::KeySize => "the key of the key area's cipher hasn't a length of that cipher",
         Fault::NoSuchDigest => "the digest isn't there, or segment 0 has none",
         Fault::KeyLength => "the file of the key hasn't as many bytes as the volume's key",
-        Fault::Locked => "the passphrase doesn't open the keyslot",
+        Fault::Locked => "the passphrase doesn't open the keyslot, or the key isn't its own",
         Fault::Passphrase => "a passphrase's file has more than 65536 bytes",
         Fault::Requirements => "the metadata names requirements, as of a reencryption",
         Fault::SlotTaken => "the keyslot of --to is in use",
@@ -46,13 +46,14 @@ pub(crate) fn means(fault: Fault) -> &'static str {
         Fault::SeqExhausted => "there is no higher sequence number",
         Fault::MetadataFull => "the new metadata is longer than its area",
         Fault::RandomLength => "the random file is too short, or none is given",
+        Fault::Payload => "of format: the data would begin in the header or the key areas",
         Fault::TooSmall => "the volume, TARGET or FILE is too short",
         Fault::NotLuks1 => "of convert: SOURCE is of LUKS2",
-        Fault::SameFile => "TARGET is SOURCE, or FILE is VOLUME",
+        Fault::SameFile => "TARGET is SOURCE, or FILE is VOLUME or the passphrase's",
         Fault::Counts => "of rebuild: a header of SOURCE counts",
         Fault::NoMetadata => "of rebuild: no metadata of SOURCE is whole",
         Fault::NoHeader => "of rebuild: SOURCE has no signs of a LUKS1 header",
-        Fault::Exists => "of backup: FILE is there and isn't empty",
+        Fault::Exists => "of backup and key: FILE is there and isn't empty",
         Fault::NotAccepted => "of restore: check --detached refuses FILE",
         Fault::DoesNotFit => "of restore: check would refuse VOLUME with this header",
         Fault::OtherVolume => "another volume's header stands on what would be written over",
@@ -126,7 +127,7 @@ pub(crate) fn place(fault: Fault) -> &'static str {
         }
         Fault::KeyLength => {
             "open --key: its FILE; LUKS1 says in its header how many bytes the key
-       has, LUKS2 in the keyslots of the digest"
+       has, LUKS2 in the keyslots of the digest; format --key: 64 bytes"
         }
         Fault::SameSlot => "remove: the keyslots of --by and --slot",
         Fault::SlotFree => "open: the keyslot of --slot",
@@ -149,22 +150,26 @@ pub(crate) fn place(fault: Fault) -> &'static str {
         Fault::NoFreeSlot => "add, and change of LUKS1: LUKS1 has 0 to 7, LUKS2 0 to 31",
         Fault::NoRoom => "add and change, of LUKS2; convert: the areas would end past 16777216",
         Fault::LastSlot => "remove: the keyslot of --slot is the last one of its volume key",
-        Fault::BadLabel => "label: TEXT",
+        Fault::BadLabel => "label: TEXT; format: --label or --subsystem",
         Fault::SeqExhausted => {
             "add, change, remove, repair and label: seqid of the copy that counts, of
        LUKS2"
         }
         Fault::MetadataFull => "add, change, remove, repair and label, of LUKS2",
         Fault::RandomLength => "the commands that write: the file of --random",
+        Fault::Payload => {
+            "format: --payload, before sector 4036, of LUKS2 32768, but where the data
+       lies on another device"
+        }
         Fault::TooSmall => {
-            "format: fewer than 2097152 bytes, of LUKS2 16777216; convert: TARGET,
-       16777216; backup: FILE, where that is a device"
+            "format: fewer than 2097152 bytes, of LUKS2 16777216, or up to --payload;
+       convert: TARGET, 16777216; backup: FILE, where that is a device"
         }
         Fault::NotLuks1 => "convert: SOURCE",
         Fault::SameFile => {
-            "convert and rebuild, and backup, restore and compare: one file or device,
-       by the same words or two names, or one that has bytes of the other, as a
-       loop device of its file"
+            "convert and rebuild, backup, restore, compare and key: one file or
+       device, by the same words or two names, or one that has bytes of the
+       other, as a loop device of its file"
         }
         Fault::Counts => "rebuild: SOURCE",
         Fault::NoMetadata => {
@@ -175,7 +180,7 @@ pub(crate) fn place(fault: Fault) -> &'static str {
             "rebuild: the first 592 bytes of SOURCE, where --cipher, --hash,
        --key-bytes or --payload means LUKS1"
         }
-        Fault::Exists => "backup: FILE, without --over",
+        Fault::Exists => "backup: FILE, and key: the file --to, without --over",
         Fault::NotAccepted => {
             "NotAccepted(FAULT), of restore and compare: FILE; FAULT is what check
        --detached answers of it"
@@ -196,8 +201,9 @@ pub(crate) fn place(fault: Fault) -> &'static str {
        of the same volume counts"
         }
         Fault::Reencrypting => {
-            "LUKS1, of rebuild and restore: the header begins with LUKS and the bytes
-       DE AD, which cryptsetup writes there until it is done; LUKS2, of restore:
+            "LUKS1: the header begins with LUKS and the bytes DE AD, which cryptsetup
+       writes there until it is done: of rebuild SOURCE's, of restore and format
+       VOLUME's, of convert and rebuild TARGET's; LUKS2, of the same but SOURCE:
        a keyslot of type reencrypt, or a requirement of that kind"
         }
     }
@@ -268,6 +274,7 @@ pub(crate) fn safe(fault: Fault) -> &'static str {
         | Fault::SeqExhausted
         | Fault::MetadataFull
         | Fault::RandomLength
+        | Fault::Payload
         | Fault::TooSmall
         | Fault::NotLuks1
         | Fault::Counts
@@ -299,7 +306,10 @@ pub(crate) fn next(fault: Fault) -> &'static str {
        where a partition begins; a qcow2 file, or one of another image format,
        goes through qemu-img convert -O raw first; luks rebuild makes a header
        where luks check says that metadata is whole, and of what is left of one
-       of LUKS1, as after wipefs; else restore a header backup"
+       of LUKS1, as after wipefs; else restore a header backup; who has the
+       volume key, of a mapping that is open or by luks key, reads the data
+       without one (RESCUE), and luks open --key tells by which header it is
+       the one"
         }
         Fault::Version => {
             "luks rebuild makes a header of what is left of one of LUKS1, and of LUKS2
@@ -310,7 +320,8 @@ pub(crate) fn next(fault: Fault) -> &'static str {
             "see whether the image is whole, and what else luks check says stands
        there; read a disk that fails again, to an image; luks rebuild makes a
        header where luks check says that metadata is whole; else restore a
-       header backup (no repair helps)"
+       header backup (no repair helps); who has the volume key, of a mapping
+       that is open or by luks key, reads the data without one (RESCUE)"
         }
         Fault::Text => {
             "of LUKS1 luks rebuild makes a header with the text that --cipher, --hash
@@ -421,12 +432,19 @@ pub(crate) fn next(fault: Fault) -> &'static str {
             "remove a keyslot that isn't needed, or a token (cryptsetup token remove)"
         }
         Fault::RandomLength => "give --random /dev/urandom",
+        Fault::Payload => {
+            "give the sector of 512 bytes at which the data begins; where it lies on
+       another device than the header, --detached takes any"
+        }
         Fault::TooSmall => {
             "make the file longer, as by truncate -s 16M FILE; format --version 1
        takes 2 MiB"
         }
         Fault::NotLuks1 => "nothing is to be converted: luks opens it as it is",
-        Fault::SameFile => "give a file of its own as TARGET: truncate -s 16M TARGET makes one",
+        Fault::SameFile => {
+            "give a file of its own as TARGET: truncate -s 16M TARGET makes one; for a
+       backup or a key the name of a new file"
+        }
         Fault::Counts => {
             "luks opens it as it is, luks repair writes both copies anew; for the
        metadata of an older header say --second or --size"
@@ -441,7 +459,7 @@ pub(crate) fn next(fault: Fault) -> &'static str {
        LUKS2 leave these options out; else a backup of the header, by luks
        restore"
         }
-        Fault::Exists => "name a new file; or say --over, where that backup isn't needed any more",
+        Fault::Exists => "name a new file; or say --over, where that one isn't needed any more",
         Fault::NotAccepted => {
             "luks check FILE --detached, and luks explain FAULT; or take another
        backup"

@@ -6,7 +6,7 @@ use luks_kdf::HashName;
 use luks_reading::{Allowed, Data, open_slot};
 use luks_samples::{ARGON2I_1, ARGON2ID_0, STRIPE_BY_ARGON2I, roomy_luks2, roomy_text};
 use luks_test_devices::{VOLUME_KEY, add, change, counted, label, put, remove, small1};
-use luks_volume::{Passphrase, apply};
+use luks_volume::{Secret, SecretKind, apply};
 use std::alloc::Global;
 use std::test::Fail;
 
@@ -108,7 +108,8 @@ pub(crate) const LUKS2: [Trial; 6] = [
 ];
 
 /// The passphrase of a keyslot of Argon2i, with the 64 KiB that it takes.
-const OF_ARGON2: Passphrase<'static> = Passphrase {
+const OF_ARGON2: Secret<'static> = Secret {
+    kind: SecretKind::Passphrase,
     bytes: b"one",
     allowed: ALLOWED,
 };
@@ -147,7 +148,7 @@ pub(crate) const ARGON2: [Trial; 5] = [
         edit: Edit::Remove {
             slot: 1,
             by_: None,
-            passphrase: OF_ARGON2,
+            secret: OF_ARGON2,
         },
         random: 128,
         writes: 12,
@@ -158,7 +159,7 @@ pub(crate) const ARGON2: [Trial; 5] = [
         edit: Edit::Remove {
             slot: 0,
             by_: Some(1),
-            passphrase: OF_ARGON2,
+            secret: OF_ARGON2,
         },
         random: 128,
         writes: 12,

@@ -2,6 +2,7 @@
 //! volumes are locked and remembered, the passphrases read whole.
 #![tactic(auto)]
 
+mod key_file;
 mod openings;
 mod output;
 mod passphrases;
@@ -10,6 +11,7 @@ mod typing;
 mod volume;
 mod volumes;
 
+pub use key_file::KeyFile;
 pub use openings::{Opening, Openings};
 pub use passphrases::{Passphrases, reader};
 pub use target::take_away;

@@ -1,4 +1,4 @@
-//! What a command writes beside the volume: TARGET, and the FILE of a backup.
+//! What a command writes beside the volume: TARGET, and the FILE of a backup or of a key.
 ghost use Rattle.std.specs.Prelude.{◌≡◌, IfOk, true};
 ghost use Rattle.luks_guarded_files.specs.Cached.{cached_failures, device_behind};
 ghost use Rattle.luks_guarded_files.specs.Locked.{lock_of, share_for};
@@ -14,6 +14,7 @@ use luks_guarded_files::{
 };
 use std::cell::Cell;
 use std::fs::{self, File};
+use std::io;
 use std::rc::Rc;
 use std::rt::{Clock, Files};
 
@@ -26,6 +27,13 @@ pub(crate) enum Shape {
     /// backup with the first write that changes it, and is as it was till then. Where it holds something
     /// once its lock is held, it is opened only where it may be written over.
     Backup {
+        /// The length in bytes.
+        length: u64,
+        /// Whether it may be written over.
+        over: bool,
+    },
+    /// The FILE of a key, likewise, which its owner alone may read from then on.
+    Key {
         /// The length in bytes.
         length: u64,
         /// Whether it may be written over.
@@ -86,7 +94,7 @@ impl Target {
         };
         match watch_of(rt, source, notes) {
             Ok((watch, is_source)) => Target {
-                volume: volume_over(rt, file, name, shape, watch, notes),
+                volume: volume_over(rt, file, name, shape, made.is_some(), watch, notes),
                 made,
                 is_source: Some(is_source),
             },
@@ -151,6 +159,7 @@ fn volume_over<R: AllocGlobal + Clock + Files<File = File>>(
     file: File,
     name: &str,
     shape: Shape,
+    is_made: bool,
     watch: Watch,
     notes: &mut Vec<u8>,
 ) -> Result<Volume, InputFault>
@@ -165,7 +174,12 @@ fn volume_over<R: AllocGlobal + Clock + Files<File = File>>(
     };
     let file = match shape {
         Shape::AsItIs => FittedFile::new(file),
-        Shape::Backup { length, over } => fitted(&mut host, file, length, over)?,
+        Shape::Backup { length, over } => {
+            unless_kept(FittedFile::of_backup(&mut host, file, length, over))?
+        }
+        Shape::Key { length, over } => {
+            unless_kept(FittedFile::of_key(&mut host, file, length, over, is_made))?
+        }
     };
     let device = FileDevice::new(file.watching(watch))?;
     volume_of(
@@ -177,20 +191,15 @@ fn volume_over<R: AllocGlobal + Clock + Files<File = File>>(
     )
 }
 
-/// FILE, whose lock is held, for a backup of this length.
-fn fitted<S: System>(
-    system: &mut S,
-    file: File,
-    length: u64,
-    over: bool,
-) -> Result<FittedFile, InputFault> {
-    match FittedFile::of_backup(system, file, length, over)? {
+/// FILE as it was opened; where it holds something that isn't to be written over, it isn't.
+fn unless_kept(opened: io::Result<Option<FittedFile>>) -> Result<FittedFile, InputFault> {
+    match opened? {
         Some(file) => Ok(file),
         None => Err(InputFault::Unreadable(Reason::Exists)),
     }
 }
 
-/// Takes away the file of this name that was made for a backup that wasn't done, where the name is still
+/// Takes away the file of this name that was made for a backup or a key that wasn't written, where the name is still
 /// that file's.
 pub fn take_away<R: Clock + Files<File = File>>(rt: &R, name: &str, made: &Found) {
     if let Ok(named) = Host::new(rt).lstat(name) {

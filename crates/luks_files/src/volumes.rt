@@ -67,8 +67,9 @@ impl Volumes {
 
 /// Opens the volume, and then what the command writes or reads beside it; neither where a passphrase has
 /// ended the command, and nothing beside a volume that can't be opened. Where both are one file, by
-/// whichever names, or the system tells that they have bytes in common, nothing is opened. Each is locked
-/// as what it is opened for.
+/// whichever names, or the system tells that they have bytes in common, nothing is opened; nor where the file
+/// of a key is that of its passphrase. Each is locked as what it is opened for. The file of a key isn't opened
+/// yet: `KeyFile` makes it.
 pub fn open_volumes<R: AllocGlobal + Clock + Files<File = File>>(
     rt: &R,
     line: &Line<'_>,
@@ -98,7 +99,7 @@ pub fn open_volumes<R: AllocGlobal + Clock + Files<File = File>>(
             is_source: None,
         };
     };
-    match are_one(rt, openings, beside) {
+    match are_one(rt, line, openings, beside) {
         Ok(false) => {}
         Ok(true) => return Volumes::unopened(InputFault::Unreadable(Reason::SameFile)),
         Err(AllocError) => return Volumes::without_memory(),
@@ -123,9 +124,11 @@ pub fn open_volumes<R: AllocGlobal + Clock + Files<File = File>>(
     }
 }
 
-/// Whether the volume and what is opened beside it have a byte in common, as far as the system tells.
+/// Whether the volume and what is opened beside it have a byte in common, as far as the system tells, or the
+/// file of a key is that of its passphrase.
 fn are_one<R: AllocGlobal + Clock + Files<File = File>>(
     rt: &R,
+    line: &Line<'_>,
     openings: &Openings<'_>,
     beside: Opening<'_>,
 ) -> Result<bool, AllocError>
@@ -140,22 +143,47 @@ fn are_one<R: AllocGlobal + Clock + Files<File = File>>(
             None => u64::MAX,
         },
     };
-    let other = Stretch {
-        name: beside.name,
-        start: 0,
-        end: u64::MAX,
-    };
-    have_common_bytes(rt.alloc(), &mut Host::new(rt), volume, other, BLOCKS)
+    let other = whole_file(beside.name);
+    if have_common_bytes(rt.alloc(), &mut Host::new(rt), volume, other, BLOCKS)? {
+        return Ok(true);
+    }
+    is_of_passphrase(rt, line)
 }
 
-/// Whether a backup is to be made over something that isn't to be written over.
-fn is_kept<R: Clock + Files<File = File>>(rt: &R, line: &Line<'_>) -> bool {
-    match line.command {
-        Command::Backup(backing_up) => {
-            !backing_up.over && holds_something(&mut Host::new(rt), backing_up.target)
-        }
-        _ => false,
+/// All bytes of the file of this name.
+fn whole_file(name: &str) -> Stretch<'_>
+    ensures { result.name.now ≡ name.now }
+{
+    Stretch {
+        name,
+        start: 0,
+        end: u64::MAX,
     }
+}
+
+/// Whether the file of a key is that of its passphrase, as far as the system tells.
+fn is_of_passphrase<R: AllocGlobal + Clock + Files<File = File>>(
+    rt: &R,
+    line: &Line<'_>,
+) -> Result<bool, AllocError> {
+    match line.command {
+        Command::KeepKey(keeping) if keeping.passphrase != "-" => {
+            let passphrase = whole_file(keeping.passphrase);
+            let key = whole_file(keeping.target);
+            have_common_bytes(rt.alloc(), &mut Host::new(rt), passphrase, key, BLOCKS)
+        }
+        _ => Ok(false),
+    }
+}
+
+/// Whether a backup or a key is to be written over something that isn't to be written over.
+fn is_kept<R: Clock + Files<File = File>>(rt: &R, line: &Line<'_>) -> bool {
+    let (target, over) = match line.command {
+        Command::Backup(backing_up) => (backing_up.target, backing_up.over),
+        Command::KeepKey(keeping) => (keeping.target, keeping.over),
+        _ => return false,
+    };
+    !over && holds_something(&mut Host::new(rt), target)
 }
 
 /// Opens what the command has beside the volume. The file of a backup is opened for as many bytes as that
@@ -188,7 +216,7 @@ fn open_beside<R: AllocGlobal + Clock + Files<File = File>>(
     }
 }
 
-/// As what the command's target is opened.
+/// As what the command's target is opened; that of a key isn't yet.
 fn shape_of<R: AllocGlobal + Clock + Files<File = File>>(
     rt: &R,
     line: &Line<'_>,
@@ -198,6 +226,7 @@ fn shape_of<R: AllocGlobal + Clock + Files<File = File>>(
             length: length_of_backup(rt, line, &backing_up)?,
             over: backing_up.over,
         }),
+        Command::KeepKey(_) => Err(InputFault::Absent),
         _ => Ok(Shape::AsItIs),
     }
 }

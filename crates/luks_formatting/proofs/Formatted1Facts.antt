@@ -8,7 +8,7 @@ use Rattle.luks_kdf.specs.declared.keyslot_hash.KeyslotHash.{KeyslotHash}
 use Rattle.luks_kdf.proofs.SplitterFacts.{merge-split}
 use Rattle.luks_area.proofs.RangeFacts.{length-part_inside, part-part}
 use Rattle.luks_area.specs.declared.area.Area.{Area}
-use Rattle.luks1_header.specs.Bytes.{text_at}
+use Rattle.luks1_header.specs.Bytes.{text_at, IsUuid}
 use Rattle.luks1_header.specs.Faults.{IsCommonFault, IsEntryFault}
 use Rattle.luks1_header.specs.Header1.{active_word, enabled_word, entry, entry_iterations}
 use Rattle.luks1_header.proofs.Luks1FaultFacts.{common_sound, entry_sound}
@@ -33,12 +33,14 @@ use Rattle.luks_reading.proofs.MemoryFacts.{refusal_at_zero}
 use Rattle.luks_reading.specs.Plans.{HasLuks1Plan, IsLuks1Cipher, IsLuks1Derivation}
 use Rattle.luks_reading.specs.declared.open_fault.OpenFault.{OpenFault}
 use Rattle.luks_reading.specs.declared.open_fault.OpenFault.TheVariants.{Head, Meta, NoSuchSlot, SlotFree, Outside, Slot, Device, Memory}
-use Rattle.luks_reading.specs.declared.report.Data.{Data}
 use Rattle.luks_reading.specs.declared.format.Format.{Format}
-use Rattle.luks_formatting.specs.Formatted1.{IsFormatted1}
+use Rattle.luks_formatting.specs.Formatted1.{IsFormatted1As}
+use Rattle.luks_formatting.specs.Given.{key_of, uuid_of, IsSound1}
+use Rattle.luks_formatting.specs.declared.given.Given.{Given}
 use Rattle.luks_formatting.specs.NewHeader1.{area1, new_slot, IsNewCipher1}
 use Rattle.luks_formatting.specs.NewPlan.{key_digest, IsNewDerivation, IsNewPlan}
-use Rattle.luks_formatting.specs.RandomBytes.{digest_salt, random_stripes, slot_place1, slot_salt, volume_key}
+use Rattle.luks_formatting.specs.RandomBytes.{digest_salt, random_stripes, slot_place1, slot_salt}
+use Rattle.luks_formatting.proofs.GivenFacts.{length-key_of, uuid_is}
 use Rattle.luks_formatting.proofs.NewHeader1Facts.{common, fields, fit, header, holds, key_size, slot_len, slot_start, stripes_at}
 use Rattle.luks_formatting.proofs.NewPlanFacts.{key_meets, unrefused}
 
@@ -47,10 +49,6 @@ pub area_is : (a : Area) (start len : ℕ) → a.start ≡ start → a.len ≡ l
 area_is a start len first second =
     let at : ℕ → ℕ → Area = λ s l. record { start = s; len = l } in
     ap (λ s. at s a.len) first ∙ ap (at start) second
-
--- the random bytes have the parts that are taken of them
-pub length-volume_key : (random : List ℕ) → 144 ≤ length random → length (volume_key random) ≡ 64
-length-volume_key random long = length-part_inside random 16 64 (omega (arith, long))
 
 derivation_is : (h e : List ℕ) (format : Format) (salt : List ℕ) (d : Derivation) → text_at h 72 32 ≡ name_of format.hash → entry_iterations e ≡ format.iterations → part e 8 32 ≡ salt
     → IsLuks1Derivation h e d → IsNewDerivation format salt d
@@ -75,8 +73,11 @@ reopens plan area passphrase key random some size counted =
     sealed_opens plan area passphrase key random some size counted
     (merge-split (keyslot_digest hash) (keyslot_digest_size hash) (length-keyslot_digest hash) (each_keyslot_at_least 1 keyslot_digest_size refl hash))
 
-module _ (payload : Data) (format : Format) (passphrase random old new : List ℕ) (some : 1 ≤ format.iterations) (large : 2097152 ≤ length new)
-    (x : IsFormatted1 payload format passphrase random old new) where
+module _ (given : Given) (format : Format) (passphrase random old new : List ℕ) (some : 1 ≤ format.iterations) (large : 2097152 ≤ length new)
+    (sound : IsSound1 given (length new)) (x : IsFormatted1As given format passphrase random old new) where
+  own : IsUuid (uuid_of given random)
+  own = uuid_is given random sound.uuid
+
   h : List ℕ
   h = part new 0 592
 
@@ -88,34 +89,34 @@ module _ (payload : Data) (format : Format) (passphrase random old new : List �
     version = ap (λ b. big_number 2 b) (sym (part-part new 0 592 6 2 (lit≤ tt))) ∙ x.written.common.version;
   }
 
-  pub well_formed : WellFormed new payload
+  pub well_formed : WellFormed new given.payload
   well_formed = record {
     choice = luks1;
     chosen = chosen;
     formed = record {
-      header = (x.header, header payload format random (part new 0 592) x.header x.fields x.written some);
-      fit = fit payload format random (part new 0 592) x.header x.fields x.written (length new) large;
+      header = (x.header, header given format random (part new 0 592) x.header x.fields x.written own some);
+      fit = fit given format random (part new 0 592) x.header x.fields x.written (length new) sound large;
     };
   }
 
   -- the plans of keyslot 0
   hash_name : text_at (part new 0 592) 72 32 ≡ name_of format.hash
-  hash_name = (fields payload format random (part new 0 592) x.header x.fields x.written).hash_spec ∙ x.fields.common.hash_spec
+  hash_name = (fields given format random (part new 0 592) x.header x.fields x.written own).hash_spec ∙ x.fields.common.hash_spec
 
   new_plan : (plan : SlotPlan) → HasLuks1Plan (part new 0 592) 0 plan
-      → IsNewPlan format (slot_salt slot_place1 random) area1 (digest_salt random) (key_digest format random 20) plan
+      → IsNewPlan format (slot_salt slot_place1 random) area1 (digest_salt random) (key_digest given format random 20) plan
   new_plan plan y =
-      let common_is = fields payload format random (part new 0 592) x.header x.fields x.written in
-      let entry_is = holds payload format random (part new 0 592) x.header x.fields x.written 0 (lit< tt) in
-      let start : plan.area.start ≡ 4096 = y.is.start ∙ ap (λ s. s * 512) (slot_start payload format random (part new 0 592) x.header x.fields x.written 0 (lit< tt)) in
-      let len : plan.area.len ≡ 256000 = y.is.len ∙ slot_len payload format random (part new 0 592) x.header x.fields x.written 0 (lit< tt) in
-      let key = key_size payload format random (part new 0 592) x.header x.fields x.written in
+      let common_is = fields given format random (part new 0 592) x.header x.fields x.written own in
+      let entry_is = holds given format random (part new 0 592) x.header x.fields x.written own 0 (lit< tt) in
+      let start : plan.area.start ≡ 4096 = y.is.start ∙ ap (λ s. s * 512) (slot_start given format random (part new 0 592) x.header x.fields x.written own 0 (lit< tt)) in
+      let len : plan.area.len ≡ 256000 = y.is.len ∙ slot_len given format random (part new 0 592) x.header x.fields x.written own 0 (lit< tt) in
+      let key = key_size given format random (part new 0 592) x.header x.fields x.written own in
       record {
         derivation = derivation_is (part new 0 592) (entry (part new 0 592) 0) format (slot_salt slot_place1 random) plan.derivation hash_name entry_is.iterations entry_is.salt y.is.derivation;
         area = area_is plan.area 4096 256000 start len;
         area_key_bytes = y.is.area_key_bytes ∙ key;
         key_bytes = y.is.key_bytes ∙ key;
-        stripes = y.is.stripes ∙ stripes_at payload format random (part new 0 592) x.header x.fields x.written 0 (lit< tt);
+        stripes = y.is.stripes ∙ stripes_at given format random (part new 0 592) x.header x.fields x.written own 0 (lit< tt);
         splitter_hash = y.is.splitter_hash ∙ hash_name;
         digest = record {
           hash = y.is.digest.hash ∙ hash_name;
@@ -127,16 +128,16 @@ module _ (payload : Data) (format : Format) (passphrase random old new : List �
 
   plan_unrefused : (plan : SlotPlan) → HasLuks1Plan (part new 0 592) 0 plan → slot_refusal_within (without_memory false) plan ≡ None
   plan_unrefused plan y =
-      let common_is = fields payload format random (part new 0 592) x.header x.fields x.written in
+      let common_is = fields given format random (part new 0 592) x.header x.fields x.written own in
       let cipher = cipher_is (part new 0 592) plan.cipher (common_is.cipher_name ∙ x.fields.common.cipher_name) (common_is.cipher_mode ∙ x.fields.common.cipher_mode) y.is.cipher in
-      refusal_at_zero plan ∙ unrefused format (slot_salt slot_place1 random) area1 (digest_salt random) (key_digest format random 20) plan (new_plan plan y) (cipher_opens plan.cipher cipher)
+      refusal_at_zero plan ∙ unrefused format (slot_salt slot_place1 random) area1 (digest_salt random) (key_digest given format random 20) plan (new_plan plan y) (cipher_opens plan.cipher cipher)
 
   no_common : (f : HeadFault) → IsCommonFault (part new 0 592) f → ⊥
-  no_common = common_sound (part new 0 592) x.header.common (common payload format random (part new 0 592) x.header x.fields x.written some)
+  no_common = common_sound (part new 0 592) x.header.common (common given format random (part new 0 592) x.header x.fields x.written own some)
 
   no_entry : (f : HeadFault) → IsEntryFault 0 (entry (part new 0 592) 0) f → ⊥
   no_entry =
-      let whole = header payload format random (part new 0 592) x.header x.fields x.written some in
+      let whole = header given format random (part new 0 592) x.header x.fields x.written own some in
       let slot : Luks1Slot = new_slot format random 0 in
       entry_sound 0 (entry (part new 0 592) 0) (slice_index_or x.header.slots 0 slot) (whole.slots.each 0 slot (lit< tt))
 
@@ -151,7 +152,7 @@ module _ (payload : Data) (format : Format) (passphrase random old new : List �
   none (Meta f) y = y
   none NoSuchSlot y = absurd (omega (arith, y))
   none SlotFree y =
-      let on : active_word (entry (part new 0 592) 0) ≡ enabled_word = (holds payload format random (part new 0 592) x.header x.fields x.written 0 (lit< tt)).state in
+      let on : active_word (entry (part new 0 592) 0) ≡ enabled_word = (holds given format random (part new 0 592) x.header x.fields x.written own 0 (lit< tt)).state in
       let off = y.1 in
       absurd (omega (arith, on, off))
   none Outside y =
@@ -163,17 +164,17 @@ module _ (payload : Data) (format : Format) (passphrase random old new : List �
   none Device y = y
   none Memory y = y
 
-  pub slot_opens : length random ≡ 256080 → Answer new 0 passphrase (opens (volume_key random))
+  pub slot_opens : length random ≡ 256080 → Answer new 0 passphrase (opens (key_of given random))
   slot_opens counted =
       let plan = x.slot.plan in
       let is = new_plan plan x.slot.is in
-      let stored : length (key_digest format random 20) ≡ 20 =
-      ap length (sym ((fields payload format random (part new 0 592) x.header x.fields x.written).mk_digest ∙ x.fields.common.mk_digest))
+      let stored : length (key_digest given format random 20) ≡ 20 =
+      ap length (sym ((fields given format random (part new 0 592) x.header x.fields x.written own).mk_digest ∙ x.fields.common.mk_digest))
       ∙ length-part_inside (part new 0 592) 112 20 (let long = length-part_inside new 0 592 (omega (arith, large)) in omega (arith, long)) in
-      let key_len : length (volume_key random) ≡ plan.key_bytes = length-volume_key random (omega (arith, counted)) ∙ sym is.key_bytes in
+      let key_len : length (key_of given random) ≡ plan.key_bytes = length-key_of given random sound.key (omega (arith, counted)) ∙ sym is.key_bytes in
       let random_len : length (random_stripes slot_place1 random) ≡ (plan.stripes - 1) * plan.key_bytes =
       length-part_inside random 144 255936 (omega (arith, counted)) ∙ sym (ap (λ s. (s - 1) * plan.key_bytes) is.stripes ∙ ap (λ k. (4000 - 1) * k) is.key_bytes) in
-      let meets = key_meets format random 20 plan.digest is.digest stored in
+      let meets = key_meets given format random 20 plan.digest is.digest stored in
       let stripes = is.stripes in
       record {
         choice = luks1;
@@ -181,6 +182,6 @@ module _ (payload : Data) (format : Format) (passphrase random old new : List �
         plan = plan;
         is = x.slot.is;
         unrefused = none;
-        key = reopens plan (part new plan.area.start plan.area.len) passphrase (volume_key random) (random_stripes slot_place1 random) (omega (arith, stripes)) key_len random_len x.slot.sealed
-            ∙ ap (λ b. if b then Some (volume_key random) else None) meets;
+        key = reopens plan (part new plan.area.start plan.area.len) passphrase (key_of given random) (random_stripes slot_place1 random) (omega (arith, stripes)) key_len random_len x.slot.sealed
+            ∙ ap (λ b. if b then Some (key_of given random) else None) meets;
       }

@@ -13,8 +13,8 @@ use Rattle.luks2_header.specs.Written.{IsWrittenCopy}
 use Rattle.luks2_header.proofs.BinaryHeaderFacts.{written_in_step}
 use Rattle.luks2_header.proofs.ChoiceFacts.{uuid_sound}
 use Rattle.luks2_header.specs.declared.selection.Copies.TheVariants.{InStep}
-use Rattle.luks2_header.specs.NewUuid.{uuid_text}
-use Rattle.luks2_header.proofs.UuidFacts.{fills, uuid_text-is}
+use Rattle.luks1_header.specs.Bytes.{IsUuid}
+use Rattle.luks2_header.proofs.UuidFacts.{fills}
 use Rattle.luks_rules.specs.Accepted.{IsContent, IsMeta}
 use Rattle.luks_rules.specs.Faults.{object_at}
 use Rattle.luks_rules.specs.MetaFault.{IsMetaFault}
@@ -33,29 +33,31 @@ use Rattle.luks_reading.specs.Header.{json_at}
 use Rattle.luks_reading.specs.Plans.{HasLuks2Plan}
 use Rattle.luks_reading.specs.declared.open_fault.OpenFault.{OpenFault}
 use Rattle.luks_reading.specs.declared.open_fault.OpenFault.TheVariants.{Head, Meta, NoSuchSlot, SlotFree, Outside, Slot, Device, Memory}
-use Rattle.luks_reading.specs.declared.report.Data.{Data}
 use Rattle.luks_making.specs.declared.derivation.NewDerivation.{NewDerivation}
 use Rattle.luks_making.specs.Derivations.{memory_by, IsMakeable}
 use Rattle.luks_formatting.specs.Deriving.{slot_derivation}
-use Rattle.luks_formatting.specs.Formatted2.{IsFormatted2By}
-use Rattle.luks_formatting.specs.NewHeader2.{area2, first_slot_by, formatted_by, new_members, new_metadata, FitsMetadataBy, IsNewCipher2}
+use Rattle.luks_formatting.specs.Formatted2.{IsFormatted2As}
+use Rattle.luks_formatting.specs.NewHeader2.{area2, first_slot_by, formatted_by, new_members, new_metadata, FitsMetadataAs, IsNewCipher2}
 use Rattle.luks_formatting.specs.NewPlan.{key_digest, IsNewPlanBy}
-use Rattle.luks_formatting.specs.RandomBytes.{digest_salt, random_stripes, slot_place2, slot_salt, uuid_bytes, volume_key}
-use Rattle.luks_formatting.proofs.Formatted1Facts.{length-volume_key, reopens}
+use Rattle.luks_formatting.specs.RandomBytes.{digest_salt, random_stripes, slot_place2, slot_salt}
+use Rattle.luks_formatting.specs.Given.{key_of, uuid_of, IsSound2}
+use Rattle.luks_formatting.specs.declared.given.Given.{Given}
+use Rattle.luks_formatting.proofs.GivenFacts.{length-key_of, uuid_is}
+use Rattle.luks_formatting.proofs.Formatted1Facts.{reopens}
 use Rattle.luks_formatting.proofs.Keyslot2Facts.{cipher_opens, fit, plan_is, segments}
 use Rattle.luks_formatting.proofs.MetadataFacts.{can_format, held_by, length-slot_salt, no_some}
 use Rattle.luks_formatting.proofs.NewPlanFacts.{key_meets, makeable_enough, unrefused_chosen}
 
 -- the uuid of a new header
-uuid_good : (random field_ : List ℕ) → field_ ≡ uuid_text random ++ replicate 4 0 → IsUuidField field_
-uuid_good random field_ is = subst IsUuidField (sym is) (fills (uuid_text random) (uuid_text-is random))
+uuid_good : (text field_ : List ℕ) → IsUuid text → field_ ≡ text ++ replicate 4 0 → IsUuidField field_
+uuid_good text field_ good is = subst IsUuidField (sym is) (fills text good)
 
 -- metadata that is accepted has no fault
 no_meta : (area : List ℕ) (j : Value) → IsMeta area j → (f : MetaFault) → IsMetaFault area f → ⊥
 no_meta area j is = (metadata_faultless area).1 (j, is)
 
-module _ (payload : Data) (format : Format) (chosen : Option NewDerivation) (passphrase random old new : List ℕ) (some : 1 ≤ format.iterations) (large : 16777216 ≤ length new) (counted : length random ≡ 256208)
-    (fits : FitsMetadataBy payload format chosen random) (x : IsFormatted2By payload format chosen passphrase random old new) where
+module _ (given : Given) (format : Format) (chosen : Option NewDerivation) (passphrase random old new : List ℕ) (some : 1 ≤ format.iterations) (large : 16777216 ≤ length new) (counted : length random ≡ 256208)
+    (sound : IsSound2 given (length new)) (fits : FitsMetadataAs given format chosen random) (x : IsFormatted2As given format chosen passphrase random old new) where
   long : 272 ≤ length random
   long = omega (arith, counted)
 
@@ -71,53 +73,53 @@ module _ (payload : Data) (format : Format) (chosen : Option NewDerivation) (pas
       written_in_step new x.first.header x.second.header x.json x.json x.first.written second (x.first.fields.seqid ∙ sym x.second.fields.seqid)
 
   uuid : IsUuidField (uuid_field (header_at new 0))
-  uuid = uuid_good (uuid_bytes random) (uuid_field (header_at new 0)) (x.first.written.header.fields.uuid ∙ x.first.fields.uuid)
+  uuid = uuid_good (uuid_of given random) (uuid_field (header_at new 0)) (uuid_is given random sound.uuid) (x.first.written.header.fields.uuid ∙ x.first.fields.uuid)
 
-  meta : IsMeta x.json (new_metadata payload format chosen random)
+  meta : IsMeta x.json (new_metadata given format chosen random)
   meta = record {
     json = x.metadata.json;
-    content = subst (λ (n : ℕ). IsContent n (new_metadata payload format chosen random)) (sym x.metadata.long)
-        (held_by (slot_derivation format chosen) (new_members payload format random) fits.fits (can_format payload format random some long fits.digest_length) fits.derivation).content;
+    content = subst (λ (n : ℕ). IsContent n (new_metadata given format chosen random)) (sym x.metadata.long)
+        (held_by (slot_derivation format chosen) (new_members given format random) fits.fits (can_format given format random some long fits.digest_length) fits.derivation).content;
   }
 
-  formed : IsLuks2Volume (header_at new 0) x.json payload (length new)
+  formed : IsLuks2Volume (header_at new 0) x.json given.payload (length new)
   formed = record {
     uuid = uuid;
     layout = (
-      new_metadata payload format chosen random,
+      new_metadata given format chosen random,
       record {
         metadata = meta;
-        segments = λ here. subst (λ (n : ℕ). SegmentsFollow n (new_metadata payload format chosen random)) (sym x.metadata.long)
-            (segments payload format chosen random some long fits here);
-        fit = fit payload format chosen random some long fits (length new) (hdr_size (header_at new 0)) size large;
+        segments = λ here. subst (λ (n : ℕ). SegmentsFollow n (new_metadata given format chosen random)) (sym x.metadata.long)
+            (segments given format chosen random some long fits (length new) sound large here);
+        fit = fit given format chosen random some long fits (length new) (hdr_size (header_at new 0)) size sound large;
       },
     );
   }
 
-  pub well_formed : WellFormed new payload
+  pub well_formed : WellFormed new given.payload
   well_formed = record {
     choice = luks2 0 InStep;
     chosen = counts;
-    formed = subst (λ (a : List ℕ). IsLuks2Volume (header_at new 0) a payload (length new)) (sym json_there) formed;
+    formed = subst (λ (a : List ℕ). IsLuks2Volume (header_at new 0) a given.payload (length new)) (sym json_there) formed;
   }
 
   new_plan : (plan : SlotPlan) → HasLuks2Plan x.json 0 plan
-      → IsNewPlanBy (slot_derivation format chosen) format (slot_salt slot_place2 random) area2 (digest_salt random) (key_digest format random (digest_size_of format.hash)) plan × IsNewCipher2 plan.cipher
-  new_plan = plan_is payload format chosen random some long fits x.json x.metadata.json
+      → IsNewPlanBy (slot_derivation format chosen) format (slot_salt slot_place2 random) area2 (digest_salt random) (key_digest given format random (digest_size_of format.hash)) plan × IsNewCipher2 plan.cipher
+  new_plan = plan_is given format chosen random some long fits x.json x.metadata.json
 
   -- where as much memory is allowed as the keyslot takes, its plan isn't refused
   module _ (memory : ℕ) (allowed : Allowed) (can : IfSome chosen (IsMakeable memory)) (enough : memory_by (slot_derivation format chosen) ≤ allowed.memory) where
     plan_unrefused : (plan : SlotPlan) → HasLuks2Plan x.json 0 plan → slot_refusal_within allowed plan ≡ None
     plan_unrefused plan y =
         let is = new_plan plan y in
-        unrefused_chosen format chosen (slot_salt slot_place2 random) area2 (digest_salt random) (key_digest format random (digest_size_of format.hash)) plan is.0 (cipher_opens plan.cipher is.1)
+        unrefused_chosen format chosen (slot_salt slot_place2 random) area2 (digest_salt random) (key_digest given format random (digest_size_of format.hash)) plan is.0 (cipher_opens plan.cipher is.1)
         allowed (length-slot_salt random long) (makeable_enough format memory allowed.memory chosen can enough)
 
     none : (f : OpenFault) → IsLuks2RefusalWithin allowed (header_at new 0) x.json (length new) 0 f → ⊥
     none (Head f) y = uuid_sound (uuid_field (header_at new 0)) uuid f y
-    none (Meta f) y = no_meta x.json (new_metadata payload format chosen random) meta f y
+    none (Meta f) y = no_meta x.json (new_metadata given format chosen random) meta f y
     none NoSuchSlot y =
-        let v : VolumeMembers = new_members payload format random in
+        let v : VolumeMembers = new_members given format random in
         let same : y.value ≡ formatted_by (slot_derivation format chosen) v = one_value x.json y.value (formatted_by (slot_derivation format chosen) v) y.holds x.metadata.json in
         let gone : object_at (formatted_by (slot_derivation format chosen) v) Keyslots 0 ≡ None = subst (λ (k : Value). object_at k Keyslots 0 ≡ None) same (y.absent (lit< tt)) in
         no_some (slot_value (first_slot_by (slot_derivation format chosen) v)) (sym gone)
@@ -132,14 +134,14 @@ module _ (payload : Data) (format : Format) (chosen : Option NewDerivation) (pas
     none Device y = y
     none Memory y = y
 
-    pub slot_opens : AnswerWithin allowed new 0 passphrase (opens (volume_key random))
+    pub slot_opens : AnswerWithin allowed new 0 passphrase (opens (key_of given random))
     slot_opens =
         let plan = x.slot.plan in
         let is = (new_plan plan x.slot.is).0 in
-        let key_len : length (volume_key random) ≡ plan.key_bytes = length-volume_key random (omega (arith, counted)) ∙ sym is.key_bytes in
+        let key_len : length (key_of given random) ≡ plan.key_bytes = length-key_of given random sound.key (omega (arith, counted)) ∙ sym is.key_bytes in
         let random_len : length (random_stripes slot_place2 random) ≡ (plan.stripes - 1) * plan.key_bytes =
         length-part_inside random 272 255936 (omega (arith, counted)) ∙ sym (ap (λ s. (s - 1) * plan.key_bytes) is.stripes ∙ ap (λ k. (4000 - 1) * k) is.key_bytes) in
-        let meets = key_meets format random (digest_size_of format.hash) plan.digest is.digest fits.digest_length in
+        let meets = key_meets given format random (digest_size_of format.hash) plan.digest is.digest fits.digest_length in
         let stripes = is.stripes in
         record {
           choice = luks2 0 InStep;
@@ -147,6 +149,6 @@ module _ (payload : Data) (format : Format) (chosen : Option NewDerivation) (pas
           plan = plan;
           is = subst (λ (a : List ℕ). HasLuks2Plan a 0 plan) (sym json_there) x.slot.is;
           unrefused = subst (λ (a : List ℕ). (f : OpenFault) → IsLuks2RefusalWithin allowed (header_at new 0) a (length new) 0 f → ⊥) (sym json_there) none;
-          key = reopens plan (part new plan.area.start plan.area.len) passphrase (volume_key random) (random_stripes slot_place2 random) (omega (arith, stripes)) key_len random_len x.slot.sealed
-              ∙ ap (λ b. if b then Some (volume_key random) else None) meets;
+          key = reopens plan (part new plan.area.start plan.area.len) passphrase (key_of given random) (random_stripes slot_place2 random) (omega (arith, stripes)) key_len random_len x.slot.sealed
+              ∙ ap (λ b. if b then Some (key_of given random) else None) meets;
         }

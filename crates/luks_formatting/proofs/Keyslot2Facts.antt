@@ -42,13 +42,15 @@ use Rattle.luks_reading.specs.Checked.{SegmentsFollow}
 use Rattle.luks_reading.specs.Layout2.{HasExtent, Luks2Area, segment_extent, segment_offset, slot_number}
 use Rattle.luks_reading.proofs.PlanFacts.{no_pbkdf2}
 use Rattle.luks_reading.specs.Plans.{kind_text, HasLuks2Plan, IsLuks2Cipher, IsLuks2Derivation, IsLuks2Digest, IsLuks2Plan}
-use Rattle.luks_reading.specs.declared.report.Data.{Data}
 use Rattle.luks_reading.specs.declared.report.Data.TheVariants.{Here}
 use Rattle.luks_making.specs.declared.derivation.NewDerivation.{NewDerivation}
 use Rattle.luks_formatting.specs.Deriving.{slot_derivation, IsArgon2Plan, IsDerivedBy}
-use Rattle.luks_formatting.specs.NewHeader2.{area2, first_slot_by, formatted_by, new_members, new_metadata, segment_start, FitsMetadataBy, IsNewCipher2}
+use Rattle.luks_formatting.specs.NewHeader2.{area2, first_slot_by, formatted_by, new_members, new_metadata, segment_start, FitsMetadataAs, IsNewCipher2}
 use Rattle.luks_formatting.specs.NewPlan.{key_digest, IsNewDigest, IsNewPlanBy}
 use Rattle.luks_formatting.specs.RandomBytes.{digest_salt, slot_place2, slot_salt}
+use Rattle.luks_formatting.specs.Given.{IsSound2}
+use Rattle.luks_formatting.specs.declared.given.Given.{Given}
+use Rattle.luks_formatting.proofs.GivenFacts.{placed2}
 use Rattle.luks_formatting.proofs.Formatted1Facts.{area_is}
 use Rattle.luks_formatting.proofs.MetadataFacts.{can_format, digest_at, keyslots_say, length-digest_salt, no_some, segment_at, slot_at, slot_fits, some_same}
 
@@ -58,13 +60,13 @@ abbrev Bounds : ℕ → AreaName → Area → Type 0
 Bounds total Head1 a = (a.start ≡ 0) × (a.len ≡ 16384)
 Bounds total Head2 a = (a.start ≡ 16384) × (a.len ≡ 16384)
 Bounds total (SlotName n) a = (n ≡ 0) × (a.start ≡ 32768) × (a.len ≡ 258048)
-Bounds total (Segment n) a = (n ≡ 0) × (a.start ≡ 16777216) × (a.len ≡ total - a.start)
+Bounds total (Segment n) a = (n ≡ 0) × (16777216 ≤ a.start) × (a.start ≤ total) × (a.len ≡ total - a.start)
 
 bounds_inside : (total : ℕ) → 16777216 ≤ total → (n : AreaName) (a : Area) → Bounds total n a → IsInside a total
 bounds_inside total large Head1 a at = let start = at.0 in let len = at.1 in omega (arith, start, len, large)
 bounds_inside total large Head2 a at = let start = at.0 in let len = at.1 in omega (arith, start, len, large)
 bounds_inside total large (SlotName n) a at = let start = at.1 in let len = at.2 in omega (arith, start, len, large)
-bounds_inside total large (Segment n) a at = let start = at.1 in let len = at.2 in omega (arith, start, len, large)
+bounds_inside total large (Segment n) a at = let start = at.2 in let len = at.3 in omega (arith, start, len)
 
 -- an area that ends where another begins, or before
 apart : (a b : Area) (p : ℕ) → a.start + a.len ≤ b.start → LiesIn p a → LiesIn p b → ⊥
@@ -158,81 +160,95 @@ tells_derivation (by_pbkdf2 h n) k salt says salted d is = tells_pbkdf2 k salt s
 tells_derivation (by_argon2i costs) k salt says salted d is = tells_argon2 k salt salted I costs says d is
 tells_derivation (by_argon2id costs) k salt says salted d is = tells_argon2 k salt salted Id costs says d is
 
-module _ (payload : Data) (format : Format) (chosen : Option NewDerivation) (random : List ℕ) (some : 1 ≤ format.iterations) (long : 272 ≤ length random) (fits : FitsMetadataBy payload format chosen random) where
-  can : CanFormat (new_members payload format random)
-  can = can_format payload format random some long fits.digest_length
+module _ (given : Given) (format : Format) (chosen : Option NewDerivation) (random : List ℕ) (some : 1 ≤ format.iterations) (long : 272 ≤ length random) (fits : FitsMetadataAs given format chosen random) where
+  can : CanFormat (new_members given format random)
+  can = can_format given format random some long fits.digest_length
 
-  slot_says : SaysMembers (first_slot_by (slot_derivation format chosen) (new_members payload format random)) (slot_value (first_slot_by (slot_derivation format chosen) (new_members payload format random)))
-  slot_says = says_members (first_slot_by (slot_derivation format chosen) (new_members payload format random)) (slot_fits (slot_derivation format chosen) (new_members payload format random) fits.fits can fits.derivation)
+  slot_says : SaysMembers (first_slot_by (slot_derivation format chosen) (new_members given format random)) (slot_value (first_slot_by (slot_derivation format chosen) (new_members given format random)))
+  slot_says = says_members (first_slot_by (slot_derivation format chosen) (new_members given format random)) (slot_fits (slot_derivation format chosen) (new_members given format random) fits.fits can fits.derivation)
 
   -- ---- the areas of the metadata
-  slot_bounds : (total n : ℕ) (a : Area) → n < 32 → slot_number (new_metadata payload format chosen random) n (codes "offset") ≡ Some a.start
-      → slot_number (new_metadata payload format chosen random) n (codes "size") ≡ Some a.len → Bounds total (SlotName n) a
+  slot_bounds : (total n : ℕ) (a : Area) → n < 32 → slot_number (new_metadata given format chosen random) n (codes "offset") ≡ Some a.start
+      → slot_number (new_metadata given format chosen random) n (codes "size") ≡ Some a.len → Bounds total (SlotName n) a
   slot_bounds total n a small start len =
-      let j : Value = new_metadata payload format chosen random in
+      let j : Value = new_metadata given format chosen random in
       elim (cases_eq n 0) [
         | inl zero ↦ (
             let first : slot_number j 0 (codes "offset") ≡ Some a.start = subst (λ (m : ℕ). slot_number j m (codes "offset") ≡ Some a.start) zero start in
             let second : slot_number j 0 (codes "size") ≡ Some a.len = subst (λ (m : ℕ). slot_number j m (codes "size") ≡ Some a.len) zero len in
             (zero, some_same a.start 32768 (sym first ∙ decimal_is 32768 (lit< tt)), some_same a.len 258048 (sym second ∙ decimal_is 258048 (lit< tt))))
         | inr other ↦ (
-            let none : object_at j Keyslots n ≡ None = none_else (slot_value (first_slot_by (slot_derivation format chosen) (new_members payload format random))) n other in
+            let none : object_at j Keyslots n ≡ None = none_else (slot_value (first_slot_by (slot_derivation format chosen) (new_members given format random))) n other in
             absurd (no_some a.start (sym (ap (λ o. decimal_in (option_and_then (get (codes "offset")) (option_and_then (get (codes "area")) o))) none) ∙ start)))
       ]
 
-  segment_bounds : (total n : ℕ) (a : Area) → n < 32 → payload ≡ Here → segment_offset (new_metadata payload format chosen random) n ≡ Some a.start
-      → HasExtent total a.start a.len (segment_extent (new_metadata payload format chosen random) n) → Bounds total (Segment n) a
-  segment_bounds total n a small here start extent =
-      let j : Value = new_metadata payload format chosen random in
+  -- where the segment begins
+  segment_from : (total : ℕ) → IsSound2 given total → 16777216 ≤ total → given.payload ≡ Here → (16777216 ≤ segment_start given) × (segment_start given ≤ total)
+  segment_from total sound large here =
+      let behind = placed2 given total sound large here in
+      let low = behind.low in
+      (omega (arith, low), behind.inside)
+
+  segment_bounds : (total n : ℕ) (a : Area) → IsSound2 given total → 16777216 ≤ total → n < 32 → given.payload ≡ Here
+      → segment_offset (new_metadata given format chosen random) n ≡ Some a.start
+      → HasExtent total a.start a.len (segment_extent (new_metadata given format chosen random) n) → Bounds total (Segment n) a
+  segment_bounds total n a sound large small here start extent =
+      let j : Value = new_metadata given format chosen random in
       elim (cases_eq n 0) [
         | inl zero ↦ (
             let first : segment_offset j 0 ≡ Some a.start = subst (λ (m : ℕ). segment_offset j m ≡ Some a.start) zero start in
             let last : HasExtent total a.start a.len (segment_extent j 0) = subst (λ (m : ℕ). HasExtent total a.start a.len (segment_extent j m)) zero extent in
-            (zero, some_same a.start (segment_start payload) (sym first ∙ decimal_is (segment_start payload) fits.fits.segment_offset) ∙ ap segment_start here, last))
+            let from = segment_from total sound large here in
+            let is : a.start ≡ segment_start given = some_same a.start (segment_start given) (sym first ∙ decimal_is (segment_start given) fits.fits.segment_offset) in
+            let low = from.0 in
+            let inside = from.1 in
+            (zero, omega (arith, is, low), omega (arith, is, inside), last))
         | inr other ↦ (
-            let none : object_at j Segments n ≡ None = none_else (segment_value (new_members payload format random)) n other in
+            let none : object_at j Segments n ≡ None = none_else (segment_value (new_members given format random)) n other in
             absurd (no_some a.start (sym (ap (λ o. decimal_in (option_and_then (get (codes "offset")) o)) none) ∙ start)))
       ]
 
-  bounds : (total h : ℕ) → h ≡ 16384 → (n : AreaName) (a : Area) → Luks2Area (new_metadata payload format chosen random) h payload total n a → Bounds total n a
-  bounds total h size Head1 a at = (at.0, at.1 ∙ size)
-  bounds total h size Head2 a at = (at.0 ∙ size, at.1 ∙ size)
-  bounds total h size (SlotName n) a at = slot_bounds total n a at.0 at.1 at.2
-  bounds total h size (Segment n) a at = segment_bounds total n a at.0 at.1 at.2 at.3
+  bounds : (total h : ℕ) → h ≡ 16384 → IsSound2 given total → 16777216 ≤ total → (n : AreaName) (a : Area)
+      → Luks2Area (new_metadata given format chosen random) h given.payload total n a → Bounds total n a
+  bounds total h size sound large Head1 a at = (at.0, at.1 ∙ size)
+  bounds total h size sound large Head2 a at = (at.0 ∙ size, at.1 ∙ size)
+  bounds total h size sound large (SlotName n) a at = slot_bounds total n a at.0 at.1 at.2
+  bounds total h size sound large (Segment n) a at = segment_bounds total n a sound large at.0 at.1 at.2 at.3
 
-  pub fit : (total h : ℕ) → h ≡ 16384 → 16777216 ≤ total → Fit (Luks2Area (new_metadata payload format chosen random) h payload total) total
-  fit total h size large = record {
-    inside = λ n a at. bounds_inside total large n a (bounds total h size n a at);
-    disjoint = λ m n a b x y other. bounds_apart total m n a b (bounds total h size m a x) (bounds total h size n b y) other;
+  pub fit : (total h : ℕ) → h ≡ 16384 → IsSound2 given total → 16777216 ≤ total → Fit (Luks2Area (new_metadata given format chosen random) h given.payload total) total
+  fit total h size sound large = record {
+    inside = λ n a at. bounds_inside total large n a (bounds total h size sound large n a at);
+    disjoint = λ m n a b x y other. bounds_apart total m n a b (bounds total h size sound large m a x) (bounds total h size sound large n b y) other;
   }
 
-  pub segments : payload ≡ Here → SegmentsFollow 12288 (new_metadata payload format chosen random)
-  segments here = record {
+  pub segments : (total : ℕ) → IsSound2 given total → 16777216 ≤ total → given.payload ≡ Here → SegmentsFollow 12288 (new_metadata given format chosen random)
+  segments total sound large here = record {
     each = λ n d bytes start held region offset.
-        let v : VolumeMembers = new_members payload format random in
+        let v : VolumeMembers = new_members given format random in
         let is : segment_value v ≡ d = (segment_at (slot_derivation format chosen) v n d held.is).1 in
         let at : decimal_in (inside_at outer.Top (codes "offset") (segment_value v)) ≡ Some start = subst (λ (o : Value). decimal_in (inside_at outer.Top (codes "offset") o) ≡ Some start) (sym is) offset in
-        let from : start ≡ 16777216 = some_same start (segment_start payload) (sym at ∙ decimal_is (segment_start payload) fits.fits.segment_offset) ∙ ap segment_start here in
+        let from : start ≡ segment_start given = some_same start (segment_start given) (sym at ∙ decimal_is (segment_start given) fits.fits.segment_offset) in
         let size : bytes ≡ 16744448 = some_same bytes 16744448 (sym region ∙ keyslots_say (slot_derivation format chosen) v) in
-        omega (arith, from, size);
+        let low = (segment_from total sound large here).0 in
+        omega (arith, from, size, low);
   }
 
   -- ---- the plans of keyslot 0
-  pub derivation_is : (d : Derivation) → IsLuks2Derivation (slot_value (first_slot_by (slot_derivation format chosen) (new_members payload format random))) d
+  pub derivation_is : (d : Derivation) → IsLuks2Derivation (slot_value (first_slot_by (slot_derivation format chosen) (new_members given format random))) d
       → IsDerivedBy (slot_derivation format chosen) (slot_salt slot_place2 random) d
-  derivation_is d is = told_derivation (slot_derivation format chosen) (slot_value (first_slot_by (slot_derivation format chosen) (new_members payload format random)))
+  derivation_is d is = told_derivation (slot_derivation format chosen) (slot_value (first_slot_by (slot_derivation format chosen) (new_members given format random)))
       (slot_salt slot_place2 random) slot_says.derivation slot_says.salt d is
 
   derivation_by : (d : Derivation) → IsDerivedBy (slot_derivation format chosen) (slot_salt slot_place2 random) d
-      → IsLuks2Derivation (slot_value (first_slot_by (slot_derivation format chosen) (new_members payload format random))) d
-  derivation_by d is = tells_derivation (slot_derivation format chosen) (slot_value (first_slot_by (slot_derivation format chosen) (new_members payload format random)))
+      → IsLuks2Derivation (slot_value (first_slot_by (slot_derivation format chosen) (new_members given format random))) d
+  derivation_by d is = tells_derivation (slot_derivation format chosen) (slot_value (first_slot_by (slot_derivation format chosen) (new_members given format random)))
       (slot_salt slot_place2 random) slot_says.derivation slot_says.salt d is
 
-  cipher_is : (cipher : AreaCipher) → IsLuks2Cipher (slot_value (first_slot_by (slot_derivation format chosen) (new_members payload format random))) cipher → IsNewCipher2 cipher
+  cipher_is : (cipher : AreaCipher) → IsLuks2Cipher (slot_value (first_slot_by (slot_derivation format chosen) (new_members given format random))) cipher → IsNewCipher2 cipher
   cipher_is (Apart name mode) is = absurd is
   cipher_is (Whole text) is = some_same text.now (codes "aes-xts-plain64") (sym is ∙ slot_says.encryption)
 
-  cipher_by : (cipher : AreaCipher) → IsNewCipher2 cipher → IsLuks2Cipher (slot_value (first_slot_by (slot_derivation format chosen) (new_members payload format random))) cipher
+  cipher_by : (cipher : AreaCipher) → IsNewCipher2 cipher → IsLuks2Cipher (slot_value (first_slot_by (slot_derivation format chosen) (new_members given format random))) cipher
   cipher_by (Apart name mode) is = absurd is
   cipher_by (Whole text) is = slot_says.encryption ∙ ap Some (sym is)
 
@@ -245,17 +261,17 @@ module _ (payload : Data) (format : Format) (chosen : Option NewDerivation) (ran
       let size = length-digest_salt random long in
       bytes_are 1 128 (digest_salt random) (lit≤ tt) fits.fits.digest_salt (record { from = omega (arith, size); to = omega (arith, size) })
 
-  digest_stored : bytes_in 20 64 (Some (string (base64_text (key_digest format random (digest_size_of format.hash))))) ≡ Some (key_digest format random (digest_size_of format.hash))
+  digest_stored : bytes_in 20 64 (Some (string (base64_text (key_digest given format random (digest_size_of format.hash))))) ≡ Some (key_digest given format random (digest_size_of format.hash))
   digest_stored =
       let size = fits.digest_length in
       let low = can.digest.from in
       let high = can.digest.to in
-      bytes_are 20 64 (key_digest format random (digest_size_of format.hash)) (lit≤ tt) fits.fits.digest (record { from = low; to = high })
+      bytes_are 20 64 (key_digest given format random (digest_size_of format.hash)) (lit≤ tt) fits.fits.digest (record { from = low; to = high })
 
-  digest_is : (digest : DigestPlan) → IsLuks2Digest (new_metadata payload format chosen random) 0 digest
-      → IsNewDigest format (digest_salt random) (key_digest format random (digest_size_of format.hash)) digest
+  digest_is : (digest : DigestPlan) → IsLuks2Digest (new_metadata given format chosen random) 0 digest
+      → IsNewDigest format (digest_salt random) (key_digest given format random (digest_size_of format.hash)) digest
   digest_is digest y =
-      let v : VolumeMembers = new_members payload format random in
+      let v : VolumeMembers = new_members given format random in
       let is : digest_value v ≡ y.object = (digest_at (slot_derivation format chosen) v y.number y.object y.there).1 in
       let d : Value = digest_value v in
       let hash : text_of (member_at d outer.Top name.Hash) ≡ Some digest.hash.now = subst (λ (o : Value). text_of (member_at o outer.Top name.Hash) ≡ Some digest.hash.now) (sym is) y.hash in
@@ -266,15 +282,15 @@ module _ (payload : Data) (format : Format) (chosen : Option NewDerivation) (ran
         hash = some_same digest.hash.now (name_of format.hash) (sym hash);
         iterations = some_same digest.iterations format.iterations (sym turns ∙ digest_iterations);
         own_salt = some_same digest.salt.now (digest_salt random) (sym salt ∙ digest_salt_says);
-        own_stored = some_same digest.stored.now (key_digest format random (digest_size_of format.hash)) (sym stored ∙ digest_stored);
+        own_stored = some_same digest.stored.now (key_digest given format random (digest_size_of format.hash)) (sym stored ∙ digest_stored);
       }
 
   -- a plan that the metadata gives is the one that was sealed by
-  pub plan_is : (json : List ℕ) → Json json (new_metadata payload format chosen random)
+  pub plan_is : (json : List ℕ) → Json json (new_metadata given format chosen random)
       → (plan : SlotPlan) → HasLuks2Plan json 0 plan
-      → IsNewPlanBy (slot_derivation format chosen) format (slot_salt slot_place2 random) area2 (digest_salt random) (key_digest format random (digest_size_of format.hash)) plan × IsNewCipher2 plan.cipher
+      → IsNewPlanBy (slot_derivation format chosen) format (slot_salt slot_place2 random) area2 (digest_salt random) (key_digest given format random (digest_size_of format.hash)) plan × IsNewCipher2 plan.cipher
   plan_is json holds plan y =
-      let v : VolumeMembers = new_members payload format random in
+      let v : VolumeMembers = new_members given format random in
       let same : y.value ≡ formatted_by (slot_derivation format chosen) v = one_value json y.value (formatted_by (slot_derivation format chosen) v) y.holds holds in
       let there : object_at (formatted_by (slot_derivation format chosen) v) Keyslots 0 ≡ Some y.object = subst (λ (k : Value). object_at k Keyslots 0 ≡ Some y.object) same y.there in
       let object_is : slot_value (first_slot_by (slot_derivation format chosen) v) ≡ y.object = (slot_at (slot_derivation format chosen) v 0 y.object there).1 in
@@ -292,11 +308,11 @@ module _ (payload : Data) (format : Format) (chosen : Option NewDerivation) (ran
         cipher_is plan.cipher is.cipher,
       )
 
-  pub plan_by : (json : List ℕ) → Json json (new_metadata payload format chosen random) → (plan : SlotPlan)
-      → IsNewPlanBy (slot_derivation format chosen) format (slot_salt slot_place2 random) area2 (digest_salt random) (key_digest format random (digest_size_of format.hash)) plan → IsNewCipher2 plan.cipher
+  pub plan_by : (json : List ℕ) → Json json (new_metadata given format chosen random) → (plan : SlotPlan)
+      → IsNewPlanBy (slot_derivation format chosen) format (slot_salt slot_place2 random) area2 (digest_salt random) (key_digest given format random (digest_size_of format.hash)) plan → IsNewCipher2 plan.cipher
       → HasLuks2Plan json 0 plan
   plan_by json holds plan is cipher =
-      let v : VolumeMembers = new_members payload format random in
+      let v : VolumeMembers = new_members given format random in
       record {
         numbered = lit< tt;
         value = formatted_by (slot_derivation format chosen) v;

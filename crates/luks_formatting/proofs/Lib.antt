@@ -1,4 +1,5 @@
 mod AheadFacts
+pub mod GivenFacts
 pub mod NewPlanFacts
 pub mod NewHeader1Facts
 pub mod Formatted1Facts

@@ -25,7 +25,7 @@ use Rattle.luks_making.specs.declared.derivation.Argon2Costs.{Argon2Costs}
 use Rattle.luks_making.proofs.AdditionFacts.{held_with}
 use Rattle.luks_making.proofs.NewVolumeFacts.{digest_with, held_bare, none_else, shape}
 use Rattle.luks_making.proofs.ReadingFacts.{decimal_is}
-use Rattle.luks_reading.specs.declared.report.Data.{Data}
+use Rattle.luks_formatting.specs.declared.given.Given.{Given}
 use Rattle.luks_reading.specs.declared.format.Format.{Format}
 use Rattle.luks_making.specs.declared.derivation.NewDerivation.{NewDerivation}
 use Rattle.luks_making.specs.declared.derivation.NewDerivation.TheVariants as by
@@ -48,9 +48,9 @@ pub length-slot_salt : (random : List ℕ) → 272 ≤ length random → length 
 length-slot_salt random long = length-part_inside random 240 32 (omega (arith, long))
 
 -- what is said may stand there
-pub can_format : (payload : Data) (format : Format) (random : List ℕ) → 1 ≤ format.iterations → 272 ≤ length random
-    → length (key_digest format random (digest_size_of format.hash)) ≡ digest_size_of format.hash → CanFormat (new_members payload format random)
-can_format payload format random some long digest =
+pub can_format : (given : Given) (format : Format) (random : List ℕ) → 1 ≤ format.iterations → 272 ≤ length random
+    → length (key_digest given format random (digest_size_of format.hash)) ≡ digest_size_of format.hash → CanFormat (new_members given format random)
+can_format given format random some long digest =
     let first = length-digest_salt random long in
     let slot = length-slot_salt random long in
     let sizes = digest_sizes format.hash in

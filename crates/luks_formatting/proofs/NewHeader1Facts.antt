@@ -15,13 +15,13 @@ use Rattle.luks1_header.specs.declared.fault.TextField.TheVariants as field
 use Rattle.luks1_header.specs.declared.luks1.Luks1.{Luks1}
 use Rattle.luks1_header.specs.declared.luks1.Luks1Slot.{Luks1Slot}
 use Rattle.luks_reading.specs.Layout1.{Luks1Area}
-use Rattle.luks_reading.specs.declared.report.Data.{Data}
 use Rattle.luks_reading.specs.declared.report.Data.TheVariants.{Here}
 use Rattle.luks_reading.specs.declared.format.Format.{Format}
-use Rattle.luks2_header.specs.NewUuid.{uuid_text}
 use Rattle.luks2_header.proofs.UuidFacts as Uuid
 use Rattle.luks_formatting.specs.NewHeader1.{free_slot, material_sector, new_slot, payload_sector, IsNewHeader1}
-use Rattle.luks_formatting.specs.RandomBytes.{uuid_bytes}
+use Rattle.luks_formatting.specs.Given.{uuid_of, IsSound1}
+use Rattle.luks_formatting.specs.declared.given.Given.{Given}
+use Rattle.luks_formatting.proofs.GivenFacts.{placed1, uuid_is}
 use Rattle.luks_formatting.proofs.NewPlanFacts.{name_plain, name_whole}
 
 -- what every keyslot of a new volume says
@@ -41,13 +41,13 @@ slot_iterations format random n some on = elim (cases_Bool (n == 0)) [
   | inr free ↦ (let other : 0x0000DEAD ≡ 0x00AC71F3 = rw free at on in absurd (omega (arith, other)))
 ]
 
-module _ (payload : Data) (format : Format) (random h : List ℕ) (d : Luks1) (new : IsNewHeader1 payload format random d) (put : WritesLuks1 h d) where
+module _ (given : Given) (format : Format) (random h : List ℕ) (d : Luks1) (new : IsNewHeader1 given format random d) (put : WritesLuks1 h d) (own : IsUuid (uuid_of given random)) where
   whole : (t : TextField) → IsWhole (common_text d.common t)
   whole t = let W : List ℕ → Type 0 = λ text. text_of text ≡ text in elim t as (λ u. IsWhole (common_text d.common u)) [
     | field.CipherName ↦ subst W (sym new.common.cipher_name) refl
     | field.CipherMode ↦ subst W (sym new.common.cipher_mode) refl
     | field.HashSpec ↦ subst W (sym new.common.hash_spec) (name_whole format.hash)
-    | field.Uuid ↦ subst W (sym new.common.uuid) (Uuid.whole (uuid_text (uuid_bytes random)) (Uuid.uuid_text-is (uuid_bytes random)))
+    | field.Uuid ↦ subst W (sym new.common.uuid) (Uuid.whole (uuid_of given random) own)
   ]
 
   pub fields : HoldsCommon h d.common
@@ -58,7 +58,7 @@ module _ (payload : Data) (format : Format) (random h : List ℕ) (d : Luks1) (n
     | field.CipherName ↦ subst P (sym (fields.cipher_name ∙ new.common.cipher_name)) refl
     | field.CipherMode ↦ subst P (sym (fields.cipher_mode ∙ new.common.cipher_mode)) refl
     | field.HashSpec ↦ subst P (sym (fields.hash_spec ∙ new.common.hash_spec)) (name_plain format.hash)
-    | field.Uuid ↦ subst P (sym (fields.uuid ∙ new.common.uuid)) (Uuid.plain (uuid_text (uuid_bytes random)) (Uuid.uuid_text-is (uuid_bytes random)))
+    | field.Uuid ↦ subst P (sym (fields.uuid ∙ new.common.uuid)) (Uuid.plain (uuid_of given random) own)
   ]
 
   pub common : 1 ≤ format.iterations → IsCommon h d.common
@@ -70,7 +70,7 @@ module _ (payload : Data) (format : Format) (random h : List ℕ) (d : Luks1) (n
         version = put.common.version;
         fields = fields;
         texts = plain;
-        uuid = subst IsUuid (sym (fields.uuid ∙ new.common.uuid)) (Uuid.uuid_text-is (uuid_bytes random));
+        uuid = subst IsUuid (sym (fields.uuid ∙ new.common.uuid)) own;
         key_at_least = omega (arith, key);
         key_at_most = omega (arith, key);
         digest_iterated = omega (arith, turns, some);
@@ -110,20 +110,20 @@ module _ (payload : Data) (format : Format) (random h : List ℕ) (d : Luks1) (n
   pub slot_len : (n : ℕ) → n < 8 → rounded_to_sectors (number_at h 108 4 * entry_stripes (entry h n)) ≡ 256000
   slot_len n lt = ap (λ k. rounded_to_sectors (k * entry_stripes (entry h n))) key_size ∙ ap (λ s. rounded_to_sectors (64 * s)) (stripes_at n lt)
 
-  segment_start : payload ≡ Here → number_at h 104 4 ≡ 4096
-  segment_start here = fields.payload_offset ∙ new.common.payload_offset ∙ ap payload_sector here
+  segment_start : number_at h 104 4 ≡ payload_sector given
+  segment_start = fields.payload_offset ∙ new.common.payload_offset
 
 abbrev Bounds : ℕ → AreaName → Area → Type 0
 Bounds total Head1 a = (a.start ≡ 0) × (a.len ≡ 592)
 Bounds total Head2 a = ⊥
 Bounds total (Slot n) a = (n < 8) × (a.start ≡ (8 + 504 * n) * 512) × (a.len ≡ 256000)
-Bounds total (Segment n) a = (n ≡ 0) × (a.start ≡ 2097152) × (a.len ≡ total - a.start)
+Bounds total (Segment n) a = (n ≡ 0) × (2066432 ≤ a.start) × (a.start ≤ total) × (a.len ≡ total - a.start)
 
 bounds_inside : (total : ℕ) → 2097152 ≤ total → (n : AreaName) (a : Area) → Bounds total n a → IsInside a total
 bounds_inside total large Head1 a at = let start = at.0 in let len = at.1 in omega (arith, start, len, large)
 bounds_inside total large Head2 a at = absurd at
 bounds_inside total large (Slot n) a at = let lt = at.0 in let start = at.1 in let len = at.2 in omega (arith, lt, start, len, large)
-bounds_inside total large (Segment n) a at = let start = at.1 in let len = at.2 in omega (arith, start, len, large)
+bounds_inside total large (Segment n) a at = let start = at.2 in let len = at.3 in omega (arith, start, len)
 
 bounds_apart : (total : ℕ) (m n : AreaName) (a b : Area) → Bounds total m a → Bounds total n b → m ≢ n → (p : ℕ) → LiesIn p a → LiesIn p b → ⊥
 bounds_apart total Head2 n a b x y other p here there = absurd x
@@ -150,15 +150,24 @@ bounds_apart total (Segment m) (Slot n) a b x y other p here there =
     let lt = y.0 in let s = y.1 in let l = y.2 in let t = x.1 in let high = there.1 in let low = here.0 in absurd (omega (arith, lt, s, l, t, high, low))
 bounds_apart total (Segment m) (Segment n) a b x y other p here there = other (ap Segment (x.0 ∙ sym y.0))
 
-module _ (payload : Data) (format : Format) (random h : List ℕ) (d : Luks1) (new : IsNewHeader1 payload format random d) (put : WritesLuks1 h d) (total : ℕ) where
-  bounds : (n : AreaName) (a : Area) → Luks1Area h payload total n a → Bounds total n a
+module _ (given : Given) (format : Format) (random h : List ℕ) (d : Luks1) (new : IsNewHeader1 given format random d) (put : WritesLuks1 h d) (total : ℕ)
+    (sound : IsSound1 given total) (large : 2097152 ≤ total) where
+  own : IsUuid (uuid_of given random)
+  own = uuid_is given random sound.uuid
+
+  bounds : (n : AreaName) (a : Area) → Luks1Area h given.payload total n a → Bounds total n a
   bounds Head1 a at = at
   bounds Head2 a at = at
-  bounds (Slot n) a at = (at.0, at.1 ∙ ap (λ s. s * 512) (slot_start payload format random h d new put n at.0), at.2 ∙ slot_len payload format random h d new put n at.0)
-  bounds (Segment n) a at = (at.0, at.2 ∙ ap (λ s. s * 512) (segment_start payload format random h d new put at.1), at.3)
+  bounds (Slot n) a at = (at.0, at.1 ∙ ap (λ s. s * 512) (slot_start given format random h d new put own n at.0), at.2 ∙ slot_len given format random h d new put own n at.0)
+  bounds (Segment n) a at =
+      let behind = placed1 given total sound large at.1 in
+      let start : a.start ≡ payload_sector given * 512 = at.2 ∙ ap (λ s. s * 512) (segment_start given format random h d new put own) in
+      let low = behind.low in
+      let inside = behind.inside in
+      (at.0, omega (arith, start, low), omega (arith, start, inside), at.3)
 
-  pub fit : 2097152 ≤ total → Fit (Luks1Area h payload total) total
-  fit large = record {
+  pub fit : Fit (Luks1Area h given.payload total) total
+  fit = record {
     inside = λ n a at. bounds_inside total large n a (bounds n a at);
     disjoint = λ m n a b x y other. bounds_apart total m n a b (bounds m a x) (bounds n b y) other;
   }

@@ -31,7 +31,9 @@ use Rattle.luks_making.specs.declared.derivation.NewDerivation.TheVariants as by
 use Rattle.luks_making.specs.Derivations.{costs_beyond, memory_by, takes_memory, IsMakeable}
 use Rattle.luks_formatting.specs.Deriving.{slot_derivation, IsArgon2Plan, IsDerivedBy}
 use Rattle.luks_formatting.specs.NewPlan.{key_digest, IsNewDerivation, IsNewDigest, IsNewPlan, IsNewPlanBy, IsSealable, IsSealableWithin}
-use Rattle.luks_formatting.specs.RandomBytes.{digest_salt, volume_key}
+use Rattle.luks_formatting.specs.RandomBytes.{digest_salt}
+use Rattle.luks_formatting.specs.Given.{key_of}
+use Rattle.luks_formatting.specs.declared.given.Given.{Given}
 
 -- the names of the hashes
 pub by_name : (hash : HashName) → hash_by_name (name_of hash) ≡ Standard hash
@@ -209,10 +211,10 @@ module _ (format : Format) (chosen : Option NewDerivation) (salt : List ℕ) (ar
   }
 
 -- the digest that was made of the key is met by it
-pub key_meets : (format : Format) (random : List ℕ) (len : ℕ) (digest : DigestPlan) → IsNewDigest format (digest_salt random) (key_digest format random len) digest
-    → length (key_digest format random len) ≡ len → meets_digest digest (volume_key random) ≡ true
+pub key_meets : (given : Given) (format : Format) (random : List ℕ) (len : ℕ) (digest : DigestPlan) → IsNewDigest format (digest_salt random) (key_digest given format random len) digest
+    → length (key_digest given format random len) ≡ len → meets_digest digest (key_of given random) ≡ true
 unfolding meets_digest
-key_meets format random len digest new long =
-    let made : derived (name_of format.hash) (volume_key random) (digest_salt random) format.iterations len ≡ key_digest format random len =
-    ap (λ (h : KeyslotHash). pbkdf2 (keyslot_digest h) (keyslot_block_size h) (volume_key random) (digest_salt random) format.iterations len) (by_name format.hash) in
-    rw (new.hash, new.own_salt, new.iterations, new.own_stored, long, made) ((bytes_eq-Decides (key_digest format random len) (key_digest format random len)).1 refl)
+key_meets given format random len digest new long =
+    let made : derived (name_of format.hash) (key_of given random) (digest_salt random) format.iterations len ≡ key_digest given format random len =
+    ap (λ (h : KeyslotHash). pbkdf2 (keyslot_digest h) (keyslot_block_size h) (key_of given random) (digest_salt random) format.iterations len) (by_name format.hash) in
+    rw (new.hash, new.own_salt, new.iterations, new.own_stored, long, made) ((bytes_eq-Decides (key_digest given format random len) (key_digest given format random len)).1 refl)

@@ -3,7 +3,7 @@ use Rattle.std.proofs.Common.{◌≡◌, ℕ, ◌+◌, ◌*◌, ◌≤◌, List,
 use Rattle.luks_area.specs.Ranges.{part, written, IsAt, SameBut, SameOutside}
 use Rattle.luks_area.proofs.RangeFacts.{part-same_but_at, part-written, same_but-same_outside, same_but-then, same_but-wider}
 use Rattle.luks_area.specs.declared.area.Area.{Area}
-use Rattle.luks1_header.specs.Bytes.{text_at}
+use Rattle.luks1_header.specs.Bytes.{text_at, IsUuid}
 use Rattle.luks1_header.specs.Header1.{entry, entry_iterations}
 use Rattle.luks1_header.specs.Written.{WritesLuks1}
 use Rattle.luks1_header.specs.declared.luks1.Luks1.{Luks1}
@@ -18,12 +18,13 @@ use Rattle.luks_slot.specs.declared.plan.Derivation.{Derivation}
 use Rattle.luks_slot.specs.declared.plan.Derivation.TheVariants.{Pbkdf2, Argon2}
 use Rattle.luks_slot.specs.declared.plan.SlotPlan.{SlotPlan}
 use Rattle.luks_reading.specs.Plans.{HasLuks1Plan, IsLuks1Cipher, IsLuks1Derivation}
-use Rattle.luks_reading.specs.declared.report.Data.{Data}
 use Rattle.luks_reading.specs.declared.format.Format.{Format}
-use Rattle.luks_formatting.specs.Formatted1.{ClearsFirst1, IsFormatted1, IsOfLuks1, WritesInTurn1}
+use Rattle.luks_formatting.specs.Formatted1.{ClearsFirst1As, IsFormatted1As, IsOfLuks1, WritesInTurn1}
 use Rattle.luks_formatting.specs.NewHeader1.{area1, IsNewCipher1, IsNewHeader1}
 use Rattle.luks_formatting.specs.NewPlan.{key_digest, HoldsKey, IsNewDerivation, IsNewPlan}
-use Rattle.luks_formatting.specs.RandomBytes.{digest_salt, random_stripes, slot_place1, slot_salt, volume_key}
+use Rattle.luks_formatting.specs.RandomBytes.{digest_salt, random_stripes, slot_place1, slot_salt}
+use Rattle.luks_formatting.specs.Given.{key_of, uuid_of, IsBefore}
+use Rattle.luks_formatting.specs.declared.given.Given.{Given}
 use Rattle.luks_formatting.proofs.NewHeader1Facts.{fields, holds, key_size, slot_len, slot_start, stripes_at}
 
 -- the key area alone
@@ -47,25 +48,25 @@ cipher_by : (h : List ℕ) (cipher : AreaCipher) → text_at h 8 32 ≡ codes "a
 cipher_by h (Apart name mode) is_name is_mode is = (is.0 ∙ sym is_name, is.1 ∙ sym is_mode)
 cipher_by h (Whole text) is_name is_mode is = absurd is
 
-module _ (payload : Data) (format : Format) (random h : List ℕ) (d : Luks1) (new : IsNewHeader1 payload format random d) (put : WritesLuks1 h d) where
+module _ (given : Given) (format : Format) (random h : List ℕ) (d : Luks1) (new : IsNewHeader1 given format random d) (put : WritesLuks1 h d) (own : IsUuid (uuid_of given random)) where
   -- the plan that was sealed by is that of the header's keyslot 0
-  pub has_plan : (plan : SlotPlan) → IsNewPlan format (slot_salt slot_place1 random) area1 (digest_salt random) (key_digest format random 20) plan → IsNewCipher1 plan.cipher
+  pub has_plan : (plan : SlotPlan) → IsNewPlan format (slot_salt slot_place1 random) area1 (digest_salt random) (key_digest given format random 20) plan → IsNewCipher1 plan.cipher
       → HasLuks1Plan h 0 plan
   has_plan plan is cipher =
-      let common_is = fields payload format random h d new put in
-      let entry_is = holds payload format random h d new put 0 (lit< tt) in
+      let common_is = fields given format random h d new put own in
+      let entry_is = holds given format random h d new put own 0 (lit< tt) in
       let hash : text_at h 72 32 ≡ name_of format.hash = common_is.hash_spec ∙ new.common.hash_spec in
-      let key = key_size payload format random h d new put in
+      let key = key_size given format random h d new put own in
       record {
         numbered = lit< tt;
         is = record {
           derivation = derivation_by h (entry h 0) format (slot_salt slot_place1 random) plan.derivation hash entry_is.iterations entry_is.salt is.derivation;
           cipher = cipher_by h plan.cipher (common_is.cipher_name ∙ new.common.cipher_name) (common_is.cipher_mode ∙ new.common.cipher_mode) cipher;
-          start = ap (λ (a : Area). a.start) is.area ∙ sym (ap (λ s. s * 512) (slot_start payload format random h d new put 0 (lit< tt)));
-          len = ap (λ (a : Area). a.len) is.area ∙ sym (slot_len payload format random h d new put 0 (lit< tt));
+          start = ap (λ (a : Area). a.start) is.area ∙ sym (ap (λ s. s * 512) (slot_start given format random h d new put own 0 (lit< tt)));
+          len = ap (λ (a : Area). a.len) is.area ∙ sym (slot_len given format random h d new put own 0 (lit< tt));
           area_key_bytes = is.area_key_bytes ∙ sym key;
           key_bytes = is.key_bytes ∙ sym key;
-          stripes = is.stripes ∙ sym (stripes_at payload format random h d new put 0 (lit< tt));
+          stripes = is.stripes ∙ sym (stripes_at given format random h d new put own 0 (lit< tt));
           splitter_hash = is.splitter_hash ∙ sym hash;
           digest = record {
             hash = is.digest.hash ∙ sym hash;
@@ -82,11 +83,11 @@ module _ (payload : Data) (format : Format) (random h : List ℕ) (d : Luks1) (n
 pub first_waits : {u v : List ℕ} (area : Area) → area ≡ area1 → SameBut (IsAt area.start 256000) u v → part v 0 512 ≡ part u 0 512
 first_waits area is same = (let start = ap (λ (a : Area). a.start) is in part-same_but_at area.start 256000 0 512 same (inl (omega (arith, start))))
 
-module _ (payload : Data) (format : Format) (passphrase random v w bytes key stripes : List ℕ) (d : Luks1) (plan : SlotPlan)
-    (new : IsNewHeader1 payload format random d) (put : WritesLuks1 bytes d)
-    (is : IsNewPlan format (slot_salt slot_place1 random) area1 (digest_salt random) (key_digest format random 20) plan) (cipher : IsNewCipher1 plan.cipher)
+module _ (given : Given) (format : Format) (passphrase random v w bytes key stripes : List ℕ) (d : Luks1) (plan : SlotPlan)
+    (new : IsNewHeader1 given format random d) (put : WritesLuks1 bytes d) (own : IsUuid (uuid_of given random))
+    (is : IsNewPlan format (slot_salt slot_place1 random) area1 (digest_salt random) (key_digest given format random 20) plan) (cipher : IsNewCipher1 plan.cipher)
     (outside : SameOutside v w 0 (length bytes))
-    (is_key : key ≡ volume_key random) (are_stripes : stripes ≡ random_stripes slot_place1 random) (sealed : IsSealed plan (area_bytes v plan.area) passphrase key stripes) where
+    (is_key : key ≡ key_of given random) (are_stripes : stripes ≡ random_stripes slot_place1 random) (sealed : IsSealed plan (area_bytes v plan.area) passphrase key stripes) where
   area_kept : area_bytes w plan.area ≡ area_bytes v plan.area
   area_kept =
       let behind : SameBut (IsAt 0 592) v w = subst (λ (m : ℕ). SameBut (IsAt 0 m) v w) put.long (same_but-same_outside outside) in
@@ -94,17 +95,17 @@ module _ (payload : Data) (format : Format) (passphrase random v w bytes key str
       part-same_but_at 0 592 plan.area.start plan.area.len behind (inr (omega (arith, start)))
 
   -- the keyslot, by the header's bytes
-  slot_by : (h : List ℕ) → WritesLuks1 h d → HoldsKey (HasLuks1Plan h 0) w passphrase (volume_key random) (random_stripes slot_place1 random)
+  slot_by : (h : List ℕ) → WritesLuks1 h d → HoldsKey (HasLuks1Plan h 0) w passphrase (key_of given random) (random_stripes slot_place1 random)
   slot_by h written = record {
     plan = plan;
-    is = has_plan payload format random h d new written plan is cipher;
+    is = has_plan given format random h d new written own plan is cipher;
     sealed = subst (λ (k : List ℕ). IsSealed plan (area_bytes w plan.area) passphrase k (random_stripes slot_place1 random)) is_key
         (subst (λ (r : List ℕ). IsSealed plan (area_bytes w plan.area) passphrase key r) are_stripes
         (subst (λ (a : List ℕ). IsSealed plan a passphrase key stripes) (sym area_kept) sealed));
   }
 
   -- the key area, while the header is written
-  pub area_stands : (u : List ℕ) → WritesInTurn1 payload format passphrase random u w
+  pub area_stands : (u : List ℕ) → WritesInTurn1 given format passphrase random u w
   area_stands u = inr (record { header = d; fields = new; bytes = bytes; written = put; slot = slot_by bytes put })
 
   -- the whole volume
@@ -117,7 +118,7 @@ module _ (payload : Data) (format : Format) (passphrase random v w bytes key str
     header_put : WritesLuks1 (part w 0 592) d
     header_put = subst (λ (b : List ℕ). WritesLuks1 b d) (sym there) put
 
-    pub formatted : IsFormatted1 payload format passphrase random u w
+    pub formatted : IsFormatted1As given format passphrase random u w
     formatted = record {
       header = d;
       fields = new;
@@ -141,25 +142,32 @@ cleared_rest same = same_but-wider sectors_there same
 pub over_rest : {t u w : List ℕ} → SameBut (IsOfFirstSectors 16384) t u → SameBut IsOfLuks1 u w → SameBut IsOfLuks1 t w
 over_rest cleared same = clearing_widens 16384 sectors_there cleared same
 
+-- all that may change lies before the payload
+pub before_payload : {t u : List ℕ} (n : ℕ) → 4036 ≤ n → SameBut IsOfLuks1 t u → SameBut (IsBefore (512 * n)) t u
+before_payload {t} {u} n low same = same_but-wider (λ p is. elim is [
+  | inl at ↦ (let high = at.1 in omega (arith, high, low))
+  | inr at ↦ (let high = at.1 in omega (arith, high, low))
+]) same
+
 -- clearing that failed keeps the order
-pub clearing_fails : (payload : Data) (format : Format) (passphrase random t u : List ℕ) → ClearsInTurn t u → ClearsFirst1 payload format passphrase random t u
-clearing_fails payload format passphrase random t u turn = elim turn [
+pub clearing_fails : (given : Given) (format : Format) (passphrase random t u : List ℕ) → ClearsInTurn t u → ClearsFirst1As given format passphrase random t u
+clearing_fails given format passphrase random t u turn = elim turn [
   | inl first ↦ inl first
   | inr cleared ↦ inr (inl cleared)
 ]
 
 -- the steps that follow the clearing keep its order
-pub over_order : (payload : Data) (format : Format) (passphrase random t u w : List ℕ) → AreCleared 16384 u
-    → WritesInTurn1 payload format passphrase random u w → ClearsFirst1 payload format passphrase random t w
-over_order payload format passphrase random t u w cleared turn = elim turn [
+pub over_order : (given : Given) (format : Format) (passphrase random t u w : List ℕ) → AreCleared 16384 u
+    → WritesInTurn1 given format passphrase random u w → ClearsFirst1As given format passphrase random t w
+over_order given format passphrase random t u w cleared turn = elim turn [
   | inl same ↦ inr (inl (same ∙ cleared.first_copy))
   | inr stands ↦ inr (inr stands)
 ]
 
 -- a volume that was formatted after the clearing is formatted
-pub over_cleared : (payload : Data) (format : Format) (passphrase random t u w : List ℕ) → SameBut (IsOfFirstSectors 16384) t u
-    → IsFormatted1 payload format passphrase random u w → IsFormatted1 payload format passphrase random t w
-over_cleared payload format passphrase random t u w cleared is = record {
+pub over_cleared : (given : Given) (format : Format) (passphrase random t u w : List ℕ) → SameBut (IsOfFirstSectors 16384) t u
+    → IsFormatted1As given format passphrase random u w → IsFormatted1As given format passphrase random t w
+over_cleared given format passphrase random t u w cleared is = record {
   header = is.header;
   fields = is.fields;
   written = is.written;

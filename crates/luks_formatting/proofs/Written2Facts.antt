@@ -1,5 +1,5 @@
 -- What the steps of formatting by LUKS2 leave: both copies of the header of a new volume, and its key area.
-use Rattle.std.proofs.Common.{◌≡◌, ℕ, List, Option, inl, inr, arith, lit≤, sym, ap, ◌∙◌, subst}
+use Rattle.std.proofs.Common.{◌≡◌, ◌≤◌, ◌*◌, ℕ, List, Option, inl, inr, arith, lit≤, sym, ap, ◌∙◌, subst}
 use Rattle.luks_area.specs.Ranges.{part, IsAt, SameBut}
 use Rattle.luks_area.proofs.RangeFacts.{part-same_but_at, same_but-then, same_but-wider}
 use Rattle.luks_area.specs.declared.area.Area.{Area}
@@ -11,13 +11,14 @@ use Rattle.luks_slot.specs.Opening.{area_bytes}
 use Rattle.luks_slot.specs.Sealing.{IsSealed}
 use Rattle.luks_slot.specs.declared.plan.SlotPlan.{SlotPlan}
 use Rattle.luks_reading.specs.Plans.{HasLuks2Plan}
-use Rattle.luks_reading.specs.declared.report.Data.{Data}
 use Rattle.luks_reading.specs.declared.format.Format.{Format}
-use Rattle.luks_formatting.specs.Formatted2.{HasAllButFirst2By, HasKeyArea2By, HasNewCopy, IsFormatted2By, IsOfLuks2}
+use Rattle.luks_formatting.specs.Formatted2.{HasAllButFirst2As, HasKeyArea2As, HasNewCopy, IsFormatted2As, IsOfLuks2}
 use Rattle.luks_formatting.specs.NewHeader2.{area2, new_metadata}
 use Rattle.luks_making.specs.declared.derivation.NewDerivation.{NewDerivation}
 use Rattle.luks_formatting.specs.NewPlan.{HoldsKey}
-use Rattle.luks_formatting.specs.RandomBytes.{first_copy_salt, random_stripes, second_copy_salt, slot_place2, volume_key}
+use Rattle.luks_formatting.specs.RandomBytes.{first_copy_salt, random_stripes, second_copy_salt, slot_place2}
+use Rattle.luks_formatting.specs.Given.{key_of, IsBefore}
+use Rattle.luks_formatting.specs.declared.given.Given.{Given}
 use Rattle.luks_formatting.proofs.NewHeader2Facts.{copy_stays}
 
 -- the key area alone
@@ -46,11 +47,11 @@ all_rest area is same second first = same_but-then (second_rest area is same sec
 pub copies_wait : {u v : List ℕ} (area : Area) → area ≡ area2 → SameBut (IsAt area.start 256000) u v → part v 0 32768 ≡ part u 0 32768
 copies_wait area is same = (let start = ap (λ (a : Area). a.start) is in part-same_but_at area.start 256000 0 32768 same (inl (omega (arith, start))))
 
-module _ (payload : Data) (format : Format) (chosen : Option NewDerivation) (passphrase random v json key stripes : List ℕ) (plan : SlotPlan)
-    (metadata : IsWrittenArea 12288 (new_metadata payload format chosen random) json) (has_plan : HasLuks2Plan json 0 plan) (area : plan.area ≡ area2)
-    (is_key : key ≡ volume_key random) (are_stripes : stripes ≡ random_stripes slot_place2 random) (sealed : IsSealed plan (area_bytes v plan.area) passphrase key stripes) where
+module _ (given : Given) (format : Format) (chosen : Option NewDerivation) (passphrase random v json key stripes : List ℕ) (plan : SlotPlan)
+    (metadata : IsWrittenArea 12288 (new_metadata given format chosen random) json) (has_plan : HasLuks2Plan json 0 plan) (area : plan.area ≡ area2)
+    (is_key : key ≡ key_of given random) (are_stripes : stripes ≡ random_stripes slot_place2 random) (sealed : IsSealed plan (area_bytes v plan.area) passphrase key stripes) where
   -- the keyslot of each volume whose key area is the sealed one
-  slot_in : (y : List ℕ) → area_bytes y plan.area ≡ area_bytes v plan.area → HoldsKey (HasLuks2Plan json 0) y passphrase (volume_key random) (random_stripes slot_place2 random)
+  slot_in : (y : List ℕ) → area_bytes y plan.area ≡ area_bytes v plan.area → HoldsKey (HasLuks2Plan json 0) y passphrase (key_of given random) (random_stripes slot_place2 random)
   slot_in y kept = record {
     plan = plan;
     is = has_plan;
@@ -66,7 +67,7 @@ module _ (payload : Data) (format : Format) (chosen : Option NewDerivation) (pas
         part-same_but_at 16384 16384 plan.area.start plan.area.len second_same (inr (omega (arith, start)))
 
     -- the key area, while the second copy is written
-    pub area_stands : WritesInTurn 16384 (HasKeyArea2By payload format chosen passphrase random w) (HasAllButFirst2By payload format chosen passphrase random w) u w
+    pub area_stands : WritesInTurn 16384 (HasKeyArea2As given format chosen passphrase random w) (HasAllButFirst2As given format chosen passphrase random w) u w
     area_stands =
         let start : plan.area.start ≡ 32768 = ap (λ (a : Area). a.start) area in
         inr (inl (
@@ -74,22 +75,22 @@ module _ (payload : Data) (format : Format) (chosen : Option NewDerivation) (pas
           record { json = json; metadata = metadata; slot = slot_in w kept_behind },
         ))
 
-    module _ (x : List ℕ) (first_same : SameBut (IsAt 0 16384) w x) (second : HasNewCopy w random (second_copy_salt random) json 16384) where
+    module _ (x : List ℕ) (first_same : SameBut (IsAt 0 16384) w x) (second : HasNewCopy w given random (second_copy_salt random) json 16384) where
       area_kept : area_bytes x plan.area ≡ area_bytes v plan.area
       area_kept =
           let start : plan.area.start ≡ 32768 = ap (λ (a : Area). a.start) area in
           part-same_but_at 0 16384 plan.area.start plan.area.len first_same (inr (omega (arith, start))) ∙ kept_behind
 
-      second_kept : HasNewCopy x random (second_copy_salt random) json 16384
-      second_kept = copy_stays w x random (second_copy_salt random) json 16384 metadata.long first_same.length_same
+      second_kept : HasNewCopy x given random (second_copy_salt random) json 16384
+      second_kept = copy_stays w x given random (second_copy_salt random) json 16384 metadata.long first_same.length_same
           (part-same_but_at 0 16384 16384 4096 first_same (inr (omega arith))) (part-same_but_at 0 16384 20480 12288 first_same (inr (omega arith))) second
 
       -- both, while the first copy is written
-      pub all_but_first : WritesInTurn 16384 (HasKeyArea2By payload format chosen passphrase random x) (HasAllButFirst2By payload format chosen passphrase random x) u x
+      pub all_but_first : WritesInTurn 16384 (HasKeyArea2As given format chosen passphrase random x) (HasAllButFirst2As given format chosen passphrase random x) u x
       all_but_first = inr (inr (record { json = json; metadata = metadata; second = second_kept; slot = slot_in x area_kept }))
 
       -- the whole volume
-      pub formatted2 : HasNewCopy x random (first_copy_salt random) json 0 → IsFormatted2By payload format chosen passphrase random u x
+      pub formatted2 : HasNewCopy x given random (first_copy_salt random) json 0 → IsFormatted2As given format chosen passphrase random u x
       formatted2 first = record {
         json = json;
         metadata = metadata;
@@ -111,10 +112,17 @@ cleared_rest same = same_but-wider sectors_there same
 pub over_rest : {t u x : List ℕ} → SameBut (IsOfFirstSectors 16384) t u → SameBut IsOfLuks2 u x → SameBut IsOfLuks2 t x
 over_rest cleared same = clearing_widens 16384 sectors_there cleared same
 
+-- all that may change lies before the payload
+pub before_payload : {t u : List ℕ} (n : ℕ) → 32768 ≤ n → SameBut IsOfLuks2 t u → SameBut (IsBefore (512 * n)) t u
+before_payload {t} {u} n low same = same_but-wider (λ p is. elim is [
+  | inl at ↦ (let high = at.1 in omega (arith, high, low))
+  | inr at ↦ (let high = at.1 in omega (arith, high, low))
+]) same
+
 -- a volume that was formatted after the clearing is formatted
-pub over_cleared : (payload : Data) (format : Format) (chosen : Option NewDerivation) (passphrase random t u x : List ℕ) → SameBut (IsOfFirstSectors 16384) t u
-    → IsFormatted2By payload format chosen passphrase random u x → IsFormatted2By payload format chosen passphrase random t x
-over_cleared payload format chosen passphrase random t u x cleared is = record {
+pub over_cleared : (given : Given) (format : Format) (chosen : Option NewDerivation) (passphrase random t u x : List ℕ) → SameBut (IsOfFirstSectors 16384) t u
+    → IsFormatted2As given format chosen passphrase random u x → IsFormatted2As given format chosen passphrase random t x
+over_cleared given format chosen passphrase random t u x cleared is = record {
   json = is.json;
   metadata = is.metadata;
   first = is.first;

@@ -1,6 +1,7 @@
 pub mod Deriving
-pub mod FormatFaults
 pub mod RandomBytes
+pub mod Given
+pub mod FormatFaults
 pub mod NewPlan
 pub mod NewHeader1
 pub mod Formatted1

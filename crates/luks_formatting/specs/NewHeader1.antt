@@ -11,14 +11,19 @@ use Rattle.luks1_header.specs.declared.luks1.SlotState.TheVariants.{Enabled, Dis
 use Rattle.luks_reading.specs.declared.report.Data.{Data}
 use Rattle.luks_reading.specs.declared.report.Data.TheVariants.{Here, Elsewhere}
 use Rattle.luks_reading.specs.declared.format.Format.{Format}
-use Rattle.luks2_header.specs.NewUuid.{uuid_text}
+use Rattle.luks_formatting.specs.Given.{number_or, uuid_of}
 use Rattle.luks_formatting.specs.NewPlan.{key_digest}
-use Rattle.luks_formatting.specs.RandomBytes.{digest_salt, slot_place1, slot_salt, uuid_bytes}
+use Rattle.luks_formatting.specs.RandomBytes.{digest_salt, slot_place1, slot_salt}
+use Rattle.luks_formatting.specs.declared.given.Given.{Given}
 
--- where the payload begins, in sectors of 512 bytes: at 2 MiB, or on another device at its start
-abbrev pub payload_sector : Data → ℕ
-payload_sector Here = 4096
-payload_sector Elsewhere = 0
+-- where the payload begins if nothing is given, in sectors of 512 bytes: at 2 MiB, or on another device at its
+-- start
+abbrev pub own_sector : Data → ℕ
+own_sector Here = 4096
+own_sector Elsewhere = 0
+
+abbrev pub payload_sector : Given → ℕ
+payload_sector given = number_or given.sector (own_sector given.payload)
 
 -- where the key material of keyslot n begins, in sectors: it takes 500 of them, and each begins at
 -- a multiple of 4096 bytes
@@ -27,17 +32,17 @@ material_sector n = 8 + 504 * n
 
 -- the fields before the keyslots
 pub record IsNewCommon
-    (payload : Data) (format : Format) (random : List ℕ) (common : Luks1Common)
+    (given : Given) (format : Format) (random : List ℕ) (common : Luks1Common)
     : Type 0 where
   pub cipher_name : common.cipher_name.bytes ≡ codes "aes"
   pub cipher_mode : common.cipher_mode.bytes ≡ codes "xts-plain64"
   pub hash_spec : common.hash_spec.bytes ≡ name_of format.hash
-  pub payload_offset : common.payload_offset ≡ payload_sector payload
+  pub payload_offset : common.payload_offset ≡ payload_sector given
   pub key_bytes : common.key_bytes ≡ 64
-  pub mk_digest : common.mk_digest ≡ key_digest format random 20
+  pub mk_digest : common.mk_digest ≡ key_digest given format random 20
   pub mk_digest_salt : common.mk_digest_salt ≡ digest_salt random
   pub mk_digest_iterations : common.mk_digest_iterations ≡ format.iterations
-  pub uuid : common.uuid.bytes ≡ uuid_text (uuid_bytes random)
+  pub uuid : common.uuid.bytes ≡ uuid_of given random
 
 -- keyslot 0, which holds the key
 abbrev pub first_slot : Format → List ℕ → Luks1Slot
@@ -64,9 +69,9 @@ new_slot format random n = if n == 0 then first_slot format random else free_slo
 
 -- the whole header
 pub record IsNewHeader1
-    (payload : Data) (format : Format) (random : List ℕ) (header : Luks1)
+    (given : Given) (format : Format) (random : List ℕ) (header : Luks1)
     : Type 0 where
-  pub common : IsNewCommon payload format random header.common
+  pub common : IsNewCommon given format random header.common
   pub eight : length header.slots ≡ 8
   pub slots : (n : ℕ) (s : Luks1Slot) → n < 8
       → slice_index_or header.slots n s ≡ new_slot format random n

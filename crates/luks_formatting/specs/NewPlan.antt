@@ -13,13 +13,15 @@ use Rattle.luks_slot.specs.Refusal.{slot_refusal, slot_refusal_within}
 use Rattle.luks_slot.specs.Sealing.{IsSealed}
 use Rattle.luks_reading.specs.declared.format.Format.{Format}
 use Rattle.luks_formatting.specs.Deriving.{IsDerivedBy}
-use Rattle.luks_formatting.specs.RandomBytes.{digest_salt, volume_key}
+use Rattle.luks_formatting.specs.Given.{key_of}
+use Rattle.luks_formatting.specs.RandomBytes.{digest_salt}
+use Rattle.luks_formatting.specs.declared.given.Given.{Given}
 
 -- the digest of the volume key, of `len` bytes: PBKDF2 of the key
-abbrev pub key_digest : Format → List ℕ → ℕ → List ℕ
-key_digest format random len =
+abbrev pub key_digest : Given → Format → List ℕ → ℕ → List ℕ
+key_digest given format random len =
     pbkdf2 (hash_of format.hash) (block_size_of format.hash)
-    (volume_key random) (digest_salt random) format.iterations len
+    (key_of given random) (digest_salt random) format.iterations len
 
 pub record IsNewDigest (format : Format) (salt stored : List ℕ) (digest : DigestPlan) : Type 0 where
   pub hash : digest.hash.now ≡ name_of format.hash

@@ -8,34 +8,36 @@ use Rattle.luks_reading.specs.declared.format.Format.{Format}
 use Rattle.luks_making.specs.declared.derivation.NewDerivation.{NewDerivation}
 use Rattle.luks_formatting.specs.declared.volume2.Volume.{Volume}
 use Rattle.luks_formatting.specs.Deriving.{slot_derivation}
-use Rattle.luks_formatting.specs.Formatted2.{HasAllButFirst2By, HasKeyArea2By, IsFormatted2By}
-use Rattle.luks_formatting.specs.NewHeader2.{area2, json_size, new_metadata, FitsMetadataBy, IsNewCipher2}
+use Rattle.luks_formatting.specs.Formatted2.{HasAllButFirst2As, HasKeyArea2As, IsFormatted2As}
+use Rattle.luks_formatting.specs.NewHeader2.{area2, json_size, new_metadata, FitsMetadataAs, IsNewCipher2}
 use Rattle.luks_formatting.specs.NewPlan.{key_digest, IsNewPlanBy, IsSealable, IsSealedAhead}
-use Rattle.luks_formatting.specs.RandomBytes.{digest_salt, random_stripes, slot_place2, slot_salt, volume_key}
+use Rattle.luks_formatting.specs.RandomBytes.{digest_salt, random_stripes, slot_place2, slot_salt}
+use Rattle.luks_formatting.specs.Given.{key_of}
+use Rattle.luks_formatting.specs.declared.given.Given.{Given}
 
 abbrev pub Fits : Volume → Type 0
-Fits v = FitsMetadataBy v.payload v.format.now v.chosen v.random.now
+Fits v = FitsMetadataAs v.given.now v.format.now v.chosen v.random.now
 
 abbrev pub HasArea : Volume → List ℕ → Type 0
-HasArea v json = IsWrittenArea json_size (new_metadata v.payload v.format.now v.chosen v.random.now) json
+HasArea v json = IsWrittenArea json_size (new_metadata v.given.now v.format.now v.chosen v.random.now) json
 
 -- the plan of keyslot 0
-pub record HasPlan (format : Format) (chosen : Option NewDerivation) (random : List ℕ) (plan : SlotPlan) : Type 0 where
+pub record HasPlan (given : Given) (format : Format) (chosen : Option NewDerivation) (random : List ℕ) (plan : SlotPlan) : Type 0 where
   pub is : IsNewPlanBy (slot_derivation format chosen) format (slot_salt slot_place2 random) area2 (digest_salt random)
-      (key_digest format random (digest_size_of format.hash)) plan
+      (key_digest given format random (digest_size_of format.hash)) plan
   pub cipher : IsNewCipher2 plan.cipher
 
 -- the key area was sealed ahead, or can be sealed with no memory
 abbrev pub IsReady : Volume → SlotPlan → Option (Bor (List ℕ)) → Type 0
 IsReady v plan ahead =
     MatchOption ahead (IsSealable plan)
-    (λ bytes. IsSealedAhead plan v.passphrase.bytes.now (volume_key v.random.now) (random_stripes slot_place2 v.random.now) bytes.now)
+    (λ bytes. IsSealedAhead plan v.passphrase.bytes.now (key_of v.given.now v.random.now) (random_stripes slot_place2 v.random.now) bytes.now)
 
 abbrev pub HasKeyArea : Volume → List ℕ → Type 0
-HasKeyArea v new = HasKeyArea2By v.payload v.format.now v.chosen v.passphrase.bytes.now v.random.now new
+HasKeyArea v new = HasKeyArea2As v.given.now v.format.now v.chosen v.passphrase.bytes.now v.random.now new
 
 abbrev pub HasAllButFirst : Volume → List ℕ → Type 0
-HasAllButFirst v new = HasAllButFirst2By v.payload v.format.now v.chosen v.passphrase.bytes.now v.random.now new
+HasAllButFirst v new = HasAllButFirst2As v.given.now v.format.now v.chosen v.passphrase.bytes.now v.random.now new
 
 abbrev pub IsMade : Volume → List ℕ → List ℕ → Type 0
-IsMade v old new = IsFormatted2By v.payload v.format.now v.chosen v.passphrase.bytes.now v.random.now old new
+IsMade v old new = IsFormatted2As v.given.now v.format.now v.chosen v.passphrase.bytes.now v.random.now old new

@@ -5,9 +5,11 @@ ghost use Rattle.luks_slot.specs.declared.allowed.Allowed.{Allowed};
 ghost use Rattle.luks_reading.specs.Answer.{Answer, AnswerWithin, opens};
 ghost use Rattle.luks_reading.specs.Checked.{WellFormed};
 ghost use Rattle.luks_reading.specs.declared.report.Data.{Data as Payload};
-ghost use Rattle.luks_formatting.specs.Formatted1.{IsFormatted1};
-ghost use Rattle.luks_formatting.specs.Formatted2.{IsFormatted2, IsFormatted2By};
-ghost use Rattle.luks_formatting.specs.NewHeader2.{FitsMetadata, FitsMetadataBy, new_members, new_metadata};
+ghost use Rattle.luks_formatting.specs.Formatted1.{IsFormatted1, IsFormatted1As};
+ghost use Rattle.luks_formatting.specs.Formatted2.{IsFormatted2, IsFormatted2As, IsFormatted2By};
+ghost use Rattle.luks_formatting.specs.NewHeader2.{FitsMetadata, FitsMetadataAs, FitsMetadataBy, new_members, new_metadata};
+ghost use Rattle.luks_formatting.specs.Given.{key_of, IsSound1, IsSound2};
+ghost use Rattle.luks_formatting.specs.declared.given.Given.{Given as TheGiven};
 ghost use Rattle.luks_making.specs.Derivations.{IsMakeable, memory_by};
 ghost use Rattle.luks_formatting.specs.Deriving.{slot_derivation};
 ghost use Rattle.luks_making.specs.declared.derivation.NewDerivation.{NewDerivation as Chosen};
@@ -25,6 +27,19 @@ pub fn formatted1_opens()
         → length random ≡ 256080
         → IsFormatted1 payload format passphrase random old new
         → Answer new 0 passphrase (opens (volume_key random)) }
+{}
+
+/// The same of what was formatted where something sound is given: it opens to the key that is.
+pub fn formatted1_as_opens()
+    ensures well_formed { (given : TheGiven) (format : TheFormat)
+        (passphrase random old new : List ℕ) → 1 ≤ format.iterations → 2097152 ≤ length new
+        → IsSound1 given (length new)
+        → IsFormatted1As given format passphrase random old new → WellFormed new given.payload }
+    ensures opens { (given : TheGiven) (format : TheFormat)
+        (passphrase random old new : List ℕ) → 1 ≤ format.iterations → 2097152 ≤ length new
+        → length random ≡ 256080 → IsSound1 given (length new)
+        → IsFormatted1As given format passphrase random old new
+        → Answer new 0 passphrase (opens (key_of given random)) }
 {}
 
 /// A volume that was formatted by LUKS2 is well formed, and its keyslot 0 opens by the passphrase
@@ -57,9 +72,24 @@ pub fn formatted2_by_opens()
         → AnswerWithin allowed new 0 passphrase (opens (volume_key random)) }
 {}
 
+/// The same of what was formatted where something sound is given: it opens to the key that is.
+pub fn formatted2_as_opens()
+    ensures well_formed { (given : TheGiven) (format : TheFormat) (chosen : Option Chosen)
+        (passphrase random old new : List ℕ) → 1 ≤ format.iterations → 16777216 ≤ length new
+        → length random ≡ 256208 → IsSound2 given (length new) → FitsMetadataAs given format chosen random
+        → IsFormatted2As given format chosen passphrase random old new → WellFormed new given.payload }
+    ensures opens { (given : TheGiven) (format : TheFormat) (chosen : Option Chosen)
+        (passphrase random old new : List ℕ) → 1 ≤ format.iterations → 16777216 ≤ length new
+        → length random ≡ 256208 → IsSound2 given (length new) → FitsMetadataAs given format chosen random
+        → IsFormatted2As given format chosen passphrase random old new
+        → (memory : ℕ) (allowed : Allowed) → IfSome chosen (IsMakeable memory)
+        → memory_by (slot_derivation format chosen) ≤ allowed.memory
+        → AnswerWithin allowed new 0 passphrase (opens (key_of given random)) }
+{}
+
 /// Where no derivation is chosen, the metadata is that of a volume whose keyslot derives by PBKDF2, as the
 /// digest.
 pub fn none_chosen_is_as_the_digest()
-    ensures { (payload : Payload) (format : TheFormat) (random : List ℕ)
-        → new_metadata payload format None random ≡ formatted (new_members payload format random) }
+    ensures { (given : TheGiven) (format : TheFormat) (random : List ℕ)
+        → new_metadata given format None random ≡ formatted (new_members given format random) }
 {}

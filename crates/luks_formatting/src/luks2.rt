@@ -8,14 +8,17 @@ ghost use Rattle.luks_reading.specs.Answer.{Answer, AnswerWithin, opens};
 ghost use Rattle.luks_reading.specs.Checked.{WellFormed};
 ghost use Rattle.luks_making.specs.Derivations.{memory_by};
 ghost use Rattle.luks_formatting.specs.Deriving.{allowed_for, slot_derivation};
-ghost use Rattle.luks_formatting.specs.FormatFaults.{HasNoFault, IsAnsweredFaultOrMemory, IsFormat2Fault, IsFormat2FaultBy, is_device_fault};
-ghost use Rattle.luks_formatting.specs.Formatted2.{HasAllButFirst2, HasAllButFirst2By, HasKeyArea2, HasKeyArea2By, IsFormatted2, IsFormatted2By, IsOfLuks2};
-ghost use Rattle.luks_formatting.specs.NewHeader2.{copy_size};
+ghost use Rattle.luks_formatting.specs.FormatFaults.{HasNoFault, IsAnsweredFaultOrMemory, IsFormat2Fault, IsFormat2FaultAs, IsFormat2FaultBy, is_device_fault};
+ghost use Rattle.luks_formatting.specs.Given.{key_of, IsBefore};
+ghost use Rattle.luks_formatting.specs.Formatted2.{HasAllButFirst2, HasAllButFirst2As, HasAllButFirst2By, HasKeyArea2, HasKeyArea2As, HasKeyArea2By, IsFormatted2, IsFormatted2As, IsFormatted2By, IsOfLuks2};
+ghost use Rattle.luks_reading.specs.declared.report.Data.TheVariants.{Here};
+ghost use Rattle.luks_formatting.specs.NewHeader2.{copy_size, segment_start};
 ghost use Rattle.luks_formatting.specs.RandomBytes.{volume_key};
 ghost use Rattle.luks_formatting.specs.declared.format_fault.FormatFault.{FormatFault as TheFault};
 
 use crate::derivation::allowed_for;
 use crate::format_fault::FormatFault;
+use crate::given::Given;
 use crate::volume2::{Volume, make};
 use luks_area::Device;
 use luks_edit::{Done, Passphrase};
@@ -82,8 +85,12 @@ pub fn format2<D: Device>(
     ensures opens { D.tells → OnOk result
         (Answer (D.bytes device.new) 0 passphrase.now (opens (volume_key random.now))) }
 {
-    let volume = Volume {
+    let given = Given {
         payload,
+        ..Given::NOTHING
+    };
+    let volume = Volume {
+        given: &given,
         format,
         chosen: None,
         passphrase: Passphrase {
@@ -153,8 +160,74 @@ pub fn format2_by<D: Device>(
         → AnswerWithin allowed (D.bytes device.new) 0 passphrase.now.bytes.now
         (opens (volume_key random.now))) }
 {
-    let volume = Volume {
+    let given = Given {
         payload,
+        ..Given::NOTHING
+    };
+    format2_as(alloc, device, &given, format, chosen, passphrase, random)
+}
+
+/// The same of a volume of which something is given: where its payload begins, its key, its uuid, its label and
+/// its subsystem. Where nothing is it is `format2_by`.
+///
+/// The random bytes are as many as ever, also those in whose place a key or a uuid is given: these aren't used.
+/// What lies where the payload begins, and behind it, stays as it is.
+pub fn format2_as<D: Device>(
+    alloc: Global,
+    device: &mut D,
+    given: &Given<'_>,
+    format: &Format,
+    chosen: Option<NewDerivation>,
+    passphrase: &Passphrase<'_>,
+    random: &[u8],
+) -> Result<Done, FormatFault>
+    requires room { D.failed device.old + 1 < 2 ^ 64 }
+    requires settled { D.tells → IsSettled D.unsettled device.old }
+
+    // The first fault that stands, or want of memory, and then no byte changes; else the device's.
+    ensures fault { IfErr result
+        (IsAnsweredFaultOrMemory (IsFormat2FaultAs given.now chosen
+        (allowed_for passphrase.now.allowed.memory passphrase.now.bytes.now)
+        (D.size device.old) format.now random.now)) }
+    ensures faultless { OnOk result
+        (HasNoFault (IsFormat2FaultAs given.now chosen
+        (allowed_for passphrase.now.allowed.memory passphrase.now.bytes.now)
+        (D.size device.old) format.now random.now)) }
+    ensures same { D.tells → (f : TheFault)
+        → IsFormat2FaultAs given.now chosen (allowed_for passphrase.now.allowed.memory passphrase.now.bytes.now)
+        (D.size device.old) format.now random.now f
+        → D.bytes device.new ≡ D.bytes device.old }
+    ensures memory { D.tells → result ≡ Err FormatFault.Memory
+        → D.bytes device.new ≡ D.bytes device.old }
+
+    // The device: `Device` exactly where a call of it failed, and the bytes that may have changed.
+    ensures count { CountsFailure is_device_fault result
+        (D.failed device.old) (D.failed device.new) }
+    ensures size { D.size device.new ≡ D.size device.old }
+    ensures settled { D.tells → D.failed device.new ≡ D.failed device.old
+        → IsSettled D.unsettled device.new }
+    ensures rest { D.tells → SameBut IsOfLuks2 (D.bytes device.old) (D.bytes device.new) }
+    ensures payload { D.tells → given.now.payload ≡ Here
+        → SameBut (IsBefore (segment_start given.now)) (D.bytes device.old) (D.bytes device.new) }
+
+    // No older header counts in the copies' places from the clearing on; the first copy comes last.
+    ensures order { D.tells → ClearsFirst copy_size
+        (HasKeyArea2As given.now format.now chosen passphrase.now.bytes.now random.now (D.bytes device.new))
+        (HasAllButFirst2As given.now format.now chosen passphrase.now.bytes.now random.now (D.bytes device.new))
+        (D.bytes device.old) (D.bytes device.new) }
+
+    // The volume that was made.
+    ensures slot { IfOk result (λ done. done.slot ≡ Some 0) }
+    ensures formatted { D.tells → OnOk result (IsFormatted2As given.now format.now chosen
+        passphrase.now.bytes.now random.now (D.bytes device.old) (D.bytes device.new)) }
+    ensures well_formed { D.tells → OnOk result (WellFormed (D.bytes device.new) given.now.payload) }
+    ensures opens { D.tells → OnOk result ((allowed : TheAllowed)
+        → memory_by (slot_derivation format.now chosen) ≤ allowed.memory
+        → AnswerWithin allowed (D.bytes device.new) 0 passphrase.now.bytes.now
+        (opens (key_of given.now random.now))) }
+{
+    let volume = Volume {
+        given,
         format,
         chosen,
         passphrase: Passphrase {

@@ -1,15 +1,16 @@
 //! The metadata of a new LUKS2 volume.
-ghost use Rattle.std.specs.Prelude.{◌≡◌, ◌≤◌, length, IfOk, IfSome, OnOk};
+ghost use Rattle.std.specs.Prelude.{◌≡◌, ◌≤◌, ◌<◌, ◌^◌, length, IfOk, IfSome, OnOk};
 ghost use Rattle.serde_json.specs.View.{view};
 ghost use Rattle.luks_kdf.specs.Names.{digest_size_of, name_of};
 ghost use Rattle.luks_making.specs.Formatted.{volume_members};
 ghost use Rattle.luks_making.specs.Keyslots.{derivation_of, slot_members};
 ghost use Rattle.luks_making.specs.Derivations.{IsMakeable};
 ghost use Rattle.luks_formatting.specs.Deriving.{slot_derivation};
-ghost use Rattle.luks_formatting.specs.NewHeader2.{first_slot_by, formatted_by, new_members, segment_start};
+ghost use Rattle.luks_formatting.specs.NewHeader2.{first_slot_by, formatted_by, new_members, own_segment, segment_sector, segment_start};
 ghost use Rattle.luks_formatting.specs.NewPlan.{key_digest};
 ghost use Rattle.luks_formatting.specs.Volume2.{Fits, HasArea};
 
+use crate::given::Given;
 use crate::new_header2::{JSON_SIZE, SLOT_SALT};
 use crate::random::{DIGEST_SALT, SALT_BYTES, taken};
 use crate::volume2::Volume;
@@ -30,7 +31,8 @@ pub(crate) fn new_area(
     requires iterations { 1 ≤ volume.now.format.now.iterations }
     requires makeable { IfSome volume.now.chosen (IsMakeable volume.now.passphrase.allowed.memory) }
     requires long { 272 ≤ length volume.now.random.now }
-    requires digest { digest.now ≡ key_digest volume.now.format.now volume.now.random.now
+    requires sector { segment_sector volume.now.given.now < 2 ^ 55 }
+    requires digest { digest.now ≡ key_digest volume.now.given.now volume.now.format.now volume.now.random.now
         (digest_size_of volume.now.format.now.hash) }
     requires digest_length { length digest.now ≡ digest_size_of volume.now.format.now.hash }
     ensures area { IfOk result (λ a. HasArea volume.now a.items) }
@@ -39,7 +41,7 @@ pub(crate) fn new_area(
     let like = NewVolume {
         hash: volume.format.hash.text(),
         iterations: volume.format.iterations,
-        segment_offset: segment_start(volume.payload),
+        segment_offset: segment_start(volume.given),
         digest_salt: taken(volume.random, DIGEST_SALT, SALT_BYTES),
         digest,
         slot_salt: taken(volume.random, SLOT_SALT, SALT_BYTES),
@@ -54,7 +56,7 @@ fn area_of(alloc: Global, volume: &Volume<'_>, like: &NewVolume<'_>) -> Result<V
     requires makeable { IfSome volume.now.chosen (IsMakeable volume.now.passphrase.allowed.memory) }
     requires long { 272 ≤ length volume.now.random.now }
     requires members { volume_members like.now
-        ≡ new_members volume.now.payload volume.now.format.now volume.now.random.now }
+        ≡ new_members volume.now.given.now volume.now.format.now volume.now.random.now }
     requires digest_length { length like.now.digest.now
         ≡ digest_size_of volume.now.format.now.hash }
     ensures area { IfOk result (λ a. HasArea volume.now a.items) }
@@ -125,11 +127,22 @@ fn written_derivation<'a>(format: &Format, chosen: Option<NewDerivation>) -> Key
     }
 }
 
-fn segment_start(payload: Data) -> u64
-    ensures { result ≡ segment_start payload }
+/// Where the segment begins, in bytes.
+fn segment_start(given: &Given<'_>) -> u64
+    requires { segment_sector given.now < 2 ^ 55 }
+    ensures { result ≡ segment_start given.now }
+{
+    512 * match given.sector {
+        Some(sector) => sector,
+        None => own_segment(given.payload),
+    }
+}
+
+fn own_segment(payload: Data) -> u64
+    ensures { result ≡ own_segment payload }
 {
     match payload {
-        Data::Here => 16777216,
+        Data::Here => 32768,
         Data::Elsewhere => 0,
     }
 }

@@ -1,61 +1,66 @@
 //! The LUKS1 header of a new volume.
-ghost use Rattle.std.specs.Prelude.{◌≡◌, ◌≤◌, ◌<◌, ℕ, length, slice_index_or};
+ghost use Rattle.std.specs.Prelude.{◌≡◌, ◌≤◌, ◌<◌, ◌^◌, ℕ, length, slice_index_or, IfSome};
 ghost use Rattle.luks1_header.specs.declared.luks1.Luks1Slot.{Luks1Slot as TheSlot};
-ghost use Rattle.luks_formatting.specs.NewHeader1.{first_slot, free_slot, material_sector, new_slot, payload_sector, IsNewCommon, IsNewHeader1};
+ghost use Rattle.luks_formatting.specs.NewHeader1.{first_slot, free_slot, material_sector, new_slot, own_sector, payload_sector, IsNewCommon, IsNewHeader1};
 
+use crate::given::{Given, owned, uuid_of};
 use crate::plan::put_key_digest;
-use crate::random::{DIGEST_SALT, STRIPES, UUID, taken_array};
-use arrayvec::ArrayString;
+use crate::random::{DIGEST_SALT, STRIPES, taken_array};
 use luks_reading::{Data, Format};
-use luks2_header::{Luks1, Luks1Common, Luks1Slot, SlotState, uuid_text};
+use luks2_header::{Luks1, Luks1Common, Luks1Slot, SlotState};
 
 /// Where the salt of keyslot 0 stands among the random bytes.
 pub(crate) const SLOT_SALT: usize = 112;
 
 /// The header, whose keyslot 0 is in use.
-pub(crate) fn new_header(payload: Data, format: &Format, random: &[u8]) -> Luks1
+pub(crate) fn new_header(given: &Given<'_>, format: &Format, random: &[u8]) -> Luks1
     requires iterations { 1 ≤ format.now.iterations }
     requires long { 144 ≤ length random.now }
-    ensures { IsNewHeader1 payload format.now random.now result }
+    requires sector { payload_sector given.now < 2 ^ 32 }
+    requires uuid { IfSome given.now.uuid (λ text. length text.now ≤ 40) }
+    ensures { IsNewHeader1 given.now format.now random.now result }
 {
     Luks1 {
-        common: new_common(payload, format, random),
+        common: new_common(given, format, random),
         slots: new_slots(format, random),
     }
 }
 
-fn new_common(payload: Data, format: &Format, random: &[u8]) -> Luks1Common
+fn new_common(given: &Given<'_>, format: &Format, random: &[u8]) -> Luks1Common
     requires iterations { 1 ≤ format.now.iterations }
     requires long { 144 ≤ length random.now }
-    ensures { IsNewCommon payload format.now random.now result }
+    requires sector { payload_sector given.now < 2 ^ 32 }
+    requires uuid { IfSome given.now.uuid (λ text. length text.now ≤ 40) }
+    ensures { IsNewCommon given.now format.now random.now result }
 {
     let mut mk_digest = [0; 20];
-    put_key_digest(&mut mk_digest, format, random);
+    put_key_digest(&mut mk_digest, given, format, random);
     Luks1Common {
-        cipher_name: text("aes"),
-        cipher_mode: text("xts-plain64"),
-        hash_spec: text(format.hash.text()),
-        payload_offset: payload_sector(payload),
+        cipher_name: owned("aes"),
+        cipher_mode: owned("xts-plain64"),
+        hash_spec: owned(format.hash.text()),
+        payload_offset: payload_sector(given),
         key_bytes: 64,
         mk_digest,
         mk_digest_salt: taken_array(random, DIGEST_SALT),
         mk_digest_iterations: format.iterations,
-        uuid: uuid_text(taken_array(random, UUID)),
+        uuid: uuid_of(given, random),
     }
 }
 
-/// The text in place.
-fn text<const N: usize>(text: &str) -> ArrayString<N>
-    requires { length text.now ≤ N }
-    ensures { result.bytes ≡ text.now }
+/// Where the payload begins, in sectors.
+fn payload_sector(given: &Given<'_>) -> u32
+    requires { payload_sector given.now < 2 ^ 32 }
+    ensures { result ≡ payload_sector given.now }
 {
-    let mut owned = ArrayString::new();
-    owned.push_str(text);
-    owned
+    match given.sector {
+        Some(sector) => sector as u32,
+        None => own_sector(given.payload),
+    }
 }
 
-fn payload_sector(payload: Data) -> u32
-    ensures { result ≡ payload_sector payload }
+fn own_sector(payload: Data) -> u32
+    ensures { result ≡ own_sector payload }
 {
     match payload {
         Data::Here => 4096,

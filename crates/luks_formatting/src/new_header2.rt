@@ -3,12 +3,12 @@ ghost use Rattle.std.specs.Prelude.{◌≡◌, ◌+◌, ◌^◌, ◌<◌, ◌≤
 ghost use Rattle.luks_area.specs.Device.{CountsFailure, IsSettled, is_failure};
 ghost use Rattle.luks_area.specs.Ranges.{IsAt, SameBut};
 ghost use Rattle.luks_formatting.specs.Formatted2.{HasNewCopy};
-ghost use Rattle.luks_formatting.specs.NewHeader2.{copy_size, json_size, IsNewCopy};
+ghost use Rattle.luks_formatting.specs.NewHeader2.{copy_size, json_size, AreTexts2, IsNewCopy};
 
-use crate::random::{UUID, taken_array};
+use crate::given::{Given, name_field, uuid_of};
 use luks_area::{Device, DeviceFault};
 use luks_writing::write_copy;
-use luks2_header::{Bin2, uuid_field, uuid_text};
+use luks2_header::{Bin2, uuid_field};
 
 /// The length of a copy of the header in bytes, which is also the second copy's place.
 pub(crate) const COPY_SIZE: u64 = 16384;
@@ -30,12 +30,14 @@ pub(crate) const SLOT_SALT: usize = 240;
 pub(crate) fn write_new_copy<D: Device>(
     device: &mut D,
     at: u64,
+    given: &Given<'_>,
     random: &[u8],
     salt: [u8; 64],
     json: &[u8],
 ) -> Result<(), DeviceFault>
     requires place { (at ≡ 0) ⊎ (at ≡ copy_size) }
     requires long { 16 ≤ length random.now }
+    requires texts { AreTexts2 given.now }
     requires json { length json.now ≡ json_size }
     requires within { 32768 ≤ D.size device.old }
     requires room { D.failed device.old + 1 < 2 ^ 64 }
@@ -45,28 +47,29 @@ pub(crate) fn write_new_copy<D: Device>(
     ensures settled { D.tells → D.failed device.new ≡ D.failed device.old
         → IsSettled D.unsettled device.new }
     ensures copy { D.tells → OnOk result
-        (HasNewCopy (D.bytes device.new) random.now salt json.now at) }
+        (HasNewCopy (D.bytes device.new) given.now random.now salt json.now at) }
     ensures rest { D.tells → SameBut (IsAt at copy_size) (D.bytes device.old) (D.bytes device.new) }
 {
-    let header = new_header(at, random, salt);
+    let header = new_header(at, given, random, salt);
     write_copy(device, &header, json)
 }
 
 // The binary header, whose checksum is made where it is written.
-fn new_header(at: u64, random: &[u8], salt: [u8; 64]) -> Bin2
+fn new_header(at: u64, given: &Given<'_>, random: &[u8], salt: [u8; 64]) -> Bin2
     requires long { 16 ≤ length random.now }
-    ensures { IsNewCopy random.now salt at result }
+    requires texts { AreTexts2 given.now }
+    ensures { IsNewCopy given.now random.now salt at result }
 {
     let first = Bin2 {
         magic: [0; 6],
         version: 2,
         hdr_size: COPY_SIZE,
         seqid: 1,
-        label: [0; 48],
+        label: name_field(given.label),
         csum_alg: [0; 32],
         salt,
-        uuid: uuid_field(uuid_text(taken_array(random, UUID)).as_str()),
-        subsystem: [0; 48],
+        uuid: uuid_field(uuid_of(given, random).as_str()),
+        subsystem: name_field(given.subsystem),
         hdr_offset: at,
         csum: [0; 64],
     };

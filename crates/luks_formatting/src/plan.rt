@@ -5,7 +5,8 @@ ghost use Rattle.luks_slot.specs.Opening.{HasIterations};
 ghost use Rattle.luks_formatting.specs.Deriving.{IsArgon2Plan, IsDerivedBy, slot_derivation};
 ghost use Rattle.luks_formatting.specs.NewPlan.{key_digest, IsNewPlan, IsNewPlanBy};
 
-use crate::random::{DIGEST_SALT, KEY, KEY_BYTES, SALT_BYTES, STRIPES, taken};
+use crate::given::{Given, key_of};
+use crate::random::{DIGEST_SALT, KEY_BYTES, SALT_BYTES, STRIPES, taken};
 use luks_area::Area;
 use luks_making::{Argon2Costs, NewDerivation};
 use luks_reading::Format;
@@ -100,13 +101,13 @@ fn by_argon2(kind: Argon2Kind, costs: Argon2Costs, salt: &[u8]) -> Derivation<'_
 }
 
 /// Writes the digest of the volume key, at most 128 bytes of it.
-pub(crate) fn put_key_digest(out: &mut [u8], format: &Format, random: &[u8])
+pub(crate) fn put_key_digest(out: &mut [u8], given: &Given<'_>, format: &Format, random: &[u8])
     requires iterations { 1 ≤ format.now.iterations }
     requires long { 112 ≤ length random.now }
     requires at_most_128 { length out.old ≤ 128 }
-    ensures { out.new ≡ key_digest format.now random.now (length out.old) }
+    ensures { out.new ≡ key_digest given.now format.now random.now (length out.old) }
 {
-    let key = taken(random, KEY, KEY_BYTES);
+    let key = key_of(given, random);
     let salt = taken(random, DIGEST_SALT, SALT_BYTES);
     format.hash.pbkdf2(out, key, salt, format.iterations);
 }

@@ -9,33 +9,39 @@ ghost use Rattle.luks_reading.specs.Answer.{AnswerWithin, opens};
 ghost use Rattle.luks_reading.specs.Checked.{WellFormed};
 ghost use Rattle.luks_making.specs.Derivations.{IsMakeable, memory_by, takes_memory};
 ghost use Rattle.luks_formatting.specs.Deriving.{slot_derivation};
-ghost use Rattle.luks_formatting.specs.FormatFaults.{HasNoFault, IsAnsweredFaultOrMemory, IsFormat2FaultBy, is_device_fault};
+ghost use Rattle.luks_formatting.specs.FormatFaults.{HasNoFault, IsAnsweredFaultOrMemory, IsFormat2FaultAs, is_device_fault};
 ghost use Rattle.luks_formatting.specs.Formatted2.{IsOfLuks2};
-ghost use Rattle.luks_formatting.specs.NewHeader2.{copy_size};
+ghost use Rattle.luks_formatting.specs.NewHeader2.{copy_size, segment_start};
+ghost use Rattle.luks_reading.specs.declared.report.Data.TheVariants.{Here};
 ghost use Rattle.luks_formatting.specs.NewPlan.{key_digest, IsSealable, IsSealableWithin};
-ghost use Rattle.luks_formatting.specs.RandomBytes.{volume_key};
+ghost use Rattle.luks_formatting.specs.Given.{key_of, IsBefore, IsSound2};
 ghost use Rattle.luks_formatting.specs.Volume2.{Fits, HasAllButFirst, HasArea, HasKeyArea, HasPlan, IsMade, IsReady};
 ghost use Rattle.luks_formatting.specs.declared.format_fault.FormatFault.{FormatFault as TheFault};
 
 use crate::format_fault::FormatFault;
+use crate::given::{Given, key_of};
 use crate::judging::{Wanted, judge};
 use crate::luks2::FORMAT2_RANDOM;
 use crate::metadata::new_area;
 use crate::new_header2::{COPY_SIZE, FIRST_SALT, SECOND_SALT, SLOT_SALT, write_new_copy};
 use crate::plan::{new_plan_by, plan_derivation, put_key_digest};
-use crate::random::{DIGEST_SALT, KEY, KEY_BYTES, RANDOM_STRIPES, SALT_BYTES, taken, taken_array};
+use crate::random::{DIGEST_SALT, RANDOM_STRIPES, SALT_BYTES, taken, taken_array};
 use crate::sealing::{put_key_area, sealed_ahead};
 use luks_area::{Area, Device, DeviceFault};
 use luks_edit::{Done, Passphrase};
 use luks_making::NewDerivation;
-use luks_reading::{Data, Format};
+use luks_reading::Format;
 use luks_slot::{AreaCipher, SlotPlan};
 use luks_writing::clear_places;
 use std::alloc::Global;
 
-/// At least as many bytes as stand before the payload.
+/// As many bytes as stand before the payload if nothing is given, the first sector behind the region of the key
+/// areas, and as many sectors as 64 bits of bytes tell.
 const WANTED: Wanted = Wanted {
+    first: 32768,
+    most: 1 << 55,
     least: 16777216,
+    named: true,
     needed: FORMAT2_RANDOM,
 };
 
@@ -48,7 +54,7 @@ const AREA: Area = Area {
 /// A volume that is to be made, and that none of the faults refuses.
 #[derive(Clone, Copy)]
 pub(crate) struct Volume<'a> {
-    pub(crate) payload: Data,
+    pub(crate) given: &'a Given<'a>,
     pub(crate) format: &'a Format,
     pub(crate) chosen: Option<NewDerivation>,
     pub(crate) passphrase: Passphrase<'a>,
@@ -66,15 +72,15 @@ pub(crate) fn make<D: Device>(
     requires room { D.failed device.old + 1 < 2 ^ 64 }
     requires settled { D.tells → IsSettled D.unsettled device.old }
     ensures fault { IfErr result
-        (IsAnsweredFaultOrMemory (IsFormat2FaultBy volume.now.chosen
+        (IsAnsweredFaultOrMemory (IsFormat2FaultAs volume.now.given.now volume.now.chosen
         volume.now.passphrase.allowed.memory
         (D.size device.old) volume.now.format.now volume.now.random.now)) }
     ensures faultless { OnOk result
-        (HasNoFault (IsFormat2FaultBy volume.now.chosen
+        (HasNoFault (IsFormat2FaultAs volume.now.given.now volume.now.chosen
         volume.now.passphrase.allowed.memory
         (D.size device.old) volume.now.format.now volume.now.random.now)) }
     ensures same { D.tells → (f : TheFault)
-        → IsFormat2FaultBy volume.now.chosen volume.now.passphrase.allowed.memory
+        → IsFormat2FaultAs volume.now.given.now volume.now.chosen volume.now.passphrase.allowed.memory
         (D.size device.old) volume.now.format.now volume.now.random.now f
         → D.bytes device.new ≡ D.bytes device.old }
     ensures memory { D.tells → result ≡ Err FormatFault.Memory
@@ -85,29 +91,32 @@ pub(crate) fn make<D: Device>(
     ensures settled { D.tells → D.failed device.new ≡ D.failed device.old
         → IsSettled D.unsettled device.new }
     ensures rest { D.tells → SameBut IsOfLuks2 (D.bytes device.old) (D.bytes device.new) }
+    ensures payload { D.tells → volume.now.given.now.payload ≡ Here
+        → SameBut (IsBefore (segment_start volume.now.given.now)) (D.bytes device.old) (D.bytes device.new) }
     ensures order { D.tells → ClearsFirst copy_size
         (HasKeyArea volume.now (D.bytes device.new))
         (HasAllButFirst volume.now (D.bytes device.new))
         (D.bytes device.old) (D.bytes device.new) }
     ensures slot { IfOk result (λ done. done.slot ≡ Some 0) }
     ensures formatted { D.tells → OnOk result (IsMade volume.now (D.bytes device.old) (D.bytes device.new)) }
-    ensures well_formed { D.tells → OnOk result (WellFormed (D.bytes device.new) volume.now.payload) }
+    ensures well_formed { D.tells → OnOk result (WellFormed (D.bytes device.new) volume.now.given.now.payload) }
     ensures opens { D.tells → OnOk result ((allowed : TheAllowed)
         → memory_by (slot_derivation volume.now.format.now volume.now.chosen) ≤ allowed.memory
         → AnswerWithin allowed (D.bytes device.new) 0 volume.now.passphrase.bytes.now
-        (opens (volume_key volume.now.random.now))) }
+        (opens (key_of volume.now.given.now volume.now.random.now))) }
 {
     let Volume {
+        given,
         format,
         chosen,
         random,
         ..
     } = *volume;
     let memory = volume.passphrase.allowed.memory;
-    judge(WANTED, device.len(), format, chosen, memory, random)?;
+    judge(WANTED, device.len(), given, format, chosen, memory, random)?;
     let mut buffer = [0; 64];
     let digest = &mut buffer[..format.hash.digest_len()];
-    put_key_digest(digest, format, random);
+    put_key_digest(digest, given, format, random);
     let Ok(json) = new_area(alloc, volume, digest) else {
         return Err(FormatFault::Memory);
     };
@@ -129,7 +138,8 @@ fn write_made<D: Device>(
     requires makeable { IfSome volume.now.chosen (IsMakeable volume.now.passphrase.allowed.memory) }
     requires long { length volume.now.random.now ≡ 256208 }
     requires within { 16777216 ≤ D.size device.old }
-    requires digest { digest.now ≡ key_digest volume.now.format.now volume.now.random.now
+    requires sound { IsSound2 volume.now.given.now (D.size device.old) }
+    requires digest { digest.now ≡ key_digest volume.now.given.now volume.now.format.now volume.now.random.now
         (digest_size_of volume.now.format.now.hash) }
     requires fits { Fits volume.now }
     requires area { HasArea volume.now json.now }
@@ -150,12 +160,18 @@ fn write_made<D: Device>(
     ensures formatted { D.tells → OnOk result
         (IsMade volume.now (D.bytes device.old) (D.bytes device.new)) }
 {
-    let plan = slot_plan(volume.format, volume.chosen, volume.random, digest);
+    let plan = slot_plan(
+        volume.given,
+        volume.format,
+        volume.chosen,
+        volume.random,
+        digest,
+    );
     if !takes_memory(volume.chosen) {
         write_volume(device, volume, &plan, None, json)?;
         return Ok(());
     }
-    let key = taken(volume.random, KEY, KEY_BYTES);
+    let key = key_of(volume.given, volume.random);
     let stripes = taken(volume.random, SLOT_SALT + SALT_BYTES, RANDOM_STRIPES);
     let Ok(area) = sealed_ahead(alloc, &plan, &volume.passphrase, key, stripes) else {
         return Err(FormatFault::Memory);
@@ -185,9 +201,10 @@ fn write_volume<D: Device>(
     requires iterations { 1 ≤ volume.now.format.now.iterations }
     requires long { length volume.now.random.now ≡ 256208 }
     requires within { 16777216 ≤ D.size device.old }
+    requires sound { IsSound2 volume.now.given.now (D.size device.old) }
     requires fits { Fits volume.now }
     requires area { HasArea volume.now json.now }
-    requires plan { HasPlan volume.now.format.now volume.now.chosen volume.now.random.now plan.now }
+    requires plan { HasPlan volume.now.given.now volume.now.format.now volume.now.chosen volume.now.random.now plan.now }
     requires sealable { IsReady volume.now plan.now ahead }
     requires room { D.failed device.old + 1 < 2 ^ 64 }
     requires settled { D.tells → IsSettled D.unsettled device.old }
@@ -218,9 +235,10 @@ fn write_over_cleared<D: Device>(
     requires iterations { 1 ≤ volume.now.format.now.iterations }
     requires long { length volume.now.random.now ≡ 256208 }
     requires within { 16777216 ≤ D.size device.old }
+    requires sound { IsSound2 volume.now.given.now (D.size device.old) }
     requires fits { Fits volume.now }
     requires area { HasArea volume.now json.now }
-    requires plan { HasPlan volume.now.format.now volume.now.chosen volume.now.random.now plan.now }
+    requires plan { HasPlan volume.now.given.now volume.now.format.now volume.now.chosen volume.now.random.now plan.now }
     requires sealable { IsReady volume.now plan.now ahead }
     requires room { D.failed device.old + 1 < 2 ^ 64 }
     requires settled { D.tells → IsSettled D.unsettled device.old }
@@ -238,18 +256,19 @@ fn write_over_cleared<D: Device>(
 {
     let random = volume.random;
     let words = volume.passphrase.bytes;
-    let key = taken(random, KEY, KEY_BYTES);
+    let key = key_of(volume.given, random);
     let stripes = taken(random, SLOT_SALT + SALT_BYTES, RANDOM_STRIPES);
     put_key_area(device, plan, ahead, words, key, stripes)?;
     let second = taken_array(random, SECOND_SALT);
-    write_new_copy(device, COPY_SIZE, random, second, json)?;
+    write_new_copy(device, COPY_SIZE, volume.given, random, second, json)?;
     let first = taken_array(random, FIRST_SALT);
-    write_new_copy(device, 0, random, first, json)?;
+    write_new_copy(device, 0, volume.given, random, first, json)?;
     Ok(())
 }
 
 // The plan of keyslot 0.
 fn slot_plan<'a>(
+    given: &Given<'_>,
     format: &Format,
     chosen: Option<NewDerivation>,
     random: &'a [u8],
@@ -258,8 +277,8 @@ fn slot_plan<'a>(
     requires iterations { 1 ≤ format.now.iterations }
     requires long { 272 ≤ length random.now }
     requires digest { digest.now
-        ≡ key_digest format.now random.now (digest_size_of format.now.hash) }
-    ensures plan { HasPlan format.now chosen random.now result }
+        ≡ key_digest given.now format.now random.now (digest_size_of format.now.hash) }
+    ensures plan { HasPlan given.now format.now chosen random.now result }
     ensures sealable { (allowed : TheAllowed) → IfSome chosen (IsMakeable allowed.memory)
         → IsSealableWithin allowed result }
     ensures here { (memory : ℕ) → IfSome chosen (IsMakeable memory)

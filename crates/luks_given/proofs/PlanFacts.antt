@@ -1,10 +1,12 @@
 -- Facts on plans of writes.
 use Rattle.std.proofs.Common.{◌≡◌, ℕ, ◌+◌, ◌-◌, ◌≤◌, ◌⊎◌, inl, inr, List, [], ◌∷◌, ◌++◌, length, take, drop, refl, sym, ap, ◌∙◌, arith, append_assoc, length-drop, length-take}
 use Rattle.std.proofs.lemmas.List.{drop-append-le, take-append-le, take_all}
-use Rattle.luks_area.specs.Ranges.{written, IsAt}
-use Rattle.luks_area.proofs.RangeFacts.{length-written}
+use Rattle.luks_area.specs.Ranges.{written, IsAt, SameBut}
+use Rattle.luks_area.proofs.RangeFacts.{length-written, same_but-same, same_but-same_outside, same_but-then, same_but-wider, same_outside-written, written-none}
+use Rattle.luks_given.specs.declared.parts.Part.{Part}
+use Rattle.luks_given.specs.Parts.{HasPlace}
 use Rattle.luks_given.specs.declared.planned_writes.PlannedCall.{PlannedCall}
-use Rattle.luks_given.specs.Plan.{furthest, planned_length, played, HasNoFlush, IsUnflushed}
+use Rattle.luks_given.specs.Plan.{furthest, planned_length, played, HasNoFlush, IsUnflushed, IsWrittenBy, WritesGiven}
 
 -- one more call
 pub planned_length-more : (calls : List PlannedCall) (call : PlannedCall) → planned_length (calls ++ call ∷ []) ≡ planned_length calls + call.len
@@ -85,3 +87,39 @@ played-front (c ∷ cs) bytes first rest inside counted =
         ap (λ l. (l ++ from) ++ drop (at + length from) (first ++ rest)) (take-append-le at first rest (omega (arith, inside)))
         ∙ ap (λ l. (take at first ++ from) ++ l) (drop-append-le (at + length from) first rest inside)
         ∙ sym (append_assoc (take at first ++ from) (drop (at + length from) first) rest)
+
+-- a flush that is added leaves the same
+pub played-flush : (calls : List PlannedCall) (bytes v : List ℕ) → planned_length calls ≡ length bytes
+    → played (calls ++ record { at = 0; len = 0 } ∷ []) (bytes ++ []) v ≡ played calls bytes v
+played-flush calls bytes v counted = played-more calls (record { at = 0; len = 0 }) bytes [] v counted (omega arith) ∙ written-none (played calls bytes v) 0
+
+-- one more call writes its own places
+pub writes-more : (calls : List PlannedCall) (call : PlannedCall) (p : ℕ) → IsWrittenBy (calls ++ call ∷ []) p → IsWrittenBy calls p ⊎ IsAt call.at call.len p
+unfolding IsWrittenBy
+writes-more [] call p is = elim is [ inl last ↦ inr last | inr none ↦ absurd none ]
+writes-more (c ∷ cs) call p is = elim is [
+  | inl first ↦ inl (inl first)
+  | inr later ↦ (elim (writes-more cs call p later) [ inl before ↦ inl (inr before) | inr last ↦ inr last ])
+]
+
+-- a plan changes the places alone that its calls write
+pub played-others : (calls : List PlannedCall) (bytes v : List ℕ) → furthest calls ≤ length v → planned_length calls ≤ length bytes
+    → SameBut (IsWrittenBy calls) v (played calls bytes v)
+unfolding played furthest planned_length IsWrittenBy
+played-others [] bytes v inside counted = same_but-same _ v
+played-others (c ∷ cs) bytes v inside counted =
+    let from : List ℕ = take c.len bytes in
+    let some : length from ≡ c.len = length-take c.len bytes ∙ omega (arith, counted) in
+    let left : length (drop c.len bytes) ≡ length bytes - c.len = length-drop c.len bytes in
+    let fits : c.at + length from ≤ length v = omega (arith, inside, some) in
+    let long : length (written v c.at from) ≡ length v = length-written v c.at from fits in
+    same_but-then
+    (same_but-wider (λ p is. inl (is.0, (let high = is.1 in omega (arith, high, some)))) (same_but-same_outside (same_outside-written v c.at from fits)))
+    (same_but-wider (λ p is. inr is) (played-others cs (drop c.len bytes) (written v c.at from) (omega (arith, inside, long)) (omega (arith, counted, left))))
+
+-- so one that writes given places alone leaves all others
+pub played-given : (parts : List Part) (calls : List PlannedCall) (bytes v : List ℕ) → WritesGiven parts calls → furthest calls ≤ length v → planned_length calls ≤ length bytes
+    → SameBut (HasPlace parts) v (played calls bytes v)
+played-given parts calls bytes v given inside counted =
+    let same = played-others calls bytes v inside counted in
+    record { length_same = same.length_same; each = λ p out. same.each p (λ by_. given p out by_) }

@@ -1,5 +1,6 @@
 pub mod Given
-pub mod Volume
+pub mod Parts
+pub mod PartProps
 pub mod Plan
 pub mod Planned
-pub mod VolumeFacts
+pub mod PlanProps

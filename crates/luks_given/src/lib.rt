@@ -1,13 +1,15 @@
-//! A volume of which the first bytes are given, as a device: the caller who read them may not read more. Its
-//! writes are planned, for the caller to do them.
+//! A volume of which ranges are given, as a device: the caller who read them may not read more. Its writes
+//! are planned, for the caller to do them.
 #![tactic(auto)]
 
-mod first_bytes;
 mod given;
+mod given_parts;
 mod laws;
+mod parts;
 mod planned_writes;
 
-pub use first_bytes::FirstBytes;
 pub use given::Given;
-pub use laws::plan_leaves_the_rest;
+pub use given_parts::GivenParts;
+pub use laws::{plan_keeps_the_others, plan_leaves_the_rest};
+pub use parts::{Part, are_parts};
 pub use planned_writes::{PlannedCall, PlannedWrites};

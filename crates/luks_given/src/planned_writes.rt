@@ -1,10 +1,12 @@
-//! A volume of which the first bytes are given, as a device whose writes are planned.
+//! A volume of which ranges are given, as a device whose writes are planned.
 ghost use Rattle.std.specs.Prelude.{◌≡◌, ◌≢◌, ◌+◌, ◌≤◌, ◌<◌, ◌^◌, ◌∷◌, ◌++◌, [], IsTrue, IsFalse, false, length};
 ghost use Rattle.luks_area.specs.Ranges.{written};
-ghost use Rattle.luks_given.specs.Volume.{volume};
-ghost use Rattle.luks_given.specs.Plan.{furthest, planned_length, played};
+ghost use Rattle.luks_given.specs.PartProps.{apart-prop, inside-prop, parts-prop};
+ghost use Rattle.luks_given.specs.Parts.{AreApart, AreGiven, AreInside, AreParts, HasPlace, IsWanted, parts_length};
+ghost use Rattle.luks_given.specs.Plan.{WritesGiven, furthest, planned_length, played};
 
 use crate::given::Given;
+use crate::parts::{Part, find};
 use luks_area::{Device, DeviceFault};
 use std::alloc::Global;
 use std::marker::PhantomData;
@@ -20,64 +22,70 @@ pub struct PlannedCall {
     pub len: u64,
 }
 
-/// A volume of which the first bytes lie in memory, as a device of which nothing is written: it keeps
-/// the writes and flushes as a plan, in their order, and reads what the plan would leave.
+/// A volume of which ranges lie in memory, as a device of which nothing is written: it keeps the writes
+/// and flushes as a plan, in their order, and reads what the plan would leave.
 ///
-/// It tells zeros for the bytes that aren't there, and each read or write fails that reaches one of
-/// them. It keeps where the range ended that the last such call asked for. A call fails also where
-/// there is no memory for the plan.
+/// It tells the bytes of the volume, of which those that aren't given may be any: each read or write fails
+/// that meets one of them. It keeps what the last such call wanted. A call fails also where there is no
+/// memory for the plan.
 #[derive(Drop)]
-pub struct PlannedWrites<K: Given> {
-    first: Vec<u8>,
+pub struct PlannedWrites<'a, K: Given> {
+    parts: &'a [Part],
+    held: Vec<u8>,
     calls: Vec<PlannedCall>,
     bytes: Vec<u8>,
     total: u64,
-    reached: u64,
+    missing: Part,
     is_full: bool,
     failures: u64,
     given: PhantomData<K>,
     ghost fits: { total < 2 ^ 64 },
-    ghost known: { length first.items ≡ length K.bytes },
-    ghost within: { length first.items ≤ total },
-    ghost inside: { reached ≤ total },
-    ghost far: { failures ≢ 0 → is_full ≡ false → length first.items < reached },
-    ghost last: { furthest calls.items ≤ length K.bytes },
-    ghost counted: { planned_length calls.items ≡ length bytes.items },
-    ghost plays: { played calls.items bytes.items K.bytes ≡ first.items },
+    ghost whole: { length K.bytes ≡ total },
+    ghost same: { parts.now ≡ K.parts },
+    ghost apart: { AreApart 0 parts.now } by { apart-prop 0 parts.now },
+    ghost ends: { AreInside total parts.now } by { inside-prop total parts.now },
+    ghost counted: { parts_length parts.now ≡ length held.items },
+    ghost known: { AreParts parts.now 0 held.items (played calls.items bytes.items K.bytes) } by { parts-prop parts.now 0 held.items (played calls.items bytes.items K.bytes) },
+    ghost far: { failures ≢ 0 → is_full ≡ false → IsWanted K.parts total missing },
+    ghost last: { furthest calls.items ≤ total },
+    ghost planned: { planned_length calls.items ≡ length bytes.items },
+    ghost inside: { WritesGiven K.parts calls.items },
 }
 
-impl<K: Given> PlannedWrites<K> {
+impl<'a, K: Given> PlannedWrites<'a, K> {
     ghost use Rattle.std.specs.Prelude.{◌↔◌, ◌⊎◌, IfSome, IsNone, IsTrue};
-    ghost use Rattle.luks_given.specs.Planned.{lacked_memory, planned_bytes, planned_calls, planned_failures, planned_first, planned_size, planned_unsettled, planned_written};
+    ghost use Rattle.luks_given.specs.Planned.{lacked_memory, planned_bytes, planned_calls, planned_failures, planned_size, planned_unsettled, planned_written};
     ghost use Rattle.luks_area.specs.Device.{IsSettled};
 
-    /// The volume of `total` bytes that begins with these, and an empty plan.
-    pub fn new(alloc: Global, first: Vec<u8>, total: u64) -> Self
-        requires within { length first.items ≤ total }
-        requires given { K.bytes ≡ first.items }
-        ensures bytes { planned_bytes result ≡ volume first.items total }
+    /// The volume of `total` bytes that has these in these ranges, and an empty plan.
+    pub fn new(alloc: Global, parts: &'a [Part], held: Vec<u8>, total: u64) -> Self
+        requires parts { K.parts ≡ parts.now }
+        requires given { AreGiven parts.now held.items total K.bytes }
+        ensures bytes { planned_bytes result ≡ K.bytes }
         ensures size { planned_size result ≡ total }
         ensures failures { planned_failures result ≡ 0 }
         ensures settled { IsSettled planned_unsettled result }
     {
         PlannedWrites {
-            first,
+            parts,
+            held,
             calls: Vec::new(alloc),
             bytes: Vec::new(alloc),
             total,
-            reached: 0,
+            missing: Part::default(),
             is_full: false,
             failures: 0,
             given: PhantomData,
         }
     }
 
-    /// The calls of the plan, in their order. Played over the given bytes, with the bytes that they
-    /// write, they make what is read; none reaches behind these.
+    /// The calls of the plan, in their order. Played over the volume, with the bytes that they write, they
+    /// make what is read; they write given places alone.
     pub fn calls(&self) -> &[PlannedCall]
         ensures value { result.now ≡ planned_calls self.now }
-        ensures inside { furthest result.now ≤ length K.bytes }
-        ensures plays { played result.now (planned_written self.now) K.bytes ≡ planned_first self.now }
+        ensures inside { furthest result.now ≤ planned_size self.now }
+        ensures given { WritesGiven K.parts result.now }
+        ensures plays { played result.now (planned_written self.now) K.bytes ≡ planned_bytes self.now }
     {
         self.calls.as_slice()
     }
@@ -90,18 +98,19 @@ impl<K: Given> PlannedWrites<K> {
         self.bytes.as_slice()
     }
 
-    /// Where the range ends that the last call asked for which reached a byte that isn't given; None
-    /// where none did since the device was made, or memory was refused.
-    pub fn reached(&self) -> Option<u64>
-        ensures inside { IfSome result (λ end. end ≤ planned_size self.now) }
-        ensures far { IfSome result (λ end. length K.bytes < end) }
+    /// What the last call wanted that met a byte which isn't given, from the first such place on; None where
+    /// none did since the device was made, or memory was refused.
+    pub fn wanted(&self) -> Option<Part>
+        ensures missing { IfSome result (λ part. HasPlace K.parts part.at → ⊥) }
+        ensures some { IfSome result (λ part. 0 < part.len) }
+        ensures inside { IfSome result (λ part. part.at + part.len ≤ planned_size self.now) }
         ensures none { IsNone result
             ↔ (planned_failures self.now ≡ 0) ⊎ IsTrue (lacked_memory self.now) }
     {
         if self.is_full || self.failures == 0 {
             None
         } else {
-            Some(self.reached)
+            Some(self.missing)
         }
     }
 }
@@ -132,9 +141,9 @@ fn put(bytes: &mut Vec<u8>, at: usize, from: &[u8])
     bytes[at..at + from.len()].copy_from_slice(from);
 }
 
-impl<K: Given> Device for PlannedWrites<K> {
+impl<K: Given> Device for PlannedWrites<'_, K> {
     ghost use Rattle.luks_given.specs.Planned.{planned_bytes, planned_failures, planned_size, planned_unsettled};
-    ghost use Rattle.luks_given.specs.VolumeFacts.{length-volume};
+    ghost use Rattle.luks_given.specs.PlanProps.{length-planned};
 
     ghost tells = { Unit {0} };
 
@@ -155,31 +164,50 @@ impl<K: Given> Device for PlannedWrites<K> {
     }
 
     fn read_at(&mut self, at: u64, into: &mut [u8]) -> Result<(), DeviceFault> {
-        let end = at + into.len() as u64;
-        if end > self.first.len() as u64 {
-            self.reached = end;
-            self.failures += 1;
-            return Err(DeviceFault);
+        if into.is_empty() {
+            return Ok(());
         }
-        let at = at as usize;
-        into.copy_from_slice(&self.first[at..at + into.len()]);
-        Ok(())
+        let end = at + into.len() as u64;
+        match find(self.parts, at, end) {
+            Ok(k) => {
+                into.copy_from_slice(&self.held[k..k + into.len()]);
+                Ok(())
+            }
+            Err(place) => {
+                self.missing = Part {
+                    at: place,
+                    len: end - place,
+                };
+                self.failures += 1;
+                Err(DeviceFault)
+            }
+        }
     }
 
     fn write_at(&mut self, at: u64, from: &[u8]) -> Result<(), DeviceFault> {
+        if from.is_empty() {
+            return Ok(());
+        }
         let end = at + from.len() as u64;
-        if end > self.first.len() as u64 {
-            self.reached = end;
-            self.failures += 1;
-            return Err(DeviceFault);
+        match find(self.parts, at, end) {
+            Ok(k) => {
+                if !add_call(&mut self.calls, &mut self.bytes, at, from) {
+                    self.is_full = true;
+                    self.failures += 1;
+                    return Err(DeviceFault);
+                }
+                put(&mut self.held, k, from);
+                Ok(())
+            }
+            Err(place) => {
+                self.missing = Part {
+                    at: place,
+                    len: end - place,
+                };
+                self.failures += 1;
+                Err(DeviceFault)
+            }
         }
-        if !add_call(&mut self.calls, &mut self.bytes, at, from) {
-            self.is_full = true;
-            self.failures += 1;
-            return Err(DeviceFault);
-        }
-        put(&mut self.first, at as usize, from);
-        Ok(())
     }
 
     fn flush(&mut self) -> Result<(), DeviceFault> {
@@ -191,7 +219,7 @@ impl<K: Given> Device for PlannedWrites<K> {
         Ok(())
     }
 
-    ghost sized = { λ d t. length-volume d.first.items d.total d.within };
+    ghost sized = { λ d t. length-planned d.calls.items d.bytes.items d.total _ d.whole d.last d.planned };
 
     ghost bounded = { λ d. d.fits };
 }

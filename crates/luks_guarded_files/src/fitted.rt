@@ -3,9 +3,12 @@ ghost use Rattle.std.specs.Prelude.{◌≤◌, length};
 use crate::system::{Kind, System};
 use crate::watch::Watch;
 use std::cell::Cell;
-use std::fs::{File, Metadata, OpenFile};
-use std::io::{self, Seek, SeekFrom};
-use std::os::unix::fs::FileExt;
+use std::fs::{File, Metadata, OpenFile, Permissions};
+use std::io::{self, ErrorKind, Seek, SeekFrom};
+use std::os::unix::fs::{FileExt, PermissionsExt};
+
+/// That a file's owner alone may read and write it.
+const OWNERS: u32 = 0o600;
 
 /// A file that gets its length with the first write that changes it, and is as it was till then. It tells that
 /// length from the start.
@@ -14,6 +17,8 @@ pub struct FittedFile {
     file: File,
     /// The length that it is still to get.
     length: Cell<Option<u64>>,
+    /// Whether its first write gives it that length, though it changes no byte.
+    is_exact: bool,
     /// The source whose target it is, until a byte of it was changed.
     watch: Cell<Option<Watch>>,
 }
@@ -44,11 +49,39 @@ impl FittedFile {
         Ok(Some(FittedFile::new(file)))
     }
 
+    /// The file of a key of this length, whose lock is held: a regular file, which its owner alone may read from
+    /// now on, and which has exactly the key's bytes once they are written, though they stood there before.
+    /// None as of a backup; an error where it isn't regular.
+    pub fn of_key<S: System>(
+        system: &mut S,
+        file: File,
+        length: u64,
+        over: bool,
+        is_made: bool,
+    ) -> io::Result<Option<Self>>
+        ensures answers { S.answers system.new ≡ S.answers system.old }
+        ensures kept { IfOk result (λ fitted. (fitted ≡ None)
+            ↔ ((over ≡ false) × IsSomeAnd (S.found system.new) HoldsSomething)) }
+    {
+        let Some(mut fitted) = FittedFile::of_backup(system, file, length, over)? else {
+            return Ok(None);
+        };
+        if fitted.length.get().is_none() {
+            return Err(io::Error::from(ErrorKind::InvalidInput));
+        }
+        if !is_made {
+            fitted.file.set_permissions(Permissions::from_mode(OWNERS))?;
+        }
+        fitted.is_exact = true;
+        Ok(Some(fitted))
+    }
+
     /// A file that keeps its length.
     pub fn new(file: File) -> Self {
         FittedFile {
             file,
             length: Cell::new(None),
+            is_exact: false,
             watch: Cell::new(None),
         }
     }
@@ -58,6 +91,7 @@ impl FittedFile {
         FittedFile {
             file,
             length: Cell::new(Some(length)),
+            is_exact: false,
             watch: Cell::new(None),
         }
     }
@@ -107,9 +141,10 @@ impl FileExt for FittedFile {
     fn write_at(&self, buf: &[u8], offset: u64) -> io::Result<usize> {
         if let Some(watch) = self.watch.replace(None) {
             let count = watch.write(&self.file, buf, offset)?;
-            if watch.is_over() {
+            if watch.is_over() || self.is_exact {
                 self.fit()?;
-            } else {
+            }
+            if !watch.is_over() {
                 self.watch.set(Some(watch));
             }
             return Ok(count);

@@ -91,6 +91,7 @@ target_bars tells over v t u is Device bars = bars
 pub target_clears : (over : Bool) (v t : List ℕ) (u : Option (List ℕ)) → IsUuidOf v u → IsClear over (HasOther u t) t → IsClear over (IsOtherTarget v t) t
 target_clears over v t u is clear = record {
   volume = λ may x. clear.volume may (subst (λ (w : Option (List ℕ)). HasOther w t) (one_uuid v x.0 u x.1 is) x.2);
+  reencryption = clear.reencryption;
   use_of = clear.use_of;
 }
 

@@ -12,10 +12,10 @@ pub const PROGRAM_MORE: &str = "\
 A volume is a device, an image, or the detached header of one; with --offset and
 --length it is the bytes of a disk or an image where it lies, and no other byte
 of that changes. The commands check, show, open, find and compare write nothing,
-convert, rebuild and backup only to another file; the others write to the header
-and to the areas of the keyslots that they name, restore to all of them, and
-format to those of a new volume. Only find reads the data, in which a volume may
-stand. explain says what a fault means.
+convert, rebuild, backup and key only to another file; the others write to the
+header and to the areas of the keyslots that they name, restore to all of them,
+and format to those of a new volume. Only find reads the data, in which a volume
+may stand. explain says what a fault means.
 
 Behind a number of bytes or of MiB may stand K, M, G or T, for 1024 bytes, 1024
 of these and so on: --offset 1M is 1048576, --memory 1G is 1024 MiB.
@@ -173,7 +173,7 @@ pub const ADD: &str = "Adds a keyslot for a new passphrase";
 /// The usage of `add` after `Usage: `, on several lines, since one would have more than 80 columns.
 pub const ADD_USAGE: &str = "\
 luks add [OPTIONS] --slot <N> --random <FILE>
-                <--passphrase <FILE>|--passphrase-line <FILE>>
+                <--passphrase <FILE>|--passphrase-line <FILE>|--key <FILE>>
                 <--new <FILE>|--new-line <FILE>> <VOLUME>";
 
 /// The help of `add` after its words.
@@ -183,6 +183,10 @@ passphrase opens the same volume key: keyslot --to, or the least that is free,
 of 0 to 7 in LUKS1 and 0 to 31 in LUKS2. All others stay as they are. A
 passphrase is all bytes of its file, a last newline too, at most 65536; by
 --passphrase-line and --new-line what stands there before the first newline.
+
+Who has the volume key needs no passphrase: --key is its file in the place of
+--passphrase, and --slot a keyslot whose key it is, as long, and its digest's.
+That one's key area isn't read, so that it may be destroyed.
 
 Written are, with a flush after each: the area of the new keyslot; then of LUKS1
 its entry in the header, of LUKS2 the copy of the header that doesn't count and
@@ -209,7 +213,8 @@ Prints one line:
   done slot N    keyslot N is made
   refused FAULT  the first fault, and nothing was written: what check refuses,
                  OtherUse (as above), Requirements, NoSuchSlot, Locked (the
-                 passphrase doesn't open it), Argon2, Cipher, Hash, KeySize,
+                 passphrase doesn't open it, or it has another key), Argon2,
+                 Cipher, Hash, KeySize,
                  SlotTaken, NoFreeSlot, NoRoom, Iterations, Argon2 (the new one
                  takes more memory than is allowed, or LUKS1 has none),
                  SeqExhausted, MetadataFull, RandomLength (the random file is
@@ -233,7 +238,7 @@ pub const CHANGE: &str = "Puts a new passphrase in the place of an old one";
 /// The usage of `change` after `Usage: `, on several lines, since one would have more than 80 columns.
 pub const CHANGE_USAGE: &str = "\
 luks change [OPTIONS] --slot <N> --random <FILE>
-                   <--passphrase <FILE>|--passphrase-line <FILE>>
+                   <--passphrase <FILE>|--passphrase-line <FILE>|--key <FILE>>
                    <--new <FILE>|--new-line <FILE>> <VOLUME>";
 
 /// The help of `change` after its words.
@@ -242,7 +247,8 @@ The passphrase opens keyslot --slot; then the new one does, and the old no more.
 LUKS2 keeps the keyslot's number, and takes a free area. LUKS1 makes the least
 keyslot that is free, and disables the old one. All others stay as they are. A
 passphrase is all bytes of its file, a last newline too, at most 65536; by
---passphrase-line and --new-line what stands there before the first newline.
+--passphrase-line and --new-line what stands there before the first newline. Who
+has the volume key gives it by --key in the place of the old passphrase.
 
 Written are, with a flush after each: the new area; then of LUKS1 the new
 keyslot's entry and the old one's, of LUKS2 the copy of the header that doesn't
@@ -269,7 +275,8 @@ Prints one line:
   done slot N    the new passphrase opens keyslot N
   refused FAULT  the first fault, and nothing was written: what check refuses,
                  OtherUse (as above), Requirements, NoSuchSlot, Locked (the
-                 passphrase doesn't open it), Argon2, Cipher, Hash, KeySize,
+                 passphrase doesn't open it, or it has another key), Argon2,
+                 Cipher, Hash, KeySize,
                  NoFreeSlot, NoRoom, Iterations, Argon2 (the new one takes more
                  memory than is allowed, or LUKS1 has none), SeqExhausted,
                  MetadataFull, RandomLength (the random file is too short), or
@@ -294,7 +301,8 @@ pub const REMOVE: &str = "Removes a keyslot";
 /// The usage of `remove` after `Usage: `, on several lines, since one would have more than 80 columns.
 pub const REMOVE_USAGE: &str = "\
 luks remove [OPTIONS] --slot <N>
-                   <--passphrase <FILE>|--passphrase-line <FILE>> <VOLUME>";
+                   <--passphrase <FILE>|--passphrase-line <FILE>|--key <FILE>>
+                   <VOLUME>";
 
 /// The help of `remove` after its words.
 pub const REMOVE_MORE: &str = "\
@@ -303,7 +311,7 @@ passphrase opens it, or keyslot --by where that is given: then --slot needn't be
 one that opens here. The last keyslot of its key isn't removed. All others stay
 as they are. The passphrase is all bytes of its file, a last newline
 too, at most 65536; by --passphrase-line what stands there before the first
-newline.
+newline. Who has the volume key gives it by --key in its place.
 
 Written are, with a flush after each: of LUKS1 the keyslot's entry, of LUKS2 the
 copy of the header that doesn't count and the one that does; then the zeros. Of
@@ -320,10 +328,11 @@ Prints one line:
   done           the keyslot is removed
   refused FAULT  the first fault, and nothing was written: what check refuses,
                  OtherUse (as above), Requirements, NoSuchSlot, SameSlot (--by
-                 is --slot), Locked (the passphrase doesn't open it), Argon2,
-                 Cipher, Hash, KeySize, LastSlot, SeqExhausted, MetadataFull,
-                 RandomLength (of LUKS2, the random file is too short or none is
-                 named), or Passphrase (it is too long)
+                 is --slot), Locked (the passphrase doesn't open it, or it has
+                 another key), Argon2, Cipher, Hash, KeySize, LastSlot,
+                 SeqExhausted, MetadataFull, RandomLength (of LUKS2, the random
+                 file is too short or none is named), or Passphrase (it is too
+                 long)
   device fault   a file can't be read, or the volume read or written
   no memory      memory was refused; nothing was written
 
@@ -424,14 +433,23 @@ to 288767, and no other. Where a LUKS header that check accepts, if only with
 partition table, nothing is written but with --over.
 
 The volume has at least 2097152 bytes, of LUKS2 16777216, and its data begins
-there; with --detached it lies on another device, from its byte 0 on.
+there; with --detached it lies on another device, from its byte 0 on. Where
+--payload says so it begins at that sector, behind the key areas: at 4036 of
+LUKS1 or behind it, at 32768 of LUKS2; with --detached at any.
+
+So a header is made anew for data that is there: --key is the volume key, as an
+open mapping or an escrow has it, 64 bytes, and --payload is where the data
+begins. No byte of it changes. With --detached VOLUME is a file of its own, and
+the disk stays as it is until the header is tried: luks open, and cryptsetup
+open --header. Sectors of 512 bytes are meant, and aes-xts-plain64.
 
 Keyslot 0 opens by the passphrase: all bytes of its file, a last newline too,
 at most 65536; by --passphrase-line what stands there before the first newline.
 The cipher is aes-xts-plain64 with a volume key of 64 bytes. The uuid, the key,
 the salts and the stripes are the first 256080 bytes of the random file, of
 LUKS2 256208, and no more are read. Give it /dev/urandom: whoever knows these
-bytes knows the volume key.
+bytes knows the volume key, unless --key gives it. In place of a key or a uuid
+that is given its random bytes are read, and not used.
 
 The passphrase's key is derived by PBKDF2, or of LUKS2 by Argon2 with --kdf
 argon2id or argon2i: --kdf-memory, --passes and --lanes are its costs, and
@@ -447,12 +465,18 @@ Standard error says what it chose.
 
 Prints one line:
   done slot 0            the volume is made
-  refused Passphrase     the passphrase's file is too long
-  refused TooSmall       the volume is
+  refused Passphrase     the passphrase's or the key's file is too long
+  refused Payload        --payload lies in the header or the key areas
+  refused TooSmall       the volume is, or it ends before --payload
+  refused Uuid           --uuid isn't one
+  refused BadLabel       --label or --subsystem has more than 47 bytes, or one
+                         that can't be printed, or the volume is LUKS1
+  refused KeyLength      the key hasn't 64 bytes
   refused Iterations     there are fewer than 1000
   refused Argon2         it takes more memory than --memory allows
   refused RandomLength   the random file has too few bytes
   refused OtherVolume    a LUKS header stands there, without --over
+  refused Reencrypting   the metadata of a reencryption, without --over
   refused OtherUse(NAME) the disk has another use, without --over
   device fault           a file can't be read, or the volume can't be written;
                          a write that failed leaves any part of it written
@@ -490,8 +514,8 @@ Prints one line:
                  SOURCE), what check refuses of SOURCE, NotLuks1 (it is of
                  LUKS2), TooSmall (TARGET is), NoRoom (the new areas end past
                  16777216), RandomLength (the random file is too short), and
-                 before these OtherVolume or OtherUse(NAME) (what stands on
-                 TARGET, as above)
+                 before these OtherVolume, Reencrypting or OtherUse(NAME) (what
+                 stands on TARGET, as above)
   device fault   a file can't be read, SOURCE read, or TARGET read or written
   no memory      memory was refused; nothing was written
 
@@ -543,16 +567,16 @@ Prints one line:
   done           the header is made; standard error tells how cryptsetup opens
                  the data by it
   refused FAULT  the first fault, and nothing was written: SameFile (TARGET is
-                 SOURCE), OtherVolume or OtherUse(NAME) (what stands on TARGET,
-                 as above), Counts (a header of SOURCE counts: use it, or luks
-                 repair), NoMetadata (none is whole), Outside or Overlap (its
-                 areas in SOURCE), TooSmall (TARGET is), Uuid (that of --uuid),
-                 RandomLength (the random file is too short); of LUKS1
-                 Reencrypting (cryptsetup is in the midst of that), NoHeader (it
-                 has no signs of one), Text(FIELD) or KeyBytes (nothing usable
-                 stands there, or was given), Iterations(Digest) (they are
-                 lost), TooSmall and Overlap (the new areas in TARGET);
-                 Passphrase (its file is too long)
+                 SOURCE), OtherVolume, Reencrypting or OtherUse(NAME) (what
+                 stands on TARGET, as above), Counts (a header of SOURCE counts:
+                 use it, or luks repair), NoMetadata (none is whole), Outside or
+                 Overlap (its areas in SOURCE), TooSmall (TARGET is), Uuid (that
+                 of --uuid), RandomLength (the random file is too short); of
+                 LUKS1 Reencrypting (cryptsetup is in the midst of that),
+                 NoHeader (it has no signs of one), Text(FIELD) or KeyBytes
+                 (nothing usable stands there, or was given), Iterations(Digest)
+                 (they are lost), TooSmall and Overlap (the new areas in
+                 TARGET); Passphrase (its file is too long)
   no slot opens  by no way that was tried; nothing was written
   device fault   a file can't be read, SOURCE read, or TARGET read or written
   no memory      memory was refused; nothing was written

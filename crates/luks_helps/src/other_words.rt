@@ -14,7 +14,7 @@ pub fn other_words() -> &'static [OtherWord] {
     &OTHER_WORDS
 }
 
-static OTHER_WORDS: [OtherWord; 58] = [
+static OTHER_WORDS: [OtherWord; 59] = [
     OtherWord {
         word: "luksDump",
         here: "luks show",
@@ -168,6 +168,14 @@ static OTHER_WORDS: [OtherWord; 58] = [
         here: "--new FILE",
     },
     OtherWord {
+        word: "--dump-volume-key",
+        here: "luks key VOLUME --to FILE, with the passphrase",
+    },
+    OtherWord {
+        word: "--dump-master-key",
+        here: "luks key VOLUME --to FILE, with the passphrase",
+    },
+    OtherWord {
         word: "--volume-key-file",
         here: "--key FILE",
     },
@@ -238,10 +246,6 @@ static OTHER_WORDS: [OtherWord; 58] = [
     OtherWord {
         word: "--test-passphrase",
         here: "luks open, which does nothing else",
-    },
-    OtherWord {
-        word: "--label",
-        here: "luks label, once the volume is there",
     },
     OtherWord {
         word: "--batch-mode",

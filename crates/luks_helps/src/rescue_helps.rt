@@ -145,3 +145,41 @@ Exit status:
   1  outdated, or refused
   2  the command line is wrong; the text is on standard error
   4  device fault, no memory, or the output can't be written";
+
+/// What `key` does, in a line.
+pub const KEY: &str = "Writes the volume key to a file, for who keeps it safe";
+
+/// The usage of `key` after `Usage: `, on several lines, since one would have more than 80 columns.
+pub const KEY_USAGE: &str = "\
+luks key [OPTIONS] --to <FILE>
+                <--passphrase <FILE>|--passphrase-line <FILE>> <VOLUME>";
+
+/// The help of `key` after its words.
+pub const KEY_MORE: &str = "\
+The passphrase opens keyslot --slot, or else the first that it opens, as by luks
+open, and the volume key that it gives is written to the file --to: exactly its
+bytes, nothing else. VOLUME isn't written. The file is made where it isn't
+there, for its owner alone (mode 0600), and so is one that is there: where it
+isn't empty it is written over with --over alone. It isn't made where the
+passphrase opens nothing.
+
+Whoever has that file reads the data, with this header or without one: neither a
+change of passphrases nor the removal of keyslots revokes it, and only a
+reencryption does. Keep it apart from the disk. With it the volume can be opened
+once its keyslots are lost; luks open --key tells whether it is still the key.
+
+Prints one line:
+  done                  the key is kept
+  slot N does not open  the passphrase doesn't open keyslot --slot
+  no slot opens         it opens none
+  refused FAULT         why not, and nothing was written: SameFile (the file is
+                        VOLUME or that of the passphrase), Exists (it isn't
+                        empty, without --over), Passphrase, or what open refuses
+  device fault          a file can't be read or written
+  no memory             memory was refused; nothing was written
+
+Exit status:
+  0  done, or help was asked for
+  1  refused, or it doesn't open; nothing was written
+  2  the command line is wrong; the text is on standard error
+  4  device fault, no memory, or the output can't be written";

@@ -30,7 +30,7 @@ use Rattle.luks_commands.specs.declared.inputs.InputFault.{InputFault}
 use Rattle.luks_commands.specs.declared.standing.Bar.{Bar}
 use Rattle.luks_commands.specs.declared.standing.Bar.TheVariants as bar
 use Rattle.luks_commands.specs.Standing.{bar_answer, HasUse, is_bar_failure}
-use Rattle.luks_keeping_commands.specs.Reencrypting as meta
+use Rattle.luks_commands.specs.Reencrypting as meta
 use Rattle.luks_keeping_commands.specs.Restoring.{AnswersBoth, AnswersRestore, HoldsBackRestore, HoldsVolume, IsReencryptingAnswer, IsReencryptionBar, IsRestoreBar, IsRestoreClear, IsSpared, IsUnspared, IsUseBar, IsUseClear, IsUsedAnswer}
 use Rattle.luks_keeping_commands.specs.Restoring.{IsNewVolume, IsRestoreAnswer, KeepsRest}
 use Rattle.luks_keeping_commands.specs.TwoFiles.{pair_of, Pair}

@@ -1,6 +1,6 @@
 pub mod TwoFiles
 pub mod BackingUp
-pub mod Reencrypting
 pub mod Restoring
 pub mod Comparing
 pub mod Differences
+pub mod KeepingKey

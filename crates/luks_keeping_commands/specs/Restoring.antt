@@ -27,7 +27,7 @@ use Rattle.luks_commands.specs.Standing.{HasUse, IsHeldBack}
 use Rattle.luks_signatures.specs.declared.other_use.OtherUse.{OtherUse as Use}
 use Rattle.luks_commands.specs.declared.inputs.InputFault.{InputFault}
 use Rattle.luks_commands.specs.Answer.{unread_answer}
-use Rattle.luks_keeping_commands.specs.Reencrypting.{IsReencrypting, IsUnaskedMetadata}
+use Rattle.luks_commands.specs.Reencrypting.{IsReencrypting, IsUnaskedMetadata}
 use Rattle.luks_keeping_commands.specs.TwoFiles.{pair_of, NoneFailed, Pair}
 
 -- what `--other` and `--over` allow

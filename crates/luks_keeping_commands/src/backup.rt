@@ -72,7 +72,7 @@ pub fn run<D: Device, R: Read, N: Read, E: Write>(
 }
 
 /// Whether the target was found to be there, and not empty.
-fn is_kept_from<D>(target: &Result<D, InputFault>) -> bool
+pub(crate) fn is_kept_from<D>(target: &Result<D, InputFault>) -> bool
     ensures { IsTrue result ↔ (target.now ≡ Err (Unreadable reason.Exists)) }
 {
     matches!(target, Err(InputFault::Unreadable(Reason::Exists)))

@@ -4,12 +4,11 @@ ghost use Rattle.luks_area.specs.Device.{CountsFailure, IsUnchanged};
 ghost use Rattle.luks_writing.specs.TwoDevices.{CountsEither};
 ghost use Rattle.luks_keeping.specs.RestoreFaults.{is_restore_failure};
 ghost use Rattle.luks_commands.specs.Standing.{is_bar_failure};
-ghost use Rattle.luks_keeping_commands.specs.Reencrypting.{IsFromOutside, IsReencrypting};
+ghost use Rattle.luks_commands.specs.Reencrypting.{IsFromOutside, IsReencrypting};
 ghost use Rattle.luks_keeping_commands.specs.Restoring.{IsReencryptionBar, IsRestoreBar, IsRestoreClear};
 ghost use Rattle.luks_keeping_commands.specs.Restoring.{IsSpared, IsUnspared, IsUseBar, IsUseClear};
 
-use crate::reencrypting::is_reencrypting;
-use luks_commands::{Bar, standing_use_of};
+use luks_commands::{Bar, is_reencrypting, standing_use_of};
 use luks_keeping::{RestoreFault, counts_same_volume, read_outline};
 use luks_reading::{CheckFault, Data, Device};
 use luks_request::Restoring;

@@ -10,15 +10,19 @@ use Rattle.luks_slot.specs.declared.fault.SlotFault.{SlotFault}
 use Rattle.luks_slot.specs.declared.fault.SlotFault.TheVariants as slot
 use Rattle.luks_reading.specs.declared.open_fault.OpenFault.{OpenFault}
 use Rattle.luks_reading.specs.declared.open_fault.OpenFault.TheVariants as opening
-use Rattle.luks_reading.specs.Answer.{AnswerWithin, head_step, no_key, open_key, Opened, opens, refused, slot_row}
+use Rattle.luks_reading.specs.Answer.{AnswerWithin, head_step, no_key, open_key, Opened, opens, OpensWithin, refused, slot_row}
 use Rattle.luks_reading.proofs.VolumeLaws.{one_answer}
 use Rattle.luks_edit.specs.declared.edit.Edit.{Edit}
+use Rattle.luks_edit.specs.declared.edit.SecretKind.{SecretKind}
+use Rattle.luks_edit.specs.declared.edit.SecretKind.TheVariants.{Key, Passphrase}
+use Rattle.luks_edit.specs.Secrets.{AnswersTo, GivesWithin, own_key}
+use Rattle.luks_edit.proofs.SecretFacts.{one_answer_to, opens_answer}
 use Rattle.luks_edit.specs.declared.edit.Opener.{Opener as Named}
 use Rattle.luks_edit.specs.declared.deed.Deed.{Deed}
 use Rattle.luks_edit.specs.declared.deed.Deed.TheVariants as deed
 use Rattle.luks_edit.specs.declared.deed.Removed.{Removed}
 use Rattle.luks_edit.specs.declared.deed.Sealed.{Sealed}
-use Rattle.luks_edit.specs.Asked.{allowed_by, ChoosesArgon2, deed_of, HasFewIterations, IsBeyondMemory, MatchDeed, allowed_for, NamesItself, opener_in, opener_of, OpensBy, removed_by, sealed_by, Wants}
+use Rattle.luks_edit.specs.Asked.{allowed_by, ChoosesArgon2, deed_of, HasFewIterations, IsBeyondMemory, kind_by, MatchDeed, allowed_for, NamesItself, opener_in, opener_of, OpensBy, removed_by, sealed_by, Wants}
 use Rattle.luks_edit.specs.Opener.{IsLocked, IsShut}
 use Rattle.luks_laws.proofs.DecidedFacts.{alike_decided, Decided, one_decided, true_decided}
 use Rattle.luks_laws.proofs.SearchFacts.{some_decided, some_same}
@@ -31,8 +35,8 @@ few_decided e = some_decided Sealed (sealed_by e) (λ s. asked_few_turns s.deriv
 
 -- it chooses an Argon2 that is beyond its memory, or it doesn't
 pub beyond_decided : (e : Edit) → Decided (IsBeyondMemory e)
-beyond_decided e = some_decided Sealed (sealed_by e) (λ s. asked_beyond (allowed_for s.opener.passphrase s.passphrase.now).memory s.derivation ≡ true)
-    (λ s. true_decided (asked_beyond (allowed_for s.opener.passphrase s.passphrase.now).memory s.derivation))
+beyond_decided e = some_decided Sealed (sealed_by e) (λ s. asked_beyond (allowed_for s.opener.secret s.passphrase.now).memory s.derivation ≡ true)
+    (λ s. true_decided (asked_beyond (allowed_for s.opener.secret s.passphrase.now).memory s.derivation))
 
 -- it chooses Argon2, or it doesn't
 pub argon2_decided : (e : Edit) → Decided (ChoosesArgon2 e)
@@ -50,7 +54,7 @@ record Opener (e : Edit) : Type 0 where
 -- the edit opens one keyslot, or none
 find_in : (e : Edit) (o : Option Named) → opener_in (deed_of e) ≡ o → Opener e ⊎ ((n : ℕ) (p : List ℕ) → OpensBy e n p → ⊥)
 find_in e None is = inr (λ n p x. rw is at x)
-find_in e (Some o) is = inl (record { slot = o.slot; passphrase = o.passphrase.bytes.now; asked = rw is (refl, refl); only = λ n p x. rw is at x })
+find_in e (Some o) is = inl (record { slot = o.slot; passphrase = o.secret.bytes.now; asked = rw is (refl, refl); only = λ n p x. rw is at x })
 
 find_opener : (e : Edit) → Opener e ⊎ ((n : ℕ) (p : List ℕ) → OpensBy e n p → ⊥)
 find_opener e = find_in e (opener_in (deed_of e)) refl
@@ -133,11 +137,28 @@ head_apart f e = omega (arith, e)
 -- ---- answers
 
 module _ (m : Allowed) (v : List ℕ) (n : ℕ) (p : List ℕ) where
+  -- a key that is given, or none, is an answer
+  given_answer : (kind : SecretKind) (found : Option (List ℕ)) → GivesWithin kind m v n p found → (a : Opened) × AnswersTo kind m v n p a
+  given_answer kind (Some key) x = (opens key, x)
+  given_answer kind None x = (no_key, x)
+
+  -- where a keyslot opens to one or none, it gives one or none by a key
+  own_answer : (found : Option (List ℕ)) → OpensWithin m v n p found → (a : Opened) × AnswersTo Key m v n p a
+  own_answer found x =
+      given_answer Key (own_key x.plan p) (record { choice = x.choice; chosen = x.chosen; plan = x.plan; is = x.is; unrefused = x.unrefused; key = refl })
+
+  -- so it has an answer to a secret of either kind
+  answer_to : (kind : SecretKind) (a : Opened) → AnswerWithin m v n p a → (b : Opened) × AnswersTo kind m v n p b
+  answer_to Passphrase a x = (a, opens_answer m v n p a x)
+  answer_to Key (refused f) x = (refused f, x)
+  answer_to Key (opens key) x = own_answer (Some key) x
+  answer_to Key no_key x = own_answer None x
+
   -- an answer is that there is no key, or it isn't
-  no_key_as : (a : Opened) → AnswerWithin m v n p a → Decided (AnswerWithin m v n p no_key)
-  no_key_as (refused f) x = inr (λ y. one_answer m v n p (refused f) no_key x y)
-  no_key_as (opens key) x = inr (λ y. one_answer m v n p (opens key) no_key x y)
-  no_key_as no_key x = inl x
+  no_key_as : (kind : SecretKind) (a : Opened) → AnswersTo kind m v n p a → Decided (AnswersTo kind m v n p no_key)
+  no_key_as kind (refused f) x = inr (λ y. one_answer_to kind m v n p (refused f) no_key x y)
+  no_key_as kind (opens key) x = inr (λ y. one_answer_to kind m v n p (opens key) no_key x y)
+  no_key_as kind no_key x = inl x
 
   -- the refusal by the plan's fault, where the answer is a refusal
   refused_as : (f : SlotFault) (g : OpenFault) → AnswerWithin m v n p (refused g) → Decided (AnswerWithin m v n p (refused (opening.Slot f)))
@@ -158,11 +179,15 @@ module _ (m : Allowed) (v : List ℕ) (n : ℕ) (p : List ℕ) where
 -- ---- the answer of the keyslot that it opens
 
 module _ (v : List ℕ) (answer : (m : Allowed) (n : ℕ) (p : List ℕ) → (a : Opened) × AnswerWithin m v n p a) (e : Edit) where
-  -- the passphrase gives no key, or it does, or the keyslot is refused
+  -- what the keyslot answers to the edit's secret
+  secret_answer : (n : ℕ) (p : List ℕ) → (a : Opened) × AnswersTo (kind_by e) (allowed_by e) v n p a
+  secret_answer n p = answer_to (allowed_by e) v n p (kind_by e) (answer (allowed_by e) n p).0 (answer (allowed_by e) n p).1
+
+  -- the secret gives no key, or it does, or the keyslot is refused
   pub locked_decided : Decided (IsLocked v e)
-  locked_decided = alike_decided ((n : ℕ) × (p : List ℕ) × OpensBy e n p × AnswerWithin (allowed_by e) v n p no_key) (IsLocked v e)
+  locked_decided = alike_decided ((n : ℕ) × (p : List ℕ) × OpensBy e n p × AnswersTo (kind_by e) (allowed_by e) v n p no_key) (IsLocked v e)
       (λ x. record { slot = x.0; passphrase = x.1; asked = x.2; answer = x.3 }) (λ x. (x.slot, x.passphrase, x.asked, x.answer))
-      (opener_decided e (λ n p. AnswerWithin (allowed_by e) v n p no_key) (λ n p. no_key_as (allowed_by e) v n p (answer (allowed_by e) n p).0 (answer (allowed_by e) n p).1))
+      (opener_decided e (λ n p. AnswersTo (kind_by e) (allowed_by e) v n p no_key) (λ n p. no_key_as (allowed_by e) v n p (kind_by e) (secret_answer n p).0 (secret_answer n p).1))
 
   -- the keyslot is refused by a plan's fault, or it isn't
   pub shut_decided : (f : SlotFault) → Decided (IsShut v e f)

@@ -14,7 +14,7 @@ use Rattle.luks_reading.specs.Header.{json_at}
 use Rattle.luks_reading.specs.Plans.{HasLuks1Plan, HasLuks2Plan}
 use Rattle.luks_edit.specs.Asked.{allowed_by, allowed_for}
 use Rattle.luks_edit.specs.declared.edit.Edit.{Edit}
-use Rattle.luks_edit.specs.declared.edit.Passphrase.{Passphrase}
+use Rattle.luks_edit.specs.declared.edit.Secret.{Secret}
 use Rattle.luks2_judging.specs.Opened.{TakesMemoryToOpen}
 
 -- so much memory, and whether older ciphers and hashes
@@ -27,7 +27,7 @@ none_either true m zero = zero
 none_either false m zero = refl
 
 -- a passphrase without memory allows none
-pub memoryless : (old : Passphrase) (new : List ℕ) → old.allowed.memory ≡ 0 → allowed_for old new ≡ without_memory old.allowed.older
+pub memoryless : (old : Secret) (new : List ℕ) → old.allowed.memory ≡ 0 → allowed_for old new ≡ without_memory old.allowed.older
 memoryless old new zero =
     ap (λ (m : ℕ). allowing m old.allowed.older) (none_either (nat_lt (length old.bytes.now) (2 ^ 32) && nat_lt (length new) (2 ^ 32)) old.allowed.memory zero)
 
@@ -40,7 +40,7 @@ pub answers_alike : (v : List ℕ) (a b : Allowed) (n : ℕ) (p : List ℕ) (o :
 answers_alike v a b n p o same = (λ x. subst (λ k. AnswerWithin k v n p o) same x, λ x. subst (λ k. AnswerWithin k v n p o) (sym same) x)
 
 -- a passphrase to which nothing is allowed allows nothing
-pub nothing_for : (old : Passphrase) (new : List ℕ) → old.allowed ≡ none_allowed → allowed_for old new ≡ none_allowed
+pub nothing_for : (old : Secret) (new : List ℕ) → old.allowed ≡ none_allowed → allowed_for old new ≡ none_allowed
 nothing_for old new same = memoryless old new (ap (λ (a : Allowed). a.memory) same) ∙ ap (λ (a : Allowed). without_memory a.older) same
 
 -- where nothing is allowed, the plan of a keyslot is refused as before, whatever counts of the volume

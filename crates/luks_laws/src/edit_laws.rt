@@ -10,7 +10,7 @@ ghost use Rattle.luks_reading.specs.declared.open_fault.OpenFault.TheVariants.{S
 ghost use Rattle.luks_reading.specs.declared.report.Data.{Data as Payload};
 ghost use Rattle.luks_edit.specs.Asked.{allowed_by, allowed_for};
 ghost use Rattle.luks_edit.specs.declared.edit.Edit.{Edit as TheEdit};
-ghost use Rattle.luks_edit.specs.declared.edit.Passphrase.{Passphrase as ThePassphrase};
+ghost use Rattle.luks_edit.specs.declared.edit.Secret.{Secret as TheSecret};
 ghost use Rattle.luks1_edits.specs.Refused.{IsUnrefused1, Refusal1};
 ghost use Rattle.luks2_edit_laws.specs.Refused.{IsUnrefused2, Refusal2};
 ghost use Rattle.luks2_judging.specs.Opened.{TakesMemoryToOpen};
@@ -40,9 +40,9 @@ pub fn first_refusal_or_unrefused()
 /// none; where nothing is, the plan of a keyslot of either version is refused as it is without older
 /// ciphers and hashes too. A keyslot of LUKS1 answers alike whatever memory is allowed.
 pub fn nothing_allowed_edits_as_before()
-    ensures memoryless { (old : ThePassphrase) (new : List ℕ) → old.allowed.memory ≡ 0
+    ensures memoryless { (old : TheSecret) (new : List ℕ) → old.allowed.memory ≡ 0
         → allowed_for old new ≡ without_memory old.allowed.older }
-    ensures allowed { (old : ThePassphrase) (new : List ℕ) → old.allowed ≡ none_allowed
+    ensures allowed { (old : TheSecret) (new : List ℕ) → old.allowed ≡ none_allowed
         → allowed_for old new ≡ none_allowed }
     ensures answer { (v : List ℕ) (e : TheEdit) (n : ℕ) (p : List ℕ) (a : Opened)
         → (allowed_by e).memory ≡ 0

@@ -21,6 +21,7 @@ pub(crate) enum CommandName {
     Backup,
     Restore,
     Compare,
+    Key,
     Explain,
 }
 
@@ -43,6 +44,7 @@ impl CommandName {
             CommandName::Backup => rescue_helps::BACKUP,
             CommandName::Restore => rescue_helps::RESTORE,
             CommandName::Compare => rescue_helps::COMPARE,
+            CommandName::Key => rescue_helps::KEY,
             CommandName::Explain => helps::EXPLAIN,
         }
     }
@@ -55,6 +57,7 @@ impl CommandName {
             CommandName::Change => Some(helps::CHANGE_USAGE),
             CommandName::Remove => Some(helps::REMOVE_USAGE),
             CommandName::Format => Some(helps::FORMAT_USAGE),
+            CommandName::Key => Some(rescue_helps::KEY_USAGE),
             _ => None,
         }
     }
@@ -77,6 +80,7 @@ impl CommandName {
             CommandName::Backup => rescue_helps::BACKUP_MORE,
             CommandName::Restore => rescue_helps::RESTORE_MORE,
             CommandName::Compare => rescue_helps::COMPARE_MORE,
+            CommandName::Key => rescue_helps::KEY_MORE,
             CommandName::Explain => helps::EXPLAIN_MORE,
         }
     }

@@ -30,7 +30,7 @@ pub(crate) fn command_row(name: &str) -> Option<&'static Described> {
     commands().iter().find(|described| described.name == name)
 }
 
-static COMMANDS: [Described; 16] = [
+static COMMANDS: [Described; 17] = [
     Described {
         name: "check",
         command: CommandName::Check,
@@ -89,6 +89,7 @@ static COMMANDS: [Described; 16] = [
             LongOption::OpenedSlot,
             LongOption::Passphrase,
             LongOption::PassphraseLine,
+            LongOption::OpenerKey,
             LongOption::New,
             LongOption::NewLine,
             LongOption::NeededRandom,
@@ -107,7 +108,7 @@ static COMMANDS: [Described; 16] = [
             LongOption::Length,
             LongOption::Quiet,
         ],
-        choices: &[Choice::Passphrase, Choice::New],
+        choices: &[Choice::Opener, Choice::New],
     },
     Described {
         name: "change",
@@ -118,6 +119,7 @@ static COMMANDS: [Described; 16] = [
             LongOption::OpenedSlot,
             LongOption::Passphrase,
             LongOption::PassphraseLine,
+            LongOption::OpenerKey,
             LongOption::New,
             LongOption::NewLine,
             LongOption::NeededRandom,
@@ -135,7 +137,7 @@ static COMMANDS: [Described; 16] = [
             LongOption::Length,
             LongOption::Quiet,
         ],
-        choices: &[Choice::Passphrase, Choice::New],
+        choices: &[Choice::Opener, Choice::New],
     },
     Described {
         name: "remove",
@@ -147,6 +149,7 @@ static COMMANDS: [Described; 16] = [
             LongOption::By,
             LongOption::Passphrase,
             LongOption::PassphraseLine,
+            LongOption::OpenerKey,
             LongOption::Random,
             LongOption::Memory,
             LongOption::Older,
@@ -156,7 +159,7 @@ static COMMANDS: [Described; 16] = [
             LongOption::Length,
             LongOption::Quiet,
         ],
-        choices: &[Choice::Passphrase],
+        choices: &[Choice::Opener],
     },
     Described {
         name: "repair",
@@ -206,6 +209,11 @@ static COMMANDS: [Described; 16] = [
             LongOption::Lanes,
             LongOption::IterTime,
             LongOption::Memory,
+            LongOption::NewKey,
+            LongOption::NewPayload,
+            LongOption::NewUuid,
+            LongOption::Label,
+            LongOption::Subsystem,
             LongOption::OverAny,
             LongOption::Detached,
             LongOption::Offset,
@@ -304,6 +312,25 @@ static COMMANDS: [Described; 16] = [
             LongOption::Quiet,
         ],
         choices: &[],
+    },
+    Described {
+        name: "key",
+        command: CommandName::Key,
+        overwrites: false,
+        operands: &[Operand::Volume],
+        options: &[
+            LongOption::Passphrase,
+            LongOption::PassphraseLine,
+            LongOption::KeyFile,
+            LongOption::TriedSlot,
+            LongOption::Memory,
+            LongOption::Older,
+            LongOption::OverFile,
+            LongOption::Offset,
+            LongOption::Length,
+            LongOption::Quiet,
+        ],
+        choices: &[Choice::Passphrase],
     },
     Described {
         name: "explain",

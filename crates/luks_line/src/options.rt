@@ -34,6 +34,7 @@ pub(crate) enum LongOption {
     Offset,
     Length,
     OverFile,
+    KeyFile,
     Rescue,
     Other,
     RemovedSlot,
@@ -54,7 +55,13 @@ pub(crate) enum LongOption {
     OverAny,
     OverReencryption,
     Key,
+    OpenerKey,
     Digest,
+    NewKey,
+    NewPayload,
+    NewUuid,
+    Label,
+    Subsystem,
 }
 
 impl LongOption {
@@ -72,7 +79,7 @@ pub(crate) struct OptionRow {
 }
 
 /// In the order of `LongOption`.
-static OPTIONS: [OptionRow; 49] = [
+static OPTIONS: [OptionRow; 56] = [
     OptionRow {
         name: "detached",
         needed: false,
@@ -242,6 +249,12 @@ static OPTIONS: [OptionRow; 49] = [
         takes: Takes::Nothing,
     },
     OptionRow {
+        name: "to",
+        needed: true,
+        help: "The file of the key, which is made",
+        takes: Takes::File,
+    },
+    OptionRow {
         name: "rescue",
         needed: false,
         help: "Go on where a key area can't be read",
@@ -362,9 +375,45 @@ static OPTIONS: [OptionRow; 49] = [
         takes: Takes::File,
     },
     OptionRow {
+        name: "key",
+        needed: false,
+        help: "Instead, the file of the keyslot's key",
+        takes: Takes::File,
+    },
+    OptionRow {
         name: "digest",
         needed: false,
         help: "LUKS2: by which digest; else that of segment 0",
         takes: Takes::Digest,
+    },
+    OptionRow {
+        name: "key",
+        needed: false,
+        help: "The file of the volume key; else it is random",
+        takes: Takes::File,
+    },
+    OptionRow {
+        name: "payload",
+        needed: false,
+        help: "Where the data begins, in sectors of 512 bytes",
+        takes: Takes::Sector,
+    },
+    OptionRow {
+        name: "uuid",
+        needed: false,
+        help: "The volume's uuid; else a new one",
+        takes: Takes::Uuid,
+    },
+    OptionRow {
+        name: "label",
+        needed: false,
+        help: "LUKS2: the volume's label",
+        takes: Takes::Label,
+    },
+    OptionRow {
+        name: "subsystem",
+        needed: false,
+        help: "LUKS2: the volume's subsystem",
+        takes: Takes::Label,
     },
 ];

@@ -10,8 +10,8 @@ use clap::ArgMatches;
 use luks_kdf::HashName;
 use luks_reading::{Data, Format};
 use luks_request::{
-    BackingUp, Command, Comparing, Converting, EditRequest, Editing, Line, Making, NewVersion,
-    Place, Rebuilding, Restoring, ShowAs,
+    BackingUp, Command, Comparing, Converting, EditRequest, Editing, KeepingKey, Line, Making,
+    NewFields, NewVersion, OpenerFile, Place, Rebuilding, Restoring, ShowAs,
 };
 
 /// What the command asks for, of a volume.
@@ -55,6 +55,7 @@ fn command_of<'a>(name: CommandName, given: &ArgMatches<'a>) -> Option<Command<'
         CommandName::Backup => backing_up_of(given),
         CommandName::Restore => restoring_of(given),
         CommandName::Compare => comparing_of(given),
+        CommandName::Key => keeping_key_of(given),
         _ => editing_of(name, given),
     }
 }
@@ -93,6 +94,14 @@ fn opening_of<'a>(given: &ArgMatches<'a>) -> Option<Command<'a>> {
     })
 }
 
+/// The file of what opens the keyslot of an edit: its passphrase or its key.
+fn opener_of<'a>(given: &ArgMatches<'a>) -> Option<OpenerFile<'a>> {
+    match given.get_str("key") {
+        Some(name) => Some(OpenerFile::Key(name)),
+        None => Some(OpenerFile::Passphrase(passphrase_of(given)?)),
+    }
+}
+
 fn editing_of<'a>(name: CommandName, given: &ArgMatches<'a>) -> Option<Command<'a>> {
     Some(Command::Edit(Editing {
         request: edit_of(name, given)?,
@@ -116,7 +125,7 @@ fn edit_of<'a>(name: CommandName, given: &ArgMatches<'a>) -> Option<EditRequest<
 fn adding_of<'a>(given: &ArgMatches<'a>) -> Option<EditRequest<'a>> {
     Some(EditRequest::Add {
         by_: given.get_one::<u8>("slot")?,
-        passphrase: passphrase_of(given)?,
+        opener: opener_of(given)?,
         memory: mib_of(given, "memory")?,
         older: given.get_flag("older"),
         new: new_of(given)?,
@@ -129,7 +138,7 @@ fn adding_of<'a>(given: &ArgMatches<'a>) -> Option<EditRequest<'a>> {
 fn changing_of<'a>(given: &ArgMatches<'a>) -> Option<EditRequest<'a>> {
     Some(EditRequest::Change {
         slot: given.get_one::<u8>("slot")?,
-        passphrase: passphrase_of(given)?,
+        opener: opener_of(given)?,
         memory: mib_of(given, "memory")?,
         older: given.get_flag("older"),
         new: new_of(given)?,
@@ -142,7 +151,7 @@ fn removing_of<'a>(given: &ArgMatches<'a>) -> Option<EditRequest<'a>> {
     Some(EditRequest::Remove {
         slot: given.get_one::<u8>("slot")?,
         by_: given.get_one::<u8>("by"),
-        passphrase: passphrase_of(given)?,
+        opener: opener_of(given)?,
         memory: mib_of(given, "memory")?,
         older: given.get_flag("older"),
     })
@@ -166,8 +175,20 @@ fn formatting_of<'a>(given: &ArgMatches<'a>) -> Option<Command<'a>> {
         kdf: argon2_of(given)?,
         memory: mib_of(given, "memory")?,
         payload: data_of(given),
+        given: new_fields_of(given),
         over: given.get_flag("over"),
     }))
+}
+
+/// What is given of a new volume.
+fn new_fields_of<'a>(given: &ArgMatches<'a>) -> NewFields<'a> {
+    NewFields {
+        key: given.get_str("key"),
+        sector: given.get_one::<u32>("payload").map(u64::from),
+        uuid: given.get_str("uuid"),
+        label: given.get_str("label"),
+        subsystem: given.get_str("subsystem"),
+    }
 }
 
 fn version_of(given: &ArgMatches<'_>) -> Option<NewVersion> {
@@ -223,6 +244,17 @@ fn comparing_of<'a>(given: &ArgMatches<'a>) -> Option<Command<'a>> {
     Some(Command::Compare(Comparing {
         backup: given.get_str("FILE")?,
         payload: data_of(given),
+    }))
+}
+
+fn keeping_key_of<'a>(given: &ArgMatches<'a>) -> Option<Command<'a>> {
+    Some(Command::KeepKey(KeepingKey {
+        target: given.get_str("to")?,
+        passphrase: passphrase_of(given)?,
+        slot: given.get_one::<u8>("slot"),
+        memory: mib_of(given, "memory")?,
+        older: given.get_flag("older"),
+        over: given.get_flag("over"),
     }))
 }
 

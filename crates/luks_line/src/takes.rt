@@ -58,6 +58,8 @@ pub(crate) enum Takes {
     Lanes,
     /// A time in milliseconds.
     Milliseconds,
+    /// A label or a subsystem.
+    Label,
 }
 
 /// The lengths that a copy of a LUKS2 header may have (LUKS2 On-Disk Format 1.1, 2.1).
@@ -78,6 +80,7 @@ impl Takes {
             Takes::Nothing | Takes::Form | Takes::OfLuks2 => ValueParser::Bool,
             Takes::File | Takes::OnePassphrase | Takes::Uuid | Takes::Cipher | Takes::Name =>
                 ValueParser::String,
+            Takes::Label => ValueParser::String,
             Takes::Memory | Takes::KdfMemory | Takes::Offset | Takes::Bytes | Takes::CopySize =>
                 ValueParser::String,
             Takes::Slot | Takes::Digest => ValueParser::Unsigned(0, 31),
@@ -114,7 +117,7 @@ impl Takes {
             Takes::Milliseconds => &["MS"],
             Takes::Version => &["VERSION"],
             Takes::Hash => &["HASH"],
-            Takes::Uuid => &["TEXT"],
+            Takes::Uuid | Takes::Label => &["TEXT"],
             Takes::Offset | Takes::Bytes | Takes::CopySize => &["BYTES"],
             Takes::Cipher => &["NAME-MODE"],
             Takes::Name => &["NAME"],

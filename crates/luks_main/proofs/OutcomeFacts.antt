@@ -11,13 +11,15 @@ use Rattle.luks_commands.specs.declared.answers.Answer.TheVariants.{NoMemory}
 use Rattle.luks_commands.specs.declared.inputs.InputFault.{InputFault}
 use Rattle.luks_commands.specs.declared.inputs.InputFault.TheVariants.{Unreadable}
 use Rattle.luks_commands.specs.declared.inputs.Inputs.{Inputs}
-use Rattle.luks_commands.specs.declared.inputs.Reason.TheVariants.{SameFile}
+use Rattle.luks_commands.specs.declared.inputs.Reason.TheVariants.{Exists, SameFile}
 use Rattle.luks_commands.specs.Beside.{AreOneFile}
+use Rattle.luks_keeping_commands.specs.KeepingKey.{AreNotThree, IsExisting}
+use Rattle.luks_request.specs.declared.keeping.KeepingKey.{KeepingKey}
 use Rattle.luks_execution.specs.Executed.{Executes, IsExecuted}
 use Rattle.luks_main.specs.Outcomes.{EndsTold, IsMade, told, refused, failed}
 use Rattle.luks_main.specs.Statuses.{EndsWith, MayEnd}
 use Rattle.luks_timing.specs.Timed.{IsTimed}
-use Rattle.luks_main.proofs.StatusFacts.{backup_ends, backup_same_file_ends, check_ends, compare_ends, compare_same_file_ends, convert_ends, converted_same_file_ends, edit_ends, format_ends, key_ends, memory_ends, open_ends, own, rebuild_ends, rebuilt_same_file_ends, restore_ends, restore_same_file_ends, show_ends}
+use Rattle.luks_main.proofs.StatusFacts.{backup_ends, backup_same_file_ends, check_ends, compare_ends, compare_same_file_ends, convert_ends, converted_same_file_ends, edit_ends, format_ends, kept_existing_ends, kept_key_ends, kept_same_file_ends, key_ends, memory_ends, open_ends, own, rebuild_ends, rebuilt_same_file_ends, restore_ends, restore_same_file_ends, show_ends}
 
 -- ---- whether both files are one
 
@@ -41,6 +43,24 @@ by_one_file : {One Q : Type 0} → One ⊎ (One → ⊥) → (One → Q) → ((O
 by_one_file (inl one) of_one of_two = of_one one
 by_one_file (inr two) of_one of_two = of_two two
 
+-- the key's file is another of the command, or isn't
+either : {P Q : Type 0} → P ⊎ (P → ⊥) → Q ⊎ (Q → ⊥) → (P ⊎ Q) ⊎ (P ⊎ Q → ⊥)
+either (inl p) q = inl (inl p)
+either (inr no_p) (inl q) = inl (inr q)
+either (inr no_p) (inr no_q) = inr (not_either no_p no_q)
+
+one_name_by : (b : Bool) (name other : List ℕ) → Decides b (name ≡ other) → (name ≡ other) ⊎ (name ≡ other → ⊥)
+one_name_by true name other decides = inl (decides.0 refl)
+one_name_by false name other decides = inr (not_true decides)
+
+not_three : {D : Type 0} (name : List ℕ) (keeping : KeepingKey) (target : Result D InputFault) → AreNotThree name keeping target ⊎ (AreNotThree name keeping target → ⊥)
+not_three name keeping target = either (one_file name keeping.target.now target)
+    (one_name_by (bytes_eq keeping.passphrase.now keeping.target.now) keeping.passphrase.now keeping.target.now (bytes_eq-Decides keeping.passphrase.now keeping.target.now))
+
+existing : {D : Type 0} (target : Result D InputFault) → IsExisting target ⊎ (IsExisting target → ⊥)
+existing (Err (Unreadable Exists)) = inl refl
+existing target = inr (λ e. cc)
+
 -- ---- what a command answers
 
 -- what a command promises of its answer is one of those that it ends with
@@ -51,7 +71,7 @@ commands_end device words chance (command.Show shown_as) name old new a said = s
 commands_end device words chance (command.Open passphrase slot memory older) name old new a said = open_ends _ _ _ _ slot _ _ _ _ _ a said
 commands_end device words chance (command.Match matching) name old new a said = key_ends _ _ _ _ _ _ _ _ _ _ a said
 commands_end device words chance (command.Edit editing) name old new a said = edit_ends _ _ _ _ _ _ _ _ a said.answers
-commands_end device words chance (command.Format making) name old new a said = format_ends _ _ _ _ making _ _ _ _ _ _ a said.answers
+commands_end device words chance (command.Format making) name old new a said = format_ends _ _ _ _ making _ _ _ _ _ _ _ a said.answers
 commands_end device words chance (command.Convert converting) name old new a said =
     by_one_file (one_file name converting.target.now old.target) (λ one. converted_same_file_ends a (said.same one).1)
     (λ two. convert_ends _ _ _ _ converting _ _ _ _ _ _ a (said.answers two))
@@ -67,6 +87,10 @@ commands_end device words chance (command.Restore restoring) name old new a said
 commands_end device words chance (command.Compare comparing) name old new a said =
     by_one_file (one_file name comparing.backup.now old.target) (λ one. compare_same_file_ends a (said.same one).1)
     (λ two. compare_ends device.tells device.size device.bytes device.failed comparing.payload old.volume new.volume old.target new.target a (said.answers two))
+commands_end device words chance (command.KeepKey keeping) name old new a said =
+    by_one_file (not_three name keeping old.target) (λ one. kept_same_file_ends keeping.slot a (said.same one).1)
+    (λ three. by_one_file (existing old.target) (λ there. kept_existing_ends keeping.slot a (said.exists three there).1)
+    (λ free. kept_key_ends device _ keeping.slot _ _ _ old.volume new.volume old.target new.target a (said.answers three free)))
 
 -- so of one that was run
 pub executed_ends : {D R N : Type 0} (device : Device D) (words : R → Option (List ℕ)) (chance : N → Option (List ℕ)) (c : Command) (name : List ℕ) (old new : Inputs D R N) (a : Answer)
@@ -118,3 +142,4 @@ timed_ends (command.Rebuild rebuilding) timed status is ends = subst (λ (x : Co
 timed_ends (command.Backup backing_up) timed status is ends = subst (λ (x : Command). MayEnd x status) is ends
 timed_ends (command.Restore restoring) timed status is ends = subst (λ (x : Command). MayEnd x status) is ends
 timed_ends (command.Compare comparing) timed status is ends = subst (λ (x : Command). MayEnd x status) is ends
+timed_ends (command.KeepKey keeping) timed status is ends = subst (λ (x : Command). MayEnd x status) is ends

@@ -1,5 +1,5 @@
 -- Each command's answers end with the statuses of the table.
-use Rattle.std.proofs.Common.{◌≡◌, ◌⊎◌, ℕ, List, Bool, true, false, Option, Some, None, Result, Ok, Err, refl, sym, ap, subst, inl, inr}
+use Rattle.std.proofs.Common.{◌≡◌, ◌⊎◌, ℕ, List, Bool, true, false, Option, Some, None, Bor, Result, Ok, Err, refl, sym, ap, subst, inl, inr}
 use Rattle.luks_reading.specs.declared.report.Data.{Data}
 use Rattle.luks_reading.specs.declared.report.Version.TheVariants.{Luks1, Luks2}
 use Rattle.luks2_header.specs.declared.selection.Copies.TheVariants.{InStep, FirstNewer, SecondNewer, FirstOnly, SecondOnly}
@@ -21,7 +21,7 @@ use Rattle.luks_commands.specs.declared.answers.Refusal.TheVariants as refusal
 use Rattle.luks_commands.specs.declared.inputs.InputFault.{InputFault}
 use Rattle.luks_commands.specs.declared.inputs.InputFault.TheVariants.{Absent, Unreadable, NoMemory as NoMemoryToRead}
 use Rattle.luks_commands.specs.declared.inputs.Reason.TheVariants as reason
-use Rattle.luks_commands.specs.Answer.{answer_status, current_status, IsWordless, unread_answer}
+use Rattle.luks_commands.specs.Answer.{answer_status, current_status, IsWordless, open_fault_answer, unread_answer}
 use Rattle.luks_commands.specs.Exit.{exit_status}
 use Rattle.luks_commands.specs.Standing.{bar_answer, HasOther, IsBar}
 use Rattle.luks_commands.specs.declared.standing.Bar.{Bar}
@@ -34,6 +34,9 @@ use Rattle.luks_commands.specs.OpenAnswers.{AnswersOpen, IsAnyAnswer, IsOneAnswe
 use Rattle.luks_reading.specs.declared.key_fault.KeyFault.{KeyFault}
 use Rattle.luks_reading.specs.declared.key_fault.KeyFault.TheVariants as judging
 use Rattle.luks_reading.specs.declared.matching.KeyMatch.{KeyMatch}
+use Rattle.luks_reading.specs.declared.open_fault.OpenFault.{OpenFault}
+use Rattle.luks_reading.specs.declared.open_fault.OpenFault.TheVariants as opening
+use Rattle.luks_area.specs.declared.device.Device.{Ghosts as Device}
 use Rattle.luks_commands.specs.FormatAnswers.{AnswersFormat, IsFormatAnswer}
 use Rattle.luks_rebuilding.specs.declared.place.Which.{Which}
 use Rattle.luks_commands.specs.ShowAnswers.{AnswersShow, IsFullAnswer, IsJsonAnswer, IsListedAnswer, IsMapAnswer, IsShowAnswer}
@@ -49,11 +52,12 @@ use Rattle.luks_keeping.specs.declared.over.Over.{Over}
 use Rattle.luks_keeping.specs.declared.restore_fault.RestoreFault.TheVariants as restoring
 use Rattle.luks_keeping_commands.specs.BackingUp.{AnswersBackup, IsBackupAnswer, IsMadeAnswer, IsNotKept, IsRescueAnswer, IsWithoutFile}
 use Rattle.luks_keeping_commands.specs.Comparing.{AnswersCompare, IsCompareAnswer}
+use Rattle.luks_keeping_commands.specs.KeepingKey.{shut_answer, unmade_answer, AnswersKeyKept, IsKept, IsKeyFileAnswer}
 use Rattle.luks_keeping_commands.specs.Restoring.{over_of, AnswersBoth, AnswersRestore, IsRestoreAnswer, IsRestoreBar}
 use Rattle.luks_keeping_commands.specs.TwoFiles.{pair_of, Pair as TwoFiles}
 use Rattle.luks_edit_commands.specs.EditAnswers.{AnswersEdit, IsEditAnswer}
 use Rattle.luks_edit_commands.specs.Editing.{Given, Lacking}
-use Rattle.luks_main.specs.Statuses.{EndsBackup, EndsCheck, EndsCompare, EndsConvert, EndsEdit, EndsFormat, EndsKey, EndsOpen, EndsRebuild, EndsTried, EndsUntried, EndsRestore, EndsShow, EndsWith}
+use Rattle.luks_main.specs.Statuses.{EndsBackup, EndsCheck, EndsCompare, EndsConvert, EndsEdit, EndsFormat, EndsKeepKey, EndsKey, EndsOpen, EndsRebuild, EndsTried, EndsUntried, EndsRestore, EndsShow, EndsWith}
 
 -- an answer's own status
 abbrev pub own : Answer → ℕ
@@ -81,6 +85,7 @@ memory_ends (command.Rebuild rebuilding) = rebuild_memory_ends rebuilding.passph
 memory_ends (command.Backup backing_up) = refl
 memory_ends (command.Restore restoring) = refl
 memory_ends (command.Compare comparing) = refl
+memory_ends (command.KeepKey keeping) = refl
 
 -- a file that can't be read
 unread_ends : (Ends : Answer → ℕ → Type 0) → Ends DeviceFault 4 → Ends NoMemory 4 → (f : InputFault) (a : Answer) → a ≡ unread_answer f → Ends a (own a)
@@ -95,13 +100,13 @@ wordless_ends Ends long fault memory is_long unread a (inl said) = subst (λ x. 
 wordless_ends Ends long fault memory is_long unread a (inr said) = unread_ends Ends fault memory said.0 a said.2
 
 -- what bars `format`, `convert` and `rebuild`
-barred_ends : (Ends : Answer → ℕ → Type 0) → ((found : Use) → Ends (Refused (refusal.OtherUse found)) 1) → Ends (Refused refusal.OtherVolume) 1 → Ends DeviceFault 4 → Ends NoMemory 4
+barred_ends : (Ends : Answer → ℕ → Type 0) → ((found : Use) → Ends (Refused (refusal.OtherUse found)) 1) → Ends (Refused refusal.OtherVolume) 1 → Ends (Refused refusal.Reencrypting) 1 → Ends DeviceFault 4 → Ends NoMemory 4
     → (tells : Type 0) (over : Bool) (Other : Type 0) (v : List ℕ) (b : Bar) → IsBar tells over Other v b → (a : Answer) → a ≡ bar_answer b → Ends a (own a)
-barred_ends Ends use_of volume fault memory tells over Other v (bar.OtherUse found) is a same = subst (λ x. Ends x (own x)) (sym same) (use_of found)
-barred_ends Ends use_of volume fault memory tells over Other v bar.OtherVolume is a same = subst (λ x. Ends x (own x)) (sym same) volume
-barred_ends Ends use_of volume fault memory tells over Other v bar.Reencrypting is a same = absurd is
-barred_ends Ends use_of volume fault memory tells over Other v bar.Memory is a same = subst (λ x. Ends x (own x)) (sym same) memory
-barred_ends Ends use_of volume fault memory tells over Other v bar.Device is a same = subst (λ x. Ends x (own x)) (sym same) fault
+barred_ends Ends use_of volume reencrypting fault memory tells over Other v (bar.OtherUse found) is a same = subst (λ x. Ends x (own x)) (sym same) (use_of found)
+barred_ends Ends use_of volume reencrypting fault memory tells over Other v bar.OtherVolume is a same = subst (λ x. Ends x (own x)) (sym same) volume
+barred_ends Ends use_of volume reencrypting fault memory tells over Other v bar.Reencrypting is a same = subst (λ x. Ends x (own x)) (sym same) reencrypting
+barred_ends Ends use_of volume reencrypting fault memory tells over Other v bar.Memory is a same = subst (λ x. Ends x (own x)) (sym same) memory
+barred_ends Ends use_of volume reencrypting fault memory tells over Other v bar.Device is a same = subst (λ x. Ends x (own x)) (sym same) fault
 
 -- ---- `check`
 
@@ -254,25 +259,25 @@ edit_ends tells bytes failed payload given lacks (Err fault) new a (inr said) = 
 
 -- ---- `format`
 
-format_there : (tells : Type 0) (making : Making) (passphrase random : List ℕ) (total : ℕ) (old new : List ℕ) (before after : ℕ) (a : Answer)
-    → IsFormatAnswer tells making passphrase random total old new before after a → EndsFormat a (own a)
-format_there tells making passphrase random total old new before after (Done slot) said = (said.1, refl)
-format_there tells making passphrase random total old new before after (Refused (refusal.Format f)) said = refl
-format_there tells making passphrase random total old new before after DeviceFault said = refl
-format_there tells making passphrase random total old new before after NoMemory said = refl
-format_there tells making passphrase random total old new before after a said = absurd said
+format_there : (tells : Type 0) (making : Making) (key : Option (Bor (List ℕ))) (passphrase random : List ℕ) (total : ℕ) (old new : List ℕ) (before after : ℕ) (a : Answer)
+    → IsFormatAnswer tells making key passphrase random total old new before after a → EndsFormat a (own a)
+format_there tells making key passphrase random total old new before after (Done slot) said = (said.1, refl)
+format_there tells making key passphrase random total old new before after (Refused (refusal.Format f)) said = refl
+format_there tells making key passphrase random total old new before after DeviceFault said = refl
+format_there tells making key passphrase random total old new before after NoMemory said = refl
+format_there tells making key passphrase random total old new before after a said = absurd said
 
-pub format_ends : {D : Type 0} (tells : Type 0) (size : D → ℕ) (bytes : D → List ℕ) (failed : D → ℕ) (making : Making) (HasWords : List ℕ → Type 0) (is_long : Type 0)
+pub format_ends : {D : Type 0} (tells : Type 0) (size : D → ℕ) (bytes : D → List ℕ) (failed : D → ℕ) (making : Making) (HasWords HasKey : List ℕ → Type 0) (is_long : Type 0)
     (unread : InputFault → Type 0) (HasRandom : List ℕ → Type 0) (old new : Result D InputFault) (a : Answer)
-    → AnswersFormat tells size bytes failed making HasWords is_long unread HasRandom old new a → EndsFormat a (own a)
-format_ends tells size bytes failed making HasWords is_long unread HasRandom (Ok old) (Ok new) a (inl said) = wordless_ends EndsFormat refl refl refl is_long unread a said.0
-format_ends tells size bytes failed making HasWords is_long unread HasRandom (Ok old) (Ok new) a (inr (inl held)) =
-    barred_ends EndsFormat (λ found. refl) refl refl refl tells making.over (HasOther None (bytes old)) (bytes old) held.bar held.barred a held.is
-format_ends tells size bytes failed making HasWords is_long unread HasRandom (Ok old) (Ok new) a (inr (inr said)) =
-    format_there tells making said.passphrase said.random (size old) (bytes old) (bytes new) (failed old) (failed new) a said.is
-format_ends tells size bytes failed making HasWords is_long unread HasRandom (Ok old) (Err fault) a said = absurd said
-format_ends tells size bytes failed making HasWords is_long unread HasRandom (Err fault) new a (inl said) = wordless_ends EndsFormat refl refl refl is_long unread a said
-format_ends tells size bytes failed making HasWords is_long unread HasRandom (Err fault) new a (inr said) = unread_ends EndsFormat refl refl fault a said
+    → AnswersFormat tells size bytes failed making HasWords HasKey is_long unread HasRandom old new a → EndsFormat a (own a)
+format_ends tells size bytes failed making HasWords HasKey is_long unread HasRandom (Ok old) (Ok new) a (inl said) = wordless_ends EndsFormat refl refl refl is_long unread a said.0
+format_ends tells size bytes failed making HasWords HasKey is_long unread HasRandom (Ok old) (Ok new) a (inr (inl held)) =
+    barred_ends EndsFormat (λ found. refl) refl refl refl refl tells making.over (HasOther None (bytes old)) (bytes old) held.bar held.barred a held.is
+format_ends tells size bytes failed making HasWords HasKey is_long unread HasRandom (Ok old) (Ok new) a (inr (inr said)) =
+    format_there tells making said.key said.passphrase said.random (size old) (bytes old) (bytes new) (failed old) (failed new) a said.is
+format_ends tells size bytes failed making HasWords HasKey is_long unread HasRandom (Ok old) (Err fault) a said = absurd said
+format_ends tells size bytes failed making HasWords HasKey is_long unread HasRandom (Err fault) new a (inl said) = wordless_ends EndsFormat refl refl refl is_long unread a said
+format_ends tells size bytes failed making HasWords HasKey is_long unread HasRandom (Err fault) new a (inr said) = unread_ends EndsFormat refl refl fault a said
 
 -- ---- `convert` and `rebuild`
 
@@ -284,19 +289,19 @@ unbarred_ends Ends fault memory tells says each unread HasRandom d a (inl said) 
 unbarred_ends Ends fault memory tells says each unread HasRandom d a (inr said) = each said.random d a said.is
 
 -- what both answer, by what is said with the random bytes
-header_ends : {D : Type 0} (Ends : Answer → ℕ → Type 0) → ((found : Use) → Ends (Refused (refusal.OtherUse found)) 1) → Ends (Refused refusal.OtherVolume) 1
+header_ends : {D : Type 0} (Ends : Answer → ℕ → Type 0) → ((found : Use) → Ends (Refused (refusal.OtherUse found)) 1) → Ends (Refused refusal.OtherVolume) 1 → Ends (Refused refusal.Reencrypting) 1
     → Ends DeviceFault 4 → Ends NoMemory 4 → (tells : Type 0) (size : D → ℕ) (bytes : D → List ℕ) (failed : D → ℕ) (over : Bool)
     (says : List ℕ → Pair → Answer → Type 0) → ((random : List ℕ) (d : Pair) (a : Answer) → says random d a → Ends a (own a)) → (unread : InputFault → Type 0) (HasRandom : List ℕ → Type 0)
     (volume volume_new old new : Result D InputFault) (a : Answer) → AnswersHeader tells size bytes failed over says unread HasRandom volume volume_new old new a → Ends a (own a)
-header_ends Ends use_of other fault memory tells size bytes failed over says each unread HasRandom (Ok volume) (Ok volume_new) (Ok old) (Ok new) a (inl held) =
-    barred_ends Ends use_of other fault memory tells over (IsOtherTarget (bytes volume) (bytes old)) (bytes old) held.bar held.barred a held.is
-header_ends Ends use_of other fault memory tells size bytes failed over says each unread HasRandom (Ok volume) (Ok volume_new) (Ok old) (Ok new) a (inr clear) =
+header_ends Ends use_of other reencrypting fault memory tells size bytes failed over says each unread HasRandom (Ok volume) (Ok volume_new) (Ok old) (Ok new) a (inl held) =
+    barred_ends Ends use_of other reencrypting fault memory tells over (IsOtherTarget (bytes volume) (bytes old)) (bytes old) held.bar held.barred a held.is
+header_ends Ends use_of other reencrypting fault memory tells size bytes failed over says each unread HasRandom (Ok volume) (Ok volume_new) (Ok old) (Ok new) a (inr clear) =
     unbarred_ends Ends fault memory tells says each unread HasRandom (header_pair size bytes failed volume volume_new old new) a clear.is
-header_ends Ends use_of other fault memory tells size bytes failed over says each unread HasRandom (Ok volume) (Ok volume_new) (Ok old) (Err f) a said = absurd said
-header_ends Ends use_of other fault memory tells size bytes failed over says each unread HasRandom (Ok volume) (Ok volume_new) (Err f) new a said = unread_ends Ends fault memory f a said
-header_ends Ends use_of other fault memory tells size bytes failed over says each unread HasRandom (Ok volume) (Err f) (Ok old) new a said = absurd said
-header_ends Ends use_of other fault memory tells size bytes failed over says each unread HasRandom (Ok volume) (Err g) (Err f) new a said = unread_ends Ends fault memory f a said
-header_ends Ends use_of other fault memory tells size bytes failed over says each unread HasRandom (Err f) volume_new old new a said = unread_ends Ends fault memory f a said
+header_ends Ends use_of other reencrypting fault memory tells size bytes failed over says each unread HasRandom (Ok volume) (Ok volume_new) (Ok old) (Err f) a said = absurd said
+header_ends Ends use_of other reencrypting fault memory tells size bytes failed over says each unread HasRandom (Ok volume) (Ok volume_new) (Err f) new a said = unread_ends Ends fault memory f a said
+header_ends Ends use_of other reencrypting fault memory tells size bytes failed over says each unread HasRandom (Ok volume) (Err f) (Ok old) new a said = absurd said
+header_ends Ends use_of other reencrypting fault memory tells size bytes failed over says each unread HasRandom (Ok volume) (Err g) (Err f) new a said = unread_ends Ends fault memory f a said
+header_ends Ends use_of other reencrypting fault memory tells size bytes failed over says each unread HasRandom (Err f) volume_new old new a said = unread_ends Ends fault memory f a said
 
 convert_there : (tells : Type 0) (payload : Data) (random : List ℕ) (d : Pair) (a : Answer) → IsConvertAnswer tells payload random d a → EndsConvert a (own a)
 convert_there tells payload random d (Done slot) said = (said.1, refl)
@@ -308,7 +313,7 @@ convert_there tells payload random d a said = absurd said
 pub convert_ends : {D : Type 0} (tells : Type 0) (size : D → ℕ) (bytes : D → List ℕ) (failed : D → ℕ) (converting : Converting) (unread : InputFault → Type 0) (HasRandom : List ℕ → Type 0)
     (volume volume_new old new : Result D InputFault) (a : Answer) → AnswersConvert tells size bytes failed converting unread HasRandom volume volume_new old new a → EndsConvert a (own a)
 convert_ends tells size bytes failed converting unread HasRandom volume volume_new old new a said =
-    header_ends EndsConvert (λ found. refl) refl refl refl tells size bytes failed converting.over (IsConvertAnswer tells converting.payload) (convert_there tells converting.payload) unread HasRandom volume volume_new old new a said
+    header_ends EndsConvert (λ found. refl) refl refl refl refl tells size bytes failed converting.over (IsConvertAnswer tells converting.payload) (convert_there tells converting.payload) unread HasRandom volume volume_new old new a said
 
 luks2_there : (tells : Type 0) (which : Which) (given : Option (List ℕ)) (random : List ℕ) (d : Pair) (a : Answer) → IsLuks2Answer tells which given random d a → EndsUntried a (own a)
 luks2_there tells which given random d (Done slot) said = (said.1, refl)
@@ -351,11 +356,11 @@ by_passphrase_ends : {A D : Type 0} (passphrase : Option A) (tells : Type 0) (si
     (wordless unread_ : InputFault → Type 0) (HasRandom : List ℕ → Type 0) (volume volume_new old new : Result D InputFault) (a : Answer)
     → AnswersBy passphrase tells size bytes failed r HasWords is_long wordless unread_ HasRandom volume volume_new old new a → EndsRebuild passphrase a (own a)
 by_passphrase_ends None tells size bytes failed r HasWords is_long wordless unread_ HasRandom volume volume_new old new a said =
-    header_ends EndsUntried (λ found. refl) refl refl refl tells size bytes failed r.over (IsRebuildAnswer tells r) (rebuild_there tells r) unread_ HasRandom volume volume_new old new a said
+    header_ends EndsUntried (λ found. refl) refl refl refl refl tells size bytes failed r.over (IsRebuildAnswer tells r) (rebuild_there tells r) unread_ HasRandom volume volume_new old new a said
 by_passphrase_ends (Some file) tells size bytes failed r HasWords is_long wordless unread_ HasRandom volume volume_new old new a (inl said) =
     wordless_ends EndsTried refl refl refl is_long wordless a said.is
 by_passphrase_ends (Some file) tells size bytes failed r HasWords is_long wordless unread_ HasRandom volume volume_new old new a (inr said) =
-    header_ends EndsTried (λ found. refl) refl refl refl tells size bytes failed r.over (λ random. IsTriedAnswer tells r said.words) (λ random d b it. tried_there tells it.given said.words d b it.says)
+    header_ends EndsTried (λ found. refl) refl refl refl refl tells size bytes failed r.over (λ random. IsTriedAnswer tells r said.words) (λ random d b it. tried_there tells it.given said.words d b it.says)
     unread_ HasRandom volume volume_new old new a said.is
 
 pub rebuild_ends : {D : Type 0} (tells : Type 0) (size : D → ℕ) (bytes : D → List ℕ) (failed : D → ℕ) (r : Rebuilding) (HasWords : List ℕ → Type 0) (is_long : Type 0)
@@ -465,3 +470,60 @@ restore_same_file_ends a is = subst (λ x. EndsRestore x (own x)) (sym is) refl
 
 pub compare_same_file_ends : (a : Answer) → IsSameFile a → EndsCompare a (own a)
 compare_same_file_ends a is = subst (λ x. EndsCompare x (own x)) (sym is) refl
+
+-- ---- `key`
+
+kept_unread : (slot : Option ℕ) (f : InputFault) (a : Answer) → a ≡ unread_answer f → EndsKeepKey slot a (own a)
+kept_unread slot f a is = unread_ends (EndsKeepKey slot) refl refl f a is
+
+unmade_ends : (slot : Option ℕ) (f : InputFault) → EndsKeepKey slot (unmade_answer f) (own (unmade_answer f))
+unmade_ends slot Absent = refl
+unmade_ends slot (Unreadable reason.Exists) = refl
+unmade_ends slot (Unreadable reason.SameFile) = refl
+unmade_ends slot (Unreadable r) = refl
+unmade_ends slot NoMemoryToRead = refl
+
+kept_there : {D : Type 0} (device : Device D) (slot : Option ℕ) (key : List ℕ) (new : Result D InputFault) (a : Answer) → IsKept device key new a → EndsKeepKey slot a (own a)
+kept_there device slot key (Ok file) (Done None) said = (refl, refl)
+kept_there device slot key (Ok file) DeviceFault said = refl
+kept_there device slot key (Ok file) a said = absurd said
+kept_there device slot key (Err missed) a said = subst (λ x. EndsKeepKey slot x (own x)) (sym said) (unmade_ends slot missed)
+
+shut_ends : (slot : Option ℕ) → EndsKeepKey slot (shut_answer slot) (own (shut_answer slot))
+shut_ends (Some n) = (refl, refl)
+shut_ends None = (refl, refl)
+
+unopened_ends : (slot : Option ℕ) (f : OpenFault) → EndsKeepKey slot (open_fault_answer f) (own (open_fault_answer f))
+unopened_ends slot (opening.Head f) = refl
+unopened_ends slot (opening.Meta f) = refl
+unopened_ends slot opening.NoSuchSlot = refl
+unopened_ends slot opening.SlotFree = refl
+unopened_ends slot opening.Outside = refl
+unopened_ends slot (opening.Slot f) = refl
+unopened_ends slot opening.Device = refl
+unopened_ends slot opening.Memory = refl
+
+key_file_ends : {D : Type 0} (device : Device D) (slot : Option ℕ) (opened : Result (Option (List ℕ)) OpenFault) (old new : Result D InputFault) (a : Answer)
+    → IsKeyFileAnswer device slot opened old new a → EndsKeepKey slot a (own a)
+key_file_ends device slot (Ok (Some key)) old new a said = kept_there device slot key new a said
+key_file_ends device slot (Ok None) old new a said = subst (λ x. EndsKeepKey slot x (own x)) (sym said.1) (shut_ends slot)
+key_file_ends device slot (Err f) old new a said = subst (λ x. EndsKeepKey slot x (own x)) (sym said.1) (unopened_ends slot f)
+
+without_volume : (slot : Option ℕ) (is_long : Type 0) (unread : InputFault → Type 0) (f : InputFault) (a : Answer) → IsWordless is_long unread a ⊎ (a ≡ unread_answer f) → EndsKeepKey slot a (own a)
+without_volume slot is_long unread f a (inl said) = wordless_ends (EndsKeepKey slot) refl refl refl is_long unread a said
+without_volume slot is_long unread f a (inr said) = kept_unread slot f a said
+
+pub kept_key_ends : {D : Type 0} (device : Device D) (allowed : Allowed) (slot : Option ℕ) (HasWords : List ℕ → Type 0) (is_long : Type 0) (unread : InputFault → Type 0)
+    (volume volume_new old new : Result D InputFault) (a : Answer) → AnswersKeyKept device allowed slot HasWords is_long unread volume volume_new old new a → EndsKeepKey slot a (own a)
+kept_key_ends device allowed slot HasWords is_long unread (Ok volume) (Ok volume_new) old new a (inl said) =
+    wordless_ends (EndsKeepKey slot) refl refl refl is_long unread a said.0
+kept_key_ends device allowed slot HasWords is_long unread (Ok volume) (Ok volume_new) old new a (inr said) = key_file_ends device slot said.opened old new a said.is
+kept_key_ends device allowed slot HasWords is_long unread (Ok volume) (Err f) old new a said = absurd said
+kept_key_ends device allowed slot HasWords is_long unread (Err f) volume_new old new a said = without_volume slot is_long unread f a said.1
+
+-- where the key's file is another of the command, and where it is there
+pub kept_same_file_ends : (slot : Option ℕ) (a : Answer) → IsSameFile a → EndsKeepKey slot a (own a)
+kept_same_file_ends slot a is = subst (λ x. EndsKeepKey slot x (own x)) (sym is) refl
+
+pub kept_existing_ends : (slot : Option ℕ) (a : Answer) → a ≡ Refused refusal.Exists → EndsKeepKey slot a (own a)
+kept_existing_ends slot a is = subst (λ x. EndsKeepKey slot x (own x)) (sym is) refl

@@ -22,7 +22,7 @@ IsOutcome command_ outcome = EndsWith command_ outcome.answer (exit_status (answ
 abbrev pub IsNoted : Bool → Answer → Type 0
 IsNoted quiet answer = (quiet ≡ false) ⊎ (answer ≡ DeviceFault)
 
--- a backup was made, whether keyslots were lost or not
+-- a backup was made, whether keyslots were lost or not, or a key is kept
 abbrev pub MakesBackup : Answer → Type 0
 MakesBackup (Done slot) = ⊤
 MakesBackup (Rescued lost) = ⊤

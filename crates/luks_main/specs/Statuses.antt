@@ -70,6 +70,7 @@ EndsFormat (Refused (refusal.Format fault)) status = status ≡ 1
 EndsFormat (Refused refusal.LongPassphrase) status = status ≡ 1
 EndsFormat (Refused (refusal.OtherUse found)) status = status ≡ 1
 EndsFormat (Refused refusal.OtherVolume) status = status ≡ 1
+EndsFormat (Refused refusal.Reencrypting) status = status ≡ 1
 EndsFormat answer status = EndsAny answer status
 
 -- `convert`
@@ -79,6 +80,7 @@ EndsConvert (Refused (refusal.Convert fault)) status = status ≡ 1
 EndsConvert (Refused refusal.SameFile) status = status ≡ 1
 EndsConvert (Refused (refusal.OtherUse found)) status = status ≡ 1
 EndsConvert (Refused refusal.OtherVolume) status = status ≡ 1
+EndsConvert (Refused refusal.Reencrypting) status = status ≡ 1
 EndsConvert answer status = EndsAny answer status
 
 -- `rebuild`
@@ -89,6 +91,7 @@ EndsUntried (Refused (refusal.Rebuild1 fault)) status = status ≡ 1
 EndsUntried (Refused refusal.SameFile) status = status ≡ 1
 EndsUntried (Refused (refusal.OtherUse found)) status = status ≡ 1
 EndsUntried (Refused refusal.OtherVolume) status = status ≡ 1
+EndsUntried (Refused refusal.Reencrypting) status = status ≡ 1
 EndsUntried answer status = EndsAny answer status
 
 -- with a passphrase, which may be too long, or open no keyslot by what is tried
@@ -99,6 +102,7 @@ EndsTried (Refused (refusal.Rebuild1 fault)) status = status ≡ 1
 EndsTried (Refused refusal.SameFile) status = status ≡ 1
 EndsTried (Refused (refusal.OtherUse found)) status = status ≡ 1
 EndsTried (Refused refusal.OtherVolume) status = status ≡ 1
+EndsTried (Refused refusal.Reencrypting) status = status ≡ 1
 EndsTried (Refused refusal.LongPassphrase) status = status ≡ 1
 EndsTried answer status = EndsAny answer status
 
@@ -132,6 +136,17 @@ EndsCompare (Refused (refusal.Restore fault)) status = status ≡ 1
 EndsCompare (Refused refusal.SameFile) status = status ≡ 1
 EndsCompare answer status = EndsAny answer status
 
+-- `key`: a keyslot that was named is the one that doesn't open
+abbrev pub EndsKeepKey : Option ℕ → Answer → ℕ → Type 0
+EndsKeepKey slot (Done kept) status = (kept ≡ None) × (status ≡ 0)
+EndsKeepKey slot (Closed n) status = (slot ≡ Some n) × (status ≡ 1)
+EndsKeepKey slot NoneOpens status = (slot ≡ None) × (status ≡ 1)
+EndsKeepKey slot (Refused (refusal.Open fault)) status = status ≡ 1
+EndsKeepKey slot (Refused refusal.LongPassphrase) status = status ≡ 1
+EndsKeepKey slot (Refused refusal.SameFile) status = status ≡ 1
+EndsKeepKey slot (Refused refusal.Exists) status = status ≡ 1
+EndsKeepKey slot answer status = EndsAny answer status
+
 -- `find` tells each start by a line of its own: 0 where it told one, 1 where the disk has none
 abbrev pub EndsFind : ℕ → Type 0
 EndsFind status = (status ≡ 0) ⊎ (status ≡ 1) ⊎ (status ≡ 4)
@@ -149,6 +164,7 @@ EndsWith (command.Rebuild rebuilding) answer status = EndsRebuild rebuilding.pas
 EndsWith (command.Backup backing_up) answer status = EndsBackup answer status
 EndsWith (command.Restore restoring) answer status = EndsRestore answer status
 EndsWith (command.Compare comparing) answer status = EndsCompare answer status
+EndsWith (command.KeepKey keeping) answer status = EndsKeepKey keeping.slot answer status
 
 -- the status is that of an answer that the command gives
 abbrev pub MayEnd : Command → ℕ → Type 0

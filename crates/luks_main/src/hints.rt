@@ -161,7 +161,8 @@ fn tell_more(
         (Command::Check { payload: _ } | Command::Show(_), Status::Refused) => {
             note_whole(alloc, volume, notes)
         }
-        (Command::Open { .. }, Status::Refused) if matches!(ended.answer, Answer::NoneOpens) => {
+        (Command::Open { .. } | Command::KeepKey(_), Status::Refused)
+            if matches!(ended.answer, Answer::NoneOpens) => {
             tell_unopened(alloc, volume, name, notes)
         }
         (Command::Edit(_) | Command::Format(_), Status::Refused)
@@ -171,11 +172,18 @@ fn tell_more(
 }
 
 /// Notes of the volume of this name, which no passphrase has opened, that it has no keyslot, or that another
-/// program has moved its key areas.
+/// program has moved its key areas; where it has none, that the volume key is another way in.
 fn tell_unopened(alloc: Global, volume: &mut Volume, name: &str, notes: &mut Vec<u8>)
     requires { cached_failures volume.old + 1 < 2 ^ 64 }
 {
+    let said = notes.len();
     note_no_keyslots(alloc, volume, name, notes);
+    if notes.len() != said {
+        let _ = writeln!(
+            notes,
+            "luks: {name}: the volume key still reads its data, of a mapping that is open or where it was kept: luks open --key tells whether it is the one"
+        );
+    }
     if has_room(volume) {
         note_moved_areas(volume, name, notes);
     }

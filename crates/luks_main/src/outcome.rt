@@ -9,12 +9,12 @@ use crate::FAULT;
 use luks_execution::{
     Answer, Inputs, Line, Printer, Progress, Unprinted, answer_json, end, execute,
 };
-use luks_files::Volume;
+use luks_files::{KeyFile, Volume};
 use luks_guarded_files::LazyFile;
 use std::alloc::{AllocError, Global};
 use std::fs::File;
 use std::io::Write;
-use std::rt::Files;
+use std::rt::{Clock, Files};
 
 /// What a command has come to.
 #[derive(Drop)]
@@ -40,7 +40,7 @@ impl Outcome {
         !quiet || matches!(self.answer, Answer::DeviceFault)
     }
 
-    /// Whether a backup was made, whichever keyslots it costs: then its file stays.
+    /// Whether a backup was made, whichever keyslots it costs, or a key kept: then its file stays.
     pub(crate) fn is_backup(&self) -> bool
         ensures { IsTrue result ↔ MakesBackup self.now.answer }
     {
@@ -104,10 +104,11 @@ fn object(
 /// Runs the command, of which nothing is printed yet but what `progress` is told. It isn't inlined, so that it
 /// takes nothing of the stack where the answer is told.
 #[inline(never)]
-pub(crate) fn outcome_of<R: Files<File = File>, G: Progress>(
+pub(crate) fn outcome_of<R: AllocGlobal + Clock + Files<File = File>, G: Progress>(
     alloc: Global,
     line: &Line<'_>,
     inputs: &mut Inputs<Volume, &[u8], LazyFile<'_, R>>,
+    key_file: &mut KeyFile<'_, R>,
     progress: &mut G,
 ) -> Outcome
     requires volume { IfOk inputs.old.volume (λ device. cached_failures device ≡ 0) }
@@ -115,6 +116,6 @@ pub(crate) fn outcome_of<R: Files<File = File>, G: Progress>(
     ensures { IsOutcome line.now.command result }
 {
     let mut notes = Vec::new(alloc);
-    let answer = execute(alloc, line, inputs, &mut notes, progress);
+    let answer = execute(alloc, line, inputs, key_file, &mut notes, progress);
     Outcome { answer, notes }
 }

@@ -18,7 +18,7 @@ use luks_execution::{
     CountingPrinter, InputFault, Inputs, Line, OtherUse, Printer, Progress, Reason,
 };
 use luks_files::{
-    Openings, Passphrases, Volume, Volumes, has_changed, open_volumes, reader, take_away,
+    KeyFile, Openings, Passphrases, Volume, Volumes, has_changed, open_volumes, reader, take_away,
 };
 use luks_guarded_files::{Found, LazyFile};
 use luks_line::{Asked, Manner, parse};
@@ -82,18 +82,39 @@ fn run_words<R: AllocGlobal + Clock + Files<File = File> + Input + Print + Eprin
     ensures { IfOk result IsProgramStatus }
 {
     match parse(rt.alloc(), words) {
-        Ok(Asked::Volume(line, manner)) => {
-            let status = run_line(rt, &line, manner);
-            if line.passphrase().is_some() && !wipe_stack() {
-                return Ok(FAULT);
-            }
-            Ok(status)
-        }
-        Ok(Asked::Find(asked, manner)) => Ok(search(rt, asked, manner)),
-        Ok(Asked::Explain(Some(fault))) => explain(rt, fault),
-        Ok(Asked::Explain(None)) => list_faults(rt),
+        Ok(asked) => run_asked(rt, &asked),
         Err(fault) => tell_usage(rt, &fault),
     }
+}
+
+/// Does what the words ask for; gives the exit status.
+fn run_asked<R: AllocGlobal + Clock + Files<File = File> + Input + Print + Eprint>(
+    rt: &R,
+    asked: &Asked<'_>,
+) -> io::Result<u8>
+    ensures { IfOk result IsProgramStatus }
+{
+    match asked {
+        Asked::Volume(line, manner) => Ok(run_volume(rt, line, *manner)),
+        Asked::Find(asked, manner) => Ok(search(rt, *asked, *manner)),
+        Asked::Explain(Some(fault)) => explain(rt, fault),
+        Asked::Explain(None) => list_faults(rt),
+    }
+}
+
+/// Runs the command of this line, and writes over what the stack had of its passphrases.
+fn run_volume<R: AllocGlobal + Clock + Files<File = File> + Input + Print + Eprint>(
+    rt: &R,
+    line: &Line<'_>,
+    manner: Manner,
+) -> u8
+    ensures { IsProgramStatus result }
+{
+    let status = run_line(rt, line, manner);
+    if line.passphrase().is_some() && !wipe_stack() {
+        return FAULT;
+    }
+    status
 }
 
 /// Takes the numbers of standard streams that were closed when the program began, so that no volume
@@ -190,14 +211,23 @@ fn run_read<R: AllocGlobal + Clock + Files<File = File> + Input + Print + Eprint
     } = volumes;
     let mut inputs = inputs_of(rt, volume, target, passphrases, openings);
     let mut trial = TrialLines::new(rt, line, manner.quiet);
-    let mut outcome = outcome_beside(rt.alloc(), line, &mut inputs, &mut trial, &is_source);
+    let mut key_file = KeyFile::of(rt, line);
+    let mut outcome = outcome_beside(
+        rt.alloc(),
+        line,
+        &mut inputs,
+        &mut key_file,
+        &mut trial,
+        &is_source,
+    );
     let is_noted = outcome.is_noted(manner.quiet);
     if is_noted {
         tell(rt, noticed.as_slice());
+        tell(rt, key_file.notes.as_slice());
     }
     let mut out = CountingPrinter::new(io::writer(rt));
     let printed = print_lines(rt.alloc(), line, &outcome, manner, &mut out);
-    take_unfinished(rt, line, made, outcome.is_backup());
+    take_unfinished(rt, line, made.or(key_file.made), outcome.is_backup());
     let is_wanted = is_noted || manner.json;
     note_ended(
         rt.alloc(),
@@ -217,11 +247,13 @@ fn run_read<R: AllocGlobal + Clock + Files<File = File> + Input + Print + Eprint
     }
 }
 
-/// What the command comes to: that both its files are one, where its target has turned out to be its source.
-fn outcome_beside<R: Files<File = File>, G: Progress>(
+/// What the command comes to: that both its files are one, where its target, or the file of its key, has turned
+/// out to be its source.
+fn outcome_beside<R: AllocGlobal + Clock + Files<File = File>, G: Progress>(
     alloc: Global,
     line: &Line<'_>,
     inputs: &mut Inputs<Volume, &[u8], LazyFile<'_, R>>,
+    key_file: &mut KeyFile<'_, R>,
     progress: &mut G,
     is_source: &Option<Rc<Cell<bool>>>,
 ) -> Outcome
@@ -229,18 +261,24 @@ fn outcome_beside<R: Files<File = File>, G: Progress>(
     requires target { IfOk inputs.old.target (λ device. cached_failures device ≡ 0) }
     ensures { IsOutcome line.now.command result }
 {
-    let outcome = outcome_of(alloc, line, inputs, progress);
+    let outcome = outcome_of(alloc, line, inputs, key_file, progress);
+    if !has_turned_out(is_source) && !has_turned_out(&key_file.is_source) {
+        return outcome;
+    }
+    inputs.volume = Err(InputFault::Absent);
+    inputs.target = Err(InputFault::Unreadable(Reason::SameFile));
+    outcome_of(alloc, line, inputs, key_file, progress)
+}
+
+/// Whether a target has turned out to be its source.
+fn has_turned_out(is_source: &Option<Rc<Cell<bool>>>) -> bool {
     match is_source {
-        Some(is_source) if is_source.get() => {
-            inputs.volume = Err(InputFault::Absent);
-            inputs.target = Err(InputFault::Unreadable(Reason::SameFile));
-            outcome_of(alloc, line, inputs, progress)
-        }
-        _ => outcome,
+        Some(is_source) => is_source.get(),
+        None => false,
     }
 }
 
-/// Takes away the file that was made for a backup, where none was made.
+/// Takes away the file that was made for a backup or a key, where that isn't there.
 fn take_unfinished<R: Clock + Files<File = File>>(
     rt: &R,
     line: &Line<'_>,

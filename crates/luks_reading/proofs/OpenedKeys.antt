@@ -44,7 +44,7 @@ are_known true cipher false size none = absurd (cc)
 are_known false true false size none = absurd (cc)
 are_known false false false size none = absurd (cc)
 
-digest_known : (allowed : Allowed) (plan : SlotPlan) → slot_refusal_within allowed plan ≡ None → is_known_hash allowed.older plan.digest.hash.now ≡ true
+pub digest_known : (allowed : Allowed) (plan : SlotPlan) → slot_refusal_within allowed plan ≡ None → is_known_hash allowed.older plan.digest.hash.now ≡ true
 digest_known allowed plan none =
     let all = are_known (is_argon2_refused allowed.memory plan.derivation) (is_allowed_cipher allowed.older plan.cipher) (are_known_hashes allowed.older plan)
     (is_key_size plan.cipher plan.area_key_bytes) none in

@@ -52,7 +52,7 @@ same_candidate a b area p s =
     let stripes = same_stripes a b p area s in
     simp (keys, stripes, s.splitter_hash, s.key_bytes, s.stripes)
 
-same_digest : (a b : SlotPlan) (key : List ℕ) → SameFields a b → meets_digest a.digest key ≡ meets_digest b.digest key
+pub same_digest : (a b : SlotPlan) (key : List ℕ) → SameFields a b → meets_digest a.digest key ≡ meets_digest b.digest key
 unfolding meets_digest
 same_digest a b key s = simp (s.digest_hash, s.digest_iterations, s.digest_salt, s.digest_stored)
 

@@ -1,4 +1,4 @@
-//! What the commands on header backups are asked for.
+//! What the commands on header backups, and on a key that is kept, are asked for.
 
 use luks_reading::Data;
 
@@ -37,4 +37,21 @@ pub struct Comparing<'a> {
     pub backup: &'a str,
     /// Where the volume's payload lies.
     pub payload: Data,
+}
+
+/// Which volume key is kept, and in which file.
+#[derive(Debug, Clone, Copy)]
+pub struct KeepingKey<'a> {
+    /// The file that the key is written to.
+    pub target: &'a str,
+    /// The file of the passphrase.
+    pub passphrase: &'a str,
+    /// The keyslot that the passphrase opens, 0 to 31; without one the first that it opens.
+    pub slot: Option<u8>,
+    /// How many MiB of memory Argon2 may take for a keyslot.
+    pub memory: u32,
+    /// Whether ciphers and hashes of older disks are accepted.
+    pub older: bool,
+    /// Whether it may write over a file that is there and isn't empty.
+    pub over: bool,
 }

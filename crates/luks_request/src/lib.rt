@@ -8,9 +8,10 @@ mod rebuilding;
 mod request;
 
 pub use derivation::{AskedArgon2, AskedKdf, AskedKind};
-pub use keeping::{BackingUp, Comparing, Restoring};
+pub use keeping::{BackingUp, Comparing, KeepingKey, Restoring};
 pub use place::Place;
 pub use rebuilding::{Luks1Fields, Meant, Rebuilding};
 pub use request::{
-    Command, Converting, EditRequest, Editing, Line, Making, Matching, NewVersion, ShowAs,
+    Command, Converting, EditRequest, Editing, Line, Making, Matching, NewFields, NewVersion,
+    OpenerFile, ShowAs,
 };

@@ -1,9 +1,9 @@
 ghost use Rattle.std.specs.Prelude.{◌≡◌, option_map};
-ghost use Rattle.luks_request.specs.Named.{backup_of, edit_new_of, edit_passphrase_of, is_writer, new_of};
+ghost use Rattle.luks_request.specs.Named.{backup_of, edit_new_of, edit_passphrase_of, file_of, is_writer, new_of};
 ghost use Rattle.luks_request.specs.Named.{passphrase_of, random_of, target_of};
 
 use crate::derivation::AskedKdf;
-use crate::keeping::{BackingUp, Comparing, Restoring};
+use crate::keeping::{BackingUp, Comparing, KeepingKey, Restoring};
 use crate::place::Place;
 use crate::rebuilding::Rebuilding;
 use luks_reading::{Data, Format};
@@ -58,6 +58,8 @@ pub enum Command<'a> {
     Restore(Restoring<'a>),
     /// Compare a backup with the volume.
     Compare(Comparing<'a>),
+    /// Write the volume key that a keyslot opens to into a file.
+    KeepKey(KeepingKey<'a>),
 }
 
 /// Which key is judged, and by what.
@@ -99,16 +101,16 @@ pub struct Editing<'a> {
 
 /// What an edit does. Its passphrases are named by their files.
 ///
-/// The keyslot that an edit names as `by_`, or else as `slot`, 0 to 31, is the one that the file
-/// `passphrase` opens.
+/// The keyslot that an edit names as `by_`, or else as `slot`, 0 to 31, is the one that the passphrase or
+/// the key in the file `opener` opens.
 #[derive(Debug, Clone, Copy)]
 pub enum EditRequest<'a> {
     /// Add a keyslot for a new passphrase.
     Add {
-        /// The keyslot that the old passphrase opens.
+        /// The keyslot that the old passphrase or the key opens.
         by_: u8,
-        /// The file of the old passphrase.
-        passphrase: &'a str,
+        /// The file of the old passphrase, or of the key.
+        opener: OpenerFile<'a>,
         /// How many MiB of memory Argon2 may take for each passphrase.
         memory: u32,
         /// Whether ciphers and hashes of older disks are accepted.
@@ -124,10 +126,10 @@ pub enum EditRequest<'a> {
     },
     /// Put a new passphrase in the place of an old one.
     Change {
-        /// The keyslot that the old passphrase opens.
+        /// The keyslot that the old passphrase or the key opens.
         slot: u8,
-        /// The file of the old passphrase.
-        passphrase: &'a str,
+        /// The file of the old passphrase, or of the key.
+        opener: OpenerFile<'a>,
         /// How many MiB of memory Argon2 may take for each passphrase.
         memory: u32,
         /// Whether ciphers and hashes of older disks are accepted.
@@ -139,14 +141,14 @@ pub enum EditRequest<'a> {
         /// What it derives by then; without it that is as before.
         kdf: Option<AskedKdf>,
     },
-    /// Remove a keyslot, by its own passphrase or by another keyslot's.
+    /// Remove a keyslot, by its own passphrase or key, or by another keyslot's.
     Remove {
         /// The keyslot.
         slot: u8,
-        /// The keyslot that the passphrase opens; without one `slot`.
+        /// The keyslot that the passphrase or the key opens; without one `slot`.
         by_: Option<u8>,
-        /// The file of the passphrase.
-        passphrase: &'a str,
+        /// The file of the passphrase, or of the key.
+        opener: OpenerFile<'a>,
         /// How many MiB of memory Argon2 may take for it.
         memory: u32,
         /// Whether ciphers and hashes of older disks are accepted.
@@ -161,15 +163,35 @@ pub enum EditRequest<'a> {
     },
 }
 
+/// The file of what opens the keyslot of an edit.
+#[derive(Debug, Clone, Copy)]
+pub enum OpenerFile<'a> {
+    /// That of its passphrase.
+    Passphrase(&'a str),
+    /// That of the key that it gives.
+    Key(&'a str),
+}
+
+impl<'a> OpenerFile<'a> {
+    /// The file.
+    pub fn name(&self) -> &'a str
+        ensures { result.now ≡ file_of self.now }
+    {
+        match *self {
+            OpenerFile::Passphrase(name) | OpenerFile::Key(name) => name,
+        }
+    }
+}
+
 impl<'a> EditRequest<'a> {
-    /// The file of the passphrase that opens a keyslot, where the edit opens one.
+    /// The file of the passphrase or the key that opens a keyslot, where the edit opens one.
     pub fn passphrase(&self) -> Option<&'a str>
         ensures { option_map (λ name. name.now) result ≡ edit_passphrase_of self.now }
     {
         match *self {
-            EditRequest::Add { passphrase, .. }
-            | EditRequest::Change { passphrase, .. }
-            | EditRequest::Remove { passphrase, .. } => Some(passphrase),
+            EditRequest::Add { opener, .. }
+            | EditRequest::Change { opener, .. }
+            | EditRequest::Remove { opener, .. } => Some(opener.name()),
             EditRequest::Repair | EditRequest::Label { .. } => None,
         }
     }
@@ -202,8 +224,25 @@ pub struct Making<'a> {
     pub memory: u32,
     /// Where the payload lies.
     pub payload: Data,
+    /// What is given in the place of what is made for it.
+    pub given: NewFields<'a>,
     /// Whether it may write over another volume's header, and over another use of the disk.
     pub over: bool,
+}
+
+/// What is given of a new volume in the place of what is made for it.
+#[derive(Debug, Clone, Copy)]
+pub struct NewFields<'a> {
+    /// The file of the volume key.
+    pub key: Option<&'a str>,
+    /// Where the payload begins, in sectors of 512 bytes.
+    pub sector: Option<u64>,
+    /// The uuid.
+    pub uuid: Option<&'a str>,
+    /// LUKS2: the label.
+    pub label: Option<&'a str>,
+    /// LUKS2: the subsystem.
+    pub subsystem: Option<&'a str>,
 }
 
 /// What is made by converting, and of which files.
@@ -245,16 +284,18 @@ impl<'a> Line<'a> {
             Command::Match(matching) => Some(matching.key),
             Command::Edit(editing) => editing.request.passphrase(),
             Command::Format(making) => Some(making.passphrase),
+            Command::KeepKey(keeping) => Some(keeping.passphrase),
         }
     }
 
     /// The file of the new passphrase, where the command seals a keyslot beside or in the place of
-    /// another.
+    /// another; of a new volume that of its key, where it is given.
     pub fn new_passphrase(&self) -> Option<&'a str>
         ensures { option_map (λ name. name.now) result ≡ new_of self.now.command }
     {
         match self.command {
             Command::Edit(editing) => editing.request.new_passphrase(),
+            Command::Format(making) => making.given.key,
             _ => None,
         }
     }
@@ -280,6 +321,7 @@ impl<'a> Line<'a> {
             Command::Convert(converting) => Some(converting.target),
             Command::Rebuild(rebuilding) => Some(rebuilding.target),
             Command::Backup(backing_up) => Some(backing_up.target),
+            Command::KeepKey(keeping) => Some(keeping.target),
             _ => None,
         }
     }

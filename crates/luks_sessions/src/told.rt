@@ -3,7 +3,7 @@ ghost use Rattle.std.specs.Prelude.{◌≡◌, ◌+◌, ◌<◌, ◌^◌};
 ghost use Rattle.std.specs.Result.{ForOk};
 ghost use Rattle.luks_area.specs.Device.{IsSettled};
 
-use luks_execution::{CountingPrinter, Inputs, Untold, end, execute};
+use luks_execution::{CountingPrinter, Inputs, Unmade, Untold, end, execute};
 use luks_line::line;
 use luks_volume::Device;
 use std::alloc::{AllocError, Global};
@@ -67,7 +67,7 @@ pub fn run_words<D: Device, R: Read, N: Read>(
     let line = line(alloc, words)?;
     let mut out = CountingPrinter::new(Vec::new(alloc));
     let mut err = Vec::new(alloc);
-    let answer = execute(alloc, &line, files, &mut err, &mut Untold);
+    let answer = execute(alloc, &line, files, &mut Unmade, &mut err, &mut Untold);
     let status = end(&answer, &mut out);
     let CountingPrinter { writer: out, .. } = out;
     Ok(Told { out, err, status })

@@ -11,7 +11,8 @@ macro_rules! add {
     ($by:expr, $old:expr, $new:expr, $to:expr, $iterations:expr) => {
         Edit::Add {
             by_: $by,
-            old: luks_volume::Passphrase {
+            old: luks_volume::Secret {
+                kind: luks_volume::SecretKind::Passphrase,
                 bytes: $old,
                 allowed: luks_volume::Allowed::NOTHING,
             },
@@ -33,7 +34,8 @@ macro_rules! change {
     ($slot:expr, $old:expr, $new:expr, $iterations:expr) => {
         Edit::Change {
             slot: $slot,
-            old: luks_volume::Passphrase {
+            old: luks_volume::Secret {
+                kind: luks_volume::SecretKind::Passphrase,
                 bytes: $old,
                 allowed: luks_volume::Allowed::NOTHING,
             },
@@ -51,7 +53,8 @@ macro_rules! remove {
         Edit::Remove {
             slot: $slot,
             by_: None,
-            passphrase: luks_volume::Passphrase {
+            secret: luks_volume::Secret {
+                kind: luks_volume::SecretKind::Passphrase,
                 bytes: $passphrase,
                 allowed: luks_volume::Allowed::NOTHING,
             },
@@ -61,7 +64,8 @@ macro_rules! remove {
         Edit::Remove {
             slot: $slot,
             by_: Some($by),
-            passphrase: luks_volume::Passphrase {
+            secret: luks_volume::Secret {
+                kind: luks_volume::SecretKind::Passphrase,
                 bytes: $passphrase,
                 allowed: luks_volume::Allowed::NOTHING,
             },

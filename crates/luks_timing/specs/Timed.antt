@@ -37,10 +37,10 @@ IsTimedKdf allowed asked timed = ⊥
 
 -- an edit keeps all but the costs of a derivation that it asks for
 abbrev pub IsTimedEdit : EditRequest → EditRequest → Type 0
-IsTimedEdit (Add by_ passphrase memory older new to iterations (Some kdf)) timed =
-    (chosen : AskedKdf) × IsTimedKdf memory kdf chosen × (timed ≡ Add by_ passphrase memory older new to iterations (Some chosen))
-IsTimedEdit (Change slot passphrase memory older new iterations (Some kdf)) timed =
-    (chosen : AskedKdf) × IsTimedKdf memory kdf chosen × (timed ≡ Change slot passphrase memory older new iterations (Some chosen))
+IsTimedEdit (Add by_ opener memory older new to iterations (Some kdf)) timed =
+    (chosen : AskedKdf) × IsTimedKdf memory kdf chosen × (timed ≡ Add by_ opener memory older new to iterations (Some chosen))
+IsTimedEdit (Change slot opener memory older new iterations (Some kdf)) timed =
+    (chosen : AskedKdf) × IsTimedKdf memory kdf chosen × (timed ≡ Change slot opener memory older new iterations (Some chosen))
 IsTimedEdit request timed = timed ≡ request
 
 -- what keyslot 0 of a new volume is asked to derive by: without a word on it PBKDF2, by the digest's iterations
@@ -62,6 +62,8 @@ pub record IsTimedMaking (making timed : Making) : Type 0 where
   pub kdf : IsTimedOf making.version making timed.kdf
   pub memory : timed.memory ≡ making.memory
   pub payload : timed.payload ≡ making.payload
+  pub given : timed.given ≡ making.given
+  pub over : timed.over ≡ making.over
 
 -- a command that makes no keyslot stays as it is
 abbrev pub IsTimed : Command → Command → Type 0
@@ -89,8 +91,8 @@ IsKdfFault allowed kdf Memory = TimesArgon2 allowed kdf
 
 -- of an edit: none where it asks for no derivation
 abbrev pub IsEditCostFault : EditRequest → CostFault → Type 0
-IsEditCostFault (Add by_ passphrase memory older new to iterations (Some kdf)) f = IsKdfFault memory kdf f
-IsEditCostFault (Change slot passphrase memory older new iterations (Some kdf)) f = IsKdfFault memory kdf f
+IsEditCostFault (Add by_ opener memory older new to iterations (Some kdf)) f = IsKdfFault memory kdf f
+IsEditCostFault (Change slot opener memory older new iterations (Some kdf)) f = IsKdfFault memory kdf f
 IsEditCostFault request f = ⊥
 
 -- of a new volume, of which the iterations of a digest are timed always

@@ -91,7 +91,7 @@ impl<C: Clock> Timing<'_, C> {
         match request {
             EditRequest::Add {
                 by_,
-                passphrase,
+                opener,
                 memory,
                 older,
                 new,
@@ -100,7 +100,7 @@ impl<C: Clock> Timing<'_, C> {
                 kdf: Some(asked),
             } => Ok(EditRequest::Add {
                 by_,
-                passphrase,
+                opener,
                 memory,
                 older,
                 new,
@@ -110,7 +110,7 @@ impl<C: Clock> Timing<'_, C> {
             }),
             EditRequest::Change {
                 slot,
-                passphrase,
+                opener,
                 memory,
                 older,
                 new,
@@ -118,7 +118,7 @@ impl<C: Clock> Timing<'_, C> {
                 kdf: Some(asked),
             } => Ok(EditRequest::Change {
                 slot,
-                passphrase,
+                opener,
                 memory,
                 older,
                 new,
@@ -152,6 +152,7 @@ impl<C: Clock> Timing<'_, C> {
             kdf,
             memory: making.memory,
             payload: making.payload,
+            given: making.given,
             over: making.over,
         })
     }

@@ -4,7 +4,9 @@ ghost use Rattle.std.specs.Prelude.{◌≡◌, IfOk};
 use crate::failing::{Room, Trouble, Troubles};
 use crate::objects::print_object;
 use crate::secrets::tells_secret;
-use luks_execution::{CountingPrinter, InputFault, Inputs, Line, Untold, end, execute};
+use luks_execution::{
+    Command as Named, CountingPrinter, InputFault, Inputs, Line, MakesFile, Untold, end, execute,
+};
 use luks_line::{Asked as Parsed, parse};
 use luks_transcript_volumes::{Asked, Disk, Fault, Files, Kept, Record, Source, Volumes};
 use std::alloc::{AllocError, Global};
@@ -44,6 +46,30 @@ fn opened(alloc: Global, kept: &mut Option<Kept>, trouble: &Trouble) -> Result<D
     match kept.take() {
         Some(kept) => Ok(Disk::new(alloc, kept, trouble.oddity)),
         None => Err(InputFault::Absent),
+    }
+}
+
+/// Makes the file of a key of the target, whatever its length.
+#[derive(Drop)]
+struct KeyFile<'a> {
+    alloc: Global,
+    kept: Option<Kept>,
+    trouble: &'a Trouble,
+}
+
+impl MakesFile<Disk> for KeyFile<'_> {
+    fn make(&mut self, _length: u64) -> Result<Disk, InputFault> {
+        opened(self.alloc, &mut self.kept, self.trouble)
+    }
+}
+
+/// What is opened beside the volume: the file of a key isn't yet.
+fn beside(line: &Line<'_>, key_file: &mut KeyFile<'_>) -> Result<Disk, InputFault>
+    ensures { IfOk result (λ disk. disk.failures ≡ 0) }
+{
+    match line.command {
+        Named::KeepKey(_) => Err(InputFault::Absent),
+        _ => opened(key_file.alloc, &mut key_file.kept, key_file.trouble),
     }
 }
 
@@ -115,14 +141,26 @@ fn run_as(
     told: &mut Told,
 ) -> Asked {
     let mut err = Cursor::new(told.err.as_mut_slice());
+    let mut key_file = KeyFile {
+        alloc,
+        kept: volumes.target.take(),
+        trouble: &troubles.target,
+    };
     let mut inputs = Inputs {
         volume: opened(alloc, &mut volumes.volume, &troubles.volume),
-        target: opened(alloc, &mut volumes.target, &troubles.target),
+        target: beside(line, &mut key_file),
         passphrase: reader(&files.passphrase, &troubles.passphrase),
         new_passphrase: reader(&files.new, &troubles.new),
         random: reader(&files.random, &troubles.random),
     };
-    let answer = execute(alloc, line, &mut inputs, &mut err, &mut Untold);
+    let answer = execute(
+        alloc,
+        line,
+        &mut inputs,
+        &mut key_file,
+        &mut err,
+        &mut Untold,
+    );
     told.said = err.position() as usize;
     let said = told.err.get(..told.said).unwrap_or(&[]);
     let mut out = CountingPrinter::new(Cursor::new(told.out.as_mut_slice()));
@@ -139,6 +177,8 @@ fn run_as(
         random,
         ..
     } = inputs;
+    let KeyFile { kept, .. } = key_file;
+    volumes.target = kept;
     Asked {
         volume: put_back(&mut volumes.volume, volume),
         target: put_back(&mut volumes.target, target),

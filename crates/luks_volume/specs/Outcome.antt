@@ -11,6 +11,7 @@ use Rattle.luks_reading.specs.declared.report.Data.{Data}
 use Rattle.luks_reading.specs.Answer.{AnswerWithin, opens}
 use Rattle.luks_reading.specs.Checked.{AreaOf}
 use Rattle.luks_edit.specs.declared.edit.Edit.{Edit}
+use Rattle.luks_edit.specs.Secrets.{AnswersTo}
 use Rattle.luks_edit.specs.Asked.{allowed_for, sealed_by}
 use Rattle.luks_edit.specs.declared.edit_fault.EditFault.{EditFault}
 use Rattle.luks_edit.specs.Kept.{Keeps}
@@ -26,11 +27,11 @@ use Rattle.luks2_edit_laws.specs.Places.{IsTouchedIn, Loses}
 use Rattle.luks_volume.specs.Edits.{IsEditFault, Makes, NamedSlots, Replies}
 
 -- the keyslot that the edit of `v` made, or sealed again, opens in `w` by the new passphrase to the
--- key that the old one opened, where as much is allowed
+-- key that the secret gave, where as much is allowed
 abbrev pub OpensMade : List ℕ → Edit → List ℕ → Type 0
 OpensMade v e w = IfSome (sealed_by e) (λ s. (n : ℕ) (key : List ℕ) → Makes v e n
-    → AnswerWithin (allowed_for s.opener.passphrase s.passphrase.now) v s.opener.slot s.opener.passphrase.bytes.now (opens key)
-    → AnswerWithin (allowed_for s.opener.passphrase s.passphrase.now) w n s.passphrase.now (opens key))
+    → AnswersTo s.opener.secret.kind (allowed_for s.opener.secret s.passphrase.now) v s.opener.slot s.opener.secret.bytes.now (opens key)
+    → AnswerWithin (allowed_for s.opener.secret s.passphrase.now) w n s.passphrase.now (opens key))
 
 -- the area that a keyslot of `v` lost by the edit is zeros in `w`
 pub record WipesLost (v : List ℕ) (payload : Data) (e : Edit) (w : List ℕ) : Type 0 where

@@ -29,6 +29,8 @@ pub use luks_edit::LEAST_ITERATIONS;
 pub use luks_edit::NewDerivation;
 pub use luks_edit::Passphrase;
 pub use luks_edit::RunFault;
+pub use luks_edit::Secret;
+pub use luks_edit::SecretKind;
 pub use luks_edit::Step;
 pub use luks_formatting::FORMAT1_RANDOM;
 pub use luks_formatting::FORMAT2_RANDOM;

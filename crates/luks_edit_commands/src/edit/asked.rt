@@ -3,45 +3,61 @@ ghost use Rattle.std.specs.Prelude.{◌≡◌};
 ghost use Rattle.luks_commands.specs.Chosen.{chosen_of};
 ghost use Rattle.luks_commands.specs.OpenAnswers.{allowed_of};
 ghost use Rattle.luks_edit.specs.declared.edit.Edit.{Edit};
-ghost use Rattle.luks_edit_commands.specs.Editing.{IsAsked};
+ghost use Rattle.luks_edit_commands.specs.Editing.{IsAsked, kind_of};
 
 use luks_commands::chosen_of;
 use luks_commands::open::allowed_of;
-use luks_request::{AskedKdf, EditRequest};
-use luks_volume::{Edit, Passphrase};
+use luks_request::{AskedKdf, EditRequest, OpenerFile};
+use luks_volume::{Edit, Secret, SecretKind};
 
-/// The edit, with the bytes of its passphrases in the place of their files.
+/// The edit, with the bytes of its passphrases, or of the key and the new passphrase, in the place of their
+/// files.
 pub(super) fn edit_of<'a>(request: &EditRequest<'a>, old: &'a [u8], new: &'a [u8]) -> Edit<'a>
     ensures { IsAsked request.now (λ p. p ≡ old.now) (λ p. p ≡ new.now) result }
 {
     match *request {
         EditRequest::Add {
             by_,
+            opener,
             memory,
             older,
             to,
             iterations,
             kdf,
             ..
-        } => adding(by_, allowed(old, memory, older), new, to, iterations, kdf),
+        } => adding(
+            by_,
+            secret_of(opener, old, memory, older),
+            new,
+            to,
+            iterations,
+            kdf,
+        ),
         EditRequest::Change {
             slot,
+            opener,
             memory,
             older,
             iterations,
             kdf,
             ..
-        } => changing(slot, allowed(old, memory, older), new, iterations, kdf),
+        } => changing(
+            slot,
+            secret_of(opener, old, memory, older),
+            new,
+            iterations,
+            kdf,
+        ),
         EditRequest::Remove {
             slot,
             by_,
+            opener,
             memory,
             older,
-            ..
         } => Edit::Remove {
             slot,
             by_,
-            passphrase: allowed(old, memory, older),
+            secret: secret_of(opener, old, memory, older),
         },
         EditRequest::Repair => Edit::Repair,
         EditRequest::Label { text } => Edit::Label {
@@ -52,7 +68,7 @@ pub(super) fn edit_of<'a>(request: &EditRequest<'a>, old: &'a [u8], new: &'a [u8
 
 fn adding<'a>(
     by_: u8,
-    old: Passphrase<'a>,
+    old: Secret<'a>,
     new: &'a [u8],
     to: Option<u8>,
     iterations: u32,
@@ -72,7 +88,7 @@ fn adding<'a>(
 
 fn changing<'a>(
     slot: u8,
-    old: Passphrase<'a>,
+    old: Secret<'a>,
     new: &'a [u8],
     iterations: u32,
     kdf: Option<AskedKdf>,
@@ -88,12 +104,24 @@ fn changing<'a>(
     }
 }
 
-/// The passphrase with so many MiB of memory, and ciphers and hashes of older disks or not.
-fn allowed(bytes: &[u8], mib: u32, older: bool) -> Passphrase<'_>
-    ensures { result ≡ record { bytes = bytes.entry; allowed = allowed_of mib older } }
+/// What the file has, a passphrase or a key, with so many MiB of memory, and ciphers and hashes of older
+/// disks or not.
+fn secret_of<'a>(opener: OpenerFile<'_>, bytes: &'a [u8], mib: u32, older: bool) -> Secret<'a>
+    ensures { result ≡ record { kind = kind_of opener.entry; bytes = bytes.entry; allowed = allowed_of mib older } }
 {
-    Passphrase {
+    Secret {
+        kind: kind_of(opener),
         bytes,
         allowed: allowed_of(mib, older),
+    }
+}
+
+/// Whether the file is that of a passphrase or of a key.
+fn kind_of(opener: OpenerFile<'_>) -> SecretKind
+    ensures { result ≡ kind_of opener.entry }
+{
+    match opener {
+        OpenerFile::Passphrase(_) => SecretKind::Passphrase,
+        OpenerFile::Key(_) => SecretKind::Key,
     }
 }

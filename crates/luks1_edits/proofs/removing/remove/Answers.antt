@@ -15,21 +15,21 @@ returns-in_err-unlock-clause-replies g c = λ tells e is x.
     let a = c.args.header.now in
     let p = err_from_is_err_and c.from_residual.result c.from_residual.ensures.1 in
     rw (p.1, p.2)
-    (unopened_ends v a.payload e c.args.random.now x.faultless x.chosen c.opener_of.result c.args.removed.now.passphrase.bytes.now
-    (removal_opener v a.payload e c.args.random.now c.args.removed.now.slot c.args.removed.now.by_ c.args.removed.now.passphrase.bytes.now (removal v e c.args.removed.now c.args.random.now is) (c.requires.removable v (slots_in a.bytes.now a.payload v a.fields.slots x c.requires.accepted.fields.slots)) c.opener_of.result c.opener_of.ensures)
+    (unopened_ends v a.payload e c.args.random.now x.faultless x.chosen c.opener_of.result c.args.removed.now.secret.bytes.now
+    (removal_opener v a.payload e c.args.random.now c.args.removed.now.slot c.args.removed.now.by_ c.args.removed.now.secret.bytes.now (removal v e c.args.removed.now c.args.random.now is) (c.requires.removable v (slots_in a.bytes.now a.payload v a.fields.slots x c.requires.accepted.fields.slots)) c.opener_of.result c.opener_of.ensures)
     (g.D.Device.bytes c.unlock.new.device) c.in_err-unlock.field-0.0 (c.unlock.ensures.unchanged.same tells) (c.in_err-unlock.ensures.refused tells x))
 
 pub returns-then-is_last-clause-replies : goal.returns-then-is_last-clause-replies
 returns-then-is_last-clause-replies g c = λ tells e is x.
     let v = g.D.Device.bytes c.args.device.now in
     let a = c.args.header.now in
-    (last_refused v a.payload e c.args.random.now c.args.removed.now.slot c.args.removed.now.by_ c.args.removed.now.passphrase.bytes.now c.in_ok-unlock.field-0 (removal v e c.args.removed.now c.args.random.now is) a.bytes.now x (c.requires.removable v (slots_in a.bytes.now a.payload v a.fields.slots x c.requires.accepted.fields.slots)) c.opener_of.result c.opener_of.ensures (c.in_ok-unlock.ensures.opened tells x) (c.if-is_last.ensures.last refl v (slots_in a.bytes.now a.payload v a.fields.slots x c.requires.accepted.fields.slots)), c.unlock.ensures.unchanged.same tells)
+    (last_refused v a.payload e c.args.random.now c.args.removed.now.slot c.args.removed.now.by_ c.args.removed.now.secret.bytes.now c.in_ok-unlock.field-0 (removal v e c.args.removed.now c.args.random.now is) a.bytes.now x (c.requires.removable v (slots_in a.bytes.now a.payload v a.fields.slots x c.requires.accepted.fields.slots)) c.opener_of.result c.opener_of.ensures (c.in_ok-unlock.ensures.opened tells x) (c.if-is_last.ensures.last refl v (slots_in a.bytes.now a.payload v a.fields.slots x c.requires.accepted.fields.slots)), c.unlock.ensures.unchanged.same tells)
 
 pub returns-then-random-ne0-clause-replies : goal.returns-then-random-ne0-clause-replies
 returns-then-random-ne0-clause-replies g c = λ tells e is x.
     let v = g.D.Device.bytes c.args.device.now in
     let a = c.args.header.now in
-    (random_refused v a.payload e c.args.random.now c.args.removed.now.slot c.args.removed.now.by_ c.args.removed.now.passphrase.bytes.now c.in_ok-unlock.field-0 (removal v e c.args.removed.now c.args.random.now is) a.bytes.now x (c.requires.removable v (slots_in a.bytes.now a.payload v a.fields.slots x c.requires.accepted.fields.slots)) c.opener_of.result c.opener_of.ensures (c.in_ok-unlock.ensures.opened tells x) (c.if-is_last.ensures.other refl v (slots_in a.bytes.now a.payload v a.fields.slots x c.requires.accepted.fields.slots)) c.if-random-ne0.true, c.unlock.ensures.unchanged.same tells)
+    (random_refused v a.payload e c.args.random.now c.args.removed.now.slot c.args.removed.now.by_ c.args.removed.now.secret.bytes.now c.in_ok-unlock.field-0 (removal v e c.args.removed.now c.args.random.now is) a.bytes.now x (c.requires.removable v (slots_in a.bytes.now a.payload v a.fields.slots x c.requires.accepted.fields.slots)) c.opener_of.result c.opener_of.ensures (c.in_ok-unlock.ensures.opened tells x) (c.if-is_last.ensures.other refl v (slots_in a.bytes.now a.payload v a.fields.slots x c.requires.accepted.fields.slots)) c.if-random-ne0.true, c.unlock.ensures.unchanged.same tells)
 
 pub free_keyslot-requires-clause-within : goal.free_keyslot-requires-clause-within
 free_keyslot-requires-clause-within g c =
@@ -52,7 +52,7 @@ returns-in-Ok-clause-replies g c = λ tells e is x.
     (c.requires.removable c.args.header.now.bytes.now c.requires.accepted.fields.slots).removed.0 c.luks1_area-area.ensures.start c.luks1_area-area.ensures.len in
     let same = c.unlock.ensures.unchanged.same tells in
     let w = g.D.Device.bytes c.free_keyslot.new.device in
-    removal_done v a.payload e c.args.random.now c.args.removed.now.slot c.args.removed.now.by_ c.args.removed.now.passphrase.bytes.now c.in_ok-unlock.field-0 (removal v e c.args.removed.now c.args.random.now is) a.bytes.now x (c.requires.removable v (slots_in a.bytes.now a.payload v a.fields.slots x c.requires.accepted.fields.slots)) c.opener_of.result c.opener_of.ensures (c.in_ok-unlock.ensures.opened tells x)
+    removal_done v a.payload e c.args.random.now c.args.removed.now.slot c.args.removed.now.by_ c.args.removed.now.secret.bytes.now c.in_ok-unlock.field-0 (removal v e c.args.removed.now c.args.random.now is) a.bytes.now x (c.requires.removable v (slots_in a.bytes.now a.payload v a.fields.slots x c.requires.accepted.fields.slots)) c.opener_of.result c.opener_of.ensures (c.in_ok-unlock.ensures.opened tells x)
     (c.if-is_last.ensures.other refl v (slots_in a.bytes.now a.payload v a.fields.slots x c.requires.accepted.fields.slots)) c.if-random-ne0.false w (removed_same same (c.in-Ok.ensures.removed tells (keyslot_at_same same at)))
 
 pub returns-in-Err-clause-replies : goal.returns-in-Err-clause-replies
@@ -63,7 +63,7 @@ returns-in-Err-clause-replies g c = λ tells e is x.
     (c.requires.removable c.args.header.now.bytes.now c.requires.accepted.fields.slots).removed.0 c.luks1_area-area.ensures.start c.luks1_area-area.ensures.len in
     let same = c.unlock.ensures.unchanged.same tells in
     let w = g.D.Device.bytes c.free_keyslot.new.device in
-    removal_torn v a.payload e c.args.random.now c.args.removed.now.slot c.args.removed.now.by_ c.args.removed.now.passphrase.bytes.now c.in_ok-unlock.field-0 (removal v e c.args.removed.now c.args.random.now is) a.bytes.now x (c.requires.removable v (slots_in a.bytes.now a.payload v a.fields.slots x c.requires.accepted.fields.slots)) c.opener_of.result c.opener_of.ensures (c.in_ok-unlock.ensures.opened tells x)
+    removal_torn v a.payload e c.args.random.now c.args.removed.now.slot c.args.removed.now.by_ c.args.removed.now.secret.bytes.now c.in_ok-unlock.field-0 (removal v e c.args.removed.now c.args.random.now is) a.bytes.now x (c.requires.removable v (slots_in a.bytes.now a.payload v a.fields.slots x c.requires.accepted.fields.slots)) c.opener_of.result c.opener_of.ensures (c.in_ok-unlock.ensures.opened tells x)
     (c.if-is_last.ensures.other refl v (slots_in a.bytes.now a.payload v a.fields.slots x c.requires.accepted.fields.slots)) c.if-random-ne0.false w (half_removed_same same (c.in-Err.ensures.torn tells (keyslot_at_same same at)))
 
 pub returns-in_err-unlock-clause-settled : goal.returns-in_err-unlock-clause-settled

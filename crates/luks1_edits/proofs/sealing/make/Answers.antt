@@ -19,7 +19,7 @@ returns-in_err-key-clause-refused g c = λ tells e is x.
     let s = c.args.sealed.now in
     let p = err_from_is_err_and c.from_residual.result c.from_residual.ensures.1 in
     rw (p.1, p.2)
-    (unopened_ends v a.payload e c.args.random.now x.faultless x.chosen s.opener.slot s.opener.passphrase.bytes.now (making v e s is).opening (g.D.Device.bytes c.unlock.new.device) c.in_err-key.field-0.0 (c.unlock.ensures.unchanged.same tells) (c.in_err-key.ensures.refused tells x))
+    (unopened_ends v a.payload e c.args.random.now x.faultless x.chosen s.opener.slot s.opener.secret.bytes.now (making v e s is).opening (g.D.Device.bytes c.unlock.new.device) c.in_err-key.field-0.0 (c.unlock.ensures.unchanged.same tells) (c.in_err-key.ensures.refused tells x))
 
 pub returns-in_err-n-clause-refused : goal.returns-in_err-n-clause-refused
 returns-in_err-n-clause-refused g c = λ tells e is x.
@@ -28,7 +28,7 @@ returns-in_err-n-clause-refused g c = λ tells e is x.
     let s = c.args.sealed.now in
     let p = err_from_is_err_and c.from_residual-in_err-n.result c.from_residual-in_err-n.ensures.1 in
     rw (p.1, p.2)
-    (none_made v a.payload e c.args.random.now s.opener.slot s.opener.passphrase.bytes.now c.in_ok-key.key (number_asked s.place) s.derivation (making v e s is) a.bytes.now x (c.in_ok-key.ensures.opened tells x)
+    (none_made v a.payload e c.args.random.now s.opener.slot s.opener.secret.bytes.now c.in_ok-key.key (number_asked s.place) s.derivation (making v e s is) a.bytes.now x (c.in_ok-key.ensures.opened tells x)
     (g.D.Device.bytes c.unlock.new.device) c.in_err-n.field-0.0 (c.unlock.ensures.unchanged.same tells)
     (subst (λ t. IsNewFault v t c.in_err-n.field-0.0) c.number_asked.ensures (c.in_err-n.ensures.new v (slots_in a.bytes.now a.payload v a.fields.slots x c.requires.accepted.fields.slots))))
 
@@ -40,7 +40,7 @@ returns-in_err-judge_new-clause-refused g c = λ tells e is x.
     let slots = slots_in a.bytes.now a.payload v a.fields.slots x c.requires.accepted.fields.slots in
     let p = err_from_is_err_and c.from_residual-in_err-judge_new.result c.from_residual-in_err-judge_new.ensures.1 in
     rw (p.1, p.2)
-    (new_refused v a.payload e c.args.random.now s.opener.slot s.opener.passphrase.bytes.now c.in_ok-key.key (number_asked s.place) s.derivation (making v e s is) a.bytes.now x (c.in_ok-key.ensures.opened tells x)
+    (new_refused v a.payload e c.args.random.now s.opener.slot s.opener.secret.bytes.now c.in_ok-key.key (number_asked s.place) s.derivation (making v e s is) a.bytes.now x (c.in_ok-key.ensures.opened tells x)
     c.in_ok-n.n (subst (λ t. IsNewFree v t c.in_ok-n.n) c.number_asked.ensures (c.in_ok-n.ensures.new v slots)) (g.D.Device.bytes c.unlock.new.device) c.in_err-judge_new.field-0.0 (c.unlock.ensures.unchanged.same tells)
     (c.in_err-judge_new.ensures.refused v slots (key_bytes_in a.bytes.now a.fields a.payload v x c.requires.accepted.fields)))
 
@@ -68,7 +68,7 @@ returns-in_err-make_keyslot-clause-refused g c = λ tells e is x.
     let torn = torn_same same (c.in_err-make_keyslot.ensures.torn tells (header_of_same same x)) in
     let p = err_from_is_err_and c.from_residual-in_err-make_keyslot.result c.from_residual-in_err-make_keyslot.ensures.1 in
     rw (p.1, p.2)
-    (unmade_ends v a.payload e c.args.random.now s.opener.slot s.opener.passphrase.bytes.now c.in_ok-key.key (number_asked s.place) s.derivation (making v e s is) a.bytes.now x (c.in_ok-key.ensures.opened tells x)
+    (unmade_ends v a.payload e c.args.random.now s.opener.slot s.opener.secret.bytes.now c.in_ok-key.key (number_asked s.place) s.derivation (making v e s is) a.bytes.now x (c.in_ok-key.ensures.opened tells x)
     c.in_ok-n.n new c.in_ok-judge_new.ensures.iterated (c.in_ok-judge_new.ensures.counted v slots (key_bytes_in a.bytes.now a.fields a.payload v x c.requires.accepted.fields)) w c.in_err-make_keyslot.field-0.0
     (half_made v e s c.args.random.now w is (record { slot = c.in_ok-n.n; is_new = new.is_new; key = c.in_ok-key.key; opened = opened.opened; order = torn })) c.in_err-make_keyslot.ensures.fault)
 
@@ -88,7 +88,7 @@ returns-clause-made g c = λ tells x.
       is_new = new.is_new;
       made = made_same same (c.in_ok-make_keyslot.ensures.made tells (header_of_same same x));
       unrefused = λ e is.
-          making_unrefused v a.payload e c.args.random.now s.opener.slot s.opener.passphrase.bytes.now c.in_ok-key.key (number_asked s.place) s.derivation (making v e s is) a.bytes.now x opened
+          making_unrefused v a.payload e c.args.random.now s.opener.slot s.opener.secret.bytes.now c.in_ok-key.key (number_asked s.place) s.derivation (making v e s is) a.bytes.now x opened
           c.in_ok-n.n new c.in_ok-judge_new.ensures.iterated (c.in_ok-judge_new.ensures.counted v slots (key_bytes_in a.bytes.now a.fields a.payload v x c.requires.accepted.fields));
     }
 

@@ -3,8 +3,8 @@ use Rattle.luks_area.specs.declared.area.AreaName.TheVariants.{Slot}
 use Rattle.luks1_edits.proofs.OpenerFacts.{locked_by, never_memory, opened_by, plan_openable, plan_there, slots_in, unopened_by}
 use Rattle.luks1_edits.proofs.unlocking.unlock.Goals as goal
 
-pub open_within-requires : goal.open_within-requires
-open_within-requires g c =
+pub give_within-requires : goal.give_within-requires
+give_within-requires g c =
     let a = c.args.header.now in
     let used = c.requires.used in
     let ready = plan_openable a.bytes.now a.fields c.args.n _ c.luks1_plan-plan.result c.requires.accepted.fields used c.luks1_plan-plan.ensures.judged in
@@ -34,7 +34,7 @@ returns-in-Some-clause-opened g c = λ tells x.
     let a = c.args.header.now in
     let there = plan_there a.bytes.now a.fields c.args.n _ c.luks1_plan-plan.result c.requires.accepted.fields c.requires.used c.luks1_plan-plan.ensures.is in
     let used = c.requires.used v (slots_in a.bytes.now a.payload v a.fields.slots x c.requires.accepted.fields.slots) in
-    opened_by a.bytes.now a.payload v x c.args.n used c.luks1_plan-plan.result there c.args.passphrase.now.allowed.older c.args.passphrase.now.bytes.now c.in-Some.key c.in-Ok.found
+    opened_by a.bytes.now a.payload v x c.args.n used c.luks1_plan-plan.result there c.args.secret.now.allowed.older c.args.secret.now.kind c.args.secret.now.bytes.now c.in-Some.key c.in-Ok.found
     c.in-Ok.ensures.accepted (c.in-Ok.ensures.value tells) c.in-Some.is
 
 pub returns-in-None-clause-refused : goal.returns-in-None-clause-refused
@@ -43,7 +43,7 @@ returns-in-None-clause-refused g c = λ tells x.
     let a = c.args.header.now in
     let there = plan_there a.bytes.now a.fields c.args.n _ c.luks1_plan-plan.result c.requires.accepted.fields c.requires.used c.luks1_plan-plan.ensures.is in
     let used = c.requires.used v (slots_in a.bytes.now a.payload v a.fields.slots x c.requires.accepted.fields.slots) in
-    locked_by a.bytes.now a.payload v x c.args.n used c.luks1_plan-plan.result there c.args.passphrase.now.allowed.older c.args.passphrase.now.bytes.now c.in-Ok.found
+    locked_by a.bytes.now a.payload v x c.args.n used c.luks1_plan-plan.result there c.args.secret.now.allowed.older c.args.secret.now.kind c.args.secret.now.bytes.now c.in-Ok.found
     c.in-Ok.ensures.accepted (c.in-Ok.ensures.value tells) c.in-None.is
 
 pub returns-in-Err-clause-refused : goal.returns-in-Err-clause-refused
@@ -53,13 +53,13 @@ returns-in-Err-clause-refused g c = λ tells x.
     let there = plan_there a.bytes.now a.fields c.args.n _ c.luks1_plan-plan.result c.requires.accepted.fields c.requires.used c.luks1_plan-plan.ensures.is in
     let used = c.requires.used v (slots_in a.bytes.now a.payload v a.fields.slots x c.requires.accepted.fields.slots) in
     rw c.keyslot_fault.ensures
-    (unopened_by a.bytes.now a.payload v x c.args.n used c.luks1_plan-plan.result there c.args.passphrase.now.allowed.older c.args.passphrase.now.bytes.now c.in-Err.fault c.in-Err.ensures.fault)
+    (unopened_by a.bytes.now a.payload v x c.args.n used c.luks1_plan-plan.result there c.args.secret.now.allowed.older c.args.secret.now.kind c.args.secret.now.bytes.now c.in-Err.fault c.in-Err.ensures.fault)
 
 pub returns-in-Err-clause-memory : goal.returns-in-Err-clause-memory
 returns-in-Err-clause-memory g c =
     let a = c.args.header.now in
     let there = plan_there a.bytes.now a.fields c.args.n _ c.luks1_plan-plan.result c.requires.accepted.fields c.requires.used c.luks1_plan-plan.ensures.is in
-    rw c.keyslot_fault.ensures (never_memory c.args.passphrase.now.allowed.older a.bytes.now c.args.n c.luks1_plan-plan.result there c.in-Err.fault c.in-Err.ensures.fault)
+    rw c.keyslot_fault.ensures (never_memory c.args.secret.now.allowed.older a.bytes.now c.args.n c.luks1_plan-plan.result there c.in-Err.fault c.in-Err.ensures.fault)
 
 pub bounds-header-n : goal.bounds-header-n
 bounds-header-n g c = (c.requires.used c.args.header.now.bytes.now c.requires.accepted.fields.slots).0

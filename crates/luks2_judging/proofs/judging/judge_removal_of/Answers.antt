@@ -7,7 +7,7 @@ use Rattle.luks_meta.specs.declared.meta.Meta.{Meta}
 use Rattle.luks_slot.specs.declared.allowed.Allowed.{Allowed}
 use Rattle.luks2_edit_laws.specs.Metadata.{IsInUse, IsKeyArea}
 use Rattle.luks2_judging.proofs.DeedFacts.{edit_is}
-use Rattle.luks2_judging.proofs.KeyslotFacts.{removed_opens, removed_short, removed_used}
+use Rattle.luks2_judging.proofs.KeyslotFacts.{removed_kind, removed_opens, removed_short, removed_used, used_of}
 use Rattle.luks2_judging.proofs.ReadFacts.{last_refused, read_as, removed_passed, unopened_refused}
 use Rattle.luks2_judging.proofs.judging.judge_removal_of.Goals as goal
 
@@ -17,7 +17,7 @@ returns-in_err-_key-clause-refused g c = λ tells is payload well judged.
     (g.met.D.Device.sized c.args.device.now tells ∙ sym c.requires.ready.total ∙ sym c.room-room.ensures.total) judged in
     let p = err_from_is_err_and c.from_residual.result c.from_residual.ensures.1 in
     rw (p.1, p.2)
-    (unopened_refused read c.in_err-_key.field-0.0 (c.in_err-_key.ensures.refused tells is payload c.args.edit.now well (sym c.allowed-allowed.ensures)
+    (unopened_refused read c.in_err-_key.field-0.0 (c.in_err-_key.ensures.refused tells is payload c.args.edit.now well (sym c.allowed-allowed.ensures) (removed_kind c.args.edit.now c.args.removed.now c.requires.asked)
     (removed_opens c.args.edit.now c.args.removed.now c.opener_of-opener.result c.requires.asked c.opener_of-opener.ensures)))
 
 pub returns-in_err-area-clause-refused : goal.returns-in_err-area-clause-refused
@@ -27,7 +27,7 @@ returns-in_err-area-clause-refused g c = λ tells is payload well judged.
     let p = err_from_is_err_and c.from_residual-in_err-area.result c.from_residual-in_err-area.ensures.1 in
     rw (p.1, p.2)
     rw c.in_err-area.ensures.row.0
-    (last_refused read (c.in_ok-_key.ensures.opened tells is c.args.edit.now (sym c.allowed-allowed.ensures) (removed_opens c.args.edit.now c.args.removed.now c.opener_of-opener.result c.requires.asked c.opener_of-opener.ensures)).past (edit_is c.args.edit.now _ c.requires.asked) c.in_err-area.ensures.row.1)
+    (last_refused read (c.in_ok-_key.ensures.opened tells is c.args.edit.now (sym c.allowed-allowed.ensures) (removed_kind c.args.edit.now c.args.removed.now c.requires.asked) (removed_opens c.args.edit.now c.args.removed.now c.opener_of-opener.result c.requires.asked c.opener_of-opener.ensures)).past (edit_is c.args.edit.now _ c.requires.asked) c.in_err-area.ensures.row.1)
 
 pub returns-clause-takes : goal.returns-clause-takes
 returns-clause-takes g c =
@@ -35,7 +35,7 @@ returns-clause-takes g c =
     let is = subst (λ (m : Meta). IsKeyArea (content m) c.args.removed.now.slot area) c.room-room.ensures.meta c.in_ok-area.ensures.area in
     record {
       by_ = c.args.removed.now.by_;
-      passphrase = c.args.removed.now.passphrase;
+      passphrase = c.args.removed.now.secret;
       asked = c.requires.asked;
       there = removed_used (content c.args.accepted.now.copy.now.meta) c.args.edit.now c.args.removed.now c.requires.asked c.requires.ready.own.there;
       lost = record { is = is; inside = subst (λ (t : ℕ). IsInside area t) c.requires.ready.total (c.requires.ready.own.key_areas c.args.removed.now.slot area is) };
@@ -50,9 +50,13 @@ pub returns-clause-passed : goal.returns-clause-passed
 returns-clause-passed g c = λ tells is payload judged.
     let read = read_as c.room-room.ensures.meta c.room-room.ensures.entries
     (g.met.D.Device.sized c.args.device.now tells ∙ sym c.requires.ready.total ∙ sym c.room-room.ensures.total) judged in
-    removed_passed read (c.in_ok-_key.ensures.opened tells is c.args.edit.now (sym c.allowed-allowed.ensures) (removed_opens c.args.edit.now c.args.removed.now c.opener_of-opener.result c.requires.asked c.opener_of-opener.ensures)).past
+    removed_passed read (c.in_ok-_key.ensures.opened tells is c.args.edit.now (sym c.allowed-allowed.ensures) (removed_kind c.args.edit.now c.args.removed.now c.requires.asked) (removed_opens c.args.edit.now c.args.removed.now c.opener_of-opener.result c.requires.asked c.opener_of-opener.ensures)).past
     (edit_is c.args.edit.now _ c.requires.asked) c.in_ok-area.ensures.row
 
 pub unlock-requires-clause-passphrase : goal.unlock-requires-clause-passphrase
 unlock-requires-clause-passphrase g c = λ some.
     removed_short c.args.edit.now c.args.removed.now c.requires.asked (short_where_allowed c.args.edit.now (subst (λ (m : Allowed). 0 < m.memory) c.allowed-allowed.ensures some))
+
+pub unlock-requires-clause-there : goal.unlock-requires-clause-there
+unlock-requires-clause-there g c =
+    used_of (content c.args.accepted.now.copy.now.meta) c.args.edit.now c.opener_of-opener.result c.args.removed.now.secret.bytes.now (removed_opens c.args.edit.now c.args.removed.now c.opener_of-opener.result c.requires.asked c.opener_of-opener.ensures) c.requires.ready.own.there

@@ -10,7 +10,7 @@ returns-else-is_used c = (
   refl,
   record {
     slot = c.in-Some.opener.slot;
-    wanted = opener_wanted c.args.edit.now c.in-Some.opener.slot c.in-Some.opener.passphrase.bytes.now c.in-Some.ensures;
+    wanted = opener_wanted c.args.edit.now c.in-Some.opener.slot c.in-Some.opener.secret.bytes.now c.in-Some.ensures;
     unused = c.is_used.ensures.unused c.if-is_used.false;
   },
 )

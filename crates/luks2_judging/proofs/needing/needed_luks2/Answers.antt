@@ -28,7 +28,7 @@ returns-in_err-new_number-in-New-clause-tells c = λ v is size.
     let asked = added_is c.args.edit.now s c.in-New.to (sym c.in-Seal.ensures) c.in-New.is in
     rw (p.1, p.2)
     (subst (λ y. IsLeast edit_key (IsNeedFault2 v c.args.payload y) c.in_err-new_number-in-New.field-0.0) (sym asked)
-    (need_unnumbered v c.args.payload copy.header.hdr_offset (content copy.meta) (metadata_of v copy is) s.opener.slot s.opener.passphrase s.passphrase c.in-New.to s.derivation
+    (need_unnumbered v c.args.payload copy.header.hdr_offset (content copy.meta) (metadata_of v copy is) s.opener.slot s.opener.secret s.passphrase c.in-New.to s.derivation
     (passed_as judged _ asked) c.in_err-new_number-in-New.field-0.0 c.in_err-new_number-in-New.ensures))
 
 pub returns-in_ok-new_number-in-New-clause-tells : goal.returns-in_ok-new_number-in-New-clause-tells
@@ -39,8 +39,8 @@ returns-in_ok-new_number-in-New-clause-tells c = λ v is size.
     c.in_ok-judge_without_key.ensures.accepted.there c.sealed_need.result
     (new_untaken (content copy.meta) c.in-New.to c.in_ok-new_number-in-New.field-0 c.in_ok-new_number-in-New.ensures)
     (new_numbered (content copy.meta) c.in-New.to c.in_ok-new_number-in-New.field-0 c.in_ok-new_number-in-New.ensures)
-    (λ there. c.sealed_need.ensures (used_of (content copy.meta) (Add s.opener.slot s.opener.passphrase s.passphrase c.in-New.to s.derivation.iterations s.derivation.chosen)
-    s.opener.slot s.opener.passphrase.bytes.now (refl, refl) there))
+    (λ there. c.sealed_need.ensures (used_of (content copy.meta) (Add s.opener.slot s.opener.secret s.passphrase c.in-New.to s.derivation.iterations s.derivation.chosen)
+    s.opener.slot s.opener.secret.bytes.now (refl, refl) there))
 
 pub returns-in-Opened-clause-tells : goal.returns-in-Opened-clause-tells
 returns-in-Opened-clause-tells c = λ v is size.
@@ -48,8 +48,8 @@ returns-in-Opened-clause-tells c = λ v is size.
     let s = c.in-Seal.sealed in
     need_as (c.in_ok-judge_without_key.ensures.passed v [] is size) (changed_is c.args.edit.now s (sym c.in-Seal.ensures) c.in-Opened.is)
     c.in_ok-judge_without_key.ensures.accepted.there c.sealed_need-in-Opened.result (λ x. x) (λ x. x)
-    (λ there. c.sealed_need-in-Opened.ensures (used_of (content copy.meta) (Change s.opener.slot s.opener.passphrase s.passphrase s.derivation.iterations s.derivation.chosen)
-    s.opener.slot s.opener.passphrase.bytes.now (refl, refl) there))
+    (λ there. c.sealed_need-in-Opened.ensures (used_of (content copy.meta) (Change s.opener.slot s.opener.secret s.passphrase s.derivation.iterations s.derivation.chosen)
+    s.opener.slot s.opener.secret.bytes.now (refl, refl) there))
 
 pub returns-in-Remove-clause-tells : goal.returns-in-Remove-clause-tells
 returns-in-Remove-clause-tells c = λ v is size.

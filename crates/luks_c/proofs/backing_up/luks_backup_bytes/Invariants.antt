@@ -1,7 +1,8 @@
+use Rattle.luks_given.specs.Parts.{volume}
 use Rattle.luks_c.proofs.backing_up.luks_backup_bytes.Given as goal
 
 abbrev pub ghosts-backup_given-S-Given : goal.ghosts-backup_given-S-Given
-ghosts-backup_given-S-Given a = record { bytes = a.source.now }
+ghosts-backup_given-S-Given a = record { bytes = volume a.source_parts.now a.source.now a.source_total; parts = a.source_parts.now }
 
 abbrev pub ghosts-backup_given-K-Given : goal.ghosts-backup_given-K-Given
-ghosts-backup_given-K-Given a = record { bytes = a.first.now }
+ghosts-backup_given-K-Given a = record { bytes = volume a.parts.now a.held.now a.total; parts = a.parts.now }

@@ -1,4 +1,5 @@
+use Rattle.luks_given.specs.Parts.{volume}
 use Rattle.luks_c.proofs.editing.luks_apply_bytes.Given as goal
 
 abbrev pub ghosts-apply_given : goal.ghosts-apply_given
-ghosts-apply_given a = record { bytes = a.first.now }
+ghosts-apply_given a = record { bytes = volume a.parts.now a.held.now a.total; parts = a.parts.now }

@@ -1,5 +1,6 @@
 use Rattle.std.proofs.Common.{inl, inr, subst, arith}
 use Rattle.luks_reading.specs.declared.report.Data.{Data}
+use Rattle.luks_given.specs.Parts.{volume}
 use Rattle.luks_c.specs.FormatAnswers.{AnswersFormat2}
 use Rattle.luks_c.proofs.formatting.luks_format2_bytes.Goals as goal
 
@@ -9,7 +10,7 @@ returns-in-Some-clause-usage c =
       (λ usage. absurd (c.make2.ensures.own usage)),
       (λ any. absurd (elim any [
         | inl unchosen ↦ unchosen c.in-Ok.chosen c.in-Ok.ensures
-        | inr other ↦ elim other [ inl long ↦ omega (arith, long, within) | inr none ↦ none c.in-Some.format.hash c.in-Some.ensures.1.hash_is ]
+        | inr other ↦ elim other [ inl out ↦ out within.parts_ | inr none ↦ none c.in-Some.format.hash c.in-Some.ensures.1.hash_is ]
       ])),
     )
 
@@ -20,7 +21,7 @@ returns-in-Some-clause-answers c = λ used.
       is = c.in-Some.ensures.1;
       chosen = c.in-Ok.chosen;
       choice = c.in-Ok.ensures;
-      so = subst (λ (payload : Data). AnswersFormat2 c.args.first.now c.args.total payload c.in-Some.format c.in-Ok.chosen c.args.memory c.args.passphrase.now c.args.random.now
+      so = subst (λ (payload : Data). AnswersFormat2 c.args.parts.now (volume c.args.parts.now c.args.held.now c.args.total) c.args.total payload c.in-Some.format c.in-Ok.chosen c.args.memory c.args.passphrase.now c.args.random.now
           (record { calls = c.args.calls.now; bytes = c.args.bytes.now }) (record { calls = c.make2.new.calls; bytes = c.make2.new.bytes }) c.make2.new.told c.make2.result)
           c.data_of-payload.ensures c.make2.ensures.answers;
     }

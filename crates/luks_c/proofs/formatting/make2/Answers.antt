@@ -1,9 +1,7 @@
 use Rattle.std.proofs.Common.{ℕ, List, ◌∙◌, subst}
 use Rattle.luks_formatting.specs.Deriving.{allowed_for}
 use Rattle.luks_formatting.specs.FormatFaults.{HasNoFault, IsFormat2FaultBy}
-use Rattle.luks_given.specs.Volume.{volume}
-use Rattle.luks_given.specs.Planned.{planned_bytes, planned_calls, planned_first, planned_size, planned_written}
-use Rattle.luks_c_answers.specs.Plans.{IsPlan}
+use Rattle.luks_given.specs.Planned.{planned_bytes, planned_calls, planned_size, planned_written}
 use Rattle.luks_c_answers.proofs.PlanFacts.{plan_answered}
 use Rattle.luks_c.specs.FormatAnswers.{IsMade2}
 use Rattle.luks_c.proofs.PlanFacts.{of_volume}
@@ -16,13 +14,13 @@ returns-in-Ok-format2_by-clause-answers g c =
     let both = of_volume
     (λ (n : ℕ) (o : List ℕ) (m : ℕ). HasNoFault (IsFormat2FaultBy c.args.chosen (allowed_for c.args.passphrase.now.allowed.memory c.args.passphrase.now.bytes.now) n c.args.format.now c.args.random.now)
     × IsMade2 c.args.payload c.args.format.now c.args.chosen c.args.passphrase.now.bytes.now c.args.random.now o
-    c.give_plan.new.told.slot (volume (planned_first device) m))
-    (planned_size c.in-Ok.device) c.args.total (planned_size device) (planned_bytes c.in-Ok.device) (volume c.args.first.now c.args.total)
+    c.give_plan.new.told.slot (planned_bytes device))
+    (planned_size c.in-Ok.device) c.args.total (planned_size device) (planned_bytes c.in-Ok.device) g.K.Given.bytes
     c.in-Ok.ensures.size c.in-Ok.ensures.bytes (e.size ∙ c.in-Ok.ensures.size)
     (e.faultless, record { is = e.formatted tt; well_formed = e.well_formed tt; opened = e.opens tt; slot = c.give_plan.ensures.slot ∙ c.requires.slot }) in
-    plan_answered c.args.first.now (planned_first device) c.args.total _ _ _ (planned_calls device) (planned_written device) _ _ _ _
+    plan_answered g.K.Given.parts g.K.Given.bytes (planned_bytes device) _ _ _ (planned_calls device) (planned_written device) _ _ _ _
     both.0 both.1
-    (subst (λ (l : List ℕ). IsPlan l (planned_first device) (planned_calls device) (planned_written device)) c.requires.given c.give_plan.ensures.plan)
+    c.give_plan.ensures.plan
     (record { none = λ p is. (e.settled tt e.count).none p is })
     c.give_plan.ensures.calls
     c.give_plan.ensures.bytes

@@ -1,4 +1,5 @@
+use Rattle.luks_given.specs.Parts.{volume}
 use Rattle.luks_c.proofs.needing.luks_needed_bytes.Given as goal
 
 abbrev pub ghosts-need_given : goal.ghosts-need_given
-ghosts-need_given a = record { bytes = a.first.now }
+ghosts-need_given a = record { bytes = volume a.parts.now a.held.now a.total; parts = a.parts.now }

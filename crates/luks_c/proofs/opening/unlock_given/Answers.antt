@@ -1,5 +1,4 @@
 use Rattle.std.proofs.Common.{◌≡◌, false, ◌∙◌, sym, rules}
-use Rattle.luks_given.specs.Volume.{volume}
 use Rattle.luks_reading.specs.Failures.{is_open_failure}
 use Rattle.luks_reading.specs.Unlocking.{IsVolumeRefusedBy}
 use Rattle.luks_c_answers.proofs.NumberFacts.{open_number_other}
@@ -9,10 +8,9 @@ use Rattle.luks_c.proofs.opening.unlock_given.Goals as goal
 pub returns-in-Err : goal.returns-in-Err
 returns-in-Err g c =
     let f = c.in-Err.fault in
-    let so : IsVolumeRefusedBy (volume c.args.first.now c.args.total) f = search rules in
+    let so : IsVolumeRefusedBy g.K.Given.bytes f = search rules in
     let own : is_open_failure f ≡ false = search rules in
     record {
       answers = refused_by _ _ _ c.args.key.now c.args.opened.now f c.open_number.result so c.open_number.ensures;
-      more = λ asked. absurd (open_number_other f own (sym c.open_number.ensures ∙ asked));
-      inside = λ asked. absurd (open_number_other f own (sym c.open_number.ensures ∙ asked));
+      wanted = λ asked. absurd (open_number_other f own (sym c.open_number.ensures ∙ asked));
     }

@@ -1,7 +1,8 @@
+use Rattle.luks_given.specs.Parts.{volume}
 use Rattle.luks_c.proofs.restoring.luks_restore_bytes.Given as goal
 
 abbrev pub ghosts-restore_given-S-Given : goal.ghosts-restore_given-S-Given
-ghosts-restore_given-S-Given a = record { bytes = a.source.now }
+ghosts-restore_given-S-Given a = record { bytes = volume a.source_parts.now a.source.now a.source_total; parts = a.source_parts.now }
 
 abbrev pub ghosts-restore_given-K-Given : goal.ghosts-restore_given-K-Given
-ghosts-restore_given-K-Given a = record { bytes = a.first.now }
+ghosts-restore_given-K-Given a = record { bytes = volume a.parts.now a.held.now a.total; parts = a.parts.now }

@@ -1,12 +1,10 @@
-use Rattle.std.proofs.Common.{◌≡◌, inl, inr, ℕ, List, false, ◌∙◌, ap, arith, rules, subst, sym}
+use Rattle.std.proofs.Common.{◌≡◌, inl, inr, ℕ, List, false, ◌∙◌, ap, arith, rules, sym}
 use Rattle.luks_keeping.specs.BackupFaults.{is_backup_failure, CanBackUp, IsAnsweredBackup}
 use Rattle.luks_given.specs.Given.{given_bytes}
-use Rattle.luks_given.specs.Volume.{volume}
-use Rattle.luks_given.specs.Planned.{planned_bytes, planned_calls, planned_first, planned_size, planned_written}
+use Rattle.luks_given.specs.Planned.{planned_bytes, planned_calls, planned_size, planned_written}
 use Rattle.luks_c_answers.proofs.NumberFacts.{backup_number_other, backup_number_range, backup_number_usage}
 use Rattle.luks_c_answers.specs.Numbers.{backup_number}
 use Rattle.luks_c_answers.proofs.PlanFacts.{plan_answered, refusal_answered}
-use Rattle.luks_c_answers.specs.Plans.{IsPlan}
 use Rattle.luks_c_headers.specs.KeepAnswers.{IsBackedUpTo}
 use Rattle.luks_c_headers.proofs.HeaderFacts.{backup_refusal, fault_of_volume, of_volumes}
 use Rattle.luks_c_headers.proofs.backing_up.backup_given.Goals as goal
@@ -16,21 +14,21 @@ returns-in-Ok-backup-clause-answers g c =
     let device = c.backup.new.target in
     let e = c.in-Ok-backup.ensures in
     let both = of_volumes
-    (λ (u : List ℕ) (n : ℕ) (o : List ℕ) (m : ℕ). CanBackUp u c.args.payload n × IsBackedUpTo u c.args.payload o (volume (planned_first device) m))
-    (given_bytes c.new-from.result) (volume c.args.source.now c.args.source_total) (planned_size c.in-Ok.device) c.args.total (planned_size device)
-    (planned_bytes c.in-Ok.device) (volume c.args.first.now c.args.total)
+    (λ (u : List ℕ) (n : ℕ) (o : List ℕ) (m : ℕ). CanBackUp u c.args.payload n × IsBackedUpTo u c.args.payload o (planned_bytes device))
+    (given_bytes c.new-from.result) g.S.Given.bytes (planned_size c.in-Ok.device) c.args.total (planned_size device)
+    (planned_bytes c.in-Ok.device) g.K.Given.bytes
     c.new-from.ensures.bytes c.in-Ok.ensures.size c.in-Ok.ensures.bytes (e.size ∙ c.in-Ok.ensures.size)
     (e.faultless tt, record { backup = e.backup tt tt; well_formed = e.well_formed tt tt; answers = e.answers tt tt }) in
-    plan_answered c.args.first.now (planned_first device) c.args.total _ _ _ (planned_calls device) (planned_written device) _ _ _ _
+    plan_answered g.K.Given.parts g.K.Given.bytes (planned_bytes device) _ _ _ (planned_calls device) (planned_written device) _ _ _ _
     both.0 both.1
-    (subst (λ (l : List ℕ). IsPlan l (planned_first device) (planned_calls device) (planned_written device)) c.requires.given c.give_plan.ensures.plan)
+    c.give_plan.ensures.plan
     (record { none = λ p is. (e.settled tt).none p is })
     c.give_plan.ensures.calls
     c.give_plan.ensures.bytes
     c.give_plan.ensures.given
 
-pub returns-in-Ok-backup-clause-more : goal.returns-in-Ok-backup-clause-more
-returns-in-Ok-backup-clause-more g c = λ asked. absurd (elim c.give_plan.ensures.answers [ inl zero ↦ omega (arith, asked, zero) | inr six ↦ omega (arith, asked, six) ])
+pub returns-in-Ok-backup-clause-wanted : goal.returns-in-Ok-backup-clause-wanted
+returns-in-Ok-backup-clause-wanted g c = λ asked. absurd (elim c.give_plan.ensures.answers [ inl zero ↦ omega (arith, asked, zero) | inr six ↦ omega (arith, asked, six) ])
 
 pub returns : goal.returns
 returns g c =
@@ -40,14 +38,12 @@ returns g c =
     let r = backup_number_range f in
     let low = r.0 in
     let high = r.1 in
-    let answered : IsAnsweredBackup (volume c.args.source.now c.args.source_total) c.args.payload c.args.total f =
-    fault_of_volume (λ (u : List ℕ) (n : ℕ). IsAnsweredBackup u c.args.payload n f) (given_bytes c.new-from.result) (volume c.args.source.now c.args.source_total)
+    let answered : IsAnsweredBackup g.S.Given.bytes c.args.payload c.args.total f =
+    fault_of_volume (λ (u : List ℕ) (n : ℕ). IsAnsweredBackup u c.args.payload n f) (given_bytes c.new-from.result) g.S.Given.bytes
     (planned_size c.in-Ok.device) c.args.total c.new-from.ensures.bytes c.in-Ok.ensures.size (c.in-Err.ensures.fault tt) in
     record {
       own = λ usage. backup_number_usage f (sym is ∙ usage);
-      answers = refusal_answered c.args.first.now c.args.total _ _ _ _ _ c.backup_number.result (omega (arith, is, low)) (omega (arith, is, high))
+      answers = refusal_answered g.K.Given.parts g.K.Given.bytes _ _ _ _ _ c.backup_number.result (omega (arith, is, low)) (omega (arith, is, high))
           (λ memory. record { fault = f; least = backup_refusal _ _ _ f (λ m. memory (is ∙ ap backup_number m)) own answered; is = is });
-      more = λ asked. absurd (backup_number_other f own (sym is ∙ asked));
-      source_inside = λ asked. absurd (backup_number_other f own (sym is ∙ asked));
-      inside = λ asked. absurd (backup_number_other f own (sym is ∙ asked));
+      wanted = λ asked. absurd (backup_number_other f own (sym is ∙ asked));
     }

@@ -1,12 +1,10 @@
-use Rattle.std.proofs.Common.{◌≡◌, ℕ, List, false, ◌∙◌, arith, rules, subst, sym}
+use Rattle.std.proofs.Common.{◌≡◌, ℕ, List, false, ◌∙◌, arith, rules, sym}
 use Rattle.luks1_rebuilding.specs.Outcome.{IsAnsweredFault, IsRebuildable}
 use Rattle.luks1_rebuilding.specs.RebuildFaults.{is_rebuild_failure}
 use Rattle.luks_given.specs.Given.{given_bytes}
-use Rattle.luks_given.specs.Volume.{volume}
-use Rattle.luks_given.specs.Planned.{planned_bytes, planned_calls, planned_first, planned_size, planned_written}
+use Rattle.luks_given.specs.Planned.{planned_bytes, planned_calls, planned_size, planned_written}
 use Rattle.luks_c_answers.proofs.NumberFacts.{rebuild1_number_other, rebuild1_number_range, rebuild1_number_usage}
 use Rattle.luks_c_answers.proofs.PlanFacts.{plan_answered, refusal_answered}
-use Rattle.luks_c_answers.specs.Plans.{IsPlan}
 use Rattle.luks_c_headers.specs.RebuildAnswers.{IsRebuilt1To}
 use Rattle.luks_c_headers.proofs.HeaderFacts.{fault_of_volume, of_volumes, rebuild1_refusal}
 use Rattle.luks_c_headers.proofs.rebuilding1.rebuild1_given.Goals as goal
@@ -16,14 +14,14 @@ returns-in-Ok-rebuild1-clause-answers g c =
     let device = c.rebuild1.new.target in
     let e = c.in-Ok-rebuild1.ensures in
     let both = of_volumes
-    (λ (u : List ℕ) (n : ℕ) (o : List ℕ) (m : ℕ). IsRebuildable u c.args.fields.now n × IsRebuilt1To u c.args.fields.now o (volume (planned_first device) m))
-    (given_bytes c.new-from.result) (volume c.args.source.now c.args.source_total) (planned_size c.in-Ok.device) c.args.total (planned_size device)
-    (planned_bytes c.in-Ok.device) (volume c.args.first.now c.args.total)
+    (λ (u : List ℕ) (n : ℕ) (o : List ℕ) (m : ℕ). IsRebuildable u c.args.fields.now n × IsRebuilt1To u c.args.fields.now o (planned_bytes device))
+    (given_bytes c.new-from.result) g.S.Given.bytes (planned_size c.in-Ok.device) c.args.total (planned_size device)
+    (planned_bytes c.in-Ok.device) g.K.Given.bytes
     c.new-from.ensures.bytes c.in-Ok.ensures.size c.in-Ok.ensures.bytes (e.size ∙ c.in-Ok.ensures.size)
     (e.faultless tt, record { rebuilt = e.rebuilt tt tt; well_formed = e.well_formed tt tt; opens = e.opens tt tt }) in
-    plan_answered c.args.first.now (planned_first device) c.args.total _ _ _ (planned_calls device) (planned_written device) _ _ _ _
+    plan_answered g.K.Given.parts g.K.Given.bytes (planned_bytes device) _ _ _ (planned_calls device) (planned_written device) _ _ _ _
     both.0 both.1
-    (subst (λ (l : List ℕ). IsPlan l (planned_first device) (planned_calls device) (planned_written device)) c.requires.given c.give_plan.ensures.plan)
+    c.give_plan.ensures.plan
     (record { none = λ p is. (e.settled tt).none p is })
     c.give_plan.ensures.calls
     c.give_plan.ensures.bytes
@@ -37,14 +35,12 @@ returns g c =
     let r = rebuild1_number_range f in
     let low = r.0 in
     let high = r.1 in
-    let answered : IsAnsweredFault (volume c.args.source.now c.args.source_total) c.args.fields.now c.args.total f =
-    fault_of_volume (λ (u : List ℕ) (n : ℕ). IsAnsweredFault u c.args.fields.now n f) (given_bytes c.new-from.result) (volume c.args.source.now c.args.source_total)
+    let answered : IsAnsweredFault g.S.Given.bytes c.args.fields.now c.args.total f =
+    fault_of_volume (λ (u : List ℕ) (n : ℕ). IsAnsweredFault u c.args.fields.now n f) (given_bytes c.new-from.result) g.S.Given.bytes
     (planned_size c.in-Ok.device) c.args.total c.new-from.ensures.bytes c.in-Ok.ensures.size (c.in-Err.ensures.fault tt) in
     record {
       own = λ usage. rebuild1_number_usage f (sym is ∙ usage);
-      answers = refusal_answered c.args.first.now c.args.total _ _ _ _ _ c.rebuild1_number.result (omega (arith, is, low)) (omega (arith, is, high))
+      answers = refusal_answered g.K.Given.parts g.K.Given.bytes _ _ _ _ _ c.rebuild1_number.result (omega (arith, is, low)) (omega (arith, is, high))
           (λ memory. record { fault = f; least = rebuild1_refusal _ _ _ f own answered; is = is });
-      more = λ asked. absurd (rebuild1_number_other f own (sym is ∙ asked));
-      source_inside = λ asked. absurd (rebuild1_number_other f own (sym is ∙ asked));
-      inside = λ asked. absurd (rebuild1_number_other f own (sym is ∙ asked));
+      wanted = λ asked. absurd (rebuild1_number_other f own (sym is ∙ asked));
     }

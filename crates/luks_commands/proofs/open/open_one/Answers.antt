@@ -10,12 +10,12 @@ pub returns-clause-answers : goal.returns-clause-answers
 returns-clause-answers g c =
     let v = g.D.Device.bytes c.args.device.now in
     subst (IsOneAnswer g.D.Device.tells c.args.allowed v c.args.n c.args.passphrase.now _ _) (sym c.one_answer-answer.ensures)
-    (answers_one g.D.Device.tells c.args.allowed v c.args.n c.args.passphrase.now _ _ c.try_header_slot-opened.result
-    (rw c.in-Ok.ensures.count at c.try_header_slot-opened.ensures.count)
+    (answers_one g.D.Device.tells c.args.allowed v c.args.n c.args.passphrase.now _ _ c.try_one-opened.result
+    (rw c.in-Ok.ensures.count at c.try_one-opened.ensures.count)
     (λ tells. rw (c.read_header.ensures.unchanged.same tells) at
-    (c.try_header_slot-opened.ensures.answers.opens tells (rw (c.read_header.ensures.unchanged.same tells) (c.in-Ok.ensures.read tells))))
+    (c.try_one-opened.ensures.answers.opens tells (rw (c.read_header.ensures.unchanged.same tells) (c.in-Ok.ensures.read tells))))
     (λ tells. rw (c.read_header.ensures.unchanged.same tells) at
-    (c.try_header_slot-opened.ensures.answers.refused tells (rw (c.read_header.ensures.unchanged.same tells) (c.in-Ok.ensures.read tells)))))
+    (c.try_one-opened.ensures.answers.refused tells (rw (c.read_header.ensures.unchanged.same tells) (c.in-Ok.ensures.read tells)))))
 
 pub returns-in-Err-clause-answers : goal.returns-in-Err-clause-answers
 returns-in-Err-clause-answers g c =

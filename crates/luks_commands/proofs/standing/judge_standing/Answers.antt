@@ -1,5 +1,4 @@
 use Rattle.std.proofs.Common.{List, ℕ, Option, None, sym, subst, ◌∙◌}
-use Rattle.std.proofs.lemmas.Bool.{false≢true}
 use Rattle.luks_area.specs.Device.{unchanged-then}
 use Rattle.luks_signatures.specs.Signatures.{Finds, table}
 use Rattle.luks_signatures.specs.declared.other_use.OtherUse.{OtherUse}
@@ -11,12 +10,12 @@ pub returns-then-over-clause-clear : goal.returns-then-over-clause-clear
 returns-then-over-clause-clear g c = λ tells. over_clears c.args.over _ (g.D.Device.bytes c.args.device.now) c.if-over.true
 
 pub returns-in-None-clause-unchanged : goal.returns-in-None-clause-unchanged
-returns-in-None-clause-unchanged g c = unchanged-then c.in_ok-has_other.ensures.unchanged c.in_ok-found.ensures.unchanged
+returns-in-None-clause-unchanged g c = unchanged-then c.in_ok-judge_headers.ensures.unchanged c.in_ok-found.ensures.unchanged
 
 pub returns-in-None-clause-clear : goal.returns-in-None-clause-clear
 returns-in-None-clause-clear g c = λ tells.
     let v : List ℕ = g.D.Device.bytes c.args.device.now in
     use_clears c.args.over (HasOther c.args.uuid v) v
-    (λ other. false≢true (sym c.if-branch.false ∙ (c.in_ok-has_other.ensures.has tells).1 other))
+    (c.in_ok-judge_headers.ensures.clear tells).0 (c.in_ok-judge_headers.ensures.clear tells).1
     (subst (λ (found : Option OtherUse). Finds table v found) c.in-None.is
-    (subst (λ (w : List ℕ). Finds table w c.in_ok-found.field-0) (c.in_ok-has_other.ensures.unchanged.same tells) (c.in_ok-found.ensures.found tells)))
+    (subst (λ (w : List ℕ). Finds table w c.in_ok-found.field-0) (c.in_ok-judge_headers.ensures.unchanged.same tells) (c.in_ok-found.ensures.found tells)))

@@ -20,7 +20,7 @@ returns-in-Format-clause-executes g c = rw c.in-Format.is (record {
   kept = record {
     left = c.run-in-Format.ensures.left;
     answers = c.run-in-Format.ensures.answers;
-    over = format_holds g.D.Device.tells g.D.Device.size g.D.Device.bytes g.D.Device.failed c.in-Format.making _ _ _ _ _ _ c.run-in-Format.result
+    over = format_holds g.D.Device.tells g.D.Device.size g.D.Device.bytes g.D.Device.failed c.in-Format.making _ _ _ _ _ _ _ c.run-in-Format.result
         c.run-in-Format.ensures.answers;
   };
 })
@@ -114,3 +114,16 @@ returns-in-Edit-clause-executes g c = rw c.in-Edit.is (record {
     over = c.run-in-Edit.ensures.over;
   };
 })
+
+pub returns-in-KeepKey-clause-executes : goal.returns-in-KeepKey-clause-executes
+returns-in-KeepKey-clause-executes g c = rw c.in-KeepKey.is (record {
+  kept = record {
+    same = c.run-in-KeepKey.ensures.same;
+    exists = c.run-in-KeepKey.ensures.exists;
+    answers = c.run-in-KeepKey.ensures.answers;
+  };
+})
+
+pub returns-in-KeepKey-clause-settled : goal.returns-in-KeepKey-clause-settled
+returns-in-KeepKey-clause-settled g c = rw c.in-KeepKey.is (settled_kept g.D.Device.tells g.D.Device.size g.D.Device.failed g.D.Device.bytes g.D.Device.unsettled _ _
+    c.requires.settled c.run-in-KeepKey.ensures.unchanged)

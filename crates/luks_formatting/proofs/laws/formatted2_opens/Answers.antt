@@ -1,11 +1,14 @@
-use Rattle.std.proofs.Common.{None, arith}
+use Rattle.std.proofs.Common.{length, None, arith}
 use Rattle.luks_slot.specs.Allowance.{none_allowed}
+use Rattle.luks_formatting.specs.Given.{nothing_given}
+use Rattle.luks_formatting.proofs.GivenFacts.{nothing_sound2}
 use Rattle.luks_formatting.proofs.Formatted2Facts.{slot_opens, well_formed}
 use Rattle.luks_formatting.proofs.laws.formatted2_opens.Goals as goal
 
 pub returns-clause-well_formed : goal.returns-clause-well_formed
-returns-clause-well_formed c payload format = well_formed payload format None
+returns-clause-well_formed c payload format passphrase random old new some large counted =
+    well_formed (nothing_given payload) format None passphrase random old new some large counted (nothing_sound2 payload (length new))
 
 pub returns-clause-opens : goal.returns-clause-opens
 returns-clause-opens c payload format passphrase random old new some large counted fits x =
-    slot_opens payload format None passphrase random old new some large counted fits x 0 none_allowed tt (omega arith)
+    slot_opens (nothing_given payload) format None passphrase random old new some large counted (nothing_sound2 payload (length new)) fits x 0 none_allowed tt (omega arith)

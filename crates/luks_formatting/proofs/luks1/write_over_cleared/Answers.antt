@@ -1,5 +1,6 @@
 use Rattle.std.proofs.Common.{◌≡◌, length, arith, ap, inl, ◌∙◌}
 use Rattle.luks_area.specs.declared.area.Area.{Area}
+use Rattle.luks_formatting.proofs.GivenFacts.{length-key_of, uuid_is}
 use Rattle.luks_formatting.proofs.Written1Facts.{area_stands, both_rest, first_waits, formatted, sealed_rest}
 use Rattle.luks_formatting.proofs.luks1.write_over_cleared.Goals as goal
 
@@ -32,20 +33,20 @@ returns-in_err-seal_key-clause-order g c tells = inl (first_waits c.slot_plan-pl
 pub returns-in_err-write_range-clause-order : goal.returns-in_err-write_range-clause-order
 returns-in_err-write_range-clause-order g c tells =
     let bytes = g.D.Device.bytes in
-    area_stands c.args.payload c.args.format.now c.args.passphrase.now c.args.random.now (bytes c.seal_key.new.device) (bytes c.write_range.new.device)
-    c.write.result c.taken-key.result.now c.taken-stripes.result.now c.new_header-header.result c.slot_plan-plan.result
-    c.new_header-header.ensures c.write.ensures.written
-    (c.slot_plan-plan.ensures.plan c.args.payload c.args.random.now c.new_header-header.ensures) c.slot_plan-plan.ensures.cipher
-    (c.write_range.ensures.outside tells) c.taken-key.ensures.value c.taken-stripes.ensures.value (c.in_ok-seal_key.ensures.sealed tells) (bytes c.args.device.now)
+    area_stands c.args.given.now c.args.format.now c.args.passphrase.now c.args.random.now (bytes c.seal_key.new.device) (bytes c.write_range.new.device)
+    c.write.result c.key_of-key.result.now c.taken-stripes.result.now c.new_header-header.result c.slot_plan-plan.result
+    c.new_header-header.ensures c.write.ensures.written (uuid_is c.args.given.now c.args.random.now c.requires.sound.uuid)
+    (c.slot_plan-plan.ensures.plan c.args.given.now c.args.random.now c.new_header-header.ensures) c.slot_plan-plan.ensures.cipher
+    (c.write_range.ensures.outside tells) c.key_of-key.ensures c.taken-stripes.ensures.value (c.in_ok-seal_key.ensures.sealed tells) (bytes c.args.device.now)
 
 pub returns-clause-order : goal.returns-clause-order
 returns-clause-order g c tells =
     let bytes = g.D.Device.bytes in
-    area_stands c.args.payload c.args.format.now c.args.passphrase.now c.args.random.now (bytes c.seal_key.new.device) (bytes c.write_range.new.device)
-    c.write.result c.taken-key.result.now c.taken-stripes.result.now c.new_header-header.result c.slot_plan-plan.result
-    c.new_header-header.ensures c.write.ensures.written
-    (c.slot_plan-plan.ensures.plan c.args.payload c.args.random.now c.new_header-header.ensures) c.slot_plan-plan.ensures.cipher
-    (c.write_range.ensures.outside tells) c.taken-key.ensures.value c.taken-stripes.ensures.value (c.in_ok-seal_key.ensures.sealed tells) (bytes c.args.device.now)
+    area_stands c.args.given.now c.args.format.now c.args.passphrase.now c.args.random.now (bytes c.seal_key.new.device) (bytes c.write_range.new.device)
+    c.write.result c.key_of-key.result.now c.taken-stripes.result.now c.new_header-header.result c.slot_plan-plan.result
+    c.new_header-header.ensures c.write.ensures.written (uuid_is c.args.given.now c.args.random.now c.requires.sound.uuid)
+    (c.slot_plan-plan.ensures.plan c.args.given.now c.args.random.now c.new_header-header.ensures) c.slot_plan-plan.ensures.cipher
+    (c.write_range.ensures.outside tells) c.key_of-key.ensures c.taken-stripes.ensures.value (c.in_ok-seal_key.ensures.sealed tells) (bytes c.args.device.now)
 
 pub returns-clause-formatted : goal.returns-clause-formatted
 returns-clause-formatted g c tells =
@@ -53,9 +54,14 @@ returns-clause-formatted g c tells =
     let v = bytes c.seal_key.new.device in
     let size : length v ≡ g.D.Device.size c.args.device.now = g.met.D.Device.sized c.seal_key.new.device tells ∙ c.seal_key.ensures.size in
     let room = c.requires.within in
-    formatted c.args.payload c.args.format.now c.args.passphrase.now c.args.random.now v (bytes c.write_range.new.device)
-    c.write.result c.taken-key.result.now c.taken-stripes.result.now c.new_header-header.result c.slot_plan-plan.result
-    c.new_header-header.ensures c.write.ensures.written
-    (c.slot_plan-plan.ensures.plan c.args.payload c.args.random.now c.new_header-header.ensures) c.slot_plan-plan.ensures.cipher
-    (c.write_range.ensures.outside tells) c.taken-key.ensures.value c.taken-stripes.ensures.value (c.in_ok-seal_key.ensures.sealed tells)
+    formatted c.args.given.now c.args.format.now c.args.passphrase.now c.args.random.now v (bytes c.write_range.new.device)
+    c.write.result c.key_of-key.result.now c.taken-stripes.result.now c.new_header-header.result c.slot_plan-plan.result
+    c.new_header-header.ensures c.write.ensures.written (uuid_is c.args.given.now c.args.random.now c.requires.sound.uuid)
+    (c.slot_plan-plan.ensures.plan c.args.given.now c.args.random.now c.new_header-header.ensures) c.slot_plan-plan.ensures.cipher
+    (c.write_range.ensures.outside tells) c.key_of-key.ensures c.taken-stripes.ensures.value (c.in_ok-seal_key.ensures.sealed tells)
     (bytes c.args.device.now) (omega (arith, size, room)) (c.in_ok-write_range.ensures.wrote tells) (c.seal_key.ensures.rest tells)
+
+pub seal_key-requires-clause-key_length : goal.seal_key-requires-clause-key_length
+seal_key-requires-clause-key_length g c =
+    let counted = c.requires.long in
+    ap length c.key_of-key.ensures ∙ length-key_of c.args.given.now c.args.random.now c.requires.sound.key (omega (arith, counted))

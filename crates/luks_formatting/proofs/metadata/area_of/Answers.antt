@@ -18,10 +18,10 @@ written_area-requires c =
     let volume = c.args.volume.now in
     let own = slot_derivation volume.format.now volume.chosen in
     let members = c.requires.members in
-    let digest : length (key_digest volume.format.now volume.random.now (digest_size_of volume.format.now.hash)) ≡ digest_size_of volume.format.now.hash =
+    let digest : length (key_digest volume.given.now volume.format.now volume.random.now (digest_size_of volume.format.now.hash)) ≡ digest_size_of volume.format.now.hash =
     sym (ap (λ (m : VolumeMembers). length m.digest) members) ∙ c.requires.digest_length in
     let can : CanFormat (volume_members c.args.like.now) =
-    subst CanFormat (sym members) (can_format volume.payload volume.format.now volume.random.now c.requires.iterations c.requires.long digest) in
+    subst CanFormat (sym members) (can_format volume.given.now volume.format.now volume.random.now c.requires.iterations c.requires.long digest) in
     let low : volume.format.now.iterations < 4294967296 = subst (λ (n : ℕ). n < 4294967296) (ap (λ (m : VolumeMembers). m.iterations) members) c.volume_fits.ensures.iterations in
     let fits_own : FitsDerivation own = derivation_fits volume.format.now volume.passphrase.allowed.memory volume.chosen c.requires.iterations low c.requires.makeable c.chosen_fits.ensures in
     subst (λ (d : Data). IsHeld 12288 d) (sym c.in_ok-value.ensures) (held_by own (volume_members c.args.like.now) c.volume_fits.ensures can fits_own)

@@ -13,6 +13,6 @@ pub returns-clause-sealable : goal.returns-clause-sealable
 returns-clause-sealable c = λ allowed can.
     let format = c.args.format.now in
     let random = c.args.random.now in
-    let plan : HasPlan format c.args.chosen random c.new_plan_by.result = search rules in
-    sealable_chosen format c.args.chosen (slot_salt slot_place2 random) area2 (digest_salt random) (key_digest format random (digest_size_of format.hash)) c.new_plan_by.result
+    let plan : HasPlan c.args.given.now format c.args.chosen random c.new_plan_by.result = search rules in
+    sealable_chosen format c.args.chosen (slot_salt slot_place2 random) area2 (digest_salt random) (key_digest c.args.given.now format random (digest_size_of format.hash)) c.new_plan_by.result
     plan.is (cipher_opens c.new_plan_by.result.cipher plan.cipher) allowed c.requires.iterations (length-slot_salt random c.requires.long) can

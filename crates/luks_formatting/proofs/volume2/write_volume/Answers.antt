@@ -19,5 +19,5 @@ returns-clause-order g c tells = cleared_then 16384 (lit≤ tt) (c.in_ok-clear_p
 pub returns-clause-formatted : goal.returns-clause-formatted
 returns-clause-formatted g c tells =
     let bytes = g.D.Device.bytes in
-    on_ok_weaker c.write_over_cleared.result (over_cleared c.args.volume.now.payload c.args.volume.now.format.now c.args.volume.now.chosen c.args.volume.now.passphrase.bytes.now c.args.volume.now.random.now (bytes c.args.device.now)
+    on_ok_weaker c.write_over_cleared.result (over_cleared c.args.volume.now.given.now c.args.volume.now.format.now c.args.volume.now.chosen c.args.volume.now.passphrase.bytes.now c.args.volume.now.random.now (bytes c.args.device.now)
     (bytes c.clear_places.new.device) (bytes c.write_over_cleared.new.device) (c.clear_places.ensures.rest tells)) (c.write_over_cleared.ensures.formatted tells)

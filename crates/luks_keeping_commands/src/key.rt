@@ -1,0 +1,207 @@
+//! The command `key`.
+ghost use Rattle.std.specs.Prelude.{◌≡◌, ◌≢◌, ◌⊎◌, ◌+◌, ◌<◌, ◌^◌, ◌↔◌, Err, IfErr, IfOk, IsTrue, OnOk, length};
+ghost use Rattle.std.specs.Result.{ForOk};
+ghost use Rattle.luks_area.specs.Device.{CountsFailure, IsSettled, IsUnchanged, is_failure};
+ghost use Rattle.luks_reading.specs.Failures.{is_open_failure};
+ghost use Rattle.luks_commands.specs.Answer.{answer_status, open_fault_answer, unread_answer};
+ghost use Rattle.luks_commands.specs.Beside.{IsSameFile};
+ghost use Rattle.luks_commands.specs.Files.{IsLong, IsUnread, IsWhole, KeepsVolume};
+ghost use Rattle.luks_commands.specs.OpenAnswers.{allowed_of};
+ghost use Rattle.luks_commands.specs.declared.inputs.InputFault.TheVariants.{Unreadable};
+ghost use Rattle.luks_commands.specs.declared.inputs.Reason.TheVariants as reason;
+ghost use Rattle.luks_keeping_commands.specs.KeepingKey.{AnswersKeyKept, AreNotThree, IsExisting, IsKept};
+ghost use Rattle.luks_keeping_commands.specs.KeepingKey.{IsKeyFileAnswer, IsKeyOpened, key_of, shut_answer, unmade_answer};
+
+use crate::backup::is_kept_from;
+use crate::key_file::MakesFile;
+use luks_commands::open::{allowed_of, try_each, try_one};
+use luks_commands::{
+    Answer, InputFault, Inputs, PassphraseFault, Reason, Refusal, Status, are_one_file,
+    device_fault, passphrase, unread,
+};
+use luks_reading::{Device, DeviceFault, Key, OpenFault, read_header};
+use luks_request::KeepingKey;
+use std::alloc::Global;
+use std::io::{Read, Write};
+
+/// Writes the volume key that the passphrase opens to a file of its own, which `maker` makes once the key is
+/// there; it is `inputs.target` then. The passphrase is read before the volume.
+///
+/// It isn't inlined, so that it takes no stack where another command runs.
+#[inline(never)]
+#[tactic(auto, using(luks_commands::proofs::FileFacts::keeps_same))]
+pub fn run<D: Device, R: Read, N: Read, M: MakesFile<D>, E: Write>(
+    alloc: Global,
+    inputs: &mut Inputs<D, R, N>,
+    name: &str,
+    keeping: &KeepingKey<'_>,
+    maker: &mut M,
+    err: &mut E,
+) -> Answer
+    requires { ForOk inputs.old.volume (λ d. D.failed d + 1 < 2 ^ 64) }
+    ensures unchanged { KeepsVolume D.tells D.size D.bytes D.unsettled
+        inputs.old.volume inputs.new.volume }
+    ensures kinds { answer_status result ≢ Status.NotInStep }
+    ensures unread { IfErr inputs.old.volume (λ _. answer_status result ≢ Status.Done) }
+    ensures same { AreNotThree name.now keeping.now inputs.old.target
+        → (inputs.new ≡ inputs.old) × IsSameFile result }
+    ensures exists { (AreNotThree name.now keeping.now inputs.old.target → ⊥)
+        → IsExisting inputs.old.target
+        → (inputs.new ≡ inputs.old) × (result ≡ Answer.Refused Refusal.Exists) }
+    ensures answers { (AreNotThree name.now keeping.now inputs.old.target → ⊥)
+        → (IsExisting inputs.old.target → ⊥)
+        → AnswersKeyKept D.Device (allowed_of keeping.now.memory keeping.now.older) keeping.now.slot
+        (IsWhole R.remaining inputs.old.passphrase) (IsLong R.remaining inputs.old.passphrase)
+        (IsUnread inputs.old.passphrase) inputs.old.volume inputs.new.volume
+        inputs.old.target inputs.new.target result }
+{
+    if are_not_three(name, keeping, &inputs.target) {
+        return Answer::Refused(Refusal::SameFile);
+    }
+    if is_kept_from(&inputs.target) {
+        return Answer::Refused(Refusal::Exists);
+    }
+    let words = match passphrase(alloc, &mut inputs.passphrase) {
+        Ok(words) => words,
+        Err(PassphraseFault::TooLong) => return Answer::Refused(Refusal::LongPassphrase),
+        Err(PassphraseFault::Input(fault)) => return unread(fault, keeping.passphrase, err),
+    };
+    let opened = match &mut inputs.volume {
+        Ok(device) => open_key(alloc, device, words.as_slice(), keeping, err),
+        Err(fault) => return unread(*fault, name, err),
+    };
+    keep_opened(&opened, name, keeping, maker, &mut inputs.target, err)
+}
+
+/// Whether the file of the key is the volume or that of the passphrase, as far as their names say it or it
+/// was found.
+fn are_not_three<D>(name: &str, keeping: &KeepingKey<'_>, target: &Result<D, InputFault>) -> bool
+    ensures { IsTrue result ↔ AreNotThree name.now keeping.now target.now }
+{
+    are_one_file(name, keeping.target, target) || keeping.passphrase == keeping.target
+}
+
+/// The key that the passphrase opens, of the keyslot that is named or else of the first that it opens.
+fn open_key<D: Device, E: Write>(
+    alloc: Global,
+    device: &mut D,
+    passphrase: &[u8],
+    keeping: &KeepingKey<'_>,
+    err: &mut E,
+) -> Result<Option<Key>, OpenFault>
+    requires room { D.failed device.old + 1 < 2 ^ 64 }
+    requires passphrase { length passphrase.now < 2 ^ 32 }
+    ensures unchanged { IsUnchanged D.tells D.size D.bytes D.unsettled device.old device.new }
+    ensures count { CountsFailure is_open_failure result
+        (D.failed device.old) (D.failed device.new) }
+    ensures opened { D.tells → IsKeyOpened (allowed_of keeping.now.memory keeping.now.older)
+        (D.bytes device.old) keeping.now.slot passphrase.now result }
+{
+    let header = read_header(alloc, device)?;
+    let allowed = allowed_of(keeping.memory, keeping.older);
+    match keeping.slot {
+        Some(n) => try_one(alloc, device, &header, n, passphrase, allowed, err),
+        None => key_of(try_each(alloc, device, &header, passphrase, allowed, err)),
+    }
+}
+
+/// The key without its keyslot's number.
+fn key_of(opened: Result<Option<(u8, Key)>, OpenFault>) -> Result<Option<Key>, OpenFault>
+    ensures { result ≡ key_of opened }
+{
+    match opened? {
+        Some((_, key)) => Ok(Some(key)),
+        None => Ok(None),
+    }
+}
+
+/// Makes the file of the key that was opened, if one was, and writes it there.
+fn keep_opened<D: Device, M: MakesFile<D>, E: Write>(
+    opened: &Result<Option<Key>, OpenFault>,
+    name: &str,
+    keeping: &KeepingKey<'_>,
+    maker: &mut M,
+    target: &mut Result<D, InputFault>,
+    err: &mut E,
+) -> Answer
+    ensures { IsKeyFileAnswer D.Device keeping.now.slot opened.now target.old target.new result }
+{
+    match opened {
+        Ok(Some(key)) => {
+            let bytes = key.as_bytes();
+            *target = maker.make(bytes.len() as u64);
+            keep_in(target, bytes, keeping.target, err)
+        }
+        Ok(None) => shut_answer(keeping.slot),
+        Err(OpenFault::Device) => device_fault(name, "reading failed", err),
+        Err(fault) => Answer::from(*fault),
+    }
+}
+
+/// What is answered where the passphrase opens nothing: of the keyslot that is named.
+fn shut_answer(slot: Option<u8>) -> Answer
+    ensures { result ≡ shut_answer slot }
+{
+    match slot {
+        Some(n) => Answer::Closed(n),
+        None => Answer::NoneOpens,
+    }
+}
+
+/// Writes the key to its file, if that was made; standard error says what it is.
+fn keep_in<D: Device, E: Write>(
+    made: &mut Result<D, InputFault>,
+    key: &[u8],
+    file: &str,
+    err: &mut E,
+) -> Answer
+    requires { IfOk made.old (λ d. D.failed d ≡ 0) }
+    ensures { IsKept D.Device key.now made.new result }
+{
+    let device = match made {
+        Ok(device) => device,
+        Err(fault) => return unmade(*fault, file, err),
+    };
+    if device.len() != key.len() as u64 {
+        return device_fault(file, "can't have the key's bytes and no others", err);
+    }
+    match write_key(device, key) {
+        Ok(()) => {
+            note_kept(file, err);
+            Answer::Done(None)
+        }
+        Err(DeviceFault) => device_fault(file, "writing failed, the key isn't kept", err),
+    }
+}
+
+/// Writes the key over all bytes of the file, and flushes it.
+fn write_key<D: Device>(file: &mut D, key: &[u8]) -> Result<(), DeviceFault>
+    requires room { D.failed file.old + 1 < 2 ^ 64 }
+    requires size { D.size file.old ≡ length key.now }
+    ensures count { CountsFailure is_failure result (D.failed file.old) (D.failed file.new) }
+    ensures size { D.size file.new ≡ D.size file.old }
+    ensures wrote { D.tells → OnOk result (D.bytes file.new ≡ key.now) }
+    ensures settled { D.tells → OnOk result (IsSettled D.unsettled file.new) }
+{
+    file.write_at(0, key)?;
+    file.flush()
+}
+
+/// Says what the file is that the key was written to.
+fn note_kept<E: Write>(file: &str, err: &mut E) {
+    let _ = writeln!(
+        err,
+        "luks: {file}: whoever has this key reads the data, and no change of passphrases revokes it"
+    );
+}
+
+/// What is answered where the key's file isn't made by this fault.
+fn unmade<E: Write>(fault: InputFault, file: &str, err: &mut E) -> Answer
+    ensures { result ≡ unmade_answer fault }
+{
+    match fault {
+        InputFault::Unreadable(Reason::Exists) => Answer::Refused(Refusal::Exists),
+        InputFault::Unreadable(Reason::SameFile) => Answer::Refused(Refusal::SameFile),
+        fault => unread(fault, file, err),
+    }
+}
