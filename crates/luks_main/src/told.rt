@@ -1,7 +1,7 @@
 //! What is told where no command runs.
 ghost use Rattle.std.specs.Prelude.{◌≡◌, IfOk};
 ghost use Rattle.luks_explain.specs.Names.{fault_called, name_in};
-ghost use Rattle.luks_main.specs.Statuses.{IsStatusWithout, named_status};
+ghost use Rattle.luks_main.specs.Statuses.{IsProgramStatus, IsStatusWithout, named_status};
 
 use crate::{FAULT, TOLD, USAGE};
 use clap::error::ErrorKind as FaultKind;
@@ -27,7 +27,8 @@ pub(crate) fn tell_usage<R: Print + Eprint>(rt: &R, fault: &clap::Error) -> io::
 
 /// Prints what is said of a fault; that no fault has the name is a mistake in the words.
 pub(crate) fn explain<R: Print + Eprint>(rt: &R, fault: &str) -> io::Result<u8>
-    ensures { IfOk result (λ status. status ≡ named_status (fault_called (name_in fault.now))) }
+    ensures named { IfOk result (λ status. status ≡ named_status (fault_called (name_in fault.now))) }
+    ensures status { IfOk result IsProgramStatus }
 {
     let Some(found) = Fault::find(fault) else {
         let _ = eprintln!(rt; "luks: no fault has the name {fault}: luks explain lists them");
