@@ -8,6 +8,7 @@ use Rattle.luks_slot.specs.Opening.{area_bytes, area_key, opened_sector, opened_
 use Rattle.luks_slot.specs.Ciphers.{sector_opened}
 use Rattle.luks_slot.specs.Sealing.{IsSealed}
 use Rattle.luks_slot.specs.declared.plan.SlotPlan.{SlotPlan}
+use Rattle.luks_formatting.specs.Encrypting.{used_bytes}
 use Rattle.luks_formatting.specs.NewPlan.{IsSealedAhead}
 
 -- a part of the front of a list is that part of the list
@@ -38,29 +39,30 @@ sealed_front plan a b passphrase key random same x =
       zeros = ap (λ (r : List ℕ). drop (plan.key_bytes * plan.stripes) r) (sym rows) ∙ x.zeros;
     }
 
--- a key of 64 bytes in 4000 stripes takes 500 sectors
-used : (key_bytes stripes : ℕ) → key_bytes ≡ 64 → stripes ≡ 4000 → 512 * sector_count (key_bytes * stripes) ≡ 256000
-used key_bytes stripes key count = rw (key, count) refl
+-- how much a key of k bytes takes in 4000 stripes
+used : (k key_bytes stripes : ℕ) → key_bytes ≡ k → stripes ≡ 4000 → 512 * sector_count (key_bytes * stripes) ≡ used_bytes k
+used k key_bytes stripes key count = rw (key, count) (omega arith)
 
 -- where they are written, the area is sealed
-pub written_sealed : (plan : SlotPlan) (passphrase key random bytes v w : List ℕ) → plan.key_bytes ≡ 64 → plan.stripes ≡ 4000 → 256000 ≤ plan.area.len
-    → plan.area.start + plan.area.len ≤ length v → IsSealedAhead plan passphrase key random bytes → w ≡ written v plan.area.start bytes
+pub written_sealed : (k : ℕ) (plan : SlotPlan) (passphrase key random bytes v w : List ℕ) → plan.key_bytes ≡ k → plan.stripes ≡ 4000 → used_bytes k ≤ plan.area.len
+    → plan.area.start + plan.area.len ≤ length v → IsSealedAhead k plan passphrase key random bytes → w ≡ written v plan.area.start bytes
     → IsSealed plan (area_bytes w plan.area) passphrase key random
-written_sealed plan passphrase key random bytes v w key_is stripes_are large inside x is =
+written_sealed k plan passphrase key random bytes v w key_is stripes_are large inside x is =
     let at = plan.area.start in
+    let n : ℕ = used_bytes k in
     let long = x.long in
-    let count = used plan.key_bytes plan.stripes key_is stripes_are in
-    let there : part w at 256000 ≡ bytes = ap (λ (u : List ℕ). part u at 256000) is ∙ ap (λ n. part (written v at bytes) at n) (sym long) ∙ part-written v at bytes (omega (arith, long, large, inside)) in
-    let front : part (part w at plan.area.len) 0 256000 ≡ part w at 256000 = part-part w at plan.area.len 0 256000 (omega (arith, large)) ∙ ap (λ p. part w p 256000) (omega arith) in
-    let whole : part bytes 0 256000 ≡ bytes = ap (λ n. part bytes 0 n) (sym long) ∙ part-whole bytes in
-    let same : part bytes 0 256000 ≡ part (area_bytes w plan.area) 0 256000 = whole ∙ sym there ∙ sym front in
-    sealed_front plan bytes (area_bytes w plan.area) passphrase key random (subst (λ n. part bytes 0 n ≡ part (area_bytes w plan.area) 0 n) (sym count) same) x.sealed
+    let count = used k plan.key_bytes plan.stripes key_is stripes_are in
+    let there : part w at n ≡ bytes = ap (λ (u : List ℕ). part u at n) is ∙ ap (λ m. part (written v at bytes) at m) (sym long) ∙ part-written v at bytes (omega (arith, long, large, inside)) in
+    let front : part (part w at plan.area.len) 0 n ≡ part w at n = part-part w at plan.area.len 0 n (omega (arith, large)) ∙ ap (λ p. part w p n) (omega arith) in
+    let whole : part bytes 0 n ≡ bytes = ap (λ m. part bytes 0 m) (sym long) ∙ part-whole bytes in
+    let same : part bytes 0 n ≡ part (area_bytes w plan.area) 0 n = whole ∙ sym there ∙ sym front in
+    sealed_front plan bytes (area_bytes w plan.area) passphrase key random (subst (λ m. part bytes 0 m ≡ part (area_bytes w plan.area) 0 m) (sym count) same) x.sealed
 
 -- an area that is alone on a device is sealed as one at its place
-pub alone_sealed : (plan : SlotPlan) (area : Area) (passphrase key random bytes : List ℕ) → area ≡ record { start = 0; len = 256000 } → length bytes ≡ 256000
-    → IsSealed (record plan { area = area }) (area_bytes bytes area) passphrase key random → IsSealedAhead plan passphrase key random bytes
+pub alone_sealed : (k : ℕ) (plan : SlotPlan) (area : Area) (passphrase key random bytes : List ℕ) → area ≡ record { start = 0; len = used_bytes k } → length bytes ≡ used_bytes k
+    → IsSealed (record plan { area = area }) (area_bytes bytes area) passphrase key random → IsSealedAhead k plan passphrase key random bytes
 unfolding area_key stripes_in
-alone_sealed plan area passphrase key random bytes alone long x =
+alone_sealed k plan area passphrase key random bytes alone long x =
     let whole : area_bytes bytes area ≡ bytes = ap (λ (a : Area). part bytes a.start a.len) alone ∙ ap (λ n. part bytes 0 n) (sym long) ∙ part-whole bytes in
     let moved : IsSealed plan (area_bytes bytes area) passphrase key random = record { stripes = x.stripes; zeros = x.zeros } in
     record { long = long; sealed = subst (λ (a : List ℕ). IsSealed plan a passphrase key random) whole moved }
