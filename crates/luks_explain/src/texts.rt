@@ -129,8 +129,8 @@ pub(crate) fn place(fault: Fault) -> &'static str {
         }
         Fault::KeyLength => {
             "open --key: its FILE; LUKS1 says in its header how many bytes the key
-       has, LUKS2 in the keyslots of the digest; format: --key-bytes, else 64, of
-       cbc 32, and as many has the FILE of --key"
+       has, LUKS2 in the keyslots of the digest; format: --key-bytes, else 64,
+       of cbc 32, and as many has the FILE of --key"
         }
         Fault::SameSlot => "remove: the keyslots of --by and --slot",
         Fault::SlotFree => "open: the keyslot of --slot",
@@ -161,8 +161,8 @@ pub(crate) fn place(fault: Fault) -> &'static str {
         Fault::MetadataFull => "add, change, remove, repair and label, of LUKS2",
         Fault::RandomLength => "the commands that write: the file of --random",
         Fault::Payload => {
-            "format: --payload, before sector 4036, with --key-bytes 32 before 2050, of
-       LUKS2 32768, but where the data lies on another device"
+            "format: --payload, before sector 4036, with --key-bytes 32 before 2050,
+       of LUKS2 32768, but where the data lies on another device"
         }
         Fault::TooSmall => {
             "format: fewer than 2097152 bytes, of LUKS2 16777216, or up to --payload;
