@@ -19,9 +19,7 @@ use crate::passphrase_file::{PassphraseFault, passphrase};
 use crate::random_file::{RandomBytes, few_random_bytes, random_bytes};
 use crate::standing::{held_back, judge_standing};
 use luks_edit::{Done, Passphrase};
-use luks_formatting::{
-    FormatFault, Given, format1_as, format1_random, format2_as, format2_random,
-};
+use luks_formatting::{FormatFault, Given, format1_as, format1_random, format2_as, format2_random};
 use luks_reading::Device;
 use luks_request::{Making, NewVersion};
 use luks_wiping::Secret;
@@ -250,7 +248,15 @@ fn make<D: Device>(
     let given = given_of(making, key);
     match making.version {
         NewVersion::Luks1 => {
-            format1_as(alloc, device, &given, format, passphrase, making.older, random)
+            format1_as(
+                alloc,
+                device,
+                &given,
+                format,
+                passphrase,
+                making.older,
+                random,
+            )
         }
         NewVersion::Luks2 => {
             let chosen = chosen_of(making.kdf);

@@ -176,7 +176,8 @@ fn has_no_name(second: bool, given: &Given<'_>) -> bool
     match (given.label, given.subsystem) {
         (None, None) => false,
         (Some(text), None) | (None, Some(text)) => is_no_name(second, text),
-        (Some(label), Some(subsystem)) => is_no_name(second, label) || is_no_name(second, subsystem),
+        (Some(label), Some(subsystem)) => is_no_name(second, label)
+            || is_no_name(second, subsystem),
     }
 }
 

@@ -227,7 +227,11 @@ fn write_over_cleared<D: Device>(
     let plan = slot_plan(&header, given, format);
     let key = key_of(given, random);
     let key_bytes = given.key_bytes as usize;
-    let stripes = taken(random, SLOT_SALT + key_bytes + SALT_BYTES, RANDOM_STRIPES * key_bytes);
+    let stripes = taken(
+        random,
+        SLOT_SALT + key_bytes + SALT_BYTES,
+        RANDOM_STRIPES * key_bytes,
+    );
     seal_key(alloc, device, &plan, passphrase, key, stripes)?;
     write_range(device, 0, &header.write())?;
     Ok(())

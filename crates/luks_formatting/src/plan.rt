@@ -30,7 +30,15 @@ pub(crate) fn new_plan<'a>(
     ensures cipher { result.cipher ≡ cipher.entry }
 {
     let derivation = plan_derivation(format, None, salt);
-    new_plan_by(derivation, format, key_bytes, cipher, area, digest_salt, stored)
+    new_plan_by(
+        derivation,
+        format,
+        key_bytes,
+        cipher,
+        area,
+        digest_salt,
+        stored,
+    )
 }
 
 /// The same by a derivation with its salt.

@@ -47,7 +47,15 @@ pub(crate) fn seal_key<D: Device>(
     ensures rest { D.tells → SameBut (IsAt plan.now.area.start (used_bytes (length key.now)))
         (D.bytes device.old) (D.bytes device.new) }
 {
-    match seal_area_within(alloc, device, plan, passphrase, JUDGED, &Key::new(key), random) {
+    match seal_area_within(
+        alloc,
+        device,
+        plan,
+        passphrase,
+        JUDGED,
+        &Key::new(key),
+        random,
+    ) {
         Ok(()) => Ok(()),
         Err(_) => Err(DeviceFault),
     }

@@ -324,5 +324,13 @@ fn slot_plan<'a>(
     let salt = taken(random, SLOT_SALT + key_bytes, SALT_BYTES);
     let digest_salt = taken(random, DIGEST_SALT + key_bytes, SALT_BYTES);
     let derivation = plan_derivation(format, chosen, salt);
-    new_plan_by(derivation, format, key_bytes, cipher, area, digest_salt, digest)
+    new_plan_by(
+        derivation,
+        format,
+        key_bytes,
+        cipher,
+        area,
+        digest_salt,
+        digest,
+    )
 }

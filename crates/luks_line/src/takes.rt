@@ -73,7 +73,11 @@ static COPY_SIZES: [&str; 9] = [
 
 /// The ciphers that a new volume may have.
 static CIPHERS: [&str; 5] = [
-    "aes-xts-plain64", "aes-xts-plain", "aes-cbc-essiv:sha256", "aes-cbc-plain64", "aes-cbc-plain",
+    "aes-xts-plain64",
+    "aes-xts-plain",
+    "aes-cbc-essiv:sha256",
+    "aes-cbc-plain64",
+    "aes-cbc-plain",
 ];
 
 impl Takes {
@@ -93,8 +97,9 @@ impl Takes {
             Takes::Memory | Takes::KdfMemory | Takes::Offset | Takes::Bytes | Takes::CopySize =>
                 ValueParser::String,
             Takes::Slot | Takes::Digest => ValueParser::Unsigned(0, 31),
-            Takes::Iterations | Takes::Sector | Takes::SectorSize =>
-                ValueParser::Unsigned(0, 4294967295),
+            Takes::Iterations | Takes::Sector | Takes::SectorSize => ValueParser::Unsigned(
+                0, 4294967295,
+            ),
             Takes::KeyBytes => ValueParser::Unsigned(1, 128),
             Takes::Kdf | Takes::ChosenKdf => ValueParser::Names(&["pbkdf2", "argon2i", "argon2id"]),
             Takes::Passes | Takes::Milliseconds => ValueParser::Unsigned(1, 4294967295),
