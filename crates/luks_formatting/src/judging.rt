@@ -117,8 +117,8 @@ fn first_sector(second: bool, key_bytes: u32) -> u64
 pub(crate) fn needed_bytes(second: bool, key_bytes: u32) -> u64
     ensures { result ≡ needed_bytes second key_bytes }
 {
-    let own = if second { 208 } else { 80 };
-    own + 4000 * u64::from(key_bytes)
+    let stripes = 4000 * u64::from(key_bytes);
+    if second { 208 + stripes } else { 80 + stripes }
 }
 
 /// Whether the version has sectors of so many bytes.
@@ -127,10 +127,10 @@ fn takes_sectors(second: bool, size: u32) -> bool
     ensures large { result ≡ true → 512 ≤ size }
     ensures listed { result ≡ true → is_sector_size size ≡ true }
 {
-    match size {
-        512 => true,
-        1024 | 2048 | 4096 => second,
-        _ => false,
+    if second {
+        size == 512 || size == 1024 || size == 2048 || size == 4096
+    } else {
+        size == 512
     }
 }
 
@@ -141,7 +141,13 @@ fn is_uneven(second: bool, given: &Given<'_>, total: u64) -> bool
     ensures { result ≡ are_uneven given.now.sector_size given.now.payload
         (number_or given.now.sector (own_start second)) total }
 {
-    let start = given.sector.unwrap_or(own_start(second));
+    if given.sector_size == 512 {
+        return false;
+    }
+    let start = match given.sector {
+        Some(sector) => sector,
+        None => own_start(second),
+    };
     let size = u64::from(given.sector_size) / 512;
     match given.payload {
         Data::Here => (total / 512).saturating_sub(start) % size != 0,

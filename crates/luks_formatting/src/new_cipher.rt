@@ -58,7 +58,9 @@ impl NewCipher {
     {
         match self {
             NewCipher::XtsPlain64 | NewCipher::XtsPlain => key_bytes == 32 || key_bytes == 64,
-            _ => key_bytes == 16 || key_bytes == 24 || key_bytes == 32,
+            NewCipher::CbcEssiv | NewCipher::CbcPlain64 | NewCipher::CbcPlain => key_bytes == 16
+                || key_bytes == 24
+                || key_bytes == 32,
         }
     }
 }
