@@ -1,12 +1,13 @@
 -- A key area that was sealed ahead, alone on a device, and is then written where it belongs.
-use Rattle.std.proofs.Common.{◌≡◌, ℕ, zero, suc, ◌+◌, ◌*◌, ◌≤◌, List, ◌++◌, take, drop, length, arith, refl, sym, ap, subst, ◌∙◌}
+use Rattle.std.proofs.Common.{◌≡◌, ℕ, zero, suc, ◌+◌, ◌-◌, ◌*◌, ◌≤◌, List, ◌++◌, take, drop, length, arith, refl, sym, ap, subst, ◌∙◌}
 use Rattle.luks_area.specs.Ranges.{part, written}
 use Rattle.luks_area.proofs.RangeFacts.{part-part, part-written, part-whole}
-use Rattle.luks_area.specs.Sectors.{sector_count}
+use Rattle.luks_area.specs.Area.{IsInside}
+use Rattle.luks_area.specs.Sectors.{rounded_to_sectors, sector_count}
 use Rattle.luks_area.specs.declared.area.Area.{Area}
-use Rattle.luks_slot.specs.Opening.{area_bytes, area_key, opened_sector, opened_sectors, stripe_bytes, stripes_from, stripes_in}
+use Rattle.luks_slot.specs.Opening.{area_bytes, HasIterations, area_key, opened_sector, opened_sectors, stripe_bytes, stripes_from, stripes_in}
 use Rattle.luks_slot.specs.Ciphers.{sector_opened}
-use Rattle.luks_slot.specs.Sealing.{IsSealed}
+use Rattle.luks_slot.specs.Sealing.{IsReadyToSeal, IsSealed}
 use Rattle.luks_slot.specs.declared.plan.SlotPlan.{SlotPlan}
 use Rattle.luks_formatting.specs.Encrypting.{used_bytes}
 use Rattle.luks_formatting.specs.NewPlan.{IsSealedAhead}
@@ -42,6 +43,22 @@ sealed_front plan a b passphrase key random same x =
 -- how much a key of k bytes takes in 4000 stripes
 used : (k key_bytes stripes : ℕ) → key_bytes ≡ k → stripes ≡ 4000 → 512 * sector_count (key_bytes * stripes) ≡ used_bytes k
 used k key_bytes stripes key count = rw (key, count) (omega arith)
+
+-- the same of whole sectors
+pub used_is : (k : ℕ) (plan : SlotPlan) → plan.key_bytes ≡ k → plan.stripes ≡ 4000 → rounded_to_sectors (stripe_bytes plan) ≡ used_bytes k
+used_is k plan key count = ap (λ n. rounded_to_sectors (n * plan.stripes)) key ∙ ap (λ s. rounded_to_sectors (k * s)) count
+
+-- a key is ready to be sealed by the plan
+pub ready_by : (plan : SlotPlan) (key random : List ℕ) (total : ℕ) → HasIterations plan.derivation → plan.key_bytes ≡ length key → plan.stripes ≡ 4000
+    → length random ≡ 3999 * length key → used_bytes (length key) ≤ plan.area.len → IsInside plan.area total → IsReadyToSeal plan key random total
+ready_by plan key random total turns size count counted large inside = record {
+  iterations = turns;
+  key_length = sym size;
+  some_stripes = omega (arith, count);
+  random_length = counted ∙ sym (ap (λ s. (s - 1) * plan.key_bytes) count ∙ ap (λ n. 3999 * n) size);
+  sectors = subst (λ n. n ≤ plan.area.len) (sym (used_is (length key) plan size count)) large;
+  within = inside;
+}
 
 -- where they are written, the area is sealed
 pub written_sealed : (k : ℕ) (plan : SlotPlan) (passphrase key random bytes v w : List ℕ) → plan.key_bytes ≡ k → plan.stripes ≡ 4000 → used_bytes k ≤ plan.area.len

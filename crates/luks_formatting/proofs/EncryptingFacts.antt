@@ -1,5 +1,5 @@
 -- What follows of the cipher of a new volume, and of how long its key is.
-use Rattle.std.proofs.Common.{◌≡◌, ℕ, ◌+◌, ◌*◌, ◌/◌, ◌<◌, ◌≤◌, List, length, Bool, true, false, arith, refl, absurd, inl, inr}
+use Rattle.std.proofs.Common.{◌≡◌, ℕ, ◌+◌, ◌*◌, ◌/◌, ◌<◌, ◌≤◌, List, length, Bool, true, false, arith, refl, inl, inr, lit≤}
 use Rattle.std.specs.Prelude.{◌==◌, ◌||◌}
 use Rattle.std.proofs.lemmas.Bool.{cases_eq, eqb-true, false≢true, ne_eqb}
 use Rattle.std.proofs.lemmas.Nat.{mul-le}
@@ -30,11 +30,11 @@ mode_plain CbcPlain64 = refl
 mode_plain CbcPlain = refl
 
 pub cipher_short : (c : NewCipher) → length (cipher_text c) ≤ 20
-cipher_short XtsPlain64 = omega arith
-cipher_short XtsPlain = omega arith
-cipher_short CbcEssiv = omega arith
-cipher_short CbcPlain64 = omega arith
-cipher_short CbcPlain = omega arith
+cipher_short XtsPlain64 = lit≤ tt
+cipher_short XtsPlain = lit≤ tt
+cipher_short CbcEssiv = lit≤ tt
+cipher_short CbcPlain64 = lit≤ tt
+cipher_short CbcPlain = lit≤ tt
 
 -- ---- how long its keys are
 

@@ -33,6 +33,7 @@ pub(crate) fn new_area(
     requires iterations { 1 ≤ volume.now.format.now.iterations }
     requires makeable { IfSome volume.now.chosen (IsMakeable volume.now.passphrase.allowed.memory) }
     requires takes { takes_key volume.now.given.now.cipher volume.now.given.now.key_bytes ≡ true }
+    requires small { volume.now.given.now.key_bytes ≤ 64 }
     requires size { is_sector_size volume.now.given.now.sector_size ≡ true }
     requires long { 208 + volume.now.given.now.key_bytes ≤ length volume.now.random.now }
     requires sector { segment_sector volume.now.given.now < 2 ^ 55 }
@@ -61,6 +62,7 @@ fn area_of(alloc: Global, volume: &Volume<'_>, like: &NewVolume<'_>) -> Result<V
     requires iterations { 1 ≤ volume.now.format.now.iterations }
     requires makeable { IfSome volume.now.chosen (IsMakeable volume.now.passphrase.allowed.memory) }
     requires takes { takes_key volume.now.given.now.cipher volume.now.given.now.key_bytes ≡ true }
+    requires small { volume.now.given.now.key_bytes ≤ 64 }
     requires size { is_sector_size volume.now.given.now.sector_size ≡ true }
     requires long { 208 + volume.now.given.now.key_bytes ≤ length volume.now.random.now }
     requires members { volume_members like.now

@@ -1,6 +1,6 @@
 //! The ciphers of new volumes. All that is chosen among them is chosen here: another one is a variant, and
 //! its arms.
-ghost use Rattle.std.specs.Prelude.{◌≡◌};
+ghost use Rattle.std.specs.Prelude.{◌≡◌, ◌≤◌, length};
 ghost use Rattle.luks_formatting.specs.Encrypting.{is_older, mode_of, takes_key, cipher_text};
 
 /// A cipher that a new volume is encrypted by, its key areas too: AES in one of these modes.
@@ -34,7 +34,8 @@ impl NewCipher {
 
     /// The text of its mode alone.
     pub fn mode(self) -> &'static str
-        ensures { result.now ≡ mode_of self }
+        ensures value { result.now ≡ mode_of self }
+        ensures short { length result.now ≤ 16 }
     {
         match self {
             NewCipher::XtsPlain64 => "xts-plain64",

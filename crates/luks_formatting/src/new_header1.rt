@@ -1,7 +1,6 @@
 //! The LUKS1 header of a new volume.
-ghost use Rattle.std.specs.Prelude.{◌≡◌, ◌+◌, ◌≤◌, ◌<◌, ◌^◌, ℕ, true, length, slice_index_or, IfSome};
+ghost use Rattle.std.specs.Prelude.{◌≡◌, ◌+◌, ◌≤◌, ◌<◌, ◌^◌, ℕ, length, slice_index_or, IfSome};
 ghost use Rattle.luks1_header.specs.declared.luks1.Luks1Slot.{Luks1Slot as TheSlot};
-ghost use Rattle.luks_formatting.specs.Encrypting.{takes_key};
 ghost use Rattle.luks_formatting.specs.NewHeader1.{first_slot, free_slot, material_sector, new_slot, own_sector, payload_sector, IsNewCommon, IsNewHeader1};
 
 use crate::given::{Given, owned, uuid_of};
@@ -16,7 +15,7 @@ pub(crate) const SLOT_SALT: usize = 48;
 /// The header, whose keyslot 0 is in use.
 pub(crate) fn new_header(given: &Given<'_>, format: &Format, random: &[u8]) -> Luks1
     requires iterations { 1 ≤ format.now.iterations }
-    requires takes { takes_key given.now.cipher given.now.key_bytes ≡ true }
+    requires small { given.now.key_bytes ≤ 64 }
     requires long { 80 + given.now.key_bytes ≤ length random.now }
     requires sector { payload_sector given.now < 2 ^ 32 }
     requires uuid { IfSome given.now.uuid (λ text. length text.now ≤ 40) }
@@ -30,7 +29,7 @@ pub(crate) fn new_header(given: &Given<'_>, format: &Format, random: &[u8]) -> L
 
 fn new_common(given: &Given<'_>, format: &Format, random: &[u8]) -> Luks1Common
     requires iterations { 1 ≤ format.now.iterations }
-    requires takes { takes_key given.now.cipher given.now.key_bytes ≡ true }
+    requires small { given.now.key_bytes ≤ 64 }
     requires long { 80 + given.now.key_bytes ≤ length random.now }
     requires sector { payload_sector given.now < 2 ^ 32 }
     requires uuid { IfSome given.now.uuid (λ text. length text.now ≤ 40) }

@@ -14,7 +14,7 @@ returns-clause-sealable c =
     let format = c.args.format.now in
     let plan = c.new_plan.result in
     let new = c.new_plan.ensures.plan in
-    let cipher : IsNewCipher1 given.cipher plan.cipher = rw c.new_plan.ensures.cipher (refl, c.mode.ensures) in
+    let cipher : IsNewCipher1 given.cipher plan.cipher = rw c.new_plan.ensures.cipher (refl, c.mode.ensures.value) in
     record {
       within = record {
         unrefused = unrefused_by format None given.cipher given.key_bytes _ _ _ _ plan new (opens1 given.cipher plan.cipher cipher) c.requires.takes (without_memory true) (λ is. refl)

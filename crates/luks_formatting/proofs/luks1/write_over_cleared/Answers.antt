@@ -8,6 +8,9 @@ use Rattle.luks_formatting.proofs.GivenFacts.{length-key_of, uuid_is}
 use Rattle.luks_formatting.proofs.Written1Facts.{area_stands, both_rest, first_waits, formatted, key_rest, sealed_rest}
 use Rattle.luks_formatting.proofs.luks1.write_over_cleared.Goals as goal
 
+pub new_header-requires-clause-small : goal.new_header-requires-clause-small
+new_header-requires-clause-small g c = (sizes c.args.given.now.cipher c.args.given.now.key_bytes c.requires.sound.takes).high
+
 pub seal_key-requires-clause-sealable : goal.seal_key-requires-clause-sealable
 seal_key-requires-clause-sealable g c =
     let counted = c.requires.long in

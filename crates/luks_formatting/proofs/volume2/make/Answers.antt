@@ -49,3 +49,8 @@ returns-in_err-write_made-clause-payload g c tells here =
     let volume = c.args.volume.now in
     let ready = c.in_ok-judge.ensures.formattable in
     before_payload volume.given.now.key_bytes (segment_sector volume.given.now) (sizes volume.given.now.cipher volume.given.now.key_bytes ready.sound.takes).high (placed2 volume.given.now c.len.result ready.sound ready.large here).low (c.write_made.ensures.rest tells)
+
+pub new_area-requires-clause-small : goal.new_area-requires-clause-small
+new_area-requires-clause-small g c =
+    let given = c.args.volume.now.given.now in
+    (sizes given.cipher given.key_bytes c.in_ok-judge.ensures.formattable.sound.takes).high
