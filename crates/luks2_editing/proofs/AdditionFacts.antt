@@ -104,7 +104,7 @@ module _ (j k : Value) (slot like : ℕ) (derivation : AskedDerivation) (salt : 
 pub record IsJudgedAddition (v : List ℕ) (payload : Data) (copy : ChosenCopy) (addition : Addition) (old : Secret) (new : Bor (List ℕ)) (to : Option ℕ) (key random : List ℕ) : Type 0 where
   pub chosen : IsChosenCopy v copy
   pub well : WellFormed v payload
-  pub before : HasNoFaultBefore 13 v payload (Add addition.by_ old new to addition.derivation.iterations addition.derivation.chosen) random
+  pub before : HasNoFaultBefore 15 v payload (Add addition.by_ old new to addition.derivation.iterations addition.derivation.chosen) random
   pub opened : AnswersTo old.kind (allowed_for old new.now) v addition.by_ old.bytes.now (opens key)
   pub is_new : IsNewKeyslot (content copy.meta) to addition.made
   pub place : IsNewArea (hdr_size (header_at v copy.header.hdr_offset)) (length v) payload (content copy.meta) addition.by_ addition.area

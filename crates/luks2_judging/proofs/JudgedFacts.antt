@@ -187,7 +187,7 @@ module _ (v : List ℕ) (payload : Data) (o : ℕ) (j : Value) (m : HasMetadata 
   unsealed_first f bad = absurd bad
 
   pub sealed_past : (HasNoNewArea (hdr_size (header_at v o)) (length v) payload j like → ⊥) → IsAllowed memory asked → (random : List ℕ)
-      → HasNoFaultBefore 13 v payload e random
+      → HasNoFaultBefore 15 v payload e random
   sealed_past room enough random = before_of 13 v payload e random
       (past_label v payload e random
       (past_large v payload e random (past_few v payload e random (past_area room random) (λ bad. both_ways _ enough.turns (few.0 bad))) (λ bad. both_ways _ enough.within (large.0 bad))) good)
@@ -211,7 +211,7 @@ module _ (v : List ℕ) (payload : Data) (o : ℕ) (j : Value) (m : HasMetadata 
     unadded_first f bad = unsealed_first v payload o j m (Add by_ old new to asked.iterations asked.chosen) by_ (allowed_for old new.now).memory asked (λ x. x, λ x. x) (λ x. x, λ x. x) (λ x. x, λ x. x) (λ x. x) (λ x. x) eight f bad
 
     pub added_past : (HasNoNewArea (hdr_size (header_at v o)) (length v) payload j by_ → ⊥) → IsAllowed (allowed_for old new.now).memory asked → (random : List ℕ)
-        → HasNoFaultBefore 13 v payload (Add by_ old new to asked.iterations asked.chosen) random
+        → HasNoFaultBefore 15 v payload (Add by_ old new to asked.iterations asked.chosen) random
     added_past = sealed_past v payload o j m (Add by_ old new to asked.iterations asked.chosen) by_ (allowed_for old new.now).memory asked (λ x. x, λ x. x) (λ x. x, λ x. x) (λ x. x, λ x. x) (λ x. x) (λ x. x) eight
 
 -- ---- the other edits
@@ -226,7 +226,7 @@ module _ (v : List ℕ) (payload : Data) (o : ℕ) (j : Value) (m : HasMetadata 
   unchanged_first f bad = unsealed_first v payload o j m (Change slot old new asked.iterations asked.chosen) slot (allowed_for old new.now).memory asked (λ x. x, λ x. x) (λ x. x, λ x. x) (λ x. x, λ x. x) (λ x. x) (λ x. x) change_eight f bad
 
   pub changed_past : (HasNoNewArea (hdr_size (header_at v o)) (length v) payload j slot → ⊥) → IsAllowed (allowed_for old new.now).memory asked → (random : List ℕ)
-      → HasNoFaultBefore 13 v payload (Change slot old new asked.iterations asked.chosen) random
+      → HasNoFaultBefore 15 v payload (Change slot old new asked.iterations asked.chosen) random
   changed_past = sealed_past v payload o j m (Change slot old new asked.iterations asked.chosen) slot (allowed_for old new.now).memory asked (λ x. x, λ x. x) (λ x. x, λ x. x) (λ x. x, λ x. x) (λ x. x) (λ x. x) change_eight
 
 module _ (v : List ℕ) (payload : Data) (o : ℕ) (j : Value) (m : HasMetadata v o j) (slot : ℕ) (by_ : Option ℕ) (passphrase : Secret)
@@ -238,7 +238,7 @@ module _ (v : List ℕ) (payload : Data) (o : ℕ) (j : Value) (m : HasMetadata 
   pub only_first : IsOnlyOne j slot → IsRefusedEarly v payload (Remove slot by_ passphrase) fault.LastSlot
   only_first bad = λ random. last_first v payload o j m (Remove slot by_ passphrase) random (nine random) bad
 
-  pub removed_past : (IsOnlyOne j slot → ⊥) → (random : List ℕ) → HasNoFaultBefore 13 v payload (Remove slot by_ passphrase) random
+  pub removed_past : (IsOnlyOne j slot → ⊥) → (random : List ℕ) → HasNoFaultBefore 15 v payload (Remove slot by_ passphrase) random
   removed_past other random = before_of 13 v payload (Remove slot by_ passphrase) random
       (past_label v payload (Remove slot by_ passphrase) random
       (past_large v payload (Remove slot by_ passphrase) random
@@ -255,5 +255,5 @@ module _ (v : List ℕ) (payload : Data) (o : ℕ) (j : Value) (m : HasMetadata 
   pub label_first : IsBadLabel e → IsRefusedEarly v payload e fault.BadLabel
   label_first bad = λ random. unlabelled_first v payload e random (twelve random) bad
 
-  pub label_past : (IsBadLabel e → ⊥) → (random : List ℕ) → HasNoFaultBefore 13 v payload e random
+  pub label_past : (IsBadLabel e → ⊥) → (random : List ℕ) → HasNoFaultBefore 15 v payload e random
   label_past good random = before_of 13 v payload e random (past_label v payload e random (twelve random) good)

@@ -93,8 +93,8 @@ module _ {v : List ℕ} {payload : Data} {e : Edit} {o : ℕ} {meta : Meta} {ent
           bad.0.number bad.0.is f (said_of (λ h t. IsUnsealable h t payload (content meta) by_ (allowed_for old new.now).memory asked f) bad.1))
 
       pub added_passed : {made : ℕ} {a : Area} → IsNewNumber (content meta) to made → IsAllowed (allowed_for old new.now).memory asked
-          → IsNewArea (area_len meta + 4096) total payload (content meta) by_ a → (random : List ℕ) → HasNoFaultBefore 13 v payload e random
-      added_passed {made} {a} number enough place random = subst (λ y. HasNoFaultBefore 13 v payload y random) (sym is)
+          → IsNewArea (area_len meta + 4096) total payload (content meta) by_ a → (random : List ℕ) → HasNoFaultBefore 15 v payload e random
+      added_passed {made} {a} number enough place random = subst (λ y. HasNoFaultBefore 15 v payload y random) (sym is)
           (added_past v payload o (content meta) r.metadata by_ old new to asked (six_of (Add by_ old new to asked.iterations asked.chosen) is) made number
           (λ none. area_excludes (hdr_size (header_at v o)) (length v) payload (content meta) by_ a (free_of place) none) enough random)
 
@@ -107,8 +107,8 @@ module _ {v : List ℕ} {payload : Data} {e : Edit} {o : ℕ} {meta : Meta} {ent
           f (said_of (λ h t. IsUnsealable h t payload (content meta) slot (allowed_for old new.now).memory asked f) bad))
 
       pub changed_passed : {a : Area} → IsAllowed (allowed_for old new.now).memory asked → IsNewArea (area_len meta + 4096) total payload (content meta) slot a
-          → (random : List ℕ) → HasNoFaultBefore 13 v payload e random
-      changed_passed {a} enough place random = subst (λ y. HasNoFaultBefore 13 v payload y random) (sym is)
+          → (random : List ℕ) → HasNoFaultBefore 15 v payload e random
+      changed_passed {a} enough place random = subst (λ y. HasNoFaultBefore 15 v payload y random) (sym is)
           (changed_past v payload o (content meta) r.metadata slot old new asked (six_of (Change slot old new asked.iterations asked.chosen) is)
           (λ none. area_excludes (hdr_size (header_at v o)) (length v) payload (content meta) slot a (free_of place) none) enough random)
 
@@ -118,8 +118,8 @@ module _ {v : List ℕ} {payload : Data} {e : Edit} {o : ℕ} {meta : Meta} {ent
       last_refused bad = subst (λ y. IsRefusedEarly v payload y fault.LastSlot) (sym is)
           (only_first v payload o (content meta) r.metadata slot by_ passphrase (six_of (Remove slot by_ passphrase) is) bad)
 
-      pub removed_passed : (IsOnlyOne (content meta) slot → ⊥) → (random : List ℕ) → HasNoFaultBefore 13 v payload e random
-      removed_passed other random = subst (λ y. HasNoFaultBefore 13 v payload y random) (sym is)
+      pub removed_passed : (IsOnlyOne (content meta) slot → ⊥) → (random : List ℕ) → HasNoFaultBefore 15 v payload e random
+      removed_passed other random = subst (λ y. HasNoFaultBefore 15 v payload y random) (sym is)
           (removed_past v payload o (content meta) r.metadata slot by_ passphrase (six_of (Remove slot by_ passphrase) is) other random)
 
   -- the header is written anew
@@ -130,11 +130,11 @@ module _ {v : List ℕ} {payload : Data} {e : Edit} {o : ℕ} {meta : Meta} {ent
     label_refused : IsBadLabel e → IsRefusedEarly v payload e fault.BadLabel
     label_refused bad = label_first v payload o (content meta) r.metadata e (λ x. rw is at x) (λ x. rw is at x) (λ x. rw is at x) (λ x. rw is at x) (λ x. rw is at x) (λ x. rw is at x) six_of_none bad
 
-    label_passed : (IsBadLabel e → ⊥) → (random : List ℕ) → HasNoFaultBefore 13 v payload e random
+    label_passed : (IsBadLabel e → ⊥) → (random : List ℕ) → HasNoFaultBefore 15 v payload e random
     label_passed good random =
         label_past v payload o (content meta) r.metadata e (λ x. rw is at x) (λ x. rw is at x) (λ x. rw is at x) (λ x. rw is at x) (λ x. rw is at x) (λ x. rw is at x) six_of_none good random
 
-    pub rewriting_judged : (it : Result JudgedEdit EditFault) → Judges (IsBadIn label) fault.BadLabel it → OnOk it ((random : List ℕ) → HasNoFaultBefore 13 v payload e random)
+    pub rewriting_judged : (it : Result JudgedEdit EditFault) → Judges (IsBadIn label) fault.BadLabel it → OnOk it ((random : List ℕ) → HasNoFaultBefore 15 v payload e random)
     rewriting_judged (Ok it) good = label_passed (λ bad. good (rw is at bad))
     rewriting_judged (Err f) bad = tt
 
