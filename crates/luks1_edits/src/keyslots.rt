@@ -7,9 +7,7 @@ ghost use Rattle.luks1_edits.specs.Accepted.{AreAllThere, HasOther, IsIterated, 
 ghost use Rattle.luks1_edits.specs.Edited.{IsFree, IsInUse, IsLeastFree, iterations_of, number_asked};
 ghost use Rattle.luks1_edits.specs.Refused.{keyslot_need};
 
-use luks_edit::{
-    AskedDerivation, Deed, Edit, EditFault, NewDerivation, Opener, Place, opener_of,
-};
+use luks_edit::{AskedDerivation, Deed, Edit, EditFault, NewDerivation, Opener, Place, opener_of};
 use luks2_header::{Luks1, SlotState};
 
 /// Whether the keyslot is in use.

@@ -168,13 +168,7 @@ fn made_metadata(
 }
 
 /// The metadata with a new keyslot, or `Memory`.
-fn gained(
-    alloc: Global,
-    meta: Meta,
-    slot: u8,
-    like: Like,
-    new: &New<'_>,
-) -> Result<Meta, EditFault>
+fn gained(alloc: Global, meta: Meta, slot: u8, like: Like, new: &New<'_>) -> Result<Meta, EditFault>
     requires number { IsFree (content meta) slot }
     requires suits { CanSealLike (area_len meta) (content meta) like (new_members new.now) }
     ensures made { IfOk result (λ m.
