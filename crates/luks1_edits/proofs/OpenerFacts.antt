@@ -1,17 +1,19 @@
 -- The keyslot that an edit opens: what opening it says of a well formed LUKS1 volume.
-use Rattle.std.proofs.Common.{◌≡◌, ℕ, List, length, subst, refl, sym, ap, ◌∙◌, arith, inl, inr, Option, Some, None, slice_index_or, Bool, true, ◌≢◌}
+use Rattle.std.proofs.Common.{◌≡◌, ℕ, List, length, subst, refl, sym, ap, ◌∙◌, arith, inl, inr, Option, Some, None, slice_index_or, Bool, true, false, ◌≢◌, ◌≤◌, ◌-◌, min}
 use Rattle.std.proofs.lemmas.Bool.{false≢true}
 use Rattle.luks_area.specs.declared.area.AreaName.TheVariants as area_name
 use Rattle.std.proofs.lemmas.Option.{same_Some}
 use Rattle.luks_area.specs.First.{NotAfter}
 use Rattle.luks_area.specs.Ranges.{part}
+use Rattle.luks_area.proofs.RangeFacts.{length-part}
 use Rattle.luks1_header.specs.Faults.{IsLuks1Fault as IsLuks1HeadFault}
-use Rattle.luks1_header.specs.Header1.{active_word, disabled_word, enabled_word, entry, HoldsSlots, IsCommon, IsEntry, IsLuks1, key_bytes_of}
+use Rattle.luks1_header.specs.Header1.{active_word, disabled_word, enabled_word, entry, HoldsSlots, IsCommon, IsEntry, IsLuks1, key_bytes_of, mk_digest_iterations_of}
 use Rattle.luks1_header.specs.declared.fault.HeadFault.{HeadFault}
 use Rattle.luks1_header.specs.declared.luks1.Luks1.{Luks1}
 use Rattle.luks1_header.specs.declared.luks1.Luks1Slot.{Luks1Slot}
 use Rattle.luks2_header.specs.Selection.{luks1}
 use Rattle.luks2_header.proofs.ChoiceFacts.{choices_agree}
+use Rattle.luks_slot.specs.declared.allowed.Allowed.{Allowed}
 use Rattle.luks_slot.specs.declared.fault.SlotFault.{SlotFault}
 use Rattle.luks_slot.specs.declared.fault.SlotFault.TheVariants as slot
 use Rattle.luks_slot.specs.declared.plan.SlotPlan.{SlotPlan}
@@ -36,6 +38,7 @@ use Rattle.luks_edit.specs.declared.edit.Secret.{Secret}
 use Rattle.luks_edit.specs.declared.edit.SecretKind.{SecretKind}
 use Rattle.luks_edit.specs.declared.edit.SecretKind.TheVariants as kind
 use Rattle.luks_edit.specs.declared.edit.VolumeKey.{VolumeKey}
+use Rattle.luks_edit.specs.EditFaults.{is_edit_failure}
 use Rattle.luks_edit.specs.Opener.{IsUnmet, lock_fault}
 use Rattle.luks_edit.specs.Secrets.{given_by, GivesWithin, own_key}
 use Rattle.luks_edit.proofs.OpeningFacts.{is_lock, lock_is}
@@ -149,6 +152,43 @@ unmet_unopened v n secret fault.WrongKey is x = x
 unmet_unopened v n secret f is x = absurd (false≢true is)
 
 -- ---- the volume key
+
+-- the plan of the header's first keyslot, which needn't be in use, says all that telling it takes
+pub record IsTelling (plan : SlotPlan) : Type 0 where
+  pub digest_turns : 1 ≤ plan.digest.iterations
+  pub digest_length : length plan.digest.stored.now ≤ 64
+  pub some_bytes : 1 ≤ plan.key_bytes
+  pub at_most_128 : plan.key_bytes ≤ 128
+
+module _ (h : List ℕ) (d : Luks1) (s : Luks1Slot) (plan : SlotPlan) (is : IsLuks1 h d)
+    (says : (h e : List ℕ) → IsCommon h d.common → IsEntry e (slice_index_or d.slots 0 s) → IsLuks1Plan h e plan) where
+  pub key_there : HasLuks1Plan h 0 plan
+  key_there = record { numbered = omega arith; is = says h (entry h 0) is.common (is.slots.each 0 s (omega arith)) }
+
+  pub key_telling : IsTelling plan
+  key_telling =
+      let y = says h (entry h 0) is.common (is.slots.each 0 s (omega arith)) in
+      let turns : plan.digest.iterations ≡ mk_digest_iterations_of h = y.digest.iterations in
+      let some : 1 ≤ mk_digest_iterations_of h = is.common.digest_iterated in
+      let stored : length plan.digest.stored.now ≡ min 20 (length h - 112) = ap length y.digest.stored ∙ length-part h 112 20 in
+      let long : plan.key_bytes ≡ key_bytes_of h = y.key_bytes in
+      let least : 1 ≤ key_bytes_of h = is.common.key_at_least in
+      let most : key_bytes_of h ≤ 128 = is.common.key_at_most in
+      record {
+        digest_turns = omega (arith, turns, some);
+        digest_length = omega (arith, stored);
+        some_bytes = omega (arith, long, least);
+        at_most_128 = omega (arith, long, most);
+      }
+
+-- what refuses it is no failure of the device
+pub key_uncounted : (allowed : Allowed) (plan : SlotPlan) (f : SlotFault) → slot_refusal_within allowed plan ≡ Some f → is_edit_failure (keyslot_fault f) ≡ false
+key_uncounted allowed plan slot.Argon2 is = refl
+key_uncounted allowed plan slot.Cipher is = refl
+key_uncounted allowed plan slot.Hash is = refl
+key_uncounted allowed plan slot.KeySize is = refl
+key_uncounted allowed plan slot.Memory is = refl
+key_uncounted allowed plan slot.Device is = let two : Some slot.Device ≡ None = sym is ∙ refusal_answered allowed plan slot.Device is in absurd (cc)
 
 module _ (h : List ℕ) (payload : Data) (v : List ℕ) (x : IsHeaderOf h payload v) (n : ℕ) (plan : SlotPlan) (there : HasLuks1Plan h n plan) (key : VolumeKey) where
   key_at : HasLuks1Plan (part v 0 592) n plan

@@ -1,1 +1,8 @@
+-- By a keyslot it is as that answers, and by the volume key as that does, with no call of the device.
 use Rattle.luks1_edits.proofs.unlocking.unlock.Goals as goal
+
+pub returns-in-Key-clause-opened : goal.returns-in-Key-clause-opened
+returns-in-Key-clause-opened g c = λ tells x. c.own_volume_key.ensures.opened (g.D.Device.bytes c.args.device.now) x
+
+pub returns-in-Key-clause-refused : goal.returns-in-Key-clause-refused
+returns-in-Key-clause-refused g c = λ tells x. c.own_volume_key.ensures.refused (g.D.Device.bytes c.args.device.now) x
