@@ -15,3 +15,4 @@ mod RoomFacts
 mod SaltFacts
 mod StripeFacts
 mod TakenFacts
+mod UnkeyedFacts
