@@ -18,3 +18,7 @@ sealed_allowed e s is = ap allowed_in is
 
 pub allowed_at : (e : Edit) (s : Sealed) (place : Place) → deed_of e ≡ deed.Seal s → s.place ≡ place → allowed_by e ≡ allowed_for (opener_at place) s.passphrase.now
 allowed_at e s place is at = subst (λ p. allowed_by e ≡ allowed_for (opener_at p) s.passphrase.now) at (sealed_allowed e s is)
+
+-- what gives its key
+pub opener_is : (s : Sealed) (place : Place) → s.place ≡ place → opener_at s.place ≡ opener_at place
+opener_is s place at = ap opener_at at

@@ -19,9 +19,14 @@ use Rattle.luks_edit.specs.declared.deed.Deed.TheVariants as deed
 use Rattle.luks_edit.specs.declared.deed.Removed.{Removed}
 use Rattle.luks_edit.specs.declared.deed.Sealed.{Sealed}
 use Rattle.luks_edit.specs.Asked.{AreShortIn, bytes_of, deed_of, HasShortPassphrases, MatchOpener, NamesItself, opener_at, opener_in, opener_of, remover_by, remover_of, Wants}
+use Rattle.luks2_edit_laws.specs.declared.like.Like.{Like}
+use Rattle.luks2_edit_laws.specs.declared.like.Like.TheVariants as made_like
+use Rattle.luks2_edit_laws.specs.Likes.{IsLike}
 use Rattle.luks2_edit_laws.specs.Metadata.{IsInUse, IsLeastFree}
 use Rattle.luks2_edit_laws.specs.Refused.{IsAbsent}
+use Rattle.luks2_edit_laws.proofs.LikeFacts.{model_by_key, IsModel}
 use Rattle.luks2_judging.specs.Judged.{IsUsable, Judges}
+use Rattle.luks2_judging.specs.Room.{IsSealableLike}
 
 -- no keyslot is there and free
 pub used_or_free : (j : Value) (n : ℕ) → IsInUse j n → IsFree j n → ⊥
@@ -161,3 +166,12 @@ rewriting_there j e label is absent = rw is at absent.wanted
 pub judged_as : (A P Q : Type 0) (row : EditFault) → (P → Q) → (Q → P) → (r : Result A EditFault) → Judges P row r → Judges Q row r
 judged_as A P Q row to from (Ok x) not = λ q. not (from q)
 judged_as A P Q row to from (Err f) is = (is.0, to is.1)
+
+-- what a new keyslot is made like can be sealed
+sealable_model : (j : Value) (it : Like) → IsModel j it → IsSealableLike j it
+sealable_model j (made_like.Keyslot n) x = (x.there.named, ap is_some x.there.is)
+sealable_model j (made_like.Digest number key_bytes) x = (x.long.from, x.long.to)
+
+pub sealable_of : (j : Value) (o : Opener) (it : Like) → IsUsable j o → IsLike j o it → IsSealableLike j it
+sealable_of j (opener.Keyslot slot secret) it used is = subst (IsSealableLike j) (sym is) used
+sealable_of j (opener.Key key) it used is = sealable_model j it (model_by_key key.allowed.older j key.bytes.now it is)

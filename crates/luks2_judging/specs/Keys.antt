@@ -1,12 +1,12 @@
 -- How the volume key is judged by the digests of the metadata `j`: words of private contracts.
-use Rattle.std.specs.Prelude.{◌≡◌, ℕ, ◌≤◌, ◌⊎◌, Bool, true, false, List, length, ⊤}
+use Rattle.std.specs.Prelude.{◌≡◌, ℕ, ◌≤◌, Bool, true, false, List, length, ⊤}
 use Rattle.serde_json.specs.Data.{Data as Value}
 use Rattle.luks_slot.specs.declared.plan.DigestPlan.{DigestPlan}
 use Rattle.luks_edit.specs.declared.edit_fault.EditFault.{EditFault}
 use Rattle.luks_edit.specs.declared.edit_fault.EditFault.TheVariants as fault
 use Rattle.luks2_edit_laws.specs.declared.like.Like.{Like}
 use Rattle.luks2_edit_laws.specs.declared.like.Like.TheVariants.{Keyslot, Digest}
-use Rattle.luks2_edit_laws.specs.Likes.{HasNoDigestFor, HasRefusedLike, IsAssigned, MayMeetUnknown, MeetsKey, MeetsNone, TakesKey}
+use Rattle.luks2_edit_laws.specs.Likes.{HasNoDigestFor, IsAssigned, MayMeetUnknown, MeetsKey, MeetsNone, TakesKey}
 use Rattle.luks2_edit_laws.specs.Metadata.{IsInUse}
 
 -- the digest `m` takes a key of so many bytes
@@ -30,11 +30,6 @@ IsUnlike older j key fault.KeyLength = HasNoDigestFor j (length key)
 IsUnlike older j key fault.WrongKey = MeetsNone older j key
 IsUnlike older j key (fault.Slot f) = MayMeetUnknown older j key f
 IsUnlike older j key f = ⊥
-
--- or why a keyslot that is made by it is refused
-abbrev pub IsUnkeyed : Bool → Value → List ℕ → EditFault → Type 0
-IsUnkeyed older j key (fault.Slot f) = MayMeetUnknown older j key f ⊎ HasRefusedLike older j key f
-IsUnkeyed older j key f = IsUnlike older j key f
 
 -- the keyslot like which one is made is there
 abbrev pub IsThereLike : Value → Like → Type 0

@@ -5,7 +5,8 @@ ghost use Rattle.luks_meta.specs.Content.{content};
 ghost use Rattle.luks_meta.specs.Objects.{IsAccepted};
 ghost use Rattle.luks_reading.specs.KeyDigests.{IsLuks2KeyLength};
 ghost use Rattle.luks2_edit_laws.specs.Likes.{HasRefusal, IsAssigned, IsKeyDigest, IsLikeByKey, IsLikeOf, IsUnknownTo, MeetsKey, derived_anew};
-ghost use Rattle.luks2_judging.specs.Keys.{IsFirstMet, IsMetHere, IsTaken, IsThereLike, IsUnkeyed, IsUnlike};
+ghost use Rattle.luks2_edit_laws.specs.Refused.{IsUnkeyed2};
+ghost use Rattle.luks2_judging.specs.Keys.{IsFirstMet, IsMetHere, IsTaken, IsThereLike, IsUnlike};
 
 use luks_edit::{EditFault, VolumeKey};
 use luks_meta::Meta;
@@ -27,7 +28,7 @@ pub(crate) fn own_volume_key(meta: &Meta, key: &VolumeKey<'_>) -> Result<Given, 
     ensures { MatchResult result
         (λ g. (g.key ≡ key.now.bytes.now) × IsLikeByKey key.now.allowed.older (content meta.now) key.now.bytes.now g.like
         × HasRefusal key.now.allowed.older (content meta.now) g.like None)
-        (IsUnkeyed key.now.allowed.older (content meta.now) key.now.bytes.now) }
+        (IsUnkeyed2 key.now.allowed.older (content meta.now) key.now.bytes.now) }
 {
     let older = key.allowed.older;
     let like = like_by_key(meta, key.bytes, older)?;
