@@ -71,7 +71,7 @@ opening_fault v payload e random f from to bad = absurd (omega (arith, from, to)
 
 module _ (v : List ℕ) (payload : Data) (e : Edit) (well : WellFormed v payload) where
   -- of two of them the first one stands where it stands
-  opener_first : (f g : EditFault) (o : Option Opener) → opener_in (deed_of e) ≡ o → IsUnopened2 v e f → IsUnopened2 v e g → NotAfter (edit_key f) (edit_key g)
+  pub opener_first : (f g : EditFault) (o : Option Opener) → opener_in (deed_of e) ≡ o → IsUnopened2 v e f → IsUnopened2 v e g → NotAfter (edit_key f) (edit_key g)
   opener_first f g None asked x y = absurd (rw asked at x)
   opener_first f g (Some (opener.Keyslot slot secret)) asked x y = keyslot_first (allowed_by e) v slot secret f g (rw asked at x) (rw asked at y)
   opener_first f g (Some (opener.Key key)) asked x y =

@@ -4,6 +4,7 @@ pub mod DeedFacts
 pub mod EditedFacts
 mod EncodedFacts
 mod JudgedFacts
+mod KeyFacts
 pub mod KeyAreaFacts
 mod KeyslotFacts
 mod LastFacts

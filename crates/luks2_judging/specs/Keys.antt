@@ -1,12 +1,14 @@
 -- How the volume key is judged by the digests of the metadata `j`: words of private contracts.
-use Rattle.std.specs.Prelude.{◌≡◌, ℕ, ◌≤◌, Bool, true, false, List, length, ⊤}
+use Rattle.std.specs.Prelude.{◌≡◌, ℕ, ◌≤◌, Bool, true, false, List, length, None, ⊤}
 use Rattle.serde_json.specs.Data.{Data as Value}
 use Rattle.luks_slot.specs.declared.plan.DigestPlan.{DigestPlan}
+use Rattle.luks_edit.specs.declared.edit.Opener.{Opener}
 use Rattle.luks_edit.specs.declared.edit_fault.EditFault.{EditFault}
 use Rattle.luks_edit.specs.declared.edit_fault.EditFault.TheVariants as fault
+use Rattle.luks_edit.specs.Asked.{MatchOpener}
 use Rattle.luks2_edit_laws.specs.declared.like.Like.{Like}
 use Rattle.luks2_edit_laws.specs.declared.like.Like.TheVariants.{Keyslot, Digest}
-use Rattle.luks2_edit_laws.specs.Likes.{HasNoDigestFor, IsAssigned, MayMeetUnknown, MeetsKey, MeetsNone, TakesKey}
+use Rattle.luks2_edit_laws.specs.Likes.{HasNoDigestFor, HasRefusal, IsAssigned, MayMeetUnknown, MeetsKey, MeetsNone, TakesKey}
 use Rattle.luks2_edit_laws.specs.Metadata.{IsInUse}
 
 -- the digest `m` takes a key of so many bytes
@@ -30,6 +32,10 @@ IsUnlike older j key fault.KeyLength = HasNoDigestFor j (length key)
 IsUnlike older j key fault.WrongKey = MeetsNone older j key
 IsUnlike older j key (fault.Slot f) = MayMeetUnknown older j key f
 IsUnlike older j key f = ⊥
+
+-- by the volume key a keyslot that is so made isn't refused
+abbrev pub IsAcceptedLike : Value → Opener → Like → Type 0
+IsAcceptedLike j o like = MatchOpener o (λ slot secret. ⊤) (λ key. HasRefusal key.allowed.older j like None)
 
 -- the keyslot like which one is made is there
 abbrev pub IsThereLike : Value → Like → Type 0

@@ -3,10 +3,11 @@ ghost use Rattle.std.specs.Prelude.{◌≡◌, ◌≢◌, ◌+◌, ◌-◌, ◌*
 ghost use Rattle.luks_edit.specs.EditFaults.{is_edit_failure};
 ghost use Rattle.luks_meta.specs.Content.{content};
 ghost use Rattle.luks_meta.specs.Objects.{IsAccepted};
-ghost use Rattle.luks_reading.specs.Header.{IsChosenCopy};
+ghost use Rattle.luks_reading.specs.Header.{IsAcceptedCopy, IsChosenCopy};
 ghost use Rattle.luks_edit.specs.Asked.{MatchOpener};
 ghost use Rattle.luks2_edit_laws.specs.Likes.{IsLike};
 ghost use Rattle.luks2_edit_laws.specs.Refused.{IsUnkeyed2, NeedsLike};
+ghost use Rattle.luks2_judging.specs.Keys.{IsAcceptedLike};
 ghost use Rattle.luks2_judging.specs.Needed.{TellsNeed2};
 ghost use Rattle.luks2_judging.specs.Room.{IsSealableLike};
 
@@ -38,6 +39,7 @@ pub fn needed_luks2(
     total: u64,
     edit: &Edit<'_>,
 ) -> Result<u64, EditFault>
+    requires { IsAcceptedCopy copy.now }
     ensures own { IfErr result (λ f. is_edit_failure f ≡ false) }
     ensures memory { IfErr result (λ f. f ≢ EditFault.Memory) }
     ensures tells { (v : List ℕ) → IsChosenCopy v copy.now → length v ≡ total
@@ -65,6 +67,7 @@ fn like_by(meta: &Meta, opener: &Opener<'_>) -> Result<Like, EditFault>
     ensures own { IfErr result (λ f. is_edit_failure f ≡ false) }
     ensures memory { IfErr result (λ f. f ≢ EditFault.Memory) }
     ensures is { IfOk result (IsLike (content meta.now) opener.now) }
+    ensures accepted { IfOk result (IsAcceptedLike (content meta.now) opener.now) }
     ensures refused { IfErr result (λ f. MatchOpener opener.now (λ slot secret. ⊥)
         (λ key. IsUnkeyed2 key.allowed.older (content meta.now) key.bytes.now f)) }
 {
