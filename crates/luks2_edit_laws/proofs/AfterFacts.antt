@@ -45,7 +45,7 @@ use Rattle.luks_edit.specs.Kept.{Keeps}
 use Rattle.luks2_edit_laws.specs.declared.like.Like.{Like}
 use Rattle.luks2_edit_laws.specs.declared.like.Like.TheVariants.{Keyslot, Digest}
 use Rattle.luks2_edit_laws.specs.Edited.{keyslot_salt, members_of, After2, Gives2, HasAdded, HasChanged, HasRangedDerivation, HasRanges, IsEdited, IsMadeIn, IsSealedBy, IsWiped, IsWipedBy, NamedKeyslots2}
-use Rattle.luks2_edit_laws.specs.Likes.{fresh_members, ForLike, HasStripesLike, IsAddedLike, IsLike}
+use Rattle.luks2_edit_laws.specs.Likes.{digest_by, fresh_members, ForLike, HasStripesLike, IsAddedLike, IsLike, slot_by}
 use Rattle.luks2_edit_laws.specs.Metadata.{HasMetadata, IsNewKeyslot}
 use Rattle.luks2_edit_laws.specs.Places.{key_areas_end, IsNewArea, Loses}
 use Rattle.luks2_edit_laws.specs.Refused.{HasNoNumber, IsNumberTaken, IsUnrefused2, NeedsLike}
@@ -151,15 +151,6 @@ above : {g h : ℕ} → g ≡ h → 16384 ≤ g → 4096 ≤ h
 above same least = omega (arith, same, least)
 
 -- ---- a keyslot that is made
-
--- its digest and its members
-abbrev pub digest_by : (to : ℕ) (like : Like) (f : NewMembers) (j k : Value) → IsAddedLike to like f j k → ℕ
-digest_by to (Keyslot n) f j k is = is.digest
-digest_by to (Digest number key_bytes) f j k is = number
-
-abbrev pub slot_by : (to : ℕ) (like : Like) (f : NewMembers) (j k : Value) → IsAddedLike to like f j k → SlotMembers
-slot_by to (Keyslot n) f j k is = is.slot
-slot_by to (Digest number key_bytes) f j k is = fresh_members key_bytes f
 
 -- what is new of them
 pub new_offset : (to : ℕ) (like : Like) (f : NewMembers) (j k : Value) (is : IsAddedLike to like f j k) → (slot_by to like f j k is).offset ≡ f.offset

@@ -26,9 +26,10 @@ use Rattle.luks2_edit_laws.specs.declared.like.Like.{Like}
 use Rattle.luks2_edit_laws.specs.declared.like.Like.TheVariants.{Keyslot}
 use Rattle.luks2_edit_laws.specs.Derived.{DerivesAs, IsDerivedBy}
 use Rattle.luks2_edit_laws.specs.Edited.{keyslot_salt, members_of, After2, HasAdded, HasRanges}
+use Rattle.luks2_edit_laws.specs.Likes.{slot_by}
 use Rattle.luks2_edit_laws.specs.Metadata.{IsNewKeyslot}
 use Rattle.luks2_edit_laws.specs.Refused.{HasNoNumber, IsNumberTaken, IsUnrefused2}
-use Rattle.luks2_edit_laws.proofs.AfterFacts.{added_gained, asking, before, changed_changes, layout, model_by, new_derivation, new_salt, ready_by, slot_by}
+use Rattle.luks2_edit_laws.proofs.AfterFacts.{added_gained, asking, before, changed_changes, layout, model_by, new_derivation, new_salt, ready_by}
 use Rattle.luks2_edit_laws.proofs.LikeFacts.{for_like}
 use Rattle.luks2_edit_laws.proofs.MetadataFacts.{some_same}
 use Rattle.luks2_edit_laws.proofs.OpenedFacts.{one_new}

@@ -8,9 +8,9 @@ mod KeptFacts
 mod LeftoverFacts
 pub mod LikeFacts
 mod MetadataFacts
-mod OpenFacts
+pub mod OpenFacts
 mod OpenedFacts
-mod OwnFacts
+pub mod OwnFacts
 mod DerivedFacts
 pub mod OpensFacts
 pub mod PlaceFacts

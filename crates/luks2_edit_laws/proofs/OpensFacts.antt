@@ -85,10 +85,10 @@ module _ (v : List ℕ) (payload : Data) (random w : List ℕ) (well : WellForme
       subst (λ k. HoldsKey w a.new added.slot new.now k (stripes_random random)) a.sealed.opened.0
       (subst (λ n. HoldsKey w a.new n new.now a.sealed.key (stripes_random random)) slot a.sealed.holds) in
       let opened : AnswerWithin allowed w added.slot new.now (opens own.bytes.now) =
-      own_opens allowed v w payload a.place 0 h a.value a.new added.slot new.now own.bytes.now (stripes_random random) first was
-      (after v payload e random w well ranges free a) (now e ranges free a) holds (members_of asked (keyslot_salt random) added.area) c refl
+      own_opens allowed v a.place h payload a.value a.new added.slot own.bytes.now first was (members_of asked (keyslot_salt random) added.area) c refl
       (long_salt allowed v a.place h payload random a.value a.new first was like asked ready added.area added.place) ready.within like a.edited.is_like
-      (own_accepted own.allowed.older v own.bytes.now a.place a.value like a.metadata a.sealed.opened.1 a.edited.is_like) added.is g.gains g.says in
+      (own_accepted own.allowed.older v own.bytes.now a.place a.value like a.metadata a.sealed.opened.1 a.edited.is_like) added.is g.gains g.says
+      w 0 new.now (stripes_random random) (after v payload e random w well ranges free a) (now e ranges free a) holds in
       λ n key is by_key.
       (let value : is.value ≡ a.value = one_metadata v a.place is.place a.metadata.copies is.metadata.copies a.value is.value
       a.metadata.chosen a.metadata.holds is.metadata.chosen is.metadata.holds in

@@ -27,8 +27,8 @@ use Rattle.luks_reading.specs.Plans.{IsLuks2Derivation, IsLuks2Digest, IsLuks2Pl
 use Rattle.luks2_edit_laws.specs.declared.like.Like.{Like}
 use Rattle.luks2_edit_laws.specs.declared.like.Like.TheVariants.{Keyslot, Digest}
 use Rattle.luks2_edit_laws.specs.Edited.{HoldsKey, IsOwnKey}
-use Rattle.luks2_edit_laws.specs.Likes.{derived_anew, fresh_members, HasRefusal, IsAddedLike, IsLikeByKey, IsLikeOf, MeetsKey}
-use Rattle.luks2_edit_laws.proofs.AfterFacts.{digest_by, new_derivation, new_salt, slot_by}
+use Rattle.luks2_edit_laws.specs.Likes.{derived_anew, digest_by, fresh_members, HasRefusal, IsAddedLike, IsLikeByKey, IsLikeOf, slot_by}
+use Rattle.luks2_edit_laws.proofs.AfterFacts.{new_derivation, new_salt}
 use Rattle.luks2_edit_laws.proofs.AlikeFacts.{chosen_opens, fresh_refusal, sealed_refusal, OpensAlike, SaysSealing}
 use Rattle.luks2_edit_laws.specs.Metadata.{HasMetadata}
 use Rattle.luks2_edit_laws.proofs.LikeFacts.{one_like_by_key}
@@ -132,51 +132,50 @@ module _
         (subst (λ x. is_known_hash allowed.older x ≡ true) (sym splitter) (sha256_known allowed.older))
         (subst (λ x. is_known_hash allowed.older x ≡ true) same.hash known)
 
--- ---- the keyslot opens
+-- ---- no plan of the keyslot is refused
 
 module _
-    (allowed : Allowed) (v w : List ℕ) (payload : Data) (o p h : ℕ) (j k : Value) (n : ℕ) (new key random : List ℕ) (before : HasCopy v o h j)
-    (was : IsLayout h (length v) payload j) (after : HasCopy w p h k) (layout : IsLayout h (length w) payload k) (y : HoldsKey w k n new key random)
+    (allowed : Allowed) (v : List ℕ) (o h : ℕ) (payload : Data) (j k : Value) (n : ℕ) (key : List ℕ) (before : HasCopy v o h j) (was : IsLayout h (length v) payload j)
     (f : NewMembers) (c : NewDerivation) (chosen : f.derivation.chosen ≡ Some c) (long : 8 ≤ length f.salt) (within : beyond allowed.memory c ≡ false)
+    (like : Like) (is : IsLikeByKey allowed.older j key like) (accepted : HasRefusal allowed.older j like None) (a : IsAddedLike n like f j k)
+    (gains : GainsSlot n (digest_by n like f j k a) (slot_by n like f j k a) j k) (says : SaysMembers (slot_by n like f j k a) (slot_value (slot_by n like f j k a)))
   where
-    -- by the digest that the key meets, where no plan of it is refused
-    opens_fine : (m : ℕ) (s : SlotMembers) → MeetsKey allowed.older j key m → (g : GainsSlot n m s j k)
-        → ((told : DigestPlan) (object : Value) → SaysDigest object told → object_at j Digests m ≡ Some object → is_known_hash allowed.older told.hash.now ≡ true
-        → (plan : SlotPlan) → IsLuks2Plan k n y.object plan → SameDigest told plan.digest → slot_refusal_within allowed plan ≡ None)
-        → AnswerWithin allowed w n new (opens key)
-    opens_fine m s meets g fine =
-        let there : object_at j Digests m ≡ Some meets.takes.object = meets.takes.there.is in
-        let now = g.rest.digests.there m meets.takes.object there in
-        holds_opens allowed w payload p h k n new key random meets.digest meets.meets after layout y
-        (fine meets.digest meets.takes.object meets.takes.says there meets.known)
-        (λ a b. one_digest (json_at w p) k (copy_meta w p h k after layout.held) n a b)
-        (said_of k n m meets.digest meets.takes.object now.0 meets.takes.says g.names now.1 now.2)
+    -- the digest that the key meets names it
+    own_digest : digest_by n like f j k a ≡ is.digest
+    own_digest = digest_same_by like is.like_is a
+      where
+        digest_same_by : (it : Like) → IsLikeOf j is.digest (length key) it → (x : IsAddedLike n it f j k) → digest_by n it f j k x ≡ is.digest
+        digest_same_by (Keyslot by_) y x = one_digest (json_at v o) j (copy_meta v o h j before was.held) by_ x.digest is.digest x.names y.names
+        digest_same_by (Digest number key_bytes) y x = y.number_is
 
-    -- the keyslot's object
-    made_object : (m : ℕ) (s : SlotMembers) → GainsSlot n m s j k → y.object ≡ slot_value s
-    made_object m s g = some_same y.object (slot_value s) (sym y.there.is ∙ g.there)
+    own_gains : GainsSlot n is.digest (slot_by n like f j k a) j k
+    own_gains = subst (λ m. GainsSlot n m (slot_by n like f j k a) j k) own_digest gains
 
-    opens_like : (like : Like) (m : ℕ) → IsLikeOf j m (length key) like → MeetsKey allowed.older j key m → HasRefusal allowed.older j like None
-        → (a : IsAddedLike n like f j k) → GainsSlot n (digest_by n like f j k a) (slot_by n like f j k a) j k
-        → SaysMembers (slot_by n like f j k a) (slot_value (slot_by n like f j k a)) → AnswerWithin allowed w n new (opens key)
-    opens_like (Keyslot by_) m is meets accepted a g says =
-        let digest : a.digest ≡ m = one_digest (json_at v o) j (copy_meta v o h j before was.held) by_ a.digest m a.names is.names in
-        let gains : GainsSlot n m a.slot j k = subst (λ x. GainsSlot n x a.slot j k) digest g in
-        opens_fine m a.slot meets gains
-        (λ told object said there known.
-        like_fine allowed v o h payload j k before was by_ n m told object said there f a is.names accepted y.object (made_object m a.slot gains) says c
-        (new_derivation n (Keyslot by_) f j k a c chosen) (subst (λ x. 8 ≤ length x) (sym (new_salt n (Keyslot by_) f j k a)) long) within)
-    opens_like (Digest number key_bytes) m is meets accepted a g says =
-        let gains : GainsSlot n m (fresh_members key_bytes f) j k = subst (λ x. GainsSlot n x (fresh_members key_bytes f) j k) is.number_is g in
-        opens_fine m (fresh_members key_bytes f) meets gains
-        (λ told object said there known.
-        fresh_fine allowed k n key_bytes f told known y.object (made_object m (fresh_members key_bytes f) gains) says c
-        (new_derivation n (Digest number key_bytes) f j k a c chosen) long within)
+    pub own_told : IsLuks2Digest k n is.is.meets.digest
+    own_told =
+        let takes = is.is.meets.takes in
+        let now = own_gains.rest.digests.there is.digest takes.object takes.there.is in
+        said_of k n is.digest is.is.meets.digest takes.object now.0 takes.says own_gains.names now.1 now.2
 
-    pub own_opens : (like : Like) → IsLikeByKey allowed.older j key like → HasRefusal allowed.older j like None
-        → (a : IsAddedLike n like f j k) → GainsSlot n (digest_by n like f j k a) (slot_by n like f j k a) j k
-        → SaysMembers (slot_by n like f j k a) (slot_value (slot_by n like f j k a)) → AnswerWithin allowed w n new (opens key)
-    own_opens like is accepted a g says = opens_like like is.digest is.like_is is.is.meets accepted a g says
+    fine_by : (it : Like) → IsLikeOf j is.digest (length key) it → HasRefusal allowed.older j it None → (x : IsAddedLike n it f j k)
+        → SaysMembers (slot_by n it f j k x) (slot_value (slot_by n it f j k x)) → (object : Value) → object ≡ slot_value (slot_by n it f j k x)
+        → (plan : SlotPlan) → IsLuks2Plan k n object plan → SameDigest is.is.meets.digest plan.digest → slot_refusal_within allowed plan ≡ None
+    fine_by (Keyslot by_) y fine x said object same plan z digests =
+        like_fine allowed v o h payload j k before was by_ n is.digest is.is.meets.digest is.is.meets.takes.object is.is.meets.takes.says is.is.meets.takes.there.is f x y.names fine
+        object same said c (new_derivation n (Keyslot by_) f j k x c chosen) (subst (λ s. 8 ≤ length s) (sym (new_salt n (Keyslot by_) f j k x)) long) within plan z digests
+    fine_by (Digest number key_bytes) y fine x said object same plan z digests =
+        fresh_fine allowed k n key_bytes f is.is.meets.digest is.is.meets.known object same said c (new_derivation n (Digest number key_bytes) f j k x c chosen) long within plan z digests
+
+    pub own_fine : (object : Value) → object ≡ slot_value (slot_by n like f j k a) → (plan : SlotPlan) → IsLuks2Plan k n object plan → SameDigest is.is.meets.digest plan.digest
+        → slot_refusal_within allowed plan ≡ None
+    own_fine object same plan z digests = fine_by like is.like_is accepted a says object same plan z digests
+
+    -- so it opens where it holds the key
+    pub own_opens : (w : List ℕ) (p : ℕ) (new random : List ℕ) → HasCopy w p h k → IsLayout h (length w) payload k → HoldsKey w k n new key random → AnswerWithin allowed w n new (opens key)
+    own_opens w p new random after layout y =
+        holds_opens allowed w payload p h k n new key random is.is.meets.digest is.is.meets.meets after layout y
+        (λ plan z digests. own_fine y.object (some_same y.object (slot_value (slot_by n like f j k a)) (sym y.there.is ∙ gains.there)) plan z digests)
+        (λ m l. one_digest (json_at w p) k (copy_meta w p h k after layout.held) n m l) own_told
 
 -- what the volume key's own metadata say, those say that count
 pub own_accepted : (older : Bool) (v bytes : List ℕ) (o : ℕ) (j : Value) (like : Like) → HasMetadata v o j → IsOwnKey older v bytes → IsLikeByKey older j bytes like → HasRefusal older j like None

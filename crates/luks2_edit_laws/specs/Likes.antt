@@ -123,6 +123,15 @@ abbrev pub IsAddedLike : ℕ → Like → NewMembers → Value → Value → Typ
 IsAddedLike to (Keyslot by_) f old new = IsAdded to by_ f old new
 IsAddedLike to (Digest number len) f old new = new ≡ with_slot to number (fresh_members len f) old
 
+-- its digest, and what it says
+abbrev pub digest_by : (to : ℕ) (like : Like) (f : NewMembers) (old new : Value) → IsAddedLike to like f old new → ℕ
+digest_by to (Keyslot n) f old new is = is.digest
+digest_by to (Digest number key_bytes) f old new is = number
+
+abbrev pub slot_by : (to : ℕ) (like : Like) (f : NewMembers) (old new : Value) → IsAddedLike to like f old new → SlotMembers
+slot_by to (Keyslot n) f old new is = is.slot
+slot_by to (Digest number key_bytes) f old new is = fresh_members key_bytes f
+
 -- ---- when it is refused
 
 -- the plan of a keyslot that is made like one with this plan: by PBKDF2, of its splitter's hash

@@ -7,8 +7,9 @@ use Rattle.luks_making.specs.Changed.{changed_slot}
 use Rattle.luks_area.specs.Sectors.{rounded_to_sectors}
 use Rattle.luks_rules.specs.declared.table.Section.TheVariants.{Digests}
 use Rattle.luks_rules.specs.Accepted.{HasObject}
-use Rattle.luks_making.specs.Conditions.{CanSeal, FitsSlot, IsFree, IsInRegion, IsThere}
-use Rattle.luks_making.specs.Keyslots.{slot_value, NewMembers, SlotMembers}
+use Rattle.luks_making.specs.Conditions.{Between, CanSeal, IsFree, IsInRegion, IsThere}
+use Rattle.luks_making.specs.Derivations.{IsPositive}
+use Rattle.luks_making.specs.Keyslots.{slot_value, NewMembers}
 use Rattle.luks_making.specs.Unchanged.{ChangesSlot, GainsSlot, SaysMembers}
 use Rattle.luks_meta.specs.Content.{content}
 use Rattle.luks_reading.specs.declared.header.ChosenCopy.{ChosenCopy}
@@ -19,7 +20,7 @@ use Rattle.luks_edit.specs.declared.edit.Edit.{Edit}
 use Rattle.luks_edit.specs.Asked.{MatchPlace, sealed_by}
 use Rattle.luks2_edit_laws.specs.declared.like.Like.{Like}
 use Rattle.luks2_edit_laws.specs.declared.like.Like.TheVariants.{Keyslot, Digest}
-use Rattle.luks2_edit_laws.specs.Likes.{fresh_members, IsAddedLike, IsLike}
+use Rattle.luks2_edit_laws.specs.Likes.{digest_by, IsAddedLike, IsLike, slot_by}
 use Rattle.luks2_edit_laws.specs.Metadata.{IsNewKeyslot}
 use Rattle.luks2_edit_laws.specs.Places.{IsNewArea}
 use Rattle.luks2_judging.specs.Opened.{IsOpenedTo}
@@ -61,7 +62,9 @@ IsThereLike j (Digest number key_bytes) = HasDigest j number
 -- what is new suits it
 pub record CanMake (len : ℕ) (j : Value) (number key_bytes : ℕ) (f : NewMembers) : Type 0 where
   pub digest : HasDigest j number
-  pub fits : FitsSlot (fresh_members key_bytes f)
+  pub key : Between 1 128 key_bytes
+  pub derivation : IsPositive f.derivation
+  pub salt : Between 1 128 (length f.salt)
   pub large : rounded_to_sectors (key_bytes * 4000) ≤ f.size
   pub within : IsInRegion len j f.offset f.size
 
@@ -74,10 +77,8 @@ CanSealLike len j (Digest number key_bytes) f = CanMake len j number key_bytes f
 -- it has a new keyslot `slot` made like this one, and all else as it was
 pub record IsGained (slot : ℕ) (like : Like) (f : NewMembers) (j k : Value) : Type 0 where
   pub added : IsAddedLike slot like f j k
-  pub digest : ℕ
-  pub members : SlotMembers
-  pub gains : GainsSlot slot digest members j k
-  pub says : SaysMembers members (slot_value members)
+  pub gains : GainsSlot slot (digest_by slot like f j k added) (slot_by slot like f j k added) j k
+  pub says : SaysMembers (slot_by slot like f j k added) (slot_value (slot_by slot like f j k added))
 
 -- it has what is new in the keyslot `slot`, and all else as it was
 pub record IsSealedAgain (slot : ℕ) (f : NewMembers) (j k : Value) : Type 0 where

@@ -10,10 +10,11 @@ ghost use Rattle.luks_reading.specs.declared.report.Data.{Data as Payload};
 ghost use Rattle.luks_edit.specs.EditFaults.{is_edit_failure};
 ghost use Rattle.luks_edit.specs.declared.edit.Edit.{Edit as TheEdit};
 ghost use Rattle.luks2_edit_laws.specs.Edited.{keyslot_salt, members_of, IsEdited};
+ghost use Rattle.luks2_edit_laws.specs.declared.like.Like.TheVariants.{Digest, Keyslot};
 ghost use Rattle.luks2_edit_laws.specs.Likes.{fresh_members};
 ghost use Rattle.luks2_edit_laws.specs.Refused.{IsUnrefused2, NeedsLike};
 ghost use Rattle.luks2_judging.specs.Room.{IsPlaced};
-ghost use Rattle.luks2_editing.specs.MadeMetadata.{like_of, CanSealLike, IsThereLike, HasNumber, IsGained, IsMadeBy, IsSealedAgain, IsSealingEdit};
+ghost use Rattle.luks2_editing.specs.MadeMetadata.{like_of, CanMake, CanSealLike, IsThereLike, HasNumber, IsGained, IsMadeBy, IsSealedAgain, IsSealingEdit};
 ghost use Rattle.luks2_editing.specs.Prepared.{AreCopiesWithin};
 ghost use Rattle.luks2_editing.specs.Replies.{EndsBy2};
 
@@ -176,14 +177,54 @@ fn gained(alloc: Global, meta: Meta, slot: u8, like: Like, new: &New<'_>) -> Res
     ensures length { IfOk result (λ m. area_len m ≡ area_len meta) }
     ensures memory { IfErr result (λ f. f ≡ EditFault.Memory) }
 {
-    new_fits(new);
-    let made = match like {
-        Like::Keyslot(by_) => with_slot(alloc, meta, slot, by_, new),
+    match like {
+        Like::Keyslot(by_) => gained_like(alloc, meta, slot, by_, new),
         Like::Digest { number, key_bytes } => {
-            with_new_slot(alloc, meta, slot, number, &fresh_keyslot(key_bytes, new))
+            gained_fresh(alloc, meta, slot, number, key_bytes, new)
         }
-    };
-    match made {
+    }
+}
+
+/// The same with the members of the keyslot `by_`.
+fn gained_like(
+    alloc: Global,
+    meta: Meta,
+    slot: u8,
+    by_: u8,
+    new: &New<'_>,
+) -> Result<Meta, EditFault>
+    requires number { IsFree (content meta) slot }
+    requires suits { CanSeal (area_len meta) (content meta) by_ (new_members new.now) }
+    ensures made { IfOk result (λ m.
+        IsGained slot (Keyslot by_) (new_members new.now) (content meta) (content m)) }
+    ensures length { IfOk result (λ m. area_len m ≡ area_len meta) }
+    ensures memory { IfErr result (λ f. f ≡ EditFault.Memory) }
+{
+    new_fits(new);
+    match with_slot(alloc, meta, slot, by_, new) {
+        Ok(made) => Ok(made),
+        Err(_) => Err(EditFault::Memory),
+    }
+}
+
+/// The same as a new volume has it, for the digest and a key of so many bytes.
+fn gained_fresh(
+    alloc: Global,
+    meta: Meta,
+    slot: u8,
+    digest: u8,
+    key_bytes: u8,
+    new: &New<'_>,
+) -> Result<Meta, EditFault>
+    requires number { IsFree (content meta) slot }
+    requires suits { CanMake (area_len meta) (content meta) digest key_bytes (new_members new.now) }
+    ensures made { IfOk result (λ m.
+        IsGained slot (Digest digest key_bytes) (new_members new.now) (content meta) (content m)) }
+    ensures length { IfOk result (λ m. area_len m ≡ area_len meta) }
+    ensures memory { IfErr result (λ f. f ≡ EditFault.Memory) }
+{
+    new_fits(new);
+    match with_new_slot(alloc, meta, slot, digest, &fresh_keyslot(key_bytes, new)) {
         Ok(made) => Ok(made),
         Err(_) => Err(EditFault::Memory),
     }

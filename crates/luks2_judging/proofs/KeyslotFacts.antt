@@ -26,6 +26,7 @@ use Rattle.luks2_edit_laws.specs.Metadata.{IsInUse, IsLeastFree}
 use Rattle.luks2_edit_laws.specs.Refused.{IsAbsent}
 use Rattle.luks2_edit_laws.proofs.LikeFacts.{model_by_key, IsModel}
 use Rattle.luks2_judging.specs.Judged.{IsUsable, Judges}
+use Rattle.luks2_judging.specs.Keys.{IsThereLike}
 use Rattle.luks2_judging.specs.Room.{IsSealableLike}
 
 -- no keyslot is there and free
@@ -175,3 +176,8 @@ sealable_model j (made_like.Digest number key_bytes) x = (x.long.from, x.long.to
 pub sealable_of : (j : Value) (o : Opener) (it : Like) → IsUsable j o → IsLike j o it → IsSealableLike j it
 sealable_of j (opener.Keyslot slot secret) it used is = subst (IsSealableLike j) (sym is) used
 sealable_of j (opener.Key key) it used is = sealable_model j it (model_by_key key.allowed.older j key.bytes.now it is)
+
+-- so it is there, if it is a keyslot
+pub there_of : (j : Value) (it : Like) → IsSealableLike j it → IsThereLike j it
+there_of j (made_like.Keyslot n) can = can
+there_of j (made_like.Digest number key_bytes) can = tt

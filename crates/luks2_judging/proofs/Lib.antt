@@ -6,11 +6,11 @@ mod EncodedFacts
 mod JudgedFacts
 mod KeyFacts
 pub mod KeyAreaFacts
-mod KeyslotFacts
+pub mod KeyslotFacts
 mod LastFacts
 mod NeedFacts
 mod NumberFacts
-mod OpenerFacts
+pub mod OpenerFacts
 mod ReadFacts
 mod RoomFacts
 mod SaltFacts

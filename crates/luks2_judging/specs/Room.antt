@@ -22,6 +22,7 @@ IsSealableLike j (Digest number len) = (1 ≤ len) × (len ≤ 128)
 
 -- the stripes of a keyslot that is made like this one take `bytes` bytes of whole blocks
 pub record TakesBlocks (j : Value) (like : Like) (bytes : ℕ) : Type 0 where
+  pub can : IsSealableLike j like
   pub key_bytes : ℕ
   pub stripes : ℕ
   pub slot : HasStripesLike j like key_bytes stripes

@@ -7,9 +7,8 @@ ghost use Rattle.luks_reading.specs.Header.{IsAcceptedCopy, IsChosenCopy};
 ghost use Rattle.luks_edit.specs.Asked.{MatchOpener};
 ghost use Rattle.luks2_edit_laws.specs.Likes.{IsLike};
 ghost use Rattle.luks2_edit_laws.specs.Refused.{IsUnkeyed2, NeedsLike};
-ghost use Rattle.luks2_judging.specs.Keys.{IsAcceptedLike};
+ghost use Rattle.luks2_judging.specs.Keys.{IsAcceptedLike, IsThereLike};
 ghost use Rattle.luks2_judging.specs.Needed.{TellsNeed2};
-ghost use Rattle.luks2_judging.specs.Room.{IsSealableLike};
 
 use crate::accepted::judge_without_key;
 use crate::keys::own_volume_key;
@@ -79,7 +78,7 @@ fn like_by(meta: &Meta, opener: &Opener<'_>) -> Result<Like, EditFault>
 
 /// How many random bytes an edit takes that seals a keyslot like this one, which is there.
 pub fn sealed_need(meta: &Meta, like: Like) -> u64
-    ensures { IsSealableLike (content meta.now) like → NeedsLike (content meta.now) result like }
+    ensures { IsThereLike (content meta.now) like → NeedsLike (content meta.now) result like }
 {
     match like {
         Like::Keyslot(n) => match meta.keyslot(n) {

@@ -110,7 +110,8 @@ pub fn with_slot(
 }
 
 /// The metadata with a keyslot of these members, without a priority, whose name goes last in the array of
-/// the digest. All else stays as it is. The metadata is given up: its value is edited in place.
+/// the digest. All else stays as it is. No digest's name stands twice in the metadata, which is given up:
+/// its value is edited in place.
 ///
 /// Takes memory for the new keyslot.
 pub fn with_new_slot(
@@ -124,8 +125,11 @@ pub fn with_new_slot(
     ensures value { IfOk result (λ m.
         content m ≡ with_slot to digest (slot_members keyslot.now) (content meta)) }
     ensures length { IfOk result (λ m. area_len m ≡ area_len meta) }
+    ensures unique { HasUniqueDigests (content meta) }
 {
     let len = meta.area_len();
+    // It tells that no digest's name stands twice.
+    let _named = meta.digest_of_keyslot(to);
     let made = slot_value(alloc, keyslot)?;
     let value = luks_making::with_slot(alloc, meta.into_value(), to, digest, made)?;
     Ok(Meta::of_value(value, len))

@@ -5,7 +5,7 @@ use Rattle.luks_edit.specs.declared.deed.Place.TheVariants.{New, Opened}
 use Rattle.luks_edit.specs.Asked.{sealed_in}
 use Rattle.luks2_judging.proofs.ChosenFacts.{metadata_of}
 use Rattle.luks2_judging.proofs.DeedFacts.{opener_is, sealed_as}
-use Rattle.luks2_judging.proofs.KeyslotFacts.{sealable_of, sealed_opens, usable_of, used_of}
+use Rattle.luks2_judging.proofs.KeyslotFacts.{sealable_of, sealed_opens, there_of, usable_of, used_of}
 use Rattle.luks2_judging.proofs.NeedFacts.{four_here, idle_need, need_added, need_again, need_first, need_unnumbered, new_keyed, new_unkeyed}
 use Rattle.luks2_judging.proofs.needing.needed_luks2.Goals as goal
 
@@ -60,7 +60,7 @@ returns-in_ok-new_number-in-New-clause-tells c = λ v is size.
     let like = c.in_ok-like-in-New.like in
     let is_like = c.in_ok-like-in-New.ensures.is in
     need_added v c.args.payload copy.header.hdr_offset j m e c.in-New.opener c.in-New.to s.passphrase s.derivation deed_is four keyed
-    c.in_ok-new_number-in-New.field-0 c.in_ok-new_number-in-New.ensures like is_like c.sealed_need.result (c.sealed_need.ensures (sealable_of j c.in-New.opener like used is_like))
+    c.in_ok-new_number-in-New.field-0 c.in_ok-new_number-in-New.ensures like is_like c.sealed_need.result (c.sealed_need.ensures (there_of j like (sealable_of j c.in-New.opener like used is_like)))
 
 pub returns-in-Opened-clause-tells : goal.returns-in-Opened-clause-tells
 returns-in-Opened-clause-tells c = λ v is size.

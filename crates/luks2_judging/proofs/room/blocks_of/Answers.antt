@@ -16,7 +16,7 @@ returns-in-Some c =
     let slot : HasStripes j n k.key_size k.af.stripes = keyslot_stripes j n k there c.in-Some.ensures.some in
     let is : c.rounded_to_blocks.result ≡ rounded_to_blocks (k.key_size * k.af.stripes) = (cc) in
     subst (λ l. TakesBlocks j l c.rounded_to_blocks.result) (sym c.in-Keyslot.is)
-    (record { key_bytes = k.key_size; stripes = k.af.stripes; slot = slot; is = is; some = subst (λ n. 4096 ≤ n) (sym is) (some_blocks_like j (Keyslot n) k.key_size k.af.stripes there slot) })
+    (record { can = there; key_bytes = k.key_size; stripes = k.af.stripes; slot = slot; is = is; some = subst (λ n. 4096 ≤ n) (sym is) (some_blocks_like j (Keyslot n) k.key_size k.af.stripes there slot) })
 
 pub returns-in-Digest : goal.returns-in-Digest
 returns-in-Digest c =
@@ -25,4 +25,4 @@ returns-in-Digest c =
     let can = subst (IsSealableLike j) c.in-Digest.is c.requires in
     let is : c.rounded_to_blocks-in-Digest.result ≡ rounded_to_blocks (len * 4000) = (cc) in
     subst (λ l. TakesBlocks j l c.rounded_to_blocks-in-Digest.result) (sym c.in-Digest.is)
-    (record { key_bytes = len; stripes = 4000; slot = (refl, refl); is = is; some = subst (λ n. 4096 ≤ n) (sym is) (some_blocks_like j (Digest c.in-Digest.number len) len 4000 can (refl, refl)) })
+    (record { can = can; key_bytes = len; stripes = 4000; slot = (refl, refl); is = is; some = subst (λ n. 4096 ≤ n) (sym is) (some_blocks_like j (Digest c.in-Digest.number len) len 4000 can (refl, refl)) })
