@@ -172,7 +172,7 @@ new_derivation to (Keyslot n) f j k is c chosen =
 new_derivation to (Digest number key_bytes) f j k is c chosen = ap (λ x. derivation_by (codes "sha256") (chosen_or f.derivation.iterations x)) chosen
 
 -- the derivation of one like that of a new volume fits
-fresh_fits : (hash : List ℕ) (n : ℕ) (chosen : Option NewDerivation) → n < 2 ^ 32 → IfSome chosen FitsNewDerivation → IsPositiveOr n chosen
+pub fresh_fits : (hash : List ℕ) (n : ℕ) (chosen : Option NewDerivation) → n < 2 ^ 32 → IfSome chosen FitsNewDerivation → IsPositiveOr n chosen
     → FitsDerivation (derivation_by hash (chosen_or n chosen))
 fresh_fits hash n None small fits one = chosen_fits hash n (chosen_or n None) small one
 fresh_fits hash n (Some c) small fits one = chosen_fits hash n c fits one

@@ -16,6 +16,7 @@ use Rattle.luks_reading.specs.declared.header.ChosenCopy.{ChosenCopy}
 use Rattle.luks_reading.specs.declared.report.Data.{Data}
 use Rattle.luks_reading.specs.Checked.{WellFormed}
 use Rattle.luks_reading.specs.Header.{IsChosenCopy}
+use Rattle.luks_edit.specs.declared.deed.Place.{Place}
 use Rattle.luks_edit.specs.declared.edit.Edit.{Edit}
 use Rattle.luks_edit.specs.Asked.{MatchPlace, sealed_by}
 use Rattle.luks2_edit_laws.specs.declared.like.Like.{Like}
@@ -41,12 +42,13 @@ abbrev pub HasNumber : Value → SealedSlot → Type 0
 HasNumber j (Made slot like) = IsFree j slot
 HasNumber j (Renewed slot) = ⊤
 
--- the edit of the metadata `j` seals it, so derived
+-- an edit of the metadata `j` seals it so derived that asks for a key at this place with this derivation
+abbrev pub AsksOf : Place → AskedDerivation → Value → SealedSlot → AskedDerivation → Type 0
+AsksOf place own j (Made slot like) derivation = MatchPlace place (λ o to. IsLike j o like × (derivation ≡ own) × IsNewKeyslot j to slot) (λ named secret. ⊥)
+AsksOf place own j (Renewed slot) derivation = MatchPlace place (λ o to. ⊥) (λ named secret. (slot ≡ named) × (derivation ≡ own))
+
 abbrev pub AsksFor : Edit → Value → SealedSlot → AskedDerivation → Type 0
-AsksFor e j (Made slot like) derivation = IsSomeAnd (sealed_by e) (λ s.
-    MatchPlace s.place (λ o to. IsLike j o like × (derivation ≡ s.derivation) × IsNewKeyslot j to slot) (λ own secret. ⊥))
-AsksFor e j (Renewed slot) derivation = IsSomeAnd (sealed_by e) (λ s.
-    MatchPlace s.place (λ o to. ⊥) (λ own secret. (slot ≡ own) × (derivation ≡ s.derivation)))
+AsksFor e j keyslot derivation = IsSomeAnd (sealed_by e) (λ s. AsksOf s.place s.derivation j keyslot derivation)
 
 -- ---- what it is made like
 
