@@ -14,6 +14,7 @@ use Rattle.luks2_header.specs.declared.selection.Copies.TheVariants.{InStep}
 use Rattle.luks2_header.proofs.CopyFacts.{listed_at_least}
 use Rattle.luks_rules.specs.declared.table.Section.TheVariants.{Keyslots}
 use Rattle.luks_rules.specs.Faults.{object_at}
+use Rattle.luks_rules.specs.Held.{IsHeld}
 use Rattle.luks_rules.specs.Reading.{decimal_in}
 use Rattle.luks_making.specs.Changed.{changed_slot}
 use Rattle.luks_making.specs.Conditions.{CanSeal, FitsDerivation, FitsNew, FitsSlot, IsFree, IsRoom}

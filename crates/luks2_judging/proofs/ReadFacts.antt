@@ -1,6 +1,6 @@
 -- An edit judged by the header that was read: a fault of it is the volume's first, and where none was
 -- found none stands.
-use Rattle.std.proofs.Common.{◌≡◌, ℕ, ◌+◌, ◌<◌, ◌⊎◌, Bor, List, [], length, true, Option, Result, Ok, Err, OnOk, IfErr, arith, inl, inr, refl, subst}
+use Rattle.std.proofs.Common.{◌≡◌, ℕ, ◌+◌, ◌<◌, ◌⊎◌, Bor, List, [], length, true, Option, Result, Ok, Err, OnOk, IfErr, arith, inl, inr, refl, subst, sym}
 use Rattle.std.specs.Prelude.{IsSomeAnd}
 use Rattle.luks_area.specs.Text.{is_plain}
 use Rattle.luks_area.specs.declared.area.Area.{Area}
