@@ -25,7 +25,7 @@ use Rattle.luks2_edit_laws.specs.Likes.{IsLike}
 use Rattle.luks2_edit_laws.specs.Metadata.{IsInUse, IsLeastFree}
 use Rattle.luks2_edit_laws.specs.Refused.{IsAbsent}
 use Rattle.luks2_edit_laws.proofs.LikeFacts.{model_by_key, IsModel}
-use Rattle.luks2_judging.specs.Judged.{IsUsable, Judges}
+use Rattle.luks2_judging.specs.Judged.{IsUnusable, IsUsable, Judges}
 use Rattle.luks2_judging.specs.Keys.{IsThereLike}
 use Rattle.luks2_judging.specs.Room.{IsSealableLike}
 
@@ -104,6 +104,11 @@ used_of j e n secret asked there = wanted_used j e n (opener_wanted e n secret a
 pub usable_of : (j : Value) (e : Edit) (o : Opener) → opener_in (deed_of e) ≡ Some o → (IsAbsent j e → ⊥) → IsUsable j o
 usable_of j e (opener.Keyslot slot secret) asked there = used_of j e slot secret asked there
 usable_of j e (opener.Key key) asked there = tt
+
+-- where it can't its keyslot is missed
+pub absent_of : (j : Value) (e : Edit) (o : Opener) → opener_in (deed_of e) ≡ Some o → IsUnusable j o → IsAbsent j e
+absent_of j e (opener.Keyslot slot secret) asked unused = record { slot = slot; wanted = opener_wanted e slot secret asked; unused = unused }
+absent_of j e (opener.Key key) asked unused = absurd unused
 
 -- what gives the key that an edit seals, and what does for one that removes a keyslot
 pub sealed_opens : (e : Edit) (s : Sealed) → deed_of e ≡ deed.Seal s → opener_in (deed_of e) ≡ Some (opener_at s.place)
