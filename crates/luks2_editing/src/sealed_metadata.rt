@@ -21,8 +21,8 @@ ghost use Rattle.luks2_editing.specs.Replies.{EndsBy2};
 use crate::preparing::prepared;
 use crate::random::keyslot_salt;
 use luks_area::Area;
-use luks_edit::EditFault;
-use luks_making::{AskedDerivation, KeyslotDerivation, New, NewDerivation, NewKeyslot, new_fits};
+use luks_edit::{EditFault, chosen_or};
+use luks_making::{AskedDerivation, KeyslotDerivation, New, NewKeyslot, new_fits};
 use luks_meta::Meta;
 use luks_new_meta::{changed_slot, with_new_slot, with_slot};
 use luks_reading::ChosenCopy;
@@ -234,9 +234,7 @@ fn gained_fresh(
 fn fresh_keyslot<'a>(key_bytes: u8, new: &New<'a>) -> NewKeyslot<'a>
     ensures { slot_members result ≡ fresh_members key_bytes (new_members new.now) }
 {
-    let chosen = new.derivation.chosen.unwrap_or(NewDerivation::Pbkdf2 {
-        iterations: new.derivation.iterations,
-    });
+    let chosen = chosen_or(new.derivation.iterations, new.derivation.chosen);
     NewKeyslot {
         key_size: key_bytes,
         stripes: 4000,

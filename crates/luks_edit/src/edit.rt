@@ -252,10 +252,20 @@ fn asked_by_key(iterations: u32, chosen: Option<NewDerivation>) -> AskedDerivati
     ensures iterations { result.iterations ≡ iterations }
     ensures chosen { result.chosen ≡ Some (chosen_or iterations chosen) }
 {
-    let own = chosen.unwrap_or(NewDerivation::Pbkdf2 { iterations });
     AskedDerivation {
         iterations,
-        chosen: Some(own),
+        chosen: Some(chosen_or(iterations, chosen)),
+    }
+}
+
+/// The derivation of a keyslot that is made by a key: the one that is chosen, or PBKDF2 by so many
+/// iterations.
+pub fn chosen_or(iterations: u32, chosen: Option<NewDerivation>) -> NewDerivation
+    ensures { result ≡ chosen_or iterations chosen }
+{
+    match chosen {
+        Some(own) => own,
+        None => NewDerivation::Pbkdf2 { iterations },
     }
 }
 

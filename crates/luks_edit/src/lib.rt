@@ -9,7 +9,9 @@ mod giving;
 mod laws;
 
 pub use deed::{Deed, Place, Removed, Sealed};
-pub use edit::{Done, Edit, Opener, Passphrase, Secret, SecretKind, Step, VolumeKey, opener_of};
+pub use edit::{
+    Done, Edit, Opener, Passphrase, Secret, SecretKind, Step, VolumeKey, chosen_or, opener_of,
+};
 pub use edit_fault::{EditFault, RunFault};
 pub use giving::{give_within, lock_fault, own_key};
 pub use laws::secrets_answer_once;
