@@ -2,7 +2,7 @@
 use Rattle.luks1_edits.proofs.unlocking.unlock.Goals as goal
 
 pub returns-in-Key-clause-opened : goal.returns-in-Key-clause-opened
-returns-in-Key-clause-opened g c = λ tells x. c.own_volume_key.ensures.opened (g.D.Device.bytes c.args.device.now) x
+returns-in-Key-clause-opened g c = λ tells x. rw c.in-Key.is (c.own_volume_key.ensures.opened (g.D.Device.bytes c.args.device.now) x)
 
 pub returns-in-Key-clause-refused : goal.returns-in-Key-clause-refused
-returns-in-Key-clause-refused g c = λ tells x. c.own_volume_key.ensures.refused (g.D.Device.bytes c.args.device.now) x
+returns-in-Key-clause-refused g c = λ tells x. rw c.in-Key.is (c.own_volume_key.ensures.refused (g.D.Device.bytes c.args.device.now) x)

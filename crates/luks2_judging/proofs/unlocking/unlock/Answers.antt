@@ -1,4 +1,5 @@
 -- By a keyslot it is as that answers, and by the volume key as that does, with no call of the device.
+use Rattle.std.proofs.Common.{Some, ap, ◌∙◌}
 use Rattle.luks_meta.specs.Content.{content}
 use Rattle.luks2_judging.proofs.KeyFacts.{given_err, given_ok, own_bytes, own_given, own_unopened, unkeyed_memory}
 use Rattle.luks2_judging.proofs.unlocking.unlock.Goals as goal
@@ -16,8 +17,11 @@ returns-in-Key-clause-no_memory g c = λ none.
 
 pub returns-in-Key-clause-opened : goal.returns-in-Key-clause-opened
 returns-in-Key-clause-opened g c = λ tells is e same asked.
-    given_ok _ c.own_volume_key.result (λ it x. own_given (g.D.Device.bytes c.args.device.now) c.args.copy.now is e c.in-Key.key.now asked it.key it.like x.0 x.1 x.2) c.own_volume_key.ensures
+    given_ok _ c.own_volume_key.result (λ it x. own_given (g.D.Device.bytes c.args.device.now) c.args.copy.now is e c.in-Key.key.now (asked ∙ ap Some c.in-Key.is) it.key it.like x.0 x.1 x.2) c.own_volume_key.ensures
 
 pub returns-in-Key-clause-refused : goal.returns-in-Key-clause-refused
 returns-in-Key-clause-refused g c = λ tells is payload e well same asked there.
-    given_err _ c.own_volume_key.result (λ f bad. own_unopened (g.D.Device.bytes c.args.device.now) c.args.copy.now is e c.in-Key.key.now asked f bad) c.own_volume_key.ensures
+    given_err _ c.own_volume_key.result (λ f bad. own_unopened (g.D.Device.bytes c.args.device.now) c.args.copy.now is e c.in-Key.key.now (asked ∙ ap Some c.in-Key.is) f bad) c.own_volume_key.ensures
+
+pub returns-in-Key-clause-like : goal.returns-in-Key-clause-like
+returns-in-Key-clause-like g c = rw c.in-Key.is (given_ok _ c.own_volume_key.result (λ it x. x.1) c.own_volume_key.ensures)
