@@ -26,7 +26,7 @@ static size_t read_file(const char *name, uint8_t *into)
 
 static uint32_t called(const char *call, int fd, size_t old_bytes, size_t new_bytes)
 {
-    struct luks_opened opened;
+    struct luks_opened opened = {.size = sizeof opened};
     uint32_t slot, answers[LUKS_KEYSLOTS];
     if (strcmp(call, "unlock") == 0)
         return luks_unlock(fd, 0, LUKS_TO_END, old, old_bytes, KIB, 0, NULL, 0, &opened);
@@ -43,10 +43,10 @@ static uint32_t called(const char *call, int fd, size_t old_bytes, size_t new_by
     if (strcmp(call, "remove") == 0)
         return luks_remove(fd, 0, LUKS_TO_END, false, 0, LUKS_NO_SLOT, old, old_bytes, KIB, 0);
     if (strcmp(call, "format1") == 0)
-        return luks_format1(fd, 0, LUKS_TO_END, false, LUKS_SHA256, ITERATIONS, old, old_bytes, NULL, 0);
+        return luks_format1(fd, 0, LUKS_TO_END, false, NULL, LUKS_SHA256, ITERATIONS, old, old_bytes, NULL, 0);
     if (getrandom(random_bytes, sizeof random_bytes, 0) != sizeof random_bytes)
         return LUKS_DEVICE;
-    return luks_format2(fd, 0, LUKS_TO_END, false, LUKS_SHA256, ITERATIONS, NULL, old, old_bytes, KIB, random_bytes, sizeof random_bytes);
+    return luks_format2(fd, 0, LUKS_TO_END, false, NULL, LUKS_SHA256, ITERATIONS, NULL, old, old_bytes, KIB, random_bytes, sizeof random_bytes);
 }
 
 int main(int count, char **words)
