@@ -45,15 +45,25 @@ static uint64_t least(uint64_t a, uint64_t b)
     return a < b ? a : b;
 }
 
+/* A struct of the caller's has at least these bytes, and no more than any version's will. */
+#define MOST_FIELDS 1024
+
+static bool is_size(uint64_t size, size_t least_size)
+{
+    return size >= least_size && size <= MOST_FIELDS;
+}
+
 /* Whether `count` bytes of this struct's `size` may be read, and those behind them are zeros: a caller that was compiled for a later version asks for
  * nothing that isn't known here. */
 static bool is_known(const void *given, uint64_t size, size_t count)
 {
     const uint8_t *bytes = given;
+    if (!is_size(size, count))
+        return false;
     for (size_t i = count; i < size; i++)
         if (bytes[i] != 0)
             return false;
-    return size >= count;
+    return true;
 }
 
 /* Writes zeros over the fields of such a struct, but its size. */
@@ -312,7 +322,7 @@ uint32_t luks_check(int fd, uint64_t offset, uint64_t length, bool is_detached, 
 {
     struct luks_report_bytes told = {0};
     struct held held;
-    if (report == NULL || report->size < sizeof *report)
+    if (report == NULL || !is_size(report->size, sizeof *report))
         return LUKS_USAGE;
     clear(report, report->size);
     uint32_t answer = begin(&held, fd, offset, length, HEADS);
@@ -435,7 +445,7 @@ static uint32_t open_one(int fd, uint64_t offset, uint64_t length, uint32_t n, c
     uint8_t nowhere = 0;
     struct luks_opened_bytes told = {0};
     struct held held;
-    if (opened == NULL || opened->size < sizeof *opened || (passphrase == NULL && passphrase_bytes > 0) || (key == NULL && key_room > 0))
+    if (opened == NULL || !is_size(opened->size, sizeof *opened) || (passphrase == NULL && passphrase_bytes > 0) || (key == NULL && key_room > 0))
         return LUKS_USAGE;
     const uint8_t *words = passphrase != NULL ? passphrase : &nothing;
     uint8_t *into = key != NULL ? key : &nowhere;
@@ -1049,7 +1059,7 @@ static uint32_t passes_of(int fd, uint32_t hash, double wanted, struct luks_deri
 
 uint32_t luks_costs(uint32_t kind, uint32_t hash, uint32_t milliseconds, uint32_t memory, uint32_t lanes, struct luks_derivation *derivation)
 {
-    if (derivation == NULL || derivation->size < sizeof *derivation || kind < LUKS_PBKDF2 || kind > LUKS_ARGON2ID || hash < LUKS_SHA1 || hash > LUKS_SHA512)
+    if (derivation == NULL || !is_size(derivation->size, sizeof *derivation) || kind < LUKS_PBKDF2 || kind > LUKS_ARGON2ID || hash < LUKS_SHA1 || hash > LUKS_SHA512)
         return LUKS_USAGE;
     clear(derivation, derivation->size);
     derivation->kind = kind;
@@ -1486,7 +1496,7 @@ static uint32_t wait_for_locks(const struct stat *about, bool writes, uint32_t m
 uint32_t luks_open_volume(const char *name, bool writes, uint32_t milliseconds, struct luks_volume *volume)
 {
     struct stat about;
-    if (name == NULL || volume == NULL || volume->size < sizeof *volume)
+    if (name == NULL || volume == NULL || !is_size(volume->size, sizeof *volume))
         return LUKS_USAGE;
     clear(volume, volume->size);
     volume->lock = -1;

@@ -145,7 +145,7 @@ enum luks_fault {
 #define LUKS_NO_SECTOR UINT64_MAX
 
 /* Room to grow. A struct that has a `size` may get more fields in a later version, behind those that it has. Its caller puts sizeof of the struct
- * there before each call: `struct luks_report report = {.size = sizeof report}`. Less than this version's fields is LUKS_USAGE. Where it is more, as of a
+ * there before each call: `struct luks_report report = {.size = sizeof report}`. Less than this version's fields is LUKS_USAGE, and so is more than 1024. Where it is more, as of a
  * caller that was compiled for a later version, a call that reads the struct wants zeros behind the fields that it knows, else it is LUKS_USAGE, and
  * one that writes it puts zeros there. The structs of the calls named _bytes have none: these calls get another name where they change. */
 

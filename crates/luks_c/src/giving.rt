@@ -50,7 +50,7 @@ fn sector_of(number: u64) -> Option<u64>
 
 /// The key, where one is given; it may have no byte.
 fn key_of(is_keyed: bool, key: &[u8]) -> Option<&[u8]>
-    ensures { IsMaybeKey is_keyed key.now result.entry }
+    ensures { IsMaybeKey is_keyed key.now result }
 {
     if is_keyed { Some(key) } else { None }
 }

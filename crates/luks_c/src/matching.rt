@@ -97,8 +97,9 @@ fn digest_of(number: u32) -> Option<u8>
     if number == NO_DIGEST {
         return None;
     }
-    match u8::try_from(number) {
-        Ok(digest) => Some(digest),
-        Err(_) => Some(255),
+    if number < 256 {
+        Some(number as u8)
+    } else {
+        Some(255)
     }
 }
