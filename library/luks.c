@@ -6,6 +6,7 @@
 #include <errno.h>
 #include <fcntl.h>
 #include <linux/fs.h>
+#include <stddef.h>
 #include <stdio.h>
 #include <stdlib.h>
 #include <string.h>
@@ -357,6 +358,186 @@ uint32_t luks_read(int fd, uint64_t offset, uint64_t length, char *json, size_t 
                 answer = hold_more(&held, read.beyond);
         } while (answer == LUKS_BEYOND);
     end(&held);
+    return answer;
+}
+
+/* ---- keyslots as records, of the object of luks_read ---- */
+
+/* What is left of the object's text, which this library wrote: no space stands between its parts. */
+struct text {
+    const char *at, *end;
+};
+
+static bool take(struct text *text, char sign)
+{
+    bool is_there = text->at < text->end && *text->at == sign;
+    text->at += is_there;
+    return is_there;
+}
+
+/* A text in quotation marks, as it stands between them. */
+static bool take_string(struct text *text, struct text *string)
+{
+    if (!take(text, '"'))
+        return false;
+    string->at = text->at;
+    while (text->at < text->end && *text->at != '"')
+        text->at += *text->at == '\\' && text->end - text->at > 1 ? 2 : 1;
+    string->end = text->at;
+    return take(text, '"');
+}
+
+/* Whatever value stands there. */
+static bool skip_value(struct text *text)
+{
+    struct text string;
+    size_t depth = 0;
+    do {
+        if (text->at < text->end && *text->at == '"') {
+            if (!take_string(text, &string))
+                return false;
+        } else if (take(text, '{') || take(text, '[')) {
+            depth++;
+        } else if (depth > 0 && (take(text, '}') || take(text, ']'))) {
+            depth--;
+        } else {
+            const char *from = text->at;
+            while (text->at < text->end && strchr("\"{}[]", *text->at) == NULL && (depth > 0 || *text->at != ','))
+                text->at++;
+            if (text->at == from)
+                return false;
+        }
+    } while (depth > 0);
+    return true;
+}
+
+static bool is_named(const struct text *name, const char *as)
+{
+    return (size_t)(name->end - name->at) == strlen(as) && memcmp(name->at, as, strlen(as)) == 0;
+}
+
+/* The next member of the object that begins or goes on there, behind its name; false at the object's end. */
+static bool next_member(struct text *text, struct text *name)
+{
+    (void)(take(text, '{') || take(text, ','));
+    return !take(text, '}') && take_string(text, name) && take(text, ':');
+}
+
+static uint64_t number_at(struct text *text)
+{
+    uint64_t number = 0;
+    while (text->at < text->end && *text->at >= '0' && *text->at <= '9')
+        number = number * 10 + (uint64_t)(*text->at++ - '0');
+    return number;
+}
+
+/* Where the numbers of a keyslot's object stand in the struct, and its texts. */
+#define OF(field) offsetof(struct luks_keyslot, field)
+static const struct {
+    const char *within, *name;
+    size_t at, bytes;
+} NUMBERS[] = {
+    {"", "number", OF(number), 4}, {"", "priority", OF(priority), 4}, {"", "digest", OF(digest), 4}, {"", "key_bytes", OF(key_bytes), 4},
+    {"area", "offset", OF(offset), 8}, {"area", "size", OF(bytes), 8}, {"area", "key_bytes", OF(area_key_bytes), 4},
+    {"kdf", "iterations", OF(turns), 4}, {"kdf", "time", OF(turns), 4}, {"kdf", "memory", OF(memory), 4}, {"kdf", "cpus", OF(lanes), 4},
+    {"splitter", "stripes", OF(stripes), 4},
+}, TEXTS[] = {
+    {"area", "cipher", OF(cipher), sizeof ((struct luks_keyslot *)NULL)->cipher}, {"kdf", "hash", OF(hash), sizeof ((struct luks_keyslot *)NULL)->hash},
+};
+
+static void keep_number(struct luks_keyslot *keyslot, const char *within, const struct text *name, uint64_t number)
+{
+    uint32_t narrow = (uint32_t)number;
+    for (size_t i = 0; i < sizeof NUMBERS / sizeof *NUMBERS; i++)
+        if (strcmp(NUMBERS[i].within, within) == 0 && is_named(name, NUMBERS[i].name))
+            memcpy((char *)keyslot + NUMBERS[i].at, NUMBERS[i].bytes == 8 ? (const void *)&number : &narrow, NUMBERS[i].bytes);
+}
+
+static void keep_text(struct luks_keyslot *keyslot, const char *within, const struct text *name, const struct text *text)
+{
+    static const char *const kinds[] = {"", "pbkdf2", "argon2i", "argon2id"};
+    for (size_t i = 0; i < sizeof TEXTS / sizeof *TEXTS; i++)
+        if (strcmp(TEXTS[i].within, within) == 0 && is_named(name, TEXTS[i].name))
+            memcpy((char *)keyslot + TEXTS[i].at, text->at, (size_t)least((uint64_t)(text->end - text->at), TEXTS[i].bytes - 1));
+    if (strcmp(within, "") == 0 && is_named(name, "state"))
+        keyslot->is_enabled = is_named(text, "enabled");
+    for (uint32_t i = 1; i < 4; i++)
+        if (strcmp(within, "kdf") == 0 && is_named(name, "type") && is_named(text, kinds[i]))
+            keyslot->kdf = i;
+}
+
+/* Keeps what stands in the keyslot's object, or in one of the three within it. */
+static bool keep_object(struct text *text, const char *within, struct luks_keyslot *keyslot)
+{
+    static const char *const parts[] = {"area", "kdf", "splitter"};
+    struct text name, string;
+    while (next_member(text, &name)) {
+        const char *part = NULL;
+        for (size_t i = 0; i < sizeof parts / sizeof *parts; i++)
+            if (*within == 0 && is_named(&name, parts[i]))
+                part = parts[i];
+        bool is_read = true;
+        if (part != NULL)
+            is_read = keep_object(text, part, keyslot);
+        else if (text->at < text->end && *text->at >= '0' && *text->at <= '9')
+            keep_number(keyslot, within, &name, number_at(text));
+        else if (text->at < text->end && *text->at == '"' && (is_read = take_string(text, &string)))
+            keep_text(keyslot, within, &name, &string);
+        else
+            is_read = is_read && skip_value(text);
+        if (!is_read)
+            return false;
+    }
+    return true;
+}
+
+/* The keyslots of the whole object: how many, and those for which there is room. */
+static size_t keep_keyslots(struct text *text, struct luks_keyslot *keyslots, size_t room)
+{
+    struct text name;
+    size_t count = 0;
+    while (next_member(text, &name))
+        if (!is_named(&name, "keyslots")) {
+            if (!skip_value(text))
+                break;
+        } else {
+            while (take(text, '[') || take(text, ',')) {
+                struct luks_keyslot keyslot = {.priority = 1};
+                if (take(text, ']') || !keep_object(text, "", &keyslot))
+                    return count;
+                if (count < room)
+                    keyslots[count] = keyslot;
+                count++;
+            }
+            return count;
+        }
+    return count;
+}
+
+uint32_t luks_keyslots(int fd, uint64_t offset, uint64_t length, struct luks_keyslot *keyslots, size_t size, size_t room, size_t *count)
+{
+    uint64_t bytes = HEADS;
+    char *json = NULL;
+    if (count == NULL || size != sizeof *keyslots || (keyslots == NULL && room > 0))
+        return LUKS_USAGE;
+    *count = 0;
+    uint32_t answer = LUKS_ROOM;
+    for (uint64_t taken = 0; answer == LUKS_ROOM && taken < bytes;) {
+        char *more = bytes < PTRDIFF_MAX ? realloc(json, (size_t)bytes) : NULL;
+        taken = bytes;
+        if (more == NULL)
+            answer = LUKS_MEMORY;
+        else
+            answer = luks_read(fd, offset, length, json = more, (size_t)taken, &bytes);
+    }
+    if (answer == LUKS_DONE) {
+        struct text text = {json, json + bytes};
+        *count = keep_keyslots(&text, keyslots, room);
+        answer = *count > room ? LUKS_ROOM : LUKS_DONE;
+    }
+    int kept = errno;
+    free(json);
+    errno = kept;
     return answer;
 }
 

@@ -163,6 +163,23 @@ struct luks_report {
     uint64_t areas;   /* how many areas it has: headers, keyslots, segments */
 };
 
+/* A keyslot as the header says it. */
+struct luks_keyslot {
+    uint32_t number;
+    uint32_t is_enabled;     /* 0: of LUKS1, one that isn't in use: then only the key area and the stripes are told */
+    uint32_t priority;       /* LUKS2: 2 is tried first, 0 only where it is named; else 1 */
+    uint32_t digest;         /* LUKS2: the digest of its volume key */
+    uint32_t kdf;            /* LUKS_PBKDF2, LUKS_ARGON2I or LUKS_ARGON2ID */
+    uint32_t turns;          /* the iterations of PBKDF2, the passes of Argon2 */
+    uint32_t memory, lanes;  /* of Argon2, the first in KiB */
+    uint32_t key_bytes;      /* of the volume key */
+    uint32_t area_key_bytes; /* of the key area's cipher */
+    uint32_t stripes;
+    uint64_t offset, bytes;  /* of the key area, from the volume's start */
+    char cipher[64];         /* of the key area, as aes-xts-plain64, and a 0; no more than fits */
+    char hash[32];           /* of PBKDF2, likewise */
+};
+
 /* What a passphrase opens. */
 struct luks_opened {
     uint64_t size;      /* of the struct */
@@ -342,6 +359,11 @@ uint32_t luks_check(int fd, uint64_t offset, uint64_t length, bool is_detached, 
  * behind it; `json_bytes` tells how many bytes it has, also with LUKS_ROOM: ask with no room first. A header's areas may
  * lie where they can't, which luks_check tells; else its first fault. */
 uint32_t luks_read(int fd, uint64_t offset, uint64_t length, char *json, size_t json_room, uint64_t *json_bytes);
+
+/* The keyslots of the header that counts, by their numbers: of LUKS2 those that the metadata has, of LUKS1 all eight. `size` is sizeof(struct luks_keyslot), else this is
+ * LUKS_USAGE; `count` tells how many there are, at most LUKS_KEYSLOTS, also with LUKS_ROOM, where there is room for fewer. What else the header says, its segments, digests
+ * and tokens, the object of luks_read has. */
+uint32_t luks_keyslots(int fd, uint64_t offset, uint64_t length, struct luks_keyslot *keyslots, size_t size, size_t room, size_t *count);
 
 /* The first keyslot that the passphrase opens, with Argon2 taking up to `memory` KiB for each. Where `older` isn't 0 the ciphers
  * and hashes of older disks are accepted (docs/PROFILE.md): key areas in aes-cbc-essiv:sha256, aes-cbc-plain and aes-cbc-plain64,
