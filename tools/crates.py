@@ -26,10 +26,16 @@ def libraries():
 
 def below(uses, top):
     """The crates that `top` stands on, the lowest first."""
-    found = []
-    for low in uses[top]:
-        found += [it for it in [*below(uses, low), low] if it not in found]
-    return found
+    found = {}
+
+    def reach(crate):
+        for low in uses[crate]:
+            if low not in found:
+                reach(low)
+                found[low] = None
+
+    reach(top)
+    return [*found]
 
 
 def above(uses, lows):

@@ -308,8 +308,8 @@ pub(crate) fn next(fault: Fault) -> &'static str {
        where luks check says that metadata is whole, and of what is left of one
        of LUKS1, as after wipefs; else restore a header backup; who has the
        volume key, of a mapping that is open or by luks key, reads the data
-       without one (RESCUE), and luks open --key tells by which header it is
-       the one"
+       without one (RESCUE), and luks open --key tells by which header it is the
+       one"
         }
         Fault::Version => {
             "luks rebuild makes a header of what is left of one of LUKS1, and of LUKS2
