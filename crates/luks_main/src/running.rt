@@ -81,9 +81,9 @@ fn run_words<R: AllocGlobal + Clock + Files<File = File> + Input + Print + Eprin
 ) -> io::Result<u8>
     ensures { IfOk result IsProgramStatus }
 {
-    match parse(rt.alloc(), words) {
-        Ok(asked) => run_asked(rt, &asked),
-        Err(fault) => tell_usage(rt, &fault),
+    match &parse(rt.alloc(), words) {
+        Ok(asked) => run_asked(rt, asked),
+        Err(fault) => tell_usage(rt, fault),
     }
 }
 
