@@ -2,7 +2,7 @@
 //! for. Its devices, which are still open, are read for it; where they can't be, or memory is refused, nothing
 //! is noted.
 ghost use Rattle.std.specs.Prelude.{◌≡◌, ◌≢◌, ◌+◌, ◌<◌, ◌^◌, IsTrue, None};
-ghost use Rattle.luks_guarded_files.specs.Cached.{cached_failures, missed_by};
+ghost use Rattle.luks_guarded_files.specs.Cached.{missed_by};
 ghost use Rattle.luks_commands.specs.Answer.{answer_status};
 
 use crate::refusals::fault_of;
@@ -49,13 +49,18 @@ pub(crate) fn use_before<R: AllocGlobal + Clock + Files<File = File>>(
     rt: &R,
     line: &Line<'_>,
 ) -> Option<OtherUse> {
-    let Command::Edit(editing) = line.command else {
-        return None;
-    };
-    if !editing.over {
+    if !writes_over(&line.command) {
         return None;
     }
     standing_use(&mut reopened(rt, line.volume, line.place)?)
+}
+
+/// Whether the command is an edit that may write over another use of the disk.
+fn writes_over(command: &Command<'_>) -> bool {
+    match command {
+        Command::Edit(editing) => editing.over,
+        _ => false,
+    }
 }
 
 /// Notes that an edit that is done has written over this use of the disk.
@@ -85,25 +90,42 @@ pub(crate) fn tell_ended(
     target: &mut Result<Volume, InputFault>,
     notes: &mut Vec<u8>,
 ) {
-    let refused = ended.fault();
     if let Ok(device) = volume {
-        tell_instead(device, line.volume, refused, notes);
-        tell_more(alloc, line, ended, device, target, notes);
+        tell_opened(alloc, line, ended, device, target, notes);
         tell_missed(device, line.volume, notes);
     }
-    if let (Ok(device), Some(name)) = (target, line.target().or(line.backup())) {
-        tell_missed(device, name, notes);
+    if let Some(name) = line.target().or(line.backup()) {
+        if let Ok(device) = target {
+            tell_missed(device, name, notes);
+        }
     }
-    if let Some(fault) = refused {
+    tell_next(line.volume, ended, notes);
+}
+
+/// Notes what tells more of a refusal, or what is to be tried where memory was refused and nothing said so.
+fn tell_next(volume: &str, ended: &Ended<'_>, notes: &mut Vec<u8>) {
+    if let Some(fault) = ended.fault() {
         let name = fault.name();
         let _ = writeln!(notes, "luks: luks explain {name} says what to try next");
     } else if ended.is_silent && matches!(ended.answer, Answer::NoMemory) {
-        let volume = line.volume;
         let _ = writeln!(
             notes,
             "luks: {volume}: memory was refused: end other programs, or try it on a machine with more"
         );
     }
+}
+
+/// Notes what is to be known of a volume that was opened: what stands in the place of its header, and all else.
+fn tell_opened<D: Device>(
+    alloc: Global,
+    line: &Line<'_>,
+    ended: &Ended<'_>,
+    volume: &mut D,
+    target: &mut Result<D, InputFault>,
+    notes: &mut Vec<u8>,
+) {
+    tell_instead(volume, line.volume, ended.fault(), notes);
+    tell_more(alloc, line, ended, volume, target, notes);
 }
 
 /// Notes which bytes of the file couldn't be read, if some were missed: the first range, counted from the
@@ -121,8 +143,8 @@ fn tell_missed(device: &Volume, file: &str, notes: &mut Vec<u8>)
 }
 
 /// Whether the device can be read once more: fewer of its calls have failed than can be counted.
-fn has_room(device: &Volume) -> bool
-    ensures { IsTrue result → cached_failures device.now + 1 < 2 ^ 64 }
+fn has_room<D: Device>(device: &D) -> bool
+    ensures { IsTrue result → D.failed device.now + 1 < 2 ^ 64 }
 {
     device.failures() < u64::MAX - 1
 }
@@ -131,50 +153,82 @@ fn has_room(device: &Volume) -> bool
 /// metadata of a volume is whole of which no header counts, what else its disk is used for where only
 /// one copy is sound, of which metadata a header was made or which keyslots it has lost, and that
 /// there is no keyslot, or why none opens.
-fn tell_more(
+fn tell_more<D: Device>(
     alloc: Global,
     line: &Line<'_>,
     ended: &Ended<'_>,
-    volume: &mut Volume,
-    target: &mut Result<Volume, InputFault>,
+    volume: &mut D,
+    target: &mut Result<D, InputFault>,
     notes: &mut Vec<u8>,
 ) {
     if !has_room(volume) {
         return;
     }
-    let name = line.volume;
-    match (line.command, ended.answer.status()) {
-        (Command::Format(_), Status::Done) => {
-            tell_leftovers(alloc, volume, name, line.place.offset, notes)
+    match ended.answer.status() {
+        Status::Done => tell_done(alloc, line, volume, target, notes),
+        Status::NotInStep => {
+            if let Command::Check { payload: _ } = &line.command {
+                note_other_use(volume, line.volume, notes);
+            }
         }
-        (Command::Convert(converting), Status::Done) => {
-            tell_target(alloc, target, converting.target, notes)
+        Status::Refused => tell_refused(alloc, line, ended, volume, notes),
+        Status::Fault => {}
+    }
+}
+
+/// The same of a command that is done.
+fn tell_done<D: Device>(
+    alloc: Global,
+    line: &Line<'_>,
+    volume: &mut D,
+    target: &mut Result<D, InputFault>,
+    notes: &mut Vec<u8>,
+)
+    requires { D.failed volume.old + 1 < 2 ^ 64 }
+{
+    match &line.command {
+        Command::Format(_) => tell_leftovers(alloc, volume, line.volume, line.place.offset, notes),
+        Command::Convert(converting) => tell_target(alloc, target, converting.target, notes),
+        Command::Rebuild(rebuilding) => tell_rebuilt(alloc, rebuilding, volume, target, notes),
+        _ => {}
+    }
+}
+
+/// The same of one that is refused, or by which none opens.
+fn tell_refused<D: Device>(
+    alloc: Global,
+    line: &Line<'_>,
+    ended: &Ended<'_>,
+    volume: &mut D,
+    notes: &mut Vec<u8>,
+)
+    requires { D.failed volume.old + 1 < 2 ^ 64 }
+{
+    match &line.command {
+        Command::Check { payload: _ } | Command::Show(_) => note_whole(alloc, volume, notes),
+        Command::Open { .. } | Command::KeepKey(_) => {
+            if matches!(ended.answer, Answer::NoneOpens) {
+                tell_unopened(alloc, volume, line.volume, notes);
+            }
         }
-        (Command::Rebuild(rebuilding), Status::Done) => {
-            tell_rebuilt(alloc, &rebuilding, volume, target, notes)
+        Command::Rebuild(rebuilding) => {
+            if matches!(ended.fault(), Some(Fault::NoMetadata)) {
+                note_untried(alloc, volume, copies_asked(rebuilding), notes);
+            }
         }
-        (Command::Rebuild(rebuilding), Status::Refused)
-            if matches!(ended.fault(), Some(Fault::NoMetadata)) => {
-            note_untried(alloc, volume, copies_asked(&rebuilding), notes)
+        Command::Edit(_) | Command::Format(_) => {
+            if matches!(ended.fault(), Some(Fault::Argon2)) {
+                tell_wanted(line, volume, notes);
+            }
         }
-        (Command::Check { payload: _ }, Status::NotInStep) => note_other_use(volume, name, notes),
-        (Command::Check { payload: _ } | Command::Show(_), Status::Refused) => {
-            note_whole(alloc, volume, notes)
-        }
-        (Command::Open { .. } | Command::KeepKey(_), Status::Refused)
-            if matches!(ended.answer, Answer::NoneOpens) => {
-            tell_unopened(alloc, volume, name, notes)
-        }
-        (Command::Edit(_) | Command::Format(_), Status::Refused)
-            if matches!(ended.fault(), Some(Fault::Argon2)) => { tell_wanted(line, volume, notes) }
         _ => {}
     }
 }
 
 /// Notes of the volume of this name, which no passphrase has opened, that it has no keyslot, or that another
 /// program has moved its key areas; where it has none, that the volume key is another way in.
-fn tell_unopened(alloc: Global, volume: &mut Volume, name: &str, notes: &mut Vec<u8>)
-    requires { cached_failures volume.old + 1 < 2 ^ 64 }
+fn tell_unopened<D: Device>(alloc: Global, volume: &mut D, name: &str, notes: &mut Vec<u8>)
+    requires { D.failed volume.old + 1 < 2 ^ 64 }
 {
     let said = notes.len();
     note_no_keyslots(alloc, volume, name, notes);
@@ -191,14 +245,14 @@ fn tell_unopened(alloc: Global, volume: &mut Volume, name: &str, notes: &mut Vec
 
 /// Notes of which metadata of the volume the header on the target was made, of the copies that were asked for,
 /// which keyslots are lost in it where it is of LUKS1, and what is left there.
-fn tell_rebuilt(
+fn tell_rebuilt<D: Device>(
     alloc: Global,
     rebuilding: &Rebuilding<'_>,
-    volume: &mut Volume,
-    target: &mut Result<Volume, InputFault>,
+    volume: &mut D,
+    target: &mut Result<D, InputFault>,
     notes: &mut Vec<u8>,
 )
-    requires { cached_failures volume.old + 1 < 2 ^ 64 }
+    requires { D.failed volume.old + 1 < 2 ^ 64 }
 {
     let meant = rebuilding.meant();
     if meant != Meant::Luks1 {
@@ -211,11 +265,11 @@ fn tell_rebuilt(
 }
 
 /// Notes of which metadata of the volume the LUKS2 header was made that stands on the target.
-fn tell_taken(
+fn tell_taken<D: Device>(
     alloc: Global,
     rebuilding: &Rebuilding<'_>,
-    volume: &mut Volume,
-    target: &mut Result<Volume, InputFault>,
+    volume: &mut D,
+    target: &mut Result<D, InputFault>,
     notes: &mut Vec<u8>,
 ) {
     let Ok(made) = target else {
@@ -227,7 +281,7 @@ fn tell_taken(
 }
 
 /// Notes which keyslots of the volume are lost in the LUKS1 header that was made of it, if that is one.
-fn tell_lost(volume: &mut Volume, target: &mut Result<Volume, InputFault>, notes: &mut Vec<u8>) {
+fn tell_lost<D: Device>(volume: &mut D, target: &mut Result<D, InputFault>, notes: &mut Vec<u8>) {
     let Ok(made) = target else {
         return;
     };
@@ -237,9 +291,9 @@ fn tell_lost(volume: &mut Volume, target: &mut Result<Volume, InputFault>, notes
 }
 
 /// Notes what was left on the target of this name, if it is there.
-fn tell_target(
+fn tell_target<D: Device>(
     alloc: Global,
-    target: &mut Result<Volume, InputFault>,
+    target: &mut Result<D, InputFault>,
     name: &str,
     notes: &mut Vec<u8>,
 ) {
@@ -253,7 +307,12 @@ fn tell_target(
 
 /// Notes what stands in the place of a header that is so refused. Of LUKS1 the bytes of the header alone are
 /// looked at, since what stands behind them may be older than it.
-fn tell_instead(device: &mut Volume, file: &str, refused: Option<Fault>, notes: &mut Vec<u8>) {
+fn tell_instead<D: Device>(
+    device: &mut D,
+    file: &str,
+    refused: Option<Fault>,
+    notes: &mut Vec<u8>,
+) {
     if !has_room(device) {
         return;
     }
@@ -269,8 +328,8 @@ const HEADER: u64 = 592;
 
 /// Notes that a volume is of LUKS1 and being reencrypted, or what stands there by a signature among its first
 /// bytes, of so many at most.
-fn tell_standing(device: &mut Volume, file: &str, most: u64, notes: &mut Vec<u8>)
-    requires { cached_failures device.old + 1 < 2 ^ 64 }
+fn tell_standing<D: Device>(device: &mut D, file: &str, most: u64, notes: &mut Vec<u8>)
+    requires { D.failed device.old + 1 < 2 ^ 64 }
 {
     match is_reencrypted(device) {
         Ok(true) => {
@@ -285,8 +344,8 @@ fn tell_standing(device: &mut Volume, file: &str, most: u64, notes: &mut Vec<u8>
 }
 
 /// Notes what stands there by its signature.
-fn tell_signature(device: &mut Volume, most: u64, file: &str, notes: &mut Vec<u8>)
-    requires { cached_failures device.old + 1 < 2 ^ 64 }
+fn tell_signature<D: Device>(device: &mut D, most: u64, file: &str, notes: &mut Vec<u8>)
+    requires { D.failed device.old + 1 < 2 ^ 64 }
 {
     let len = device.len().min(most);
     if let Ok(Some(found)) = first_use(device, len) {
@@ -296,8 +355,8 @@ fn tell_signature(device: &mut Volume, most: u64, file: &str, notes: &mut Vec<u8
 
 /// Notes how much memory a new keyslot takes, where more than is allowed; of an edit of LUKS1 that there is
 /// none by Argon2.
-fn tell_wanted(line: &Line<'_>, device: &mut Volume, notes: &mut Vec<u8>)
-    requires { cached_failures device.old + 1 < 2 ^ 64 }
+fn tell_wanted<D: Device>(line: &Line<'_>, device: &mut D, notes: &mut Vec<u8>)
+    requires { D.failed device.old + 1 < 2 ^ 64 }
 {
     let Some((AskedKdf::Argon2(asked), allowed)) = asked_kdf(&line.command) else {
         return;
@@ -319,8 +378,8 @@ fn tell_wanted(line: &Line<'_>, device: &mut Volume, notes: &mut Vec<u8>)
 }
 
 /// Whether a LUKS1 header stands there, by its magic.
-fn is_luks1(device: &mut Volume) -> bool
-    requires { cached_failures device.old + 1 < 2 ^ 64 }
+fn is_luks1<D: Device>(device: &mut D) -> bool
+    requires { D.failed device.old + 1 < 2 ^ 64 }
 {
     let mut head = [0u8; 8];
     device.len() >= 8
@@ -330,11 +389,11 @@ fn is_luks1(device: &mut Volume) -> bool
 
 /// What a new keyslot is asked to derive by, and how many MiB of memory are allowed for it.
 fn asked_kdf(command: &Command<'_>) -> Option<(AskedKdf, u32)> {
-    match *command {
+    match command {
         Command::Format(making) => Some((making.kdf?, making.memory)),
-        Command::Edit(editing) => match editing.request {
+        Command::Edit(editing) => match &editing.request {
             EditRequest::Add { kdf, memory, .. } | EditRequest::Change { kdf, memory, .. } => {
-                Some((kdf?, memory))
+                Some(((*kdf)?, *memory))
             }
             _ => None,
         },
@@ -344,8 +403,14 @@ fn asked_kdf(command: &Command<'_>) -> Option<(AskedKdf, u32)> {
 
 /// Notes what was left on this device, which begins there in the file of this name, where a header was made of
 /// what stood there before, or why it wasn't looked for.
-fn tell_leftovers(alloc: Global, device: &mut Volume, file: &str, offset: u64, notes: &mut Vec<u8>)
-    requires { cached_failures device.old + 1 < 2 ^ 64 }
+fn tell_leftovers<D: Device>(
+    alloc: Global,
+    device: &mut D,
+    file: &str,
+    offset: u64,
+    notes: &mut Vec<u8>,
+)
+    requires { D.failed device.old + 1 < 2 ^ 64 }
 {
     let why = match note_front(alloc, device, file, offset, notes) {
         Ok(()) => return,
@@ -359,14 +424,14 @@ fn tell_leftovers(alloc: Global, device: &mut Volume, file: &str, offset: u64, n
 }
 
 /// The same, or why it isn't looked for. Where no header counts it notes nothing.
-fn note_front(
+fn note_front<D: Device>(
     alloc: Global,
-    device: &mut Volume,
+    device: &mut D,
     file: &str,
     offset: u64,
     notes: &mut Vec<u8>,
 ) -> Result<(), FrontFault>
-    requires { cached_failures device.old + 1 < 2 ^ 64 }
+    requires { D.failed device.old + 1 < 2 ^ 64 }
 {
     if let Some(own) = header_end(device)? {
         let front = read_front(alloc, device)?;

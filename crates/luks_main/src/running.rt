@@ -1,5 +1,5 @@
 //! The command line, and what is done for it.
-ghost use Rattle.std.specs.Prelude.{◌≡◌, ◌↔◌, ◌+◌, ◌<◌, ◌^◌, IfOk, IfSome, IsNone, IsOk, IsSome};
+ghost use Rattle.std.specs.Prelude.{◌≡◌, ◌↔◌, ◌+◌, ◌<◌, ◌^◌, IfOk, IfSome, IsNone, IsOk, IsSome, false};
 ghost use Rattle.luks_guarded_files.specs.Cached.{cached_failures};
 ghost use Rattle.luks_commands.specs.Exit.{IsExitStatus};
 ghost use Rattle.luks_guarded_files.specs.Lazy.{file_name};
@@ -81,9 +81,9 @@ fn run_words<R: AllocGlobal + Clock + Files<File = File> + Input + Print + Eprin
 ) -> io::Result<u8>
     ensures { IfOk result IsProgramStatus }
 {
-    match parse(rt.alloc(), words) {
-        Ok(asked) => run_asked(rt, &asked),
-        Err(fault) => tell_usage(rt, &fault),
+    match &parse(rt.alloc(), words) {
+        Ok(asked) => run_asked(rt, asked),
+        Err(fault) => tell_usage(rt, fault),
     }
 }
 
@@ -312,7 +312,8 @@ fn print_lines<P: Printer>(
     Some(outcome.print_lines(alloc, out))
 }
 
-/// Notes what is to be known of how the command has ended, beside what it noted itself, where that is wanted.
+/// Notes what is to be known of how the command has ended, beside what it noted itself, where that is wanted; else no
+/// file is read for it.
 fn note_ended<R: Files<File = File>>(
     alloc: Global,
     line: &Line<'_>,
@@ -321,7 +322,8 @@ fn note_ended<R: Files<File = File>>(
     outcome: &mut Outcome,
     is_wanted: bool,
 )
-    ensures { outcome.new.answer ≡ outcome.old.answer }
+    ensures answer { outcome.new.answer ≡ outcome.old.answer }
+    ensures unasked { is_wanted ≡ false → inputs.new ≡ inputs.old }
 {
     if !is_wanted {
         return;
