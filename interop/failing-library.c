@@ -73,6 +73,22 @@ static uint32_t edited(int fd, uint32_t kind, const struct given *random)
     return luks_apply(fd, ALL, false, &edit, "one", 3, text, strlen(text), random->bytes, needed < random->count ? (size_t)needed : random->count, &slot);
 }
 
+/* All records of the header: a fault is that of the first call. */
+static uint32_t records(int fd)
+{
+    struct luks_keyslot keyslots[LUKS_KEYSLOTS];
+    struct luks_segment segments[LUKS_KEYSLOTS];
+    struct luks_digest digests[LUKS_KEYSLOTS];
+    struct luks_token tokens[LUKS_KEYSLOTS];
+    size_t count;
+    uint32_t answer = luks_keyslots(fd, ALL, keyslots, sizeof *keyslots, LUKS_KEYSLOTS, &count);
+    if (answer == LUKS_DONE)
+        answer = luks_segments(fd, ALL, segments, sizeof *segments, LUKS_KEYSLOTS, &count);
+    if (answer == LUKS_DONE)
+        answer = luks_digests(fd, ALL, digests, sizeof *digests, LUKS_KEYSLOTS, &count);
+    return answer == LUKS_DONE ? luks_tokens(fd, ALL, tokens, sizeof *tokens, LUKS_KEYSLOTS, &count) : answer;
+}
+
 static uint32_t called(const char *call, int fd, int other, const struct given *random)
 {
     struct luks_report report = {.size = sizeof report};
@@ -87,6 +103,8 @@ static uint32_t called(const char *call, int fd, int other, const struct given *
         return luks_check(fd, ALL, false, &report);
     if (strcmp(call, "read") == 0)
         return luks_read(fd, ALL, json, sizeof json, &bytes);
+    if (strcmp(call, "records") == 0)
+        return records(fd);
     if (strcmp(call, "unlock") == 0)
         return luks_unlock(fd, ALL, "two", 3, 0, 0, key, sizeof key, &opened);
     if (strcmp(call, "open") == 0)
@@ -176,7 +194,7 @@ static uint64_t window(uint64_t most)
 
 static int at_random(int fd, int other, const struct given *random, uint64_t seed, unsigned long count)
 {
-    static const char *const calls[] = {"check", "read", "unlock", "open", "try", "meets", "signature", "find", "add", "change", "remove", "label", "repair", "format1",
+    static const char *const calls[] = {"check", "read", "records", "unlock", "open", "try", "meets", "signature", "find", "add", "change", "remove", "label", "repair", "format1",
                                         "format2", "convert", "rebuild", "length", "backup", "restore", "compare"};
     unsigned long answered[256] = {0};
     state = seed;

@@ -19,11 +19,15 @@
 #include <time.h>
 #include <unistd.h>
 
-/* How many bytes are read at once, at first: the heads of both copies as cryptsetup lays them out, and the first key areas. Each
- * asking reads twice as many as the one before, so that few calls are made. */
+/* How many bytes are read where a call asks first: the heads of both copies as cryptsetup lays them out, and with them two key areas. At each other place half
+ * as many are read as at the one before, and behind what was read as many again, so that few calls are made and some 1 MiB is held that isn't needed. */
 #define HEADS ((uint64_t)1 << 16)
-#define WITH_KEY_AREAS ((uint64_t)1 << 20)
-#define MOST_AHEAD ((uint64_t)1 << 24)
+#define WITH_KEY_AREAS ((uint64_t)544 << 10)
+#define LEAST_AHEAD ((uint64_t)1 << 12)
+#define MOST_AHEAD ((uint64_t)1 << 20)
+
+/* The most that one call of pread is asked for. */
+#define MOST_AT_ONCE ((uint64_t)1 << 24)
 
 /* What a disk reads at once, or not. */
 #define SECTOR ((uint64_t)512)
@@ -126,7 +130,7 @@ static int read_all(int fd, uint8_t *into, size_t count, uint64_t at)
  * again by smaller pieces, none of which lies in two sectors at last. The file's end is a failure. */
 static size_t read_some(int fd, uint8_t *into, size_t count, uint64_t at)
 {
-    uint64_t piece = MOST_AHEAD;
+    uint64_t piece = MOST_AT_ONCE;
     size_t done = 0;
     while (done < count) {
         uint64_t place = at + done;
@@ -203,25 +207,36 @@ static size_t range_behind(const struct held *held, uint64_t place, size_t *befo
     return i;
 }
 
+/* Up to where is read at the place, before which so many ranges are held: as far again as what ends there, or else half as far as the time before. */
+static uint64_t reading_end(struct held *held, uint64_t place, size_t i)
+{
+    uint64_t ahead = held->ahead;
+    if (i > 0 && held->ranges[i - 1].at + held->ranges[i - 1].len == place)
+        ahead = least(held->ranges[i - 1].len, MOST_AHEAD);
+    else
+        held->ahead = ahead / 2 > LEAST_AHEAD ? ahead / 2 : LEAST_AHEAD;
+    return place + least(ahead, held->total - place);
+}
+
 /* Holds the range too that a call asked for; LUKS_BEYOND where it may be made again. */
 static uint32_t hold_more(struct held *held, struct luks_range wanted)
 {
     uint64_t needed = wanted.at + wanted.len, place = wanted.at;
+    size_t before, i = range_behind(held, place, &before);
+    uint64_t ahead = reading_end(held, place, i);
     while (place < needed) {
-        size_t before, i = range_behind(held, place, &before);
+        i = range_behind(held, place, &before);
         uint64_t gap_end = i < held->ranges_count ? held->ranges[i].at : held->total;
         if (gap_end <= place) {
             place = held->ranges[i].at + held->ranges[i].len;
             continue;
         }
-        uint64_t ahead = least(held->ahead, held->total - place) + place;
         uint64_t most = least(ahead > needed ? ahead : needed, gap_end);
         uint32_t answer = read_gap(held, i, before, place, least(needed, gap_end), most);
         if (answer != LUKS_DONE)
             return answer;
         place = most;
     }
-    held->ahead = held->ahead < MOST_AHEAD ? held->ahead * 2 : held->ahead;
     return LUKS_BEYOND;
 }
 
@@ -361,16 +376,21 @@ uint32_t luks_read(int fd, uint64_t offset, uint64_t length, char *json, size_t 
     return answer;
 }
 
-/* ---- keyslots as records, of the object of luks_read ---- */
+/* ---- what the header says as records, of the object of luks_read ---- */
 
 /* What is left of the object's text, which this library wrote: no space stands between its parts. */
 struct text {
     const char *at, *end;
 };
 
+static bool is_at_sign(const struct text *text, char sign)
+{
+    return text->at < text->end && *text->at == sign;
+}
+
 static bool take(struct text *text, char sign)
 {
-    bool is_there = text->at < text->end && *text->at == sign;
+    bool is_there = is_at_sign(text, sign);
     text->at += is_there;
     return is_there;
 }
@@ -387,13 +407,38 @@ static bool take_string(struct text *text, struct text *string)
     return take(text, '"');
 }
 
+static bool take_number(struct text *text, uint64_t *number)
+{
+    const char *from = text->at;
+    *number = 0;
+    while (text->at < text->end && *text->at >= '0' && *text->at <= '9')
+        *number = *number * 10 + (uint64_t)(*text->at++ - '0');
+    return text->at > from;
+}
+
+/* An array of numbers, each as a bit. */
+static bool take_set(struct text *text, uint64_t *bits)
+{
+    uint64_t number;
+    *bits = 0;
+    if (!take(text, '['))
+        return false;
+    while (!take(text, ']')) {
+        if (!take_number(text, &number))
+            return false;
+        *bits |= number < 64 ? (uint64_t)1 << number : 0;
+        (void)take(text, ',');
+    }
+    return true;
+}
+
 /* Whatever value stands there. */
 static bool skip_value(struct text *text)
 {
     struct text string;
     size_t depth = 0;
     do {
-        if (text->at < text->end && *text->at == '"') {
+        if (is_at_sign(text, '"')) {
             if (!take_string(text, &string))
                 return false;
         } else if (take(text, '{') || take(text, '[')) {
@@ -423,102 +468,218 @@ static bool next_member(struct text *text, struct text *name)
     return !take(text, '}') && take_string(text, name) && take(text, ':');
 }
 
-static uint64_t number_at(struct text *text)
-{
-    uint64_t number = 0;
-    while (text->at < text->end && *text->at >= '0' && *text->at <= '9')
-        number = number * 10 + (uint64_t)(*text->at++ - '0');
-    return number;
-}
-
-/* Where the numbers of a keyslot's object stand in the struct, and its texts. */
-#define OF(field) offsetof(struct luks_keyslot, field)
-static const struct {
+/* A member of an object, or of one within it, as a field of a record: a number, which is the greatest where a text stands there; a text, as much as fits; a
+ * text out of a list, by its place in that; an array of numbers, each as a bit. */
+enum how { NUMBER, TEXT, WORD, SET };
+struct field {
     const char *within, *name;
+    enum how how;
     size_t at, bytes;
-} NUMBERS[] = {
-    {"", "number", OF(number), 4}, {"", "priority", OF(priority), 4}, {"", "digest", OF(digest), 4}, {"", "key_bytes", OF(key_bytes), 4},
-    {"area", "offset", OF(offset), 8}, {"area", "size", OF(bytes), 8}, {"area", "key_bytes", OF(area_key_bytes), 4},
-    {"kdf", "iterations", OF(turns), 4}, {"kdf", "time", OF(turns), 4}, {"kdf", "memory", OF(memory), 4}, {"kdf", "cpus", OF(lanes), 4},
-    {"splitter", "stripes", OF(stripes), 4},
-}, TEXTS[] = {
-    {"area", "cipher", OF(cipher), sizeof ((struct luks_keyslot *)NULL)->cipher}, {"kdf", "hash", OF(hash), sizeof ((struct luks_keyslot *)NULL)->hash},
+    const char *const *words;
+};
+#define AT(record, field) offsetof(struct record, field), sizeof ((struct record *)NULL)->field
+
+static const char *const STATES[] = {"disabled", "enabled", NULL};
+static const char *const DERIVATIONS[] = {"", "pbkdf2", "argon2i", "argon2id", NULL};
+static const char *const SEGMENT_KINDS[] = {"", "crypt", "linear", NULL};
+
+static const struct field OF_KEYSLOT[] = {
+    {"", "number", NUMBER, AT(luks_keyslot, number), NULL},
+    {"", "state", WORD, AT(luks_keyslot, is_enabled), STATES},
+    {"", "priority", NUMBER, AT(luks_keyslot, priority), NULL},
+    {"", "digest", NUMBER, AT(luks_keyslot, digest), NULL},
+    {"", "key_bytes", NUMBER, AT(luks_keyslot, key_bytes), NULL},
+    {"kdf", "type", WORD, AT(luks_keyslot, kdf), DERIVATIONS},
+    {"kdf", "iterations", NUMBER, AT(luks_keyslot, turns), NULL},
+    {"kdf", "time", NUMBER, AT(luks_keyslot, turns), NULL},
+    {"kdf", "memory", NUMBER, AT(luks_keyslot, memory), NULL},
+    {"kdf", "cpus", NUMBER, AT(luks_keyslot, lanes), NULL},
+    {"kdf", "hash", TEXT, AT(luks_keyslot, hash), NULL},
+    {"area", "key_bytes", NUMBER, AT(luks_keyslot, area_key_bytes), NULL},
+    {"area", "offset", NUMBER, AT(luks_keyslot, offset), NULL},
+    {"area", "size", NUMBER, AT(luks_keyslot, bytes), NULL},
+    {"area", "cipher", TEXT, AT(luks_keyslot, cipher), NULL},
+    {"splitter", "stripes", NUMBER, AT(luks_keyslot, stripes), NULL},
+    {0},
+};
+static const struct field OF_SEGMENT[] = {
+    {"", "number", NUMBER, AT(luks_segment, number), NULL},
+    {"", "type", WORD, AT(luks_segment, kind), SEGMENT_KINDS},
+    {"", "offset", NUMBER, AT(luks_segment, offset), NULL},
+    {"", "size", NUMBER, AT(luks_segment, bytes), NULL},
+    {"", "iv_tweak", NUMBER, AT(luks_segment, iv_tweak), NULL},
+    {"", "sector_size", NUMBER, AT(luks_segment, sector_bytes), NULL},
+    {"", "cipher", TEXT, AT(luks_segment, cipher), NULL},
+    {0},
+};
+static const struct field OF_DIGEST[] = {
+    {"", "number", NUMBER, AT(luks_digest, number), NULL},
+    {"", "iterations", NUMBER, AT(luks_digest, iterations), NULL},
+    {"", "keyslots", SET, AT(luks_digest, keyslots), NULL},
+    {"", "segments", SET, AT(luks_digest, segments), NULL},
+    {"", "hash", TEXT, AT(luks_digest, hash), NULL},
+    {0},
+};
+static const struct field OF_TOKEN[] = {
+    {"", "number", NUMBER, AT(luks_token, number), NULL},
+    {"", "keyslots", SET, AT(luks_token, keyslots), NULL},
+    {"", "type", TEXT, AT(luks_token, kind), NULL},
+    {0},
 };
 
-static void keep_number(struct luks_keyslot *keyslot, const char *within, const struct text *name, uint64_t number)
+/* What the object itself says of a LUKS1 header, beside its keyslots. */
+struct luks1 {
+    uint32_t version, iterations;
+    uint64_t payload;
+    char cipher_name[32], cipher_mode[32], hash[32];
+};
+static const struct field OF_LUKS1[] = {
+    {"", "version", NUMBER, AT(luks1, version), NULL},
+    {"", "payload_offset", NUMBER, AT(luks1, payload), NULL},
+    {"", "cipher_name", TEXT, AT(luks1, cipher_name), NULL},
+    {"", "cipher_mode", TEXT, AT(luks1, cipher_mode), NULL},
+    {"", "hash", TEXT, AT(luks1, hash), NULL},
+    {"digest", "iterations", NUMBER, AT(luks1, iterations), NULL},
+    {0},
+};
+
+static void put_number(const struct field *field, uint8_t *record, uint64_t number)
 {
     uint32_t narrow = (uint32_t)number;
-    for (size_t i = 0; i < sizeof NUMBERS / sizeof *NUMBERS; i++)
-        if (strcmp(NUMBERS[i].within, within) == 0 && is_named(name, NUMBERS[i].name))
-            memcpy((char *)keyslot + NUMBERS[i].at, NUMBERS[i].bytes == 8 ? (const void *)&number : &narrow, NUMBERS[i].bytes);
+    memcpy(record + field->at, field->bytes == sizeof number ? (const void *)&number : &narrow, field->bytes);
 }
 
-static void keep_text(struct luks_keyslot *keyslot, const char *within, const struct text *name, const struct text *text)
+static void put_string(const struct field *field, uint8_t *record, const struct text *string)
 {
-    static const char *const kinds[] = {"", "pbkdf2", "argon2i", "argon2id"};
-    for (size_t i = 0; i < sizeof TEXTS / sizeof *TEXTS; i++)
-        if (strcmp(TEXTS[i].within, within) == 0 && is_named(name, TEXTS[i].name))
-            memcpy((char *)keyslot + TEXTS[i].at, text->at, (size_t)least((uint64_t)(text->end - text->at), TEXTS[i].bytes - 1));
-    if (strcmp(within, "") == 0 && is_named(name, "state"))
-        keyslot->is_enabled = is_named(text, "enabled");
-    for (uint32_t i = 1; i < 4; i++)
-        if (strcmp(within, "kdf") == 0 && is_named(name, "type") && is_named(text, kinds[i]))
-            keyslot->kdf = i;
+    if (field->how == TEXT)
+        memcpy(record + field->at, string->at, (size_t)least((uint64_t)(string->end - string->at), field->bytes - 1));
+    else if (field->how == NUMBER)
+        put_number(field, record, UINT64_MAX);
+    for (uint32_t i = 0; field->how == WORD && field->words[i] != NULL; i++)
+        if (is_named(string, field->words[i]))
+            put_number(field, record, i);
 }
 
-/* Keeps what stands in the keyslot's object, or in one of the three within it. */
-static bool keep_object(struct text *text, const char *within, struct luks_keyslot *keyslot)
+/* Keeps the value that stands there. */
+static bool keep_value(struct text *text, const struct field *field, uint8_t *record)
 {
-    static const char *const parts[] = {"area", "kdf", "splitter"};
-    struct text name, string;
+    struct text string;
+    uint64_t number = 0;
+    if (is_at_sign(text, '"')) {
+        if (!take_string(text, &string))
+            return false;
+        put_string(field, record, &string);
+        return true;
+    }
+    if (field->how == SET ? take_set(text, &number) : field->how == NUMBER && take_number(text, &number)) {
+        put_number(field, record, number);
+        return true;
+    }
+    return skip_value(text);
+}
+
+/* Keeps what the object says, and the objects within it, but for arrays of objects. */
+static bool keep_object(struct text *text, const char *within, const struct field *fields, uint8_t *record)
+{
+    static const char *const parts[] = {"area", "digest", "kdf", "splitter"};
+    struct text name;
     while (next_member(text, &name)) {
         const char *part = NULL;
-        for (size_t i = 0; i < sizeof parts / sizeof *parts; i++)
-            if (*within == 0 && is_named(&name, parts[i]))
+        const struct field *found = NULL;
+        for (size_t i = 0; *within == 0 && is_at_sign(text, '{') && i < sizeof parts / sizeof *parts; i++)
+            if (is_named(&name, parts[i]))
                 part = parts[i];
-        bool is_read = true;
-        if (part != NULL)
-            is_read = keep_object(text, part, keyslot);
-        else if (text->at < text->end && *text->at >= '0' && *text->at <= '9')
-            keep_number(keyslot, within, &name, number_at(text));
-        else if (text->at < text->end && *text->at == '"' && (is_read = take_string(text, &string)))
-            keep_text(keyslot, within, &name, &string);
-        else
-            is_read = is_read && skip_value(text);
-        if (!is_read)
+        for (const struct field *field = fields; field->name != NULL; field++)
+            if (strcmp(field->within, within) == 0 && is_named(&name, field->name))
+                found = field;
+        if (!(part != NULL ? keep_object(text, part, fields, record) : found != NULL ? keep_value(text, found, record) : skip_value(text)))
             return false;
     }
     return true;
 }
 
-/* The keyslots of the whole object: how many, and those for which there is room. */
-static size_t keep_keyslots(struct text *text, struct luks_keyslot *keyslots, size_t room)
+/* Records of one kind: the array's name, their size, and what stands in one of which nothing is said. */
+struct shape {
+    const char *array;
+    const struct field *fields;
+    size_t bytes;
+    const void *empty;
+};
+static const struct luks_keyslot NO_KEYSLOT = {.priority = 1};
+static const struct luks_segment NO_SEGMENT = {0};
+static const struct luks_digest NO_DIGEST = {0};
+static const struct luks_token NO_TOKEN = {0};
+static const struct shape KEYSLOTS = {"keyslots", OF_KEYSLOT, sizeof NO_KEYSLOT, &NO_KEYSLOT};
+static const struct shape SEGMENTS = {"segments", OF_SEGMENT, sizeof NO_SEGMENT, &NO_SEGMENT};
+static const struct shape DIGESTS = {"digests", OF_DIGEST, sizeof NO_DIGEST, &NO_DIGEST};
+static const struct shape TOKENS = {"tokens", OF_TOKEN, sizeof NO_TOKEN, &NO_TOKEN};
+
+_Static_assert(sizeof(struct luks_keyslot) <= 256, "the largest of these");
+
+/* The records of an array of objects: how many, and those for which there is room. */
+static size_t keep_array(struct text *text, const struct shape *shape, uint8_t *records, size_t room)
 {
-    struct text name;
+    uint8_t nowhere[256];
     size_t count = 0;
-    while (next_member(text, &name))
-        if (!is_named(&name, "keyslots")) {
-            if (!skip_value(text))
-                break;
-        } else {
-            while (take(text, '[') || take(text, ',')) {
-                struct luks_keyslot keyslot = {.priority = 1};
-                if (take(text, ']') || !keep_object(text, "", &keyslot))
-                    return count;
-                if (count < room)
-                    keyslots[count] = keyslot;
-                count++;
-            }
-            return count;
-        }
+    for (; (take(text, '[') || take(text, ',')) && !is_at_sign(text, ']'); count++) {
+        uint8_t *record = count < room ? records + count * shape->bytes : nowhere;
+        memcpy(record, shape->empty, shape->bytes);
+        if (!keep_object(text, "", shape->fields, record))
+            break;
+    }
     return count;
 }
 
-uint32_t luks_keyslots(int fd, uint64_t offset, uint64_t length, struct luks_keyslot *keyslots, size_t size, size_t room, size_t *count)
+/* The records of the whole object; none where it has no such array. */
+static size_t keep_records(struct text text, const struct shape *shape, void *records, size_t room)
+{
+    struct text name;
+    while (next_member(&text, &name)) {
+        if (is_named(&name, shape->array))
+            return keep_array(&text, shape, records, room);
+        if (!skip_value(&text))
+            break;
+    }
+    return 0;
+}
+
+/* The one segment of a LUKS1 volume. */
+static void segment_of_luks1(const struct luks1 *told, struct luks_segment *segment)
+{
+    *segment = (struct luks_segment){.kind = LUKS_CRYPT, .sector_bytes = 512, .offset = told->payload, .bytes = LUKS_TO_END};
+    snprintf(segment->cipher, sizeof segment->cipher, "%.31s-%.31s", told->cipher_name, told->cipher_mode);
+}
+
+/* Its one digest, which is that of all keyslots in use. */
+static void digest_of_luks1(const struct luks1 *told, struct text text, struct luks_digest *digest)
+{
+    struct luks_keyslot keyslots[LUKS_KEYSLOTS];
+    size_t count = keep_records(text, &KEYSLOTS, keyslots, LUKS_KEYSLOTS);
+    *digest = (struct luks_digest){.iterations = told->iterations, .segments = 1};
+    memcpy(digest->hash, told->hash, sizeof digest->hash);
+    for (size_t i = 0; i < count && i < LUKS_KEYSLOTS; i++)
+        digest->keyslots |= keyslots[i].is_enabled ? (uint32_t)1 << keyslots[i].number : 0;
+}
+
+/* The records of the object, and of a LUKS1 header those that its members stand for. */
+static size_t records_of(struct text text, const struct shape *shape, void *records, size_t room)
+{
+    struct luks1 told = {0};
+    struct text whole = text;
+    if (!keep_object(&whole, "", OF_LUKS1, (uint8_t *)&told) || told.version != 1 || (shape != &SEGMENTS && shape != &DIGESTS))
+        return keep_records(text, shape, records, room);
+    if (room > 0 && shape == &SEGMENTS)
+        segment_of_luks1(&told, records);
+    else if (room > 0)
+        digest_of_luks1(&told, text, records);
+    return 1;
+}
+
+static uint32_t read_records(int fd, uint64_t offset, uint64_t length, const struct shape *shape, void *records, size_t size, size_t room, size_t *count)
 {
     uint64_t bytes = HEADS;
     char *json = NULL;
-    if (count == NULL || size != sizeof *keyslots || (keyslots == NULL && room > 0))
+    if (count == NULL || size != shape->bytes || (records == NULL && room > 0))
         return LUKS_USAGE;
     *count = 0;
     uint32_t answer = LUKS_ROOM;
@@ -531,14 +692,33 @@ uint32_t luks_keyslots(int fd, uint64_t offset, uint64_t length, struct luks_key
             answer = luks_read(fd, offset, length, json = more, (size_t)taken, &bytes);
     }
     if (answer == LUKS_DONE) {
-        struct text text = {json, json + bytes};
-        *count = keep_keyslots(&text, keyslots, room);
+        *count = records_of((struct text){json, json + bytes}, shape, records, room);
         answer = *count > room ? LUKS_ROOM : LUKS_DONE;
     }
     int kept = errno;
     free(json);
     errno = kept;
     return answer;
+}
+
+uint32_t luks_keyslots(int fd, uint64_t offset, uint64_t length, struct luks_keyslot *keyslots, size_t size, size_t room, size_t *count)
+{
+    return read_records(fd, offset, length, &KEYSLOTS, keyslots, size, room, count);
+}
+
+uint32_t luks_segments(int fd, uint64_t offset, uint64_t length, struct luks_segment *segments, size_t size, size_t room, size_t *count)
+{
+    return read_records(fd, offset, length, &SEGMENTS, segments, size, room, count);
+}
+
+uint32_t luks_digests(int fd, uint64_t offset, uint64_t length, struct luks_digest *digests, size_t size, size_t room, size_t *count)
+{
+    return read_records(fd, offset, length, &DIGESTS, digests, size, room, count);
+}
+
+uint32_t luks_tokens(int fd, uint64_t offset, uint64_t length, struct luks_token *tokens, size_t size, size_t room, size_t *count)
+{
+    return read_records(fd, offset, length, &TOKENS, tokens, size, room, count);
 }
 
 /* ---- secrets ---- */

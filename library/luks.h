@@ -20,10 +20,10 @@
  * LUKS_READONLY and LUKS_APPENDS; which faults beside these, each says.
  *
  * What is read. Each call has a window: the `length` bytes from `offset` on, fewer where the file ends. Ranges of it are read as they
- * are needed, and held in memory until the call returns: the header and the key areas that are opened or written, and behind each
- * place that is asked for up to 64 KiB more, or 1 MiB where a keyslot is opened or made, which doubles with each asking. So it holds at
- * most twice as much as the call needs, and 1 MiB. A sector that can't be read is LUKS_DEVICE only where a byte of it is needed. The
- * position in the file stays.
+ * are needed, and held in memory until the call returns: the header and the key areas that are opened or written. Where it reads first it
+ * reads 64 KiB, or 544 KiB where a keyslot is opened or made; at each other place half as much as at the one before, and behind what
+ * was read as much again, at most 1 MiB. So beside what the call needs it holds some 1 MiB (docs/PERFORMANCE.md has a table). A sector
+ * that can't be read is LUKS_DEVICE only where a byte of it is needed. The position in the file stays.
  *
  * Locks. No call but luks_open_volume locks anything. As `luks` does, the caller holds flock(LOCK_SH) on the volume's file while it is
  * read, LOCK_EX from before it is read until it was written; of a block device also on the file /run/cryptsetup/L_MAJOR:MINOR, which
@@ -178,6 +178,34 @@ struct luks_keyslot {
     uint64_t offset, bytes;  /* of the key area, from the volume's start */
     char cipher[64];         /* of the key area, as aes-xts-plain64, and a 0; no more than fits */
     char hash[32];           /* of PBKDF2, likewise */
+};
+
+/* A stretch of the data as the header says it. */
+enum { LUKS_CRYPT = 1, LUKS_LINEAR = 2 };
+struct luks_segment {
+    uint32_t number;
+    uint32_t kind;         /* which one: the numbers above; 0 where it is another */
+    uint64_t offset;       /* in bytes from the start of the device that has the data */
+    uint64_t bytes;        /* LUKS_TO_END: up to that device's end */
+    uint64_t iv_tweak;     /* of an encrypted one: the number of its first sector */
+    uint32_t sector_bytes; /* of an encrypted one */
+    char cipher[64];       /* of an encrypted one, as aes-xts-plain64, and a 0; no more than fits */
+};
+
+/* A digest, by which a volume key is judged, as the header says it; its salt and value stand in the object of luks_read. */
+struct luks_digest {
+    uint32_t number;
+    uint32_t iterations; /* of PBKDF2 */
+    uint32_t keyslots;   /* those that give its volume key: a bit for each, 1 of keyslot 0, 2 of keyslot 1 and so on */
+    uint32_t segments;   /* those that this key encrypts, likewise */
+    char hash[32];       /* of PBKDF2, and a 0; no more than fits */
+};
+
+/* A token of a LUKS2 header, by which another program comes to a passphrase; what that keeps in it stands in the object of luks_read. */
+struct luks_token {
+    uint32_t number;
+    uint32_t keyslots; /* those that the passphrase opens, as of a digest */
+    char kind[64];     /* its type as JSON spells it, and a 0; no more than fits */
 };
 
 /* What a passphrase opens. */
@@ -360,10 +388,16 @@ uint32_t luks_check(int fd, uint64_t offset, uint64_t length, bool is_detached, 
  * lie where they can't, which luks_check tells; else its first fault. */
 uint32_t luks_read(int fd, uint64_t offset, uint64_t length, char *json, size_t json_room, uint64_t *json_bytes);
 
-/* The keyslots of the header that counts, by their numbers: of LUKS2 those that the metadata has, of LUKS1 all eight. `size` is sizeof(struct luks_keyslot), else this is
- * LUKS_USAGE; `count` tells how many there are, at most LUKS_KEYSLOTS, also with LUKS_ROOM, where there is room for fewer. What else the header says, its segments, digests
- * and tokens, the object of luks_read has. */
+/* What the header says that counts as records, by their numbers: into an array with `room` for so many. `count` tells how many there are, at most
+ * LUKS_KEYSLOTS, also with LUKS_ROOM, where there is room for fewer; `size` is sizeof(struct luks_keyslot) and so on, else this is LUKS_USAGE. Else it is the
+ * header's first fault, as of luks_read. Keyslots are of LUKS2 those that the metadata has, of LUKS1 all eight; of LUKS1 there is one segment, one digest and no token. */
 uint32_t luks_keyslots(int fd, uint64_t offset, uint64_t length, struct luks_keyslot *keyslots, size_t size, size_t room, size_t *count);
+
+uint32_t luks_segments(int fd, uint64_t offset, uint64_t length, struct luks_segment *segments, size_t size, size_t room, size_t *count);
+
+uint32_t luks_digests(int fd, uint64_t offset, uint64_t length, struct luks_digest *digests, size_t size, size_t room, size_t *count);
+
+uint32_t luks_tokens(int fd, uint64_t offset, uint64_t length, struct luks_token *tokens, size_t size, size_t room, size_t *count);
 
 /* The first keyslot that the passphrase opens, with Argon2 taking up to `memory` KiB for each. Where `older` isn't 0 the ciphers
  * and hashes of older disks are accepted (docs/PROFILE.md): key areas in aes-cbc-essiv:sha256, aes-cbc-plain and aes-cbc-plain64,

@@ -472,8 +472,8 @@ class Volume:
         """The places at which LUKS volumes begin on this disk, from `start` on and in ascending order, in bytes from its own offset.
 
         Its header (of LUKS1 also without its magic), its second copy or whole metadata tells of a volume: `check` of one at that offset says more.
-        Before each block `progress` is called with the place up to which was searched. KeyboardInterrupt, and
-        what `progress` raises, ends the search there. A sector that can't be read is passed over; behind all that was found `Unreadable` is raised then.
+        Before each block `progress` is called with the place up to which was searched. What that raises, and KeyboardInterrupt,
+        ends the search there; a block that was begun is ended by a thread of its own. A sector that can't be read is passed over; behind all that was found `Unreadable` is raised then.
         """
         if not 0 <= start <= TO_END:
             raise ValueError("a place is a number of bytes")
@@ -486,18 +486,34 @@ class Volume:
             raise Unreadable(unread)
 
     def _next(self, place: ctypes.c_uint64, progress: Optional[Callable[[int], object]], unread: List[int]) -> bool:
-        """Puts the next such place into `place`, where there is one, block by block: between two Python looks for signals."""
+        """Puts the next such place into `place`, where there is one, block by block."""
         reached = ctypes.c_uint64(place.value)
         while True:
             if progress is not None:
                 progress(reached.value)
-            answer = LIBRARY.luks_find_step(self._fd, *self._window, reached.value, ctypes.byref(place), ctypes.byref(reached))
+            answer, place.value, reached.value = self._stepped(reached.value)
             if answer == Number.DEVICE and reached.value != TO_END:
                 unread.append(reached.value - SECTOR)
                 continue
             self._done(answer)
             if place.value != TO_END or reached.value == TO_END:
                 return place.value != TO_END
+
+    def _stepped(self, start: int) -> Tuple[int, int, int]:
+        """What a search of one block answers: its number, the place that was found, and where the next block begins."""
+        fd = os.dup(self._fd)
+
+        def stepped() -> Tuple[int, int, int, int]:
+            place, reached = ctypes.c_uint64(start), ctypes.c_uint64(start)
+            try:
+                answer = LIBRARY.luks_find_step(fd, *self._window, start, ctypes.byref(place), ctypes.byref(reached))
+                return answer, ctypes.get_errno(), place.value, reached.value
+            finally:
+                os.close(fd)
+
+        answer, number, place, reached = _apart(stepped)
+        ctypes.set_errno(number)
+        return answer, place, reached
 
     def backup(self, name: str | os.PathLike[str]) -> None:
         """Writes a backup of the header and of the key areas in use to a new file of this name, which only its owner may read.
