@@ -64,6 +64,8 @@ class Number(enum.IntEnum):
     NO_SUCH_DIGEST = 53
     KEY_LENGTH = 54
     PAYLOAD = 55
+    SECTOR_SIZE = 56
+    UNEVEN = 57
     USAGE = 101
     BEYOND = 102
     MEMORY = 103

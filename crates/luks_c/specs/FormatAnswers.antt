@@ -42,7 +42,7 @@ IsNoHash number = (h : HashName) → hash_number h ≡ number → ⊥
 pub record IsMade1 (payload : Data) (format : Format) (passphrase random old : List ℕ) (number : ℕ) (w : List ℕ) : Type 0 where
   pub is : IsFormatted1 payload format passphrase random old w
   pub well_formed : WellFormed w payload
-  pub opened : Answer w 0 passphrase (opens (volume_key random))
+  pub opened : Answer w 0 passphrase (opens (volume_key 64 random))
   pub slot : number ≡ 0
 
 -- one of LUKS2, whose keyslot 0 is derived as is chosen, and opens wherever as much memory is allowed as it takes, with
@@ -50,7 +50,7 @@ pub record IsMade1 (payload : Data) (format : Format) (passphrase random old : L
 pub record IsMade2 (payload : Data) (format : Format) (chosen : Option NewDerivation) (passphrase random old : List ℕ) (number : ℕ) (w : List ℕ) : Type 0 where
   pub is : IsFormatted2By payload format chosen passphrase random old w
   pub well_formed : WellFormed w payload
-  pub opened : (allowed : Allowed) → memory_by (slot_derivation format chosen) ≤ allowed.memory → AnswerWithin allowed w 0 passphrase (opens (volume_key random))
+  pub opened : (allowed : Allowed) → memory_by (slot_derivation format chosen) ≤ allowed.memory → AnswerWithin allowed w 0 passphrase (opens (volume_key 64 random))
   pub slot : number ≡ 0
 
 -- the first of the faults has this number

@@ -130,7 +130,7 @@ fn make1<K: Given>(
     let Ok(mut device) = planned_writes::<K>(alloc, parts, held, total) else {
         return MEMORY;
     };
-    match format1(&mut device, payload, format, passphrase, random) {
+    match format1(alloc, &mut device, payload, format, passphrase, random) {
         Ok(_) => give_plan(&device, calls, bytes, told),
         Err(FormatFault::Device) => tell_wanted(&device, told),
         Err(fault) => format_number(&fault),

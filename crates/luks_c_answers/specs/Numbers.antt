@@ -87,6 +87,8 @@ fault_number fault.Reencrypting = 52
 fault_number fault.NoSuchDigest = 53
 fault_number fault.KeyLength = 54
 fault_number fault.Payload = 55
+fault_number fault.SectorSize = 56
+fault_number fault.Uneven = 57
 
 -- the fault of this number, if there is one
 abbrev pub fault_numbered : ℕ → Option Fault
@@ -147,8 +149,11 @@ edit_number edit.Device = 102
 abbrev pub format_number : FormatFault → ℕ
 format_number format.Payload = 55
 format_number format.TooSmall = 40
+format_number format.SectorSize = 56
+format_number format.Uneven = 57
 format_number format.Uuid = 6
 format_number format.BadLabel = 36
+format_number format.Cipher = 26
 format_number format.KeyLength = 54
 format_number format.Iterations = 10
 format_number format.Argon2 = 25

@@ -114,6 +114,8 @@ fn number_of_call(fault: Fault) -> u32
         Fault::NoSuchDigest => 53,
         Fault::KeyLength => 54,
         Fault::Payload => 55,
+        Fault::SectorSize => 56,
+        Fault::Uneven => 57,
         _ => UNKNOWN,
     }
 }
@@ -192,8 +194,11 @@ pub fn format_number(fault: &FormatFault) -> u32
     match fault {
         FormatFault::Payload => number_of(Fault::Payload),
         FormatFault::TooSmall => number_of(Fault::TooSmall),
+        FormatFault::SectorSize => number_of(Fault::SectorSize),
+        FormatFault::Uneven => number_of(Fault::Uneven),
         FormatFault::Uuid => number_of(Fault::Uuid),
         FormatFault::BadLabel => number_of(Fault::BadLabel),
+        FormatFault::Cipher => number_of(Fault::Cipher),
         FormatFault::KeyLength => number_of(Fault::KeyLength),
         FormatFault::Iterations => number_of(Fault::Iterations),
         FormatFault::Argon2 => number_of(Fault::Argon2),

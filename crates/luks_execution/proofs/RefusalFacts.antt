@@ -150,8 +150,11 @@ edit_parts editing.Device = bare (codes "Device") refl
 format_parts : (f : FormatFault) → HasParts (format_fault_text f)
 format_parts formatting.Payload = bare (codes "Payload") refl
 format_parts formatting.TooSmall = bare (codes "TooSmall") refl
+format_parts formatting.SectorSize = bare (codes "SectorSize") refl
+format_parts formatting.Uneven = bare (codes "Uneven") refl
 format_parts formatting.Uuid = bare (codes "Uuid") refl
 format_parts formatting.BadLabel = bare (codes "BadLabel") refl
+format_parts formatting.Cipher = bare (codes "Cipher") refl
 format_parts formatting.KeyLength = bare (codes "KeyLength") refl
 format_parts formatting.Iterations = bare (codes "Iterations") refl
 format_parts formatting.Argon2 = bare (codes "Argon2") refl

@@ -54,6 +54,8 @@ name_of fault.MetadataFull = codes "MetadataFull"
 name_of fault.RandomLength = codes "RandomLength"
 name_of fault.Payload = codes "Payload"
 name_of fault.TooSmall = codes "TooSmall"
+name_of fault.SectorSize = codes "SectorSize"
+name_of fault.Uneven = codes "Uneven"
 name_of fault.NotLuks1 = codes "NotLuks1"
 name_of fault.SameFile = codes "SameFile"
 name_of fault.Counts = codes "Counts"
@@ -113,6 +115,8 @@ all_faults =
     ∷ fault.RandomLength
     ∷ fault.Payload
     ∷ fault.TooSmall
+    ∷ fault.SectorSize
+    ∷ fault.Uneven
     ∷ fault.NotLuks1
     ∷ fault.SameFile
     ∷ fault.Counts
@@ -176,6 +180,8 @@ named fault.MetadataFull = refl
 named fault.RandomLength = refl
 named fault.Payload = refl
 named fault.TooSmall = refl
+named fault.SectorSize = refl
+named fault.Uneven = refl
 named fault.NotLuks1 = refl
 named fault.SameFile = refl
 named fault.Counts = refl
@@ -238,6 +244,8 @@ called fault.MetadataFull = refl
 called fault.RandomLength = refl
 called fault.Payload = refl
 called fault.TooSmall = refl
+called fault.SectorSize = refl
+called fault.Uneven = refl
 called fault.NotLuks1 = refl
 called fault.SameFile = refl
 called fault.Counts = refl

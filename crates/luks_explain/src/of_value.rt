@@ -159,8 +159,11 @@ impl Fault {
         match fault {
             FormatFault::Payload => Some(Fault::Payload),
             FormatFault::TooSmall => Some(Fault::TooSmall),
+            FormatFault::SectorSize => Some(Fault::SectorSize),
+            FormatFault::Uneven => Some(Fault::Uneven),
             FormatFault::Uuid => Some(Fault::Uuid),
             FormatFault::BadLabel => Some(Fault::BadLabel),
+            FormatFault::Cipher => Some(Fault::Cipher),
             FormatFault::KeyLength => Some(Fault::KeyLength),
             FormatFault::Iterations => Some(Fault::Iterations),
             FormatFault::Argon2 => Some(Fault::Argon2),

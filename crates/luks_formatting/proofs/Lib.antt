@@ -1,4 +1,5 @@
 mod AheadFacts
+pub mod EncryptingFacts
 pub mod GivenFacts
 pub mod NewPlanFacts
 pub mod NewHeader1Facts

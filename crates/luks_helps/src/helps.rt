@@ -428,28 +428,35 @@ luks format [OPTIONS] --random <FILE>
 /// The help of `format` after its words.
 pub const FORMAT_MORE: &str = "\
 Written are of LUKS1 the bytes 0 to 591 and 4096 to 260095, of LUKS2 the bytes 0
-to 288767, and no other. Where a LUKS header that check accepts, if only with
---detached, or another use of the disk stands there, as a file system or a
-partition table, nothing is written but with --over.
+to 288767, and no other; with a shorter key fewer. Where a LUKS header that
+check accepts, if only with --detached, or another use of the disk stands there,
+as a file system or a partition table, nothing is written but with --over.
 
 The volume has at least 2097152 bytes, of LUKS2 16777216, and its data begins
 there; with --detached it lies on another device, from its byte 0 on. Where
 --payload says so it begins at that sector, behind the key areas: at 4036 of
-LUKS1 or behind it, at 32768 of LUKS2; with --detached at any.
+LUKS1 or behind it, with a key of 32 bytes at 2050, of 24 at 1540, of 16 at
+1029; at 32768 of LUKS2; with --detached at any.
 
 So a header is made anew for data that is there: --key is the volume key, as an
-open mapping or an escrow has it, 64 bytes, and --payload is where the data
-begins. No byte of it changes. With --detached VOLUME is a file of its own, and
-the disk stays as it is until the header is tried: luks open, and cryptsetup
-open --header. Sectors of 512 bytes are meant, and aes-xts-plain64.
+open mapping or an escrow has it, and --payload is where the data begins;
+--cipher, --key-bytes and --sector-size are those of the data. No byte of it
+changes. With --detached VOLUME is a file of its own, and the disk stays as it
+is until the header is tried: luks open, and cryptsetup open --header.
 
 Keyslot 0 opens by the passphrase: all bytes of its file, a last newline too,
 at most 65536; by --passphrase-line what stands there before the first newline.
-The cipher is aes-xts-plain64 with a volume key of 64 bytes. The uuid, the key,
-the salts and the stripes are the first 256080 bytes of the random file, of
-LUKS2 256208, and no more are read. Give it /dev/urandom: whoever knows these
-bytes knows the volume key, unless --key gives it. In place of a key or a uuid
-that is given its random bytes are read, and not used.
+The uuid, the key, the salts and the stripes are the first bytes of the random
+file, 80 and 4000 for each byte of the key, of LUKS2 208, and no more are read.
+Give it /dev/urandom: whoever knows these bytes knows the volume key, unless
+--key gives it. In place of a key or a uuid that is given its random bytes are
+read, and not used.
+
+The cipher is aes-xts-plain64 with a volume key of 64 bytes, or what --cipher
+and --key-bytes say: aes-xts-plain64 or aes-xts-plain with 32 or 64; of older
+disks, by --older alone, aes-cbc-essiv:sha256, aes-cbc-plain64 or aes-cbc-plain
+with 16, 24 or 32. A new volume with no data yet is best made without these. The
+data's sectors have 512 bytes, of LUKS2 also 1024, 2048 or 4096.
 
 The passphrase's key is derived by PBKDF2, or of LUKS2 by Argon2 with --kdf
 argon2id or argon2i: --kdf-memory, --passes and --lanes are its costs, and
@@ -468,10 +475,14 @@ Prints one line:
   refused Passphrase     the passphrase's or the key's file is too long
   refused Payload        --payload lies in the header or the key areas
   refused TooSmall       the volume is, or it ends before --payload
+  refused SectorSize     --sector-size isn't one of these, or LUKS1 and not 512
+  refused Uneven         the data's part isn't a whole number of such sectors
   refused Uuid           --uuid isn't one
   refused BadLabel       --label or --subsystem has more than 47 bytes, or one
                          that can't be printed, or the volume is LUKS1
-  refused KeyLength      the key hasn't 64 bytes
+  refused Cipher         --cipher is one of older disks, without --older
+  refused KeyLength      the cipher takes no key of --key-bytes, or the file of
+                         --key hasn't so many
   refused Iterations     there are fewer than 1000
   refused Argon2         it takes more memory than --memory allows
   refused RandomLength   the random file has too few bytes

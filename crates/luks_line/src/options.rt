@@ -62,6 +62,10 @@ pub(crate) enum LongOption {
     NewUuid,
     Label,
     Subsystem,
+    NewCipher,
+    NewKeyBytes,
+    SectorSize,
+    OlderCipher,
 }
 
 impl LongOption {
@@ -79,7 +83,7 @@ pub(crate) struct OptionRow {
 }
 
 /// In the order of `LongOption`.
-static OPTIONS: [OptionRow; 56] = [
+static OPTIONS: [OptionRow; 60] = [
     OptionRow {
         name: "detached",
         needed: false,
@@ -415,5 +419,29 @@ static OPTIONS: [OptionRow; 56] = [
         needed: false,
         help: "LUKS2: the volume's subsystem",
         takes: Takes::Label,
+    },
+    OptionRow {
+        name: "cipher",
+        needed: false,
+        help: "Of data and key areas, as below",
+        takes: Takes::NewCipher,
+    },
+    OptionRow {
+        name: "key-bytes",
+        needed: false,
+        help: "How long the volume key is; else 64, of cbc 32",
+        takes: Takes::KeyBytes,
+    },
+    OptionRow {
+        name: "sector-size",
+        needed: false,
+        help: "LUKS2: how long the data's sectors are",
+        takes: Takes::SectorSize,
+    },
+    OptionRow {
+        name: "older",
+        needed: false,
+        help: "Accept a cipher of older disks",
+        takes: Takes::Nothing,
     },
 ];

@@ -2,6 +2,7 @@ ghost use Rattle.std.specs.Prelude.{◌≡◌, option_map};
 ghost use Rattle.luks_request.specs.Named.{backup_of, edit_new_of, edit_passphrase_of, file_of, is_writer, new_of};
 ghost use Rattle.luks_request.specs.Named.{passphrase_of, random_of, target_of};
 
+use crate::cipher::AskedCipher;
 use crate::derivation::AskedKdf;
 use crate::keeping::{BackingUp, Comparing, KeepingKey, Restoring};
 use crate::place::Place;
@@ -222,6 +223,8 @@ pub struct Making<'a> {
     pub kdf: Option<AskedKdf>,
     /// How many MiB of memory Argon2 may take.
     pub memory: u32,
+    /// Whether a cipher of older disks is accepted.
+    pub older: bool,
     /// Where the payload lies.
     pub payload: Data,
     /// What is given in the place of what is made for it.
@@ -243,6 +246,12 @@ pub struct NewFields<'a> {
     pub label: Option<&'a str>,
     /// LUKS2: the subsystem.
     pub subsystem: Option<&'a str>,
+    /// The cipher.
+    pub cipher: AskedCipher,
+    /// The length of the volume key in bytes.
+    pub key_bytes: u32,
+    /// The length of the data's sectors in bytes.
+    pub sector_size: u32,
 }
 
 /// What is made by converting, and of which files.

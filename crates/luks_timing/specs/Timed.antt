@@ -61,6 +61,7 @@ pub record IsTimedMaking (making timed : Making) : Type 0 where
   pub iterations : 1000 ≤ timed.format.iterations
   pub kdf : IsTimedOf making.version making timed.kdf
   pub memory : timed.memory ≡ making.memory
+  pub older : timed.older ≡ making.older
   pub payload : timed.payload ≡ making.payload
   pub given : timed.given ≡ making.given
   pub over : timed.over ≡ making.over

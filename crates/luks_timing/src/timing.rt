@@ -151,6 +151,7 @@ impl<C: Clock> Timing<'_, C> {
             format: Format { hash, iterations },
             kdf,
             memory: making.memory,
+            older: making.older,
             payload: making.payload,
             given: making.given,
             over: making.over,

@@ -1,7 +1,8 @@
 use Rattle.std.proofs.Common.{arith}
+use Rattle.std.proofs.lemmas.Bool.{false≢true}
 use Rattle.std.proofs.lemmas.Result.{on_ok_weaker}
 use Rattle.luks_slot.specs.Allowance.{none_allowed}
 use Rattle.luks_formatting.proofs.luks2.format2.Goals as goal
 
 pub returns-clause-opens : goal.returns-clause-opens
-returns-clause-opens g c tells = on_ok_weaker c.make.result (λ opened. opened none_allowed (omega arith)) (c.make.ensures.opens tells)
+returns-clause-opens g c tells = on_ok_weaker c.make.result (λ opened. opened none_allowed (omega arith) (λ is. absurd (false≢true is))) (c.make.ensures.opens tells)
