@@ -114,6 +114,7 @@ fn number_of_call(fault: Fault) -> u32
         Fault::NoSuchDigest => 53,
         Fault::KeyLength => 54,
         Fault::Payload => 55,
+        Fault::WrongKey => 56,
         _ => UNKNOWN,
     }
 }
@@ -169,6 +170,8 @@ pub fn edit_number(fault: &EditFault) -> u32
         EditFault::NoSuchSlot => number_of(Fault::NoSuchSlot),
         EditFault::SameSlot => number_of(Fault::SameSlot),
         EditFault::Locked => number_of(Fault::Locked),
+        EditFault::KeyLength => number_of(Fault::KeyLength),
+        EditFault::WrongKey => number_of(Fault::WrongKey),
         EditFault::Slot(fault) => told_number(Fault::of_slot(fault)),
         EditFault::SlotTaken => number_of(Fault::SlotTaken),
         EditFault::NoFreeSlot => number_of(Fault::NoFreeSlot),

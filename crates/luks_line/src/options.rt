@@ -17,6 +17,7 @@ pub(crate) enum LongOption {
     NeededRandom,
     TriedSlot,
     OpenedSlot,
+    AddedSlot,
     To,
     Memory,
     Older,
@@ -79,7 +80,7 @@ pub(crate) struct OptionRow {
 }
 
 /// In the order of `LongOption`.
-static OPTIONS: [OptionRow; 56] = [
+static OPTIONS: [OptionRow; 57] = [
     OptionRow {
         name: "detached",
         needed: false,
@@ -143,6 +144,12 @@ static OPTIONS: [OptionRow; 56] = [
     OptionRow {
         name: "slot",
         needed: true,
+        help: "The keyslot that the passphrase opens, 0 to 31",
+        takes: Takes::Slot,
+    },
+    OptionRow {
+        name: "slot",
+        needed: false,
         help: "The keyslot that the passphrase opens, 0 to 31",
         takes: Takes::Slot,
     },
@@ -377,7 +384,7 @@ static OPTIONS: [OptionRow; 56] = [
     OptionRow {
         name: "key",
         needed: false,
-        help: "Instead, the file of the keyslot's key",
+        help: "Instead, the file of the volume key",
         takes: Takes::File,
     },
     OptionRow {
