@@ -61,6 +61,7 @@ can_format given format random some long digest =
       digest_salt = record { from = omega (arith, first); to = omega (arith, first) };
       digest = record { from = omega (arith, digest, low); to = omega (arith, digest, high) };
       slot_salt = record { from = omega (arith, slot); to = omega (arith, slot) };
+      sector_size = refl;
     }
 
 -- ---- members by their values

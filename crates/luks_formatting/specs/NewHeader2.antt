@@ -72,6 +72,7 @@ new_members given format random = record {
   digest = key_digest given format random (digest_size_of format.hash);
   slot_salt = slot_salt slot_place2 random;
   encryption = codes "aes-xts-plain64";
+  sector_size = 512;
 }
 
 -- keyslot 0, which holds the key, by this derivation

@@ -46,6 +46,7 @@ pub(crate) fn new_area(
         digest,
         slot_salt: taken(volume.random, SLOT_SALT, SALT_BYTES),
         encryption: "aes-xts-plain64",
+        sector_size: 512,
     };
     area_of(alloc, volume, &like)
 }

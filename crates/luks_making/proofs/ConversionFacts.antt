@@ -97,6 +97,7 @@ module _ (v : SourceMembers) (fits : FitsSource v) (can : CanConvert v) where
     digest_salt = fits.digest_salt.are_bytes;
     digest = fits.digest.are_bytes;
     slot_salt = fits.digest_salt.are_bytes;
+    sector_size = omega arith;
   }
 
   can_format : CanFormat u
@@ -108,6 +109,7 @@ module _ (v : SourceMembers) (fits : FitsSource v) (can : CanConvert v) where
         digest_salt = record { from = omega (arith, salt); to = omega (arith, salt) };
         digest = record { from = omega (arith, digest); to = omega (arith, digest) };
         slot_salt = record { from = omega (arith, salt); to = omega (arith, salt) };
+        sector_size = refl;
       }
 
   -- the members of a keyslot are such as their rows read

@@ -7,7 +7,7 @@ pub mod KdfFacts
 pub mod RemovalFacts
 pub mod ReadingFacts
 pub mod AdditionFacts
-mod FreeNumberFacts
+pub mod FreeNumberFacts
 pub mod RoomFacts
 pub mod ChangeFacts
 pub mod NewVolumeFacts

@@ -2,7 +2,7 @@
 use Rattle.std.proofs.Common.{◌≡◌, ℕ, ◌+◌, ◌*◌, ◌<◌, ◌≤◌, ◌^◌, true, false, List, Some, None, option_map, option_and_then, is_some, bytes_eq, codes, refl, sym, ap, subst, ◌∙◌, inl, inr, arith}
 use Rattle.std.proofs.lemmas.Bool.{false≢true, cases_eq, leb-true}
 use Rattle.std.specs.Fmt.{decimal, digits}
-use Rattle.serde_json.specs.Data.{Data, string, array, object, Items, no_items, item, Members, no_members, member, depth}
+use Rattle.serde_json.specs.Data.{Data, number, unsigned, string, array, object, Items, no_items, item, Members, no_members, member, depth}
 use Rattle.serde_json.specs.Find.{get, as_array}
 use Rattle.luks_area.specs.Sectors.{rounded_to_sectors}
 use Rattle.luks_json.specs.Arrays.{all_there, has_repeat}
@@ -14,7 +14,7 @@ use Rattle.luks_rules.specs.declared.table.Row.{Row}
 use Rattle.luks_rules.specs.Accepted.{HasNames, HasObject, IsRead}
 use Rattle.luks_rules.specs.Faults.{is_section, section_at, value_at}
 use Rattle.luks_rules.specs.Held.{IsHeld}
-use Rattle.luks_rules.specs.Reading.{decimal_in, whole}
+use Rattle.luks_rules.specs.Reading.{decimal_in, is_sector_size, kept, number_of, whole}
 use Rattle.luks_rules.specs.Sizes.{region_start}
 use Rattle.luks_rules.specs.Table.{config_rows, digest_rows, segment_rows, rows_of}
 use Rattle.luks_making.specs.Conditions.{Between, CanFormat, FitsSlot, FitsVolume, IsRoom}
@@ -67,6 +67,14 @@ literal_is t n h same = decimal_told t n (record { fits = fits_64 n h; digits = 
 literal_read : (t : List ℕ) (n : ℕ) → n ≤ 16777216 → t ≡ decimal n → is_some (option_map whole (decimal_in (Some (string t)))) ≡ true
 literal_read t n h same = rw (literal_is t n h same) refl
 
+-- ---- the size of a sector
+
+sector_size_is : (n : ℕ) → is_sector_size n ≡ true → option_and_then (kept is_sector_size) (number_of (Some (number (unsigned n)))) ≡ Some n
+sector_size_is n is = rw is refl
+
+sector_size_read : (n : ℕ) → is_sector_size n ≡ true → is_some (option_map whole (option_and_then (kept is_sector_size) (number_of (Some (number (unsigned n)))))) ≡ true
+sector_size_read n is = rw is refl
+
 -- ---- the value's form
 
 -- the digest of a new volume with the names of keyslots
@@ -110,7 +118,7 @@ module _ (v : VolumeMembers) (fits : FitsVolume v) (can : CanFormat v) where
   segment_is_read : IsRead segment_rows (segment_value v)
   segment_is_read =
       rows_read segment_rows (segment_value v) refl (λ _. refl) (λ _. literal_read (codes "0") 0 (omega arith) zero_digits) (λ _. decimal_read v.segment_offset fits.segment_offset)
-      (λ _. refl) (λ _. refl) (λ _. refl)
+      (λ _. sector_size_read v.sector_size can.sector_size) (λ _. refl) (λ _. refl)
 
   module _ (size : ℕ) (small : size < 2 ^ 64) where
     abbrev bare : Data
@@ -219,7 +227,7 @@ module _ (v : VolumeMembers) (fits : FitsVolume v) (can : CanFormat v) where
     encryption = refl;
     iv_tweak = literal_is (codes "0") 0 (omega arith) zero_digits;
     offset = decimal_is v.segment_offset fits.segment_offset;
-    sector_size = refl;
+    sector_size = sector_size_is v.sector_size can.sector_size;
     size = refl;
   }
 

@@ -1,5 +1,5 @@
 -- When a new value meets the rules of the metadata again.
-use Rattle.std.specs.Prelude.{◌≡◌, ℕ, ◌+◌, ◌*◌, ◌<◌, ◌≤◌, ◌^◌, List, length, None, Some, codes}
+use Rattle.std.specs.Prelude.{◌≡◌, ℕ, ◌+◌, ◌*◌, ◌<◌, ◌≤◌, ◌^◌, List, length, true, None, Some, codes}
 use Rattle.base64.specs.GeneralPurpose.{IsBytes}
 use Rattle.serde_json.specs.Data.{Data}
 use Rattle.luks_area.specs.Sectors.{rounded_to_sectors}
@@ -9,7 +9,7 @@ use Rattle.luks_rules.specs.declared.table.Section.TheVariants.{Digests, Keyslot
 use Rattle.luks_rules.specs.declared.table.Outer.TheVariants as outer
 use Rattle.luks_rules.specs.Accepted.{HasObject}
 use Rattle.luks_rules.specs.Faults.{object_at, section_at}
-use Rattle.luks_rules.specs.Reading.{number_in}
+use Rattle.luks_rules.specs.Reading.{is_sector_size, number_in}
 use Rattle.luks_rules.specs.Sizes.{inside_at, keyslots_size, region_start}
 use Rattle.luks_making.specs.Formatted.{VolumeMembers}
 use Rattle.luks_making.specs.declared.derivation.Argon2Costs.{Argon2Costs}
@@ -102,13 +102,16 @@ pub record IsRoom (len n m : ℕ) (s : SlotMembers) (j d : Data) : Type 0 where
 pub record FitsVolume (v : VolumeMembers) : Type 0 where
   pub iterations : v.iterations < 2 ^ 32
   pub segment_offset : v.segment_offset < 2 ^ 64
+  pub sector_size : v.sector_size < 2 ^ 32
   pub digest_salt : IsBytes v.digest_salt
   pub digest : IsBytes v.digest
   pub slot_salt : IsBytes v.slot_salt
 
--- at least one iteration, and salts and a digest of lengths that the metadata may have
+-- at least one iteration, salts and a digest of lengths that the metadata may have, and sectors of a listed
+-- size
 pub record CanFormat (v : VolumeMembers) : Type 0 where
   pub iterations : 1 ≤ v.iterations
   pub digest_salt : Between 1 128 (length v.digest_salt)
   pub digest : Between 20 64 (length v.digest)
   pub slot_salt : Between 1 128 (length v.slot_salt)
+  pub sector_size : is_sector_size v.sector_size ≡ true

@@ -95,8 +95,8 @@ converted_slot v n s = record {
   salt = s.salt;
 }
 
--- a new volume with the source's digest, payload and encryption; its keyslot, whose salt is any,
--- doesn't stay
+-- a new volume with the source's digest, payload and encryption, and LUKS1's sectors of 512 bytes; its
+-- keyslot, whose salt is any, doesn't stay
 abbrev pub volume_like : SourceMembers → VolumeMembers
 volume_like v = record {
   hash = v.hash;
@@ -106,6 +106,7 @@ volume_like v = record {
   digest = v.digest;
   slot_salt = v.digest_salt;
   encryption = v.encryption;
+  sector_size = 512;
 }
 
 -- with the keyslot of the number, named last by digest 0, if it is enabled

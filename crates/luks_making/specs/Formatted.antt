@@ -13,6 +13,7 @@ pub record VolumeMembers : Type 0 where
   pub digest : List ℕ
   pub slot_salt : List ℕ
   pub encryption : List ℕ
+  pub sector_size : ℕ
 
 abbrev pub volume_members : NewVolume → VolumeMembers
 volume_members v = record {
@@ -23,6 +24,7 @@ volume_members v = record {
   digest = v.digest.now;
   slot_salt = v.slot_salt.now;
   encryption = v.encryption.now;
+  sector_size = v.sector_size;
 }
 
 -- a map with one object, the one of number 0
@@ -66,7 +68,7 @@ segment_value v = object (
     text_member (codes "encryption") v.encryption (
     text_member (codes "iv_tweak") (codes "0") (
     text_member (codes "offset") (decimal v.segment_offset) (
-    number_member (codes "sector_size") 512 (
+    number_member (codes "sector_size") v.sector_size (
     text_member (codes "size") (codes "dynamic") (
     text_member (codes "type") (codes "crypt") no_members))))))
 

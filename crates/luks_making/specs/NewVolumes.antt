@@ -28,7 +28,7 @@ pub record SaysSegment (v : VolumeMembers) (d : Data) : Type 0 where
   pub iv_tweak : decimal_in (member_at d outer.Top name.IvTweak) ≡ Some 0
   pub offset : decimal_in (member_at d outer.Top name.Offset) ≡ Some v.segment_offset
   pub sector_size : option_and_then (kept is_sector_size)
-      (number_of (member_at d outer.Top name.SectorSize)) ≡ Some 512
+      (number_of (member_at d outer.Top name.SectorSize)) ≡ Some v.sector_size
   pub size : option_and_then extent_of (text_of (member_at d outer.Top name.Size)) ≡ Some dynamic
 
 -- one keyslot, one digest that names it, one segment, no token

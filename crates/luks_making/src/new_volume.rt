@@ -29,6 +29,8 @@ pub struct NewVolume<'a> {
     pub slot_salt: &'a [u8],
     /// The cipher of the keyslot's area and of the segment, with its mode.
     pub encryption: &'a str,
+    /// The length in bytes of the segment's sectors: 512, 1024, 2048 or 4096.
+    pub sector_size: u32,
 }
 
 /// What a new volume says has the ranges of its types. The function does nothing; its contract is
@@ -44,6 +46,7 @@ pub fn volume_fits(volume: &NewVolume<'_>)
         digest,
         slot_salt,
         encryption,
+        sector_size,
     } = *volume;
     are_bytes(digest_salt);
     are_bytes(digest);
@@ -100,7 +103,7 @@ fn segment_value(alloc: Global, volume: &NewVolume<'_>) -> Result<Value, AllocEr
         "encryption": volume.encryption,
         "iv_tweak": "0",
         "offset": offset,
-        "sector_size": 512,
+        "sector_size": volume.sector_size,
         "size": "dynamic",
         "type": "crypt"
     })

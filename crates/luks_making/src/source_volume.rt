@@ -185,6 +185,7 @@ fn without_keyslots(alloc: Global, volume: &SourceVolume<'_>) -> Result<Value, A
         digest: &volume.digest,
         slot_salt: &volume.digest_salt,
         encryption: volume.encryption,
+        sector_size: 512,
     };
     let value = formatted(alloc, &like)?;
     let bare = without_slot(alloc, value, 0)?;

@@ -7,7 +7,7 @@ ghost use Rattle.luks_rules.specs.Held.{IsHeld};
 use crate::configuration::Config;
 use crate::digests::Digest;
 use crate::keyslots::Keyslot;
-use crate::naming::digest_of_keyslot;
+use crate::naming::{digest_of_keyslot, digests_stand_once};
 use crate::objects::{config_in, digest_in, keyslot_in, segment_in, token_in};
 use crate::requirements::has_requirements;
 use crate::segments::Segment;
@@ -159,6 +159,13 @@ impl Meta {
         ensures unique { IfSome result (λ _. HasUniqueDigests (content self.now)) }
     {
         digest_of_keyslot(&self.value, number)
+    }
+
+    /// Each digest's name stands once in the metadata: a law, for who edits its value in place.
+    pub fn digests_stand_once(&self)
+        ensures { HasUniqueDigests (content self.now) }
+    {
+        digests_stand_once(&self.value);
     }
 
     /// The token with the number, if it is there.

@@ -26,6 +26,14 @@ pub(crate) fn digest_of_keyslot(value: &Value, number: u8) -> Option<u8>
     }
 }
 
+/// Each digest's name stands once in the value. What it looks for is of no matter; its contract is the law.
+pub(crate) fn digests_stand_once(value: &Value)
+    requires { IsAccepted (view value.now) }
+    ensures { HasUniqueDigests (view value.now) }
+{
+    first_naming(digests_of(value), "");
+}
+
 // The digests by their names.
 fn digests_of(value: &Value) -> &Map<String, Value>
     requires { IsAccepted (view value.now) }

@@ -237,6 +237,7 @@ fn forms(
         digest,
         slot_salt: &[0x22; 32],
         encryption: "aes-xts-plain64",
+        sector_size: 512,
     };
     let len = digest.len();
     if iterations == 0 || len < 20 || len > 64 {

@@ -43,6 +43,7 @@ fn formed(alloc: Global) -> Result<Meta, AllocError> {
         digest: &[0x33; 20],
         slot_salt: &[0x22; 32],
         encryption: "aes-xts-plain64",
+        sector_size: 512,
     };
     luks_new_meta::formatted(alloc, &volume)
 }

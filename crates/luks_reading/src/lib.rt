@@ -41,7 +41,9 @@ pub use luks_meta::{
 };
 pub use luks_slot::{Allowed, Key};
 pub use luks2_header::{Bin2, Copies, HeadFault, Luks1, Luks1Slot, Selected, SlotState, select};
-pub use matching::{KeyMatch, match_header_key, match_key, meets};
+pub use matching::{
+    KeyMatch, has_key_of, is_key_length, is_keyslot_of, match_header_key, match_key, meets,
+};
 pub use nearest::Nearest;
 pub use open_fault::OpenFault;
 pub use opening::{open_header_slot, open_slot, try_copy_slot, try_header_slot};

@@ -215,7 +215,7 @@ fn is_digest_of_segment(meta: &Meta, number: u8, segment: u8) -> bool
 
 /// Whether a key of the digest may have so many bytes: as many as that of one of its keyslots, or, where
 /// it has none, 1 to 128.
-fn is_key_length(meta: &Meta, digest: u8, len: usize) -> bool
+pub fn is_key_length(meta: &Meta, digest: u8, len: usize) -> bool
     requires { IsAccepted (content meta.now) }
     ensures { IsTrue result ↔ IsLuks2KeyLength (content meta.now) digest len }
 {
@@ -251,8 +251,8 @@ fn has_keyslot_of(meta: &Meta, digest: u8, len: usize) -> bool
     false
 }
 
-/// Whether the digest names the keyslot.
-fn is_keyslot_of(meta: &Meta, n: u8, digest: u8) -> bool
+/// Whether the digest of this number names the keyslot `n`.
+pub fn is_keyslot_of(meta: &Meta, n: u8, digest: u8) -> bool
     requires { IsAccepted (content meta.now) }
     ensures { IsTrue result ↔ IsDigestOf (content meta.now) n digest }
 {
@@ -262,8 +262,8 @@ fn is_keyslot_of(meta: &Meta, n: u8, digest: u8) -> bool
     }
 }
 
-/// Whether the keyslot's key has so many bytes.
-fn has_key_of(meta: &Meta, n: u8, len: usize) -> bool
+/// Whether the keyslot `n`, of 0 to 31, is there and its key has so many bytes.
+pub fn has_key_of(meta: &Meta, n: u8, len: usize) -> bool
     requires { n < 32 }
     ensures { IsTrue result ↔ HasLuks2KeyBytes (content meta.now) n len }
 {
