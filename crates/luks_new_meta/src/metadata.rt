@@ -128,8 +128,7 @@ pub fn with_new_slot(
     ensures unique { HasUniqueDigests (content meta) }
 {
     let len = meta.area_len();
-    // It tells that no digest's name stands twice.
-    let _named = meta.digest_of_keyslot(to);
+    meta.digests_stand_once();
     let made = slot_value(alloc, keyslot)?;
     let value = luks_making::with_slot(alloc, meta.into_value(), to, digest, made)?;
     Ok(Meta::of_value(value, len))
