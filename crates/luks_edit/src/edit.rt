@@ -234,7 +234,7 @@ impl<'a> Edit<'a> {
 
 /// A new keyslot for the key that this gives.
 fn added_by(opener: Opener<'_>, to: Option<u8>) -> Place<'_>
-    ensures { result ≡ New opener to }
+    ensures { result ≡ New opener.entry to }
 {
     Place::New { opener, to }
 }
