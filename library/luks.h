@@ -130,7 +130,8 @@ enum luks_fault {
     LUKS_FAULT_KEY_LENGTH = 54,
     LUKS_FAULT_PAYLOAD = 55,
     LUKS_FAULT_SECTOR_SIZE = 56,
-    LUKS_FAULT_UNEVEN = 57
+    LUKS_FAULT_UNEVEN = 57,
+    LUKS_FAULT_WRONG_KEY = 58
 };
 /* until here */
 

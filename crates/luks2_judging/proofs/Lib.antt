@@ -4,14 +4,16 @@ pub mod DeedFacts
 pub mod EditedFacts
 mod EncodedFacts
 mod JudgedFacts
+mod KeyFacts
 pub mod KeyAreaFacts
-mod KeyslotFacts
+pub mod KeyslotFacts
 mod LastFacts
 mod NeedFacts
 mod NumberFacts
-mod OpenerFacts
+pub mod OpenerFacts
 mod ReadFacts
 mod RoomFacts
 mod SaltFacts
 mod StripeFacts
 mod TakenFacts
+mod UnkeyedFacts

@@ -1,7 +1,7 @@
 -- The edit that a caller asks for by numbers.
 use Rattle.std.specs.Prelude.{◌≡◌, ℕ, ◌<◌, List, Option, Some, None}
 use Rattle.luks_edit.specs.declared.edit.Edit.{Edit}
-use Rattle.luks_edit.specs.declared.edit.Edit.TheVariants.{Add, Change, Remove, Repair, Label}
+use Rattle.luks_edit.specs.declared.edit.Edit.TheVariants.{Add, AddByKey, Change, Remove, Repair, Label}
 use Rattle.luks_edit.specs.declared.edit.Secret.{Secret}
 use Rattle.luks_edit.specs.declared.edit.SecretKind.TheVariants.{Passphrase}
 use Rattle.luks_c_answers.specs.Asked.{allowed_of}
@@ -25,6 +25,7 @@ IsPassphrase bytes asked p = (p.kind ≡ Passphrase) × (p.bytes.now ≡ bytes) 
 abbrev pub IsAsked : LuksEdit → List ℕ → List ℕ → Edit → Type 0
 IsAsked asked words text (Add by_ old new to iterations derivation) = (asked.kind ≡ 1) × IsSlot asked.by_ by_ × IsPassphrase words asked old
     × (new.now ≡ text) × IsMaybeSlot asked.to to × (iterations ≡ asked.iterations) × IsChoice asked.derivation derivation
+IsAsked asked words text (AddByKey key new to iterations derivation) = ⊥
 IsAsked asked words text (Change slot old new iterations derivation) = (asked.kind ≡ 2) × IsSlot asked.slot slot × IsPassphrase words asked old
     × (new.now ≡ text) × (iterations ≡ asked.iterations) × IsChoice asked.derivation derivation
 IsAsked asked words text (Remove slot by_ passphrase) = (asked.kind ≡ 3) × IsSlot asked.slot slot × IsMaybeSlot asked.by_ by_

@@ -89,6 +89,7 @@ fault_number fault.KeyLength = 54
 fault_number fault.Payload = 55
 fault_number fault.SectorSize = 56
 fault_number fault.Uneven = 57
+fault_number fault.WrongKey = 58
 
 -- the fault of this number, if there is one
 abbrev pub fault_numbered : ℕ → Option Fault
@@ -131,6 +132,8 @@ edit_number edit.Requirements = 31
 edit_number edit.NoSuchSlot = 23
 edit_number edit.SameSlot = 50
 edit_number edit.Locked = 29
+edit_number edit.KeyLength = 54
+edit_number edit.WrongKey = 56
 edit_number (edit.Slot f) = number_printed (slot_fault_text f)
 edit_number edit.SlotTaken = 32
 edit_number edit.NoFreeSlot = 33

@@ -116,6 +116,7 @@ fn number_of_call(fault: Fault) -> u32
         Fault::Payload => 55,
         Fault::SectorSize => 56,
         Fault::Uneven => 57,
+        Fault::WrongKey => 58,
         _ => UNKNOWN,
     }
 }
@@ -171,6 +172,8 @@ pub fn edit_number(fault: &EditFault) -> u32
         EditFault::NoSuchSlot => number_of(Fault::NoSuchSlot),
         EditFault::SameSlot => number_of(Fault::SameSlot),
         EditFault::Locked => number_of(Fault::Locked),
+        EditFault::KeyLength => number_of(Fault::KeyLength),
+        EditFault::WrongKey => number_of(Fault::WrongKey),
         EditFault::Slot(fault) => told_number(Fault::of_slot(fault)),
         EditFault::SlotTaken => number_of(Fault::SlotTaken),
         EditFault::NoFreeSlot => number_of(Fault::NoFreeSlot),

@@ -41,6 +41,7 @@ name_of fault.Hash = codes "Hash"
 name_of fault.KeySize = codes "KeySize"
 name_of fault.NoSuchDigest = codes "NoSuchDigest"
 name_of fault.KeyLength = codes "KeyLength"
+name_of fault.WrongKey = codes "WrongKey"
 name_of fault.Locked = codes "Locked"
 name_of fault.Passphrase = codes "Passphrase"
 name_of fault.Requirements = codes "Requirements"
@@ -102,6 +103,7 @@ all_faults =
     ∷ fault.KeySize
     ∷ fault.NoSuchDigest
     ∷ fault.KeyLength
+    ∷ fault.WrongKey
     ∷ fault.Locked
     ∷ fault.Passphrase
     ∷ fault.Requirements
@@ -167,6 +169,7 @@ named fault.Hash = refl
 named fault.KeySize = refl
 named fault.NoSuchDigest = refl
 named fault.KeyLength = refl
+named fault.WrongKey = refl
 named fault.Locked = refl
 named fault.Passphrase = refl
 named fault.Requirements = refl
@@ -231,6 +234,7 @@ called fault.Hash = refl
 called fault.KeySize = refl
 called fault.NoSuchDigest = refl
 called fault.KeyLength = refl
+called fault.WrongKey = refl
 called fault.Locked = refl
 called fault.Passphrase = refl
 called fault.Requirements = refl

@@ -73,6 +73,8 @@ pub enum Fault {
     /// The key hasn't the length of the volume's; of format: it hasn't as many bytes as are asked for, or the cipher
     /// takes none of so many.
     KeyLength,
+    /// The key isn't the volume's, or the keyslot's.
+    WrongKey,
     /// The passphrase doesn't open the keyslot.
     Locked,
     /// A passphrase's file has more than 65536 bytes.
@@ -172,6 +174,7 @@ impl Fault {
         Fault::KeySize,
         Fault::NoSuchDigest,
         Fault::KeyLength,
+        Fault::WrongKey,
         Fault::Locked,
         Fault::Passphrase,
         Fault::Requirements,
@@ -219,9 +222,9 @@ impl Fault {
             TooShort NotLuks Version NoSoundCopy Text Uuid SlotState KeyBytes Stripes Iterations
             JsonArea BadJson NotWhole Shape Kind NoSuchName Assigned Sizes AreaTooSmall Region
             Outside Overlap NoSuchSlot SameSlot SlotFree Argon2 Cipher Hash KeySize NoSuchDigest KeyLength
-            Locked Passphrase Requirements SlotTaken NoFreeSlot NoRoom LastSlot BadLabel SeqExhausted MetadataFull
-            RandomLength Payload TooSmall SectorSize Uneven NotLuks1 SameFile Counts NoMetadata NoHeader Exists
-            NotAccepted DoesNotFit OtherVolume OtherUse Reencrypting
+             WrongKey Locked Passphrase Requirements SlotTaken NoFreeSlot NoRoom LastSlot BadLabel SeqExhausted MetadataFull
+             RandomLength Payload TooSmall SectorSize Uneven NotLuks1 SameFile Counts NoMetadata NoHeader Exists
+             NotAccepted DoesNotFit OtherVolume OtherUse Reencrypting
         )
     }
 

@@ -137,6 +137,8 @@ impl Fault {
             EditFault::NoSuchSlot => Some(Fault::NoSuchSlot),
             EditFault::SameSlot => Some(Fault::SameSlot),
             EditFault::Locked => Some(Fault::Locked),
+            EditFault::KeyLength => Some(Fault::KeyLength),
+            EditFault::WrongKey => Some(Fault::WrongKey),
             EditFault::Slot(fault) => Fault::of_slot(fault),
             EditFault::SlotTaken => Some(Fault::SlotTaken),
             EditFault::NoFreeSlot => Some(Fault::NoFreeSlot),

@@ -35,7 +35,8 @@ pub(crate) fn means(fault: Fault) -> &'static str {
         Fault::KeySize => "the key of the key area's cipher hasn't a length of that cipher",
         Fault::NoSuchDigest => "the digest isn't there, or segment 0 has none",
         Fault::KeyLength => "the file of the key hasn't as many bytes as the volume's key",
-        Fault::Locked => "the passphrase doesn't open the keyslot, or the key isn't its own",
+        Fault::WrongKey => "the key isn't the volume's, or that of the keyslot",
+        Fault::Locked => "the passphrase doesn't open the keyslot",
         Fault::Passphrase => "a passphrase's file has more than 65536 bytes",
         Fault::Requirements => "the metadata names requirements, as of a reencryption",
         Fault::SlotTaken => "the keyslot of --to is in use",
@@ -128,9 +129,13 @@ pub(crate) fn place(fault: Fault) -> &'static str {
        to; LUKS1 has one, of the number 0"
         }
         Fault::KeyLength => {
-            "open --key: its FILE; LUKS1 says in its header how many bytes the key
-       has, LUKS2 in the keyslots of the digest; format: --key-bytes, else 64,
-       of cbc 32, and as many has the FILE of --key"
+            "open, add, change and remove --key: its FILE; LUKS1 says in its header how
+        many bytes the key has, LUKS2 in the keyslots of the digest; format:
+        --key-bytes, else 64, of cbc 32, and as many has the FILE of --key"
+        }
+        Fault::WrongKey => {
+            "add, change and remove --key: its FILE, by the digest of the keyslot that
+       --slot or --by names, or by each that the header has"
         }
         Fault::SameSlot => "remove: the keyslots of --by and --slot",
         Fault::SlotFree => "open: the keyslot of --slot",
@@ -269,6 +274,7 @@ pub(crate) fn safe(fault: Fault) -> &'static str {
         Fault::NoSuchSlot
         | Fault::NoSuchDigest
         | Fault::KeyLength
+        | Fault::WrongKey
         | Fault::SameSlot
         | Fault::SlotFree
         | Fault::Locked
@@ -412,6 +418,10 @@ pub(crate) fn next(fault: Fault) -> &'static str {
         Fault::KeyLength => {
             "see whether FILE is the key itself, no digits of it, and has no newline
        behind it: luks show --all tells its length; of format: give --key-bytes"
+        }
+        Fault::WrongKey => {
+            "luks open --key tells of each digest whether FILE is its key; a key of
+       another volume, or of the same one before a reencryption, is none"
         }
         Fault::Locked => {
             "luks open tells which keyslot it opens; a newline at the end of its file

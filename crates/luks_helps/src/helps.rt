@@ -172,7 +172,7 @@ pub const ADD: &str = "Adds a keyslot for a new passphrase";
 
 /// The usage of `add` after `Usage: `, on several lines, since one would have more than 80 columns.
 pub const ADD_USAGE: &str = "\
-luks add [OPTIONS] --slot <N> --random <FILE>
+luks add [OPTIONS] --random <FILE>
                 <--passphrase <FILE>|--passphrase-line <FILE>|--key <FILE>>
                 <--new <FILE>|--new-line <FILE>> <VOLUME>";
 
@@ -184,9 +184,12 @@ of 0 to 7 in LUKS1 and 0 to 31 in LUKS2. All others stay as they are. A
 passphrase is all bytes of its file, a last newline too, at most 65536; by
 --passphrase-line and --new-line what stands there before the first newline.
 
-Who has the volume key needs no passphrase: --key is its file in the place of
---passphrase, and --slot a keyslot whose key it is, as long, and its digest's.
-That one's key area isn't read, so that it may be destroyed.
+Who has the volume key needs neither a passphrase nor a keyslot: --key is its
+file, and the key has to meet the digest that the header has of it. So a header
+whose keyslots are all destroyed or gone has one again. Of LUKS2 the new one is
+like the first of the key's digest, or where that has none as of a new volume,
+and by PBKDF2 unless --kdf chooses. With --slot it is that keyslot's key, and
+the new one is like it; its key area isn't read.
 
 Written are, with a flush after each: the area of the new keyslot; then of LUKS1
 its entry in the header, of LUKS2 the copy of the header that doesn't count and
@@ -213,8 +216,8 @@ Prints one line:
   done slot N    keyslot N is made
   refused FAULT  the first fault, and nothing was written: what check refuses,
                  OtherUse (as above), Requirements, NoSuchSlot, Locked (the
-                 passphrase doesn't open it, or it has another key), Argon2,
-                 Cipher, Hash, KeySize,
+                 passphrase doesn't open it), KeyLength, WrongKey (the key isn't
+                 the volume's, or the keyslot's), Argon2, Cipher, Hash, KeySize,
                  SlotTaken, NoFreeSlot, NoRoom, Iterations, Argon2 (the new one
                  takes more memory than is allowed, or LUKS1 has none),
                  SeqExhausted, MetadataFull, RandomLength (the random file is
@@ -275,12 +278,12 @@ Prints one line:
   done slot N    the new passphrase opens keyslot N
   refused FAULT  the first fault, and nothing was written: what check refuses,
                  OtherUse (as above), Requirements, NoSuchSlot, Locked (the
-                 passphrase doesn't open it, or it has another key), Argon2,
-                 Cipher, Hash, KeySize,
-                 NoFreeSlot, NoRoom, Iterations, Argon2 (the new one takes more
-                 memory than is allowed, or LUKS1 has none), SeqExhausted,
-                 MetadataFull, RandomLength (the random file is too short), or
-                 Passphrase (one is too long)
+                 passphrase doesn't open it), KeyLength, WrongKey (the key isn't
+                 its own), Argon2, Cipher, Hash, KeySize, NoFreeSlot, NoRoom,
+                 Iterations, Argon2 (the new one takes more memory than is
+                 allowed, or LUKS1 has none), SeqExhausted, MetadataFull,
+                 RandomLength (the random file is too short), or Passphrase (one
+                 is too long)
   device fault   a file can't be read, or the volume read or written
   no memory      memory was refused; nothing was written
 
@@ -311,7 +314,9 @@ passphrase opens it, or keyslot --by where that is given: then --slot needn't be
 one that opens here. The last keyslot of its key isn't removed. All others stay
 as they are. The passphrase is all bytes of its file, a last newline
 too, at most 65536; by --passphrase-line what stands there before the first
-newline. Who has the volume key gives it by --key in its place.
+newline. Who has the volume key gives it by --key in its place, and needs no
+keyslot that opens: the key is judged as of add, by the header's digest, or with
+--by by that of keyslot --by.
 
 Written are, with a flush after each: of LUKS1 the keyslot's entry, of LUKS2 the
 copy of the header that doesn't count and the one that does; then the zeros. Of
@@ -328,11 +333,11 @@ Prints one line:
   done           the keyslot is removed
   refused FAULT  the first fault, and nothing was written: what check refuses,
                  OtherUse (as above), Requirements, NoSuchSlot, SameSlot (--by
-                 is --slot), Locked (the passphrase doesn't open it, or it has
-                 another key), Argon2, Cipher, Hash, KeySize, LastSlot,
-                 SeqExhausted, MetadataFull, RandomLength (of LUKS2, the random
-                 file is too short or none is named), or Passphrase (it is too
-                 long)
+                 is --slot), Locked (the passphrase doesn't open it), KeyLength,
+                 WrongKey (the key isn't the volume's, or the keyslot's),
+                 Argon2, Cipher, Hash, KeySize, LastSlot, SeqExhausted,
+                 MetadataFull, RandomLength (of LUKS2, the random file is too
+                 short or none is named), or Passphrase (it is too long)
   device fault   a file can't be read, or the volume read or written
   no memory      memory was refused; nothing was written
 

@@ -17,6 +17,7 @@ pub(crate) enum LongOption {
     NeededRandom,
     TriedSlot,
     OpenedSlot,
+    AddedSlot,
     To,
     Memory,
     Older,
@@ -83,7 +84,7 @@ pub(crate) struct OptionRow {
 }
 
 /// In the order of `LongOption`.
-static OPTIONS: [OptionRow; 60] = [
+static OPTIONS: [OptionRow; 61] = [
     OptionRow {
         name: "detached",
         needed: false,
@@ -147,6 +148,12 @@ static OPTIONS: [OptionRow; 60] = [
     OptionRow {
         name: "slot",
         needed: true,
+        help: "The keyslot that the passphrase opens, 0 to 31",
+        takes: Takes::Slot,
+    },
+    OptionRow {
+        name: "slot",
+        needed: false,
         help: "The keyslot that the passphrase opens, 0 to 31",
         takes: Takes::Slot,
     },
@@ -381,7 +388,7 @@ static OPTIONS: [OptionRow; 60] = [
     OptionRow {
         name: "key",
         needed: false,
-        help: "Instead, the file of the keyslot's key",
+        help: "Instead, the file of the volume key",
         takes: Takes::File,
     },
     OptionRow {

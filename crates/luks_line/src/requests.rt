@@ -123,9 +123,29 @@ fn edit_of<'a>(name: CommandName, given: &ArgMatches<'a>) -> Option<EditRequest<
     }
 }
 
+/// The addition by a keyslot, or by the volume key where none is named.
 fn adding_of<'a>(given: &ArgMatches<'a>) -> Option<EditRequest<'a>> {
+    match given.get_one::<u8>("slot") {
+        Some(by_) => adding_by(by_, given),
+        None => adding_by_key(given),
+    }
+}
+
+fn adding_by_key<'a>(given: &ArgMatches<'a>) -> Option<EditRequest<'a>> {
+    Some(EditRequest::AddByKey {
+        key: given.get_str("key")?,
+        memory: mib_of(given, "memory")?,
+        older: given.get_flag("older"),
+        new: new_of(given)?,
+        to: given.get_one::<u8>("to"),
+        iterations: given.get_one::<u32>("iterations")?,
+        kdf: kdf_of(given)?,
+    })
+}
+
+fn adding_by<'a>(by_: u8, given: &ArgMatches<'a>) -> Option<EditRequest<'a>> {
     Some(EditRequest::Add {
-        by_: given.get_one::<u8>("slot")?,
+        by_,
         opener: opener_of(given)?,
         memory: mib_of(given, "memory")?,
         older: given.get_flag("older"),

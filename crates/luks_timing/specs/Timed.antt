@@ -10,7 +10,7 @@ use Rattle.luks_request.specs.declared.request.Command.{Command}
 use Rattle.luks_request.specs.declared.request.Command.TheVariants.{Edit, Format}
 use Rattle.luks_request.specs.declared.request.Editing.{Editing}
 use Rattle.luks_request.specs.declared.request.EditRequest.{EditRequest}
-use Rattle.luks_request.specs.declared.request.EditRequest.TheVariants.{Add, Change}
+use Rattle.luks_request.specs.declared.request.EditRequest.TheVariants.{Add, AddByKey, Change}
 use Rattle.luks_request.specs.declared.request.Making.{Making}
 use Rattle.luks_request.specs.declared.request.NewVersion.{NewVersion}
 use Rattle.luks_request.specs.declared.request.NewVersion.TheVariants.{Luks1, Luks2}
@@ -39,6 +39,8 @@ IsTimedKdf allowed asked timed = ⊥
 abbrev pub IsTimedEdit : EditRequest → EditRequest → Type 0
 IsTimedEdit (Add by_ opener memory older new to iterations (Some kdf)) timed =
     (chosen : AskedKdf) × IsTimedKdf memory kdf chosen × (timed ≡ Add by_ opener memory older new to iterations (Some chosen))
+IsTimedEdit (AddByKey key memory older new to iterations (Some kdf)) timed =
+    (chosen : AskedKdf) × IsTimedKdf memory kdf chosen × (timed ≡ AddByKey key memory older new to iterations (Some chosen))
 IsTimedEdit (Change slot opener memory older new iterations (Some kdf)) timed =
     (chosen : AskedKdf) × IsTimedKdf memory kdf chosen × (timed ≡ Change slot opener memory older new iterations (Some chosen))
 IsTimedEdit request timed = timed ≡ request

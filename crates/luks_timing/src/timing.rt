@@ -108,6 +108,23 @@ impl<C: Clock> Timing<'_, C> {
                 iterations,
                 kdf: Some(self.kdf(asked, memory, HashName::Sha256, err)?),
             }),
+            EditRequest::AddByKey {
+                key,
+                memory,
+                older,
+                new,
+                to,
+                iterations,
+                kdf: Some(asked),
+            } => Ok(EditRequest::AddByKey {
+                key,
+                memory,
+                older,
+                new,
+                to,
+                iterations,
+                kdf: Some(self.kdf(asked, memory, HashName::Sha256, err)?),
+            }),
             EditRequest::Change {
                 slot,
                 opener,

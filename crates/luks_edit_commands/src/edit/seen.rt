@@ -6,7 +6,7 @@ ghost use Rattle.luks_volume.specs.Needed.{NeedsRandom};
 ghost use Rattle.luks_edit_commands.specs.OtherUses.{is_unseen_failure, IsUnseen, SeesBarred};
 
 use crate::other_use::barring_use;
-use luks_edit::NewDerivation;
+use luks_edit::{NewDerivation, Opener};
 use luks_notes::{MemoryNote, OlderNote, memory_note, older_note};
 use luks_request::Editing;
 use luks_signatures::OtherUse;
@@ -168,13 +168,21 @@ fn iterations_of(header: &Header, n: u8) -> Option<u32> {
     }
 }
 
+/// The number of the keyslot that the edit opens; none by the volume key.
+fn opened_keyslot(edit: &Edit<'_>) -> Option<u8> {
+    match edit.opener()? {
+        Opener::Keyslot { slot, secret: _ } => Some(slot),
+        Opener::Key(_) => None,
+    }
+}
+
 /// The keyslot that the edit opens in a volume of `total` bytes with this header, where it derives by
 /// Argon2.
 fn argon2_keyslot(header: &Header, total: u64, edit: &Edit<'_>) -> Option<MemoryNote>
     requires { IsAcceptedHeader header.now }
 {
-    let opener = edit.opener()?;
-    memory_note(header, opener.slot, total, edit.allowed())
+    let slot = opened_keyslot(edit)?;
+    memory_note(header, slot, total, edit.allowed())
 }
 
 /// The keyslot that the edit opens in a volume of `total` bytes with this header, where ciphers and hashes of
@@ -182,8 +190,8 @@ fn argon2_keyslot(header: &Header, total: u64, edit: &Edit<'_>) -> Option<Memory
 fn older_keyslot(header: &Header, total: u64, edit: &Edit<'_>) -> Option<OlderNote>
     requires { IsAcceptedHeader header.now }
 {
-    let opener = edit.opener()?;
-    older_note(header, opener.slot, total, edit.allowed())
+    let slot = opened_keyslot(edit)?;
+    older_note(header, slot, total, edit.allowed())
 }
 
 /// Whether the edit removes, by the passphrase of another keyslot, the last one by PBKDF2 of a volume with
