@@ -66,6 +66,7 @@ class Number(enum.IntEnum):
     PAYLOAD = 55
     SECTOR_SIZE = 56
     UNEVEN = 57
+    WRONG_KEY = 58
     USAGE = 101
     BEYOND = 102
     MEMORY = 103
