@@ -107,6 +107,7 @@ pub fn restore_header<B: Device, T: Device>(
     requires fields { HasFields header }
     requires accepted { IsAcceptedHeader header }
     requires fits { Fit (HeaderArea header Elsewhere (B.size backup.old)) (B.size backup.old) }
+    requires of { B.tells → IsAcceptedOf (B.bytes backup.old) header }
 
     // The devices: `Device` exactly where a call of one of the two failed.
     ensures count { CountsEither is_restore_failure result (B.failed backup.old)
@@ -116,33 +117,33 @@ pub fn restore_header<B: Device, T: Device>(
     ensures settled { T.tells → OnOk result (IsSettled T.unsettled target.new) }
 
     // The first fault that stands, or want of memory, and then nothing of the target changed.
-    ensures fault { B.tells → T.tells → IsAcceptedOf (B.bytes backup.old) header → IfErr result
+    ensures fault { B.tells → T.tells → IfErr result
         (IsAnsweredRestore (B.bytes backup.old) (T.bytes target.old) payload over) }
-    ensures faultless { B.tells → T.tells → IsAcceptedOf (B.bytes backup.old) header → OnOk result
+    ensures faultless { B.tells → T.tells → OnOk result
         (CanRestore (B.bytes backup.old) (T.bytes target.old) payload over) }
     ensures refused { IfErr result (λ f. is_restore_failure f ≡ false
         → IsUnchanged T.tells T.size T.bytes T.unsettled target.old target.new) }
-    ensures same { B.tells → T.tells → IsAcceptedOf (B.bytes backup.old) header → (f : TheFault)
+    ensures same { B.tells → T.tells → (f : TheFault)
         → IsRestoreFault (B.bytes backup.old) (T.bytes target.old) payload over f
         → T.bytes target.new ≡ T.bytes target.old }
 
     // Which bytes may have changed, also where a device failed: those of header and key areas, and first
     // sectors of older copies; none of a segment.
-    ensures rest { B.tells → T.tells → IsAcceptedOf (B.bytes backup.old) header
+    ensures rest { B.tells → T.tells
         → SameBut (IsOfRestored (B.bytes backup.old) payload (T.bytes target.old))
         (T.bytes target.old) (T.bytes target.new) }
-    ensures segments { B.tells → T.tells → IsAcceptedOf (B.bytes backup.old) header → (n : ℕ) (a : TheArea)
+    ensures segments { B.tells → T.tells → (n : ℕ) (a : TheArea)
         → IsSegmentOn (B.bytes backup.old) payload (T.size target.old) n a
         → part (T.bytes target.new) a.start a.len ≡ part (T.bytes target.old) a.start a.len }
-    ensures order { B.tells → T.tells → IsAcceptedOf (B.bytes backup.old) header → (c : Choice) → Chosen (B.bytes backup.old) c
+    ensures order { B.tells → T.tells → (c : Choice) → Chosen (B.bytes backup.old) c
         → RestoresInTurn (B.bytes backup.old) payload c (T.bytes target.old) (T.bytes target.new) }
 
     // The volume that was made: each keyslot answers as the backup's.
-    ensures restored { B.tells → T.tells → IsAcceptedOf (B.bytes backup.old) header → OnOk result
+    ensures restored { B.tells → T.tells → OnOk result
         (IsRestored (B.bytes backup.old) payload (T.bytes target.old) (T.bytes target.new)) }
-    ensures well_formed { B.tells → T.tells → IsAcceptedOf (B.bytes backup.old) header
+    ensures well_formed { B.tells → T.tells
         → OnOk result (WellFormed (T.bytes target.new) payload) }
-    ensures answers { B.tells → T.tells → IsAcceptedOf (B.bytes backup.old) header → OnOk result ((allowed : TheAllowed) (n : ℕ) (p : List ℕ) (a : Opened)
+    ensures answers { B.tells → T.tells → OnOk result ((allowed : TheAllowed) (n : ℕ) (p : List ℕ) (a : Opened)
         → AnswerWithin allowed (B.bytes backup.old) n p a
         ↔ AnswerWithin allowed (T.bytes target.new) n p a) }
 {

@@ -39,6 +39,10 @@ pub restore_header-requires-clause-fits : goal.restore_header-requires-clause-fi
 restore_header-requires-clause-fits g c =
     subst (λ (n : ℕ). Fit (HeaderArea c.in_ok-header.header Elsewhere n) n) (sym c.in_ok-header.ensures.unchanged.size) c.in_ok-header.ensures.fits
 
+pub restore_header-requires-clause-of : goal.restore_header-requires-clause-of
+restore_header-requires-clause-of g c = λ source.
+    subst (λ (l : List ℕ). IsAcceptedOf l c.in_ok-header.header) (sym (c.in_ok-header.ensures.unchanged.same source)) (c.in_ok-header.ensures.read source, c.in_ok-header.ensures.formed source)
+
 pub returns-clause-count : goal.returns-clause-count
 returns-clause-count g c =
     subst (λ (n : ℕ). CountsEither is_restore_failure c.restore_header.result n (g.B.Device.failed c.restore_header.new.backup) (g.T.Device.failed c.args.target.now) (g.T.Device.failed c.restore_header.new.target))
@@ -51,70 +55,52 @@ pub returns-clause-fault : goal.returns-clause-fault
 returns-clause-fault g c = λ source tells.
     let b : List ℕ = g.B.Device.bytes c.args.backup.now in
     let same : g.B.Device.bytes c.accepted_header.new.device ≡ b = c.in_ok-header.ensures.unchanged.same source in
-    let of : IsAcceptedOf (g.B.Device.bytes c.accepted_header.new.device) c.in_ok-header.header =
-    subst (λ (l : List ℕ). IsAcceptedOf l c.in_ok-header.header) (sym same) (c.in_ok-header.ensures.read source, c.in_ok-header.ensures.formed source) in
-    subst (λ (l : List ℕ). IfErr c.restore_header.result (IsAnsweredRestore l (g.T.Device.bytes c.args.target.now) c.args.payload c.args.over)) same (c.restore_header.ensures.fault source tells of)
+    subst (λ (l : List ℕ). IfErr c.restore_header.result (IsAnsweredRestore l (g.T.Device.bytes c.args.target.now) c.args.payload c.args.over)) same (c.restore_header.ensures.fault source tells)
 
 pub returns-clause-faultless : goal.returns-clause-faultless
 returns-clause-faultless g c = λ source tells.
     let b : List ℕ = g.B.Device.bytes c.args.backup.now in
     let same : g.B.Device.bytes c.accepted_header.new.device ≡ b = c.in_ok-header.ensures.unchanged.same source in
-    let of : IsAcceptedOf (g.B.Device.bytes c.accepted_header.new.device) c.in_ok-header.header =
-    subst (λ (l : List ℕ). IsAcceptedOf l c.in_ok-header.header) (sym same) (c.in_ok-header.ensures.read source, c.in_ok-header.ensures.formed source) in
-    subst (λ (l : List ℕ). OnOk c.restore_header.result (CanRestore l (g.T.Device.bytes c.args.target.now) c.args.payload c.args.over)) same (c.restore_header.ensures.faultless source tells of)
+    subst (λ (l : List ℕ). OnOk c.restore_header.result (CanRestore l (g.T.Device.bytes c.args.target.now) c.args.payload c.args.over)) same (c.restore_header.ensures.faultless source tells)
 
 pub returns-clause-same : goal.returns-clause-same
 returns-clause-same g c = λ source tells f bad.
     let b : List ℕ = g.B.Device.bytes c.args.backup.now in
     let same : g.B.Device.bytes c.accepted_header.new.device ≡ b = c.in_ok-header.ensures.unchanged.same source in
-    let of : IsAcceptedOf (g.B.Device.bytes c.accepted_header.new.device) c.in_ok-header.header =
-    subst (λ (l : List ℕ). IsAcceptedOf l c.in_ok-header.header) (sym same) (c.in_ok-header.ensures.read source, c.in_ok-header.ensures.formed source) in
-    c.restore_header.ensures.same source tells of f (subst (λ (l : List ℕ). IsRestoreFault l (g.T.Device.bytes c.args.target.now) c.args.payload c.args.over f) (sym same) bad)
+    c.restore_header.ensures.same source tells f (subst (λ (l : List ℕ). IsRestoreFault l (g.T.Device.bytes c.args.target.now) c.args.payload c.args.over f) (sym same) bad)
 
 pub returns-clause-rest : goal.returns-clause-rest
 returns-clause-rest g c = λ source tells.
     let b : List ℕ = g.B.Device.bytes c.args.backup.now in
     let same : g.B.Device.bytes c.accepted_header.new.device ≡ b = c.in_ok-header.ensures.unchanged.same source in
-    let of : IsAcceptedOf (g.B.Device.bytes c.accepted_header.new.device) c.in_ok-header.header =
-    subst (λ (l : List ℕ). IsAcceptedOf l c.in_ok-header.header) (sym same) (c.in_ok-header.ensures.read source, c.in_ok-header.ensures.formed source) in
-    subst (λ (l : List ℕ). SameBut (IsOfRestored l c.args.payload (g.T.Device.bytes c.args.target.now)) (g.T.Device.bytes c.args.target.now) (g.T.Device.bytes c.restore_header.new.target)) same (c.restore_header.ensures.rest source tells of)
+    subst (λ (l : List ℕ). SameBut (IsOfRestored l c.args.payload (g.T.Device.bytes c.args.target.now)) (g.T.Device.bytes c.args.target.now) (g.T.Device.bytes c.restore_header.new.target)) same (c.restore_header.ensures.rest source tells)
 
 pub returns-clause-segments : goal.returns-clause-segments
 returns-clause-segments g c = λ source tells n a seg.
     let b : List ℕ = g.B.Device.bytes c.args.backup.now in
     let same : g.B.Device.bytes c.accepted_header.new.device ≡ b = c.in_ok-header.ensures.unchanged.same source in
-    let of : IsAcceptedOf (g.B.Device.bytes c.accepted_header.new.device) c.in_ok-header.header =
-    subst (λ (l : List ℕ). IsAcceptedOf l c.in_ok-header.header) (sym same) (c.in_ok-header.ensures.read source, c.in_ok-header.ensures.formed source) in
-    c.restore_header.ensures.segments source tells of n a (subst (λ (l : List ℕ). IsSegmentOn l c.args.payload (g.T.Device.size c.args.target.now) n a) (sym same) seg)
+    c.restore_header.ensures.segments source tells n a (subst (λ (l : List ℕ). IsSegmentOn l c.args.payload (g.T.Device.size c.args.target.now) n a) (sym same) seg)
 
 pub returns-clause-order : goal.returns-clause-order
 returns-clause-order g c = λ source tells choice chosen.
     let b : List ℕ = g.B.Device.bytes c.args.backup.now in
     let same : g.B.Device.bytes c.accepted_header.new.device ≡ b = c.in_ok-header.ensures.unchanged.same source in
-    let of : IsAcceptedOf (g.B.Device.bytes c.accepted_header.new.device) c.in_ok-header.header =
-    subst (λ (l : List ℕ). IsAcceptedOf l c.in_ok-header.header) (sym same) (c.in_ok-header.ensures.read source, c.in_ok-header.ensures.formed source) in
-    subst (λ (l : List ℕ). RestoresInTurn l c.args.payload choice (g.T.Device.bytes c.args.target.now) (g.T.Device.bytes c.restore_header.new.target)) same (c.restore_header.ensures.order source tells of choice (subst (λ (l : List ℕ). Chosen l choice) (sym same) chosen))
+    subst (λ (l : List ℕ). RestoresInTurn l c.args.payload choice (g.T.Device.bytes c.args.target.now) (g.T.Device.bytes c.restore_header.new.target)) same (c.restore_header.ensures.order source tells choice (subst (λ (l : List ℕ). Chosen l choice) (sym same) chosen))
 
 pub returns-clause-restored : goal.returns-clause-restored
 returns-clause-restored g c = λ source tells.
     let b : List ℕ = g.B.Device.bytes c.args.backup.now in
     let same : g.B.Device.bytes c.accepted_header.new.device ≡ b = c.in_ok-header.ensures.unchanged.same source in
-    let of : IsAcceptedOf (g.B.Device.bytes c.accepted_header.new.device) c.in_ok-header.header =
-    subst (λ (l : List ℕ). IsAcceptedOf l c.in_ok-header.header) (sym same) (c.in_ok-header.ensures.read source, c.in_ok-header.ensures.formed source) in
-    subst (λ (l : List ℕ). OnOk c.restore_header.result (IsRestored l c.args.payload (g.T.Device.bytes c.args.target.now) (g.T.Device.bytes c.restore_header.new.target))) same (c.restore_header.ensures.restored source tells of)
+    subst (λ (l : List ℕ). OnOk c.restore_header.result (IsRestored l c.args.payload (g.T.Device.bytes c.args.target.now) (g.T.Device.bytes c.restore_header.new.target))) same (c.restore_header.ensures.restored source tells)
 
 pub returns-clause-well_formed : goal.returns-clause-well_formed
 returns-clause-well_formed g c = λ source tells.
     let b : List ℕ = g.B.Device.bytes c.args.backup.now in
     let same : g.B.Device.bytes c.accepted_header.new.device ≡ b = c.in_ok-header.ensures.unchanged.same source in
-    let of : IsAcceptedOf (g.B.Device.bytes c.accepted_header.new.device) c.in_ok-header.header =
-    subst (λ (l : List ℕ). IsAcceptedOf l c.in_ok-header.header) (sym same) (c.in_ok-header.ensures.read source, c.in_ok-header.ensures.formed source) in
-    c.restore_header.ensures.well_formed source tells of
+    c.restore_header.ensures.well_formed source tells
 
 pub returns-clause-answers : goal.returns-clause-answers
 returns-clause-answers g c = λ source tells.
     let b : List ℕ = g.B.Device.bytes c.args.backup.now in
     let same : g.B.Device.bytes c.accepted_header.new.device ≡ b = c.in_ok-header.ensures.unchanged.same source in
-    let of : IsAcceptedOf (g.B.Device.bytes c.accepted_header.new.device) c.in_ok-header.header =
-    subst (λ (l : List ℕ). IsAcceptedOf l c.in_ok-header.header) (sym same) (c.in_ok-header.ensures.read source, c.in_ok-header.ensures.formed source) in
-    subst (λ (l : List ℕ). OnOk c.restore_header.result ((allowed : Allowed) (n : ℕ) (p : List ℕ) (a : Opened) → AnswerWithin allowed l n p a ↔ AnswerWithin allowed (g.T.Device.bytes c.restore_header.new.target) n p a)) same (c.restore_header.ensures.answers source tells of)
+    subst (λ (l : List ℕ). OnOk c.restore_header.result ((allowed : Allowed) (n : ℕ) (p : List ℕ) (a : Opened) → AnswerWithin allowed l n p a ↔ AnswerWithin allowed (g.T.Device.bytes c.restore_header.new.target) n p a)) same (c.restore_header.ensures.answers source tells)

@@ -34,13 +34,13 @@ write_over-requires-clause-within g c =
     (inside c.args.header c.outline_of-outline.result.places c.outline_of-outline.ensures.laid _ _ c.in_ok-judge_fit.ensures.fits)
 
 pub returns-in_err-judge_fit-clause-fault : goal.returns-in_err-judge_fit-clause-fault
-returns-in_err-judge_fit-clause-fault g c = λ source tells of.
+returns-in_err-judge_fit-clause-fault g c = λ source tells.
     let b : List ℕ = g.B.Device.bytes c.args.backup.now in
     let t : List ℕ = g.T.Device.bytes c.args.target.now in
     let p = err_from_is_err_and c.from_residual.result c.from_residual.ensures.1 in
     let long : c.len.result ≡ length t = c.len.ensures ∙ sym (g.met.T.Device.sized c.args.target.now tells) in
-    rw (p.1, p.2) (answered_unfit b t c.args.payload c.args.over (of.1) c.in_err-judge_fit.field-0.0
-    (subst (λ (n : ℕ). IsUnfit b c.args.payload n c.in_err-judge_fit.field-0.0) long (c.in_err-judge_fit.ensures.refused b (of.0))))
+    rw (p.1, p.2) (answered_unfit b t c.args.payload c.args.over ((c.requires.of source).1) c.in_err-judge_fit.field-0.0
+    (subst (λ (n : ℕ). IsUnfit b c.args.payload n c.in_err-judge_fit.field-0.0) long (c.in_err-judge_fit.ensures.refused b ((c.requires.of source).0))))
 
 pub returns-in_err-judge_fit-clause-count : goal.returns-in_err-judge_fit-clause-count
 returns-in_err-judge_fit-clause-count g c =
@@ -48,32 +48,32 @@ returns-in_err-judge_fit-clause-count g c =
     rw (p.1, p.2) (counts_none (is_restore_failure c.in_err-judge_fit.field-0.0) _ _ _ c.in_err-judge_fit.ensures.own refl)
 
 pub returns-clause-restored : goal.returns-clause-restored
-returns-clause-restored g c = λ source tells of.
+returns-clause-restored g c = λ source tells.
     let b : List ℕ = g.B.Device.bytes c.args.backup.now in
     let t : List ℕ = g.T.Device.bytes c.args.target.now in
-    let is = of.0 in
+    let is = (c.requires.of source).0 in
     let front : IsFrontAs b c.args.payload (length t) (choice_of c.args.header) c.data_start-limit.result =
     subst (λ (n : ℕ). IsFrontAs b c.args.payload n (choice_of c.args.header) c.data_start-limit.result)
     (c.len-2.ensures ∙ sym (g.met.T.Device.sized c.args.target.now tells)) (c.data_start-limit.ensures.start b is) in
     let w : List ℕ = g.T.Device.bytes c.write_over.new.target in
     let long : c.len.result ≡ length w = c.len.ensures ∙ sym c.in_ok-judge_other.ensures.unchanged.size ∙ sym c.write_over.ensures.size ∙ sym (g.met.T.Device.sized c.write_over.new.target tells) in
-    let over = written_over b c.args.payload c.args.header is c.outline_of-outline.result.places c.outline_of-outline.ensures.laid (of.1) _ t _ w c.len.result c.data_start-limit.result front refl
+    let over = written_over b c.args.payload c.args.header is c.outline_of-outline.result.places c.outline_of-outline.ensures.laid ((c.requires.of source).1) _ t _ w c.len.result c.data_start-limit.result front refl
     (c.in_ok-judge_other.ensures.unchanged.same tells) long (c.in_ok-judge_fit.ensures.formed b is) (c.write_over.ensures.rest tells) (c.in_ok-write_over.ensures.gone tells) (c.in_ok-write_over.ensures.copied source tells) (c.in_ok-write_over.ensures.lead tells) in
     is_restored b c.args.payload c.args.header c.outline_of-outline.result.places t w over
 
 -- ---- nothing was written
 
 pub returns-in_err-judge_fit-clause-order : goal.returns-in_err-judge_fit-clause-order
-returns-in_err-judge_fit-clause-order g c = λ source tells of choice chosen. inl (same_but-same _ _)
+returns-in_err-judge_fit-clause-order g c = λ source tells choice chosen. inl (same_but-same _ _)
 
 pub returns-in_err-judge_other-clause-order : goal.returns-in_err-judge_other-clause-order
-returns-in_err-judge_other-clause-order g c = λ source tells of choice chosen. inl (same_but-equal _ (c.in_err-judge_other.ensures.unchanged.same tells))
+returns-in_err-judge_other-clause-order g c = λ source tells choice chosen. inl (same_but-equal _ (c.in_err-judge_other.ensures.unchanged.same tells))
 
 pub returns-in_err-judge_other-clause-rest : goal.returns-in_err-judge_other-clause-rest
-returns-in_err-judge_other-clause-rest g c = λ source tells of. same_but-equal _ (c.in_err-judge_other.ensures.unchanged.same tells)
+returns-in_err-judge_other-clause-rest g c = λ source tells. same_but-equal _ (c.in_err-judge_other.ensures.unchanged.same tells)
 
 pub returns-in_err-judge_other-clause-segments : goal.returns-in_err-judge_other-clause-segments
-returns-in_err-judge_other-clause-segments g c = λ source tells of n a seg. ap (λ l. part l a.start a.len) (c.in_err-judge_other.ensures.unchanged.same tells)
+returns-in_err-judge_other-clause-segments g c = λ source tells n a seg. ap (λ l. part l a.start a.len) (c.in_err-judge_other.ensures.unchanged.same tells)
 
 pub returns-in_err-judge_other-clause-count : goal.returns-in_err-judge_other-clause-count
 returns-in_err-judge_other-clause-count g c =
@@ -86,14 +86,14 @@ returns-in_err-judge_other-clause-refused g c =
     rw (p.1, p.2) (λ own. c.in_err-judge_other.ensures.unchanged)
 
 pub returns-in_err-judge_other-clause-fault : goal.returns-in_err-judge_other-clause-fault
-returns-in_err-judge_other-clause-fault g c = λ source tells of.
+returns-in_err-judge_other-clause-fault g c = λ source tells.
     let b : List ℕ = g.B.Device.bytes c.args.backup.now in
     let t : List ℕ = g.T.Device.bytes c.args.target.now in
-    let is = of.0 in
+    let is = (c.requires.of source).0 in
     let long : c.len.result ≡ length t = c.len.ensures ∙ sym (g.met.T.Device.sized c.args.target.now tells) in
     let fits : IsFormedOn b c.args.payload (length t) = subst (λ (n : ℕ). IsFormedOn b c.args.payload n) long (c.in_ok-judge_fit.ensures.formed b is) in
     let p = err_from_is_err_and c.from_residual-in_err-judge_other.result c.from_residual-in_err-judge_other.ensures.1 in
-    rw (p.1, p.2) (answered_other b t c.args.payload c.args.over (of.1) (faultless_on b c.args.payload (length t) fits) c.in_err-judge_other.field-0.0
+    rw (p.1, p.2) (answered_other b t c.args.payload c.args.over ((c.requires.of source).1) (faultless_on b c.args.payload (length t) fits) c.in_err-judge_other.field-0.0
     (c.in_err-judge_other.ensures.refused tells b (record { header = c.args.header; is_header = is; is = c.outline_of-outline.ensures.identity })))
 
 -- ---- the backup was written
@@ -109,34 +109,34 @@ returns-in_err-write_over-clause-refused g c =
     rw (p.1, p.2) (λ (own : true ≡ false). absurd (true≢false own))
 
 pub returns-clause-faultless : goal.returns-clause-faultless
-returns-clause-faultless g c = λ source tells of.
+returns-clause-faultless g c = λ source tells.
     let b : List ℕ = g.B.Device.bytes c.args.backup.now in
     let t : List ℕ = g.T.Device.bytes c.args.target.now in
-    let is = of.0 in
-    can_fit b t c.args.payload c.args.over (of.1) c.len.result (c.len.ensures ∙ sym (g.met.T.Device.sized c.args.target.now tells)) (c.in_ok-judge_fit.ensures.formed b is)
+    let is = (c.requires.of source).0 in
+    can_fit b t c.args.payload c.args.over ((c.requires.of source).1) c.len.result (c.len.ensures ∙ sym (g.met.T.Device.sized c.args.target.now tells)) (c.in_ok-judge_fit.ensures.formed b is)
     (c.in_ok-judge_other.ensures.clear tells b (record { header = c.args.header; is_header = is; is = c.outline_of-outline.ensures.identity }))
 
 pub returns-clause-same : goal.returns-clause-same
-returns-clause-same g c = λ source tells of f bad.
+returns-clause-same g c = λ source tells f bad.
     let b : List ℕ = g.B.Device.bytes c.args.backup.now in
     let t : List ℕ = g.T.Device.bytes c.args.target.now in
-    let is = of.0 in
-    absurd ((can_fit b t c.args.payload c.args.over (of.1) c.len.result (c.len.ensures ∙ sym (g.met.T.Device.sized c.args.target.now tells)) (c.in_ok-judge_fit.ensures.formed b is)
+    let is = (c.requires.of source).0 in
+    absurd ((can_fit b t c.args.payload c.args.over ((c.requires.of source).1) c.len.result (c.len.ensures ∙ sym (g.met.T.Device.sized c.args.target.now tells)) (c.in_ok-judge_fit.ensures.formed b is)
     (c.in_ok-judge_other.ensures.clear tells b (record { header = c.args.header; is_header = is; is = c.outline_of-outline.ensures.identity }))).none f bad)
 
 pub returns-in_err-write_over-clause-same : goal.returns-in_err-write_over-clause-same
-returns-in_err-write_over-clause-same g c = λ source tells of f bad.
+returns-in_err-write_over-clause-same g c = λ source tells f bad.
     let b : List ℕ = g.B.Device.bytes c.args.backup.now in
     let t : List ℕ = g.T.Device.bytes c.args.target.now in
-    let is = of.0 in
-    absurd ((can_fit b t c.args.payload c.args.over (of.1) c.len.result (c.len.ensures ∙ sym (g.met.T.Device.sized c.args.target.now tells)) (c.in_ok-judge_fit.ensures.formed b is)
+    let is = (c.requires.of source).0 in
+    absurd ((can_fit b t c.args.payload c.args.over ((c.requires.of source).1) c.len.result (c.len.ensures ∙ sym (g.met.T.Device.sized c.args.target.now tells)) (c.in_ok-judge_fit.ensures.formed b is)
     (c.in_ok-judge_other.ensures.clear tells b (record { header = c.args.header; is_header = is; is = c.outline_of-outline.ensures.identity }))).none f bad)
 
 pub returns-clause-rest : goal.returns-clause-rest
-returns-clause-rest g c = λ source tells of.
+returns-clause-rest g c = λ source tells.
     let b : List ℕ = g.B.Device.bytes c.args.backup.now in
     let t : List ℕ = g.T.Device.bytes c.args.target.now in
-    let is = of.0 in
+    let is = (c.requires.of source).0 in
     let front : IsFrontAs b c.args.payload (length t) (choice_of c.args.header) c.data_start-limit.result =
     subst (λ (n : ℕ). IsFrontAs b c.args.payload n (choice_of c.args.header) c.data_start-limit.result)
     (c.len-2.ensures ∙ sym (g.met.T.Device.sized c.args.target.now tells)) (c.data_start-limit.ensures.start b is) in
@@ -145,10 +145,10 @@ returns-clause-rest g c = λ source tells of.
     (c.in_ok-judge_other.ensures.unchanged.same tells) (c.write_over.ensures.rest tells))
 
 pub returns-in_err-write_over-clause-rest : goal.returns-in_err-write_over-clause-rest
-returns-in_err-write_over-clause-rest g c = λ source tells of.
+returns-in_err-write_over-clause-rest g c = λ source tells.
     let b : List ℕ = g.B.Device.bytes c.args.backup.now in
     let t : List ℕ = g.T.Device.bytes c.args.target.now in
-    let is = of.0 in
+    let is = (c.requires.of source).0 in
     let front : IsFrontAs b c.args.payload (length t) (choice_of c.args.header) c.data_start-limit.result =
     subst (λ (n : ℕ). IsFrontAs b c.args.payload n (choice_of c.args.header) c.data_start-limit.result)
     (c.len-2.ensures ∙ sym (g.met.T.Device.sized c.args.target.now tells)) (c.data_start-limit.ensures.start b is) in
@@ -157,10 +157,10 @@ returns-in_err-write_over-clause-rest g c = λ source tells of.
     (c.in_ok-judge_other.ensures.unchanged.same tells) (c.write_over.ensures.rest tells))
 
 pub returns-clause-segments : goal.returns-clause-segments
-returns-clause-segments g c = λ source tells of n a seg.
+returns-clause-segments g c = λ source tells n a seg.
     let b : List ℕ = g.B.Device.bytes c.args.backup.now in
     let t : List ℕ = g.T.Device.bytes c.args.target.now in
-    let is = of.0 in
+    let is = (c.requires.of source).0 in
     let front : IsFrontAs b c.args.payload (length t) (choice_of c.args.header) c.data_start-limit.result =
     subst (λ (n : ℕ). IsFrontAs b c.args.payload n (choice_of c.args.header) c.data_start-limit.result)
     (c.len-2.ensures ∙ sym (g.met.T.Device.sized c.args.target.now tells)) (c.data_start-limit.ensures.start b is) in
@@ -170,10 +170,10 @@ returns-clause-segments g c = λ source tells of n a seg.
     (c.in_ok-judge_other.ensures.unchanged.same tells) (c.write_over.ensures.rest tells)) n a (subst (λ (m : ℕ). IsSegmentOn b c.args.payload m n a) (sym size) seg)
 
 pub returns-in_err-write_over-clause-segments : goal.returns-in_err-write_over-clause-segments
-returns-in_err-write_over-clause-segments g c = λ source tells of n a seg.
+returns-in_err-write_over-clause-segments g c = λ source tells n a seg.
     let b : List ℕ = g.B.Device.bytes c.args.backup.now in
     let t : List ℕ = g.T.Device.bytes c.args.target.now in
-    let is = of.0 in
+    let is = (c.requires.of source).0 in
     let front : IsFrontAs b c.args.payload (length t) (choice_of c.args.header) c.data_start-limit.result =
     subst (λ (n : ℕ). IsFrontAs b c.args.payload n (choice_of c.args.header) c.data_start-limit.result)
     (c.len-2.ensures ∙ sym (g.met.T.Device.sized c.args.target.now tells)) (c.data_start-limit.ensures.start b is) in
@@ -183,10 +183,10 @@ returns-in_err-write_over-clause-segments g c = λ source tells of n a seg.
     (c.in_ok-judge_other.ensures.unchanged.same tells) (c.write_over.ensures.rest tells)) n a (subst (λ (m : ℕ). IsSegmentOn b c.args.payload m n a) (sym size) seg)
 
 pub returns-clause-order : goal.returns-clause-order
-returns-clause-order g c = λ source tells of.
+returns-clause-order g c = λ source tells.
     let b : List ℕ = g.B.Device.bytes c.args.backup.now in
     let t : List ℕ = g.T.Device.bytes c.args.target.now in
-    let is = of.0 in
+    let is = (c.requires.of source).0 in
     let front : IsFrontAs b c.args.payload (length t) (choice_of c.args.header) c.data_start-limit.result =
     subst (λ (n : ℕ). IsFrontAs b c.args.payload n (choice_of c.args.header) c.data_start-limit.result)
     (c.len-2.ensures ∙ sym (g.met.T.Device.sized c.args.target.now tells)) (c.data_start-limit.ensures.start b is) in
@@ -194,10 +194,10 @@ returns-clause-order g c = λ source tells of.
     refl (c.in_ok-judge_other.ensures.unchanged.same tells) (c.write_over.ensures.order source tells)
 
 pub returns-in_err-write_over-clause-order : goal.returns-in_err-write_over-clause-order
-returns-in_err-write_over-clause-order g c = λ source tells of.
+returns-in_err-write_over-clause-order g c = λ source tells.
     let b : List ℕ = g.B.Device.bytes c.args.backup.now in
     let t : List ℕ = g.T.Device.bytes c.args.target.now in
-    let is = of.0 in
+    let is = (c.requires.of source).0 in
     let front : IsFrontAs b c.args.payload (length t) (choice_of c.args.header) c.data_start-limit.result =
     subst (λ (n : ℕ). IsFrontAs b c.args.payload n (choice_of c.args.header) c.data_start-limit.result)
     (c.len-2.ensures ∙ sym (g.met.T.Device.sized c.args.target.now tells)) (c.data_start-limit.ensures.start b is) in
@@ -205,29 +205,29 @@ returns-in_err-write_over-clause-order g c = λ source tells of.
     refl (c.in_ok-judge_other.ensures.unchanged.same tells) (c.write_over.ensures.order source tells)
 
 pub returns-clause-well_formed : goal.returns-clause-well_formed
-returns-clause-well_formed g c = λ source tells of.
+returns-clause-well_formed g c = λ source tells.
     let b : List ℕ = g.B.Device.bytes c.args.backup.now in
     let t : List ℕ = g.T.Device.bytes c.args.target.now in
-    let is = of.0 in
+    let is = (c.requires.of source).0 in
     let front : IsFrontAs b c.args.payload (length t) (choice_of c.args.header) c.data_start-limit.result =
     subst (λ (n : ℕ). IsFrontAs b c.args.payload n (choice_of c.args.header) c.data_start-limit.result)
     (c.len-2.ensures ∙ sym (g.met.T.Device.sized c.args.target.now tells)) (c.data_start-limit.ensures.start b is) in
     let w : List ℕ = g.T.Device.bytes c.write_over.new.target in
     let long : c.len.result ≡ length w = c.len.ensures ∙ sym c.in_ok-judge_other.ensures.unchanged.size ∙ sym c.write_over.ensures.size ∙ sym (g.met.T.Device.sized c.write_over.new.target tells) in
-    let over = written_over b c.args.payload c.args.header is c.outline_of-outline.result.places c.outline_of-outline.ensures.laid (of.1) _ t _ w c.len.result c.data_start-limit.result front refl
+    let over = written_over b c.args.payload c.args.header is c.outline_of-outline.result.places c.outline_of-outline.ensures.laid ((c.requires.of source).1) _ t _ w c.len.result c.data_start-limit.result front refl
     (c.in_ok-judge_other.ensures.unchanged.same tells) long (c.in_ok-judge_fit.ensures.formed b is) (c.write_over.ensures.rest tells) (c.in_ok-write_over.ensures.gone tells) (c.in_ok-write_over.ensures.copied source tells) (c.in_ok-write_over.ensures.lead tells) in
     well_formed b c.args.payload c.args.header c.outline_of-outline.result.places t w over
 
 pub returns-clause-answers : goal.returns-clause-answers
-returns-clause-answers g c = λ source tells of.
+returns-clause-answers g c = λ source tells.
     let b : List ℕ = g.B.Device.bytes c.args.backup.now in
     let t : List ℕ = g.T.Device.bytes c.args.target.now in
-    let is = of.0 in
+    let is = (c.requires.of source).0 in
     let front : IsFrontAs b c.args.payload (length t) (choice_of c.args.header) c.data_start-limit.result =
     subst (λ (n : ℕ). IsFrontAs b c.args.payload n (choice_of c.args.header) c.data_start-limit.result)
     (c.len-2.ensures ∙ sym (g.met.T.Device.sized c.args.target.now tells)) (c.data_start-limit.ensures.start b is) in
     let w : List ℕ = g.T.Device.bytes c.write_over.new.target in
     let long : c.len.result ≡ length w = c.len.ensures ∙ sym c.in_ok-judge_other.ensures.unchanged.size ∙ sym c.write_over.ensures.size ∙ sym (g.met.T.Device.sized c.write_over.new.target tells) in
-    let over = written_over b c.args.payload c.args.header is c.outline_of-outline.result.places c.outline_of-outline.ensures.laid (of.1) _ t _ w c.len.result c.data_start-limit.result front refl
+    let over = written_over b c.args.payload c.args.header is c.outline_of-outline.result.places c.outline_of-outline.ensures.laid ((c.requires.of source).1) _ t _ w c.len.result c.data_start-limit.result front refl
     (c.in_ok-judge_other.ensures.unchanged.same tells) long (c.in_ok-judge_fit.ensures.formed b is) (c.write_over.ensures.rest tells) (c.in_ok-write_over.ensures.gone tells) (c.in_ok-write_over.ensures.copied source tells) (c.in_ok-write_over.ensures.lead tells) in
     answers_alike b c.args.payload c.args.header c.outline_of-outline.result.places t w over
