@@ -2,7 +2,7 @@ use Rattle.std.proofs.Common.{ℕ, List, IfErr, OnOk, sym, ap, subst, ◌∙◌,
 use Rattle.std.proofs.lemmas.Result.{err_from_is_err_and}
 use Rattle.luks_area.specs.Area.{Fit}
 use Rattle.luks_area.specs.Device.{count_after, unchanged-then}
-use Rattle.luks_area.specs.Ranges.{part, SameBut}
+use Rattle.luks_area.specs.Ranges.{SameBut}
 use Rattle.luks_area.proofs.RangeFacts.{same_but-same}
 use Rattle.luks_slot.specs.declared.allowed.Allowed.{Allowed}
 use Rattle.luks_writing.specs.TwoDevices.{CountsEither}

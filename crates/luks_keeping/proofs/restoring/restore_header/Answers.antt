@@ -1,19 +1,18 @@
 use Rattle.std.proofs.Common.{◌≡◌, ℕ, List, length, true, false, sym, ap, subst, ◌∙◌, inl, refl}
 use Rattle.std.proofs.lemmas.Bool.{true≢false}
 use Rattle.std.proofs.lemmas.Result.{err_from_is_err_and}
-use Rattle.luks_area.specs.Device.{count_after, unchanged-then}
 use Rattle.luks_area.specs.Ranges.{part}
 use Rattle.luks_area.proofs.RangeFacts.{same_but-equal, same_but-same}
-use Rattle.luks_writing.proofs.CountFacts.{counts_first, counts_none}
+use Rattle.luks_writing.proofs.CountFacts.{counts_none}
 use Rattle.luks_keeping.specs.Judged.{IsFormedOn}
 use Rattle.luks_keeping.specs.Laid.{choice_of}
 use Rattle.luks_keeping.specs.Places.{AreInside}
 use Rattle.luks_keeping.specs.Restored.{IsFrontAs, IsSegmentOn}
 use Rattle.luks_keeping.specs.OtherHeaders.{IsUnfit}
-use Rattle.luks_keeping.specs.RestoreFaults.{checked_restore, is_restore_failure}
+use Rattle.luks_keeping.specs.RestoreFaults.{is_restore_failure}
 use Rattle.luks_keeping.proofs.LaidFacts.{apart, inside, lead_below}
 use Rattle.luks_keeping.proofs.RestoreFacts.{answers_alike, changed_rest, is_restored, of_restored, segment_stays, well_formed, written_over}
-use Rattle.luks_keeping.proofs.RestoreFaultFacts.{answered_other, answered_refusal, answered_unfit, can_fit, counts_second, same_failure, two_failures}
+use Rattle.luks_keeping.proofs.RestoreFaultFacts.{answered_other, answered_unfit, can_fit, counts_second, two_failures}
 use Rattle.luks_keeping.proofs.SoundFacts.{faultless_on}
 use Rattle.luks_keeping.proofs.TurnFacts.{turn_over}
 use Rattle.luks_keeping.proofs.restoring.restore_header.Goals as goal
