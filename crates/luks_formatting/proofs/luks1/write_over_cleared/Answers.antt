@@ -1,7 +1,5 @@
-use Rattle.std.proofs.Common.{◌≡◌, ◌+◌, ◌*◌, ℕ, List, length, arith, sym, ap, subst, inl, ◌∙◌}
-use Rattle.luks_area.specs.Ranges.{IsAt, SameBut}
+use Rattle.std.proofs.Common.{◌≡◌, ℕ, length, arith, sym, ap, subst, inl, ◌∙◌}
 use Rattle.luks_area.specs.declared.area.Area.{Area}
-use Rattle.luks_formatting.specs.Encrypting.{used_bytes}
 use Rattle.luks_formatting.specs.NewPlan.{IsSealable}
 use Rattle.luks_formatting.proofs.EncryptingFacts.{sizes, used_most}
 use Rattle.luks_formatting.proofs.GivenFacts.{length-key_of, uuid_is}

@@ -1,4 +1,4 @@
-use Rattle.std.proofs.Common.{ℕ, true, false, None, arith, ◌^◌}
+use Rattle.std.proofs.Common.{true, false, None, arith, ◌^◌}
 use Rattle.std.proofs.lemmas.Bool.{false≢true}
 use Rattle.std.proofs.lemmas.Result.{on_ok_weaker, IfErr-weaker}
 use Rattle.luks_slot.specs.Allowance.{none_allowed}

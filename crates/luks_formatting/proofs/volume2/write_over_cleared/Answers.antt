@@ -1,4 +1,4 @@
-use Rattle.std.proofs.Common.{◌≡◌, ◌+◌, ◌*◌, ◌≤◌, ℕ, List, length, arith, sym, ap, ◌∙◌, inl, subst, MatchOption}
+use Rattle.std.proofs.Common.{◌≡◌, ℕ, List, length, arith, sym, ap, ◌∙◌, inl, subst, MatchOption}
 use Rattle.luks_area.specs.declared.area.Area.{Area}
 use Rattle.luks_formatting.specs.Given.{key_of}
 use Rattle.luks_formatting.specs.NewPlan.{IsSealable, IsSealedAhead}
