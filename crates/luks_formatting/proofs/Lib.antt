@@ -1,4 +1,5 @@
 mod AheadFacts
+mod FaultFacts
 pub mod EncryptingFacts
 pub mod GivenFacts
 pub mod NewPlanFacts

@@ -15,7 +15,6 @@ use Rattle.luks1_header.specs.declared.fault.TextField.TheVariants as field
 use Rattle.luks1_header.specs.declared.luks1.Luks1.{Luks1}
 use Rattle.luks1_header.specs.declared.luks1.Luks1Slot.{Luks1Slot}
 use Rattle.luks_reading.specs.Layout1.{Luks1Area}
-use Rattle.luks_reading.specs.declared.report.Data.TheVariants.{Here}
 use Rattle.luks_reading.specs.declared.format.Format.{Format}
 use Rattle.luks2_header.proofs.UuidFacts as Uuid
 use Rattle.luks_formatting.specs.NewHeader1.{free_slot, material_sector, new_slot, payload_sector, IsNewHeader1}

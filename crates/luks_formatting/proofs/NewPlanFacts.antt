@@ -28,7 +28,7 @@ use Rattle.luks_making.specs.declared.derivation.NewDerivation.{NewDerivation}
 use Rattle.luks_making.specs.declared.derivation.NewDerivation.TheVariants as by
 use Rattle.luks_making.specs.Derivations.{costs_beyond, memory_by, takes_memory, IsMakeable}
 use Rattle.luks_formatting.specs.Deriving.{slot_derivation, IsArgon2Plan, IsDerivedBy}
-use Rattle.luks_formatting.specs.NewPlan.{key_digest, IsNewDerivation, IsNewDigest, IsNewPlan, IsNewPlanBy, IsSealable, IsSealableWithin}
+use Rattle.luks_formatting.specs.NewPlan.{key_digest, IsNewDerivation, IsNewDigest, IsNewPlanBy, IsSealable, IsSealableWithin}
 use Rattle.luks_formatting.specs.RandomBytes.{digest_salt}
 use Rattle.luks_slot.specs.Allowance.{without_memory}
 use Rattle.luks_formatting.specs.declared.new_cipher.NewCipher.{NewCipher}

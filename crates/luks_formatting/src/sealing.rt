@@ -32,6 +32,8 @@ pub(crate) fn seal_key<D: Device>(
     random: &[u8],
 ) -> Result<(), DeviceFault>
     requires sealable { IsSealable (length key.now) plan.now }
+    requires some_key { 1 ≤ length key.now }
+    requires short_key { length key.now ≤ 64 }
     requires random_length { length random.now ≡ 3999 * length key.now }
     requires large { used_bytes (length key.now) ≤ plan.now.area.len }
     requires within { IsInside plan.now.area (D.size device.old) }
@@ -72,6 +74,7 @@ pub(crate) fn sealed_ahead(
 ) -> Result<MemDevice, AllocError>
     requires short { 0 < passphrase.now.allowed.memory → length passphrase.now.bytes.now < 2 ^ 32 }
     requires sealable { IsSealableWithin passphrase.now.allowed (length key.now) plan.now }
+    requires some_key { 1 ≤ length key.now }
     requires short_key { length key.now ≤ 64 }
     requires random_length { length random.now ≡ 3999 * length key.now }
     ensures { IfOk result (λ d. IsSealedAhead (length key.now) plan.now passphrase.now.bytes.now
@@ -118,6 +121,8 @@ pub(crate) fn put_key_area<D: Device>(
         (λ bytes. IsSealedAhead (length key.now) plan.now passphrase.now key.now random.now bytes.now) }
     requires key_bytes { plan.now.key_bytes ≡ length key.now }
     requires stripes { plan.now.stripes ≡ 4000 }
+    requires some_key { 1 ≤ length key.now }
+    requires short_key { length key.now ≤ 64 }
     requires random_length { length random.now ≡ 3999 * length key.now }
     requires large { used_bytes (length key.now) ≤ plan.now.area.len }
     requires within { IsInside plan.now.area (D.size device.old) }

@@ -1,11 +1,10 @@
-use Rattle.std.proofs.Common.{◌≡◌, ap, None, refl}
-use Rattle.luks_area.specs.declared.area.Area.{Area}
+use Rattle.std.proofs.Common.{None, refl}
 use Rattle.luks_kdf.specs.Names.{name_of}
 use Rattle.luks_slot.specs.Allowance.{without_memory}
 use Rattle.std.specs.Prelude.{true}
 use Rattle.luks_formatting.proofs.EncryptingFacts.{opens1}
 use Rattle.luks_formatting.proofs.NewPlanFacts.{pbkdf2_within, unrefused_by}
-use Rattle.luks_formatting.specs.NewHeader1.{area1, IsNewCipher1}
+use Rattle.luks_formatting.specs.NewHeader1.{IsNewCipher1}
 use Rattle.luks_formatting.proofs.luks1.slot_plan.Goals as goal
 
 pub returns-clause-sealable : goal.returns-clause-sealable

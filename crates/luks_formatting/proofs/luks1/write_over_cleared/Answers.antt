@@ -1,21 +1,33 @@
-use Rattle.std.proofs.Common.{◌≡◌, ◌+◌, ◌*◌, ℕ, List, length, arith, sym, ap, subst, inl, ◌∙◌}
-use Rattle.luks_area.specs.Ranges.{IsAt, SameBut}
+use Rattle.std.proofs.Common.{◌≡◌, ℕ, length, arith, sym, ap, subst, inl, ◌∙◌}
 use Rattle.luks_area.specs.declared.area.Area.{Area}
-use Rattle.luks_formatting.specs.Encrypting.{used_bytes}
 use Rattle.luks_formatting.specs.NewPlan.{IsSealable}
 use Rattle.luks_formatting.proofs.EncryptingFacts.{sizes, used_most}
 use Rattle.luks_formatting.proofs.GivenFacts.{length-key_of, uuid_is}
 use Rattle.luks_formatting.proofs.Written1Facts.{area_stands, both_rest, first_waits, formatted, key_rest, sealed_rest}
 use Rattle.luks_formatting.proofs.luks1.write_over_cleared.Goals as goal
 
-pub new_header-requires-clause-small : goal.new_header-requires-clause-small
-new_header-requires-clause-small g c = (sizes c.args.given.now.cipher c.args.given.now.key_bytes c.requires.sound.takes).high
+pub new_header-header-requires-clause-small : goal.new_header-header-requires-clause-small
+new_header-header-requires-clause-small g c = (sizes c.args.given.now.cipher c.args.given.now.key_bytes c.requires.sound.takes).high
 
 pub seal_key-requires-clause-sealable : goal.seal_key-requires-clause-sealable
 seal_key-requires-clause-sealable g c =
     let counted = c.requires.long in
     let long : length c.key_of-key.result.now ≡ c.args.given.now.key_bytes = ap length c.key_of-key.ensures ∙ length-key_of c.args.given.now c.args.random.now c.requires.sound.key (omega (arith, counted)) in
     subst (λ (n : ℕ). IsSealable n c.slot_plan-plan.result) (sym long) c.slot_plan-plan.ensures.sealable
+
+pub seal_key-requires-clause-some_key : goal.seal_key-requires-clause-some_key
+seal_key-requires-clause-some_key g c =
+    let counted = c.requires.long in
+    let long : length c.key_of-key.result.now ≡ c.args.given.now.key_bytes = ap length c.key_of-key.ensures ∙ length-key_of c.args.given.now c.args.random.now c.requires.sound.key (omega (arith, counted)) in
+    let low = (sizes c.args.given.now.cipher c.args.given.now.key_bytes c.requires.sound.takes).low in
+    omega (arith, long, low)
+
+pub seal_key-requires-clause-short_key : goal.seal_key-requires-clause-short_key
+seal_key-requires-clause-short_key g c =
+    let counted = c.requires.long in
+    let long : length c.key_of-key.result.now ≡ c.args.given.now.key_bytes = ap length c.key_of-key.ensures ∙ length-key_of c.args.given.now c.args.random.now c.requires.sound.key (omega (arith, counted)) in
+    let high = (sizes c.args.given.now.cipher c.args.given.now.key_bytes c.requires.sound.takes).high in
+    omega (arith, long, high)
 
 pub seal_key-requires-clause-random_length : goal.seal_key-requires-clause-random_length
 seal_key-requires-clause-random_length g c =

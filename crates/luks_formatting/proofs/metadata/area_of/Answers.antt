@@ -4,7 +4,7 @@ use Rattle.serde_json.specs.View.{view}
 use Rattle.serde_json.specs.Written.{compact_text}
 use Rattle.luks_kdf.specs.Names.{digest_size_of}
 use Rattle.luks_rules.specs.Held.{IsHeld}
-use Rattle.luks_making.specs.Conditions.{CanFormat, FitsDerivation, FitsVolume}
+use Rattle.luks_making.specs.Conditions.{CanFormat, FitsDerivation}
 use Rattle.luks_making.specs.Formatted.{VolumeMembers, volume_members}
 use Rattle.luks_formatting.specs.Deriving.{slot_derivation}
 use Rattle.luks_formatting.specs.NewHeader2.{formatted_by}

@@ -1,7 +1,6 @@
-use Rattle.std.proofs.Common.{◌≡◌, ◌*◌, ℕ, List, length, sym, subst}
-use Rattle.luks_area.specs.Ranges.{IsAt, SameBut}
+use Rattle.std.proofs.Common.{ℕ, List, sym, subst}
 use Rattle.luks_slot.specs.Sealing.{IsReadyToSeal}
-use Rattle.luks_formatting.proofs.AheadFacts.{ready_by, used_is}
+use Rattle.luks_formatting.proofs.AheadFacts.{ready_by}
 use Rattle.luks_formatting.proofs.sealing.seal_key.Goals as goal
 
 pub seal_area_within-requires-clause-ready : goal.seal_area_within-requires-clause-ready

@@ -1,4 +1,4 @@
-use Rattle.std.proofs.Common.{◌≡◌, ◌+◌, ◌*◌, ◌≤◌, ℕ, List, length, arith, sym, ap, ◌∙◌, inl, subst, MatchOption}
+use Rattle.std.proofs.Common.{◌≡◌, ℕ, List, length, arith, sym, ap, ◌∙◌, inl, subst, MatchOption}
 use Rattle.luks_area.specs.declared.area.Area.{Area}
 use Rattle.luks_formatting.specs.Given.{key_of}
 use Rattle.luks_formatting.specs.NewPlan.{IsSealable, IsSealedAhead}
@@ -95,6 +95,9 @@ returns-in_err-write_new_copy-2-clause-rest g c tells =
 pub returns-clause-settled : goal.returns-clause-settled
 returns-clause-settled g c tells same = c.write_new_copy-2.ensures.settled tells c.in_ok-write_new_copy-2.ensures.count
 
+pub random_stripes-stripes-requires-clause-small : goal.random_stripes-stripes-requires-clause-small
+random_stripes-stripes-requires-clause-small g c = (sizes c.args.volume.now.given.now.cipher c.args.volume.now.given.now.key_bytes c.requires.sound.takes).high
+
 pub put_key_area-requires-clause-sealable : goal.put_key_area-requires-clause-sealable
 put_key_area-requires-clause-sealable g c =
     let volume = c.args.volume.now in
@@ -112,6 +115,18 @@ pub put_key_area-requires-clause-key_bytes : goal.put_key_area-requires-clause-k
 put_key_area-requires-clause-key_bytes g c =
     let long : length c.key_of-key.result.now ≡ c.args.volume.now.given.now.key_bytes = ap length c.key_of-key.ensures ∙ length-key_of c.args.volume.now.given.now c.args.volume.now.random.now c.requires.sound.key (let counted = c.requires.long in omega (arith, counted)) in
     c.requires.plan.is.key_bytes ∙ sym long
+
+pub put_key_area-requires-clause-some_key : goal.put_key_area-requires-clause-some_key
+put_key_area-requires-clause-some_key g c =
+    let long : length c.key_of-key.result.now ≡ c.args.volume.now.given.now.key_bytes = ap length c.key_of-key.ensures ∙ length-key_of c.args.volume.now.given.now c.args.volume.now.random.now c.requires.sound.key (let counted = c.requires.long in omega (arith, counted)) in
+    let low = (sizes c.args.volume.now.given.now.cipher c.args.volume.now.given.now.key_bytes c.requires.sound.takes).low in
+    omega (arith, long, low)
+
+pub put_key_area-requires-clause-short_key : goal.put_key_area-requires-clause-short_key
+put_key_area-requires-clause-short_key g c =
+    let long : length c.key_of-key.result.now ≡ c.args.volume.now.given.now.key_bytes = ap length c.key_of-key.ensures ∙ length-key_of c.args.volume.now.given.now c.args.volume.now.random.now c.requires.sound.key (let counted = c.requires.long in omega (arith, counted)) in
+    let high = (sizes c.args.volume.now.given.now.cipher c.args.volume.now.given.now.key_bytes c.requires.sound.takes).high in
+    omega (arith, long, high)
 
 pub put_key_area-requires-clause-random_length : goal.put_key_area-requires-clause-random_length
 put_key_area-requires-clause-random_length g c =
