@@ -1,11 +1,12 @@
 mod AreaFacts
 mod ChosenFacts
 pub mod DeedFacts
+mod DigestFacts
 pub mod EditedFacts
 mod EncodedFacts
 mod JudgedFacts
-mod KeyFacts
 pub mod KeyAreaFacts
+mod KeyFacts
 pub mod KeyslotFacts
 mod LastFacts
 mod NeedFacts
