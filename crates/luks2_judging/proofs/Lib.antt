@@ -1,12 +1,12 @@
 mod AreaFacts
 mod ChosenFacts
 pub mod DeedFacts
-mod DigestFacts
+pub mod DigestFacts
 pub mod EditedFacts
 mod EncodedFacts
 mod JudgedFacts
 pub mod KeyAreaFacts
-mod KeyFacts
+pub mod KeyFacts
 pub mod KeyslotFacts
 mod LastFacts
 mod NeedFacts
@@ -17,4 +17,4 @@ mod RoomFacts
 mod SaltFacts
 mod StripeFacts
 mod TakenFacts
-mod UnkeyedFacts
+pub mod UnkeyedFacts
