@@ -4,7 +4,7 @@
 #   test      run the tests and the transcripts, unproved, all that fit into some ten minutes; first it looks that the texts, the lists and the
 #             wrong bodies fit to the code
 #   build     prove and build the program, and leave it at bin/luks
-#   library   prove and build libluks, the calls for C and Python: bin/libluks.so.0 and bin/libluks.a
+#   library   prove and build libluks, the calls for C and Python: bin/libluks.so.1 and bin/libluks.a
 #   gate      the merge gate: every proof from nothing, the wrong bodies that must be refused, each test, each program; and what it took:
 #             processor time by crate for its proof, its tests and its wrong bodies, and at its end the sums
 #   quick     between gates: proofs and tests of the crates that changed since BASE (the last commit) and of what stands on them
@@ -18,7 +18,7 @@
 #   install-library  put libluks, its header, libluks.pc and the Python module under PREFIX; PYTHONDIR is the module's folder, where Debian's Python
 #             looks if it isn't given. Without DESTDIR the loader's list is made anew (LDCONFIG)
 #   dist      the archive dist/luks-VERSION-linux-x86_64.tar.gz: the program, also static, its pages, libluks and install.sh, for a system without rt
-#   deb       the package dist/luks_VERSION_amd64.deb, for Debian, and those of libluks: libluks0, libluks-dev and python3-luks; beside all,
+#   deb       the package dist/luks_VERSION_amd64.deb, for Debian, and those of libluks: libluks1, libluks-dev and python3-luks; beside all,
 #             dist/SHA256SUMS has their sums
 #   bench     times and memory, beside other implementations
 #   interop   volumes that cryptsetup makes, checked and opened by bin/luks; each command of docs/RESCUE.md; the manual page; libluks; both packages
@@ -69,7 +69,7 @@ library: toolchain
 	cd crates/luks_c && RT="$(RT)" ../../tools/rt lib
 	@RT="$(RT)" tools/library
 
-bin/libluks.so.0: $(SOURCES) tools/library $(wildcard library/*) CHANGELOG.md
+bin/libluks.so.1: $(SOURCES) tools/library $(wildcard library/*) CHANGELOG.md
 	@$(MAKE) --no-print-directory library
 
 test: toolchain
@@ -94,9 +94,9 @@ install: bin/luks
 	install -D -m 644 completions/_luks "$(DESTDIR)$(ZSHCOMPDIR)/_luks"
 	install -D -m 644 completions/luks.fish "$(DESTDIR)$(FISHCOMPDIR)/luks.fish"
 
-install-library: bin/libluks.so.0
-	install -D -m 644 bin/libluks.so.0 "$(DESTDIR)$(PREFIX)/lib/libluks.so.0"
-	ln -sf libluks.so.0 "$(DESTDIR)$(PREFIX)/lib/libluks.so"
+install-library: bin/libluks.so.1
+	install -D -m 644 bin/libluks.so.1 "$(DESTDIR)$(PREFIX)/lib/libluks.so.1"
+	ln -sf libluks.so.1 "$(DESTDIR)$(PREFIX)/lib/libluks.so"
 	install -D -m 644 bin/libluks.a "$(DESTDIR)$(PREFIX)/lib/libluks.a"
 	install -D -m 644 library/luks.h "$(DESTDIR)$(PREFIX)/include/luks.h"
 	for name in $(PYTHON_FILES); do install -D -m 644 "python/luks/$$name" "$(DESTDIR)$(PYTHONDIR)/luks/$$name" || exit 1; done
@@ -108,24 +108,24 @@ install-library: bin/libluks.so.0
 uninstall:
 	rm -f "$(DESTDIR)$(PREFIX)/bin/luks" "$(DESTDIR)$(MANDIR)/man1/luks.1" "$(DESTDIR)$(BASHCOMPDIR)/luks" \
 	  "$(DESTDIR)$(ZSHCOMPDIR)/_luks" "$(DESTDIR)$(FISHCOMPDIR)/luks.fish"
-	rm -f "$(DESTDIR)$(PREFIX)/lib/libluks.so.0" "$(DESTDIR)$(PREFIX)/lib/libluks.so" "$(DESTDIR)$(PREFIX)/lib/libluks.a" \
+	rm -f "$(DESTDIR)$(PREFIX)/lib/libluks.so.1" "$(DESTDIR)$(PREFIX)/lib/libluks.so" "$(DESTDIR)$(PREFIX)/lib/libluks.a" \
 	  "$(DESTDIR)$(PREFIX)/include/luks.h" "$(DESTDIR)$(PREFIX)/lib/pkgconfig/libluks.pc"
 	for name in $(PYTHON_FILES); do rm -f "$(DESTDIR)$(PYTHONDIR)/luks/$$name"; done
 	rm -rf "$(DESTDIR)$(PYTHONDIR)/luks/__pycache__"
 	-[ ! -d "$(DESTDIR)$(PYTHONDIR)/luks" ] || rmdir "$(DESTDIR)$(PYTHONDIR)/luks"
 	-$(LDCONFIG)
 
-dist: bin/luks bin/libluks.so.0
+dist: bin/luks bin/libluks.so.1
 	@RT="$(RT)" tools/package archive
 
-deb: bin/luks bin/libluks.so.0
+deb: bin/luks bin/libluks.so.1
 	@RT="$(RT)" tools/package debian
 	@RT="$(RT)" tools/package library
 
 bench: bin/luks
 	bench/run
 
-interop: bin/luks bin/libluks.so.0
+interop: bin/luks bin/libluks.so.1
 	interop/run
 
 clean:

@@ -8,7 +8,7 @@
 
 int main(int count, char **words)
 {
-    struct luks_report report;
+    struct luks_report report = {.size = sizeof report};
     char text[1024];
     uint8_t *room = (uint8_t *)text;
     int fd = count == 2 ? open(words[1], O_RDONLY) : -1;

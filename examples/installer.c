@@ -52,7 +52,7 @@ static int read_words(const char *name, struct words *words)
 /* What mustn't be written over: another use of the disk, or a volume's header. */
 static int stands(int fd)
 {
-    struct luks_report report;
+    struct luks_report report = {.size = sizeof report};
     uint32_t shows = 0, answer = luks_signature(fd, 0, LUKS_TO_END, LUKS_TO_END, &shows);
     if (answer != LUKS_DONE)
         return refused("signature", answer);
@@ -83,11 +83,11 @@ static int backs_up(int fd, const char *name)
 
 static int installs(int fd, const struct words *words, const struct words *recovery, const char *backup)
 {
-    const struct luks_derivation strong = {.kind = LUKS_ARGON2ID, .turns = 4, .memory = KIB, .lanes = 4};
+    const struct luks_derivation strong = {.size = sizeof strong, .kind = LUKS_ARGON2ID, .turns = 4, .memory = KIB, .lanes = 4};
     uint32_t slot = 0;
     if (stands(fd) != 0)
         return 1;
-    uint32_t answer = luks_format2(fd, 0, LUKS_TO_END, false, LUKS_SHA256, ITERATIONS, &strong, words->bytes, words->count, KIB, NULL, 0);
+    uint32_t answer = luks_format2(fd, 0, LUKS_TO_END, false, NULL, LUKS_SHA256, ITERATIONS, &strong, words->bytes, words->count, KIB, NULL, 0);
     if (answer != LUKS_DONE)
         return refused("format", answer);
     answer = luks_add(fd, 0, LUKS_TO_END, false, 0, words->bytes, words->count, recovery->bytes, recovery->count, LUKS_NO_SLOT, ITERATIONS, &strong,
@@ -101,7 +101,7 @@ static int installs(int fd, const struct words *words, const struct words *recov
 int main(int count, char **names)
 {
     static struct words words, recovery;
-    struct luks_volume volume;
+    struct luks_volume volume = {.size = sizeof volume};
     if (count != 5) {
         fputs("usage: installer VOLUME PASSPHRASE RECOVERY BACKUP\n", stderr);
         return 2;

@@ -29,7 +29,7 @@ static int told(uint32_t answer)
 
 static int check(int fd, uint64_t offset, uint64_t length, bool is_detached)
 {
-    struct luks_report report;
+    struct luks_report report = {.size = sizeof report};
     uint32_t answer = luks_check(fd, offset, length, is_detached, &report);
     if (answer != LUKS_DONE)
         return told(answer);
@@ -46,10 +46,16 @@ static uint32_t is_older(const char *allowed)
     return strstr(allowed, ",older") != NULL;
 }
 
+/* And whether what opens is the key. */
+static uint32_t is_by_key(const char *allowed)
+{
+    return strstr(allowed, ",key") != NULL;
+}
+
 /* The keyslot is a number, or `any`; where `room` is given, the key is printed behind the answer. */
 static int opens(int fd, uint64_t offset, uint64_t length, const char *slot, const char *file, const char *allowed, const char *room)
 {
-    struct luks_opened opened;
+    struct luks_opened opened = {.size = sizeof opened};
     size_t words_room = 65537, key_room = room ? strtoul(room, NULL, 10) : 0;
     uint8_t *words = malloc(words_room), *key = key_room ? malloc(key_room) : NULL;
     FILE *from = fopen(file, "rb");
@@ -134,7 +140,7 @@ static int check_bytes(int fd, uint64_t offset, uint64_t length, bool is_detache
     uint64_t total = (uint64_t)end > offset ? (uint64_t)end - offset : 0;
     total = total < length ? total : length;
     struct ranges ranges = {.count = 0};
-    struct luks_report report;
+    struct luks_report_bytes report;
     for (;;) {
         size_t bytes;
         uint8_t *held = read_ranges(fd, offset, &ranges, &bytes);
@@ -203,18 +209,19 @@ static int done(uint32_t answer, uint32_t slot)
 /* A derivation, where one is chosen: KDF TURNS KIB LANES, each a number. */
 static struct luks_derivation derivation_of(char **words)
 {
-    struct luks_derivation none = {0};
+    struct luks_derivation chosen = {.size = sizeof chosen};
     if (words[0] == NULL)
-        return none;
-    return (struct luks_derivation){.kind = number(words[0]), .turns = number(words[1]), .memory = number(words[2]), .lanes = number(words[3])};
+        return chosen;
+    return (struct luks_derivation){.size = sizeof chosen, .kind = number(words[0]), .turns = number(words[1]), .memory = number(words[2]), .lanes = number(words[3])};
 }
 
-/* An edit: KIND SLOT BY TO ITERATIONS MIB[,older] PASSPHRASE TEXT RANDOM PLACE [KDF TURNS KIB LANES]; RANDOM is a file, or `system`. */
+/* An edit: KIND SLOT BY TO ITERATIONS MIB[,older][,key] SECRET TEXT RANDOM PLACE [KDF TURNS KIB LANES]; RANDOM is a file, or `system`. */
 static int edits(int fd, uint64_t offset, uint64_t length, char **words)
 {
-    struct luks_edit edit = {.kind = number(words[0]), .slot = number(words[1]), .by = number(words[2]), .to = number(words[3]),
-                             .iterations = number(words[4]), .memory = number(words[5]) * 1024, .older = is_older(words[5]),
-                             .derivation = derivation_of(words + 10)};
+    struct luks_derivation derivation = derivation_of(words + 10);
+    struct luks_edit edit = {.size = sizeof edit, .kind = number(words[0]), .slot = number(words[1]), .by = number(words[2]), .to = number(words[3]),
+                             .iterations = number(words[4]), .memory = number(words[5]) * 1024, .older = is_older(words[5]), .by_key = is_by_key(words[5]),
+                             .derivation = words[10] != NULL ? &derivation : NULL};
     size_t old_bytes, text_bytes, random_bytes = 0;
     bool is_detached = strcmp(words[9], "detached") == 0;
     uint8_t *old = file_of(words[6], 65537, &old_bytes), *text = file_of(words[7], 65537, &text_bytes), *random = NULL;
@@ -244,7 +251,9 @@ static int edits_by_name(int fd, uint64_t offset, uint64_t length, char **words)
     uint8_t *old = file_of(words[6], 65537, &old_bytes), *text = file_of(words[7], 65537, &text_bytes);
     struct luks_derivation derivation = derivation_of(words + 10), *chosen = words[10] != NULL ? &derivation : NULL;
     uint32_t made = LUKS_NO_SLOT, answer = LUKS_USAGE;
-    if (kind == LUKS_ADD)
+    if (kind == LUKS_ADD && is_by_key(words[5]))
+        answer = luks_add_by_key(fd, offset, length, is_detached, by, old, old_bytes, text, text_bytes, number(words[3]), iterations, chosen, memory, older, &made);
+    else if (kind == LUKS_ADD)
         answer = luks_add(fd, offset, length, is_detached, by, old, old_bytes, text, text_bytes, number(words[3]), iterations, chosen, memory, older, &made);
     else if (kind == LUKS_CHANGE)
         answer = luks_change(fd, offset, length, is_detached, slot, old, old_bytes, text, text_bytes, iterations, chosen, memory, older, &made);
@@ -273,8 +282,8 @@ static int formats(int fd, uint64_t offset, uint64_t length, char **words)
     if (strcmp(words[4], "system") != 0)
         random = file_of(words[4], is_first ? 256080 : 256208, &random_bytes);
     uint32_t iterations = number(words[2]);
-    uint32_t answer = is_first ? luks_format1(fd, offset, length, is_detached, hash, iterations, old, old_bytes, random, random_bytes)
-                               : luks_format2(fd, offset, length, is_detached, hash, iterations, chosen, old, old_bytes, memory, random, random_bytes);
+    uint32_t answer = is_first ? luks_format1(fd, offset, length, is_detached, NULL, hash, iterations, old, old_bytes, random, random_bytes)
+                               : luks_format2(fd, offset, length, is_detached, NULL, hash, iterations, chosen, old, old_bytes, memory, random, random_bytes);
     free(old);
     free(random);
     return done(answer, 0);
@@ -284,6 +293,41 @@ static int formats(int fd, uint64_t offset, uint64_t length, char **words)
 static const char *maybe(const char *word)
 {
     return strcmp(word, "none") == 0 ? NULL : word;
+}
+
+/* The same of a volume of which something is given: VERSION ITERATIONS PASSPHRASE RANDOM PLACE SECTOR KEY UUID LABEL SUBSYSTEM, of the last five `none` where
+ * it isn't. KEY is a file. */
+static int formats_as(int fd, uint64_t offset, uint64_t length, char **words)
+{
+    static const uint8_t no_byte = 0;
+    size_t old_bytes, random_bytes = 0, key_bytes = 0;
+    bool is_first = strcmp(words[0], "1") == 0, is_detached = strcmp(words[4], "detached") == 0;
+    uint8_t *old = file_of(words[2], 65537, &old_bytes), *random = file_of(words[3], is_first ? 256080 : 256208, &random_bytes);
+    uint8_t *key = strcmp(words[6], "none") == 0 ? NULL : file_of(words[6], 65537, &key_bytes);
+    struct luks_given given = {.size = sizeof given, .sector = strcmp(words[5], "none") == 0 ? LUKS_NO_SECTOR : strtoull(words[5], NULL, 10), .key = key,
+                               .key_bytes = key_bytes, .uuid = maybe(words[7]), .label = maybe(words[8]), .subsystem = maybe(words[9])};
+    uint32_t iterations = number(words[1]);
+    if (key == NULL && strcmp(words[6], "none") != 0)
+        given.key = &no_byte;
+    uint32_t answer = is_first ? luks_format1(fd, offset, length, is_detached, &given, LUKS_SHA256, iterations, old, old_bytes, random, random_bytes)
+                               : luks_format2(fd, offset, length, is_detached, &given, LUKS_SHA256, iterations, NULL, old, old_bytes, 0, random, random_bytes);
+    free(old);
+    free(random);
+    free(key);
+    return done(answer, 0);
+}
+
+/* Whether a key is the volume's: KEY DIGEST OLDER, by the digest of this number or `none`. */
+static int meets(int fd, uint64_t offset, uint64_t length, char **words)
+{
+    size_t key_bytes = 0;
+    uint8_t *key = file_of(words[0], 65537, &key_bytes);
+    uint32_t judged = 99, answer = luks_meets(fd, offset, length, key, key_bytes, number(words[1]), strcmp(words[2], "older") == 0, &judged);
+    free(key);
+    if (answer != LUKS_DONE && answer != LUKS_SHUT)
+        return told(answer);
+    printf("key %s %u\n", answer == LUKS_DONE ? "matches" : "does not match", judged);
+    return 0;
 }
 
 /* A header on a target, at 0: convert TARGET RANDOM PLACE; rebuild TARGET RANDOM UUID; rebuild2 TARGET RANDOM UUID SECOND SIZE;
@@ -303,7 +347,7 @@ static int makes_header(int fd, uint64_t offset, uint64_t length, const char *ca
         answer = luks_rebuild2(fd, offset, length, strcmp(words[3], "second") == 0, strtoull(words[4], NULL, 10), maybe(words[2]), target, 0,
                                LUKS_TO_END, random, random_bytes);
     else {
-        struct luks_fields fields = {.cipher_name = maybe(words[3]), .cipher_mode = maybe(words[4]), .hash = maybe(words[5]),
+        struct luks_fields fields = {.size = sizeof fields, .cipher_name = maybe(words[3]), .cipher_mode = maybe(words[4]), .hash = maybe(words[5]),
                                      .key_bytes = number(words[6]), .payload = number(words[7])};
         answer = luks_rebuild1(fd, offset, length, &fields, maybe(words[2]), target, 0, LUKS_TO_END);
     }
@@ -380,11 +424,39 @@ static int finds(int fd, uint64_t offset, uint64_t length, const char *from)
     }
 }
 
+/* Structs of another size: as of a caller that was compiled for an earlier or a later version. */
+static void sizes(int fd)
+{
+    struct {
+        struct luks_report now;
+        uint64_t later;
+    } report = {.now.size = sizeof report, .later = 7}, same = {.now.size = sizeof same.now, .later = 7};
+    struct {
+        struct luks_edit now;
+        uint64_t later;
+    } edit = {.now = {.size = sizeof edit, .kind = LUKS_REPAIR}}, unknown = {.now = {.size = sizeof unknown, .kind = LUKS_REPAIR}, .later = 1};
+    struct luks_report none = {.size = 0}, short_one = {.size = sizeof short_one - 1};
+    struct luks_opened opened = {.size = sizeof opened - 8};
+    struct luks_volume volume = {.size = sizeof volume - 1};
+    struct luks_derivation derivation = {.size = 4, .kind = LUKS_PBKDF2, .turns = 1000};
+    struct luks_given given = {.size = sizeof given - 1, .sector = LUKS_NO_SECTOR};
+    uint64_t needed;
+    printf("%u %u %u %u\n", luks_check(fd, 0, LUKS_TO_END, false, &none), luks_check(fd, 0, LUKS_TO_END, false, &short_one),
+           luks_unlock(fd, 0, LUKS_TO_END, "one", 3, 0, 0, NULL, 0, &opened), luks_open_volume("opening2", false, 0, &volume));
+    uint32_t answers[] = {luks_check(fd, 0, LUKS_TO_END, false, &report.now), luks_check(fd, 0, LUKS_TO_END, false, &same.now)};
+    printf("%u %ju %u %ju\n", answers[0], (uintmax_t)report.later, answers[1], (uintmax_t)same.later);
+    printf("%u %u %u %u\n", luks_needed(fd, 0, LUKS_TO_END, false, &edit.now, NULL, 0, NULL, 0, &needed),
+           luks_needed(fd, 0, LUKS_TO_END, false, &unknown.now, NULL, 0, NULL, 0, &needed),
+           luks_add(fd, 0, LUKS_TO_END, false, 0, "one", 3, "two", 3, LUKS_NO_SLOT, 1000, &derivation, 0, 0, NULL),
+           luks_format2(fd, 0, LUKS_TO_END, false, &given, LUKS_SHA256, 1000, NULL, "one", 3, 0, NULL, 0));
+}
+
 /* What a caller gets wrong. */
 static int wrong(int fd)
 {
-    struct luks_report report;
-    struct luks_opened opened;
+    struct luks_report_bytes report;
+    struct luks_opened_bytes opened_bytes;
+    struct luks_opened opened = {.size = sizeof opened};
     uint8_t byte = 0;
     struct luks_range one = {.at = 0, .len = 1};
     printf("%u %u %u %u\n", luks_check(fd, 0, LUKS_TO_END, false, NULL), luks_unlock(fd, 0, LUKS_TO_END, NULL, 1, 0, 0, NULL, 0, &opened),
@@ -392,10 +464,11 @@ static int wrong(int fd)
     printf("%zu %zu %zu\n", luks_fault_name(98, &byte, 0), luks_fault_text(1, 0, &byte, 0), luks_fault_text(1, 5, &byte, 1));
     size_t long_one = (size_t)1 << 32;
     uint8_t *words = mmap(NULL, long_one, PROT_READ, MAP_PRIVATE | MAP_ANONYMOUS | MAP_NORESERVE, -1, 0);
-    printf("%u %u\n", luks_unlock_bytes(&one, 1, &byte, 1, 1, words, long_one, 0, 0, &byte, 0, &opened),
-           luks_open_bytes(&one, 1, &byte, 1, 1, 0, words, long_one, 0, 0, &byte, 0, &opened));
+    printf("%u %u\n", luks_unlock_bytes(&one, 1, &byte, 1, 1, words, long_one, 0, 0, &byte, 0, &opened_bytes),
+           luks_open_bytes(&one, 1, &byte, 1, 1, 0, words, long_one, 0, 0, &byte, 0, &opened_bytes));
     munmap(words, long_one);
-    struct luks_edit edit = {.kind = LUKS_ADD, .to = LUKS_NO_SLOT, .iterations = 1000}, no_edit = {.kind = 9}, no_slot = {.kind = LUKS_REMOVE, .slot = 256};
+    struct luks_edit edit = {.size = sizeof edit, .kind = LUKS_ADD, .to = LUKS_NO_SLOT, .iterations = 1000}, no_edit = {.size = sizeof edit, .kind = 9},
+                     no_slot = {.size = sizeof edit, .kind = LUKS_REMOVE, .slot = 256};
     uint64_t needed;
     uint32_t shows, slot;
     printf("%u %u %u %u\n", luks_needed(fd, 0, LUKS_TO_END, false, NULL, NULL, 0, NULL, 0, &needed),
@@ -405,9 +478,9 @@ static int wrong(int fd)
            luks_apply(fd, 0, LUKS_TO_END, false, &edit, NULL, 3, NULL, 0, NULL, 0, &slot), luks_apply(fd, 0, LUKS_TO_END, false, &edit, NULL, 0, NULL, 3, NULL, 0, &slot),
            luks_apply(fd, 0, LUKS_TO_END, false, &edit, NULL, 0, NULL, 0, NULL, 3, &slot));
     printf("%u %u %u %u\n", luks_read(fd, 0, LUKS_TO_END, NULL, 0, NULL), luks_read(fd, 0, LUKS_TO_END, NULL, 1, &needed),
-           luks_format2(fd, 0, LUKS_TO_END, false, LUKS_SHA256, 1000, NULL, NULL, 1, 0, NULL, 0), luks_signature(fd, 0, LUKS_TO_END, 0, NULL));
+           luks_format2(fd, 0, LUKS_TO_END, false, NULL, LUKS_SHA256, 1000, NULL, NULL, 1, 0, NULL, 0), luks_signature(fd, 0, LUKS_TO_END, 0, NULL));
     static const char long_text[] = "a cipher whose name is far too long for its field";
-    struct luks_fields fields = {.cipher_name = long_text, .key_bytes = LUKS_NO_NUMBER, .payload = LUKS_NO_NUMBER};
+    struct luks_fields fields = {.size = sizeof fields, .cipher_name = long_text, .key_bytes = LUKS_NO_NUMBER, .payload = LUKS_NO_NUMBER};
     int target = open("target", O_RDWR);
     printf("%u %u %u %u\n", luks_convert(fd, 0, LUKS_TO_END, false, target, 0, LUKS_TO_END, NULL, 1),
            luks_rebuild1(fd, 0, LUKS_TO_END, &fields, NULL, target, 0, LUKS_TO_END),
@@ -435,6 +508,7 @@ static int wrong(int fd)
            luks_check_bytes(twice, 2, bytes, 3, 8, false, &report), luks_check_bytes(last, 1, bytes, 1, 8, false, &report),
            luks_check_bytes(&one, 1, bytes, 2, 8, false, &report));
     close(target);
+    sizes(fd);
     return 0;
 }
 
@@ -469,7 +543,7 @@ static void *many(void *given)
     one->added = luks_add(fd, 0, LUKS_TO_END, false, 0, "one", 3, "thread", 6, LUKS_NO_SLOT, 1000, NULL, 0, 0, &slot);
     one->removed = luks_remove(fd, 0, LUKS_TO_END, false, slot, LUKS_NO_SLOT, "thread", 6, 0, 0);
     for (int i = 0; i < 16; i++) {
-        struct luks_opened opened;
+        struct luks_opened opened = {.size = sizeof opened};
         one->answers[i] = luks_unlock(fd, 0, LUKS_TO_END, "one", 3, 0, 0, NULL, 0, &opened);
     }
     close(fd);
@@ -505,7 +579,7 @@ int main(int count, char **words)
         return threads(words[2], words[3]);
     if (count < 5)
         return 2;
-    bool is_written = strncmp(words[1], "edit", 4) == 0 || strcmp(words[1], "format") == 0;
+    bool is_written = strncmp(words[1], "edit", 4) == 0 || strncmp(words[1], "format", 6) == 0;
     int fd = strcmp(words[2], "-") == 0 ? 0 : strcmp(words[2], "closed") == 0 ? 1000 : open(words[2], is_written ? O_RDWR : O_RDONLY);
     uint64_t offset = strtoull(words[3], NULL, 10), length = strcmp(words[4], "all") == 0 ? LUKS_TO_END : strtoull(words[4], NULL, 10);
     lseek(fd, 7, SEEK_SET);
@@ -525,6 +599,10 @@ int main(int count, char **words)
         status = edits_by_name(fd, offset, length, words + 5);
     else if (strcmp(words[1], "format") == 0 && (count == 11 || count == 16))
         status = formats(fd, offset, length, words + 5);
+    else if (strcmp(words[1], "format-as") == 0 && count == 15)
+        status = formats_as(fd, offset, length, words + 5);
+    else if (strcmp(words[1], "meets") == 0 && count == 8)
+        status = meets(fd, offset, length, words + 5);
     else if ((strcmp(words[1], "convert") == 0 || strncmp(words[1], "rebuild", 7) == 0) && count >= 8)
         status = makes_header(fd, offset, length, words[1], words + 5);
     else if ((strcmp(words[1], "backup") == 0 || strcmp(words[1], "restore") == 0 || strcmp(words[1], "compare") == 0) && count >= 7)

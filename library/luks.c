@@ -6,6 +6,7 @@
 #include <errno.h>
 #include <fcntl.h>
 #include <linux/fs.h>
+#include <stddef.h>
 #include <stdio.h>
 #include <stdlib.h>
 #include <string.h>
@@ -18,11 +19,15 @@
 #include <time.h>
 #include <unistd.h>
 
-/* How many bytes are read at once, at first: the heads of both copies as cryptsetup lays them out, and the first key areas. Each
- * asking reads twice as many as the one before, so that few calls are made. */
+/* How many bytes are read where a call asks first: the heads of both copies as cryptsetup lays them out, and with them two key areas. At each other place half
+ * as many are read as at the one before, and behind what was read as many again, so that few calls are made and some 1 MiB is held that isn't needed. */
 #define HEADS ((uint64_t)1 << 16)
-#define WITH_KEY_AREAS ((uint64_t)1 << 20)
-#define MOST_AHEAD ((uint64_t)1 << 24)
+#define WITH_KEY_AREAS ((uint64_t)544 << 10)
+#define LEAST_AHEAD ((uint64_t)1 << 12)
+#define MOST_AHEAD ((uint64_t)1 << 20)
+
+/* The most that one call of pread is asked for. */
+#define MOST_AT_ONCE ((uint64_t)1 << 24)
 
 /* What a disk reads at once, or not. */
 #define SECTOR ((uint64_t)512)
@@ -30,7 +35,7 @@
 /* Ranges of a volume that were read, in their order, with a gap between any two, and their bytes one after the other. */
 struct held {
     int fd;
-    uint64_t start, total, ahead;
+    uint64_t start, total, ahead, unread; /* the last is the place that couldn't be read, where one couldn't */
     struct luks_range *ranges;
     size_t ranges_count;
     uint8_t *bytes;
@@ -43,6 +48,33 @@ struct held {
 static uint64_t least(uint64_t a, uint64_t b)
 {
     return a < b ? a : b;
+}
+
+/* A struct of the caller's has at least these bytes, and no more than any version's will. */
+#define MOST_FIELDS 1024
+
+static bool is_size(uint64_t size, size_t least_size)
+{
+    return size >= least_size && size <= MOST_FIELDS;
+}
+
+/* Whether `count` bytes of this struct's `size` may be read, and those behind them are zeros: a caller that was compiled for a later version asks for
+ * nothing that isn't known here. */
+static bool is_known(const void *given, uint64_t size, size_t count)
+{
+    const uint8_t *bytes = given;
+    if (!is_size(size, count))
+        return false;
+    for (size_t i = count; i < size; i++)
+        if (bytes[i] != 0)
+            return false;
+    return true;
+}
+
+/* Writes zeros over the fields of such a struct, but its size. */
+static void clear(void *told, uint64_t size)
+{
+    memset((uint8_t *)told + sizeof size, 0, (size_t)size - sizeof size);
 }
 
 /* Whether the calls here mean by this descriptor what they say: pwrite puts bytes at the file's end where it appends, and direct calls want buffers
@@ -98,7 +130,7 @@ static int read_all(int fd, uint8_t *into, size_t count, uint64_t at)
  * again by smaller pieces, none of which lies in two sectors at last. The file's end is a failure. */
 static size_t read_some(int fd, uint8_t *into, size_t count, uint64_t at)
 {
-    uint64_t piece = MOST_AHEAD;
+    uint64_t piece = MOST_AT_ONCE;
     size_t done = 0;
     while (done < count) {
         uint64_t place = at + done;
@@ -159,7 +191,10 @@ static uint32_t read_gap(struct held *held, size_t i, size_t before, uint64_t pl
     held->bytes_count += got;
     if (got > 0)
         add_range(held, i, place, got);
-    return place + got < needed ? LUKS_DEVICE : LUKS_DONE;
+    if (place + got >= needed)
+        return LUKS_DONE;
+    held->unread = place + got;
+    return LUKS_DEVICE;
 }
 
 /* The number of the first range that ends behind the place, and how many bytes those before it have. */
@@ -172,25 +207,36 @@ static size_t range_behind(const struct held *held, uint64_t place, size_t *befo
     return i;
 }
 
+/* Up to where is read at the place, before which so many ranges are held: as far again as what ends there, or else half as far as the time before. */
+static uint64_t reading_end(struct held *held, uint64_t place, size_t i)
+{
+    uint64_t ahead = held->ahead;
+    if (i > 0 && held->ranges[i - 1].at + held->ranges[i - 1].len == place)
+        ahead = least(held->ranges[i - 1].len, MOST_AHEAD);
+    else
+        held->ahead = ahead / 2 > LEAST_AHEAD ? ahead / 2 : LEAST_AHEAD;
+    return place + least(ahead, held->total - place);
+}
+
 /* Holds the range too that a call asked for; LUKS_BEYOND where it may be made again. */
 static uint32_t hold_more(struct held *held, struct luks_range wanted)
 {
     uint64_t needed = wanted.at + wanted.len, place = wanted.at;
+    size_t before, i = range_behind(held, place, &before);
+    uint64_t ahead = reading_end(held, place, i);
     while (place < needed) {
-        size_t before, i = range_behind(held, place, &before);
+        i = range_behind(held, place, &before);
         uint64_t gap_end = i < held->ranges_count ? held->ranges[i].at : held->total;
         if (gap_end <= place) {
             place = held->ranges[i].at + held->ranges[i].len;
             continue;
         }
-        uint64_t ahead = least(held->ahead, held->total - place) + place;
         uint64_t most = least(ahead > needed ? ahead : needed, gap_end);
         uint32_t answer = read_gap(held, i, before, place, least(needed, gap_end), most);
         if (answer != LUKS_DONE)
             return answer;
         place = most;
     }
-    held->ahead = held->ahead < MOST_AHEAD ? held->ahead * 2 : held->ahead;
     return LUKS_BEYOND;
 }
 
@@ -217,6 +263,7 @@ static uint32_t begin(struct held *held, int fd, uint64_t offset, uint64_t lengt
     held->start = least(offset, total);
     held->total = least(length, total - held->start);
     held->ahead = ahead;
+    held->unread = LUKS_TO_END;
     held->ranges = malloc(sizeof *held->ranges);
     held->bytes = malloc(1);
     return held->ranges != NULL && held->bytes != NULL ? LUKS_DONE : LUKS_MEMORY;
@@ -289,18 +336,22 @@ uint32_t luks_signature(int fd, uint64_t offset, uint64_t length, uint64_t withi
 
 uint32_t luks_check(int fd, uint64_t offset, uint64_t length, bool is_detached, struct luks_report *report)
 {
+    struct luks_report_bytes told = {0};
     struct held held;
-    if (report == NULL)
+    if (report == NULL || !is_size(report->size, sizeof *report))
         return LUKS_USAGE;
-    memset(report, 0, sizeof *report);
+    clear(report, report->size);
     uint32_t answer = begin(&held, fd, offset, length, HEADS);
     if (answer == LUKS_DONE)
         do {
-            answer = luks_check_bytes(GIVEN(&held), is_detached, report);
+            answer = luks_check_bytes(GIVEN(&held), is_detached, &told);
             if (answer == LUKS_BEYOND)
-                answer = hold_more(&held, report->beyond);
+                answer = hold_more(&held, told.beyond);
         } while (answer == LUKS_BEYOND);
-    report->beyond = (struct luks_range){0};
+    report->version = told.version;
+    report->copies = told.copies;
+    report->seqid = told.seqid;
+    report->areas = told.areas;
     end(&held);
     return answer;
 }
@@ -323,6 +374,351 @@ uint32_t luks_read(int fd, uint64_t offset, uint64_t length, char *json, size_t 
         } while (answer == LUKS_BEYOND);
     end(&held);
     return answer;
+}
+
+/* ---- what the header says as records, of the object of luks_read ---- */
+
+/* What is left of the object's text, which this library wrote: no space stands between its parts. */
+struct text {
+    const char *at, *end;
+};
+
+static bool is_at_sign(const struct text *text, char sign)
+{
+    return text->at < text->end && *text->at == sign;
+}
+
+static bool take(struct text *text, char sign)
+{
+    bool is_there = is_at_sign(text, sign);
+    text->at += is_there;
+    return is_there;
+}
+
+/* A text in quotation marks, as it stands between them. */
+static bool take_string(struct text *text, struct text *string)
+{
+    if (!take(text, '"'))
+        return false;
+    string->at = text->at;
+    while (text->at < text->end && *text->at != '"')
+        text->at += *text->at == '\\' && text->end - text->at > 1 ? 2 : 1;
+    string->end = text->at;
+    return take(text, '"');
+}
+
+static bool take_number(struct text *text, uint64_t *number)
+{
+    const char *from = text->at;
+    *number = 0;
+    while (text->at < text->end && *text->at >= '0' && *text->at <= '9')
+        *number = *number * 10 + (uint64_t)(*text->at++ - '0');
+    return text->at > from;
+}
+
+/* An array of numbers, each as a bit. */
+static bool take_set(struct text *text, uint64_t *bits)
+{
+    uint64_t number;
+    *bits = 0;
+    if (!take(text, '['))
+        return false;
+    while (!take(text, ']')) {
+        if (!take_number(text, &number))
+            return false;
+        *bits |= number < 64 ? (uint64_t)1 << number : 0;
+        (void)take(text, ',');
+    }
+    return true;
+}
+
+/* Whatever value stands there. */
+static bool skip_value(struct text *text)
+{
+    struct text string;
+    size_t depth = 0;
+    do {
+        if (is_at_sign(text, '"')) {
+            if (!take_string(text, &string))
+                return false;
+        } else if (take(text, '{') || take(text, '[')) {
+            depth++;
+        } else if (depth > 0 && (take(text, '}') || take(text, ']'))) {
+            depth--;
+        } else {
+            const char *from = text->at;
+            while (text->at < text->end && strchr("\"{}[]", *text->at) == NULL && (depth > 0 || *text->at != ','))
+                text->at++;
+            if (text->at == from)
+                return false;
+        }
+    } while (depth > 0);
+    return true;
+}
+
+static bool is_named(const struct text *name, const char *as)
+{
+    return (size_t)(name->end - name->at) == strlen(as) && memcmp(name->at, as, strlen(as)) == 0;
+}
+
+/* The next member of the object that begins or goes on there, behind its name; false at the object's end. */
+static bool next_member(struct text *text, struct text *name)
+{
+    (void)(take(text, '{') || take(text, ','));
+    return !take(text, '}') && take_string(text, name) && take(text, ':');
+}
+
+/* A member of an object, or of one within it, as a field of a record: a number, which is the greatest where a text stands there; a text, as much as fits; a
+ * text out of a list, by its place in that; an array of numbers, each as a bit. */
+enum how { NUMBER, TEXT, WORD, SET };
+struct field {
+    const char *within, *name;
+    enum how how;
+    size_t at, bytes;
+    const char *const *words;
+};
+#define AT(record, field) offsetof(struct record, field), sizeof ((struct record *)NULL)->field
+
+static const char *const STATES[] = {"disabled", "enabled", NULL};
+static const char *const DERIVATIONS[] = {"", "pbkdf2", "argon2i", "argon2id", NULL};
+static const char *const SEGMENT_KINDS[] = {"", "crypt", "linear", NULL};
+
+static const struct field OF_KEYSLOT[] = {
+    {"", "number", NUMBER, AT(luks_keyslot, number), NULL},
+    {"", "state", WORD, AT(luks_keyslot, is_enabled), STATES},
+    {"", "priority", NUMBER, AT(luks_keyslot, priority), NULL},
+    {"", "digest", NUMBER, AT(luks_keyslot, digest), NULL},
+    {"", "key_bytes", NUMBER, AT(luks_keyslot, key_bytes), NULL},
+    {"kdf", "type", WORD, AT(luks_keyslot, kdf), DERIVATIONS},
+    {"kdf", "iterations", NUMBER, AT(luks_keyslot, turns), NULL},
+    {"kdf", "time", NUMBER, AT(luks_keyslot, turns), NULL},
+    {"kdf", "memory", NUMBER, AT(luks_keyslot, memory), NULL},
+    {"kdf", "cpus", NUMBER, AT(luks_keyslot, lanes), NULL},
+    {"kdf", "hash", TEXT, AT(luks_keyslot, hash), NULL},
+    {"area", "key_bytes", NUMBER, AT(luks_keyslot, area_key_bytes), NULL},
+    {"area", "offset", NUMBER, AT(luks_keyslot, offset), NULL},
+    {"area", "size", NUMBER, AT(luks_keyslot, bytes), NULL},
+    {"area", "cipher", TEXT, AT(luks_keyslot, cipher), NULL},
+    {"splitter", "stripes", NUMBER, AT(luks_keyslot, stripes), NULL},
+    {0},
+};
+static const struct field OF_SEGMENT[] = {
+    {"", "number", NUMBER, AT(luks_segment, number), NULL},
+    {"", "type", WORD, AT(luks_segment, kind), SEGMENT_KINDS},
+    {"", "offset", NUMBER, AT(luks_segment, offset), NULL},
+    {"", "size", NUMBER, AT(luks_segment, bytes), NULL},
+    {"", "iv_tweak", NUMBER, AT(luks_segment, iv_tweak), NULL},
+    {"", "sector_size", NUMBER, AT(luks_segment, sector_bytes), NULL},
+    {"", "cipher", TEXT, AT(luks_segment, cipher), NULL},
+    {0},
+};
+static const struct field OF_DIGEST[] = {
+    {"", "number", NUMBER, AT(luks_digest, number), NULL},
+    {"", "iterations", NUMBER, AT(luks_digest, iterations), NULL},
+    {"", "keyslots", SET, AT(luks_digest, keyslots), NULL},
+    {"", "segments", SET, AT(luks_digest, segments), NULL},
+    {"", "hash", TEXT, AT(luks_digest, hash), NULL},
+    {0},
+};
+static const struct field OF_TOKEN[] = {
+    {"", "number", NUMBER, AT(luks_token, number), NULL},
+    {"", "keyslots", SET, AT(luks_token, keyslots), NULL},
+    {"", "type", TEXT, AT(luks_token, kind), NULL},
+    {0},
+};
+
+/* What the object itself says of a LUKS1 header, beside its keyslots. */
+struct luks1 {
+    uint32_t version, iterations;
+    uint64_t payload;
+    char cipher_name[32], cipher_mode[32], hash[32];
+};
+static const struct field OF_LUKS1[] = {
+    {"", "version", NUMBER, AT(luks1, version), NULL},
+    {"", "payload_offset", NUMBER, AT(luks1, payload), NULL},
+    {"", "cipher_name", TEXT, AT(luks1, cipher_name), NULL},
+    {"", "cipher_mode", TEXT, AT(luks1, cipher_mode), NULL},
+    {"", "hash", TEXT, AT(luks1, hash), NULL},
+    {"digest", "iterations", NUMBER, AT(luks1, iterations), NULL},
+    {0},
+};
+
+static void put_number(const struct field *field, uint8_t *record, uint64_t number)
+{
+    uint32_t narrow = (uint32_t)number;
+    memcpy(record + field->at, field->bytes == sizeof number ? (const void *)&number : &narrow, field->bytes);
+}
+
+static void put_string(const struct field *field, uint8_t *record, const struct text *string)
+{
+    if (field->how == TEXT)
+        memcpy(record + field->at, string->at, (size_t)least((uint64_t)(string->end - string->at), field->bytes - 1));
+    else if (field->how == NUMBER)
+        put_number(field, record, UINT64_MAX);
+    for (uint32_t i = 0; field->how == WORD && field->words[i] != NULL; i++)
+        if (is_named(string, field->words[i]))
+            put_number(field, record, i);
+}
+
+/* Keeps the value that stands there. */
+static bool keep_value(struct text *text, const struct field *field, uint8_t *record)
+{
+    struct text string;
+    uint64_t number = 0;
+    if (is_at_sign(text, '"')) {
+        if (!take_string(text, &string))
+            return false;
+        put_string(field, record, &string);
+        return true;
+    }
+    if (field->how == SET ? take_set(text, &number) : field->how == NUMBER && take_number(text, &number)) {
+        put_number(field, record, number);
+        return true;
+    }
+    return skip_value(text);
+}
+
+/* Keeps what the object says, and the objects within it, but for arrays of objects. */
+static bool keep_object(struct text *text, const char *within, const struct field *fields, uint8_t *record)
+{
+    static const char *const parts[] = {"area", "digest", "kdf", "splitter"};
+    struct text name;
+    while (next_member(text, &name)) {
+        const char *part = NULL;
+        const struct field *found = NULL;
+        for (size_t i = 0; *within == 0 && is_at_sign(text, '{') && i < sizeof parts / sizeof *parts; i++)
+            if (is_named(&name, parts[i]))
+                part = parts[i];
+        for (const struct field *field = fields; field->name != NULL; field++)
+            if (strcmp(field->within, within) == 0 && is_named(&name, field->name))
+                found = field;
+        if (!(part != NULL ? keep_object(text, part, fields, record) : found != NULL ? keep_value(text, found, record) : skip_value(text)))
+            return false;
+    }
+    return true;
+}
+
+/* Records of one kind: the array's name, their size, and what stands in one of which nothing is said. */
+struct shape {
+    const char *array;
+    const struct field *fields;
+    size_t bytes;
+    const void *empty;
+};
+static const struct luks_keyslot NO_KEYSLOT = {.priority = 1};
+static const struct luks_segment NO_SEGMENT = {0};
+static const struct luks_digest NO_DIGEST = {0};
+static const struct luks_token NO_TOKEN = {0};
+static const struct shape KEYSLOTS = {"keyslots", OF_KEYSLOT, sizeof NO_KEYSLOT, &NO_KEYSLOT};
+static const struct shape SEGMENTS = {"segments", OF_SEGMENT, sizeof NO_SEGMENT, &NO_SEGMENT};
+static const struct shape DIGESTS = {"digests", OF_DIGEST, sizeof NO_DIGEST, &NO_DIGEST};
+static const struct shape TOKENS = {"tokens", OF_TOKEN, sizeof NO_TOKEN, &NO_TOKEN};
+
+_Static_assert(sizeof(struct luks_keyslot) <= 256, "the largest of these");
+
+/* The records of an array of objects: how many, and those for which there is room. */
+static size_t keep_array(struct text *text, const struct shape *shape, uint8_t *records, size_t room)
+{
+    uint8_t nowhere[256];
+    size_t count = 0;
+    for (; (take(text, '[') || take(text, ',')) && !is_at_sign(text, ']'); count++) {
+        uint8_t *record = count < room ? records + count * shape->bytes : nowhere;
+        memcpy(record, shape->empty, shape->bytes);
+        if (!keep_object(text, "", shape->fields, record))
+            break;
+    }
+    return count;
+}
+
+/* The records of the whole object; none where it has no such array. */
+static size_t keep_records(struct text text, const struct shape *shape, void *records, size_t room)
+{
+    struct text name;
+    while (next_member(&text, &name)) {
+        if (is_named(&name, shape->array))
+            return keep_array(&text, shape, records, room);
+        if (!skip_value(&text))
+            break;
+    }
+    return 0;
+}
+
+/* The one segment of a LUKS1 volume. */
+static void segment_of_luks1(const struct luks1 *told, struct luks_segment *segment)
+{
+    *segment = (struct luks_segment){.kind = LUKS_CRYPT, .sector_bytes = 512, .offset = told->payload, .bytes = LUKS_TO_END};
+    snprintf(segment->cipher, sizeof segment->cipher, "%.31s-%.31s", told->cipher_name, told->cipher_mode);
+}
+
+/* Its one digest, which is that of all keyslots in use. */
+static void digest_of_luks1(const struct luks1 *told, struct text text, struct luks_digest *digest)
+{
+    struct luks_keyslot keyslots[LUKS_KEYSLOTS];
+    size_t count = keep_records(text, &KEYSLOTS, keyslots, LUKS_KEYSLOTS);
+    *digest = (struct luks_digest){.iterations = told->iterations, .segments = 1};
+    memcpy(digest->hash, told->hash, sizeof digest->hash);
+    for (size_t i = 0; i < count && i < LUKS_KEYSLOTS; i++)
+        digest->keyslots |= keyslots[i].is_enabled ? (uint32_t)1 << keyslots[i].number : 0;
+}
+
+/* The records of the object, and of a LUKS1 header those that its members stand for. */
+static size_t records_of(struct text text, const struct shape *shape, void *records, size_t room)
+{
+    struct luks1 told = {0};
+    struct text whole = text;
+    if (!keep_object(&whole, "", OF_LUKS1, (uint8_t *)&told) || told.version != 1 || (shape != &SEGMENTS && shape != &DIGESTS))
+        return keep_records(text, shape, records, room);
+    if (room > 0 && shape == &SEGMENTS)
+        segment_of_luks1(&told, records);
+    else if (room > 0)
+        digest_of_luks1(&told, text, records);
+    return 1;
+}
+
+static uint32_t read_records(int fd, uint64_t offset, uint64_t length, const struct shape *shape, void *records, size_t size, size_t room, size_t *count)
+{
+    uint64_t bytes = HEADS;
+    char *json = NULL;
+    if (count == NULL || size != shape->bytes || (records == NULL && room > 0))
+        return LUKS_USAGE;
+    *count = 0;
+    uint32_t answer = LUKS_ROOM;
+    for (uint64_t taken = 0; answer == LUKS_ROOM && taken < bytes;) {
+        char *more = bytes < PTRDIFF_MAX ? realloc(json, (size_t)bytes) : NULL;
+        taken = bytes;
+        if (more == NULL)
+            answer = LUKS_MEMORY;
+        else
+            answer = luks_read(fd, offset, length, json = more, (size_t)taken, &bytes);
+    }
+    if (answer == LUKS_DONE) {
+        *count = records_of((struct text){json, json + bytes}, shape, records, room);
+        answer = *count > room ? LUKS_ROOM : LUKS_DONE;
+    }
+    int kept = errno;
+    free(json);
+    errno = kept;
+    return answer;
+}
+
+uint32_t luks_keyslots(int fd, uint64_t offset, uint64_t length, struct luks_keyslot *keyslots, size_t size, size_t room, size_t *count)
+{
+    return read_records(fd, offset, length, &KEYSLOTS, keyslots, size, room, count);
+}
+
+uint32_t luks_segments(int fd, uint64_t offset, uint64_t length, struct luks_segment *segments, size_t size, size_t room, size_t *count)
+{
+    return read_records(fd, offset, length, &SEGMENTS, segments, size, room, count);
+}
+
+uint32_t luks_digests(int fd, uint64_t offset, uint64_t length, struct luks_digest *digests, size_t size, size_t room, size_t *count)
+{
+    return read_records(fd, offset, length, &DIGESTS, digests, size, room, count);
+}
+
+uint32_t luks_tokens(int fd, uint64_t offset, uint64_t length, struct luks_token *tokens, size_t size, size_t room, size_t *count)
+{
+    return read_records(fd, offset, length, &TOKENS, tokens, size, room, count);
 }
 
 /* ---- secrets ---- */
@@ -408,24 +804,26 @@ static uint32_t open_one(int fd, uint64_t offset, uint64_t length, uint32_t n, c
 {
     static const uint8_t nothing = 0;
     uint8_t nowhere = 0;
+    struct luks_opened_bytes told = {0};
     struct held held;
-    if (opened == NULL || (passphrase == NULL && passphrase_bytes > 0) || (key == NULL && key_room > 0))
+    if (opened == NULL || !is_size(opened->size, sizeof *opened) || (passphrase == NULL && passphrase_bytes > 0) || (key == NULL && key_room > 0))
         return LUKS_USAGE;
     const uint8_t *words = passphrase != NULL ? passphrase : &nothing;
     uint8_t *into = key != NULL ? key : &nowhere;
     struct guarded words_pages = guard((uintptr_t)words, passphrase_bytes), key_pages = guard((uintptr_t)into, key_room);
-    memset(opened, 0, sizeof *opened);
+    clear(opened, opened->size);
     uint32_t answer = begin(&held, fd, offset, length, WITH_KEY_AREAS);
     if (answer == LUKS_DONE)
         do {
-            answer = n == ANY ? luks_unlock_bytes(GIVEN(&held), words, passphrase_bytes, memory, older, into, key_room, opened)
+            answer = n == ANY ? luks_unlock_bytes(GIVEN(&held), words, passphrase_bytes, memory, older, into, key_room, &told)
                               : luks_open_bytes(GIVEN(&held), keyslot_of(n), words, passphrase_bytes, memory, older, into,
-                                                key_room, opened);
+                                                key_room, &told);
             if (answer == LUKS_BEYOND)
-                answer = hold_more(&held, opened->beyond);
+                answer = hold_more(&held, told.beyond);
         } while (answer == LUKS_BEYOND);
     forget();
-    opened->beyond = (struct luks_range){0};
+    opened->slot = told.slot;
+    opened->key_bytes = told.key_bytes;
     end(&held);
     unguard(&key_pages);
     unguard(&words_pages);
@@ -444,6 +842,29 @@ uint32_t luks_open(int fd, uint64_t offset, uint64_t length, uint32_t n, const v
     return open_one(fd, offset, length, n != ANY ? n : UINT8_MAX, passphrase, passphrase_bytes, memory, older, key, key_room, opened);
 }
 
+uint32_t luks_meets(int fd, uint64_t offset, uint64_t length, const void *key, size_t key_bytes, uint32_t digest, uint32_t older, uint32_t *judged)
+{
+    static const uint8_t nothing = 0;
+    struct luks_met met = {0};
+    struct held held;
+    if (key == NULL && key_bytes > 0)
+        return LUKS_USAGE;
+    struct guarded pages = guard((uintptr_t)key, key_bytes);
+    uint32_t answer = begin(&held, fd, offset, length, HEADS);
+    if (answer == LUKS_DONE)
+        do {
+            answer = luks_meets_bytes(GIVEN(&held), key != NULL ? key : &nothing, key_bytes, digest, older, &met);
+            if (answer == LUKS_BEYOND)
+                answer = hold_more(&held, met.beyond);
+        } while (answer == LUKS_BEYOND);
+    forget();
+    if (judged != NULL)
+        *judged = met.digest;
+    end(&held);
+    unguard(&pages);
+    return answer;
+}
+
 /* Whether the caller's function says to go on; it does where there is none. */
 static bool goes_on(luks_progress *progress, void *context, uint64_t done, uint64_t total)
 {
@@ -453,7 +874,7 @@ static bool goes_on(luks_progress *progress, void *context, uint64_t done, uint6
 uint32_t luks_try(int fd, uint64_t offset, uint64_t length, const void *passphrase, size_t passphrase_bytes, uint32_t memory, uint32_t older,
                   luks_progress *progress, void *context, uint32_t answers[LUKS_KEYSLOTS])
 {
-    struct luks_opened opened;
+    struct luks_opened opened = {.size = sizeof opened};
     if (answers == NULL)
         return LUKS_USAGE;
     /* a number that no keyslot has: the faults of the header itself */
@@ -491,9 +912,10 @@ enum kind { EDIT, FORMAT1, FORMAT2, CONVERT, REBUILD1, REBUILD2, BACKUP, RESTORE
 struct asked {
     enum kind kind;
     bool is_detached, is_second, is_over_any;
-    const struct luks_edit *edit;
+    struct luks_edit_bytes edit;
     uint32_t hash, iterations, memory;
-    struct luks_derivation derivation;
+    struct luks_derivation_bytes derivation;
+    struct luks_given given;
     uint64_t size;
     const uint8_t *passphrase, *text, *random;
     size_t passphrase_bytes, text_bytes, random_bytes;
@@ -605,10 +1027,10 @@ static uint32_t play(const struct held *held, const struct room *room, const str
 }
 
 /* A text's bytes, and how many: none where it isn't given. */
-static const uint8_t *bytes_of(const char *text)
+static const uint8_t *bytes_of(const void *text)
 {
     static const uint8_t nothing = 0;
-    return text != NULL ? (const uint8_t *)text : &nothing;
+    return text != NULL ? text : &nothing;
 }
 
 static size_t count_of(const char *text)
@@ -640,19 +1062,24 @@ static uint32_t plan_of_source(const struct held *held, const struct asked *it, 
                                room->calls, room->calls_room, room->bytes, room->bytes_room, plan);
 }
 
+/* What is given of a volume that is made, as the calls over bytes take it. */
+#define LAYOUT(given) \
+    (given)->sector, (given)->key != NULL, bytes_of((given)->key), (size_t)(given)->key_bytes, bytes_of((given)->uuid), count_of((given)->uuid), \
+        bytes_of((given)->label), count_of((given)->label), bytes_of((given)->subsystem), count_of((given)->subsystem)
+
 /* Plans what is asked over the bytes that are held. */
 static uint32_t plan_of(const struct held *held, const struct asked *it, struct room *room, struct luks_plan *plan)
 {
     if (it->kind == FORMAT1)
-        return luks_format1_bytes(GIVEN(held), it->is_detached, it->hash, it->iterations, it->passphrase,
+        return luks_format1_bytes(GIVEN(held), it->is_detached, LAYOUT(&it->given), it->hash, it->iterations, it->passphrase,
                                   it->passphrase_bytes, it->random, it->random_bytes, room->calls, room->calls_room, room->bytes, room->bytes_room, plan);
     if (it->kind == FORMAT2)
-        return luks_format2_bytes(GIVEN(held), it->is_detached, it->hash, it->iterations, &it->derivation, it->passphrase,
+        return luks_format2_bytes(GIVEN(held), it->is_detached, LAYOUT(&it->given), it->hash, it->iterations, &it->derivation, it->passphrase,
                                   it->passphrase_bytes, it->memory, it->random, it->random_bytes, room->calls, room->calls_room, room->bytes,
                                   room->bytes_room, plan);
     if (it->kind != EDIT)
         return plan_of_source(held, it, room, plan);
-    return luks_apply_bytes(GIVEN(held), it->is_detached, it->edit, it->passphrase, it->passphrase_bytes, it->text,
+    return luks_apply_bytes(GIVEN(held), it->is_detached, &it->edit, it->passphrase, it->passphrase_bytes, it->text,
                             it->text_bytes, it->random, it->random_bytes, room->calls, room->calls_room, room->bytes, room->bytes_room, plan);
 }
 
@@ -715,18 +1142,19 @@ static uint32_t carry_out_by_chance(struct held *held, struct asked *it, uint64_
 
 /* The pages of what is asked that may hold passphrases and keys. */
 struct secrets {
-    struct guarded passphrase, text, random;
+    struct guarded passphrase, text, random, key;
 };
 
 static struct secrets guard_all(const struct asked *it)
 {
     struct secrets found = {guard((uintptr_t)it->passphrase, it->passphrase_bytes), guard((uintptr_t)it->text, it->text_bytes),
-                            guard((uintptr_t)it->random, it->random_bytes)};
+                            guard((uintptr_t)it->random, it->random_bytes), guard((uintptr_t)it->given.key, (size_t)it->given.key_bytes)};
     return found;
 }
 
 static void unguard_all(const struct secrets *secrets)
 {
+    unguard(&secrets->key);
     unguard(&secrets->random);
     unguard(&secrets->text);
     unguard(&secrets->passphrase);
@@ -738,7 +1166,7 @@ static uint32_t need(struct held *held, const struct asked *it, uint64_t *count)
     struct luks_needed needed;
     uint32_t answer;
     do {
-        answer = luks_needed_bytes(GIVEN(held), it->is_detached, it->edit, it->passphrase, it->passphrase_bytes,
+        answer = luks_needed_bytes(GIVEN(held), it->is_detached, &it->edit, it->passphrase, it->passphrase_bytes,
                                    it->text, it->text_bytes, &needed);
         if (answer == LUKS_BEYOND)
             answer = hold_more(held, needed.beyond);
@@ -758,14 +1186,36 @@ static const uint8_t *given(const void *bytes)
     return bytes != NULL ? bytes : &nothing;
 }
 
-uint32_t luks_needed(int fd, uint64_t offset, uint64_t length, bool is_detached, const struct luks_edit *edit, const void *passphrase,
-                     size_t passphrase_bytes, const void *text, size_t text_bytes, uint64_t *random_bytes)
+/* What is chosen, or that nothing is. */
+static bool choice_of(const struct luks_derivation *derivation, struct luks_derivation_bytes *chosen)
+{
+    memset(chosen, 0, sizeof *chosen);
+    if (derivation == NULL)
+        return true;
+    if (!is_known(derivation, derivation->size, sizeof *derivation) || derivation->kind == 0)
+        return false;
+    *chosen = (struct luks_derivation_bytes){.kind = derivation->kind, .turns = derivation->turns, .memory = derivation->memory, .lanes = derivation->lanes};
+    return true;
+}
+
+/* The edit's numbers, as the calls over bytes take them. */
+static bool edit_of(const struct luks_edit *edit, struct luks_edit_bytes *asked)
+{
+    if (edit == NULL || !is_known(edit, edit->size, sizeof *edit))
+        return false;
+    *asked = (struct luks_edit_bytes){.kind = edit->kind, .slot = edit->slot, .by = edit->by, .to = edit->to, .iterations = edit->iterations,
+                                      .memory = edit->memory, .older = edit->older, .by_key = edit->by_key};
+    return choice_of(edit->derivation, &asked->derivation);
+}
+
+uint32_t luks_needed(int fd, uint64_t offset, uint64_t length, bool is_detached, const struct luks_edit *edit, const void *secret,
+                     size_t secret_bytes, const void *text, size_t text_bytes, uint64_t *random_bytes)
 {
     struct held held;
-    if (edit == NULL || random_bytes == NULL || !are_given(passphrase, passphrase_bytes) || !are_given(text, text_bytes))
+    struct asked it = {.is_detached = is_detached, .passphrase = given(secret), .passphrase_bytes = secret_bytes, .text = given(text),
+                       .text_bytes = text_bytes};
+    if (!edit_of(edit, &it.edit) || random_bytes == NULL || !are_given(secret, secret_bytes) || !are_given(text, text_bytes))
         return LUKS_USAGE;
-    struct asked it = {.is_detached = is_detached, .edit = edit, .passphrase = given(passphrase), .passphrase_bytes = passphrase_bytes,
-                       .text = given(text), .text_bytes = text_bytes};
     *random_bytes = 0;
     struct secrets secrets = guard_all(&it);
     uint32_t answer = begin(&held, fd, offset, length, HEADS);
@@ -776,14 +1226,14 @@ uint32_t luks_needed(int fd, uint64_t offset, uint64_t length, bool is_detached,
     return answer;
 }
 
-uint32_t luks_apply(int fd, uint64_t offset, uint64_t length, bool is_detached, const struct luks_edit *edit, const void *passphrase,
-                    size_t passphrase_bytes, const void *text, size_t text_bytes, const void *random, size_t random_bytes, uint32_t *slot)
+uint32_t luks_apply(int fd, uint64_t offset, uint64_t length, bool is_detached, const struct luks_edit *edit, const void *secret,
+                    size_t secret_bytes, const void *text, size_t text_bytes, const void *random, size_t random_bytes, uint32_t *slot)
 {
     struct held held;
-    if (edit == NULL || !are_given(passphrase, passphrase_bytes) || !are_given(text, text_bytes) || !are_given(random, random_bytes))
+    struct asked it = {.is_detached = is_detached, .passphrase = given(secret), .passphrase_bytes = secret_bytes, .text = given(text),
+                       .text_bytes = text_bytes, .random = random, .random_bytes = random_bytes};
+    if (!edit_of(edit, &it.edit) || !are_given(secret, secret_bytes) || !are_given(text, text_bytes) || !are_given(random, random_bytes))
         return LUKS_USAGE;
-    struct asked it = {.is_detached = is_detached, .edit = edit, .passphrase = given(passphrase), .passphrase_bytes = passphrase_bytes,
-                       .text = given(text), .text_bytes = text_bytes, .random = random, .random_bytes = random_bytes};
     uint64_t count = random_bytes;
     uint32_t answer = settle(fd);
     if (answer != LUKS_DONE)
@@ -799,55 +1249,85 @@ uint32_t luks_apply(int fd, uint64_t offset, uint64_t length, bool is_detached, 
     return answer;
 }
 
-/* What is chosen, or that nothing is. */
-static struct luks_derivation choice_of(const struct luks_derivation *derivation)
+/* The keyslot that the passphrase opens, where any will do; of a descriptor by which a call can write. */
+static uint32_t any_keyslot(int fd, uint64_t offset, uint64_t length, const void *passphrase, size_t passphrase_bytes, uint32_t memory, uint32_t older,
+                            uint32_t *slot)
 {
-    static const struct luks_derivation none = {0};
-    return derivation != NULL ? *derivation : none;
+    struct luks_opened opened = {.size = sizeof opened};
+    if (*slot != LUKS_NO_SLOT)
+        return LUKS_DONE;
+    uint32_t answer = judge(fd, true);
+    if (answer == LUKS_DONE)
+        answer = open_one(fd, offset, length, ANY, passphrase, passphrase_bytes, memory, older, NULL, 0, &opened);
+    *slot = opened.slot;
+    return answer;
 }
 
 uint32_t luks_add(int fd, uint64_t offset, uint64_t length, bool is_detached, uint32_t by, const void *passphrase, size_t passphrase_bytes,
                   const void *added, size_t added_bytes, uint32_t to, uint32_t iterations, const struct luks_derivation *derivation,
                   uint32_t memory, uint32_t older, uint32_t *slot)
 {
-    struct luks_edit edit = {.kind = LUKS_ADD, .by = by, .to = to, .iterations = iterations, .memory = memory, .older = older,
-                             .derivation = choice_of(derivation)};
-    return luks_apply(fd, offset, length, is_detached, &edit, passphrase, passphrase_bytes, added, added_bytes, NULL, 0, slot);
+    struct luks_edit edit = {.size = sizeof edit, .kind = LUKS_ADD, .by = by, .to = to, .iterations = iterations, .memory = memory, .older = older,
+                             .derivation = derivation};
+    uint32_t answer = any_keyslot(fd, offset, length, passphrase, passphrase_bytes, memory, older, &edit.by);
+    return answer != LUKS_DONE ? answer : luks_apply(fd, offset, length, is_detached, &edit, passphrase, passphrase_bytes, added, added_bytes, NULL, 0, slot);
+}
+
+uint32_t luks_add_by_key(int fd, uint64_t offset, uint64_t length, bool is_detached, uint32_t by, const void *key, size_t key_bytes,
+                         const void *added, size_t added_bytes, uint32_t to, uint32_t iterations, const struct luks_derivation *derivation,
+                         uint32_t memory, uint32_t older, uint32_t *slot)
+{
+    struct luks_edit edit = {.size = sizeof edit, .kind = LUKS_ADD, .by = by, .to = to, .iterations = iterations, .memory = memory, .older = older,
+                             .by_key = 1, .derivation = derivation};
+    return luks_apply(fd, offset, length, is_detached, &edit, key, key_bytes, added, added_bytes, NULL, 0, slot);
 }
 
 uint32_t luks_change(int fd, uint64_t offset, uint64_t length, bool is_detached, uint32_t slot, const void *passphrase, size_t passphrase_bytes,
                      const void *changed, size_t changed_bytes, uint32_t iterations, const struct luks_derivation *derivation,
                      uint32_t memory, uint32_t older, uint32_t *made)
 {
-    struct luks_edit edit = {.kind = LUKS_CHANGE, .slot = slot, .iterations = iterations, .memory = memory, .older = older,
-                             .derivation = choice_of(derivation)};
-    return luks_apply(fd, offset, length, is_detached, &edit, passphrase, passphrase_bytes, changed, changed_bytes, NULL, 0, made);
+    struct luks_edit edit = {.size = sizeof edit, .kind = LUKS_CHANGE, .slot = slot, .iterations = iterations, .memory = memory, .older = older,
+                             .derivation = derivation};
+    uint32_t answer = any_keyslot(fd, offset, length, passphrase, passphrase_bytes, memory, older, &edit.slot);
+    return answer != LUKS_DONE ? answer : luks_apply(fd, offset, length, is_detached, &edit, passphrase, passphrase_bytes, changed, changed_bytes, NULL, 0, made);
 }
 
 uint32_t luks_remove(int fd, uint64_t offset, uint64_t length, bool is_detached, uint32_t slot, uint32_t by, const void *passphrase,
                      size_t passphrase_bytes, uint32_t memory, uint32_t older)
 {
-    struct luks_edit edit = {.kind = LUKS_REMOVE, .slot = slot, .by = by, .memory = memory, .older = older};
+    struct luks_edit edit = {.size = sizeof edit, .kind = LUKS_REMOVE, .slot = slot, .by = by, .memory = memory, .older = older};
     return luks_apply(fd, offset, length, is_detached, &edit, passphrase, passphrase_bytes, NULL, 0, NULL, 0, NULL);
 }
 
 uint32_t luks_repair(int fd, uint64_t offset, uint64_t length, bool is_detached)
 {
-    struct luks_edit edit = {.kind = LUKS_REPAIR};
+    struct luks_edit edit = {.size = sizeof edit, .kind = LUKS_REPAIR};
     return luks_apply(fd, offset, length, is_detached, &edit, NULL, 0, NULL, 0, NULL, 0, NULL);
 }
 
 uint32_t luks_label(int fd, uint64_t offset, uint64_t length, bool is_detached, const char *label, size_t label_bytes)
 {
-    struct luks_edit edit = {.kind = LUKS_LABEL};
+    struct luks_edit edit = {.size = sizeof edit, .kind = LUKS_LABEL};
     return luks_apply(fd, offset, length, is_detached, &edit, NULL, 0, label, label_bytes, NULL, 0, NULL);
 }
 
+/* What is given of a volume that is made, or that nothing is. */
+static bool layout_of(const struct luks_given *given, struct luks_given *layout)
+{
+    *layout = (struct luks_given){.size = sizeof *layout, .sector = LUKS_NO_SECTOR};
+    if (given == NULL)
+        return true;
+    if (!is_known(given, given->size, sizeof *given) || given->key_bytes > SIZE_MAX || !are_given(given->key, (size_t)given->key_bytes))
+        return false;
+    memcpy(layout, given, sizeof *layout);
+    return true;
+}
+
 /* Makes a volume, which takes so many random bytes. */
-static uint32_t format(int fd, uint64_t offset, uint64_t length, struct asked *it, uint64_t count)
+static uint32_t format(int fd, uint64_t offset, uint64_t length, const struct luks_given *layout, struct asked *it, uint64_t count)
 {
     struct held held;
-    if (!are_given(it->passphrase, it->passphrase_bytes) || !are_given(it->random, it->random_bytes))
+    if (!layout_of(layout, &it->given) || !are_given(it->passphrase, it->passphrase_bytes) || !are_given(it->random, it->random_bytes))
         return LUKS_USAGE;
     it->passphrase = given(it->passphrase);
     uint32_t answer = settle(fd);
@@ -862,22 +1342,102 @@ static uint32_t format(int fd, uint64_t offset, uint64_t length, struct asked *i
     return answer;
 }
 
-uint32_t luks_format1(int fd, uint64_t offset, uint64_t length, bool is_detached, uint32_t hash, uint32_t iterations, const void *passphrase,
-                      size_t passphrase_bytes, const void *random, size_t random_bytes)
+uint32_t luks_format1(int fd, uint64_t offset, uint64_t length, bool is_detached, const struct luks_given *given, uint32_t hash, uint32_t iterations,
+                      const void *passphrase, size_t passphrase_bytes, const void *random, size_t random_bytes)
 {
     struct asked it = {.kind = FORMAT1, .is_detached = is_detached, .hash = hash, .iterations = iterations, .passphrase = passphrase,
                        .passphrase_bytes = passphrase_bytes, .random = random, .random_bytes = random_bytes};
-    return format(fd, offset, length, &it, 256080);
+    return format(fd, offset, length, given, &it, 256080);
 }
 
-uint32_t luks_format2(int fd, uint64_t offset, uint64_t length, bool is_detached, uint32_t hash, uint32_t iterations,
+uint32_t luks_format2(int fd, uint64_t offset, uint64_t length, bool is_detached, const struct luks_given *given, uint32_t hash, uint32_t iterations,
                       const struct luks_derivation *derivation, const void *passphrase, size_t passphrase_bytes, uint32_t memory,
                       const void *random, size_t random_bytes)
 {
-    struct asked it = {.kind = FORMAT2, .is_detached = is_detached, .hash = hash, .iterations = iterations, .derivation = choice_of(derivation),
-                       .passphrase = passphrase, .passphrase_bytes = passphrase_bytes, .memory = memory, .random = random,
-                       .random_bytes = random_bytes};
-    return format(fd, offset, length, &it, 256208);
+    struct asked it = {.kind = FORMAT2, .is_detached = is_detached, .hash = hash, .iterations = iterations, .passphrase = passphrase,
+                       .passphrase_bytes = passphrase_bytes, .memory = memory, .random = random, .random_bytes = random_bytes};
+    if (!choice_of(derivation, &it.derivation))
+        return LUKS_USAGE;
+    return format(fd, offset, length, given, &it, 256208);
+}
+
+/* ---- costs by time ---- */
+
+/* By how much longer a derivation has to take than the least one, so that the clock says how long its turns take: 0.25 s. */
+#define SAMPLE 250000000.0
+
+/* The least costs of a keyslot's derivation that the program chooses. */
+#define LEAST_TURNS 1000
+#define LEAST_PASSES 4
+#define LEAST_KIB ((uint32_t)64 << 10)
+
+/* How many nanoseconds it takes to make a volume in memory whose keyslot derives so; less than none where that can't be. */
+static double time_of(int fd, uint32_t hash, const struct luks_derivation *derivation, uint32_t *answer)
+{
+    struct timespec begun, ended;
+    (void)clock_gettime(CLOCK_MONOTONIC, &begun);
+    *answer = luks_format2(fd, 0, LUKS_TO_END, true, NULL, hash, LEAST_TURNS, derivation, "", 0, derivation->memory, NULL, 0);
+    (void)clock_gettime(CLOCK_MONOTONIC, &ended);
+    return (double)(ended.tv_sec - begun.tv_sec) * 1e9 + (double)(ended.tv_nsec - begun.tv_nsec);
+}
+
+static uint32_t within(double number, uint32_t low, uint32_t high)
+{
+    return number <= low ? low : number >= high ? high : (uint32_t)number;
+}
+
+/* The turns of PBKDF2 that take so many nanoseconds: more and more are timed until they take long enough. */
+static uint32_t turns_of(int fd, uint32_t hash, double wanted, struct luks_derivation *derivation)
+{
+    uint32_t answer;
+    derivation->turns = LEAST_TURNS;
+    double least = time_of(fd, hash, derivation, &answer), took = least;
+    while (answer == LUKS_DONE && took - least < SAMPLE && derivation->turns < UINT32_MAX / 4) {
+        derivation->turns *= 4;
+        took = time_of(fd, hash, derivation, &answer);
+    }
+    double each = (took - least) / (derivation->turns - LEAST_TURNS);
+    derivation->turns = within(wanted / (each > 0 ? each : 1), LEAST_TURNS, UINT32_MAX);
+    return answer;
+}
+
+/* The passes of Argon2 that do, over as much memory as it may take; or less memory, where the least passes take longer. */
+static uint32_t passes_of(int fd, uint32_t hash, double wanted, struct luks_derivation *derivation)
+{
+    uint32_t answer, most = derivation->memory, sampled = most < LEAST_KIB ? most : LEAST_KIB;
+    struct luks_derivation least = {.size = sizeof least, .kind = LUKS_PBKDF2, .turns = LEAST_TURNS};
+    double others = time_of(fd, hash, &least, &answer);
+    derivation->turns = LEAST_PASSES;
+    derivation->memory = sampled;
+    double took = answer == LUKS_DONE ? time_of(fd, hash, derivation, &answer) - others : 0;
+    double each = (took > 1 ? took : 1) / ((double)LEAST_PASSES * sampled);
+    derivation->memory = within(wanted / (each * LEAST_PASSES), sampled, most) / 1024 * 1024;
+    if (derivation->memory < sampled)
+        derivation->memory = sampled;
+    derivation->turns = within(wanted / (each * derivation->memory), LEAST_PASSES, UINT32_MAX);
+    return answer;
+}
+
+uint32_t luks_costs(uint32_t kind, uint32_t hash, uint32_t milliseconds, uint32_t memory, uint32_t lanes, struct luks_derivation *derivation)
+{
+    if (derivation == NULL || !is_size(derivation->size, sizeof *derivation) || kind < LUKS_PBKDF2 || kind > LUKS_ARGON2ID || hash < LUKS_SHA1 || hash > LUKS_SHA512)
+        return LUKS_USAGE;
+    clear(derivation, derivation->size);
+    derivation->kind = kind;
+    int fd = memfd_create("luks", MFD_CLOEXEC);
+    if (fd < 0)
+        return LUKS_DEVICE;
+    bool is_pbkdf2 = kind == LUKS_PBKDF2;
+    derivation->memory = is_pbkdf2 ? 0 : memory;
+    derivation->lanes = is_pbkdf2 ? 0 : lanes;
+    uint32_t answer = LUKS_DEVICE;
+    double wanted = (double)milliseconds * 1e6;
+    if (ftruncate(fd, (off_t)1 << 24) == 0)
+        answer = is_pbkdf2 ? turns_of(fd, hash, wanted, derivation) : passes_of(fd, hash, wanted, derivation);
+    int kept = errno;
+    close(fd);
+    errno = kept;
+    return answer;
 }
 
 /* ---- a header that is made of a source ---- */
@@ -946,12 +1506,14 @@ uint32_t luks_rebuild2(int source_fd, uint64_t source_offset, uint64_t source_le
     return answer;
 }
 
-static const struct luks_fields NO_FIELDS = {.key_bytes = LUKS_NO_NUMBER, .payload = LUKS_NO_NUMBER};
+static const struct luks_fields NO_FIELDS = {.size = sizeof NO_FIELDS, .key_bytes = LUKS_NO_NUMBER, .payload = LUKS_NO_NUMBER};
 
 uint32_t luks_rebuild1(int source_fd, uint64_t source_offset, uint64_t source_length, const struct luks_fields *fields, const char *uuid, int fd,
                        uint64_t offset, uint64_t length)
 {
     struct held source, held;
+    if (fields != NULL && !is_known(fields, fields->size, sizeof *fields))
+        return LUKS_USAGE;
     struct asked it = {.kind = REBUILD1, .fields = fields != NULL ? *fields : NO_FIELDS, .uuid = uuid, .source = &source};
     uint32_t answer = begin_both(&source, source_fd, source_offset, source_length, &held, fd, offset, length);
     if (answer == LUKS_DONE)
@@ -1104,6 +1666,40 @@ uint32_t luks_find(int fd, uint64_t offset, uint64_t length, uint64_t from, uint
     return luks_find_watched(fd, offset, length, from, NULL, NULL, place);
 }
 
+/* Searches one block, whose first byte is that at `first` of the window, for the starts at `at` or behind it and before this one. `unread` is the place that
+ * couldn't be read, or LUKS_TO_END. */
+static uint32_t find_in_block(int fd, uint64_t start, uint64_t first, uint64_t count, uint64_t at, uint64_t before, uint64_t *place, uint64_t *unread)
+{
+    struct held held;
+    *place = *unread = LUKS_TO_END;
+    uint32_t answer = begin(&held, fd, start + first, count, count);
+    if (answer == LUKS_DONE)
+        answer = find_in(&held, at - first, before - first, place);
+    if (answer == LUKS_DONE && *place != LUKS_TO_END)
+        *place += first;
+    if (answer == LUKS_DEVICE && held.unread != LUKS_TO_END)
+        *unread = first + held.unread;
+    end(&held);
+    return answer;
+}
+
+/* Passes over a sector that can't be read: the block then begins behind it, where it lies before `at`. Else what the block has from `at` on is searched up to it, and
+ * where no volume begins there this is LUKS_DEVICE, and `place` what lies behind it. */
+static uint32_t pass_over(int fd, uint64_t start, uint64_t *first, uint64_t at, uint64_t unread, uint64_t *place)
+{
+    uint64_t again, behind = ((start + unread) / SECTOR + 1) * SECTOR - start;
+    if (behind <= at) {
+        *first = behind;
+        return LUKS_DONE;
+    }
+    uint32_t answer = unread > at ? find_in_block(fd, start, *first, unread - *first, at, unread, place, &again) : (uint32_t)LUKS_DONE;
+    if (answer != LUKS_DONE || *place != LUKS_TO_END)
+        return answer;
+    *place = behind;
+    errno = EIO;
+    return LUKS_DEVICE;
+}
+
 uint32_t luks_find_watched(int fd, uint64_t offset, uint64_t length, uint64_t from, luks_progress *progress, void *context, uint64_t *place)
 {
     uint64_t total = 0, block = LEAST_BLOCK;
@@ -1120,23 +1716,20 @@ uint32_t luks_find_watched(int fd, uint64_t offset, uint64_t length, uint64_t fr
     if (from % SECTOR != 0)
         at = least(from, total) / SECTOR * SECTOR + SECTOR;
     while (at < total) {
-        struct held held;
-        uint64_t front = least(at, EXPLAINS), first = at - front;
-        uint64_t found = LUKS_TO_END, count = least(block, total - first);
-        uint64_t before = count < total - first ? count - TELLS : count;
+        uint64_t unread = LUKS_TO_END, first = at - least(at, EXPLAINS), before;
         if (!goes_on(progress, context, at, total))
             return LUKS_STOPPED;
-        uint32_t answer = begin(&held, fd, start + first, count, count);
-        if (answer == LUKS_DONE)
-            answer = find_in(&held, front, before, &found);
-        end(&held);
-        if (answer != LUKS_DONE)
+        uint32_t answer = LUKS_DEVICE;
+        do {
+            uint64_t count = least(block, total - first);
+            before = first + (count < total - first ? count - TELLS : count);
+            answer = find_in_block(fd, start, first, count, at, before, place, &unread);
+            if (unread != LUKS_TO_END)
+                answer = pass_over(fd, start, &first, at, unread, place);
+        } while (answer == LUKS_DONE && unread < at);
+        if (answer != LUKS_DONE || *place != LUKS_TO_END)
             return answer;
-        if (found != LUKS_TO_END) {
-            *place = first + found;
-            return LUKS_DONE;
-        }
-        at = first + before;
+        at = before;
         block = least(block * 2, MOST_BLOCK);
     }
     return LUKS_DONE;
@@ -1165,6 +1758,10 @@ uint32_t luks_find_step(int fd, uint64_t offset, uint64_t length, uint64_t from,
         return LUKS_USAGE;
     *reached = LUKS_TO_END;
     uint32_t answer = luks_find_watched(fd, offset, length, from, step_once, &step, place);
+    if (answer == LUKS_DEVICE && place != NULL) {
+        *reached = *place;
+        *place = LUKS_TO_END;
+    }
     if (answer != LUKS_STOPPED)
         return answer;
     *reached = step.reached;
@@ -1260,8 +1857,9 @@ static uint32_t wait_for_locks(const struct stat *about, bool writes, uint32_t m
 uint32_t luks_open_volume(const char *name, bool writes, uint32_t milliseconds, struct luks_volume *volume)
 {
     struct stat about;
-    if (name == NULL || volume == NULL)
+    if (name == NULL || volume == NULL || !is_size(volume->size, sizeof *volume))
         return LUKS_USAGE;
+    clear(volume, volume->size);
     volume->lock = -1;
     /* opening a pipe for reading would wait for its writer */
     volume->fd = open(name, (writes ? O_RDWR : O_RDONLY) | O_CLOEXEC | O_NONBLOCK | O_NOCTTY);

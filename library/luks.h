@@ -20,10 +20,10 @@
  * LUKS_READONLY and LUKS_APPENDS; which faults beside these, each says.
  *
  * What is read. Each call has a window: the `length` bytes from `offset` on, fewer where the file ends. Ranges of it are read as they
- * are needed, and held in memory until the call returns: the header and the key areas that are opened or written, and behind each
- * place that is asked for up to 64 KiB more, or 1 MiB where a keyslot is opened or made, which doubles with each asking. So it holds at
- * most twice as much as the call needs, and 1 MiB. A sector that can't be read is LUKS_DEVICE only where a byte of it is needed. The
- * position in the file stays.
+ * are needed, and held in memory until the call returns: the header and the key areas that are opened or written. Where it reads first it
+ * reads 64 KiB, or 544 KiB where a keyslot is opened or made; at each other place half as much as at the one before, and behind what
+ * was read as much again, at most 1 MiB. So beside what the call needs it holds some 1 MiB (docs/PERFORMANCE.md has a table). A sector
+ * that can't be read is LUKS_DEVICE only where a byte of it is needed. The position in the file stays.
  *
  * Locks. No call but luks_open_volume locks anything. As `luks` does, the caller holds flock(LOCK_SH) on the volume's file while it is
  * read, LOCK_EX from before it is read until it was written; of a block device also on the file /run/cryptsetup/L_MAJOR:MINOR, which
@@ -60,7 +60,7 @@ enum {
     LUKS_MEMORY = 103, /* memory was refused */
     LUKS_DEVICE = 104, /* a call of the descriptor failed, and errno says how; never from those named _bytes. A volume that
                           was to be written may have been changed in part: as by a power cut, what was left opens (docs/PROOFS.md) */
-    LUKS_SHUT = 105,   /* the passphrase opens no keyslot that was tried */
+    LUKS_SHUT = 105,   /* the passphrase opens no keyslot that was tried, or the key isn't the volume's */
     LUKS_ROOM = 106,   /* the caller's buffer is too short */
 
     /* only from the calls through a descriptor, before anything is read or written: */
@@ -144,49 +144,115 @@ enum luks_fault {
 /* In the place of a number: none is given. */
 #define LUKS_NO_NUMBER UINT32_MAX
 
+/* In the place of a sector: none is given. */
+#define LUKS_NO_SECTOR UINT64_MAX
+
+/* Room to grow. A struct that has a `size` may get more fields in a later version, behind those that it has. Its caller puts sizeof of the struct
+ * there before each call: `struct luks_report report = {.size = sizeof report}`. Less than this version's fields is LUKS_USAGE, and so is more than 1024. Where it is more, as of a
+ * caller that was compiled for a later version, a call that reads the struct wants zeros behind the fields that it knows, else it is LUKS_USAGE, and
+ * one that writes it puts zeros there. The structs of the calls named _bytes have none: these calls get another name where they change. */
+
 /* A range of a volume: `len` bytes from the place `at` on. */
 struct luks_range {
     uint64_t at, len;
 };
 
-/* What a volume is that is accepted; zeros else, but `beyond`. */
+/* What a volume is that is accepted; zeros else. */
 struct luks_report {
+    uint64_t size;    /* of the struct */
     uint32_t version; /* 1 or 2 */
     uint32_t copies;  /* LUKS2: 1 in step, 2 the first is newer, 3 the second is newer, 4 only the first is sound, 5 only the second */
     uint64_t seqid;   /* LUKS2: the sequence number of the copy that counts */
     uint64_t areas;   /* how many areas it has: headers, keyslots, segments */
-    struct luks_range beyond;  /* with LUKS_BEYOND: the range that has to be given */
+};
+
+/* A keyslot as the header says it. */
+struct luks_keyslot {
+    uint32_t number;
+    uint32_t is_enabled;     /* 0: of LUKS1, one that isn't in use: then only the key area and the stripes are told */
+    uint32_t priority;       /* LUKS2: 2 is tried first, 0 only where it is named; else 1 */
+    uint32_t digest;         /* LUKS2: the digest of its volume key */
+    uint32_t kdf;            /* LUKS_PBKDF2, LUKS_ARGON2I or LUKS_ARGON2ID */
+    uint32_t turns;          /* the iterations of PBKDF2, the passes of Argon2 */
+    uint32_t memory, lanes;  /* of Argon2, the first in KiB */
+    uint32_t key_bytes;      /* of the volume key */
+    uint32_t area_key_bytes; /* of the key area's cipher */
+    uint32_t stripes;
+    uint64_t offset, bytes;  /* of the key area, from the volume's start */
+    char cipher[64];         /* of the key area, as aes-xts-plain64, and a 0; no more than fits */
+    char hash[32];           /* of PBKDF2, likewise */
+};
+
+/* A stretch of the data as the header says it. */
+enum { LUKS_CRYPT = 1, LUKS_LINEAR = 2 };
+struct luks_segment {
+    uint32_t number;
+    uint32_t kind;         /* which one: the numbers above; 0 where it is another */
+    uint64_t offset;       /* in bytes from the start of the device that has the data */
+    uint64_t bytes;        /* LUKS_TO_END: up to that device's end */
+    uint64_t iv_tweak;     /* of an encrypted one: the number of its first sector */
+    uint32_t sector_bytes; /* of an encrypted one */
+    char cipher[64];       /* of an encrypted one, as aes-xts-plain64, and a 0; no more than fits */
+};
+
+/* A digest, by which a volume key is judged, as the header says it; its salt and value stand in the object of luks_read. */
+struct luks_digest {
+    uint32_t number;
+    uint32_t iterations; /* of PBKDF2 */
+    uint32_t keyslots;   /* those that give its volume key: a bit for each, 1 of keyslot 0, 2 of keyslot 1 and so on */
+    uint32_t segments;   /* those that this key encrypts, likewise */
+    char hash[32];       /* of PBKDF2, and a 0; no more than fits */
+};
+
+/* A token of a LUKS2 header, by which another program comes to a passphrase; what that keeps in it stands in the object of luks_read. */
+struct luks_token {
+    uint32_t number;
+    uint32_t keyslots; /* those that the passphrase opens, as of a digest */
+    char kind[64];     /* its type as JSON spells it, and a 0; no more than fits */
 };
 
 /* What a passphrase opens. */
 struct luks_opened {
+    uint64_t size;      /* of the struct */
     uint32_t slot;      /* the keyslot */
     uint32_t key_bytes; /* the bytes of the volume key; 0 where none opens */
-    struct luks_range beyond;    /* with LUKS_BEYOND: the range that has to be given */
 };
 
-/* How the key of a keyslot that is made is derived: 0 and all else 0 where none is chosen. Argon2 takes so many KiB, at least 8
+/* How the key of a keyslot that is made is derived. Argon2 takes so many KiB, at least 8
  * for each of its 1 to 2^24 - 1 lanes; LUKS1 has PBKDF2 alone. Costs beyond these bounds, or beyond the memory that the call
  * allows, are the fault Argon2; fewer than 1000 iterations or no pass the fault Iterations; another kind is LUKS_USAGE. */
 enum { LUKS_PBKDF2 = 1, LUKS_ARGON2I = 2, LUKS_ARGON2ID = 3 };
 struct luks_derivation {
+    uint64_t size;   /* of the struct */
     uint32_t kind;   /* which one: the numbers above */
     uint32_t turns;  /* the iterations of PBKDF2, the passes of Argon2 */
     uint32_t memory; /* of Argon2, in KiB */
     uint32_t lanes;  /* of Argon2 */
 };
 
-/* An edit, but for its passphrases and its label. */
+/* An edit, but for its secrets and its label. The secret is the passphrase of a keyslot, or the volume key that this keyslot gives: by the key
+ * nothing is derived, and the key material isn't read. */
 enum { LUKS_ADD = 1, LUKS_CHANGE = 2, LUKS_REMOVE = 3, LUKS_REPAIR = 4, LUKS_LABEL = 5 };
 struct luks_edit {
+    uint64_t size;       /* of the struct */
     uint32_t kind;       /* which one: the numbers above */
     uint32_t slot;       /* change, remove: the keyslot */
-    uint32_t by;         /* add: the keyslot that the passphrase opens; remove: the same, LUKS_NO_SLOT where it is `slot` */
+    uint32_t by;         /* add: the keyslot that the secret opens; remove: the same, LUKS_NO_SLOT where it is `slot` */
     uint32_t to;         /* add: the new keyslot, LUKS_NO_SLOT for the least that is free */
     uint32_t iterations; /* add, change: of the new keyslot's derivation by PBKDF2, at least 1000, where none is chosen */
     uint32_t memory;     /* how many KiB Argon2 may take */
-    uint32_t older;      /* whether the passphrase may open a keyslot of an older disk, as of luks_unlock; 0: no */
-    struct luks_derivation derivation; /* add, change: the new keyslot's; of kind 0 as that of the keyslot that the passphrase opens */
+    uint32_t older;      /* whether the secret may open a keyslot of an older disk, as of luks_unlock; 0: no */
+    uint32_t by_key;     /* add, change, remove: whether the secret is the volume key; 0: no, it is a passphrase */
+    const struct luks_derivation *derivation; /* add, change: the new keyslot's; NULL as that of the keyslot that the secret opens */
+};
+
+/* What is given of a volume that is made; a pointer is NULL where nothing is. */
+struct luks_given {
+    uint64_t size;     /* of the struct */
+    uint64_t sector;   /* where its data begins, in sectors of 512 bytes; LUKS_NO_SECTOR at 2 MiB, of LUKS2 at 16 MiB, and at 0 where `is_detached` */
+    const void *key;   /* the volume key, in the place of random bytes: 64 bytes, else LUKS_FAULT_KEY_LENGTH */
+    uint64_t key_bytes;
+    const char *uuid, *label, *subsystem; /* texts that end with a 0; one without a byte isn't given. LUKS1 has neither of the last two */
 };
 
 /* The hash of a volume that is made: of the derivation, the splitter and the digest. */
@@ -208,6 +274,7 @@ struct luks_plan {
 
 /* What is given of a LUKS1 header that is made of what stands: texts that end with a 0, NULL where none is given. */
 struct luks_fields {
+    uint64_t size;                                /* of the struct */
     const char *cipher_name, *cipher_mode, *hash; /* as aes, xts-plain64, sha256 */
     uint32_t key_bytes;                           /* of the volume key, 1 to 128, LUKS_NO_NUMBER where it isn't given */
     uint32_t payload;                             /* the sector where the data begins, LUKS_NO_NUMBER where it isn't given */
@@ -252,6 +319,34 @@ struct luks_needed {
     struct luks_range beyond; /* with LUKS_BEYOND: the range that has to be given */
 };
 
+/* Whether a key is the volume's; only of the call named _bytes. */
+struct luks_met {
+    uint32_t digest; /* by which it was judged */
+    struct luks_range beyond; /* with LUKS_BEYOND: the range that has to be given */
+};
+
+/* What a volume is, what a passphrase opens, and what is asked, as above, of the calls named _bytes. */
+struct luks_report_bytes {
+    uint32_t version, copies;
+    uint64_t seqid, areas;
+    struct luks_range beyond; /* with LUKS_BEYOND: the range that has to be given */
+};
+
+struct luks_opened_bytes {
+    uint32_t slot, key_bytes;
+    struct luks_range beyond; /* with LUKS_BEYOND: the range that has to be given */
+};
+
+struct luks_derivation_bytes {
+    uint32_t kind; /* 0 where none is chosen */
+    uint32_t turns, memory, lanes;
+};
+
+struct luks_edit_bytes {
+    uint32_t kind, slot, by, to, iterations, memory, older, by_key;
+    struct luks_derivation_bytes derivation;
+};
+
 /* What a header says; only of the call named _bytes. */
 struct luks_read {
     uint64_t json_bytes; /* how many bytes the text has; 0 where there is none */
@@ -266,6 +361,7 @@ typedef int luks_progress(void *context, uint64_t done, uint64_t total);
 
 /* What luks_open_volume opened. */
 struct luks_volume {
+    uint64_t size; /* of the struct */
     int fd;   /* for the calls below; -1 where it isn't open */
     int lock; /* of a block device cryptsetup's file, which is locked; -1 of a regular file, and where it can't be made or locked, as
                  by a user without rights: then cryptsetup isn't kept out */
@@ -295,6 +391,17 @@ uint32_t luks_check(int fd, uint64_t offset, uint64_t length, bool is_detached, 
  * lie where they can't, which luks_check tells; else its first fault. */
 uint32_t luks_read(int fd, uint64_t offset, uint64_t length, char *json, size_t json_room, uint64_t *json_bytes);
 
+/* What the header says that counts as records, by their numbers: into an array with `room` for so many. `count` tells how many there are, at most
+ * LUKS_KEYSLOTS, also with LUKS_ROOM, where there is room for fewer; `size` is sizeof(struct luks_keyslot) and so on, else this is LUKS_USAGE. Else it is the
+ * header's first fault, as of luks_read. Keyslots are of LUKS2 those that the metadata has, of LUKS1 all eight; of LUKS1 there is one segment, one digest and no token. */
+uint32_t luks_keyslots(int fd, uint64_t offset, uint64_t length, struct luks_keyslot *keyslots, size_t size, size_t room, size_t *count);
+
+uint32_t luks_segments(int fd, uint64_t offset, uint64_t length, struct luks_segment *segments, size_t size, size_t room, size_t *count);
+
+uint32_t luks_digests(int fd, uint64_t offset, uint64_t length, struct luks_digest *digests, size_t size, size_t room, size_t *count);
+
+uint32_t luks_tokens(int fd, uint64_t offset, uint64_t length, struct luks_token *tokens, size_t size, size_t room, size_t *count);
+
 /* The first keyslot that the passphrase opens, with Argon2 taking up to `memory` KiB for each. Where `older` isn't 0 the ciphers
  * and hashes of older disks are accepted (docs/PROFILE.md): key areas in aes-cbc-essiv:sha256, aes-cbc-plain and aes-cbc-plain64,
  * and sha224, sha384, ripemd160, whirlpool and blake2b-512; else such keyslots are passed over. The volume key is put into `key`,
@@ -316,20 +423,27 @@ uint32_t luks_open(int fd, uint64_t offset, uint64_t length, uint32_t n, const v
 uint32_t luks_try(int fd, uint64_t offset, uint64_t length, const void *passphrase, size_t passphrase_bytes, uint32_t memory, uint32_t older,
                   luks_progress *progress, void *context, uint32_t answers[LUKS_KEYSLOTS]);
 
+/* Whether these bytes are the volume key: LUKS_DONE where they meet the digest, as the standards say it of a key that a keyslot gives, LUKS_SHUT where they
+ * don't. It is judged by the digest of this number, or, with LUKS_NO_NUMBER, by that of the volume key: of LUKS1 the one that there is, of LUKS2 the one of segment
+ * 0. `judged`, where it isn't NULL, gets its number. Else the header's first fault, LUKS_FAULT_NO_SUCH_DIGEST, _KEY_LENGTH (not as many bytes as a
+ * keyslot of that digest gives) or _HASH (unknown, or an older one and `older` is 0). The key itself is what luks_unlock and luks_open give. */
+uint32_t luks_meets(int fd, uint64_t offset, uint64_t length, const void *key, size_t key_bytes, uint32_t digest, uint32_t older, uint32_t *judged);
+
 /* What the signatures among the first `within` bytes show that the disk is used for: 0, or a number whose name
  * luks_signature_name has: a partition table, a file system, swap and so on, as libblkid knows them. LUKS is none. */
 uint32_t luks_signature(int fd, uint64_t offset, uint64_t length, uint64_t within, uint32_t *shows);
 
 /* The least place, at `from` or behind it, at which a LUKS volume begins in the window, as its header (of LUKS1 also without its
  * magic), its second copy or whole metadata tells; LUKS_TO_END where there is none. It is in bytes from the window's start, a
- * multiple of 512. Up to 64 MiB are held. A disk that can't be read somewhere is LUKS_DEVICE: ask again from behind that place. */
+ * multiple of 512. Up to 64 MiB are held. Where a sector can't be read, what lies before it is searched first; then this is LUKS_DEVICE, and `place` is what lies
+ * behind that sector: ask again from there, and so on. It is LUKS_TO_END where nothing can be. */
 uint32_t luks_find(int fd, uint64_t offset, uint64_t length, uint64_t from, uint64_t *place);
 
 /* The same, with a `progress` that is called before each block is read: `done` is the place up to which no volume began. */
 uint32_t luks_find_watched(int fd, uint64_t offset, uint64_t length, uint64_t from, luks_progress *progress, void *context, uint64_t *place);
 
 /* The same of one block alone, for callers that look for signals between two: where no volume begins in it `place` is LUKS_TO_END, and `reached` the place
- * to ask from next, or LUKS_TO_END where the search is done. */
+ * to ask from next, or LUKS_TO_END where the search is done. With LUKS_DEVICE `reached` is what lies behind the sector that can't be read. */
 uint32_t luks_find_step(int fd, uint64_t offset, uint64_t length, uint64_t from, uint64_t *place, uint64_t *reached);
 
 /* How the keyslots of a backup, which is the first descriptor's, stand to those of the volume, by their salts and key areas;
@@ -358,17 +472,23 @@ uint32_t luks_backup_length(int fd, uint64_t offset, uint64_t length, bool is_de
  * _METADATA_FULL, _RANDOM_LENGTH (of random bytes that are given). Where the power fails in its midst, all that opened before opens, or what the edit makes. */
 
 /* How many random bytes the edit takes; or its first fault, of those that are seen without opening a keyslot.
- * `text` is the new passphrase, or the label. It writes nothing. */
-uint32_t luks_needed(int fd, uint64_t offset, uint64_t length, bool is_detached, const struct luks_edit *edit, const void *passphrase,
-                     size_t passphrase_bytes, const void *text, size_t text_bytes, uint64_t *random_bytes);
+ * `secret` is the passphrase, or the volume key where the edit is by that, `text` the new passphrase, or the label. It writes nothing. */
+uint32_t luks_needed(int fd, uint64_t offset, uint64_t length, bool is_detached, const struct luks_edit *edit, const void *secret,
+                     size_t secret_bytes, const void *text, size_t text_bytes, uint64_t *random_bytes);
 
 /* Does the edit; `slot`, where it isn't NULL, gets the keyslot that is made or sealed again. */
-uint32_t luks_apply(int fd, uint64_t offset, uint64_t length, bool is_detached, const struct luks_edit *edit, const void *passphrase,
-                    size_t passphrase_bytes, const void *text, size_t text_bytes, const void *random, size_t random_bytes, uint32_t *slot);
+uint32_t luks_apply(int fd, uint64_t offset, uint64_t length, bool is_detached, const struct luks_edit *edit, const void *secret,
+                    size_t secret_bytes, const void *text, size_t text_bytes, const void *random, size_t random_bytes, uint32_t *slot);
+
+/* The costs by which a keyslot's derivation of this kind takes about so many milliseconds on this machine, into `derivation`: the turns of PBKDF2 by this hash, at
+ * least 1000; of Argon2 the passes, at least 4, over `memory` KiB with so many lanes, or less memory, but at least 64 MiB, where 4 passes take longer. It is measured,
+ * beside whatever else runs, which takes a second or two, and as much memory. Costs that can't be are LUKS_FAULT_ARGON2; no file is read or written. */
+uint32_t luks_costs(uint32_t kind, uint32_t hash, uint32_t milliseconds, uint32_t memory, uint32_t lanes, struct luks_derivation *derivation);
 
 /* The edits by name, with random bytes of getrandom. The first adds a keyslot in which the new passphrase opens
  * what the old one opens, the second puts the new passphrase in the old one's place, the third removes the
- * keyslot `slot` by its own passphrase, or by that of the keyslot `by`. The new keyslot derives by `derivation`, or
+ * keyslot `slot` by its own passphrase, or by that of the keyslot `by`. Of the first two the keyslot that is opened may be LUKS_NO_SLOT: then it is the one
+ * that luks_unlock opens, and LUKS_SHUT says that the passphrase opens none. The new keyslot derives by `derivation`, or
  * where it is NULL as the one that is opened, PBKDF2 by `iterations`; Argon2 takes up to `memory` KiB for either.
  * Where `older` isn't 0 the passphrase may open a keyslot of an older disk, as of luks_unlock; the new keyslot is like it. */
 uint32_t luks_add(int fd, uint64_t offset, uint64_t length, bool is_detached, uint32_t by, const void *passphrase, size_t passphrase_bytes,
@@ -379,6 +499,12 @@ uint32_t luks_change(int fd, uint64_t offset, uint64_t length, bool is_detached,
                      const void *changed, size_t changed_bytes, uint32_t iterations, const struct luks_derivation *derivation, uint32_t memory,
                      uint32_t older, uint32_t *made);
 
+/* The first of these by the volume key that the keyslot `by` gives, in the place of its passphrase: so a keyslot whose key material is destroyed is
+ * opened anew. LUKS_FAULT_LOCKED: it isn't that key. Of the other two luks_apply does so. */
+uint32_t luks_add_by_key(int fd, uint64_t offset, uint64_t length, bool is_detached, uint32_t by, const void *key, size_t key_bytes,
+                         const void *added, size_t added_bytes, uint32_t to, uint32_t iterations,
+                         const struct luks_derivation *derivation, uint32_t memory, uint32_t older, uint32_t *slot);
+
 uint32_t luks_remove(int fd, uint64_t offset, uint64_t length, bool is_detached, uint32_t slot, uint32_t by, const void *passphrase,
                      size_t passphrase_bytes, uint32_t memory, uint32_t older);
 
@@ -388,14 +514,15 @@ uint32_t luks_repair(int fd, uint64_t offset, uint64_t length, bool is_detached)
 /* LUKS2: sets the label, at most 47 bytes of 0x20 to 0x7E. */
 uint32_t luks_label(int fd, uint64_t offset, uint64_t length, bool is_detached, const char *label, size_t label_bytes);
 
-/* Makes a LUKS1 or a LUKS2 volume whose keyslot 0 opens by the passphrase; LUKS_FAULT_TOO_SMALL, _ITERATIONS, _ARGON2 and _RANDOM_LENGTH
- * may refuse it. What stood there before is written over
- * without question. They take 256080 and 256208 random bytes. The keyslot of LUKS2 derives by `derivation`, Argon2 with up
- * to `memory` KiB, or where it is NULL as the digest of the volume key: by PBKDF2 with `iterations`. */
-uint32_t luks_format1(int fd, uint64_t offset, uint64_t length, bool is_detached, uint32_t hash, uint32_t iterations, const void *passphrase,
-                      size_t passphrase_bytes, const void *random, size_t random_bytes);
+/* Makes a LUKS1 or a LUKS2 volume whose keyslot 0 opens by the passphrase, with what is `given` in the place of what is made of random bytes, or NULL.
+ * LUKS_FAULT_PAYLOAD (in the header or the key areas, or past what the header can tell), _TOO_SMALL, _UUID, _BAD_LABEL, _KEY_LENGTH, _ITERATIONS, _ARGON2 and
+ * _RANDOM_LENGTH may refuse it, in this order. What stood there before is written over without question, but no byte where the data begins or
+ * behind it. They take 256080 and 256208 random bytes, also those in whose place something is given. The keyslot of LUKS2 derives by
+ * `derivation`, Argon2 with up to `memory` KiB, or where it is NULL as the digest of the volume key: by PBKDF2 with `iterations`. */
+uint32_t luks_format1(int fd, uint64_t offset, uint64_t length, bool is_detached, const struct luks_given *given, uint32_t hash, uint32_t iterations,
+                      const void *passphrase, size_t passphrase_bytes, const void *random, size_t random_bytes);
 
-uint32_t luks_format2(int fd, uint64_t offset, uint64_t length, bool is_detached, uint32_t hash, uint32_t iterations,
+uint32_t luks_format2(int fd, uint64_t offset, uint64_t length, bool is_detached, const struct luks_given *given, uint32_t hash, uint32_t iterations,
                       const struct luks_derivation *derivation, const void *passphrase, size_t passphrase_bytes, uint32_t memory,
                       const void *random, size_t random_bytes);
 
@@ -451,18 +578,22 @@ uint32_t luks_restore(int backup_fd, uint64_t backup_offset, uint64_t backup_len
  * Pointers are valid for their lengths, and no two that are written to overlap, nor one of these and
  * one that is read. A pointer with length 0 may be anything but null. */
 
-uint32_t luks_check_bytes(const struct luks_range *ranges, size_t ranges_count, const uint8_t *held, size_t held_bytes, uint64_t total, bool is_detached, struct luks_report *report);
+uint32_t luks_check_bytes(const struct luks_range *ranges, size_t ranges_count, const uint8_t *held, size_t held_bytes, uint64_t total, bool is_detached, struct luks_report_bytes *report);
 
 uint32_t luks_read_bytes(const struct luks_range *ranges, size_t ranges_count, const uint8_t *held, size_t held_bytes, uint64_t total, uint8_t *json, size_t json_room, struct luks_read *read);
 
 uint32_t luks_unlock_bytes(const struct luks_range *ranges, size_t ranges_count, const uint8_t *held, size_t held_bytes, uint64_t total, const uint8_t *passphrase, size_t passphrase_bytes,
-                           uint32_t memory, uint32_t older, uint8_t *key, size_t key_room, struct luks_opened *opened);
+                           uint32_t memory, uint32_t older, uint8_t *key, size_t key_room, struct luks_opened_bytes *opened);
 
 /* `n` is a number of 8 bits: of a larger one C takes the remainder. */
 uint32_t luks_open_bytes(const struct luks_range *ranges, size_t ranges_count, const uint8_t *held, size_t held_bytes, uint64_t total, uint8_t n, const uint8_t *passphrase, size_t passphrase_bytes,
-                         uint32_t memory, uint32_t older, uint8_t *key, size_t key_room, struct luks_opened *opened);
+                         uint32_t memory, uint32_t older, uint8_t *key, size_t key_room, struct luks_opened_bytes *opened);
 
-uint32_t luks_needed_bytes(const struct luks_range *ranges, size_t ranges_count, const uint8_t *held, size_t held_bytes, uint64_t total, bool is_detached, const struct luks_edit *edit,
+/* 0: the key meets the digest, LUKS_SHUT: it doesn't. `digest` is LUKS_NO_NUMBER for that of the volume key. */
+uint32_t luks_meets_bytes(const struct luks_range *ranges, size_t ranges_count, const uint8_t *held, size_t held_bytes, uint64_t total, const uint8_t *key, size_t key_bytes,
+                          uint32_t digest, uint32_t older, struct luks_met *met);
+
+uint32_t luks_needed_bytes(const struct luks_range *ranges, size_t ranges_count, const uint8_t *held, size_t held_bytes, uint64_t total, bool is_detached, const struct luks_edit_bytes *edit,
                            const uint8_t *passphrase, size_t passphrase_bytes, const uint8_t *text, size_t text_bytes, struct luks_needed *needed);
 
 uint32_t luks_signature_bytes(const struct luks_range *ranges, size_t ranges_count, const uint8_t *held, size_t held_bytes, uint64_t total, uint64_t within, struct luks_signature *signature);
@@ -479,17 +610,22 @@ uint32_t luks_find_bytes(const struct luks_range *ranges, size_t ranges_count, c
 
 /* The plans: all calls and bytes, or LUKS_ROOM and how many there are. Played over the volume they leave what the
  * call leaves; a flush comes behind each write, and no place is written that isn't given. */
-uint32_t luks_apply_bytes(const struct luks_range *ranges, size_t ranges_count, const uint8_t *held, size_t held_bytes, uint64_t total, bool is_detached, const struct luks_edit *edit,
+uint32_t luks_apply_bytes(const struct luks_range *ranges, size_t ranges_count, const uint8_t *held, size_t held_bytes, uint64_t total, bool is_detached, const struct luks_edit_bytes *edit,
                           const uint8_t *passphrase, size_t passphrase_bytes, const uint8_t *text, size_t text_bytes, const uint8_t *random,
                           size_t random_bytes, struct luks_call *calls, size_t calls_room, uint8_t *bytes, size_t bytes_room, struct luks_plan *plan);
 
-uint32_t luks_format1_bytes(const struct luks_range *ranges, size_t ranges_count, const uint8_t *held, size_t held_bytes, uint64_t total, bool is_detached, uint32_t hash, uint32_t iterations,
+/* `sector` is LUKS_NO_SECTOR where none is given; the key is given where `is_keyed`, each text where it has a byte. A text that isn't UTF-8 is LUKS_USAGE. */
+uint32_t luks_format1_bytes(const struct luks_range *ranges, size_t ranges_count, const uint8_t *held, size_t held_bytes, uint64_t total, bool is_detached,
+                            uint64_t sector, bool is_keyed, const uint8_t *key, size_t key_bytes, const uint8_t *uuid, size_t uuid_bytes,
+                            const uint8_t *label, size_t label_bytes, const uint8_t *subsystem, size_t subsystem_bytes, uint32_t hash, uint32_t iterations,
                             const uint8_t *passphrase, size_t passphrase_bytes, const uint8_t *random, size_t random_bytes,
                             struct luks_call *calls, size_t calls_room, uint8_t *bytes, size_t bytes_room, struct luks_plan *plan);
 
 /* `derivation` is of kind 0 where none is chosen. */
-uint32_t luks_format2_bytes(const struct luks_range *ranges, size_t ranges_count, const uint8_t *held, size_t held_bytes, uint64_t total, bool is_detached, uint32_t hash, uint32_t iterations,
-                            const struct luks_derivation *derivation, const uint8_t *passphrase, size_t passphrase_bytes, uint32_t memory,
+uint32_t luks_format2_bytes(const struct luks_range *ranges, size_t ranges_count, const uint8_t *held, size_t held_bytes, uint64_t total, bool is_detached,
+                            uint64_t sector, bool is_keyed, const uint8_t *key, size_t key_bytes, const uint8_t *uuid, size_t uuid_bytes,
+                            const uint8_t *label, size_t label_bytes, const uint8_t *subsystem, size_t subsystem_bytes, uint32_t hash, uint32_t iterations,
+                            const struct luks_derivation_bytes *derivation, const uint8_t *passphrase, size_t passphrase_bytes, uint32_t memory,
                             const uint8_t *random, size_t random_bytes, struct luks_call *calls, size_t calls_room, uint8_t *bytes,
                             size_t bytes_room, struct luks_plan *plan);
 

@@ -1,6 +1,6 @@
 """Builds the wheel of this folder's module with the shared library in it, as pip asks (PEP 517): `pip install ./python`.
 
-The library is bin/libluks.so.0 beside this folder, which `make library` leaves there; the environment's LIBLUKS names another one. The wheel is of this
+The library is bin/libluks.so.1 beside this folder, which `make library` leaves there; the environment's LIBLUKS names another one. The wheel is of this
 system's kind alone: Linux on x86-64 with a C library that the library can be loaded by. Nothing is downloaded.
 """
 import base64
@@ -15,9 +15,9 @@ TIME = (1980, 1, 1, 0, 0, 0)
 
 
 def library():
-    path = os.environ.get("LIBLUKS") or os.path.join(HERE, os.pardir, "bin", "libluks.so.0")
+    path = os.environ.get("LIBLUKS") or os.path.join(HERE, os.pardir, "bin", "libluks.so.1")
     if not os.path.exists(path):
-        raise SystemExit("luks: bin/libluks.so.0 isn't there: run `make library`, or name a library by LIBLUKS")
+        raise SystemExit("luks: bin/libluks.so.1 isn't there: run `make library`, or name a library by LIBLUKS")
     return path
 
 
@@ -36,7 +36,7 @@ def files(path, number):
             with open(os.path.join(package, name), "rb") as file:
                 yield f"luks/{name}", file.read()
     with open(path, "rb") as file:
-        yield "luks/libluks.so.0", file.read()
+        yield "luks/libluks.so.1", file.read()
     about = f"luks-{number}.dist-info"
     yield f"{about}/METADATA", (f"Metadata-Version: 2.1\nName: luks\nVersion: {number}\nSummary: Checks, opens and edits headers of LUKS volumes: the calls of libluks\n"
                                 "License: Apache-2.0\nRequires-Python: >=3.8\n").encode()

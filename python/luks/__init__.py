@@ -33,7 +33,7 @@ weren't tried, and why. A volume that is opened by its name is locked as `luks` 
 A passphrase is bytes, a bytearray or a memoryview of bytes. The copies that are made here are written over; what stays with the caller is its own
 object, which of `bytes` can't be written over, and what `key` returns.
 
-The library libluks.so.0 is that which lies beside this module, as in a wheel, or which the system's loader finds; the environment's LIBLUKS names
+The library libluks.so.1 is that which lies beside this module, as in a wheel, or which the system's loader finds; the environment's LIBLUKS names
 another.
 """
 from __future__ import annotations
@@ -42,17 +42,18 @@ import ctypes
 import errno
 import json
 import os
+import threading
 import time
 from dataclasses import dataclass
 from types import TracebackType
-from typing import Any, Callable, Dict, Iterator, List, Optional, Tuple, Type, Union
+from typing import Any, Callable, Dict, Iterator, List, Optional, Tuple, Type, TypeVar, Union
 
-from .library import (KEYSLOTS, LIBRARY, NO_NUMBER, NO_SLOT, TO_END, Buffer, DerivationRecord, EditRecord, FieldsRecord, OpenedRecord,
-                      ReportRecord, Secret, VolumeRecord, text_of)
+from .library import (KEYSLOTS, LIBRARY, NO_NUMBER, NO_SECTOR, NO_SLOT, TO_END, Buffer, DerivationRecord, EditRecord, FieldsRecord, GivenRecord,
+                      OpenedRecord, ReportRecord, Secret, VolumeRecord, text_of)
 from .numbers import Number
 from .records import Digest, Header, Keyslot, Segment, Token
 
-__all__ = ["Comparison", "Derivation", "Digest", "Fault", "Header", "Keyslot", "Number", "Report", "Segment", "Token", "Untried", "VERSION", "Volume",
+__all__ = ["Comparison", "Derivation", "Digest", "Fault", "Header", "Keyslot", "Number", "Report", "Segment", "Token", "Unreadable", "Untried", "VERSION", "Volume",
            "explain"]
 
 VERSION = LIBRARY.luks_version().decode("ascii")
@@ -64,6 +65,7 @@ KINDS = (None, "pbkdf2", "argon2i", "argon2id")
 KEY_ROOM = 128
 KEEPINGS = ("absent", "same", "older", "missing", "removed", "damaged")
 COPIES = (None, "in-step", "first-newer", "second-newer", "first-only", "second-only")
+SECTOR = 512
 PAUSE = 0.05
 """Seconds before a lock is asked for again."""
 UNTRIED = (Number.OUTSIDE, Number.ARGON2, Number.CIPHER, Number.HASH, Number.KEY_SIZE)
@@ -96,6 +98,13 @@ def _kib(mib: int) -> int:
     if mib < 0:
         raise ValueError("memory is a number of MiB")
     return min(mib * 1024, 2**32 - 1)
+
+
+def _text(text: Optional[str]) -> Optional[bytes]:
+    """A text's bytes, as C takes them, which ends with the first 0."""
+    if text is not None and "\0" in text:
+        raise ValueError("a text has no null character")
+    return None if text is None else text.encode()
 
 
 def _known(number: int) -> int:
@@ -141,6 +150,17 @@ class Untried(Exception):
         return Untried, (self.keyslots, self.memory)
 
 
+class Unreadable(OSError):
+    """Sectors of 512 bytes of the disk couldn't be read, and were passed over: `sectors` has the place of each."""
+
+    def __init__(self, sectors: List[int]) -> None:
+        self.sectors = sectors
+        super().__init__(errno.EIO, f"sectors that couldn't be read were passed over: {', '.join(map(str, sectors))}")
+
+    def __reduce__(self) -> Tuple[Type[Unreadable], Tuple[List[int]]]:
+        return Unreadable, (self.sectors,)
+
+
 def explain(number: int) -> Fault:
     """What is said of a number of luks.h, as the exception that it raises."""
     return Fault(number)
@@ -181,6 +201,19 @@ class Derivation:
     lanes: int = 4
     """Of Argon2, 1 to 2^24 - 1."""
 
+    @classmethod
+    def timed(cls, kind: str, milliseconds: int, memory: int = 1024 * 1024, lanes: int = 4, hash: str = "sha256") -> Derivation:
+        """The costs that take about so many milliseconds on this machine, which are measured: the iterations of pbkdf2 by this hash, at least 1000; of Argon2 the
+        passes, at least 4, over `memory` KiB, or less memory, but at least 64 MiB, where 4 passes take longer."""
+        if kind not in KINDS[1:] or hash not in HASHES[1:]:
+            raise ValueError("a derivation is pbkdf2, argon2i or argon2id, a hash sha1, sha256 or sha512")
+        chosen = DerivationRecord()
+        answer = LIBRARY.luks_costs(KINDS.index(kind), HASHES.index(hash), _number(milliseconds), _number(memory), _number(lanes), ctypes.byref(chosen))
+        Volume._done(answer)
+        if kind == "pbkdf2":
+            return cls(kind, iterations=chosen.turns)
+        return cls(kind, passes=chosen.turns, memory=chosen.memory, lanes=chosen.lanes)
+
     def _numbers(self) -> DerivationRecord:
         if self.kind not in KINDS[1:]:
             raise ValueError("a derivation is pbkdf2, argon2i or argon2id")
@@ -189,8 +222,9 @@ class Derivation:
         return DerivationRecord(KINDS.index(self.kind), *map(_number, (self.passes, self.memory, self.lanes)))
 
 
-def _choice(derivation: Optional[Derivation]) -> DerivationRecord:
-    return DerivationRecord() if derivation is None else derivation._numbers()
+def _choice(derivation: Optional[Derivation]) -> Any:
+    """What a call takes that chooses a derivation, or none."""
+    return None if derivation is None else ctypes.pointer(derivation._numbers())
 
 
 @dataclass(frozen=True)
@@ -207,6 +241,30 @@ class Comparison:
     def is_current(self) -> bool:
         """Whether restoring the backup would change no keyslot."""
         return all(state == "same" for state in self.keyslots.values())
+
+
+T = TypeVar("T")
+
+
+def _apart(call: Callable[[], T]) -> T:
+    """What the call gives, which is made on a thread of its own, since Python looks for signals between two calls alone: KeyboardInterrupt leaves it
+    there to its end."""
+    given: List[T] = []
+    thrown: List[BaseException] = []
+
+    def run() -> None:
+        try:
+            given.append(call())
+        except BaseException as fault:
+            thrown.append(fault)
+
+    thread = threading.Thread(target=run, daemon=True)
+    thread.start()
+    while thread.is_alive():
+        thread.join(PAUSE)
+    if thrown:
+        raise thrown[0]
+    return given[0]
 
 
 class Volume:
@@ -299,7 +357,8 @@ class Volume:
 
         Argon2 may take `memory` MiB; a keyslot that takes more isn't tried. Nor is one with a cipher or a hash of older disks, as
         aes-cbc-essiv:sha256 or ripemd160, unless `older` says that they are accepted, nor one of priority 0. Where none opens and some weren't
-        tried, `Untried` is raised, and says which. KeyboardInterrupt ends it between two keyslots.
+        tried, `Untried` is raised, and says which. KeyboardInterrupt ends it at once: what was begun is ended by a thread of its own, which
+        holds the volume's lock until then.
         """
         found = self._unlocked(passphrase, memory, older, 0)
         return None if found is None else found[0]
@@ -313,34 +372,52 @@ class Volume:
         found = self._unlocked(passphrase, memory, older, KEY_ROOM)
         return None if found is None else found[1]
 
-    def add(self, by: int, passphrase: Buffer, added: Buffer, to: Optional[int] = None, iterations: int = 100000, memory: int = 0,
-            derivation: Optional[Derivation] = None, older: bool = False) -> int:
-        """Adds a keyslot, the least that is free or `to`, in which the passphrase `added` opens what `passphrase` opens in the keyslot `by`.
+    def meets(self, key: Buffer, digest: Optional[int] = None, older: bool = False) -> Optional[int]:
+        """The digest that the key meets: that of this number, or without one that of the volume key; None where it doesn't meet it.
+
+        What `key` returns meets it. A key of another length than the volume's raises KeyLength, a digest that isn't there NoSuchDigest.
+        """
+        judged = ctypes.c_uint32(0)
+        with Secret(key) as words:
+            answer = LIBRARY.luks_meets(self._fd, *self._window, *words, NO_NUMBER if digest is None else _slot(digest), bool(older), ctypes.byref(judged))
+        if answer == Number.SHUT:
+            return None
+        self._done(answer)
+        return judged.value
+
+    def add(self, by: Optional[int], passphrase: Buffer, added: Buffer, to: Optional[int] = None, iterations: int = 100000, memory: int = 0,
+            derivation: Optional[Derivation] = None, older: bool = False, *, is_key: bool = False) -> int:
+        """Adds a keyslot, the least that is free or `to`, in which the passphrase `added` opens what `passphrase` opens in the keyslot `by`,
+        or, where that is None, in the one that `unlock` finds; Locked is raised where it finds none.
 
         It derives by the `derivation`, or where there is none as that keyslot does: by Argon2 of the same costs, or by PBKDF2 with so many
         iterations. Argon2 may take `memory` MiB, of either keyslot. Where `older` is so, the keyslot `by` may be one of an older disk, and
-        the new one has the same cipher and hash. Returns the new keyslot.
+        the new one has the same cipher and hash. Where `is_key` is so, `passphrase` is the volume key that the keyslot gives: its key
+        material isn't read, and may be destroyed. Returns the new keyslot.
         """
+        by = self._opener(by, passphrase, memory, older, is_key)
         edit = EditRecord(kind=ADD, by=_slot(by), to=_slot_or_none(to), iterations=_iterations(iterations), derivation=_choice(derivation))
-        slot = self._edited(edit, passphrase, added, memory, older)
+        slot = self._edited(edit, passphrase, added, memory, older, is_key)
         assert slot is not None
         return slot
 
-    def change(self, slot: int, passphrase: Buffer, changed: Buffer, iterations: int = 100000, memory: int = 0,
-               derivation: Optional[Derivation] = None, older: bool = False) -> int:
-        """Puts the passphrase `changed` in the place of the one that opens the keyslot. Returns its number, which LUKS1 changes.
+    def change(self, slot: Optional[int], passphrase: Buffer, changed: Buffer, iterations: int = 100000, memory: int = 0,
+               derivation: Optional[Derivation] = None, older: bool = False, *, is_key: bool = False) -> int:
+        """Puts the passphrase `changed` in the place of the one that opens the keyslot, or, where that is None, the one that `unlock` finds.
+        Returns its number, which LUKS1 changes.
 
         From then on it derives by the `derivation`, or where there is none as before. Argon2 may take `memory` MiB,
-        and where `older` is so, the keyslot may be one of an older disk: it keeps its cipher and hash.
+        and where `older` is so, the keyslot may be one of an older disk: it keeps its cipher and hash. `is_key` is as of `add`.
         """
+        slot = self._opener(slot, passphrase, memory, older, is_key)
         edit = EditRecord(kind=CHANGE, slot=_slot(slot), iterations=_iterations(iterations), derivation=_choice(derivation))
-        made = self._edited(edit, passphrase, changed, memory, older)
+        made = self._edited(edit, passphrase, changed, memory, older, is_key)
         assert made is not None
         return made
 
-    def remove(self, slot: int, passphrase: Buffer, by: Optional[int] = None, memory: int = 0, older: bool = False) -> None:
-        """Removes the keyslot and wipes its area, by its own passphrase or by that of the keyslot `by`."""
-        self._edited(EditRecord(kind=REMOVE, slot=_slot(slot), by=_slot_or_none(by)), passphrase, b"", memory, older)
+    def remove(self, slot: int, passphrase: Buffer, by: Optional[int] = None, memory: int = 0, older: bool = False, *, is_key: bool = False) -> None:
+        """Removes the keyslot and wipes its area, by its own passphrase or by that of the keyslot `by`; `is_key` is as of `add`."""
+        self._edited(EditRecord(kind=REMOVE, slot=_slot(slot), by=_slot_or_none(by)), passphrase, b"", memory, older, is_key)
 
     def repair(self) -> None:
         """LUKS2: writes both copies of the header anew from the one that counts. LUKS1: nothing."""
@@ -351,8 +428,12 @@ class Volume:
         self._edited(EditRecord(kind=LABEL), b"", text.encode())
 
     def format(self, version: int, passphrase: Buffer, hash: str = "sha256", iterations: int = 100000, force: bool = False, *,
-               derivation: Optional[Derivation] = None, memory: int = 0) -> None:
+               derivation: Optional[Derivation] = None, memory: int = 0, key: Optional[Buffer] = None, payload: Optional[int] = None,
+               uuid: Optional[str] = None, label: Optional[str] = None, subsystem: Optional[str] = None) -> None:
         """Makes a volume of LUKS1 or LUKS2 whose keyslot 0 opens by the passphrase.
+
+        `key` is its volume key, 64 bytes, in the place of random ones; `payload` the sector of 512 bytes at which its data begins, of which no byte
+        changes; `uuid` the text of its uuid. LUKS2 has a `label` and a `subsystem`. Payload, KeyLength, Uuid and BadLabel may refuse these.
 
         The keyslot of LUKS2 derives by the `derivation`, Argon2 with up to `memory` MiB, or where there is none by PBKDF2, as the digest.
         Where a LUKS header stands that is accepted, at least as a detached one, it is refused by OtherVolume, in the midst of a reencryption
@@ -362,15 +443,19 @@ class Volume:
             raise ValueError("a version is 1 or 2, a hash sha1, sha256 or sha512")
         if version == 1 and derivation is not None:
             raise ValueError("a derivation is chosen for LUKS2")
+        if payload is not None and not 0 <= payload < NO_SECTOR:
+            raise ValueError("a payload's sector is a number of 64 bits")
         choice = _choice(derivation)
         if not force:
             self._refuse_standing(None)
-        made = (self._fd, *self._window, self._is_detached, HASHES.index(hash), _iterations(iterations))
-        with Secret(passphrase) as words:
+        with Secret(passphrase) as words, Secret(b"" if key is None else key) as (key_at, key_bytes):
+            given = GivenRecord(NO_SECTOR if payload is None else payload, None if key is None else ctypes.addressof(key_at), key_bytes,
+                                *map(_text, (uuid, label, subsystem)))
+            made = (self._fd, *self._window, self._is_detached, ctypes.byref(given), HASHES.index(hash), _iterations(iterations))
             if version == 1:
                 answer = LIBRARY.luks_format1(*made, *words, None, 0)
             else:
-                answer = LIBRARY.luks_format2(*made, ctypes.byref(choice), *words, _kib(memory), None, 0)
+                answer = LIBRARY.luks_format2(*made, choice, *words, _kib(memory), None, 0)
         self._done(answer)
 
     def signature(self, within: Optional[int] = None) -> Optional[str]:
@@ -387,28 +472,48 @@ class Volume:
         """The places at which LUKS volumes begin on this disk, from `start` on and in ascending order, in bytes from its own offset.
 
         Its header (of LUKS1 also without its magic), its second copy or whole metadata tells of a volume: `check` of one at that offset says more.
-        Before each block `progress` is called with the place up to which was searched. KeyboardInterrupt, and
-        what `progress` raises, ends the search there.
+        Before each block `progress` is called with the place up to which was searched. What that raises, and KeyboardInterrupt,
+        ends the search there; a block that was begun is ended by a thread of its own. A sector that can't be read is passed over; behind all that was found `Unreadable` is raised then.
         """
         if not 0 <= start <= TO_END:
             raise ValueError("a place is a number of bytes")
         place = ctypes.c_uint64(start)
-        while True:
-            self._next(place, progress)
-            if place.value == TO_END:
-                return
+        unread: List[int] = []
+        while self._next(place, progress, unread):
             yield place.value
             place.value += 1
+        if unread:
+            raise Unreadable(unread)
 
-    def _next(self, place: ctypes.c_uint64, progress: Optional[Callable[[int], object]]) -> None:
-        """Puts the next such place into `place`, block by block: between two Python looks for signals."""
+    def _next(self, place: ctypes.c_uint64, progress: Optional[Callable[[int], object]], unread: List[int]) -> bool:
+        """Puts the next such place into `place`, where there is one, block by block."""
         reached = ctypes.c_uint64(place.value)
         while True:
             if progress is not None:
                 progress(reached.value)
-            self._done(LIBRARY.luks_find_step(self._fd, *self._window, reached.value, ctypes.byref(place), ctypes.byref(reached)))
+            answer, place.value, reached.value = self._stepped(reached.value)
+            if answer == Number.DEVICE and reached.value != TO_END:
+                unread.append(reached.value - SECTOR)
+                continue
+            self._done(answer)
             if place.value != TO_END or reached.value == TO_END:
-                return
+                return place.value != TO_END
+
+    def _stepped(self, start: int) -> Tuple[int, int, int]:
+        """What a search of one block answers: its number, the place that was found, and where the next block begins."""
+        fd = os.dup(self._fd)
+
+        def stepped() -> Tuple[int, int, int, int]:
+            place, reached = ctypes.c_uint64(start), ctypes.c_uint64(start)
+            try:
+                answer = LIBRARY.luks_find_step(fd, *self._window, start, ctypes.byref(place), ctypes.byref(reached))
+                return answer, ctypes.get_errno(), place.value, reached.value
+            finally:
+                os.close(fd)
+
+        answer, number, place, reached = _apart(stepped)
+        ctypes.set_errno(number)
+        return answer, place, reached
 
     def backup(self, name: str | os.PathLike[str]) -> None:
         """Writes a backup of the header and of the key areas in use to a new file of this name, which only its owner may read.
@@ -473,12 +578,12 @@ class Volume:
             raise ValueError("second and size are of LUKS2, cipher, hash, key_bytes and payload of LUKS1")
         if not force:
             target._refuse_standing(self._uuid())
-        to, text = (target._fd, *target._window), None if uuid is None else uuid.encode()
+        to, text = (target._fd, *target._window), _text(uuid)
         if second or size:
             answer = LIBRARY.luks_rebuild2(self._fd, *self._window, second, size, text, *to, None, 0)
         elif fields != (None,) * 4:
             name, _, mode = (cipher or "").partition("-")
-            given = FieldsRecord(name.encode() or None, mode.encode() or None, None if hash is None else hash.encode(),
+            given = FieldsRecord(_text(name or None), _text(mode or None), _text(hash),
                             NO_NUMBER if key_bytes is None else key_bytes, NO_NUMBER if payload is None else payload)
             answer = LIBRARY.luks_rebuild1(self._fd, *self._window, ctypes.byref(given), text, *to)
         else:
@@ -547,8 +652,19 @@ class Volume:
             places = 1 if shown["copies"] == "second-only" else 2
             self._refuse_use(self.signature(places * shown["sizes"]["header"]))
 
-    def _edited(self, edit: EditRecord, passphrase: Buffer, text: Buffer, memory: int = 0, older: bool = False) -> Optional[int]:
-        edit.memory, edit.older = _kib(memory), bool(older)
+    def _opener(self, slot: Optional[int], passphrase: Buffer, memory: int, older: bool, is_key: bool) -> int:
+        """The keyslot that an edit opens: the one that is named, or the first that the passphrase opens."""
+        if slot is not None:
+            return slot
+        if is_key:
+            raise ValueError("an edit by the key names its keyslot")
+        found = self.unlock(passphrase, memory, older)
+        if found is None:
+            raise Fault(Number.LOCKED)
+        return found
+
+    def _edited(self, edit: EditRecord, passphrase: Buffer, text: Buffer, memory: int = 0, older: bool = False, is_key: bool = False) -> Optional[int]:
+        edit.memory, edit.older, edit.by_key = _kib(memory), bool(older), bool(is_key)
         if not self._over:
             self._refuse_other_use()
         slot = ctypes.c_uint32(NO_SLOT)
@@ -558,13 +674,23 @@ class Volume:
 
     def _tried(self, slot: int, passphrase: Buffer, memory: int, older: bool, room: int) -> Optional[Tuple[int, bytes]]:
         """The keyslot and its key, where the passphrase opens it; None where it doesn't."""
-        opened = OpenedRecord()
-        with Secret(passphrase) as words, Secret(bytes(room)) as (key, _):
-            answer = LIBRARY.luks_open(self._fd, *self._window, slot, *words, _kib(memory), bool(older), key, room, ctypes.byref(opened))
-            if answer == Number.SHUT:
-                return None
-            self._done(answer)
-            return opened.slot, bytes(key[: min(room, opened.key_bytes)])
+        limit, fd = _kib(memory), os.dup(self._fd)
+
+        def tried() -> Tuple[int, int, bytes]:
+            opened = OpenedRecord()
+            try:
+                with Secret(passphrase) as words, Secret(bytes(room)) as (key, _):
+                    answer = LIBRARY.luks_open(fd, *self._window, slot, *words, limit, bool(older), key, room, ctypes.byref(opened))
+                    return answer, ctypes.get_errno(), bytes(key[: min(room, opened.key_bytes)])
+            finally:
+                os.close(fd)
+
+        answer, number, found = _apart(tried)
+        ctypes.set_errno(number)
+        if answer == Number.SHUT:
+            return None
+        self._done(answer)
+        return slot, found
 
     def _unlocked(self, passphrase: Buffer, memory: int, older: bool, room: int) -> Optional[Tuple[int, bytes]]:
         """The first keyslot that opens: of LUKS2 those of priority 2 come before those of priority 1."""

@@ -1,4 +1,4 @@
-"""The library libluks.so.0: its records, its calls, and what is passed to them."""
+"""The library libluks.so.1: its records, its calls, and what is passed to them."""
 from __future__ import annotations
 
 import ctypes
@@ -11,36 +11,51 @@ Buffer = Union[bytes, bytearray, memoryview]
 
 TO_END = 2**64 - 1
 NO_SLOT = NO_NUMBER = 2**32 - 1
+NO_SECTOR = 2**64 - 1
 KEYSLOTS = 32
-NAME = "libluks.so.0"
+NAME = "libluks.so.1"
 
 
-class RangeRecord(ctypes.Structure):
-    _fields_ = [("at", ctypes.c_uint64), ("len", ctypes.c_uint64)]
+class Sized(ctypes.Structure):
+    """A struct of luks.h whose first field is its size."""
+
+    def __init__(self, *fields: Any, **named: Any) -> None:
+        super().__init__(ctypes.sizeof(self), *fields, **named)
 
 
-class ReportRecord(ctypes.Structure):
-    _fields_ = [("version", ctypes.c_uint32), ("copies", ctypes.c_uint32), ("seqid", ctypes.c_uint64), ("areas", ctypes.c_uint64), ("beyond", RangeRecord)]
+def _sized(*fields: Tuple[str, Any]) -> List[Tuple[str, Any]]:
+    return [("size", ctypes.c_uint64), *fields]
 
 
-class OpenedRecord(ctypes.Structure):
-    _fields_ = [("slot", ctypes.c_uint32), ("key_bytes", ctypes.c_uint32), ("beyond", RangeRecord)]
+class ReportRecord(Sized):
+    _fields_ = _sized(("version", ctypes.c_uint32), ("copies", ctypes.c_uint32), ("seqid", ctypes.c_uint64), ("areas", ctypes.c_uint64))
 
 
-class DerivationRecord(ctypes.Structure):
-    _fields_ = [(name, ctypes.c_uint32) for name in ("kind", "turns", "memory", "lanes")]
+class OpenedRecord(Sized):
+    _fields_ = _sized(("slot", ctypes.c_uint32), ("key_bytes", ctypes.c_uint32))
 
 
-class EditRecord(ctypes.Structure):
-    _fields_ = [*((name, ctypes.c_uint32) for name in ("kind", "slot", "by", "to", "iterations", "memory", "older")), ("derivation", DerivationRecord)]
+class DerivationRecord(Sized):
+    _fields_ = _sized(*((name, ctypes.c_uint32) for name in ("kind", "turns", "memory", "lanes")))
 
 
-class FieldsRecord(ctypes.Structure):
-    _fields_ = [*((name, ctypes.c_char_p) for name in ("cipher_name", "cipher_mode", "hash")), ("key_bytes", ctypes.c_uint32), ("payload", ctypes.c_uint32)]
+class EditRecord(Sized):
+    _fields_ = _sized(*((name, ctypes.c_uint32) for name in ("kind", "slot", "by", "to", "iterations", "memory", "older", "by_key")),
+                      ("derivation", ctypes.POINTER(DerivationRecord)))
 
 
-class VolumeRecord(ctypes.Structure):
-    _fields_ = [("fd", ctypes.c_int), ("lock", ctypes.c_int)]
+class GivenRecord(Sized):
+    _fields_ = _sized(("sector", ctypes.c_uint64), ("key", ctypes.c_void_p), ("key_bytes", ctypes.c_uint64),
+                      *((name, ctypes.c_char_p) for name in ("uuid", "label", "subsystem")))
+
+
+class FieldsRecord(Sized):
+    _fields_ = _sized(*((name, ctypes.c_char_p) for name in ("cipher_name", "cipher_mode", "hash")), ("key_bytes", ctypes.c_uint32),
+                      ("payload", ctypes.c_uint32))
+
+
+class VolumeRecord(Sized):
+    _fields_ = _sized(("fd", ctypes.c_int), ("lock", ctypes.c_int))
 
 
 Progress = ctypes.CFUNCTYPE(ctypes.c_int, ctypes.c_void_p, ctypes.c_uint64, ctypes.c_uint64)
@@ -61,7 +76,7 @@ def _signatures() -> List[Tuple[str, List[Any], Any]]:
     tried = [*given, number, number]
     opened = [ctypes.c_void_p, size, ctypes.POINTER(OpenedRecord)]
     random = given
-    numbers = [*window, ctypes.c_bool, number, number]
+    numbers = [*window, ctypes.c_bool, ctypes.POINTER(GivenRecord), number, number]
     return [
         ("luks_version", [], ctypes.c_char_p),
         ("luks_open_volume", [ctypes.c_char_p, ctypes.c_bool, number, ctypes.POINTER(VolumeRecord)], number),
@@ -69,6 +84,8 @@ def _signatures() -> List[Tuple[str, List[Any], Any]]:
         ("luks_check", [*window, ctypes.c_bool, ctypes.POINTER(ReportRecord)], number),
         ("luks_read", [*window, ctypes.c_void_p, size, ctypes.POINTER(place)], number),
         ("luks_open", [*window, number, *tried, *opened], number),
+        ("luks_meets", [*window, *given, number, number, ctypes.POINTER(number)], number),
+        ("luks_costs", [number, number, number, number, number, ctypes.POINTER(DerivationRecord)], number),
         ("luks_apply", [*window, ctypes.c_bool, ctypes.POINTER(EditRecord), *given, *given, *random, ctypes.POINTER(number)], number),
         ("luks_format1", [*numbers, *given, *random], number),
         ("luks_format2", [*numbers, ctypes.POINTER(DerivationRecord), *given, number, *random], number),

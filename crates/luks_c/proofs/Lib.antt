@@ -1,2 +1,3 @@
+pub mod MatchFacts
 pub mod OpenFacts
 pub mod PlanFacts

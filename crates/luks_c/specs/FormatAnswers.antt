@@ -1,21 +1,26 @@
 -- What the calls answer that make a volume.
-use Rattle.std.specs.Prelude.{◌≡◌, ℕ, ◌≤◌, List, Option}
+use Rattle.std.specs.Prelude.{◌≡◌, ℕ, ◌*◌, ◌≤◌, List, Option, true, false}
 use Rattle.luks_area.specs.First.{IsLeast}
+use Rattle.luks_area.specs.Ranges.{SameBut}
 use Rattle.luks_kdf.specs.declared.hash_name.HashName.{HashName}
 use Rattle.luks_kdf.specs.declared.hash_name.HashName.TheVariants.{Sha1, Sha256, Sha512}
 use Rattle.luks_slot.specs.declared.allowed.Allowed.{Allowed}
 use Rattle.luks_reading.specs.declared.format.Format.{Format}
 use Rattle.luks_making.specs.Derivations.{memory_by}
 use Rattle.luks_making.specs.declared.derivation.NewDerivation.{NewDerivation}
-use Rattle.luks_reading.specs.Answer.{Answer, AnswerWithin, opens}
+use Rattle.luks_reading.specs.Answer.{AnswerWithin, opens}
 use Rattle.luks_reading.specs.Checked.{WellFormed}
-use Rattle.luks_reading.specs.declared.report.Data.{Data}
+use Rattle.luks_reading.specs.declared.report.Data.TheVariants.{Here}
 use Rattle.luks_formatting.specs.declared.format_fault.FormatFault.{FormatFault}
 use Rattle.luks_formatting.specs.Deriving.{allowed_for, slot_derivation}
-use Rattle.luks_formatting.specs.FormatFaults.{format_key, HasNoFault, IsFormat1Fault, IsFormat2FaultBy}
-use Rattle.luks_formatting.specs.Formatted1.{IsFormatted1}
-use Rattle.luks_formatting.specs.Formatted2.{IsFormatted2By}
-use Rattle.luks_formatting.specs.RandomBytes.{volume_key}
+use Rattle.luks_formatting.specs.Encrypting.{is_older}
+use Rattle.luks_formatting.specs.FormatFaults.{format_key, HasNoFault, IsFormat1FaultAs, IsFormat2FaultAs}
+use Rattle.luks_formatting.specs.Formatted1.{IsFormatted1As}
+use Rattle.luks_formatting.specs.Formatted2.{IsFormatted2As}
+use Rattle.luks_formatting.specs.Given.{key_of, IsBefore}
+use Rattle.luks_formatting.specs.NewHeader1.{payload_sector}
+use Rattle.luks_formatting.specs.NewHeader2.{segment_start}
+use Rattle.luks_formatting.specs.declared.given.Given.{Given}
 use Rattle.luks_given.specs.declared.parts.Part.{Part}
 use Rattle.luks_c_answers.specs.ChoiceAsked.{IsChoice}
 use Rattle.luks_c_answers.specs.declared.asking.LuksDerivation.{LuksDerivation}
@@ -38,19 +43,23 @@ pub record IsFormat (hash iterations : ℕ) (format : Format) : Type 0 where
 abbrev pub IsNoHash : ℕ → Type 0
 IsNoHash number = (h : HashName) → hash_number h ≡ number → ⊥
 
--- done, it leaves a volume `w` of LUKS1 that keyslot 0 opens by the passphrase
-pub record IsMade1 (payload : Data) (format : Format) (passphrase random old : List ℕ) (number : ℕ) (w : List ℕ) : Type 0 where
-  pub is : IsFormatted1 payload format passphrase random old w
-  pub well_formed : WellFormed w payload
-  pub opened : Answer w 0 passphrase (opens (volume_key 64 random))
+-- done, it leaves a volume `w` of LUKS1 that keyslot 0 opens by the passphrase to the key that is given, or is made of the random
+-- bytes; where the payload lies on it, no byte of that is another
+pub record IsMade1 (given : Given) (format : Format) (passphrase random old : List ℕ) (number : ℕ) (w : List ℕ) : Type 0 where
+  pub is : IsFormatted1As given format passphrase random old w
+  pub well_formed : WellFormed w given.payload
+  pub opened : (allowed : Allowed) → (is_older given.cipher ≡ true → allowed.older ≡ true) → AnswerWithin allowed w 0 passphrase (opens (key_of given random))
+  pub payload : given.payload ≡ Here → SameBut (IsBefore (512 * payload_sector given)) old w
   pub slot : number ≡ 0
 
 -- one of LUKS2, whose keyslot 0 is derived as is chosen, and opens wherever as much memory is allowed as it takes, with
 -- older ciphers and hashes or without
-pub record IsMade2 (payload : Data) (format : Format) (chosen : Option NewDerivation) (passphrase random old : List ℕ) (number : ℕ) (w : List ℕ) : Type 0 where
-  pub is : IsFormatted2By payload format chosen passphrase random old w
-  pub well_formed : WellFormed w payload
-  pub opened : (allowed : Allowed) → memory_by (slot_derivation format chosen) ≤ allowed.memory → AnswerWithin allowed w 0 passphrase (opens (volume_key 64 random))
+pub record IsMade2 (given : Given) (format : Format) (chosen : Option NewDerivation) (passphrase random old : List ℕ) (number : ℕ) (w : List ℕ) : Type 0 where
+  pub is : IsFormatted2As given format chosen passphrase random old w
+  pub well_formed : WellFormed w given.payload
+  pub opened : (allowed : Allowed) → memory_by (slot_derivation format chosen) ≤ allowed.memory → (is_older given.cipher ≡ true → allowed.older ≡ true)
+      → AnswerWithin allowed w 0 passphrase (opens (key_of given random))
+  pub payload : given.payload ≡ Here → SameBut (IsBefore (segment_start given)) old w
   pub slot : number ≡ 0
 
 -- the first of the faults has this number
@@ -64,27 +73,31 @@ abbrev pub AnswersFormat : List Part → List ℕ → (FormatFault → Type 0) �
 AnswersFormat parts v faults = AnswersPlan parts v (HasNoFault faults) (IsFirstOf faults)
 
 -- of a LUKS1 volume
-abbrev pub AnswersFormat1 : List Part → List ℕ → ℕ → Data → Format → List ℕ → List ℕ → Buffers → Buffers → LuksPlan → ℕ → Type 0
-AnswersFormat1 parts v total payload format passphrase random old new told number =
-    AnswersFormat parts v (IsFormat1Fault total format random)
-    (IsMade1 payload format passphrase random v told.slot) old new told number
+abbrev pub AnswersFormat1 : List Part → List ℕ → ℕ → Given → Format → List ℕ → List ℕ → Buffers → Buffers → LuksPlan → ℕ → Type 0
+AnswersFormat1 parts v total given format passphrase random old new told number =
+    AnswersFormat parts v (IsFormat1FaultAs given false total format random)
+    (IsMade1 given format passphrase random v told.slot) old new told number
 
 -- of a LUKS2 volume, by the derivation that is chosen, with so many KiB that Argon2 may take
-abbrev pub AnswersFormat2 : List Part → List ℕ → ℕ → Data → Format → Option NewDerivation → ℕ → List ℕ → List ℕ → Buffers → Buffers → LuksPlan → ℕ → Type 0
-AnswersFormat2 parts v total payload format chosen memory passphrase random old new told number =
-    AnswersFormat parts v (IsFormat2FaultBy chosen (allowed_for memory passphrase) total format random)
-    (IsMade2 payload format chosen passphrase random v told.slot) old new told number
+abbrev pub AnswersFormat2 : List Part → List ℕ → ℕ → Given → Format → Option NewDerivation → ℕ → List ℕ → List ℕ → Buffers → Buffers → LuksPlan → ℕ → Type 0
+AnswersFormat2 parts v total given format chosen memory passphrase random old new told number =
+    AnswersFormat parts v (IsFormat2FaultAs given false chosen (allowed_for memory passphrase) total format random)
+    (IsMade2 given format chosen passphrase random v told.slot) old new told number
 
--- made by these numbers
-pub record AnswersNumbered (hash iterations : ℕ) (answers : Format → Type 0) : Type 0 where
+-- made by these numbers, with what is given
+pub record AnswersNumbered (hash iterations : ℕ) (is_given : Given → Type 0) (answers : Given → Format → Type 0) : Type 0 where
+  pub given : Given
+  pub given_is : is_given given
   pub format : Format
   pub is : IsFormat hash iterations format
-  pub so : answers format
+  pub so : answers given format
 
--- made by these numbers, and by the derivation that is chosen
-pub record AnswersChosen (hash iterations : ℕ) (asked : LuksDerivation) (answers : Format → Option NewDerivation → Type 0) : Type 0 where
+-- and by the derivation that is chosen
+pub record AnswersChosen (hash iterations : ℕ) (is_given : Given → Type 0) (asked : LuksDerivation) (answers : Given → Format → Option NewDerivation → Type 0) : Type 0 where
+  pub given : Given
+  pub given_is : is_given given
   pub format : Format
   pub is : IsFormat hash iterations format
   pub chosen : Option NewDerivation
   pub choice : IsChoice asked chosen
-  pub so : answers format chosen
+  pub so : answers given format chosen

@@ -2,7 +2,9 @@ pub mod CheckAnswers
 pub mod EditAnswers
 pub mod FindAnswers
 pub mod FormatAnswers
+pub mod GivenAsked
 pub mod LengthAnswers
+pub mod MatchAnswers
 pub mod OpenAnswers
 pub mod ReadAnswers
 pub mod SignatureAnswers

@@ -2,28 +2,34 @@
 ghost use Rattle.std.specs.Prelude.{◌≡◌, ◌≢◌, ◌⊎◌, ◌↔◌, ◌≤◌, ◌<◌, length, MatchOption, Option};
 ghost use Rattle.luks_kdf.specs.declared.hash_name.HashName.{HashName as TheHash};
 ghost use Rattle.luks_making.specs.declared.derivation.NewDerivation.{NewDerivation as Chosen};
+ghost use Rattle.luks_formatting.specs.declared.given.Given.{Given as Whole};
 ghost use Rattle.luks_reading.specs.declared.format.Format.{Format as TheFormat};
 ghost use Rattle.luks_given.specs.Parts.{AreGiven, AreNoParts, IsWanted, volume};
 ghost use Rattle.luks_c_answers.specs.Asked.{payload_of};
 ghost use Rattle.luks_c_answers.specs.ChoiceAsked.{IsNoChoice};
+ghost use Rattle.luks_c_headers.specs.RebuildAnswers.{IsNoText};
+ghost use Rattle.luks_c.specs.GivenAsked.{IsGivenBy};
 ghost use Rattle.luks_c.specs.FormatAnswers.{AnswersChosen, AnswersFormat1, AnswersFormat2, AnswersNumbered, IsFormat, IsNoHash, hash_number};
 
+use crate::giving::given_of;
 use luks_c_answers::{
-    LuksDerivation, LuksPlan, MEMORY, USAGE, chosen_of, data_of, format_number, give_plan,
-    planned_writes, tell_wanted,
+    LuksDerivation, LuksPlan, MEMORY, USAGE, chosen_of, format_number, give_plan, planned_writes,
+    tell_wanted,
 };
-use luks_formatting::format2_by;
+use luks_formatting::{Given as Layout, format1_as, format2_as};
 use luks_given::{Given, Part, PlannedCall, are_parts};
 use luks_reading::Allowed;
-use luks_volume::{Data, Format, FormatFault, HashName, NewDerivation, Passphrase, format1};
+use luks_volume::{Format, FormatFault, HashName, NewDerivation, Passphrase};
 use std::alloc::Global;
 use std::marker::Brand;
 
 /// Plans a LUKS1 volume in the place of the one of `total` bytes of which these ranges are given, whose
 /// keyslot 0 opens by the passphrase; `luks_apply_bytes` says what a plan is.
 ///
-/// The hash is 1 for SHA-1, 2 for SHA-256, 3 for SHA-512; it takes 256080 random bytes. Takes memory
-/// for a copy of the given bytes and for the plan.
+/// The payload begins at the `sector` of 512 bytes, or, where that is 2^64 - 1, where it does unless asked.
+/// With `is_keyed` the volume key is `key`. The uuid, the label and the subsystem are the texts that are given,
+/// where they have a byte; LUKS1 has neither of the last two. The hash is 1 for SHA-1, 2 for SHA-256, 3 for
+/// SHA-512; it takes 256080 random bytes. Takes memory for a copy of the given bytes and for the plan.
 #[unsafe(no_mangle)]
 pub extern "C" fn luks_format1_bytes(
     alloc: Global,
@@ -31,6 +37,12 @@ pub extern "C" fn luks_format1_bytes(
     held: &[u8],
     total: u64,
     is_detached: bool,
+    sector: u64,
+    is_keyed: bool,
+    key: &[u8],
+    uuid: &[u8],
+    label: &[u8],
+    subsystem: &[u8],
     hash: u32,
     iterations: u32,
     passphrase: &[u8],
@@ -39,18 +51,23 @@ pub extern "C" fn luks_format1_bytes(
     bytes: &mut [u8],
     told: &mut LuksPlan,
 ) -> u32
-    ensures usage { result ≡ 101 ↔ (AreNoParts parts.now held.now total ⊎ IsNoHash hash) }
-    ensures answers { result ≢ 101 → AnswersNumbered hash iterations (λ (format : TheFormat).
-        AnswersFormat1 parts.now (volume parts.now held.now total) total (payload_of is_detached) format passphrase.now random.now
+    ensures usage { result ≡ 101 ↔ ((AreNoParts parts.now held.now total ⊎ IsNoHash hash)
+        ⊎ (IsNoText uuid.now ⊎ (IsNoText label.now ⊎ IsNoText subsystem.now))) }
+    ensures answers { result ≢ 101 → AnswersNumbered hash iterations
+        (IsGivenBy (payload_of is_detached) sector is_keyed key.now uuid.now label.now subsystem.now)
+        (λ (given : Whole) (format : TheFormat).
+        AnswersFormat1 parts.now (volume parts.now held.now total) total given format passphrase.now random.now
         (record { calls = calls.old; bytes = bytes.old })
         (record { calls = calls.new; bytes = bytes.new }) told.new result) }
     ensures wanted { result ≡ 102 → IsWanted parts.now total told.new.beyond }
 {
     *told = LuksPlan::default();
-    let payload = data_of(is_detached);
+    let Ok(given) = given_of(is_detached, sector, is_keyed, key, uuid, label, subsystem) else {
+        return USAGE;
+    };
     match format_of(parts, held, total, hash, iterations) {
         Some(format) => make1::<Brand>(
-            alloc, parts, held, total, payload, &format, passphrase, random, calls, bytes, told,
+            alloc, parts, held, total, &given, &format, passphrase, random, calls, bytes, told,
         ),
         None => USAGE,
     }
@@ -65,6 +82,12 @@ pub extern "C" fn luks_format2_bytes(
     held: &[u8],
     total: u64,
     is_detached: bool,
+    sector: u64,
+    is_keyed: bool,
+    key: &[u8],
+    uuid: &[u8],
+    label: &[u8],
+    subsystem: &[u8],
     hash: u32,
     iterations: u32,
     derivation: &LuksDerivation,
@@ -76,17 +99,21 @@ pub extern "C" fn luks_format2_bytes(
     told: &mut LuksPlan,
 ) -> u32
     ensures usage { result ≡ 101 ↔ (IsNoChoice derivation.now
-        ⊎ (AreNoParts parts.now held.now total ⊎ IsNoHash hash)) }
-    ensures answers { result ≢ 101 → AnswersChosen hash iterations derivation.now
-        (λ (format : TheFormat) (chosen : Option Chosen).
-        AnswersFormat2 parts.now (volume parts.now held.now total) total (payload_of is_detached) format chosen memory
+        ⊎ ((AreNoParts parts.now held.now total ⊎ IsNoHash hash)
+        ⊎ (IsNoText uuid.now ⊎ (IsNoText label.now ⊎ IsNoText subsystem.now)))) }
+    ensures answers { result ≢ 101 → AnswersChosen hash iterations
+        (IsGivenBy (payload_of is_detached) sector is_keyed key.now uuid.now label.now subsystem.now)
+        derivation.now (λ (given : Whole) (format : TheFormat) (chosen : Option Chosen).
+        AnswersFormat2 parts.now (volume parts.now held.now total) total given format chosen memory
         passphrase.now random.now (record { calls = calls.old; bytes = bytes.old })
         (record { calls = calls.new; bytes = bytes.new }) told.new result) }
     ensures wanted { result ≡ 102 → IsWanted parts.now total told.new.beyond }
 {
     *told = LuksPlan::default();
-    let payload = data_of(is_detached);
     let Ok(chosen) = chosen_of(derivation) else {
+        return USAGE;
+    };
+    let Ok(given) = given_of(is_detached, sector, is_keyed, key, uuid, label, subsystem) else {
         return USAGE;
     };
     let by_ = Passphrase {
@@ -98,7 +125,7 @@ pub extern "C" fn luks_format2_bytes(
     };
     match format_of(parts, held, total, hash, iterations) {
         Some(format) => make2::<Brand>(
-            alloc, parts, held, total, payload, &format, chosen, &by_, random, calls, bytes, told,
+            alloc, parts, held, total, &given, &format, chosen, &by_, random, calls, bytes, told,
         ),
         None => USAGE,
     }
@@ -110,7 +137,7 @@ fn make1<K: Given>(
     parts: &[Part],
     held: &[u8],
     total: u64,
-    payload: Data,
+    given: &Layout<'_>,
     format: &Format,
     passphrase: &[u8],
     random: &[u8],
@@ -122,7 +149,7 @@ fn make1<K: Given>(
     requires given { AreGiven parts.now held.now total K.bytes }
     requires slot { told.old.slot ≡ 0 }
     ensures own { result ≢ 101 }
-    ensures answers { AnswersFormat1 K.parts K.bytes total payload format.now passphrase.now random.now
+    ensures answers { AnswersFormat1 K.parts K.bytes total given.now format.now passphrase.now random.now
         (record { calls = calls.old; bytes = bytes.old })
         (record { calls = calls.new; bytes = bytes.new }) told.new result }
     ensures wanted { result ≡ 102 → IsWanted K.parts total told.new.beyond }
@@ -130,7 +157,7 @@ fn make1<K: Given>(
     let Ok(mut device) = planned_writes::<K>(alloc, parts, held, total) else {
         return MEMORY;
     };
-    match format1(alloc, &mut device, payload, format, passphrase, random) {
+    match format1_as(alloc, &mut device, given, format, passphrase, false, random) {
         Ok(_) => give_plan(&device, calls, bytes, told),
         Err(FormatFault::Device) => tell_wanted(&device, told),
         Err(fault) => format_number(&fault),
@@ -143,7 +170,7 @@ fn make2<K: Given>(
     parts: &[Part],
     held: &[u8],
     total: u64,
-    payload: Data,
+    given: &Layout<'_>,
     format: &Format,
     chosen: Option<NewDerivation>,
     passphrase: &Passphrase<'_>,
@@ -156,7 +183,7 @@ fn make2<K: Given>(
     requires given { AreGiven parts.now held.now total K.bytes }
     requires slot { told.old.slot ≡ 0 }
     ensures own { result ≢ 101 }
-    ensures answers { AnswersFormat2 K.parts K.bytes total payload format.now chosen
+    ensures answers { AnswersFormat2 K.parts K.bytes total given.now format.now chosen
         passphrase.now.allowed.memory passphrase.now.bytes.now random.now
         (record { calls = calls.old; bytes = bytes.old })
         (record { calls = calls.new; bytes = bytes.new }) told.new result }
@@ -165,10 +192,10 @@ fn make2<K: Given>(
     let Ok(mut device) = planned_writes::<K>(alloc, parts, held, total) else {
         return MEMORY;
     };
-    match format2_by(
+    match format2_as(
         alloc,
         &mut device,
-        payload,
+        given,
         format,
         chosen,
         passphrase,

@@ -9,6 +9,8 @@ mod converting;
 mod editing;
 mod finding;
 mod formatting;
+mod giving;
+mod matching;
 mod needing;
 mod opening;
 mod reading;

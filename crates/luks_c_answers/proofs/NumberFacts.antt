@@ -10,8 +10,11 @@ use Rattle.luks_area.specs.Printed.{area_fault_text}
 use Rattle.luks_rules.specs.MetaFault.{fault_text as meta_fault_text}
 use Rattle.luks_slot.specs.Fault.{fault_text as slot_fault_text}
 use Rattle.luks_reading.specs.Failures.{is_check_failure, is_open_failure}
+use Rattle.luks_reading.specs.KeyAnswers.{is_key_failure}
 use Rattle.luks_reading.specs.declared.check_fault.CheckFault.{CheckFault}
 use Rattle.luks_reading.specs.declared.check_fault.CheckFault.TheVariants as checking
+use Rattle.luks_reading.specs.declared.key_fault.KeyFault.{KeyFault}
+use Rattle.luks_reading.specs.declared.key_fault.KeyFault.TheVariants as key
 use Rattle.luks_reading.specs.declared.open_fault.OpenFault.{OpenFault}
 use Rattle.luks_reading.specs.declared.open_fault.OpenFault.TheVariants as opening
 use Rattle.luks_edit.specs.EditFaults.{is_edit_failure}
@@ -33,7 +36,7 @@ use Rattle.luks_keeping.specs.declared.backup_fault.BackupFault.TheVariants as b
 use Rattle.luks_keeping.specs.declared.restore_fault.RestoreFault.{RestoreFault}
 use Rattle.luks_keeping.specs.declared.restore_fault.RestoreFault.TheVariants as restore
 use Rattle.luks_reading.specs.FaultTexts.{check_fault_text}
-use Rattle.luks_c_answers.specs.Numbers.{backup_number, check_number, convert_number, edit_number, fault_number, number_printed, open_number, rebuild1_number, rebuild_number, restore_number}
+use Rattle.luks_c_answers.specs.Numbers.{backup_number, check_number, convert_number, edit_number, fault_number, key_number, number_printed, open_number, rebuild1_number, rebuild_number, restore_number}
 
 -- that of a fault is 1 to 55
 fault_number_range : (f : Fault) → (1 ≤ fault_number f) × (fault_number f ≤ 55)
@@ -70,6 +73,25 @@ open_number_other opening.Outside own = λ e. absurd (omega (arith, e))
 open_number_other (opening.Slot f) own = λ e. let high = (number_printed_range (slot_fault_text f)).1 in absurd (omega (arith, high, e))
 open_number_other opening.Device own = absurd (true≢false own)
 open_number_other opening.Memory own = λ e. absurd (omega (arith, e))
+
+-- what refuses a key has a number of 1 to 103
+pub key_number_range : (f : KeyFault) → (1 ≤ key_number f) × (key_number f ≤ 103)
+key_number_range (key.Head f) = let r = number_printed_range (head_fault_text f) in (r.0, let high = r.1 in omega (arith, high))
+key_number_range (key.Meta f) = let r = number_printed_range (meta_fault_text f) in (r.0, let high = r.1 in omega (arith, high))
+key_number_range f = (omega arith, omega arith)
+
+-- and isn't 101
+pub key_number_usage : (f : KeyFault) → key_number f ≢ 101
+key_number_usage (key.Head f) = λ e. let high = (number_printed_range (head_fault_text f)).1 in absurd (omega (arith, high, e))
+key_number_usage (key.Meta f) = λ e. let high = (number_printed_range (meta_fault_text f)).1 in absurd (omega (arith, high, e))
+key_number_usage f = λ e. absurd (omega (arith, e))
+
+-- none but the device's asks for more bytes
+pub key_number_other : (f : KeyFault) → is_key_failure f ≡ false → key_number f ≢ 102
+key_number_other (key.Head f) own = λ e. let high = (number_printed_range (head_fault_text f)).1 in absurd (omega (arith, high, e))
+key_number_other (key.Meta f) own = λ e. let high = (number_printed_range (meta_fault_text f)).1 in absurd (omega (arith, high, e))
+key_number_other key.Device own = absurd (true≢false own)
+key_number_other f own = λ e. absurd (omega (arith, e))
 
 -- what refuses an edit has a number of 1 to 103, which isn't 101
 pub edit_number_range : (f : EditFault) → (1 ≤ edit_number f) × (edit_number f ≤ 103)

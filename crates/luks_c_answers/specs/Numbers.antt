@@ -8,6 +8,8 @@ use Rattle.luks_slot.specs.Fault.{fault_text as slot_fault_text}
 use Rattle.luks_reading.specs.FaultTexts.{check_fault_text}
 use Rattle.luks_reading.specs.declared.check_fault.CheckFault.{CheckFault}
 use Rattle.luks_reading.specs.declared.check_fault.CheckFault.TheVariants as checking
+use Rattle.luks_reading.specs.declared.key_fault.KeyFault.{KeyFault}
+use Rattle.luks_reading.specs.declared.key_fault.KeyFault.TheVariants as key
 use Rattle.luks_reading.specs.declared.open_fault.OpenFault.{OpenFault}
 use Rattle.luks_reading.specs.declared.open_fault.OpenFault.TheVariants as opening
 use Rattle.luks_reading.specs.declared.read_fault.ReadFault.{ReadFault}
@@ -124,6 +126,16 @@ open_number opening.Outside = 21
 open_number (opening.Slot f) = number_printed (slot_fault_text f)
 open_number opening.Device = 102
 open_number opening.Memory = 103
+
+-- of what judging a key answers in place of whether it is the volume's
+abbrev pub key_number : KeyFault → ℕ
+key_number (key.Head f) = number_printed (head_fault_text f)
+key_number (key.Meta f) = number_printed (meta_fault_text f)
+key_number key.NoSuchDigest = 53
+key_number key.KeyLength = 54
+key_number key.Hash = 27
+key_number key.Device = 102
+key_number key.Memory = 103
 
 -- of what an edit answers in place of what it made
 abbrev pub edit_number : EditFault → ℕ

@@ -3,7 +3,7 @@ ghost use Rattle.std.specs.Prelude.{◌≡◌, ℕ, Option, MatchResult};
 ghost use Rattle.luks_edit.specs.declared.edit.Edit.{Edit as TheEdit};
 ghost use Rattle.luks_c_answers.specs.Asked.{allowed_of, payload_of};
 ghost use Rattle.luks_c_answers.specs.ChoiceAsked.{IsChoice, IsNoChoice};
-ghost use Rattle.luks_c_answers.specs.EditAsked.{IsAsked, IsMaybeSlot, IsPassphrase, IsSlot};
+ghost use Rattle.luks_c_answers.specs.EditAsked.{IsAsked, IsMaybeSlot, IsSecret, IsSlot, kind_asked};
 
 use luks_edit::{Argon2Costs, Edit, NewDerivation, Secret, SecretKind};
 use luks_reading::{Allowed, Data};
@@ -26,7 +26,7 @@ pub struct LuksDerivation {
     pub lanes: u32,
 }
 
-/// An edit of a volume, but for its passphrases and its label.
+/// An edit of a volume, but for its secrets and its label.
 #[repr(C)]
 #[derive(Clone, Copy, Drop)]
 pub struct LuksEdit {
@@ -35,7 +35,7 @@ pub struct LuksEdit {
     pub kind: u32,
     /// Of a change and a removal the keyslot.
     pub slot: u32,
-    /// The keyslot that the passphrase opens, of an addition; of a removal too, or 2^32 - 1 where it is
+    /// The keyslot that the secret opens, of an addition; of a removal too, or 2^32 - 1 where it is
     /// the one that is removed.
     pub by_: u32,
     /// Of an addition the number of the new keyslot, or 2^32 - 1 for the least that is free.
@@ -45,9 +45,11 @@ pub struct LuksEdit {
     pub iterations: u32,
     /// How many KiB of memory Argon2 may take.
     pub memory: u32,
-    /// Whether the ciphers and hashes of older disks are accepted of the keyslot that the passphrase
-    /// opens; 0: no.
+    /// Whether the ciphers and hashes of older disks are accepted of the keyslot that the secret opens;
+    /// 0: no.
     pub older: u32,
+    /// Whether the secret is the volume key that the keyslot gives, and not its passphrase; 0: no.
+    pub by_key: u32,
     /// Of an addition and a change the new keyslot's derivation.
     pub derivation: LuksDerivation,
 }
@@ -57,17 +59,13 @@ pub struct LuksEdit {
 pub struct Unasked;
 
 /// The edit; `text` is the new passphrase, or the label.
-pub fn edit_of<'a>(
-    asked: &LuksEdit,
-    passphrase: &'a [u8],
-    text: &'a [u8],
-) -> Result<Edit<'a>, Unasked>
-    ensures { MatchResult result (IsAsked asked.now passphrase.now text.now)
-        (λ _. (e : TheEdit) → IsAsked asked.now passphrase.now text.now e → ⊥) }
+pub fn edit_of<'a>(asked: &LuksEdit, secret: &'a [u8], text: &'a [u8]) -> Result<Edit<'a>, Unasked>
+    ensures { MatchResult result (IsAsked asked.now secret.now text.now)
+        (λ _. (e : TheEdit) → IsAsked asked.now secret.now text.now e → ⊥) }
 {
     let old = Secret {
-        kind: SecretKind::Passphrase,
-        bytes: passphrase,
+        kind: kind_of(asked.by_key),
+        bytes: secret,
         allowed: allowed_of(asked.memory, asked.older),
     };
     match asked.kind {
@@ -94,6 +92,17 @@ pub fn edit_of<'a>(
         4 => Ok(Edit::Repair),
         5 => Ok(Edit::Label { text }),
         _ => Err(Unasked),
+    }
+}
+
+/// What the secret is: the volume key where the number isn't 0.
+fn kind_of(by_key: u32) -> SecretKind
+    ensures { result ≡ kind_asked by_key }
+{
+    if by_key == 0 {
+        SecretKind::Passphrase
+    } else {
+        SecretKind::Key
     }
 }
 

@@ -15,8 +15,8 @@ pub use asking::{
 pub use buffers::fill_front;
 pub use numbers::{
     BEYOND, DONE, MEMORY, ROOM, SHUT, USAGE, backup_number, check_number, convert_number,
-    edit_number, fault_of, format_number, number_of, open_number, read_number, rebuild_number,
-    rebuild1_number, restore_number,
+    edit_number, fault_of, format_number, key_number, number_of, open_number, read_number,
+    rebuild_number, rebuild1_number, restore_number,
 };
 pub use plans::{LuksPlan, give_plan, planned_writes, tell_either, tell_wanted};
 pub use texts::{number_name, number_text};

@@ -2,14 +2,14 @@
 //! version.
 ghost use Rattle.std.specs.Prelude.{◌≡◌, ◌<◌};
 ghost use Rattle.std.specs.Option.{option_map_or};
-ghost use Rattle.luks_c_answers.specs.Numbers.{backup_number, check_number, convert_number, edit_number, fault_number, fault_numbered, format_number, open_number, read_number, rebuild1_number, rebuild_number, restore_number};
+ghost use Rattle.luks_c_answers.specs.Numbers.{backup_number, check_number, convert_number, edit_number, fault_number, fault_numbered, format_number, key_number, open_number, read_number, rebuild1_number, rebuild_number, restore_number};
 
 use luks_converting::ConvertFault;
 use luks_edit::EditFault;
 use luks_explain::Fault;
 use luks_formatting::FormatFault;
 use luks_keeping::{BackupFault, RestoreFault};
-use luks_reading::{CheckFault, OpenFault, ReadFault};
+use luks_reading::{CheckFault, KeyFault, OpenFault, ReadFault};
 use luks_rebuilding::RebuildFault;
 use luks1_rebuilding::Rebuild1Fault;
 
@@ -29,7 +29,7 @@ pub const BEYOND: u32 = 102;
 /// Memory was refused.
 pub const MEMORY: u32 = 103;
 
-/// The passphrase opens no keyslot that was tried.
+/// The passphrase opens no keyslot that was tried, or the key isn't the volume's.
 pub const SHUT: u32 = 105;
 
 /// The caller's buffer is too short for what is to be written there.
@@ -159,6 +159,21 @@ pub fn open_number(fault: &OpenFault) -> u32
         OpenFault::Slot(fault) => told_number(Fault::of_slot(fault)),
         OpenFault::Device => BEYOND,
         OpenFault::Memory => MEMORY,
+    }
+}
+
+/// The number of what judging a key answers in place of whether it is the volume's.
+pub fn key_number(fault: &KeyFault) -> u32
+    ensures { result ≡ key_number fault.now }
+{
+    match fault {
+        KeyFault::Head(fault) => told_number(Fault::of_head(fault)),
+        KeyFault::Meta(fault) => told_number(Fault::of_meta(fault)),
+        KeyFault::NoSuchDigest => number_of(Fault::NoSuchDigest),
+        KeyFault::KeyLength => number_of(Fault::KeyLength),
+        KeyFault::Hash => number_of(Fault::Hash),
+        KeyFault::Device => BEYOND,
+        KeyFault::Memory => MEMORY,
     }
 }
 

@@ -1,2 +1,3 @@
 pub mod PlanFacts
 pub mod PartFacts
+mod AskingFacts

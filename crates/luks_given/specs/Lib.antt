@@ -4,3 +4,4 @@ pub mod PartProps
 pub mod Plan
 pub mod Planned
 pub mod PlanProps
+pub mod Askings

@@ -10,6 +10,6 @@ mod planned_writes;
 
 pub use given::Given;
 pub use given_parts::GivenParts;
-pub use laws::{plan_keeps_the_others, plan_leaves_the_rest};
+pub use laws::{askings_end, askings_of_two_end, plan_keeps_the_others, plan_leaves_the_rest};
 pub use parts::{Part, are_parts};
 pub use planned_writes::{PlannedCall, PlannedWrites};

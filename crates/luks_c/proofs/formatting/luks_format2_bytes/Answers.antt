@@ -1,27 +1,31 @@
-use Rattle.std.proofs.Common.{inl, inr, subst, arith}
-use Rattle.luks_reading.specs.declared.report.Data.{Data}
-use Rattle.luks_given.specs.Parts.{volume}
-use Rattle.luks_c.specs.FormatAnswers.{AnswersFormat2}
+use Rattle.std.proofs.Common.{inl, inr}
 use Rattle.luks_c.proofs.formatting.luks_format2_bytes.Goals as goal
 
 pub returns-in-Some-clause-usage : goal.returns-in-Some-clause-usage
 returns-in-Some-clause-usage c =
-    let within = c.in-Some.ensures.0 in (
+    let within = c.in-Some.ensures.0 in
+    let given_is = c.in-Ok2.ensures in (
       (λ usage. absurd (c.make2.ensures.own usage)),
       (λ any. absurd (elim any [
         | inl unchosen ↦ unchosen c.in-Ok.chosen c.in-Ok.ensures
-        | inr other ↦ elim other [ inl out ↦ out within.parts_ | inr none ↦ none c.in-Some.format.hash c.in-Some.ensures.1.hash_is ]
+        | inr other ↦ elim other [
+          | inl unasked ↦ elim unasked [ inl out ↦ out within.parts_ | inr none ↦ none c.in-Some.format.hash c.in-Some.ensures.1.hash_is ]
+          | inr text ↦ elim text [
+            | inl uuid ↦ uuid _ given_is.uuid_is
+            | inr names ↦ elim names [ inl label ↦ label _ given_is.label_is | inr subsystem ↦ subsystem _ given_is.subsystem_is ]
+          ]
+        ]
       ])),
     )
 
 pub returns-in-Some-clause-answers : goal.returns-in-Some-clause-answers
 returns-in-Some-clause-answers c = λ used.
     record {
+      given = c.in-Ok2.given;
+      given_is = c.in-Ok2.ensures;
       format = c.in-Some.format;
       is = c.in-Some.ensures.1;
       chosen = c.in-Ok.chosen;
       choice = c.in-Ok.ensures;
-      so = subst (λ (payload : Data). AnswersFormat2 c.args.parts.now (volume c.args.parts.now c.args.held.now c.args.total) c.args.total payload c.in-Some.format c.in-Ok.chosen c.args.memory c.args.passphrase.now c.args.random.now
-          (record { calls = c.args.calls.now; bytes = c.args.bytes.now }) (record { calls = c.make2.new.calls; bytes = c.make2.new.bytes }) c.make2.new.told c.make2.result)
-          c.data_of-payload.ensures c.make2.ensures.answers;
+      so = c.make2.ensures.answers;
     }
