@@ -17,7 +17,7 @@ edit_candidates : List EditFault
 edit_candidates =
     edit.Requirements ∷ edit.NoSuchSlot ∷ edit.SameSlot ∷ edit.Locked ∷ edit.SlotTaken ∷ edit.NoFreeSlot ∷ edit.NoRoom ∷ edit.LastSlot ∷ edit.Iterations ∷ edit.Argon2 ∷ edit.BadLabel
     ∷ edit.SeqExhausted ∷ edit.MetadataFull ∷ edit.RandomLength ∷ edit.Slot slot.Argon2 ∷ edit.Slot slot.Cipher ∷ edit.Slot slot.Hash ∷ edit.Slot slot.KeySize
-    ∷ edit.Slot slot.Device ∷ edit.Slot slot.Memory ∷ edit.Memory ∷ edit.Device ∷ []
+    ∷ edit.Slot slot.Device ∷ edit.Slot slot.Memory ∷ edit.Memory ∷ edit.Device ∷ edit.KeyLength ∷ edit.WrongKey ∷ []
 
 -- what stands at a place of a list is of the list
 among_at : {F : Type 0} (other : F) (fs : List F) (k : ℕ) → k < length fs → Among (get_or fs k other) fs
@@ -63,6 +63,8 @@ module _ (v : List ℕ) (payload : Data) (faults : EditFault → Type 0) (of_vol
     among_edits (edit.Slot slot.Memory) bad = among_at edit.Device edit_candidates 19 (omega arith)
     among_edits edit.Memory bad = among_at edit.Device edit_candidates 20 (omega arith)
     among_edits edit.Device bad = among_at edit.Device edit_candidates 21 (omega arith)
+    among_edits edit.KeyLength bad = among_at edit.Device edit_candidates 22 (omega arith)
+    among_edits edit.WrongKey bad = among_at edit.Device edit_candidates 23 (omega arith)
 
   -- ---- any volume
 

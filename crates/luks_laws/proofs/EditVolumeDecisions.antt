@@ -61,6 +61,7 @@ module _ (v : List ℕ) (payload : Data) where
         value = j;
         there = there;
         only = λ p i x. (one_place v o p copies x.copies chosen x.chosen, one_metadata v o p copies x.copies j i chosen accepted.json x.chosen x.holds);
+        accepted = accepted;
         digest = digest;
         area = area_or_no_room v payload o j there formed;
         alike = λ e a b x y a_bytes b_bytes long. texts_as_long (hdr_size (header_at v o)) (length v) payload e a b j x y a_bytes b_bytes long (record { one = digest });

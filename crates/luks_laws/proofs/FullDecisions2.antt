@@ -1,5 +1,5 @@
 -- The metadata that an edit of a LUKS2 volume makes is there or not, and its text leaves room in the JSON area or doesn't.
-use Rattle.std.proofs.Common.{◌≡◌, ◌⊎◌, ℕ, zero, suc, ◌-◌, ◌≤◌, ◌<◌, List, length, slice_index, replicate, Option, refl, sym, subst, ◌∙◌, arith, inl, inr}
+use Rattle.std.proofs.Common.{◌≡◌, ◌⊎◌, ℕ, zero, suc, ◌-◌, ◌≤◌, ◌<◌, List, length, slice_index, replicate, Option, Some, refl, sym, subst, ◌∙◌, arith, inl, inr}
 use Rattle.std.proofs.lemmas.List.{length-replicate}
 use Rattle.base64.specs.GeneralPurpose.{IsBytes}
 use Rattle.serde_json.specs.Data.{Data as Value}
@@ -13,14 +13,21 @@ use Rattle.luks_making.specs.With.{IsAdded, with_slot}
 use Rattle.luks_making.specs.Without.{without_slot}
 use Rattle.luks_reading.specs.declared.report.Data.{Data}
 use Rattle.luks_edit.specs.declared.edit.Edit.{Edit}
-use Rattle.luks_edit.specs.declared.edit.Edit.TheVariants.{Add, Change, Label, Remove, Repair}
+use Rattle.luks_edit.specs.declared.edit.Edit.TheVariants.{Add, AddByKey, Change, Label, Remove, Repair}
+use Rattle.luks_edit.specs.declared.edit.Opener.{Opener}
+use Rattle.luks_edit.specs.declared.edit.Opener.TheVariants as opener
+use Rattle.luks_edit.specs.Asked.{chosen_or}
+use Rattle.luks2_edit_laws.specs.declared.like.Like.{Like}
+use Rattle.luks2_edit_laws.specs.declared.like.Like.TheVariants.{Keyslot, Digest}
+use Rattle.luks2_edit_laws.specs.Likes.{ForLike, fresh_members, IsAddedLike}
 use Rattle.luks2_edit_laws.proofs.AfterFacts.{asking}
 use Rattle.luks2_edit_laws.specs.Edited.{HasAdded, HasChanged, IsEdited, members_of}
-use Rattle.luks2_edit_laws.specs.Metadata.{IsInUse}
 use Rattle.luks2_edit_laws.specs.Places.{HasNoNewArea, IsNewArea}
 use Rattle.luks2_edit_laws.specs.Refused.{IsFull}
 use Rattle.luks_laws.proofs.DecidedFacts.{at_most_decided, Decided}
 use Rattle.luks_laws.proofs.SearchFacts.{some_same, SomeOrNone}
+use Rattle.luks2_judging.specs.Keys.{IsThereLike}
+use Rattle.luks_laws.proofs.LikeDecisions2.{for_like_or_none}
 use Rattle.luks_laws.proofs.MemberDecisions2.{digest_or_none, made_or_none, new_number, object_or_none}
 use Rattle.luks_laws.proofs.RowDecisions2.{area_or_none}
 
@@ -76,43 +83,63 @@ added_or_none to by f j = elim (object_or_none j by) [
   | inr none ↦ inr (λ k x. none x.from (x.there.named, x.there.is))
 ]
 
+-- like a keyslot, or as a new volume has it
+like_alike : (to other : ℕ) (like : Like) (f g : NewMembers) (j new : Value) → f.derivation ≡ g.derivation → IsAddedLike to like f j new → (k : Value) × IsAddedLike other like g j k
+like_alike to other (Keyslot by) f g j new asked x = added_alike to other by f g j new asked x
+like_alike to other (Digest number key_bytes) f g j new asked x = (with_slot other number (fresh_members key_bytes g) j, refl)
+
+like_or_none : (to : ℕ) (like : Like) (f : NewMembers) (j : Value) → SomeOrNone Value (IsAddedLike to like f j)
+like_or_none to (Keyslot by) f j = added_or_none to by f j
+like_or_none to (Digest number key_bytes) f j = inl (with_slot to number (fresh_members key_bytes f) j, refl)
+
 -- ---- the value that an edit makes
 
 module _ (h total : ℕ) (payload : Data) (j : Value)
-    (area : (n : ℕ) → IsInUse j n → ((a : Area) × IsNewArea h total payload j n a) ⊎ HasNoNewArea h total payload j n) where
+    (area : (like : Like) → IsThereLike j like → ((a : Area) × IsNewArea h total payload j like a) ⊎ HasNoNewArea h total payload j like) where
   -- an addition makes a value, or it lacks a number, an area, a member or a digest
-  add_or_none : (by : ℕ) (to : Option ℕ) (asked : AskedDerivation) (salt : List ℕ) → SomeOrNone Value (HasAdded h total payload by to asked salt j)
-  add_or_none by to asked salt = elim (new_number j to) [
-    | inl n ↦ elim (area_or_none h total payload j area by) [
-      | inl a ↦ elim (added_or_none n.0 by (members_of asked salt a.0) j) [
+  add_or_none : (to : Option ℕ) (asked : AskedDerivation) (salt : List ℕ) (like : Like) → SomeOrNone Value (λ k. HasAdded h total payload to asked salt j k like)
+  add_or_none to asked salt like = elim (new_number j to) [
+    | inl n ↦ elim (area_or_none h total payload j area like) [
+      | inl a ↦ elim (like_or_none n.0 like (members_of asked salt a.0) j) [
         | inl new ↦ inl (new.0, record { slot = n.0; is_new = n.1; area = a.0; place = a.1; is = new.1 })
-        | inr none ↦ inr (λ k x. (let y = added_alike x.slot n.0 by (members_of asked salt x.area) (members_of asked salt a.0) j k refl x.is in none y.0 y.1))
+        | inr none ↦ inr (λ k x. (let y = like_alike x.slot n.0 like (members_of asked salt x.area) (members_of asked salt a.0) j k refl x.is in none y.0 y.1))
       ]
       | inr none ↦ inr (λ k x. none x.area x.place)
     ]
     | inr none ↦ inr (λ k x. none x.slot x.is_new)
   ]
 
+  -- by what it opens
+  add_by : (o : Opener) (to : Option ℕ) (asked : AskedDerivation) (salt : List ℕ) → SomeOrNone Value (λ k. ForLike j o (HasAdded h total payload to asked salt j k))
+  add_by o to asked salt = for_like_or_none Value j o (λ k like. HasAdded h total payload to asked salt j k like) (add_or_none to asked salt)
+
   -- a change makes a value, or it lacks an area
   change_or_none : (slot : ℕ) (asked : AskedDerivation) (salt : List ℕ) → SomeOrNone Value (HasChanged h total payload slot asked salt j)
-  change_or_none slot asked salt = elim (area_or_none h total payload j area slot) [
+  change_or_none slot asked salt = elim (area_or_none h total payload j area (Keyslot slot)) [
     | inl a ↦ inl (changed_slot slot (members_of asked salt a.0) j, record { area = a.0; place = a.1; is = refl })
     | inr none ↦ inr (λ k x. none x.area x.place)
   ]
 
   -- an edit makes a value with a salt, or it makes none
   edited_or_none : (e : Edit) (salt : List ℕ) → SomeOrNone Value (IsEdited h total payload e salt j)
-  edited_or_none (Add by_ old new to iterations d) salt = add_or_none by_ to (asking iterations d) salt
+  edited_or_none (Add by_ old new to iterations d) salt = add_by (opener.Keyslot by_ old) to (asking iterations d) salt
+  edited_or_none (AddByKey key new to iterations d) salt = add_by (opener.Key key) to (asking iterations (Some (chosen_or iterations d))) salt
   edited_or_none (Change slot old new iterations d) salt = change_or_none slot (asking iterations d) salt
   edited_or_none (Remove slot by_ passphrase) salt = inl (without_slot slot j, refl)
   edited_or_none Repair salt = inl (j, refl)
   edited_or_none (Label text) salt = inl (j, refl)
 
--- with another salt an edit makes a value too
+-- with another salt an addition makes a value too
+added_anew : (h total : ℕ) (payload : Data) (o : Opener) (to : Option ℕ) (asked : AskedDerivation) (a b : List ℕ) (j x : Value)
+    → ForLike j o (HasAdded h total payload to asked a j x) → (y : Value) × ForLike j o (HasAdded h total payload to asked b j y)
+added_anew h total payload o to asked a b j x is =
+    let y = like_alike is.has.slot is.has.slot is.like (members_of asked a is.has.area) (members_of asked b is.has.area) j x refl is.has.is in
+    (y.0, record { like = is.like; is_like = is.is_like; has = record { slot = is.has.slot; is_new = is.has.is_new; area = is.has.area; place = is.has.place; is = y.1 } })
+
+-- and so does any edit
 salted_anew : (h total : ℕ) (payload : Data) (e : Edit) (a b : List ℕ) (j x : Value) → IsEdited h total payload e a j x → (y : Value) × IsEdited h total payload e b j y
-salted_anew h total payload (Add by_ old new to iterations d) a b j x is =
-    let y = added_alike is.slot is.slot by_ (members_of (asking iterations d) a is.area) (members_of (asking iterations d) b is.area) j x refl is.is in
-    (y.0, record { slot = is.slot; is_new = is.is_new; area = is.area; place = is.place; is = y.1 })
+salted_anew h total payload (Add by_ old new to iterations d) a b j x is = added_anew h total payload (opener.Keyslot by_ old) to (asking iterations d) a b j x is
+salted_anew h total payload (AddByKey key new to iterations d) a b j x is = added_anew h total payload (opener.Key key) to (asking iterations (Some (chosen_or iterations d))) a b j x is
 salted_anew h total payload (Change slot old new iterations d) a b j x is =
     (changed_slot slot (members_of (asking iterations d) b is.area) j, record { area = is.area; place = is.place; is = refl })
 salted_anew h total payload (Remove slot by_ passphrase) a b j x is = (x, is)
@@ -142,7 +169,7 @@ unfolding zero_salt
 zero_salt_length = length-replicate {A = ℕ} 32 0
 
 module _ (h total : ℕ) (payload : Data) (j : Value)
-    (area : (n : ℕ) → IsInUse j n → ((a : Area) × IsNewArea h total payload j n a) ⊎ HasNoNewArea h total payload j n) (e : Edit)
+    (area : (like : Like) → IsThereLike j like → ((a : Area) × IsNewArea h total payload j like a) ⊎ HasNoNewArea h total payload j like) (e : Edit)
     (alike : (a b : List ℕ) (x y : Value) → IsBytes a → IsBytes b → length a ≡ length b → IsEdited h total payload e a j x → IsEdited h total payload e b j y
     → length (compact_text x) ≡ length (compact_text y)) where
   -- with any salt the text is as long as with zeros, so it is too long or isn't

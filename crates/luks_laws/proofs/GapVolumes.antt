@@ -14,8 +14,10 @@ use Rattle.luks_reading.specs.Header.{json_at}
 use Rattle.luks_reading.specs.Layout2.{Luks2Area}
 use Rattle.luks_reading.proofs.Luks2AreaFacts.{luks2_area-unique}
 use Rattle.luks2_edit_laws.specs.Gap.{area_at}
-use Rattle.luks2_edit_laws.specs.Metadata.{HasMetadata, IsInUse}
+use Rattle.luks2_edit_laws.specs.declared.like.Like.{Like}
+use Rattle.luks2_edit_laws.specs.Metadata.{HasMetadata}
 use Rattle.luks2_edit_laws.specs.Places.{HasNoNewArea, IsNewArea, key_areas_end, rounded_to_blocks}
+use Rattle.luks2_judging.specs.Keys.{IsThereLike}
 use Rattle.luks_laws.proofs.GapAreas.{beside_decided}
 use Rattle.luks_laws.proofs.GapNumbers.{some_region, some_stripes, SomeStripes}
 use Rattle.luks_laws.proofs.GapPlaces.{least_gap_or_none}
@@ -29,15 +31,15 @@ module _ (v : List ℕ) (payload : Data) (place : ℕ) (j : Value) (metadata : H
       let held = volume.layout.1.metadata in
       subst (IsMeta (json_at v place)) (one_value (json_at v place) volume.layout.0 j held.json metadata.holds) held
 
-  -- there is the area of a keyslot that is made like the keyslot `n`, or there is none
-  abbrev AreaOrNoRoom : ℕ → Type 0
-  AreaOrNoRoom n =
-      ((a : Area) × IsNewArea (hdr_size (header_at v place)) (length v) payload j n a)
-      ⊎ HasNoNewArea (hdr_size (header_at v place)) (length v) payload j n
+  -- there is the area of a keyslot that is made like this one, or there is none
+  abbrev AreaOrNoRoom : Like → Type 0
+  AreaOrNoRoom like =
+      ((a : Area) × IsNewArea (hdr_size (header_at v place)) (length v) payload j like a)
+      ⊎ HasNoNewArea (hdr_size (header_at v place)) (length v) payload j like
 
   -- for these stripes, in a region of so many bytes
-  placed : (n : ℕ) → SomeStripes j n → ((x : ℕ) × (keyslots_size j ≡ Some x)) → AreaOrNoRoom n
-  placed n s region =
+  placed : (like : Like) → SomeStripes j like → ((x : ℕ) × (keyslots_size j ≡ Some x)) → AreaOrNoRoom like
+  placed like s region =
       let h = hdr_size (header_at v place) in
       let bytes = rounded_to_blocks (s.key_bytes * s.stripes) in
       elim (least_gap_or_none (Luks2Area j h payload (length v)) (2 * h) (key_areas_end h (length v) region.0) bytes
@@ -49,8 +51,8 @@ module _ (v : List ℕ) (payload : Data) (place : ℕ) (j : Value) (metadata : H
         | inr none ↦ inr (record { key_bytes = s.key_bytes; stripes = s.stripes; slot = s.slot; region = region.0; region_is = region.1; none = none })
       ]
 
-  -- for a keyslot that is there
-  pub area_or_no_room : WellFormed v payload → (n : ℕ) → IsInUse j n → AreaOrNoRoom n
-  area_or_no_room formed n used =
+  -- for one that is there
+  pub area_or_no_room : WellFormed v payload → (like : Like) → IsThereLike j like → AreaOrNoRoom like
+  area_or_no_room formed like there =
       let content = (accepted formed).content in
-      placed n (some_stripes (length (json_at v place)) j content n used) (some_region (length (json_at v place)) j content)
+      placed like (some_stripes (length (json_at v place)) j content like there) (some_region (length (json_at v place)) j content)

@@ -22,8 +22,11 @@ pub mod GapNumbers
 pub mod GapVolumes
 pub mod LeastDecisions
 pub mod AskedDecisions
-pub mod RowDecisions1
 pub mod MemberDecisions2
+pub mod KeyDecisions1
+pub mod KeyDecisions2
+pub mod LikeDecisions2
+pub mod RowDecisions1
 pub mod RowDecisions2
 pub mod FullDecisions2
 pub mod EditDecisions

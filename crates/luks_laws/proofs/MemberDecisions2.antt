@@ -26,7 +26,7 @@ pub in_use_decided : (j : Value) (n : ℕ) → Decided (IsInUse j n)
 in_use_decided j n = both_decided _ _ (less_decided n 32) (true_decided (is_some (object_at j Keyslots n)))
 
 -- an option that is decided to hold nothing
-none_decided : {A : Type 0} (o : Option A) → Decided (o ≡ None)
+pub none_decided : {A : Type 0} (o : Option A) → Decided (o ≡ None)
 none_decided None = inl refl
 none_decided (Some x) = inr (λ e. cc)
 

@@ -12,10 +12,10 @@ pub some_decided : (A : Type 0) (o : Option A) (P : A → Type 0) → ((x : A) �
 some_decided A None P decide = inr (λ bad. bad)
 some_decided A (Some x) P decide = decide x
 
--- what is decided of each place of a key is decided of the place that it has
-pub place_decided : (p : Place) (N : Option ℕ → Type 0) (O : Type 0) → ((to : Option ℕ) → Decided (N to)) → Decided O → Decided (MatchPlace p N O)
-place_decided (New to) N O new opened = new to
-place_decided Opened N O new opened = opened
+-- what is decided of the number of each new keyslot is decided of the place that a key has
+pub place_decided : (p : Place) (N : Option ℕ → Type 0) → ((to : Option ℕ) → Decided (N to)) → Decided (MatchPlace p (λ o to. N to) (λ slot secret. ⊥))
+place_decided (New o to) N new = new to
+place_decided (Opened slot secret) N new = inr (λ bad. bad)
 
 -- ---- what there is some of
 
