@@ -94,6 +94,7 @@ IsKdfFault allowed kdf Memory = TimesArgon2 allowed kdf
 -- of an edit: none where it asks for no derivation
 abbrev pub IsEditCostFault : EditRequest → CostFault → Type 0
 IsEditCostFault (Add by_ opener memory older new to iterations (Some kdf)) f = IsKdfFault memory kdf f
+IsEditCostFault (AddByKey key memory older new to iterations (Some kdf)) f = IsKdfFault memory kdf f
 IsEditCostFault (Change slot opener memory older new iterations (Some kdf)) f = IsKdfFault memory kdf f
 IsEditCostFault request f = ⊥
 
