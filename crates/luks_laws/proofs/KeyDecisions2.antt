@@ -161,6 +161,19 @@ assigned_decided j m = elim (less_decided m 32) [
   | inr high ↦ inr (λ x. high x.is.numbered)
 ]
 
+-- ---- which digests take a key
+
+-- the digest takes one of so many bytes
+record IsTakenAt (j : Value) (len m : ℕ) : Type 0 where
+  digest : DigestPlan
+  takes : TakesKey j m len digest
+
+taken_decided : (j : Value) (len m : ℕ) → Decided (IsTakenAt j len m)
+taken_decided j len m = elim (taken_or_none j m len) [
+  | inl p ↦ inl (record { digest = p.0; takes = p.1 })
+  | inr none ↦ inr (λ x. none x.digest x.takes)
+]
+
 -- ---- the digest that comes first
 
 module _ (older : Bool) (j : Value) (key : List ℕ) where
@@ -180,42 +193,39 @@ module _ (older : Bool) (j : Value) (key : List ℕ) where
 
   -- ---- why it meets none
 
-  -- the digest takes it
-  record IsTakenAt (m : ℕ) : Type 0 where
-    digest : DigestPlan
-    takes : TakesKey j m (length key) digest
-
-  taken_decided : (m : ℕ) → Decided (IsTakenAt m)
-  taken_decided m = elim (taken_or_none j m (length key)) [
-    | inl p ↦ inl (record { digest = p.0; takes = p.1 })
-    | inr none ↦ inr (λ x. none x.digest x.takes)
-  ]
-
   -- some digest does, or none
   some_taken_decided : Decided (IsSomeTaken j (length key))
-  some_taken_decided = alike_decided ((m : ℕ) × (m < 32) × IsTakenAt m) (IsSomeTaken j (length key))
+  some_taken_decided = alike_decided ((m : ℕ) × (m < 32) × IsTakenAt j (length key) m) (IsSomeTaken j (length key))
       (λ x. record { number = x.0; digest = x.2.digest; takes = x.2.takes }) (λ x. (x.number, x.takes.there.named, record { digest = x.digest; takes = x.takes }))
-      (some_below_decided IsTakenAt taken_decided 32)
+      (some_below_decided (IsTakenAt j (length key)) (taken_decided j (length key)) 32)
 
   pub no_digest_decided : Decided (HasNoDigestFor j (length key))
   no_digest_decided = alike_decided (IsSomeTaken j (length key) → ⊥) (HasNoDigestFor j (length key))
       (λ none m digest takes. none (record { number = m; digest = digest; takes = takes })) (λ none x. none x.number x.digest x.takes)
       (not_decided (IsSomeTaken j (length key)) some_taken_decided)
 
-  -- the key meets none, or one
-  pub none_met_decided : Decided ((m : ℕ) → MeetsKey older j key m → ⊥)
-  none_met_decided = alike_decided ((m : ℕ) × (m < 32) × MeetsKey older j key m → ⊥) ((m : ℕ) → MeetsKey older j key m → ⊥)
-      (λ none m x. none (m, x.takes.there.named, x)) (λ none x. none x.0 x.2)
-      (not_decided ((m : ℕ) × (m < 32) × MeetsKey older j key m) (some_below_decided (MeetsKey older j key) (meets_decided older j key) 32))
+  -- the key meets one
+  abbrev SomeMet : Type 0
+  SomeMet = (m : ℕ) × (m < 32) × MeetsKey older j key m
 
-  -- the hash of one isn't known, or of each is
-  pub some_unknown_decided : Decided ((m : ℕ) × (m < 32) × IsUnknownTo older j key m)
+  -- or none
+  pub none_met_decided : Decided ((m : ℕ) → MeetsKey older j key m → ⊥)
+  none_met_decided = alike_decided (SomeMet → ⊥) ((m : ℕ) → MeetsKey older j key m → ⊥)
+      (λ none m x. none (m, x.takes.there.named, x)) (λ none x. none x.0 x.2)
+      (not_decided SomeMet (some_below_decided (MeetsKey older j key) (meets_decided older j key) 32))
+
+  -- the hash of one isn't known
+  abbrev pub SomeUnknown : Type 0
+  SomeUnknown = (m : ℕ) × (m < 32) × IsUnknownTo older j key m
+
+  pub some_unknown_decided : Decided SomeUnknown
   some_unknown_decided = some_below_decided (IsUnknownTo older j key) (unknown_decided older j key) 32
 
+  -- or of each it is
   none_unknown_decided : Decided ((m : ℕ) → IsUnknownTo older j key m → ⊥)
-  none_unknown_decided = alike_decided ((m : ℕ) × (m < 32) × IsUnknownTo older j key m → ⊥) ((m : ℕ) → IsUnknownTo older j key m → ⊥)
+  none_unknown_decided = alike_decided (SomeUnknown → ⊥) ((m : ℕ) → IsUnknownTo older j key m → ⊥)
       (λ none m x. none (m, x.takes.there.named, x)) (λ none x. none x.0 x.2)
-      (not_decided ((m : ℕ) × (m < 32) × IsUnknownTo older j key m) some_unknown_decided)
+      (not_decided SomeUnknown some_unknown_decided)
 
   -- some take it, and it meets none of them, or it isn't so
   pub meets_none_decided : Decided (MeetsNone older j key)

@@ -1,5 +1,5 @@
 -- What a new keyslot of a LUKS2 volume is made like: it is there or not, and why the volume key doesn't give itself is decided.
-use Rattle.std.proofs.Common.{◌≡◌, ◌⊎◌, ◌∙◌, ℕ, ◌<◌, Bool, List, length, Option, Some, None, refl, sym, subst, arith, inl, inr}
+use Rattle.std.proofs.Common.{◌≡◌, ◌∙◌, ℕ, ◌<◌, Bool, List, length, Option, Some, None, refl, sym, subst, arith, inl, inr}
 use Rattle.serde_json.specs.Data.{Data as Value}
 use Rattle.luks_json.specs.Number.{number_of, number_text}
 use Rattle.luks_json.proofs.Numbers.{text_of_named}
@@ -20,13 +20,13 @@ use Rattle.luks_edit.specs.declared.edit_fault.EditFault.{EditFault}
 use Rattle.luks_edit.specs.declared.edit_fault.EditFault.TheVariants as fault
 use Rattle.luks2_edit_laws.specs.declared.like.Like.{Like}
 use Rattle.luks2_edit_laws.specs.declared.like.Like.TheVariants.{Keyslot, Digest}
-use Rattle.luks2_edit_laws.specs.Likes.{derived_anew, ForLike, HasRefusal, HasRefusedLike, IsLike, IsLikeByKey, IsLikeOf, IsRefusedLike, IsUnknownTo, MayMeetUnknown, MeetsKey}
+use Rattle.luks2_edit_laws.specs.Likes.{derived_anew, ForLike, HasRefusal, HasRefusedLike, IsLike, IsLikeByKey, IsLikeOf, IsRefusedLike, MayMeetUnknown, MeetsKey}
 use Rattle.luks2_edit_laws.specs.Refused.{IsUnkeyed2}
 use Rattle.luks2_edit_laws.proofs.LikeFacts.{for_like, one_like_by_key}
 use Rattle.luks2_judging.proofs.KeyFacts.{none_left}
 use Rattle.luks2_judging.proofs.UnkeyedFacts.{refusal_once}
 use Rattle.luks_laws.proofs.DecidedFacts.{alike_decided, Decided, one_decided, three_decided}
-use Rattle.luks_laws.proofs.KeyDecisions2.{IsKeyslotOf, key_digest_or_none, keyslot_of_decided, meets_none_decided, no_digest_decided, none_met_decided, some_unknown_decided}
+use Rattle.luks_laws.proofs.KeyDecisions2.{IsKeyslotOf, key_digest_or_none, keyslot_of_decided, meets_none_decided, no_digest_decided, none_met_decided, some_unknown_decided, SomeUnknown}
 use Rattle.luks_laws.proofs.MemberDecisions2.{object_or_none}
 use Rattle.luks_laws.proofs.PlanDecisions.{is_fault_decided, same_fault_decided}
 use Rattle.luks_laws.proofs.PlanFacts2.{has_luks2_plan}
@@ -116,7 +116,7 @@ module _ (json : List ℕ) (j : Value) (accepted : IsMeta json j) (older : Bool)
 
     -- a hash that it may meet isn't known, and it meets none, or it isn't so
     may_meet_decided : (f : SlotFault) → Decided (MayMeetUnknown older j key f)
-    may_meet_decided f = alike_decided ((f ≡ Hash) × ((m : ℕ) × (m < 32) × IsUnknownTo older j key m) × ((m : ℕ) → MeetsKey older j key m → ⊥)) (MayMeetUnknown older j key f)
+    may_meet_decided f = alike_decided ((f ≡ Hash) × SomeUnknown older j key × ((m : ℕ) → MeetsKey older j key m → ⊥)) (MayMeetUnknown older j key f)
         (λ x. record { is = x.0; number = x.1.0; unknown = x.1.2; none = x.2 }) (λ x. (x.is, (x.number, x.unknown.takes.there.named, x.unknown), x.none))
         (three_decided _ _ _ (same_fault_decided f Hash) (some_unknown_decided older j key) (none_met_decided older j key))
 
