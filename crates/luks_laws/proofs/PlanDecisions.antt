@@ -41,7 +41,7 @@ same_fault_decided slot.Memory slot.Memory = inl refl
 same_fault_decided f g = inr (λ e. cc)
 
 -- an answer is this fault or not
-is_fault_decided : (o : Option SlotFault) (f : SlotFault) → Decided (o ≡ Some f)
+pub is_fault_decided : (o : Option SlotFault) (f : SlotFault) → Decided (o ≡ Some f)
 is_fault_decided None f = inr (λ e. cc)
 is_fault_decided (Some g) f = elim (same_fault_decided g f) [ inl same ↦ inl (ap Some same) | inr other ↦ inr (λ e. other (cc)) ]
 
@@ -56,6 +56,18 @@ pub record AreAlike (a b : SlotPlan) : Type 0 where
 -- a set of plans has a member or none
 abbrev pub PlanOrNone : (SlotPlan → Type 0) → Type 0
 PlanOrNone plans = ((plan : SlotPlan) × plans plan) ⊎ ((plan : SlotPlan) → plans plan → ⊥)
+
+module _ (plans : SlotPlan → Type 0) (find : PlanOrNone plans) where
+  -- what is decided of each plan, and is alike of those of the set, is decided of them
+  pub plan_decided : (P : SlotPlan → Type 0) → ((plan : SlotPlan) → Decided (P plan)) → ((a b : SlotPlan) → plans a → plans b → P b → P a)
+      → Decided ((plan : SlotPlan) × plans plan × P plan)
+  plan_decided P decide same = elim find [
+    | inl own ↦ elim (decide own.0) [
+      | inl has ↦ inl (own.0, own.1, has)
+      | inr lacks ↦ inr (λ x. lacks (same own.0 x.0 own.1 x.1 x.2))
+    ]
+    | inr none ↦ inr (λ x. none x.0 x.1)
+  ]
 
 module _ (plans : SlotPlan → Type 0) (find : PlanOrNone plans) (alike : (a b : SlotPlan) → plans a → plans b → AreAlike a b) where
   -- a plan of the set decides whether one lies past the volume's end
