@@ -1,5 +1,5 @@
 -- A keyslot that was made opens by its passphrase to the key that another one opened.
-use Rattle.std.proofs.Common.{◌≡◌, ℕ, ◌*◌, ◌<◌, ◌≤◌, List, length, subst, refl, sym, ap, ◌∙◌, arith, inl, inr, true, false, Bool, Some, None, lit≤}
+use Rattle.std.proofs.Common.{◌≡◌, ℕ, ◌*◌, ◌<◌, ◌≤◌, List, length, refl, sym, ap, ◌∙◌, arith, inl, inr, true, false, Bool, Some, None, lit≤}
 use Rattle.std.specs.Prelude.{if◌then◌else◌}
 use Rattle.std.proofs.lemmas.Bool.{cases_eq}
 use Rattle.luks_area.specs.Ranges.{part}

@@ -175,11 +175,11 @@ torn_same {u} {v} {w} {p} {key} {random} {n} {iterations} same x = subst (λ k. 
 
 -- ---- the same of an equal opener
 
-pub own_usable : {v : List ℕ} {a b : Opener} → a ≡ b → IsUsable v b → IsUsable v a
-own_usable {v} same x = subst (λ o. IsUsable v o) (sym same) x
+pub own_usable : (v : List ℕ) {a b : Opener} → a ≡ b → IsUsable v b → IsUsable v a
+own_usable v same x = subst (λ o. IsUsable v o) (sym same) x
 
 pub own_opened : {v key : List ℕ} {a b : Opener} → a ≡ b → IsOpenedBy v a key → IsOpenedBy v b key
 own_opened {v} {key} same x = subst (λ o. IsOpenedBy v o key) same x
 
-pub own_unopened : {v : List ℕ} {a b : Opener} {f : EditFault} → a ≡ b → IsUnopened v a f → IsUnopened v b f
-own_unopened {v} {a} {b} {f} same x = subst (λ o. IsUnopened v o f) same x
+pub own_unopened : (v : List ℕ) (f : EditFault) {a b : Opener} → a ≡ b → IsUnopened v a f → IsUnopened v b f
+own_unopened v f same x = subst (λ o. IsUnopened v o f) same x

@@ -136,6 +136,7 @@ module _ (h : List ℕ) (payload : Data) (v : List ℕ) (x : IsHeaderOf h payloa
       -- it gives none
       pub locked_by : (found : Option (List ℕ)) → slot_refusal_within (without_memory older) plan ≡ None → found ≡ given_by secret.kind plan (part v plan.area.start plan.area.len) secret.bytes.now → found ≡ None
           → IsUnmet (without_memory older) v n secret (lock_fault secret.kind plan.key_bytes secret.bytes.now)
+      unfolding planned
       locked_by found fine is none = record { gives = planned secret.kind secret.bytes.now None fine (sym is ∙ none); is = refl }
 
       -- the plan is refused, or the device failed

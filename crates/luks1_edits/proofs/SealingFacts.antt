@@ -33,8 +33,8 @@ pub half_made : (v : List ℕ) (e : Edit) (s : Sealed) (r w : List ℕ) → deed
 half_made v e s r w is x = rw is (torn_at v s r w s.place x)
 
 -- the keyslot that is opened is in use
-pub opened_used : {v : List ℕ} {place : Place} {slot : ℕ} {secret : Secret} → place ≡ Opened slot secret → IsUsable v (opener_at place) → IsInUse v slot
-opened_used {v} same x = subst (λ p. IsUsable v (opener_at p)) same x
+pub opened_used : (v : List ℕ) {place : Place} {slot : ℕ} {secret : Secret} → place ≡ Opened slot secret → IsUsable v (opener_at place) → IsInUse v slot
+opened_used v same x = subst (λ p. IsUsable v (opener_at p)) same x
 
 module _ (payload : Data) (v : List ℕ) (e : Edit) (s : Sealed) (r : List ℕ) (n : ℕ) (u : List ℕ) (is : deed_of e ≡ Seal s) (x : IsSealedNew payload v s r n u) where
   -- it is a new one
@@ -58,7 +58,7 @@ module _ (payload : Data) (v : List ℕ) (e : Edit) (s : Sealed) (r : List ℕ) 
     least = subst (λ p. IsNewKeyslot v (number_asked p) n) place x.is_new
 
     used : IsInUse v slot
-    used = opened_used place x.used
+    used = opened_used v place x.used
 
     opened : Opens1 v (Keyslot slot secret) x.key
     opened = subst (λ p. Opens1 v (opener_at p) x.key) place x.opened

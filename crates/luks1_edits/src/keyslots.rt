@@ -120,7 +120,7 @@ pub(crate) fn least_free(header: &Luks1) -> Option<u8>
 
 /// The number that is asked for the keyslot in which a key is sealed, if one is.
 pub(crate) fn number_asked(place: Place<'_>) -> Option<u8>
-    ensures { result ≡ number_asked place }
+    ensures { result ≡ number_asked place.entry }
 {
     match place {
         Place::New { opener: _, to } => to,

@@ -4,7 +4,6 @@ use Rattle.serde_json.specs.Data.{Data as Value}
 use Rattle.luks2_header.specs.Header2.{hdr_size, header_at}
 use Rattle.luks_rules.specs.declared.table.Outer.TheVariants as outer
 use Rattle.luks_rules.specs.declared.table.Section.TheVariants.{Keyslots}
-use Rattle.luks_rules.specs.Accepted.{HasObject}
 use Rattle.luks_rules.specs.Faults.{object_at, outer_at}
 use Rattle.luks_making.specs.Changed.{renewed_slot}
 use Rattle.luks_making.specs.declared.derivation.AskedDerivation.{AskedDerivation}

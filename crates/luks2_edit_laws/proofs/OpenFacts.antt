@@ -37,9 +37,9 @@ use Rattle.luks2_edit_laws.proofs.VolumeFacts.{copy_faultless, HasCopy, IsLayout
 -- one digest says one thing
 pub record SameDigest (a b : DigestPlan) : Type 0 where
   pub hash : a.hash.now ≡ b.hash.now
-  iterations : a.iterations ≡ b.iterations
-  salt : a.salt.now ≡ b.salt.now
-  stored : a.stored.now ≡ b.stored.now
+  pub iterations : a.iterations ≡ b.iterations
+  pub salt : a.salt.now ≡ b.salt.now
+  pub stored : a.stored.now ≡ b.stored.now
 
 pub one_plan : (k : Value) (n : ℕ) (a b : DigestPlan) → ((m l : ℕ) → IsDigestOf k n m → IsDigestOf k n l → m ≡ l) → IsLuks2Digest k n a → IsLuks2Digest k n b → SameDigest a b
 one_plan k n a b one x y =
@@ -52,7 +52,7 @@ one_plan k n a b one x y =
       stored = some_same a.stored.now b.stored.now (sym x.stored ∙ ap (λ d. bytes_in 20 64 (member_at d outer.Top name.Digest)) object ∙ y.stored);
     }
 
-same_meeting : (a b : DigestPlan) (key : List ℕ) → SameDigest a b → meets_digest a key ≡ meets_digest b key
+pub same_meeting : (a b : DigestPlan) (key : List ℕ) → SameDigest a b → meets_digest a key ≡ meets_digest b key
 unfolding meets_digest
 same_meeting a b key s = simp (s.hash, s.iterations, s.salt, s.stored)
 

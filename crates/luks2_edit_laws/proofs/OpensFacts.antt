@@ -1,5 +1,5 @@
 -- The keyslot of an edit that was completed opens by its new passphrase.
-use Rattle.std.proofs.Common.{◌≡◌, ℕ, List, length, Option, Some, None, refl, sym, subst}
+use Rattle.std.proofs.Common.{◌≡◌, ℕ, List, length, Some, refl, sym, subst}
 use Rattle.luks2_header.specs.Header2.{hdr_size, header_at}
 use Rattle.luks_making.specs.declared.derivation.AskedDerivation.{AskedDerivation}
 use Rattle.luks_making.specs.declared.derivation.NewDerivation.{NewDerivation}

@@ -1,5 +1,5 @@
 -- A keyslot that was made by the volume key opens by its passphrase to that key, though none was opened.
-use Rattle.std.proofs.Common.{◌≡◌, ℕ, ◌≤◌, List, [], ◌∷◌, length, Bool, codes, true, false, Option, Some, None, refl, sym, ap, subst, ◌∙◌}
+use Rattle.std.proofs.Common.{◌≡◌, ℕ, ◌≤◌, List, [], ◌∷◌, length, Bool, codes, true, false, Some, None, refl, sym, ap, subst, ◌∙◌}
 use Rattle.serde_json.specs.Data.{Data as Value}
 use Rattle.luks_rules.specs.declared.table.Member.TheVariants as name
 use Rattle.luks_rules.specs.declared.table.Outer.TheVariants as outer
@@ -17,7 +17,6 @@ use Rattle.luks_slot.specs.declared.plan.Derivation.{Derivation}
 use Rattle.luks_slot.specs.declared.plan.Derivation.TheVariants as derivation
 use Rattle.luks_slot.specs.declared.plan.DigestPlan.{DigestPlan}
 use Rattle.luks_slot.specs.declared.plan.SlotPlan.{SlotPlan}
-use Rattle.luks_slot.specs.Opening.{meets_digest}
 use Rattle.luks_slot.specs.Refusal.{is_known_hash, slot_refusal_within}
 use Rattle.luks_reading.specs.declared.report.Data.{Data}
 use Rattle.luks_reading.specs.Answer.{opens, AnswerWithin}
@@ -37,9 +36,9 @@ use Rattle.luks2_edit_laws.proofs.OpenFacts.{holds_opens, one_plan, SameDigest}
 use Rattle.luks2_edit_laws.proofs.VolumeFacts.{copy_meta, one_metadata, HasCopy, IsLayout}
 
 -- a digest says of a keyslot that it names what it said before it named it
-said_of : (k : Value) (n m : ℕ) (d : DigestPlan) (object now : Value) → SaysDigest object d → IsDigestOf k n m → object_at k Digests m ≡ Some now
-    → KeepsOthers (codes "keyslots" ∷ []) object now → IsLuks2Digest k n d
-said_of k n m d object now says names there same = record {
+said_of : (k : Value) (n m : ℕ) (d : DigestPlan) (found now : Value) → SaysDigest found d → IsDigestOf k n m → object_at k Digests m ≡ Some now
+    → KeepsOthers (codes "keyslots" ∷ []) found now → IsLuks2Digest k n d
+said_of k n m d found now says names there same = record {
   number = m;
   names = names;
   object = now;
@@ -51,11 +50,11 @@ said_of k n m d object now says names there same = record {
 }
 
 -- the digest of a keyslot that is there
-said_in : (j : Value) (n m : ℕ) (d : DigestPlan) (object : Value) → SaysDigest object d → IsDigestOf j n m → object_at j Digests m ≡ Some object → IsLuks2Digest j n d
-said_in j n m d object says names there = record {
+said_in : (j : Value) (n m : ℕ) (d : DigestPlan) (found : Value) → SaysDigest found d → IsDigestOf j n m → object_at j Digests m ≡ Some found → IsLuks2Digest j n d
+said_in j n m d found says names there = record {
   number = m;
   names = names;
-  object = object;
+  object = found;
   there = there;
   hash = says.hash;
   iterations = says.iterations;
@@ -64,9 +63,9 @@ said_in j n m d object says names there = record {
 }
 
 -- the hash of a keyslot's splitter, and its derivation, by what is chosen
-module _ (allowed : Allowed) (k : Value) (n : ℕ) (s : SlotMembers) (object : Value) (is : object ≡ slot_value s) (says : SaysMembers s (slot_value s))
+module _ (allowed : Allowed) (k : Value) (n : ℕ) (s : SlotMembers) (found : Value) (is : found ≡ slot_value s) (says : SaysMembers s (slot_value s))
     (c : NewDerivation) (chosen : s.derivation ≡ derivation_by s.splitter_hash c) (long : 8 ≤ length s.salt) (within : beyond allowed.memory c ≡ false) where
-  derived_as : (a : Derivation) (plan : SlotPlan) → IsLuks2Plan k n object plan → OpensAlike allowed s.splitter_hash a plan.derivation
+  derived_as : (a : Derivation) (plan : SlotPlan) → IsLuks2Plan k n found plan → OpensAlike allowed s.splitter_hash a plan.derivation
   derived_as a plan told =
       chosen_opens allowed s.splitter_hash s.salt (slot_value s) says.salt long c a plan.derivation within
       (subst (λ x. SaysDerivation x (slot_value s)) chosen says.derivation) (subst (λ d. IsLuks2Derivation d plan.derivation) is told.derivation)
@@ -74,7 +73,7 @@ module _ (allowed : Allowed) (k : Value) (n : ℕ) (s : SlotMembers) (object : V
 -- one that is made like a keyslot of the digest isn't refused
 module _
     (allowed : Allowed) (v : List ℕ) (o h : ℕ) (payload : Data) (j k : Value) (before : HasCopy v o h j) (was : IsLayout h (length v) payload j)
-    (by_ n m : ℕ) (told : DigestPlan) (object : Value) (says_told : SaysDigest object told) (there : object_at j Digests m ≡ Some object)
+    (by_ n m : ℕ) (told : DigestPlan) (found : Value) (says_told : SaysDigest found told) (there : object_at j Digests m ≡ Some found)
     (f : NewMembers) (a : IsAddedLike n (Keyslot by_) f j k) (names : IsDigestOf j by_ m) (accepted : HasRefusal allowed.older j (Keyslot by_) None)
     (new : Value) (is : new ≡ slot_value a.slot) (says : SaysMembers a.slot (slot_value a.slot))
     (c : NewDerivation) (chosen : a.slot.derivation ≡ derivation_by a.slot.splitter_hash c) (long : 8 ≤ length a.slot.salt) (within : beyond allowed.memory c ≡ false)
@@ -101,7 +100,7 @@ module _
 
     -- its digest is the one that the key meets
     digest_same : SameDigest accepted.plan.digest told
-    digest_same = one_plan j by_ accepted.plan.digest told one accepted.is.digest (said_in j by_ m told object says_told names there)
+    digest_same = one_plan j by_ accepted.plan.digest told one accepted.is.digest (said_in j by_ m told found says_told names there)
 
     like_fine : (plan : SlotPlan) → IsLuks2Plan k n new plan → SameDigest told plan.digest → slot_refusal_within allowed plan ≡ None
     like_fine plan z same =
@@ -158,17 +157,17 @@ module _
         said_of k n is.digest is.is.meets.digest takes.object now.0 takes.says own_gains.names now.1 now.2
 
     fine_by : (it : Like) → IsLikeOf j is.digest (length key) it → HasRefusal allowed.older j it None → (x : IsAddedLike n it f j k)
-        → SaysMembers (slot_by n it f j k x) (slot_value (slot_by n it f j k x)) → (object : Value) → object ≡ slot_value (slot_by n it f j k x)
-        → (plan : SlotPlan) → IsLuks2Plan k n object plan → SameDigest is.is.meets.digest plan.digest → slot_refusal_within allowed plan ≡ None
-    fine_by (Keyslot by_) y fine x said object same plan z digests =
+        → SaysMembers (slot_by n it f j k x) (slot_value (slot_by n it f j k x)) → (found : Value) → found ≡ slot_value (slot_by n it f j k x)
+        → (plan : SlotPlan) → IsLuks2Plan k n found plan → SameDigest is.is.meets.digest plan.digest → slot_refusal_within allowed plan ≡ None
+    fine_by (Keyslot by_) y fine x said found same plan z digests =
         like_fine allowed v o h payload j k before was by_ n is.digest is.is.meets.digest is.is.meets.takes.object is.is.meets.takes.says is.is.meets.takes.there.is f x y.names fine
-        object same said c (new_derivation n (Keyslot by_) f j k x c chosen) (subst (λ s. 8 ≤ length s) (sym (new_salt n (Keyslot by_) f j k x)) long) within plan z digests
-    fine_by (Digest number key_bytes) y fine x said object same plan z digests =
-        fresh_fine allowed k n key_bytes f is.is.meets.digest is.is.meets.known object same said c (new_derivation n (Digest number key_bytes) f j k x c chosen) long within plan z digests
+        found same said c (new_derivation n (Keyslot by_) f j k x c chosen) (subst (λ s. 8 ≤ length s) (sym (new_salt n (Keyslot by_) f j k x)) long) within plan z digests
+    fine_by (Digest number key_bytes) y fine x said found same plan z digests =
+        fresh_fine allowed k n key_bytes f is.is.meets.digest is.is.meets.known found same said c (new_derivation n (Digest number key_bytes) f j k x c chosen) long within plan z digests
 
-    pub own_fine : (object : Value) → object ≡ slot_value (slot_by n like f j k a) → (plan : SlotPlan) → IsLuks2Plan k n object plan → SameDigest is.is.meets.digest plan.digest
+    pub own_fine : (found : Value) → found ≡ slot_value (slot_by n like f j k a) → (plan : SlotPlan) → IsLuks2Plan k n found plan → SameDigest is.is.meets.digest plan.digest
         → slot_refusal_within allowed plan ≡ None
-    own_fine object same plan z digests = fine_by like is.like_is accepted a says object same plan z digests
+    own_fine found same plan z digests = fine_by like is.like_is accepted a says found same plan z digests
 
     -- so it opens where it holds the key
     pub own_opens : (w : List ℕ) (p : ℕ) (new random : List ℕ) → HasCopy w p h k → IsLayout h (length w) payload k → HoldsKey w k n new key random → AnswerWithin allowed w n new (opens key)

@@ -4,12 +4,9 @@ use Rattle.std.specs.Prelude.{◌≡◌, ℕ, ◌≤◌, List, length, Bool, tru
 use Rattle.serde_json.specs.Data.{Data as Value}
 use Rattle.luks_rules.specs.declared.table.Section.TheVariants.{Digests, Keyslots}
 use Rattle.luks_rules.specs.Accepted.{HasObject}
-use Rattle.luks_making.specs.declared.derivation.NewDerivation.{NewDerivation}
-use Rattle.luks_making.specs.declared.derivation.NewDerivation.TheVariants.{Pbkdf2}
 use Rattle.luks_making.specs.Keyslots.{derivation_by, NewMembers, SlotMembers}
 use Rattle.luks_making.specs.Naming.{IsDigestOf}
 use Rattle.luks_making.specs.With.{IsAdded, with_slot}
-use Rattle.luks_slot.specs.declared.allowed.Allowed.{Allowed}
 use Rattle.luks_slot.specs.declared.fault.SlotFault.{SlotFault}
 use Rattle.luks_slot.specs.declared.fault.SlotFault.TheVariants.{Hash}
 use Rattle.luks_slot.specs.declared.plan.Derivation.TheVariants as derivation

@@ -1,11 +1,12 @@
 mod AreaFacts
 mod ChosenFacts
 pub mod DeedFacts
+pub mod DigestFacts
 pub mod EditedFacts
 mod EncodedFacts
 mod JudgedFacts
-mod KeyFacts
 pub mod KeyAreaFacts
+pub mod KeyFacts
 pub mod KeyslotFacts
 mod LastFacts
 mod NeedFacts
@@ -16,4 +17,4 @@ mod RoomFacts
 mod SaltFacts
 mod StripeFacts
 mod TakenFacts
-mod UnkeyedFacts
+pub mod UnkeyedFacts

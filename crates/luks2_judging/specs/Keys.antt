@@ -2,6 +2,8 @@
 use Rattle.std.specs.Prelude.{◌≡◌, ℕ, ◌≤◌, Bool, true, false, List, length, None, ⊤}
 use Rattle.serde_json.specs.Data.{Data as Value}
 use Rattle.luks_slot.specs.declared.plan.DigestPlan.{DigestPlan}
+use Rattle.luks_slot.specs.Opening.{meets_digest}
+use Rattle.luks_slot.specs.Refusal.{is_known_hash}
 use Rattle.luks_edit.specs.declared.edit.Opener.{Opener}
 use Rattle.luks_edit.specs.declared.edit_fault.EditFault.{EditFault}
 use Rattle.luks_edit.specs.declared.edit_fault.EditFault.TheVariants as fault
@@ -11,10 +13,16 @@ use Rattle.luks2_edit_laws.specs.declared.like.Like.TheVariants.{Keyslot, Digest
 use Rattle.luks2_edit_laws.specs.Likes.{HasNoDigestFor, HasRefusal, IsAssigned, MayMeetUnknown, MeetsKey, MeetsNone, TakesKey}
 use Rattle.luks2_edit_laws.specs.Metadata.{IsInUse}
 
--- the digest `m` takes a key of so many bytes
-pub record IsTaken (j : Value) (m len : ℕ) : Type 0 where
+-- the digest `m` takes a key of so many bytes, and its hash is known or isn't
+pub record IsTakenBy (older : Bool) (j : Value) (m len : ℕ) (known : Bool) : Type 0 where
   pub digest : DigestPlan
-  pub is : TakesKey j m len digest
+  pub takes : TakesKey j m len digest
+  pub is : is_known_hash older digest.hash.now ≡ known
+
+-- the hash of the digest is known, and the key meets it
+pub record IsMetBy (older : Bool) (digest : DigestPlan) (key : List ℕ) : Type 0 where
+  pub known : is_known_hash older digest.hash.now ≡ true
+  pub meets : meets_digest digest key ≡ true
 
 -- the key meets the digest `m`, and a segment is assigned to that where it has to be
 abbrev pub IsMetHere : Bool → Bool → Value → List ℕ → ℕ → Type 0

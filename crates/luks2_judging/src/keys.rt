@@ -1,17 +1,19 @@
 //! What a new keyslot is made like by the volume key: the digest that the key meets, and the first of that
 //! digest's keyslots.
-ghost use Rattle.std.specs.Prelude.{◌≡◌, ◌↔◌, ◌<◌, ℕ, List, None, Some, length, IfSome, IsNone, IsTrue, MatchOption, MatchResult};
+ghost use Rattle.std.specs.Prelude.{◌≡◌, ◌↔◌, ◌<◌, ◌≤◌, ℕ, None, length, IfSome, IsNone, IsTrue, MatchOption, MatchResult};
 ghost use Rattle.luks_meta.specs.Content.{content};
 ghost use Rattle.luks_meta.specs.Objects.{IsAccepted};
+ghost use Rattle.luks_slot.specs.declared.plan.DigestPlan.{DigestPlan as ThePlan};
 ghost use Rattle.luks_reading.specs.KeyDigests.{IsLuks2KeyLength};
-ghost use Rattle.luks2_edit_laws.specs.Likes.{HasRefusal, IsAssigned, IsKeyDigest, IsLikeByKey, IsLikeOf, IsUnknownTo, MeetsKey, derived_anew};
+ghost use Rattle.luks2_edit_laws.specs.Likes.{HasRefusal, IsAssigned, IsKeyDigest, IsLikeByKey, IsLikeOf, IsRefusedLike, MeetsKey, TakesKey, derived_anew};
+ghost use Rattle.luks2_edit_laws.specs.Metadata.{IsInUse};
 ghost use Rattle.luks2_edit_laws.specs.Refused.{IsUnkeyed2};
-ghost use Rattle.luks2_judging.specs.Keys.{IsFirstMet, IsMetHere, IsTaken, IsThereLike, IsUnlike};
+ghost use Rattle.luks2_judging.specs.Keys.{IsFirstMet, IsMetBy, IsMetHere, IsTakenBy, IsThereLike, IsUnlike};
 
 use luks_edit::{EditFault, VolumeKey};
 use luks_meta::Meta;
 use luks_reading::{has_key_of, is_key_length, is_keyslot_of, luks2_digest, luks2_plan, meets};
-use luks_slot::{Allowed, Derivation, Key, SlotFault, SlotPlan, refusal_within};
+use luks_slot::{Allowed, Derivation, DigestPlan, Key, SlotFault, SlotPlan, refusal_within};
 use luks2_edit_laws::Like;
 
 /// A key that an opener gives, and what a new keyslot is made like for it.
@@ -62,8 +64,8 @@ fn unmet(meta: &Meta, key: &[u8], older: bool) -> EditFault
 {
     let mut taken = false;
     for number in 0..32 {
-        if is_taken(meta, number, key.len()) {
-            if is_unknown(meta, number, older) {
+        if let Some(known) = takes_known(meta, number, key.len(), older) {
+            if !known {
                 return EditFault::Slot(SlotFault::Hash);
             }
             taken = true;
@@ -76,27 +78,24 @@ fn unmet(meta: &Meta, key: &[u8], older: bool) -> EditFault
     }
 }
 
-/// Whether the digest of this number is there, and its key may have so many bytes.
-fn is_taken(meta: &Meta, number: u8, len: usize) -> bool
+/// Whether the hash of the digest of this number is known, where it is there and its key may have so many
+/// bytes.
+fn takes_known(meta: &Meta, number: u8, len: usize, older: bool) -> Option<bool>
     requires accepted { IsAccepted (content meta.now) }
     requires low { number < 32 }
-    ensures { IsTrue result ↔ IsTaken (content meta.now) number len }
+    ensures some { IfSome result (IsTakenBy older (content meta.now) number len) }
+    ensures none { IsNone result
+        → (digest : ThePlan) → TakesKey (content meta.now) number len digest → ⊥ }
 {
     match meta.digest(number) {
-        Some(_) => is_key_length(meta, number, len),
-        None => false,
-    }
-}
-
-/// Whether the hash of the digest, which is there, isn't known.
-fn is_unknown(meta: &Meta, number: u8, older: bool) -> bool
-    requires { number < 32 }
-    ensures { (key : List ℕ) → IsTaken (content meta.now) number (length key)
-        → IsTrue result ↔ IsUnknownTo older (content meta.now) key number }
-{
-    match meta.digest(number) {
-        Some(digest) => meets(&luks2_digest(&digest), b"", older).is_none(),
-        None => false,
+        Some(digest) => {
+            if is_key_length(meta, number, len) {
+                Some(meets(&luks2_digest(&digest), b"", older).is_some())
+            } else {
+                None
+            }
+        }
+        None => None,
     }
 }
 
@@ -124,11 +123,24 @@ fn first_met(meta: &Meta, key: &[u8], older: bool, assigned: bool) -> Option<u8>
         (IsFirstMet older assigned (content meta.now) key.now) }
 {
     for number in 0..32 {
-        if (!assigned || is_assigned(meta, number)) && meets_key(meta, number, key, older) {
+        if is_met_here(meta, number, key, older, assigned) {
             return Some(number);
         }
     }
     None
+}
+
+/// Whether the key meets the digest, and a segment is assigned to that where it has to be.
+fn is_met_here(meta: &Meta, number: u8, key: &[u8], older: bool, assigned: bool) -> bool
+    requires accepted { IsAccepted (content meta.now) }
+    requires low { number < 32 }
+    ensures { IsTrue result ↔ IsMetHere older assigned (content meta.now) key.now number }
+{
+    if assigned {
+        meets_key(meta, number, key, older) && is_assigned(meta, number)
+    } else {
+        meets_key(meta, number, key, older)
+    }
 }
 
 /// Whether a segment is assigned to the digest.
@@ -150,9 +162,20 @@ fn meets_key(meta: &Meta, number: u8, key: &[u8], older: bool) -> bool
 {
     match meta.digest(number) {
         Some(digest) => {
-            is_key_length(meta, number, key.len())
-                && meets(&luks2_digest(&digest), key, older) == Some(true)
+            is_key_length(meta, number, key.len()) && is_met(&luks2_digest(&digest), key, older)
         }
+        None => false,
+    }
+}
+
+/// Whether the hash of the digest is known, and the key meets it.
+fn is_met(digest: &DigestPlan<'_>, key: &[u8], older: bool) -> bool
+    requires iterations { 1 ≤ digest.now.iterations }
+    requires at_most_64 { length digest.now.stored.now ≤ 64 }
+    ensures { IsTrue result ↔ IsMetBy older digest.now key.now }
+{
+    match meets(digest, key, older) {
+        Some(met) => met,
         None => false,
     }
 }
@@ -179,18 +202,27 @@ fn like_of(meta: &Meta, digest: u8, len: usize) -> Like
 /// By what a keyslot is refused that is made like this one: the cipher of its area, its hashes.
 fn refusal_like(meta: &Meta, like: Like, older: bool) -> Option<SlotFault>
     requires { IsThereLike (content meta.now) like }
-    ensures some { IfSome result (λ f. HasRefusal older (content meta.now) like (Some f)) }
-    ensures none { IsNone result → HasRefusal older (content meta.now) like None }
+    ensures { HasRefusal older (content meta.now) like result }
 {
     match like {
-        Like::Keyslot(n) => {
-            let keyslot = meta.keyslot(n).unwrap();
+        Like::Keyslot(n) => refusal_of(meta, n, older),
+        Like::Digest { .. } => None,
+    }
+}
+
+/// The same of one that is made like the keyslot `n`, which is there.
+fn refusal_of(meta: &Meta, n: u8, older: bool) -> Option<SlotFault>
+    requires { IsInUse (content meta.now) n }
+    ensures { IsRefusedLike older (content meta.now) n result }
+{
+    match meta.keyslot(n) {
+        Some(keyslot) => {
             let number = meta.digest_of_keyslot(n).unwrap();
             let digest = meta.digest(number).unwrap();
             let plan = derived_anew(luks2_plan(&keyslot, &digest));
             refusal_within(&plan, Allowed { memory: 0, older })
         }
-        Like::Digest { .. } => None,
+        None => unreachable!(),
     }
 }
 

@@ -72,7 +72,7 @@ pub plan_first : (s t : SlotFault) → slot_row s ≤ slot_row t → NotAfter (e
 plan_first s t le = (omega arith, λ _. (le, λ _. tt))
 
 module _ (allowed : Allowed) (v : List ℕ) (n : ℕ) (secret : Secret) where
-  unmet_once : (f g : EditFault) → IsUnmet allowed v n secret f → IsUnmet allowed v n secret g → g ≡ f
+  pub unmet_once : (f g : EditFault) → IsUnmet allowed v n secret f → IsUnmet allowed v n secret g → g ≡ f
   unmet_once f g x y =
       let e : y.gives.choice ≡ x.gives.choice = choices_agree v y.gives.choice x.gives.choice y.gives.chosen x.gives.chosen in
       let plan = subst (λ c. HasPlanAs v n c y.gives.plan) e y.gives.is in

@@ -69,7 +69,7 @@ only_of f plain = elim (view f) [
   ])
 ]
 
-only_one : (f g : EditFault) → is_plain (edit_row f) ≡ true → edit_row g ≡ edit_row f → g ≡ f
+pub only_one : (f g : EditFault) → is_plain (edit_row f) ≡ true → edit_row g ≡ edit_row f → g ≡ f
 only_one f g plain same = sym (only_of g (ap is_plain same ∙ plain)).is ∙ ap fault_at same ∙ (only_of f plain).is
 
 -- each row is one of the table

@@ -60,7 +60,7 @@ derivation_most format (Some (by.Argon2id costs)) salt low fits short = argon2id
 
 -- the whole text
 module _ (own : Deriving) (v : VolumeMembers) (derivation : value_bound (kdf_value own v.slot_salt) ≤ 400) (hash : length v.hash ≤ 6) (iterations : v.iterations < 2 ^ 32) (offset : v.segment_offset < 2 ^ 64)
-    (digest_salt : length v.digest_salt ≤ 32) (digest : length v.digest ≤ 64) (encryption : length v.encryption ≤ 15) where
+    (digest_salt : length v.digest_salt ≤ 32) (digest : length v.digest ≤ 64) (encryption : length v.encryption ≤ 15) (sectors : v.sector_size < 2 ^ 32) where
   pub text_fits : length (compact_text (formatted_by own v)) < 12288
   text_fits =
       let text = value_short (formatted_by own v) in
@@ -70,7 +70,7 @@ module _ (own : Deriving) (v : VolumeMembers) (derivation : value_bound (kdf_val
       let size : length (decimal 258048) ≤ 6 = length-decimal-le 6 258048 (lit< tt) (lit< tt) (lit< tt) in
       let stripes : length (decimal 4000) ≤ 4 = length-decimal-le 4 4000 (lit< tt) (lit< tt) (lit< tt) in
       let key : length (decimal 64) ≤ 2 = length-decimal-le 2 64 (lit< tt) (lit< tt) (lit< tt) in
-      let sector : length (decimal 512) ≤ 3 = length-decimal-le 3 512 (lit< tt) (lit< tt) (lit< tt) in
+      let sector : length (decimal v.sector_size) ≤ 10 = number_most v.sector_size sectors in
       let start_text = string_most (decimal v.segment_offset) in
       let area_text = string_most (decimal 32768) in
       let size_text = string_most (decimal 258048) in

@@ -5,12 +5,13 @@ use Rattle.luks1_header.specs.Header1.{luks1_size, IsLuks1}
 use Rattle.luks1_header.specs.declared.luks1.Luks1.{Luks1 as Fields}
 use Rattle.luks2_header.specs.Header2.{header_at}
 use Rattle.luks2_header.specs.Selection.{luks1, luks2, nothing, Choice, Chosen}
-use Rattle.luks_reading.specs.Checked.{IsLuks1Fault, IsLuks1Volume, IsLuks2Fault, IsLuks2Volume}
-use Rattle.luks_reading.specs.Header.{json_at}
+use Rattle.luks_reading.specs.Checked.{IsLuks1Fault, IsLuks1Volume, IsLuks2Fault, IsLuks2Volume, WellFormed}
+use Rattle.luks_reading.specs.Header.{IsHeader, json_at}
 use Rattle.luks_reading.specs.declared.check_fault.CheckFault.{CheckFault}
 use Rattle.luks_reading.specs.declared.header.Header.{Header}
 use Rattle.luks_reading.specs.declared.header.Header.TheVariants.{Luks1, Luks2}
 use Rattle.luks_reading.specs.declared.report.Data.{Data}
+use Rattle.luks_reading.specs.declared.report.Data.TheVariants.{Elsewhere}
 
 -- the faults of a device of `total` bytes that begins with the header of the volume `v`, by what counts
 -- of `v`
@@ -39,3 +40,7 @@ pub record IsFormedOn (v : List ℕ) (payload : Data) (total : ℕ) : Type 0 whe
 abbrev pub HasFields : Header → Type 0
 HasFields (Luks1 bytes) = (d : Fields) × IsLuks1 bytes d
 HasFields (Luks2 copy) = ⊤
+
+-- it is the header of the volume `v`, which is accepted with the data elsewhere
+abbrev pub IsAcceptedOf : List ℕ → Header → Type 0
+IsAcceptedOf v header = IsHeader v header × WellFormed v Elsewhere

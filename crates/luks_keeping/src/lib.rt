@@ -40,9 +40,9 @@ pub use laws::{
     sound_copies_begin,
 };
 pub use lost::LostKeyslots;
-pub use outline::{Outline, read_outline};
+pub use outline::{Outline, outline_of, read_outline};
 pub use over::Over;
 pub use rescuing::rescue;
 pub use restore_fault::RestoreFault;
-pub use restoring::restore;
+pub use restoring::{restore, restore_header};
 pub use same_volume::{counts_same_volume, is_other_volume};

@@ -50,8 +50,8 @@ pub fn read_outline<D: Device>(
     }
 }
 
-/// The outline of this header.
-pub(crate) fn outline_of(header: &Header) -> Outline
+/// The outline of this header, which was read: none of its metadata is held by it.
+pub fn outline_of(header: &Header) -> Outline
     requires fields { HasFields header.now }
     requires accepted { IsAcceptedHeader header.now }
     ensures { IsOutline header.now result }

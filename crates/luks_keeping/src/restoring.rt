@@ -11,7 +11,8 @@ ghost use Rattle.luks_reading.specs.Answer.{AnswerWithin, Opened};
 ghost use Rattle.luks_reading.specs.Checked.{WellFormed};
 ghost use Rattle.luks_reading.specs.Header.{IsAcceptedHeader, IsHeader};
 ghost use Rattle.luks_reading.specs.Reported.{HeaderArea};
-ghost use Rattle.luks_keeping.specs.Judged.{IsFormedOn};
+ghost use Rattle.luks_reading.specs.declared.report.Data.TheVariants.{Elsewhere};
+ghost use Rattle.luks_keeping.specs.Judged.{HasFields, IsAcceptedOf, IsFormedOn};
 ghost use Rattle.luks_keeping.specs.OtherHeaders.{IsUnfit};
 ghost use Rattle.luks_keeping.specs.RestoreFaults.{CanRestore, IsAnsweredRestore, IsRestoreFault, is_restore_failure};
 ghost use Rattle.luks_keeping.specs.Restored.{IsOfRestored, IsRestored, IsSegmentOn, RestoresInTurn};
@@ -87,6 +88,65 @@ pub fn restore<B: Device, T: Device>(
         ↔ AnswerWithin allowed (T.bytes target.new) n p a) }
 {
     let header = accepted_header(alloc, backup, Data::Elsewhere)?;
+    restore_header(alloc, header, backup, target, payload, over)
+}
+
+/// The same of a backup whose header was read: it is the one that `accepted_header` answers for it, with the payload
+/// elsewhere. The backup's metadata isn't read once more, and is given up before the target's is read.
+pub fn restore_header<B: Device, T: Device>(
+    alloc: Global,
+    header: Header,
+    backup: &mut B,
+    target: &mut T,
+    payload: Data,
+    over: Over,
+) -> Result<(), RestoreFault>
+    requires backup_room { B.failed backup.old + 1 < 2 ^ 64 }
+    requires target_room { T.failed target.old + 1 < 2 ^ 64 }
+    requires settled { T.tells → IsSettled T.unsettled target.old }
+    requires fields { HasFields header }
+    requires accepted { IsAcceptedHeader header }
+    requires fits { Fit (HeaderArea header Elsewhere (B.size backup.old)) (B.size backup.old) }
+    requires of { B.tells → IsAcceptedOf (B.bytes backup.old) header }
+
+    // The devices: `Device` exactly where a call of one of the two failed.
+    ensures count { CountsEither is_restore_failure result (B.failed backup.old)
+        (B.failed backup.new) (T.failed target.old) (T.failed target.new) }
+    ensures kept { IsUnchanged B.tells B.size B.bytes B.unsettled backup.old backup.new }
+    ensures size { T.size target.new ≡ T.size target.old }
+    ensures settled { T.tells → OnOk result (IsSettled T.unsettled target.new) }
+
+    // The first fault that stands, or want of memory, and then nothing of the target changed.
+    ensures fault { B.tells → T.tells → IfErr result
+        (IsAnsweredRestore (B.bytes backup.old) (T.bytes target.old) payload over) }
+    ensures faultless { B.tells → T.tells → OnOk result
+        (CanRestore (B.bytes backup.old) (T.bytes target.old) payload over) }
+    ensures refused { IfErr result (λ f. is_restore_failure f ≡ false
+        → IsUnchanged T.tells T.size T.bytes T.unsettled target.old target.new) }
+    ensures same { B.tells → T.tells → (f : TheFault)
+        → IsRestoreFault (B.bytes backup.old) (T.bytes target.old) payload over f
+        → T.bytes target.new ≡ T.bytes target.old }
+
+    // Which bytes may have changed, also where a device failed: those of header and key areas, and first
+    // sectors of older copies; none of a segment.
+    ensures rest { B.tells → T.tells
+        → SameBut (IsOfRestored (B.bytes backup.old) payload (T.bytes target.old))
+        (T.bytes target.old) (T.bytes target.new) }
+    ensures segments { B.tells → T.tells → (n : ℕ) (a : TheArea)
+        → IsSegmentOn (B.bytes backup.old) payload (T.size target.old) n a
+        → part (T.bytes target.new) a.start a.len ≡ part (T.bytes target.old) a.start a.len }
+    ensures order { B.tells → T.tells → (c : Choice) → Chosen (B.bytes backup.old) c
+        → RestoresInTurn (B.bytes backup.old) payload c (T.bytes target.old) (T.bytes target.new) }
+
+    // The volume that was made: each keyslot answers as the backup's.
+    ensures restored { B.tells → T.tells → OnOk result
+        (IsRestored (B.bytes backup.old) payload (T.bytes target.old) (T.bytes target.new)) }
+    ensures well_formed { B.tells → T.tells
+        → OnOk result (WellFormed (T.bytes target.new) payload) }
+    ensures answers { B.tells → T.tells → OnOk result ((allowed : TheAllowed) (n : ℕ) (p : List ℕ) (a : Opened)
+        → AnswerWithin allowed (B.bytes backup.old) n p a
+        ↔ AnswerWithin allowed (T.bytes target.new) n p a) }
+{
     judge_fit(&header, payload, target.len())?;
     let limit = data_start(&header, payload, target.len());
     let outline = outline_of(&header);

@@ -1,7 +1,7 @@
--- Of a LUKS1 volume each fault stands by which the volume key gives none, or it doesn't.
-use Rattle.std.proofs.Common.{◌≡◌, ℕ, Bool, List, Option, None, sym, ◌∙◌}
+-- What gives the key for an edit of a LUKS1 volume: whether it does, and by what it is refused, is decided.
+use Rattle.std.proofs.Common.{◌≡◌, ◌∙◌, ℕ, ◌<◌, Bool, List, None, inl, inr}
 use Rattle.luks_area.specs.Ranges.{part}
-use Rattle.luks1_header.specs.Header1.{key_bytes_of}
+use Rattle.luks1_header.specs.Header1.{key_bytes_of, luks1_size}
 use Rattle.luks_slot.specs.declared.allowed.Allowed.{Allowed}
 use Rattle.luks_slot.specs.declared.fault.SlotFault.{SlotFault}
 use Rattle.luks_slot.specs.declared.plan.SlotPlan.{SlotPlan}
@@ -10,6 +10,7 @@ use Rattle.luks_slot.specs.Refusal.{slot_refusal_within}
 use Rattle.luks_reading.specs.Answer.{AnswerWithin, HasRefusedPlanWithin, Opened}
 use Rattle.luks_reading.specs.Plans.{HasLuks1Plan}
 use Rattle.luks_reading.proofs.Luks1Plans.{one_luks1_plan}
+use Rattle.luks_reading.proofs.SamePlans.{same_refusal_within}
 use Rattle.luks_edit.specs.declared.edit.Edit.{Edit}
 use Rattle.luks_edit.specs.declared.edit.Opener.{Opener}
 use Rattle.luks_edit.specs.declared.edit.Opener.TheVariants.{Keyslot, Key}
@@ -19,63 +20,73 @@ use Rattle.luks_edit.specs.declared.edit_fault.EditFault.TheVariants as fault
 use Rattle.luks_edit.specs.Asked.{allowed_by, deed_of, opener_in}
 use Rattle.luks_edit.specs.Opener.{lock_fault}
 use Rattle.luks_edit.specs.Secrets.{own_key}
+use Rattle.luks_edit.proofs.OpeningFacts.{lock_is}
 use Rattle.luks_edit.proofs.SecretFacts.{same_own}
 use Rattle.luks1_edits.specs.Edited.{GivesKey}
 use Rattle.luks1_edits.specs.Refused.{IsOtherKey, IsRefusedAnywhere, IsUnkeyed1, IsUnopened1, IsUnopenedBy1}
-use Rattle.luks_laws.proofs.DecidedFacts.{alike_decided, both_decided, Decided}
+use Rattle.luks_laws.proofs.AskedDecisions.{keyslot_decided, lock_decided}
+use Rattle.luks_laws.proofs.DecidedFacts.{alike_decided, both_decided, Decided, some_below_decided}
 use Rattle.luks_laws.proofs.KeyslotDecisions1.{alike_plans, find_plan}
-use Rattle.luks_laws.proofs.OpenerDecisions.{keyslot_decided, lock_decided}
-use Rattle.luks_laws.proofs.PlanDecisions.{plan_decided, refused_within_decided}
-use Rattle.luks_laws.proofs.SearchFacts.{none_decided, some_decided, some_of_decided}
+use Rattle.luks_laws.proofs.MemberDecisions2.{none_decided}
+use Rattle.luks_laws.proofs.PlanDecisions.{refused_within_decided}
+use Rattle.luks_laws.proofs.SearchFacts.{some_decided}
 
 -- ---- the volume key
 
+-- by the keyslot `n` of the header the bytes aren't the key
+record GivesNone (older : Bool) (v bytes : List ℕ) (n : ℕ) : Type 0 where
+  plan : SlotPlan
+  is : HasLuks1Plan (part v 0 luks1_size) n plan
+  accepted : slot_refusal_within (without_memory older) plan ≡ None
+  key : own_key plan bytes ≡ None
+
 module _ (older : Bool) (v bytes : List ℕ) where
-  -- the plan isn't refused, and the key isn't that of its digest
-  abbrev GivesNone : SlotPlan → Type 0
-  GivesNone plan = (slot_refusal_within (without_memory older) plan ≡ None) × (own_key plan bytes ≡ None)
+  -- they aren't, or they are, or it is refused
+  none_by_decided : (n : ℕ) → Decided (GivesNone older v bytes n)
+  none_by_decided n = elim (find_plan (part v 0 luks1_size) n) [
+    | inl own ↦ elim (both_decided _ _ (none_decided (slot_refusal_within (without_memory older) own.0)) (none_decided (own_key own.0 bytes))) [
+      | inl is ↦ inl (record { plan = own.0; is = own.1; accepted = is.0; key = is.1 })
+      | inr isnt ↦ inr (λ x. (let s = one_luks1_plan (part v 0 luks1_size) n own.0 x.plan own.1 x.is in
+          isnt (same_refusal_within (without_memory older) own.0 x.plan s ∙ x.accepted, same_own own.0 x.plan bytes s ∙ x.key)))
+    ]
+    | inr none ↦ inr (λ x. none x.plan x.is)
+  ]
 
-  -- the plans of a keyslot give alike
-  none_alike : (n : ℕ) (a b : SlotPlan) → HasLuks1Plan (part v 0 592) n a → HasLuks1Plan (part v 0 592) n b → GivesNone b → GivesNone a
-  none_alike n a b x y none =
-      ((alike_plans (part v 0 592) n a b x y).refusal_within (without_memory older) ∙ none.0, same_own a b bytes (one_luks1_plan (part v 0 592) n a b x y) ∙ none.1)
+  -- so the header tells that they aren't, or it doesn't
+  none_given_decided : Decided (GivesKey older v bytes None)
+  none_given_decided = alike_decided ((n : ℕ) × (n < 8) × GivesNone older v bytes n) (GivesKey older v bytes None)
+      (λ x. record { slot = x.0; plan = x.2.plan; is = x.2.is; accepted = x.2.accepted; key = x.2.key })
+      (λ x. (x.slot, x.is.numbered, record { plan = x.plan; is = x.is; accepted = x.accepted; key = x.key }))
+      (some_below_decided (GivesNone older v bytes) none_by_decided 8)
 
-  -- a keyslot has such a plan, or it hasn't
-  planned_decided : (n : ℕ) → Decided ((plan : SlotPlan) × HasLuks1Plan (part v 0 592) n plan × GivesNone plan)
-  planned_decided n = plan_decided (HasLuks1Plan (part v 0 592) n) (find_plan (part v 0 592) n) GivesNone
-      (λ plan. both_decided _ _ (none_decided (slot_refusal_within (without_memory older) plan)) (none_decided (own_key plan bytes))) (none_alike n)
+  -- the volume has another key, or it hasn't
+  other_key_decided : (f : EditFault) → Decided (IsOtherKey older v bytes f)
+  other_key_decided f = alike_decided (GivesKey older v bytes None × (f ≡ lock_fault kind.Key (key_bytes_of v) bytes)) (IsOtherKey older v bytes f)
+      (λ x. record { gives = x.0; is = x.1 }) (λ x. (x.gives, x.is))
+      (both_decided _ _ none_given_decided (lock_decided f (lock_fault kind.Key (key_bytes_of v) bytes) (lock_is kind.Key (key_bytes_of v) bytes)))
 
-  -- so the volume has another key, or it hasn't
-  gives_none_decided : Decided (GivesKey older v bytes None)
-  gives_none_decided = alike_decided ((n : ℕ) × ((plan : SlotPlan) × HasLuks1Plan (part v 0 592) n plan × GivesNone plan)) (GivesKey older v bytes None)
-      (λ x. record { slot = x.0; plan = x.1.0; is = x.1.1; accepted = x.1.2.0; key = x.1.2.1 }) (λ x. (x.slot, (x.plan, x.is, (x.accepted, x.key))))
-      (some_of_decided _ planned_decided 8 (λ n x. x.1.numbered))
+  -- what the header says of its keyslots is refused, or it isn't
+  refused_anywhere_decided : (f : SlotFault) → Decided (IsRefusedAnywhere older v f)
+  refused_anywhere_decided f =
+      let h = part v 0 luks1_size in
+      alike_decided ((n : ℕ) × (n < 8) × HasRefusedPlanWithin (without_memory older) (HasLuks1Plan h n) f) (IsRefusedAnywhere older v f)
+      (λ x. record { slot = x.0; refused = x.2 }) (λ x. (x.slot, x.refused.is.numbered, x.refused))
+      (some_below_decided (λ n. HasRefusedPlanWithin (without_memory older) (HasLuks1Plan h n) f)
+      (λ n. refused_within_decided (HasLuks1Plan h n) (find_plan h n) (alike_plans h n) (without_memory older) f) 8)
 
-  -- for this fault
-  other_decided : (f : EditFault) → Decided (IsOtherKey older v bytes f)
-  other_decided f = alike_decided (GivesKey older v bytes None × (f ≡ lock_fault kind.Key (key_bytes_of v) bytes)) (IsOtherKey older v bytes f) (λ x. record { gives = x.0; is = x.1 }) (λ x. (x.gives, x.is))
-      (both_decided _ _ gives_none_decided (lock_decided kind.Key (key_bytes_of v) bytes f))
+  -- the fault says why it doesn't give itself, or it doesn't
+  unkeyed1_decided : (f : EditFault) → Decided (IsUnkeyed1 older v bytes f)
+  unkeyed1_decided (fault.Slot s) = refused_anywhere_decided s
+  unkeyed1_decided f = other_key_decided f
 
-  -- a plan of the header's keyslots is refused so, or none is
-  anywhere_decided : (f : SlotFault) → Decided (IsRefusedAnywhere older v f)
-  anywhere_decided f = alike_decided ((n : ℕ) × HasRefusedPlanWithin (without_memory older) (HasLuks1Plan (part v 0 592) n) f) (IsRefusedAnywhere older v f)
-      (λ x. record { slot = x.0; refused = x.1 }) (λ x. (x.slot, x.refused))
-      (some_of_decided _ (λ n. refused_within_decided (HasLuks1Plan (part v 0 592) n) (find_plan (part v 0 592) n) (alike_plans (part v 0 592) n) (without_memory older) f) 8
-      (λ n x. x.is.numbered))
+-- ---- whatever gives the key
 
-  -- each fault of it stands, or it doesn't
-  key_decided : (f : EditFault) → Decided (IsUnkeyed1 older v bytes f)
-  key_decided (fault.Slot f) = anywhere_decided f
-  key_decided f = other_decided f
+module _ (v : List ℕ) (answer : (m : Allowed) (n : ℕ) (p : List ℕ) → (a : Opened) × AnswerWithin m v n p a) (e : Edit) (f : EditFault) where
+  by_opener : (o : Opener) → Decided (IsUnopenedBy1 (allowed_by e) v o f)
+  by_opener (Keyslot slot secret) =
+      (let a = answer (allowed_by e) slot secret.bytes.now in keyslot_decided (allowed_by e) v slot secret a.0 a.1 f)
+  by_opener (Key key) = unkeyed1_decided (allowed_by e).older v key.bytes.now f
 
--- ---- each opener
-
-module _ (v : List ℕ) (answer : (m : Allowed) (n : ℕ) (p : List ℕ) → (a : Opened) × AnswerWithin m v n p a) where
-  -- of a keyslot, or of the volume key
-  opener_decided : (m : Allowed) (o : Opener) (f : EditFault) → Decided (IsUnopenedBy1 m v o f)
-  opener_decided m (Keyslot n secret) f = keyslot_decided v answer m n secret f
-  opener_decided m (Key key) f = key_decided m.older v key.bytes.now f
-
-  -- of what the edit opens
-  pub unopened_decided : (e : Edit) (f : EditFault) → Decided (IsUnopened1 v e f)
-  unopened_decided e f = some_decided Opener (opener_in (deed_of e)) (λ o. IsUnopenedBy1 (allowed_by e) v o f) (λ o. opener_decided (allowed_by e) o f)
+  -- the fault says why it gives none, or it doesn't
+  pub unopened1_decided : Decided (IsUnopened1 v e f)
+  unopened1_decided = some_decided Opener (opener_in (deed_of e)) (λ o. IsUnopenedBy1 (allowed_by e) v o f) by_opener

@@ -17,13 +17,18 @@ use Rattle.luks_making.specs.Keyslots.{by_argon2i, by_argon2id, by_pbkdf2, deriv
 use Rattle.luks_making.specs.Naming.{IsDigestOf}
 use Rattle.luks2_edit_laws.specs.Metadata.{HasStripes, IsInUse, IsLeastFree, IsNewKeyslot}
 use Rattle.luks_laws.proofs.DecidedFacts.{alike_decided, both_decided, Decided, less_decided, true_decided}
-use Rattle.luks_laws.proofs.SearchFacts.{held_decided, held_or_none, least_or_none_below, least_or_none_of, none_decided, some_same, SomeOrNone}
+use Rattle.luks_laws.proofs.SearchFacts.{held_decided, held_or_none, least_or_none_below, least_or_none_of, some_same, SomeOrNone}
 
 -- ---- keyslots in use and free
 
 -- a keyslot is in use, or it isn't
 pub in_use_decided : (j : Value) (n : ℕ) → Decided (IsInUse j n)
 in_use_decided j n = both_decided _ _ (less_decided n 32) (true_decided (is_some (object_at j Keyslots n)))
+
+-- an option that is decided to hold nothing
+pub none_decided : {A : Type 0} (o : Option A) → Decided (o ≡ None)
+none_decided None = inl refl
+none_decided (Some x) = inr (λ e. cc)
 
 -- a number is free, or it isn't
 free_decided : (j : Value) (n : ℕ) → Decided (IsFree j n)

@@ -35,11 +35,6 @@ pub held_or_none : {A : Type 0} (o : Option A) → SomeOrNone A (λ x. o ≡ Som
 held_or_none None = inr (λ x e. cc)
 held_or_none (Some x) = inl (x, refl)
 
--- or it holds nothing
-pub none_decided : {A : Type 0} (o : Option A) → Decided (o ≡ None)
-none_decided None = inl refl
-none_decided (Some x) = inr (λ e. cc)
-
 -- what is decided of each value is decided of the one that an option holds
 pub held_decided : {A : Type 0} (o : Option A) (P : A → Type 0) → ((x : A) → Decided (P x)) → Decided ((x : A) × (o ≡ Some x) × P x)
 held_decided None P decide = inr (λ x. let none = x.1 in cc)

@@ -1,4 +1,4 @@
-use Rattle.std.proofs.Common.{refl, subst, sym, arith}
+use Rattle.std.proofs.Common.{refl, arith}
 use Rattle.std.proofs.lemmas.Result.{err_from_is_err_and}
 use Rattle.luks_area.proofs.DeviceFacts.{settled_unchanged}
 use Rattle.luks_edit.specs.Asked.{remover_of}
@@ -20,7 +20,7 @@ returns-in_err-unlock-clause-replies g c = λ tells e is x.
     (unopened_ends v a.payload e c.args.random.now x.faultless x.chosen (remover_of d.slot d.by_ d.secret)
     (removal_opener v a.payload e c.args.random.now (remover_of d.slot d.by_ d.secret) d.slot d.by_ (removal v e d c.args.random.now is) (c.requires.removable v (slots_in a.bytes.now a.payload v a.fields.slots x c.requires.accepted.fields.slots)))
     (removable_usable v d.slot d.by_ d.secret (c.requires.removable v (slots_in a.bytes.now a.payload v a.fields.slots x c.requires.accepted.fields.slots)))
-    (g.D.Device.bytes c.unlock.new.device) c.in_err-unlock.field-0.0 (c.unlock.ensures.unchanged.same tells) (own_unopened c.opener.ensures (c.in_err-unlock.ensures.refused tells x)))
+    (g.D.Device.bytes c.unlock.new.device) c.in_err-unlock.field-0.0 (c.unlock.ensures.unchanged.same tells) (own_unopened (g.D.Device.bytes c.args.device.now) c.in_err-unlock.field-0.0 c.opener.ensures (c.in_err-unlock.ensures.refused tells x)))
 
 pub returns-then-is_last-clause-replies : goal.returns-then-is_last-clause-replies
 returns-then-is_last-clause-replies g c = λ tells e is x.
@@ -86,7 +86,7 @@ pub free_keyslot-requires-clause-settled : goal.free_keyslot-requires-clause-set
 free_keyslot-requires-clause-settled g c = λ tells. settled_unchanged tells c.unlock.ensures.unchanged (c.requires.settled tells)
 
 pub unlock-requires-clause-usable : goal.unlock-requires-clause-usable
-unlock-requires-clause-usable g c = λ v holds. let d = c.args.removed.now in own_usable c.opener.ensures (removable_usable v d.slot d.by_ d.secret (c.requires.removable v holds))
+unlock-requires-clause-usable g c = λ v holds. let d = c.args.removed.now in own_usable v c.opener.ensures (removable_usable v d.slot d.by_ d.secret (c.requires.removable v holds))
 
 pub bounds-header-removed : goal.bounds-header-removed
 bounds-header-removed g c = (c.requires.removable c.args.header.now.bytes.now c.requires.accepted.fields.slots).removed.0

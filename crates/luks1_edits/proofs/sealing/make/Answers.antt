@@ -20,7 +20,7 @@ returns-in_err-key-clause-refused g c = λ tells e is x.
     let s = c.args.sealed.now in
     let p = err_from_is_err_and c.from_residual.result c.from_residual.ensures.1 in
     rw (p.1, p.2)
-    (unopened_ends v a.payload e c.args.random.now x.faultless x.chosen (opener_at s.place) (making v e s is).opening (c.requires.usable v (slots_in a.bytes.now a.payload v a.fields.slots x c.requires.accepted.fields.slots)) (g.D.Device.bytes c.unlock.new.device) c.in_err-key.field-0.0 (c.unlock.ensures.unchanged.same tells) (own_unopened c.opener.ensures (c.in_err-key.ensures.refused tells x)))
+    (unopened_ends v a.payload e c.args.random.now x.faultless x.chosen (opener_at s.place) (making v e s is).opening (c.requires.usable v (slots_in a.bytes.now a.payload v a.fields.slots x c.requires.accepted.fields.slots)) (g.D.Device.bytes c.unlock.new.device) c.in_err-key.field-0.0 (c.unlock.ensures.unchanged.same tells) (own_unopened (g.D.Device.bytes c.args.device.now) c.in_err-key.field-0.0 c.opener.ensures (c.in_err-key.ensures.refused tells x)))
 
 pub returns-in_err-n-clause-refused : goal.returns-in_err-n-clause-refused
 returns-in_err-n-clause-refused g c = λ tells e is x.
@@ -106,4 +106,4 @@ pub make_keyslot-requires-clause-settled : goal.make_keyslot-requires-clause-set
 make_keyslot-requires-clause-settled g c = λ tells. settled_unchanged tells c.unlock.ensures.unchanged (c.requires.settled tells)
 
 pub unlock-requires-clause-usable : goal.unlock-requires-clause-usable
-unlock-requires-clause-usable g c = λ v holds. own_usable c.opener.ensures (c.requires.usable v holds)
+unlock-requires-clause-usable g c = λ v holds. own_usable v c.opener.ensures (c.requires.usable v holds)

@@ -26,7 +26,7 @@ pub free_keyslot-requires-clause-inside : goal.free_keyslot-requires-clause-insi
 free_keyslot-requires-clause-inside g c =
     let size = c.make.ensures.size in
     let inside = keyslot_inside c.args.header.now.bytes.now c.args.header.now.fields c.args.header.now.payload (g.D.Device.size c.args.device.now) c.in-Opened.slot _ c.luks1_area-area.result
-    c.requires.accepted.fields c.requires.accepted.volume (opened_used c.in-Opened.is (c.requires.usable c.args.header.now.bytes.now c.requires.accepted.fields.slots)).0 c.luks1_area-area.ensures.start c.luks1_area-area.ensures.len in
+    c.requires.accepted.fields c.requires.accepted.volume (opened_used c.args.header.now.bytes.now c.in-Opened.is (c.requires.usable c.args.header.now.bytes.now c.requires.accepted.fields.slots)).0 c.luks1_area-area.ensures.start c.luks1_area-area.ensures.len in
     omega (arith, size, inside)
 
 pub returns-in-Ok-clause-replies : goal.returns-in-Ok-clause-replies
@@ -39,7 +39,7 @@ returns-in-Ok-clause-replies g c = λ tells e is x.
     let w = g.D.Device.bytes c.free_keyslot.new.device in
     let at = opened_at a.payload v e s c.args.random.now c.in_ok-n.n u is made a.bytes.now x c.in-Opened.slot c.in-Opened.secret c.in-Opened.is
     (keyslot_at a.bytes.now a.fields a.payload v c.in-Opened.slot _ c.luks1_area-area.result x c.requires.accepted.fields
-    (opened_used c.in-Opened.is (c.requires.usable c.args.header.now.bytes.now c.requires.accepted.fields.slots)).0 c.luks1_area-area.ensures.start c.luks1_area-area.ensures.len) in
+    (opened_used c.args.header.now.bytes.now c.in-Opened.is (c.requires.usable c.args.header.now.bytes.now c.requires.accepted.fields.slots)).0 c.luks1_area-area.ensures.start c.luks1_area-area.ensures.len) in
     renewed a.payload v e s c.args.random.now c.in_ok-n.n u is made a.bytes.now x c.in-Opened.slot c.in-Opened.secret c.in-Opened.is w (c.in-Ok.ensures.removed tells at)
 
 pub returns-in-Err-clause-replies : goal.returns-in-Err-clause-replies
@@ -52,11 +52,11 @@ returns-in-Err-clause-replies g c = λ tells e is x.
     let w = g.D.Device.bytes c.free_keyslot.new.device in
     let at = opened_at a.payload v e s c.args.random.now c.in_ok-n.n u is made a.bytes.now x c.in-Opened.slot c.in-Opened.secret c.in-Opened.is
     (keyslot_at a.bytes.now a.fields a.payload v c.in-Opened.slot _ c.luks1_area-area.result x c.requires.accepted.fields
-    (opened_used c.in-Opened.is (c.requires.usable c.args.header.now.bytes.now c.requires.accepted.fields.slots)).0 c.luks1_area-area.ensures.start c.luks1_area-area.ensures.len) in
+    (opened_used c.args.header.now.bytes.now c.in-Opened.is (c.requires.usable c.args.header.now.bytes.now c.requires.accepted.fields.slots)).0 c.luks1_area-area.ensures.start c.luks1_area-area.ensures.len) in
     half_renewed a.payload v e s c.args.random.now c.in_ok-n.n u is made a.bytes.now x c.in-Opened.slot c.in-Opened.secret c.in-Opened.is w (c.in-Err.ensures.torn tells at)
 
 pub bounds-header-slot : goal.bounds-header-slot
-bounds-header-slot g c = (opened_used c.in-Opened.is (c.requires.usable c.args.header.now.bytes.now c.requires.accepted.fields.slots)).0
+bounds-header-slot g c = (opened_used c.args.header.now.bytes.now c.in-Opened.is (c.requires.usable c.args.header.now.bytes.now c.requires.accepted.fields.slots)).0
 
 pub free_keyslot-requires-clause-numbered : goal.free_keyslot-requires-clause-numbered
-free_keyslot-requires-clause-numbered g c = (opened_used c.in-Opened.is (c.requires.usable c.args.header.now.bytes.now c.requires.accepted.fields.slots)).0
+free_keyslot-requires-clause-numbered g c = (opened_used c.args.header.now.bytes.now c.in-Opened.is (c.requires.usable c.args.header.now.bytes.now c.requires.accepted.fields.slots)).0

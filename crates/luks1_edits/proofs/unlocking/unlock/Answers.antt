@@ -1,6 +1,9 @@
 -- By a keyslot it is as that answers, and by the volume key as that does, with no call of the device.
 use Rattle.luks1_edits.proofs.unlocking.unlock.Goals as goal
 
+pub unlock_keyslot-requires-clause-used : goal.unlock_keyslot-requires-clause-used
+unlock_keyslot-requires-clause-used g c = λ v holds. rw c.in-Keyslot.is at (c.requires.usable v holds)
+
 pub returns-in-Key-clause-opened : goal.returns-in-Key-clause-opened
 returns-in-Key-clause-opened g c = λ tells x. rw c.in-Key.is (c.own_volume_key.ensures.opened (g.D.Device.bytes c.args.device.now) x)
 

@@ -45,5 +45,5 @@ unreachable-requires c =
     let encryption : length v.encryption ≤ 15 = (let same = ap (λ (m : VolumeMembers). length m.encryption) members in omega (arith, same)) in
     let low : volume.format.now.iterations < 4294967296 = subst (λ (n : ℕ). n < 4294967296) (ap (λ (m : VolumeMembers). m.iterations) members) c.volume_fits.ensures.iterations in
     let derivation = derivation_most volume.format.now volume.chosen v.slot_salt low c.chosen_fits.ensures third in
-    let short = text_fits own v derivation hash c.volume_fits.ensures.iterations c.volume_fits.ensures.segment_offset first second encryption in
+    let short = text_fits own v derivation hash c.volume_fits.ensures.iterations c.volume_fits.ensures.segment_offset first second encryption c.volume_fits.ensures.sector_size in
     short_text (length (compact_text (view c.in_ok-value.value))) (length (compact_text (formatted_by own v))) full is short

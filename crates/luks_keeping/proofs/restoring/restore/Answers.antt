@@ -1,38 +1,23 @@
-use Rattle.std.proofs.Common.{◌≡◌, ℕ, List, length, true, false, sym, ap, subst, ◌∙◌, inl}
-use Rattle.std.proofs.lemmas.Bool.{true≢false}
+use Rattle.std.proofs.Common.{ℕ, List, IfErr, OnOk, sym, ap, subst, ◌∙◌, ◌≡◌, ◌↔◌, inl}
 use Rattle.std.proofs.lemmas.Result.{err_from_is_err_and}
+use Rattle.luks_area.specs.Area.{Fit}
 use Rattle.luks_area.specs.Device.{count_after, unchanged-then}
-use Rattle.luks_area.specs.Ranges.{part}
-use Rattle.luks_area.proofs.RangeFacts.{same_but-equal, same_but-same}
-use Rattle.luks_writing.proofs.CountFacts.{counts_first, counts_none}
-use Rattle.luks_keeping.specs.Judged.{IsFormedOn}
-use Rattle.luks_keeping.specs.Laid.{choice_of}
-use Rattle.luks_keeping.specs.Places.{AreInside}
-use Rattle.luks_keeping.specs.Restored.{IsFrontAs, IsSegmentOn}
-use Rattle.luks_keeping.specs.OtherHeaders.{IsUnfit}
-use Rattle.luks_keeping.specs.RestoreFaults.{checked_restore, is_restore_failure}
-use Rattle.luks_keeping.proofs.LaidFacts.{apart, inside, lead_below}
-use Rattle.luks_keeping.proofs.RestoreFacts.{answers_alike, changed_rest, is_restored, of_restored, segment_stays, well_formed, written_over}
-use Rattle.luks_keeping.proofs.RestoreFaultFacts.{answered_other, answered_refusal, answered_unfit, can_fit, counts_second, same_failure, two_failures}
-use Rattle.luks_keeping.proofs.SoundFacts.{faultless_on}
-use Rattle.luks_keeping.proofs.TurnFacts.{turn_over}
+use Rattle.luks_area.specs.Ranges.{SameBut}
+use Rattle.luks_area.proofs.RangeFacts.{same_but-same}
+use Rattle.luks_slot.specs.declared.allowed.Allowed.{Allowed}
+use Rattle.luks_writing.specs.TwoDevices.{CountsEither}
+use Rattle.luks_writing.proofs.CountFacts.{counts_first}
+use Rattle.luks_reading.specs.Answer.{AnswerWithin, Opened}
+use Rattle.luks_reading.specs.Reported.{HeaderArea}
+use Rattle.luks_reading.specs.declared.report.Data.TheVariants.{Elsewhere}
+use Rattle.luks_keeping.specs.Judged.{IsAcceptedOf}
+use Rattle.luks_keeping.specs.Restored.{IsOfRestored, IsRestored, IsSegmentOn, RestoresInTurn}
+use Rattle.luks_keeping.specs.RestoreFaults.{CanRestore, checked_restore, IsAnsweredRestore, IsRestoreFault, is_restore_failure}
+use Rattle.luks2_header.specs.Selection.{Chosen}
+use Rattle.luks_keeping.proofs.RestoreFaultFacts.{answered_refusal, same_failure}
 use Rattle.luks_keeping.proofs.restoring.restore.Goals as goal
 
-pub write_over-requires-clause-lead : goal.write_over-requires-clause-lead
-write_over-requires-clause-lead g c = lead_below c.in_ok-header.header c.outline_of-outline.result.places c.outline_of-outline.ensures.laid
-
-pub write_over-requires-clause-apart : goal.write_over-requires-clause-apart
-write_over-requires-clause-apart g c = apart c.in_ok-header.header c.outline_of-outline.result.places c.outline_of-outline.ensures.laid _ _ c.in_ok-header.ensures.fits
-
-pub write_over-requires-clause-there : goal.write_over-requires-clause-there
-write_over-requires-clause-there g c =
-    subst (AreInside c.outline_of-outline.result.places) (sym c.in_ok-header.ensures.unchanged.size)
-    (inside c.in_ok-header.header c.outline_of-outline.result.places c.outline_of-outline.ensures.laid _ (g.B.Device.size c.args.backup.now) c.in_ok-header.ensures.fits)
-
-pub write_over-requires-clause-within : goal.write_over-requires-clause-within
-write_over-requires-clause-within g c =
-    subst (AreInside c.outline_of-outline.result.places) (c.len.ensures ∙ sym c.in_ok-judge_other.ensures.unchanged.size)
-    (inside c.in_ok-header.header c.outline_of-outline.result.places c.outline_of-outline.ensures.laid _ _ c.in_ok-judge_fit.ensures.fits)
+-- ---- the backup isn't accepted
 
 pub returns-in_err-header-clause-count : goal.returns-in_err-header-clause-count
 returns-in_err-header-clause-count g c =
@@ -45,210 +30,77 @@ returns-in_err-header-clause-fault g c = λ source tells.
     let p = err_from_is_err_and c.from_residual.result c.from_residual.ensures.1 in
     rw (p.1, p.2) (answered_refusal (g.B.Device.bytes c.args.backup.now) (g.T.Device.bytes c.args.target.now) c.args.payload c.args.over c.in_err-header.field-0.0 (c.in_err-header.ensures.refused source))
 
-pub returns-in_err-judge_fit-clause-fault : goal.returns-in_err-judge_fit-clause-fault
-returns-in_err-judge_fit-clause-fault g c = λ source tells.
-    let b : List ℕ = g.B.Device.bytes c.args.backup.now in
-    let t : List ℕ = g.T.Device.bytes c.args.target.now in
-    let p = err_from_is_err_and c.from_residual-in_err-judge_fit.result c.from_residual-in_err-judge_fit.ensures.1 in
-    let long : c.len.result ≡ length t = c.len.ensures ∙ sym (g.met.T.Device.sized c.args.target.now tells) in
-    rw (p.1, p.2) (answered_unfit b t c.args.payload c.args.over (c.in_ok-header.ensures.formed source) c.in_err-judge_fit.field-0.0
-    (subst (λ (n : ℕ). IsUnfit b c.args.payload n c.in_err-judge_fit.field-0.0) long (c.in_err-judge_fit.ensures.refused b (c.in_ok-header.ensures.read source))))
-
-pub returns-in_err-judge_fit-clause-count : goal.returns-in_err-judge_fit-clause-count
-returns-in_err-judge_fit-clause-count g c =
-    let p = err_from_is_err_and c.from_residual-in_err-judge_fit.result c.from_residual-in_err-judge_fit.ensures.1 in
-    rw (p.1, p.2) (counts_none (is_restore_failure c.in_err-judge_fit.field-0.0) _ _ _ c.in_err-judge_fit.ensures.own c.in_ok-header.ensures.count)
-
-pub returns-clause-restored : goal.returns-clause-restored
-returns-clause-restored g c = λ source tells.
-    let b : List ℕ = g.B.Device.bytes c.args.backup.now in
-    let t : List ℕ = g.T.Device.bytes c.args.target.now in
-    let is = c.in_ok-header.ensures.read source in
-    let front : IsFrontAs b c.args.payload (length t) (choice_of c.in_ok-header.header) c.data_start-limit.result =
-    subst (λ (n : ℕ). IsFrontAs b c.args.payload n (choice_of c.in_ok-header.header) c.data_start-limit.result)
-    (c.len-2.ensures ∙ sym (g.met.T.Device.sized c.args.target.now tells)) (c.data_start-limit.ensures.start b is) in
-    let w : List ℕ = g.T.Device.bytes c.write_over.new.target in
-    let long : c.len.result ≡ length w = c.len.ensures ∙ sym c.in_ok-judge_other.ensures.unchanged.size ∙ sym c.write_over.ensures.size ∙ sym (g.met.T.Device.sized c.write_over.new.target tells) in
-    let over = written_over b c.args.payload c.in_ok-header.header is c.outline_of-outline.result.places c.outline_of-outline.ensures.laid (c.in_ok-header.ensures.formed source) _ t _ w c.len.result c.data_start-limit.result front (c.in_ok-header.ensures.unchanged.same source)
-    (c.in_ok-judge_other.ensures.unchanged.same tells) long (c.in_ok-judge_fit.ensures.formed b is) (c.write_over.ensures.rest tells) (c.in_ok-write_over.ensures.gone tells) (c.in_ok-write_over.ensures.copied source tells) (c.in_ok-write_over.ensures.lead tells) in
-    is_restored b c.args.payload c.in_ok-header.header c.outline_of-outline.result.places t w over
-
--- ---- nothing was written
-
 pub returns-in_err-header-clause-order : goal.returns-in_err-header-clause-order
 returns-in_err-header-clause-order g c = λ source tells choice chosen. inl (same_but-same _ _)
 
-pub returns-in_err-judge_fit-clause-order : goal.returns-in_err-judge_fit-clause-order
-returns-in_err-judge_fit-clause-order g c = λ source tells choice chosen. inl (same_but-same _ _)
+-- ---- its header was read, which changed nothing of it
 
-pub returns-in_err-judge_other-clause-order : goal.returns-in_err-judge_other-clause-order
-returns-in_err-judge_other-clause-order g c = λ source tells choice chosen. inl (same_but-equal _ (c.in_err-judge_other.ensures.unchanged.same tells))
+pub restore_header-requires-clause-fits : goal.restore_header-requires-clause-fits
+restore_header-requires-clause-fits g c =
+    subst (λ (n : ℕ). Fit (HeaderArea c.in_ok-header.header Elsewhere n) n) (sym c.in_ok-header.ensures.unchanged.size) c.in_ok-header.ensures.fits
 
-pub returns-in_err-judge_other-clause-rest : goal.returns-in_err-judge_other-clause-rest
-returns-in_err-judge_other-clause-rest g c = λ source tells. same_but-equal _ (c.in_err-judge_other.ensures.unchanged.same tells)
+pub restore_header-requires-clause-of : goal.restore_header-requires-clause-of
+restore_header-requires-clause-of g c = λ source.
+    subst (λ (l : List ℕ). IsAcceptedOf l c.in_ok-header.header) (sym (c.in_ok-header.ensures.unchanged.same source)) (c.in_ok-header.ensures.read source, c.in_ok-header.ensures.formed source)
 
-pub returns-in_err-judge_other-clause-segments : goal.returns-in_err-judge_other-clause-segments
-returns-in_err-judge_other-clause-segments g c = λ source tells n a seg. ap (λ l. part l a.start a.len) (c.in_err-judge_other.ensures.unchanged.same tells)
-
-pub returns-in_err-judge_other-clause-count : goal.returns-in_err-judge_other-clause-count
-returns-in_err-judge_other-clause-count g c =
-    let p = err_from_is_err_and c.from_residual-in_err-judge_other.result c.from_residual-in_err-judge_other.ensures.1 in
-    rw (p.1, p.2) (counts_second (is_restore_failure c.in_err-judge_other.field-0.0) _ _ _ _ c.in_ok-header.ensures.count c.in_err-judge_other.ensures.count)
-
-pub returns-in_err-judge_other-clause-refused : goal.returns-in_err-judge_other-clause-refused
-returns-in_err-judge_other-clause-refused g c =
-    let p = err_from_is_err_and c.from_residual-in_err-judge_other.result c.from_residual-in_err-judge_other.ensures.1 in
-    rw (p.1, p.2) (λ own. c.in_err-judge_other.ensures.unchanged)
-
-pub returns-in_err-judge_other-clause-fault : goal.returns-in_err-judge_other-clause-fault
-returns-in_err-judge_other-clause-fault g c = λ source tells.
-    let b : List ℕ = g.B.Device.bytes c.args.backup.now in
-    let t : List ℕ = g.T.Device.bytes c.args.target.now in
-    let is = c.in_ok-header.ensures.read source in
-    let long : c.len.result ≡ length t = c.len.ensures ∙ sym (g.met.T.Device.sized c.args.target.now tells) in
-    let fits : IsFormedOn b c.args.payload (length t) = subst (λ (n : ℕ). IsFormedOn b c.args.payload n) long (c.in_ok-judge_fit.ensures.formed b is) in
-    let p = err_from_is_err_and c.from_residual-in_err-judge_other.result c.from_residual-in_err-judge_other.ensures.1 in
-    rw (p.1, p.2) (answered_other b t c.args.payload c.args.over (c.in_ok-header.ensures.formed source) (faultless_on b c.args.payload (length t) fits) c.in_err-judge_other.field-0.0
-    (c.in_err-judge_other.ensures.refused tells b (record { header = c.in_ok-header.header; is_header = is; is = c.outline_of-outline.ensures.identity })))
-
--- ---- the backup was written
-
-pub returns-in_err-write_over-clause-count : goal.returns-in_err-write_over-clause-count
-returns-in_err-write_over-clause-count g c =
-    let p = err_from_is_err_and c.from_residual-in_err-write_over.result c.from_residual-in_err-write_over.ensures.1 in
-    rw (p.1, p.2) (two_failures c.in_ok-header.ensures.count c.in_ok-judge_other.ensures.count c.in_err-write_over.ensures.count)
-
-pub returns-in_err-write_over-clause-refused : goal.returns-in_err-write_over-clause-refused
-returns-in_err-write_over-clause-refused g c =
-    let p = err_from_is_err_and c.from_residual-in_err-write_over.result c.from_residual-in_err-write_over.ensures.1 in
-    rw (p.1, p.2) (λ (own : true ≡ false). absurd (true≢false own))
-
-pub returns-in_err-write_over-clause-kept : goal.returns-in_err-write_over-clause-kept
-returns-in_err-write_over-clause-kept g c = unchanged-then c.in_ok-header.ensures.unchanged c.in_err-write_over.ensures.kept
+pub returns-clause-count : goal.returns-clause-count
+returns-clause-count g c =
+    subst (λ (n : ℕ). CountsEither is_restore_failure c.restore_header.result n (g.B.Device.failed c.restore_header.new.backup) (g.T.Device.failed c.args.target.now) (g.T.Device.failed c.restore_header.new.target))
+    c.in_ok-header.ensures.count c.restore_header.ensures.count
 
 pub returns-clause-kept : goal.returns-clause-kept
-returns-clause-kept g c = unchanged-then c.in_ok-header.ensures.unchanged c.in_ok-write_over.ensures.kept
+returns-clause-kept g c = unchanged-then c.in_ok-header.ensures.unchanged c.restore_header.ensures.kept
+
+pub returns-clause-fault : goal.returns-clause-fault
+returns-clause-fault g c = λ source tells.
+    let b : List ℕ = g.B.Device.bytes c.args.backup.now in
+    let same : g.B.Device.bytes c.accepted_header.new.device ≡ b = c.in_ok-header.ensures.unchanged.same source in
+    subst (λ (l : List ℕ). IfErr c.restore_header.result (IsAnsweredRestore l (g.T.Device.bytes c.args.target.now) c.args.payload c.args.over)) same (c.restore_header.ensures.fault source tells)
 
 pub returns-clause-faultless : goal.returns-clause-faultless
 returns-clause-faultless g c = λ source tells.
     let b : List ℕ = g.B.Device.bytes c.args.backup.now in
-    let t : List ℕ = g.T.Device.bytes c.args.target.now in
-    let is = c.in_ok-header.ensures.read source in
-    can_fit b t c.args.payload c.args.over (c.in_ok-header.ensures.formed source) c.len.result (c.len.ensures ∙ sym (g.met.T.Device.sized c.args.target.now tells)) (c.in_ok-judge_fit.ensures.formed b is)
-    (c.in_ok-judge_other.ensures.clear tells b (record { header = c.in_ok-header.header; is_header = is; is = c.outline_of-outline.ensures.identity }))
+    let same : g.B.Device.bytes c.accepted_header.new.device ≡ b = c.in_ok-header.ensures.unchanged.same source in
+    subst (λ (l : List ℕ). OnOk c.restore_header.result (CanRestore l (g.T.Device.bytes c.args.target.now) c.args.payload c.args.over)) same (c.restore_header.ensures.faultless source tells)
 
 pub returns-clause-same : goal.returns-clause-same
 returns-clause-same g c = λ source tells f bad.
     let b : List ℕ = g.B.Device.bytes c.args.backup.now in
-    let t : List ℕ = g.T.Device.bytes c.args.target.now in
-    let is = c.in_ok-header.ensures.read source in
-    absurd ((can_fit b t c.args.payload c.args.over (c.in_ok-header.ensures.formed source) c.len.result (c.len.ensures ∙ sym (g.met.T.Device.sized c.args.target.now tells)) (c.in_ok-judge_fit.ensures.formed b is)
-    (c.in_ok-judge_other.ensures.clear tells b (record { header = c.in_ok-header.header; is_header = is; is = c.outline_of-outline.ensures.identity }))).none f bad)
-
-pub returns-in_err-write_over-clause-same : goal.returns-in_err-write_over-clause-same
-returns-in_err-write_over-clause-same g c = λ source tells f bad.
-    let b : List ℕ = g.B.Device.bytes c.args.backup.now in
-    let t : List ℕ = g.T.Device.bytes c.args.target.now in
-    let is = c.in_ok-header.ensures.read source in
-    absurd ((can_fit b t c.args.payload c.args.over (c.in_ok-header.ensures.formed source) c.len.result (c.len.ensures ∙ sym (g.met.T.Device.sized c.args.target.now tells)) (c.in_ok-judge_fit.ensures.formed b is)
-    (c.in_ok-judge_other.ensures.clear tells b (record { header = c.in_ok-header.header; is_header = is; is = c.outline_of-outline.ensures.identity }))).none f bad)
+    let same : g.B.Device.bytes c.accepted_header.new.device ≡ b = c.in_ok-header.ensures.unchanged.same source in
+    c.restore_header.ensures.same source tells f (subst (λ (l : List ℕ). IsRestoreFault l (g.T.Device.bytes c.args.target.now) c.args.payload c.args.over f) (sym same) bad)
 
 pub returns-clause-rest : goal.returns-clause-rest
 returns-clause-rest g c = λ source tells.
     let b : List ℕ = g.B.Device.bytes c.args.backup.now in
-    let t : List ℕ = g.T.Device.bytes c.args.target.now in
-    let is = c.in_ok-header.ensures.read source in
-    let front : IsFrontAs b c.args.payload (length t) (choice_of c.in_ok-header.header) c.data_start-limit.result =
-    subst (λ (n : ℕ). IsFrontAs b c.args.payload n (choice_of c.in_ok-header.header) c.data_start-limit.result)
-    (c.len-2.ensures ∙ sym (g.met.T.Device.sized c.args.target.now tells)) (c.data_start-limit.ensures.start b is) in
-    of_restored b c.args.payload t c.in_ok-header.header is
-    (changed_rest b c.args.payload c.in_ok-header.header is c.outline_of-outline.result.places c.outline_of-outline.ensures.laid t _ (g.T.Device.bytes c.write_over.new.target) c.data_start-limit.result front
-    (c.in_ok-judge_other.ensures.unchanged.same tells) (c.write_over.ensures.rest tells))
-
-pub returns-in_err-write_over-clause-rest : goal.returns-in_err-write_over-clause-rest
-returns-in_err-write_over-clause-rest g c = λ source tells.
-    let b : List ℕ = g.B.Device.bytes c.args.backup.now in
-    let t : List ℕ = g.T.Device.bytes c.args.target.now in
-    let is = c.in_ok-header.ensures.read source in
-    let front : IsFrontAs b c.args.payload (length t) (choice_of c.in_ok-header.header) c.data_start-limit.result =
-    subst (λ (n : ℕ). IsFrontAs b c.args.payload n (choice_of c.in_ok-header.header) c.data_start-limit.result)
-    (c.len-2.ensures ∙ sym (g.met.T.Device.sized c.args.target.now tells)) (c.data_start-limit.ensures.start b is) in
-    of_restored b c.args.payload t c.in_ok-header.header is
-    (changed_rest b c.args.payload c.in_ok-header.header is c.outline_of-outline.result.places c.outline_of-outline.ensures.laid t _ (g.T.Device.bytes c.write_over.new.target) c.data_start-limit.result front
-    (c.in_ok-judge_other.ensures.unchanged.same tells) (c.write_over.ensures.rest tells))
+    let same : g.B.Device.bytes c.accepted_header.new.device ≡ b = c.in_ok-header.ensures.unchanged.same source in
+    subst (λ (l : List ℕ). SameBut (IsOfRestored l c.args.payload (g.T.Device.bytes c.args.target.now)) (g.T.Device.bytes c.args.target.now) (g.T.Device.bytes c.restore_header.new.target)) same (c.restore_header.ensures.rest source tells)
 
 pub returns-clause-segments : goal.returns-clause-segments
 returns-clause-segments g c = λ source tells n a seg.
     let b : List ℕ = g.B.Device.bytes c.args.backup.now in
-    let t : List ℕ = g.T.Device.bytes c.args.target.now in
-    let is = c.in_ok-header.ensures.read source in
-    let front : IsFrontAs b c.args.payload (length t) (choice_of c.in_ok-header.header) c.data_start-limit.result =
-    subst (λ (n : ℕ). IsFrontAs b c.args.payload n (choice_of c.in_ok-header.header) c.data_start-limit.result)
-    (c.len-2.ensures ∙ sym (g.met.T.Device.sized c.args.target.now tells)) (c.data_start-limit.ensures.start b is) in
-    let size : length t ≡ g.T.Device.size c.args.target.now = g.met.T.Device.sized c.args.target.now tells in
-    segment_stays b c.args.payload t c.in_ok-header.header is (subst (λ (n : ℕ). IsFormedOn b c.args.payload n) (c.len.ensures ∙ sym size) (c.in_ok-judge_fit.ensures.formed b is))
-    (changed_rest b c.args.payload c.in_ok-header.header is c.outline_of-outline.result.places c.outline_of-outline.ensures.laid t _ (g.T.Device.bytes c.write_over.new.target) c.data_start-limit.result front
-    (c.in_ok-judge_other.ensures.unchanged.same tells) (c.write_over.ensures.rest tells)) n a (subst (λ (m : ℕ). IsSegmentOn b c.args.payload m n a) (sym size) seg)
-
-pub returns-in_err-write_over-clause-segments : goal.returns-in_err-write_over-clause-segments
-returns-in_err-write_over-clause-segments g c = λ source tells n a seg.
-    let b : List ℕ = g.B.Device.bytes c.args.backup.now in
-    let t : List ℕ = g.T.Device.bytes c.args.target.now in
-    let is = c.in_ok-header.ensures.read source in
-    let front : IsFrontAs b c.args.payload (length t) (choice_of c.in_ok-header.header) c.data_start-limit.result =
-    subst (λ (n : ℕ). IsFrontAs b c.args.payload n (choice_of c.in_ok-header.header) c.data_start-limit.result)
-    (c.len-2.ensures ∙ sym (g.met.T.Device.sized c.args.target.now tells)) (c.data_start-limit.ensures.start b is) in
-    let size : length t ≡ g.T.Device.size c.args.target.now = g.met.T.Device.sized c.args.target.now tells in
-    segment_stays b c.args.payload t c.in_ok-header.header is (subst (λ (n : ℕ). IsFormedOn b c.args.payload n) (c.len.ensures ∙ sym size) (c.in_ok-judge_fit.ensures.formed b is))
-    (changed_rest b c.args.payload c.in_ok-header.header is c.outline_of-outline.result.places c.outline_of-outline.ensures.laid t _ (g.T.Device.bytes c.write_over.new.target) c.data_start-limit.result front
-    (c.in_ok-judge_other.ensures.unchanged.same tells) (c.write_over.ensures.rest tells)) n a (subst (λ (m : ℕ). IsSegmentOn b c.args.payload m n a) (sym size) seg)
+    let same : g.B.Device.bytes c.accepted_header.new.device ≡ b = c.in_ok-header.ensures.unchanged.same source in
+    c.restore_header.ensures.segments source tells n a (subst (λ (l : List ℕ). IsSegmentOn l c.args.payload (g.T.Device.size c.args.target.now) n a) (sym same) seg)
 
 pub returns-clause-order : goal.returns-clause-order
-returns-clause-order g c = λ source tells.
+returns-clause-order g c = λ source tells choice chosen.
     let b : List ℕ = g.B.Device.bytes c.args.backup.now in
-    let t : List ℕ = g.T.Device.bytes c.args.target.now in
-    let is = c.in_ok-header.ensures.read source in
-    let front : IsFrontAs b c.args.payload (length t) (choice_of c.in_ok-header.header) c.data_start-limit.result =
-    subst (λ (n : ℕ). IsFrontAs b c.args.payload n (choice_of c.in_ok-header.header) c.data_start-limit.result)
-    (c.len-2.ensures ∙ sym (g.met.T.Device.sized c.args.target.now tells)) (c.data_start-limit.ensures.start b is) in
-    turn_over b c.in_ok-header.header is c.outline_of-outline.result.places c.outline_of-outline.ensures.laid c.args.payload _ t _ (g.T.Device.bytes c.write_over.new.target) c.data_start-limit.result front
-    (c.in_ok-header.ensures.unchanged.same source) (c.in_ok-judge_other.ensures.unchanged.same tells) (c.write_over.ensures.order source tells)
+    let same : g.B.Device.bytes c.accepted_header.new.device ≡ b = c.in_ok-header.ensures.unchanged.same source in
+    subst (λ (l : List ℕ). RestoresInTurn l c.args.payload choice (g.T.Device.bytes c.args.target.now) (g.T.Device.bytes c.restore_header.new.target)) same (c.restore_header.ensures.order source tells choice (subst (λ (l : List ℕ). Chosen l choice) (sym same) chosen))
 
-pub returns-in_err-write_over-clause-order : goal.returns-in_err-write_over-clause-order
-returns-in_err-write_over-clause-order g c = λ source tells.
+pub returns-clause-restored : goal.returns-clause-restored
+returns-clause-restored g c = λ source tells.
     let b : List ℕ = g.B.Device.bytes c.args.backup.now in
-    let t : List ℕ = g.T.Device.bytes c.args.target.now in
-    let is = c.in_ok-header.ensures.read source in
-    let front : IsFrontAs b c.args.payload (length t) (choice_of c.in_ok-header.header) c.data_start-limit.result =
-    subst (λ (n : ℕ). IsFrontAs b c.args.payload n (choice_of c.in_ok-header.header) c.data_start-limit.result)
-    (c.len-2.ensures ∙ sym (g.met.T.Device.sized c.args.target.now tells)) (c.data_start-limit.ensures.start b is) in
-    turn_over b c.in_ok-header.header is c.outline_of-outline.result.places c.outline_of-outline.ensures.laid c.args.payload _ t _ (g.T.Device.bytes c.write_over.new.target) c.data_start-limit.result front
-    (c.in_ok-header.ensures.unchanged.same source) (c.in_ok-judge_other.ensures.unchanged.same tells) (c.write_over.ensures.order source tells)
+    let same : g.B.Device.bytes c.accepted_header.new.device ≡ b = c.in_ok-header.ensures.unchanged.same source in
+    subst (λ (l : List ℕ). OnOk c.restore_header.result (IsRestored l c.args.payload (g.T.Device.bytes c.args.target.now) (g.T.Device.bytes c.restore_header.new.target))) same (c.restore_header.ensures.restored source tells)
 
 pub returns-clause-well_formed : goal.returns-clause-well_formed
 returns-clause-well_formed g c = λ source tells.
     let b : List ℕ = g.B.Device.bytes c.args.backup.now in
-    let t : List ℕ = g.T.Device.bytes c.args.target.now in
-    let is = c.in_ok-header.ensures.read source in
-    let front : IsFrontAs b c.args.payload (length t) (choice_of c.in_ok-header.header) c.data_start-limit.result =
-    subst (λ (n : ℕ). IsFrontAs b c.args.payload n (choice_of c.in_ok-header.header) c.data_start-limit.result)
-    (c.len-2.ensures ∙ sym (g.met.T.Device.sized c.args.target.now tells)) (c.data_start-limit.ensures.start b is) in
-    let w : List ℕ = g.T.Device.bytes c.write_over.new.target in
-    let long : c.len.result ≡ length w = c.len.ensures ∙ sym c.in_ok-judge_other.ensures.unchanged.size ∙ sym c.write_over.ensures.size ∙ sym (g.met.T.Device.sized c.write_over.new.target tells) in
-    let over = written_over b c.args.payload c.in_ok-header.header is c.outline_of-outline.result.places c.outline_of-outline.ensures.laid (c.in_ok-header.ensures.formed source) _ t _ w c.len.result c.data_start-limit.result front (c.in_ok-header.ensures.unchanged.same source)
-    (c.in_ok-judge_other.ensures.unchanged.same tells) long (c.in_ok-judge_fit.ensures.formed b is) (c.write_over.ensures.rest tells) (c.in_ok-write_over.ensures.gone tells) (c.in_ok-write_over.ensures.copied source tells) (c.in_ok-write_over.ensures.lead tells) in
-    well_formed b c.args.payload c.in_ok-header.header c.outline_of-outline.result.places t w over
+    let same : g.B.Device.bytes c.accepted_header.new.device ≡ b = c.in_ok-header.ensures.unchanged.same source in
+    c.restore_header.ensures.well_formed source tells
 
 pub returns-clause-answers : goal.returns-clause-answers
 returns-clause-answers g c = λ source tells.
     let b : List ℕ = g.B.Device.bytes c.args.backup.now in
-    let t : List ℕ = g.T.Device.bytes c.args.target.now in
-    let is = c.in_ok-header.ensures.read source in
-    let front : IsFrontAs b c.args.payload (length t) (choice_of c.in_ok-header.header) c.data_start-limit.result =
-    subst (λ (n : ℕ). IsFrontAs b c.args.payload n (choice_of c.in_ok-header.header) c.data_start-limit.result)
-    (c.len-2.ensures ∙ sym (g.met.T.Device.sized c.args.target.now tells)) (c.data_start-limit.ensures.start b is) in
-    let w : List ℕ = g.T.Device.bytes c.write_over.new.target in
-    let long : c.len.result ≡ length w = c.len.ensures ∙ sym c.in_ok-judge_other.ensures.unchanged.size ∙ sym c.write_over.ensures.size ∙ sym (g.met.T.Device.sized c.write_over.new.target tells) in
-    let over = written_over b c.args.payload c.in_ok-header.header is c.outline_of-outline.result.places c.outline_of-outline.ensures.laid (c.in_ok-header.ensures.formed source) _ t _ w c.len.result c.data_start-limit.result front (c.in_ok-header.ensures.unchanged.same source)
-    (c.in_ok-judge_other.ensures.unchanged.same tells) long (c.in_ok-judge_fit.ensures.formed b is) (c.write_over.ensures.rest tells) (c.in_ok-write_over.ensures.gone tells) (c.in_ok-write_over.ensures.copied source tells) (c.in_ok-write_over.ensures.lead tells) in
-    answers_alike b c.args.payload c.in_ok-header.header c.outline_of-outline.result.places t w over
+    let same : g.B.Device.bytes c.accepted_header.new.device ≡ b = c.in_ok-header.ensures.unchanged.same source in
+    subst (λ (l : List ℕ). OnOk c.restore_header.result ((allowed : Allowed) (n : ℕ) (p : List ℕ) (a : Opened) → AnswerWithin allowed l n p a ↔ AnswerWithin allowed (g.T.Device.bytes c.restore_header.new.target) n p a)) same (c.restore_header.ensures.answers source tells)
