@@ -1,5 +1,5 @@
 -- By which digest of the metadata of a LUKS2 volume a volume key is told: each digest takes it or not, and the key meets it or not.
-use Rattle.std.proofs.Common.{◌≡◌, ℕ, ◌≤◌, List, [], ◌∷◌, length, Bool, true, false, Option, Some, None, refl, sym, ap, subst, ◌∙◌, arith, inl, inr}
+use Rattle.std.proofs.Common.{rules, ◌≡◌, ◌⊎◌, ℕ, ◌≤◌, List, [], ◌∷◌, length, Bool, true, false, Option, Some, None, refl, sym, ap, subst, ◌∙◌, arith, inl, inr}
 use Rattle.std.specs.Prelude.{◌==◌}
 use Rattle.std.specs.List.{list_any}
 use Rattle.std.proofs.lemmas.Bool.{cases_Bool, false≢true}
@@ -18,7 +18,7 @@ use Rattle.luks_slot.specs.Refusal.{is_known_hash}
 use Rattle.luks_reading.specs.KeyDigests.{HasKeyslotOf, IsDigestOfSegment, IsLuks2KeyLength, NamesKeyslot, SaysDigest}
 use Rattle.luks_reading.specs.Plans.{HasLuks2KeyBytes}
 use Rattle.luks2_edit_laws.specs.Likes.{IsAssigned, IsKeyDigest, IsUnknownTo, MeetsKey, TakesKey}
-use Rattle.luks_laws.proofs.DecidedFacts.{alike_decided, at_most_decided, both_decided, Decided, less_decided, not_decided, one_decided, three_decided, true_decided}
+use Rattle.luks_laws.proofs.DecidedFacts.{alike_decided, at_most_decided, both_decided, Decided, false_decided, less_decided, not_decided, one_decided, three_decided, true_decided}
 use Rattle.luks_laws.proofs.SearchFacts.{held_decided, held_or_none, least_or_none_of, LeastNumber, number_decided, some_of_decided, some_same, SomeOrNone}
 use Rattle.luks_laws.proofs.MemberDecisions2.{digest_decided}
 
@@ -135,17 +135,20 @@ module _ (older : Bool) (j : Value) (key : List ℕ) (m : ℕ) where
 
 -- ---- the segments that are assigned to it
 
+same_number : (n : ℕ) → (n == n) ≡ true
+same_number n = search rules
+
 -- a list has a number, or it has none
 some_number : (ns : List ℕ) → Decided ((s : ℕ) × (list_any (λ n. n == s) ns ≡ true))
 some_number [] = inr (λ x. false≢true x.1)
-some_number (n ∷ ns) = inl (n, rw (nat_eq_equiv.refl n) refl)
+some_number (n ∷ ns) = inl (n, rw same_number refl)
 
 -- some segment is assigned to it, or none is
 pub assigned_decided : (j : Value) (m : ℕ) → Decided (IsAssigned j m)
 assigned_decided j m = elim (less_decided m 32) [
   | inr high ↦ inr (λ x. high x.is.numbered)
   | inl low ↦ alike_decided _ (IsAssigned j m)
-      (λ x. record { segment = x.2.2.2.0; is = record { numbered = low; object = x.0; there = x.1; segments = x.2.0; told = x.2.1; lists = x.2.2.1 } })
+      (λ x. record { segment = x.2.2.0; is = record { numbered = low; object = x.0; there = x.1; segments = x.2.0; told = x.2.1; lists = x.2.2.1 } })
       (λ x. (x.is.object, x.is.there, (x.is.segments, x.is.told, (x.segment, x.is.lists))))
       (held_decided (object_at j Digests m) _ (λ d. held_decided (numbers_of_array (member_at d outer.Top name.Segments)) (λ ns. (s : ℕ) × (list_any (λ n. n == s) ns ≡ true)) some_number))
 ]

@@ -31,7 +31,7 @@ unfoldable pub of_keyslot : List OpenFault
 of_keyslot = opening.NoSuchSlot ∷ opening.SlotFree ∷ opening.Outside ∷ map opening.Slot slot_faults
 
 -- two faults are one, or they are not
-same_fault_decided : (f g : SlotFault) → Decided (f ≡ g)
+pub same_fault_decided : (f g : SlotFault) → Decided (f ≡ g)
 same_fault_decided slot.Argon2 slot.Argon2 = inl refl
 same_fault_decided slot.Cipher slot.Cipher = inl refl
 same_fault_decided slot.Hash slot.Hash = inl refl
@@ -56,18 +56,6 @@ pub record AreAlike (a b : SlotPlan) : Type 0 where
 -- a set of plans has a member or none
 abbrev pub PlanOrNone : (SlotPlan → Type 0) → Type 0
 PlanOrNone plans = ((plan : SlotPlan) × plans plan) ⊎ ((plan : SlotPlan) → plans plan → ⊥)
-
-module _ (plans : SlotPlan → Type 0) (find : PlanOrNone plans) where
-  -- what is decided of each plan, and is alike of those of the set, is decided of them
-  pub plan_decided : (P : SlotPlan → Type 0) → ((plan : SlotPlan) → Decided (P plan)) → ((a b : SlotPlan) → plans a → plans b → P b → P a)
-      → Decided ((plan : SlotPlan) × plans plan × P plan)
-  plan_decided P decide same = elim find [
-    | inl own ↦ elim (decide own.0) [
-      | inl has ↦ inl (own.0, own.1, has)
-      | inr lacks ↦ inr (λ x. lacks (same own.0 x.0 own.1 x.1 x.2))
-    ]
-    | inr none ↦ inr (λ x. none x.0 x.1)
-  ]
 
 module _ (plans : SlotPlan → Type 0) (find : PlanOrNone plans) (alike : (a b : SlotPlan) → plans a → plans b → AreAlike a b) where
   -- a plan of the set decides whether one lies past the volume's end
