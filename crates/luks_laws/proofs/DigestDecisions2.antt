@@ -1,8 +1,8 @@
 -- By which digest of the metadata of a LUKS2 volume a volume key is told: each digest takes it or not, and the key meets it or not.
-use Rattle.std.proofs.Common.{rules, ◌≡◌, ◌⊎◌, ℕ, ◌≤◌, List, [], ◌∷◌, length, Bool, true, false, Option, Some, None, refl, sym, ap, subst, ◌∙◌, arith, inl, inr}
+use Rattle.std.proofs.Common.{rules, ◌≡◌, ◌⊎◌, ℕ, List, [], ◌∷◌, length, Bool, true, false, Some, refl, sym, ap, subst, ◌∙◌, inl, inr}
 use Rattle.std.specs.Prelude.{◌==◌}
 use Rattle.std.specs.List.{list_any}
-use Rattle.std.proofs.lemmas.Bool.{cases_Bool, false≢true}
+use Rattle.std.proofs.lemmas.Bool.{false≢true}
 use Rattle.serde_json.specs.Data.{Data as Value}
 use Rattle.luks_json.specs.Names.{numbers_of_array}
 use Rattle.luks_rules.specs.declared.table.Member.TheVariants as name
@@ -15,7 +15,7 @@ use Rattle.luks_making.specs.Naming.{IsDigestOf}
 use Rattle.luks_slot.specs.declared.plan.DigestPlan.{DigestPlan}
 use Rattle.luks_slot.specs.Opening.{meets_digest}
 use Rattle.luks_slot.specs.Refusal.{is_known_hash}
-use Rattle.luks_reading.specs.KeyDigests.{HasKeyslotOf, IsDigestOfSegment, IsLuks2KeyLength, NamesKeyslot, SaysDigest}
+use Rattle.luks_reading.specs.KeyDigests.{HasKeyslotOf, IsLuks2KeyLength, NamesKeyslot, SaysDigest}
 use Rattle.luks_reading.specs.Plans.{HasLuks2KeyBytes}
 use Rattle.luks2_edit_laws.specs.Likes.{IsAssigned, IsKeyDigest, IsUnknownTo, MeetsKey, TakesKey}
 use Rattle.luks_laws.proofs.DecidedFacts.{alike_decided, at_most_decided, both_decided, Decided, false_decided, less_decided, not_decided, one_decided, three_decided, true_decided}
@@ -144,7 +144,7 @@ some_number [] = inr (λ x. false≢true x.1)
 some_number (n ∷ ns) = inl (n, rw same_number refl)
 
 -- some segment is assigned to it, or none is
-pub assigned_decided : (j : Value) (m : ℕ) → Decided (IsAssigned j m)
+assigned_decided : (j : Value) (m : ℕ) → Decided (IsAssigned j m)
 assigned_decided j m = elim (less_decided m 32) [
   | inr high ↦ inr (λ x. high x.is.numbered)
   | inl low ↦ alike_decided _ (IsAssigned j m)
@@ -159,9 +159,9 @@ assigned_decided j m = elim (less_decided m 32) [
 pub key_digest_or_none : (older : Bool) (j : Value) (key : List ℕ) → SomeOrNone ℕ (IsKeyDigest older j key)
 key_digest_or_none older j key = elim (least_or_none_of (λ m. MeetsKey older j key m × IsAssigned j m) (λ m. both_decided _ _ (meets_decided older j key m) (assigned_decided j m)) 32
     (λ m x. x.0.takes.there.named)) [
-  | inl found ↦ inl (found.0, record { meets = found.1.0; first = λ k meets. record { assigned = λ other. found.1.1; number = λ also. found.2 k (meets, also found.1.1) } })
-  | inr unassigned ↦ elim (least_or_none_of (MeetsKey older j key) (meets_decided older j key) 32 (λ m x. x.takes.there.named)) [
-    | inl found ↦ inl (found.0, record { meets = found.1; first = λ k meets. record { assigned = λ other. absurd (unassigned k (meets, other)); number = λ also. found.2 k meets } })
-    | inr none ↦ inr (λ m x. none m x.meets)
-  ]
-]
+      | inl found ↦ inl (found.0, record { meets = found.1.0; first = λ k meets. record { assigned = λ other. found.1.1; number = λ also. found.2 k (meets, also found.1.1) } })
+      | inr unassigned ↦ elim (least_or_none_of (MeetsKey older j key) (meets_decided older j key) 32 (λ m x. x.takes.there.named)) [
+        | inl found ↦ inl (found.0, record { meets = found.1; first = λ k meets. record { assigned = λ other. absurd (unassigned k (meets, other)); number = λ also. found.2 k meets } })
+        | inr none ↦ inr (λ m x. none m x.meets)
+      ]
+    ]

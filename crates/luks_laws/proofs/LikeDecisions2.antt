@@ -1,5 +1,5 @@
 -- What a new keyslot of a LUKS2 volume is made like, if anything, and so is decided of it what is decided of each.
-use Rattle.std.proofs.Common.{◌≡◌, ◌⊎◌, ℕ, List, length, Bool, refl, sym, ◌∙◌, inl, inr}
+use Rattle.std.proofs.Common.{◌≡◌, ℕ, List, length, Bool, refl, sym, ◌∙◌, inl, inr}
 use Rattle.serde_json.specs.Data.{Data as Value}
 use Rattle.luks_making.specs.Naming.{IsDigestOf}
 use Rattle.luks_reading.specs.KeyDigests.{IsLuks2KeyLength, NamesKeyslot}

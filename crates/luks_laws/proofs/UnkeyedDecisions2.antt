@@ -1,16 +1,14 @@
 -- Of the accepted metadata of a LUKS2 volume each fault stands by which the volume key gives none, or it doesn't.
-use Rattle.std.proofs.Common.{◌≡◌, ◌⊎◌, ℕ, ◌<◌, List, length, Bool, Option, Some, None, refl, sym, subst, inl, inr}
+use Rattle.std.proofs.Common.{◌≡◌, ℕ, ◌<◌, List, length, Bool, Option, Some, None, refl, subst, inl, inr}
 use Rattle.serde_json.specs.Data.{Data as Value}
 use Rattle.luks_json.specs.AreaText.{Json}
 use Rattle.luks_json.specs.Number.{number_of, number_text}
-use Rattle.luks_making.specs.Naming.{IsDigestOf}
 use Rattle.luks_rules.specs.Accepted.{IsMeta}
 use Rattle.luks_rules.proofs.AreaFaults.{one_value}
 use Rattle.luks_meta.proofs.Namings.{one_digest}
 use Rattle.luks_slot.specs.declared.fault.SlotFault.{SlotFault}
 use Rattle.luks_slot.specs.declared.fault.SlotFault.TheVariants.{Hash}
 use Rattle.luks_slot.specs.declared.plan.DigestPlan.{DigestPlan}
-use Rattle.luks_slot.specs.declared.plan.SlotPlan.{SlotPlan}
 use Rattle.luks_slot.specs.Allowance.{without_memory}
 use Rattle.luks_slot.specs.Refusal.{slot_refusal_within}
 use Rattle.luks_reading.specs.Plans.{HasLuks2Plan}
@@ -79,13 +77,16 @@ module _ (says : (text : List ℕ) (n : ℕ) → number_of text ≡ Some n → (
       let digest = one_digest json j accepted n in
       elim (find_plan says json j accepted value n digest) [
         | inl own ↦ (let object = object_of_plan json j n value digest own.0 own.1 in
-            inl (slot_refusal_within (without_memory older) (derived_anew own.0), record {
-              object = own.1.object;
-              there = record { numbered = refl; named = own.1.numbered; is = object };
-              plan = own.0;
-              is = plan_of_object json j n value digest own.1.object object own.0 own.1;
-              refused = refl;
-            }))
+            inl (
+              slot_refusal_within (without_memory older) (derived_anew own.0),
+              record {
+                object = own.1.object;
+                there = record { numbered = refl; named = own.1.numbered; is = object };
+                plan = own.0;
+                is = plan_of_object json j n value digest own.1.object object own.0 own.1;
+                refused = refl;
+              },
+            ))
         | inr none ↦ inr (λ refusal x. none x.plan (plan_there older n refusal x))
       ]
   refusal_or_none older (Digest number len) = inl (None, refl)
