@@ -1,10 +1,9 @@
 -- An edit of a volume has a first refusal, or it is refused by nothing, whatever counts of the volume.
-use Rattle.std.proofs.Common.{◌≡◌, ◌⊎◌, ℕ, ◌<◌, List, length, Some, subst, inl, inr}
+use Rattle.std.proofs.Common.{◌⊎◌, ℕ, List, length, subst, inl, inr}
 use Rattle.serde_json.specs.Data.{Data as Value}
 use Rattle.luks2_header.specs.Header2.{hdr_size, header_at}
 use Rattle.luks2_header.specs.Selection.{Choice, Chosen, luks1, luks2, nothing}
 use Rattle.luks2_header.proofs.ChoiceFacts.{choices_agree, choice_exists}
-use Rattle.luks_json.specs.Number.{number_of, number_text}
 use Rattle.luks_rules.specs.Accepted.{IsMeta}
 use Rattle.luks_meta.proofs.Namings.{one_digest}
 use Rattle.luks_slot.specs.declared.allowed.Allowed.{Allowed}
@@ -48,7 +47,7 @@ fault_of_volume v payload e r nothing f bad = bad
 
 -- ---- what counts, of which there is one
 
-module _ (says : (text : List ℕ) (n : ℕ) → number_of text ≡ Some n → (text ≡ number_text n) × (n < 32)) (v : List ℕ) (payload : Data) where
+module _ (v : List ℕ) (payload : Data) where
   -- of a well formed volume accepted metadata counts, or none
   counting_as : WellFormed v payload → (c : Choice) → Chosen v c → WellFormedAs v payload c → Counting v payload ⊎ ((p : ℕ) (i : Value) → HasMetadata v p i → ⊥)
   counting_as formed luks1 chosen is = inr (λ p i x. (let e = choices_agree v luks1 (luks2 p x.copies) chosen x.chosen in cc))
@@ -64,7 +63,7 @@ module _ (says : (text : List ℕ) (n : ℕ) → number_of text ≡ Some n → (
         there = there;
         only = λ p i x. (one_place v o p copies x.copies chosen x.chosen, one_metadata v o p copies x.copies j i chosen accepted.json x.chosen x.holds);
         digest = digest;
-        unkeyed = unkeyed_decided says (json_at v o) j accepted;
+        unkeyed = unkeyed_decided (json_at v o) j accepted;
         area = area_or_no_room v payload o j there formed;
         alike = λ e a b x y a_bytes b_bytes long. texts_as_long (hdr_size (header_at v o)) (length v) payload e a b j x y a_bytes b_bytes long (record { one = digest });
       })

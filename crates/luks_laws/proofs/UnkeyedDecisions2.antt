@@ -1,8 +1,8 @@
 -- Of the accepted metadata of a LUKS2 volume each fault stands by which the volume key gives none, or it doesn't.
-use Rattle.std.proofs.Common.{◌≡◌, ℕ, ◌<◌, List, length, Bool, Option, Some, None, refl, subst, inl, inr}
+use Rattle.std.proofs.Common.{◌≡◌, ℕ, List, length, Bool, Option, Some, None, refl, subst, inl, inr}
 use Rattle.serde_json.specs.Data.{Data as Value}
 use Rattle.luks_json.specs.AreaText.{Json}
-use Rattle.luks_json.specs.Number.{number_of, number_text}
+use Rattle.luks_json.proofs.Numbers.{text_of_named}
 use Rattle.luks_rules.specs.Accepted.{IsMeta}
 use Rattle.luks_rules.proofs.AreaFaults.{one_value}
 use Rattle.luks_meta.proofs.Namings.{one_digest}
@@ -63,7 +63,7 @@ module _ (older : Bool) (j : Value) (key : List ℕ) where
 
 -- ---- the keyslot that is made
 
-module _ (says : (text : List ℕ) (n : ℕ) → number_of text ≡ Some n → (text ≡ number_text n) × (n < 32)) (json : List ℕ) (j : Value) (accepted : IsMeta json j) where
+module _ (json : List ℕ) (j : Value) (accepted : IsMeta json j) where
   value : (i : Value) → Json json i → i ≡ j
   value i holds = one_value json i j holds accepted.json
 
@@ -75,7 +75,7 @@ module _ (says : (text : List ℕ) (n : ℕ) → number_of text ≡ Some n → (
   refusal_or_none : (older : Bool) (l : Like) → SomeOrNone (Option SlotFault) (HasRefusal older j l)
   refusal_or_none older (Keyslot n) =
       let digest = one_digest json j accepted n in
-      elim (find_plan says json j accepted value n digest) [
+      elim (find_plan text_of_named json j accepted value n digest) [
         | inl own ↦ (let object = object_of_plan json j n value digest own.0 own.1 in
             inl (
               slot_refusal_within (without_memory older) (derived_anew own.0),

@@ -18,7 +18,6 @@ ghost use Rattle.luks_volume.specs.Edits.{IsUnrefused, Refusal};
 
 use crate::{every_keyslot_has_an_answer, first_fault_or_well_formed};
 use luks_edit::EditFault;
-use luks_json::names_say_numbers;
 use luks_reading::nothing_allowed_is_as_before;
 use luks_slot::SlotFault;
 
@@ -34,7 +33,6 @@ pub fn first_refusal_or_unrefused()
 {
     first_fault_or_well_formed();
     every_keyslot_has_an_answer();
-    names_say_numbers();
 }
 
 /// What opens without memory allows none to an edit, and what is allowed nothing allows nothing.

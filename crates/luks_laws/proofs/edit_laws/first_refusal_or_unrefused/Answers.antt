@@ -5,9 +5,8 @@ pub returns : goal.returns
 returns c =
     let checked = c.first_fault_or_well_formed.ensures in
     let answer = c.every_keyslot_has_an_answer.ensures in
-    let says = c.names_say_numbers.ensures.says in
     record {
-      luks1 = λ v payload. first_refusal1_or_unrefused says v payload (checked v payload) (λ m. answer m v);
-      luks2 = λ v payload. first_refusal2_or_unrefused says v payload (checked v payload) (λ m. answer m v);
-      volume = λ v payload. first_refusal_or_unrefused says v payload (checked v payload) (λ m. answer m v);
+      luks1 = λ v payload. first_refusal1_or_unrefused v payload (checked v payload) (λ m. answer m v);
+      luks2 = λ v payload. first_refusal2_or_unrefused v payload (checked v payload) (λ m. answer m v);
+      volume = λ v payload. first_refusal_or_unrefused v payload (checked v payload) (λ m. answer m v);
     }
