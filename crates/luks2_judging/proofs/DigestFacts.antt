@@ -1,5 +1,5 @@
 -- What a digest says of a key that it takes, and which of the digests takes one.
-use Rattle.std.proofs.Common.{◌≡◌, ℕ, suc, ◌+◌, ◌<◌, ◌≤◌, List, [], ◌∷◌, length, Bool, true, false, Option, Some, None, below_more, refl, sym, ap, subst, ◌∙◌, arith}
+use Rattle.std.proofs.Common.{◌≡◌, ℕ, suc, ◌+◌, ◌<◌, ◌≤◌, List, [], ◌∷◌, length, Bool, true, false, Some, None, below_more, refl, sym, ap, subst, ◌∙◌, arith}
 use Rattle.std.specs.Prelude.{◌==◌, not}
 use Rattle.std.specs.List.{list_any}
 use Rattle.std.proofs.lemmas.Bool.{false≢true}
@@ -16,7 +16,6 @@ use Rattle.luks_meta.specs.Objects.{IsMissing, IsObject}
 use Rattle.luks_meta.specs.Says.{TellsDigest}
 use Rattle.luks_slot.specs.declared.fault.SlotFault.TheVariants.{Hash}
 use Rattle.luks_slot.specs.declared.plan.DigestPlan.{DigestPlan}
-use Rattle.luks_slot.specs.Opening.{meets_digest}
 use Rattle.luks_slot.specs.Refusal.{is_known_hash}
 use Rattle.luks_reading.specs.KeyDigests.{IsLuks2KeyLength, SaysDigest}
 use Rattle.luks2_edit_laws.specs.Likes.{HasNoDigestFor, IsAssigned, IsUnknownTo, MayMeetUnknown, MeetsKey, MeetsNone, TakesKey}

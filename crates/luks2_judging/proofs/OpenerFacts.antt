@@ -28,7 +28,6 @@ use Rattle.luks_reading.specs.Layout2.{slot_number}
 use Rattle.luks_reading.specs.Plans.{HasLuks2KeyBytes, HasLuks2Plan}
 use Rattle.luks_reading.proofs.VolumeLaws.{uuid_faultless}
 use Rattle.luks_edit.specs.declared.edit.Edit.{Edit}
-use Rattle.luks_edit.specs.declared.edit.SecretKind.{SecretKind}
 use Rattle.luks_edit.specs.declared.edit.SecretKind.TheVariants.{Key}
 use Rattle.luks_reading.specs.Failures.{is_own}
 use Rattle.luks_slot.specs.declared.allowed.Allowed.{Allowed}

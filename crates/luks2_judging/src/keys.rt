@@ -67,11 +67,14 @@ fn unmet(meta: &Meta, key: &[u8], older: bool) -> EditFault
 {
     let mut taken = false;
     for number in 0..32 {
-        if let Some(known) = takes_known(meta, number, key.len(), older) {
-            if !known {
-                return EditFault::Slot(SlotFault::Hash);
+        match takes_known(meta, number, key.len(), older) {
+            Some(known) => {
+                if !known {
+                    return EditFault::Slot(SlotFault::Hash);
+                }
+                taken = true;
             }
-            taken = true;
+            None => {}
         }
     }
     if taken {
