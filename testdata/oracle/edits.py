@@ -346,11 +346,11 @@ def find(v, edit):
 
 
 def leaves_argon2(volume, edit):
-    """Whether the edit removes the last keyslot of PBKDF2 of the LUKS2 volume, by another one's passphrase."""
-    if not isinstance(edit, Remove) or edit.by is None:
+    """Whether the edit removes the last keyslot of PBKDF2 of the LUKS2 volume, which has others: by another one's secret, or by the volume key."""
+    if not isinstance(edit, Remove) or opened_by(edit)[0] == edit.slot:
         return False
     keyslots = reader.metadata(reader.select(volume)[0])["keyslots"]
-    return [int(n) for n, keyslot in keyslots.items() if keyslot["kdf"]["type"] == "pbkdf2"] == [edit.slot]
+    return len(keyslots) > 1 and [int(n) for n, keyslot in keyslots.items() if keyslot["kdf"]["type"] == "pbkdf2"] == [edit.slot]
 
 
 # what standard error says of it before it is done

@@ -32,8 +32,9 @@ use luks_reading::ChosenCopy;
 use luks2_judging::Addition;
 use std::alloc::Global;
 
-/// Seals the key, which the opener gives, under the new passphrase in the area of the new keyslot, and then writes both copies of the header anew with it, the other copy first.
-/// A flush follows each. The old metadata is given up for the new.
+/// Seals the key, which the opener gives, under the new passphrase in the area of the new keyslot, and then
+/// writes both copies of the header anew with it, the other copy first. A flush follows each. The old
+/// metadata is given up for the new.
 ///
 /// Refused by `SeqExhausted`, `MetadataFull` or `RandomLength`. Takes memory for the new keyslot,
 /// the JSON area and Argon2, before the first write.

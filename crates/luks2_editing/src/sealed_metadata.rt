@@ -14,7 +14,7 @@ ghost use Rattle.luks2_edit_laws.specs.declared.like.Like.TheVariants.{Digest, K
 ghost use Rattle.luks2_edit_laws.specs.Likes.{fresh_members};
 ghost use Rattle.luks2_edit_laws.specs.Refused.{IsUnrefused2, NeedsLike};
 ghost use Rattle.luks2_judging.specs.Room.{IsPlaced};
-ghost use Rattle.luks2_editing.specs.MadeMetadata.{like_of, CanMake, CanSealLike, IsThereLike, HasNumber, IsGained, IsMadeBy, IsSealedAgain, IsSealingEdit};
+ghost use Rattle.luks2_editing.specs.MadeMetadata.{like_of, CanMake, CanSealLike, IsThereLike, HasDigest, HasNumber, IsGained, IsMadeBy, IsSealedAgain, IsSealingEdit};
 ghost use Rattle.luks2_editing.specs.Prepared.{AreCopiesWithin};
 ghost use Rattle.luks2_editing.specs.Replies.{EndsBy2};
 
@@ -132,7 +132,18 @@ fn is_there_like(meta: &Meta, like: Like) -> bool
 {
     match like {
         Like::Keyslot(n) => n < 32 && is_there(meta, n),
-        Like::Digest { number, .. } => number < 32 && meta.digest(number).is_some(),
+        Like::Digest { number, .. } => number < 32 && has_digest(meta, number),
+    }
+}
+
+/// Whether the digest is there.
+fn has_digest(meta: &Meta, number: u8) -> bool
+    requires { number < 32 }
+    ensures { IsTrue result ↔ HasDigest (content meta.now) number }
+{
+    match meta.digest(number) {
+        Some(_) => true,
+        None => false,
     }
 }
 

@@ -1,8 +1,9 @@
 -- What a digest says of a key that it takes, and which of the digests takes one.
-use Rattle.std.proofs.Common.{◌≡◌, ℕ, ◌+◌, ◌<◌, ◌≤◌, List, [], ◌∷◌, length, Bool, true, false, Option, Some, None, below_more, refl, sym, ap, subst, ◌∙◌, arith}
+use Rattle.std.proofs.Common.{◌≡◌, ℕ, suc, ◌+◌, ◌<◌, ◌≤◌, List, [], ◌∷◌, length, Bool, true, false, Some, None, below_more, refl, sym, ap, subst, ◌∙◌, arith}
 use Rattle.std.specs.Prelude.{◌==◌, not}
 use Rattle.std.specs.List.{list_any}
 use Rattle.std.proofs.lemmas.Bool.{false≢true}
+use Rattle.std.proofs.lemmas.Bool.Decides.{Decides-eqb, nat_tests}
 use Rattle.std.proofs.lemmas.Option.{same_Some}
 use Rattle.serde_json.specs.Data.{Data as Value}
 use Rattle.luks_json.specs.Names.{numbers_of_array}
@@ -15,7 +16,6 @@ use Rattle.luks_meta.specs.Objects.{IsMissing, IsObject}
 use Rattle.luks_meta.specs.Says.{TellsDigest}
 use Rattle.luks_slot.specs.declared.fault.SlotFault.TheVariants.{Hash}
 use Rattle.luks_slot.specs.declared.plan.DigestPlan.{DigestPlan}
-use Rattle.luks_slot.specs.Opening.{meets_digest}
 use Rattle.luks_slot.specs.Refusal.{is_known_hash}
 use Rattle.luks_reading.specs.KeyDigests.{IsLuks2KeyLength, SaysDigest}
 use Rattle.luks2_edit_laws.specs.Likes.{HasNoDigestFor, IsAssigned, IsUnknownTo, MayMeetUnknown, MeetsKey, MeetsNone, TakesKey}
@@ -24,8 +24,8 @@ use Rattle.luks2_judging.specs.Keys.{IsMetBy, IsTakenBy}
 
 -- ---- what is said of one digest is one thing
 
-said_once : (object : Value) (a b : DigestPlan) → SaysDigest object a → SaysDigest object b → SameDigest a b
-said_once object a b x y = record {
+said_once : (d : Value) (a b : DigestPlan) → SaysDigest d a → SaysDigest d b → SameDigest a b
+said_once d a b x y = record {
   hash = same_Some a.hash.now b.hash.now (sym x.hash ∙ y.hash);
   iterations = same_Some a.iterations b.iterations (sym x.iterations ∙ y.iterations);
   salt = same_Some a.salt.now b.salt.now (sym x.salt ∙ y.salt);
@@ -58,7 +58,7 @@ missing_takes j m len digest missing x = absurd (let both : None ≡ Some x.obje
 -- ---- the segments of a digest
 
 same_number : (n : ℕ) → (n == n) ≡ true
-same_number n = search rules
+same_number n = (Decides-eqb n n).1 refl
 
 -- a list that isn't empty has a number
 record HasListed (xs : List ℕ) : Type 0 where
@@ -69,9 +69,12 @@ listed_of : (xs : List ℕ) → not (length xs == 0) ≡ true → HasListed xs
 listed_of [] some = absurd (false≢true some)
 listed_of (x ∷ xs) some = record { number = x; lists = rw same_number refl }
 
+more_listed : (n : ℕ) → not (suc n == 0) ≡ true
+more_listed n = grind (arith, nat_tests)
+
 some_listed : (xs : List ℕ) (s : ℕ) → list_any (λ n. n == s) xs ≡ true → not (length xs == 0) ≡ true
 some_listed [] s lists = absurd (false≢true lists)
-some_listed (x ∷ xs) s lists = refl
+some_listed (x ∷ xs) s lists = more_listed (length xs)
 
 module _ (j : Value) (m : ℕ) (k : Digest) (low : m < 32) (told : IsObject TellsDigest j Digests m k) where
   pub assigned_of : not (length k.segments.items == 0) ≡ true → IsAssigned j m

@@ -1,7 +1,10 @@
 -- Which digest a key meets first, and what a new keyslot is made like by it.
-use Rattle.std.proofs.Common.{◌≡◌, ◌≢◌, ℕ, ◌<◌, ◌≤◌, List, length, Bool, true, false, Option, Some, None, Result, Ok, Err, IfErr, IfOk, MatchResult, inl, inr, refl, subst, arith}
+use Rattle.std.proofs.Common.{◌≡◌, ◌≢◌, ℕ, ◌<◌, ◌≤◌, List, length, Bool, true, false, Some, None, inl, inr, refl, subst, arith}
 use Rattle.std.proofs.lemmas.Bool.{cases_lt}
 use Rattle.serde_json.specs.Data.{Data as Value}
+use Rattle.luks_rules.specs.declared.table.Member.TheVariants as name
+use Rattle.luks_rules.specs.declared.table.Outer.TheVariants as outer
+use Rattle.luks_rules.specs.Faults.{member_at}
 use Rattle.luks_meta.specs.Content.{content}
 use Rattle.luks_making.specs.Conditions.{Between}
 use Rattle.luks_making.specs.Naming.{IsDigestOf}
@@ -76,7 +79,7 @@ none_left j m len end past none long = record { number_is = refl; key_bytes_are 
 
 -- it has 1 to 128 bytes
 pub key_between : (j : Value) (m len : ℕ) → IsLuks2KeyLength j m len → Between 1 128 len
-key_between j m len (inl of) = in_between 1 128 len _ of.long.is
+key_between j m len (inl of) = in_between 1 128 len (member_at of.long.object outer.Top name.KeySize) of.long.is
 key_between j m len (inr free) = record { from = free.1; to = free.2 }
 
 -- why it meets none is why it doesn't give itself
@@ -87,15 +90,6 @@ unlike_unkeyed older j key (fault.Slot s) bad = inl bad
 unlike_unkeyed older j key f bad = absurd bad
 
 -- ---- what the volume key answers
-
--- of a result what it says where it is one, and where it isn't
-pub given_ok : {A B : Type 0} {P : A → Type 0} {Q : B → Type 0} (R : A → Type 0) (r : Result A B) → ((a : A) → P a → R a) → MatchResult r P Q → IfOk r R
-given_ok R (Ok a) step x = step a x
-given_ok R (Err b) step x = tt
-
-pub given_err : {A B : Type 0} {P : A → Type 0} {Q : B → Type 0} (R : B → Type 0) (r : Result A B) → ((b : B) → Q b → R b) → MatchResult r P Q → IfErr r R
-given_err R (Ok a) step x = tt
-given_err R (Err b) step x = step b x
 
 -- it isn't the device's failure, nor want of memory
 pub unkeyed_own : (older : Bool) (j : Value) (key : List ℕ) (f : EditFault) → IsUnkeyed2 older j key f → is_edit_failure f ≡ false

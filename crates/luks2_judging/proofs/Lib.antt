@@ -4,6 +4,7 @@ pub mod DeedFacts
 pub mod DigestFacts
 pub mod EditedFacts
 mod EncodedFacts
+mod GivenFacts
 mod JudgedFacts
 pub mod KeyAreaFacts
 pub mod KeyFacts

@@ -28,7 +28,6 @@ use Rattle.luks_reading.specs.Layout2.{slot_number}
 use Rattle.luks_reading.specs.Plans.{HasLuks2KeyBytes, HasLuks2Plan}
 use Rattle.luks_reading.proofs.VolumeLaws.{uuid_faultless}
 use Rattle.luks_edit.specs.declared.edit.Edit.{Edit}
-use Rattle.luks_edit.specs.declared.edit.SecretKind.{SecretKind}
 use Rattle.luks_edit.specs.declared.edit.SecretKind.TheVariants.{Key}
 use Rattle.luks_reading.specs.Failures.{is_own}
 use Rattle.luks_slot.specs.declared.allowed.Allowed.{Allowed}
@@ -147,15 +146,15 @@ module _ (v : List ℕ) (e : Edit) (n : ℕ) (secret : Secret) (asked : opener_i
 
     -- a keyslot of a well formed volume is refused by its plan alone, and memory only where it takes it
     pub unopened_by : (f : OpenFault) → IsRefusedByWithin (allowed_by e) v n secret.bytes.now f → (f ≡ opening.Memory → TakesMemory (allowed_by e) v n) → IsUnopened v e (unopened n f)
-    unopened_by (opening.Head f) is other = (uuid_faultless (uuid_field (header_at v o))).1 volume.uuid f (as_luks2 (opening.Head f) is)
-    unopened_by (opening.Meta f) is other = (metadata_faultless (json_at v o)).1 (volume.layout.0, volume.layout.1.metadata) f (as_luks2 (opening.Meta f) is)
+    unopened_by (opening.Head f) is other = absurd ((uuid_faultless (uuid_field (header_at v o))).1 volume.uuid f (as_luks2 (opening.Head f) is))
+    unopened_by (opening.Meta f) is other = absurd ((metadata_faultless (json_at v o)).1 (volume.layout.0, volume.layout.1.metadata) f (as_luks2 (opening.Meta f) is))
     unopened_by opening.NoSuchSlot is other =
         let absent = as_luks2 opening.NoSuchSlot is in
         let none : object_at absent.value Keyslots n ≡ None = absent.absent used.0 in
         let gone : object_at j Keyslots n ≡ None = subst (λ i. object_at i Keyslots n ≡ None) (same_value absent.value absent.holds) none in
-        used_or_free j n used (record { small = used.0; free = gone })
-    unopened_by opening.SlotFree is other = as_luks2 opening.SlotFree is
-    unopened_by opening.Outside is other = not_outside (as_luks2 opening.Outside is)
+        absurd (used_or_free j n used (record { small = used.0; free = gone }))
+    unopened_by opening.SlotFree is other = absurd (as_luks2 opening.SlotFree is)
+    unopened_by opening.Outside is other = absurd (not_outside (as_luks2 opening.Outside is))
     unopened_by (opening.Slot f) is other = rw asked is
     unopened_by opening.Device is other = tt
     unopened_by opening.Memory is other = rw asked (other refl)

@@ -91,7 +91,7 @@ module _ {v : List ℕ} {payload : Data} {e : Edit} {o : ℕ} {meta : Meta} {ent
 
     -- a keyslot is added
     module _ {opener_ : Opener} {new : Bor (List ℕ)} {to : Option ℕ} (asked : AskedDerivation) (is : deed_of e ≡ deed.Seal (sealing (New opener_ to) new asked))
-        {like : Like} (is_like : IsLike (content meta) opener_ like) where
+        (like : Like) (is_like : IsLike (content meta) opener_ like) where
       pub unadded_refused : (f : EditFault) → IsUnadded (area_len meta + 4096) total payload (content meta) like to (allowed_for opener_ new.now).memory asked f
           → IsRefusedEarly v payload e f
       unadded_refused f (inl bad) = number_first v payload o (content meta) r.metadata e opener_ to new asked is eight_of f bad

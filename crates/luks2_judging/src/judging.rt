@@ -116,8 +116,8 @@ fn taken_by<'a, D: Device>(
     judge_with_key(alloc, device, &accepted, edit)
 }
 
-/// The rows from the opening of a keyslot on: `Locked`, `KeyLength`, `WrongKey`, `Slot`, `SlotTaken`, `NoFreeSlot`, `NoRoom`,
-/// `LastSlot`, `Iterations`, `Argon2`, `BadLabel`.
+/// The rows from what gives the key on: `Locked`, `KeyLength`, `WrongKey`, `Slot`, `SlotTaken`, `NoFreeSlot`,
+/// `NoRoom`, `LastSlot`, `Iterations`, `Argon2`, `BadLabel`.
 fn judge_with_key<'a, D: Device>(
     alloc: Global,
     device: &mut D,
@@ -143,8 +143,8 @@ fn judge_with_key<'a, D: Device>(
     }
 }
 
-/// The same of an edit that seals a key: `Locked`, `KeyLength`, `WrongKey`, `Slot`, `SlotTaken`, `NoFreeSlot`, `NoRoom`,
-/// `Iterations`, `Argon2`.
+/// The same of an edit that seals a key: `Locked`, `KeyLength`, `WrongKey`, `Slot`, `SlotTaken`,
+/// `NoFreeSlot`, `NoRoom`, `Iterations`, `Argon2`.
 fn judge_sealing_of<'a, D: Device>(
     alloc: Global,
     device: &mut D,

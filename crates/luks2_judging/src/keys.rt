@@ -1,6 +1,6 @@
 //! What a new keyslot is made like by the volume key: the digest that the key meets, and the first of that
 //! digest's keyslots.
-ghost use Rattle.std.specs.Prelude.{◌≡◌, ◌↔◌, ◌<◌, ◌≤◌, ℕ, None, length, IfSome, IsNone, IsTrue, MatchOption, MatchResult};
+ghost use Rattle.std.specs.Prelude.{◌≡◌, ◌↔◌, ◌<◌, ◌≤◌, ℕ, None, length, IfErr, IfOk, IfSome, IsNone, IsTrue, MatchOption, MatchResult};
 ghost use Rattle.luks_meta.specs.Content.{content};
 ghost use Rattle.luks_meta.specs.Objects.{IsAccepted};
 ghost use Rattle.luks_slot.specs.declared.plan.DigestPlan.{DigestPlan as ThePlan};
@@ -27,9 +27,12 @@ pub(crate) struct Given {
 /// `WrongKey` or `Slot`, by which a keyslot is refused, too, that would be made like this one.
 pub(crate) fn own_volume_key(meta: &Meta, key: &VolumeKey<'_>) -> Result<Given, EditFault>
     requires { IsAccepted (content meta.now) }
-    ensures { MatchResult result
-        (λ g. (g.key ≡ key.now.bytes.now) × IsLikeByKey key.now.allowed.older (content meta.now) key.now.bytes.now g.like
-        × HasRefusal key.now.allowed.older (content meta.now) g.like None)
+    ensures key { IfOk result (λ g. g.key ≡ key.now.bytes.now) }
+    ensures like { IfOk result (λ g.
+        IsLikeByKey key.now.allowed.older (content meta.now) key.now.bytes.now g.like) }
+    ensures accepted { IfOk result (λ g.
+        HasRefusal key.now.allowed.older (content meta.now) g.like None) }
+    ensures refused { IfErr result
         (IsUnkeyed2 key.now.allowed.older (content meta.now) key.now.bytes.now) }
 {
     let older = key.allowed.older;
@@ -64,11 +67,14 @@ fn unmet(meta: &Meta, key: &[u8], older: bool) -> EditFault
 {
     let mut taken = false;
     for number in 0..32 {
-        if let Some(known) = takes_known(meta, number, key.len(), older) {
-            if !known {
-                return EditFault::Slot(SlotFault::Hash);
+        match takes_known(meta, number, key.len(), older) {
+            Some(known) => {
+                if !known {
+                    return EditFault::Slot(SlotFault::Hash);
+                }
+                taken = true;
             }
-            taken = true;
+            None => {}
         }
     }
     if taken {
@@ -228,7 +234,7 @@ fn refusal_of(meta: &Meta, n: u8, older: bool) -> Option<SlotFault>
 
 /// The plan of a keyslot that is made like one with this plan: by PBKDF2, of its splitter's hash.
 fn derived_anew(plan: SlotPlan<'_>) -> SlotPlan<'_>
-    ensures { result ≡ derived_anew plan }
+    ensures { result ≡ derived_anew plan.entry }
 {
     SlotPlan {
         derivation: Derivation::Pbkdf2 {

@@ -142,7 +142,7 @@ impl Fault {
     /// Every fault: of the header, the metadata of LUKS2, the areas, the keyslot that is to be opened,
     /// then of an edit, of formatting, of converting, of rebuilding and of header backups, and at last of
     /// another use of the disk and of a reencryption.
-    pub const ALL: [Fault; 57] = [
+    pub const ALL: [Fault; 58] = [
         Fault::TooShort,
         Fault::NotLuks,
         Fault::Version,
@@ -222,9 +222,9 @@ impl Fault {
             TooShort NotLuks Version NoSoundCopy Text Uuid SlotState KeyBytes Stripes Iterations
             JsonArea BadJson NotWhole Shape Kind NoSuchName Assigned Sizes AreaTooSmall Region
             Outside Overlap NoSuchSlot SameSlot SlotFree Argon2 Cipher Hash KeySize NoSuchDigest KeyLength
-             WrongKey Locked Passphrase Requirements SlotTaken NoFreeSlot NoRoom LastSlot BadLabel SeqExhausted MetadataFull
-             RandomLength Payload TooSmall SectorSize Uneven NotLuks1 SameFile Counts NoMetadata NoHeader Exists
-             NotAccepted DoesNotFit OtherVolume OtherUse Reencrypting
+            WrongKey Locked Passphrase Requirements SlotTaken NoFreeSlot NoRoom LastSlot BadLabel SeqExhausted MetadataFull
+            RandomLength Payload TooSmall SectorSize Uneven NotLuks1 SameFile Counts NoMetadata NoHeader Exists
+            NotAccepted DoesNotFit OtherVolume OtherUse Reencrypting
         )
     }
 

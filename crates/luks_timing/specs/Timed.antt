@@ -8,7 +8,6 @@ use Rattle.luks_request.specs.declared.derivation.AskedKdf.{AskedKdf}
 use Rattle.luks_request.specs.declared.derivation.AskedKdf.TheVariants.{Pbkdf2, Argon2}
 use Rattle.luks_request.specs.declared.request.Command.{Command}
 use Rattle.luks_request.specs.declared.request.Command.TheVariants.{Edit, Format}
-use Rattle.luks_request.specs.declared.request.Editing.{Editing}
 use Rattle.luks_request.specs.declared.request.EditRequest.{EditRequest}
 use Rattle.luks_request.specs.declared.request.EditRequest.TheVariants.{Add, AddByKey, Change}
 use Rattle.luks_request.specs.declared.request.Making.{Making}
@@ -95,6 +94,7 @@ IsKdfFault allowed kdf Memory = TimesArgon2 allowed kdf
 -- of an edit: none where it asks for no derivation
 abbrev pub IsEditCostFault : EditRequest → CostFault → Type 0
 IsEditCostFault (Add by_ opener memory older new to iterations (Some kdf)) f = IsKdfFault memory kdf f
+IsEditCostFault (AddByKey key memory older new to iterations (Some kdf)) f = IsKdfFault memory kdf f
 IsEditCostFault (Change slot opener memory older new iterations (Some kdf)) f = IsKdfFault memory kdf f
 IsEditCostFault request f = ⊥
 

@@ -63,7 +63,7 @@ returns-in_err-addition-in-New-clause-refused g c = λ tells is payload well jud
     let p = err_from_is_err_and c.from_residual-in_err-addition-in-New.result c.from_residual-in_err-addition-in-New.ensures.1 in
     let s = c.args.sealed.now in
     rw (p.1, p.2)
-    (unadded_refused read (c.in_ok-given.ensures.opened tells is c.args.edit.now (sym c.allowed-allowed.ensures) asked).past s.derivation deed_is made_here c.in_err-addition-in-New.field-0.0
+    (unadded_refused read (c.in_ok-given.ensures.opened tells is c.args.edit.now (sym c.allowed-allowed.ensures) asked).past s.derivation deed_is c.in_ok-given.given.like made_here c.in_err-addition-in-New.field-0.0
     (subst (λ (k : Allowed). IsUnadded (area_len c.room-room.result.meta.now + 4096) c.room-room.result.total payload (content c.room-room.result.meta.now) c.in_ok-given.given.like c.in-New.to k.memory s.derivation c.in_err-addition-in-New.field-0.0)
     allows (c.in_err-addition-in-New.ensures.refused payload read.lists)))
 
@@ -89,7 +89,7 @@ returns-in_ok-addition-in-New-clause-passed g c = λ tells is payload judged.
     let added = c.in_ok-addition-in-New.addition in
     let said = c.in_ok-addition-in-New.ensures in
     let here = subst (λ (l : Like). IsLike (content c.room-room.result.meta.now) c.in-New.opener l) (sym said.like) made_here in
-    added_passed read (c.in_ok-given.ensures.opened tells is c.args.edit.now (sym c.allowed-allowed.ensures) asked).past c.args.sealed.now.derivation deed_is here said.number
+    added_passed read (c.in_ok-given.ensures.opened tells is c.args.edit.now (sym c.allowed-allowed.ensures) asked).past c.args.sealed.now.derivation deed_is added.like here said.number
     (subst (λ (k : Allowed). IsAllowed k.memory c.args.sealed.now.derivation) allows (rw said.derivation at said.allowed)) (said.area payload read.lists)
 
 pub returns-in_ok-addition-in-New-clause-takes : goal.returns-in_ok-addition-in-New-clause-takes
