@@ -1,5 +1,5 @@
 -- The edit that a caller asks for by numbers.
-use Rattle.std.specs.Prelude.{◌≡◌, ◌==◌, ℕ, ◌<◌, List, if◌then◌else◌, Option, Some, None}
+use Rattle.std.specs.Prelude.{◌≡◌, ◌≢◌, ◌==◌, ℕ, ◌<◌, List, if◌then◌else◌, Option, Some, None}
 use Rattle.luks_edit.specs.declared.edit.Edit.{Edit}
 use Rattle.luks_edit.specs.declared.edit.Edit.TheVariants.{Add, AddByKey, Change, Remove, Repair, Label}
 use Rattle.luks_edit.specs.declared.edit.Secret.{Secret}
@@ -30,7 +30,9 @@ IsSecret bytes asked p = (p.kind ≡ kind_asked asked.by_key) × (p.bytes.now �
 abbrev pub IsAsked : LuksEdit → List ℕ → List ℕ → Edit → Type 0
 IsAsked asked words text (Add by_ old new to iterations derivation) = (asked.kind ≡ 1) × IsSlot asked.by_ by_ × IsSecret words asked old
     × (new.now ≡ text) × IsMaybeSlot asked.to to × (iterations ≡ asked.iterations) × IsChoice asked.derivation derivation
-IsAsked asked words text (AddByKey key new to iterations derivation) = ⊥
+IsAsked asked words text (AddByKey key new to iterations derivation) = (asked.kind ≡ 1) × (asked.by_ ≡ 4294967295) × (asked.by_key ≢ 0)
+    × (key.bytes.now ≡ words) × (key.allowed ≡ allowed_of asked.memory asked.older)
+    × (new.now ≡ text) × IsMaybeSlot asked.to to × (iterations ≡ asked.iterations) × IsChoice asked.derivation derivation
 IsAsked asked words text (Change slot old new iterations derivation) = (asked.kind ≡ 2) × IsSlot asked.slot slot × IsSecret words asked old
     × (new.now ≡ text) × (iterations ≡ asked.iterations) × IsChoice asked.derivation derivation
 IsAsked asked words text (Remove slot by_ secret) = (asked.kind ≡ 3) × IsSlot asked.slot slot × IsMaybeSlot asked.by_ by_
