@@ -1,5 +1,5 @@
 -- A keyslot that is made as a new volume has it, for a digest that is there.
-use Rattle.std.proofs.Common.{◌≡◌, ℕ, codes, sym, subst, arith}
+use Rattle.std.proofs.Common.{ℕ, codes, sym, subst, arith}
 use Rattle.serde_json.specs.Data.{Data as Value}
 use Rattle.luks_rules.specs.Held.{IsHeld}
 use Rattle.luks_making.specs.Conditions.{FitsNew, FitsSlot, IsFree, IsRoom}

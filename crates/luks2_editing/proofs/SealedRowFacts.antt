@@ -37,7 +37,7 @@ module _ (v : List ℕ) (payload : Data) (e : Edit) (random : List ℕ) (copy : 
 
   module _ (salt : List ℕ) (bytes : IsBytes salt) (long : length salt ≡ 32) (new : Value)
       (made : IsMadeBy sealing.keyslot (members_of sealing.derivation salt sealing.area) (content copy.meta) new)
-      (n : ℕ) (needs : NeedsLike (content copy.meta) (like_of sealing.keyslot) n) where
+      (n : ℕ) (needs : NeedsLike (content copy.meta) n (like_of sealing.keyslot)) where
     edited : IsEdited (hdr_size (header_at v copy.header.hdr_offset)) (length v) payload e salt (content copy.meta) new
     edited = edited_by salt new made
 

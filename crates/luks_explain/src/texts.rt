@@ -129,9 +129,9 @@ pub(crate) fn place(fault: Fault) -> &'static str {
        to; LUKS1 has one, of the number 0"
         }
         Fault::KeyLength => {
-            "open, add, change and remove --key: its FILE; LUKS1 says in its header how
-        many bytes the key has, LUKS2 in the keyslots of the digest; format:
-        --key-bytes, else 64, of cbc 32, and as many has the FILE of --key"
+            "open, add, change and remove --key: its FILE; LUKS1 says in its header
+       how many bytes the key has, LUKS2 in the keyslots of the digest; format:
+       --key-bytes, else 64, of cbc 32, and as many has the FILE of --key"
         }
         Fault::WrongKey => {
             "add, change and remove --key: its FILE, by the digest of the keyslot that

@@ -30,7 +30,7 @@ use Rattle.luks_edit.specs.Opener.{IsUnmet, IsUnopenedKeyslot, lock_fault}
 use Rattle.luks_edit.proofs.OpeningFacts.{is_lock, lock_is, unmet_once}
 use Rattle.luks_edit.proofs.SecretFacts.{one_answer_to, opens_answer}
 use Rattle.luks_laws.proofs.DecidedFacts.{alike_decided, Decided, one_decided, true_decided}
-use Rattle.luks_laws.proofs.SearchFacts.{some_decided, some_same}
+use Rattle.luks_laws.proofs.SearchFacts.{number_decided, some_decided}
 
 -- ---- the derivation
 
@@ -71,14 +71,9 @@ wanted_in (deed.Rewrite label) P decide = inr (λ x. x.1)
 pub wanted_decided : (e : Edit) (P : ℕ → Type 0) → ((n : ℕ) → Decided (P n)) → Decided ((n : ℕ) × Wants e n × P n)
 wanted_decided e = wanted_in (deed_of e)
 
--- a keyslot is the one that is named, or another one is, or none
-named_decided : (by_ : Option ℕ) (slot : ℕ) → Decided (by_ ≡ Some slot)
-named_decided None slot = inr (λ same. cc)
-named_decided (Some other) slot = alike_decided (other ≡ slot) (Some other ≡ Some slot) (λ same. ap Some same) (λ same. some_same other slot same) (cases_eq other slot)
-
 -- the edit names the keyslot that it removes as the one to open by, or it doesn't
 pub itself_decided : (e : Edit) → Decided (NamesItself e)
-itself_decided e = some_decided Removed (removed_by e) (λ r. r.by_ ≡ Some r.slot) (λ r. named_decided r.by_ r.slot)
+itself_decided e = some_decided Removed (removed_by e) (λ r. r.by_ ≡ Some r.slot) (λ r. number_decided r.by_ r.slot)
 
 -- ---- refusals of a keyslot
 

@@ -1,5 +1,5 @@
 -- The metadata that an edit of a LUKS2 volume makes is there or not, and its text leaves room in the JSON area or doesn't.
-use Rattle.std.proofs.Common.{◌≡◌, ◌⊎◌, ℕ, zero, suc, ◌-◌, ◌≤◌, ◌<◌, List, length, slice_index, replicate, Option, Some, refl, sym, subst, ◌∙◌, arith, inl, inr}
+use Rattle.std.proofs.Common.{◌≡◌, ◌⊎◌, ℕ, zero, suc, ◌-◌, ◌≤◌, ◌<◌, List, length, slice_index, replicate, Option, refl, sym, subst, ◌∙◌, arith, inl, inr}
 use Rattle.std.proofs.lemmas.List.{length-replicate}
 use Rattle.base64.specs.GeneralPurpose.{IsBytes}
 use Rattle.serde_json.specs.Data.{Data as Value}
@@ -12,21 +12,22 @@ use Rattle.luks_making.specs.Keyslots.{IsDerivedOr, IsMadeFrom, NewMembers}
 use Rattle.luks_making.specs.With.{IsAdded, with_slot}
 use Rattle.luks_making.specs.Without.{without_slot}
 use Rattle.luks_reading.specs.declared.report.Data.{Data}
+use Rattle.luks_edit.specs.declared.deed.Deed.{Deed}
+use Rattle.luks_edit.specs.declared.deed.Deed.TheVariants as deed
+use Rattle.luks_edit.specs.declared.deed.Place.{Place}
+use Rattle.luks_edit.specs.declared.deed.Place.TheVariants.{New, Opened}
 use Rattle.luks_edit.specs.declared.edit.Edit.{Edit}
-use Rattle.luks_edit.specs.declared.edit.Edit.TheVariants.{Add, AddByKey, Change, Label, Remove, Repair}
 use Rattle.luks_edit.specs.declared.edit.Opener.{Opener}
-use Rattle.luks_edit.specs.declared.edit.Opener.TheVariants as opener
-use Rattle.luks_edit.specs.Asked.{chosen_or}
+use Rattle.luks_edit.specs.Asked.{deed_of, MatchDeed, MatchPlace}
 use Rattle.luks2_edit_laws.specs.declared.like.Like.{Like}
 use Rattle.luks2_edit_laws.specs.declared.like.Like.TheVariants.{Keyslot, Digest}
-use Rattle.luks2_edit_laws.specs.Likes.{ForLike, fresh_members, IsAddedLike}
-use Rattle.luks2_edit_laws.proofs.AfterFacts.{asking}
 use Rattle.luks2_edit_laws.specs.Edited.{HasAdded, HasChanged, IsEdited, members_of}
+use Rattle.luks2_edit_laws.specs.Likes.{ForLike, fresh_members, IsAddedLike}
 use Rattle.luks2_edit_laws.specs.Places.{HasNoNewArea, IsNewArea}
 use Rattle.luks2_edit_laws.specs.Refused.{IsFull}
+use Rattle.luks2_judging.specs.Keys.{IsThereLike}
 use Rattle.luks_laws.proofs.DecidedFacts.{at_most_decided, Decided}
 use Rattle.luks_laws.proofs.SearchFacts.{some_same, SomeOrNone}
-use Rattle.luks2_judging.specs.Keys.{IsThereLike}
 use Rattle.luks_laws.proofs.LikeDecisions2.{for_like_or_none}
 use Rattle.luks_laws.proofs.MemberDecisions2.{digest_or_none, made_or_none, new_number, object_or_none}
 use Rattle.luks_laws.proofs.RowDecisions2.{area_or_none}
@@ -83,35 +84,43 @@ added_or_none to by f j = elim (object_or_none j by) [
   | inr none ↦ inr (λ k x. none x.from (x.there.named, x.there.is))
 ]
 
--- like a keyslot, or as a new volume has it
-like_alike : (to other : ℕ) (like : Like) (f g : NewMembers) (j new : Value) → f.derivation ≡ g.derivation → IsAddedLike to like f j new → (k : Value) × IsAddedLike other like g j k
-like_alike to other (Keyslot by) f g j new asked x = added_alike to other by f g j new asked x
-like_alike to other (Digest number key_bytes) f g j new asked x = (with_slot other number (fresh_members key_bytes g) j, refl)
+-- ---- whatever it is made like
 
-like_or_none : (to : ℕ) (like : Like) (f : NewMembers) (j : Value) → SomeOrNone Value (IsAddedLike to like f j)
-like_or_none to (Keyslot by) f j = added_or_none to by f j
-like_or_none to (Digest number key_bytes) f j = inl (with_slot to number (fresh_members key_bytes f) j, refl)
+-- the same of each keyslot that one may be made like
+added_like_alike : (to other : ℕ) (l : Like) (f g : NewMembers) (j new : Value) → f.derivation ≡ g.derivation → IsAddedLike to l f j new → (k : Value) × IsAddedLike other l g j k
+added_like_alike to other (Keyslot by) f g j new asked x = added_alike to other by f g j new asked x
+added_like_alike to other (Digest number len) f g j new asked x = (with_slot other number (fresh_members len g) j, refl)
+
+added_like_or_none : (to : ℕ) (l : Like) (f : NewMembers) (j : Value) → SomeOrNone Value (IsAddedLike to l f j)
+added_like_or_none to (Keyslot by) f j = added_or_none to by f j
+added_like_or_none to (Digest number len) f j = inl (with_slot to number (fresh_members len f) j, refl)
 
 -- ---- the value that an edit makes
 
+-- the value that is made by what the edit does
+abbrev EditedIn : ℕ → ℕ → Data → Deed → List ℕ → Value → Value → Type 0
+EditedIn h total payload d salt j k = MatchDeed d
+    (λ s. MatchPlace s.place (λ o to. ForLike j o (HasAdded h total payload to s.derivation salt j k)) (λ slot secret. HasChanged h total payload slot s.derivation salt j k))
+    (λ r. k ≡ without_slot r.slot j) (λ label. k ≡ j)
+
 module _ (h total : ℕ) (payload : Data) (j : Value)
-    (area : (like : Like) → IsThereLike j like → ((a : Area) × IsNewArea h total payload j like a) ⊎ HasNoNewArea h total payload j like) where
-  -- an addition makes a value, or it lacks a number, an area, a member or a digest
-  add_or_none : (to : Option ℕ) (asked : AskedDerivation) (salt : List ℕ) (like : Like) → SomeOrNone Value (λ k. HasAdded h total payload to asked salt j k like)
-  add_or_none to asked salt like = elim (new_number j to) [
-    | inl n ↦ elim (area_or_none h total payload j area like) [
-      | inl a ↦ elim (like_or_none n.0 like (members_of asked salt a.0) j) [
+    (area : (l : Like) → IsThereLike j l → ((a : Area) × IsNewArea h total payload j l a) ⊎ HasNoNewArea h total payload j l) where
+  -- an addition like this one makes a value, or it lacks a number, an area, a member or a digest
+  add_like_or_none : (to : Option ℕ) (asked : AskedDerivation) (salt : List ℕ) (l : Like) → SomeOrNone Value (λ k. HasAdded h total payload to asked salt j k l)
+  add_like_or_none to asked salt l = elim (new_number j to) [
+    | inl n ↦ elim (area_or_none h total payload j area l) [
+      | inl a ↦ elim (added_like_or_none n.0 l (members_of asked salt a.0) j) [
         | inl new ↦ inl (new.0, record { slot = n.0; is_new = n.1; area = a.0; place = a.1; is = new.1 })
-        | inr none ↦ inr (λ k x. (let y = like_alike x.slot n.0 like (members_of asked salt x.area) (members_of asked salt a.0) j k refl x.is in none y.0 y.1))
+        | inr none ↦ inr (λ k x. (let y = added_like_alike x.slot n.0 l (members_of asked salt x.area) (members_of asked salt a.0) j k refl x.is in none y.0 y.1))
       ]
       | inr none ↦ inr (λ k x. none x.area x.place)
     ]
     | inr none ↦ inr (λ k x. none x.slot x.is_new)
   ]
 
-  -- by what it opens
-  add_by : (o : Opener) (to : Option ℕ) (asked : AskedDerivation) (salt : List ℕ) → SomeOrNone Value (λ k. ForLike j o (HasAdded h total payload to asked salt j k))
-  add_by o to asked salt = for_like_or_none Value j o (λ k like. HasAdded h total payload to asked salt j k like) (add_or_none to asked salt)
+  -- or by the opener nothing is there that it would be made like
+  add_or_none : (o : Opener) (to : Option ℕ) (asked : AskedDerivation) (salt : List ℕ) → SomeOrNone Value (λ k. ForLike j o (HasAdded h total payload to asked salt j k))
+  add_or_none o to asked salt = for_like_or_none j o (λ k. HasAdded h total payload to asked salt j k) (add_like_or_none to asked salt)
 
   -- a change makes a value, or it lacks an area
   change_or_none : (slot : ℕ) (asked : AskedDerivation) (salt : List ℕ) → SomeOrNone Value (HasChanged h total payload slot asked salt j)
@@ -120,31 +129,42 @@ module _ (h total : ℕ) (payload : Data) (j : Value)
     | inr none ↦ inr (λ k x. none x.area x.place)
   ]
 
+  -- a key that is sealed makes a value, or none
+  sealed_or_none : (p : Place) (asked : AskedDerivation) (salt : List ℕ)
+      → SomeOrNone Value (λ k. MatchPlace p (λ o to. ForLike j o (HasAdded h total payload to asked salt j k)) (λ slot secret. HasChanged h total payload slot asked salt j k))
+  sealed_or_none (New o to) asked salt = add_or_none o to asked salt
+  sealed_or_none (Opened slot secret) asked salt = change_or_none slot asked salt
+
   -- an edit makes a value with a salt, or it makes none
+  edited_in : (d : Deed) (salt : List ℕ) → SomeOrNone Value (λ k. EditedIn h total payload d salt j k)
+  edited_in (deed.Seal s) salt = sealed_or_none s.place s.derivation salt
+  edited_in (deed.Remove r) salt = inl (without_slot r.slot j, refl)
+  edited_in (deed.Rewrite label) salt = inl (j, refl)
+
   edited_or_none : (e : Edit) (salt : List ℕ) → SomeOrNone Value (IsEdited h total payload e salt j)
-  edited_or_none (Add by_ old new to iterations d) salt = add_by (opener.Keyslot by_ old) to (asking iterations d) salt
-  edited_or_none (AddByKey key new to iterations d) salt = add_by (opener.Key key) to (asking iterations (Some (chosen_or iterations d))) salt
-  edited_or_none (Change slot old new iterations d) salt = change_or_none slot (asking iterations d) salt
-  edited_or_none (Remove slot by_ passphrase) salt = inl (without_slot slot j, refl)
-  edited_or_none Repair salt = inl (j, refl)
-  edited_or_none (Label text) salt = inl (j, refl)
+  edited_or_none e = edited_in (deed_of e)
 
--- with another salt an addition makes a value too
-added_anew : (h total : ℕ) (payload : Data) (o : Opener) (to : Option ℕ) (asked : AskedDerivation) (a b : List ℕ) (j x : Value)
-    → ForLike j o (HasAdded h total payload to asked a j x) → (y : Value) × ForLike j o (HasAdded h total payload to asked b j y)
-added_anew h total payload o to asked a b j x is =
-    let y = like_alike is.has.slot is.has.slot is.like (members_of asked a is.has.area) (members_of asked b is.has.area) j x refl is.has.is in
-    (y.0, record { like = is.like; is_like = is.is_like; has = record { slot = is.has.slot; is_new = is.has.is_new; area = is.has.area; place = is.has.place; is = y.1 } })
+-- with another salt an edit makes a value too
+module _ (h total : ℕ) (payload : Data) (a b : List ℕ) (j x : Value) where
+  added_anew : (o : Opener) (to : Option ℕ) (asked : AskedDerivation) → ForLike j o (HasAdded h total payload to asked a j x) → (y : Value) × ForLike j o (HasAdded h total payload to asked b j y)
+  added_anew o to asked is =
+      let has = is.has in
+      let y = added_like_alike has.slot has.slot is.like (members_of asked a has.area) (members_of asked b has.area) j x refl has.is in
+      (y.0, record { like = is.like; is_like = is.is_like; has = record { slot = has.slot; is_new = has.is_new; area = has.area; place = has.place; is = y.1 } })
 
--- and so does any edit
+  sealed_anew : (p : Place) (asked : AskedDerivation)
+      → MatchPlace p (λ o to. ForLike j o (HasAdded h total payload to asked a j x)) (λ slot secret. HasChanged h total payload slot asked a j x)
+      → (y : Value) × MatchPlace p (λ o to. ForLike j o (HasAdded h total payload to asked b j y)) (λ slot secret. HasChanged h total payload slot asked b j y)
+  sealed_anew (New o to) asked is = added_anew o to asked is
+  sealed_anew (Opened slot secret) asked is = (changed_slot slot (members_of asked b is.area) j, record { area = is.area; place = is.place; is = refl })
+
+  salted_in : (d : Deed) → EditedIn h total payload d a j x → (y : Value) × EditedIn h total payload d b j y
+  salted_in (deed.Seal s) is = sealed_anew s.place s.derivation is
+  salted_in (deed.Remove r) is = (x, is)
+  salted_in (deed.Rewrite label) is = (x, is)
+
 salted_anew : (h total : ℕ) (payload : Data) (e : Edit) (a b : List ℕ) (j x : Value) → IsEdited h total payload e a j x → (y : Value) × IsEdited h total payload e b j y
-salted_anew h total payload (Add by_ old new to iterations d) a b j x is = added_anew h total payload (opener.Keyslot by_ old) to (asking iterations d) a b j x is
-salted_anew h total payload (AddByKey key new to iterations d) a b j x is = added_anew h total payload (opener.Key key) to (asking iterations (Some (chosen_or iterations d))) a b j x is
-salted_anew h total payload (Change slot old new iterations d) a b j x is =
-    (changed_slot slot (members_of (asking iterations d) b is.area) j, record { area = is.area; place = is.place; is = refl })
-salted_anew h total payload (Remove slot by_ passphrase) a b j x is = (x, is)
-salted_anew h total payload Repair a b j x is = (x, is)
-salted_anew h total payload (Label text) a b j x is = (x, is)
+salted_anew h total payload e a b j x = salted_in h total payload a b j x (deed_of e)
 
 -- ---- its text
 
@@ -169,7 +189,7 @@ unfolding zero_salt
 zero_salt_length = length-replicate {A = ℕ} 32 0
 
 module _ (h total : ℕ) (payload : Data) (j : Value)
-    (area : (like : Like) → IsThereLike j like → ((a : Area) × IsNewArea h total payload j like a) ⊎ HasNoNewArea h total payload j like) (e : Edit)
+    (area : (l : Like) → IsThereLike j l → ((a : Area) × IsNewArea h total payload j l a) ⊎ HasNoNewArea h total payload j l) (e : Edit)
     (alike : (a b : List ℕ) (x y : Value) → IsBytes a → IsBytes b → length a ≡ length b → IsEdited h total payload e a j x → IsEdited h total payload e b j y
     → length (compact_text x) ≡ length (compact_text y)) where
   -- with any salt the text is as long as with zeros, so it is too long or isn't

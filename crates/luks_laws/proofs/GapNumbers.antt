@@ -11,10 +11,7 @@ use Rattle.luks_rules.specs.Faults.{member_at, object_at, outer_at, section_at}
 use Rattle.luks_rules.specs.Reading.{decimal_in, number_in}
 use Rattle.luks_rules.specs.Sizes.{keyslots_size}
 use Rattle.luks_rules.specs.Table.{config_rows, keyslot_rows}
-use Rattle.luks2_edit_laws.specs.declared.like.Like.{Like}
-use Rattle.luks2_edit_laws.specs.declared.like.Like.TheVariants.{Keyslot, Digest}
-use Rattle.luks2_edit_laws.specs.Likes.{HasStripesLike}
-use Rattle.luks2_judging.specs.Keys.{IsThereLike}
+use Rattle.luks2_edit_laws.specs.Metadata.{HasStripes, IsInUse}
 
 -- ---- what is there
 
@@ -53,17 +50,16 @@ module _ (d : Value) (read : IsRead keyslot_rows d) where
   stripes : (x : ℕ) × (number_in 1 4294967295 (member_at d outer.Af name.Stripes) ≡ Some x)
   stripes = read_of _ _ (read.each 2 _ refl (and_from _ _ splitter_there refl))
 
--- how long the key is of a keyslot that is made like this one, and how many stripes it has
-pub record SomeStripes (j : Value) (like : Like) : Type 0 where
+-- how long the key of a keyslot is and how many stripes it has
+pub record SomeStripes (j : Value) (n : ℕ) : Type 0 where
   pub key_bytes : ℕ
   pub stripes : ℕ
-  pub slot : HasStripesLike j like key_bytes stripes
+  pub slot : HasStripes j n key_bytes stripes
 
 module _ (len : ℕ) (j : Value) (content : IsContent len j) where
   -- a keyslot that is there says its stripes
-  pub some_stripes : (like : Like) → IsThereLike j like → SomeStripes j like
-  some_stripes (Digest number long) there = record { key_bytes = long; stripes = 4000; slot = (refl, refl) }
-  some_stripes (Keyslot n) used =
+  pub some_stripes : (n : ℕ) → IsInUse j n → SomeStripes j n
+  some_stripes n used =
       let object : (d : Value) × (object_at j Keyslots n ≡ Some d) = some_of (object_at j Keyslots n) used.1 in
       let there : HasObject j Keyslots n object.0 = record { numbered = refl; named = used.0; is = object.1 } in
       let read : IsRead keyslot_rows object.0 = content.objects Keyslots n object.0 there in

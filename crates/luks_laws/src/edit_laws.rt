@@ -35,7 +35,7 @@ pub fn first_refusal_or_unrefused()
     every_keyslot_has_an_answer();
 }
 
-/// An opener without memory allows none to an edit, and one to which nothing is allowed nothing.
+/// What opens without memory allows none to an edit, and what is allowed nothing allows nothing.
 /// Where no memory is allowed, a keyslot answers the edit exactly as it does without Argon2, and takes
 /// none; where nothing is, the plan of a keyslot of either version is refused as it is without older
 /// ciphers and hashes too. A keyslot of LUKS1 answers alike whatever memory is allowed.
