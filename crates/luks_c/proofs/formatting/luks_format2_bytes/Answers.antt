@@ -4,7 +4,7 @@ use Rattle.luks_c.proofs.formatting.luks_format2_bytes.Goals as goal
 pub returns-in-Some-clause-usage : goal.returns-in-Some-clause-usage
 returns-in-Some-clause-usage c =
     let within = c.in-Some.ensures.0 in
-    let given_is = c.in-Ok2.ensures in (
+    let given_is = c.in-Ok-given_of.ensures in (
       (λ usage. absurd (c.make2.ensures.own usage)),
       (λ any. absurd (elim any [
         | inl unchosen ↦ unchosen c.in-Ok.chosen c.in-Ok.ensures
@@ -21,8 +21,8 @@ returns-in-Some-clause-usage c =
 pub returns-in-Some-clause-answers : goal.returns-in-Some-clause-answers
 returns-in-Some-clause-answers c = λ used.
     record {
-      given = c.in-Ok2.given;
-      given_is = c.in-Ok2.ensures;
+      given = c.in-Ok-given_of.given;
+      given_is = c.in-Ok-given_of.ensures;
       format = c.in-Some.format;
       is = c.in-Some.ensures.1;
       chosen = c.in-Ok.chosen;
