@@ -78,10 +78,10 @@ AnswersFormat1 parts v total given format passphrase random old new told number 
     AnswersFormat parts v (IsFormat1FaultAs given false total format random)
     (IsMade1 given format passphrase random v told.slot) old new told number
 
--- of a LUKS2 volume, by the derivation that is chosen, with so many KiB that Argon2 may take
-abbrev pub AnswersFormat2 : List Part → List ℕ → ℕ → Given → Format → Option NewDerivation → ℕ → List ℕ → List ℕ → Buffers → Buffers → LuksPlan → ℕ → Type 0
-AnswersFormat2 parts v total given format chosen memory passphrase random old new told number =
-    AnswersFormat parts v (IsFormat2FaultAs given false chosen (allowed_for memory passphrase) total format random)
+-- of a LUKS2 volume, by the derivation that is chosen, with what is allowed of its keyslot
+abbrev pub AnswersFormat2 : List Part → List ℕ → ℕ → Given → Format → Option NewDerivation → Allowed → List ℕ → List ℕ → Buffers → Buffers → LuksPlan → ℕ → Type 0
+AnswersFormat2 parts v total given format chosen allowed passphrase random old new told number =
+    AnswersFormat parts v (IsFormat2FaultAs given allowed.older chosen (allowed_for allowed.memory passphrase) total format random)
     (IsMade2 given format chosen passphrase random v told.slot) old new told number
 
 -- made by these numbers, with what is given
