@@ -11,7 +11,7 @@ _luks() {
         [remove]="--slot --by --passphrase --passphrase-line --key --random --memory --older --over --detached --offset --length --quiet --help"
         [repair]="--random --over --detached --offset --length --quiet --help"
         [label]="--random --over --detached --offset --length --quiet --help"
-        [format]="--passphrase --passphrase-line --random --version --hash --iterations --kdf --kdf-memory --passes --lanes --iter-time --memory --key --payload --uuid --label --subsystem --over --detached --offset --length --quiet --help"
+        [format]="--passphrase --passphrase-line --random --version --hash --iterations --kdf --kdf-memory --passes --lanes --iter-time --memory --cipher --key-bytes --sector-size --older --key --payload --uuid --label --subsystem --over --detached --offset --length --quiet --help"
         [convert]="--random --over --detached --offset --length --quiet --help"
         [rebuild]="--random --second --size --thorough --cipher --hash --key-bytes --payload --passphrase --passphrase-line --uuid --over --offset --length --quiet --help"
         [find]="--offset --length --quiet --help"
@@ -50,6 +50,8 @@ _luks() {
         --key-bytes) value=1 words="16 32 64" ;;
         --kdf) value=1 words="pbkdf2 argon2i argon2id" ;;
         --lanes) value=1 words="$(echo {1..4})" ;;
+        --cipher) value=1 words="aes-xts-plain64 aes-xts-plain aes-cbc-essiv:sha256 aes-cbc-plain64 aes-cbc-plain" ;;
+        --sector-size) value=1 words="512 1024 2048 4096" ;;
     esac
     if ((COMP_CWORD == 1)); then
         words="${!options[*]} --help --version"

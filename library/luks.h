@@ -129,7 +129,10 @@ enum luks_fault {
     LUKS_FAULT_REENCRYPTING = 52,
     LUKS_FAULT_NO_SUCH_DIGEST = 53,
     LUKS_FAULT_KEY_LENGTH = 54,
-    LUKS_FAULT_PAYLOAD = 55
+    LUKS_FAULT_PAYLOAD = 55,
+    LUKS_FAULT_SECTOR_SIZE = 56,
+    LUKS_FAULT_UNEVEN = 57,
+    LUKS_FAULT_WRONG_KEY = 58
 };
 /* until here */
 
@@ -497,8 +500,10 @@ uint32_t luks_change(int fd, uint64_t offset, uint64_t length, bool is_detached,
                      const void *changed, size_t changed_bytes, uint32_t iterations, const struct luks_derivation *derivation, uint32_t memory,
                      uint32_t older, uint32_t *made);
 
-/* The first of these by the volume key that the keyslot `by` gives, in the place of its passphrase: so a keyslot whose key material is destroyed is
- * opened anew. LUKS_FAULT_LOCKED: it isn't that key. Of the other two luks_apply does so. */
+/* The first of these by the volume key in the place of a passphrase. With `by` LUKS_NO_SLOT no keyslot is needed: a header whose keyslots are all destroyed or gone
+ * has one again, whose key is checked by the digest of the header, of LUKS2 by the first that the key meets of those that a segment is assigned to, else of all.
+ * With the number of a keyslot it is that keyslot's key, and its key area isn't read. LUKS_FAULT_KEY_LENGTH: no such key has so many bytes;
+ * LUKS_FAULT_WRONG_KEY: it isn't the key. Of the other two luks_apply does so; there a removal with `by` LUKS_NO_SLOT is by any key of the volume's. */
 uint32_t luks_add_by_key(int fd, uint64_t offset, uint64_t length, bool is_detached, uint32_t by, const void *key, size_t key_bytes,
                          const void *added, size_t added_bytes, uint32_t to, uint32_t iterations,
                          const struct luks_derivation *derivation, uint32_t memory, uint32_t older, uint32_t *slot);

@@ -146,7 +146,7 @@ def unlike(command, option, other, text, commands):
         wrong.append(f"{command.name} has {option.name} as of {other}, which hasn't that")
     for told in (option.help, text):
         ranges = re.findall(r"(\d+) to (\d+)", told) if value.range else []
-        presets = re.findall(r"default: (\w+)", told) if value.preset else []
+        presets = re.findall(r"default: ([\w-]+)", told) if value.preset else []
         if ranges and tuple(value.range) not in ranges or [it for it in presets if it != value.preset]:
             takes = " to ".join(value.range) + (f", without it {value.preset}" if value.preset else "")
             wrong.append(f"{command.name} {option.name} takes {takes}, and its text says otherwise: {told}")

@@ -186,7 +186,7 @@ def spelled(shown, numbers, names, preset):
 def unlike_values(table, read):
     """What takes.rt and the table don't say both of what options take."""
     source = read(TAKES)
-    constants = {"COPY_SIZES": re.search(r"static COPY_SIZES.*?= \[(.*?)\]", source, re.S)[1],
+    constants = {**dict(re.findall(r"^static (\w+): \[&str; \d+\] = \[(.*?)\];", source, re.S | re.M)),
                  "HashName::NAMES": re.search(r"const NAMES.*?= &\[(.*?)\]", read(HASHES))[1]}
     parsers, sizes, shown, presets = (arms(source, function) for function in ("parser", "sizes", "names", "preset"))
     wrong = [f"{TAKES} has Takes::{name}, docs/commands.table hasn't" for name in sorted(set(shown) - set(table.values))]

@@ -392,11 +392,11 @@ class Volume:
 
         It derives by the `derivation`, or where there is none as that keyslot does: by Argon2 of the same costs, or by PBKDF2 with so many
         iterations. Argon2 may take `memory` MiB, of either keyslot. Where `older` is so, the keyslot `by` may be one of an older disk, and
-        the new one has the same cipher and hash. Where `is_key` is so, `passphrase` is the volume key that the keyslot gives: its key
-        material isn't read, and may be destroyed. Returns the new keyslot.
+        the new one has the same cipher and hash. Where `is_key` is so, `passphrase` is the volume key: of the keyslot `by`, whose key
+        material isn't read, and may be destroyed, or where that is None of the volume, which needs no keyslot for it. Returns the new keyslot.
         """
-        by = self._opener(by, passphrase, memory, older, is_key)
-        edit = EditRecord(kind=ADD, by=_slot(by), to=_slot_or_none(to), iterations=_iterations(iterations), derivation=_choice(derivation))
+        named = _slot_or_none(by) if is_key else _slot(self._opener(by, passphrase, memory, older, is_key))
+        edit = EditRecord(kind=ADD, by=named, to=_slot_or_none(to), iterations=_iterations(iterations), derivation=_choice(derivation))
         slot = self._edited(edit, passphrase, added, memory, older, is_key)
         assert slot is not None
         return slot
@@ -657,7 +657,7 @@ class Volume:
         if slot is not None:
             return slot
         if is_key:
-            raise ValueError("an edit by the key names its keyslot")
+            raise ValueError("a change by the key names its keyslot")
         found = self.unlock(passphrase, memory, older)
         if found is None:
             raise Fault(Number.LOCKED)

@@ -64,6 +64,9 @@ class Number(enum.IntEnum):
     NO_SUCH_DIGEST = 53
     KEY_LENGTH = 54
     PAYLOAD = 55
+    SECTOR_SIZE = 56
+    UNEVEN = 57
+    WRONG_KEY = 58
     USAGE = 101
     BEYOND = 102
     MEMORY = 103

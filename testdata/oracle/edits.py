@@ -23,6 +23,7 @@ class Key(bytes):
 
 @dataclass(frozen=True)
 class Add:
+    """By the keyslot `by`; where there is none, by a key that is the volume's."""
     by: int
     old: bytes
     new: bytes
@@ -46,7 +47,7 @@ class Change:
 
 @dataclass(frozen=True)
 class Remove:
-    """Of the keyslot `slot`, whose passphrase it is; where `by` is given, that of the keyslot `by`, another one."""
+    """Of the keyslot `slot`, whose passphrase it is, or by a key that is the volume's; where `by` is given, those of the keyslot `by`, another one."""
     slot: int
     passphrase: bytes
     by: int = None
@@ -65,14 +66,25 @@ class Label:
 
 
 def opened_by(edit):
-    """The keyslot that the edit's passphrase, or key, has to open, and that; none for Repair and Label."""
+    """The keyslot that the edit's passphrase, or key, has to open, none of a key that is the volume's, and that; none for Repair and Label."""
     if isinstance(edit, Add):
         return edit.by, edit.old
     if isinstance(edit, Change):
         return edit.slot, edit.old
     if isinstance(edit, Remove):
-        return edit.slot if edit.by is None else edit.by, edit.passphrase
+        own = None if isinstance(edit.passphrase, Key) else edit.slot
+        return own if edit.by is None else edit.by, edit.passphrase
     return None
+
+
+def kdf_of(edit):
+    """What a new keyslot is to derive by: what is chosen, by the volume key PBKDF2 otherwise, else none."""
+    return {"type": "pbkdf2", "iterations": edit.iterations} if edit.kdf is None and opened_by(edit)[0] is None else edit.kdf
+
+
+def other_key(length, key):
+    """The fault of a key that isn't the one of so many bytes."""
+    return Fault("WrongKey" if len(key) == length else "KeyLength")
 
 
 class Volume1:
@@ -115,6 +127,18 @@ class Volume1:
     def entry(self, n, entry):
         return 208 + 48 * n, images.struct.pack(">II32sII", entry.active, entry.iterations, entry.salt, entry.offset, entry.stripes)
 
+    def volume_key(self, key, edit):
+        """The key, where it is the volume's."""
+        fault = reader.refusal(b"-".join((self.d["cipher"], self.d["mode"])).decode(), [self.d["hash"].decode()], self.d["key_bytes"], edit.older)
+        if fault:
+            raise Fault(fault)
+        if reader.match_key(self.volume, key, 0, edit.older)[0] != 0:
+            raise other_key(self.d["key_bytes"], key)
+        return key
+
+    def judge_need(self, edit):
+        pass
+
     def is_beyond(self, edit):
         """LUKS1 has no Argon2."""
         return edit.kdf is not None and edit.kdf["type"] != "pbkdf2"
@@ -152,6 +176,40 @@ class Volume2:
     def keyslot(self, n):
         return self.value["keyslots"][str(n)]
 
+    def key_digest(self, key, older):
+        """The name of the digest that the key meets: of several the first that has a segment, else the first."""
+        digests = self.value["digests"]
+        judged = {name: reader.match_key(self.volume, key, int(name), older)[1].strip() for name in digests}
+        met = [name for name, line in judged.items() if line == "key matches"]
+        if met:
+            return min(met, key=lambda name: (not digests[name]["segments"], int(name)))
+        if "refused Hash" in judged.values():
+            raise Fault("Hash")
+        raise Fault("WrongKey" if "key does not match" in judged.values() else "KeyLength")
+
+    def like(self, edit):
+        """The keyslot like which a new one is made, and the name of the digest of its key: by the volume key the first one of its digest with a key of that
+        length, or where the digest has none, that of a new volume."""
+        slot, secret = opened_by(edit)
+        if slot is not None:
+            return self.keyslot(slot), makers.digest_name(self.value, slot)
+        name = self.key_digest(secret, edit.older)
+        fitting = [n for n in sorted(map(int, self.value["digests"][name]["keyslots"])) if self.keyslot(n)["key_size"] == len(secret)]
+        return self.keyslot(fitting[0]) if fitting else images.keyslot(key_size=len(secret)), name
+
+    def volume_key(self, key, edit):
+        """The key, where it is the volume's, and a keyslot may be made by it."""
+        like, name = self.like(edit)
+        fault = reader.refusal(like["area"]["encryption"], [like["af"]["hash"], self.value["digests"][name]["hash"]], like["area"]["key_size"], edit.older)
+        if fault:
+            raise Fault(fault)
+        return key
+
+    def judge_need(self, edit):
+        """What a keyslot that is added by the volume key takes is said by the digest that this meets."""
+        if isinstance(edit, Add) and edit.by is None:
+            self.volume_key(edit.old, edit)
+
     def has_requirements(self):
         config = self.value["config"]
         return "requirements" in config and config["requirements"] not in (None, {}, [], {"mandatory": []})
@@ -162,7 +220,7 @@ class Volume2:
     def need(self, edit):
         if not isinstance(edit, (Add, Change)):
             return 128
-        slot = self.keyslot(opened_by(edit)[0])
+        slot, _ = self.like(edit)
         return 128 + 32 + (slot["af"]["stripes"] - 1) * slot["key_size"]
 
     def areas(self):
@@ -176,7 +234,7 @@ class Volume2:
 
     def gap(self, edit):
         """The place of the new area, or none: only where an area or the region begins, or one ends, can the least one be."""
-        size = makers.area_size(self.keyslot(opened_by(edit)[0]))
+        size = makers.area_size(self.like(edit)[0])
         least, most = reader.region(self.copy, self.value)
         areas = [area for area in self.areas() if area[1] > 0]
         for at in sorted(images.round_up(place, 4096) for place in [least] + [start + length for start, length in areas]):
@@ -205,8 +263,9 @@ class Volume2:
             return makers.without_slot(self.value, edit.slot)
         if not isinstance(edit, (Add, Change)):
             return self.value
-        rest = (edit.iterations, salt, self.gap(edit), makers.area_size(self.keyslot(opened_by(edit)[0])), edit.kdf)
-        return makers.with_slot(self.value, place_of(self, edit), edit.by, *rest) if isinstance(edit, Add) else makers.changed_slot(self.value, edit.slot, *rest)
+        like, name = self.like(edit)
+        rest = (edit.iterations, salt, self.gap(edit), makers.area_size(like), kdf_of(edit))
+        return makers.with_slot(self.value, place_of(self, edit), like, name, *rest) if isinstance(edit, Add) else makers.changed_slot(self.value, edit.slot, *rest)
 
     def is_beyond(self, edit):
         """More memory than is allowed, or less than 8 KiB for each lane (RFC 9106, 3.1)."""
@@ -226,8 +285,8 @@ class Volume2:
         salts, areas = (drawn.take(64), drawn.take(64)), []
         salt = drawn.take(32) if isinstance(edit, (Add, Change)) else None
         if salt:
-            old = self.keyslot(opened_by(edit)[0])
-            kdf = makers.derivation(old, edit.iterations, salt, edit.kdf)
+            old, _ = self.like(edit)
+            kdf = makers.derivation(old, edit.iterations, salt, kdf_of(edit))
             slot_key = derived(kdf, edit, salt, old["area"]["key_size"])
             areas.append((self.gap(edit), sealed_area(old["af"]["hash"], slot_key, key, drawn.rest(), old["area"]["encryption"])))
         wiped = []
@@ -277,7 +336,7 @@ def accepted(volume, detached, over=True):
 
 def find(v, edit):
     """The keyslots that the edit names are there: the one that it opens and, of a removal, the one that goes, which is named once."""
-    named = {opened_by(edit)[0]} if opened_by(edit) else set()
+    named = {opened_by(edit)[0]} - {None} if opened_by(edit) else set()
     if isinstance(edit, Remove):
         named.add(edit.slot)
     if not named <= set(v.used):
@@ -287,11 +346,11 @@ def find(v, edit):
 
 
 def leaves_argon2(volume, edit):
-    """Whether the edit removes the last keyslot of PBKDF2 of the LUKS2 volume, by another one's passphrase."""
-    if not isinstance(edit, Remove) or edit.by is None:
+    """Whether the edit removes the last keyslot of PBKDF2 of the LUKS2 volume, which has others: by another one's secret, or by the volume key."""
+    if not isinstance(edit, Remove) or opened_by(edit)[0] == edit.slot:
         return False
     keyslots = reader.metadata(reader.select(volume)[0])["keyslots"]
-    return [int(n) for n, keyslot in keyslots.items() if keyslot["kdf"]["type"] == "pbkdf2"] == [edit.slot]
+    return len(keyslots) > 1 and [int(n) for n, keyslot in keyslots.items() if keyslot["kdf"]["type"] == "pbkdf2"] == [edit.slot]
 
 
 # what standard error says of it before it is done
@@ -309,9 +368,12 @@ def key_of(v, edit):
     if opened_by(edit) is None:
         return None
     slot, secret = opened_by(edit)
-    key = (own_key if isinstance(secret, Key) else reader.opened)(v.plan(slot, edit), secret)
+    if slot is None:
+        return v.volume_key(secret, edit)
+    plan = v.plan(slot, edit)
+    key = (own_key if isinstance(secret, Key) else reader.opened)(plan, secret)
     if key is None:
-        raise Fault("Locked")
+        raise other_key(plan[3], secret) if isinstance(secret, Key) else Fault("Locked")
     return key
 
 
@@ -333,6 +395,7 @@ def needed(volume, detached, edit, over=True):
     try:
         v = accepted(volume, detached, over)
         find(v, edit)
+        v.judge_need(edit)
         place_of(v, edit)
         return v.need(edit)
     except Fault as fault:

@@ -67,6 +67,11 @@ def derivation(edit):
     return f" --kdf={kdf['type']} --kdf-memory={kdf['memory'] // 1024} --passes={kdf['time']} --lanes={kdf['cpus']}"
 
 
+def secret(edit):
+    """The option of what opens."""
+    return "--key=k" if type(getattr(edit, "old", getattr(edit, "passphrase", None))).__name__ == "Key" else "--passphrase=p"
+
+
 def words(edit, detached):
     """The command of an edit; none where a line can't say it."""
     end = " --detached" if detached else ""
@@ -77,12 +82,13 @@ def words(edit, detached):
         if edit.to is not None and edit.to > 31:
             return None
         to = f" --to={edit.to}" if edit.to is not None else ""
-        return f"luks add v --slot={edit.by} --passphrase=p --new=n --random=r{derivation(edit)}{to}{memory}{end}"
+        slot = f"--slot={edit.by} " if edit.by is not None else ""
+        return f"luks add v {slot}{secret(edit)} --new=n --random=r{derivation(edit)}{to}{memory}{end}"
     if name == "change":
-        return f"luks change v --slot={edit.slot} --passphrase=p --new=n --random=r{derivation(edit)}{memory}{end}"
+        return f"luks change v --slot={edit.slot} {secret(edit)} --new=n --random=r{derivation(edit)}{memory}{end}"
     if name == "remove":
         by = f" --by={edit.by}" if edit.by is not None else ""
-        return f"luks remove v --slot={edit.slot}{by} --passphrase=p --random=r{memory}{end}"
+        return f"luks remove v --slot={edit.slot}{by} {secret(edit)} --random=r{memory}{end}"
     if name == "label":
         return f"luks label v {edit.text.decode()} --random=r{end}" if edit.text.decode().isprintable() else None
     return f"luks repair v --random=r{end}"

@@ -24,6 +24,11 @@ def digest_of(value, n):
     return next(digest for digest in value["digests"].values() if str(n) in digest["keyslots"])
 
 
+def digest_name(value, n):
+    """The name of the digest that names keyslot n."""
+    return next(name for name, digest in value["digests"].items() if str(n) in digest["keyslots"])
+
+
 def area_size(slot):
     """The size in bytes of a new area for a keyslot like this one."""
     return images.round_up(slot["key_size"] * slot["af"]["stripes"], 4096)
@@ -42,10 +47,9 @@ def derivation(old, iterations, salt, chosen):
     return {"salt": images.b64(salt), **({"hash": old["af"]["hash"]} if chosen["type"] == "pbkdf2" else {}), **chosen}
 
 
-def with_slot(value, to, by, iterations, salt, offset, size, chosen=None):
-    """With a new keyslot `to` that holds the key of keyslot `by`, after the manner of `by`."""
+def with_slot(value, to, old, digest, iterations, salt, offset, size, chosen=None):
+    """With a new keyslot `to` after the manner of the keyslot `old`, whose key is that of the digest of this name."""
     value = copy.deepcopy(value)
-    old = value["keyslots"][str(by)]
     value["keyslots"][str(to)] = {
         "type": "luks2",
         "key_size": old["key_size"],
@@ -53,7 +57,7 @@ def with_slot(value, to, by, iterations, salt, offset, size, chosen=None):
         "area": {"type": "raw", "offset": str(offset), "size": str(size), "encryption": old["area"]["encryption"], "key_size": old["area"]["key_size"]},
         "kdf": derivation(old, iterations, salt, chosen),
     }
-    digest_of(value, by)["keyslots"].append(str(to))
+    value["digests"][digest]["keyslots"].append(str(to))
     return value
 
 

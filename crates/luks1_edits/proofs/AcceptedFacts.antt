@@ -58,11 +58,11 @@ early_ends v payload e r f low first = (first, refl)
 -- ---- edits that open no keyslot
 
 module _ (v : List ℕ) (payload : Data) (r : List ℕ) (accepted : (f : CheckFault) → IsFault v payload f → ⊥) (e : Edit) where
-  new_passed : (label : Option (Bor (List ℕ))) → deed_of e ≡ deed.Rewrite label → Passed (IsEditFault1 v payload e r) 9
+  new_passed : (label : Option (Bor (List ℕ))) → deed_of e ≡ deed.Rewrite label → Passed (IsEditFault1 v payload e r) 11
   new_passed label is = past_new v payload e r (none_to_open v payload e r accepted (opens_none e label is)) (λ bad. rw is at bad) (λ bad. rw is at bad)
 
   -- there is nothing to repair
-  idle : deed_of e ≡ deed.Rewrite None → Passed (IsEditFault1 v payload e r) 15
+  idle : deed_of e ≡ deed.Rewrite None → Passed (IsEditFault1 v payload e r) 17
   idle is = past_label v payload e r (new_passed None is) (λ bad. rw is at bad) (λ bad. rw is at bad) (λ bad. rw is at bad) (λ bad. rw is at bad)
 
   need_none : deed_of e ≡ deed.Rewrite None → (k : ℕ) → Need1 v e k → k ≡ 0

@@ -1,5 +1,5 @@
 -- A change: after a keyslot was made, another one is removed.
-use Rattle.std.proofs.Common.{◌≡◌, ℕ, ◌*◌, ◌<◌, List, length, replicate, take, drop, subst, refl, sym, ap, ◌∙◌, arith, inl, inr, lit≤, Bool}
+use Rattle.std.proofs.Common.{◌≡◌, ℕ, ◌*◌, ◌<◌, List, length, replicate, take, drop, subst, refl, sym, ap, ◌∙◌, arith, inl, inr, lit≤}
 use Rattle.luks_area.specs.declared.area.Area.{Area}
 use Rattle.luks_area.specs.Area.{Fit}
 use Rattle.luks_area.specs.Ranges.{part, IsAt, SameBut}
@@ -8,15 +8,13 @@ use Rattle.luks_area.specs.Sectors.{rounded_to_sectors}
 use Rattle.luks1_header.specs.Bytes.{number_at}
 use Rattle.luks1_header.specs.Header1.{entry, entry_stripes, HoldsEntry}
 use Rattle.luks1_header.specs.declared.luks1.Luks1Slot.{Luks1Slot}
-use Rattle.luks_slot.specs.Allowance.{without_memory}
 use Rattle.luks_slot.specs.Sealing.{IsSealed}
 use Rattle.luks_reading.specs.declared.report.Data.{Data}
-use Rattle.luks_reading.specs.Answer.{opens}
 use Rattle.luks_reading.specs.Layout1.{Luks1Area}
-use Rattle.luks_edit.specs.declared.edit.SecretKind.{SecretKind}
-use Rattle.luks_edit.specs.Secrets.{AnswersTo}
+use Rattle.luks_edit.specs.declared.edit.Opener.TheVariants.{Keyslot}
+use Rattle.luks_edit.specs.declared.edit.Secret.{Secret}
 use Rattle.luks1_edits.specs.Accepted.{IsHeaderOf}
-use Rattle.luks1_edits.specs.Edited.{HoldsKey, IsChanged, IsFreed, IsInUse, IsLeastFree, IsMade, IsRemoved, IsWiped}
+use Rattle.luks1_edits.specs.Edited.{HoldsKey, IsChanged, IsFreed, IsInUse, IsLeastFree, IsMade, IsRemoved, IsWiped, Opens1}
 use Rattle.luks1_edits.specs.Kept.{AreKeyslots, HasSameKeyslot, IsEither}
 use Rattle.luks1_edits.specs.Leftovers.{IsFreedFirst, IsHalfChanged, IsHalfRemoved}
 use Rattle.luks1_edits.specs.Places.{area_len, area_start, entry_place, IsOfKeyslot, IsOfKeyslots}
@@ -142,8 +140,8 @@ module _ (h : List ℕ) (payload : Data) (v : List ℕ) (of : IsHeaderOf h paylo
         (subst (λ s. part w s (area_len u slot) ≡ replicate (area_len u slot) 0) start_same x.wiped)
 
   -- after both
-  pub changed : {kind : SecretKind} {older : Bool} (old w : List ℕ) → AnswersTo kind (without_memory older) v slot old (opens key) → IsRemoved u slot w → IsChanged kind older v slot old p iterations random w
-  changed old w opened x = record {
+  pub changed : (secret : Secret) (w : List ℕ) → Opens1 v (Keyslot slot secret) key → IsRemoved u slot w → IsChanged v slot secret p iterations random w
+  changed secret w opened x = record {
     fresh = n;
     is_free = least;
     key = key;
@@ -156,8 +154,8 @@ module _ (h : List ℕ) (payload : Data) (v : List ℕ) (of : IsHeaderOf h paylo
   }
 
   -- while the other one was removed
-  pub half_changed : {kind : SecretKind} {older : Bool} (old w : List ℕ) → AnswersTo kind (without_memory older) v slot old (opens key) → IsHalfRemoved u slot w → IsHalfChanged kind older v slot old p iterations random w
-  half_changed old w opened x = record {
+  pub half_changed : (secret : Secret) (w : List ℕ) → Opens1 v (Keyslot slot secret) key → IsHalfRemoved u slot w → IsHalfChanged v slot secret p iterations random w
+  half_changed secret w opened x = record {
     fresh = n;
     is_free = least;
     key = key;

@@ -1,5 +1,5 @@
 -- What holds of a LUKS1 volume after an edit that nothing refused, done or ended by the device.
-use Rattle.std.proofs.Common.{◌≡◌, ℕ, ◌<◌, ◌≤◌, ◌⊎◌, List, length, true, replicate, take, drop, subst, refl, sym, ap, ◌∙◌, arith, inl, inr, Option, Some, None, Bool}
+use Rattle.std.proofs.Common.{◌≡◌, ℕ, ◌<◌, ◌≤◌, ◌⊎◌, List, length, true, replicate, take, drop, subst, refl, sym, ap, ◌∙◌, arith, inl, inr, Option, Some, None}
 use Rattle.std.proofs.lemmas.Bool.{cases_lt, cases_eq, false_from_ne_true, ltb-false}
 use Rattle.std.proofs.lemmas.Option.{same_Some}
 use Rattle.luks_area.specs.declared.area.Area.{Area}
@@ -21,20 +21,22 @@ use Rattle.luks_reading.specs.Answer.{AnswerWithin, opens}
 use Rattle.luks_reading.specs.Checked.{AreaOf, WellFormed}
 use Rattle.luks_reading.specs.Layout1.{Luks1Area}
 use Rattle.luks_edit.specs.declared.edit.Edit.{Edit}
-use Rattle.luks_edit.specs.declared.edit.SecretKind.{SecretKind}
-use Rattle.luks_edit.specs.Secrets.{AnswersTo}
-use Rattle.luks_edit.specs.declared.edit.Edit.TheVariants.{Add, Change, Remove, Repair, Label}
+use Rattle.luks_edit.specs.declared.edit.Edit.TheVariants.{Add, AddByKey, Change, Remove, Repair, Label}
+use Rattle.luks_edit.specs.declared.edit.Opener.{Opener}
+use Rattle.luks_edit.specs.declared.edit.Opener.TheVariants.{Keyslot, Key}
+use Rattle.luks_edit.specs.Asked.{allowed_of, chosen_or}
 use Rattle.luks_edit.specs.declared.edit_fault.EditFault.TheVariants as fault
 use Rattle.luks_edit.specs.Kept.{Keeps}
-use Rattle.luks1_edits.specs.Edited.{After1, HoldsKey, IsFreed, IsInUse, IsLeastFree, IsMade, IsNewKeyslot, IsWiped, iterations_or, NamedKeyslots1, OpensAfter1, Removes}
+use Rattle.luks1_edits.specs.Edited.{After1, Gives1, HoldsKey, IsFreed, IsInUse, IsLeastFree, IsMade, IsNewKeyslot, IsWiped, iterations_or, NamedKeyslots1, Opens1, OpensAfter1, Removes}
 use Rattle.luks1_edits.specs.Kept.{AreKeyslots, ChangesKeyslots, IsEither, IsFitFor, KeepsOthers}
 use Rattle.luks1_edits.specs.Leftovers.{IsSealedFirst, IsTorn1, IsUntorn, Leftover1, OpensEither1}
 use Rattle.luks1_edits.specs.Places.{area_len, area_start, IsOfKeyslots}
 use Rattle.luks1_edits.specs.Refused.{IsUnrefused1}
-use Rattle.luks1_edits.proofs.AnswerFacts.{found_once, gives_moves}
+use Rattle.luks1_edits.proofs.AnswerFacts.{gives_moves}
 use Rattle.luks1_edits.proofs.HeaderFacts.{entry_is, header_clear, len_is, start_is, volume_of}
 use Rattle.luks1_edits.proofs.KeptFacts.{either_decided, keeps_others, kept_common, luks1_after, luks1_area_of, same_keyslot, stays_well_formed}
-use Rattle.luks1_edits.proofs.MadeKeyslotFacts.{IsMadeFrom, made_opens}
+use Rattle.luks1_edits.proofs.KeyFacts.{gives_once, planned_of}
+use Rattle.luks1_edits.proofs.MadeKeyslotFacts.{IsMadeFrom, IsPlanned, made_opens}
 
 -- ---- what no refusal means
 
@@ -64,7 +66,10 @@ enough n (Some (Argon2id costs)) few argon2 = absurd (argon2 refl)
 named_numbered : (v : List ℕ) (payload : Data) (e : Edit) (r : List ℕ) → IsUnrefused1 v payload e r → (n : ℕ) → NamedKeyslots1 v e n → n < 8
 named_numbered v payload (Add by_ old new (Some t) iterations d) r free n is =
     let low = at_most_seven t (λ over. free.none fault.NoFreeSlot over) in omega (arith, is, low)
+named_numbered v payload (AddByKey key new (Some t) iterations d) r free n is =
+    let low = at_most_seven t (λ over. free.none fault.NoFreeSlot over) in omega (arith, is, low)
 named_numbered v payload (Add by_ old new None iterations d) r free n is = is.free.0
+named_numbered v payload (AddByKey key new None iterations d) r free n is = is.free.0
 named_numbered v payload (Change slot old new iterations d) r free n is =
     let used = in_use v slot (λ not. free.none fault.NoSuchSlot (record { slot = slot; wanted = refl; unused = not })) in
     let low = used.0 in
@@ -170,6 +175,10 @@ module _ (payload : Data) (v : List ℕ) (chosen : Chosen v luks1) (well : WellF
       let lt : x.slot < 8 = named_numbered v payload (Add by_ old new to iterations d) r free x.slot x.is_new in
       let fits = made_fits (entry v x.slot) (entry w x.slot) (iterations_or iterations d) (take 32 r) (enough iterations d (λ few. free.none fault.Iterations few) (λ argon2. free.none fault.Argon2 argon2)) x.made in
       both_leave (IsNewKeyslot v to) x.slot x.slot w lt lt x.rest fits fits x.is_new x.is_new
+  leaves (AddByKey key new to iterations d) r w free x =
+      let lt : x.slot < 8 = named_numbered v payload (AddByKey key new to iterations d) r free x.slot x.is_new in
+      let fits = made_fits (entry v x.slot) (entry w x.slot) (iterations_or iterations (Some (chosen_or iterations d))) (take 32 r) (enough iterations (Some (chosen_or iterations d)) (λ few. free.none fault.Iterations few) (λ argon2. free.none fault.Argon2 argon2)) x.made in
+      both_leave (IsNewKeyslot v to) x.slot x.slot w lt lt x.rest fits fits x.is_new x.is_new
   leaves (Change slot old new iterations d) r w free x =
       let used : slot < 8 = named_numbered v payload (Change slot old new iterations d) r free slot (inl refl) in
       both_leave (NamedKeyslots1 v (Change slot old new iterations d)) slot x.fresh w used x.is_free.free.0 x.rest
@@ -189,35 +198,40 @@ module _ (payload : Data) (v : List ℕ) (chosen : Chosen v luks1) (well : WellF
   -- ---- what opens
 
   -- a keyslot that was made opens to each key that the opener gave, whatever is allowed
-  made_to : (kind : SecretKind) (older : Bool) (allowed : Allowed) (opener : ℕ) (old : List ℕ) (fresh iterations : ℕ) (salt new key other random w : List ℕ) → fresh < 8 → 1000 ≤ iterations
+  made_to : (o : Opener) (allowed : Allowed) (fresh iterations : ℕ) (salt new key other random w : List ℕ) → fresh < 8 → 1000 ≤ iterations
       → (a b : ℕ) → a < 8 → b < 8 → SameBut (IsOfKeyslots v (IsEither a b)) v w
       → IsMade (entry v fresh) (entry w fresh) iterations salt → HoldsKey w fresh new key random
-      → AnswersTo kind (without_memory older) v opener old (opens key) → AnswersTo kind allowed v opener old (opens other) → AnswerWithin allowed w fresh new (opens other)
-  made_to kind older allowed opener old fresh iterations salt new key other random w lt many a b lta ltb rest made holds opened again =
-      let same = same_Some key other (found_once kind v chosen (without_memory older) allowed opener old (Some key) (Some other) opened again) in
-      let x : IsMadeFrom kind allowed payload v opener old fresh iterations salt new key random w = record {
+      → Opens1 v o key → Gives1 allowed v o (Some other) → AnswerWithin allowed w fresh new (opens other)
+  made_to o allowed fresh iterations salt new key other random w lt many a b lta ltb rest made holds opened again =
+      let same = same_Some key other (gives_once v chosen (without_memory (allowed_of o).older) allowed o (Some key) (Some other) opened again) in
+      let x : IsMadeFrom allowed payload v fresh iterations salt new key random w = record {
         chosen = chosen;
         well = well;
         length_same = rest.length_same;
         common = kept_common v payload (volume_of v payload chosen well).fit w (IsEither a b) (either_keyslots a b lta ltb) rest;
-        opened = subst (λ k. AnswersTo kind allowed v opener old (opens k)) (sym same) again;
+        opened = subst (λ k. IsPlanned allowed.older v k) (sym same) (planned_of v chosen allowed o other again);
         numbered = lt;
         iterated = omega (arith, many);
         made = made;
         holds = holds;
       } in
-      subst (λ k. AnswerWithin allowed w fresh new (opens k)) same (made_opens kind allowed payload v opener old fresh iterations salt new key random w x)
+      subst (λ k. AnswerWithin allowed w fresh new (opens k)) same (made_opens allowed payload v fresh iterations salt new key random w x)
 
   pub opens_after : (e : Edit) (r w : List ℕ) → IsUnrefused1 v payload e r → After1 v e r w → OpensAfter1 v e w
   opens_after (Add by_ old new to iterations d) r w free x = λ allowed n key is opened.
       let lt : x.slot < 8 = named_numbered v payload (Add by_ old new to iterations d) r free x.slot x.is_new in
       subst (λ k. AnswerWithin allowed w k new.now (opens key)) (new_once v to x.slot n x.is_new is)
-      (made_to old.kind old.allowed.older allowed by_ old.bytes.now x.slot (iterations_or iterations d) (take 32 r) new.now x.key key (drop 32 r) w lt (enough iterations d (λ few. free.none fault.Iterations few) (λ argon2. free.none fault.Argon2 argon2))
+      (made_to (Keyslot by_ old) allowed x.slot (iterations_or iterations d) (take 32 r) new.now x.key key (drop 32 r) w lt (enough iterations d (λ few. free.none fault.Iterations few) (λ argon2. free.none fault.Argon2 argon2))
+      x.slot x.slot lt lt x.rest x.made x.holds x.opened opened)
+  opens_after (AddByKey key new to iterations d) r w free x = λ allowed n own is opened.
+      let lt : x.slot < 8 = named_numbered v payload (AddByKey key new to iterations d) r free x.slot x.is_new in
+      subst (λ k. AnswerWithin allowed w k new.now (opens own)) (new_once v to x.slot n x.is_new is)
+      (made_to (Key key) allowed x.slot (iterations_or iterations (Some (chosen_or iterations d))) (take 32 r) new.now x.key own (drop 32 r) w lt (enough iterations (Some (chosen_or iterations d)) (λ few. free.none fault.Iterations few) (λ argon2. free.none fault.Argon2 argon2))
       x.slot x.slot lt lt x.rest x.made x.holds x.opened opened)
   opens_after (Change slot old new iterations d) r w free x = λ allowed n key is opened.
       let used : slot < 8 = named_numbered v payload (Change slot old new iterations d) r free slot (inl refl) in
       subst (λ k. AnswerWithin allowed w k new.now (opens key)) (least_free_once v x.fresh n x.is_free is)
-      (made_to old.kind old.allowed.older allowed slot old.bytes.now x.fresh (iterations_or iterations d) (take 32 r) new.now x.key key (drop 32 r) w x.is_free.free.0 (enough iterations d (λ few. free.none fault.Iterations few) (λ argon2. free.none fault.Argon2 argon2))
+      (made_to (Keyslot slot old) allowed x.fresh (iterations_or iterations d) (take 32 r) new.now x.key key (drop 32 r) w x.is_free.free.0 (enough iterations d (λ few. free.none fault.Iterations few) (λ argon2. free.none fault.Argon2 argon2))
       slot x.fresh used x.is_free.free.0 x.rest x.made x.holds x.opened opened)
   opens_after (Remove slot by_ passphrase) r w free x = tt
   opens_after Repair r w free x = tt
@@ -227,6 +241,7 @@ module _ (payload : Data) (v : List ℕ) (chosen : Chosen v luks1) (well : WellF
 
   opens_either : (e : Edit) (r w : List ℕ) → IsUnrefused1 v payload e r → IsTorn1 v e r w → OpensEither1 v e w
   opens_either (Add by_ old new to iterations d) r w free x = tt
+  opens_either (AddByKey key new to iterations d) r w free x = tt
   opens_either (Change slot old new iterations d) r w free (inl x) = λ allowed key opened.
       let used = in_use v slot (λ not. free.none fault.NoSuchSlot (record { slot = slot; wanted = refl; unused = not })) in
       let lt : x.slot < 8 = x.is_new.free.0 in
@@ -242,7 +257,7 @@ module _ (payload : Data) (v : List ℕ) (chosen : Chosen v luks1) (well : WellF
         x.fresh,
         (
           x.is_free,
-          made_to old.kind old.allowed.older allowed slot old.bytes.now x.fresh (iterations_or iterations d) (take 32 r) new.now x.key key (drop 32 r) w x.is_free.free.0 (enough iterations d (λ few. free.none fault.Iterations few) (λ argon2. free.none fault.Argon2 argon2))
+          made_to (Keyslot slot old) allowed x.fresh (iterations_or iterations d) (take 32 r) new.now x.key key (drop 32 r) w x.is_free.free.0 (enough iterations d (λ few. free.none fault.Iterations few) (λ argon2. free.none fault.Argon2 argon2))
               slot x.fresh used x.is_free.free.0 x.rest x.made x.holds x.opened opened,
         ),
       )
@@ -252,6 +267,7 @@ module _ (payload : Data) (v : List ℕ) (chosen : Chosen v luks1) (well : WellF
 
   same_opens : (e : Edit) → OpensEither1 v e v
   same_opens (Add by_ old new to iterations d) = tt
+  same_opens (AddByKey key new to iterations d) = tt
   same_opens (Change slot old new iterations d) = λ allowed key opened. inl opened
   same_opens (Remove slot by_ passphrase) = tt
   same_opens Repair = tt
@@ -263,6 +279,8 @@ module _ (payload : Data) (v : List ℕ) (chosen : Chosen v luks1) (well : WellF
 
   torn_rest : (e : Edit) (r w : List ℕ) → IsTorn1 v e r w → SameBut (IsOfKeyslots v (NamedKeyslots1 v e)) v w
   torn_rest (Add by_ old new to iterations d) r w x =
+      places_wider (IsEither x.slot x.slot) (IsNewKeyslot v to) v w (one_named (IsNewKeyslot v to) x.slot x.is_new) (half_made_rest x.order)
+  torn_rest (AddByKey key new to iterations d) r w x =
       places_wider (IsEither x.slot x.slot) (IsNewKeyslot v to) v w (one_named (IsNewKeyslot v to) x.slot x.is_new) (half_made_rest x.order)
   torn_rest (Change slot old new iterations d) r w (inl x) =
       places_wider (IsEither x.slot x.slot) (NamedKeyslots1 v (Change slot old new iterations d)) v w
@@ -306,6 +324,10 @@ module _ (payload : Data) (v : List ℕ) (chosen : Chosen v luks1) (well : WellF
       let lt : x.slot < 8 = named_numbered v payload (Add by_ old new to iterations d) r free x.slot x.is_new in
       let fits = untorn_fits w x.slot lt (untorn x.slot x.is_new) in
       (both_leave (IsNewKeyslot v to) x.slot x.slot w lt lt (half_made_rest x.order) fits fits x.is_new x.is_new).well
+  untorn_well (AddByKey key new to iterations d) r w free x untorn =
+      let lt : x.slot < 8 = named_numbered v payload (AddByKey key new to iterations d) r free x.slot x.is_new in
+      let fits = untorn_fits w x.slot lt (untorn x.slot x.is_new) in
+      (both_leave (IsNewKeyslot v to) x.slot x.slot w lt lt (half_made_rest x.order) fits fits x.is_new x.is_new).well
   untorn_well (Change slot old new iterations d) r w free (inl x) untorn =
       let lt : x.slot < 8 = x.is_new.free.0 in
       let fits = untorn_fits w x.slot lt (untorn x.slot (inr x.is_new)) in
@@ -339,6 +361,7 @@ module _ (payload : Data) (v : List ℕ) (chosen : Chosen v luks1) (well : WellF
 
   pub removed_area : (e : Edit) (r w : List ℕ) (n : ℕ) (a : Area) → After1 v e r w → Removes e n → AreaOf v payload (Slot n) a → part w a.start a.len ≡ replicate a.len 0
   removed_area (Add by_ old new to iterations d) r w n a x is has = absurd is
+  removed_area (AddByKey key new to iterations d) r w n a x is has = absurd is
   removed_area (Change slot old new iterations d) r w n a x is has = wiped_area n w a (subst (λ k. IsWiped v k w) (sym is) x.wiped) has
   removed_area (Remove slot by_ passphrase) r w n a x is has = wiped_area n w a (subst (λ k. IsWiped v k w) (sym is) x.wiped) has
   removed_area Repair r w n a x is has = absurd is

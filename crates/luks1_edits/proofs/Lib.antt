@@ -4,6 +4,7 @@ pub mod ChangeFacts
 pub mod EditedFacts
 pub mod HeaderFacts
 pub mod KeptFacts
+pub mod KeyFacts
 pub mod KeyslotChoice
 pub mod KeyslotPlaces
 pub mod MadeKeyslotFacts

@@ -1,5 +1,5 @@
 -- A keyslot that was made opens by its passphrase to the key that another one opened.
-use Rattle.std.proofs.Common.{◌≡◌, ℕ, ◌*◌, ◌<◌, ◌≤◌, List, length, subst, refl, sym, ap, ◌∙◌, arith, inl, inr, true, false, Bool, Some, None, lit≤}
+use Rattle.std.proofs.Common.{◌≡◌, ℕ, ◌*◌, ◌<◌, ◌≤◌, List, length, refl, sym, ap, ◌∙◌, arith, inl, inr, true, false, Bool, Some, None, lit≤}
 use Rattle.std.specs.Prelude.{if◌then◌else◌}
 use Rattle.std.proofs.lemmas.Bool.{cases_eq}
 use Rattle.luks_area.specs.Ranges.{part}
@@ -23,15 +23,11 @@ use Rattle.luks_slot.specs.Refusal.{is_allowed_cipher, is_argon2, is_argon2_refu
 use Rattle.luks_kdf.specs.KeyslotNames.{each_keyslot_at_least, keyslot_digest, keyslot_digest_size, length-keyslot_digest}
 use Rattle.luks_kdf.proofs.SplitterFacts.{merge-split}
 use Rattle.luks_slot.specs.Opening.{hash_by_name}
-use Rattle.luks_edit.specs.declared.edit.SecretKind.{SecretKind}
-use Rattle.luks_edit.specs.Secrets.{AnswersTo}
-use Rattle.luks_edit.proofs.SecretFacts.{given_meets}
 use Rattle.luks_slot.proofs.SealingFacts.{sealed_opens}
-use Rattle.luks2_header.proofs.ChoiceFacts.{choices_agree}
 use Rattle.luks_reading.specs.declared.open_fault.OpenFault.{OpenFault}
 use Rattle.luks_reading.specs.declared.open_fault.OpenFault.TheVariants.{Head, Meta, NoSuchSlot, SlotFree, Outside, Slot, Device, Memory}
 use Rattle.luks_reading.specs.declared.report.Data.{Data}
-use Rattle.luks_reading.specs.Answer.{AnswerWithin, HasPlanAs, IsLuks1Refusal, IsRefusalAsWithin, opens}
+use Rattle.luks_reading.specs.Answer.{AnswerWithin, IsLuks1Refusal, opens}
 use Rattle.luks_reading.specs.Checked.{IsLuks1Volume, WellFormed}
 use Rattle.luks_reading.specs.Plans.{HasLuks1Plan, IsLuks1Cipher, IsLuks1Derivation, IsLuks1Plan}
 use Rattle.luks1_edits.specs.Edited.{HoldsKey, IsMade}
@@ -108,7 +104,7 @@ pub no_argon2 : (h e : List ℕ) (d : Derivation) → IsLuks1Derivation h e d �
 no_argon2 h e (Pbkdf2 k i s) is bad = absurd (cc)
 no_argon2 h e (Argon2 c) is bad = is
 
-same_digest : (a b : SlotPlan) (key : List ℕ) → SameTerms a b → meets_digest a.digest key ≡ meets_digest b.digest key
+pub same_digest : (a b : SlotPlan) (key : List ℕ) → SameTerms a b → meets_digest a.digest key ≡ meets_digest b.digest key
 unfolding meets_digest
 same_digest a b key s = simp (s.digest_hash, s.digest_iterations, s.digest_salt, s.digest_stored)
 
@@ -116,21 +112,29 @@ same_digest a b key s = simp (s.digest_hash, s.digest_iterations, s.digest_salt,
 some : (n : ℕ) → (n ≡ 0 → ⊥) → 1 ≤ n
 some n not = elim (cases_eq n 0) [ inl zero ↦ absurd (not zero) | inr other ↦ omega (arith, other) ]
 
--- the keyslot `n` of the volume `w` was made, of a well formed volume `v` with the same front in which
--- the keyslot `opener` gives the key by the secret `old`
-pub record IsMadeFrom (kind : SecretKind) (allowed : Allowed) (payload : Data) (v : List ℕ) (opener : ℕ) (old : List ℕ) (n iterations : ℕ) (salt new key random w : List ℕ) : Type 0 where
+-- a keyslot of the header, in use or not, has a plan that isn't refused, and the key meets its digest
+pub record IsPlanned (older : Bool) (v key : List ℕ) : Type 0 where
+  pub slot : ℕ
+  pub plan : SlotPlan
+  pub is : HasLuks1Plan (part v 0 592) slot plan
+  pub accepted : slot_refusal_within (without_memory older) plan ≡ None
+  pub meets : meets_digest plan.digest key ≡ true
+
+-- the keyslot `n` of the volume `w` was made, of a well formed volume `v` with the same front, for a key that
+-- meets its digest
+pub record IsMadeFrom (allowed : Allowed) (payload : Data) (v : List ℕ) (n iterations : ℕ) (salt new key random w : List ℕ) : Type 0 where
   pub chosen : Chosen v luks1
   pub well : WellFormed v payload
   pub length_same : length w ≡ length v
   pub common : part w 0 208 ≡ part v 0 208
-  pub opened : AnswersTo kind allowed v opener old (opens key)
+  pub opened : IsPlanned allowed.older v key
   pub numbered : n < 8
   pub iterated : 1 ≤ iterations
   pub made : IsMade (entry v n) (entry w n) iterations salt
   pub holds : HoldsKey w n new key random
 
-module _ (kind : SecretKind) (allowed : Allowed) (payload : Data) (v : List ℕ) (opener : ℕ) (old : List ℕ) (n iterations : ℕ) (salt new key random w : List ℕ)
-    (x : IsMadeFrom kind allowed payload v opener old n iterations salt new key random w) where
+module _ (allowed : Allowed) (payload : Data) (v : List ℕ) (n iterations : ℕ) (salt new key random w : List ℕ)
+    (x : IsMadeFrom allowed payload v n iterations salt new key random w) where
   whole : IsLuks1Volume (part v 0 592) payload (length v)
   whole = volume_of v payload x.chosen x.well
 
@@ -140,14 +144,8 @@ module _ (kind : SecretKind) (allowed : Allowed) (payload : Data) (v : List ℕ)
   front : SameFront (part v 0 592) (part w 0 592)
   front = same_front v w x.common
 
-  there : HasLuks1Plan (part v 0 592) opener x.opened.plan
-  there = subst (λ c. HasPlanAs v opener c x.opened.plan) (choices_agree v x.opened.choice luks1 x.opened.chosen x.chosen) x.opened.is
-
-  unrefused_before : (f : OpenFault) → IsLuks1Refusal allowed.older (part v 0 592) (length v) opener f → ⊥
-  unrefused_before f y = x.opened.unrefused f (subst (λ c. IsRefusalAsWithin allowed v opener c f) (sym (choices_agree v x.opened.choice luks1 x.opened.chosen x.chosen)) y)
-
   terms : (b : SlotPlan) → HasLuks1Plan (part w 0 592) n b → SameTerms x.opened.plan b
-  terms b is = same_terms (part v 0 592) (part w 0 592) (entry (part v 0 592) opener) (entry (part w 0 592) n) x.opened.plan b front there.is is.is
+  terms b is = same_terms (part v 0 592) (part w 0 592) (entry (part v 0 592) x.opened.slot) (entry (part w 0 592) n) x.opened.plan b front x.opened.is.is is.is
 
   stripes_before : 1 ≤ entry_stripes (entry v n)
   stripes_before = some (entry_stripes (entry v n)) (λ zero. clear (fault.Stripes n) (x.numbered, ap entry_stripes (entry_is v n x.numbered) ∙ zero))
@@ -160,8 +158,7 @@ module _ (kind : SecretKind) (allowed : Allowed) (payload : Data) (v : List ℕ)
 
   -- the key meets the digest, which is the volume's
   meets : meets_digest x.holds.plan.digest key ≡ true
-  meets = sym (same_digest x.opened.plan x.holds.plan key (terms x.holds.plan x.holds.is))
-      ∙ given_meets kind x.opened.plan (part v x.opened.plan.area.start x.opened.plan.area.len) old key x.opened.key
+  meets = sym (same_digest x.opened.plan x.holds.plan key (terms x.holds.plan x.holds.is)) ∙ x.opened.meets
 
   found : slot_key x.holds.plan (part w x.holds.plan.area.start x.holds.plan.area.len) new ≡ Some key
   found = let hash = hash_by_name x.holds.plan.splitter_hash.now in
@@ -207,8 +204,9 @@ module _ (kind : SecretKind) (allowed : Allowed) (payload : Data) (v : List ℕ)
       let within = area_inside v payload whole.fit n x.numbered in
       let size = x.length_same in
       omega (arith, past, start, len, within, size)
-  unrefused (Slot s) y = unrefused_before (Slot s)
-      (record { plan = x.opened.plan; is = there; refused = same_refusal (without_memory allowed.older) x.opened.plan y.plan (terms y.plan y.is) ∙ y.refused })
+  unrefused (Slot s) y =
+      let two : None ≡ Some s = sym x.opened.accepted ∙ same_refusal (without_memory allowed.older) x.opened.plan y.plan (terms y.plan y.is) ∙ y.refused in
+      absurd (cc)
   unrefused Device y = y
   unrefused Memory y = y
 

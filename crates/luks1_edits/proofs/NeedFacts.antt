@@ -1,17 +1,17 @@
 -- How many random bytes an edit takes, and the first fault that is seen without opening a keyslot.
-use Rattle.std.proofs.Common.{◌≡◌, ℕ, ◌<◌, Bool, List, [], arith, refl, None, Option, Result, Ok, Err, MatchResult}
+use Rattle.std.proofs.Common.{◌≡◌, ℕ, ◌<◌, ◌≤◌, List, [], arith, refl, None, Option, Result, Ok, Err, MatchResult}
 use Rattle.luks_area.specs.First.{IsLeast}
 use Rattle.luks_reading.specs.declared.check_fault.CheckFault.{CheckFault}
 use Rattle.luks_reading.specs.declared.report.Data.{Data}
 use Rattle.luks_reading.specs.Checked.{IsFault}
 use Rattle.luks_making.specs.declared.derivation.AskedDerivation.{AskedDerivation}
 use Rattle.luks_edit.specs.declared.edit.Edit.{Edit}
-use Rattle.luks_edit.specs.declared.edit.SecretKind.{SecretKind}
+use Rattle.luks_edit.specs.declared.edit.Opener.{Opener}
 use Rattle.luks_edit.specs.declared.edit_fault.EditFault.{EditFault}
 use Rattle.luks_edit.specs.declared.edit_fault.EditFault.TheVariants as fault
 use Rattle.luks_edit.specs.Asked.{deed_of, sealed_in}
 use Rattle.luks_edit.specs.EditFaults.{edit_key, edit_row}
-use Rattle.luks_edit.proofs.RowFacts.{Passed, after_check, after_plan, first_of_row, next}
+use Rattle.luks_edit.proofs.RowFacts.{Passed, after_check, after_opening, first_of_row, next}
 use Rattle.luks1_edits.specs.Accepted.{AreAllThere, IsNewFault, IsNewFree}
 use Rattle.luks1_edits.specs.Needed.{IsNeedFault1, NeedsRandom, TellsNeed1}
 use Rattle.luks1_edits.specs.Refused.{HasNoFree, IsEditFault1, IsTaken, Need1, NeedsFor, Refusal1}
@@ -57,13 +57,21 @@ module _ (v : List ℕ) (payload : Data) (e : Edit) (accepted : (f : CheckFault)
   pub idle_need : sealed_in (deed_of e) ≡ None → NeedsRandom v payload e 0
   idle_need none = told 0 (λ bad. rw none at bad) (λ bad. rw none at bad) (rw none refl)
 
-  past_opener : Passed (IsNeedFault1 v payload e) 6
+  past_opener : Passed (IsNeedFault1 v payload e) 8
   past_opener =
       let s = IsNeedFault1 v payload e in
       let asked : Passed s 2 = next s fault.Requirements refl (after_check s accepted) (λ bad. bad) in
-      after_plan s (next s fault.Locked refl (next s fault.SameSlot refl (next s fault.NoSuchSlot refl asked (there_of v e all)) all.other) (λ bad. bad)) (λ f bad. bad)
+      after_opening s (next s fault.SameSlot refl (next s fault.NoSuchSlot refl asked (there_of v e all)) all.other) none
+    where
+      none : (f : EditFault) → 4 ≤ edit_row f → edit_row f < 8 → IsNeedFault1 v payload e f → ⊥
+      none fault.SlotTaken from to bad = omega (arith, to)
+      none fault.NoFreeSlot from to bad = omega (arith, to)
+      none (fault.NotAccepted f) from to bad = omega (arith, from)
+      none fault.NoSuchSlot from to bad = omega (arith, from)
+      none fault.SameSlot from to bad = omega (arith, from)
+      none f from to bad = bad
 
-  module _ (opener : ℕ) (p : List ℕ) (to : Option ℕ) (asked : AskedDerivation) {kind : SecretKind} {older : Bool} (is : IsMaking kind older v e opener p to asked) where
+  module _ (o : Opener) (to : Option ℕ) (asked : AskedDerivation) (is : IsMaking v e o to asked) where
     need_refused : (f : EditFault) → IsNewFault v to f → IsLeast edit_key (IsNeedFault1 v payload e) f
     need_refused fault.SlotTaken bad = first_of_row (IsNeedFault1 v payload e) fault.SlotTaken refl past_opener (is.taken_is bad)
     need_refused fault.NoFreeSlot bad =

@@ -1,68 +1,55 @@
 -- The first refusal of an edit, row by row.
-use Rattle.std.proofs.Common.{◌≡◌, ℕ, List, subst, refl, sym, ◌∙◌, inl, Option, Some, None, Bool}
-use Rattle.std.specs.Prelude.{IsSomeAnd}
+use Rattle.std.proofs.Common.{◌≡◌, ℕ, ◌<◌, ◌≤◌, List, subst, refl, sym, arith, inl, Option, Some, None}
 use Rattle.std.specs.Borrow.{Bor}
+use Rattle.luks_area.specs.First.{NotAfter}
 use Rattle.luks_slot.specs.Allowance.{without_memory}
-use Rattle.luks_slot.specs.declared.fault.SlotFault.{SlotFault}
 use Rattle.luks_reading.specs.declared.check_fault.CheckFault.{CheckFault}
-use Rattle.luks_reading.specs.declared.open_fault.OpenFault.TheVariants as opening
 use Rattle.luks_reading.specs.declared.report.Data.{Data}
 use Rattle.luks2_header.specs.Selection.{luks1, Chosen}
-use Rattle.luks_reading.specs.Answer.{AnswerWithin, no_key, Opened, refused}
 use Rattle.luks_reading.specs.Checked.{IsFault}
 use Rattle.luks_edit.specs.declared.edit.Edit.{Edit}
 use Rattle.luks_edit.specs.declared.deed.Deed.TheVariants as deed
 use Rattle.luks_edit.specs.declared.edit.Opener.{Opener}
-use Rattle.luks_edit.specs.declared.edit.SecretKind.{SecretKind}
+use Rattle.luks_edit.specs.declared.edit.Opener.TheVariants.{Keyslot, Key}
 use Rattle.luks_edit.specs.declared.edit_fault.EditFault.{EditFault}
 use Rattle.luks_edit.specs.declared.edit_fault.EditFault.TheVariants as fault
-use Rattle.luks_edit.specs.Asked.{allowed_by, ChoosesArgon2, deed_of, HasFewIterations, kind_by, NamesItself, opener_in, OpensBy, Wants}
-use Rattle.luks_edit.specs.Opener.{IsLocked, IsShut}
-use Rattle.luks_edit.specs.Secrets.{AnswersTo}
-use Rattle.luks_edit.proofs.AllowedMemory.{luks1_secrets_alike}
-use Rattle.luks_edit.proofs.RowFacts.{Passed, after_check, after_plan, first_of_plan, first_of_row, next, none_at_all}
-use Rattle.luks1_edits.specs.Accepted.{AreAllThere, IsMisnamed, IsOpenedBy, IsUnopened}
+use Rattle.luks_edit.specs.Asked.{allowed_by, allowed_of, ChoosesArgon2, deed_of, HasFewIterations, MatchOpener, NamesItself, opener_in, Wants}
+use Rattle.luks_edit.specs.EditFaults.{edit_key, edit_row}
+use Rattle.luks_edit.proofs.RowFacts.{Passed, after_check, after_opening, first_of_opening, first_of_row, next, none_at_all}
+use Rattle.luks1_edits.specs.Accepted.{AreAllThere, IsMisnamed, IsOpenedBy, IsUnopened, IsUsable}
 use Rattle.luks1_edits.specs.Edited.{IsInUse}
-use Rattle.luks1_edits.specs.Refused.{HasNoFree, IsAbsent, IsEditFault1, IsLabel, IsLast, IsMiscounted, IsTaken, IsUnrefused1, Refusal1}
+use Rattle.luks1_edits.specs.Refused.{HasNoFree, IsAbsent, IsEditFault1, IsLabel, IsLast, IsMiscounted, IsTaken, IsUnopened1, IsUnopenedBy1, IsUnrefused1, Refusal1}
 use Rattle.luks1_edits.specs.Replies.{EndsBy1}
+use Rattle.luks1_edits.proofs.KeyFacts.{opener_alike, opener_first, opener_not}
 
--- an edit opens one keyslot by one secret
-once_in : (o : Option Opener) (n m : ℕ) (p q : List ℕ) → IsSomeAnd o (λ x. (n ≡ x.slot) × (p ≡ x.secret.bytes.now))
-    → IsSomeAnd o (λ x. (m ≡ x.slot) × (q ≡ x.secret.bytes.now)) → (m ≡ n) × (q ≡ p)
-once_in None n m p q x y = absurd x
-once_in (Some o) n m p q x y = (y.0 ∙ sym x.0, y.1 ∙ sym x.1)
+-- the opener gives the key for the edit, and where its keyslot is there, all are that the edit wants
+pub record IsOpener (v : List ℕ) (e : Edit) (o : Opener) : Type 0 where
+  pub asked : opener_in (deed_of e) ≡ Some o
+  pub older : (allowed_by e).older ≡ (allowed_of o).older
+  pub all : IsUsable v o → AreAllThere v e
 
-pub opens_once : (e : Edit) (n m : ℕ) (p q : List ℕ) → OpensBy e n p → OpensBy e m q → (m ≡ n) × (q ≡ p)
-opens_once e n m p q x y = once_in (opener_in (deed_of e)) n m p q x y
-
--- the edit opens the keyslot by the secret, with ciphers and hashes of older disks where `older` says so, and
--- once that one is there, all are that it wants
-pub record IsOpener (kind : SecretKind) (older : Bool) (v : List ℕ) (e : Edit) (n : ℕ) (p : List ℕ) : Type 0 where
-  pub asked : OpensBy e n p
-  pub wanted : Wants e n
-  pub all : IsInUse v n → AreAllThere v e
-  pub allowed : (allowed_by e).older ≡ older
-  pub same_kind : kind_by e ≡ kind
-
--- the edit opens no keyslot and wants none
+-- the edit needs no key and wants no keyslot
 pub record OpensNone (e : Edit) : Type 0 where
-  pub opens : (n : ℕ) (p : List ℕ) → OpensBy e n p → ⊥
+  pub opens : opener_in (deed_of e) ≡ None
   pub wants : (n : ℕ) → Wants e n → ⊥
   pub other : NamesItself e → ⊥
 
 -- one that rewrites the header doesn't
 pub opens_none : (e : Edit) (label : Option (Bor (List ℕ))) → deed_of e ≡ deed.Rewrite label → OpensNone e
-opens_none e label is = record { opens = λ n p x. rw is at x; wants = λ n x. rw is at x; other = λ x. rw is at x }
+opens_none e label is = record { opens = rw is refl; wants = λ n x. rw is at x; other = λ x. rw is at x }
 
--- it wants none but the one that it opens
-pub alone : (kind : SecretKind) (older : Bool) (v : List ℕ) (e : Edit) (n : ℕ) (p : List ℕ) → OpensBy e n p → Wants e n → ((m : ℕ) → Wants e m → m ≡ n) → (NamesItself e → ⊥)
-    → (allowed_by e).older ≡ older → kind_by e ≡ kind → IsOpener kind older v e n p
-alone kind older v e n p asked wanted only other allowed same_kind = record {
+-- the keyslot of an opener that can be asked is in use
+in_use_of : (v : List ℕ) (o : Opener) (m : ℕ) → IsUsable v o → MatchOpener o (λ slot secret. m ≡ slot) (λ key. ⊥) → IsInUse v m
+in_use_of v (Keyslot slot secret) m used same = subst (λ k. IsInUse v k) (sym same) used
+in_use_of v (Key key) m used same = absurd same
+
+-- it wants none but that of the opener
+pub alone : (v : List ℕ) (e : Edit) (o : Opener) → opener_in (deed_of e) ≡ Some o → (allowed_by e).older ≡ (allowed_of o).older
+    → ((m : ℕ) → Wants e m → MatchOpener o (λ slot secret. m ≡ slot) (λ key. ⊥)) → (NamesItself e → ⊥) → IsOpener v e o
+alone v e o asked older only other = record {
   asked = asked;
-  wanted = wanted;
-  all = λ used. record { there = λ m wants. subst (λ k. IsInUse v k) (sym (only m wants)) used; other = other };
-  allowed = allowed;
-  same_kind = same_kind;
+  older = older;
+  all = λ used. record { there = λ m wants. in_use_of v o m used (only m wants); other = other };
 }
 
 pub none_wanted : (v : List ℕ) (e : Edit) → OpensNone e → AreAllThere v e
@@ -74,13 +61,13 @@ there_of v e all bad = bad.unused (all.there bad.slot bad.wanted)
 module _ (v : List ℕ) (payload : Data) (e : Edit) (r : List ℕ) where
   -- ---- the rows from the new keyslot's on
 
-  pub past_new : Passed (IsEditFault1 v payload e r) 6 → (IsTaken v e → ⊥) → (HasNoFree v e → ⊥) → Passed (IsEditFault1 v payload e r) 9
+  pub past_new : Passed (IsEditFault1 v payload e r) 8 → (IsTaken v e → ⊥) → (HasNoFree v e → ⊥) → Passed (IsEditFault1 v payload e r) 11
   past_new before untaken free =
       let s = IsEditFault1 v payload e r in
       next s fault.NoRoom refl (next s fault.NoFreeSlot refl (next s fault.SlotTaken refl before untaken) free) (λ bad. bad)
 
-  pub past_label : Passed (IsEditFault1 v payload e r) 9 → (IsLast v e → ⊥) → (HasFewIterations e → ⊥) → (ChoosesArgon2 e → ⊥) → (IsLabel e → ⊥)
-      → Passed (IsEditFault1 v payload e r) 15
+  pub past_label : Passed (IsEditFault1 v payload e r) 11 → (IsLast v e → ⊥) → (HasFewIterations e → ⊥) → (ChoosesArgon2 e → ⊥) → (IsLabel e → ⊥)
+      → Passed (IsEditFault1 v payload e r) 17
   past_label before last few argon2 label =
       let s = IsEditFault1 v payload e r in
       next s fault.MetadataFull refl
@@ -89,7 +76,7 @@ module _ (v : List ℕ) (payload : Data) (e : Edit) (r : List ℕ) where
       (λ bad. bad)
 
   -- nothing refuses it
-  pub unrefused : Passed (IsEditFault1 v payload e r) 15 → (IsMiscounted v e r → ⊥) → IsUnrefused1 v payload e r
+  pub unrefused : Passed (IsEditFault1 v payload e r) 17 → (IsMiscounted v e r → ⊥) → IsUnrefused1 v payload e r
   unrefused before counted =
       let s = IsEditFault1 v payload e r in
       record { none = none_at_all s (next s fault.Device refl (next s fault.Memory refl (next s fault.RandomLength refl before counted) (λ bad. bad)) (λ bad. bad)) }
@@ -121,51 +108,47 @@ module _ (v : List ℕ) (payload : Data) (e : Edit) (r : List ℕ) where
         let s = IsEditFault1 v payload e r in
         next s fault.SameSlot refl (next s fault.NoSuchSlot refl past_requirements (there_of v e all)) all.other
 
-    past_opener : AreAllThere v e → (IsLocked v e → ⊥) → ((f : SlotFault) → IsShut v e f → ⊥) → Passed (IsEditFault1 v payload e r) 6
-    past_opener all unlocked unshut = let s = IsEditFault1 v payload e r in after_plan s (next s fault.Locked refl (past_wanted all) unlocked) unshut
+    past_opener : AreAllThere v e → ((f : EditFault) → IsUnopened1 v e f → ⊥) → Passed (IsEditFault1 v payload e r) 8
+    past_opener all none = after_opening (IsEditFault1 v payload e r) (past_wanted all) opening_none
+      where
+        opening_none : (f : EditFault) → 4 ≤ edit_row f → edit_row f < 8 → IsEditFault1 v payload e r f → ⊥
+        opening_none fault.Locked from to bad = none fault.Locked bad
+        opening_none fault.KeyLength from to bad = none fault.KeyLength bad
+        opening_none fault.WrongKey from to bad = none fault.WrongKey bad
+        opening_none (fault.Slot s) from to bad = none (fault.Slot s) bad
+        opening_none f from to bad = omega (arith, from, to)
 
     -- there is none
-    pub none_to_open : OpensNone e → Passed (IsEditFault1 v payload e r) 6
-    none_to_open none = past_opener (none_wanted v e none) (λ bad. none.opens bad.slot bad.passphrase bad.asked) (λ f bad. none.opens bad.slot bad.passphrase bad.asked)
+    pub none_to_open : OpensNone e → Passed (IsEditFault1 v payload e r) 8
+    none_to_open none = past_opener (none_wanted v e none) (λ f bad. rw none.opens at bad)
 
-    module _ (chosen : Chosen v luks1) (n : ℕ) (p : List ℕ) {kind : SecretKind} {older : Bool} (opener : IsOpener kind older v e n p) where
+    module _ (chosen : Chosen v luks1) (o : Opener) (opener : IsOpener v e o) (usable : IsUsable v o) where
       -- what is said where the edit's memory is allowed is said where none is, and so the other way round
-      without : (m : ℕ) (q : List ℕ) (a : Opened) → AnswersTo (kind_by e) (allowed_by e) v m q a → AnswersTo kind (without_memory older) v m q a
-      without m q a x = luks1_secrets_alike v chosen (allowed_by e) (without_memory older) m opener.allowed kind q a
-          (subst (λ k. AnswersTo k (allowed_by e) v m q a) opener.same_kind x)
+      without : (f : EditFault) → IsUnopened1 v e f → IsUnopenedBy1 (without_memory (allowed_of o).older) v o f
+      without f bad = opener_alike v chosen (allowed_by e) (without_memory (allowed_of o).older) o f opener.older (rw opener.asked at bad)
 
-      within : (a : Opened) → AnswersTo kind (without_memory older) v n p a → AnswersTo (kind_by e) (allowed_by e) v n p a
-      within a x = subst (λ k. AnswersTo k (allowed_by e) v n p a) (sym opener.same_kind)
-          (luks1_secrets_alike v chosen (without_memory older) (allowed_by e) n (sym opener.allowed) kind p a x)
+      within : (f : EditFault) → IsUnopenedBy1 (without_memory (allowed_of o).older) v o f → IsUnopened1 v e f
+      within f bad = rw opener.asked (opener_alike v chosen (without_memory (allowed_of o).older) (allowed_by e) o f (sym opener.older) bad)
 
-      unlocked_of : (AnswersTo kind (without_memory older) v n p no_key → ⊥) → IsLocked v e → ⊥
-      unlocked_of not bad =
-          let one = opens_once e n bad.slot p bad.passphrase opener.asked bad.asked in
-          not (subst (λ m. AnswersTo kind (without_memory older) v m p no_key) one.0 (subst (λ q. AnswersTo kind (without_memory older) v bad.slot q no_key) one.1 (without bad.slot bad.passphrase no_key bad.answer)))
+      -- it gives the key
+      pub opener_passed : (key : List ℕ) → IsOpenedBy v o key → Passed (IsEditFault1 v payload e r) 8
+      opener_passed key x = past_opener (opener.all usable) (λ f bad. x.past f (without f bad))
 
-      shut_here : (f : SlotFault) → IsShut v e f → AnswerWithin (without_memory older) v n p (refused (opening.Slot f))
-      shut_here f bad =
-          let one = opens_once e n bad.slot p bad.passphrase opener.asked bad.asked in
-          subst (λ m. AnswerWithin (without_memory older) v m p (refused (opening.Slot f))) one.0 (subst (λ q. AnswerWithin (without_memory older) v bad.slot q (refused (opening.Slot f))) one.1 (without bad.slot bad.passphrase (refused (opening.Slot f)) bad.answer))
+      -- the first of the faults by which it doesn't
+      first : (f : EditFault) → edit_row f < 8 → IsEditFault1 v payload e r f → IsUnopenedBy1 (without_memory (allowed_of o).older) v o f → Refusal1 v payload e r f
+      first f low here bad = first_of_opening (IsEditFault1 v payload e r) f (past_wanted (opener.all usable)) low here least
+        where
+          least : (g : EditFault) → 4 ≤ edit_row g → edit_row g < 8 → IsEditFault1 v payload e r g → NotAfter (edit_key f) (edit_key g)
+          least fault.Locked from to other = opener_first (without_memory (allowed_of o).older) v o f fault.Locked bad (without fault.Locked other)
+          least fault.KeyLength from to other = opener_first (without_memory (allowed_of o).older) v o f fault.KeyLength bad (without fault.KeyLength other)
+          least fault.WrongKey from to other = opener_first (without_memory (allowed_of o).older) v o f fault.WrongKey bad (without fault.WrongKey other)
+          least (fault.Slot s) from to other = opener_first (without_memory (allowed_of o).older) v o f (fault.Slot s) bad (without (fault.Slot s) other)
+          least g from to other = absurd (omega (arith, from, to))
 
-      -- it opens
-      pub opener_passed : (key : List ℕ) → IsOpenedBy kind older v n p key → Passed (IsEditFault1 v payload e r) 6
-      opener_passed key x = past_opener (opener.all x.used) (unlocked_of x.unlocked) (λ f bad. x.unshut f (shut_here f bad))
-
-      -- it doesn't open
-      pub unopened_ends : (w : List ℕ) (f : EditFault) → w ≡ v → IsUnopened kind older v n p f → EndsBy1 payload v e r f w
-      unopened_ends w fault.Locked same bad = (
-        let s = IsEditFault1 v payload e r in
-            first_of_row s fault.Locked refl (past_wanted (opener.all bad.used))
-            (record { slot = n; passphrase = p; asked = opener.asked; answer = within no_key bad.answer }),
-        same,
-      )
-      unopened_ends w (fault.Slot f) same bad = (
-        let s = IsEditFault1 v payload e r in
-            first_of_plan s f (next s fault.Locked refl (past_wanted (opener.all bad.used)) (unlocked_of bad.unlocked))
-            (record { slot = n; passphrase = p; asked = opener.asked; answer = within (refused (opening.Slot f)) bad.answer })
-            (λ g other. ((bad.answer.1 (opening.Slot g) (shut_here g other).0).1 refl).0),
-        same,
-      )
+      pub unopened_ends : (w : List ℕ) (f : EditFault) → w ≡ v → IsUnopened v o f → EndsBy1 payload v e r f w
+      unopened_ends w fault.Locked same bad = (first fault.Locked (omega arith) (within fault.Locked bad) bad, same)
+      unopened_ends w fault.KeyLength same bad = (first fault.KeyLength (omega arith) (within fault.KeyLength bad) bad, same)
+      unopened_ends w fault.WrongKey same bad = (first fault.WrongKey (omega arith) (within fault.WrongKey bad) bad, same)
+      unopened_ends w (fault.Slot s) same bad = (first (fault.Slot s) (omega arith) (within (fault.Slot s) bad) bad, same)
       unopened_ends w fault.Device same bad = inl same
-      unopened_ends w f same bad = absurd bad
+      unopened_ends w f same bad = absurd (opener_not (without_memory (allowed_of o).older) v o f refl bad)

@@ -1,5 +1,5 @@
 -- The header of a LUKS1 volume that was accepted, and what is judged by it.
-use Rattle.std.specs.Prelude.{◌≡◌, ◌≢◌, ℕ, Bool, ◌⊎◌, List, length, true, false, Option, Some, ⊤}
+use Rattle.std.specs.Prelude.{◌≡◌, ◌≢◌, ℕ, ◌⊎◌, List, length, true, false, Option, Some, ⊤}
 use Rattle.luks_area.specs.Ranges.{part}
 use Rattle.luks1_header.specs.Header1.{luks1_size, IsLuks1}
 use Rattle.luks1_header.specs.declared.luks1.Luks1.{Luks1}
@@ -10,21 +10,18 @@ use Rattle.luks_slot.specs.declared.fault.SlotFault.{SlotFault}
 use Rattle.luks_slot.specs.Allowance.{without_memory}
 use Rattle.luks_slot.specs.declared.fault.SlotFault.TheVariants as slot
 use Rattle.luks_reading.specs.declared.check_fault.CheckFault.{CheckFault}
-use Rattle.luks_reading.specs.declared.open_fault.OpenFault.TheVariants as opening
 use Rattle.luks_reading.specs.declared.report.Data.{Data}
-use Rattle.luks_reading.specs.Answer.{AnswerWithin, no_key, opens, refused}
 use Rattle.luks_reading.specs.Checked.{First, IsFault, IsLuks1Volume, WellFormed}
 use Rattle.luks_edit.specs.declared.edit_fault.EditFault.{EditFault}
 use Rattle.luks_edit.specs.declared.edit_fault.EditFault.TheVariants as fault
 use Rattle.luks_edit.specs.declared.deed.Deed.TheVariants.{Seal}
 use Rattle.luks_edit.specs.declared.deed.Sealed.{Sealed}
 use Rattle.luks_edit.specs.declared.edit.Edit.{Edit}
-use Rattle.luks_edit.specs.declared.edit.SecretKind.{SecretKind}
-use Rattle.luks_edit.specs.Asked.{deed_of, NamesItself, opener_of, Wants}
-use Rattle.luks_edit.specs.Secrets.{AnswersTo}
+use Rattle.luks_edit.specs.declared.edit.Opener.{Opener}
+use Rattle.luks_edit.specs.Asked.{allowed_of, deed_of, MatchOpener, NamesItself, opener_at, opener_of, Wants}
 use Rattle.luks1_edits.specs.declared.accepted.AcceptedHeader.{AcceptedHeader}
-use Rattle.luks1_edits.specs.Edited.{IsFree, IsInUse, IsNewKeyslot, IsSealedIn, iterations_of}
-use Rattle.luks1_edits.specs.Refused.{IsAbsent, IsTakenFor, IsUnrefused1, keyslot_need, LacksFree}
+use Rattle.luks1_edits.specs.Edited.{IsFree, IsInUse, IsNewKeyslot, IsSealedIn, iterations_of, Opens1}
+use Rattle.luks1_edits.specs.Refused.{IsAbsent, IsTakenFor, IsUnopenedBy1, IsUnrefused1, keyslot_need, LacksFree}
 use Rattle.luks1_edits.specs.Steps.{IsKeyslotMade}
 
 -- `h` and `d` are the bytes and the fields of the header of a well formed volume of `total` bytes
@@ -48,29 +45,26 @@ abbrev pub IsUnaccepted : List ℕ → Data → EditFault → Type 0
 IsUnaccepted v payload (fault.NotAccepted f) = First v payload f
 IsUnaccepted v payload f = ⊥
 
--- ---- the keyslot that an edit opens by a secret, with ciphers and hashes of older disks where `older` says so
+-- ---- what gives the key for an edit
 
-pub record IsOpenedBy (kind : SecretKind) (older : Bool) (v : List ℕ) (n : ℕ) (passphrase key : List ℕ) : Type 0 where
-  pub used : IsInUse v n
-  pub opened : AnswersTo kind (without_memory older) v n passphrase (opens key)
-  pub unlocked : AnswersTo kind (without_memory older) v n passphrase no_key → ⊥
-  pub unshut : (f : SlotFault) → AnswerWithin (without_memory older) v n passphrase (refused (opening.Slot f)) → ⊥
+-- the keyslot that it is of, if it is of one, is in use
+abbrev pub IsUsable : List ℕ → Opener → Type 0
+IsUsable v o = MatchOpener o (λ slot secret. IsInUse v slot) (λ key. ⊤)
 
-pub record IsLockedBy (kind : SecretKind) (older : Bool) (v : List ℕ) (n : ℕ) (passphrase : List ℕ) : Type 0 where
-  pub used : IsInUse v n
-  pub answer : AnswersTo kind (without_memory older) v n passphrase no_key
+-- why it can't be asked
+abbrev pub IsUnusable : List ℕ → Opener → EditFault → Type 0
+IsUnusable v o fault.NoSuchSlot = MatchOpener o (λ slot secret. IsInUse v slot → ⊥) (λ key. ⊥)
+IsUnusable v o f = ⊥
 
-pub record IsShutBy (kind : SecretKind) (older : Bool) (v : List ℕ) (n : ℕ) (passphrase : List ℕ) (f : SlotFault) : Type 0 where
-  pub used : IsInUse v n
-  pub unlocked : AnswersTo kind (without_memory older) v n passphrase no_key → ⊥
-  pub answer : AnswerWithin (without_memory older) v n passphrase (refused (opening.Slot f))
+-- it gives the key, and none of the faults stands by which it doesn't
+pub record IsOpenedBy (v : List ℕ) (o : Opener) (key : List ℕ) : Type 0 where
+  pub opened : Opens1 v o key
+  pub past : (f : EditFault) → IsUnopenedBy1 (without_memory (allowed_of o).older) v o f → ⊥
 
--- why the keyslot, which is in use, doesn't open by the secret, unless the device failed
-abbrev pub IsUnopened : SecretKind → Bool → List ℕ → ℕ → List ℕ → EditFault → Type 0
-IsUnopened kind older v n passphrase fault.Locked = IsLockedBy kind older v n passphrase
-IsUnopened kind older v n passphrase (fault.Slot f) = IsShutBy kind older v n passphrase f
-IsUnopened kind older v n passphrase fault.Device = ⊤
-IsUnopened kind older v n passphrase f = ⊥
+-- why it doesn't, unless the device failed
+abbrev pub IsUnopened : List ℕ → Opener → EditFault → Type 0
+IsUnopened v o fault.Device = ⊤
+IsUnopened v o f = IsUnopenedBy1 (without_memory (allowed_of o).older) v o f
 
 -- the fault of a keyslot, opened or sealed, as that of an edit
 abbrev pub keyslot_fault : SlotFault → EditFault
@@ -156,12 +150,12 @@ IsNewRefused v n asked random fault.Argon2 = IsArgon2 asked
 IsNewRefused v n asked random fault.RandomLength = IsMiscountedNew v n asked random
 IsNewRefused v n asked random f = ⊥
 
--- the keyslot `n` was made for the key that is sealed, which the secret gives; nothing refuses
+-- the keyslot `n` was made for the key that is sealed, which the opener gives; nothing refuses
 -- an edit that seals it
 pub record IsSealedNew (payload : Data) (v : List ℕ) (s : Sealed) (random : List ℕ) (n : ℕ) (w : List ℕ) : Type 0 where
-  pub used : IsInUse v s.opener.slot
+  pub used : IsUsable v (opener_at s.place)
   pub key : List ℕ
-  pub opened : AnswersTo s.opener.secret.kind (without_memory s.opener.secret.allowed.older) v s.opener.slot s.opener.secret.bytes.now (opens key)
+  pub opened : Opens1 v (opener_at s.place) key
   pub is_new : IsSealedIn v s n
   pub made : IsKeyslotMade v n (iterations_of s.derivation) s.passphrase.now key random w
   pub unrefused : (e : Edit) → deed_of e ≡ Seal s → IsUnrefused1 v payload e random

@@ -9,16 +9,19 @@ use Rattle.luks_slot.specs.declared.plan.SlotPlan.{SlotPlan}
 use Rattle.luks_slot.specs.declared.allowed.Allowed.{Allowed}
 use Rattle.luks_slot.specs.Allowance.{without_memory}
 use Rattle.luks_slot.specs.Opening.{area_bytes}
+use Rattle.luks_slot.specs.Refusal.{slot_refusal_within}
 use Rattle.luks_slot.specs.Sealing.{IsSealed}
 use Rattle.luks_reading.specs.Answer.{AnswerWithin, opens}
 use Rattle.luks_reading.specs.Plans.{HasLuks1Plan}
 use Rattle.luks_edit.specs.declared.edit.Edit.{Edit}
-use Rattle.luks_edit.specs.declared.edit.SecretKind.{SecretKind}
+use Rattle.luks_edit.specs.declared.edit.Opener.{Opener}
+use Rattle.luks_edit.specs.declared.edit.Opener.TheVariants.{Keyslot, Key}
+use Rattle.luks_edit.specs.declared.edit.Secret.{Secret}
 use Rattle.luks_edit.specs.declared.deed.Place.{Place}
 use Rattle.luks_edit.specs.declared.deed.Place.TheVariants.{New, Opened}
 use Rattle.luks_edit.specs.declared.deed.Sealed.{Sealed}
-use Rattle.luks_edit.specs.Asked.{deed_of, lost_by, MatchDeed, MatchPlace, sealed_by}
-use Rattle.luks_edit.specs.Secrets.{AnswersTo}
+use Rattle.luks_edit.specs.Asked.{allowed_of, deed_of, lost_by, MatchDeed, MatchPlace, opener_at, sealed_by}
+use Rattle.luks_edit.specs.Secrets.{GivesWithin, own_key}
 use Rattle.luks1_edits.specs.Kept.{IsEither}
 use Rattle.luks1_edits.specs.Places.{area_len, area_start, IsOfKeyslots}
 
@@ -41,8 +44,8 @@ IsNewKeyslot v None n = IsLeastFree v n
 
 -- the number that is asked for the keyslot in which a key is sealed: for one that was opened none
 abbrev pub number_asked : Place → Option ℕ
-number_asked (New to) = to
-number_asked Opened = None
+number_asked (New o to) = to
+number_asked (Opened slot secret) = None
 
 -- the keyslot in which an edit seals the key: always a new one
 abbrev pub IsSealedIn : List ℕ → Sealed → ℕ → Type 0
@@ -51,7 +54,7 @@ IsSealedIn v s n = IsNewKeyslot v (number_asked s.place) n
 -- the keyslots that an edit names: the one that it makes, and the one that it removes
 abbrev pub NamedKeyslots1 : List ℕ → Edit → ℕ → Type 0
 NamedKeyslots1 v e n = MatchDeed (deed_of e)
-    (λ s. MatchPlace s.place (λ to. IsNewKeyslot v to n) ((n ≡ s.opener.slot) ⊎ IsLeastFree v n))
+    (λ s. MatchPlace s.place (λ o to. IsNewKeyslot v to n) (λ slot secret. (n ≡ slot) ⊎ IsLeastFree v n))
     (λ r. n ≡ r.slot)
     (λ label. ⊥)
 
@@ -65,6 +68,27 @@ iterations_or n (Some (Argon2id costs)) = n
 
 abbrev pub iterations_of : AskedDerivation → ℕ
 iterations_of asked = iterations_or asked.iterations asked.chosen
+
+-- ---- what gives the key
+
+-- a keyslot of the header, in use or not, has a plan that isn't refused, with ciphers and hashes of older disks where
+-- `older` says so; and the bytes are found to be the volume's key, or not, by its length and the digest: these are the
+-- header's, as the cipher and the hash are
+pub record GivesKey (older : Bool) (v bytes : List ℕ) (found : Option (List ℕ)) : Type 0 where
+  pub slot : ℕ
+  pub plan : SlotPlan
+  pub is : HasLuks1Plan (part v 0 luks1_size) slot plan
+  pub accepted : slot_refusal_within (without_memory older) plan ≡ None
+  pub key : own_key plan bytes ≡ found
+
+-- what is given by a keyslot and its secret, or by the volume key alone
+abbrev pub Gives1 : Allowed → List ℕ → Opener → Option (List ℕ) → Type 0
+Gives1 allowed v (Keyslot slot secret) found = GivesWithin secret.kind allowed v slot secret.bytes.now found
+Gives1 allowed v (Key key) found = GivesKey allowed.older v key.bytes.now found
+
+-- the opener gives the key, with ciphers and hashes of older disks where it allows them; no memory is taken
+abbrev pub Opens1 : List ℕ → Opener → List ℕ → Type 0
+Opens1 v o key = Gives1 (without_memory (allowed_of o).older) v o (Some key)
 
 -- ---- entries and areas
 
@@ -105,30 +129,28 @@ pub record IsRemoved (v : List ℕ) (slot : ℕ) (w : List ℕ) : Type 0 where
   pub freed : IsFreed (entry v slot) (entry w slot)
   pub wiped : IsWiped v slot w
 
--- a keyslot was made in which `new` opens the key that the keyslot `opener` gave by the secret `old`, with
--- ciphers and hashes of older disks where `older` says so, with a salt and stripes of the random bytes, and
--- nothing else changed
+-- a keyslot was made in which `new` opens the key that the opener gave, with a salt and stripes of the random
+-- bytes, and nothing else changed
 pub record IsAdded
-    (kind : SecretKind) (older : Bool) (v : List ℕ) (opener : ℕ) (old new : List ℕ) (to : Option ℕ) (iterations : ℕ)
-    (random w : List ℕ)
+    (o : Opener) (v new : List ℕ) (to : Option ℕ) (iterations : ℕ) (random w : List ℕ)
     : Type 0 where
   pub slot : ℕ
   pub is_new : IsNewKeyslot v to slot
   pub key : List ℕ
-  pub opened : AnswersTo kind (without_memory older) v opener old (opens key)
+  pub opened : Opens1 v o key
   pub rest : SameBut (IsOfKeyslots v (IsEither slot slot)) v w
   pub made : IsMade (entry v slot) (entry w slot) iterations (take 32 random)
   pub holds : HoldsKey w slot new key (drop 32 random)
 
--- the least free keyslot was made, in which `new` opens the key that the keyslot `slot` gave by the secret
--- `old`, that one was removed, and nothing else changed
+-- the least free keyslot was made, in which `new` opens the key that the keyslot `slot` gave by the secret, that
+-- one was removed, and nothing else changed
 pub record IsChanged
-    (kind : SecretKind) (older : Bool) (v : List ℕ) (slot : ℕ) (old new : List ℕ) (iterations : ℕ) (random w : List ℕ)
+    (v : List ℕ) (slot : ℕ) (secret : Secret) (new : List ℕ) (iterations : ℕ) (random w : List ℕ)
     : Type 0 where
   pub fresh : ℕ
   pub is_free : IsLeastFree v fresh
   pub key : List ℕ
-  pub opened : AnswersTo kind (without_memory older) v slot old (opens key)
+  pub opened : Opens1 v (Keyslot slot secret) key
   pub rest : SameBut (IsOfKeyslots v (IsEither slot fresh)) v w
   pub made : IsMade (entry v fresh) (entry w fresh) iterations (take 32 random)
   pub holds : HoldsKey w fresh new key (drop 32 random)
@@ -140,18 +162,18 @@ pub record IsChanged
 abbrev pub After1 : List ℕ → Edit → List ℕ → List ℕ → Type 0
 After1 v e random w = MatchDeed (deed_of e)
     (λ s. MatchPlace s.place
-    (λ to. IsAdded s.opener.secret.kind s.opener.secret.allowed.older v s.opener.slot s.opener.secret.bytes.now s.passphrase.now to (iterations_of s.derivation) random w)
-    (IsChanged s.opener.secret.kind s.opener.secret.allowed.older v s.opener.slot s.opener.secret.bytes.now s.passphrase.now (iterations_of s.derivation) random w))
+    (λ o to. IsAdded o v s.passphrase.now to (iterations_of s.derivation) random w)
+    (λ slot secret. IsChanged v slot secret s.passphrase.now (iterations_of s.derivation) random w))
     (λ r. IsRemoved v r.slot w)
     (λ label. MatchOption label (w ≡ v) (λ text. ⊥))
 
 -- ---- what opens after an edit
 
--- a keyslot that the edit made opens by its new passphrase to the key that the secret gave, whatever is
+-- a keyslot that the edit made opens by its new passphrase to the key that the opener gave, whatever is
 -- allowed
 abbrev pub OpensAfter1 : List ℕ → Edit → List ℕ → Type 0
 OpensAfter1 v e w = IfSome (sealed_by e) (λ s. (allowed : Allowed) (n : ℕ) (key : List ℕ) → IsSealedIn v s n
-    → AnswersTo s.opener.secret.kind allowed v s.opener.slot s.opener.secret.bytes.now (opens key)
+    → Gives1 allowed v (opener_at s.place) (Some key)
     → AnswerWithin allowed w n s.passphrase.now (opens key))
 
 -- the keyslot that the edit removes

@@ -1,18 +1,18 @@
 -- What an edit of a LUKS1 volume may leave that a failing device call ended. A failed write leaves
 -- any bytes in its range; the ranges are written in this order: the area of a new keyslot, its
 -- entry, then the entry of the keyslot that is removed, its area.
-use Rattle.std.specs.Prelude.{◌≡◌, ℕ, Bool, ◌⊎◌, List, drop, take, Option, None, IfSome}
+use Rattle.std.specs.Prelude.{◌≡◌, ℕ, ◌⊎◌, List, drop, take, Option, Some, None, IfSome}
 use Rattle.luks_area.specs.Ranges.{part, IsAt, SameBut}
 use Rattle.luks1_header.specs.Header1.{entry, entry_size}
 use Rattle.luks_slot.specs.declared.allowed.Allowed.{Allowed}
-use Rattle.luks_slot.specs.Allowance.{without_memory}
 use Rattle.luks_reading.specs.declared.report.Data.{Data}
 use Rattle.luks_reading.specs.Answer.{AnswerWithin, opens}
 use Rattle.luks_edit.specs.declared.edit.Edit.{Edit}
-use Rattle.luks_edit.specs.declared.edit.SecretKind.{SecretKind}
-use Rattle.luks_edit.specs.Asked.{again_by, deed_of, MatchDeed, MatchPlace}
-use Rattle.luks_edit.specs.Secrets.{AnswersTo}
-use Rattle.luks1_edits.specs.Edited.{HoldsKey, IsFreed, IsLeastFree, IsMade, IsNewKeyslot, iterations_of}
+use Rattle.luks_edit.specs.declared.edit.Opener.{Opener}
+use Rattle.luks_edit.specs.declared.edit.Opener.TheVariants.{Keyslot}
+use Rattle.luks_edit.specs.declared.edit.Secret.{Secret}
+use Rattle.luks_edit.specs.Asked.{again_by, deed_of, MatchDeed, MatchPlace, opener_at}
+use Rattle.luks1_edits.specs.Edited.{Gives1, HoldsKey, IsFreed, IsLeastFree, IsMade, IsNewKeyslot, iterations_of, Opens1}
 use Rattle.luks1_edits.specs.Kept.{IsEither, IsFitFor}
 use Rattle.luks1_edits.specs.Places.{area_len, area_start, entry_place, IsOfKeyslots}
 use Rattle.luks1_edits.specs.Refused.{IsUnrefused1}
@@ -39,15 +39,14 @@ IsSealedFirst v n iterations passphrase key random w =
     SameBut (IsAt (area_start v n) (area_len v n)) v w
     ⊎ IsMadeButEntry v n iterations passphrase key random w
 
--- while a keyslot was made in which `new` opens the key that the keyslot `opener` gave by the secret `old`
+-- while a keyslot was made in which `new` opens the key that the opener gave
 pub record IsHalfMade
-    (kind : SecretKind) (older : Bool) (v : List ℕ) (opener : ℕ) (old new : List ℕ) (to : Option ℕ) (iterations : ℕ)
-    (random w : List ℕ)
+    (o : Opener) (v new : List ℕ) (to : Option ℕ) (iterations : ℕ) (random w : List ℕ)
     : Type 0 where
   pub slot : ℕ
   pub is_new : IsNewKeyslot v to slot
   pub key : List ℕ
-  pub opened : AnswersTo kind (without_memory older) v opener old (opens key)
+  pub opened : Opens1 v o key
   pub order : IsSealedFirst v slot iterations new key random w
 
 -- while a keyslot was removed: its entry has any bytes and its area its own, or the entry is freed
@@ -58,12 +57,12 @@ pub record IsHalfRemoved (v : List ℕ) (slot : ℕ) (w : List ℕ) : Type 0 whe
 
 -- while the keyslot was removed in whose place another one was made before
 pub record IsHalfChanged
-    (kind : SecretKind) (older : Bool) (v : List ℕ) (slot : ℕ) (old new : List ℕ) (iterations : ℕ) (random w : List ℕ)
+    (v : List ℕ) (slot : ℕ) (secret : Secret) (new : List ℕ) (iterations : ℕ) (random w : List ℕ)
     : Type 0 where
   pub fresh : ℕ
   pub is_free : IsLeastFree v fresh
   pub key : List ℕ
-  pub opened : AnswersTo kind (without_memory older) v slot old (opens key)
+  pub opened : Opens1 v (Keyslot slot secret) key
   pub rest : SameBut (IsOfKeyslots v (IsEither slot fresh)) v w
   pub made : IsMade (entry v fresh) (entry w fresh) iterations (take 32 random)
   pub holds : HoldsKey w fresh new key (drop 32 random)
@@ -73,9 +72,9 @@ pub record IsHalfChanged
 abbrev pub IsTorn1 : List ℕ → Edit → List ℕ → List ℕ → Type 0
 IsTorn1 v e random w = MatchDeed (deed_of e)
     (λ s. MatchPlace s.place
-    (λ to. IsHalfMade s.opener.secret.kind s.opener.secret.allowed.older v s.opener.slot s.opener.secret.bytes.now s.passphrase.now to (iterations_of s.derivation) random w)
-    (IsHalfMade s.opener.secret.kind s.opener.secret.allowed.older v s.opener.slot s.opener.secret.bytes.now s.passphrase.now None (iterations_of s.derivation) random w
-    ⊎ IsHalfChanged s.opener.secret.kind s.opener.secret.allowed.older v s.opener.slot s.opener.secret.bytes.now s.passphrase.now (iterations_of s.derivation) random w))
+    (λ o to. IsHalfMade o v s.passphrase.now to (iterations_of s.derivation) random w)
+    (λ slot secret. IsHalfMade (Keyslot slot secret) v s.passphrase.now None (iterations_of s.derivation) random w
+    ⊎ IsHalfChanged v slot secret s.passphrase.now (iterations_of s.derivation) random w))
     (λ r. IsHalfRemoved v r.slot w)
     (λ label. ⊥)
 
@@ -92,6 +91,6 @@ IsUntorn v w n = (entry w n ≡ entry v n) ⊎ IsFitFor (entry v n) (entry w n)
 -- key that the old one gave before, whatever is allowed
 abbrev pub OpensEither1 : List ℕ → Edit → List ℕ → Type 0
 OpensEither1 v e w = IfSome (again_by e) (λ s. (allowed : Allowed) (key : List ℕ)
-    → AnswersTo s.opener.secret.kind allowed v s.opener.slot s.opener.secret.bytes.now (opens key)
-    → AnswersTo s.opener.secret.kind allowed w s.opener.slot s.opener.secret.bytes.now (opens key)
+    → Gives1 allowed v (opener_at s.place) (Some key)
+    → Gives1 allowed w (opener_at s.place) (Some key)
     ⊎ ((n : ℕ) × (IsLeastFree v n × AnswerWithin allowed w n s.passphrase.now (opens key))))

@@ -1,23 +1,57 @@
 -- When an edit of a LUKS1 volume is refused, and how many random bytes it takes. The order of the
 -- faults is that of every edit; some of them LUKS1 doesn't have.
-use Rattle.std.specs.Prelude.{◌≡◌, ◌≢◌, ℕ, ◌+◌, ◌-◌, ◌*◌, ◌<◌, List, length, Option, Some, None, IsSomeAnd, MatchOption, ⊤}
+use Rattle.std.specs.Prelude.{◌≡◌, ◌≢◌, ℕ, ◌+◌, ◌-◌, ◌*◌, ◌<◌, Bool, List, length, Option, Some, None, IsSomeAnd, MatchOption, ⊤}
 use Rattle.luks_area.specs.First.{IsLeast}
-use Rattle.luks1_header.specs.Header1.{entry, entry_stripes, key_bytes_of}
+use Rattle.luks_area.specs.Ranges.{part}
+use Rattle.luks1_header.specs.Header1.{entry, entry_stripes, key_bytes_of, luks1_size}
+use Rattle.luks_slot.specs.declared.allowed.Allowed.{Allowed}
+use Rattle.luks_slot.specs.declared.fault.SlotFault.{SlotFault}
+use Rattle.luks_slot.specs.Allowance.{without_memory}
 use Rattle.luks_reading.specs.declared.report.Data.{Data}
+use Rattle.luks_reading.specs.Answer.{HasRefusedPlanWithin}
+use Rattle.luks_reading.specs.Plans.{HasLuks1Plan}
 use Rattle.luks_reading.specs.Checked.{IsFault}
 use Rattle.luks_edit.specs.declared.edit.Edit.{Edit}
 use Rattle.luks_edit.specs.declared.edit_fault.EditFault.{EditFault}
 use Rattle.luks_edit.specs.declared.edit_fault.EditFault.TheVariants as fault
-use Rattle.luks_edit.specs.Asked.{ChoosesArgon2, HasFewIterations, label_by, NamesItself, removed_by, sealed_by, Wants}
-use Rattle.luks_edit.specs.Opener.{IsLocked, IsShut}
+use Rattle.luks_edit.specs.declared.edit.Opener.{Opener}
+use Rattle.luks_edit.specs.declared.edit.Opener.TheVariants.{Keyslot, Key}
+use Rattle.luks_edit.specs.declared.edit.SecretKind.TheVariants as kind
+use Rattle.luks_edit.specs.Asked.{allowed_by, ChoosesArgon2, deed_of, HasFewIterations, label_by, NamesItself, opener_in, removed_by, sealed_by, Wants}
+use Rattle.luks_edit.specs.Opener.{IsUnopenedKeyslot, lock_fault}
 use Rattle.luks_edit.specs.EditFaults.{edit_key}
-use Rattle.luks1_edits.specs.Edited.{IsFree, IsInUse, IsSealedIn, number_asked}
+use Rattle.luks1_edits.specs.Edited.{GivesKey, IsFree, IsInUse, IsSealedIn, number_asked}
 
 -- a keyslot that the edit wants isn't there, or isn't enabled
 pub record IsAbsent (v : List ℕ) (e : Edit) : Type 0 where
   pub slot : ℕ
   pub wanted : Wants e slot
   pub unused : IsInUse v slot → ⊥
+
+-- ---- what gives the key
+
+-- the volume has another key, by its length or by the digest
+pub record IsOtherKey (older : Bool) (v bytes : List ℕ) (f : EditFault) : Type 0 where
+  pub gives : GivesKey older v bytes None
+  pub is : f ≡ lock_fault kind.Key (key_bytes_of v) bytes
+
+-- what the header says of its keyslots, in use or not, is refused
+pub record IsRefusedAnywhere (older : Bool) (v : List ℕ) (f : SlotFault) : Type 0 where
+  pub slot : ℕ
+  pub refused : HasRefusedPlanWithin (without_memory older) (HasLuks1Plan (part v 0 luks1_size) slot) f
+
+-- why the volume key doesn't give itself
+abbrev pub IsUnkeyed1 : Bool → List ℕ → List ℕ → EditFault → Type 0
+IsUnkeyed1 older v bytes (fault.Slot f) = IsRefusedAnywhere older v f
+IsUnkeyed1 older v bytes f = IsOtherKey older v bytes f
+
+-- why an opener gives no key: of the faults `Locked`, `KeyLength`, `WrongKey` and `Slot` it is one
+abbrev pub IsUnopenedBy1 : Allowed → List ℕ → Opener → EditFault → Type 0
+IsUnopenedBy1 allowed v (Keyslot slot secret) f = IsUnopenedKeyslot allowed v slot secret f
+IsUnopenedBy1 allowed v (Key key) f = IsUnkeyed1 allowed.older v key.bytes.now f
+
+abbrev pub IsUnopened1 : List ℕ → Edit → EditFault → Type 0
+IsUnopened1 v e f = IsSomeAnd (opener_in (deed_of e)) (λ o. IsUnopenedBy1 (allowed_by e) v o f)
 
 -- ---- the keyslot that the edit makes
 
@@ -76,8 +110,10 @@ abbrev pub IsEditFault1 : List ℕ → Data → Edit → List ℕ → EditFault 
 IsEditFault1 v payload e random (fault.NotAccepted f) = IsFault v payload f
 IsEditFault1 v payload e random fault.NoSuchSlot = IsAbsent v e
 IsEditFault1 v payload e random fault.SameSlot = NamesItself e
-IsEditFault1 v payload e random fault.Locked = IsLocked v e
-IsEditFault1 v payload e random (fault.Slot f) = IsShut v e f
+IsEditFault1 v payload e random fault.Locked = IsUnopened1 v e fault.Locked
+IsEditFault1 v payload e random fault.KeyLength = IsUnopened1 v e fault.KeyLength
+IsEditFault1 v payload e random fault.WrongKey = IsUnopened1 v e fault.WrongKey
+IsEditFault1 v payload e random (fault.Slot f) = IsUnopened1 v e (fault.Slot f)
 IsEditFault1 v payload e random fault.SlotTaken = IsTaken v e
 IsEditFault1 v payload e random fault.NoFreeSlot = HasNoFree v e
 IsEditFault1 v payload e random fault.LastSlot = IsLast v e

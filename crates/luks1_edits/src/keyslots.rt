@@ -3,11 +3,11 @@ ghost use Rattle.std.specs.Prelude.{◌≡◌, ◌≢◌, ◌<◌, ℕ, List, fa
 ghost use Rattle.luks1_header.specs.Header1.{key_bytes_of, HoldsSlots};
 ghost use Rattle.luks_making.specs.Derivations.{takes_memory};
 ghost use Rattle.luks_edit.specs.EditFaults.{edit_row, is_edit_failure};
-ghost use Rattle.luks1_edits.specs.Accepted.{AreAllThere, HasOther, IsIterated, IsMisnamed, IsNewFault, IsNewFree, IsNewRefused, IsRemovable, IsUnremovable};
+ghost use Rattle.luks1_edits.specs.Accepted.{AreAllThere, HasOther, IsIterated, IsMisnamed, IsNewFault, IsNewFree, IsNewRefused, IsRemovable, IsUnremovable, IsUnusable, IsUsable};
 ghost use Rattle.luks1_edits.specs.Edited.{IsFree, IsInUse, IsLeastFree, iterations_of, number_asked};
 ghost use Rattle.luks1_edits.specs.Refused.{keyslot_need};
 
-use luks_edit::{AskedDerivation, Deed, Edit, EditFault, NewDerivation, Place, opener_of};
+use luks_edit::{AskedDerivation, Deed, Edit, EditFault, NewDerivation, Opener, Place, opener_of};
 use luks2_header::{Luks1, SlotState};
 
 /// Whether the keyslot is in use.
@@ -45,15 +45,29 @@ pub(crate) fn judge_named(header: &Luks1, edit: &Edit<'_>) -> Result<(), EditFau
         → MatchResult result (λ _. AreAllThere v edit.now) (IsMisnamed v edit.now) }
 {
     match edit.deed() {
-        Deed::Seal(sealed) => {
-            if is_there(header, sealed.opener.slot) {
+        Deed::Seal(sealed) => judge_opener(header, &sealed.opener()),
+        Deed::Remove(removed) => judge_removal(header, removed.slot, removed.by_),
+        Deed::Rewrite { label: _ } => Ok(()),
+    }
+}
+
+/// Whether the keyslot is there that gives the key, if it is of one. Refused by `NoSuchSlot`.
+fn judge_opener(header: &Luks1, opener: &Opener<'_>) -> Result<(), EditFault>
+    ensures own { IfErr result (λ f. is_edit_failure f ≡ false) }
+    ensures memory { IfErr result (λ f. f ≢ EditFault.Memory) }
+    ensures early { IfErr result (λ f. edit_row f < 4) }
+    ensures judged { (v : List ℕ) → HoldsSlots v header.now.slots
+        → MatchResult result (λ _. IsUsable v opener.now) (IsUnusable v opener.now) }
+{
+    match opener {
+        Opener::Keyslot { slot, secret: _ } => {
+            if is_there(header, *slot) {
                 Ok(())
             } else {
                 Err(EditFault::NoSuchSlot)
             }
         }
-        Deed::Remove(removed) => judge_removal(header, removed.slot, removed.by_),
-        Deed::Rewrite { label: _ } => Ok(()),
+        Opener::Key(_) => Ok(()),
     }
 }
 
@@ -105,12 +119,12 @@ pub(crate) fn least_free(header: &Luks1) -> Option<u8>
 }
 
 /// The number that is asked for the keyslot in which a key is sealed, if one is.
-pub(crate) fn number_asked(place: Place) -> Option<u8>
-    ensures { result ≡ number_asked place }
+pub(crate) fn number_asked(place: Place<'_>) -> Option<u8>
+    ensures { result ≡ number_asked place.entry }
 {
     match place {
-        Place::New { to } => to,
-        Place::Opened => None,
+        Place::New { opener: _, to } => to,
+        Place::Opened { .. } => None,
     }
 }
 

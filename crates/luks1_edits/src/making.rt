@@ -2,6 +2,7 @@
 ghost use Rattle.std.specs.Prelude.{◌≡◌, ◌+◌, ◌^◌, ◌<◌, ◌≤◌, ℕ, List, drop, length, take, IfErr, OnErr, OnOk};
 ghost use Rattle.luks_area.specs.Device.{CountsFailure, IsSettled};
 ghost use Rattle.luks1_header.specs.Header1.{entry, key_bytes_of, HoldsEntry, HoldsSlots};
+ghost use Rattle.luks_edit.specs.Asked.{allowed_of, opener_at};
 ghost use Rattle.luks_edit.specs.EditFaults.{is_edit_failure};
 ghost use Rattle.luks1_edits.specs.Accepted.{IsAcceptedAt, IsHeaderOf};
 ghost use Rattle.luks1_edits.specs.Edited.{iterations_of, IsMade};
@@ -80,7 +81,7 @@ pub(crate) fn make_keyslot<D: Device>(
     ensures settled { D.tells → D.failed device.new ≡ D.failed device.old → IsSettled D.unsettled device.new }
     ensures count { CountsFailure is_edit_failure result
         (D.failed device.old) (D.failed device.new) }
-    ensures fault { IfErr result (IsUnmade sealed.now.opener.secret.allowed.older
+    ensures fault { IfErr result (IsUnmade (allowed_of (opener_at sealed.now.place)).older
         header.now.bytes.now) }
     ensures made { D.tells
         → IsHeaderOf header.now.bytes.now header.now.payload (D.bytes device.old)
@@ -98,7 +99,7 @@ pub(crate) fn make_keyslot<D: Device>(
     let plan = luks1_plan(&header.fields.common, &slot);
     let allowed = Allowed {
         memory: 0,
-        older: sealed.opener.secret.allowed.older,
+        older: sealed.opener().allowed().older,
     };
     let stripes = stripes_in(random);
     match seal_area_within(

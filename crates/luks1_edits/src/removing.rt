@@ -14,11 +14,11 @@ use crate::freeing::free_keyslot;
 use crate::keyslots::is_last;
 use crate::unlocking::unlock;
 use luks_area::Device;
-use luks_edit::{Done, EditFault, Removed, opener_of};
+use luks_edit::{Done, EditFault, Removed};
 use luks_reading::luks1_area;
 use std::alloc::Global;
 
-/// Removes the keyslot, where the secret opens the one that it has to; both are in use.
+/// Removes the keyslot, where the secret gives a key as it has to; its keyslots are in use.
 pub(crate) fn remove<D: Device>(
     alloc: Global,
     device: &mut D,
@@ -40,13 +40,7 @@ pub(crate) fn remove<D: Device>(
         → IsHeaderOf header.now.bytes.now header.now.payload (D.bytes device.old)
         → Replies1 header.now.payload (D.bytes device.old) e random.now result (D.bytes device.new) }
 {
-    unlock(
-        alloc,
-        device,
-        header,
-        opener_of(removed.slot, removed.by_),
-        &removed.secret,
-    )?;
+    unlock(alloc, device, header, &removed.opener())?;
     if is_last(&header.fields, removed.slot) {
         return Err(EditFault::LastSlot);
     }

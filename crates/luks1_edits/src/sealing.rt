@@ -2,12 +2,11 @@
 ghost use Rattle.std.specs.Prelude.{◌≡◌, ◌≢◌, ◌+◌, ◌^◌, ◌<◌, ℕ, List, IfErr, IfOk};
 ghost use Rattle.luks_area.specs.Device.{CountsFailure, IsSettled};
 ghost use Rattle.luks1_header.specs.Header1.{HoldsSlots};
-ghost use Rattle.luks_edit.specs.Asked.{deed_of};
+ghost use Rattle.luks_edit.specs.Asked.{deed_of, opener_at};
 ghost use Rattle.luks_edit.specs.EditFaults.{is_edit_failure};
 ghost use Rattle.luks_edit.specs.declared.deed.Deed.TheVariants.{Seal as Seals};
 ghost use Rattle.luks_edit.specs.declared.edit.Edit.{Edit as TheEdit};
-ghost use Rattle.luks1_edits.specs.Accepted.{IsAcceptedAt, IsHeaderOf, IsSealedNew};
-ghost use Rattle.luks1_edits.specs.Edited.{IsInUse};
+ghost use Rattle.luks1_edits.specs.Accepted.{IsAcceptedAt, IsHeaderOf, IsSealedNew, IsUsable};
 ghost use Rattle.luks1_edits.specs.Replies.{EndsBy1, Replies1};
 
 use crate::accepted::AcceptedHeader;
@@ -21,8 +20,8 @@ use luks_reading::luks1_area;
 use std::alloc::Global;
 
 /// Makes a keyslot, the one that is asked for or the least that is free, in which the new passphrase
-/// opens the key that the secret gives; the secret's keyslot is in use. Where the key was to be sealed in the keyslot that was opened,
-/// that one is then removed.
+/// opens the key that the opener gives, whose keyslot is in use, if it is of one. Where the key was to be
+/// sealed in the keyslot that was opened, that one is then removed.
 pub(crate) fn seal<D: Device>(
     alloc: Global,
     device: &mut D,
@@ -33,8 +32,8 @@ pub(crate) fn seal<D: Device>(
     requires room { D.failed device.old + 1 < 2 ^ 64 }
     requires settled { D.tells → IsSettled D.unsettled device.old }
     requires accepted { IsAcceptedAt header.now (D.size device.old) }
-    requires used { (v : List ℕ) → HoldsSlots v header.now.fields.slots
-        → IsInUse v sealed.now.opener.slot }
+    requires usable { (v : List ℕ) → HoldsSlots v header.now.fields.slots
+        → IsUsable v (opener_at sealed.now.place) }
     ensures size { D.size device.new ≡ D.size device.old }
     ensures settled { D.tells → D.failed device.new ≡ D.failed device.old → IsSettled D.unsettled device.new }
     ensures count { CountsFailure is_edit_failure result
@@ -46,12 +45,11 @@ pub(crate) fn seal<D: Device>(
 {
     let n = make(alloc, device, header, sealed, random)?;
     match sealed.place {
-        Place::New { to: _ } => Ok(Done { slot: Some(n) }),
-        Place::Opened => {
-            let opener = sealed.opener.slot;
-            let found = &header.fields.slots[opener as usize];
+        Place::New { .. } => Ok(Done { slot: Some(n) }),
+        Place::Opened { slot, secret: _ } => {
+            let found = &header.fields.slots[slot as usize];
             let area = luks1_area(header.fields.common.key_bytes, found);
-            match free_keyslot(device, &header.fields, opener, found, area) {
+            match free_keyslot(device, &header.fields, slot, found, area) {
                 Ok(()) => Ok(Done { slot: Some(n) }),
                 Err(_) => Err(EditFault::Device),
             }
@@ -70,8 +68,8 @@ fn make<D: Device>(
     requires room { D.failed device.old + 1 < 2 ^ 64 }
     requires settled { D.tells → IsSettled D.unsettled device.old }
     requires accepted { IsAcceptedAt header.now (D.size device.old) }
-    requires used { (v : List ℕ) → HoldsSlots v header.now.fields.slots
-        → IsInUse v sealed.now.opener.slot }
+    requires usable { (v : List ℕ) → HoldsSlots v header.now.fields.slots
+        → IsUsable v (opener_at sealed.now.place) }
     ensures size { D.size device.new ≡ D.size device.old }
     ensures settled { D.tells → D.failed device.new ≡ D.failed device.old → IsSettled D.unsettled device.new }
     ensures count { CountsFailure is_edit_failure result
@@ -86,8 +84,7 @@ fn make<D: Device>(
         → IfErr result (λ f. EndsBy1 header.now.payload (D.bytes device.old) e random.now f
         (D.bytes device.new)) }
 {
-    let opener = sealed.opener;
-    let key = unlock(alloc, device, header, opener.slot, &opener.secret)?;
+    let key = unlock(alloc, device, header, &sealed.opener())?;
     let n = new_keyslot(&header.fields, number_asked(sealed.place))?;
     judge_new(&header.fields, n, sealed.derivation, random)?;
     make_keyslot(alloc, device, header, n, sealed, &key, random)?;

@@ -44,12 +44,16 @@ pub record OpensAlike (allowed : Allowed) (splitter : List ℕ) (a b : Derivatio
   pub known : is_known_hash allowed.older splitter ≡ true → is_known_derivation allowed.older a ≡ true → is_known_derivation allowed.older b ≡ true
 
 -- the keyslot `new` says of its opening what the keyslot `old` says, but for how it derives
-pub record SaysLike (allowed : Allowed) (old new : Value) : Type 0 where
-  pub derived : (a b : Derivation) (hash : List ℕ) → IsLuks2Derivation old a → IsLuks2Derivation new b → text_of (member_at old outer.Af name.Hash) ≡ Some hash
-      → OpensAlike allowed hash a b
+pub record SaysSealing (old new : Value) : Type 0 where
   pub encryption : text_of (member_at new outer.Area name.Encryption) ≡ text_of (member_at old outer.Area name.Encryption)
   pub area_key : number_in 1 128 (member_at new outer.Area name.KeySize) ≡ number_in 1 128 (member_at old outer.Area name.KeySize)
   pub splitter : text_of (member_at new outer.Af name.Hash) ≡ text_of (member_at old outer.Af name.Hash)
+
+-- and derives so that it isn't refused where `old` isn't
+pub record SaysLike (allowed : Allowed) (old new : Value) : Type 0 where
+  pub derived : (a b : Derivation) (hash : List ℕ) → IsLuks2Derivation old a → IsLuks2Derivation new b → text_of (member_at old outer.Af name.Hash) ≡ Some hash
+      → OpensAlike allowed hash a b
+  pub sealing : SaysSealing old new
 
 -- of a type by Argon2, and by PBKDF2
 other_kinds : (k : Argon2Kind) → Some (kind_text k) ≡ Some (codes "pbkdf2") → ⊥
@@ -180,15 +184,24 @@ open_hashes false false known size is = absurd cc
 open_hashes false true false size is = absurd cc
 open_hashes false true true size is = refl
 
-pub alike_refusal : {j k d f : Value} {m n : ℕ} (allowed : Allowed) (a b : SlotPlan) → SaysLike allowed d f → slot_refusal_within allowed a ≡ None → IsLuks2Plan j m d a → IsLuks2Plan k n f b
-    → a.digest.hash.now ≡ b.digest.hash.now → slot_refusal_within allowed a ≡ slot_refusal_within allowed b
-alike_refusal {j} {k} {d} {f} {m} {n} allowed a b like open_ x y hash =
+-- a plan by an object of the keyslot `old`, whatever it derives by
+pub record IsSealedPlan (old : Value) (plan : SlotPlan) : Type 0 where
+  pub cipher : IsLuks2Cipher old plan.cipher
+  pub area_key_bytes : number_in 1 128 (member_at old outer.Area name.KeySize) ≡ Some plan.area_key_bytes
+  pub splitter_hash : text_of (member_at old outer.Af name.Hash) ≡ Some plan.splitter_hash.now
+
+-- its hashes are known where it isn't refused
+open_known : (allowed : Allowed) (a : SlotPlan) → slot_refusal_within allowed a ≡ None → are_known_hashes allowed.older a ≡ true
+open_known allowed a open_ =
+    open_hashes (is_argon2_refused allowed.memory a.derivation) (is_allowed_cipher allowed.older a.cipher) (are_known_hashes allowed.older a) (is_key_size a.cipher a.area_key_bytes) open_
+
+pub sealed_refusal : {k d f : Value} {n : ℕ} (allowed : Allowed) (a b : SlotPlan) → SaysSealing d f → OpensAlike allowed a.splitter_hash.now a.derivation b.derivation
+    → slot_refusal_within allowed a ≡ None → IsSealedPlan d a → IsLuks2Plan k n f b → a.digest.hash.now ≡ b.digest.hash.now → slot_refusal_within allowed a ≡ slot_refusal_within allowed b
+sealed_refusal {k} {d} {f} {n} allowed a b like alike open_ x y hash =
     let off : is_argon2_refused allowed.memory a.derivation ≡ false = allowed_derivation allowed a open_ (is_argon2_refused allowed.memory a.derivation) refl in
-    let hashes : are_known_hashes allowed.older a ≡ true =
-    open_hashes (is_argon2_refused allowed.memory a.derivation) (is_allowed_cipher allowed.older a.cipher) (are_known_hashes allowed.older a) (is_key_size a.cipher a.area_key_bytes) open_ in
-    let both = and_parts (is_known_derivation allowed.older a.derivation && is_known_hash allowed.older a.splitter_hash.now) (is_known_hash allowed.older a.digest.hash.now) hashes in
+    let both = and_parts (is_known_derivation allowed.older a.derivation && is_known_hash allowed.older a.splitter_hash.now) (is_known_hash allowed.older a.digest.hash.now)
+    (open_known allowed a open_) in
     let own = and_parts (is_known_derivation allowed.older a.derivation) (is_known_hash allowed.older a.splitter_hash.now) both.0 in
-    let alike = like.derived a.derivation b.derivation a.splitter_hash.now x.derivation y.derivation x.splitter_hash in
     let size : a.area_key_bytes ≡ b.area_key_bytes = some_same a.area_key_bytes b.area_key_bytes (sym x.area_key_bytes ∙ sym like.area_key ∙ y.area_key_bytes) in
     let cipher = cipher_both allowed.older a.area_key_bytes b.area_key_bytes d f a.cipher b.cipher size like.encryption x.cipher y.cipher in
     same_refusal allowed a b (record {
@@ -199,3 +212,27 @@ alike_refusal {j} {k} {d} {f} {m} {n} allowed a b like open_ x y hash =
       splitter_hash = some_same a.splitter_hash.now b.splitter_hash.now (sym x.splitter_hash ∙ sym like.splitter ∙ y.splitter_hash);
       digest_hash = hash;
     })
+
+pub alike_refusal : {j k d f : Value} {m n : ℕ} (allowed : Allowed) (a b : SlotPlan) → SaysLike allowed d f → slot_refusal_within allowed a ≡ None → IsLuks2Plan j m d a → IsLuks2Plan k n f b
+    → a.digest.hash.now ≡ b.digest.hash.now → slot_refusal_within allowed a ≡ slot_refusal_within allowed b
+alike_refusal {j} {k} {d} {f} {m} {n} allowed a b like open_ x y hash =
+    sealed_refusal allowed a b like.sealing (like.derived a.derivation b.derivation a.splitter_hash.now x.derivation y.derivation x.splitter_hash) open_
+    (record { cipher = x.cipher; area_key_bytes = x.area_key_bytes; splitter_hash = x.splitter_hash }) y hash
+
+-- ---- keyslots of new volumes
+
+-- what they say of their sealing is accepted
+fresh_cipher : (older : Bool) (n : ℕ) (f : Value) (c : AreaCipher) → text_of (member_at f outer.Area name.Encryption) ≡ Some (codes "aes-xts-plain64") → n ≡ 64 → IsLuks2Cipher f c
+    → (is_allowed_cipher older c ≡ true) × (is_key_size c n ≡ true)
+fresh_cipher older n f (Apart a b) says size x = absurd x
+fresh_cipher false n f (Whole t) says size x = let text : t.now ≡ codes "aes-xts-plain64" = some_same t.now (codes "aes-xts-plain64") (sym x ∙ says) in (simp text, simp (text, size))
+fresh_cipher true n f (Whole t) says size x = let text : t.now ≡ codes "aes-xts-plain64" = some_same t.now (codes "aes-xts-plain64") (sym x ∙ says) in (simp text, simp (text, size))
+
+-- so one isn't refused that derives as is allowed, by a digest whose hash is known
+pub fresh_refusal : {k f : Value} {n : ℕ} (allowed : Allowed) (b : SlotPlan) → IsLuks2Plan k n f b → text_of (member_at f outer.Area name.Encryption) ≡ Some (codes "aes-xts-plain64")
+    → number_in 1 128 (member_at f outer.Area name.KeySize) ≡ Some 64 → is_argon2_refused allowed.memory b.derivation ≡ false → is_known_derivation allowed.older b.derivation ≡ true
+    → is_known_hash allowed.older b.splitter_hash.now ≡ true → is_known_hash allowed.older b.digest.hash.now ≡ true → slot_refusal_within allowed b ≡ None
+fresh_refusal {k} {f} {n} allowed b is encryption size off derived splitter digest =
+    let long : b.area_key_bytes ≡ 64 = some_same b.area_key_bytes 64 (sym is.area_key_bytes ∙ size) in
+    let cipher = fresh_cipher allowed.older b.area_key_bytes f b.cipher encryption long is.cipher in
+    simp (off, cipher.0, cipher.1, derived, splitter, digest)

@@ -6,9 +6,11 @@ mod GivenFacts
 mod KeptAnswers
 mod KeptFacts
 mod LeftoverFacts
+pub mod LikeFacts
 mod MetadataFacts
-mod OpenFacts
+pub mod OpenFacts
 mod OpenedFacts
+pub mod OwnFacts
 mod DerivedFacts
 pub mod OpensFacts
 pub mod PlaceFacts

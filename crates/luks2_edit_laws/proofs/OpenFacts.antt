@@ -28,22 +28,20 @@ use Rattle.luks_reading.specs.Header.{json_at}
 use Rattle.luks_reading.specs.Plans.{HasLuks2Plan, IsLuks2Digest, IsLuks2Plan}
 use Rattle.luks_reading.proofs.VolumeLaws.{uuid_faultless}
 use Rattle.luks2_edit_laws.specs.Edited.{HoldsKey}
-use Rattle.luks2_edit_laws.proofs.AlikeFacts.{alike_refusal, SaysLike}
 use Rattle.luks2_edit_laws.proofs.ToldFacts.{in_between}
 use Rattle.luks2_edit_laws.proofs.MetadataFacts.{some_same}
-use Rattle.luks2_edit_laws.proofs.SealFacts.{IsOpened}
 use Rattle.luks2_edit_laws.proofs.VolumeFacts.{copy_faultless, HasCopy, IsLayout}
 
 -- ---- digests
 
 -- one digest says one thing
-record SameDigest (a b : DigestPlan) : Type 0 where
-  hash : a.hash.now ≡ b.hash.now
-  iterations : a.iterations ≡ b.iterations
-  salt : a.salt.now ≡ b.salt.now
-  stored : a.stored.now ≡ b.stored.now
+pub record SameDigest (a b : DigestPlan) : Type 0 where
+  pub hash : a.hash.now ≡ b.hash.now
+  pub iterations : a.iterations ≡ b.iterations
+  pub salt : a.salt.now ≡ b.salt.now
+  pub stored : a.stored.now ≡ b.stored.now
 
-one_plan : (k : Value) (n : ℕ) (a b : DigestPlan) → ((m l : ℕ) → IsDigestOf k n m → IsDigestOf k n l → m ≡ l) → IsLuks2Digest k n a → IsLuks2Digest k n b → SameDigest a b
+pub one_plan : (k : Value) (n : ℕ) (a b : DigestPlan) → ((m l : ℕ) → IsDigestOf k n m → IsDigestOf k n l → m ≡ l) → IsLuks2Digest k n a → IsLuks2Digest k n b → SameDigest a b
 one_plan k n a b one x y =
     let number : x.number ≡ y.number = one x.number y.number x.names y.names in
     let object : x.object ≡ y.object = some_same x.object y.object (sym x.there ∙ ap (object_at k Digests) number ∙ y.there) in
@@ -54,17 +52,17 @@ one_plan k n a b one x y =
       stored = some_same a.stored.now b.stored.now (sym x.stored ∙ ap (λ d. bytes_in 20 64 (member_at d outer.Top name.Digest)) object ∙ y.stored);
     }
 
-same_meeting : (a b : DigestPlan) (key : List ℕ) → SameDigest a b → meets_digest a key ≡ meets_digest b key
+pub same_meeting : (a b : DigestPlan) (key : List ℕ) → SameDigest a b → meets_digest a key ≡ meets_digest b key
 unfolding meets_digest
 same_meeting a b key s = simp (s.hash, s.iterations, s.salt, s.stored)
 
 -- ---- the answer
 
 module _
-    (allowed : Allowed) (v w : List ℕ) (payload : Data) (o p h : ℕ) (j k : Value) (opener n : ℕ) (new key random : List ℕ)
-    (x : IsOpened allowed v o j opener) (meets : meets_digest x.plan.digest key ≡ true) (after : HasCopy w p h k) (layout : IsLayout h (length w) payload k)
-    (y : HoldsKey w k n new key random) (like : SaysLike allowed x.object y.object)
-    (one : (m l : ℕ) → IsDigestOf k n m → IsDigestOf k n l → m ≡ l) (digest : IsLuks2Digest k n x.plan.digest)
+    (allowed : Allowed) (w : List ℕ) (payload : Data) (p h : ℕ) (k : Value) (n : ℕ) (new key random : List ℕ) (told : DigestPlan)
+    (meets : meets_digest told key ≡ true) (after : HasCopy w p h k) (layout : IsLayout h (length w) payload k) (y : HoldsKey w k n new key random)
+    (fine : (plan : SlotPlan) → IsLuks2Plan k n y.object plan → SameDigest told plan.digest → slot_refusal_within allowed plan ≡ None)
+    (one : (m l : ℕ) → IsDigestOf k n m → IsDigestOf k n l → m ≡ l) (digest : IsLuks2Digest k n told)
   where
     plan_is : (plan : SlotPlan) → HasLuks2Plan (json_at w p) n plan → IsLuks2Plan k n y.object plan
     plan_is plan z =
@@ -74,8 +72,8 @@ module _
         let object : z.object ≡ y.object = some_same z.object y.object (sym there ∙ y.there.is) in
         subst (λ d. IsLuks2Plan k n d plan) object is
 
-    met_as : (plan : SlotPlan) → IsLuks2Plan k n y.object plan → SameDigest x.plan.digest plan.digest
-    met_as plan is = one_plan k n x.plan.digest plan.digest one digest is.digest
+    met_as : (plan : SlotPlan) → IsLuks2Plan k n y.object plan → SameDigest told plan.digest
+    met_as plan is = one_plan k n told plan.digest one digest is.digest
 
     unrefused : (f : OpenFault) → IsRefusalAsWithin allowed w n (luks2 p after.copies) f → ⊥
     unrefused (Head g) z = (uuid_faultless (uuid_field (header_at w p))).1 after.uuid g z
@@ -93,15 +91,14 @@ module _
         absurd (omega (arith, inside, past))
     unrefused (Slot g) z =
         let is : IsLuks2Plan k n y.object z.plan = plan_is z.plan z.is in
-        let same : slot_refusal_within allowed x.plan ≡ slot_refusal_within allowed z.plan = alike_refusal allowed x.plan z.plan like x.refused x.is is (met_as z.plan is).hash in
-        absurd (let both : None ≡ Some g = sym x.refused ∙ same ∙ z.refused in cc)
+        absurd (let both : None ≡ Some g = sym (fine z.plan is (met_as z.plan is)) ∙ z.refused in cc)
     unrefused Device z = z
     unrefused Memory z = z
 
     -- the keyslot opens to the key
     pub holds_opens : AnswerWithin allowed w n new (opens key)
     holds_opens =
-        let met : meets_digest y.plan.digest key ≡ true = sym (same_meeting x.plan.digest y.plan.digest key (met_as y.plan y.is)) ∙ meets in
+        let met : meets_digest y.plan.digest key ≡ true = sym (same_meeting told y.plan.digest key (met_as y.plan y.is)) ∙ meets in
         let hash = hash_by_name y.plan.splitter_hash.now in
         let open_ : slot_key y.plan (area_bytes w y.plan.area) new ≡ (if meets_digest y.plan.digest key then Some key else None) =
         sealed_opens y.plan (area_bytes w y.plan.area) new key random (in_between 1 4294967295 y.plan.stripes (member_at y.object outer.Af name.Stripes) y.is.stripes).from y.key_length y.random_length

@@ -24,7 +24,7 @@ use Rattle.luks_edit.specs.Secrets.{AnswersTo}
 use Rattle.luks2_edit_laws.specs.Edited.{HoldsKey}
 use Rattle.luks2_edit_laws.specs.Metadata.{HasMetadata, IsNewKeyslot}
 use Rattle.luks2_edit_laws.proofs.MetadataFacts.{digest_moves, some_same}
-use Rattle.luks2_edit_laws.proofs.AlikeFacts.{changed_derived_or, made_derived_or, OpensAlike, SaysLike}
+use Rattle.luks2_edit_laws.proofs.AlikeFacts.{alike_refusal, changed_derived_or, made_derived_or, OpensAlike, SaysLike}
 use Rattle.luks2_edit_laws.proofs.OpenFacts.{holds_opens}
 use Rattle.luks2_edit_laws.proofs.SealFacts.{opened_meets, opened_plan, IsOpened}
 use Rattle.luks2_edit_laws.proofs.VolumeFacts.{copy_meta, HasCopy, IsLayout}
@@ -42,12 +42,14 @@ like_made allowed d from f new s was is made says long within = record {
       subst (λ h. OpensAlike allowed h a b) (some_same s.splitter_hash hash (sym made.splitter_hash ∙ ap (λ o. text_of (member_at o outer.Af name.Hash)) was ∙ splitter))
       (made_derived_or allowed from (slot_value s) s.splitter_hash s.salt says.salt (rw made.salt long) new.derivation.iterations new.derivation.chosen s.derivation a b within made.derivation says.derivation
       (subst (λ v. IsLuks2Derivation v a) (sym was) x) (subst (λ v. IsLuks2Derivation v b) is y));
-  encryption = ap (λ x. text_of (member_at x outer.Area name.Encryption)) is ∙ says.encryption ∙ sym made.encryption
-      ∙ ap (λ x. text_of (member_at x outer.Area name.Encryption)) was;
-  area_key = ap (λ x. number_in 1 128 (member_at x outer.Area name.KeySize)) is ∙ says.area_key_size ∙ sym made.area_key_size
-      ∙ ap (λ x. number_in 1 128 (member_at x outer.Area name.KeySize)) was;
-  splitter = ap (λ x. text_of (member_at x outer.Af name.Hash)) is ∙ says.splitter_hash ∙ sym made.splitter_hash
-      ∙ ap (λ x. text_of (member_at x outer.Af name.Hash)) was;
+  sealing = record {
+    encryption = ap (λ x. text_of (member_at x outer.Area name.Encryption)) is ∙ says.encryption ∙ sym made.encryption
+        ∙ ap (λ x. text_of (member_at x outer.Area name.Encryption)) was;
+    area_key = ap (λ x. number_in 1 128 (member_at x outer.Area name.KeySize)) is ∙ says.area_key_size ∙ sym made.area_key_size
+        ∙ ap (λ x. number_in 1 128 (member_at x outer.Area name.KeySize)) was;
+    splitter = ap (λ x. text_of (member_at x outer.Af name.Hash)) is ∙ says.splitter_hash ∙ sym made.splitter_hash
+        ∙ ap (λ x. text_of (member_at x outer.Af name.Hash)) was;
+  };
 }
 
 -- what a changed keyslot says
@@ -58,12 +60,14 @@ like_changed allowed d was f now new old is says long within = record {
       changed_derived_or allowed new was now hash says.salt long
       (ap (λ a. text_of (option_and_then (get (codes "hash")) a)) (says.members (codes "af") refl) ∙ ap (λ x. text_of (member_at x outer.Af name.Hash)) old ∙ splitter) new.derivation.chosen a b within
       says.derivation (subst (λ v. IsLuks2Derivation v a) (sym old) x) (subst (λ v. IsLuks2Derivation v b) is y);
-  encryption = ap (λ x. text_of (member_at x outer.Area name.Encryption)) is ∙ ap text_of (says.area (codes "encryption") refl)
-      ∙ ap (λ x. text_of (member_at x outer.Area name.Encryption)) old;
-  area_key = ap (λ x. number_in 1 128 (member_at x outer.Area name.KeySize)) is ∙ ap (number_in 1 128) (says.area (codes "key_size") refl)
-      ∙ ap (λ x. number_in 1 128 (member_at x outer.Area name.KeySize)) old;
-  splitter = ap (λ x. text_of (member_at x outer.Af name.Hash)) is ∙ ap (λ a. text_of (option_and_then (get (codes "hash")) a)) (says.members (codes "af") refl)
-      ∙ ap (λ x. text_of (member_at x outer.Af name.Hash)) old;
+  sealing = record {
+    encryption = ap (λ x. text_of (member_at x outer.Area name.Encryption)) is ∙ ap text_of (says.area (codes "encryption") refl)
+        ∙ ap (λ x. text_of (member_at x outer.Area name.Encryption)) old;
+    area_key = ap (λ x. number_in 1 128 (member_at x outer.Area name.KeySize)) is ∙ ap (number_in 1 128) (says.area (codes "key_size") refl)
+        ∙ ap (λ x. number_in 1 128 (member_at x outer.Area name.KeySize)) old;
+    splitter = ap (λ x. text_of (member_at x outer.Af name.Hash)) is ∙ ap (λ a. text_of (option_and_then (get (codes "hash")) a)) (says.members (codes "af") refl)
+        ∙ ap (λ x. text_of (member_at x outer.Af name.Hash)) old;
+  };
 }
 
 module _
@@ -82,7 +86,8 @@ module _
     opens_by like names rest =
         let dx : IsLuks2Digest j opener plan_of.plan.digest = plan_of.is.digest in
         let now = rest.digests.there dx.number dx.object dx.there in
-        holds_opens allowed v w payload o p h j k opener n new key random plan_of meets after layout y like
+        holds_opens allowed w payload p h k n new key random plan_of.plan.digest meets after layout y
+        (λ plan is same. sym (alike_refusal allowed plan_of.plan plan like plan_of.refused plan_of.is is same.hash) ∙ plan_of.refused)
         (λ a b. one_digest (json_at w p) k (copy_meta w p h k after layout.held) n a b)
         (digest_moves j k opener n plan_of.plan.digest dx now.0 (names dx.number dx.names) now.1 now.2)
 

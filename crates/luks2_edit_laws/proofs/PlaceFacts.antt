@@ -13,7 +13,8 @@ use Rattle.luks_area.specs.Sectors.{rounded_to_sectors}
 use Rattle.luks_reading.specs.declared.report.Data.{Data}
 use Rattle.luks_reading.specs.Layout2.{Luks2Area}
 use Rattle.luks_edit.specs.declared.edit.Edit.{Edit}
-use Rattle.luks_edit.specs.declared.edit.Edit.TheVariants.{Add, Change, Remove, Repair, Label}
+use Rattle.luks_edit.specs.declared.edit.Edit.TheVariants.{Add, AddByKey, Change, Remove, Repair, Label}
+use Rattle.luks2_edit_laws.specs.declared.like.Like.{Like}
 use Rattle.luks2_edit_laws.specs.Places.{rounded_to_blocks, IsOfCopies, IsOfKeyslot, IsOfLost, IsOfNewKeyslot, IsOfSealed, IsTouched, Loses}
 
 -- the sectors of the stripes lie in their blocks
@@ -51,8 +52,8 @@ module _ (h total : ℕ) (payload : Data) (j : Value) (e : Edit) (fit : Fit (Luk
               (λ same. (let one : name_kind n ≡ 1 = ap name_kind same in absurd (omega (arith, kind, one)))) p at (past, omega (arith, within))
         ]
 
-    beside_new : (m : ℕ) → IsOfNewKeyslot h total payload j m p → ⊥
-    beside_new m x =
+    beside_new : (like : Like) → IsOfNewKeyslot h total payload j p like → ⊥
+    beside_new like x =
         let fits : rounded_to_sectors (x.is.key_bytes * x.is.stripes) ≤ rounded_to_blocks (x.is.key_bytes * x.is.stripes) =
         sectors_in_blocks (x.is.key_bytes * x.is.stripes) in
         let len : x.area.len ≡ rounded_to_blocks (x.is.key_bytes * x.is.stripes) = x.is.len in
@@ -66,9 +67,11 @@ module _ (h total : ℕ) (payload : Data) (j : Value) (e : Edit) (fit : Fit (Luk
 beside_sealed : (h total : ℕ) (payload : Data) (j : Value) (e : Edit) (fit : Fit (Luks2Area j h payload total) total) (n : AreaName) (a : Area)
     → IsLeft e n → Luks2Area j h payload total n a → (p : ℕ) → IsAt a.start a.len p → IsOfSealed h total payload j e p → ⊥
 beside_sealed h total payload j (Add by_ old new to iterations d) fit n a left is p at x =
-    beside_new h total payload j (Add by_ old new to iterations d) fit n a left is p at by_ x
+    beside_new h total payload j (Add by_ old new to iterations d) fit n a left is p at x.like x.has
+beside_sealed h total payload j (AddByKey key new to iterations d) fit n a left is p at x =
+    beside_new h total payload j (AddByKey key new to iterations d) fit n a left is p at x.like x.has
 beside_sealed h total payload j (Change slot old new iterations d) fit n a left is p at x =
-    beside_new h total payload j (Change slot old new iterations d) fit n a left is p at slot x
+    beside_new h total payload j (Change slot old new iterations d) fit n a left is p at x.like x.has
 beside_sealed h total payload j (Remove slot by_ passphrase) fit n a left is p at x = x
 beside_sealed h total payload j Repair fit n a left is p at x = x
 beside_sealed h total payload j (Label text) fit n a left is p at x = x
@@ -77,6 +80,7 @@ beside_sealed h total payload j (Label text) fit n a left is p at x = x
 beside_losing : (h total : ℕ) (payload : Data) (j : Value) (e : Edit) (fit : Fit (Luks2Area j h payload total) total) (n : AreaName) (a : Area)
     → IsLeft e n → Luks2Area j h payload total n a → (p : ℕ) → IsAt a.start a.len p → IsOfLost j e p → ⊥
 beside_losing h total payload j (Add by_ old new to iterations d) fit n a left is p at x = x
+beside_losing h total payload j (AddByKey key new to iterations d) fit n a left is p at x = x
 beside_losing h total payload j (Change slot old new iterations d) fit n a left is p at x =
     beside_lost h total payload j (Change slot old new iterations d) fit n a left is p at slot refl x
 beside_losing h total payload j (Remove slot by_ passphrase) fit n a left is p at x =

@@ -16,7 +16,7 @@ use Rattle.luks_rules.specs.Faults.{object_at}
 use Rattle.luks_rules.specs.Reading.{number_in}
 use Rattle.luks_rules.specs.Sizes.{inside_at}
 use Rattle.luks_rules.proofs.AreaFaults.{one_value}
-use Rattle.luks_making.specs.Conditions.{CanSeal, FitsNew, IsThere}
+use Rattle.luks_making.specs.Conditions.{CanSeal, FitsNew, IsInRegion, IsThere}
 use Rattle.luks_making.specs.Derivations.{FitsAsked, IsPositive}
 use Rattle.luks_making.specs.declared.derivation.AskedDerivation.{AskedDerivation}
 use Rattle.luks_slot.specs.declared.allowed.Allowed.{Allowed}
@@ -32,6 +32,8 @@ use Rattle.luks_reading.specs.declared.report.Data.{Data}
 use Rattle.luks_reading.specs.Answer.{HasPlanAs, IsRefusalAsWithin, opens}
 use Rattle.luks_reading.specs.Header.{json_at}
 use Rattle.luks_reading.specs.Plans.{HasLuks2Plan, IsLuks2Plan}
+use Rattle.luks2_edit_laws.specs.declared.like.Like.{Like}
+use Rattle.luks2_edit_laws.specs.declared.like.Like.TheVariants.{Keyslot}
 use Rattle.luks2_edit_laws.specs.Edited.{keyslot_salt, members_of}
 use Rattle.luks2_edit_laws.specs.Metadata.{HasMetadata}
 use Rattle.luks2_edit_laws.specs.Places.{IsNewArea}
@@ -109,7 +111,31 @@ opened_there allowed v o j n x = record {
 
 -- ---- a new area
 
-module _ (h total : ℕ) (payload : Data) (j : Value) (n : ℕ) (area : Area) (new : IsNewArea h total payload j n area) where
+module _ (h total : ℕ) (payload : Data) (j : Value) (like : Like) (area : Area) (new : IsNewArea h total payload j like area) where
+  -- it lies in the region
+  pub in_region : 4096 ≤ h → IsInRegion (h - 4096) j area.start area.len
+  in_region head = λ bytes says.
+      (let region : new.region ≡ bytes = some_same new.region bytes (sym new.region_is ∙ says) in
+      let from : 2 * h ≤ area.start = new.gap.gap.from in
+      let to : area.start + area.len ≤ min (2 * h + new.region) total = new.gap.gap.to in
+      (omega (arith, head, from), omega (arith, head, region, to)))
+
+  -- what is new of the keyslot has the ranges of its types
+  pub fits_new : (asked : AskedDerivation) (salt : List ℕ) → total < 2 ^ 64 → FitsAsked asked → IsBytes salt → FitsNew (members_of asked salt area)
+  fits_new asked salt small ranged bytes =
+      let to : area.start + area.len ≤ min (2 * h + new.region) total = new.gap.gap.to in
+      record { derivation = ranged; salt = bytes; offset = omega (arith, to, small); size = omega (arith, to, small) }
+
+  -- it lies inside the volume
+  pub under : min (2 * h + new.region) total ≤ total
+  under = omega arith
+
+  -- it holds the stripes
+  pub holds_stripes : (key stripes : ℕ) → key ≡ new.key_bytes → stripes ≡ new.stripes → rounded_to_sectors (key * stripes) ≤ area.len
+  holds_stripes key stripes key_is stripes_is = rw (key_is, stripes_is, new.len) (sectors_in_blocks (new.key_bytes * new.stripes))
+
+-- what is new of a keyslot that is made like one that is there suits it
+module _ (h total : ℕ) (payload : Data) (j : Value) (n : ℕ) (area : Area) (new : IsNewArea h total payload j (Keyslot n) area) where
   object_same : (slot : IsThere j n) → slot.object ≡ new.slot.object
   object_same slot = some_same slot.object new.slot.object (sym slot.there.is ∙ new.slot.there.is)
 
@@ -121,9 +147,8 @@ module _ (h total : ℕ) (payload : Data) (j : Value) (n : ℕ) (area : Area) (n
       let same : slot.object ≡ new.slot.object = object_same slot in
       let key_is : key ≡ new.key_bytes = some_same key new.key_bytes (sym (rw same at k) ∙ new.slot.key_bytes_are) in
       let stripes_is : stripes ≡ new.stripes = some_same stripes new.stripes (sym (rw same at s) ∙ new.slot.stripes_are) in
-      rw (key_is, stripes_is, new.len) (sectors_in_blocks (new.key_bytes * new.stripes))
+      holds_stripes h total payload j (Keyslot n) area new key stripes key_is stripes_is
 
-  -- what is new of the keyslot suits it
   pub can_seal : (asked : AskedDerivation) (salt : List ℕ) → 4096 ≤ h → IsThere j n → IsPositive asked → length salt ≡ 32
       → CanSeal (h - 4096) j n (members_of asked salt area)
   can_seal asked salt head slot turns long = record {
@@ -131,23 +156,9 @@ module _ (h total : ℕ) (payload : Data) (j : Value) (n : ℕ) (area : Area) (n
     derivation = turns;
     salt = record { from = omega (arith, long); to = omega (arith, long) };
     large = large slot;
-    within = λ bytes says. (
-        let region : new.region ≡ bytes = some_same new.region bytes (sym new.region_is ∙ says) in
-        let from : 2 * h ≤ area.start = new.gap.gap.from in
-        let to : area.start + area.len ≤ min (2 * h + new.region) total = new.gap.gap.to in
-        (omega (arith, head, from), omega (arith, head, region, to)));
+    within = in_region h total payload j (Keyslot n) area new head;
   }
 
-  -- and has the ranges of its types
-  pub fits_new : (asked : AskedDerivation) (salt : List ℕ) → total < 2 ^ 64 → FitsAsked asked → IsBytes salt → FitsNew (members_of asked salt area)
-  fits_new asked salt small ranged bytes =
-      let to : area.start + area.len ≤ min (2 * h + new.region) total = new.gap.gap.to in
-      record { derivation = ranged; salt = bytes; offset = omega (arith, to, small); size = omega (arith, to, small) }
-
-  -- it lies inside the volume
-  pub under : min (2 * h + new.region) total ≤ total
-  under = omega arith
-
 -- as many random bytes as a keyslot takes are enough for its salt
-pub enough_random : (j : Value) (n k : ℕ) → NeedsLike j n k → 160 ≤ k
-enough_random j n k x = let count : k ≡ 64 + 64 + 32 + (x.stripes - 1) * x.key_bytes = x.count in omega (arith, count)
+pub enough_random : (j : Value) (like : Like) (k : ℕ) → NeedsLike j k like → 160 ≤ k
+enough_random j like k x = let count : k ≡ 64 + 64 + 32 + (x.stripes - 1) * x.key_bytes = x.count in omega (arith, count)

@@ -1,6 +1,6 @@
 -- What a LUKS2 volume keeps that a failing device call left.
 use Rattle.std.proofs.Common.{◌≡◌, ℕ, ◌+◌, ◌-◌, ◌*◌, ◌<◌, ◌≤◌, ◌⊎◌, ◌==◌, Bool, true, false, List, length, None, Some, inl, inr, refl, sym, ap, subst, ◌∙◌, arith}
-use Rattle.std.proofs.lemmas.Bool.{eqb-true, false_from_ne_true}
+use Rattle.std.proofs.lemmas.Bool.{eqb-true}
 use Rattle.serde_json.specs.Data.{Data as Value}
 use Rattle.luks_area.specs.declared.area.AreaName.TheVariants as name
 use Rattle.luks_area.proofs.RangeFacts.{part-part, part-same_but, same_but-equal, same_but-wider}
@@ -15,6 +15,7 @@ use Rattle.luks2_header.proofs.ChoiceFacts.{choices_agree, choice_exists}
 use Rattle.luks_rules.specs.MetaFault.{Json}
 use Rattle.luks_making.specs.Changed.{changed_slot}
 use Rattle.luks_making.specs.declared.derivation.AskedDerivation.{AskedDerivation}
+use Rattle.luks_slot.specs.declared.allowed.Allowed.{Allowed}
 use Rattle.luks_reading.specs.declared.report.Data.{Data}
 use Rattle.luks_reading.specs.Answer.{opens, AnswerWithin}
 use Rattle.luks_reading.specs.Layout2.{Luks2Area}
@@ -22,10 +23,13 @@ use Rattle.luks_reading.specs.Checked.{WellFormed, WellFormedAs}
 use Rattle.luks_reading.specs.Header.{json_at}
 use Rattle.luks_edit.proofs.SecretFacts.{one_answer_to}
 use Rattle.luks_edit.specs.declared.edit.Edit.{Edit}
-use Rattle.luks_edit.specs.declared.edit.Edit.TheVariants.{Add, Change, Remove, Repair, Label}
+use Rattle.luks_edit.specs.declared.edit.Edit.TheVariants.{Add, AddByKey, Change, Remove, Repair, Label}
+use Rattle.luks_edit.specs.declared.edit.Opener.{Opener}
+use Rattle.luks_edit.specs.declared.edit.Opener.TheVariants as opener
 use Rattle.luks_edit.specs.Asked.{allowed_for}
 use Rattle.luks_edit.specs.Kept.{Keeps}
-use Rattle.luks_edit.specs.declared.edit_fault.EditFault.TheVariants.{Argon2, Iterations, RandomLength}
+use Rattle.luks2_edit_laws.specs.declared.like.Like.{Like}
+use Rattle.luks2_edit_laws.specs.declared.like.Like.TheVariants.{Keyslot}
 use Rattle.luks2_edit_laws.specs.Copies.{other_place, IsRenewed}
 use Rattle.luks2_edit_laws.specs.Edited.{keyslot_salt, members_of, stripes_random, HasChanged, HasRanges, HoldsKey, IsEdited, IsSealedBy, NamedKeyslots2}
 use Rattle.luks2_edit_laws.specs.Leftovers.{CountsAsAfter, CountsAsBefore, IsAllowed, IsNotStray, IsTorn2, IsTornAt, IsTornChosen, IsTornLost, IsTornOther, Leftover2, OpensEither2}
@@ -35,8 +39,8 @@ use Rattle.luks2_edit_laws.specs.Places.{key_areas_end, rounded_to_blocks, IsNew
 use Rattle.luks2_edit_laws.specs.Refused.{IsUnrefused2}
 use Rattle.luks2_edit_laws.proofs.MetadataFacts.{some_same}
 use Rattle.luks2_edit_laws.proofs.OpenedFacts.{changed_opens}
-use Rattle.luks2_edit_laws.proofs.SealFacts.{opened_plan}
-use Rattle.luks2_edit_laws.proofs.AfterFacts.{asking, changed_changes, edited_metadata, lost_is_named, same_metadata, was_opened, IsReady, WasOpened, long_salt}
+use Rattle.luks2_edit_laws.proofs.ToldFacts.{same_stripes_like}
+use Rattle.luks2_edit_laws.proofs.AfterFacts.{asking, changed_changes, edited_metadata, lost_is_named, model_by, ready_by, same_metadata, was_opened, WasOpened, long_salt}
 use Rattle.luks2_edit_laws.proofs.GivenFacts.{gives_kept}
 use Rattle.luks2_edit_laws.proofs.KeptFacts.{all_kept}
 use Rattle.luks2_edit_laws.proofs.LeftoverFacts.{first_size_left, is_sound, left_of, not_other, place_is, same_header, Left}
@@ -48,12 +52,13 @@ use Rattle.luks2_edit_laws.proofs.VolumeFacts.{copy_of, layout_of, one_metadata,
 -- ---- places
 
 -- what is sealed lies behind the copies
-new_behind : (h total : ℕ) (payload : Data) (j : Value) (n p : ℕ) → IsOfNewKeyslot h total payload j n p → 2 * h ≤ p
-new_behind h total payload j n p x = let from : 2 * h ≤ x.area.start = x.is.gap.gap.from in let low : x.area.start ≤ p = x.at.0 in omega (arith, from, low)
+new_behind : (h total : ℕ) (payload : Data) (j : Value) (like : Like) (p : ℕ) → IsOfNewKeyslot h total payload j p like → 2 * h ≤ p
+new_behind h total payload j like p x = let from : 2 * h ≤ x.area.start = x.is.gap.gap.from in let low : x.area.start ≤ p = x.at.0 in omega (arith, from, low)
 
 sealed_behind : (h total : ℕ) (payload : Data) (j : Value) (e : Edit) (p : ℕ) → IsOfSealed h total payload j e p → 2 * h ≤ p
-sealed_behind h total payload j (Add by_ old new to iterations d) p x = new_behind h total payload j by_ p x
-sealed_behind h total payload j (Change slot old new iterations d) p x = new_behind h total payload j slot p x
+sealed_behind h total payload j (Add by_ old new to iterations d) p x = new_behind h total payload j x.like p x.has
+sealed_behind h total payload j (AddByKey key new to iterations d) p x = new_behind h total payload j x.like p x.has
+sealed_behind h total payload j (Change slot old new iterations d) p x = new_behind h total payload j x.like p x.has
 sealed_behind h total payload j (Remove slot by_ passphrase) p x = absurd x
 sealed_behind h total payload j Repair p x = absurd x
 sealed_behind h total payload j (Label text) p x = absurd x
@@ -173,13 +178,11 @@ same_area : (a b : Area) → a.start ≡ b.start → a.len ≡ b.len → a ≡ b
 same_area a b start len = ap (λ s. record { start = s; len = a.len }) start ∙ ap (λ l. record { start = b.start; len = l }) len
 
 -- a new area is one
-one_new_area : (h total : ℕ) (payload : Data) (j : Value) (n : ℕ) (a b : Area) → IsNewArea h total payload j n a → IsNewArea h total payload j n b → a ≡ b
-one_new_area h total payload j n a b x y =
-    let object : x.slot.object ≡ y.slot.object = some_same x.slot.object y.slot.object (sym x.slot.there.is ∙ y.slot.there.is) in
-    let key : x.key_bytes ≡ y.key_bytes = some_same x.key_bytes y.key_bytes (sym x.slot.key_bytes_are ∙ (rw object y.slot.key_bytes_are)) in
-    let stripes : x.stripes ≡ y.stripes = some_same x.stripes y.stripes (sym x.slot.stripes_are ∙ (rw object y.slot.stripes_are)) in
+one_new_area : (h total : ℕ) (payload : Data) (j : Value) (like : Like) (a b : Area) → IsNewArea h total payload j like a → IsNewArea h total payload j like b → a ≡ b
+one_new_area h total payload j like a b x y =
+    let s = same_stripes_like j like x.key_bytes x.stripes y.key_bytes y.stripes x.slot y.slot in
     let region : x.region ≡ y.region = some_same x.region y.region (sym x.region_is ∙ y.region_is) in
-    let len : a.len ≡ b.len = x.len ∙ ap (λ k. rounded_to_blocks (k * x.stripes)) key ∙ ap (λ s. rounded_to_blocks (y.key_bytes * s)) stripes ∙ sym y.len in
+    let len : a.len ≡ b.len = x.len ∙ ap (λ k. rounded_to_blocks (k * x.stripes)) s.key_bytes ∙ ap (λ n. rounded_to_blocks (y.key_bytes * n)) s.stripes ∙ sym y.len in
     let moved : IsLeastGap (Luks2Area j h payload total) (2 * h) (key_areas_end h total x.region) a.len b.start =
     subst (λ r. IsLeastGap (Luks2Area j h payload total) (2 * h) (key_areas_end h total r) a.len b.start) (sym region)
     (subst (λ l. IsLeastGap (Luks2Area j h payload total) (2 * h) (key_areas_end h total y.region) l b.start) (sym len) y.gap) in
@@ -189,7 +192,7 @@ one_new_area h total payload j n a b x y =
 changed_once : (h total : ℕ) (payload : Data) (n : ℕ) (asked : AskedDerivation) (salt : List ℕ) (j k i : Value) → HasChanged h total payload n asked salt j k
     → HasChanged h total payload n asked salt j i → k ≡ i
 changed_once h total payload n asked salt j k i x y =
-    let area : x.area ≡ y.area = one_new_area h total payload j n x.area y.area x.place y.place in
+    let area : x.area ≡ y.area = one_new_area h total payload j (Keyslot n) x.area y.area x.place y.place in
     x.is ∙ ap (λ a. changed_slot n (members_of asked salt a) j) area ∙ sym y.is
 
 -- where one counts that the edit writes, a keyslot that was sealed again opens by the new passphrase
@@ -198,6 +201,7 @@ opens_written : (v : List ℕ) (payload : Data) (e : Edit) (random w : List ℕ)
     → (a : IsAllowed v payload e random w p) → IsEdited (hdr_size (header_at v a.place)) (length v) payload e (keyslot_salt random) a.value new
     → IsSealedBy v e random j w new → OpensEither2 v e w
 opens_written v payload (Add by_ old new to iterations d) random w well ranges free long j k p b chosen a edited sealed = tt
+opens_written v payload (AddByKey key new to iterations d) random w well ranges free long j k p b chosen a edited sealed = tt
 opens_written v payload (Change slot old new iterations d) random w well ranges free long j k p b chosen a edited sealed =
     let e : Edit = Change slot old new iterations d in
     let h : ℕ = hdr_size (header_at v a.place) in
@@ -212,28 +216,23 @@ opens_written v payload (Change slot old new iterations d) random w well ranges 
     } in
     let now : IsLayout h (length w) payload a.new = subst (λ n. IsLayout h n payload a.new) (sym long)
     (edited_metadata v a.place payload e random a.value a.new a.metadata before ranges free (sealed.key, sealed.opened) a.edited layout).layout in
-    let ready : IsReady (allowed_for old new.now) v a.place a.value slot (asking iterations d) random = record {
-      opened = opened_plan old.kind (allowed_for old new.now) v a.place a.value slot old.bytes.now sealed.key a.metadata sealed.opened;
-      turns = false_from_ne_true _ (λ few. free.none Iterations few);
-      within = false_from_ne_true _ (λ beyond. free.none Argon2 beyond);
-      ranged = ranges.derivation;
-      small = ranges.size;
-      random_bytes = ranges.random_bytes;
-      met = λ need like other. free.none RandomLength (record { place = a.place; value = a.value; metadata = a.metadata; is = record { need = need; is = like; other = other } });
-    } in
-    let changes = changed_changes (allowed_for old new.now) v a.place h payload random a.value a.new before layout slot (asking iterations d) ready a.edited in
+    let opener_ : Opener = opener.Keyslot slot old in
+    let allowed : Allowed = allowed_for opener_ new.now in
+    let model = model_by allowed v a.place a.value opener_ sealed.key (Keyslot slot) a.metadata sealed.opened refl in
+    let ready = ready_by v a.place payload e random a.value a.metadata ranges free _ refl (Keyslot slot) refl model in
+    let changes = changed_changes allowed v a.place h payload random a.value a.new before layout slot (asking iterations d) ready a.edited in
     let same : k ≡ a.new = changed_once h (length v) payload slot (asking iterations d) (keyslot_salt random) a.value k a.new edited a.edited in
     let there : HoldsKey w k slot new.now sealed.key (stripes_random random) =
     subst (λ n. HoldsKey w k n new.now sealed.key (stripes_random random)) sealed.is_made sealed.holds in
     let holds : HoldsKey w a.new slot new.now sealed.key (stripes_random random) = subst (λ i. HoldsKey w i slot new.now sealed.key (stripes_random random)) same there in
-    let opened : AnswerWithin (allowed_for old new.now) w slot new.now (opens sealed.key) =
-    changed_opens old.kind (allowed_for old new.now) v w payload a.place p h a.value a.new slot slot old.bytes.now new.now sealed.key (stripes_random random)
+    let opened : AnswerWithin allowed w slot new.now (opens sealed.key) =
+    changed_opens old.kind allowed v w payload a.place p h a.value a.new slot slot old.bytes.now new.now sealed.key (stripes_random random)
     a.metadata sealed.opened before layout after now holds
     (members_of (asking iterations d) (keyslot_salt random) a.edited.area) refl
-    (long_salt (allowed_for old new.now) v a.place h payload random a.value a.new before layout slot (asking iterations d) ready a.edited.area a.edited.place) ready.within changes in
+    (long_salt allowed v a.place h payload random a.value a.new before layout (Keyslot slot) (asking iterations d) ready a.edited.area a.edited.place) ready.within changes in
     λ key was.
-    (let key_same : sealed.key ≡ key = one_answer_to old.kind (allowed_for old new.now) v slot old.bytes.now (opens sealed.key) (opens key) sealed.opened was in
-    inr (subst (λ x. AnswerWithin (allowed_for old new.now) w slot new.now (opens x)) key_same opened))
+    (let key_same : sealed.key ≡ key = one_answer_to old.kind allowed v slot old.bytes.now (opens sealed.key) (opens key) sealed.opened was in
+    inr (subst (λ x. AnswerWithin allowed w slot new.now (opens x)) key_same opened))
 opens_written v payload (Remove slot by_ passphrase) random w well ranges free long j k p b chosen a edited sealed = tt
 opens_written v payload Repair random w well ranges free long j k p b chosen a edited sealed = tt
 opens_written v payload (Label text) random w well ranges free long j k p b chosen a edited sealed = tt
@@ -263,14 +262,16 @@ opens_before : (v : List ℕ) (payload : Data) (e : Edit) (random w : List ℕ) 
     → HasRanges v e random → (o : ℕ) (j : Value) (m : HasMetadata v o j) (b : Copies) → Chosen w (luks2 o b) → copy_at w o ≡ copy_at v o
     → SameBut (IsOfEither (IsOfSealed (hdr_size (header_at v o)) (length v) payload j e) (IsOfCopies (hdr_size (header_at v o)))) v w → OpensEither2 v e w
 opens_before v payload (Add by_ old new to iterations d) random w well ranges o j m b chosen same rest = tt
+opens_before v payload (AddByKey key new to iterations d) random w well ranges o j m b chosen same rest = tt
 opens_before v payload (Change slot old new iterations d) random w well ranges o j m b chosen same rest = λ key was.
-    (let all : SameBut (IsTouched (hdr_size (header_at v o)) (length v) payload j (Add slot old new None iterations d)) v w =
-    same_but-wider (λ p x. sealed_or_copy (IsOfNewKeyslot (hdr_size (header_at v o)) (length v) payload j slot p) (IsOfCopies (hdr_size (header_at v o)) p) x) rest in
+    (let e : Edit = Change slot old new iterations d in
+    let all : SameBut (IsTouched (hdr_size (header_at v o)) (length v) payload j (Add slot old new None iterations d)) v w =
+    same_but-wider (λ p x. sealed_or_copy (IsOfSealed (hdr_size (header_at v o)) (length v) payload j e p) (IsOfCopies (hdr_size (header_at v o)) p) x) rest in
     let kept : Keeps payload (λ n. ⊥) v w =
-    kept_before v payload (Change slot old new iterations d) random w well ranges rest.length_same (λ n. ⊥) (Add slot old new None iterations d) (λ n lost. lost)
+    kept_before v payload e random w well ranges rest.length_same (λ n. ⊥) (Add slot old new None iterations d) (λ n lost. lost)
     o j m b chosen same all in
-    inl (gives_kept old.kind (allowed_for old new.now) payload v w slot old.bytes.now (Some key) o m.copies b m.chosen chosen
-    (same_json v payload (Change slot old new iterations d) random w well ranges rest.length_same o m.copies b m.chosen chosen same) (kept.slots slot (λ x. x)) was))
+    inl (gives_kept old.kind (allowed_for (opener.Keyslot slot old) new.now) payload v w slot old.bytes.now (Some key) o m.copies b m.chosen chosen
+    (same_json v payload e random w well ranges rest.length_same o m.copies b m.chosen chosen same) (kept.slots slot (λ x. x)) was))
 opens_before v payload (Remove slot by_ passphrase) random w well ranges o j m b chosen same rest = tt
 opens_before v payload Repair random w well ranges o j m b chosen same rest = tt
 opens_before v payload (Label text) random w well ranges o j m b chosen same rest = tt

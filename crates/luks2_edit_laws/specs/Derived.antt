@@ -9,7 +9,7 @@ use Rattle.luks_making.specs.Unchanged.{KeepsDerivation, SaysChosen, SaysDerivat
 use Rattle.luks_edit.specs.declared.deed.Place.{Place}
 use Rattle.luks_edit.specs.declared.deed.Place.TheVariants.{New, Opened}
 use Rattle.luks_edit.specs.declared.edit.Edit.{Edit}
-use Rattle.luks_edit.specs.Asked.{sealed_by}
+use Rattle.luks_edit.specs.Asked.{MatchOpener, opener_at, sealed_by}
 use Rattle.luks2_edit_laws.specs.Edited.{keyslot_salt, IsSealedIn}
 
 -- the keyslot `d` derives as the keyslot `from`, PBKDF2 by so many iterations
@@ -22,12 +22,15 @@ pub record DerivesLike (n : ℕ) (from d : Value) : Type 0 where
 -- `from` that was opened, and one that is sealed again as it did but for its salt and iterations
 abbrev pub DerivesAs : Place → ℕ → Option NewDerivation → List ℕ → Value → Value → Type 0
 DerivesAs place n (Some c) salt from d = SaysChosen c salt d
-DerivesAs (New to) n None salt from d = DerivesLike n from d
-DerivesAs Opened n None salt from d = KeepsDerivation n from d
+DerivesAs (New o to) n None salt from d = DerivesLike n from d
+DerivesAs (Opened slot secret) n None salt from d = KeepsDerivation n from d
 
 -- by the metadata `k`, which the edit made of the metadata `j` of the volume `v`, so does the keyslot that
--- it sealed the key in
+-- it sealed the key in; by the volume key one is always chosen, and no keyslot was opened
 abbrev pub IsDerivedBy : List ℕ → Edit → List ℕ → Value → Value → Type 0
-IsDerivedBy v e random j k = IfSome (sealed_by e) (λ s. (n : ℕ) (from d : Value)
-    → IsSealedIn v s n → HasObject j Keyslots s.opener.slot from → HasObject k Keyslots n d
+IsDerivedBy v e random j k = IfSome (sealed_by e) (λ s. MatchOpener (opener_at s.place)
+    (λ slot secret. (n : ℕ) (from d : Value)
+    → IsSealedIn v s n → HasObject j Keyslots slot from → HasObject k Keyslots n d
     → DerivesAs s.place s.derivation.iterations s.derivation.chosen (keyslot_salt random) from d)
+    (λ key. (n : ℕ) (d : Value) → IsSealedIn v s n → HasObject k Keyslots n d
+    → IfSome s.derivation.chosen (λ c. SaysChosen c (keyslot_salt random) d)))

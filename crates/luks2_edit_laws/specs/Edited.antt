@@ -1,5 +1,5 @@
 -- What an edit makes of a LUKS2 volume (LUKS2 On-Disk Format 1.1, 4).
-use Rattle.std.specs.Prelude.{◌≡◌, ℕ, ◌-◌, ◌*◌, ◌^◌, ◌<◌, List, length, drop, replicate, Option, IfSome}
+use Rattle.std.specs.Prelude.{◌≡◌, ℕ, ◌-◌, ◌*◌, ◌^◌, ◌<◌, Bool, List, length, drop, replicate, Option, None, IfSome}
 use Rattle.base64.specs.GeneralPurpose.{IsBytes}
 use Rattle.serde_json.specs.Data.{Data as Value}
 use Rattle.luks_area.specs.declared.area.Area.{Area}
@@ -11,7 +11,6 @@ use Rattle.luks_making.specs.Changed.{changed_slot}
 use Rattle.luks_making.specs.Derivations.{FitsAsked}
 use Rattle.luks_making.specs.declared.derivation.AskedDerivation.{AskedDerivation}
 use Rattle.luks_making.specs.Keyslots.{NewMembers}
-use Rattle.luks_making.specs.With.{IsAdded}
 use Rattle.luks_making.specs.Without.{without_slot}
 use Rattle.luks_slot.specs.declared.allowed.Allowed.{Allowed}
 use Rattle.luks_slot.specs.declared.plan.SlotPlan.{SlotPlan}
@@ -21,11 +20,15 @@ use Rattle.luks_reading.specs.declared.report.Data.{Data}
 use Rattle.luks_reading.specs.Answer.{AnswerWithin, opens}
 use Rattle.luks_reading.specs.Plans.{IsLuks2Plan}
 use Rattle.luks_edit.specs.declared.edit.Edit.{Edit}
-use Rattle.luks_edit.specs.declared.edit.SecretKind.{SecretKind}
+use Rattle.luks_edit.specs.declared.edit.Opener.{Opener}
+use Rattle.luks_edit.specs.declared.edit.Opener.TheVariants as opener
 use Rattle.luks_edit.specs.declared.deed.Sealed.{Sealed}
 use Rattle.luks_edit.specs.Secrets.{AnswersTo}
-use Rattle.luks_edit.specs.Asked.{deed_of, lost_by, MatchDeed, MatchPlace, allowed_for, sealed_by}
+use Rattle.luks_edit.specs.Asked.{deed_of, lost_by, MatchDeed, MatchPlace, allowed_for, opener_at, sealed_by}
+use Rattle.luks2_edit_laws.specs.declared.like.Like.{Like}
+use Rattle.luks2_edit_laws.specs.declared.like.Like.TheVariants.{Keyslot}
 use Rattle.luks2_edit_laws.specs.Copies.{IsWrittenAnew}
+use Rattle.luks2_edit_laws.specs.Likes.{ForLike, HasRefusal, IsAddedLike, IsLikeByKey}
 use Rattle.luks2_edit_laws.specs.Metadata.{HasMetadata, IsKeyArea, IsNewKeyslot}
 use Rattle.luks2_edit_laws.specs.Places.{IsNewArea, IsTouched}
 
@@ -40,7 +43,7 @@ pub record IsMadeIn (v : List ℕ) (to : Option ℕ) (n : ℕ) : Type 0 where
 
 -- the keyslot of the volume that an edit seals the key in
 abbrev pub IsSealedIn : List ℕ → Sealed → ℕ → Type 0
-IsSealedIn v s n = MatchPlace s.place (λ to. IsMadeIn v to n) (n ≡ s.opener.slot)
+IsSealedIn v s n = MatchPlace s.place (λ o to. IsMadeIn v to n) (λ slot secret. n ≡ slot)
 
 abbrev pub NamedKeyslots2 : List ℕ → Edit → ℕ → Type 0
 NamedKeyslots2 v e n = MatchDeed (deed_of e) (λ s. IsSealedIn v s n) (λ r. n ≡ r.slot) (λ label. ⊥)
@@ -65,31 +68,31 @@ abbrev pub members_of : AskedDerivation → List ℕ → Area → NewMembers
 members_of asked salt area =
     record { derivation = asked; salt = salt; offset = area.start; size = area.len }
 
--- `new` is the metadata `j` with a new keyslot, made with the members of the keyslot `opener`
+-- `new` is the metadata `j` with a new keyslot that is made like this one
 pub record HasAdded
-    (h total : ℕ) (payload : Data) (opener : ℕ) (to : Option ℕ) (asked : AskedDerivation) (salt : List ℕ)
-    (j new : Value)
+    (h total : ℕ) (payload : Data) (to : Option ℕ) (asked : AskedDerivation) (salt : List ℕ)
+    (j new : Value) (like : Like)
     : Type 0 where
   pub slot : ℕ
   pub is_new : IsNewKeyslot j to slot
   pub area : Area
-  pub place : IsNewArea h total payload j opener area
-  pub is : IsAdded slot opener (members_of asked salt area) j new
+  pub place : IsNewArea h total payload j like area
+  pub is : IsAddedLike slot like (members_of asked salt area) j new
 
 -- `new` is the metadata `j` with a new derivation, salt and area in the keyslot `slot`
 pub record HasChanged
     (h total : ℕ) (payload : Data) (slot : ℕ) (asked : AskedDerivation) (salt : List ℕ) (j new : Value)
     : Type 0 where
   pub area : Area
-  pub place : IsNewArea h total payload j slot area
+  pub place : IsNewArea h total payload j (Keyslot slot) area
   pub is : new ≡ changed_slot slot (members_of asked salt area) j
 
 -- `new` is what the edit makes of the metadata `j`, with the salt for a keyslot that it seals
 abbrev pub IsEdited : ℕ → ℕ → Data → Edit → List ℕ → Value → Value → Type 0
 IsEdited h total payload e salt j k = MatchDeed (deed_of e)
     (λ s. MatchPlace s.place
-    (λ to. HasAdded h total payload s.opener.slot to s.derivation salt j k)
-    (HasChanged h total payload s.opener.slot s.derivation salt j k))
+    (λ o to. ForLike j o (HasAdded h total payload to s.derivation salt j k))
+    (λ slot secret. HasChanged h total payload slot s.derivation salt j k))
     (λ r. k ≡ without_slot r.slot j)
     (λ label. k ≡ j)
 
@@ -113,25 +116,40 @@ pub record HoldsKey (w : List ℕ) (j : Value) (n : ℕ) (passphrase key random 
   pub random_length : length random ≡ (plan.stripes - 1) * plan.key_bytes
   pub sealed : IsSealed plan (area_bytes w plan.area) passphrase key random
 
--- a keyslot of the set `made` holds under `new`, by the metadata `j`, the key that the keyslot `opener` of the
--- volume `v` gives by the secret `old`, where so much is allowed
+-- the bytes are a key of the LUKS2 volume `v`: they meet a digest of it, and a keyslot that is made by them isn't refused,
+-- with ciphers and hashes of older disks where `older` says so
+pub record IsOwnKey (older : Bool) (v bytes : List ℕ) : Type 0 where
+  pub place : ℕ
+  pub value : Value
+  pub metadata : HasMetadata v place value
+  pub like : Like
+  pub is_like : IsLikeByKey older value bytes like
+  pub accepted : HasRefusal older value like None
+
+-- the key that is given by a keyslot and its secret, or by the volume key alone
+abbrev pub Gives2 : Allowed → List ℕ → Opener → List ℕ → Type 0
+Gives2 allowed v (opener.Keyslot slot secret) key = AnswersTo secret.kind allowed v slot secret.bytes.now (opens key)
+Gives2 allowed v (opener.Key own) key = (key ≡ own.bytes.now) × IsOwnKey own.allowed.older v own.bytes.now
+
+-- a keyslot of the set `made` holds under `new`, by the metadata `j`, the key that the opener gives of the volume
+-- `v`, where so much is allowed
 pub record HoldsOpened
-    (kind : SecretKind) (allowed : Allowed) (v : List ℕ) (opener : ℕ) (old new : List ℕ) (made : ℕ → Type 0) (random w : List ℕ) (j : Value)
+    (allowed : Allowed) (v : List ℕ) (o : Opener) (new : List ℕ) (made : ℕ → Type 0) (random w : List ℕ) (j : Value)
     : Type 0 where
   pub slot : ℕ
   pub is_made : made slot
   pub key : List ℕ
-  pub opened : AnswersTo kind allowed v opener old (opens key)
+  pub opened : Gives2 allowed v o key
   pub holds : HoldsKey w j slot new key (stripes_random random)
 
 -- the keyslot that a key is sealed in by the metadata `j`
 abbrev pub IsSealedBeside : Value → Sealed → ℕ → Type 0
-IsSealedBeside j s n = MatchPlace s.place (λ to. IsNewKeyslot j to n) (n ≡ s.opener.slot)
+IsSealedBeside j s n = MatchPlace s.place (λ o to. IsNewKeyslot j to n) (λ slot secret. n ≡ slot)
 
 -- the keyslot that the edit makes of the metadata `j`, or seals again, holds the key that was opened
 abbrev pub IsSealedBy : List ℕ → Edit → List ℕ → Value → List ℕ → Value → Type 0
 IsSealedBy v e random j w k = IfSome (sealed_by e) (λ s.
-    HoldsOpened s.opener.secret.kind (allowed_for s.opener.secret s.passphrase.now) v s.opener.slot s.opener.secret.bytes.now s.passphrase.now (IsSealedBeside j s) random w k)
+    HoldsOpened (allowed_for (opener_at s.place) s.passphrase.now) v (opener_at s.place) s.passphrase.now (IsSealedBeside j s) random w k)
 
 -- the area that the keyslot `n` has by the metadata `j` is zeros
 abbrev pub IsWiped : Value → ℕ → List ℕ → Type 0
@@ -160,12 +178,12 @@ pub record After2 (v : List ℕ) (payload : Data) (e : Edit) (random w : List �
 
 -- ---- what opens after an edit
 
--- a keyslot that the edit made or sealed again opens by its new passphrase to the key that the secret
+-- a keyslot that the edit made or sealed again opens by its new passphrase to the key that the opener
 -- gave, where as much is allowed
 abbrev pub OpensAfter2 : List ℕ → Edit → List ℕ → Type 0
 OpensAfter2 v e w = IfSome (sealed_by e) (λ s. MatchPlace s.place
-    (λ to. (n : ℕ) (key : List ℕ) → IsMadeIn v to n
-    → AnswersTo s.opener.secret.kind (allowed_for s.opener.secret s.passphrase.now) v s.opener.slot s.opener.secret.bytes.now (opens key)
-    → AnswerWithin (allowed_for s.opener.secret s.passphrase.now) w n s.passphrase.now (opens key))
-    ((key : List ℕ) → AnswersTo s.opener.secret.kind (allowed_for s.opener.secret s.passphrase.now) v s.opener.slot s.opener.secret.bytes.now (opens key)
-    → AnswerWithin (allowed_for s.opener.secret s.passphrase.now) w s.opener.slot s.passphrase.now (opens key)))
+    (λ o to. (n : ℕ) (key : List ℕ) → IsMadeIn v to n
+    → Gives2 (allowed_for o s.passphrase.now) v o key
+    → AnswerWithin (allowed_for o s.passphrase.now) w n s.passphrase.now (opens key))
+    (λ slot secret. (key : List ℕ) → Gives2 (allowed_for (opener.Keyslot slot secret) s.passphrase.now) v (opener.Keyslot slot secret) key
+    → AnswerWithin (allowed_for (opener.Keyslot slot secret) s.passphrase.now) w slot s.passphrase.now (opens key)))

@@ -1,7 +1,7 @@
 -- What an edit of a LUKS2 volume may leave that a failing device call ended. A failed write leaves any
 -- bytes in its range; the ranges are written in this order: a new key area, the copy that doesn't
 -- count, the copy that counts, the area that is lost.
-use Rattle.std.specs.Prelude.{◌≡◌, ℕ, ◌≤◌, ◌⊎◌, List, length, IfSome}
+use Rattle.std.specs.Prelude.{◌≡◌, ℕ, ◌≤◌, ◌⊎◌, List, length, IfSome, ⊤}
 use Rattle.serde_json.specs.Data.{Data as Value}
 use Rattle.luks_area.specs.Ranges.{IsAt, IsOfEither, SameBut}
 use Rattle.luks2_header.specs.Header2.{copy_at, hdr_size, header_at, IsSound}
@@ -11,10 +11,10 @@ use Rattle.luks2_header.specs.Sizes.{IsListed}
 use Rattle.luks_reading.specs.declared.report.Data.{Data}
 use Rattle.luks_reading.specs.Answer.{opens, AnswerWithin}
 use Rattle.luks_edit.specs.declared.edit.Edit.{Edit}
-use Rattle.luks_edit.specs.Secrets.{AnswersTo}
-use Rattle.luks_edit.specs.Asked.{again_by, allowed_for}
+use Rattle.luks_edit.specs.declared.edit.Opener.TheVariants.{Keyslot}
+use Rattle.luks_edit.specs.Asked.{again_by, allowed_for, MatchPlace}
 use Rattle.luks2_edit_laws.specs.Copies.{other_place, IsRenewed, IsWrittenAnew}
-use Rattle.luks2_edit_laws.specs.Edited.{keyslot_salt, IsEdited, IsSealedBy}
+use Rattle.luks2_edit_laws.specs.Edited.{Gives2, keyslot_salt, IsEdited, IsSealedBy}
 use Rattle.luks2_edit_laws.specs.Metadata.{HasMetadata}
 use Rattle.luks2_edit_laws.specs.Places.{IsOfCopies, IsOfSealed, IsTouched}
 use Rattle.luks2_edit_laws.specs.Refused.{IsUnrefused2}
@@ -107,7 +107,7 @@ pub record CountsAsAfter (v : List ℕ) (payload : Data) (e : Edit) (random w : 
 -- a keyslot that was to be sealed again gives by the old secret, or opens by the new passphrase to, the same
 -- key, where as much is allowed
 abbrev pub OpensEither2 : List ℕ → Edit → List ℕ → Type 0
-OpensEither2 v e w = IfSome (again_by e) (λ s. (key : List ℕ)
-    → AnswersTo s.opener.secret.kind (allowed_for s.opener.secret s.passphrase.now) v s.opener.slot s.opener.secret.bytes.now (opens key)
-    → AnswersTo s.opener.secret.kind (allowed_for s.opener.secret s.passphrase.now) w s.opener.slot s.opener.secret.bytes.now (opens key)
-    ⊎ AnswerWithin (allowed_for s.opener.secret s.passphrase.now) w s.opener.slot s.passphrase.now (opens key))
+OpensEither2 v e w = IfSome (again_by e) (λ s. MatchPlace s.place (λ o to. ⊤) (λ slot secret. (key : List ℕ)
+    → Gives2 (allowed_for (Keyslot slot secret) s.passphrase.now) v (Keyslot slot secret) key
+    → Gives2 (allowed_for (Keyslot slot secret) s.passphrase.now) w (Keyslot slot secret) key
+    ⊎ AnswerWithin (allowed_for (Keyslot slot secret) s.passphrase.now) w slot s.passphrase.now (opens key)))

@@ -7,4 +7,5 @@ pub mod Edited
 pub mod Derived
 pub mod Refused
 pub mod Leftovers
+pub mod Likes
 pub mod Kept

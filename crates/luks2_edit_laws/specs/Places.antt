@@ -10,9 +10,11 @@ use Rattle.luks_rules.specs.Sizes.{keyslots_size}
 use Rattle.luks_reading.specs.declared.report.Data.{Data}
 use Rattle.luks_reading.specs.Layout2.{Luks2Area}
 use Rattle.luks_edit.specs.declared.edit.Edit.{Edit}
-use Rattle.luks_edit.specs.Asked.{lost_by, sealed_by}
+use Rattle.luks_edit.specs.Asked.{lost_by, opener_at, sealed_by}
+use Rattle.luks2_edit_laws.specs.declared.like.Like.{Like}
 use Rattle.luks2_edit_laws.specs.Gap.{HasNoGap, IsLeastGap}
-use Rattle.luks2_edit_laws.specs.Metadata.{HasMetadata, HasStripes, IsKeyArea}
+use Rattle.luks2_edit_laws.specs.Likes.{ForLike, HasStripesLike}
+use Rattle.luks2_edit_laws.specs.Metadata.{HasMetadata, IsKeyArea}
 
 -- the bytes of the whole blocks of 4096 bytes that hold so many bytes
 abbrev pub rounded_to_blocks : ℕ → ℕ
@@ -22,22 +24,22 @@ rounded_to_blocks bytes = (bytes + 4095) / 4096 * 4096
 abbrev pub key_areas_end : ℕ → ℕ → ℕ → ℕ
 key_areas_end h total region = min (2 * h + region) total
 
--- the area of a keyslot that is made with the key's length and the stripes of the keyslot `n`: whole
+-- the area of a keyslot that is made like this one, with its key's length and its stripes: whole
 -- blocks for all stripes, in the least gap of the region, inside the volume and beside every area
-pub record IsNewArea (h total : ℕ) (payload : Data) (j : Value) (n : ℕ) (area : Area) : Type 0 where
+pub record IsNewArea (h total : ℕ) (payload : Data) (j : Value) (like : Like) (area : Area) : Type 0 where
   pub key_bytes : ℕ
   pub stripes : ℕ
-  pub slot : HasStripes j n key_bytes stripes
+  pub slot : HasStripesLike j like key_bytes stripes
   pub region : ℕ
   pub region_is : keyslots_size j ≡ Some region
   pub len : area.len ≡ rounded_to_blocks (key_bytes * stripes)
   pub gap : IsLeastGap (Luks2Area j h payload total) (2 * h) (key_areas_end h total region) area.len area.start
 
 -- there is no such area
-pub record HasNoNewArea (h total : ℕ) (payload : Data) (j : Value) (n : ℕ) : Type 0 where
+pub record HasNoNewArea (h total : ℕ) (payload : Data) (j : Value) (like : Like) : Type 0 where
   pub key_bytes : ℕ
   pub stripes : ℕ
-  pub slot : HasStripes j n key_bytes stripes
+  pub slot : HasStripesLike j like key_bytes stripes
   pub region : ℕ
   pub region_is : keyslots_size j ≡ Some region
   pub none : HasNoGap (Luks2Area j h payload total) (2 * h) (key_areas_end h total region)
@@ -55,15 +57,15 @@ pub record IsOfKeyslot (j : Value) (n p : ℕ) : Type 0 where
   pub is : IsKeyArea j n area
   pub at : IsAt area.start area.len p
 
--- it is of the sectors that hold the stripes of a keyslot that is made like the keyslot `n`
-pub record IsOfNewKeyslot (h total : ℕ) (payload : Data) (j : Value) (n p : ℕ) : Type 0 where
+-- it is of the sectors that hold the stripes of a keyslot that is made like this one
+pub record IsOfNewKeyslot (h total : ℕ) (payload : Data) (j : Value) (p : ℕ) (like : Like) : Type 0 where
   pub area : Area
-  pub is : IsNewArea h total payload j n area
+  pub is : IsNewArea h total payload j like area
   pub at : IsAt area.start (rounded_to_sectors (is.key_bytes * is.stripes)) p
 
 -- it is of the sectors of the keyslot that the edit makes or seals again
 abbrev pub IsOfSealed : ℕ → ℕ → Data → Value → Edit → ℕ → Type 0
-IsOfSealed h total payload j e p = IsSomeAnd (sealed_by e) (λ s. IsOfNewKeyslot h total payload j s.opener.slot p)
+IsOfSealed h total payload j e p = IsSomeAnd (sealed_by e) (λ s. ForLike j (opener_at s.place) (IsOfNewKeyslot h total payload j p))
 
 -- the keyslot loses its area by the edit
 abbrev pub Loses : Edit → ℕ → Type 0

@@ -1,6 +1,6 @@
 -- When an edit of a LUKS2 volume is refused, and how many random bytes it takes. The order of the
 -- faults is that of every edit.
-use Rattle.std.specs.Prelude.{◌≡◌, ◌≢◌, ℕ, ◌+◌, ◌-◌, ◌*◌, ◌^◌, ◌<◌, ◌≤◌, ◌⊎◌, List, length, true, Option, Some, None, IsSomeAnd, MatchOption}
+use Rattle.std.specs.Prelude.{◌≡◌, ◌≢◌, ℕ, ◌+◌, ◌-◌, ◌*◌, ◌^◌, ◌<◌, ◌≤◌, ◌⊎◌, Bool, List, length, true, Option, Some, None, IsSomeAnd, MatchOption}
 use Rattle.base64.specs.GeneralPurpose.{IsBytes}
 use Rattle.serde_json.specs.Data.{Data as Value}
 use Rattle.serde_json.specs.Written.{compact_text}
@@ -10,16 +10,21 @@ use Rattle.luks2_header.specs.Header2.{binary_header_size, hdr_size, header_at, 
 use Rattle.luks_making.specs.Conditions.{IsFree}
 use Rattle.luks_making.specs.Naming.{IsDigestOf}
 use Rattle.luks_meta.specs.Requirements.{has_requirements}
+use Rattle.luks_slot.specs.declared.allowed.Allowed.{Allowed}
 use Rattle.luks_reading.specs.declared.report.Data.{Data}
 use Rattle.luks_reading.specs.Checked.{IsFault}
 use Rattle.luks_edit.specs.declared.edit.Edit.{Edit}
 use Rattle.luks_edit.specs.declared.edit_fault.EditFault.{EditFault}
 use Rattle.luks_edit.specs.declared.edit_fault.EditFault.TheVariants as fault
-use Rattle.luks_edit.specs.Asked.{HasFewIterations, IsBeyondMemory, label_by, MatchPlace, NamesItself, removed_by, sealed_by, Wants}
+use Rattle.luks_edit.specs.declared.edit.Opener.{Opener}
+use Rattle.luks_edit.specs.declared.edit.Opener.TheVariants as opener
+use Rattle.luks_edit.specs.Asked.{allowed_by, deed_of, HasFewIterations, IsBeyondMemory, label_by, MatchPlace, NamesItself, opener_at, opener_in, removed_by, sealed_by, Wants}
 use Rattle.luks_edit.specs.EditFaults.{edit_key}
-use Rattle.luks_edit.specs.Opener.{IsLocked, IsShut}
+use Rattle.luks_edit.specs.Opener.{IsUnopenedKeyslot}
+use Rattle.luks2_edit_laws.specs.declared.like.Like.{Like}
 use Rattle.luks2_edit_laws.specs.Edited.{IsEdited}
-use Rattle.luks2_edit_laws.specs.Metadata.{HasMetadata, HasStripes, IsInUse}
+use Rattle.luks2_edit_laws.specs.Likes.{ForLike, HasNoDigestFor, HasRefusedLike, HasStripesLike, MayMeetUnknown, MeetsNone}
+use Rattle.luks2_edit_laws.specs.Metadata.{HasMetadata, IsInUse}
 use Rattle.luks2_edit_laws.specs.Places.{HasNoNewArea}
 
 -- ---- the keyslots that the edit wants
@@ -43,14 +48,14 @@ HasNoNumber j (Some t) = 31 < t
 HasNoNumber j None = (n : ℕ) → IsFree j n → ⊥
 
 abbrev pub IsTaken : Value → Edit → Type 0
-IsTaken j e = IsSomeAnd (sealed_by e) (λ s. MatchPlace s.place (IsNumberTaken j) ⊥)
+IsTaken j e = IsSomeAnd (sealed_by e) (λ s. MatchPlace s.place (λ o to. IsNumberTaken j to) (λ slot secret. ⊥))
 
 abbrev pub HasNoFree : Value → Edit → Type 0
-HasNoFree j e = IsSomeAnd (sealed_by e) (λ s. MatchPlace s.place (HasNoNumber j) ⊥)
+HasNoFree j e = IsSomeAnd (sealed_by e) (λ s. MatchPlace s.place (λ o to. HasNoNumber j to) (λ slot secret. ⊥))
 
 -- there is no gap for its area
 abbrev pub HasNoRoom : ℕ → ℕ → Data → Value → Edit → Type 0
-HasNoRoom h total payload j e = IsSomeAnd (sealed_by e) (λ s. HasNoNewArea h total payload j s.opener.slot)
+HasNoRoom h total payload j e = IsSomeAnd (sealed_by e) (λ s. ForLike j (opener_at s.place) (HasNoNewArea h total payload j))
 
 -- ---- the rest of the edit
 
@@ -79,23 +84,32 @@ pub record IsFull (h total : ℕ) (payload : Data) (j : Value) (e : Edit) : Type
 
 -- ---- random bytes
 
--- beside two salts of the copies a keyslot that is sealed like the keyslot `n` takes its own salt, and
+-- beside two salts of the copies a keyslot that is sealed like this one takes its own salt, and
 -- its stripes but the last
-pub record NeedsLike (j : Value) (n k : ℕ) : Type 0 where
+pub record NeedsLike (j : Value) (k : ℕ) (like : Like) : Type 0 where
   pub key_bytes : ℕ
   pub stripes : ℕ
-  pub slot : HasStripes j n key_bytes stripes
+  pub slot : HasStripesLike j like key_bytes stripes
   pub count : k ≡ 64 + 64 + 32 + (stripes - 1) * key_bytes
 
 -- the edit takes `k` random bytes
 abbrev pub Need2 : Value → Edit → ℕ → Type 0
-Need2 j e k = MatchOption (sealed_by e) (k ≡ 64 + 64) (λ s. NeedsLike j s.opener.slot k)
+Need2 j e k = MatchOption (sealed_by e) (k ≡ 64 + 64) (λ s. ForLike j (opener_at s.place) (NeedsLike j k))
 
 -- the random bytes aren't as many as the edit takes
 pub record IsMiscounted (j : Value) (e : Edit) (random : List ℕ) : Type 0 where
   pub need : ℕ
   pub is : Need2 j e need
   pub other : length random ≢ need
+
+-- ---- what gives the key
+
+-- why the volume key doesn't give itself
+abbrev pub IsUnkeyed2 : Bool → Value → List ℕ → EditFault → Type 0
+IsUnkeyed2 older j bytes fault.KeyLength = HasNoDigestFor j (length bytes)
+IsUnkeyed2 older j bytes fault.WrongKey = MeetsNone older j bytes
+IsUnkeyed2 older j bytes (fault.Slot f) = MayMeetUnknown older j bytes f ⊎ HasRefusedLike older j bytes f
+IsUnkeyed2 older j bytes f = ⊥
 
 -- ---- the faults
 
@@ -106,14 +120,24 @@ pub record HasSaid (v : List ℕ) (says : ℕ → Value → Type 0) : Type 0 whe
   pub metadata : HasMetadata v place value
   pub is : says place value
 
+-- why an opener gives no key: of the faults `Locked`, `KeyLength`, `WrongKey` and `Slot` it is one
+abbrev pub IsUnopenedBy2 : Allowed → List ℕ → Opener → EditFault → Type 0
+IsUnopenedBy2 allowed v (opener.Keyslot slot secret) f = IsUnopenedKeyslot allowed v slot secret f
+IsUnopenedBy2 allowed v (opener.Key key) f = HasSaid v (λ o j. IsUnkeyed2 key.allowed.older j key.bytes.now f)
+
+abbrev pub IsUnopened2 : List ℕ → Edit → EditFault → Type 0
+IsUnopened2 v e f = IsSomeAnd (opener_in (deed_of e)) (λ o. IsUnopenedBy2 (allowed_by e) v o f)
+
 -- the faults of an edit of the LUKS2 volume `v` with the random bytes
 abbrev pub IsEditFault2 : List ℕ → Data → Edit → List ℕ → EditFault → Type 0
 IsEditFault2 v payload e random (fault.NotAccepted f) = IsFault v payload f
 IsEditFault2 v payload e random fault.Requirements = HasSaid v (λ o j. has_requirements j ≡ true)
 IsEditFault2 v payload e random fault.NoSuchSlot = HasSaid v (λ o j. IsAbsent j e)
 IsEditFault2 v payload e random fault.SameSlot = NamesItself e
-IsEditFault2 v payload e random fault.Locked = IsLocked v e
-IsEditFault2 v payload e random (fault.Slot f) = IsShut v e f
+IsEditFault2 v payload e random fault.Locked = IsUnopened2 v e fault.Locked
+IsEditFault2 v payload e random fault.KeyLength = IsUnopened2 v e fault.KeyLength
+IsEditFault2 v payload e random fault.WrongKey = IsUnopened2 v e fault.WrongKey
+IsEditFault2 v payload e random (fault.Slot f) = IsUnopened2 v e (fault.Slot f)
 IsEditFault2 v payload e random fault.SlotTaken = HasSaid v (λ o j. IsTaken j e)
 IsEditFault2 v payload e random fault.NoFreeSlot = HasSaid v (λ o j. HasNoFree j e)
 IsEditFault2 v payload e random fault.NoRoom = HasSaid v (λ o j. HasNoRoom (hdr_size (header_at v o)) (length v) payload j e)

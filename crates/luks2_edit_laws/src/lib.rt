@@ -3,9 +3,11 @@
 
 mod gap;
 mod laws;
+mod like;
 
 pub use gap::least_gap;
 pub use laws::{
     alike_slots_answer_alike, luks2_edit_derives, luks2_edit_keeps_volume, luks2_edit_opens,
     luks2_edit_refused_once, luks2_failing_edit,
 };
+pub use like::Like;

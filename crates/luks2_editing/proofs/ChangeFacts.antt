@@ -20,14 +20,14 @@ use Rattle.luks_slot.specs.Sealing.{IsSealed}
 use Rattle.luks_meta.specs.Content.{content}
 use Rattle.luks_reading.specs.declared.header.ChosenCopy.{ChosenCopy}
 use Rattle.luks_reading.specs.declared.report.Data.{Data}
-use Rattle.luks_reading.specs.Answer.{opens}
-use Rattle.luks_edit.specs.Secrets.{AnswersTo}
 use Rattle.luks_reading.specs.Checked.{WellFormed}
 use Rattle.luks_reading.specs.Header.{IsChosenCopy}
 use Rattle.luks_edit.specs.declared.edit.Edit.TheVariants.{Change}
+use Rattle.luks_edit.specs.declared.edit.Opener.TheVariants as opener
 use Rattle.luks_edit.specs.Asked.{allowed_for}
+use Rattle.luks2_edit_laws.specs.declared.like.Like.TheVariants.{Keyslot}
 use Rattle.luks_edit.specs.declared.edit.Secret.{Secret}
-use Rattle.luks2_edit_laws.specs.Edited.{keyslot_salt, members_of, stripes_random, After2, HoldsKey, IsEdited}
+use Rattle.luks2_edit_laws.specs.Edited.{keyslot_salt, members_of, stripes_random, After2, Gives2, HoldsKey, IsEdited}
 use Rattle.luks2_edit_laws.specs.Leftovers.{Leftover2}
 use Rattle.luks2_edit_laws.specs.Metadata.{HasStripes, IsKeyArea}
 use Rattle.luks2_edit_laws.specs.Places.{IsNewArea, IsOfCopies, IsTouched}
@@ -70,16 +70,16 @@ module _ (j k : Value) (slot : ℕ) (derivation : AskedDerivation) (salt : List 
   area_there = area_of_object k (renewed_slot (members_of derivation salt area) made.changes.was) slot area.start area.len
       made.changes.there.named made.changes.is made.changes.says.offset made.changes.says.size
 
-  pub renewed_alike : SealsLike j k slot slot area
+  pub renewed_alike : SealsLike j k (Keyslot slot) slot area
   renewed_alike = record { stripes = stripes_stay; place = area_there }
 
 -- ---- the volume
 
 -- what an edit that seals it again seals, once its rows up to that of the label were judged
 pub renewal_seals : (v : List ℕ) (payload : Data) (copy : ChosenCopy) (r : Renewal) (old : Secret) (new : Bor (List ℕ)) (key random : List ℕ)
-    → IsChosenCopy v copy → WellFormed v payload → HasNoFaultBefore 13 v payload (Change r.slot old new r.derivation.iterations r.derivation.chosen) random
-    → AnswersTo old.kind (allowed_for old new.now) v r.slot old.bytes.now (opens key)
-    → IsNewArea (hdr_size (header_at v copy.header.hdr_offset)) (length v) payload (content copy.meta) r.slot r.area
+    → IsChosenCopy v copy → WellFormed v payload → HasNoFaultBefore 15 v payload (Change r.slot old new r.derivation.iterations r.derivation.chosen) random
+    → Gives2 (allowed_for (opener.Keyslot r.slot old) new.now) v (opener.Keyslot r.slot old) key
+    → IsNewArea (hdr_size (header_at v copy.header.hdr_offset)) (length v) payload (content copy.meta) (Keyslot r.slot) r.area
     → IsSealingEdit v payload (Change r.slot old new r.derivation.iterations r.derivation.chosen) random copy (record { keyslot = Renewed r.slot; derivation = r.derivation; area = r.area })
 renewal_seals v payload copy r old new key random x well before opened place = record {
   chosen = x;
@@ -87,36 +87,39 @@ renewal_seals v payload copy r old new key random x well before opened place = r
   before = before;
   asked = (refl, refl);
   place = place;
-  passphrase = old.bytes.now;
   key = key;
   opened = opened;
 }
 
 module _ (v : List ℕ) (payload : Data) (copy : ChosenCopy) (x : IsChosenCopy v copy) (well : WellFormed v payload)
     (slot : ℕ) (old : Secret) (new : Bor (List ℕ)) (derivation : AskedDerivation) (key random : List ℕ) (area : Area) (k : Value)
-    (opened : AnswersTo old.kind (allowed_for old new.now) v slot old.bytes.now (opens key))
-    (place : IsNewArea (hdr_size (header_at v copy.header.hdr_offset)) (length v) payload (content copy.meta) slot area)
+    (opened : Gives2 (allowed_for (opener.Keyslot slot old) new.now) v (opener.Keyslot slot old) key)
+    (place : IsNewArea (hdr_size (header_at v copy.header.hdr_offset)) (length v) payload (content copy.meta) (Keyslot slot) area)
     (made : IsSealedAgain slot (members_of derivation (keyslot_salt random) area) (content copy.meta) k) where
   -- what is sealed is of the edit
   pub change_sealing : IsSealing v payload (Change slot old new derivation.iterations derivation.chosen) random copy.header.hdr_offset (content copy.meta) k slot new.now key
   change_sealing = record {
     sealed = λ w holds. record { slot = slot; is_made = refl; key = key; opened = opened; holds = holds };
-    place = λ p at. alike_place (content copy.meta) k slot slot area (renewed_alike (content copy.meta) k slot derivation (keyslot_salt random) area made)
-        (hdr_size (header_at v copy.header.hdr_offset)) (length v) payload p place at;
+    place = λ p at. record {
+      like = Keyslot slot;
+      is_like = refl;
+      has = alike_place (content copy.meta) k (Keyslot slot) slot area (renewed_alike (content copy.meta) k slot derivation (keyslot_salt random) area made)
+          (hdr_size (header_at v copy.header.hdr_offset)) (length v) payload p place at;
+    };
   }
 
   -- its plan isn't refused
-  pub renewed_unrefused : 160 ≤ length random → asked_beyond (allowed_for old new.now).memory derivation ≡ false → (g : SlotFault) → HasRefusedKeyslot (allowed_for old new.now) k slot g → ⊥
+  pub renewed_unrefused : 160 ≤ length random → asked_beyond (allowed_for (opener.Keyslot slot old) new.now).memory derivation ≡ false → (g : SlotFault) → HasRefusedKeyslot (allowed_for (opener.Keyslot slot old) new.now) k slot g → ⊥
   renewed_unrefused enough within g y =
       let j : Value = content copy.meta in
-      let was : IsOpened (allowed_for old new.now) v copy.header.hdr_offset j slot = opened_plan old.kind (allowed_for old new.now) v copy.header.hdr_offset j slot old.bytes.now key (metadata_here v payload copy x well) opened in
+      let was : IsOpened (allowed_for (opener.Keyslot slot old) new.now) v copy.header.hdr_offset j slot = opened_plan old.kind (allowed_for (opener.Keyslot slot old) new.now) v copy.header.hdr_offset j slot old.bytes.now key (metadata_here v payload copy x well) opened in
       let now : renewed_slot (members_of derivation (keyslot_salt random) area) made.changes.was ≡ y.object =
       same_Some (renewed_slot (members_of derivation (keyslot_salt random) area) made.changes.was) y.object (sym made.changes.is ∙ y.there.is) in
       let object : made.changes.was ≡ was.object = same_Some made.changes.was was.object (sym made.changes.there.is ∙ was.there) in
-      let like : SaysLike (allowed_for old new.now) made.changes.was (renewed_slot (members_of derivation (keyslot_salt random) area) made.changes.was) =
-      like_changed (allowed_for old new.now) made.changes.was (renewed_slot (members_of derivation (keyslot_salt random) area) made.changes.was)
+      let like : SaysLike (allowed_for (opener.Keyslot slot old) new.now) made.changes.was (renewed_slot (members_of derivation (keyslot_salt random) area) made.changes.was) =
+      like_changed (allowed_for (opener.Keyslot slot old) new.now) made.changes.was (renewed_slot (members_of derivation (keyslot_salt random) area) made.changes.was)
       (members_of derivation (keyslot_salt random) area) made.changes.says (long_salt random enough) within in
-      like_unrefused j k slot slot g was y (subst (λ d. SaysLike (allowed_for old new.now) d y.object) object (subst (λ d. SaysLike (allowed_for old new.now) made.changes.was d) now like))
+      like_unrefused j k slot slot g was y (subst (λ d. SaysLike (allowed_for (opener.Keyslot slot old) new.now) d y.object) object (subst (λ d. SaysLike (allowed_for (opener.Keyslot slot old) new.now) made.changes.was d) now like))
       (λ m is. (made.changes.naming slot m).0 is) made.changes.rest.digests
 
   module _ (free : IsUnrefused2 v payload (Change slot old new derivation.iterations derivation.chosen) random)

@@ -6,6 +6,7 @@ mod JudgedFacts
 mod LostFacts
 mod RemovalFacts
 mod SealingFacts
+mod FreshFacts
 mod MadeMetadataFacts
 mod SealedRowFacts
 mod SealedFacts

@@ -17,17 +17,20 @@ use Rattle.luks_reading.specs.declared.header.ChosenCopy.{ChosenCopy}
 use Rattle.luks_reading.specs.declared.report.Data.{Data}
 use Rattle.luks_reading.specs.Checked.{WellFormed}
 use Rattle.luks_reading.specs.Header.{IsChosenCopy}
-use Rattle.luks_reading.specs.Plans.{HasLuks2KeyBytes}
+use Rattle.luks2_judging.specs.Opened.{HasKeyBytesLike}
 use Rattle.luks_edit.specs.declared.edit.Edit.{Edit}
 use Rattle.luks_edit.specs.declared.edit_fault.EditFault.{EditFault}
 use Rattle.luks_edit.specs.declared.edit_fault.EditFault.TheVariants as fault
+use Rattle.luks2_edit_laws.specs.declared.like.Like.{Like}
+use Rattle.luks2_edit_laws.specs.declared.like.Like.TheVariants.{Keyslot, Digest}
 use Rattle.luks2_edit_laws.specs.Edited.{keyslot_salt, IsEdited}
+use Rattle.luks2_edit_laws.specs.Likes.{HasStripesLike}
 use Rattle.luks2_edit_laws.specs.Leftovers.{IsTornAt, Leftover2}
 use Rattle.luks2_edit_laws.specs.Metadata.{HasStripes, IsKeyArea}
 use Rattle.luks2_edit_laws.specs.Places.{rounded_to_blocks, IsNewArea, IsOfNewKeyslot}
 use Rattle.luks2_edit_laws.specs.Refused.{IsUnrefused2, NeedsLike}
 use Rattle.luks2_edit_laws.proofs.PlaceFacts.{sectors_in_blocks}
-use Rattle.luks2_edit_laws.proofs.ToldFacts.{same_stripes}
+use Rattle.luks2_edit_laws.proofs.ToldFacts.{same_stripes, same_stripes_like}
 use Rattle.luks2_judging.specs.Room.{IsPlaced}
 use Rattle.luks2_editing.specs.Prepared.{AreCopiesWithin}
 use Rattle.luks2_editing.specs.Replies.{EndsBy2}
@@ -43,18 +46,24 @@ same_start j n a b x y = same_Some a.start b.start (sym x.1 ∙ y.1)
 pub same_len : (j : Value) (n : ℕ) (a b : Area) → IsKeyArea j n a → IsKeyArea j n b → a.len ≡ b.len
 same_len j n a b x y = same_Some a.len b.len (sym x.2 ∙ y.2)
 
--- the keyslot `n` of the metadata `k` has the stripes of the keyslot `like` of `j`, and this area
-pub record SealsLike (j k : Value) (like n : ℕ) (area : Area) : Type 0 where
-  pub stripes : (a b : ℕ) → HasStripes j like a b → HasStripes k n a b
+-- the keyslot `n` of the metadata `k` has the stripes of one that is made like this one by `j`, and this area
+pub record SealsLike (j k : Value) (like : Like) (n : ℕ) (area : Area) : Type 0 where
+  pub stripes : (a b : ℕ) → HasStripesLike j like a b → HasStripes k n a b
   pub place : IsKeyArea k n area
 
-module _ (j k : Value) (like n : ℕ) (area : Area) (x : SealsLike j k like n area) where
+-- its key has one length
+key_once : (j : Value) (like : Like) (len key stripes : ℕ) → HasKeyBytesLike j like len → HasStripesLike j like key stripes → len ≡ key
+key_once j (Keyslot n) len key stripes long says =
+    let object : long.object ≡ says.object = same_Some long.object says.object (sym long.there ∙ says.there.is) in
+    same_Some len key (sym long.is ∙ ap (λ d. number_in 1 128 (inside_at outer.Top (codes "key_size") d)) object ∙ says.key_bytes_are)
+key_once j (Digest number key_bytes) len key stripes long says = sym long ∙ sym says.0
+
+module _ (j k : Value) (like : Like) (n : ℕ) (area : Area) (x : SealsLike j k like n area) where
   -- the key can be sealed in it
-  pub alike_sealable : (len total : ℕ) (header : Bin2) (key random : List ℕ) → NeedsLike j like (length random) → HasLuks2KeyBytes j like (length key)
+  pub alike_sealable : (len total : ℕ) (header : Bin2) (key random : List ℕ) → NeedsLike j (length random) like → HasKeyBytesLike j like (length key)
       → IsPlaced len j total like area → AreCopiesWithin header len total → IsSealable header.hdr_size k n key random total
   alike_sealable len total header key random needs bytes placed within =
-      let object : bytes.object ≡ needs.slot.object = same_Some bytes.object needs.slot.object (sym bytes.there ∙ needs.slot.there.is) in
-      let same = same_stripes j like needs.key_bytes needs.stripes placed.blocks.key_bytes placed.blocks.stripes needs.slot placed.blocks.slot in
+      let same = same_stripes_like j like needs.key_bytes needs.stripes placed.blocks.key_bytes placed.blocks.stripes needs.slot placed.blocks.slot in
       let fits : rounded_to_sectors (placed.blocks.key_bytes * placed.blocks.stripes) ≤ rounded_to_blocks (placed.blocks.key_bytes * placed.blocks.stripes) =
       sectors_in_blocks (placed.blocks.key_bytes * placed.blocks.stripes) in
       let from : 2 * (len + 4096) ≤ area.start = placed.from in
@@ -65,7 +74,7 @@ module _ (j k : Value) (like n : ℕ) (area : Area) (x : SealsLike j k like n ar
         slot = x.stripes needs.key_bytes needs.stripes needs.slot;
         area = area;
         place = x.place;
-        key_length = same_Some (length key) needs.key_bytes (sym bytes.is ∙ ap (λ d. number_in 1 128 (inside_at outer.Top (codes "key_size") d)) object ∙ needs.slot.key_bytes_are);
+        key_length = key_once j like (length key) needs.key_bytes needs.stripes bytes needs.slot;
         random_length = needs.count;
         large = rw (same.key_bytes, same.stripes, placed.blocks.is) fits;
         behind = omega (arith, from, size);
@@ -73,7 +82,7 @@ module _ (j k : Value) (like n : ℕ) (area : Area) (x : SealsLike j k like n ar
       }
 
   -- its sectors are those of the new area
-  pub alike_place : (h total : ℕ) (payload : Data) (p : ℕ) → IsNewArea h total payload j like area → IsOfStripesOf k n p → IsOfNewKeyslot h total payload j like p
+  pub alike_place : (h total : ℕ) (payload : Data) (p : ℕ) → IsNewArea h total payload j like area → IsOfStripesOf k n p → IsOfNewKeyslot h total payload j p like
   alike_place h total payload p new at =
       let start : at.area.start ≡ area.start = same_start k n at.area area at.place x.place in
       let same = same_stripes k n at.key_bytes at.stripes new.key_bytes new.stripes at.slot (x.stripes new.key_bytes new.stripes new.slot) in

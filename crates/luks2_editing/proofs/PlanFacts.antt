@@ -33,9 +33,11 @@ like_changed allowed was now f says long within = record {
   derived = λ a b hash x y splitter.
       changed_derived_or allowed f was now hash says.salt long (ap (λ a. text_of (option_and_then (get (codes "hash")) a)) (says.members (codes "af") refl) ∙ splitter)
       f.derivation.chosen a b within says.derivation x y;
-  encryption = ap text_of (says.area (codes "encryption") refl);
-  area_key = ap (number_in 1 128) (says.area (codes "key_size") refl);
-  splitter = ap (λ a. text_of (option_and_then (get (codes "hash")) a)) (says.members (codes "af") refl);
+  sealing = record {
+    encryption = ap text_of (says.area (codes "encryption") refl);
+    area_key = ap (number_in 1 128) (says.area (codes "key_size") refl);
+    splitter = ap (λ a. text_of (option_and_then (get (codes "hash")) a)) (says.members (codes "af") refl);
+  };
 }
 
 -- where a keyslot was opened, a new one that says the same, by a digest that says the same, isn't

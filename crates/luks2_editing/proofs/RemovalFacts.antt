@@ -29,9 +29,9 @@ use Rattle.luks2_editing.proofs.RenewalFacts.{metadata_here, prepared_unrefused,
 -- ---- the keyslot's area
 
 module _ (v : List ℕ) (payload : Data) (copy : ChosenCopy) (x : IsChosenCopy v copy) (well : WellFormed v payload)
-    (slot : ℕ) (by_ : Option ℕ) (passphrase : Secret) (random : List ℕ) (before : HasNoFaultBefore 13 v payload (Remove slot by_ passphrase) random) where
-  pub removal_passed : Passed (IsEditFault2 v payload (Remove slot by_ passphrase) random) 13
-  removal_passed = passed_from (IsEditFault2 v payload (Remove slot by_ passphrase) random) 13 before.each
+    (slot : ℕ) (by_ : Option ℕ) (passphrase : Secret) (random : List ℕ) (before : HasNoFaultBefore 15 v payload (Remove slot by_ passphrase) random) where
+  pub removal_passed : Passed (IsEditFault2 v payload (Remove slot by_ passphrase) random) 15
+  removal_passed = passed_from (IsEditFault2 v payload (Remove slot by_ passphrase) random) 15 before.each
 
   module _ (area : Area) (is : IsKeyArea (content copy.meta) slot area) where
     module _ (new : Value) (made : new ≡ without_slot slot (content copy.meta)) (w y : List ℕ)

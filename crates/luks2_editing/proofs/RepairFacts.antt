@@ -26,9 +26,9 @@ module _ (v : List ℕ) (payload : Data) (copy : ChosenCopy) (x : IsChosenCopy v
   pub rewriting_renews : IsRenewing v e copy.header field_ (area_len copy.meta)
   rewriting_renews = renewing v payload copy x well e field_ (rw is.asked (is.is ∙ ap (λ (f : List ℕ). labelled is.label f) (sym x.header.label)))
 
-  module _ (random : List ℕ) (before : HasNoFaultBefore 13 v payload e random) where
-    passed : Passed (IsEditFault2 v payload e random) 13
-    passed = passed_from (IsEditFault2 v payload e random) 13 before.each
+  module _ (random : List ℕ) (before : HasNoFaultBefore 15 v payload e random) where
+    passed : Passed (IsEditFault2 v payload e random) 15
+    passed = passed_from (IsEditFault2 v payload e random) 15 before.each
 
     -- what it leaves where it was ended
     pub rewriting_ends : (w : List ℕ) (f : EditFault) → IsUnwritten copy.header.seqid (area_len copy.meta) (content copy.meta) random 128 f → (f ≢ fault.Device → w ≡ v)

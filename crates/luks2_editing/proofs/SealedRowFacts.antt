@@ -32,12 +32,12 @@ module _ (v : List ℕ) (payload : Data) (e : Edit) (random : List ℕ) (copy : 
   edited_by salt new made =
       made_edited (hdr_size (header_at v copy.header.hdr_offset)) (length v) payload e (content copy.meta) new sealing.keyslot sealing.derivation salt sealing.area x.asked x.place made
 
-  passed : Passed (IsEditFault2 v payload e random) 13
-  passed = passed_from (IsEditFault2 v payload e random) 13 x.before.each
+  passed : Passed (IsEditFault2 v payload e random) 15
+  passed = passed_from (IsEditFault2 v payload e random) 15 x.before.each
 
   module _ (salt : List ℕ) (bytes : IsBytes salt) (long : length salt ≡ 32) (new : Value)
       (made : IsMadeBy sealing.keyslot (members_of sealing.derivation salt sealing.area) (content copy.meta) new)
-      (n : ℕ) (needs : NeedsLike (content copy.meta) (like_of sealing.keyslot) n) where
+      (n : ℕ) (needs : NeedsLike (content copy.meta) n (like_of sealing.keyslot)) where
     edited : IsEdited (hdr_size (header_at v copy.header.hdr_offset)) (length v) payload e salt (content copy.meta) new
     edited = edited_by salt new made
 
@@ -72,13 +72,13 @@ module _ (v : List ℕ) (payload : Data) (e : Edit) (random : List ℕ) (copy : 
         let other : IsMiscounted (content copy.meta) e random = said_here v payload copy x.chosen x.well (λ o j. IsMiscounted j e random) bad in
         other.other (count ∙ need_once (content copy.meta) e n other.need need other.is)
 
-    past_number : copy.header.seqid + 1 < 2 ^ 64 → Passed (IsEditFault2 v payload e random) 14
+    past_number : copy.header.seqid + 1 < 2 ^ 64 → Passed (IsEditFault2 v payload e random) 16
     past_number low = next (IsEditFault2 v payload e random) fault.SeqExhausted refl passed (numbered_of low)
 
-    past_room : copy.header.seqid + 1 < 2 ^ 64 → length (compact_text new) < area_len copy.meta → Passed (IsEditFault2 v payload e random) 15
+    past_room : copy.header.seqid + 1 < 2 ^ 64 → length (compact_text new) < area_len copy.meta → Passed (IsEditFault2 v payload e random) 17
     past_room low room = next (IsEditFault2 v payload e random) fault.MetadataFull refl (past_number low) (roomy_of room)
 
-    past_all : copy.header.seqid + 1 < 2 ^ 64 → length (compact_text new) < area_len copy.meta → length random ≡ n → Passed (IsEditFault2 v payload e random) 18
+    past_all : copy.header.seqid + 1 < 2 ^ 64 → length (compact_text new) < area_len copy.meta → length random ≡ n → Passed (IsEditFault2 v payload e random) 20
     past_all low room count =
         let s = IsEditFault2 v payload e random in
         next s fault.Device refl (next s fault.Memory refl (next s fault.RandomLength refl (past_room low room) (counted_of count)) (λ bad. bad)) (λ bad. bad)

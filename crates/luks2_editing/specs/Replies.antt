@@ -18,7 +18,7 @@ TellsNew is_new None = ⊥
 -- what a completed edit tells: the keyslot that it made or sealed again, if there is one
 abbrev pub Tells2 : List ℕ → Edit → Option ℕ → Type 0
 Tells2 v e told = MatchOption (sealed_by e) (told ≡ None)
-    (λ s. MatchPlace s.place (λ to. TellsNew (IsMadeIn v to) told) (told ≡ Some s.opener.slot))
+    (λ s. MatchPlace s.place (λ o to. TellsNew (IsMadeIn v to) told) (λ slot secret. told ≡ Some slot))
 
 -- the edit of the volume `v` is done, and leaves `w`
 pub record IsDone2 (payload : Data) (v : List ℕ) (e : Edit) (random : List ℕ) (done : Done) (w : List ℕ) : Type 0 where

@@ -4,7 +4,6 @@ ghost use Rattle.luks_area.specs.Device.{CountsFailure, IsSettled};
 ghost use Rattle.luks2_header.specs.Header2.{hdr_size, header_at};
 ghost use Rattle.luks_meta.specs.Content.{area_len, content};
 ghost use Rattle.luks_reading.specs.declared.report.Data.{Data as Payload};
-ghost use Rattle.luks_reading.specs.Answer.{opens};
 ghost use Rattle.luks_reading.specs.Checked.{WellFormed};
 ghost use Rattle.luks_reading.specs.Header.{IsChosenCopy};
 ghost use Rattle.luks_reading.specs.Plans.{HasLuks2KeyBytes};
@@ -12,9 +11,11 @@ ghost use Rattle.luks_edit.specs.Asked.{allowed_for, deed_of};
 ghost use Rattle.luks_edit.specs.EditFaults.{is_edit_failure};
 ghost use Rattle.luks_edit.specs.declared.deed.Deed.TheVariants.{Seal};
 ghost use Rattle.luks_edit.specs.declared.deed.Place.TheVariants.{Opened};
-ghost use Rattle.luks_edit.specs.Secrets.{AnswersTo};
 ghost use Rattle.luks_edit.specs.declared.edit.Edit.{Edit};
+ghost use Rattle.luks_edit.specs.declared.edit.Opener.TheVariants.{Keyslot as ByKeyslot};
 ghost use Rattle.luks_edit.specs.declared.edit.Secret.{Secret};
+ghost use Rattle.luks2_edit_laws.specs.declared.like.Like.TheVariants.{Keyslot as LikeKeyslot};
+ghost use Rattle.luks2_edit_laws.specs.Edited.{Gives2};
 ghost use Rattle.luks2_edit_laws.specs.Metadata.{IsInUse};
 ghost use Rattle.luks2_edit_laws.specs.Places.{IsNewArea};
 ghost use Rattle.luks2_judging.specs.Judging.{IsLostArea, sealing};
@@ -53,7 +54,7 @@ pub(crate) fn change<D: Device>(
     requires key_length { HasLuks2KeyBytes (content copy.meta) renewal.now.slot
         (length secrets.now.key.now) }
     requires placed { IsPlaced (area_len copy.meta) (content copy.meta)
-        (D.size device.old) renewal.now.slot renewal.now.area }
+        (D.size device.old) (LikeKeyslot renewal.now.slot) renewal.now.area }
     requires lost { IsLostArea (content copy.meta) (D.size device.old) renewal.now.slot
         renewal.now.lost }
     ensures size { D.size device.new ≡ D.size device.old }
@@ -62,15 +63,15 @@ pub(crate) fn change<D: Device>(
     ensures count { CountsFailure is_edit_failure result
         (D.failed device.old) (D.failed device.new) }
     ensures replies { D.tells → (payload : Payload) (e : Edit) (old : Secret)
-        → deed_of e ≡ Seal (sealing renewal.now.slot old Opened secrets.now.passphrase
+        → deed_of e ≡ Seal (sealing (Opened renewal.now.slot old) secrets.now.passphrase
         renewal.now.derivation)
         → IsChosenCopy (D.bytes device.old) copy → WellFormed (D.bytes device.old) payload
-        → HasNoFaultBefore 13 (D.bytes device.old) payload e secrets.now.random.now
-        → allowed_for old secrets.now.passphrase.now ≡ secrets.now.allowed
-        → AnswersTo old.kind (allowed_for old secrets.now.passphrase.now) (D.bytes device.old) renewal.now.slot old.bytes.now
-        (opens secrets.now.key.now)
+        → HasNoFaultBefore 15 (D.bytes device.old) payload e secrets.now.random.now
+        → allowed_for (ByKeyslot renewal.now.slot old) secrets.now.passphrase.now ≡ secrets.now.allowed
+        → Gives2 (allowed_for (ByKeyslot renewal.now.slot old) secrets.now.passphrase.now)
+        (D.bytes device.old) (ByKeyslot renewal.now.slot old) secrets.now.key.now
         → IsNewArea (hdr_size (header_at (D.bytes device.old) copy.header.hdr_offset))
-        (length (D.bytes device.old)) payload (content copy.meta) renewal.now.slot
+        (length (D.bytes device.old)) payload (content copy.meta) (LikeKeyslot renewal.now.slot)
         renewal.now.area
         → Replies2 payload (D.bytes device.old) e secrets.now.random.now result
         (D.bytes device.new) }

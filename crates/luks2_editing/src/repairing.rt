@@ -38,7 +38,7 @@ pub(crate) fn repair<D: Device>(
     ensures replies { D.tells → (payload : Payload) (e : Edit)
         → IsRewriting copy.now.header.label e label
         → IsChosenCopy (D.bytes device.old) copy.now → WellFormed (D.bytes device.old) payload
-        → HasNoFaultBefore 13 (D.bytes device.old) payload e random.now
+        → HasNoFaultBefore 15 (D.bytes device.old) payload e random.now
         → Replies2 payload (D.bytes device.old) e random.now result (D.bytes device.new) }
 {
     rewrite(alloc, device, &copy.header, &copy.meta, label, random)?;

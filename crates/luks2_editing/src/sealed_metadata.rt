@@ -3,47 +3,50 @@ ghost use Rattle.std.specs.Prelude.{◌≡◌, ◌↔◌, ◌+◌, ◌^◌, ◌<
 ghost use Rattle.luks2_header.specs.Header2.{hdr_size, header_at};
 ghost use Rattle.luks_making.specs.Conditions.{CanSeal, IsThere, IsFree};
 ghost use Rattle.luks_making.specs.Derivations.{IsPositive};
-ghost use Rattle.luks_making.specs.Keyslots.{new_members};
+ghost use Rattle.luks_making.specs.Keyslots.{new_members, slot_members};
 ghost use Rattle.luks_making.specs.WrittenArea.{IsWrittenArea};
 ghost use Rattle.luks_meta.specs.Content.{area_len, content};
 ghost use Rattle.luks_reading.specs.declared.report.Data.{Data as Payload};
 ghost use Rattle.luks_edit.specs.EditFaults.{is_edit_failure};
 ghost use Rattle.luks_edit.specs.declared.edit.Edit.{Edit as TheEdit};
 ghost use Rattle.luks2_edit_laws.specs.Edited.{keyslot_salt, members_of, IsEdited};
+ghost use Rattle.luks2_edit_laws.specs.declared.like.Like.TheVariants.{Digest, Keyslot};
+ghost use Rattle.luks2_edit_laws.specs.Likes.{fresh_members};
 ghost use Rattle.luks2_edit_laws.specs.Refused.{IsUnrefused2, NeedsLike};
 ghost use Rattle.luks2_judging.specs.Room.{IsPlaced};
-ghost use Rattle.luks2_editing.specs.MadeMetadata.{like_of, HasNumber, IsGained, IsMadeBy, IsSealedAgain, IsSealingEdit};
+ghost use Rattle.luks2_editing.specs.MadeMetadata.{like_of, CanMake, CanSealLike, IsThereLike, HasDigest, HasNumber, IsGained, IsMadeBy, IsSealedAgain, IsSealingEdit};
 ghost use Rattle.luks2_editing.specs.Prepared.{AreCopiesWithin};
 ghost use Rattle.luks2_editing.specs.Replies.{EndsBy2};
 
 use crate::preparing::prepared;
 use crate::random::keyslot_salt;
 use luks_area::Area;
-use luks_edit::EditFault;
-use luks_making::{AskedDerivation, New, new_fits};
+use luks_edit::{EditFault, chosen_or};
+use luks_making::{AskedDerivation, KeyslotDerivation, New, NewKeyslot, new_fits};
 use luks_meta::Meta;
-use luks_new_meta::{changed_slot, with_slot};
+use luks_new_meta::{changed_slot, with_new_slot, with_slot};
 use luks_reading::ChosenCopy;
+use luks2_edit_laws::Like;
 use luks2_judging::sealed_need;
 use std::alloc::Global;
 
 /// The keyslot that an edit seals.
 #[derive(Clone, Copy)]
 pub(crate) enum SealedSlot {
-    /// A new one of this number, with the members of the keyslot `like`.
-    Made { slot: u8, like: u8 },
+    /// A new one of this number, made like this one.
+    Made { slot: u8, like: Like },
     /// One that is there, sealed again.
     Renewed { slot: u8 },
 }
 
 impl SealedSlot {
-    /// The keyslot whose members it has.
-    fn like(self) -> u8
+    /// The keyslot like which it is made.
+    fn like(self) -> Like
         ensures { result ≡ like_of self }
     {
         match self {
             SealedSlot::Made { slot: _, like } => like,
-            SealedSlot::Renewed { slot } => slot,
+            SealedSlot::Renewed { slot } => Like::Keyslot(slot),
         }
     }
 }
@@ -90,8 +93,8 @@ pub(crate) fn new_metadata(
         IsWrittenArea (area_len m.meta) (content m.meta) m.json.items) }
     ensures within { IfOk result (λ m. AreCopiesWithin copy.header (area_len m.meta) total) }
     ensures numbered { OnOk result (copy.header.seqid + 1 < 2 ^ 64) }
-    ensures counted { OnOk result (NeedsLike (content copy.meta)
-        (like_of sealing.now.keyslot) (length random.now)) }
+    ensures counted { OnOk result (NeedsLike (content copy.meta) (length random.now)
+        (like_of sealing.now.keyslot)) }
     ensures own { IfErr result (λ f. is_edit_failure f ≡ false) }
     ensures unrefused { (v : List ℕ) (payload : Payload) (e : TheEdit)
         → IsSealingEdit v payload e random.now copy sealing.now → length v ≡ total
@@ -105,7 +108,7 @@ pub(crate) fn new_metadata(
         → IfErr result (λ f. EndsBy2 payload v e random.now f v) }
 {
     let like = sealing.keyslot.like();
-    if !is_there(&copy.meta, like) {
+    if !is_there_like(&copy.meta, like) {
         return Err(EditFault::NoSuchSlot);
     }
     let salt = keyslot_salt(random);
@@ -121,6 +124,27 @@ pub(crate) fn new_metadata(
     let meta = made_metadata(alloc, copy.meta, sealing.keyslot, &new)?;
     let json = prepared(alloc, &header, &meta, random, need, total)?;
     Ok(NewMetadata { meta, json })
+}
+
+/// Whether the keyslot is there, if it is one.
+fn is_there_like(meta: &Meta, like: Like) -> bool
+    ensures { IsTrue result ↔ IsThereLike (content meta.now) like }
+{
+    match like {
+        Like::Keyslot(n) => n < 32 && is_there(meta, n),
+        Like::Digest { number, .. } => number < 32 && has_digest(meta, number),
+    }
+}
+
+/// Whether the digest is there.
+fn has_digest(meta: &Meta, number: u8) -> bool
+    requires { number < 32 }
+    ensures { IsTrue result ↔ HasDigest (content meta.now) number }
+{
+    match meta.digest(number) {
+        Some(_) => true,
+        None => false,
+    }
 }
 
 /// Whether the keyslot is there.
@@ -142,7 +166,7 @@ fn made_metadata(
     new: &New<'_>,
 ) -> Result<Meta, EditFault>
     requires number { HasNumber (content meta) keyslot }
-    requires suits { CanSeal (area_len meta) (content meta) (like_of keyslot)
+    requires suits { CanSealLike (area_len meta) (content meta) (like_of keyslot)
         (new_members new.now) }
     ensures made { IfOk result (λ m.
         IsMadeBy keyslot (new_members new.now) (content meta) (content m)) }
@@ -156,18 +180,82 @@ fn made_metadata(
 }
 
 /// The metadata with a new keyslot, or `Memory`.
-fn gained(alloc: Global, meta: Meta, slot: u8, like: u8, new: &New<'_>) -> Result<Meta, EditFault>
+fn gained(alloc: Global, meta: Meta, slot: u8, like: Like, new: &New<'_>) -> Result<Meta, EditFault>
     requires number { IsFree (content meta) slot }
-    requires suits { CanSeal (area_len meta) (content meta) like (new_members new.now) }
+    requires suits { CanSealLike (area_len meta) (content meta) like (new_members new.now) }
     ensures made { IfOk result (λ m.
         IsGained slot like (new_members new.now) (content meta) (content m)) }
     ensures length { IfOk result (λ m. area_len m ≡ area_len meta) }
     ensures memory { IfErr result (λ f. f ≡ EditFault.Memory) }
 {
+    match like {
+        Like::Keyslot(by_) => gained_like(alloc, meta, slot, by_, new),
+        Like::Digest { number, key_bytes } => {
+            gained_fresh(alloc, meta, slot, number, key_bytes, new)
+        }
+    }
+}
+
+/// The same with the members of the keyslot `by_`.
+fn gained_like(
+    alloc: Global,
+    meta: Meta,
+    slot: u8,
+    by_: u8,
+    new: &New<'_>,
+) -> Result<Meta, EditFault>
+    requires number { IsFree (content meta) slot }
+    requires suits { CanSeal (area_len meta) (content meta) by_ (new_members new.now) }
+    ensures made { IfOk result (λ m.
+        IsGained slot (Keyslot by_) (new_members new.now) (content meta) (content m)) }
+    ensures length { IfOk result (λ m. area_len m ≡ area_len meta) }
+    ensures memory { IfErr result (λ f. f ≡ EditFault.Memory) }
+{
     new_fits(new);
-    match with_slot(alloc, meta, slot, like, new) {
+    match with_slot(alloc, meta, slot, by_, new) {
         Ok(made) => Ok(made),
         Err(_) => Err(EditFault::Memory),
+    }
+}
+
+/// The same as a new volume has it, for the digest and a key of so many bytes.
+fn gained_fresh(
+    alloc: Global,
+    meta: Meta,
+    slot: u8,
+    digest: u8,
+    key_bytes: u8,
+    new: &New<'_>,
+) -> Result<Meta, EditFault>
+    requires number { IsFree (content meta) slot }
+    requires suits { CanMake (area_len meta) (content meta) digest key_bytes (new_members new.now) }
+    ensures made { IfOk result (λ m.
+        IsGained slot (Digest digest key_bytes) (new_members new.now) (content meta) (content m)) }
+    ensures length { IfOk result (λ m. area_len m ≡ area_len meta) }
+    ensures memory { IfErr result (λ f. f ≡ EditFault.Memory) }
+{
+    new_fits(new);
+    match with_new_slot(alloc, meta, slot, digest, &fresh_keyslot(key_bytes, new)) {
+        Ok(made) => Ok(made),
+        Err(_) => Err(EditFault::Memory),
+    }
+}
+
+/// The keyslot of a new volume with a key of so many bytes, but for what is new.
+fn fresh_keyslot<'a>(key_bytes: u8, new: &New<'a>) -> NewKeyslot<'a>
+    ensures { slot_members result ≡ fresh_members key_bytes (new_members new.now) }
+{
+    let chosen = chosen_or(new.derivation.iterations, new.derivation.chosen);
+    NewKeyslot {
+        key_size: key_bytes,
+        stripes: 4000,
+        splitter_hash: "sha256",
+        offset: new.offset,
+        size: new.size,
+        encryption: "aes-xts-plain64",
+        area_key_size: 64,
+        derivation: KeyslotDerivation::of_chosen(&chosen, "sha256"),
+        salt: new.salt,
     }
 }
 

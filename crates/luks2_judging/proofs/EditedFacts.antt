@@ -16,7 +16,13 @@ use Rattle.luks_making.specs.With.{with_slot}
 use Rattle.luks_reading.specs.declared.report.Data.{Data}
 use Rattle.luks_reading.specs.Layout2.{Luks2Area}
 use Rattle.luks_edit.specs.declared.edit.Edit.{Edit}
-use Rattle.luks_edit.specs.declared.edit.Edit.TheVariants.{Add, Change, Remove, Repair, Label}
+use Rattle.luks_edit.specs.declared.edit.Edit.TheVariants.{Add, AddByKey, Change, Remove, Repair, Label}
+use Rattle.luks_edit.specs.declared.edit.Opener.{Opener}
+use Rattle.luks_edit.specs.declared.edit.Opener.TheVariants as opener
+use Rattle.luks_edit.specs.Asked.{chosen_or}
+use Rattle.luks2_edit_laws.specs.declared.like.Like.{Like}
+use Rattle.luks2_edit_laws.specs.declared.like.Like.TheVariants.{Keyslot, Digest}
+use Rattle.luks2_edit_laws.specs.Likes.{fresh_members, ForLike}
 use Rattle.luks2_edit_laws.specs.Edited.{HasAdded, HasChanged, IsEdited, members_of}
 use Rattle.luks2_edit_laws.specs.Gap.{IsGap}
 use Rattle.luks2_edit_laws.specs.Metadata.{IsNewKeyslot}
@@ -24,7 +30,8 @@ use Rattle.luks2_edit_laws.specs.Places.{key_areas_end, rounded_to_blocks, IsNew
 use Rattle.luks2_judging.specs.Salts.{HasOneDigest}
 use Rattle.luks2_judging.proofs.EncodedFacts.{quoted_length}
 use Rattle.luks2_judging.proofs.SaltFacts.{AsLong, changed_as_long, SaltsAsLong, SameButSalt, with_as_long}
-use Rattle.luks2_edit_laws.proofs.ToldFacts.{same_stripes}
+use Rattle.luks2_edit_laws.proofs.ToldFacts.{same_stripes_like}
+use Rattle.luks2_edit_laws.proofs.LikeFacts.{for_like}
 
 pub new_once : (j : Value) (to : Option ℕ) (n m : ℕ) → IsNewKeyslot j to n → IsNewKeyslot j to m → n ≡ m
 new_once j (Some t) n m x y = x ∙ sym y
@@ -32,10 +39,10 @@ new_once j None n m x y = let low = x.least m y.free in let high = y.least n x.f
 
 -- ---- the new area
 
-module _ (h total : ℕ) (payload : Data) (j : Value) (n : ℕ) (a b : Area) (x : IsNewArea h total payload j n a) (y : IsNewArea h total payload j n b) where
+module _ (h total : ℕ) (payload : Data) (j : Value) (like : Like) (a b : Area) (x : IsNewArea h total payload j like a) (y : IsNewArea h total payload j like b) where
   pub len_once : a.len ≡ b.len
   len_once =
-      let s = same_stripes j n x.key_bytes x.stripes y.key_bytes y.stripes x.slot y.slot in
+      let s = same_stripes_like j like x.key_bytes x.stripes y.key_bytes y.stripes x.slot y.slot in
       x.len ∙ ap (λ k. rounded_to_blocks (k * x.stripes)) s.key_bytes ∙ ap (λ k. rounded_to_blocks (y.key_bytes * k)) s.stripes ∙ sym y.len
 
   region_once : x.region ≡ y.region
@@ -110,16 +117,16 @@ made_once d f g s t x y offset size asked salts = record {
 -- ---- the new metadata
 
 module _ (h total : ℕ) (payload : Data) (j : Value) (a b : List ℕ) (salts : SaltsAsLong a b) (digests : HasOneDigest j) where
-  added_as_long : (opener : ℕ) (to : Option ℕ) (asked : AskedDerivation) (x y : Value)
-      → HasAdded h total payload opener to asked a j x → HasAdded h total payload opener to asked b j y → AsLong x y
-  added_as_long opener to asked x y one two =
+  added_like_as_long : (by_ : ℕ) (to : Option ℕ) (asked : AskedDerivation) (x y : Value)
+      → HasAdded h total payload to asked a j x (Keyslot by_) → HasAdded h total payload to asked b j y (Keyslot by_) → AsLong x y
+  added_like_as_long by_ to asked x y one two =
       let slot : one.slot ≡ two.slot = new_once j to one.slot two.slot one.is_new two.is_new in
       let from : one.is.from ≡ two.is.from = same_Some one.is.from two.is.from (sym one.is.there.is ∙ two.is.there.is) in
-      let digest : one.is.digest ≡ two.is.digest = digests.one opener one.is.digest two.is.digest one.is.names two.is.names in
+      let digest : one.is.digest ≡ two.is.digest = digests.one by_ one.is.digest two.is.digest one.is.names two.is.names in
       let made : SameButSalt one.is.slot two.is.slot =
       made_once two.is.from (members_of asked a one.area) (members_of asked b two.area) one.is.slot two.is.slot
       (subst (λ d. IsMadeFrom d (members_of asked a one.area) one.is.slot) from one.is.made) two.is.made
-      (start_once h total payload j opener one.area two.area one.place two.place) (len_once h total payload j opener one.area two.area one.place two.place) refl salts in
+      (start_once h total payload j (Keyslot by_) one.area two.area one.place two.place) (len_once h total payload j (Keyslot by_) one.area two.area one.place two.place) refl salts in
       let long : AsLong (with_slot one.slot one.is.digest one.is.slot j) (with_slot one.slot one.is.digest two.is.slot j) =
       with_as_long one.slot one.is.digest one.is.slot two.is.slot j made in
       let same : AsLong (with_slot one.slot one.is.digest one.is.slot j) (with_slot two.slot two.is.digest two.is.slot j) =
@@ -127,11 +134,44 @@ module _ (h total : ℕ) (payload : Data) (j : Value) (a b : List ℕ) (salts : 
       (subst (λ n. AsLong (with_slot one.slot one.is.digest one.is.slot j) (with_slot n one.is.digest two.is.slot j)) slot long) in
       subst (λ v. AsLong v y) (sym one.is.is) (subst (λ v. AsLong (with_slot one.slot one.is.digest one.is.slot j) v) (sym two.is.is) same)
 
+  -- of one like that of a new volume
+  fresh_as_long : (number key_bytes : ℕ) (to : Option ℕ) (asked : AskedDerivation) (x y : Value)
+      → HasAdded h total payload to asked a j x (Digest number key_bytes) → HasAdded h total payload to asked b j y (Digest number key_bytes) → AsLong x y
+  fresh_as_long number key_bytes to asked x y one two =
+      let f : NewMembers = members_of asked a one.area in
+      let g : NewMembers = members_of asked b two.area in
+      let slot : one.slot ≡ two.slot = new_once j to one.slot two.slot one.is_new two.is_new in
+      let made : SameButSalt (fresh_members key_bytes f) (fresh_members key_bytes g) = record {
+        key_size = refl;
+        stripes = refl;
+        splitter_hash = refl;
+        offset = start_once h total payload j (Digest number key_bytes) one.area two.area one.place two.place;
+        size = len_once h total payload j (Digest number key_bytes) one.area two.area one.place two.place;
+        encryption = refl;
+        area_key_size = refl;
+        derivation = refl;
+        salt = salts;
+      } in
+      let long : AsLong (with_slot one.slot number (fresh_members key_bytes f) j) (with_slot one.slot number (fresh_members key_bytes g) j) =
+      with_as_long one.slot number (fresh_members key_bytes f) (fresh_members key_bytes g) j made in
+      let same : AsLong (with_slot one.slot number (fresh_members key_bytes f) j) (with_slot two.slot number (fresh_members key_bytes g) j) =
+      subst (λ n. AsLong (with_slot one.slot number (fresh_members key_bytes f) j) (with_slot n number (fresh_members key_bytes g) j)) slot long in
+      subst (λ v. AsLong v y) (sym one.is) (subst (λ v. AsLong (with_slot one.slot number (fresh_members key_bytes f) j) v) (sym two.is) same)
+
+  made_as_long : (like : Like) (to : Option ℕ) (asked : AskedDerivation) (x y : Value)
+      → HasAdded h total payload to asked a j x like → HasAdded h total payload to asked b j y like → AsLong x y
+  made_as_long (Keyslot by_) to asked x y one two = added_like_as_long by_ to asked x y one two
+  made_as_long (Digest number key_bytes) to asked x y one two = fresh_as_long number key_bytes to asked x y one two
+
+  added_as_long : (o : Opener) (to : Option ℕ) (asked : AskedDerivation) (x y : Value)
+      → ForLike j o (HasAdded h total payload to asked a j x) → ForLike j o (HasAdded h total payload to asked b j y) → AsLong x y
+  added_as_long o to asked x y one two = made_as_long one.like to asked x y one.has (for_like j o (HasAdded h total payload to asked b j y) one.like one.is_like two)
+
   renewed_as_long : (slot : ℕ) (asked : AskedDerivation) (x y : Value)
       → HasChanged h total payload slot asked a j x → HasChanged h total payload slot asked b j y → AsLong x y
   renewed_as_long slot asked x y one two =
-      let start = start_once h total payload j slot one.area two.area one.place two.place in
-      let len = len_once h total payload j slot one.area two.area one.place two.place in
+      let start = start_once h total payload j (Keyslot slot) one.area two.area one.place two.place in
+      let len = len_once h total payload j (Keyslot slot) one.area two.area one.place two.place in
       let same : changed_slot slot (members_of asked b one.area) j ≡ changed_slot slot (members_of asked b two.area) j =
       ap (λ n. changed_slot slot (record { derivation = asked; salt = b; offset = n; size = one.area.len }) j) start
       ∙ ap (λ n. changed_slot slot (record { derivation = asked; salt = b; offset = two.area.start; size = n }) j) len in
@@ -140,7 +180,9 @@ module _ (h total : ℕ) (payload : Data) (j : Value) (a b : List ℕ) (salts : 
       subst (λ v. AsLong v y) (sym one.is) (subst (λ v. AsLong (changed_slot slot (members_of asked a one.area) j) v) (same ∙ sym two.is) long)
 
   edited_as_long : (e : Edit) (x y : Value) → IsEdited h total payload e a j x → IsEdited h total payload e b j y → AsLong x y
-  edited_as_long (Add by_ old new to iterations chosen) x y one two = added_as_long by_ to (record { iterations = iterations; chosen = chosen }) x y one two
+  edited_as_long (Add by_ old new to iterations chosen) x y one two = added_as_long (opener.Keyslot by_ old) to (record { iterations = iterations; chosen = chosen }) x y one two
+  edited_as_long (AddByKey key new to iterations chosen) x y one two =
+      added_as_long (opener.Key key) to (record { iterations = iterations; chosen = Some (chosen_or iterations chosen) }) x y one two
   edited_as_long (Change slot old new iterations chosen) x y one two = renewed_as_long slot (record { iterations = iterations; chosen = chosen }) x y one two
   edited_as_long (Remove slot by_ passphrase) x y one two = subst (λ v. AsLong x v) (one ∙ sym two) refl
   edited_as_long Repair x y one two = subst (λ v. AsLong x v) (one ∙ sym two) refl

@@ -1,17 +1,21 @@
 mod AreaFacts
 mod ChosenFacts
 pub mod DeedFacts
+pub mod DigestFacts
 pub mod EditedFacts
 mod EncodedFacts
+mod GivenFacts
 mod JudgedFacts
 pub mod KeyAreaFacts
-mod KeyslotFacts
+pub mod KeyFacts
+pub mod KeyslotFacts
 mod LastFacts
 mod NeedFacts
 mod NumberFacts
-mod OpenerFacts
+pub mod OpenerFacts
 mod ReadFacts
 mod RoomFacts
 mod SaltFacts
 mod StripeFacts
 mod TakenFacts
+pub mod UnkeyedFacts

@@ -1,6 +1,6 @@
 -- An edit judged by the header that was read: a fault of it is the volume's first, and where none was
 -- found none stands.
-use Rattle.std.proofs.Common.{◌≡◌, ℕ, ◌+◌, ◌<◌, ◌⊎◌, Bor, List, [], length, true, Option, Result, Ok, Err, OnOk, IfErr, arith, inl, inr, subst, sym}
+use Rattle.std.proofs.Common.{◌≡◌, ℕ, ◌+◌, ◌<◌, ◌⊎◌, Bor, List, [], length, true, Option, Result, Ok, Err, OnOk, IfErr, arith, inl, inr, refl, subst, sym}
 use Rattle.std.specs.Prelude.{IsSomeAnd}
 use Rattle.luks_area.specs.Text.{is_plain}
 use Rattle.luks_area.specs.declared.area.Area.{Area}
@@ -14,18 +14,25 @@ use Rattle.luks_reading.specs.Layout2.{Luks2Area}
 use Rattle.luks_reading.specs.Listing.{Lists}
 use Rattle.luks_edit.specs.declared.edit.Edit.{Edit}
 use Rattle.luks_edit.specs.declared.deed.Deed.TheVariants as deed
-use Rattle.luks_edit.specs.declared.edit.Edit.TheVariants.{Add, Change, Remove}
+use Rattle.luks_edit.specs.declared.deed.Place.TheVariants.{New, Opened}
+use Rattle.luks_edit.specs.declared.deed.Removed.{Removed}
+use Rattle.luks_edit.specs.declared.edit.Opener.{Opener}
+use Rattle.luks_edit.specs.declared.edit.Opener.TheVariants as opener
 use Rattle.luks_making.specs.declared.derivation.AskedDerivation.{AskedDerivation}
 use Rattle.luks_edit.specs.declared.edit.Secret.{Secret}
 use Rattle.luks_edit.specs.declared.edit_fault.EditFault.{EditFault}
 use Rattle.luks_edit.specs.declared.edit_fault.EditFault.TheVariants as fault
 use Rattle.luks_edit.specs.Asked.{allowed_for, deed_of}
+use Rattle.luks_reading.specs.Checked.{WellFormed}
+use Rattle.luks2_edit_laws.specs.declared.like.Like.{Like}
+use Rattle.luks2_edit_laws.specs.declared.like.Like.TheVariants.{Keyslot}
+use Rattle.luks2_edit_laws.specs.Likes.{IsLike}
 use Rattle.luks2_edit_laws.specs.Metadata.{HasMetadata}
 use Rattle.luks2_edit_laws.specs.Places.{IsNewArea}
 use Rattle.luks2_edit_laws.specs.Refused.{HasSaid, IsAbsent, IsBadLabel, IsOnlyOne}
 use Rattle.luks2_judging.specs.declared.judged.JudgedEdit.{JudgedEdit}
 use Rattle.luks2_judging.specs.Judged.{IsNewNumber, Judges}
-use Rattle.luks2_judging.specs.Judging.{IsJudgedTo, IsRefusedEarly}
+use Rattle.luks2_judging.specs.Judging.{IsJudgedTo, IsRefusedEarly, sealing}
 use Rattle.luks2_judging.specs.Opened.{IsUnlocked, IsUnopened}
 use Rattle.luks2_judging.specs.Room.{IsAllowed, IsUnsealable}
 use Rattle.luks2_judging.specs.Rows.{HasNoFaultBefore}
@@ -66,75 +73,73 @@ module _ {v : List ℕ} {payload : Data} {e : Edit} {o : ℕ} {meta : Meta} {ent
   said_of says is = rw (r.size, ← r.long) is
 
   -- so is that a new area is free
-  free_of : {n : ℕ} {a : Area} → IsNewArea (area_len meta + 4096) total payload (content meta) n a → IsNewArea (hdr_size (header_at v o)) (length v) payload (content meta) n a
-  free_of {n} {a} place = said_of (λ h t. IsNewArea h t payload (content meta) n a) place
+  free_of : {like : Like} {a : Area} → IsNewArea (area_len meta + 4096) total payload (content meta) like a → IsNewArea (hdr_size (header_at v o)) (length v) payload (content meta) like a
+  free_of {like} {a} place = said_of (λ h t. IsNewArea h t payload (content meta) like a) place
 
-  pub placed_of : {n : ℕ} {a : Area} {here : Meta} → meta ≡ here → IsNewArea (area_len meta + 4096) total payload (content meta) n a
-      → IsNewArea (hdr_size (header_at v o)) (length v) payload (content here) n a
-  placed_of {n} {a} same place = subst (λ m. IsNewArea (hdr_size (header_at v o)) (length v) payload (content m) n a) same (free_of place)
+  pub placed_of : {like : Like} {a : Area} {here : Meta} → meta ≡ here → IsNewArea (area_len meta + 4096) total payload (content meta) like a
+      → IsNewArea (hdr_size (header_at v o)) (length v) payload (content here) like a
+  placed_of {like} {a} same place = subst (λ m. IsNewArea (hdr_size (header_at v o)) (length v) payload (content m) like a) same (free_of place)
 
-  -- the edit's keyslot doesn't open
-  pub unopened_refused : (f : EditFault) → ((HasSaid v (λ o j. IsAbsent j e) → ⊥) → IsUnopened v e f) → IsRefusedEarly v payload e f
-  unopened_refused f unopened = unopened_first v payload e f r.four (unopened ((r.four []).none fault.NoSuchSlot (omega arith)))
+  -- what opens gives no key
+  pub unopened_refused : (f : EditFault) → WellFormed v payload → ((HasSaid v (λ o j. IsAbsent j e) → ⊥) → IsUnopened v e f) → IsRefusedEarly v payload e f
+  unopened_refused f well unopened = unopened_first v payload e well f r.four (unopened ((r.four []).none fault.NoSuchSlot (omega arith)))
 
   -- it does, or there is none
   module _ (past : IsUnlocked v e) where
-    six_of : (it : Edit) → e ≡ it → (random : List ℕ) → IsPast 6 v payload it random
-    six_of it is random = subst (λ y. IsPast 6 v payload y random) is (past_opened v payload e random past (r.four random))
+    eight_of : (random : List ℕ) → IsPast 8 v payload e random
+    eight_of random = past_opened v payload e random past (r.four random)
 
     -- a keyslot is added
-    module _ {by_ : ℕ} {old : Secret} {new : Bor (List ℕ)} {to : Option ℕ} (asked : AskedDerivation) (is : e ≡ Add by_ old new to asked.iterations asked.chosen) where
-      pub unadded_refused : (f : EditFault) → IsUnadded (area_len meta + 4096) total payload (content meta) by_ to (allowed_for old new.now).memory asked f
+    module _ {opener_ : Opener} {new : Bor (List ℕ)} {to : Option ℕ} (asked : AskedDerivation) (is : deed_of e ≡ deed.Seal (sealing (New opener_ to) new asked))
+        (like : Like) (is_like : IsLike (content meta) opener_ like) where
+      pub unadded_refused : (f : EditFault) → IsUnadded (area_len meta + 4096) total payload (content meta) like to (allowed_for opener_ new.now).memory asked f
           → IsRefusedEarly v payload e f
-      unadded_refused f (inl bad) = subst (λ y. IsRefusedEarly v payload y f) (sym is)
-          (number_first v payload o (content meta) r.metadata by_ old new to asked (six_of (Add by_ old new to asked.iterations asked.chosen) is) f bad)
-      unadded_refused f (inr bad) = subst (λ y. IsRefusedEarly v payload y f) (sym is)
-          (unadded_first v payload o (content meta) r.metadata by_ old new to asked (six_of (Add by_ old new to asked.iterations asked.chosen) is)
-          bad.0.number bad.0.is f (said_of (λ h t. IsUnsealable h t payload (content meta) by_ (allowed_for old new.now).memory asked f) bad.1))
+      unadded_refused f (inl bad) = number_first v payload o (content meta) r.metadata e opener_ to new asked is eight_of f bad
+      unadded_refused f (inr bad) =
+          unadded_first v payload o (content meta) r.metadata e opener_ to new asked is eight_of
+          bad.0.number bad.0.is like is_like f (said_of (λ h t. IsUnsealable h t payload (content meta) like (allowed_for opener_ new.now).memory asked f) bad.1)
 
-      pub added_passed : {made : ℕ} {a : Area} → IsNewNumber (content meta) to made → IsAllowed (allowed_for old new.now).memory asked
-          → IsNewArea (area_len meta + 4096) total payload (content meta) by_ a → (random : List ℕ) → HasNoFaultBefore 13 v payload e random
-      added_passed {made} {a} number enough place random = subst (λ y. HasNoFaultBefore 13 v payload y random) (sym is)
-          (added_past v payload o (content meta) r.metadata by_ old new to asked (six_of (Add by_ old new to asked.iterations asked.chosen) is) made number
-          (λ none. area_excludes (hdr_size (header_at v o)) (length v) payload (content meta) by_ a (free_of place) none) enough random)
+      pub added_passed : {made : ℕ} {a : Area} → IsNewNumber (content meta) to made → IsAllowed (allowed_for opener_ new.now).memory asked
+          → IsNewArea (area_len meta + 4096) total payload (content meta) like a → (random : List ℕ) → HasNoFaultBefore 15 v payload e random
+      added_passed {made} {a} number enough place random =
+          added_past v payload o (content meta) r.metadata e opener_ to new asked is eight_of made number like is_like
+          (λ none. area_excludes (hdr_size (header_at v o)) (length v) payload (content meta) like a (free_of place) none) enough random
 
     -- one is sealed again
-    module _ {slot : ℕ} {old : Secret} {new : Bor (List ℕ)} (asked : AskedDerivation) (is : e ≡ Change slot old new asked.iterations asked.chosen) where
-      pub unchanged_refused : (f : EditFault) → IsUnsealable (area_len meta + 4096) total payload (content meta) slot (allowed_for old new.now).memory asked f
+    module _ {slot : ℕ} {old : Secret} {new : Bor (List ℕ)} (asked : AskedDerivation) (is : deed_of e ≡ deed.Seal (sealing (Opened slot old) new asked)) where
+      pub unchanged_refused : (f : EditFault) → IsUnsealable (area_len meta + 4096) total payload (content meta) (Keyslot slot) (allowed_for (opener.Keyslot slot old) new.now).memory asked f
           → IsRefusedEarly v payload e f
-      unchanged_refused f bad = subst (λ y. IsRefusedEarly v payload y f) (sym is)
-          (unchanged_first v payload o (content meta) r.metadata slot old new asked (six_of (Change slot old new asked.iterations asked.chosen) is)
-          f (said_of (λ h t. IsUnsealable h t payload (content meta) slot (allowed_for old new.now).memory asked f) bad))
+      unchanged_refused f bad =
+          unchanged_first v payload o (content meta) r.metadata e slot old new asked is eight_of
+          f (said_of (λ h t. IsUnsealable h t payload (content meta) (Keyslot slot) (allowed_for (opener.Keyslot slot old) new.now).memory asked f) bad)
 
-      pub changed_passed : {a : Area} → IsAllowed (allowed_for old new.now).memory asked → IsNewArea (area_len meta + 4096) total payload (content meta) slot a
-          → (random : List ℕ) → HasNoFaultBefore 13 v payload e random
-      changed_passed {a} enough place random = subst (λ y. HasNoFaultBefore 13 v payload y random) (sym is)
-          (changed_past v payload o (content meta) r.metadata slot old new asked (six_of (Change slot old new asked.iterations asked.chosen) is)
-          (λ none. area_excludes (hdr_size (header_at v o)) (length v) payload (content meta) slot a (free_of place) none) enough random)
+      pub changed_passed : {a : Area} → IsAllowed (allowed_for (opener.Keyslot slot old) new.now).memory asked → IsNewArea (area_len meta + 4096) total payload (content meta) (Keyslot slot) a
+          → (random : List ℕ) → HasNoFaultBefore 15 v payload e random
+      changed_passed {a} enough place random =
+          changed_past v payload o (content meta) r.metadata e slot old new asked is eight_of
+          (λ none. area_excludes (hdr_size (header_at v o)) (length v) payload (content meta) (Keyslot slot) a (free_of place) none) enough random
 
     -- one is removed
-    module _ {slot : ℕ} {by_ : Option ℕ} {passphrase : Secret} (is : e ≡ Remove slot by_ passphrase) where
-      pub last_refused : IsOnlyOne (content meta) slot → IsRefusedEarly v payload e fault.LastSlot
-      last_refused bad = subst (λ y. IsRefusedEarly v payload y fault.LastSlot) (sym is)
-          (only_first v payload o (content meta) r.metadata slot by_ passphrase (six_of (Remove slot by_ passphrase) is) bad)
+    module _ {d : Removed} (is : deed_of e ≡ deed.Remove d) where
+      pub last_refused : IsOnlyOne (content meta) d.slot → IsRefusedEarly v payload e fault.LastSlot
+      last_refused bad = only_first v payload o (content meta) r.metadata e d is eight_of bad
 
-      pub removed_passed : (IsOnlyOne (content meta) slot → ⊥) → (random : List ℕ) → HasNoFaultBefore 13 v payload e random
-      removed_passed other random = subst (λ y. HasNoFaultBefore 13 v payload y random) (sym is)
-          (removed_past v payload o (content meta) r.metadata slot by_ passphrase (six_of (Remove slot by_ passphrase) is) other random)
+      pub removed_passed : (IsOnlyOne (content meta) d.slot → ⊥) → (random : List ℕ) → HasNoFaultBefore 15 v payload e random
+      removed_passed other random = removed_past v payload o (content meta) r.metadata e d is eight_of other random
 
   -- the header is written anew
   module _ {label : Option (Bor (List ℕ))} (is : deed_of e ≡ deed.Rewrite label) where
-    six_of_none : (random : List ℕ) → IsPast 6 v payload e random
-    six_of_none random = past_opened v payload e random (none_opened v e (λ n p asked. rw is at asked)) (r.four random)
+    eight_of_none : (random : List ℕ) → IsPast 8 v payload e random
+    eight_of_none random = past_opened v payload e random (none_opened v e (rw is refl)) (r.four random)
 
     label_refused : IsBadLabel e → IsRefusedEarly v payload e fault.BadLabel
-    label_refused bad = label_first v payload o (content meta) r.metadata e (λ x. rw is at x) (λ x. rw is at x) (λ x. rw is at x) (λ x. rw is at x) (λ x. rw is at x) (λ x. rw is at x) six_of_none bad
+    label_refused bad = label_first v payload o (content meta) r.metadata e (λ x. rw is at x) (λ x. rw is at x) (λ x. rw is at x) (λ x. rw is at x) (λ x. rw is at x) (λ x. rw is at x) eight_of_none bad
 
-    label_passed : (IsBadLabel e → ⊥) → (random : List ℕ) → HasNoFaultBefore 13 v payload e random
+    label_passed : (IsBadLabel e → ⊥) → (random : List ℕ) → HasNoFaultBefore 15 v payload e random
     label_passed good random =
-        label_past v payload o (content meta) r.metadata e (λ x. rw is at x) (λ x. rw is at x) (λ x. rw is at x) (λ x. rw is at x) (λ x. rw is at x) (λ x. rw is at x) six_of_none good random
+        label_past v payload o (content meta) r.metadata e (λ x. rw is at x) (λ x. rw is at x) (λ x. rw is at x) (λ x. rw is at x) (λ x. rw is at x) (λ x. rw is at x) eight_of_none good random
 
-    pub rewriting_judged : (it : Result JudgedEdit EditFault) → Judges (IsBadIn label) fault.BadLabel it → OnOk it ((random : List ℕ) → HasNoFaultBefore 13 v payload e random)
+    pub rewriting_judged : (it : Result JudgedEdit EditFault) → Judges (IsBadIn label) fault.BadLabel it → OnOk it ((random : List ℕ) → HasNoFaultBefore 15 v payload e random)
     rewriting_judged (Ok it) good = label_passed (λ bad. good (rw is at bad))
     rewriting_judged (Err f) bad = tt
 

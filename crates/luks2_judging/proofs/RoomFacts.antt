@@ -8,13 +8,14 @@ use Rattle.luks_area.specs.Names.{HasArea}
 use Rattle.luks_reading.specs.declared.report.Data.{Data}
 use Rattle.luks_reading.specs.Layout2.{Luks2Area}
 use Rattle.luks_reading.specs.Listing.{Lists}
+use Rattle.luks2_edit_laws.specs.declared.like.Like.{Like}
 use Rattle.luks2_edit_laws.specs.Gap.{HasNoGap, IsGap, IsLeastGap}
 use Rattle.luks2_edit_laws.specs.Places.{HasNoNewArea, IsNewArea, key_areas_end, rounded_to_blocks}
-use Rattle.luks2_edit_laws.proofs.ToldFacts.{same_stripes}
+use Rattle.luks2_edit_laws.proofs.ToldFacts.{same_stripes_like}
 use Rattle.luks2_judging.specs.Room.{IsPlaced, IsRegion, TakesBlocks}
 
 module _ (entries : List Entry) (len : ℕ) (j : Value) (total low high : ℕ) (x : IsRegion len j total low high) (small : total < 2 ^ 64)
-    (n size : ℕ) (blocks : TakesBlocks j n size) where
+    (like : Like) (size : ℕ) (blocks : TakesBlocks j like size) where
   -- a gap that was found begins in the region, whose numbers 64 bits hold
   low_of : (at : ℕ) → low ≤ at → at + size ≤ high → low ≡ 2 * (len + 4096)
   low_of at from to =
@@ -62,7 +63,7 @@ module _ (entries : List Entry) (len : ℕ) (j : Value) (total low high : ℕ) (
 
     -- there is an area
     pub area_found : (at : ℕ) → IsLeastGap (HasArea entries) low high size at
-        → IsNewArea (len + 4096) total payload j n (record { start = at; len = size })
+        → IsNewArea (len + 4096) total payload j like (record { start = at; len = size })
     area_found at least = record {
       key_bytes = blocks.key_bytes;
       stripes = blocks.stripes;
@@ -74,7 +75,7 @@ module _ (entries : List Entry) (len : ℕ) (j : Value) (total low high : ℕ) (
     }
 
     -- there is none
-    pub no_area : HasNoGap (HasArea entries) low high size → HasNoNewArea (len + 4096) total payload j n
+    pub no_area : HasNoGap (HasArea entries) low high size → HasNoNewArea (len + 4096) total payload j like
     no_area none = record {
       key_bytes = blocks.key_bytes;
       stripes = blocks.stripes;
@@ -85,7 +86,7 @@ module _ (entries : List Entry) (len : ℕ) (j : Value) (total low high : ℕ) (
     }
 
   -- on any device
-  pub area_placed : (at : ℕ) → IsLeastGap (HasArea entries) low high size at → IsPlaced len j total n (record { start = at; len = size })
+  pub area_placed : (at : ℕ) → IsLeastGap (HasArea entries) low high size at → IsPlaced len j total like (record { start = at; len = size })
   area_placed at least =
       let from : low ≤ at = least.gap.from in
       let to : at + size ≤ high = least.gap.to in
@@ -101,9 +102,9 @@ module _ (entries : List Entry) (len : ℕ) (j : Value) (total low high : ℕ) (
       }
 
 -- where there is an area, there isn't none
-pub area_excludes : (h total : ℕ) (payload : Data) (j : Value) (n : ℕ) (a : Area) → IsNewArea h total payload j n a → HasNoNewArea h total payload j n → ⊥
-area_excludes h total payload j n a x y =
-    let s = same_stripes j n x.key_bytes x.stripes y.key_bytes y.stripes x.slot y.slot in
+pub area_excludes : (h total : ℕ) (payload : Data) (j : Value) (like : Like) (a : Area) → IsNewArea h total payload j like a → HasNoNewArea h total payload j like → ⊥
+area_excludes h total payload j like a x y =
+    let s = same_stripes_like j like x.key_bytes x.stripes y.key_bytes y.stripes x.slot y.slot in
     let region : x.region ≡ y.region = same_Some x.region y.region (sym x.region_is ∙ y.region_is) in
     let len : a.len ≡ rounded_to_blocks (y.key_bytes * y.stripes) =
     x.len ∙ ap (λ k. rounded_to_blocks (k * x.stripes)) s.key_bytes ∙ ap (λ k. rounded_to_blocks (y.key_bytes * k)) s.stripes in

@@ -45,7 +45,7 @@ SealsOf device copy areas edit old result = WhereJudged device copy areas edit o
 -- no row up to `BadLabel` refuses it
 abbrev pub PassesOf : {D : Type 0} → Ghosts D → ChosenCopy → List Entry → Edit → D → Result JudgedEdit EditFault → Type 0
 PassesOf device copy areas edit old result = WhereJudged device copy areas edit old (λ payload.
-    OnOk result ((random : List ℕ) → HasNoFaultBefore 13 (device.bytes old) payload edit random))
+    OnOk result ((random : List ℕ) → HasNoFaultBefore 15 (device.bytes old) payload edit random))
 
 -- or one of them does
 abbrev pub RefusesOf : {D : Type 0} → Ghosts D → ChosenCopy → List Entry → Edit → D → Result JudgedEdit EditFault → Type 0

@@ -1,11 +1,13 @@
 -- How the rows of the table of faults are judged that need no key, each by the metadata `j`.
-use Rattle.std.specs.Prelude.{◌≡◌, ℕ, Option, Result, Ok, Err}
+use Rattle.std.specs.Prelude.{◌≡◌, ℕ, Option, Result, Ok, Err, ⊤}
 use Rattle.serde_json.specs.Data.{Data as Value}
 use Rattle.luks_making.specs.Conditions.{IsFree}
 use Rattle.luks_making.specs.Naming.{IsDigestOf}
 use Rattle.luks_edit.specs.declared.edit_fault.EditFault.{EditFault}
 use Rattle.luks_edit.specs.declared.edit_fault.EditFault.TheVariants as fault
-use Rattle.luks2_edit_laws.specs.Metadata.{IsNewKeyslot}
+use Rattle.luks_edit.specs.declared.edit.Opener.{Opener}
+use Rattle.luks_edit.specs.Asked.{MatchOpener}
+use Rattle.luks2_edit_laws.specs.Metadata.{IsInUse, IsNewKeyslot}
 use Rattle.luks2_edit_laws.specs.Refused.{HasNoNumber, IsNumberTaken}
 
 -- a row has been judged: the fact doesn't hold, or it does and the answer is the row's fault
@@ -30,3 +32,12 @@ IsNumberFault j to f = ⊥
 -- the digest names no keyslot but `slot`
 abbrev pub IsOnlyName : Value → ℕ → ℕ → Type 0
 IsOnlyName j digest slot = (n : ℕ) → IsDigestOf j n digest → n ≡ slot
+
+-- ---- what gives the key
+
+-- the keyslot that it is of, if it is of one, is in use
+abbrev pub IsUsable : Value → Opener → Type 0
+IsUsable j o = MatchOpener o (λ slot secret. IsInUse j slot) (λ key. ⊤)
+
+abbrev pub IsUnusable : Value → Opener → Type 0
+IsUnusable j o = MatchOpener o (λ slot secret. IsInUse j slot → ⊥) (λ key. ⊥)

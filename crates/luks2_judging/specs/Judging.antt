@@ -22,11 +22,15 @@ use Rattle.luks_edit.specs.declared.deed.Place.{Place}
 use Rattle.luks_edit.specs.declared.deed.Place.TheVariants.{New, Opened}
 use Rattle.luks_edit.specs.declared.deed.Removed.{Removed}
 use Rattle.luks_edit.specs.declared.deed.Sealed.{Sealed}
+use Rattle.luks_edit.specs.declared.edit.Opener.{Opener}
+use Rattle.luks_edit.specs.declared.edit.Opener.TheVariants as opener
 use Rattle.luks_edit.specs.declared.edit.Secret.{Secret}
 use Rattle.luks_edit.specs.declared.edit_fault.EditFault.{EditFault}
 use Rattle.luks_edit.specs.Asked.{deed_of, allowed_for}
 use Rattle.luks_edit.specs.Endings.{EndsBy}
+use Rattle.luks2_edit_laws.specs.declared.like.Like.TheVariants.{Keyslot}
 use Rattle.luks2_edit_laws.specs.Copies.{labelled}
+use Rattle.luks2_edit_laws.specs.Likes.{IsLike}
 use Rattle.luks2_edit_laws.specs.Metadata.{IsInUse, IsKeyArea}
 use Rattle.luks2_edit_laws.specs.Places.{IsNewArea}
 use Rattle.luks2_edit_laws.specs.Refused.{IsAbsent, Refusal2}
@@ -37,7 +41,7 @@ use Rattle.luks2_judging.specs.declared.judged.JudgedEdit.TheVariants as judged
 use Rattle.luks2_judging.specs.declared.judged.JudgedPlace.TheVariants as sealed_in
 use Rattle.luks2_judging.specs.declared.judged.Renewal.{Renewal}
 use Rattle.luks2_judging.specs.Judged.{IsNewNumber}
-use Rattle.luks2_judging.specs.Opened.{IsOpenedTo, TakesMemoryToOpen}
+use Rattle.luks2_judging.specs.Opened.{HasKeyBytesLike, IsOpenedTo, TakesMemoryToOpen}
 use Rattle.luks2_judging.specs.Room.{IsAllowed, IsPlaced}
 use Rattle.luks2_judging.specs.Rows.{HasNoFaultBefore}
 
@@ -49,10 +53,9 @@ pub record IsLostArea (j : Value) (total n : ℕ) (a : Area) : Type 0 where
   pub is : IsKeyArea j n a
   pub inside : IsInside a total
 
--- a key is sealed at this place under a new passphrase, which the old one opens in the keyslot `slot`
-abbrev pub sealing : ℕ → Secret → Place → Bor (List ℕ) → AskedDerivation → Sealed
-sealing slot old place new asked =
-    record { opener = record { slot = slot; secret = old }; place = place; passphrase = new; derivation = asked }
+-- a key is sealed at this place under a new passphrase
+abbrev pub sealing : Place → Bor (List ℕ) → AskedDerivation → Sealed
+sealing place new asked = record { place = place; passphrase = new; derivation = asked }
 
 -- the keyslot `slot` is removed, by the passphrase of the keyslot `by_` where one is named
 abbrev pub removing : ℕ → Option ℕ → Secret → Removed
@@ -62,25 +65,26 @@ removing slot by_ secret = record { slot = slot; by_ = by_; secret = secret }
 pub record IsAddition
     (len : ℕ) (j : Value) (total : ℕ) (e : Edit) (a : Addition) (key : List ℕ) (passphrase : Bor (List ℕ))
     : Type 0 where
-  pub old : Secret
+  pub opener : Opener
   pub to : Option ℕ
-  pub asked : deed_of e ≡ deed.Seal (sealing a.by_ old (New to) passphrase a.derivation)
+  pub asked : deed_of e ≡ deed.Seal (sealing (New opener to) passphrase a.derivation)
   pub number : IsNewNumber j to a.made
-  pub key_length : HasLuks2KeyBytes j a.by_ (length key)
-  pub placed : IsPlaced len j total a.by_ a.area
-  pub allowed : IsAllowed (allowed_for old passphrase.now).memory a.derivation
+  pub is_like : IsLike j opener a.like
+  pub key_length : HasKeyBytesLike j a.like (length key)
+  pub placed : IsPlaced len j total a.like a.area
+  pub allowed : IsAllowed (allowed_for opener passphrase.now).memory a.derivation
 
 -- it seals this keyslot again, for the key under the passphrase
 pub record IsRenewal
     (len : ℕ) (j : Value) (total : ℕ) (e : Edit) (r : Renewal) (key : List ℕ) (passphrase : Bor (List ℕ))
     : Type 0 where
   pub old : Secret
-  pub asked : deed_of e ≡ deed.Seal (sealing r.slot old Opened passphrase r.derivation)
+  pub asked : deed_of e ≡ deed.Seal (sealing (Opened r.slot old) passphrase r.derivation)
   pub there : IsInUse j r.slot
   pub key_length : HasLuks2KeyBytes j r.slot (length key)
-  pub placed : IsPlaced len j total r.slot r.area
+  pub placed : IsPlaced len j total (Keyslot r.slot) r.area
   pub lost : IsLostArea j total r.slot r.lost
-  pub allowed : IsAllowed (allowed_for old passphrase.now).memory r.derivation
+  pub allowed : IsAllowed (allowed_for (opener.Keyslot r.slot old) passphrase.now).memory r.derivation
 
 -- it removes this keyslot, and its area with it
 pub record IsRemoval (j : Value) (total : ℕ) (e : Edit) (slot : ℕ) (area : Area) : Type 0 where
@@ -120,15 +124,15 @@ pub record IsAcceptedFor (copy : ChosenCopy) (areas : List Entry) (total : ℕ) 
 -- the keyslot that a key is sealed again from opens to it, and a new one's area is the one that the
 -- header of `h` bytes leaves for it
 abbrev pub Seals : ℕ → List ℕ → Data → Value → Edit → JudgedEdit → Type 0
-Seals h v payload j e (judged.Seal (sealed_in.New a) key passphrase) = IsOpenedTo v e key × IsNewArea h (length v) payload j a.by_ a.area
-Seals h v payload j e (judged.Seal (sealed_in.Opened r) key passphrase) = IsOpenedTo v e key × IsNewArea h (length v) payload j r.slot r.area
+Seals h v payload j e (judged.Seal (sealed_in.New a) key passphrase) = IsOpenedTo v e key × IsNewArea h (length v) payload j a.like a.area
+Seals h v payload j e (judged.Seal (sealed_in.Opened r) key passphrase) = IsOpenedTo v e key × IsNewArea h (length v) payload j (Keyslot r.slot) r.area
 Seals h v payload j e it = ⊤
 
 -- none of the rows up to `BadLabel` refuses the edit, and this is what it takes by the copy that counts
 pub record IsUnrefusedOf (copy : ChosenCopy) (v : List ℕ) (payload : Data) (e : Edit) (it : JudgedEdit) : Type 0 where
   pub well : WellFormed v payload
   pub seals : Seals (hdr_size (header_at v copy.header.hdr_offset)) v payload (content copy.meta) e it
-  pub none : (random : List ℕ) → HasNoFaultBefore 13 v payload e random
+  pub none : (random : List ℕ) → HasNoFaultBefore 15 v payload e random
 
 abbrev pub IsUnrefusedSoFar : List ℕ → Data → Edit → Judged → Type 0
 IsUnrefusedSoFar v payload e it = IsUnrefusedOf it.copy v payload e it.edit

@@ -2,6 +2,7 @@ pub mod Accepted
 pub mod Calls
 pub mod Judged
 pub mod Judging
+pub mod Keys
 pub mod Needed
 pub mod Opened
 pub mod Room

@@ -1,12 +1,12 @@
 -- What opening the keyslot of an edit says of a well formed LUKS2 volume.
-use Rattle.std.specs.Prelude.{◌≡◌, ◌≢◌, ℕ, List, length, Option, Result, IfErr, IfOk, IfSome, ⊤}
+use Rattle.std.specs.Prelude.{◌≡◌, ◌≢◌, ℕ, List, length, Option, Result, IfErr, IfOk, IfSome, IsSomeAnd, ⊤}
+use Rattle.serde_json.specs.Data.{Data as Value}
 use Rattle.luks_area.specs.declared.area.AreaFault.TheVariants as areas
 use Rattle.luks_area.specs.declared.area.AreaName.TheVariants as area_name
-use Rattle.luks_slot.specs.declared.fault.SlotFault.{SlotFault}
 use Rattle.luks_reading.specs.declared.check_fault.CheckFault.TheVariants as checking
 use Rattle.luks_reading.specs.declared.open_fault.OpenFault.{OpenFault}
 use Rattle.luks_reading.specs.declared.open_fault.OpenFault.TheVariants as opening
-use Rattle.luks_reading.specs.Answer.{AnswerWithin, IsLuks2RefusalWithin, IsRefusedByWithin, opened_to, opens, refused, TakesMemory}
+use Rattle.luks_reading.specs.Answer.{IsLuks2RefusalWithin, IsRefusedByWithin, opened_to, TakesMemory}
 use Rattle.luks_reading.specs.Header.{IsChosenCopy}
 use Rattle.luks_reading.specs.PlanAnswers.{IsPlanAccepted}
 use Rattle.luks_reading.specs.Plans.{HasLuks2KeyBytes, HasLuks2Plan}
@@ -18,46 +18,40 @@ use Rattle.luks_edit.specs.declared.edit.SecretKind.{SecretKind}
 use Rattle.luks_edit.specs.declared.edit.Edit.{Edit}
 use Rattle.luks_edit.specs.declared.edit_fault.EditFault.{EditFault}
 use Rattle.luks_edit.specs.declared.edit_fault.EditFault.TheVariants as fault
-use Rattle.luks_edit.specs.Asked.{allowed_by, kind_by, OpensBy}
+use Rattle.luks_edit.specs.Asked.{allowed_by, deed_of, MatchOpener, opener_in}
 use Rattle.luks_edit.specs.Secrets.{AnswersTo, own_key}
-use Rattle.luks_edit.specs.Opener.{IsLocked, IsShut}
+use Rattle.luks2_edit_laws.specs.declared.like.Like.{Like}
+use Rattle.luks2_edit_laws.specs.declared.like.Like.TheVariants.{Keyslot, Digest}
+use Rattle.luks2_edit_laws.specs.Edited.{Gives2}
+use Rattle.luks2_edit_laws.specs.Refused.{IsUnopened2}
 
--- the keyslot that the edit opens gives the key
+-- what opens gives the key
 abbrev pub IsOpenedTo : List ℕ → Edit → List ℕ → Type 0
-IsOpenedTo v e key = (n : ℕ) (p : List ℕ) → OpensBy e n p → AnswersTo (kind_by e) (allowed_by e) v n p (opens key)
+IsOpenedTo v e key = IfSome (opener_in (deed_of e)) (λ o. Gives2 (allowed_by e) v o key)
 
--- the edit is past the opening of its keyslot, if it opens one
+-- the edit is past that, if it needs a key
 pub record IsUnlocked (v : List ℕ) (e : Edit) : Type 0 where
-  pub unlocked : IsLocked v e → ⊥
-  pub unshut : (f : SlotFault) → IsShut v e f → ⊥
+  pub none : (f : EditFault) → IsUnopened2 v e f → ⊥
 
--- its keyslot gives the key
+-- it gives the key, and none of the faults stands by which it doesn't
 pub record Opens (v : List ℕ) (e : Edit) (key : List ℕ) : Type 0 where
   pub gives : IsOpenedTo v e key
   pub past : IsUnlocked v e
 
--- the first refusal of its plan
-pub record IsFirstShut (v : List ℕ) (e : Edit) (f : SlotFault) : Type 0 where
-  pub unlocked : IsLocked v e → ⊥
-  pub slot : ℕ
-  pub passphrase : List ℕ
-  pub asked : OpensBy e slot passphrase
-  pub answer : AnswerWithin (allowed_by e) v slot passphrase (refused (opening.Slot f))
+-- the keyslot that the edit opens isn't refused, and derives by Argon2, which takes memory
+abbrev pub TakesMemoryToOpen : List ℕ → Edit → Type 0
+TakesMemoryToOpen v e = IsSomeAnd (opener_in (deed_of e)) (λ o. MatchOpener o (λ slot secret. TakesMemory (allowed_by e) v slot) (λ key. ⊥))
 
--- it isn't refused, and derives by Argon2, which takes memory
-pub record TakesMemoryToOpen (v : List ℕ) (e : Edit) : Type 0 where
-  pub slot : ℕ
-  pub passphrase : List ℕ
-  pub asked : OpensBy e slot passphrase
-  pub takes : TakesMemory (allowed_by e) v slot
-
--- why it doesn't open, unless the device failed
+-- why it gives none, unless the device failed
 abbrev pub IsUnopened : List ℕ → Edit → EditFault → Type 0
-IsUnopened v e fault.Locked = IsLocked v e
-IsUnopened v e (fault.Slot f) = IsFirstShut v e f
 IsUnopened v e fault.Memory = TakesMemoryToOpen v e
 IsUnopened v e fault.Device = ⊤
-IsUnopened v e f = ⊥
+IsUnopened v e f = IsUnopened2 v e f
+
+-- the key of a keyslot that is made like this one has so many bytes
+abbrev pub HasKeyBytesLike : Value → Like → ℕ → Type 0
+HasKeyBytesLike j (Keyslot n) len = HasLuks2KeyBytes j n len
+HasKeyBytesLike j (Digest number key_bytes) len = key_bytes ≡ len
 
 -- the fault of opening the keyslot `n` as that of an edit; of a keyslot of a well formed volume it is
 -- that of its plan, or the device's

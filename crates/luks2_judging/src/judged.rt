@@ -3,6 +3,7 @@ use luks_area::Area;
 use luks_making::AskedDerivation;
 use luks_reading::ChosenCopy;
 use luks_slot::Key;
+use luks2_edit_laws::Like;
 
 /// An edit that none of the rows up to `BadLabel` refuses.
 #[derive(Drop)]
@@ -20,7 +21,7 @@ pub enum JudgedEdit<'a> {
     Seal {
         /// The keyslot.
         place: JudgedPlace,
-        /// The volume key, which the old passphrase opened.
+        /// The volume key, which the opener gave.
         key: Key,
         /// The new passphrase.
         passphrase: &'a [u8],
@@ -51,8 +52,8 @@ pub enum JudgedPlace {
 /// A keyslot that is added.
 #[derive(Clone, Copy, Drop)]
 pub struct Addition {
-    /// The keyslot that the old passphrase opened; the new one is made with its members.
-    pub by_: u8,
+    /// What the new keyslot is made like: the one that was opened, or by the volume key what that asks for.
+    pub like: Like,
     /// How the new keyslot derives.
     pub derivation: AskedDerivation,
     /// The number of the new keyslot, 0 to 31.

@@ -18,7 +18,8 @@ ghost use Rattle.luks_edit.specs.EditFaults.{is_edit_failure};
 ghost use Rattle.luks2_judging.specs.Calls.{IsReadyToJudge, PassesOf, Reads, RefusesOf, SealsOf, TakesOf};
 ghost use Rattle.luks2_judging.specs.Judged.{IsNewNumber};
 ghost use Rattle.luks2_judging.specs.Judging.{IsJudged, IsRefusedEarly, IsUnrefusedOf, IsUnrefusedSoFar};
-ghost use Rattle.luks2_judging.specs.Room.{IsAllowed, IsPlaced, IsUnsealable};
+ghost use Rattle.luks2_edit_laws.specs.declared.like.Like.TheVariants.{Keyslot};
+ghost use Rattle.luks2_judging.specs.Room.{IsAllowed, IsPlaced, IsSealableLike, IsUnsealable};
 ghost use Rattle.luks2_judging.specs.Sealing.{IsUnadded};
 
 use crate::accepted::judge_without_key;
@@ -29,8 +30,9 @@ use crate::room::{Room, judge_sealing};
 use crate::rows::judge_removal;
 use crate::unlocking::unlock;
 use luks_area::{Areas, Device};
-use luks_edit::{AskedDerivation, Deed, Edit, EditFault, Place, Removed, Sealed, opener_of};
+use luks_edit::{AskedDerivation, Deed, Edit, EditFault, Place, Removed, Sealed};
 use luks_reading::{ChosenCopy, Data};
+use luks2_edit_laws::Like;
 use std::alloc::Global;
 
 /// An accepted volume without requirements that has the keyslots that the edit opens and removes.
@@ -114,8 +116,8 @@ fn taken_by<'a, D: Device>(
     judge_with_key(alloc, device, &accepted, edit)
 }
 
-/// The rows from the opening of a keyslot on: `Locked`, `Slot`, `SlotTaken`, `NoFreeSlot`, `NoRoom`,
-/// `LastSlot`, `Iterations`, `Argon2`, `BadLabel`.
+/// The rows from what gives the key on: `Locked`, `KeyLength`, `WrongKey`, `Slot`, `SlotTaken`, `NoFreeSlot`,
+/// `NoRoom`, `LastSlot`, `Iterations`, `Argon2`, `BadLabel`.
 fn judge_with_key<'a, D: Device>(
     alloc: Global,
     device: &mut D,
@@ -141,8 +143,8 @@ fn judge_with_key<'a, D: Device>(
     }
 }
 
-/// The same of an edit that seals a key: `Locked`, `Slot`, `SlotTaken`, `NoFreeSlot`, `NoRoom`,
-/// `Iterations`, `Argon2`.
+/// The same of an edit that seals a key: `Locked`, `KeyLength`, `WrongKey`, `Slot`, `SlotTaken`,
+/// `NoFreeSlot`, `NoRoom`, `Iterations`, `Argon2`.
 fn judge_sealing_of<'a, D: Device>(
     alloc: Global,
     device: &mut D,
@@ -165,43 +167,35 @@ fn judge_sealing_of<'a, D: Device>(
 {
     let room = accepted.room();
     let allowed = edit.allowed();
-    let opener = sealed.opener;
     let passphrase = sealed.passphrase;
-    let key = unlock(
-        alloc,
-        device,
-        accepted.copy,
-        opener.slot,
-        &opener.secret,
-        allowed,
-    )?;
+    let given = unlock(alloc, device, accepted.copy, &sealed.opener(), allowed)?;
     match sealed.place {
-        Place::New { to } => {
+        Place::New { opener: _, to } => {
             let addition = judge_addition(
                 &room,
-                opener.slot,
+                given.like,
                 to,
                 sealed.derivation,
                 allowed.memory,
             )?;
             Ok(JudgedEdit::Seal {
                 place: JudgedPlace::New(addition),
-                key,
+                key: given.key,
                 passphrase,
             })
         }
-        Place::Opened => {
-            let renewal = judge_renewal(&room, opener.slot, sealed.derivation, allowed.memory)?;
+        Place::Opened { slot, secret: _ } => {
+            let renewal = judge_renewal(&room, slot, sealed.derivation, allowed.memory)?;
             Ok(JudgedEdit::Seal {
                 place: JudgedPlace::Opened(renewal),
-                key,
+                key: given.key,
                 passphrase,
             })
         }
     }
 }
 
-/// The same of an edit that removes a keyslot: `Locked`, `Slot`, `LastSlot`.
+/// The same of an edit that removes a keyslot: `Locked`, `KeyLength`, `WrongKey`, `Slot`, `LastSlot`.
 fn judge_removal_of<'a, D: Device>(
     alloc: Global,
     device: &mut D,
@@ -225,57 +219,48 @@ fn judge_removal_of<'a, D: Device>(
     let room = accepted.room();
     let allowed = edit.allowed();
     let slot = removed.slot;
-    let opener = opener_of(slot, removed.by_);
-    let _key = unlock(
-        alloc,
-        device,
-        accepted.copy,
-        opener,
-        &removed.secret,
-        allowed,
-    )?;
+    let _given = unlock(alloc, device, accepted.copy, &removed.opener(), allowed)?;
     let area = judge_removal(room.meta, slot)?;
     Ok(JudgedEdit::Remove { slot, area })
 }
 
-/// The keyslot that is added with the members of the keyslot `by_`, which is there: of the number `to`,
-/// or else of the least that is free. Refused by `SlotTaken`, `NoFreeSlot`, `NoRoom`, `Iterations`,
-/// `Argon2`.
+/// The keyslot that is added like this one, which is there: of the number `to`, or else of the least that
+/// is free. Refused by `SlotTaken`, `NoFreeSlot`, `NoRoom`, `Iterations`, `Argon2`.
 fn judge_addition(
     room: &Room<'_>,
-    by_: u8,
+    like: Like,
     to: Option<u8>,
     derivation: AskedDerivation,
     memory: u32,
 ) -> Result<Addition, EditFault>
-    requires there { IsInUse (content room.now.meta.now) by_ }
+    requires there { IsSealableLike (content room.now.meta.now) like }
     requires ends { (m : AreaName) (a : TheArea) → HasArea room.now.entries.now m a
         → IsInside a (2 ^ 64 - 1) }
     ensures own { IfErr result (λ f. is_edit_failure f ≡ false) }
     ensures memory { IfErr result (λ f. f ≢ EditFault.Memory) }
-    ensures like { IfOk result (λ a. a.by_ ≡ by_) }
+    ensures like { IfOk result (λ a. a.like ≡ like) }
     ensures derivation { IfOk result (λ a. a.derivation ≡ derivation) }
     ensures allowed { IfOk result (λ a. IsAllowed memory a.derivation) }
     ensures number { IfOk result (λ a. IsNewNumber (content room.now.meta.now) to a.made) }
     ensures placed { IfOk result (λ a.
-        IsPlaced (area_len room.now.meta.now) (content room.now.meta.now) room.now.total a.by_ a.area) }
+        IsPlaced (area_len room.now.meta.now) (content room.now.meta.now) room.now.total a.like a.area) }
     ensures area { (payload : Payload) → Lists room.now.entries.now
         (Luks2Area (content room.now.meta.now) (area_len room.now.meta.now + 4096) payload room.now.total)
         → IfOk result (λ a. IsNewArea (area_len room.now.meta.now + 4096) room.now.total payload
-        (content room.now.meta.now) a.by_ a.area) }
+        (content room.now.meta.now) a.like a.area) }
     ensures refused { (payload : Payload) → Lists room.now.entries.now
         (Luks2Area (content room.now.meta.now) (area_len room.now.meta.now + 4096) payload room.now.total)
         → IfErr result (IsUnadded (area_len room.now.meta.now + 4096) room.now.total payload
-        (content room.now.meta.now) by_ to memory derivation) }
+        (content room.now.meta.now) like to memory derivation) }
 {
     // Not by `?`: the kit makes no proof of it where no parameter holds a fault of the metadata.
     let made = match new_number(room.meta, to) {
         Ok(made) => made,
         Err(fault) => return Err(fault),
     };
-    match judge_sealing(room, by_, derivation, memory) {
+    match judge_sealing(room, like, derivation, memory) {
         Ok(area) => Ok(Addition {
-            by_,
+            like,
             derivation,
             made,
             area,
@@ -300,18 +285,18 @@ fn judge_renewal(
     ensures derivation { IfOk result (λ r. r.derivation ≡ derivation) }
     ensures allowed { IfOk result (λ r. IsAllowed memory r.derivation) }
     ensures placed { IfOk result (λ r.
-        IsPlaced (area_len room.now.meta.now) (content room.now.meta.now) room.now.total r.slot r.area) }
+        IsPlaced (area_len room.now.meta.now) (content room.now.meta.now) room.now.total (Keyslot r.slot) r.area) }
     ensures area { (payload : Payload) → Lists room.now.entries.now
         (Luks2Area (content room.now.meta.now) (area_len room.now.meta.now + 4096) payload room.now.total)
         → IfOk result (λ r. IsNewArea (area_len room.now.meta.now + 4096) room.now.total payload
-        (content room.now.meta.now) r.slot r.area) }
+        (content room.now.meta.now) (Keyslot r.slot) r.area) }
     ensures lost { IfOk result (λ r. IsKeyArea (content room.now.meta.now) r.slot r.lost) }
     ensures refused { (payload : Payload) → Lists room.now.entries.now
         (Luks2Area (content room.now.meta.now) (area_len room.now.meta.now + 4096) payload room.now.total)
         → IfErr result (IsUnsealable (area_len room.now.meta.now + 4096) room.now.total payload
-        (content room.now.meta.now) slot memory derivation) }
+        (content room.now.meta.now) (Keyslot slot) memory derivation) }
 {
-    match judge_sealing(room, slot, derivation, memory) {
+    match judge_sealing(room, Like::Keyslot(slot), derivation, memory) {
         Ok(area) => Ok(Renewal {
             slot,
             derivation,

@@ -1,15 +1,15 @@
 //! Judging an edit by the keyslots of the metadata, with no key.
-ghost use Rattle.std.specs.Prelude.{◌≡◌, ◌<◌, ℕ, List, Some, false, true, IfOk, IsTrue, MatchOption, MatchResult};
-ghost use Rattle.luks_edit.specs.Asked.{NamesItself, OpensBy};
+ghost use Rattle.std.specs.Prelude.{◌≡◌, ◌<◌, ℕ, Some, false, true, IfSome, IsTrue, MatchOption, MatchResult};
+ghost use Rattle.luks_edit.specs.Asked.{NamesItself, deed_of, opener_in};
 ghost use Rattle.luks_making.specs.Conditions.{IsFree};
 ghost use Rattle.luks_meta.specs.Content.{content};
 ghost use Rattle.luks_meta.specs.Requirements.{has_requirements};
 ghost use Rattle.luks2_edit_laws.specs.Metadata.{IsInUse, IsKeyArea, IsLeastFree};
 ghost use Rattle.luks2_edit_laws.specs.Refused.{IsAbsent};
-ghost use Rattle.luks2_judging.specs.Judged.{IsNewNumber, IsNumberFault, Judges};
+ghost use Rattle.luks2_judging.specs.Judged.{IsNewNumber, IsNumberFault, IsUnusable, IsUsable, Judges};
 
 use luks_area::Area;
-use luks_edit::{Deed, Edit, EditFault};
+use luks_edit::{Deed, Edit, EditFault, Opener};
 use luks_meta::Meta;
 
 /// Whether the keyslot is there.
@@ -58,7 +58,7 @@ pub(crate) fn judge_wanted(meta: &Meta, edit: &Edit<'_>) -> Result<(), EditFault
     match edit.opener() {
         None => Ok(()),
         Some(opener) => {
-            if is_used(meta, opener.slot) {
+            if is_usable(meta, &opener) {
                 judge_removed(meta, edit)
             } else {
                 Err(EditFault::NoSuchSlot)
@@ -67,10 +67,21 @@ pub(crate) fn judge_wanted(meta: &Meta, edit: &Edit<'_>) -> Result<(), EditFault
     }
 }
 
-/// Whether the keyslot is there that the edit removes, if it removes one; the one that it opens is.
+/// Whether the keyslot of the opener is there, if it is of one.
+fn is_usable(meta: &Meta, opener: &Opener<'_>) -> bool
+    ensures used { IsTrue result → IsUsable (content meta.now) opener.now }
+    ensures unused { result ≡ false → IsUnusable (content meta.now) opener.now }
+{
+    match opener {
+        Opener::Keyslot { slot, secret: _ } => is_used(meta, *slot),
+        Opener::Key(_) => true,
+    }
+}
+
+/// Whether the keyslot is there that the edit removes, if it removes one; that of what opens is.
 /// Refused by `NoSuchSlot`.
 fn judge_removed(meta: &Meta, edit: &Edit<'_>) -> Result<(), EditFault>
-    requires { (n : ℕ) (p : List ℕ) → OpensBy edit.now n p → IsInUse (content meta.now) n }
+    requires { IfSome (opener_in (deed_of edit.now)) (IsUsable (content meta.now)) }
     ensures { Judges (IsAbsent (content meta.now) edit.now) EditFault.NoSuchSlot result }
 {
     match edit.deed() {

@@ -4,6 +4,7 @@
 mod accepted;
 mod judged;
 mod judging;
+mod keys;
 mod keyslots;
 mod labels;
 mod laws;

@@ -1,10 +1,12 @@
-//! Opening the keyslot that an edit of a LUKS2 volume names, by its passphrase or its key.
-ghost use Rattle.std.specs.Prelude.{◌≡◌, ◌≢◌, ◌+◌, ◌^◌, ◌<◌, ℕ, List, length, true, IfOk, IfErr, IfSome};
+//! What gives the key for an edit of a LUKS2 volume: a keyslot, by its passphrase or its key, or the
+//! volume key.
+ghost use Rattle.std.specs.Prelude.{◌≡◌, ◌≢◌, ◌+◌, ◌^◌, ◌<◌, ℕ, List, Some, length, true, IfOk, IfErr, IfSome};
 ghost use Rattle.luks_area.specs.Device.{CountsFailure, IsUnchanged};
 ghost use Rattle.luks2_header.specs.Header2.{uuid_field};
-ghost use Rattle.luks_edit.specs.Asked.{OpensBy, allowed_by, kind_by};
+ghost use Rattle.luks_edit.specs.Asked.{allowed_by, bytes_of, deed_of, opener_in};
 ghost use Rattle.luks_edit.specs.EditFaults.{is_edit_failure};
 ghost use Rattle.luks_edit.specs.declared.edit.Edit.{Edit as TheEdit};
+ghost use Rattle.luks_edit.specs.declared.edit.Opener.TheVariants.{Keyslot};
 ghost use Rattle.luks_reading.specs.Answer.{TakesMemory};
 ghost use Rattle.luks_reading.specs.Checked.{WellFormed};
 ghost use Rattle.luks_meta.specs.Content.{content};
@@ -15,14 +17,19 @@ ghost use Rattle.luks_reading.specs.Luks2Keyslots.{Luks2Refused};
 ghost use Rattle.luks_reading.specs.PlanAnswers.{IsOpenable, PlanRefused};
 ghost use Rattle.luks_reading.specs.Plans.{HasLuks2KeyBytes};
 ghost use Rattle.luks_reading.specs.declared.report.Data.{Data as Payload};
+ghost use Rattle.luks2_edit_laws.specs.Likes.{IsLike};
 ghost use Rattle.luks2_edit_laws.specs.Metadata.{IsInUse};
 ghost use Rattle.luks2_edit_laws.specs.Refused.{HasSaid, IsAbsent};
-ghost use Rattle.luks2_judging.specs.Opened.{IsSecretAnswer, IsUnopened, Luks2Keeps, Opens, PlanKeeps, unopened};
+ghost use Rattle.luks2_judging.specs.Judged.{IsUsable};
+ghost use Rattle.luks2_judging.specs.Opened.{HasKeyBytesLike, IsSecretAnswer, IsUnopened, Luks2Keeps, Opens, PlanKeeps, unopened};
 
+use crate::keys::{Given, own_volume_key};
 use luks_area::{AreaFault, AreaName, Device};
-use luks_edit::{EditFault, Secret, SecretKind, own_key};
+use luks_edit::{EditFault, Opener, Secret, SecretKind, lock_fault, own_key};
+use luks_meta::Meta;
 use luks_reading::{CheckFault, ChosenCopy, OpenFault, luks2_plan, try_copy_slot};
 use luks_slot::{Allowed, Key, SlotPlan};
+use luks2_edit_laws::Like;
 use std::alloc::Global;
 
 /// The fault of opening the keyslot `n` as that of an edit.
@@ -42,9 +49,51 @@ fn unopened(n: u8, fault: OpenFault) -> EditFault
     }
 }
 
-/// The key that the keyslot `n` gives by the secret, which an edit opens; or why it gives none: `Locked`,
-/// `Slot`, or the device's failure. Argon2 may take as much memory as is allowed; else none is taken.
+/// The key that the opener gives, with what a new keyslot is made like for it, or why it gives none:
+/// `Locked`, `KeyLength`, `WrongKey`, `Slot`, or the device's failure. Its keyslot is there, if it is of one.
+/// Argon2 may take as much memory as is allowed; else none is taken.
 pub(crate) fn unlock<D: Device>(
+    alloc: Global,
+    device: &mut D,
+    copy: &ChosenCopy,
+    opener: &Opener<'_>,
+    allowed: Allowed,
+) -> Result<Given, EditFault>
+    requires room { D.failed device.old + 1 < 2 ^ 64 }
+    requires accepted { IsAcceptedCopy copy.now }
+    requires usable { IsUsable (content copy.now.meta) opener.now }
+    requires short { 0 < allowed.memory → length (bytes_of opener.now) < 2 ^ 32 }
+    ensures unchanged { IsUnchanged D.tells D.size D.bytes D.unsettled device.old device.new }
+    ensures count { CountsFailure is_edit_failure result
+        (D.failed device.old) (D.failed device.new) }
+    ensures no_memory { allowed.memory ≡ 0 → IfErr result (λ f. f ≢ EditFault.Memory) }
+    ensures like { IfOk result (λ g. IsLike (content copy.now.meta) opener.now g.like) }
+    ensures length { IfOk result (λ g. HasKeyBytesLike (content copy.now.meta) g.like (length g.key)) }
+    ensures opened { D.tells → IsChosenCopy (D.bytes device.old) copy.now
+        → (e : TheEdit) → allowed_by e ≡ allowed → opener_in (deed_of e) ≡ Some opener.now
+        → IfOk result (λ g. Opens (D.bytes device.old) e g.key) }
+    ensures refused { D.tells → IsChosenCopy (D.bytes device.old) copy.now
+        → (payload : Payload) (e : TheEdit) → WellFormed (D.bytes device.old) payload
+        → allowed_by e ≡ allowed → opener_in (deed_of e) ≡ Some opener.now
+        → (HasSaid (D.bytes device.old) (λ o j. IsAbsent j e) → ⊥)
+        → IfErr result (IsUnopened (D.bytes device.old) e) }
+{
+    match opener {
+        Opener::Keyslot { slot, secret } => {
+            let key = unlock_keyslot(alloc, device, copy, *slot, secret, allowed)?;
+            Ok(Given {
+                key,
+                like: Like::Keyslot(*slot),
+            })
+        }
+        Opener::Key(key) => own_volume_key(&copy.meta, key),
+    }
+}
+
+/// The key that the keyslot `n` gives by the secret, which an edit opens; or why it gives none: `Locked`,
+/// `KeyLength`, `WrongKey`, `Slot`, or the device's failure. Argon2 may take as much memory as is allowed;
+/// else none is taken.
+fn unlock_keyslot<D: Device>(
     alloc: Global,
     device: &mut D,
     copy: &ChosenCopy,
@@ -66,20 +115,31 @@ pub(crate) fn unlock<D: Device>(
     ensures no_memory { allowed.memory ≡ 0 → IfErr result (λ f. f ≢ EditFault.Memory) }
     ensures length { IfOk result (λ key. HasLuks2KeyBytes (content copy.now.meta) n (length key)) }
     ensures opened { D.tells → IsChosenCopy (D.bytes device.old) copy.now
-        → (e : TheEdit) → allowed_by e ≡ allowed → kind_by e ≡ secret.now.kind
-        → OpensBy e n secret.now.bytes.now → IfOk result (Opens (D.bytes device.old) e) }
+        → (e : TheEdit) → allowed_by e ≡ allowed → opener_in (deed_of e) ≡ Some (Keyslot n secret.now)
+        → IfOk result (Opens (D.bytes device.old) e) }
     ensures refused { D.tells → IsChosenCopy (D.bytes device.old) copy.now
         → (payload : Payload) (e : TheEdit) → WellFormed (D.bytes device.old) payload
-        → allowed_by e ≡ allowed → kind_by e ≡ secret.now.kind → OpensBy e n secret.now.bytes.now
+        → allowed_by e ≡ allowed → opener_in (deed_of e) ≡ Some (Keyslot n secret.now)
         → (HasSaid (D.bytes device.old) (λ o j. IsAbsent j e) → ⊥)
         → IfErr result (IsUnopened (D.bytes device.old) e) }
 {
     match given(alloc, device, copy, n, secret, allowed) {
         Ok(found) => match found {
             Some(key) => Ok(key),
-            None => Err(EditFault::Locked),
+            None => Err(lock_fault(secret.kind, key_bytes(&copy.meta, n), secret.bytes)),
         },
         Err(fault) => Err(unopened(n, fault)),
+    }
+}
+
+/// How many bytes the key of the keyslot has, which is there.
+fn key_bytes(meta: &Meta, n: u8) -> usize
+    requires { IsInUse (content meta.now) n }
+    ensures { HasLuks2KeyBytes (content meta.now) n result }
+{
+    match meta.keyslot(n) {
+        Some(keyslot) => usize::from(keyslot.key_size),
+        None => unreachable!(),
     }
 }
 

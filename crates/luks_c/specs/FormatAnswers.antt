@@ -1,5 +1,5 @@
 -- What the calls answer that make a volume.
-use Rattle.std.specs.Prelude.{◌≡◌, ℕ, ◌*◌, ◌≤◌, List, Option}
+use Rattle.std.specs.Prelude.{◌≡◌, ℕ, ◌*◌, ◌≤◌, List, Option, true, false}
 use Rattle.luks_area.specs.First.{IsLeast}
 use Rattle.luks_area.specs.Ranges.{SameBut}
 use Rattle.luks_kdf.specs.declared.hash_name.HashName.{HashName}
@@ -8,11 +8,12 @@ use Rattle.luks_slot.specs.declared.allowed.Allowed.{Allowed}
 use Rattle.luks_reading.specs.declared.format.Format.{Format}
 use Rattle.luks_making.specs.Derivations.{memory_by}
 use Rattle.luks_making.specs.declared.derivation.NewDerivation.{NewDerivation}
-use Rattle.luks_reading.specs.Answer.{Answer, AnswerWithin, opens}
+use Rattle.luks_reading.specs.Answer.{AnswerWithin, opens}
 use Rattle.luks_reading.specs.Checked.{WellFormed}
 use Rattle.luks_reading.specs.declared.report.Data.TheVariants.{Here}
 use Rattle.luks_formatting.specs.declared.format_fault.FormatFault.{FormatFault}
 use Rattle.luks_formatting.specs.Deriving.{allowed_for, slot_derivation}
+use Rattle.luks_formatting.specs.Encrypting.{is_older}
 use Rattle.luks_formatting.specs.FormatFaults.{format_key, HasNoFault, IsFormat1FaultAs, IsFormat2FaultAs}
 use Rattle.luks_formatting.specs.Formatted1.{IsFormatted1As}
 use Rattle.luks_formatting.specs.Formatted2.{IsFormatted2As}
@@ -47,7 +48,7 @@ IsNoHash number = (h : HashName) → hash_number h ≡ number → ⊥
 pub record IsMade1 (given : Given) (format : Format) (passphrase random old : List ℕ) (number : ℕ) (w : List ℕ) : Type 0 where
   pub is : IsFormatted1As given format passphrase random old w
   pub well_formed : WellFormed w given.payload
-  pub opened : Answer w 0 passphrase (opens (key_of given random))
+  pub opened : (allowed : Allowed) → (is_older given.cipher ≡ true → allowed.older ≡ true) → AnswerWithin allowed w 0 passphrase (opens (key_of given random))
   pub payload : given.payload ≡ Here → SameBut (IsBefore (512 * payload_sector given)) old w
   pub slot : number ≡ 0
 
@@ -56,7 +57,8 @@ pub record IsMade1 (given : Given) (format : Format) (passphrase random old : Li
 pub record IsMade2 (given : Given) (format : Format) (chosen : Option NewDerivation) (passphrase random old : List ℕ) (number : ℕ) (w : List ℕ) : Type 0 where
   pub is : IsFormatted2As given format chosen passphrase random old w
   pub well_formed : WellFormed w given.payload
-  pub opened : (allowed : Allowed) → memory_by (slot_derivation format chosen) ≤ allowed.memory → AnswerWithin allowed w 0 passphrase (opens (key_of given random))
+  pub opened : (allowed : Allowed) → memory_by (slot_derivation format chosen) ≤ allowed.memory → (is_older given.cipher ≡ true → allowed.older ≡ true)
+      → AnswerWithin allowed w 0 passphrase (opens (key_of given random))
   pub payload : given.payload ≡ Here → SameBut (IsBefore (segment_start given)) old w
   pub slot : number ≡ 0
 
@@ -73,13 +75,13 @@ AnswersFormat parts v faults = AnswersPlan parts v (HasNoFault faults) (IsFirstO
 -- of a LUKS1 volume
 abbrev pub AnswersFormat1 : List Part → List ℕ → ℕ → Given → Format → List ℕ → List ℕ → Buffers → Buffers → LuksPlan → ℕ → Type 0
 AnswersFormat1 parts v total given format passphrase random old new told number =
-    AnswersFormat parts v (IsFormat1FaultAs given total format random)
+    AnswersFormat parts v (IsFormat1FaultAs given false total format random)
     (IsMade1 given format passphrase random v told.slot) old new told number
 
--- of a LUKS2 volume, by the derivation that is chosen, with so many KiB that Argon2 may take
-abbrev pub AnswersFormat2 : List Part → List ℕ → ℕ → Given → Format → Option NewDerivation → ℕ → List ℕ → List ℕ → Buffers → Buffers → LuksPlan → ℕ → Type 0
-AnswersFormat2 parts v total given format chosen memory passphrase random old new told number =
-    AnswersFormat parts v (IsFormat2FaultAs given chosen (allowed_for memory passphrase) total format random)
+-- of a LUKS2 volume, by the derivation that is chosen, with what is allowed of its keyslot
+abbrev pub AnswersFormat2 : List Part → List ℕ → ℕ → Given → Format → Option NewDerivation → Allowed → List ℕ → List ℕ → Buffers → Buffers → LuksPlan → ℕ → Type 0
+AnswersFormat2 parts v total given format chosen allowed passphrase random old new told number =
+    AnswersFormat parts v (IsFormat2FaultAs given allowed.older chosen (allowed_for allowed.memory passphrase) total format random)
     (IsMade2 given format chosen passphrase random v told.slot) old new told number
 
 -- made by these numbers, with what is given

@@ -1,5 +1,5 @@
 //! Making a volume.
-ghost use Rattle.std.specs.Prelude.{◌≡◌, ◌≢◌, ◌⊎◌, ◌↔◌, ◌≤◌, ◌<◌, length, MatchOption, Option};
+ghost use Rattle.std.specs.Prelude.{◌≡◌, ◌≢◌, ◌⊎◌, ◌↔◌, ◌≤◌, ◌<◌, false, length, MatchOption, Option};
 ghost use Rattle.luks_kdf.specs.declared.hash_name.HashName.{HashName as TheHash};
 ghost use Rattle.luks_making.specs.declared.derivation.NewDerivation.{NewDerivation as Chosen};
 ghost use Rattle.luks_formatting.specs.declared.given.Given.{Given as Whole};
@@ -104,8 +104,8 @@ pub extern "C" fn luks_format2_bytes(
     ensures answers { result ≢ 101 → AnswersChosen hash iterations
         (IsGivenBy (payload_of is_detached) sector is_keyed key.now uuid.now label.now subsystem.now)
         derivation.now (λ (given : Whole) (format : TheFormat) (chosen : Option Chosen).
-        AnswersFormat2 parts.now (volume parts.now held.now total) total given format chosen memory
-        passphrase.now random.now (record { calls = calls.old; bytes = bytes.old })
+        AnswersFormat2 parts.now (volume parts.now held.now total) total given format chosen
+        (record { memory = memory; older = false }) passphrase.now random.now (record { calls = calls.old; bytes = bytes.old })
         (record { calls = calls.new; bytes = bytes.new }) told.new result) }
     ensures wanted { result ≡ 102 → IsWanted parts.now total told.new.beyond }
 {
@@ -157,7 +157,7 @@ fn make1<K: Given>(
     let Ok(mut device) = planned_writes::<K>(alloc, parts, held, total) else {
         return MEMORY;
     };
-    match format1_as(&mut device, given, format, passphrase, random) {
+    match format1_as(alloc, &mut device, given, format, passphrase, false, random) {
         Ok(_) => give_plan(&device, calls, bytes, told),
         Err(FormatFault::Device) => tell_wanted(&device, told),
         Err(fault) => format_number(&fault),
@@ -184,7 +184,7 @@ fn make2<K: Given>(
     requires slot { told.old.slot ≡ 0 }
     ensures own { result ≢ 101 }
     ensures answers { AnswersFormat2 K.parts K.bytes total given.now format.now chosen
-        passphrase.now.allowed.memory passphrase.now.bytes.now random.now
+        passphrase.now.allowed passphrase.now.bytes.now random.now
         (record { calls = calls.old; bytes = bytes.old })
         (record { calls = calls.new; bytes = bytes.new }) told.new result }
     ensures wanted { result ≡ 102 → IsWanted K.parts total told.new.beyond }

@@ -7,7 +7,7 @@ ghost use Rattle.luks_formatting.specs.declared.given.Given.{Given as TheGiven};
 
 use luks_c_answers::data_of;
 use luks_c_headers::{NoText, text_of};
-use luks_formatting::Given;
+use luks_formatting::{Given, NewCipher};
 
 /// The number that is no sector.
 const NO_SECTOR: u64 = 0xFFFF_FFFF_FFFF_FFFF;
@@ -34,6 +34,9 @@ pub(crate) fn given_of<'a>(
         uuid: text_of(uuid)?,
         label: text_of(label)?,
         subsystem: text_of(subsystem)?,
+        cipher: NewCipher::XtsPlain64,
+        key_bytes: 64,
+        sector_size: 512,
     })
 }
 

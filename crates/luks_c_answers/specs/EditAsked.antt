@@ -1,7 +1,7 @@
 -- The edit that a caller asks for by numbers.
-use Rattle.std.specs.Prelude.{◌≡◌, ◌==◌, ℕ, ◌<◌, List, if◌then◌else◌, Option, Some, None}
+use Rattle.std.specs.Prelude.{◌≡◌, ◌≢◌, ◌==◌, ℕ, ◌<◌, List, if◌then◌else◌, Option, Some, None}
 use Rattle.luks_edit.specs.declared.edit.Edit.{Edit}
-use Rattle.luks_edit.specs.declared.edit.Edit.TheVariants.{Add, Change, Remove, Repair, Label}
+use Rattle.luks_edit.specs.declared.edit.Edit.TheVariants.{Add, AddByKey, Change, Remove, Repair, Label}
 use Rattle.luks_edit.specs.declared.edit.Secret.{Secret}
 use Rattle.luks_edit.specs.declared.edit.SecretKind.{SecretKind}
 use Rattle.luks_edit.specs.declared.edit.SecretKind.TheVariants.{Key, Passphrase}
@@ -29,6 +29,9 @@ IsSecret bytes asked p = (p.kind ≡ kind_asked asked.by_key) × (p.bytes.now �
 -- the edit is asked for, with these bytes as its secret, and those as the new passphrase or as the label
 abbrev pub IsAsked : LuksEdit → List ℕ → List ℕ → Edit → Type 0
 IsAsked asked words text (Add by_ old new to iterations derivation) = (asked.kind ≡ 1) × IsSlot asked.by_ by_ × IsSecret words asked old
+    × (new.now ≡ text) × IsMaybeSlot asked.to to × (iterations ≡ asked.iterations) × IsChoice asked.derivation derivation
+IsAsked asked words text (AddByKey key new to iterations derivation) = (asked.kind ≡ 1) × (asked.by_ ≡ 4294967295) × (asked.by_key ≢ 0)
+    × (key.bytes.now ≡ words) × (key.allowed ≡ allowed_of asked.memory asked.older)
     × (new.now ≡ text) × IsMaybeSlot asked.to to × (iterations ≡ asked.iterations) × IsChoice asked.derivation derivation
 IsAsked asked words text (Change slot old new iterations derivation) = (asked.kind ≡ 2) × IsSlot asked.slot slot × IsSecret words asked old
     × (new.now ≡ text) × (iterations ≡ asked.iterations) × IsChoice asked.derivation derivation

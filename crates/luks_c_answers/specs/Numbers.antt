@@ -89,6 +89,9 @@ fault_number fault.Reencrypting = 52
 fault_number fault.NoSuchDigest = 53
 fault_number fault.KeyLength = 54
 fault_number fault.Payload = 55
+fault_number fault.SectorSize = 56
+fault_number fault.Uneven = 57
+fault_number fault.WrongKey = 58
 
 -- the fault of this number, if there is one
 abbrev pub fault_numbered : ℕ → Option Fault
@@ -141,6 +144,8 @@ edit_number edit.Requirements = 31
 edit_number edit.NoSuchSlot = 23
 edit_number edit.SameSlot = 50
 edit_number edit.Locked = 29
+edit_number edit.KeyLength = 54
+edit_number edit.WrongKey = 58
 edit_number (edit.Slot f) = number_printed (slot_fault_text f)
 edit_number edit.SlotTaken = 32
 edit_number edit.NoFreeSlot = 33
@@ -159,8 +164,11 @@ edit_number edit.Device = 102
 abbrev pub format_number : FormatFault → ℕ
 format_number format.Payload = 55
 format_number format.TooSmall = 40
+format_number format.SectorSize = 56
+format_number format.Uneven = 57
 format_number format.Uuid = 6
 format_number format.BadLabel = 36
+format_number format.Cipher = 26
 format_number format.KeyLength = 54
 format_number format.Iterations = 10
 format_number format.Argon2 = 25

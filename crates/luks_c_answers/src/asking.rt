@@ -5,7 +5,7 @@ ghost use Rattle.luks_c_answers.specs.Asked.{allowed_of, payload_of};
 ghost use Rattle.luks_c_answers.specs.ChoiceAsked.{IsChoice, IsNoChoice};
 ghost use Rattle.luks_c_answers.specs.EditAsked.{IsAsked, IsMaybeSlot, IsSecret, IsSlot, kind_asked};
 
-use luks_edit::{Argon2Costs, Edit, NewDerivation, Secret, SecretKind};
+use luks_edit::{Argon2Costs, Edit, NewDerivation, Secret, SecretKind, VolumeKey};
 use luks_reading::{Allowed, Data};
 
 /// The number that names no keyslot.
@@ -36,7 +36,7 @@ pub struct LuksEdit {
     /// Of a change and a removal the keyslot.
     pub slot: u32,
     /// The keyslot that the secret opens, of an addition; of a removal too, or 2^32 - 1 where it is
-    /// the one that is removed.
+    /// the one that is removed. By the volume key 2^32 - 1 says of both that no keyslot is asked for.
     pub by_: u32,
     /// Of an addition the number of the new keyslot, or 2^32 - 1 for the least that is free.
     pub to: u32,
@@ -48,7 +48,7 @@ pub struct LuksEdit {
     /// Whether the ciphers and hashes of older disks are accepted of the keyslot that the secret opens;
     /// 0: no.
     pub older: u32,
-    /// Whether the secret is the volume key that the keyslot gives, and not its passphrase; 0: no.
+    /// Whether the secret is the volume key, and not a keyslot's passphrase; 0: no.
     pub by_key: u32,
     /// Of an addition and a change the new keyslot's derivation.
     pub derivation: LuksDerivation,
@@ -63,12 +63,23 @@ pub fn edit_of<'a>(asked: &LuksEdit, secret: &'a [u8], text: &'a [u8]) -> Result
     ensures { MatchResult result (IsAsked asked.now secret.now text.now)
         (λ _. (e : TheEdit) → IsAsked asked.now secret.now text.now e → ⊥) }
 {
+    let allowed = allowed_of(asked.memory, asked.older);
     let old = Secret {
         kind: kind_of(asked.by_key),
         bytes: secret,
-        allowed: allowed_of(asked.memory, asked.older),
+        allowed,
     };
     match asked.kind {
+        1 if asked.by_ == NO_SLOT && asked.by_key != 0 => Ok(Edit::AddByKey {
+            key: VolumeKey {
+                bytes: secret,
+                allowed,
+            },
+            new: text,
+            to: maybe_slot(asked.to)?,
+            iterations: asked.iterations,
+            derivation: chosen_of(&asked.derivation)?,
+        }),
         1 => Ok(Edit::Add {
             by_: slot_of(asked.by_)?,
             old,

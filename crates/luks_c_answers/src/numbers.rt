@@ -114,6 +114,9 @@ fn number_of_call(fault: Fault) -> u32
         Fault::NoSuchDigest => 53,
         Fault::KeyLength => 54,
         Fault::Payload => 55,
+        Fault::SectorSize => 56,
+        Fault::Uneven => 57,
+        Fault::WrongKey => 58,
         _ => UNKNOWN,
     }
 }
@@ -184,6 +187,8 @@ pub fn edit_number(fault: &EditFault) -> u32
         EditFault::NoSuchSlot => number_of(Fault::NoSuchSlot),
         EditFault::SameSlot => number_of(Fault::SameSlot),
         EditFault::Locked => number_of(Fault::Locked),
+        EditFault::KeyLength => number_of(Fault::KeyLength),
+        EditFault::WrongKey => number_of(Fault::WrongKey),
         EditFault::Slot(fault) => told_number(Fault::of_slot(fault)),
         EditFault::SlotTaken => number_of(Fault::SlotTaken),
         EditFault::NoFreeSlot => number_of(Fault::NoFreeSlot),
@@ -207,8 +212,11 @@ pub fn format_number(fault: &FormatFault) -> u32
     match fault {
         FormatFault::Payload => number_of(Fault::Payload),
         FormatFault::TooSmall => number_of(Fault::TooSmall),
+        FormatFault::SectorSize => number_of(Fault::SectorSize),
+        FormatFault::Uneven => number_of(Fault::Uneven),
         FormatFault::Uuid => number_of(Fault::Uuid),
         FormatFault::BadLabel => number_of(Fault::BadLabel),
+        FormatFault::Cipher => number_of(Fault::Cipher),
         FormatFault::KeyLength => number_of(Fault::KeyLength),
         FormatFault::Iterations => number_of(Fault::Iterations),
         FormatFault::Argon2 => number_of(Fault::Argon2),

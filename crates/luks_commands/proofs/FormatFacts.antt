@@ -5,7 +5,7 @@ use Rattle.luks_area.proofs.RangeFacts.{same_but-same}
 use Rattle.luks_area.specs.Ranges.{SameBut}
 use Rattle.luks_reading.specs.Checked.{WellFormed}
 use Rattle.luks_formatting.specs.declared.format_fault.FormatFault.{FormatFault}
-use Rattle.luks_formatting.specs.declared.format_fault.FormatFault.TheVariants.{Payload, TooSmall, Uuid, BadLabel, KeyLength, Iterations, Argon2, RandomLength, Memory, Device}
+use Rattle.luks_formatting.specs.declared.format_fault.FormatFault.TheVariants.{Payload, TooSmall, SectorSize, Uneven, Uuid, BadLabel, Cipher, KeyLength, Iterations, Argon2, RandomLength, Memory, Device}
 use Rattle.luks_formatting.specs.FormatFaults.{IsAnsweredFault, IsAnsweredFaultOrMemory, IsFormat1FaultAs, IsFormat2FaultAs}
 use Rattle.luks_formatting.specs.Deriving.{allowed_for}
 use Rattle.luks_formatting.specs.Given.{key_of, IsBefore}
@@ -34,8 +34,11 @@ pub same_by : {D Same : Type 0} (result : Result D FormatFault) (faults : Format
 same_by (Ok done) faults held same = tt
 same_by (Err TooSmall) faults held same = λ apart. same TooSmall held.0
 same_by (Err Payload) faults held same = λ apart. same Payload held.0
+same_by (Err SectorSize) faults held same = λ apart. same SectorSize held.0
+same_by (Err Uneven) faults held same = λ apart. same Uneven held.0
 same_by (Err Uuid) faults held same = λ apart. same Uuid held.0
 same_by (Err BadLabel) faults held same = λ apart. same BadLabel held.0
+same_by (Err Cipher) faults held same = λ apart. same Cipher held.0
 same_by (Err KeyLength) faults held same = λ apart. same KeyLength held.0
 same_by (Err Iterations) faults held same = λ apart. same Iterations held.0
 same_by (Err Argon2) faults held same = λ apart. same Argon2 held.0
@@ -50,8 +53,11 @@ pub same_or_memory_by : {D Same : Type 0} (result : Result D FormatFault) (fault
 same_or_memory_by (Ok done) faults held same memory = tt
 same_or_memory_by (Err TooSmall) faults held same memory = λ apart. same TooSmall held.0
 same_or_memory_by (Err Payload) faults held same memory = λ apart. same Payload held.0
+same_or_memory_by (Err SectorSize) faults held same memory = λ apart. same SectorSize held.0
+same_or_memory_by (Err Uneven) faults held same memory = λ apart. same Uneven held.0
 same_or_memory_by (Err Uuid) faults held same memory = λ apart. same Uuid held.0
 same_or_memory_by (Err BadLabel) faults held same memory = λ apart. same BadLabel held.0
+same_or_memory_by (Err Cipher) faults held same memory = λ apart. same Cipher held.0
 same_or_memory_by (Err KeyLength) faults held same memory = λ apart. same KeyLength held.0
 same_or_memory_by (Err Iterations) faults held same memory = λ apart. same Iterations held.0
 same_or_memory_by (Err Argon2) faults held same memory = λ apart. same Argon2 held.0
@@ -64,8 +70,11 @@ made_so : {D : Type 0} (result : Result D FormatFault) (making : Making) (key : 
 made_so (Ok done) making key passphrase total random is held = tt
 made_so (Err TooSmall) making key passphrase total random is held = held
 made_so (Err Payload) making key passphrase total random is held = held
+made_so (Err SectorSize) making key passphrase total random is held = held
+made_so (Err Uneven) making key passphrase total random is held = held
 made_so (Err Uuid) making key passphrase total random is held = held
 made_so (Err BadLabel) making key passphrase total random is held = held
+made_so (Err Cipher) making key passphrase total random is held = held
 made_so (Err KeyLength) making key passphrase total random is held = held
 made_so (Err Iterations) making key passphrase total random is held = held
 made_so (Err Argon2) making key passphrase total random is held = held
@@ -75,7 +84,7 @@ made_so (Err Device) making key passphrase total random is held = tt
 
 -- what ends the making of a LUKS2 volume
 pub made_fault : {D : Type 0} (result : Result D FormatFault) (making : Making) (key : Option (Bor (List ℕ))) (passphrase : List ℕ) (total : ℕ) (random : List ℕ) → making.version ≡ Luks2
-    → IfErr result (IsAnsweredFaultOrMemory (IsFormat2FaultAs (given_of making key) (chosen_of making.kdf) (allowed_for (kib_of making.memory) passphrase) total making.format random)) → IfErr result (IsMakingFault making key passphrase total random)
+    → IfErr result (IsAnsweredFaultOrMemory (IsFormat2FaultAs (given_of making key) making.older (chosen_of making.kdf) (allowed_for (kib_of making.memory) passphrase) total making.format random)) → IfErr result (IsMakingFault making key passphrase total random)
 made_fault result making key passphrase total random is held =
     made_so result making key passphrase total random is
     (subst (λ version. IfErr result (IsAnsweredFaultOrMemory (HasFormatFault version making key passphrase total random))) (sym is) held)
@@ -85,8 +94,11 @@ made1_so : {D : Type 0} (result : Result D FormatFault) (making : Making) (key :
 made1_so (Ok done) making key passphrase total random held = tt
 made1_so (Err Payload) making key passphrase total random held = held
 made1_so (Err TooSmall) making key passphrase total random held = held
+made1_so (Err SectorSize) making key passphrase total random held = held
+made1_so (Err Uneven) making key passphrase total random held = held
 made1_so (Err Uuid) making key passphrase total random held = held
 made1_so (Err BadLabel) making key passphrase total random held = held
+made1_so (Err Cipher) making key passphrase total random held = held
 made1_so (Err KeyLength) making key passphrase total random held = held
 made1_so (Err Iterations) making key passphrase total random held = held
 made1_so (Err Argon2) making key passphrase total random held = held
@@ -96,7 +108,7 @@ made1_so (Err Device) making key passphrase total random held = tt
 
 -- what ends the making of a LUKS1 volume
 pub made1_fault : {D : Type 0} (result : Result D FormatFault) (making : Making) (key : Option (Bor (List ℕ))) (passphrase : List ℕ) (total : ℕ) (random : List ℕ) → making.version ≡ Luks1
-    → IfErr result (IsAnsweredFault (IsFormat1FaultAs (given_of making key) total making.format random)) → IfErr result (IsMakingFault making key passphrase total random)
+    → IfErr result (IsAnsweredFault (IsFormat1FaultAs (given_of making key) making.older total making.format random)) → IfErr result (IsMakingFault making key passphrase total random)
 made1_fault result making key passphrase total random is held =
     made1_so result making key passphrase total random
     (subst (λ version. IfErr result (IsAnsweredFault (HasFormatFault version making key passphrase total random))) (sym is) held)
@@ -127,7 +139,7 @@ given_slice HasKey (Some name) (Some secret) (Some bytes) is same = subst HasKey
 -- how the answer tells of a command that ended so
 pub says_ended : (making : Making) (HasWords HasKey HasRandom : List ℕ → Type 0) (key : Option (Bor (List ℕ))) (passphrase random old new : List ℕ) (s : Status)
     → HasWords passphrase → IsGivenKey HasKey making.given.key key → HasRandom random → (s ≡ Done → IsNewVolume making key passphrase random old new) → (s ≡ Refused → new ≡ old)
-    → SameBut (IsOfNewVolume making.version) old new → SaysFormat making HasWords HasKey HasRandom old new s
+    → SameBut (IsOfNewVolume making) old new → SaysFormat making HasWords HasKey HasRandom old new s
 says_ended making HasWords HasKey HasRandom key passphrase random old new s words keyed taken done refused rest = record {
   done = λ is. record { passphrase = passphrase; words = words; key = key; keyed = keyed; random = random; taken = taken; volume = done is };
   refused = refused;
@@ -143,7 +155,7 @@ left_undone tells size bytes making HasWords HasKey HasRandom (Ok d) s apart = r
   said = λ t. record {
     done = λ is. absurd (apart is);
     refused = λ is. refl;
-    rest = same_but-same (IsOfNewVolume making.version) (bytes d);
+    rest = same_but-same (IsOfNewVolume making) (bytes d);
   };
 }
 left_undone tells size bytes making HasWords HasKey HasRandom (Err f) s apart = refl
@@ -157,7 +169,7 @@ left_unchanged tells size bytes unsettled making HasWords HasKey HasRandom old n
   said = λ t. record {
     done = λ is. absurd (apart is);
     refused = λ is. same.same t;
-    rest = subst (λ (w : List ℕ). SameBut (IsOfNewVolume making.version) (bytes old) w) (sym (same.same t)) (same_but-same (IsOfNewVolume making.version) (bytes old));
+    rest = subst (λ (w : List ℕ). SameBut (IsOfNewVolume making) (bytes old) w) (sym (same.same t)) (same_but-same (IsOfNewVolume making) (bytes old));
   };
 }
 

@@ -23,9 +23,9 @@ use Rattle.luks_commands.specs.Standing.{HasOther, IsBar, IsClear, IsHeldBack}
 
 -- the faults of making a volume of this version on a device of `total` bytes
 abbrev pub HasFormatFault : NewVersion → Making → Option (Bor (List ℕ)) → List ℕ → ℕ → List ℕ → FormatFault → Type 0
-HasFormatFault Luks1 making key passphrase total random f = IsFormat1FaultAs (given_of making key) total making.format random f
+HasFormatFault Luks1 making key passphrase total random f = IsFormat1FaultAs (given_of making key) making.older total making.format random f
 HasFormatFault Luks2 making key passphrase total random f =
-    IsFormat2FaultAs (given_of making key) (chosen_of making.kdf) (allowed_for (kib_of making.memory) passphrase) total making.format random f
+    IsFormat2FaultAs (given_of making key) making.older (chosen_of making.kdf) (allowed_for (kib_of making.memory) passphrase) total making.format random f
 
 -- the first of them, unless the device failed or memory was refused: it is taken for LUKS2 alone, and where
 -- none of them stands

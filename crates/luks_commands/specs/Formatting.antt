@@ -1,16 +1,18 @@
 -- What the command `format` leaves of its volume.
-use Rattle.std.specs.Prelude.{◌≡◌, ℕ, ◌*◌, ◌≤◌, List, Option, None, Some}
+use Rattle.std.specs.Prelude.{◌≡◌, ℕ, ◌*◌, ◌≤◌, false, true, List, Option, None, Some}
 use Rattle.std.specs.Borrow.{Bor}
 use Rattle.luks_area.specs.Ranges.{SameBut}
 use Rattle.luks_reading.specs.declared.report.Data.{Data}
 use Rattle.luks_reading.specs.declared.report.Data.TheVariants.{Here}
 use Rattle.luks_slot.specs.declared.allowed.Allowed.{Allowed}
-use Rattle.luks_reading.specs.Answer.{Answer, AnswerWithin, opens}
+use Rattle.luks_reading.specs.Answer.{AnswerWithin, opens}
 use Rattle.luks_reading.specs.Checked.{WellFormed}
 use Rattle.luks_making.specs.Derivations.{memory_by}
 use Rattle.luks_formatting.specs.Deriving.{slot_derivation}
 use Rattle.luks_formatting.specs.Formatted1.{IsFormatted1As, IsOfLuks1}
 use Rattle.luks_formatting.specs.Formatted2.{IsFormatted2As, IsOfLuks2}
+use Rattle.luks_formatting.specs.Encrypting.{is_older}
+use Rattle.luks_formatting.specs.RandomBytes.{needed_bytes}
 use Rattle.luks_formatting.specs.Given.{key_of, IsBefore}
 use Rattle.luks_formatting.specs.NewHeader1.{payload_sector}
 use Rattle.luks_formatting.specs.NewHeader2.{segment_start}
@@ -20,17 +22,23 @@ use Rattle.luks_request.specs.declared.request.NewVersion.{NewVersion}
 use Rattle.luks_request.specs.declared.request.NewVersion.TheVariants.{Luks1, Luks2}
 use Rattle.luks_commands.specs.declared.answers.Status.{Status}
 use Rattle.luks_commands.specs.declared.answers.Status.TheVariants.{Done, Refused}
-use Rattle.luks_commands.specs.Chosen.{chosen_of}
+use Rattle.luks_commands.specs.Chosen.{chosen_of, cipher_of}
 
--- how many random bytes a new volume of this version takes
-abbrev pub needed : NewVersion → ℕ
-needed Luks1 = 256080
-needed Luks2 = 256208
+-- how many random bytes a new volume of this version takes whose key has k bytes
+abbrev pub needed_by : NewVersion → ℕ → ℕ
+needed_by Luks1 = needed_bytes false
+needed_by Luks2 = needed_bytes true
+
+abbrev pub needed : Making → ℕ
+needed making = needed_by making.version making.given.key_bytes
 
 -- the places of the header, or of its two copies, and of keyslot 0's area
-abbrev pub IsOfNewVolume : NewVersion → ℕ → Type 0
-IsOfNewVolume Luks1 = IsOfLuks1
-IsOfNewVolume Luks2 = IsOfLuks2
+abbrev pub IsOfNewBy : NewVersion → ℕ → ℕ → Type 0
+IsOfNewBy Luks1 = IsOfLuks1
+IsOfNewBy Luks2 = IsOfLuks2
+
+abbrev pub IsOfNewVolume : Making → ℕ → Type 0
+IsOfNewVolume making = IsOfNewBy making.version making.given.key_bytes
 
 -- what is given of the volume, with the volume key if that is
 abbrev pub given_of : Making → Option (Bor (List ℕ)) → Given
@@ -41,6 +49,9 @@ given_of making key = record {
   uuid = making.given.uuid;
   label = making.given.label;
   subsystem = making.given.subsystem;
+  cipher = cipher_of making.given.cipher;
+  key_bytes = making.given.key_bytes;
+  sector_size = making.given.sector_size;
 }
 
 -- a key is given where its file is named, and is what that has
@@ -70,12 +81,17 @@ abbrev pub IsFormatted : NewVersion → Making → Option (Bor (List ℕ)) → L
 IsFormatted Luks1 making key = IsFormatted1As (given_of making key) making.format
 IsFormatted Luks2 making key = IsFormatted2As (given_of making key) making.format (chosen_of making.kdf)
 
--- keyslot 0 of the volume `new` opens by the passphrase to the key: of LUKS2 wherever as much memory is
--- allowed as its derivation takes
+-- the memory that keyslot 0 takes to be opened
+abbrev pub taken_memory : NewVersion → Making → ℕ
+taken_memory Luks1 making = 0
+taken_memory Luks2 making = memory_by (slot_derivation making.format (chosen_of making.kdf))
+
+-- keyslot 0 of the volume `new` opens by the passphrase to the key wherever as much memory is allowed as its
+-- derivation takes, and older ciphers are if its own is one
 abbrev pub OpensNew : NewVersion → Making → List ℕ → List ℕ → List ℕ → Type 0
-OpensNew Luks1 making new passphrase key = Answer new 0 passphrase (opens key)
-OpensNew Luks2 making new passphrase key =
-    (allowed : Allowed) → memory_by (slot_derivation making.format (chosen_of making.kdf)) ≤ allowed.memory → AnswerWithin allowed new 0 passphrase (opens key)
+OpensNew version making new passphrase key =
+    (allowed : Allowed) → taken_memory version making ≤ allowed.memory → (is_older (cipher_of making.given.cipher) ≡ true → allowed.older ≡ true)
+    → AnswerWithin allowed new 0 passphrase (opens key)
 
 -- what is made of the volume `old` for this key, if one is given, this passphrase and these random bytes: `new`
 pub record IsNewVolume (making : Making) (key : Option (Bor (List ℕ))) (passphrase random old new : List ℕ) : Type 0 where
@@ -99,4 +115,4 @@ pub record IsDone (making : Making) (HasWords HasKey HasRandom : List ℕ → Ty
 pub record SaysFormat (making : Making) (HasWords HasKey HasRandom : List ℕ → Type 0) (old new : List ℕ) (status : Status) : Type 0 where
   pub done : status ≡ Done → IsDone making HasWords HasKey HasRandom old new
   pub refused : status ≡ Refused → new ≡ old
-  pub rest : SameBut (IsOfNewVolume making.version) old new
+  pub rest : SameBut (IsOfNewVolume making) old new

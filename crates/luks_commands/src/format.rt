@@ -12,14 +12,14 @@ ghost use Rattle.luks_commands.specs.declared.inputs.InputFault.{InputFault as T
 ghost use Rattle.luks_commands.specs.declared.passphrase_file.PassphraseFault.TheVariants as TheFault;
 
 use crate::answers::{Answer, Refusal, Status, device_fault, unread};
-use crate::chosen::chosen_of;
+use crate::chosen::{chosen_of, cipher_of};
 use crate::inputs::{InputFault, Inputs};
 use crate::open::allowed_of;
 use crate::passphrase_file::{PassphraseFault, passphrase};
 use crate::random_file::{RandomBytes, few_random_bytes, random_bytes};
 use crate::standing::{held_back, judge_standing};
 use luks_edit::{Done, Passphrase};
-use luks_formatting::{FORMAT1_RANDOM, FORMAT2_RANDOM, FormatFault, Given, format1_as, format2_as};
+use luks_formatting::{FormatFault, Given, format1_as, format1_random, format2_as, format2_random};
 use luks_reading::Device;
 use luks_request::{Making, NewVersion};
 use luks_wiping::Secret;
@@ -44,7 +44,7 @@ pub fn run<D: Device, R: Read, N: Read, E: Write>(
         inputs.old.volume inputs.new.volume }
     ensures left { LeavesVolume D.tells D.size D.bytes (λ old new. SaysFormat making.now
         (IsWhole R.remaining inputs.old.passphrase) (IsWhole R.remaining inputs.old.new_passphrase)
-        (AreFirstBytes (needed making.now.version) N.remaining inputs.old.random) old new
+        (AreFirstBytes (needed making.now) N.remaining inputs.old.random) old new
         (answer_status result)) inputs.old.volume inputs.new.volume }
     ensures target { inputs.new.target ≡ inputs.old.target }
     ensures kinds { answer_status result ≢ Status.NotInStep }
@@ -52,8 +52,8 @@ pub fn run<D: Device, R: Read, N: Read, E: Write>(
     ensures answers { AnswersFormat D.tells D.size D.bytes D.failed making.now
         (IsWhole R.remaining inputs.old.passphrase) (IsWhole R.remaining inputs.old.new_passphrase)
         (IsLong R.remaining inputs.old.passphrase ⊎ IsLong R.remaining inputs.old.new_passphrase)
-        (IsUnreadAny inputs.old.passphrase inputs.old.new_passphrase (needed making.now.version) inputs.old.random)
-        (AreFirstBytes (needed making.now.version) N.remaining inputs.old.random)
+        (IsUnreadAny inputs.old.passphrase inputs.old.new_passphrase (needed making.now) inputs.old.random)
+        (AreFirstBytes (needed making.now) N.remaining inputs.old.random)
         inputs.old.volume inputs.new.volume result }
 {
     let words = match passphrase(alloc, &mut inputs.passphrase) {
@@ -74,7 +74,7 @@ pub fn run<D: Device, R: Read, N: Read, E: Write>(
         Ok(()) => {}
         Err(bar) => return held_back(bar, name, err),
     }
-    let random = match random_bytes(alloc, &mut inputs.random, random_needed(making.version)) {
+    let random = match random_bytes(alloc, &mut inputs.random, random_needed(making)) {
         Ok(bytes) => bytes,
         Err(fault) => return unread(fault, making.random, err),
     };
@@ -140,16 +140,19 @@ fn given_of<'a>(making: &Making<'a>, key: Option<&'a [u8]>) -> Given<'a>
         uuid: making.given.uuid,
         label: making.given.label,
         subsystem: making.given.subsystem,
+        cipher: cipher_of(making.given.cipher),
+        key_bytes: making.given.key_bytes,
+        sector_size: making.given.sector_size,
     }
 }
 
-/// How many random bytes a new volume of this version takes.
-fn random_needed(version: NewVersion) -> u64
-    ensures { result ≡ needed version }
+/// How many random bytes the new volume takes.
+fn random_needed(making: &Making<'_>) -> u64
+    ensures { result ≡ needed making.now }
 {
-    match version {
-        NewVersion::Luks1 => FORMAT1_RANDOM,
-        NewVersion::Luks2 => FORMAT2_RANDOM,
+    match making.version {
+        NewVersion::Luks1 => format1_random(making.given.key_bytes),
+        NewVersion::Luks2 => format2_random(making.given.key_bytes),
     }
 }
 
@@ -173,7 +176,7 @@ fn format_device<D: Device, E: Write>(
     ensures refused { D.tells → answer_status result ≡ Status.Refused
         → D.bytes device.new ≡ D.bytes device.old }
     ensures kinds { answer_status result ≢ Status.NotInStep }
-    ensures rest { D.tells → SameBut (IsOfNewVolume making.now.version)
+    ensures rest { D.tells → SameBut (IsOfNewVolume making.now)
         (D.bytes device.old) (D.bytes device.new) }
     ensures answers { IsFormatAnswer D.tells making.now key.entry passphrase.now random.now
         (D.size device.old) (D.bytes device.old) (D.bytes device.new)
@@ -184,7 +187,7 @@ fn format_device<D: Device, E: Write>(
         Err(fault) => {
             let random = RandomBytes {
                 file: Some(making.random),
-                needed: random_needed(making.version),
+                needed: random_needed(making),
                 bytes: random,
             };
             not_made(fault, name, &random, err)
@@ -233,7 +236,7 @@ fn make<D: Device>(
         key.entry passphrase.now random.now (D.bytes device.old) (D.bytes device.new)) }
     ensures refused { D.tells → IfErr result (λ f. f ≢ FormatFault.Device
         → D.bytes device.new ≡ D.bytes device.old) }
-    ensures rest { D.tells → SameBut (IsOfNewVolume making.now.version)
+    ensures rest { D.tells → SameBut (IsOfNewVolume making.now)
         (D.bytes device.old) (D.bytes device.new) }
     ensures slot { IfOk result (λ done. done.slot ≡ Some 0) }
     ensures count { CountsFailure is_device_fault result
@@ -244,12 +247,22 @@ fn make<D: Device>(
     let format = &making.format;
     let given = given_of(making, key);
     match making.version {
-        NewVersion::Luks1 => format1_as(device, &given, format, passphrase, random),
+        NewVersion::Luks1 => {
+            format1_as(
+                alloc,
+                device,
+                &given,
+                format,
+                passphrase,
+                making.older,
+                random,
+            )
+        }
         NewVersion::Luks2 => {
             let chosen = chosen_of(making.kdf);
             let allowed = Passphrase {
                 bytes: passphrase,
-                allowed: allowed_of(making.memory, false),
+                allowed: allowed_of(making.memory, making.older),
             };
             format2_as(alloc, device, &given, format, chosen, &allowed, random)
         }

@@ -1,3 +1,4 @@
 pub mod AllowedMemory
+pub mod OpeningFacts
 pub mod RowFacts
 pub mod SecretFacts

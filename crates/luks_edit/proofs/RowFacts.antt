@@ -15,7 +15,7 @@ use Rattle.luks_edit.specs.EditFaults.{edit_key, edit_place, edit_row}
 
 -- the row has one place
 abbrev pub is_plain : ℕ → Bool
-is_plain k = if k == 0 then false else (if k == 5 then false else true)
+is_plain k = if k == 0 then false else (if k == 7 then false else true)
 
 -- the fault of a row with one place
 abbrev fault_at : ℕ → EditFault
@@ -24,25 +24,27 @@ fault_at n =
     else (if n == 2 then fault.NoSuchSlot
     else (if n == 3 then fault.SameSlot
     else (if n == 4 then fault.Locked
-    else (if n == 6 then fault.SlotTaken
-    else (if n == 7 then fault.NoFreeSlot
-    else (if n == 8 then fault.NoRoom
-    else (if n == 9 then fault.LastSlot
-    else (if n == 10 then fault.Iterations
-    else (if n == 11 then fault.Argon2
-    else (if n == 12 then fault.BadLabel
-    else (if n == 13 then fault.SeqExhausted
-    else (if n == 14 then fault.MetadataFull
-    else (if n == 15 then fault.RandomLength
-    else (if n == 16 then fault.Memory
-    else fault.Device))))))))))))))
+    else (if n == 5 then fault.KeyLength
+    else (if n == 6 then fault.WrongKey
+    else (if n == 8 then fault.SlotTaken
+    else (if n == 9 then fault.NoFreeSlot
+    else (if n == 10 then fault.NoRoom
+    else (if n == 11 then fault.LastSlot
+    else (if n == 12 then fault.Iterations
+    else (if n == 13 then fault.Argon2
+    else (if n == 14 then fault.BadLabel
+    else (if n == 15 then fault.SeqExhausted
+    else (if n == 16 then fault.MetadataFull
+    else (if n == 17 then fault.RandomLength
+    else (if n == 18 then fault.Memory
+    else fault.Device))))))))))))))))
 
 pub record IsOnly (f : EditFault) : Type 0 where
   pub plain : is_plain (edit_row f) ≡ true
   pub is : fault_at (edit_row f) ≡ f
   pub place : edit_place f ≡ []
   pub low : 1 ≤ edit_row f
-  pub high : edit_row f ≤ 17
+  pub high : edit_row f ≤ 19
 
 abbrev pub View : EditFault → Type 0
 View f = ((c : CheckFault) × (f ≡ fault.NotAccepted c)) ⊎ (((s : SlotFault) × (f ≡ fault.Slot s)) ⊎ IsOnly f)
@@ -62,31 +64,31 @@ only_of : (f : EditFault) → is_plain (edit_row f) ≡ true → IsOnly f
 only_of f plain = elim (view f) [
   | inl c ↦ absurd (not_plain 0 f (ap edit_row c.1) refl plain)
   | inr other ↦ (elim other [
-    | inl s ↦ absurd (not_plain 5 f (ap edit_row s.1) refl plain)
+    | inl s ↦ absurd (not_plain 7 f (ap edit_row s.1) refl plain)
     | inr only ↦ only
   ])
 ]
 
-only_one : (f g : EditFault) → is_plain (edit_row f) ≡ true → edit_row g ≡ edit_row f → g ≡ f
+pub only_one : (f g : EditFault) → is_plain (edit_row f) ≡ true → edit_row g ≡ edit_row f → g ≡ f
 only_one f g plain same = sym (only_of g (ap is_plain same ∙ plain)).is ∙ ap fault_at same ∙ (only_of f plain).is
 
 -- each row is one of the table
-pub in_table : (f : EditFault) → edit_row f < 18
+pub in_table : (f : EditFault) → edit_row f < 20
 in_table f = elim (view f) [
   | inl c ↦ (let row : edit_row f ≡ 0 = ap edit_row c.1 in omega (arith, row))
   | inr other ↦ (elim other [
-    | inl s ↦ (let row : edit_row f ≡ 5 = ap edit_row s.1 in omega (arith, row))
+    | inl s ↦ (let row : edit_row f ≡ 7 = ap edit_row s.1 in omega (arith, row))
     | inr only ↦ (let high = only.high in omega (arith, high))
   ])
 ]
 
 -- a fault of the row of an opened keyslot's plan
-pub plan_of : (g : EditFault) → edit_row g ≡ 5 → (s : SlotFault) × (g ≡ fault.Slot s)
+pub plan_of : (g : EditFault) → edit_row g ≡ 7 → (s : SlotFault) × (g ≡ fault.Slot s)
 plan_of g row = elim (view g) [
   | inl c ↦ (let first : edit_row g ≡ 0 = ap edit_row c.1 in absurd (omega (arith, row, first)))
   | inr other ↦ (elim other [
     | inl s ↦ s
-    | inr only ↦ absurd (not_plain 5 g row refl only.plain)
+    | inr only ↦ absurd (not_plain 7 g row refl only.plain)
   ])
 ]
 
@@ -104,7 +106,7 @@ module _ (faults : EditFault → Type 0) where
   passed_from k each = record { none = λ g under bad. (let over : k ≤ edit_row g = each g bad in omega (arith, under, over)) }
 
   -- there is none at all
-  pub none_at_all : Passed faults 18 → (f : EditFault) → faults f → ⊥
+  pub none_at_all : Passed faults 20 → (f : EditFault) → faults f → ⊥
   none_at_all passed f bad = passed.none f (in_table f) bad
 
   -- a fault of the row `k`, and none before it
@@ -123,13 +125,13 @@ module _ (faults : EditFault → Type 0) where
       none g under bad = elim (view g) [
         | inl c ↦ not c.0 (subst faults c.1 bad)
         | inr other ↦ (elim other [
-          | inl s ↦ (let row : edit_row g ≡ 5 = ap edit_row s.1 in omega (arith, row, under))
+          | inl s ↦ (let row : edit_row g ≡ 7 = ap edit_row s.1 in omega (arith, row, under))
           | inr only ↦ (let low = only.low in omega (arith, low, under))
         ])
       ]
 
-  pub after_plan : Passed faults 5 → ((s : SlotFault) → faults (fault.Slot s) → ⊥) → Passed faults 6
-  after_plan passed not = record { none = λ g under bad. (let s = plan_of g (of_row 5 g passed under bad) in not s.0 (subst faults s.1 bad)) }
+  pub after_plan : Passed faults 7 → ((s : SlotFault) → faults (fault.Slot s) → ⊥) → Passed faults 8
+  after_plan passed not = record { none = λ g under bad. (let s = plan_of g (of_row 7 g passed under bad) in not s.0 (subst faults s.1 bad)) }
 
   -- ---- the first fault
 
@@ -149,15 +151,32 @@ module _ (faults : EditFault → Type 0) where
       after g bad = elim (view g) [
         | inl c ↦ rw c.1 (omega arith, λ _. least c.0 (subst faults c.1 bad))
         | inr other ↦ (elim other [
-          | inl s ↦ (let row : edit_row g ≡ 5 = ap edit_row s.1 in (omega (arith, row), λ same. absurd (omega (arith, same, row))))
+          | inl s ↦ (let row : edit_row g ≡ 7 = ap edit_row s.1 in (omega (arith, row), λ same. absurd (omega (arith, same, row))))
           | inr only ↦ (let low = only.low in (omega (arith, low), λ same. absurd (omega (arith, same, low))))
         ])
       ]
 
   -- that of a plan is, where it is the first of the plan
-  pub first_of_plan : (f : SlotFault) → Passed faults 5 → faults (fault.Slot f) → ((g : SlotFault) → faults (fault.Slot g) → slot_row f ≤ slot_row g)
+  pub first_of_plan : (f : SlotFault) → Passed faults 7 → faults (fault.Slot f) → ((g : SlotFault) → faults (fault.Slot g) → slot_row f ≤ slot_row g)
       → IsLeast edit_key faults (fault.Slot f)
-  first_of_plan f passed here least = (here, λ g bad. (not_before 5 g passed bad, λ same. place g bad same))
+  first_of_plan f passed here least = (here, λ g bad. (not_before 7 g passed bad, λ same. place g bad same))
     where
-      place : (g : EditFault) → faults g → 5 ≡ edit_row g → NotAfter (slot_row f ∷ []) (edit_place g)
+      place : (g : EditFault) → faults g → 7 ≡ edit_row g → NotAfter (slot_row f ∷ []) (edit_place g)
       place g bad same = let s = plan_of g (sym same) in rw s.1 (least s.0 (subst faults s.1 bad), λ _. tt)
+
+  -- ---- the rows of what gives the key, from `Locked` to that of a keyslot's plan
+
+  -- none stands
+  pub after_opening : Passed faults 4 → ((f : EditFault) → 4 ≤ edit_row f → edit_row f < 8 → faults f → ⊥) → Passed faults 8
+  after_opening passed none = record { none = λ g under bad. none g (not_before 4 g passed bad) under bad }
+
+  -- one does, and none of these comes before it
+  pub first_of_opening : (f : EditFault) → Passed faults 4 → edit_row f < 8 → faults f → ((g : EditFault) → 4 ≤ edit_row g → edit_row g < 8 → faults g → NotAfter (edit_key f) (edit_key g))
+      → IsLeast edit_key faults f
+  first_of_opening f passed low here least = (here, after)
+    where
+      after : (g : EditFault) → faults g → NotAfter (edit_key f) (edit_key g)
+      after g bad = elim (cases_lt (edit_row g) 8) [
+        | inl under ↦ least g (not_before 4 g passed bad) under bad
+        | inr over ↦ (omega (arith, low, over), λ same. absurd (omega (arith, low, over, same)))
+      ]

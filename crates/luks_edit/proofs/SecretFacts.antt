@@ -1,6 +1,6 @@
 -- What a keyslot gives by a secret: one answer at most, a key that meets its digest, and by a passphrase what opening
 -- it gives.
-use Rattle.std.proofs.Common.{◌≡◌, ◌↔◌, ℕ, List, length, Bool, true, false, Option, Some, None, Result, Ok, Err, IfErr, refl, sym, ap, subst, ◌∙◌}
+use Rattle.std.proofs.Common.{◌≡◌, ◌↔◌, ℕ, List, length, Bool, true, false, Option, Some, None, Result, Ok, Err, IfErr, refl, sym, subst, ◌∙◌}
 use Rattle.std.specs.Prelude.{◌==◌, ◌&&◌, if◌then◌else◌}
 use Rattle.std.proofs.lemmas.Bool.{and_parts}
 use Rattle.luks_area.specs.Device.{CountsFailure}
@@ -14,7 +14,7 @@ use Rattle.luks_slot.specs.declared.allowed.Allowed.{Allowed}
 use Rattle.luks_slot.specs.declared.plan.SlotPlan.{SlotPlan}
 use Rattle.luks_slot.specs.declared.fault.SlotFault.{SlotFault}
 use Rattle.luks_slot.specs.Fault.{is_device_fault}
-use Rattle.luks_slot.specs.Opening.{meets_digest, slot_key}
+use Rattle.luks_slot.specs.Opening.{meets_digest}
 use Rattle.luks_slot.specs.Refusal.{slot_refusal_within}
 use Rattle.luks_slot.proofs.DerivationFacts.{uncounted}
 use Rattle.luks_slot.proofs.OpeningFacts.{found_meets}

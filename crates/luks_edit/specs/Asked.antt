@@ -1,9 +1,11 @@
 -- What an edit asks for, whatever the version of the volume.
-use Rattle.std.specs.Prelude.{◌≡◌, ◌⊎◌, ℕ, ◌^◌, ◌<◌, ◌&&◌, nat_lt, if◌then◌else◌, List, [], length, true, Option, Some, None, IfSome, IsSomeAnd, ⊤}
+use Rattle.std.specs.Prelude.{◌≡◌, ◌⊎◌, ℕ, ◌^◌, ◌<◌, ◌&&◌, nat_lt, if◌then◌else◌, List, [], length, true, Option, Some, None, IsSomeAnd, ⊤}
 use Rattle.std.specs.Borrow.{Bor}
 use Rattle.luks_slot.specs.declared.allowed.Allowed.{Allowed}
 use Rattle.luks_slot.specs.Allowance.{none_allowed}
 use Rattle.luks_making.specs.Derivations.{asked_beyond, asked_few_turns, takes_memory}
+use Rattle.luks_making.specs.declared.derivation.NewDerivation.{NewDerivation}
+use Rattle.luks_making.specs.declared.derivation.NewDerivation.TheVariants.{Pbkdf2}
 use Rattle.luks_edit.specs.declared.deed.Deed.{Deed}
 use Rattle.luks_edit.specs.declared.deed.Deed.TheVariants as deed
 use Rattle.luks_edit.specs.declared.deed.Place.{Place}
@@ -11,11 +13,13 @@ use Rattle.luks_edit.specs.declared.deed.Place.TheVariants.{New, Opened}
 use Rattle.luks_edit.specs.declared.deed.Removed.{Removed}
 use Rattle.luks_edit.specs.declared.deed.Sealed.{Sealed}
 use Rattle.luks_edit.specs.declared.edit.Edit.{Edit}
-use Rattle.luks_edit.specs.declared.edit.Edit.TheVariants.{Add, Change, Remove, Repair, Label}
+use Rattle.luks_edit.specs.declared.edit.Edit.TheVariants.{Add, AddByKey, Change, Remove, Repair, Label}
 use Rattle.luks_edit.specs.declared.edit.Opener.{Opener}
+use Rattle.luks_edit.specs.declared.edit.Opener.TheVariants as opener
 use Rattle.luks_edit.specs.declared.edit.Secret.{Secret}
 use Rattle.luks_edit.specs.declared.edit.SecretKind.{SecretKind}
 use Rattle.luks_edit.specs.declared.edit.SecretKind.TheVariants as kind
+use Rattle.luks_edit.specs.declared.edit.VolumeKey.{VolumeKey}
 
 -- ---- what an edit does: it is read here, and all else is said of its parts
 
@@ -24,11 +28,28 @@ abbrev pub opener_of : ℕ → Option ℕ → ℕ
 opener_of slot None = slot
 opener_of slot (Some other) = other
 
+-- what gives a key for the removal: another keyslot where it is named; else a passphrase the keyslot itself, and a
+-- key the volume's
+abbrev pub remover_by : ℕ → SecretKind → Secret → Opener
+remover_by slot kind.Passphrase secret = opener.Keyslot slot secret
+remover_by slot kind.Key secret = opener.Key (record { bytes = secret.bytes; allowed = secret.allowed })
+
+abbrev pub remover_of : ℕ → Option ℕ → Secret → Opener
+remover_of slot None secret = remover_by slot secret.kind secret
+remover_of slot (Some other) secret = opener.Keyslot other secret
+
+-- the derivation of a keyslot that is made by a key: the one that is chosen, or PBKDF2 by so many iterations
+abbrev pub chosen_or : ℕ → Option NewDerivation → NewDerivation
+chosen_or iterations None = Pbkdf2 iterations
+chosen_or iterations (Some c) = c
+
 abbrev pub deed_of : Edit → Deed
 deed_of (Add by_ old new to iterations chosen) =
-    deed.Seal (record { opener = record { slot = by_; secret = old }; place = New to; passphrase = new; derivation = record { iterations = iterations; chosen = chosen } })
+    deed.Seal (record { place = New (opener.Keyslot by_ old) to; passphrase = new; derivation = record { iterations = iterations; chosen = chosen } })
+deed_of (AddByKey key new to iterations chosen) =
+    deed.Seal (record { place = New (opener.Key key) to; passphrase = new; derivation = record { iterations = iterations; chosen = Some (chosen_or iterations chosen) } })
 deed_of (Change slot old new iterations chosen) =
-    deed.Seal (record { opener = record { slot = slot; secret = old }; place = Opened; passphrase = new; derivation = record { iterations = iterations; chosen = chosen } })
+    deed.Seal (record { place = Opened slot old; passphrase = new; derivation = record { iterations = iterations; chosen = chosen } })
 deed_of (Remove slot by_ secret) =
     deed.Remove (record { slot = slot; by_ = by_; secret = secret })
 deed_of Repair = deed.Rewrite None
@@ -42,17 +63,37 @@ MatchDeed (deed.Seal s) S R W = S s
 MatchDeed (deed.Remove r) S R W = R r
 MatchDeed (deed.Rewrite label) S R W = W label
 
--- of the number that is asked for a new keyslot, or of the keyslot that was opened
-abbrev pub MatchPlace : Place → (Option ℕ → Type 0) → Type 0 → Type 0
-MatchPlace (New to) N O = N to
-MatchPlace Opened N O = O
+-- of what gives the key of a new keyslot and the number that is asked for it, or of the keyslot that is opened and
+-- its secret
+abbrev pub MatchPlace : Place → (Opener → Option ℕ → Type 0) → (ℕ → Secret → Type 0) → Type 0
+MatchPlace (New o to) N O = N o to
+MatchPlace (Opened slot secret) N O = O slot secret
+
+-- of a keyslot and its secret, or of the volume key
+abbrev pub MatchOpener : Opener → (ℕ → Secret → Type 0) → (VolumeKey → Type 0) → Type 0
+MatchOpener (opener.Keyslot slot secret) S K = S slot secret
+MatchOpener (opener.Key key) S K = K key
 
 -- ---- the parts
 
+-- what gives the key that is sealed
+abbrev pub opener_at : Place → Opener
+opener_at (New o to) = o
+opener_at (Opened slot secret) = opener.Keyslot slot secret
+
 abbrev pub opener_in : Deed → Option Opener
-opener_in (deed.Seal s) = Some s.opener
-opener_in (deed.Remove r) = Some (record { slot = opener_of r.slot r.by_; secret = r.secret })
+opener_in (deed.Seal s) = Some (opener_at s.place)
+opener_in (deed.Remove r) = Some (remover_of r.slot r.by_ r.secret)
 opener_in (deed.Rewrite label) = None
+
+-- its bytes, and what it allows
+abbrev pub bytes_of : Opener → List ℕ
+bytes_of (opener.Keyslot slot secret) = secret.bytes.now
+bytes_of (opener.Key key) = key.bytes.now
+
+abbrev pub allowed_of : Opener → Allowed
+allowed_of (opener.Keyslot slot secret) = secret.allowed
+allowed_of (opener.Key key) = key.allowed
 
 abbrev pub sealed_in : Deed → Option Sealed
 sealed_in (deed.Seal s) = Some s
@@ -71,8 +112,8 @@ label_in (deed.Rewrite label) = label
 
 -- the key is sealed in the keyslot that was opened
 abbrev pub again_at : Place → Sealed → Option Sealed
-again_at (New to) s = None
-again_at Opened s = Some s
+again_at (New o to) s = None
+again_at (Opened slot secret) s = Some s
 
 abbrev pub again_in : Deed → Option Sealed
 again_in (deed.Seal s) = again_at s.place s
@@ -80,12 +121,12 @@ again_in (deed.Remove r) = None
 again_in (deed.Rewrite label) = None
 
 -- the keyslot that is removed, or that the key is sealed in anew
-abbrev pub lost_at : Place → ℕ → Option ℕ
-lost_at (New to) opener = None
-lost_at Opened opener = Some opener
+abbrev pub lost_at : Place → Option ℕ
+lost_at (New o to) = None
+lost_at (Opened slot secret) = Some slot
 
 abbrev pub lost_in : Deed → Option ℕ
-lost_in (deed.Seal s) = lost_at s.place s.opener.slot
+lost_in (deed.Seal s) = lost_at s.place
 lost_in (deed.Remove r) = Some r.slot
 lost_in (deed.Rewrite label) = None
 
@@ -108,39 +149,27 @@ lost_by e = lost_in (deed_of e)
 abbrev pub label_by : Edit → Option (Bor (List ℕ))
 label_by e = label_in (deed_of e)
 
--- the edit opens the keyslot `n` by the secret `p`, a passphrase or a key
-abbrev pub OpensBy : Edit → ℕ → List ℕ → Type 0
-OpensBy e n p = IsSomeAnd (opener_in (deed_of e)) (λ o. (n ≡ o.slot) × (p ≡ o.secret.bytes.now))
-
--- whether it opens it by its passphrase or by its key; where it opens none it doesn't matter
-abbrev pub kind_in : Deed → SecretKind
-kind_in (deed.Seal s) = s.opener.secret.kind
-kind_in (deed.Remove r) = r.secret.kind
-kind_in (deed.Rewrite label) = kind.Passphrase
-
-abbrev pub kind_by : Edit → SecretKind
-kind_by e = kind_in (deed_of e)
-
 -- the edit wants the keyslot `n` to be there: the one that it opens, and the one that it removes
 abbrev pub Wants : Edit → ℕ → Type 0
-Wants e n = MatchDeed (deed_of e) (λ s. n ≡ s.opener.slot) (λ r. (n ≡ opener_of r.slot r.by_) ⊎ (n ≡ r.slot)) (λ label. ⊥)
+Wants e n = MatchDeed (deed_of e) (λ s. MatchOpener (opener_at s.place) (λ slot secret. n ≡ slot) (λ key. ⊥))
+    (λ r. (n ≡ opener_of r.slot r.by_) ⊎ (n ≡ r.slot)) (λ label. ⊥)
 
 -- the edit names the keyslot that it removes as the one to open by
 abbrev pub NamesItself : Edit → Type 0
 NamesItself e = IsSomeAnd (removed_by e) (λ r. r.by_ ≡ Some r.slot)
 
--- what may be spent on the secret, and on a new passphrase beside it: no memory where one has 2^32 bytes
+-- what may be spent on what opens, and on a new passphrase beside it: no memory where one has 2^32 bytes
 -- or more, since Argon2 takes fewer (RFC 9106, 3.1)
-abbrev pub allowed_for : Secret → List ℕ → Allowed
+abbrev pub allowed_for : Opener → List ℕ → Allowed
 allowed_for old new = record {
-  memory = if nat_lt (length old.bytes.now) (2 ^ 32) && nat_lt (length new) (2 ^ 32) then old.allowed.memory else 0;
-  older = old.allowed.older;
+  memory = if nat_lt (length (bytes_of old)) (2 ^ 32) && nat_lt (length new) (2 ^ 32) then (allowed_of old).memory else 0;
+  older = (allowed_of old).older;
 }
 
 -- on the secret that opens, and the passphrase that the key is sealed under
 abbrev pub allowed_in : Deed → Allowed
-allowed_in (deed.Seal s) = allowed_for s.opener.secret s.passphrase.now
-allowed_in (deed.Remove r) = allowed_for r.secret []
+allowed_in (deed.Seal s) = allowed_for (opener_at s.place) s.passphrase.now
+allowed_in (deed.Remove r) = allowed_for (remover_of r.slot r.by_ r.secret) []
 allowed_in (deed.Rewrite label) = none_allowed
 
 -- on each of the edit's secrets
@@ -149,8 +178,8 @@ allowed_by e = allowed_in (deed_of e)
 
 -- the secrets of the edit have fewer than 2^32 bytes
 abbrev pub AreShortIn : Deed → Type 0
-AreShortIn (deed.Seal s) = (length s.opener.secret.bytes.now < 2 ^ 32) × (length s.passphrase.now < 2 ^ 32)
-AreShortIn (deed.Remove r) = length r.secret.bytes.now < 2 ^ 32
+AreShortIn (deed.Seal s) = (length (bytes_of (opener_at s.place)) < 2 ^ 32) × (length s.passphrase.now < 2 ^ 32)
+AreShortIn (deed.Remove r) = length (bytes_of (remover_of r.slot r.by_ r.secret)) < 2 ^ 32
 AreShortIn (deed.Rewrite label) = ⊤
 
 abbrev pub HasShortPassphrases : Edit → Type 0
@@ -162,7 +191,7 @@ HasFewIterations e = IsSomeAnd (sealed_by e) (λ s. asked_few_turns s.derivation
 
 -- it chooses an Argon2 that takes more memory than both of its secrets may, or is outside the bounds
 abbrev pub IsBeyondMemory : Edit → Type 0
-IsBeyondMemory e = IsSomeAnd (sealed_by e) (λ s. asked_beyond (allowed_for s.opener.secret s.passphrase.now).memory s.derivation ≡ true)
+IsBeyondMemory e = IsSomeAnd (sealed_by e) (λ s. asked_beyond (allowed_for (opener_at s.place) s.passphrase.now).memory s.derivation ≡ true)
 
 -- it chooses Argon2
 abbrev pub ChoosesArgon2 : Edit → Type 0

@@ -3,7 +3,7 @@ use Rattle.std.specs.Prelude.{ℕ, List, [], ◌∷◌, Bool, true, false}
 use Rattle.luks_reading.specs.Answer.{slot_row}
 use Rattle.luks_reading.specs.Checked.{check_key}
 use Rattle.luks_edit.specs.declared.edit_fault.EditFault.{EditFault}
-use Rattle.luks_edit.specs.declared.edit_fault.EditFault.TheVariants.{NotAccepted, Requirements, NoSuchSlot, SameSlot, Locked, Slot, SlotTaken, NoFreeSlot, NoRoom, LastSlot, Iterations, Argon2, BadLabel, SeqExhausted, MetadataFull, RandomLength, Memory, Device}
+use Rattle.luks_edit.specs.declared.edit_fault.EditFault.TheVariants.{NotAccepted, Requirements, NoSuchSlot, SameSlot, Locked, KeyLength, WrongKey, Slot, SlotTaken, NoFreeSlot, NoRoom, LastSlot, Iterations, Argon2, BadLabel, SeqExhausted, MetadataFull, RandomLength, Memory, Device}
 
 -- the rows of the table of faults, in their order
 abbrev pub edit_row : EditFault → ℕ
@@ -12,19 +12,21 @@ edit_row Requirements = 1
 edit_row NoSuchSlot = 2
 edit_row SameSlot = 3
 edit_row Locked = 4
-edit_row (Slot s) = 5
-edit_row SlotTaken = 6
-edit_row NoFreeSlot = 7
-edit_row NoRoom = 8
-edit_row LastSlot = 9
-edit_row Iterations = 10
-edit_row Argon2 = 11
-edit_row BadLabel = 12
-edit_row SeqExhausted = 13
-edit_row MetadataFull = 14
-edit_row RandomLength = 15
-edit_row Memory = 16
-edit_row Device = 17
+edit_row KeyLength = 5
+edit_row WrongKey = 6
+edit_row (Slot s) = 7
+edit_row SlotTaken = 8
+edit_row NoFreeSlot = 9
+edit_row NoRoom = 10
+edit_row LastSlot = 11
+edit_row Iterations = 12
+edit_row Argon2 = 13
+edit_row BadLabel = 14
+edit_row SeqExhausted = 15
+edit_row MetadataFull = 16
+edit_row RandomLength = 17
+edit_row Memory = 18
+edit_row Device = 19
 
 -- the place of a fault among those of its row
 abbrev pub edit_place : EditFault → List ℕ

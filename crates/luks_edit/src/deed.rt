@@ -1,8 +1,8 @@
 //! What an edit does of a volume: the parts by which its rules are said.
 ghost use Rattle.std.specs.Prelude.{◌≡◌};
-ghost use Rattle.luks_edit.specs.Asked.{opener_of};
+ghost use Rattle.luks_edit.specs.Asked.{opener_at, remover_of};
 
-use crate::edit::{Opener, Secret, opener_of};
+use crate::edit::{Opener, Secret, SecretKind, VolumeKey};
 use luks_making::AskedDerivation;
 
 /// What an edit does of a volume.
@@ -25,27 +25,44 @@ pub enum Deed<'a> {
 /// A key that an edit seals.
 #[derive(Clone, Copy)]
 pub struct Sealed<'a> {
-    /// The keyslot that opens to it.
-    pub opener: Opener<'a>,
-    /// The keyslot that it is sealed in.
-    pub place: Place,
+    /// The keyslot that it is sealed in, and what gives it.
+    pub place: Place<'a>,
     /// The new passphrase.
     pub passphrase: &'a [u8],
     /// How the keyslot that it is sealed in derives.
     pub derivation: AskedDerivation,
 }
 
-/// The keyslot that a key is sealed in.
+impl<'a> Sealed<'a> {
+    /// What gives the key.
+    pub fn opener(&self) -> Opener<'a>
+        ensures { result ≡ opener_at self.now.place }
+    {
+        match self.place {
+            Place::New { opener, to: _ } => opener,
+            Place::Opened { slot, secret } => Opener::Keyslot { slot, secret },
+        }
+    }
+}
+
+/// The keyslot that a key is sealed in, and what gives the key.
 #[derive(Clone, Copy)]
-pub enum Place {
+pub enum Place<'a> {
     /// A new one.
     New {
+        /// The keyslot that opens to the key, or the key.
+        opener: Opener<'a>,
         /// Its number; where it isn't given, the least that is free.
         to: Option<u8>,
     },
-    /// The one that was opened: LUKS2 gives it a new area, LUKS1 makes the least free keyslot, and then
+    /// The one that is opened: LUKS2 gives it a new area, LUKS1 makes the least free keyslot, and then
     /// disables it.
-    Opened,
+    Opened {
+        /// The keyslot.
+        slot: u8,
+        /// Its passphrase, or its key.
+        secret: Secret<'a>,
+    },
 }
 
 /// A keyslot that an edit removes.
@@ -53,21 +70,31 @@ pub enum Place {
 pub struct Removed<'a> {
     /// The keyslot.
     pub slot: u8,
-    /// The keyslot that the secret opens, another one than `slot`; where it isn't given, `slot`.
+    /// The keyslot that the secret opens, another one than `slot`. Where it isn't given, a passphrase
+    /// opens `slot`, and a key is the volume's, by no keyslot.
     pub by_: Option<u8>,
-    /// Its passphrase, or its key.
+    /// The passphrase, or the key.
     pub secret: Secret<'a>,
 }
 
 impl<'a> Removed<'a> {
-    /// The keyslot that is opened for it.
+    /// What has to give a key for it.
     pub fn opener(&self) -> Opener<'a>
-        ensures slot { result.slot ≡ opener_of self.now.slot self.now.by_ }
-        ensures secret { result.secret ≡ self.now.secret }
+        ensures { result ≡ remover_of self.now.slot self.now.by_ self.now.secret }
     {
-        Opener {
-            slot: opener_of(self.slot, self.by_),
-            secret: self.secret,
+        let secret = self.secret;
+        match self.by_ {
+            Some(slot) => Opener::Keyslot { slot, secret },
+            None => match secret.kind {
+                SecretKind::Passphrase => Opener::Keyslot {
+                    slot: self.slot,
+                    secret,
+                },
+                SecretKind::Key => Opener::Key(VolumeKey {
+                    bytes: secret.bytes,
+                    allowed: secret.allowed,
+                }),
+            },
         }
     }
 }

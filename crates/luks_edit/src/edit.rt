@@ -1,6 +1,7 @@
 //! The edits of a volume.
-ghost use Rattle.std.specs.Prelude.{◌≡◌, ◌^◌, ℕ, List, MatchOption, length, nat_lt};
-ghost use Rattle.luks_edit.specs.Asked.{allowed_by, allowed_for, deed_of, opener_of, OpensBy};
+ghost use Rattle.std.specs.Prelude.{◌≡◌, ◌^◌, Some, length, nat_lt};
+ghost use Rattle.luks_edit.specs.Asked.{allowed_by, allowed_for, allowed_of, bytes_of, chosen_or, deed_of, opener_in, opener_of};
+ghost use Rattle.luks_edit.specs.declared.deed.Place.TheVariants.{New};
 
 use crate::deed::{Deed, Place, Removed, Sealed};
 use luks_making::{AskedDerivation, NewDerivation};
@@ -38,6 +39,16 @@ pub enum SecretKind {
     Key,
 }
 
+/// A volume key, and what may be spent on a keyslot that is made by it.
+#[derive(Clone, Copy)]
+pub struct VolumeKey<'a> {
+    /// The key.
+    pub bytes: &'a [u8],
+    /// How many KiB of memory a new keyslot may take by Argon2, and whether the digest that the key
+    /// meets and the new keyslot may have a cipher or a hash of older disks.
+    pub allowed: Allowed,
+}
+
 /// An edit of a volume's keyslots, header or label.
 ///
 /// The keyslot that an edit names as `by_`, or else as `slot`, is the one that its secret has to open:
@@ -65,6 +76,24 @@ pub enum Edit<'a> {
         /// The derivation that is chosen for the new keyslot. LUKS1 has PBKDF2 alone.
         derivation: Option<NewDerivation>,
     },
+    /// Adds a keyslot in which a new passphrase opens the volume key, by that key: no keyslot is opened,
+    /// and none needs to be there.
+    ///
+    /// LUKS2: the key has to meet a digest; of several that it meets the first is taken that a segment is
+    /// assigned to, else the first. The new keyslot is made like the first one of that digest, or where
+    /// none is left as a new volume has it.
+    AddByKey {
+        /// The volume key.
+        key: VolumeKey<'a>,
+        /// The new passphrase.
+        new: &'a [u8],
+        /// The number of the new keyslot; where it isn't given, the least that is free.
+        to: Option<u8>,
+        /// The iterations of PBKDF2, at least 1000, by which it derives where nothing else is chosen.
+        iterations: u32,
+        /// The derivation that is chosen for the new keyslot. LUKS1 has PBKDF2 alone.
+        derivation: Option<NewDerivation>,
+    },
     /// Puts a new passphrase in the place of an old one, by that or by the key.
     ///
     /// LUKS2 keeps the keyslot's number and, where no derivation is chosen, the kind and costs of
@@ -82,14 +111,16 @@ pub enum Edit<'a> {
         /// The derivation that is chosen for the keyslot. LUKS1 has PBKDF2 alone.
         derivation: Option<NewDerivation>,
     },
-    /// Removes a keyslot, and wipes its area: by its own secret or, as where somebody has left and
-    /// the passphrase with them, by that of another keyslot. It needn't be one that can be opened here.
+    /// Removes a keyslot, and wipes its area: by its own passphrase or, as where somebody has left and
+    /// the passphrase with them, by the secret of another keyslot, or by the volume key. It needn't be one
+    /// that can be opened here.
     Remove {
         /// The keyslot.
         slot: u8,
-        /// The keyslot that the secret opens, another one than `slot`; where it isn't given, `slot`.
+        /// The keyslot that the secret opens, another one than `slot`. Where it isn't given, a passphrase
+        /// opens `slot`, and a key is the volume's, by no keyslot, as of `AddByKey`.
         by_: Option<u8>,
-        /// Its passphrase, or its key.
+        /// The passphrase, or the key.
         secret: Secret<'a>,
     },
     /// LUKS2: writes both copies of the header anew from the one that counts. LUKS1: nothing.
@@ -101,13 +132,40 @@ pub enum Edit<'a> {
     },
 }
 
-/// The keyslot that an edit opens, and by what.
+/// What gives the key for an edit.
 #[derive(Clone, Copy)]
-pub struct Opener<'a> {
-    /// The keyslot.
-    pub slot: u8,
-    /// The passphrase that has to open it, or the key that has to be its own.
-    pub secret: Secret<'a>,
+pub enum Opener<'a> {
+    /// A keyslot.
+    Keyslot {
+        /// The keyslot.
+        slot: u8,
+        /// The passphrase that has to open it, or the key that has to be its own.
+        secret: Secret<'a>,
+    },
+    /// The volume key itself, by no keyslot.
+    Key(VolumeKey<'a>),
+}
+
+impl<'a> Opener<'a> {
+    /// The passphrase, or the key.
+    pub fn bytes(&self) -> &'a [u8]
+        ensures { result.now ≡ bytes_of self.now }
+    {
+        match self {
+            Opener::Keyslot { slot: _, secret } => secret.bytes,
+            Opener::Key(key) => key.bytes,
+        }
+    }
+
+    /// What it allows.
+    pub fn allowed(&self) -> Allowed
+        ensures { result ≡ allowed_of self.now }
+    {
+        match self {
+            Opener::Keyslot { slot: _, secret } => secret.allowed,
+            Opener::Key(key) => key.allowed,
+        }
+    }
 }
 
 impl<'a> Edit<'a> {
@@ -124,10 +182,26 @@ impl<'a> Edit<'a> {
                 iterations,
                 derivation,
             } => Deed::Seal(Sealed {
-                opener: opened_by(by_, old),
-                place: Place::New { to },
+                place: added_by(
+                    Opener::Keyslot {
+                        slot: by_,
+                        secret: old,
+                    },
+                    to,
+                ),
                 passphrase: new,
                 derivation: asked(iterations, derivation),
+            }),
+            Edit::AddByKey {
+                key,
+                new,
+                to,
+                iterations,
+                derivation,
+            } => Deed::Seal(Sealed {
+                place: added_by(Opener::Key(key), to),
+                passphrase: new,
+                derivation: asked_by_key(iterations, derivation),
             }),
             Edit::Change {
                 slot,
@@ -136,8 +210,7 @@ impl<'a> Edit<'a> {
                 iterations,
                 derivation,
             } => Deed::Seal(Sealed {
-                opener: opened_by(slot, old),
-                place: Place::Opened,
+                place: Place::Opened { slot, secret: old },
                 passphrase: new,
                 derivation: asked(iterations, derivation),
             }),
@@ -147,25 +220,23 @@ impl<'a> Edit<'a> {
         }
     }
 
-    /// The keyslot that the edit opens, if it opens one.
+    /// What gives the key for the edit, if it needs one.
     pub fn opener(&self) -> Option<Opener<'a>>
-        ensures { MatchOption result ((n : ℕ) (p : List ℕ) → OpensBy self.now n p → ⊥)
-            (λ o. OpensBy self.now o.slot o.secret.bytes.now) }
+        ensures { result ≡ opener_in (deed_of self.now) }
     {
         match self.deed() {
-            Deed::Seal(sealed) => Some(sealed.opener),
+            Deed::Seal(sealed) => Some(sealed.opener()),
             Deed::Remove(removed) => Some(removed.opener()),
             Deed::Rewrite { label: _ } => None,
         }
     }
 }
 
-/// The keyslot that is opened by this secret.
-fn opened_by(slot: u8, secret: Secret<'_>) -> Opener<'_>
-    ensures slot { result.slot ≡ slot }
-    ensures secret { result.secret ≡ secret.entry }
+/// A new keyslot for the key that this gives.
+fn added_by(opener: Opener<'_>, to: Option<u8>) -> Place<'_>
+    ensures { result ≡ New opener.entry to }
 {
-    Opener { slot, secret }
+    Place::New { opener, to }
 }
 
 /// What is chosen, or so many iterations.
@@ -174,6 +245,28 @@ fn asked(iterations: u32, chosen: Option<NewDerivation>) -> AskedDerivation
     ensures chosen { result.chosen ≡ chosen }
 {
     AskedDerivation { iterations, chosen }
+}
+
+/// What is chosen, or PBKDF2 by so many iterations.
+fn asked_by_key(iterations: u32, chosen: Option<NewDerivation>) -> AskedDerivation
+    ensures iterations { result.iterations ≡ iterations }
+    ensures chosen { result.chosen ≡ Some (chosen_or iterations chosen) }
+{
+    AskedDerivation {
+        iterations,
+        chosen: Some(chosen_or(iterations, chosen)),
+    }
+}
+
+/// The derivation of a keyslot that is made by a key: the one that is chosen, or PBKDF2 by so many
+/// iterations.
+pub fn chosen_or(iterations: u32, chosen: Option<NewDerivation>) -> NewDerivation
+    ensures { result ≡ chosen_or iterations chosen }
+{
+    match chosen {
+        Some(own) => own,
+        None => NewDerivation::Pbkdf2 { iterations },
+    }
 }
 
 /// The keyslot whose secret removes the keyslot `slot`: `by_` where it is given, else `slot`.
@@ -193,25 +286,26 @@ impl Edit<'_> {
         ensures { result ≡ allowed_by self.now }
     {
         match self.deed() {
-            Deed::Seal(sealed) => allowed_for(&sealed.opener.secret, sealed.passphrase),
-            Deed::Remove(removed) => allowed_for(&removed.secret, b""),
+            Deed::Seal(sealed) => allowed_for(&sealed.opener(), sealed.passphrase),
+            Deed::Remove(removed) => allowed_for(&removed.opener(), b""),
             Deed::Rewrite { label: _ } => Allowed::NOTHING,
         }
     }
 }
 
-/// What the secret allows, for itself and a new passphrase.
-fn allowed_for(old: &Secret<'_>, new: &[u8]) -> Allowed
+/// What the opener allows, for itself and a new passphrase.
+fn allowed_for(old: &Opener<'_>, new: &[u8]) -> Allowed
     ensures { result ≡ allowed_for old.now new.now }
 {
-    let memory = if is_short(old.bytes) && is_short(new) {
-        old.allowed.memory
+    let allowed = old.allowed();
+    let memory = if is_short(old.bytes()) && is_short(new) {
+        allowed.memory
     } else {
         0
     };
     Allowed {
         memory,
-        older: old.allowed.older,
+        older: allowed.older,
     }
 }
 

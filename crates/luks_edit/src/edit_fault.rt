@@ -21,8 +21,12 @@ pub enum EditFault {
     NoSuchSlot,
     /// The keyslot to remove is the one that was named to open by.
     SameSlot,
-    /// The passphrase doesn't open the keyslot, or the key isn't its own.
+    /// The passphrase doesn't open the keyslot.
     Locked,
+    /// No key of the keyslot, or of the volume where no keyslot is asked for it, has so many bytes.
+    KeyLength,
+    /// The key isn't the keyslot's own, or the volume's.
+    WrongKey,
     /// What the keyslot says of its derivation or cipher can't be opened here.
     Slot(SlotFault),
     /// The keyslot to make is in use.
@@ -62,6 +66,8 @@ impl fmt::Display for EditFault {
             EditFault::NoSuchSlot => f.write_str("NoSuchSlot"),
             EditFault::SameSlot => f.write_str("SameSlot"),
             EditFault::Locked => f.write_str("Locked"),
+            EditFault::KeyLength => f.write_str("KeyLength"),
+            EditFault::WrongKey => f.write_str("WrongKey"),
             EditFault::Slot(fault) => write!(f, "{fault}"),
             EditFault::SlotTaken => f.write_str("SlotTaken"),
             EditFault::NoFreeSlot => f.write_str("NoFreeSlot"),

@@ -1,14 +1,17 @@
 //! What a keyslot gives by a secret.
-ghost use Rattle.std.specs.Prelude.{◌≡◌, ◌+◌, ◌^◌, ◌<◌, ◌≤◌, length, true, Some, None, IfErr, IfOk, IfSome, OnOk};
+ghost use Rattle.std.specs.Prelude.{◌≡◌, ◌≢◌, ◌+◌, ◌^◌, ◌<◌, ◌≤◌, length, false, true, Some, None, IfErr, IfOk, IfSome, OnOk};
 ghost use Rattle.luks_area.specs.Area.{IsInside};
 ghost use Rattle.luks_area.specs.Device.{CountsFailure, IsUnchanged};
 ghost use Rattle.luks_area.specs.Sectors.{rounded_to_sectors};
 ghost use Rattle.luks_slot.specs.Fault.{IsAnsweredWithin, is_device_fault};
 ghost use Rattle.luks_slot.specs.Opening.{area_bytes, meets_digest, stripe_bytes, HasIterations};
 ghost use Rattle.luks_slot.specs.Refusal.{is_known_hash, slot_refusal_within};
+ghost use Rattle.luks_edit.specs.EditFaults.{is_edit_failure};
+ghost use Rattle.luks_edit.specs.Opener.{lock_fault};
 ghost use Rattle.luks_edit.specs.Secrets.{given_by, own_key};
 
 use crate::edit::{Secret, SecretKind};
+use crate::edit_fault::EditFault;
 use luks_reading::{Device, meets};
 use luks_slot::{Allowed, DigestPlan, Key, SlotFault, SlotPlan, open_within, refusal_within};
 use std::alloc::Global;
@@ -96,5 +99,24 @@ fn is_met(digest: &DigestPlan<'_>, key: &[u8], older: bool) -> bool
     match meets(digest, key, older) {
         Some(met) => met,
         None => false,
+    }
+}
+
+/// The fault of a secret that gives no key, where the key has so many bytes: `Locked` of a passphrase,
+/// `KeyLength` of a key of another length, else `WrongKey`.
+pub fn lock_fault(kind: SecretKind, key_bytes: usize, bytes: &[u8]) -> EditFault
+    ensures is { result ≡ lock_fault kind key_bytes bytes.now }
+    ensures own { is_edit_failure result ≡ false }
+    ensures memory { result ≢ EditFault.Memory }
+{
+    match kind {
+        SecretKind::Passphrase => EditFault::Locked,
+        SecretKind::Key => {
+            if bytes.len() == key_bytes {
+                EditFault::WrongKey
+            } else {
+                EditFault::KeyLength
+            }
+        }
     }
 }

@@ -9,8 +9,10 @@ mod giving;
 mod laws;
 
 pub use deed::{Deed, Place, Removed, Sealed};
-pub use edit::{Done, Edit, Opener, Passphrase, Secret, SecretKind, Step, opener_of};
+pub use edit::{
+    Done, Edit, Opener, Passphrase, Secret, SecretKind, Step, VolumeKey, chosen_or, opener_of,
+};
 pub use edit_fault::{EditFault, RunFault};
-pub use giving::{give_within, own_key};
+pub use giving::{give_within, lock_fault, own_key};
 pub use laws::secrets_answer_once;
 pub use luks_making::{Argon2Costs, AskedDerivation, LEAST_ITERATIONS, NewDerivation};

@@ -19,7 +19,7 @@ use Rattle.luks_volume.specs.Edits.{NamedSlots, Refusal, Replies}
 use Rattle.luks_volume.specs.Needed.{IsNeedFault, NeedsRandom, TellsNeed}
 use Rattle.luks_volume.specs.Outcome.{Spares}
 use Rattle.luks_request.specs.declared.request.EditRequest.{EditRequest}
-use Rattle.luks_request.specs.declared.request.EditRequest.TheVariants.{Add, Change, Remove, Repair, Label}
+use Rattle.luks_request.specs.declared.request.EditRequest.TheVariants.{Add, AddByKey, Change, Remove, Repair, Label}
 use Rattle.luks_request.specs.Named.{edit_new_of, edit_passphrase_of}
 use Rattle.luks_request.specs.declared.request.Editing.{Editing}
 use Rattle.luks_request.specs.declared.request.OpenerFile.{OpenerFile}
@@ -321,12 +321,15 @@ pub asked_of : (request : EditRequest) (IsOld IsNew : List ℕ → Type 0) (p q 
     → IfSome (edit_new_of request) (λ name. IsNew q) → IsAsked request (λ x. x ≡ p) (λ x. x ≡ q) e → IsAsked request IsOld IsNew e
 asked_of (Add by_ opener memory older new to iterations kdf) IsOld IsNew p q (edit.Add b o n t i d) old fresh is =
     (is.0, secret_of opener memory older IsOld p o old is.1, subst IsNew (sym is.2) fresh, is.3, is.4, is.5)
+asked_of (AddByKey key memory older new to iterations kdf) IsOld IsNew p q (edit.AddByKey k n t i d) old fresh is =
+    (subst IsOld (sym is.0) old, is.1, subst IsNew (sym is.2) fresh, is.3, is.4, is.5)
 asked_of (Change slot opener memory older new iterations kdf) IsOld IsNew p q (edit.Change s o n i d) old fresh is =
     (is.0, secret_of opener memory older IsOld p o old is.1, subst IsNew (sym is.2) fresh, is.3, is.4)
 asked_of (Remove slot by_ opener memory older) IsOld IsNew p q (edit.Remove s b o) old fresh is = (is.0, is.1, secret_of opener memory older IsOld p o old is.2)
 asked_of Repair IsOld IsNew p q edit.Repair old fresh is = is
 asked_of (Label text) IsOld IsNew p q (edit.Label t) old fresh is = is
 asked_of (Add by_ opener memory older new to iterations kdf) IsOld IsNew p q e old fresh is = absurd is
+asked_of (AddByKey key memory older new to iterations kdf) IsOld IsNew p q e old fresh is = absurd is
 asked_of (Change slot opener memory older new iterations kdf) IsOld IsNew p q e old fresh is = absurd is
 asked_of (Remove slot by_ opener memory older) IsOld IsNew p q e old fresh is = absurd is
 asked_of Repair IsOld IsNew p q e old fresh is = absurd is
@@ -341,11 +344,13 @@ some_as {A} {B} f (Some x) named P is held = subst (λ (x : Option B). IfSome x 
 pub asked_somehow : (request : EditRequest) (IsOld IsNew : List ℕ → Type 0) (e : Edit) → IsAsked request IsOld IsNew e
     → IsAsked request (λ p. Unit {0}) (λ p. Unit {0}) e
 asked_somehow (Add by_ opener memory older new to iterations kdf) IsOld IsNew (edit.Add b o n t i d) is = (is.0, secret_somehow opener memory older IsOld o is.1, tt, is.3, is.4, is.5)
+asked_somehow (AddByKey key memory older new to iterations kdf) IsOld IsNew (edit.AddByKey k n t i d) is = (tt, is.1, tt, is.3, is.4, is.5)
 asked_somehow (Change slot opener memory older new iterations kdf) IsOld IsNew (edit.Change s o n i d) is = (is.0, secret_somehow opener memory older IsOld o is.1, tt, is.3, is.4)
 asked_somehow (Remove slot by_ opener memory older) IsOld IsNew (edit.Remove s b o) is = (is.0, is.1, secret_somehow opener memory older IsOld o is.2)
 asked_somehow Repair IsOld IsNew edit.Repair is = is
 asked_somehow (Label text) IsOld IsNew (edit.Label t) is = is
 asked_somehow (Add by_ opener memory older new to iterations kdf) IsOld IsNew e is = absurd is
+asked_somehow (AddByKey key memory older new to iterations kdf) IsOld IsNew e is = absurd is
 asked_somehow (Change slot opener memory older new iterations kdf) IsOld IsNew e is = absurd is
 asked_somehow (Remove slot by_ opener memory older) IsOld IsNew e is = absurd is
 asked_somehow Repair IsOld IsNew e is = absurd is

@@ -15,7 +15,7 @@ use Rattle.luks_meta.specs.Content.{content}
 use Rattle.luks_reading.specs.declared.header.Header.{Header}
 use Rattle.luks_reading.specs.declared.header.Header.TheVariants.{Luks1, Luks2}
 use Rattle.luks_edit.specs.declared.edit.Edit.{Edit}
-use Rattle.luks_edit.specs.declared.edit.Edit.TheVariants.{Add, Change, Remove, Repair, Label}
+use Rattle.luks_edit.specs.declared.edit.Edit.TheVariants.{Add, AddByKey, Change, Remove, Repair, Label}
 use Rattle.luks_show.specs.Texts.{escaped}
 use Rattle.luks_edit_commands.specs.declared.edit.noted.Fate.{Fate}
 use Rattle.luks_edit_commands.specs.declared.edit.noted.Fate.TheVariants.{Changed, Removed}
@@ -50,6 +50,7 @@ token_lines fate n j (suc m) = token_lines fate n j m ++ token_line fate n m (ob
 
 abbrev pub luks1_lines : Edit → List ℕ
 luks1_lines (Add by_ old new to iterations derivation) = []
+luks1_lines (AddByKey key new to iterations derivation) = []
 luks1_lines (Change slot old new iterations derivation) = []
 luks1_lines (Remove slot by_ passphrase) = []
 luks1_lines Repair = codes "luks: LUKS1 has one copy of its header: there is nothing to repair" ++ 10 ∷ []
@@ -57,6 +58,7 @@ luks1_lines (Label text) = []
 
 abbrev pub luks2_lines : Data → Edit → List ℕ
 luks2_lines j (Add by_ old new to iterations derivation) = []
+luks2_lines j (AddByKey key new to iterations derivation) = []
 luks2_lines j (Change slot old new iterations derivation) = token_lines Changed slot j 32
 luks2_lines j (Remove slot by_ passphrase) = token_lines Removed slot j 32
 luks2_lines j Repair = []

@@ -19,7 +19,7 @@ use Rattle.luks_volume.specs.Needed.{IsNeedFault, NeedsRandom}
 use Rattle.luks_volume.specs.Outcome.{Spares}
 use Rattle.luks_signatures.specs.declared.other_use.OtherUse.{OtherUse}
 use Rattle.luks_request.specs.declared.request.EditRequest.{EditRequest}
-use Rattle.luks_request.specs.declared.request.EditRequest.TheVariants.{Add, Change, Remove, Repair, Label}
+use Rattle.luks_request.specs.declared.request.EditRequest.TheVariants.{Add, AddByKey, Change, Remove, Repair, Label}
 use Rattle.luks_request.specs.declared.request.Editing.{Editing}
 use Rattle.luks_request.specs.declared.request.OpenerFile.{OpenerFile}
 use Rattle.luks_request.specs.declared.request.OpenerFile.TheVariants as file
@@ -49,6 +49,8 @@ pub record IsSecret (opener : OpenerFile) (memory : ℕ) (older : Bool) (IsOld :
 abbrev pub IsAsked : EditRequest → (List ℕ → Type 0) → (List ℕ → Type 0) → Edit → Type 0
 IsAsked (Add by_ opener memory older new to iterations kdf) IsOld IsNew (edit.Add b o n t i d) =
     (b ≡ by_) × IsSecret opener memory older IsOld o × IsNew n.now × (t ≡ to) × (i ≡ iterations) × (d ≡ chosen_of kdf)
+IsAsked (AddByKey key memory older new to iterations kdf) IsOld IsNew (edit.AddByKey k n t i d) =
+    IsOld k.bytes.now × (k.allowed ≡ allowed_of memory older) × IsNew n.now × (t ≡ to) × (i ≡ iterations) × (d ≡ chosen_of kdf)
 IsAsked (Change slot opener memory older new iterations kdf) IsOld IsNew (edit.Change s o n i d) =
     (s ≡ slot) × IsSecret opener memory older IsOld o × IsNew n.now × (i ≡ iterations) × (d ≡ chosen_of kdf)
 IsAsked (Remove slot by_ opener memory older) IsOld IsNew (edit.Remove s b o) =

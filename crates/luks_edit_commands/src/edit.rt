@@ -15,6 +15,7 @@ ghost use Rattle.luks_commands.specs.Files.{AreFirstBytes, IsUnreadRandom, Leave
 mod applying;
 mod asked;
 mod noted;
+mod older_digest;
 mod seen;
 mod words;
 
@@ -24,11 +25,13 @@ use luks_commands::{
     Answer, InputFault, Inputs, RandomBytes, Refusal, Status, device_fault, few_random_bytes,
     random_bytes, unread,
 };
-use luks_notes::{MemoryNote, OlderNote};
 use luks_request::Editing;
 use luks_volume::{Device, Edit, EditFault};
 use noted::note_edit;
-use seen::{Unseen, look_at_volume, note_leaving_argon2, note_refused, note_wanting, note_weaker};
+use seen::{
+    OpenerNotes, Unseen, look_at_volume, note_leaving_argon2, note_refused, note_wanting,
+    note_weaker,
+};
 use std::alloc::Global;
 use std::io::{Read, Write};
 use words::words;
@@ -128,7 +131,7 @@ fn edit_device<D: Device, N: Read, E: Write>(
         → HoldsBack editing.now.over (D.bytes device.old) (D.bytes device.new) result }
 {
     let payload = editing.payload;
-    let seen = match look_at_volume(alloc, device, editing, edit) {
+    let seen = match look_at_volume(alloc, device, editing, edit, err) {
         Ok(seen) => seen,
         Err(unseen) => return not_begun(unseen, name, err),
     };
@@ -149,7 +152,7 @@ fn edit_device<D: Device, N: Read, E: Write>(
                 needed: seen.needed,
                 bytes: random.as_slice(),
             };
-            not_done(fault, seen.argon2, seen.older, name, &random, err)
+            not_done(fault, seen.opener, name, &random, err)
         }
     }
 }
@@ -167,13 +170,12 @@ fn not_begun<E: Write>(unseen: Unseen, name: &str, err: &mut E) -> Answer
     }
 }
 
-/// What is answered where a fault ended it when it was run with these random bytes, and what is said of the
-/// keyslot that it opens then.
+/// What is answered where a fault ended it when it was run with these random bytes, and what is said of what
+/// opens then.
 #[tactic(auto, using(crate::proofs::EditAnswerFacts::edit_kinds))]
 fn not_done<E: Write>(
     fault: EditFault,
-    argon2: Option<MemoryNote>,
-    older: Option<OlderNote>,
+    notes: OpenerNotes,
     name: &str,
     random: &RandomBytes<'_>,
     err: &mut E,
@@ -185,11 +187,11 @@ fn not_done<E: Write>(
         EditFault::Device => device_fault(name, EDIT_FAILED, err),
         EditFault::RandomLength => few_random_bytes(Refusal::Edit(fault), random, err),
         EditFault::Slot(_) => {
-            note_refused(argon2, older, err);
+            note_refused(&fault, notes, err);
             Answer::from(fault)
         }
         EditFault::Memory => {
-            note_wanting(argon2, err);
+            note_wanting(notes, err);
             Answer::from(fault)
         }
         fault => Answer::from(fault),

@@ -95,12 +95,12 @@ pub record Edits {D R N : Type 0} (device : Device D) (words : R → Option (Lis
 pub record Formats {D R N : Type 0} (device : Device D) (words : R → Option (List ℕ)) (chance : N → Option (List ℕ))
     (making : Making) (old new : Inputs D R N) (answer : Answer) : Type 0 where
   pub left : LeavesVolume device.tells device.size device.bytes (λ v w. SaysFormat making (IsWhole words old.passphrase) (IsWhole words old.new_passphrase)
-      (AreFirstBytes (needed making.version) chance old.random) v w (answer_status answer)) old.volume new.volume
+      (AreFirstBytes (needed making) chance old.random) v w (answer_status answer)) old.volume new.volume
   pub answers : AnswersFormat device.tells device.size device.bytes device.failed making
       (IsWhole words old.passphrase) (IsWhole words old.new_passphrase)
       (IsLong words old.passphrase ⊎ IsLong words old.new_passphrase)
-      (IsUnreadAny old.passphrase old.new_passphrase (needed making.version) old.random)
-      (AreFirstBytes (needed making.version) chance old.random) old.volume new.volume answer
+      (IsUnreadAny old.passphrase old.new_passphrase (needed making) old.random)
+      (AreFirstBytes (needed making) chance old.random) old.volume new.volume answer
   pub over : HoldsBackDevice device.tells device.bytes making.over (HasOther None) old.volume new.volume answer
 
 -- of `convert`, `rebuild` and `backup`: the answer where both files are one, for which no call is made, and where they

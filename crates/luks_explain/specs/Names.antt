@@ -41,6 +41,7 @@ name_of fault.Hash = codes "Hash"
 name_of fault.KeySize = codes "KeySize"
 name_of fault.NoSuchDigest = codes "NoSuchDigest"
 name_of fault.KeyLength = codes "KeyLength"
+name_of fault.WrongKey = codes "WrongKey"
 name_of fault.Locked = codes "Locked"
 name_of fault.Passphrase = codes "Passphrase"
 name_of fault.Requirements = codes "Requirements"
@@ -54,6 +55,8 @@ name_of fault.MetadataFull = codes "MetadataFull"
 name_of fault.RandomLength = codes "RandomLength"
 name_of fault.Payload = codes "Payload"
 name_of fault.TooSmall = codes "TooSmall"
+name_of fault.SectorSize = codes "SectorSize"
+name_of fault.Uneven = codes "Uneven"
 name_of fault.NotLuks1 = codes "NotLuks1"
 name_of fault.SameFile = codes "SameFile"
 name_of fault.Counts = codes "Counts"
@@ -100,6 +103,7 @@ all_faults =
     ∷ fault.KeySize
     ∷ fault.NoSuchDigest
     ∷ fault.KeyLength
+    ∷ fault.WrongKey
     ∷ fault.Locked
     ∷ fault.Passphrase
     ∷ fault.Requirements
@@ -113,6 +117,8 @@ all_faults =
     ∷ fault.RandomLength
     ∷ fault.Payload
     ∷ fault.TooSmall
+    ∷ fault.SectorSize
+    ∷ fault.Uneven
     ∷ fault.NotLuks1
     ∷ fault.SameFile
     ∷ fault.Counts
@@ -163,6 +169,7 @@ named fault.Hash = refl
 named fault.KeySize = refl
 named fault.NoSuchDigest = refl
 named fault.KeyLength = refl
+named fault.WrongKey = refl
 named fault.Locked = refl
 named fault.Passphrase = refl
 named fault.Requirements = refl
@@ -176,6 +183,8 @@ named fault.MetadataFull = refl
 named fault.RandomLength = refl
 named fault.Payload = refl
 named fault.TooSmall = refl
+named fault.SectorSize = refl
+named fault.Uneven = refl
 named fault.NotLuks1 = refl
 named fault.SameFile = refl
 named fault.Counts = refl
@@ -225,6 +234,7 @@ called fault.Hash = refl
 called fault.KeySize = refl
 called fault.NoSuchDigest = refl
 called fault.KeyLength = refl
+called fault.WrongKey = refl
 called fault.Locked = refl
 called fault.Passphrase = refl
 called fault.Requirements = refl
@@ -238,6 +248,8 @@ called fault.MetadataFull = refl
 called fault.RandomLength = refl
 called fault.Payload = refl
 called fault.TooSmall = refl
+called fault.SectorSize = refl
+called fault.Uneven = refl
 called fault.NotLuks1 = refl
 called fault.SameFile = refl
 called fault.Counts = refl

@@ -61,7 +61,8 @@ pub enum Fault {
     SlotFree,
     /// The keyslot derives by Argon2, with more memory than is allowed.
     Argon2,
-    /// The key area's cipher isn't aes-xts-plain64 or aes-xts-plain, nor one of older disks that is accepted.
+    /// The key area's cipher isn't aes-xts-plain64 or aes-xts-plain, nor one of older disks that is accepted; of
+    /// format: --cipher is one of older disks, and these aren't accepted.
     Cipher,
     /// One of the keyslot's hashes isn't sha1, sha256 or sha512, nor one of older disks that is accepted.
     Hash,
@@ -69,8 +70,11 @@ pub enum Fault {
     KeySize,
     /// The digest that is to be asked isn't there.
     NoSuchDigest,
-    /// The key hasn't the length of the volume's; of format: not 64 bytes.
+    /// The key hasn't the length of the volume's; of format: it hasn't as many bytes as are asked for, or the cipher
+    /// takes none of so many.
     KeyLength,
+    /// The key isn't the volume's, or the keyslot's.
+    WrongKey,
     /// The passphrase doesn't open the keyslot.
     Locked,
     /// A passphrase's file has more than 65536 bytes.
@@ -97,6 +101,10 @@ pub enum Fault {
     Payload,
     /// The volume, or TARGET, is too short.
     TooSmall,
+    /// Of format: --sector-size isn't 512, of LUKS2 neither 1024, 2048 or 4096.
+    SectorSize,
+    /// Of format: the data's part of the volume isn't a whole number of sectors of --sector-size.
+    Uneven,
     /// Of convert: SOURCE is of LUKS2.
     NotLuks1,
     /// TARGET is SOURCE.
@@ -134,7 +142,7 @@ impl Fault {
     /// Every fault: of the header, the metadata of LUKS2, the areas, the keyslot that is to be opened,
     /// then of an edit, of formatting, of converting, of rebuilding and of header backups, and at last of
     /// another use of the disk and of a reencryption.
-    pub const ALL: [Fault; 55] = [
+    pub const ALL: [Fault; 58] = [
         Fault::TooShort,
         Fault::NotLuks,
         Fault::Version,
@@ -166,6 +174,7 @@ impl Fault {
         Fault::KeySize,
         Fault::NoSuchDigest,
         Fault::KeyLength,
+        Fault::WrongKey,
         Fault::Locked,
         Fault::Passphrase,
         Fault::Requirements,
@@ -179,6 +188,8 @@ impl Fault {
         Fault::RandomLength,
         Fault::Payload,
         Fault::TooSmall,
+        Fault::SectorSize,
+        Fault::Uneven,
         Fault::NotLuks1,
         Fault::SameFile,
         Fault::Counts,
@@ -211,9 +222,9 @@ impl Fault {
             TooShort NotLuks Version NoSoundCopy Text Uuid SlotState KeyBytes Stripes Iterations
             JsonArea BadJson NotWhole Shape Kind NoSuchName Assigned Sizes AreaTooSmall Region
             Outside Overlap NoSuchSlot SameSlot SlotFree Argon2 Cipher Hash KeySize NoSuchDigest KeyLength
-            Locked Passphrase Requirements SlotTaken NoFreeSlot NoRoom LastSlot BadLabel SeqExhausted MetadataFull
-            RandomLength Payload TooSmall NotLuks1 SameFile Counts NoMetadata NoHeader Exists NotAccepted DoesNotFit
-            OtherVolume OtherUse Reencrypting
+            WrongKey Locked Passphrase Requirements SlotTaken NoFreeSlot NoRoom LastSlot BadLabel SeqExhausted MetadataFull
+            RandomLength Payload TooSmall SectorSize Uneven NotLuks1 SameFile Counts NoMetadata NoHeader Exists
+            NotAccepted DoesNotFit OtherVolume OtherUse Reencrypting
         )
     }
 

@@ -35,7 +35,8 @@ pub(crate) fn means(fault: Fault) -> &'static str {
         Fault::KeySize => "the key of the key area's cipher hasn't a length of that cipher",
         Fault::NoSuchDigest => "the digest isn't there, or segment 0 has none",
         Fault::KeyLength => "the file of the key hasn't as many bytes as the volume's key",
-        Fault::Locked => "the passphrase doesn't open the keyslot, or the key isn't its own",
+        Fault::WrongKey => "the key isn't the volume's, or that of the keyslot",
+        Fault::Locked => "the passphrase doesn't open the keyslot",
         Fault::Passphrase => "a passphrase's file has more than 65536 bytes",
         Fault::Requirements => "the metadata names requirements, as of a reencryption",
         Fault::SlotTaken => "the keyslot of --to is in use",
@@ -48,6 +49,8 @@ pub(crate) fn means(fault: Fault) -> &'static str {
         Fault::RandomLength => "the random file is too short, or none is given",
         Fault::Payload => "of format: the data would begin in the header or the key areas",
         Fault::TooSmall => "the volume, TARGET or FILE is too short",
+        Fault::SectorSize => "of format: --sector-size isn't one that the version has",
+        Fault::Uneven => "of format: the data isn't a whole number of its sectors",
         Fault::NotLuks1 => "of convert: SOURCE is of LUKS2",
         Fault::SameFile => "TARGET is SOURCE, or FILE is VOLUME or the passphrase's",
         Fault::Counts => "of rebuild: a header of SOURCE counts",
@@ -115,7 +118,7 @@ pub(crate) fn place(fault: Fault) -> &'static str {
         Fault::Cipher => {
             "open, add, change and remove: the keyslot of --slot or --by; accepted are
        also aes-xts-plain, and by --older aes-cbc-plain, aes-cbc-plain64 and
-       aes-cbc-essiv:sha256"
+       aes-cbc-essiv:sha256; format: --cipher"
         }
         Fault::KeySize => {
             "open, add, change and remove: the keyslot of --slot or --by; the key of
@@ -126,8 +129,13 @@ pub(crate) fn place(fault: Fault) -> &'static str {
        to; LUKS1 has one, of the number 0"
         }
         Fault::KeyLength => {
-            "open --key: its FILE; LUKS1 says in its header how many bytes the key
-       has, LUKS2 in the keyslots of the digest; format --key: 64 bytes"
+            "open, add, change and remove --key: its FILE; LUKS1 says in its header
+       how many bytes the key has, LUKS2 in the keyslots of the digest; format:
+       --key-bytes, else 64, of cbc 32, and as many has the FILE of --key"
+        }
+        Fault::WrongKey => {
+            "add, change and remove --key: its FILE, by the digest of the keyslot that
+       --slot or --by names, or by each that the header has"
         }
         Fault::SameSlot => "remove: the keyslots of --by and --slot",
         Fault::SlotFree => "open: the keyslot of --slot",
@@ -158,12 +166,17 @@ pub(crate) fn place(fault: Fault) -> &'static str {
         Fault::MetadataFull => "add, change, remove, repair and label, of LUKS2",
         Fault::RandomLength => "the commands that write: the file of --random",
         Fault::Payload => {
-            "format: --payload, before sector 4036, of LUKS2 32768, but where the data
-       lies on another device"
+            "format: --payload, before sector 4036, with --key-bytes 32 before 2050,
+       of LUKS2 32768, but where the data lies on another device"
         }
         Fault::TooSmall => {
             "format: fewer than 2097152 bytes, of LUKS2 16777216, or up to --payload;
        convert: TARGET, 16777216; backup: FILE, where that is a device"
+        }
+        Fault::SectorSize => "format: --sector-size; LUKS1 has 512, LUKS2 also 1024, 2048 and 4096",
+        Fault::Uneven => {
+            "format: VOLUME from the data's first sector on, counted in sectors of 512
+       bytes; with --detached it isn't looked at"
         }
         Fault::NotLuks1 => "convert: SOURCE",
         Fault::SameFile => {
@@ -261,6 +274,7 @@ pub(crate) fn safe(fault: Fault) -> &'static str {
         Fault::NoSuchSlot
         | Fault::NoSuchDigest
         | Fault::KeyLength
+        | Fault::WrongKey
         | Fault::SameSlot
         | Fault::SlotFree
         | Fault::Locked
@@ -276,6 +290,8 @@ pub(crate) fn safe(fault: Fault) -> &'static str {
         | Fault::RandomLength
         | Fault::Payload
         | Fault::TooSmall
+        | Fault::SectorSize
+        | Fault::Uneven
         | Fault::NotLuks1
         | Fault::Counts
         | Fault::NoMetadata
@@ -401,7 +417,11 @@ pub(crate) fn next(fault: Fault) -> &'static str {
         Fault::NoSuchDigest => "luks show --json lists the digests that there are",
         Fault::KeyLength => {
             "see whether FILE is the key itself, no digits of it, and has no newline
-       behind it: luks show --all tells its length"
+       behind it: luks show --all tells its length; of format: give --key-bytes"
+        }
+        Fault::WrongKey => {
+            "luks open --key tells of each digest whether FILE is its key; a key of
+       another volume, or of the same one before a reencryption, is none"
         }
         Fault::Locked => {
             "luks open tells which keyslot it opens; a newline at the end of its file
@@ -439,6 +459,11 @@ pub(crate) fn next(fault: Fault) -> &'static str {
         Fault::TooSmall => {
             "make the file longer, as by truncate -s 16M FILE; format --version 1
        takes 2 MiB"
+        }
+        Fault::SectorSize => "give 512; 4096 where dmsetup table shows sector_size:4096, by LUKS2",
+        Fault::Uneven => {
+            "give --sector-size 512, or make VOLUME or its partition end at a whole
+       sector"
         }
         Fault::NotLuks1 => "nothing is to be converted: luks opens it as it is",
         Fault::SameFile => {

@@ -47,7 +47,7 @@ fn format<D: Device>(
         iterations: 1000,
     };
     if version == 1 {
-        format1(device, Data::Here, &format, b"one", random)
+        format1(alloc, device, Data::Here, &format, b"one", random)
     } else {
         format2(alloc, device, Data::Here, &format, b"one", random)
     }

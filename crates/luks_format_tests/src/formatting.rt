@@ -39,7 +39,7 @@ pub(crate) fn format<D: Device>(
     requires settled { D.tells → IsSettled D.unsettled device.old }
 {
     if asked.version == 1 {
-        format1(device, asked.data, &asked.format, b"one", random)
+        format1(alloc, device, asked.data, &asked.format, b"one", random)
     } else {
         format2(alloc, device, asked.data, &asked.format, b"one", random)
     }

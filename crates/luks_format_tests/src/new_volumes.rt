@@ -147,7 +147,7 @@ fn rewritten(
 /// its salt and the 3999 stripes of 64 bytes.
 fn taken(edit: &Edit<'_>) -> u64 {
     match edit {
-        Edit::Add { .. } | Edit::Change { .. } => 256096,
+        Edit::Add { .. } | Edit::AddByKey { .. } | Edit::Change { .. } => 256096,
         _ => 128,
     }
 }

@@ -1,5 +1,5 @@
 -- A volume that was formatted by LUKS1 is well formed, and its keyslot 0 opens.
-use Rattle.std.proofs.Common.{codes, slice_index_or, ◌≡◌, ℕ, ◌*◌, ◌-◌, ◌≤◌, List, length, Some, None, true, false, arith, refl, sym, ap, ◌∙◌, lit≤, lit<, if◌then◌else◌}
+use Rattle.std.proofs.Common.{codes, slice_index_or, ◌≡◌, ℕ, ◌*◌, ◌-◌, ◌+◌, ◌≤◌, List, length, Some, None, Bool, true, false, arith, refl, sym, ap, ◌∙◌, lit≤, lit<, if◌then◌else◌}
 use Rattle.byteorder.specs.Endian.{big_number}
 use Rattle.luks_area.specs.Ranges.{part}
 use Rattle.luks_kdf.specs.Names.{name_of}
@@ -19,7 +19,8 @@ use Rattle.luks1_header.specs.declared.luks1.Luks1Slot.{Luks1Slot}
 use Rattle.luks2_header.specs.Selection.{luks1, Chosen}
 use Rattle.luks_slot.specs.Opening.{hash_by_name, meets_digest, slot_key}
 use Rattle.luks_slot.specs.Allowance.{without_memory}
-use Rattle.luks_slot.specs.Refusal.{is_open_cipher, slot_refusal_within}
+use Rattle.luks_slot.specs.Refusal.{slot_refusal_within}
+use Rattle.luks_slot.specs.declared.allowed.Allowed.{Allowed}
 use Rattle.luks_slot.specs.Sealing.{IsSealed}
 use Rattle.luks_slot.proofs.SealingFacts.{sealed_opens}
 use Rattle.luks_slot.specs.declared.plan.AreaCipher.{AreaCipher}
@@ -27,22 +28,24 @@ use Rattle.luks_slot.specs.declared.plan.AreaCipher.TheVariants.{Apart, Whole}
 use Rattle.luks_slot.specs.declared.plan.Derivation.{Derivation}
 use Rattle.luks_slot.specs.declared.plan.Derivation.TheVariants.{Pbkdf2, Argon2}
 use Rattle.luks_slot.specs.declared.plan.SlotPlan.{SlotPlan}
-use Rattle.luks_reading.specs.Answer.{Answer, IsLuks1HeadRefusal, IsLuks1Refusal, opens}
+use Rattle.luks_reading.specs.Answer.{AnswerWithin, IsLuks1HeadRefusal, IsLuks1Refusal, opens}
 use Rattle.luks_reading.specs.Checked.{WellFormed}
-use Rattle.luks_reading.proofs.MemoryFacts.{refusal_at_zero}
 use Rattle.luks_reading.specs.Plans.{HasLuks1Plan, IsLuks1Cipher, IsLuks1Derivation}
 use Rattle.luks_reading.specs.declared.open_fault.OpenFault.{OpenFault}
 use Rattle.luks_reading.specs.declared.open_fault.OpenFault.TheVariants.{Head, Meta, NoSuchSlot, SlotFree, Outside, Slot, Device, Memory}
 use Rattle.luks_reading.specs.declared.format.Format.{Format}
+use Rattle.luks_formatting.specs.declared.new_cipher.NewCipher.{NewCipher}
+use Rattle.luks_formatting.specs.Encrypting.{is_older, mode_of, used_bytes}
 use Rattle.luks_formatting.specs.Formatted1.{IsFormatted1As}
 use Rattle.luks_formatting.specs.Given.{key_of, uuid_of, IsSound1}
 use Rattle.luks_formatting.specs.declared.given.Given.{Given}
 use Rattle.luks_formatting.specs.NewHeader1.{area1, new_slot, IsNewCipher1}
 use Rattle.luks_formatting.specs.NewPlan.{key_digest, IsNewDerivation, IsNewPlan}
-use Rattle.luks_formatting.specs.RandomBytes.{digest_salt, random_stripes, slot_place1, slot_salt}
+use Rattle.luks_formatting.specs.RandomBytes.{digest_salt, needed_bytes, random_stripes, slot_place1, slot_salt}
 use Rattle.luks_formatting.proofs.GivenFacts.{length-key_of, uuid_is}
-use Rattle.luks_formatting.proofs.NewHeader1Facts.{common, fields, fit, header, holds, key_size, slot_len, slot_start, stripes_at}
-use Rattle.luks_formatting.proofs.NewPlanFacts.{key_meets, unrefused}
+use Rattle.luks_formatting.proofs.NewHeader1Facts.{common, fields, first_start, fit, header, holds, key_size, slot_len, stripes_at}
+use Rattle.luks_formatting.proofs.EncryptingFacts.{opens1, sizes, used_most, AreSizes}
+use Rattle.luks_formatting.proofs.NewPlanFacts.{key_meets, pbkdf2_within, unrefused_by}
 
 -- an area by its numbers
 pub area_is : (a : Area) (start len : ℕ) → a.start ≡ start → a.len ≡ len → a ≡ record { start = start; len = len }
@@ -55,14 +58,9 @@ derivation_is : (h e : List ℕ) (format : Format) (salt : List ℕ) (d : Deriva
 derivation_is h e format salt (Pbkdf2 hash iterations own) name turns is_salt is = (is.0 ∙ name, is.1 ∙ turns, is.2 ∙ is_salt)
 derivation_is h e format salt (Argon2 c) name turns is_salt is = absurd is
 
-cipher_is : (h : List ℕ) (cipher : AreaCipher) → text_at h 8 32 ≡ codes "aes" → text_at h 40 32 ≡ codes "xts-plain64" → IsLuks1Cipher h cipher → IsNewCipher1 cipher
-cipher_is h (Apart name mode) is_name is_mode is = (is.0 ∙ is_name, is.1 ∙ is_mode)
-cipher_is h (Whole text) is_name is_mode is = absurd is
-
--- the cipher of a new keyslot opens
-pub cipher_opens : (cipher : AreaCipher) → IsNewCipher1 cipher → is_open_cipher cipher ≡ true
-cipher_opens (Apart name mode) is = rw (is.0, is.1) refl
-cipher_opens (Whole text) is = absurd is
+cipher_is : (c : NewCipher) (h : List ℕ) (cipher : AreaCipher) → text_at h 8 32 ≡ codes "aes" → text_at h 40 32 ≡ mode_of c → IsLuks1Cipher h cipher → IsNewCipher1 c cipher
+cipher_is c h (Apart name mode) is_name is_mode is = (is.0 ∙ is_name, is.1 ∙ is_mode)
+cipher_is c h (Whole text) is_name is_mode is = absurd is
 
 -- what a sealed area opens to, where the key meets the digest
 pub reopens : (plan : SlotPlan) (area passphrase key random : List ℕ) → 1 ≤ plan.stripes → length key ≡ plan.key_bytes
@@ -77,6 +75,9 @@ module _ (given : Given) (format : Format) (passphrase random old new : List ℕ
     (sound : IsSound1 given (length new)) (x : IsFormatted1As given format passphrase random old new) where
   own : IsUuid (uuid_of given random)
   own = uuid_is given random sound.uuid
+
+  sized : AreSizes given.key_bytes
+  sized = sizes given.cipher given.key_bytes sound.takes
 
   h : List ℕ
   h = part new 0 592
@@ -94,7 +95,7 @@ module _ (given : Given) (format : Format) (passphrase random old new : List ℕ
     choice = luks1;
     chosen = chosen;
     formed = record {
-      header = (x.header, header given format random (part new 0 592) x.header x.fields x.written own some);
+      header = (x.header, header given format random (part new 0 592) x.header x.fields x.written own some sized);
       fit = fit given format random (part new 0 592) x.header x.fields x.written (length new) sound large;
     };
   }
@@ -104,16 +105,16 @@ module _ (given : Given) (format : Format) (passphrase random old new : List ℕ
   hash_name = (fields given format random (part new 0 592) x.header x.fields x.written own).hash_spec ∙ x.fields.common.hash_spec
 
   new_plan : (plan : SlotPlan) → HasLuks1Plan (part new 0 592) 0 plan
-      → IsNewPlan format (slot_salt slot_place1 random) area1 (digest_salt random) (key_digest given format random 20) plan
+      → IsNewPlan format given.key_bytes (slot_salt (slot_place1 given.key_bytes) random) (area1 given.key_bytes) (digest_salt given.key_bytes random) (key_digest given format random 20) plan
   new_plan plan y =
       let common_is = fields given format random (part new 0 592) x.header x.fields x.written own in
       let entry_is = holds given format random (part new 0 592) x.header x.fields x.written own 0 (lit< tt) in
-      let start : plan.area.start ≡ 4096 = y.is.start ∙ ap (λ s. s * 512) (slot_start given format random (part new 0 592) x.header x.fields x.written own 0 (lit< tt)) in
-      let len : plan.area.len ≡ 256000 = y.is.len ∙ slot_len given format random (part new 0 592) x.header x.fields x.written own 0 (lit< tt) in
+      let start : plan.area.start ≡ 4096 = y.is.start ∙ ap (λ s. s * 512) (first_start given format random (part new 0 592) x.header x.fields x.written own) in
+      let len : plan.area.len ≡ used_bytes given.key_bytes = y.is.len ∙ slot_len given format random (part new 0 592) x.header x.fields x.written own 0 (lit< tt) in
       let key = key_size given format random (part new 0 592) x.header x.fields x.written own in
       record {
-        derivation = derivation_is (part new 0 592) (entry (part new 0 592) 0) format (slot_salt slot_place1 random) plan.derivation hash_name entry_is.iterations entry_is.salt y.is.derivation;
-        area = area_is plan.area 4096 256000 start len;
+        derivation = derivation_is (part new 0 592) (entry (part new 0 592) 0) format (slot_salt (slot_place1 given.key_bytes) random) plan.derivation hash_name entry_is.iterations entry_is.salt y.is.derivation;
+        area = area_is plan.area 4096 (used_bytes given.key_bytes) start len;
         area_key_bytes = y.is.area_key_bytes ∙ key;
         key_bytes = y.is.key_bytes ∙ key;
         stripes = y.is.stripes ∙ stripes_at given format random (part new 0 592) x.header x.fields x.written own 0 (lit< tt);
@@ -126,19 +127,22 @@ module _ (given : Given) (format : Format) (passphrase random old new : List ℕ
         };
       }
 
-  plan_unrefused : (plan : SlotPlan) → HasLuks1Plan (part new 0 592) 0 plan → slot_refusal_within (without_memory false) plan ≡ None
-  plan_unrefused plan y =
+  plan_unrefused : (older : Bool) → (is_older given.cipher ≡ true → older ≡ true) → (plan : SlotPlan) → HasLuks1Plan (part new 0 592) 0 plan → slot_refusal_within (without_memory older) plan ≡ None
+  plan_unrefused older may plan y =
       let common_is = fields given format random (part new 0 592) x.header x.fields x.written own in
-      let cipher = cipher_is (part new 0 592) plan.cipher (common_is.cipher_name ∙ x.fields.common.cipher_name) (common_is.cipher_mode ∙ x.fields.common.cipher_mode) y.is.cipher in
-      refusal_at_zero plan ∙ unrefused format (slot_salt slot_place1 random) area1 (digest_salt random) (key_digest given format random 20) plan (new_plan plan y) (cipher_opens plan.cipher cipher)
+      let is = new_plan plan y in
+      let cipher = cipher_is given.cipher (part new 0 592) plan.cipher (common_is.cipher_name ∙ x.fields.common.cipher_name) (common_is.cipher_mode ∙ x.fields.common.cipher_mode) y.is.cipher in
+      unrefused_by format None given.cipher given.key_bytes (slot_salt (slot_place1 given.key_bytes) random) (area1 given.key_bytes) (digest_salt given.key_bytes random) (key_digest given format random 20) plan
+      is (opens1 given.cipher plan.cipher cipher) sound.takes (without_memory older) may
+      (pbkdf2_within 0 (name_of format.hash) format.iterations (slot_salt (slot_place1 given.key_bytes) random) plan.derivation is.derivation)
 
   no_common : (f : HeadFault) → IsCommonFault (part new 0 592) f → ⊥
-  no_common = common_sound (part new 0 592) x.header.common (common given format random (part new 0 592) x.header x.fields x.written own some)
+  no_common = common_sound (part new 0 592) x.header.common (common given format random (part new 0 592) x.header x.fields x.written own some sized)
 
   no_entry : (f : HeadFault) → IsEntryFault 0 (entry (part new 0 592) 0) f → ⊥
   no_entry =
-      let whole = header given format random (part new 0 592) x.header x.fields x.written own some in
-      let slot : Luks1Slot = new_slot format random 0 in
+      let whole = header given format random (part new 0 592) x.header x.fields x.written own some sized in
+      let slot : Luks1Slot = new_slot given.key_bytes format random 0 in
       entry_sound 0 (entry (part new 0 592) 0) (slice_index_or x.header.slots 0 slot) (whole.slots.each 0 slot (lit< tt))
 
   no_head : (f : HeadFault) → IsLuks1HeadRefusal (part new 0 592) 0 f → ⊥
@@ -147,41 +151,44 @@ module _ (given : Given) (format : Format) (passphrase random old new : List ℕ
   no_head (fault.Iterations (of.Slot m)) y = no_entry (fault.Iterations (of.Slot m)) y.1
   no_head f y = no_common f y
 
-  none : (f : OpenFault) → IsLuks1Refusal false (part new 0 592) (length new) 0 f → ⊥
-  none (Head f) y = no_head f y
-  none (Meta f) y = y
-  none NoSuchSlot y = absurd (omega (arith, y))
-  none SlotFree y =
-      let on : active_word (entry (part new 0 592) 0) ≡ enabled_word = (holds given format random (part new 0 592) x.header x.fields x.written own 0 (lit< tt)).state in
-      let off = y.1 in
-      absurd (omega (arith, on, off))
-  none Outside y =
-      let past = y.past in
-      let start = ap (λ (a : Area). a.start) (new_plan y.plan y.is).area in
-      let len = ap (λ (a : Area). a.len) (new_plan y.plan y.is).area in
-      absurd (omega (arith, past, start, len, large))
-  none (Slot s) y = (let both : None ≡ Some s = sym (plan_unrefused y.plan y.is) ∙ y.refused in absurd (cc))
-  none Device y = y
-  none Memory y = y
+  -- where older ciphers are accepted if its own is one, it opens
+  module _ (allowed : Allowed) (may : is_older given.cipher ≡ true → allowed.older ≡ true) where
+    none : (f : OpenFault) → IsLuks1Refusal allowed.older (part new 0 592) (length new) 0 f → ⊥
+    none (Head f) y = no_head f y
+    none (Meta f) y = y
+    none NoSuchSlot y = absurd (omega (arith, y))
+    none SlotFree y =
+        let on : active_word (entry (part new 0 592) 0) ≡ enabled_word = (holds given format random (part new 0 592) x.header x.fields x.written own 0 (lit< tt)).state in
+        let off = y.1 in
+        absurd (omega (arith, on, off))
+    none Outside y =
+        let past = y.past in
+        let most = used_most given.key_bytes sized.high in
+        let start = ap (λ (a : Area). a.start) (new_plan y.plan y.is).area in
+        let len = ap (λ (a : Area). a.len) (new_plan y.plan y.is).area in
+        absurd (omega (arith, past, start, len, most, large))
+    none (Slot s) y = (let both : None ≡ Some s = sym (plan_unrefused allowed.older may y.plan y.is) ∙ y.refused in absurd (cc))
+    none Device y = y
+    none Memory y = y
 
-  pub slot_opens : length random ≡ 256080 → Answer new 0 passphrase (opens (key_of given random))
-  slot_opens counted =
-      let plan = x.slot.plan in
-      let is = new_plan plan x.slot.is in
-      let stored : length (key_digest given format random 20) ≡ 20 =
-      ap length (sym ((fields given format random (part new 0 592) x.header x.fields x.written own).mk_digest ∙ x.fields.common.mk_digest))
-      ∙ length-part_inside (part new 0 592) 112 20 (let long = length-part_inside new 0 592 (omega (arith, large)) in omega (arith, long)) in
-      let key_len : length (key_of given random) ≡ plan.key_bytes = length-key_of given random sound.key (omega (arith, counted)) ∙ sym is.key_bytes in
-      let random_len : length (random_stripes slot_place1 random) ≡ (plan.stripes - 1) * plan.key_bytes =
-      length-part_inside random 144 255936 (omega (arith, counted)) ∙ sym (ap (λ s. (s - 1) * plan.key_bytes) is.stripes ∙ ap (λ k. (4000 - 1) * k) is.key_bytes) in
-      let meets = key_meets given format random 20 plan.digest is.digest stored in
-      let stripes = is.stripes in
-      record {
-        choice = luks1;
-        chosen = chosen;
-        plan = plan;
-        is = x.slot.is;
-        unrefused = none;
-        key = reopens plan (part new plan.area.start plan.area.len) passphrase (key_of given random) (random_stripes slot_place1 random) (omega (arith, stripes)) key_len random_len x.slot.sealed
-            ∙ ap (λ b. if b then Some (key_of given random) else None) meets;
-      }
+    pub slot_opens : length random ≡ needed_bytes false given.key_bytes → AnswerWithin allowed new 0 passphrase (opens (key_of given random))
+    slot_opens counted =
+        let plan = x.slot.plan in
+        let is = new_plan plan x.slot.is in
+        let stored : length (key_digest given format random 20) ≡ 20 =
+        ap length (sym ((fields given format random (part new 0 592) x.header x.fields x.written own).mk_digest ∙ x.fields.common.mk_digest))
+        ∙ length-part_inside (part new 0 592) 112 20 (let long = length-part_inside new 0 592 (omega (arith, large)) in omega (arith, long)) in
+        let key_len : length (key_of given random) ≡ plan.key_bytes = length-key_of given random sound.key (omega (arith, counted)) ∙ sym is.key_bytes in
+        let random_len : length (random_stripes given.key_bytes (slot_place1 given.key_bytes) random) ≡ (plan.stripes - 1) * plan.key_bytes =
+        length-part_inside random (slot_place1 given.key_bytes + 32) (3999 * given.key_bytes) (omega (arith, counted)) ∙ sym (ap (λ s. (s - 1) * plan.key_bytes) is.stripes ∙ ap (λ k. (4000 - 1) * k) is.key_bytes) in
+        let meets = key_meets given format random 20 plan.digest is.digest stored in
+        let stripes = is.stripes in
+        record {
+          choice = luks1;
+          chosen = chosen;
+          plan = plan;
+          is = x.slot.is;
+          unrefused = none;
+          key = reopens plan (part new plan.area.start plan.area.len) passphrase (key_of given random) (random_stripes given.key_bytes (slot_place1 given.key_bytes) random) (omega (arith, stripes)) key_len random_len x.slot.sealed
+              ∙ ap (λ b. if b then Some (key_of given random) else None) meets;
+        }

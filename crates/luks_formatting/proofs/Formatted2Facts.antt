@@ -1,5 +1,5 @@
 -- A volume that was formatted by LUKS2 is well formed, and its keyslot 0 opens.
-use Rattle.std.proofs.Common.{◌≡◌, ℕ, ◌*◌, ◌-◌, ◌≤◌, ◌++◌, List, length, replicate, Option, Some, None, arith, sym, ap, ◌∙◌, subst, lit<, if◌then◌else◌}
+use Rattle.std.proofs.Common.{◌≡◌, ℕ, ◌+◌, ◌*◌, ◌-◌, ◌≤◌, ◌++◌, true, List, length, replicate, Option, Some, None, arith, sym, ap, ◌∙◌, subst, lit<, if◌then◌else◌}
 use Rattle.std.specs.Prelude.{IfSome}
 use Rattle.serde_json.specs.Data.{Data as Value}
 use Rattle.luks_area.specs.Ranges.{part}
@@ -39,12 +39,14 @@ use Rattle.luks_formatting.specs.Deriving.{slot_derivation}
 use Rattle.luks_formatting.specs.Formatted2.{IsFormatted2As}
 use Rattle.luks_formatting.specs.NewHeader2.{area2, first_slot_by, formatted_by, new_members, new_metadata, FitsMetadataAs, IsNewCipher2}
 use Rattle.luks_formatting.specs.NewPlan.{key_digest, IsNewPlanBy}
-use Rattle.luks_formatting.specs.RandomBytes.{digest_salt, random_stripes, slot_place2, slot_salt}
+use Rattle.luks_formatting.specs.RandomBytes.{digest_salt, needed_bytes, random_stripes, slot_place2, slot_salt}
+use Rattle.luks_formatting.specs.Encrypting.{is_older}
+use Rattle.luks_formatting.proofs.EncryptingFacts.{block_most, opens2, sizes, AreSizes}
 use Rattle.luks_formatting.specs.Given.{key_of, uuid_of, IsSound2}
 use Rattle.luks_formatting.specs.declared.given.Given.{Given}
 use Rattle.luks_formatting.proofs.GivenFacts.{length-key_of, uuid_is}
 use Rattle.luks_formatting.proofs.Formatted1Facts.{reopens}
-use Rattle.luks_formatting.proofs.Keyslot2Facts.{cipher_opens, fit, plan_is, segments}
+use Rattle.luks_formatting.proofs.Keyslot2Facts.{fit, plan_is, segments}
 use Rattle.luks_formatting.proofs.MetadataFacts.{can_format, held_by, length-slot_salt, no_some}
 use Rattle.luks_formatting.proofs.NewPlanFacts.{key_meets, makeable_enough, unrefused_chosen}
 
@@ -56,10 +58,13 @@ uuid_good text field_ good is = subst IsUuidField (sym is) (fills text good)
 no_meta : (area : List ℕ) (j : Value) → IsMeta area j → (f : MetaFault) → IsMetaFault area f → ⊥
 no_meta area j is = (metadata_faultless area).1 (j, is)
 
-module _ (given : Given) (format : Format) (chosen : Option NewDerivation) (passphrase random old new : List ℕ) (some : 1 ≤ format.iterations) (large : 16777216 ≤ length new) (counted : length random ≡ 256208)
+module _ (given : Given) (format : Format) (chosen : Option NewDerivation) (passphrase random old new : List ℕ) (some : 1 ≤ format.iterations) (large : 16777216 ≤ length new) (counted : length random ≡ needed_bytes true given.key_bytes)
     (sound : IsSound2 given (length new)) (fits : FitsMetadataAs given format chosen random) (x : IsFormatted2As given format chosen passphrase random old new) where
-  long : 272 ≤ length random
+  long : 208 + given.key_bytes ≤ length random
   long = omega (arith, counted)
+
+  sized : AreSizes given.key_bytes
+  sized = sizes given.cipher given.key_bytes sound.takes
 
   size : hdr_size (header_at new 0) ≡ 16384
   size = x.first.written.header.fields.hdr_size ∙ x.first.fields.hdr_size
@@ -79,7 +84,7 @@ module _ (given : Given) (format : Format) (chosen : Option NewDerivation) (pass
   meta = record {
     json = x.metadata.json;
     content = subst (λ (n : ℕ). IsContent n (new_metadata given format chosen random)) (sym x.metadata.long)
-        (held_by (slot_derivation format chosen) (new_members given format random) fits.fits (can_format given format random some long fits.digest_length) fits.derivation).content;
+        (held_by given.key_bytes sized (slot_derivation format chosen) (new_members given format random) fits.fits (can_format given format random sound.sector_size some long fits.digest_length) fits.derivation).content;
   }
 
   formed : IsLuks2Volume (header_at new 0) x.json given.payload (length new)
@@ -90,8 +95,8 @@ module _ (given : Given) (format : Format) (chosen : Option NewDerivation) (pass
       record {
         metadata = meta;
         segments = λ here. subst (λ (n : ℕ). SegmentsFollow n (new_metadata given format chosen random)) (sym x.metadata.long)
-            (segments given format chosen random some long fits (length new) sound large here);
-        fit = fit given format chosen random some long fits (length new) (hdr_size (header_at new 0)) size sound large;
+            (segments given format chosen random some long sound.takes sound.sector_size fits (length new) sound large here);
+        fit = fit given format chosen random some long sound.takes sound.sector_size fits (length new) (hdr_size (header_at new 0)) size sound large;
       },
     );
   }
@@ -104,32 +109,35 @@ module _ (given : Given) (format : Format) (chosen : Option NewDerivation) (pass
   }
 
   new_plan : (plan : SlotPlan) → HasLuks2Plan x.json 0 plan
-      → IsNewPlanBy (slot_derivation format chosen) format (slot_salt slot_place2 random) area2 (digest_salt random) (key_digest given format random (digest_size_of format.hash)) plan × IsNewCipher2 plan.cipher
-  new_plan = plan_is given format chosen random some long fits x.json x.metadata.json
+      → IsNewPlanBy (slot_derivation format chosen) format given.key_bytes (slot_salt (slot_place2 given.key_bytes) random) (area2 given.key_bytes) (digest_salt given.key_bytes random) (key_digest given format random (digest_size_of format.hash)) plan × IsNewCipher2 given.cipher plan.cipher
+  new_plan = plan_is given format chosen random some long sound.takes sound.sector_size fits x.json x.metadata.json
 
   -- where as much memory is allowed as the keyslot takes, its plan isn't refused
-  module _ (memory : ℕ) (allowed : Allowed) (can : IfSome chosen (IsMakeable memory)) (enough : memory_by (slot_derivation format chosen) ≤ allowed.memory) where
+  module _ (memory : ℕ) (allowed : Allowed) (can : IfSome chosen (IsMakeable memory)) (enough : memory_by (slot_derivation format chosen) ≤ allowed.memory)
+      (may : is_older given.cipher ≡ true → allowed.older ≡ true) where
     plan_unrefused : (plan : SlotPlan) → HasLuks2Plan x.json 0 plan → slot_refusal_within allowed plan ≡ None
     plan_unrefused plan y =
         let is = new_plan plan y in
-        unrefused_chosen format chosen (slot_salt slot_place2 random) area2 (digest_salt random) (key_digest given format random (digest_size_of format.hash)) plan is.0 (cipher_opens plan.cipher is.1)
-        allowed (length-slot_salt random long) (makeable_enough format memory allowed.memory chosen can enough)
+        unrefused_chosen format chosen given.cipher given.key_bytes (slot_salt (slot_place2 given.key_bytes) random) (area2 given.key_bytes) (digest_salt given.key_bytes random)
+        (key_digest given format random (digest_size_of format.hash)) plan is.0 (opens2 given.cipher plan.cipher is.1) sound.takes
+        allowed may (length-slot_salt given.key_bytes random long) (makeable_enough format memory allowed.memory chosen can enough)
 
     none : (f : OpenFault) → IsLuks2RefusalWithin allowed (header_at new 0) x.json (length new) 0 f → ⊥
     none (Head f) y = uuid_sound (uuid_field (header_at new 0)) uuid f y
     none (Meta f) y = no_meta x.json (new_metadata given format chosen random) meta f y
     none NoSuchSlot y =
         let v : VolumeMembers = new_members given format random in
-        let same : y.value ≡ formatted_by (slot_derivation format chosen) v = one_value x.json y.value (formatted_by (slot_derivation format chosen) v) y.holds x.metadata.json in
-        let gone : object_at (formatted_by (slot_derivation format chosen) v) Keyslots 0 ≡ None = subst (λ (k : Value). object_at k Keyslots 0 ≡ None) same (y.absent (lit< tt)) in
-        no_some (slot_value (first_slot_by (slot_derivation format chosen) v)) (sym gone)
+        let same : y.value ≡ formatted_by given.key_bytes (slot_derivation format chosen) v = one_value x.json y.value (formatted_by given.key_bytes (slot_derivation format chosen) v) y.holds x.metadata.json in
+        let gone : object_at (formatted_by given.key_bytes (slot_derivation format chosen) v) Keyslots 0 ≡ None = subst (λ (k : Value). object_at k Keyslots 0 ≡ None) same (y.absent (lit< tt)) in
+        no_some (slot_value (first_slot_by given.key_bytes (slot_derivation format chosen) v)) (sym gone)
     none SlotFree y = y
     none Outside y =
         let past = y.past in
         let is = (new_plan y.plan y.is).0 in
         let start = ap (λ (a : Area). a.start) is.area in
         let len = ap (λ (a : Area). a.len) is.area in
-        absurd (omega (arith, past, start, len, large))
+        let most = block_most given.key_bytes sized.high in
+        absurd (omega (arith, past, start, len, most, large))
     none (Slot s) y = (let both : None ≡ Some s = sym (plan_unrefused y.plan y.is) ∙ y.refused in no_some s both)
     none Device y = y
     none Memory y = y
@@ -139,8 +147,8 @@ module _ (given : Given) (format : Format) (chosen : Option NewDerivation) (pass
         let plan = x.slot.plan in
         let is = (new_plan plan x.slot.is).0 in
         let key_len : length (key_of given random) ≡ plan.key_bytes = length-key_of given random sound.key (omega (arith, counted)) ∙ sym is.key_bytes in
-        let random_len : length (random_stripes slot_place2 random) ≡ (plan.stripes - 1) * plan.key_bytes =
-        length-part_inside random 272 255936 (omega (arith, counted)) ∙ sym (ap (λ s. (s - 1) * plan.key_bytes) is.stripes ∙ ap (λ k. (4000 - 1) * k) is.key_bytes) in
+        let random_len : length (random_stripes given.key_bytes (slot_place2 given.key_bytes) random) ≡ (plan.stripes - 1) * plan.key_bytes =
+        length-part_inside random (slot_place2 given.key_bytes + 32) (3999 * given.key_bytes) (omega (arith, counted)) ∙ sym (ap (λ s. (s - 1) * plan.key_bytes) is.stripes ∙ ap (λ k. (4000 - 1) * k) is.key_bytes) in
         let meets = key_meets given format random (digest_size_of format.hash) plan.digest is.digest fits.digest_length in
         let stripes = is.stripes in
         record {
@@ -149,6 +157,6 @@ module _ (given : Given) (format : Format) (chosen : Option NewDerivation) (pass
           plan = plan;
           is = subst (λ (a : List ℕ). HasLuks2Plan a 0 plan) (sym json_there) x.slot.is;
           unrefused = subst (λ (a : List ℕ). (f : OpenFault) → IsLuks2RefusalWithin allowed (header_at new 0) a (length new) 0 f → ⊥) (sym json_there) none;
-          key = reopens plan (part new plan.area.start plan.area.len) passphrase (key_of given random) (random_stripes slot_place2 random) (omega (arith, stripes)) key_len random_len x.slot.sealed
+          key = reopens plan (part new plan.area.start plan.area.len) passphrase (key_of given random) (random_stripes given.key_bytes (slot_place2 given.key_bytes) random) (omega (arith, stripes)) key_len random_len x.slot.sealed
               ∙ ap (λ b. if b then Some (key_of given random) else None) meets;
         }

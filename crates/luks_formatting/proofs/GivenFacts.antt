@@ -1,5 +1,5 @@
 -- What follows of what is given of a new volume, where it is sound.
-use Rattle.std.proofs.Common.{◌≡◌, ◌≤◌, ◌<◌, ◌^◌, ◌*◌, ℕ, List, length, Option, None, Some, arith, lit<, lit≤, sym, ap, subst}
+use Rattle.std.proofs.Common.{◌≡◌, ◌+◌, ◌≤◌, ◌<◌, ◌^◌, ◌*◌, ℕ, false, List, length, Option, None, Some, arith, lit<, lit≤, refl, sym, ap, subst}
 use Rattle.std.specs.Prelude.{IfSome}
 use Rattle.std.specs.Borrow.{Bor}
 use Rattle.luks_area.proofs.RangeFacts.{length-part_inside}
@@ -9,7 +9,8 @@ use Rattle.luks2_header.proofs.UuidFacts.{uuid_text-is, uuid_text-length}
 use Rattle.luks_reading.specs.declared.report.Data.{Data}
 use Rattle.luks_reading.specs.declared.report.Data.TheVariants.{Here, Elsewhere}
 use Rattle.luks_formatting.specs.declared.given.Given.{Given}
-use Rattle.luks_formatting.specs.Given.{bytes_or, key_of, nothing_given, number_or, uuid_of, IsPlaced, IsSound1, IsSound2}
+use Rattle.luks_formatting.proofs.EncryptingFacts.{sizes}
+use Rattle.luks_formatting.specs.Given.{bytes_or, first_sector, key_of, nothing_given, number_or, uuid_of, IsPlaced, IsSound1, IsSound2}
 use Rattle.luks_formatting.specs.NewHeader1.{own_sector, payload_sector}
 use Rattle.luks_formatting.specs.NewHeader2.{own_segment, segment_sector, AreTexts2}
 use Rattle.luks_formatting.specs.RandomBytes.{uuid_bytes, volume_key}
@@ -22,13 +23,14 @@ uuid_by (Some text) random is = is
 pub uuid_is : (given : Given) (random : List ℕ) → IfSome given.uuid (λ text. IsUuid text.now) → IsUuid (uuid_of given random)
 uuid_is given random is = uuid_by given.uuid random is
 
--- the key has 64 bytes
-key_by : (o : Option (Bor (List ℕ))) (random : List ℕ) → IfSome o (λ key. length key.now ≡ 64) → 144 ≤ length random → length (bytes_or o (volume_key random)) ≡ 64
-key_by None random is long = length-part_inside random 16 64 (omega (arith, long))
-key_by (Some key) random is long = is
+-- the key has the bytes that are asked for
+key_by : (o : Option (Bor (List ℕ))) (k : ℕ) (random : List ℕ) → IfSome o (λ key. length key.now ≡ k) → 16 + k ≤ length random → length (bytes_or o (volume_key k random)) ≡ k
+key_by None k random is long = length-part_inside random 16 k (omega (arith, long))
+key_by (Some key) k random is long = is
 
-pub length-key_of : (given : Given) (random : List ℕ) → IfSome given.key (λ key. length key.now ≡ 64) → 144 ≤ length random → length (key_of given random) ≡ 64
-length-key_of given random is long = key_by given.key random is long
+pub length-key_of : (given : Given) (random : List ℕ) → IfSome given.key (λ key. length key.now ≡ given.key_bytes) → 16 + given.key_bytes ≤ length random
+    → length (key_of given random) ≡ given.key_bytes
+length-key_of given random is long = key_by given.key given.key_bytes random is long
 
 -- a text of a uuid has 36 bytes
 text_by : (o : Option (Bor (List ℕ))) → IfSome o (λ text. IsUuid text.now) → IfSome o (λ text. length text.now ≡ 36)
@@ -70,27 +72,33 @@ pub record AreBehind (first sector total : ℕ) : Type 0 where
   pub low : first ≤ sector
   pub inside : 512 * sector ≤ total
 
-placed1_by : (o : Option ℕ) (total : ℕ) → IfSome o (IsPlaced 4036 (2 ^ 32) Here total) → 2097152 ≤ total → AreBehind 4036 (number_or o 4096) total
-placed1_by None total is large = record { low = lit≤ tt; inside = omega (arith, large) }
-placed1_by (Some s) total is large = record { low = is.0; inside = is.2 }
+-- of no key do the key areas end behind 2 MiB
+first_low : (k : ℕ) → k ≤ 64 → first_sector false k ≤ 4096
+first_low k high = omega (arith, high)
 
-pub placed1 : (given : Given) (total : ℕ) → IsSound1 given total → 2097152 ≤ total → given.payload ≡ Here → AreBehind 4036 (payload_sector given) total
+placed1_by : (o : Option ℕ) (first total : ℕ) → first ≤ 4096 → IfSome o (IsPlaced first (2 ^ 32) Here total) → 2097152 ≤ total → AreBehind first (number_or o 4096) total
+placed1_by None first total low is large = record { low = low; inside = omega (arith, large) }
+placed1_by (Some s) first total low is large = record { low = is.0; inside = is.2 }
+
+pub placed1 : (given : Given) (total : ℕ) → IsSound1 given total → 2097152 ≤ total → given.payload ≡ Here → AreBehind (first_sector false given.key_bytes) (payload_sector given) total
 placed1 given total sound large here =
-    let placed : IfSome given.sector (IsPlaced 4036 (2 ^ 32) Here total) = subst (λ (p : Data). IfSome given.sector (IsPlaced 4036 (2 ^ 32) p total)) here sound.sector in
-    subst (λ (n : ℕ). AreBehind 4036 (number_or given.sector n) total) (sym (ap own_sector here)) (placed1_by given.sector total placed large)
+    let first : ℕ = first_sector false given.key_bytes in
+    let low : first ≤ 4096 = first_low given.key_bytes (sizes given.cipher given.key_bytes sound.takes).high in
+    let placed : IfSome given.sector (IsPlaced first (2 ^ 32) Here total) = subst (λ (p : Data). IfSome given.sector (IsPlaced first (2 ^ 32) p total)) here sound.sector in
+    subst (λ (n : ℕ). AreBehind first (number_or given.sector n) total) (sym (ap own_sector here)) (placed1_by given.sector first total low placed large)
 
-told1_by : (o : Option ℕ) (payload : Data) (total : ℕ) → IfSome o (IsPlaced 4036 (2 ^ 32) payload total) → number_or o (own_sector payload) < 2 ^ 32
-told1_by None Here total is = lit< tt
-told1_by None Elsewhere total is = lit< tt
-told1_by (Some s) Here total is = is.1
-told1_by (Some s) Elsewhere total is = is
+told1_by : (o : Option ℕ) (payload : Data) (first total : ℕ) → IfSome o (IsPlaced first (2 ^ 32) payload total) → number_or o (own_sector payload) < 2 ^ 32
+told1_by None Here first total is = lit< tt
+told1_by None Elsewhere first total is = lit< tt
+told1_by (Some s) Here first total is = is.1
+told1_by (Some s) Elsewhere first total is = is
 
 pub told1 : (given : Given) (total : ℕ) → IsSound1 given total → payload_sector given < 2 ^ 32
-told1 given total sound = told1_by given.sector given.payload total sound.sector
+told1 given total sound = told1_by given.sector given.payload (first_sector false given.key_bytes) total sound.sector
 
 -- where nothing is given, all is sound
 pub nothing_sound1 : (payload : Data) (total : ℕ) → IsSound1 (nothing_given payload) total
-nothing_sound1 payload total = record { sector = tt; uuid = tt; key = tt; label = tt; subsystem = tt }
+nothing_sound1 payload total = record { sector = tt; uuid = tt; takes = refl; key = tt; sector_size = refl; label = tt; subsystem = tt }
 
 -- ---- of LUKS2
 
@@ -113,4 +121,4 @@ pub told2 : (given : Given) (total : ℕ) → IsSound2 given total → segment_s
 told2 given total sound = told2_by given.sector given.payload total sound.sector
 
 pub nothing_sound2 : (payload : Data) (total : ℕ) → IsSound2 (nothing_given payload) total
-nothing_sound2 payload total = record { sector = tt; uuid = tt; key = tt; label = tt; subsystem = tt }
+nothing_sound2 payload total = record { sector = tt; uuid = tt; takes = refl; key = tt; sector_size = refl; label = tt; subsystem = tt }

@@ -1,7 +1,7 @@
 -- What the metadata of a new LUKS2 volume places: the areas, and the plan of keyslot 0.
 use Rattle.std.proofs.lemmas.Bool.{cases_eq}
 use Rattle.serde_json.specs.Find.{get}
-use Rattle.std.proofs.Common.{◌≡◌, ◌≢◌, ℕ, ◌+◌, ◌-◌, ◌<◌, ◌≤◌, List, length, codes, Option, Some, None, true, option_and_then, arith, refl, sym, ap, ◌∙◌, subst, lit<, lit≤, inl, inr}
+use Rattle.std.proofs.Common.{◌≡◌, ◌≢◌, ℕ, ◌+◌, ◌-◌, ◌<◌, ◌≤◌, ◌^◌, List, length, codes, Option, Some, None, true, option_and_then, arith, refl, sym, ap, ◌∙◌, subst, lit<, lit≤, inl, inr}
 use Rattle.serde_json.specs.Data.{Data as Value, number, string, unsigned}
 use Rattle.luks_area.specs.Area.{Fit, IsInside, LiesIn}
 use Rattle.luks_area.specs.declared.area.Area.{Area}
@@ -30,7 +30,7 @@ use Rattle.luks_making.specs.Unchanged.{SaysArgon2, SaysDerivation, SaysMembers,
 use Rattle.luks_making.specs.declared.derivation.Argon2Costs.{Argon2Costs}
 use Rattle.luks_meta.specs.Says.{small_at}
 use Rattle.luks_slot.specs.declared.plan.DigestPlan.{DigestPlan}
-use Rattle.luks_slot.specs.Refusal.{is_open_cipher}
+use Rattle.luks_rules.specs.Reading.{is_sector_size}
 use Rattle.luks_slot.specs.declared.plan.AreaCipher.{AreaCipher}
 use Rattle.luks_slot.specs.declared.plan.AreaCipher.TheVariants.{Apart, Whole}
 use Rattle.luks_slot.specs.declared.plan.Argon2Kind.{Argon2Kind}
@@ -44,6 +44,8 @@ use Rattle.luks_reading.proofs.PlanFacts.{no_pbkdf2}
 use Rattle.luks_reading.specs.Plans.{kind_text, HasLuks2Plan, IsLuks2Cipher, IsLuks2Derivation, IsLuks2Digest, IsLuks2Plan}
 use Rattle.luks_reading.specs.declared.report.Data.TheVariants.{Here}
 use Rattle.luks_making.specs.declared.derivation.NewDerivation.{NewDerivation}
+use Rattle.luks_formatting.specs.Encrypting.{block_bytes, cipher_text, takes_key}
+use Rattle.luks_formatting.proofs.EncryptingFacts.{block_most, sizes, AreSizes}
 use Rattle.luks_formatting.specs.Deriving.{slot_derivation, IsArgon2Plan, IsDerivedBy}
 use Rattle.luks_formatting.specs.NewHeader2.{area2, first_slot_by, formatted_by, new_members, new_metadata, segment_start, FitsMetadataAs, IsNewCipher2}
 use Rattle.luks_formatting.specs.NewPlan.{key_digest, IsNewDigest, IsNewPlanBy}
@@ -54,47 +56,41 @@ use Rattle.luks_formatting.proofs.GivenFacts.{placed2}
 use Rattle.luks_formatting.proofs.Formatted1Facts.{area_is}
 use Rattle.luks_formatting.proofs.MetadataFacts.{can_format, digest_at, keyslots_say, length-digest_salt, no_some, segment_at, slot_at, slot_fits, some_same}
 
--- ---- the areas
+-- ---- the areas, where that of keyslot 0 has so many bytes
 
-abbrev Bounds : ℕ → AreaName → Area → Type 0
-Bounds total Head1 a = (a.start ≡ 0) × (a.len ≡ 16384)
-Bounds total Head2 a = (a.start ≡ 16384) × (a.len ≡ 16384)
-Bounds total (SlotName n) a = (n ≡ 0) × (a.start ≡ 32768) × (a.len ≡ 258048)
-Bounds total (Segment n) a = (n ≡ 0) × (16777216 ≤ a.start) × (a.start ≤ total) × (a.len ≡ total - a.start)
+abbrev Bounds : ℕ → ℕ → AreaName → Area → Type 0
+Bounds size total Head1 a = (a.start ≡ 0) × (a.len ≡ 16384)
+Bounds size total Head2 a = (a.start ≡ 16384) × (a.len ≡ 16384)
+Bounds size total (SlotName n) a = (n ≡ 0) × (a.start ≡ 32768) × (a.len ≡ size)
+Bounds size total (Segment n) a = (n ≡ 0) × (16777216 ≤ a.start) × (a.start ≤ total) × (a.len ≡ total - a.start)
 
-bounds_inside : (total : ℕ) → 16777216 ≤ total → (n : AreaName) (a : Area) → Bounds total n a → IsInside a total
-bounds_inside total large Head1 a at = let start = at.0 in let len = at.1 in omega (arith, start, len, large)
-bounds_inside total large Head2 a at = let start = at.0 in let len = at.1 in omega (arith, start, len, large)
-bounds_inside total large (SlotName n) a at = let start = at.1 in let len = at.2 in omega (arith, start, len, large)
-bounds_inside total large (Segment n) a at = let start = at.2 in let len = at.3 in omega (arith, start, len)
+bounds_inside : (size total : ℕ) → size ≤ 258048 → 16777216 ≤ total → (n : AreaName) (a : Area) → Bounds size total n a → IsInside a total
+bounds_inside size total most large Head1 a at = let start = at.0 in let len = at.1 in omega (arith, start, len, large)
+bounds_inside size total most large Head2 a at = let start = at.0 in let len = at.1 in omega (arith, start, len, large)
+bounds_inside size total most large (SlotName n) a at = let start = at.1 in let len = at.2 in omega (arith, start, len, most, large)
+bounds_inside size total most large (Segment n) a at = let start = at.2 in let len = at.3 in omega (arith, start, len)
 
 -- an area that ends where another begins, or before
 apart : (a b : Area) (p : ℕ) → a.start + a.len ≤ b.start → LiesIn p a → LiesIn p b → ⊥
 apart a b p before here there = let high = here.1 in let low = there.0 in absurd (omega (arith, before, high, low))
 
-bounds_apart : (total : ℕ) (m n : AreaName) (a b : Area) → Bounds total m a → Bounds total n b → m ≢ n → (p : ℕ) → LiesIn p a → LiesIn p b → ⊥
-bounds_apart total Head1 Head1 a b x y other p here there = other refl
-bounds_apart total Head2 Head2 a b x y other p here there = other refl
-bounds_apart total (SlotName m) (SlotName n) a b x y other p here there = other (ap SlotName (x.0 ∙ sym y.0))
-bounds_apart total (Segment m) (Segment n) a b x y other p here there = other (ap Segment (x.0 ∙ sym y.0))
-bounds_apart total Head1 Head2 a b x y other p here there = let s = x.0 in let l = x.1 in let t = y.0 in apart a b p (omega (arith, s, l, t)) here there
-bounds_apart total Head1 (SlotName n) a b x y other p here there = let s = x.0 in let l = x.1 in let t = y.1 in apart a b p (omega (arith, s, l, t)) here there
-bounds_apart total Head1 (Segment n) a b x y other p here there = let s = x.0 in let l = x.1 in let t = y.1 in apart a b p (omega (arith, s, l, t)) here there
-bounds_apart total Head2 Head1 a b x y other p here there = let s = y.0 in let l = y.1 in let t = x.0 in apart b a p (omega (arith, s, l, t)) there here
-bounds_apart total Head2 (SlotName n) a b x y other p here there = let s = x.0 in let l = x.1 in let t = y.1 in apart a b p (omega (arith, s, l, t)) here there
-bounds_apart total Head2 (Segment n) a b x y other p here there = let s = x.0 in let l = x.1 in let t = y.1 in apart a b p (omega (arith, s, l, t)) here there
-bounds_apart total (SlotName m) Head1 a b x y other p here there = let s = y.0 in let l = y.1 in let t = x.1 in apart b a p (omega (arith, s, l, t)) there here
-bounds_apart total (SlotName m) Head2 a b x y other p here there = let s = y.0 in let l = y.1 in let t = x.1 in apart b a p (omega (arith, s, l, t)) there here
-bounds_apart total (SlotName m) (Segment n) a b x y other p here there = let s = x.1 in let l = x.2 in let t = y.1 in apart a b p (omega (arith, s, l, t)) here there
-bounds_apart total (Segment m) Head1 a b x y other p here there = let s = y.0 in let l = y.1 in let t = x.1 in apart b a p (omega (arith, s, l, t)) there here
-bounds_apart total (Segment m) Head2 a b x y other p here there = let s = y.0 in let l = y.1 in let t = x.1 in apart b a p (omega (arith, s, l, t)) there here
-bounds_apart total (Segment m) (SlotName n) a b x y other p here there = let s = y.1 in let l = y.2 in let t = x.1 in apart b a p (omega (arith, s, l, t)) there here
-
--- ---- the plan of keyslot 0
-
-pub cipher_opens : (cipher : AreaCipher) → IsNewCipher2 cipher → is_open_cipher cipher ≡ true
-cipher_opens (Apart name mode) is = absurd is
-cipher_opens (Whole text) is = rw is refl
+bounds_apart : (size total : ℕ) → size ≤ 258048 → (m n : AreaName) (a b : Area) → Bounds size total m a → Bounds size total n b → m ≢ n → (p : ℕ) → LiesIn p a → LiesIn p b → ⊥
+bounds_apart size total most Head1 Head1 a b x y other p here there = other refl
+bounds_apart size total most Head2 Head2 a b x y other p here there = other refl
+bounds_apart size total most (SlotName m) (SlotName n) a b x y other p here there = other (ap SlotName (x.0 ∙ sym y.0))
+bounds_apart size total most (Segment m) (Segment n) a b x y other p here there = other (ap Segment (x.0 ∙ sym y.0))
+bounds_apart size total most Head1 Head2 a b x y other p here there = let s = x.0 in let l = x.1 in let t = y.0 in apart a b p (omega (arith, s, l, t)) here there
+bounds_apart size total most Head1 (SlotName n) a b x y other p here there = let s = x.0 in let l = x.1 in let t = y.1 in apart a b p (omega (arith, s, l, t)) here there
+bounds_apart size total most Head1 (Segment n) a b x y other p here there = let s = x.0 in let l = x.1 in let t = y.1 in apart a b p (omega (arith, s, l, t)) here there
+bounds_apart size total most Head2 Head1 a b x y other p here there = let s = y.0 in let l = y.1 in let t = x.0 in apart b a p (omega (arith, s, l, t)) there here
+bounds_apart size total most Head2 (SlotName n) a b x y other p here there = let s = x.0 in let l = x.1 in let t = y.1 in apart a b p (omega (arith, s, l, t)) here there
+bounds_apart size total most Head2 (Segment n) a b x y other p here there = let s = x.0 in let l = x.1 in let t = y.1 in apart a b p (omega (arith, s, l, t)) here there
+bounds_apart size total most (SlotName m) Head1 a b x y other p here there = let s = y.0 in let l = y.1 in let t = x.1 in apart b a p (omega (arith, s, l, t)) there here
+bounds_apart size total most (SlotName m) Head2 a b x y other p here there = let s = y.0 in let l = y.1 in let t = x.1 in apart b a p (omega (arith, s, l, t)) there here
+bounds_apart size total most (SlotName m) (Segment n) a b x y other p here there = let s = x.1 in let l = x.2 in let t = y.1 in apart a b p (omega (arith, s, l, t, most)) here there
+bounds_apart size total most (Segment m) Head1 a b x y other p here there = let s = y.0 in let l = y.1 in let t = x.1 in apart b a p (omega (arith, s, l, t)) there here
+bounds_apart size total most (Segment m) Head2 a b x y other p here there = let s = y.0 in let l = y.1 in let t = x.1 in apart b a p (omega (arith, s, l, t)) there here
+bounds_apart size total most (Segment m) (SlotName n) a b x y other p here there = let s = y.1 in let l = y.2 in let t = x.1 in apart b a p (omega (arith, s, l, t, most)) there here
 
 -- ---- what a keyslot says of its derivation
 
@@ -160,25 +156,36 @@ tells_derivation (by_pbkdf2 h n) k salt says salted d is = tells_pbkdf2 k salt s
 tells_derivation (by_argon2i costs) k salt says salted d is = tells_argon2 k salt salted I costs says d is
 tells_derivation (by_argon2id costs) k salt says salted d is = tells_argon2 k salt salted Id costs says d is
 
-module _ (given : Given) (format : Format) (chosen : Option NewDerivation) (random : List ℕ) (some : 1 ≤ format.iterations) (long : 272 ≤ length random) (fits : FitsMetadataAs given format chosen random) where
-  can : CanFormat (new_members given format random)
-  can = can_format given format random some long fits.digest_length
+-- a number that 64 bits tell
+short : (n : ℕ) → n ≤ 258048 → n < 2 ^ 64
+short n most = omega (arith, most)
 
-  slot_says : SaysMembers (first_slot_by (slot_derivation format chosen) (new_members given format random)) (slot_value (first_slot_by (slot_derivation format chosen) (new_members given format random)))
-  slot_says = says_members (first_slot_by (slot_derivation format chosen) (new_members given format random)) (slot_fits (slot_derivation format chosen) (new_members given format random) fits.fits can fits.derivation)
+module _ (given : Given) (format : Format) (chosen : Option NewDerivation) (random : List ℕ) (some : 1 ≤ format.iterations) (long : 208 + given.key_bytes ≤ length random)
+    (takes : takes_key given.cipher given.key_bytes ≡ true) (size : is_sector_size given.sector_size ≡ true) (fits : FitsMetadataAs given format chosen random) where
+  can : CanFormat (new_members given format random)
+  can = can_format given format random size some long fits.digest_length
+
+  sized : AreSizes given.key_bytes
+  sized = sizes given.cipher given.key_bytes takes
+
+  most : block_bytes given.key_bytes ≤ 258048
+  most = block_most given.key_bytes sized.high
+
+  slot_says : SaysMembers (first_slot_by given.key_bytes (slot_derivation format chosen) (new_members given format random)) (slot_value (first_slot_by given.key_bytes (slot_derivation format chosen) (new_members given format random)))
+  slot_says = says_members (first_slot_by given.key_bytes (slot_derivation format chosen) (new_members given format random)) (slot_fits given.key_bytes sized (slot_derivation format chosen) (new_members given format random) fits.fits can fits.derivation)
 
   -- ---- the areas of the metadata
   slot_bounds : (total n : ℕ) (a : Area) → n < 32 → slot_number (new_metadata given format chosen random) n (codes "offset") ≡ Some a.start
-      → slot_number (new_metadata given format chosen random) n (codes "size") ≡ Some a.len → Bounds total (SlotName n) a
+      → slot_number (new_metadata given format chosen random) n (codes "size") ≡ Some a.len → Bounds (block_bytes given.key_bytes) total (SlotName n) a
   slot_bounds total n a small start len =
       let j : Value = new_metadata given format chosen random in
       elim (cases_eq n 0) [
         | inl zero ↦ (
             let first : slot_number j 0 (codes "offset") ≡ Some a.start = subst (λ (m : ℕ). slot_number j m (codes "offset") ≡ Some a.start) zero start in
             let second : slot_number j 0 (codes "size") ≡ Some a.len = subst (λ (m : ℕ). slot_number j m (codes "size") ≡ Some a.len) zero len in
-            (zero, some_same a.start 32768 (sym first ∙ decimal_is 32768 (lit< tt)), some_same a.len 258048 (sym second ∙ decimal_is 258048 (lit< tt))))
+            (zero, some_same a.start 32768 (sym first ∙ decimal_is 32768 (lit< tt)), some_same a.len (block_bytes given.key_bytes) (sym second ∙ decimal_is (block_bytes given.key_bytes) (short (block_bytes given.key_bytes) most))))
         | inr other ↦ (
-            let none : object_at j Keyslots n ≡ None = none_else (slot_value (first_slot_by (slot_derivation format chosen) (new_members given format random))) n other in
+            let none : object_at j Keyslots n ≡ None = none_else (slot_value (first_slot_by given.key_bytes (slot_derivation format chosen) (new_members given format random))) n other in
             absurd (no_some a.start (sym (ap (λ o. decimal_in (option_and_then (get (codes "offset")) (option_and_then (get (codes "area")) o))) none) ∙ start)))
       ]
 
@@ -191,7 +198,7 @@ module _ (given : Given) (format : Format) (chosen : Option NewDerivation) (rand
 
   segment_bounds : (total n : ℕ) (a : Area) → IsSound2 given total → 16777216 ≤ total → n < 32 → given.payload ≡ Here
       → segment_offset (new_metadata given format chosen random) n ≡ Some a.start
-      → HasExtent total a.start a.len (segment_extent (new_metadata given format chosen random) n) → Bounds total (Segment n) a
+      → HasExtent total a.start a.len (segment_extent (new_metadata given format chosen random) n) → Bounds (block_bytes given.key_bytes) total (Segment n) a
   segment_bounds total n a sound large small here start extent =
       let j : Value = new_metadata given format chosen random in
       elim (cases_eq n 0) [
@@ -209,7 +216,7 @@ module _ (given : Given) (format : Format) (chosen : Option NewDerivation) (rand
       ]
 
   bounds : (total h : ℕ) → h ≡ 16384 → IsSound2 given total → 16777216 ≤ total → (n : AreaName) (a : Area)
-      → Luks2Area (new_metadata given format chosen random) h given.payload total n a → Bounds total n a
+      → Luks2Area (new_metadata given format chosen random) h given.payload total n a → Bounds (block_bytes given.key_bytes) total n a
   bounds total h size sound large Head1 a at = (at.0, at.1 ∙ size)
   bounds total h size sound large Head2 a at = (at.0 ∙ size, at.1 ∙ size)
   bounds total h size sound large (SlotName n) a at = slot_bounds total n a at.0 at.1 at.2
@@ -217,38 +224,38 @@ module _ (given : Given) (format : Format) (chosen : Option NewDerivation) (rand
 
   pub fit : (total h : ℕ) → h ≡ 16384 → IsSound2 given total → 16777216 ≤ total → Fit (Luks2Area (new_metadata given format chosen random) h given.payload total) total
   fit total h size sound large = record {
-    inside = λ n a at. bounds_inside total large n a (bounds total h size sound large n a at);
-    disjoint = λ m n a b x y other. bounds_apart total m n a b (bounds total h size sound large m a x) (bounds total h size sound large n b y) other;
+    inside = λ n a at. bounds_inside (block_bytes given.key_bytes) total most large n a (bounds total h size sound large n a at);
+    disjoint = λ m n a b x y other. bounds_apart (block_bytes given.key_bytes) total most m n a b (bounds total h size sound large m a x) (bounds total h size sound large n b y) other;
   }
 
   pub segments : (total : ℕ) → IsSound2 given total → 16777216 ≤ total → given.payload ≡ Here → SegmentsFollow 12288 (new_metadata given format chosen random)
   segments total sound large here = record {
     each = λ n d bytes start held region offset.
         let v : VolumeMembers = new_members given format random in
-        let is : segment_value v ≡ d = (segment_at (slot_derivation format chosen) v n d held.is).1 in
+        let is : segment_value v ≡ d = (segment_at given.key_bytes (slot_derivation format chosen) v n d held.is).1 in
         let at : decimal_in (inside_at outer.Top (codes "offset") (segment_value v)) ≡ Some start = subst (λ (o : Value). decimal_in (inside_at outer.Top (codes "offset") o) ≡ Some start) (sym is) offset in
         let from : start ≡ segment_start given = some_same start (segment_start given) (sym at ∙ decimal_is (segment_start given) fits.fits.segment_offset) in
-        let size : bytes ≡ 16744448 = some_same bytes 16744448 (sym region ∙ keyslots_say (slot_derivation format chosen) v) in
+        let size : bytes ≡ 16744448 = some_same bytes 16744448 (sym region ∙ keyslots_say given.key_bytes (slot_derivation format chosen) v) in
         let low = (segment_from total sound large here).0 in
         omega (arith, from, size, low);
   }
 
   -- ---- the plans of keyslot 0
-  pub derivation_is : (d : Derivation) → IsLuks2Derivation (slot_value (first_slot_by (slot_derivation format chosen) (new_members given format random))) d
-      → IsDerivedBy (slot_derivation format chosen) (slot_salt slot_place2 random) d
-  derivation_is d is = told_derivation (slot_derivation format chosen) (slot_value (first_slot_by (slot_derivation format chosen) (new_members given format random)))
-      (slot_salt slot_place2 random) slot_says.derivation slot_says.salt d is
+  pub derivation_is : (d : Derivation) → IsLuks2Derivation (slot_value (first_slot_by given.key_bytes (slot_derivation format chosen) (new_members given format random))) d
+      → IsDerivedBy (slot_derivation format chosen) (slot_salt (slot_place2 given.key_bytes) random) d
+  derivation_is d is = told_derivation (slot_derivation format chosen) (slot_value (first_slot_by given.key_bytes (slot_derivation format chosen) (new_members given format random)))
+      (slot_salt (slot_place2 given.key_bytes) random) slot_says.derivation slot_says.salt d is
 
-  derivation_by : (d : Derivation) → IsDerivedBy (slot_derivation format chosen) (slot_salt slot_place2 random) d
-      → IsLuks2Derivation (slot_value (first_slot_by (slot_derivation format chosen) (new_members given format random))) d
-  derivation_by d is = tells_derivation (slot_derivation format chosen) (slot_value (first_slot_by (slot_derivation format chosen) (new_members given format random)))
-      (slot_salt slot_place2 random) slot_says.derivation slot_says.salt d is
+  derivation_by : (d : Derivation) → IsDerivedBy (slot_derivation format chosen) (slot_salt (slot_place2 given.key_bytes) random) d
+      → IsLuks2Derivation (slot_value (first_slot_by given.key_bytes (slot_derivation format chosen) (new_members given format random))) d
+  derivation_by d is = tells_derivation (slot_derivation format chosen) (slot_value (first_slot_by given.key_bytes (slot_derivation format chosen) (new_members given format random)))
+      (slot_salt (slot_place2 given.key_bytes) random) slot_says.derivation slot_says.salt d is
 
-  cipher_is : (cipher : AreaCipher) → IsLuks2Cipher (slot_value (first_slot_by (slot_derivation format chosen) (new_members given format random))) cipher → IsNewCipher2 cipher
+  cipher_is : (cipher : AreaCipher) → IsLuks2Cipher (slot_value (first_slot_by given.key_bytes (slot_derivation format chosen) (new_members given format random))) cipher → IsNewCipher2 given.cipher cipher
   cipher_is (Apart name mode) is = absurd is
-  cipher_is (Whole text) is = some_same text.now (codes "aes-xts-plain64") (sym is ∙ slot_says.encryption)
+  cipher_is (Whole text) is = some_same text.now (cipher_text given.cipher) (sym is ∙ slot_says.encryption)
 
-  cipher_by : (cipher : AreaCipher) → IsNewCipher2 cipher → IsLuks2Cipher (slot_value (first_slot_by (slot_derivation format chosen) (new_members given format random))) cipher
+  cipher_by : (cipher : AreaCipher) → IsNewCipher2 given.cipher cipher → IsLuks2Cipher (slot_value (first_slot_by given.key_bytes (slot_derivation format chosen) (new_members given format random))) cipher
   cipher_by (Apart name mode) is = absurd is
   cipher_by (Whole text) is = slot_says.encryption ∙ ap Some (sym is)
 
@@ -256,10 +263,10 @@ module _ (given : Given) (format : Format) (chosen : Option NewDerivation) (rand
   digest_iterations : number_in 1 4294967295 (Some (number (unsigned format.iterations))) ≡ Some format.iterations
   digest_iterations = number_is 1 4294967295 format.iterations (record { from = some; to = (let turns = fits.fits.iterations in omega (arith, turns)) })
 
-  digest_salt_says : bytes_in 1 128 (Some (string (base64_text (digest_salt random)))) ≡ Some (digest_salt random)
+  digest_salt_says : bytes_in 1 128 (Some (string (base64_text (digest_salt given.key_bytes random)))) ≡ Some (digest_salt given.key_bytes random)
   digest_salt_says =
-      let size = length-digest_salt random long in
-      bytes_are 1 128 (digest_salt random) (lit≤ tt) fits.fits.digest_salt (record { from = omega (arith, size); to = omega (arith, size) })
+      let size = length-digest_salt given.key_bytes random long in
+      bytes_are 1 128 (digest_salt given.key_bytes random) (lit≤ tt) fits.fits.digest_salt (record { from = omega (arith, size); to = omega (arith, size) })
 
   digest_stored : bytes_in 20 64 (Some (string (base64_text (key_digest given format random (digest_size_of format.hash))))) ≡ Some (key_digest given format random (digest_size_of format.hash))
   digest_stored =
@@ -269,10 +276,10 @@ module _ (given : Given) (format : Format) (chosen : Option NewDerivation) (rand
       bytes_are 20 64 (key_digest given format random (digest_size_of format.hash)) (lit≤ tt) fits.fits.digest (record { from = low; to = high })
 
   digest_is : (digest : DigestPlan) → IsLuks2Digest (new_metadata given format chosen random) 0 digest
-      → IsNewDigest format (digest_salt random) (key_digest given format random (digest_size_of format.hash)) digest
+      → IsNewDigest format (digest_salt given.key_bytes random) (key_digest given format random (digest_size_of format.hash)) digest
   digest_is digest y =
       let v : VolumeMembers = new_members given format random in
-      let is : digest_value v ≡ y.object = (digest_at (slot_derivation format chosen) v y.number y.object y.there).1 in
+      let is : digest_value v ≡ y.object = (digest_at given.key_bytes (slot_derivation format chosen) v y.number y.object y.there).1 in
       let d : Value = digest_value v in
       let hash : text_of (member_at d outer.Top name.Hash) ≡ Some digest.hash.now = subst (λ (o : Value). text_of (member_at o outer.Top name.Hash) ≡ Some digest.hash.now) (sym is) y.hash in
       let turns : small_at d outer.Top name.Iterations ≡ Some digest.iterations = subst (λ (o : Value). small_at o outer.Top name.Iterations ≡ Some digest.iterations) (sym is) y.iterations in
@@ -281,26 +288,26 @@ module _ (given : Given) (format : Format) (chosen : Option NewDerivation) (rand
       record {
         hash = some_same digest.hash.now (name_of format.hash) (sym hash);
         iterations = some_same digest.iterations format.iterations (sym turns ∙ digest_iterations);
-        own_salt = some_same digest.salt.now (digest_salt random) (sym salt ∙ digest_salt_says);
+        own_salt = some_same digest.salt.now (digest_salt given.key_bytes random) (sym salt ∙ digest_salt_says);
         own_stored = some_same digest.stored.now (key_digest given format random (digest_size_of format.hash)) (sym stored ∙ digest_stored);
       }
 
   -- a plan that the metadata gives is the one that was sealed by
   pub plan_is : (json : List ℕ) → Json json (new_metadata given format chosen random)
       → (plan : SlotPlan) → HasLuks2Plan json 0 plan
-      → IsNewPlanBy (slot_derivation format chosen) format (slot_salt slot_place2 random) area2 (digest_salt random) (key_digest given format random (digest_size_of format.hash)) plan × IsNewCipher2 plan.cipher
+      → IsNewPlanBy (slot_derivation format chosen) format given.key_bytes (slot_salt (slot_place2 given.key_bytes) random) (area2 given.key_bytes) (digest_salt given.key_bytes random) (key_digest given format random (digest_size_of format.hash)) plan × IsNewCipher2 given.cipher plan.cipher
   plan_is json holds plan y =
       let v : VolumeMembers = new_members given format random in
-      let same : y.value ≡ formatted_by (slot_derivation format chosen) v = one_value json y.value (formatted_by (slot_derivation format chosen) v) y.holds holds in
-      let there : object_at (formatted_by (slot_derivation format chosen) v) Keyslots 0 ≡ Some y.object = subst (λ (k : Value). object_at k Keyslots 0 ≡ Some y.object) same y.there in
-      let object_is : slot_value (first_slot_by (slot_derivation format chosen) v) ≡ y.object = (slot_at (slot_derivation format chosen) v 0 y.object there).1 in
-      let first : IsLuks2Plan (formatted_by (slot_derivation format chosen) v) 0 y.object plan = subst (λ (k : Value). IsLuks2Plan k 0 y.object plan) same y.is in
-      let is : IsLuks2Plan (formatted_by (slot_derivation format chosen) v) 0 (slot_value (first_slot_by (slot_derivation format chosen) v)) plan = subst (λ (o : Value). IsLuks2Plan (formatted_by (slot_derivation format chosen) v) 0 o plan) (sym object_is) first in (
+      let same : y.value ≡ formatted_by given.key_bytes (slot_derivation format chosen) v = one_value json y.value (formatted_by given.key_bytes (slot_derivation format chosen) v) y.holds holds in
+      let there : object_at (formatted_by given.key_bytes (slot_derivation format chosen) v) Keyslots 0 ≡ Some y.object = subst (λ (k : Value). object_at k Keyslots 0 ≡ Some y.object) same y.there in
+      let object_is : slot_value (first_slot_by given.key_bytes (slot_derivation format chosen) v) ≡ y.object = (slot_at given.key_bytes (slot_derivation format chosen) v 0 y.object there).1 in
+      let first : IsLuks2Plan (formatted_by given.key_bytes (slot_derivation format chosen) v) 0 y.object plan = subst (λ (k : Value). IsLuks2Plan k 0 y.object plan) same y.is in
+      let is : IsLuks2Plan (formatted_by given.key_bytes (slot_derivation format chosen) v) 0 (slot_value (first_slot_by given.key_bytes (slot_derivation format chosen) v)) plan = subst (λ (o : Value). IsLuks2Plan (formatted_by given.key_bytes (slot_derivation format chosen) v) 0 o plan) (sym object_is) first in (
         record {
           derivation = derivation_is plan.derivation is.derivation;
-          area = area_is plan.area 32768 258048 (some_same plan.area.start 32768 (sym is.start ∙ slot_says.offset)) (some_same plan.area.len 258048 (sym is.len ∙ slot_says.size));
-          area_key_bytes = some_same plan.area_key_bytes 64 (sym is.area_key_bytes ∙ slot_says.area_key_size);
-          key_bytes = some_same plan.key_bytes 64 (sym is.key_bytes ∙ slot_says.key_size);
+          area = area_is plan.area 32768 (block_bytes given.key_bytes) (some_same plan.area.start 32768 (sym is.start ∙ slot_says.offset)) (some_same plan.area.len (block_bytes given.key_bytes) (sym is.len ∙ slot_says.size));
+          area_key_bytes = some_same plan.area_key_bytes given.key_bytes (sym is.area_key_bytes ∙ slot_says.area_key_size);
+          key_bytes = some_same plan.key_bytes given.key_bytes (sym is.key_bytes ∙ slot_says.key_size);
           stripes = some_same plan.stripes 4000 (sym is.stripes ∙ slot_says.stripes);
           splitter_hash = some_same plan.splitter_hash.now (name_of format.hash) (sym is.splitter_hash ∙ slot_says.splitter_hash);
           digest = digest_is plan.digest is.digest;
@@ -309,15 +316,15 @@ module _ (given : Given) (format : Format) (chosen : Option NewDerivation) (rand
       )
 
   pub plan_by : (json : List ℕ) → Json json (new_metadata given format chosen random) → (plan : SlotPlan)
-      → IsNewPlanBy (slot_derivation format chosen) format (slot_salt slot_place2 random) area2 (digest_salt random) (key_digest given format random (digest_size_of format.hash)) plan → IsNewCipher2 plan.cipher
+      → IsNewPlanBy (slot_derivation format chosen) format given.key_bytes (slot_salt (slot_place2 given.key_bytes) random) (area2 given.key_bytes) (digest_salt given.key_bytes random) (key_digest given format random (digest_size_of format.hash)) plan → IsNewCipher2 given.cipher plan.cipher
       → HasLuks2Plan json 0 plan
   plan_by json holds plan is cipher =
       let v : VolumeMembers = new_members given format random in
       record {
         numbered = lit< tt;
-        value = formatted_by (slot_derivation format chosen) v;
+        value = formatted_by given.key_bytes (slot_derivation format chosen) v;
         holds = holds;
-        object = slot_value (first_slot_by (slot_derivation format chosen) v);
+        object = slot_value (first_slot_by given.key_bytes (slot_derivation format chosen) v);
         there = refl;
         is = record {
           derivation = derivation_by plan.derivation is.derivation;

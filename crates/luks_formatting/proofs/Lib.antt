@@ -1,4 +1,6 @@
 mod AheadFacts
+mod FaultFacts
+pub mod EncryptingFacts
 pub mod GivenFacts
 pub mod NewPlanFacts
 pub mod NewHeader1Facts

@@ -1,5 +1,5 @@
 -- What the metadata of a new volume says.
-use Rattle.std.proofs.Common.{◌≡◌, ◌≤◌, ◌<◌, ℕ, ◌+◌, ◌*◌, ◌-◌, ◌^◌, List, length, codes, false, Option, Some, None, arith, refl, sym, subst, ◌∙◌, lit≤, lit<, inl, inr}
+use Rattle.std.proofs.Common.{◌≡◌, ◌≤◌, ◌<◌, ℕ, ◌+◌, ◌*◌, ◌-◌, ◌^◌, List, length, codes, true, false, Option, Some, None, arith, refl, sym, subst, ◌∙◌, lit≤, lit<, inl, inr}
 use Rattle.std.specs.Prelude.{◌||◌, decimal, nat_lt, IfSome}
 use Rattle.std.specs.Fmt.{digits}
 use Rattle.std.proofs.lemmas.Bool.{cases_eq, leb-true, ltb-false}
@@ -12,7 +12,7 @@ use Rattle.luks_json.proofs.Decimals.{decimal_told}
 use Rattle.luks_kdf.specs.Names.{digest_size_of, each_at_least, each_at_most}
 use Rattle.luks_kdf.specs.declared.hash_name.HashName.{HashName}
 use Rattle.luks_rules.specs.Faults.{object_at}
-use Rattle.luks_area.specs.Sectors.{rounded_to_sectors}
+use Rattle.luks_rules.specs.Reading.{is_sector_size}
 use Rattle.luks_rules.specs.Held.{IsHeld}
 use Rattle.luks_rules.specs.Sizes.{keyslots_size, region_start}
 use Rattle.luks_rules.specs.declared.table.Section.TheVariants.{Digests, Keyslots, Segments}
@@ -30,6 +30,8 @@ use Rattle.luks_reading.specs.declared.format.Format.{Format}
 use Rattle.luks_making.specs.declared.derivation.NewDerivation.{NewDerivation}
 use Rattle.luks_making.specs.declared.derivation.NewDerivation.TheVariants as by
 use Rattle.luks_making.specs.Derivations.{costs_beyond, FitsCosts, FitsNewDerivation, IsMakeable}
+use Rattle.luks_formatting.specs.Encrypting.{block_bytes}
+use Rattle.luks_formatting.proofs.EncryptingFacts.{block_most, used_inside, AreSizes}
 use Rattle.luks_formatting.specs.Deriving.{slot_derivation}
 use Rattle.luks_formatting.specs.NewHeader2.{first_slot_by, formatted_by, new_members}
 use Rattle.luks_formatting.specs.NewPlan.{key_digest}
@@ -41,18 +43,18 @@ digest_sizes hash = record { from = each_at_least 20 digest_size_of refl hash; t
 pub digest_short : (hash : HashName) → digest_size_of hash ≤ 64
 digest_short = each_at_most 64 digest_size_of refl
 
-pub length-digest_salt : (random : List ℕ) → 272 ≤ length random → length (digest_salt random) ≡ 32
-length-digest_salt random long = length-part_inside random 80 32 (omega (arith, long))
+pub length-digest_salt : (k : ℕ) (random : List ℕ) → 208 + k ≤ length random → length (digest_salt k random) ≡ 32
+length-digest_salt k random long = length-part_inside random (16 + k) 32 (omega (arith, long))
 
-pub length-slot_salt : (random : List ℕ) → 272 ≤ length random → length (slot_salt slot_place2 random) ≡ 32
-length-slot_salt random long = length-part_inside random 240 32 (omega (arith, long))
+pub length-slot_salt : (k : ℕ) (random : List ℕ) → 208 + k ≤ length random → length (slot_salt (slot_place2 k) random) ≡ 32
+length-slot_salt k random long = length-part_inside random (176 + k) 32 (omega (arith, long))
 
 -- what is said may stand there
-pub can_format : (given : Given) (format : Format) (random : List ℕ) → 1 ≤ format.iterations → 272 ≤ length random
+pub can_format : (given : Given) (format : Format) (random : List ℕ) → is_sector_size given.sector_size ≡ true → 1 ≤ format.iterations → 208 + given.key_bytes ≤ length random
     → length (key_digest given format random (digest_size_of format.hash)) ≡ digest_size_of format.hash → CanFormat (new_members given format random)
-can_format given format random some long digest =
-    let first = length-digest_salt random long in
-    let slot = length-slot_salt random long in
+can_format given format random size some long digest =
+    let first = length-digest_salt given.key_bytes random long in
+    let slot = length-slot_salt given.key_bytes random long in
     let sizes = digest_sizes format.hash in
     let low = sizes.from in
     let high = sizes.to in
@@ -61,7 +63,7 @@ can_format given format random some long digest =
       digest_salt = record { from = omega (arith, first); to = omega (arith, first) };
       digest = record { from = omega (arith, digest, low); to = omega (arith, digest, high) };
       slot_salt = record { from = omega (arith, slot); to = omega (arith, slot) };
-      sector_size = refl;
+      sector_size = size;
     }
 
 -- ---- members by their values
@@ -76,8 +78,8 @@ keyslots_literal : codes "16744448" ≡ decimal 16744448
 unfolding digits
 keyslots_literal = refl
 
-pub keyslots_say : (own : Deriving) (v : VolumeMembers) → keyslots_size (formatted_by own v) ≡ Some 16744448
-keyslots_say own v = decimal_told (codes "16744448") 16744448 (record { fits = lit< tt; digits = keyslots_literal })
+pub keyslots_say : (k : ℕ) (own : Deriving) (v : VolumeMembers) → keyslots_size (formatted_by k own v) ≡ Some 16744448
+keyslots_say k own v = decimal_told (codes "16744448") 16744448 (record { fits = lit< tt; digits = keyslots_literal })
 
 -- what is found in a map with one object is that object
 only_zero : (d e : Value) (n : ℕ) → get (number_text n) (sole d) ≡ Some e → (n ≡ 0) × (d ≡ e)
@@ -88,25 +90,28 @@ only_zero d e n found = elim (cases_eq n 0) [
 
 -- ---- the objects
 
-module _ (own : Deriving) (v : VolumeMembers) where
-  pub slot_at : (n : ℕ) (d : Value) → object_at (formatted_by own v) Keyslots n ≡ Some d → (n ≡ 0) × (slot_value (first_slot_by own v) ≡ d)
-  slot_at n d is = only_zero (slot_value (first_slot_by own v)) d n is
+module _ (k : ℕ) (own : Deriving) (v : VolumeMembers) where
+  pub slot_at : (n : ℕ) (d : Value) → object_at (formatted_by k own v) Keyslots n ≡ Some d → (n ≡ 0) × (slot_value (first_slot_by k own v) ≡ d)
+  slot_at n d is = only_zero (slot_value (first_slot_by k own v)) d n is
 
-  pub digest_at : (n : ℕ) (d : Value) → object_at (formatted_by own v) Digests n ≡ Some d → (n ≡ 0) × (digest_value v ≡ d)
+  pub digest_at : (n : ℕ) (d : Value) → object_at (formatted_by k own v) Digests n ≡ Some d → (n ≡ 0) × (digest_value v ≡ d)
   digest_at n d is = only_zero (digest_value v) d n is
 
-  pub segment_at : (n : ℕ) (d : Value) → object_at (formatted_by own v) Segments n ≡ Some d → (n ≡ 0) × (segment_value v ≡ d)
+  pub segment_at : (n : ℕ) (d : Value) → object_at (formatted_by k own v) Segments n ≡ Some d → (n ≡ 0) × (segment_value v ≡ d)
   segment_at n d is = only_zero (segment_value v) d n is
 
 -- the members of keyslot 0 are in their ranges
-pub slot_fits : (own : Deriving) (v : VolumeMembers) → FitsVolume v → CanFormat v → FitsDerivation own → FitsSlot (first_slot_by own v)
-slot_fits own v fits can fits_own =
+pub slot_fits : (k : ℕ) → AreSizes k → (own : Deriving) (v : VolumeMembers) → FitsVolume v → CanFormat v → FitsDerivation own → FitsSlot (first_slot_by k own v)
+slot_fits k sized own v fits can fits_own =
+    let low = sized.low in
+    let high = sized.high in
+    let most = block_most k high in
     record {
-      key_size = record { from = lit≤ tt; to = lit≤ tt };
+      key_size = record { from = omega (arith, low); to = omega (arith, high) };
       stripes = record { from = lit≤ tt; to = lit≤ tt };
       offset = lit< tt;
-      size = lit< tt;
-      area_key_size = record { from = lit≤ tt; to = lit≤ tt };
+      size = omega (arith, most);
+      area_key_size = record { from = omega (arith, low); to = omega (arith, high) };
       derivation = fits_own;
       salt = record { are_bytes = fits.slot_salt; long = can.slot_salt };
     }
@@ -141,35 +146,40 @@ derivation_fits format allowed (Some (by.Argon2id costs)) some low can fits = co
 
 -- ---- the metadata meets every rule
 
+-- the area lies in the region
+in_region : (n : ℕ) → n ≤ 258048 → 32768 + n ≤ region_start 12288 + 16744448
+in_region n most = omega (arith, most)
+
 -- with the text of the region's size
-abbrev with_region : Deriving → VolumeMembers → List ℕ → Value
-with_region own v t = object (
+abbrev with_region : ℕ → Deriving → VolumeMembers → List ℕ → Value
+with_region k own v t = object (
     member (codes "config") (object (text_member (codes "json_size") (codes "12288") (text_member (codes "keyslots_size") t no_members))) (
     member (codes "digests") (sole (digest_value v)) (
-    member (codes "keyslots") (sole (slot_value (first_slot_by own v))) (
+    member (codes "keyslots") (sole (slot_value (first_slot_by k own v))) (
     member (codes "segments") (sole (segment_value v)) (
     member (codes "tokens") (object no_members) no_members)))))
 
-module _ (own : Deriving) (v : VolumeMembers) (fits : FitsVolume v) (can : CanFormat v) (fits_own : FitsDerivation own) where
+module _ (k : ℕ) (sized : AreSizes k) (own : Deriving) (v : VolumeMembers) (fits : FitsVolume v) (can : CanFormat v) (fits_own : FitsDerivation own) where
   -- the keyslot has room in a new volume without one
-  room : IsRoom 12288 0 0 (first_slot_by own v) (shape v 16744448 no_items no_members) (digest_with v no_items)
+  room : IsRoom 12288 0 0 (first_slot_by k own v) (shape v 16744448 no_items no_members) (digest_with v no_items)
   room = record {
     number = record { small = lit< tt; free = refl };
     unnamed = refl;
     digest = record { numbered = refl; named = lit< tt; is = refl };
-    fits = slot_fits own v fits can fits_own;
-    large = leb-true (rounded_to_sectors (64 * 4000)) 258048 refl;
+    fits = slot_fits k sized own v fits can fits_own;
+    large = used_inside k;
     within = λ bytes is.
         let same : 16744448 ≡ bytes = some_same 16744448 bytes (sym (decimal_is 16744448 (lit< tt)) ∙ is) in
-        rw (← same) (leb-true (region_start 12288) 32768 refl, leb-true (32768 + 258048) (region_start 12288 + 16744448) refl);
+        let most = block_most k sized.high in
+        rw (← same) (leb-true (region_start 12288) 32768 refl, in_region (block_bytes k) most);
   }
 
-  pub held_by : IsHeld 12288 (formatted_by own v)
+  pub held_by : IsHeld 12288 (formatted_by k own v)
   held_by =
-      let held : IsHeld 12288 (with_slot 0 0 (first_slot_by own v) (shape v 16744448 no_items no_members)) =
-      held_with 12288 0 0 (first_slot_by own v) (shape v 16744448 no_items no_members) (digest_with v no_items) (held_bare v fits can 16744448 (lit< tt)) room in
-      subst (λ t. IsHeld 12288 (with_region own v t)) (sym keyslots_literal) held
+      let held : IsHeld 12288 (with_slot 0 0 (first_slot_by k own v) (shape v 16744448 no_items no_members)) =
+      held_with 12288 0 0 (first_slot_by k own v) (shape v 16744448 no_items no_members) (digest_with v no_items) (held_bare v fits can 16744448 (lit< tt)) room in
+      subst (λ t. IsHeld 12288 (with_region k own v t)) (sym keyslots_literal) held
 
 -- what is made by putting keyslot 0 in anew
-pub made_anew : (own : Deriving) (v : VolumeMembers) → with_slot 0 0 (first_slot_by own v) (without_slot 0 (formatted v)) ≡ formatted_by own v
-made_anew own v = refl
+pub made_anew : (k : ℕ) (own : Deriving) (v : VolumeMembers) → with_slot 0 0 (first_slot_by k own v) (without_slot 0 (formatted v)) ≡ formatted_by k own v
+made_anew k own v = refl

@@ -1,5 +1,5 @@
 -- The plan of keyslot 0 of a new volume: it isn't refused, and the volume key meets its digest.
-use Rattle.std.proofs.Common.{◌≡◌, ◌≤◌, ℕ, ◌*◌, ◌-◌, ◌^◌, List, length, true, false, true≢false, Option, None, Some, bytes_eq, refl, sym, ap, subst, ◌∙◌, arith}
+use Rattle.std.proofs.Common.{◌≡◌, ◌≤◌, ℕ, ◌*◌, ◌-◌, ◌^◌, List, length, Bool, true, false, true≢false, Option, None, Some, bytes_eq, refl, sym, ap, subst, ◌∙◌, arith}
 use Rattle.std.specs.Prelude.{◌||◌, nat_lt, IfSome}
 use Rattle.std.proofs.lemmas.Bool.{ltb-false}
 use Rattle.std.proofs.lemmas.Bool.Decides.{nat_tests}
@@ -22,16 +22,18 @@ use Rattle.luks_slot.specs.declared.plan.DigestPlan.{DigestPlan}
 use Rattle.luks_slot.specs.declared.plan.SlotPlan.{SlotPlan}
 use Rattle.luks_slot.specs.declared.allowed.Allowed.{Allowed}
 use Rattle.luks_slot.specs.Opening.{derived, hash_by_name, meets_digest, HasIterations}
-use Rattle.luks_slot.proofs.RefusalFacts.{open_key_size}
-use Rattle.luks_slot.specs.Refusal.{is_argon2, is_argon2_refused, is_known_derivation, is_open_cipher, slot_refusal, slot_refusal_within}
-use Rattle.luks_reading.proofs.MemoryFacts.{still_accepted}
+use Rattle.luks_slot.specs.Refusal.{is_argon2, is_argon2_refused, is_known_derivation, is_known_hash, slot_refusal_within}
 use Rattle.luks_reading.specs.declared.format.Format.{Format}
 use Rattle.luks_making.specs.declared.derivation.NewDerivation.{NewDerivation}
 use Rattle.luks_making.specs.declared.derivation.NewDerivation.TheVariants as by
 use Rattle.luks_making.specs.Derivations.{costs_beyond, memory_by, takes_memory, IsMakeable}
 use Rattle.luks_formatting.specs.Deriving.{slot_derivation, IsArgon2Plan, IsDerivedBy}
-use Rattle.luks_formatting.specs.NewPlan.{key_digest, IsNewDerivation, IsNewDigest, IsNewPlan, IsNewPlanBy, IsSealable, IsSealableWithin}
+use Rattle.luks_formatting.specs.NewPlan.{key_digest, IsNewDerivation, IsNewDigest, IsNewPlanBy, IsSealable, IsSealableWithin}
 use Rattle.luks_formatting.specs.RandomBytes.{digest_salt}
+use Rattle.luks_slot.specs.Allowance.{without_memory}
+use Rattle.luks_formatting.specs.declared.new_cipher.NewCipher.{NewCipher}
+use Rattle.luks_formatting.specs.Encrypting.{is_older, takes_key}
+use Rattle.luks_formatting.proofs.EncryptingFacts.{Opens}
 use Rattle.luks_formatting.specs.Given.{key_of}
 use Rattle.luks_formatting.specs.declared.given.Given.{Given}
 
@@ -47,32 +49,19 @@ name_whole hash =
     let same = each_passes (λ h. bytes_eq (text_of (name_of h)) (name_of h)) refl hash in
     (bytes_eq-Decides (text_of (name_of hash)) (name_of hash)).0 same
 
+-- each is known, whether older ones are accepted or not
+hash_known : (older : Bool) (hash : HashName) → is_known_hash older (name_of hash) ≡ true
+hash_known true hash = rw (named hash) refl
+hash_known false hash = rw (named hash) refl
+
 -- the derivation
-not_argon2 : (format : Format) (salt : List ℕ) (d : Derivation) → IsNewDerivation format salt d → is_argon2 d ≡ false
-not_argon2 format salt (Pbkdf2 hash iterations own) is = refl
-not_argon2 format salt (Argon2 c) is = absurd is
-
-known : (format : Format) (salt : List ℕ) (d : Derivation) → IsNewDerivation format salt d → is_known_derivation false d ≡ true
-known format salt (Pbkdf2 hash iterations own) is = rw (is.0, named format.hash) refl
-known format salt (Argon2 c) is = absurd is
-
 pub some_iterations : (format : Format) (salt : List ℕ) (d : Derivation) → 1 ≤ format.iterations → IsNewDerivation format salt d → HasIterations d
 some_iterations format salt (Pbkdf2 hash iterations own) some is = subst (λ (n : ℕ). 1 ≤ n) (sym is.1) some
 some_iterations format salt (Argon2 c) some is = absurd is
 
-module _ (format : Format) (salt : List ℕ) (area : Area) (digest stored : List ℕ) (plan : SlotPlan) (new : IsNewPlan format salt area digest stored plan) where
-  -- a new plan whose cipher opens isn't refused
-  pub unrefused : is_open_cipher plan.cipher ≡ true → slot_refusal plan ≡ None
-  unrefused cipher =
-      rw (
-        not_argon2 format salt plan.derivation new.derivation,
-        cipher,
-        known format salt plan.derivation new.derivation,
-        new.splitter_hash,
-        new.digest.hash,
-        named format.hash,
-        new.area_key_bytes,
-      ) refl
+pub not_argon2 : (format : Format) (salt : List ℕ) (d : Derivation) → IsNewDerivation format salt d → is_argon2 d ≡ false
+not_argon2 format salt (Pbkdf2 hash iterations own) is = refl
+not_argon2 format salt (Argon2 c) is = absurd is
 
 -- ---- of what is chosen
 
@@ -86,9 +75,9 @@ argon2_within : (allowed : ℕ) (kind : Argon2Kind) (costs : Argon2Costs) (salt 
 argon2_within allowed kind costs salt (Pbkdf2 hash iterations own) long ok is = absurd is
 argon2_within allowed kind costs salt (Argon2 c) long ok is = rw (is.memory, is.cpus, is.own_salt) (costs_within allowed costs.memory costs.cpus (length salt) long ok)
 
-argon2_known : (kind : Argon2Kind) (costs : Argon2Costs) (salt : List ℕ) (d : Derivation) → IsArgon2Plan kind costs salt d → is_known_derivation false d ≡ true
-argon2_known kind costs salt (Pbkdf2 hash iterations own) is = absurd is
-argon2_known kind costs salt (Argon2 c) is = refl
+argon2_known : (older : Bool) (kind : Argon2Kind) (costs : Argon2Costs) (salt : List ℕ) (d : Derivation) → IsArgon2Plan kind costs salt d → is_known_derivation older d ≡ true
+argon2_known older kind costs salt (Pbkdf2 hash iterations own) is = absurd is
+argon2_known older kind costs salt (Argon2 c) is = refl
 
 some_pass : (time : ℕ) → nat_lt time 1 ≡ false → 1 ≤ time
 some_pass time few = ltb-false time 1 few
@@ -105,7 +94,7 @@ pbkdf2_turns : (h : List ℕ) (n : ℕ) (salt : List ℕ) (d : Derivation) → 1
 pbkdf2_turns h n salt (Pbkdf2 hash iterations own) some is = subst (λ (k : ℕ). 1 ≤ k) (sym is.1) some
 pbkdf2_turns h n salt (Argon2 c) some is = absurd is
 
-pbkdf2_within : (allowed : ℕ) (h : List ℕ) (n : ℕ) (salt : List ℕ) (d : Derivation) → IsDerivedBy (by_pbkdf2 h n) salt d → is_argon2_refused allowed d ≡ false
+pub pbkdf2_within : (allowed : ℕ) (h : List ℕ) (n : ℕ) (salt : List ℕ) (d : Derivation) → IsDerivedBy (by_pbkdf2 h n) salt d → is_argon2_refused allowed d ≡ false
 pbkdf2_within allowed h n salt (Pbkdf2 hash iterations own) is = refl
 pbkdf2_within allowed h n salt (Argon2 c) is = absurd is
 
@@ -113,16 +102,16 @@ pbkdf2_here : (h : List ℕ) (n : ℕ) (salt : List ℕ) (d : Derivation) → Is
 pbkdf2_here h n salt (Pbkdf2 hash iterations own) is = refl
 pbkdf2_here h n salt (Argon2 c) is = absurd is
 
-pbkdf2_known : (hash : HashName) (n : ℕ) (salt : List ℕ) (d : Derivation) → IsDerivedBy (by_pbkdf2 (name_of hash) n) salt d → is_known_derivation false d ≡ true
-pbkdf2_known hash n salt (Pbkdf2 own_hash iterations own) is = rw (is.0, named hash) refl
-pbkdf2_known hash n salt (Argon2 c) is = absurd is
+pbkdf2_known : (older : Bool) (hash : HashName) (n : ℕ) (salt : List ℕ) (d : Derivation) → IsDerivedBy (by_pbkdf2 (name_of hash) n) salt d → is_known_derivation older d ≡ true
+pbkdf2_known older hash n salt (Pbkdf2 own_hash iterations own) is = subst (λ (h : List ℕ). is_known_hash older h ≡ true) (sym is.0) (hash_known older hash)
+pbkdf2_known older hash n salt (Argon2 c) is = absurd is
 
 module _ (format : Format) (salt : List ℕ) (d : Derivation) where
-  chosen_known : (chosen : Option NewDerivation) → IsDerivedBy (slot_derivation format chosen) salt d → is_known_derivation false d ≡ true
-  chosen_known None is = pbkdf2_known format.hash format.iterations salt d is
-  chosen_known (Some (by.Pbkdf2 n)) is = pbkdf2_known format.hash n salt d is
-  chosen_known (Some (by.Argon2i costs)) is = argon2_known I costs salt d is
-  chosen_known (Some (by.Argon2id costs)) is = argon2_known Id costs salt d is
+  chosen_known : (older : Bool) (chosen : Option NewDerivation) → IsDerivedBy (slot_derivation format chosen) salt d → is_known_derivation older d ≡ true
+  chosen_known older None is = pbkdf2_known older format.hash format.iterations salt d is
+  chosen_known older (Some (by.Pbkdf2 n)) is = pbkdf2_known older format.hash n salt d is
+  chosen_known older (Some (by.Argon2i costs)) is = argon2_known older I costs salt d is
+  chosen_known older (Some (by.Argon2id costs)) is = argon2_known older Id costs salt d is
 
   chosen_here : (chosen : Option NewDerivation) → takes_memory chosen ≡ false → IsDerivedBy (slot_derivation format chosen) salt d → is_argon2 d ≡ false
   chosen_here None here is = pbkdf2_here (name_of format.hash) format.iterations salt d is
@@ -157,64 +146,55 @@ makeable_enough format allowed memory (Some (by.Pbkdf2 n)) can enough = record {
 makeable_enough format allowed memory (Some (by.Argon2i costs)) can enough = record { turns = can.turns; within = costs_enough allowed memory costs.memory costs.cpus enough can.within }
 makeable_enough format allowed memory (Some (by.Argon2id costs)) can enough = record { turns = can.turns; within = costs_enough allowed memory costs.memory costs.cpus enough can.within }
 
--- so many KiB, and nothing else
-abbrev only : ℕ → Allowed
-only memory = record { memory = memory; older = false }
+-- what takes no memory may be made where none is allowed
+makeable_here : (allowed : ℕ) (chosen : Option NewDerivation) → takes_memory chosen ≡ false → IfSome chosen (IsMakeable allowed) → IfSome chosen (IsMakeable 0)
+makeable_here allowed None here can = can
+makeable_here allowed (Some (by.Pbkdf2 n)) here can = record { turns = can.turns; within = refl }
+makeable_here allowed (Some (by.Argon2i costs)) here can = absurd (true≢false here)
+makeable_here allowed (Some (by.Argon2id costs)) here can = absurd (true≢false here)
 
-module _ (format : Format) (chosen : Option NewDerivation) (salt : List ℕ) (area : Area) (digest stored : List ℕ) (plan : SlotPlan)
-    (new : IsNewPlanBy (slot_derivation format chosen) format salt area digest stored plan) (cipher : is_open_cipher plan.cipher ≡ true) where
-  -- a new plan whose cipher opens isn't refused where Argon2 isn't
-  unrefused_by : (memory : ℕ) → is_argon2_refused memory plan.derivation ≡ false → slot_refusal_within (only memory) plan ≡ None
-  unrefused_by memory within =
+module _ (format : Format) (chosen : Option NewDerivation) (c : NewCipher) (k : ℕ) (salt : List ℕ) (area : Area) (digest stored : List ℕ) (plan : SlotPlan)
+    (new : IsNewPlanBy (slot_derivation format chosen) format k salt area digest stored plan) (opens : Opens c plan.cipher) (takes : takes_key c k ≡ true) where
+  -- a new plan isn't refused where Argon2 isn't, and older ciphers are accepted if its own is one
+  pub unrefused_by : (allowed : Allowed) → (is_older c ≡ true → allowed.older ≡ true) → is_argon2_refused allowed.memory plan.derivation ≡ false → slot_refusal_within allowed plan ≡ None
+  unrefused_by allowed may within =
       rw (
         within,
-        cipher,
-        chosen_known format salt plan.derivation chosen new.derivation,
+        opens.accepted allowed.older may,
+        chosen_known format salt plan.derivation allowed.older chosen new.derivation,
         new.splitter_hash,
         new.digest.hash,
-        named format.hash,
+        hash_known allowed.older format.hash,
         new.area_key_bytes,
-        open_key_size plan.cipher 64 cipher,
+        opens.sized k,
+        takes,
       ) refl
 
-  -- so where what is chosen may be made, with older ciphers and hashes or without
-  pub unrefused_chosen : (allowed : Allowed) → length salt ≡ 32 → IfSome chosen (IsMakeable allowed.memory) → slot_refusal_within allowed plan ≡ None
-  unrefused_chosen allowed long can =
-      still_accepted (only allowed.memory) allowed plan (omega arith) (λ e. absurd (true≢false (sym e)))
-      (unrefused_by allowed.memory (chosen_within format salt plan.derivation allowed.memory long chosen can new.derivation))
+  -- so where what is chosen may be made
+  pub unrefused_chosen : (allowed : Allowed) → (is_older c ≡ true → allowed.older ≡ true) → length salt ≡ 32 → IfSome chosen (IsMakeable allowed.memory) → slot_refusal_within allowed plan ≡ None
+  unrefused_chosen allowed may long can = unrefused_by allowed may (chosen_within format salt plan.derivation allowed.memory long chosen can new.derivation)
 
-  -- and a key of 64 bytes is sealed by it
-  pub sealable_chosen : (allowed : Allowed) → 1 ≤ format.iterations → length salt ≡ 32 → IfSome chosen (IsMakeable allowed.memory) → IsSealableWithin allowed plan
-  sealable_chosen allowed some long can = record {
-    unrefused = unrefused_chosen allowed long can;
+  -- and a key of k bytes is sealed by it
+  pub sealable_chosen : (allowed : Allowed) → allowed.older ≡ true → 1 ≤ format.iterations → length salt ≡ 32 → IfSome chosen (IsMakeable allowed.memory) → IsSealableWithin allowed k plan
+  sealable_chosen allowed older some long can = record {
+    unrefused = unrefused_chosen allowed (λ is. older) long can;
     iterations = chosen_turns format salt plan.derivation allowed.memory long chosen some can new.derivation;
     key_bytes = new.key_bytes;
     stripes = new.stripes;
   }
 
   -- with no memory, where it isn't Argon2
-  pub sealable_here : (allowed : ℕ) → 1 ≤ format.iterations → length salt ≡ 32 → IfSome chosen (IsMakeable allowed) → takes_memory chosen ≡ false → IsSealable plan
+  pub sealable_here : (allowed : ℕ) → 1 ≤ format.iterations → length salt ≡ 32 → IfSome chosen (IsMakeable allowed) → takes_memory chosen ≡ false → IsSealable k plan
   sealable_here allowed some long can here = record {
-    unrefused =
-        rw (
-          chosen_here format salt plan.derivation chosen here new.derivation,
-          cipher,
-          chosen_known format salt plan.derivation chosen new.derivation,
-          new.splitter_hash,
-          new.digest.hash,
-          named format.hash,
-          new.area_key_bytes,
-        ) refl;
-    iterations = chosen_turns format salt plan.derivation allowed long chosen some can new.derivation;
-    key_bytes = new.key_bytes;
-    stripes = new.stripes;
+    within = sealable_chosen (without_memory true) refl some long (makeable_here allowed chosen here can);
+    here = chosen_here format salt plan.derivation chosen here new.derivation;
   }
 
 -- the digest that was made of the key is met by it
-pub key_meets : (given : Given) (format : Format) (random : List ℕ) (len : ℕ) (digest : DigestPlan) → IsNewDigest format (digest_salt random) (key_digest given format random len) digest
+pub key_meets : (given : Given) (format : Format) (random : List ℕ) (len : ℕ) (digest : DigestPlan) → IsNewDigest format (digest_salt given.key_bytes random) (key_digest given format random len) digest
     → length (key_digest given format random len) ≡ len → meets_digest digest (key_of given random) ≡ true
 unfolding meets_digest
 key_meets given format random len digest new long =
-    let made : derived (name_of format.hash) (key_of given random) (digest_salt random) format.iterations len ≡ key_digest given format random len =
-    ap (λ (h : KeyslotHash). pbkdf2 (keyslot_digest h) (keyslot_block_size h) (key_of given random) (digest_salt random) format.iterations len) (by_name format.hash) in
+    let made : derived (name_of format.hash) (key_of given random) (digest_salt given.key_bytes random) format.iterations len ≡ key_digest given format random len =
+    ap (λ (h : KeyslotHash). pbkdf2 (keyslot_digest h) (keyslot_block_size h) (key_of given random) (digest_salt given.key_bytes random) format.iterations len) (by_name format.hash) in
     rw (new.hash, new.own_salt, new.iterations, new.own_stored, long, made) ((bytes_eq-Decides (key_digest given format random len) (key_digest given format random len)).1 refl)

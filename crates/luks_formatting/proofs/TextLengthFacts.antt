@@ -14,6 +14,8 @@ use Rattle.luks_making.specs.declared.derivation.NewDerivation.{NewDerivation}
 use Rattle.luks_making.specs.declared.derivation.NewDerivation.TheVariants as by
 use Rattle.luks_making.specs.Derivations.{FitsCosts, FitsNewDerivation}
 use Rattle.luks_formatting.specs.Deriving.{slot_derivation}
+use Rattle.luks_formatting.specs.Encrypting.{block_bytes}
+use Rattle.luks_formatting.proofs.EncryptingFacts.{block_most}
 use Rattle.luks_formatting.specs.NewHeader2.{formatted_by}
 
 pub name_short : (hash : HashName) → length (name_of hash) ≤ 6
@@ -59,21 +61,22 @@ derivation_most format (Some (by.Argon2i costs)) salt low fits short = argon2i_m
 derivation_most format (Some (by.Argon2id costs)) salt low fits short = argon2id_most costs salt fits short
 
 -- the whole text
-module _ (own : Deriving) (v : VolumeMembers) (derivation : value_bound (kdf_value own v.slot_salt) ≤ 400) (hash : length v.hash ≤ 6) (iterations : v.iterations < 2 ^ 32) (offset : v.segment_offset < 2 ^ 64)
-    (digest_salt : length v.digest_salt ≤ 32) (digest : length v.digest ≤ 64) (encryption : length v.encryption ≤ 15) (sectors : v.sector_size < 2 ^ 32) where
-  pub text_fits : length (compact_text (formatted_by own v)) < 12288
+module _ (k : ℕ) (high : k ≤ 64) (own : Deriving) (v : VolumeMembers) (derivation : value_bound (kdf_value own v.slot_salt) ≤ 400) (hash : length v.hash ≤ 6) (iterations : v.iterations < 2 ^ 32) (offset : v.segment_offset < 2 ^ 64)
+    (digest_salt : length v.digest_salt ≤ 32) (digest : length v.digest ≤ 64) (encryption : length v.encryption ≤ 20) (sectors : v.sector_size < 2 ^ 32) where
+  pub text_fits : length (compact_text (formatted_by k own v)) < 12288
   text_fits =
-      let text = value_short (formatted_by own v) in
+      let text = value_short (formatted_by k own v) in
+      let most = block_most k high in
       let number : length (decimal v.iterations) ≤ 10 = length-decimal-le 10 v.iterations (lit< tt) (omega (arith, iterations)) (omega (arith, iterations)) in
       let start : length (decimal v.segment_offset) ≤ 20 = length-decimal-le 20 v.segment_offset (lit< tt) (omega (arith, offset)) offset in
       let area : length (decimal 32768) ≤ 5 = length-decimal-le 5 32768 (lit< tt) (lit< tt) (lit< tt) in
-      let size : length (decimal 258048) ≤ 6 = length-decimal-le 6 258048 (lit< tt) (lit< tt) (lit< tt) in
+      let size : length (decimal (block_bytes k)) ≤ 6 = length-decimal-le 6 (block_bytes k) (lit< tt) (omega (arith, most)) (omega (arith, most)) in
       let stripes : length (decimal 4000) ≤ 4 = length-decimal-le 4 4000 (lit< tt) (lit< tt) (lit< tt) in
-      let key : length (decimal 64) ≤ 2 = length-decimal-le 2 64 (lit< tt) (lit< tt) (lit< tt) in
+      let key : length (decimal k) ≤ 2 = length-decimal-le 2 k (lit< tt) (omega (arith, high)) (omega (arith, high)) in
       let sector : length (decimal v.sector_size) ≤ 10 = number_most v.sector_size sectors in
       let start_text = string_most (decimal v.segment_offset) in
       let area_text = string_most (decimal 32768) in
-      let size_text = string_most (decimal 258048) in
+      let size_text = string_most (decimal (block_bytes k)) in
       let hash_text = string_most v.hash in
       let encryption_text = string_most v.encryption in
       let first = encoded_short v.digest_salt in

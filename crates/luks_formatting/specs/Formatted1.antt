@@ -9,13 +9,14 @@ use Rattle.luks_reading.specs.Plans.{HasLuks1Plan}
 use Rattle.luks_reading.specs.declared.format.Format.{Format}
 use Rattle.luks_formatting.specs.NewHeader1.{IsNewHeader1}
 use Rattle.luks_formatting.specs.NewPlan.{HoldsKey}
+use Rattle.luks_formatting.specs.Encrypting.{used_bytes}
 use Rattle.luks_formatting.specs.Given.{key_of, nothing_given}
 use Rattle.luks_formatting.specs.RandomBytes.{random_stripes, slot_place1}
 use Rattle.luks_formatting.specs.declared.given.Given.{Given}
 
--- the places of the header and of keyslot 0's area
-abbrev pub IsOfLuks1 : ℕ → Type 0
-IsOfLuks1 = IsOfEither (IsAt 0 592) (IsAt 4096 256000)
+-- the places of the header and of keyslot 0's area, where the key has k bytes
+abbrev pub IsOfLuks1 : ℕ → ℕ → Type 0
+IsOfLuks1 k = IsOfEither (IsAt 0 592) (IsAt 4096 (used_bytes k))
 
 -- `new` begins with the header of a new volume, its keyslot 0 holds the volume key, and all other
 -- bytes are those of `old`
@@ -26,8 +27,8 @@ pub record IsFormatted1As
   pub fields : IsNewHeader1 given format random header
   pub written : WritesLuks1 (part new 0 592) header
   pub slot : HoldsKey (HasLuks1Plan (part new 0 592) 0) new passphrase (key_of given random)
-      (random_stripes slot_place1 random)
-  pub rest : SameBut IsOfLuks1 old new
+      (random_stripes given.key_bytes (slot_place1 given.key_bytes) random)
+  pub rest : SameBut (IsOfLuks1 given.key_bytes) old new
 
 -- the key area holds the volume key by the plan of the header that is to be written
 pub record HasKeyArea1 (given : Given) (format : Format) (passphrase random new : List ℕ) : Type 0 where
@@ -36,7 +37,7 @@ pub record HasKeyArea1 (given : Given) (format : Format) (passphrase random new 
   pub bytes : List ℕ
   pub written : WritesLuks1 bytes header
   pub slot : HoldsKey (HasLuks1Plan bytes 0) new passphrase (key_of given random)
-      (random_stripes slot_place1 random)
+      (random_stripes given.key_bytes (slot_place1 given.key_bytes) random)
 
 -- What may be left at any time: nothing but the first sector at 0 has changed; or that is cleared; or the key
 -- area stands.

@@ -1,5 +1,6 @@
 pub mod Deriving
 pub mod RandomBytes
+pub mod Encrypting
 pub mod Given
 pub mod FormatFaults
 pub mod NewPlan

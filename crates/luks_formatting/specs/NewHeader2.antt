@@ -16,6 +16,8 @@ use Rattle.luks_reading.specs.declared.report.Data.TheVariants.{Here, Elsewhere}
 use Rattle.luks_reading.specs.declared.format.Format.{Format}
 use Rattle.luks_making.specs.declared.derivation.NewDerivation.{NewDerivation}
 use Rattle.luks_formatting.specs.Deriving.{slot_derivation}
+use Rattle.luks_formatting.specs.declared.new_cipher.NewCipher.{NewCipher}
+use Rattle.luks_formatting.specs.Encrypting.{block_bytes, cipher_text}
 use Rattle.luks_formatting.specs.Given.{name_field, nothing_given, number_or, uuid_of}
 use Rattle.luks_formatting.specs.NewPlan.{key_digest}
 use Rattle.luks_formatting.specs.RandomBytes.{digest_salt, slot_place2, slot_salt}
@@ -68,37 +70,37 @@ new_members given format random = record {
   hash = name_of format.hash;
   iterations = format.iterations;
   segment_offset = segment_start given;
-  digest_salt = digest_salt random;
+  digest_salt = digest_salt given.key_bytes random;
   digest = key_digest given format random (digest_size_of format.hash);
-  slot_salt = slot_salt slot_place2 random;
-  encryption = codes "aes-xts-plain64";
-  sector_size = 512;
+  slot_salt = slot_salt (slot_place2 given.key_bytes) random;
+  encryption = cipher_text given.cipher;
+  sector_size = given.sector_size;
 }
 
--- keyslot 0, which holds the key, by this derivation
-abbrev pub first_slot_by : Deriving → VolumeMembers → SlotMembers
-first_slot_by d v = record (first_slot v) { derivation = d }
+-- keyslot 0, which holds the key of k bytes, by this derivation
+abbrev pub first_slot_by : ℕ → Deriving → VolumeMembers → SlotMembers
+first_slot_by k d v = record (first_slot v) { key_size = k; size = block_bytes k; area_key_size = k; derivation = d }
 
--- the metadata, whose keyslot 0 is so derived (LUKS2 On-Disk Format 1.1, 3)
-abbrev pub formatted_by : Deriving → VolumeMembers → Value
-formatted_by d v = object (
+-- the metadata, whose keyslot 0 has such a key and is so derived (LUKS2 On-Disk Format 1.1, 3)
+abbrev pub formatted_by : ℕ → Deriving → VolumeMembers → Value
+formatted_by k d v = object (
     member (codes "config") config_value (
     member (codes "digests") (sole (digest_value v)) (
-    member (codes "keyslots") (sole (slot_value (first_slot_by d v))) (
+    member (codes "keyslots") (sole (slot_value (first_slot_by k d v))) (
     member (codes "segments") (sole (segment_value v)) (
     member (codes "tokens") (object no_members) no_members)))))
 
 -- by the derivation that is chosen
 abbrev pub new_metadata : Given → Format → Option NewDerivation → List ℕ → Value
-new_metadata given format chosen random = formatted_by (slot_derivation format chosen) (new_members given format random)
+new_metadata given format chosen random = formatted_by given.key_bytes (slot_derivation format chosen) (new_members given format random)
 
--- the area of keyslot 0, of which the first 256000 bytes are used, and its cipher
-abbrev pub area2 : Area
-area2 = record { start = 32768; len = 258048 }
+-- the area of keyslot 0 with a key of k bytes, of which the sectors of its stripes are used, and its cipher
+abbrev pub area2 : ℕ → Area
+area2 k = record { start = 32768; len = block_bytes k }
 
-abbrev pub IsNewCipher2 : AreaCipher → Type 0
-IsNewCipher2 (Apart name mode) = ⊥
-IsNewCipher2 (Whole text) = text.now ≡ codes "aes-xts-plain64"
+abbrev pub IsNewCipher2 : NewCipher → AreaCipher → Type 0
+IsNewCipher2 cipher (Apart name mode) = ⊥
+IsNewCipher2 cipher (Whole text) = text.now ≡ cipher_text cipher
 
 -- what the metadata says has the ranges of its types, and the digest its length
 pub record FitsMetadataAs (given : Given) (format : Format) (chosen : Option NewDerivation) (random : List ℕ) : Type 0 where

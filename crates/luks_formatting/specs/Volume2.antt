@@ -23,15 +23,16 @@ HasArea v json = IsWrittenArea json_size (new_metadata v.given.now v.format.now 
 
 -- the plan of keyslot 0
 pub record HasPlan (given : Given) (format : Format) (chosen : Option NewDerivation) (random : List ℕ) (plan : SlotPlan) : Type 0 where
-  pub is : IsNewPlanBy (slot_derivation format chosen) format (slot_salt slot_place2 random) area2 (digest_salt random)
+  pub is : IsNewPlanBy (slot_derivation format chosen) format given.key_bytes (slot_salt (slot_place2 given.key_bytes) random) (area2 given.key_bytes) (digest_salt given.key_bytes random)
       (key_digest given format random (digest_size_of format.hash)) plan
-  pub cipher : IsNewCipher2 plan.cipher
+  pub cipher : IsNewCipher2 given.cipher plan.cipher
 
 -- the key area was sealed ahead, or can be sealed with no memory
 abbrev pub IsReady : Volume → SlotPlan → Option (Bor (List ℕ)) → Type 0
 IsReady v plan ahead =
-    MatchOption ahead (IsSealable plan)
-    (λ bytes. IsSealedAhead plan v.passphrase.bytes.now (key_of v.given.now v.random.now) (random_stripes slot_place2 v.random.now) bytes.now)
+    MatchOption ahead (IsSealable v.given.now.key_bytes plan)
+    (λ bytes. IsSealedAhead v.given.now.key_bytes plan v.passphrase.bytes.now (key_of v.given.now v.random.now)
+    (random_stripes v.given.now.key_bytes (slot_place2 v.given.now.key_bytes) v.random.now) bytes.now)
 
 abbrev pub HasKeyArea : Volume → List ℕ → Type 0
 HasKeyArea v new = HasKeyArea2As v.given.now v.format.now v.chosen v.passphrase.bytes.now v.random.now new

@@ -3,7 +3,8 @@ ghost use Rattle.std.specs.Prelude.{◌≡◌, ◌+◌, ◌≤◌, ◌++◌, ◌
 ghost use Rattle.luks1_header.specs.Bytes.{IsUuid};
 ghost use Rattle.luks_formatting.specs.Given.{key_of, name_field, uuid_of};
 
-use crate::random::{KEY, KEY_BYTES, UUID, taken, taken_array};
+use crate::new_cipher::NewCipher;
+use crate::random::{KEY, UUID, taken, taken_array};
 use arrayvec::ArrayString;
 use luks_reading::Data;
 use luks2_header::uuid_text;
@@ -16,7 +17,7 @@ pub struct Given<'a> {
     /// At which sector of 512 bytes the payload begins, of the device that it lies on. Without it that is at 2
     /// MiB, of LUKS2 at 16 MiB, and on another device than the header's at its start.
     pub sector: Option<u64>,
-    /// The volume key, 64 bytes; without it that is of the random bytes.
+    /// The volume key, of `key_bytes`; without it that is of the random bytes.
     pub key: Option<&'a [u8]>,
     /// The text of the uuid, which is kept as it is; without it that is of the random bytes.
     pub uuid: Option<&'a str>,
@@ -24,10 +25,17 @@ pub struct Given<'a> {
     pub label: Option<&'a str>,
     /// LUKS2: the subsystem, likewise.
     pub subsystem: Option<&'a str>,
+    /// The cipher of the data and of the key areas.
+    pub cipher: NewCipher,
+    /// The length of the volume key in bytes, such as the cipher takes.
+    pub key_bytes: u32,
+    /// The length of the data's sectors in bytes: 512, of LUKS2 also 1024, 2048 or 4096.
+    pub sector_size: u32,
 }
 
 impl Given<'_> {
-    /// No more than that the payload lies on the volume itself.
+    /// No more than that the payload lies on the volume itself: a key of 64 bytes for aes-xts-plain64, in sectors
+    /// of 512 bytes.
     pub const NOTHING: Given<'static> = Given {
         payload: Data::Here,
         sector: None,
@@ -35,17 +43,20 @@ impl Given<'_> {
         uuid: None,
         label: None,
         subsystem: None,
+        cipher: NewCipher::XtsPlain64,
+        key_bytes: 64,
+        sector_size: 512,
     };
 }
 
 /// The volume key: the given one, or that of the random bytes.
 pub(crate) fn key_of<'a>(given: &Given<'a>, random: &'a [u8]) -> &'a [u8]
-    requires { 80 ≤ length random.now }
+    requires { 16 + given.now.key_bytes ≤ length random.now }
     ensures { result.now ≡ key_of given.now random.now }
 {
     match given.key {
         Some(key) => key,
-        None => taken(random, KEY, KEY_BYTES),
+        None => taken(random, KEY, given.key_bytes as usize),
     }
 }
 

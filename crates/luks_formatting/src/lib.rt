@@ -9,6 +9,7 @@ mod laws;
 mod luks1;
 mod luks2;
 mod metadata;
+mod new_cipher;
 mod new_header1;
 mod new_header2;
 mod plan;
@@ -24,5 +25,6 @@ pub use laws::{
 };
 pub use luks_making::{Argon2Costs, NewDerivation};
 pub use luks_reading::Format;
-pub use luks1::{FORMAT1_RANDOM, format1, format1_as};
-pub use luks2::{FORMAT2_RANDOM, format2, format2_as, format2_by};
+pub use luks1::{FORMAT1_RANDOM, format1, format1_as, format1_random};
+pub use luks2::{FORMAT2_RANDOM, format2, format2_as, format2_by, format2_random};
+pub use new_cipher::NewCipher;

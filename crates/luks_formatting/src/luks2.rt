@@ -1,5 +1,5 @@
 //! Formatting by LUKS2.
-ghost use Rattle.std.specs.Prelude.{◌≡◌, ◌+◌, ◌^◌, ◌<◌, ◌≤◌, ℕ, Some, IfErr, IfOk, OnOk};
+ghost use Rattle.std.specs.Prelude.{◌≡◌, ◌+◌, ◌^◌, ◌<◌, ◌≤◌, ℕ, true, Some, IfErr, IfOk, OnOk};
 ghost use Rattle.luks_area.specs.Device.{CountsFailure, IsSettled};
 ghost use Rattle.luks_area.specs.Ranges.{SameBut};
 ghost use Rattle.luks_writing.specs.MadeInOrder.{ClearsFirst};
@@ -13,12 +13,14 @@ ghost use Rattle.luks_formatting.specs.Given.{key_of, IsBefore};
 ghost use Rattle.luks_formatting.specs.Formatted2.{HasAllButFirst2, HasAllButFirst2As, HasAllButFirst2By, HasKeyArea2, HasKeyArea2As, HasKeyArea2By, IsFormatted2, IsFormatted2As, IsFormatted2By, IsOfLuks2};
 ghost use Rattle.luks_reading.specs.declared.report.Data.TheVariants.{Here};
 ghost use Rattle.luks_formatting.specs.NewHeader2.{copy_size, segment_start};
-ghost use Rattle.luks_formatting.specs.RandomBytes.{volume_key};
+ghost use Rattle.luks_formatting.specs.RandomBytes.{needed_bytes, volume_key};
+ghost use Rattle.luks_formatting.specs.Encrypting.{is_older};
 ghost use Rattle.luks_formatting.specs.declared.format_fault.FormatFault.{FormatFault as TheFault};
 
 use crate::derivation::allowed_for;
 use crate::format_fault::FormatFault;
 use crate::given::Given;
+use crate::judging::needed_bytes;
 use crate::volume2::{Volume, make};
 use luks_area::Device;
 use luks_edit::{Done, Passphrase};
@@ -29,6 +31,13 @@ use std::alloc::Global;
 
 /// How many random bytes `format2` takes.
 pub const FORMAT2_RANDOM: u64 = 256208;
+
+/// How many random bytes `format2_as` takes where the key has so many.
+pub fn format2_random(key_bytes: u32) -> u64
+    ensures { result ≡ needed_bytes true key_bytes }
+{
+    needed_bytes(true, key_bytes)
+}
 
 /// Makes a LUKS2 volume whose keyslot 0 opens by the passphrase to a volume key of 64 bytes. What
 /// stood there before is overwritten without question.
@@ -69,7 +78,7 @@ pub fn format2<D: Device>(
     ensures size { D.size device.new ≡ D.size device.old }
     ensures settled { D.tells → D.failed device.new ≡ D.failed device.old
         → IsSettled D.unsettled device.new }
-    ensures rest { D.tells → SameBut IsOfLuks2 (D.bytes device.old) (D.bytes device.new) }
+    ensures rest { D.tells → SameBut (IsOfLuks2 64) (D.bytes device.old) (D.bytes device.new) }
 
     // No older header counts in the copies' places from the clearing on; the first copy comes last.
     ensures order { D.tells → ClearsFirst copy_size
@@ -83,7 +92,7 @@ pub fn format2<D: Device>(
         passphrase.now random.now (D.bytes device.old) (D.bytes device.new)) }
     ensures well_formed { D.tells → OnOk result (WellFormed (D.bytes device.new) payload) }
     ensures opens { D.tells → OnOk result
-        (Answer (D.bytes device.new) 0 passphrase.now (opens (volume_key random.now))) }
+        (Answer (D.bytes device.new) 0 passphrase.now (opens (volume_key 64 random.now))) }
 {
     let given = Given {
         payload,
@@ -142,7 +151,7 @@ pub fn format2_by<D: Device>(
     ensures size { D.size device.new ≡ D.size device.old }
     ensures settled { D.tells → D.failed device.new ≡ D.failed device.old
         → IsSettled D.unsettled device.new }
-    ensures rest { D.tells → SameBut IsOfLuks2 (D.bytes device.old) (D.bytes device.new) }
+    ensures rest { D.tells → SameBut (IsOfLuks2 64) (D.bytes device.old) (D.bytes device.new) }
 
     // No older header counts in the copies' places from the clearing on; the first copy comes last.
     ensures order { D.tells → ClearsFirst copy_size
@@ -158,7 +167,7 @@ pub fn format2_by<D: Device>(
     ensures opens { D.tells → OnOk result ((allowed : TheAllowed)
         → memory_by (slot_derivation format.now chosen) ≤ allowed.memory
         → AnswerWithin allowed (D.bytes device.new) 0 passphrase.now.bytes.now
-        (opens (volume_key random.now))) }
+        (opens (volume_key 64 random.now))) }
 {
     let given = Given {
         payload,
@@ -168,9 +177,12 @@ pub fn format2_by<D: Device>(
 }
 
 /// The same of a volume of which something is given: where its payload begins, its key, its uuid, its label and
-/// its subsystem. Where nothing is it is `format2_by`.
+/// its subsystem, its cipher with the key's length, the size of its sectors. Where nothing is it is `format2_by`.
+/// A cipher of older disks is taken only where the passphrase's allowance says so, and opens wherever these are
+/// accepted.
 ///
-/// The random bytes are as many as ever, also those in whose place a key or a uuid is given: these aren't used.
+/// Of the random bytes there are `format2_random`, also those in whose place a key or a uuid is given: these aren't
+/// used. Where the key has k bytes, each of the 3999 stripes has as many.
 /// What lies where the payload begins, and behind it, stays as it is.
 pub fn format2_as<D: Device>(
     alloc: Global,
@@ -186,15 +198,15 @@ pub fn format2_as<D: Device>(
 
     // The first fault that stands, or want of memory, and then no byte changes; else the device's.
     ensures fault { IfErr result
-        (IsAnsweredFaultOrMemory (IsFormat2FaultAs given.now chosen
+        (IsAnsweredFaultOrMemory (IsFormat2FaultAs given.now passphrase.now.allowed.older chosen
         (allowed_for passphrase.now.allowed.memory passphrase.now.bytes.now)
         (D.size device.old) format.now random.now)) }
     ensures faultless { OnOk result
-        (HasNoFault (IsFormat2FaultAs given.now chosen
+        (HasNoFault (IsFormat2FaultAs given.now passphrase.now.allowed.older chosen
         (allowed_for passphrase.now.allowed.memory passphrase.now.bytes.now)
         (D.size device.old) format.now random.now)) }
     ensures same { D.tells → (f : TheFault)
-        → IsFormat2FaultAs given.now chosen (allowed_for passphrase.now.allowed.memory passphrase.now.bytes.now)
+        → IsFormat2FaultAs given.now passphrase.now.allowed.older chosen (allowed_for passphrase.now.allowed.memory passphrase.now.bytes.now)
         (D.size device.old) format.now random.now f
         → D.bytes device.new ≡ D.bytes device.old }
     ensures memory { D.tells → result ≡ Err FormatFault.Memory
@@ -206,7 +218,7 @@ pub fn format2_as<D: Device>(
     ensures size { D.size device.new ≡ D.size device.old }
     ensures settled { D.tells → D.failed device.new ≡ D.failed device.old
         → IsSettled D.unsettled device.new }
-    ensures rest { D.tells → SameBut IsOfLuks2 (D.bytes device.old) (D.bytes device.new) }
+    ensures rest { D.tells → SameBut (IsOfLuks2 given.now.key_bytes) (D.bytes device.old) (D.bytes device.new) }
     ensures payload { D.tells → given.now.payload ≡ Here
         → SameBut (IsBefore (segment_start given.now)) (D.bytes device.old) (D.bytes device.new) }
 
@@ -223,6 +235,7 @@ pub fn format2_as<D: Device>(
     ensures well_formed { D.tells → OnOk result (WellFormed (D.bytes device.new) given.now.payload) }
     ensures opens { D.tells → OnOk result ((allowed : TheAllowed)
         → memory_by (slot_derivation format.now chosen) ≤ allowed.memory
+        → (is_older given.now.cipher ≡ true → allowed.older ≡ true)
         → AnswerWithin allowed (D.bytes device.new) 0 passphrase.now.bytes.now
         (opens (key_of given.now random.now))) }
 {
@@ -234,7 +247,7 @@ pub fn format2_as<D: Device>(
             bytes: passphrase.bytes,
             allowed: Allowed {
                 memory: allowed_for(passphrase),
-                older: false,
+                older: passphrase.allowed.older,
             },
         },
         random,

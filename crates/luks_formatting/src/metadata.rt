@@ -1,11 +1,13 @@
 //! The metadata of a new LUKS2 volume.
-ghost use Rattle.std.specs.Prelude.{◌≡◌, ◌≤◌, ◌<◌, ◌^◌, length, IfOk, IfSome, OnOk};
+ghost use Rattle.std.specs.Prelude.{◌≡◌, ◌+◌, ◌≤◌, ◌<◌, ◌^◌, true, length, IfOk, IfSome, OnOk};
 ghost use Rattle.serde_json.specs.View.{view};
 ghost use Rattle.luks_kdf.specs.Names.{digest_size_of, name_of};
 ghost use Rattle.luks_making.specs.Formatted.{volume_members};
 ghost use Rattle.luks_making.specs.Keyslots.{derivation_of, slot_members};
 ghost use Rattle.luks_making.specs.Derivations.{IsMakeable};
+ghost use Rattle.luks_rules.specs.Reading.{is_sector_size};
 ghost use Rattle.luks_formatting.specs.Deriving.{slot_derivation};
+ghost use Rattle.luks_formatting.specs.Encrypting.{takes_key};
 ghost use Rattle.luks_formatting.specs.NewHeader2.{first_slot_by, formatted_by, new_members, own_segment, segment_sector, segment_start};
 ghost use Rattle.luks_formatting.specs.NewPlan.{key_digest};
 ghost use Rattle.luks_formatting.specs.Volume2.{Fits, HasArea};
@@ -30,7 +32,10 @@ pub(crate) fn new_area(
 ) -> Result<Vec<u8>, AllocError>
     requires iterations { 1 ≤ volume.now.format.now.iterations }
     requires makeable { IfSome volume.now.chosen (IsMakeable volume.now.passphrase.allowed.memory) }
-    requires long { 272 ≤ length volume.now.random.now }
+    requires takes { takes_key volume.now.given.now.cipher volume.now.given.now.key_bytes ≡ true }
+    requires small { volume.now.given.now.key_bytes ≤ 64 }
+    requires size { is_sector_size volume.now.given.now.sector_size ≡ true }
+    requires long { 208 + volume.now.given.now.key_bytes ≤ length volume.now.random.now }
     requires sector { segment_sector volume.now.given.now < 2 ^ 55 }
     requires digest { digest.now ≡ key_digest volume.now.given.now volume.now.format.now volume.now.random.now
         (digest_size_of volume.now.format.now.hash) }
@@ -38,15 +43,16 @@ pub(crate) fn new_area(
     ensures area { IfOk result (λ a. HasArea volume.now a.items) }
     ensures fits { OnOk result (Fits volume.now) }
 {
+    let key_bytes = volume.given.key_bytes as usize;
     let like = NewVolume {
         hash: volume.format.hash.text(),
         iterations: volume.format.iterations,
         segment_offset: segment_start(volume.given),
-        digest_salt: taken(volume.random, DIGEST_SALT, SALT_BYTES),
+        digest_salt: taken(volume.random, DIGEST_SALT + key_bytes, SALT_BYTES),
         digest,
-        slot_salt: taken(volume.random, SLOT_SALT, SALT_BYTES),
-        encryption: "aes-xts-plain64",
-        sector_size: 512,
+        slot_salt: taken(volume.random, SLOT_SALT + key_bytes, SALT_BYTES),
+        encryption: volume.given.cipher.text(),
+        sector_size: volume.given.sector_size,
     };
     area_of(alloc, volume, &like)
 }
@@ -55,7 +61,10 @@ pub(crate) fn new_area(
 fn area_of(alloc: Global, volume: &Volume<'_>, like: &NewVolume<'_>) -> Result<Vec<u8>, AllocError>
     requires iterations { 1 ≤ volume.now.format.now.iterations }
     requires makeable { IfSome volume.now.chosen (IsMakeable volume.now.passphrase.allowed.memory) }
-    requires long { 272 ≤ length volume.now.random.now }
+    requires takes { takes_key volume.now.given.now.cipher volume.now.given.now.key_bytes ≡ true }
+    requires small { volume.now.given.now.key_bytes ≤ 64 }
+    requires size { is_sector_size volume.now.given.now.sector_size ≡ true }
+    requires long { 208 + volume.now.given.now.key_bytes ≤ length volume.now.random.now }
     requires members { volume_members like.now
         ≡ new_members volume.now.given.now volume.now.format.now volume.now.random.now }
     requires digest_length { length like.now.digest.now
@@ -65,7 +74,8 @@ fn area_of(alloc: Global, volume: &Volume<'_>, like: &NewVolume<'_>) -> Result<V
 {
     volume_fits(like);
     chosen_fits(volume.chosen);
-    let value = metadata_of(alloc, volume.format, volume.chosen, like)?;
+    let key_bytes = volume.given.key_bytes as u8;
+    let value = metadata_of(alloc, volume.format, volume.chosen, key_bytes, like)?;
     match written_area(alloc, &value, JSON_SIZE)? {
         Some(area) => Ok(area),
         None => unreachable!(),
@@ -77,12 +87,13 @@ fn metadata_of(
     alloc: Global,
     format: &Format,
     chosen: Option<NewDerivation>,
+    key_bytes: u8,
     like: &NewVolume<'_>,
 ) -> Result<Value, AllocError>
     ensures { IfOk result (λ v. view v
-        ≡ formatted_by (slot_derivation format.now chosen) (volume_members like.now)) }
+        ≡ formatted_by key_bytes (slot_derivation format.now chosen) (volume_members like.now)) }
 {
-    let keyslot = slot_value(alloc, &first_slot(format, chosen, like))?;
+    let keyslot = slot_value(alloc, &first_slot(format, chosen, key_bytes, like))?;
     let value = formatted(alloc, like)?;
     let bare = without_slot(alloc, value, 0)?;
     with_slot(alloc, bare, 0, 0, keyslot)
@@ -91,19 +102,20 @@ fn metadata_of(
 fn first_slot<'a>(
     format: &Format,
     chosen: Option<NewDerivation>,
+    key_bytes: u8,
     like: &NewVolume<'a>,
 ) -> NewKeyslot<'a>
     ensures { slot_members result
-        ≡ first_slot_by (slot_derivation format.now chosen) (volume_members like.now) }
+        ≡ first_slot_by key_bytes (slot_derivation format.now chosen) (volume_members like.now) }
 {
     NewKeyslot {
-        key_size: 64,
+        key_size: key_bytes,
         stripes: 4000,
         splitter_hash: like.hash,
         offset: 32768,
-        size: 258048,
+        size: (u64::from(key_bytes) * 4000).next_multiple_of(4096),
         encryption: like.encryption,
-        area_key_size: 64,
+        area_key_size: key_bytes,
         derivation: written_derivation(format, chosen),
         salt: like.slot_salt,
     }

@@ -1,5 +1,5 @@
 //! The LUKS1 header of a new volume.
-ghost use Rattle.std.specs.Prelude.{◌≡◌, ◌≤◌, ◌<◌, ◌^◌, ℕ, length, slice_index_or, IfSome};
+ghost use Rattle.std.specs.Prelude.{◌≡◌, ◌+◌, ◌≤◌, ◌<◌, ◌^◌, ℕ, length, slice_index_or, IfSome};
 ghost use Rattle.luks1_header.specs.declared.luks1.Luks1Slot.{Luks1Slot as TheSlot};
 ghost use Rattle.luks_formatting.specs.NewHeader1.{first_slot, free_slot, material_sector, new_slot, own_sector, payload_sector, IsNewCommon, IsNewHeader1};
 
@@ -9,26 +9,28 @@ use crate::random::{DIGEST_SALT, STRIPES, taken_array};
 use luks_reading::{Data, Format};
 use luks2_header::{Luks1, Luks1Common, Luks1Slot, SlotState};
 
-/// Where the salt of keyslot 0 stands among the random bytes.
-pub(crate) const SLOT_SALT: usize = 112;
+/// Where the salt of keyslot 0 stands among the random bytes, but for the length of the volume key.
+pub(crate) const SLOT_SALT: usize = 48;
 
 /// The header, whose keyslot 0 is in use.
 pub(crate) fn new_header(given: &Given<'_>, format: &Format, random: &[u8]) -> Luks1
     requires iterations { 1 ≤ format.now.iterations }
-    requires long { 144 ≤ length random.now }
+    requires small { given.now.key_bytes ≤ 64 }
+    requires long { 80 + given.now.key_bytes ≤ length random.now }
     requires sector { payload_sector given.now < 2 ^ 32 }
     requires uuid { IfSome given.now.uuid (λ text. length text.now ≤ 40) }
     ensures { IsNewHeader1 given.now format.now random.now result }
 {
     Luks1 {
         common: new_common(given, format, random),
-        slots: new_slots(format, random),
+        slots: new_slots(given.key_bytes, format, random),
     }
 }
 
 fn new_common(given: &Given<'_>, format: &Format, random: &[u8]) -> Luks1Common
     requires iterations { 1 ≤ format.now.iterations }
-    requires long { 144 ≤ length random.now }
+    requires small { given.now.key_bytes ≤ 64 }
+    requires long { 80 + given.now.key_bytes ≤ length random.now }
     requires sector { payload_sector given.now < 2 ^ 32 }
     requires uuid { IfSome given.now.uuid (λ text. length text.now ≤ 40) }
     ensures { IsNewCommon given.now format.now random.now result }
@@ -37,12 +39,12 @@ fn new_common(given: &Given<'_>, format: &Format, random: &[u8]) -> Luks1Common
     put_key_digest(&mut mk_digest, given, format, random);
     Luks1Common {
         cipher_name: owned("aes"),
-        cipher_mode: owned("xts-plain64"),
+        cipher_mode: owned(given.cipher.mode()),
         hash_spec: owned(format.hash.text()),
         payload_offset: payload_sector(given),
-        key_bytes: 64,
+        key_bytes: given.key_bytes,
         mk_digest,
-        mk_digest_salt: taken_array(random, DIGEST_SALT),
+        mk_digest_salt: taken_array(random, DIGEST_SALT + given.key_bytes as usize),
         mk_digest_iterations: format.iterations,
         uuid: uuid_of(given, random),
     }
@@ -68,49 +70,54 @@ fn own_sector(payload: Data) -> u32
     }
 }
 
-fn new_slots(format: &Format, random: &[u8]) -> [Luks1Slot; 8]
-    requires { 144 ≤ length random.now }
+fn new_slots(key_bytes: u32, format: &Format, random: &[u8]) -> [Luks1Slot; 8]
+    requires small { key_bytes ≤ 64 }
+    requires long { 80 + key_bytes ≤ length random.now }
     ensures eight { length result ≡ 8 }
     ensures each { (n : ℕ) (s : TheSlot) → n < 8
-        → slice_index_or result n s ≡ new_slot format.now random.now n }
+        → slice_index_or result n s ≡ new_slot key_bytes format.now random.now n }
 {
-    let mut slots = [first_slot(format, random); 8];
+    let mut slots = [first_slot(key_bytes, format, random); 8];
     for n in 1..8 {
-        slots[n] = free_slot(n as u32);
+        slots[n] = free_slot(key_bytes, n as u32);
     }
     slots
 }
 
-fn first_slot(format: &Format, random: &[u8]) -> Luks1Slot
-    requires { 144 ≤ length random.now }
-    ensures { result ≡ first_slot format.now random.now }
+fn first_slot(key_bytes: u32, format: &Format, random: &[u8]) -> Luks1Slot
+    requires small { key_bytes ≤ 64 }
+    requires long { 80 + key_bytes ≤ length random.now }
+    ensures { result ≡ first_slot key_bytes format.now random.now }
 {
     Luks1Slot {
         state: SlotState::Enabled,
         iterations: format.iterations,
-        salt: taken_array(random, SLOT_SALT),
-        key_material_offset: material_sector(0),
+        salt: taken_array(random, SLOT_SALT + key_bytes as usize),
+        key_material_offset: material_sector(key_bytes, 0),
         stripes: STRIPES,
     }
 }
 
-fn free_slot(n: u32) -> Luks1Slot
-    requires { n < 8 }
-    ensures { result ≡ free_slot n }
+fn free_slot(key_bytes: u32, n: u32) -> Luks1Slot
+    requires small { key_bytes ≤ 64 }
+    requires one { n < 8 }
+    ensures { result ≡ free_slot key_bytes n }
 {
     Luks1Slot {
         state: SlotState::Disabled,
         iterations: 0,
         salt: [0; 32],
-        key_material_offset: material_sector(n),
+        key_material_offset: material_sector(key_bytes, n),
         stripes: STRIPES,
     }
 }
 
-/// Where the key material of the keyslot `n` begins, in sectors.
-fn material_sector(n: u32) -> u32
-    requires { n < 8 }
-    ensures { result ≡ material_sector n }
+/// Where the key material of the keyslot `n` begins, in sectors, where keys have so many bytes.
+fn material_sector(key_bytes: u32, n: u32) -> u32
+    requires small { key_bytes ≤ 64 }
+    requires one { n < 8 }
+    ensures { result ≡ material_sector key_bytes n }
 {
-    8 + 504 * n
+    let sectors = (key_bytes * 4000).next_multiple_of(4096) / 512;
+    8 + n * sectors
 }

@@ -16,14 +16,14 @@ pub(crate) const COPY_SIZE: u64 = 16384;
 /// The length of a copy's JSON area in bytes.
 pub(crate) const JSON_SIZE: usize = 12288;
 
-/// Where the salt of the first copy stands among the random bytes.
-pub(crate) const FIRST_SALT: usize = 112;
+/// Where the salt of the first copy stands among the random bytes, but for the length of the volume key.
+pub(crate) const FIRST_SALT: usize = 48;
 
-/// Where the salt of the second copy stands.
-pub(crate) const SECOND_SALT: usize = 176;
+/// Where the salt of the second copy stands, likewise.
+pub(crate) const SECOND_SALT: usize = 112;
 
-/// Where the salt of keyslot 0 stands.
-pub(crate) const SLOT_SALT: usize = 240;
+/// Where the salt of keyslot 0 stands, likewise.
+pub(crate) const SLOT_SALT: usize = 176;
 
 /// Writes the copy of the header that stands at the place `at`, with its salt, and flushes. Also
 /// where the device fails no byte outside the copy changes.

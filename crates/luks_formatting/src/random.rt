@@ -24,14 +24,11 @@ pub(crate) fn taken_array<const N: usize>(random: &[u8], at: usize) -> [u8; N]
 /// Where the uuid's bytes stand.
 pub(crate) const UUID: usize = 0;
 
-/// Where the volume key's 64 bytes stand.
+/// Where the volume key's bytes stand.
 pub(crate) const KEY: usize = 16;
 
-/// Where the 32 bytes of the digest's salt stand.
-pub(crate) const DIGEST_SALT: usize = 80;
-
-/// The length of a volume key in bytes.
-pub(crate) const KEY_BYTES: usize = 64;
+/// Where the 32 bytes of the digest's salt stand, but for the length of the volume key.
+pub(crate) const DIGEST_SALT: usize = 16;
 
 /// The length of a salt of a keyslot or a digest in bytes.
 pub(crate) const SALT_BYTES: usize = 32;
@@ -39,5 +36,5 @@ pub(crate) const SALT_BYTES: usize = 32;
 /// How many stripes a volume key is split into.
 pub(crate) const STRIPES: u32 = 4000;
 
-/// The length in bytes of all stripes but the last.
-pub(crate) const RANDOM_STRIPES: usize = 3999 * 64;
+/// How many stripes are random, all but the last.
+pub(crate) const RANDOM_STRIPES: usize = 3999;

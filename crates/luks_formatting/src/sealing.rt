@@ -1,38 +1,41 @@
 //! Sealing keyslot 0 of a new volume.
-ghost use Rattle.std.specs.Prelude.{◌≡◌, ◌+◌, ◌^◌, ◌<◌, ◌≤◌, length, IfOk, MatchOption, OnOk};
+ghost use Rattle.std.specs.Prelude.{◌≡◌, ◌+◌, ◌*◌, ◌^◌, ◌<◌, ◌≤◌, length, IfOk, MatchOption, OnOk};
 ghost use Rattle.luks_area.specs.Area.{IsInside};
 ghost use Rattle.luks_area.specs.Memory.{memory_bytes};
 ghost use Rattle.luks_area.specs.Device.{CountsFailure, IsSettled, is_failure};
 ghost use Rattle.luks_area.specs.Ranges.{IsAt, SameBut};
 ghost use Rattle.luks_slot.specs.Opening.{area_bytes};
 ghost use Rattle.luks_slot.specs.Sealing.{IsSealed};
+ghost use Rattle.luks_formatting.specs.Encrypting.{used_bytes};
 ghost use Rattle.luks_formatting.specs.NewPlan.{IsSealable, IsSealableWithin, IsSealedAhead};
 
 use luks_area::{Area, Device, DeviceFault, MemDevice};
 use luks_edit::Passphrase;
-use luks_slot::{Key, SlotPlan};
-use luks_writing::{seal_area, seal_area_within, write_range};
+use luks_slot::{Allowed, Key, SlotPlan};
+use luks_writing::{seal_area_within, write_range};
 use std::alloc::{AllocError, Global};
 
-/// The used sectors of a key area, alone on a device: 500 of 512 bytes.
-const ALONE: Area = Area {
-    start: 0,
-    len: 256000,
+/// What is allowed of a plan that takes no memory and was judged before: older ciphers too.
+const JUDGED: Allowed = Allowed {
+    memory: 0,
+    older: true,
 };
 
-/// Seals the key of 64 bytes in the area of the plan, and flushes. Also where the device fails no
-/// byte outside the area's used sectors, 256000 bytes, changes.
+/// Seals the key in the area of the plan, and flushes. Also where the device fails no byte outside the area's used
+/// sectors changes.
 pub(crate) fn seal_key<D: Device>(
+    alloc: Global,
     device: &mut D,
     plan: &SlotPlan<'_>,
     passphrase: &[u8],
     key: &[u8],
     random: &[u8],
 ) -> Result<(), DeviceFault>
-    requires sealable { IsSealable plan.now }
-    requires key_length { length key.now ≡ 64 }
-    requires random_length { length random.now ≡ 255936 }
-    requires large { 256000 ≤ plan.now.area.len }
+    requires sealable { IsSealable (length key.now) plan.now }
+    requires some_key { 1 ≤ length key.now }
+    requires short_key { length key.now ≤ 64 }
+    requires random_length { length random.now ≡ 3999 * length key.now }
+    requires large { used_bytes (length key.now) ≤ plan.now.area.len }
     requires within { IsInside plan.now.area (D.size device.old) }
     requires room { D.failed device.old + 1 < 2 ^ 64 }
     requires settled { D.tells → IsSettled D.unsettled device.old }
@@ -43,10 +46,18 @@ pub(crate) fn seal_key<D: Device>(
     ensures sealed { D.tells → OnOk result
         (IsSealed plan.now (area_bytes (D.bytes device.new) plan.now.area)
         passphrase.now key.now random.now) }
-    ensures rest { D.tells → SameBut (IsAt plan.now.area.start 256000)
+    ensures rest { D.tells → SameBut (IsAt plan.now.area.start (used_bytes (length key.now)))
         (D.bytes device.old) (D.bytes device.new) }
 {
-    match seal_area(device, plan, passphrase, &Key::new(key), random) {
+    match seal_area_within(
+        alloc,
+        device,
+        plan,
+        passphrase,
+        JUDGED,
+        &Key::new(key),
+        random,
+    ) {
         Ok(()) => Ok(()),
         Err(_) => Err(DeviceFault),
     }
@@ -62,17 +73,22 @@ pub(crate) fn sealed_ahead(
     random: &[u8],
 ) -> Result<MemDevice, AllocError>
     requires short { 0 < passphrase.now.allowed.memory → length passphrase.now.bytes.now < 2 ^ 32 }
-    requires sealable { IsSealableWithin passphrase.now.allowed plan.now }
-    requires key_length { length key.now ≡ 64 }
-    requires random_length { length random.now ≡ 255936 }
-    ensures { IfOk result (λ d. IsSealedAhead plan.now passphrase.now.bytes.now
+    requires sealable { IsSealableWithin passphrase.now.allowed (length key.now) plan.now }
+    requires some_key { 1 ≤ length key.now }
+    requires short_key { length key.now ≤ 64 }
+    requires random_length { length random.now ≡ 3999 * length key.now }
+    ensures { IfOk result (λ d. IsSealedAhead (length key.now) plan.now passphrase.now.bytes.now
         key.now random.now (memory_bytes d)) }
 {
     let mut zeros = Vec::new(alloc);
-    zeros.resize(ALONE.len as usize, 0)?;
+    let len = (key.len() * 4000).next_multiple_of(512);
+    zeros.resize(len, 0)?;
     let mut device = MemDevice::new(zeros);
     let alone = SlotPlan {
-        area: ALONE,
+        area: Area {
+            start: 0,
+            len: len as u64,
+        },
         ..*plan
     };
     let (words, allowed) = (passphrase.bytes, passphrase.allowed);
@@ -93,6 +109,7 @@ pub(crate) fn sealed_ahead(
 /// Writes the used sectors of the key area that were sealed ahead, or seals the key there, and flushes.
 /// Also where the device fails no byte outside them changes.
 pub(crate) fn put_key_area<D: Device>(
+    alloc: Global,
     device: &mut D,
     plan: &SlotPlan<'_>,
     ahead: Option<&[u8]>,
@@ -100,13 +117,14 @@ pub(crate) fn put_key_area<D: Device>(
     key: &[u8],
     random: &[u8],
 ) -> Result<(), DeviceFault>
-    requires sealable { MatchOption ahead (IsSealable plan.now)
-        (λ bytes. IsSealedAhead plan.now passphrase.now key.now random.now bytes.now) }
-    requires key_bytes { plan.now.key_bytes ≡ 64 }
+    requires sealable { MatchOption ahead (IsSealable (length key.now) plan.now)
+        (λ bytes. IsSealedAhead (length key.now) plan.now passphrase.now key.now random.now bytes.now) }
+    requires key_bytes { plan.now.key_bytes ≡ length key.now }
     requires stripes { plan.now.stripes ≡ 4000 }
-    requires key_length { length key.now ≡ 64 }
-    requires random_length { length random.now ≡ 255936 }
-    requires large { 256000 ≤ plan.now.area.len }
+    requires some_key { 1 ≤ length key.now }
+    requires short_key { length key.now ≤ 64 }
+    requires random_length { length random.now ≡ 3999 * length key.now }
+    requires large { used_bytes (length key.now) ≤ plan.now.area.len }
     requires within { IsInside plan.now.area (D.size device.old) }
     requires room { D.failed device.old + 1 < 2 ^ 64 }
     requires settled { D.tells → IsSettled D.unsettled device.old }
@@ -117,11 +135,11 @@ pub(crate) fn put_key_area<D: Device>(
     ensures sealed { D.tells → OnOk result
         (IsSealed plan.now (area_bytes (D.bytes device.new) plan.now.area)
         passphrase.now key.now random.now) }
-    ensures rest { D.tells → SameBut (IsAt plan.now.area.start 256000)
+    ensures rest { D.tells → SameBut (IsAt plan.now.area.start (used_bytes (length key.now)))
         (D.bytes device.old) (D.bytes device.new) }
 {
     match ahead {
         Some(bytes) => write_range(device, plan.area.start, bytes),
-        None => seal_key(device, plan, passphrase, key, random),
+        None => seal_key(alloc, device, plan, passphrase, key, random),
     }
 }

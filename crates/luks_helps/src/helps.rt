@@ -172,7 +172,7 @@ pub const ADD: &str = "Adds a keyslot for a new passphrase";
 
 /// The usage of `add` after `Usage: `, on several lines, since one would have more than 80 columns.
 pub const ADD_USAGE: &str = "\
-luks add [OPTIONS] --slot <N> --random <FILE>
+luks add [OPTIONS] --random <FILE>
                 <--passphrase <FILE>|--passphrase-line <FILE>|--key <FILE>>
                 <--new <FILE>|--new-line <FILE>> <VOLUME>";
 
@@ -184,9 +184,12 @@ of 0 to 7 in LUKS1 and 0 to 31 in LUKS2. All others stay as they are. A
 passphrase is all bytes of its file, a last newline too, at most 65536; by
 --passphrase-line and --new-line what stands there before the first newline.
 
-Who has the volume key needs no passphrase: --key is its file in the place of
---passphrase, and --slot a keyslot whose key it is, as long, and its digest's.
-That one's key area isn't read, so that it may be destroyed.
+Who has the volume key needs neither a passphrase nor a keyslot: --key is its
+file, and the key has to meet the digest that the header has of it. So a header
+whose keyslots are all destroyed or gone has one again. Of LUKS2 the new one is
+like the first of the key's digest, or where that has none as of a new volume,
+and by PBKDF2 unless --kdf chooses. With --slot it is that keyslot's key, and
+the new one is like it; its key area isn't read.
 
 Written are, with a flush after each: the area of the new keyslot; then of LUKS1
 its entry in the header, of LUKS2 the copy of the header that doesn't count and
@@ -213,8 +216,8 @@ Prints one line:
   done slot N    keyslot N is made
   refused FAULT  the first fault, and nothing was written: what check refuses,
                  OtherUse (as above), Requirements, NoSuchSlot, Locked (the
-                 passphrase doesn't open it, or it has another key), Argon2,
-                 Cipher, Hash, KeySize,
+                 passphrase doesn't open it), KeyLength, WrongKey (the key isn't
+                 the volume's, or the keyslot's), Argon2, Cipher, Hash, KeySize,
                  SlotTaken, NoFreeSlot, NoRoom, Iterations, Argon2 (the new one
                  takes more memory than is allowed, or LUKS1 has none),
                  SeqExhausted, MetadataFull, RandomLength (the random file is
@@ -275,12 +278,12 @@ Prints one line:
   done slot N    the new passphrase opens keyslot N
   refused FAULT  the first fault, and nothing was written: what check refuses,
                  OtherUse (as above), Requirements, NoSuchSlot, Locked (the
-                 passphrase doesn't open it, or it has another key), Argon2,
-                 Cipher, Hash, KeySize,
-                 NoFreeSlot, NoRoom, Iterations, Argon2 (the new one takes more
-                 memory than is allowed, or LUKS1 has none), SeqExhausted,
-                 MetadataFull, RandomLength (the random file is too short), or
-                 Passphrase (one is too long)
+                 passphrase doesn't open it), KeyLength, WrongKey (the key isn't
+                 its own), Argon2, Cipher, Hash, KeySize, NoFreeSlot, NoRoom,
+                 Iterations, Argon2 (the new one takes more memory than is
+                 allowed, or LUKS1 has none), SeqExhausted, MetadataFull,
+                 RandomLength (the random file is too short), or Passphrase (one
+                 is too long)
   device fault   a file can't be read, or the volume read or written
   no memory      memory was refused; nothing was written
 
@@ -311,7 +314,9 @@ passphrase opens it, or keyslot --by where that is given: then --slot needn't be
 one that opens here. The last keyslot of its key isn't removed. All others stay
 as they are. The passphrase is all bytes of its file, a last newline
 too, at most 65536; by --passphrase-line what stands there before the first
-newline. Who has the volume key gives it by --key in its place.
+newline. Who has the volume key gives it by --key in its place, and needs no
+keyslot that opens: the key is judged as of add, by the header's digest, or with
+--by by that of keyslot --by.
 
 Written are, with a flush after each: of LUKS1 the keyslot's entry, of LUKS2 the
 copy of the header that doesn't count and the one that does; then the zeros. Of
@@ -328,11 +333,11 @@ Prints one line:
   done           the keyslot is removed
   refused FAULT  the first fault, and nothing was written: what check refuses,
                  OtherUse (as above), Requirements, NoSuchSlot, SameSlot (--by
-                 is --slot), Locked (the passphrase doesn't open it, or it has
-                 another key), Argon2, Cipher, Hash, KeySize, LastSlot,
-                 SeqExhausted, MetadataFull, RandomLength (of LUKS2, the random
-                 file is too short or none is named), or Passphrase (it is too
-                 long)
+                 is --slot), Locked (the passphrase doesn't open it), KeyLength,
+                 WrongKey (the key isn't the volume's, or the keyslot's),
+                 Argon2, Cipher, Hash, KeySize, LastSlot, SeqExhausted,
+                 MetadataFull, RandomLength (of LUKS2, the random file is too
+                 short or none is named), or Passphrase (it is too long)
   device fault   a file can't be read, or the volume read or written
   no memory      memory was refused; nothing was written
 
@@ -428,28 +433,35 @@ luks format [OPTIONS] --random <FILE>
 /// The help of `format` after its words.
 pub const FORMAT_MORE: &str = "\
 Written are of LUKS1 the bytes 0 to 591 and 4096 to 260095, of LUKS2 the bytes 0
-to 288767, and no other. Where a LUKS header that check accepts, if only with
---detached, or another use of the disk stands there, as a file system or a
-partition table, nothing is written but with --over.
+to 288767, and no other; with a shorter key fewer. Where a LUKS header that
+check accepts, if only with --detached, or another use of the disk stands there,
+as a file system or a partition table, nothing is written but with --over.
 
 The volume has at least 2097152 bytes, of LUKS2 16777216, and its data begins
 there; with --detached it lies on another device, from its byte 0 on. Where
 --payload says so it begins at that sector, behind the key areas: at 4036 of
-LUKS1 or behind it, at 32768 of LUKS2; with --detached at any.
+LUKS1 or behind it, with a key of 32 bytes at 2050, of 24 at 1540, of 16 at
+1029; at 32768 of LUKS2; with --detached at any.
 
 So a header is made anew for data that is there: --key is the volume key, as an
-open mapping or an escrow has it, 64 bytes, and --payload is where the data
-begins. No byte of it changes. With --detached VOLUME is a file of its own, and
-the disk stays as it is until the header is tried: luks open, and cryptsetup
-open --header. Sectors of 512 bytes are meant, and aes-xts-plain64.
+open mapping or an escrow has it, and --payload is where the data begins;
+--cipher, --key-bytes and --sector-size are those of the data. No byte of it
+changes. With --detached VOLUME is a file of its own, and the disk stays as it
+is until the header is tried: luks open, and cryptsetup open --header.
 
 Keyslot 0 opens by the passphrase: all bytes of its file, a last newline too,
 at most 65536; by --passphrase-line what stands there before the first newline.
-The cipher is aes-xts-plain64 with a volume key of 64 bytes. The uuid, the key,
-the salts and the stripes are the first 256080 bytes of the random file, of
-LUKS2 256208, and no more are read. Give it /dev/urandom: whoever knows these
-bytes knows the volume key, unless --key gives it. In place of a key or a uuid
-that is given its random bytes are read, and not used.
+The uuid, the key, the salts and the stripes are the first bytes of the random
+file, 80 and 4000 for each byte of the key, of LUKS2 208, and no more are read.
+Give it /dev/urandom: whoever knows these bytes knows the volume key, unless
+--key gives it. In place of a key or a uuid that is given its random bytes are
+read, and not used.
+
+The cipher is aes-xts-plain64 with a volume key of 64 bytes, or what --cipher
+and --key-bytes say: aes-xts-plain64 or aes-xts-plain with 32 or 64; of older
+disks, by --older alone, aes-cbc-essiv:sha256, aes-cbc-plain64 or aes-cbc-plain
+with 16, 24 or 32. A new volume with no data yet is best made without these. The
+data's sectors have 512 bytes, of LUKS2 also 1024, 2048 or 4096.
 
 The passphrase's key is derived by PBKDF2, or of LUKS2 by Argon2 with --kdf
 argon2id or argon2i: --kdf-memory, --passes and --lanes are its costs, and
@@ -468,10 +480,14 @@ Prints one line:
   refused Passphrase     the passphrase's or the key's file is too long
   refused Payload        --payload lies in the header or the key areas
   refused TooSmall       the volume is, or it ends before --payload
+  refused SectorSize     --sector-size isn't one of these, or LUKS1 and not 512
+  refused Uneven         the data's part isn't a whole number of such sectors
   refused Uuid           --uuid isn't one
   refused BadLabel       --label or --subsystem has more than 47 bytes, or one
                          that can't be printed, or the volume is LUKS1
-  refused KeyLength      the key hasn't 64 bytes
+  refused Cipher         --cipher is one of older disks, without --older
+  refused KeyLength      the cipher takes no key of --key-bytes, or the file of
+                         --key hasn't so many
   refused Iterations     there are fewer than 1000
   refused Argon2         it takes more memory than --memory allows
   refused RandomLength   the random file has too few bytes

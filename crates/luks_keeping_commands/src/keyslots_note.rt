@@ -3,7 +3,6 @@ ghost use Rattle.std.specs.Prelude.{◌≡◌, ◌+◌, ◌<◌, ◌^◌, OnOk};
 ghost use Rattle.std.specs.Io.KnownBytes.{Appends};
 ghost use Rattle.luks_keeping_commands.specs.Differences.{difference_lines};
 ghost use Rattle.luks_area.specs.Device.{CountsFailure, IsUnchanged, is_failure};
-ghost use Rattle.luks_writing.specs.TwoDevices.{CountsEither};
 
 use crate::differences::Differences;
 use luks_area::DeviceFault;
@@ -13,40 +12,30 @@ use std::alloc::Global;
 use std::io::{self, Write};
 
 /// Says how many keyslots the backup has, and where an accepted header stands on the volume too, how
-/// many of that the backup lacks, how many it alone has, and which these are, by their salts. Where the
-/// backup's header isn't accepted, or memory for it is refused, nothing is said.
-pub(crate) fn note_keyslots<D: Device, E: Write>(
-    alloc: Global,
-    backup: &mut D,
+/// many of that the backup lacks, how many it alone has, and which these are, by their salts.
+pub(crate) fn note_keyslots<E: Write>(
+    backup: &Outline,
+    volume: Option<Outline>,
     backup_name: &str,
-    volume: &mut D,
     volume_name: &str,
     err: &mut E,
-) -> Result<(), DeviceFault>
-    requires backup_room { D.failed backup.old + 1 < 2 ^ 64 }
-    requires volume_room { D.failed volume.old + 1 < 2 ^ 64 }
-    ensures kept { IsUnchanged D.tells D.size D.bytes D.unsettled backup.old backup.new }
-    ensures unchanged { IsUnchanged D.tells D.size D.bytes D.unsettled volume.old volume.new }
-    ensures count { CountsEither is_failure result (D.failed backup.old) (D.failed backup.new)
-        (D.failed volume.old) (D.failed volume.new) }
-{
-    let Some(held) = outline_of(alloc, backup)? else {
-        return Ok(());
-    };
-    let count = counted(&compare(&held, &held).keyslots, Keeping::Same);
+) {
+    let count = counted(&compare(backup, backup).keyslots, Keeping::Same);
     let plural = if count == 1 { "" } else { "s" };
     let _ = writeln!(
         err,
         "luks: {backup_name}: the backup has {count} keyslot{plural}"
     );
-    if let Some(there) = outline_of(alloc, volume)? {
-        note_differences(&compare(&held, &there), volume_name, err);
+    if let Some(there) = volume {
+        note_differences(&compare(backup, &there), volume_name, err);
     }
-    Ok(())
 }
 
 /// The outline of the device's header, if that is accepted as a detached one and memory for it isn't refused.
-fn outline_of<D: Device>(alloc: Global, device: &mut D) -> Result<Option<Outline>, DeviceFault>
+pub(crate) fn outline_there<D: Device>(
+    alloc: Global,
+    device: &mut D,
+) -> Result<Option<Outline>, DeviceFault>
     requires { D.failed device.old + 1 < 2 ^ 64 }
     ensures unchanged { IsUnchanged D.tells D.size D.bytes D.unsettled device.old device.new }
     ensures count { CountsFailure is_failure result (D.failed device.old) (D.failed device.new) }

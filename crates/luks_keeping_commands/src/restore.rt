@@ -1,21 +1,26 @@
 //! The command `restore`.
 ghost use Rattle.std.specs.Prelude.{◌≡◌, ◌≢◌, ◌+◌, ◌<◌, ◌^◌, IfErr};
 ghost use Rattle.std.specs.Result.{ForOk};
+ghost use Rattle.luks_area.specs.Area.{Fit};
 ghost use Rattle.luks_area.specs.Device.{IsSettled, IsUnchanged};
 ghost use Rattle.luks_commands.specs.Answer.{answer_status, restore_fault_answer};
 ghost use Rattle.luks_commands.specs.Files.{KeepsVolume};
 ghost use Rattle.luks_commands.specs.Beside.{AreOneFile, IsSameFile, LeavesTarget, SettlesTarget};
+ghost use Rattle.luks_reading.specs.Header.{IsAcceptedHeader};
+ghost use Rattle.luks_reading.specs.Reported.{HeaderArea};
+ghost use Rattle.luks_reading.specs.declared.report.Data.TheVariants.{Elsewhere};
+ghost use Rattle.luks_keeping.specs.Judged.{HasFields, IsAcceptedOf};
 ghost use Rattle.luks_keeping_commands.specs.Restoring.{AnswersBoth, AnswersRestore};
 ghost use Rattle.luks_keeping_commands.specs.Restoring.{IsRestoreAnswer, KeepsRest, over_of};
 ghost use Rattle.luks_keeping_commands.specs.TwoFiles.{pair_of};
 
-use crate::keyslots_note::note_keyslots;
+use crate::keyslots_note::{note_keyslots, outline_there};
 use crate::volume_use::judge_volume;
 use luks_commands::{
     Answer, Inputs, Refusal, Status, are_one_file, device_fault, held_back, unread,
 };
-use luks_keeping::{Over, RestoreFault, restore};
-use luks_reading::Device;
+use luks_keeping::{Over, RestoreFault, accepted_header, outline_of, restore_header};
+use luks_reading::{Data, Device, Header};
 use luks_request::Restoring;
 use std::alloc::Global;
 use std::io::{Read, Write};
@@ -94,7 +99,8 @@ fn put_unless<D: Device, E: Write>(
     }
 }
 
-/// Says how the keyslots stand, and puts the backup back.
+/// Says how the keyslots stand, and puts the backup back. The metadata of both is read once for it, that of one after
+/// the other.
 fn put_back<D: Device, E: Write>(
     alloc: Global,
     backup: &mut D,
@@ -116,19 +122,25 @@ fn put_back<D: Device, E: Write>(
     ensures answers { IsRestoreAnswer D.tells restoring.now.payload (over_of restoring.now)
         (pair_of D.size D.bytes D.failed backup.old backup.new volume.old volume.new) result }
 {
-    let before = backup.failures();
-    match note_keyslots(alloc, backup, restoring.backup, volume, name, err) {
-        Ok(()) => put_over(alloc, backup, volume, name, restoring, err),
-        Err(_) if backup.failures() != before => {
-            device_fault(restoring.backup, "reading failed", err)
+    let Ok(there) = outline_there(alloc, volume) else {
+        return device_fault(name, "reading failed", err);
+    };
+    match accepted_header(alloc, backup, Data::Elsewhere) {
+        Ok(header) => {
+            note_keyslots(&outline_of(&header), there, restoring.backup, name, err);
+            put_over(alloc, header, backup, volume, name, restoring, err)
         }
-        Err(_) => device_fault(name, "reading failed", err),
+        Err(fault) => {
+            let fault = RestoreFault::from(fault);
+            not_restored(fault, restoring.backup, "reading failed", err)
+        }
     }
 }
 
-/// Puts the backup back.
+/// Puts the backup back, whose header was read.
 fn put_over<D: Device, E: Write>(
     alloc: Global,
+    header: Header,
     backup: &mut D,
     volume: &mut D,
     name: &str,
@@ -138,6 +150,10 @@ fn put_over<D: Device, E: Write>(
     requires backup_room { D.failed backup.old + 1 < 2 ^ 64 }
     requires volume_room { D.failed volume.old + 1 < 2 ^ 64 }
     requires settled { D.tells → IsSettled D.unsettled volume.old }
+    requires fields { HasFields header }
+    requires accepted { IsAcceptedHeader header }
+    requires fits { Fit (HeaderArea header Elsewhere (D.size backup.old)) (D.size backup.old) }
+    requires of { D.tells → IsAcceptedOf (D.bytes backup.old) header }
     ensures unchanged { IsUnchanged D.tells D.size D.bytes D.unsettled backup.old backup.new }
     ensures size { D.size volume.new ≡ D.size volume.old }
     ensures rest { D.tells → KeepsRest restoring.now.payload (D.bytes backup.old)
@@ -150,7 +166,7 @@ fn put_over<D: Device, E: Write>(
 {
     let before = backup.failures();
     let over = over_of(restoring);
-    match restore(alloc, backup, volume, restoring.payload, over) {
+    match restore_header(alloc, header, backup, volume, restoring.payload, over) {
         Ok(()) => Answer::Done(None),
         Err(fault) if backup.failures() != before => not_restored(
             fault,

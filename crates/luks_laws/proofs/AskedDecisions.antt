@@ -1,6 +1,6 @@
--- What an edit asks for: its iterations are enough or too few, the Argon2 that it chooses may be made or not, and the answer of the keyslot that it opens tells why it gives no key.
+-- What an edit asks for: its iterations are enough or too few, the Argon2 that it chooses may be made or not, and the answer of a keyslot tells why it gives no key.
 use Rattle.std.proofs.Common.{◌≡◌, ◌⊎◌, ℕ, List, [], ◌∷◌, true, Option, Some, None, get_or, refl, sym, ap, subst, ◌∙◌, arith, inl, inr}
-use Rattle.std.proofs.lemmas.Bool.{cases_eq}
+use Rattle.std.proofs.lemmas.Bool.{cases_eq, false≢true}
 use Rattle.luks1_header.specs.declared.fault.HeadFault.{HeadFault}
 use Rattle.luks1_header.specs.declared.fault.HeadFault.TheVariants as head
 use Rattle.luks1_header.specs.declared.fault.IterationsOf.TheVariants as of
@@ -13,19 +13,24 @@ use Rattle.luks_reading.specs.declared.open_fault.OpenFault.TheVariants as openi
 use Rattle.luks_reading.specs.Answer.{AnswerWithin, head_step, no_key, open_key, Opened, opens, OpensWithin, refused, slot_row}
 use Rattle.luks_reading.proofs.VolumeLaws.{one_answer}
 use Rattle.luks_edit.specs.declared.edit.Edit.{Edit}
+use Rattle.luks_edit.specs.declared.edit.Opener.{Opener}
+use Rattle.luks_edit.specs.declared.edit.Opener.TheVariants as opener
+use Rattle.luks_edit.specs.declared.edit.Secret.{Secret}
 use Rattle.luks_edit.specs.declared.edit.SecretKind.{SecretKind}
 use Rattle.luks_edit.specs.declared.edit.SecretKind.TheVariants.{Key, Passphrase}
+use Rattle.luks_edit.specs.declared.edit_fault.EditFault.{EditFault}
+use Rattle.luks_edit.specs.declared.edit_fault.EditFault.TheVariants as fault
 use Rattle.luks_edit.specs.Secrets.{AnswersTo, GivesWithin, own_key}
-use Rattle.luks_edit.proofs.SecretFacts.{one_answer_to, opens_answer}
-use Rattle.luks_edit.specs.declared.edit.Opener.{Opener as Named}
 use Rattle.luks_edit.specs.declared.deed.Deed.{Deed}
 use Rattle.luks_edit.specs.declared.deed.Deed.TheVariants as deed
 use Rattle.luks_edit.specs.declared.deed.Removed.{Removed}
 use Rattle.luks_edit.specs.declared.deed.Sealed.{Sealed}
-use Rattle.luks_edit.specs.Asked.{allowed_by, ChoosesArgon2, deed_of, HasFewIterations, IsBeyondMemory, kind_by, MatchDeed, allowed_for, NamesItself, opener_in, opener_of, OpensBy, removed_by, sealed_by, Wants}
-use Rattle.luks_edit.specs.Opener.{IsLocked, IsShut}
+use Rattle.luks_edit.specs.Asked.{ChoosesArgon2, deed_of, HasFewIterations, IsBeyondMemory, MatchDeed, MatchOpener, allowed_for, NamesItself, opener_at, opener_of, removed_by, sealed_by, Wants}
+use Rattle.luks_edit.specs.Opener.{IsUnmet, IsUnopenedKeyslot, lock_fault}
+use Rattle.luks_edit.proofs.OpeningFacts.{is_lock, lock_is, unmet_once}
+use Rattle.luks_edit.proofs.SecretFacts.{one_answer_to, opens_answer}
 use Rattle.luks_laws.proofs.DecidedFacts.{alike_decided, Decided, one_decided, true_decided}
-use Rattle.luks_laws.proofs.SearchFacts.{some_decided, some_same}
+use Rattle.luks_laws.proofs.SearchFacts.{number_decided, some_decided}
 
 -- ---- the derivation
 
@@ -35,39 +40,12 @@ few_decided e = some_decided Sealed (sealed_by e) (λ s. asked_few_turns s.deriv
 
 -- it chooses an Argon2 that is beyond its memory, or it doesn't
 pub beyond_decided : (e : Edit) → Decided (IsBeyondMemory e)
-beyond_decided e = some_decided Sealed (sealed_by e) (λ s. asked_beyond (allowed_for s.opener.secret s.passphrase.now).memory s.derivation ≡ true)
-    (λ s. true_decided (asked_beyond (allowed_for s.opener.secret s.passphrase.now).memory s.derivation))
+beyond_decided e = some_decided Sealed (sealed_by e) (λ s. asked_beyond (allowed_for (opener_at s.place) s.passphrase.now).memory s.derivation ≡ true)
+    (λ s. true_decided (asked_beyond (allowed_for (opener_at s.place) s.passphrase.now).memory s.derivation))
 
 -- it chooses Argon2, or it doesn't
 pub argon2_decided : (e : Edit) → Decided (ChoosesArgon2 e)
 argon2_decided e = some_decided Sealed (sealed_by e) (λ s. takes_memory s.derivation.chosen ≡ true) (λ s. true_decided (takes_memory s.derivation.chosen))
-
--- ---- the keyslot that it opens
-
--- the keyslot that the edit opens, the only one
-record Opener (e : Edit) : Type 0 where
-  slot : ℕ
-  passphrase : List ℕ
-  asked : OpensBy e slot passphrase
-  only : (n : ℕ) (p : List ℕ) → OpensBy e n p → (n ≡ slot) × (p ≡ passphrase)
-
--- the edit opens one keyslot, or none
-find_in : (e : Edit) (o : Option Named) → opener_in (deed_of e) ≡ o → Opener e ⊎ ((n : ℕ) (p : List ℕ) → OpensBy e n p → ⊥)
-find_in e None is = inr (λ n p x. rw is at x)
-find_in e (Some o) is = inl (record { slot = o.slot; passphrase = o.secret.bytes.now; asked = rw is (refl, refl); only = λ n p x. rw is at x })
-
-find_opener : (e : Edit) → Opener e ⊎ ((n : ℕ) (p : List ℕ) → OpensBy e n p → ⊥)
-find_opener e = find_in e (opener_in (deed_of e)) refl
-
--- what is decided of each keyslot and passphrase is decided of those that the edit opens by
-pub opener_decided : (e : Edit) (P : ℕ → List ℕ → Type 0) → ((n : ℕ) (p : List ℕ) → Decided (P n p)) → Decided ((n : ℕ) × (p : List ℕ) × OpensBy e n p × P n p)
-opener_decided e P decide = elim (find_opener e) [
-  | inl o ↦ elim (decide o.slot o.passphrase) [
-    | inl is ↦ inl (o.slot, o.passphrase, o.asked, is)
-    | inr isnt ↦ inr (λ x. isnt (subst (P o.slot) (o.only x.0 x.1 x.2).1 (subst (λ n. P n x.1) (o.only x.0 x.1 x.2).0 x.3)))
-  ]
-  | inr none ↦ inr (λ x. none x.0 x.1 x.2)
-]
 
 -- ---- the keyslots that it wants
 
@@ -75,27 +53,27 @@ opener_decided e P decide = elim (find_opener e) [
 of_one_decided : (P : ℕ → Type 0) → ((n : ℕ) → Decided (P n)) → (m : ℕ) → Decided ((n : ℕ) × (n ≡ m) × P n)
 of_one_decided P decide m = alike_decided (P m) ((n : ℕ) × (n ≡ m) × P n) (λ x. (m, refl, x)) (λ x. subst P x.1 x.2) (decide m)
 
+-- of the keyslot of an opener, if it is of one
+opened_decided : (o : Opener) (P : ℕ → Type 0) → ((n : ℕ) → Decided (P n)) → Decided ((n : ℕ) × MatchOpener o (λ slot secret. n ≡ slot) (λ key. ⊥) × P n)
+opened_decided (opener.Keyslot slot secret) P decide = of_one_decided P decide slot
+opened_decided (opener.Key key) P decide = inr (λ x. x.1)
+
 -- what is decided of each keyslot is decided of those that the edit wants
 wanted_in : (d : Deed) (P : ℕ → Type 0) → ((n : ℕ) → Decided (P n))
-    → Decided ((n : ℕ) × MatchDeed d (λ s. n ≡ s.opener.slot) (λ r. (n ≡ opener_of r.slot r.by_) ⊎ (n ≡ r.slot)) (λ label. ⊥) × P n)
-wanted_in (deed.Seal s) P decide = of_one_decided P decide s.opener.slot
+    → Decided ((n : ℕ) × MatchDeed d (λ s. MatchOpener (opener_at s.place) (λ slot secret. n ≡ slot) (λ key. ⊥)) (λ r. (n ≡ opener_of r.slot r.by_) ⊎ (n ≡ r.slot)) (λ label. ⊥) × P n)
+wanted_in (deed.Seal s) P decide = opened_decided (opener_at s.place) P decide
 wanted_in (deed.Remove r) P decide = alike_decided _ _
-    (λ x. elim x [ inl opener ↦ (opener.0, inl opener.1, opener.2) | inr removed ↦ (removed.0, inr removed.1, removed.2) ])
-    (λ x. elim x.1 [ inl opener ↦ inl (x.0, opener, x.2) | inr removed ↦ inr (x.0, removed, x.2) ])
+    (λ x. elim x [ inl own ↦ (own.0, inl own.1, own.2) | inr removed ↦ (removed.0, inr removed.1, removed.2) ])
+    (λ x. elim x.1 [ inl own ↦ inl (x.0, own, x.2) | inr removed ↦ inr (x.0, removed, x.2) ])
     (one_decided _ _ (of_one_decided P decide (opener_of r.slot r.by_)) (of_one_decided P decide r.slot))
 wanted_in (deed.Rewrite label) P decide = inr (λ x. x.1)
 
 pub wanted_decided : (e : Edit) (P : ℕ → Type 0) → ((n : ℕ) → Decided (P n)) → Decided ((n : ℕ) × Wants e n × P n)
 wanted_decided e = wanted_in (deed_of e)
 
--- a keyslot is the one that is named, or another one is, or none
-named_decided : (by_ : Option ℕ) (slot : ℕ) → Decided (by_ ≡ Some slot)
-named_decided None slot = inr (λ same. cc)
-named_decided (Some other) slot = alike_decided (other ≡ slot) (Some other ≡ Some slot) (λ same. ap Some same) (λ same. some_same other slot same) (cases_eq other slot)
-
 -- the edit names the keyslot that it removes as the one to open by, or it doesn't
 pub itself_decided : (e : Edit) → Decided (NamesItself e)
-itself_decided e = some_decided Removed (removed_by e) (λ r. r.by_ ≡ Some r.slot) (λ r. named_decided r.by_ r.slot)
+itself_decided e = some_decided Removed (removed_by e) (λ r. r.by_ ≡ Some r.slot) (λ r. number_decided r.by_ r.slot)
 
 -- ---- refusals of a keyslot
 
@@ -154,12 +132,6 @@ module _ (m : Allowed) (v : List ℕ) (n : ℕ) (p : List ℕ) where
   answer_to Key (opens key) x = own_answer (Some key) x
   answer_to Key no_key x = own_answer None x
 
-  -- an answer is that there is no key, or it isn't
-  no_key_as : (kind : SecretKind) (a : Opened) → AnswersTo kind m v n p a → Decided (AnswersTo kind m v n p no_key)
-  no_key_as kind (refused f) x = inr (λ y. one_answer_to kind m v n p (refused f) no_key x y)
-  no_key_as kind (opens key) x = inr (λ y. one_answer_to kind m v n p (opens key) no_key x y)
-  no_key_as kind no_key x = inl x
-
   -- the refusal by the plan's fault, where the answer is a refusal
   refused_as : (f : SlotFault) (g : OpenFault) → AnswerWithin m v n p (refused g) → Decided (AnswerWithin m v n p (refused (opening.Slot f)))
   unfolding first_number second_number
@@ -176,21 +148,49 @@ module _ (m : Allowed) (v : List ℕ) (n : ℕ) (p : List ℕ) where
   shut_as f (opens key) x = inr (λ y. one_answer m v n p (opens key) (refused (opening.Slot f)) x y)
   shut_as f no_key x = inr (λ y. one_answer m v n p no_key (refused (opening.Slot f)) x y)
 
--- ---- the answer of the keyslot that it opens
+-- ---- why a keyslot gives no key
 
-module _ (v : List ℕ) (answer : (m : Allowed) (n : ℕ) (p : List ℕ) → (a : Opened) × AnswerWithin m v n p a) (e : Edit) where
-  -- what the keyslot answers to the edit's secret
-  secret_answer : (n : ℕ) (p : List ℕ) → (a : Opened) × AnswersTo (kind_by e) (allowed_by e) v n p a
-  secret_answer n p = answer_to (allowed_by e) v n p (kind_by e) (answer (allowed_by e) n p).0 (answer (allowed_by e) n p).1
+-- one of the faults of a secret is another one of them, or it isn't
+locked_is : (g : EditFault) → is_lock g ≡ true → Decided (fault.Locked ≡ g)
+locked_is fault.Locked is = inl refl
+locked_is fault.KeyLength is = inr (λ e. cc)
+locked_is fault.WrongKey is = inr (λ e. cc)
+locked_is g is = absurd (false≢true is)
 
-  -- the secret gives no key, or it does, or the keyslot is refused
-  pub locked_decided : Decided (IsLocked v e)
-  locked_decided = alike_decided ((n : ℕ) × (p : List ℕ) × OpensBy e n p × AnswersTo (kind_by e) (allowed_by e) v n p no_key) (IsLocked v e)
-      (λ x. record { slot = x.0; passphrase = x.1; asked = x.2; answer = x.3 }) (λ x. (x.slot, x.passphrase, x.asked, x.answer))
-      (opener_decided e (λ n p. AnswersTo (kind_by e) (allowed_by e) v n p no_key) (λ n p. no_key_as (allowed_by e) v n p (kind_by e) (secret_answer n p).0 (secret_answer n p).1))
+length_is : (g : EditFault) → is_lock g ≡ true → Decided (fault.KeyLength ≡ g)
+length_is fault.Locked is = inr (λ e. cc)
+length_is fault.KeyLength is = inl refl
+length_is fault.WrongKey is = inr (λ e. cc)
+length_is g is = absurd (false≢true is)
 
-  -- the keyslot is refused by a plan's fault, or it isn't
-  pub shut_decided : (f : SlotFault) → Decided (IsShut v e f)
-  shut_decided f = alike_decided ((n : ℕ) × (p : List ℕ) × OpensBy e n p × AnswerWithin (allowed_by e) v n p (refused (opening.Slot f))) (IsShut v e f)
-      (λ x. record { slot = x.0; passphrase = x.1; asked = x.2; answer = x.3 }) (λ x. (x.slot, x.passphrase, x.asked, x.answer))
-      (opener_decided e (λ n p. AnswerWithin (allowed_by e) v n p (refused (opening.Slot f))) (λ n p. shut_as (allowed_by e) v n p f (answer (allowed_by e) n p).0 (answer (allowed_by e) n p).1))
+wrong_is : (g : EditFault) → is_lock g ≡ true → Decided (fault.WrongKey ≡ g)
+wrong_is fault.Locked is = inr (λ e. cc)
+wrong_is fault.KeyLength is = inr (λ e. cc)
+wrong_is fault.WrongKey is = inl refl
+wrong_is g is = absurd (false≢true is)
+
+-- so each fault is that of a secret, or it isn't
+pub lock_decided : (f g : EditFault) → is_lock g ≡ true → Decided (f ≡ g)
+lock_decided fault.Locked g is = locked_is g is
+lock_decided fault.KeyLength g is = length_is g is
+lock_decided fault.WrongKey g is = wrong_is g is
+lock_decided f g is = inr (λ e. false≢true (ap is_lock e ∙ is))
+
+module _ (m : Allowed) (v : List ℕ) (n : ℕ) (secret : Secret) where
+  -- where the secret gives none, one fault says why
+  unmet_by : GivesWithin secret.kind m v n secret.bytes.now None → (f : EditFault) → Decided (IsUnmet m v n secret f)
+  unmet_by gives f = elim (lock_decided f (lock_fault secret.kind gives.plan.key_bytes secret.bytes.now) (lock_is secret.kind gives.plan.key_bytes secret.bytes.now)) [
+    | inl same ↦ inl (record { gives = gives; is = same })
+    | inr other ↦ inr (λ x. other (unmet_once m v n secret (lock_fault secret.kind gives.plan.key_bytes secret.bytes.now) f (record { gives = gives; is = refl }) x))
+  ]
+
+  -- by what it answers
+  unmet_as : (a : Opened) → AnswersTo secret.kind m v n secret.bytes.now a → (f : EditFault) → Decided (IsUnmet m v n secret f)
+  unmet_as (refused g) x f = inr (λ y. one_answer_to secret.kind m v n secret.bytes.now (refused g) no_key x y.gives)
+  unmet_as (opens key) x f = inr (λ y. one_answer_to secret.kind m v n secret.bytes.now (opens key) no_key x y.gives)
+  unmet_as no_key x f = unmet_by x f
+
+  -- the fault says why it gives none, or it doesn't
+  pub keyslot_decided : (a : Opened) → AnswerWithin m v n secret.bytes.now a → (f : EditFault) → Decided (IsUnopenedKeyslot m v n secret f)
+  keyslot_decided a x (fault.Slot s) = shut_as m v n secret.bytes.now s a x
+  keyslot_decided a x f = (let b = answer_to m v n secret.bytes.now secret.kind a x in unmet_as b.0 b.1 f)

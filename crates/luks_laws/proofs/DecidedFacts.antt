@@ -1,5 +1,5 @@
 -- Facts that hold or don't, and the least member of a set that is decided at each of some candidates.
-use Rattle.std.proofs.Common.{◌≡◌, ◌⊎◌, ℕ, zero, suc, ◌≤◌, ◌<◌, Bool, true, List, [], ◌∷◌, ◌++◌, map, Option, Some, None, refl, sym, ap, subst, ◌∙◌, arith, inl, inr}
+use Rattle.std.proofs.Common.{◌≡◌, ◌⊎◌, ℕ, zero, suc, ◌≤◌, ◌<◌, Bool, true, false, List, [], ◌∷◌, ◌++◌, map, Option, Some, None, refl, sym, ap, subst, ◌∙◌, arith, inl, inr}
 use Rattle.std.proofs.lemmas.Bool.{cases_Bool, cases_eq, cases_lt, true≢false}
 use Rattle.luks_area.specs.First.{IsLeast, NotAfter}
 use Rattle.luks_rules.specs.Faults.{Among}
@@ -41,6 +41,9 @@ at_most_decided a b = elim (cases_lt b a) [ inl over ↦ inr (λ low. absurd (om
 
 pub true_decided : (b : Bool) → Decided (b ≡ true)
 true_decided b = elim (cases_Bool b) [ inl passed ↦ inl passed | inr failed ↦ inr (λ passed. true≢false (sym passed ∙ failed)) ]
+
+pub false_decided : (b : Bool) → Decided (b ≡ false)
+false_decided b = elim (cases_Bool b) [ inl passed ↦ inr (λ failed. true≢false (sym passed ∙ failed)) | inr failed ↦ inl failed ]
 
 pub same_list_decided : (xs ys : List ℕ) → Decided (xs ≡ ys)
 same_list_decided [] [] = inl refl

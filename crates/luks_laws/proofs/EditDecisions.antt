@@ -15,7 +15,7 @@ use Rattle.luks_laws.proofs.LeastDecisions.{first_or_none}
 -- the faults of an edit of an accepted volume
 edit_candidates : List EditFault
 edit_candidates =
-    edit.Requirements ∷ edit.NoSuchSlot ∷ edit.SameSlot ∷ edit.Locked ∷ edit.SlotTaken ∷ edit.NoFreeSlot ∷ edit.NoRoom ∷ edit.LastSlot ∷ edit.Iterations ∷ edit.Argon2 ∷ edit.BadLabel
+    edit.Requirements ∷ edit.NoSuchSlot ∷ edit.SameSlot ∷ edit.Locked ∷ edit.KeyLength ∷ edit.WrongKey ∷ edit.SlotTaken ∷ edit.NoFreeSlot ∷ edit.NoRoom ∷ edit.LastSlot ∷ edit.Iterations ∷ edit.Argon2 ∷ edit.BadLabel
     ∷ edit.SeqExhausted ∷ edit.MetadataFull ∷ edit.RandomLength ∷ edit.Slot slot.Argon2 ∷ edit.Slot slot.Cipher ∷ edit.Slot slot.Hash ∷ edit.Slot slot.KeySize
     ∷ edit.Slot slot.Device ∷ edit.Slot slot.Memory ∷ edit.Memory ∷ edit.Device ∷ []
 
@@ -45,24 +45,26 @@ module _ (v : List ℕ) (payload : Data) (faults : EditFault → Type 0) (of_vol
     among_edits edit.NoSuchSlot bad = among_at edit.Device edit_candidates 1 (omega arith)
     among_edits edit.SameSlot bad = among_at edit.Device edit_candidates 2 (omega arith)
     among_edits edit.Locked bad = among_at edit.Device edit_candidates 3 (omega arith)
-    among_edits edit.SlotTaken bad = among_at edit.Device edit_candidates 4 (omega arith)
-    among_edits edit.NoFreeSlot bad = among_at edit.Device edit_candidates 5 (omega arith)
-    among_edits edit.NoRoom bad = among_at edit.Device edit_candidates 6 (omega arith)
-    among_edits edit.LastSlot bad = among_at edit.Device edit_candidates 7 (omega arith)
-    among_edits edit.Iterations bad = among_at edit.Device edit_candidates 8 (omega arith)
-    among_edits edit.Argon2 bad = among_at edit.Device edit_candidates 9 (omega arith)
-    among_edits edit.BadLabel bad = among_at edit.Device edit_candidates 10 (omega arith)
-    among_edits edit.SeqExhausted bad = among_at edit.Device edit_candidates 11 (omega arith)
-    among_edits edit.MetadataFull bad = among_at edit.Device edit_candidates 12 (omega arith)
-    among_edits edit.RandomLength bad = among_at edit.Device edit_candidates 13 (omega arith)
-    among_edits (edit.Slot slot.Argon2) bad = among_at edit.Device edit_candidates 14 (omega arith)
-    among_edits (edit.Slot slot.Cipher) bad = among_at edit.Device edit_candidates 15 (omega arith)
-    among_edits (edit.Slot slot.Hash) bad = among_at edit.Device edit_candidates 16 (omega arith)
-    among_edits (edit.Slot slot.KeySize) bad = among_at edit.Device edit_candidates 17 (omega arith)
-    among_edits (edit.Slot slot.Device) bad = among_at edit.Device edit_candidates 18 (omega arith)
-    among_edits (edit.Slot slot.Memory) bad = among_at edit.Device edit_candidates 19 (omega arith)
-    among_edits edit.Memory bad = among_at edit.Device edit_candidates 20 (omega arith)
-    among_edits edit.Device bad = among_at edit.Device edit_candidates 21 (omega arith)
+    among_edits edit.KeyLength bad = among_at edit.Device edit_candidates 4 (omega arith)
+    among_edits edit.WrongKey bad = among_at edit.Device edit_candidates 5 (omega arith)
+    among_edits edit.SlotTaken bad = among_at edit.Device edit_candidates 6 (omega arith)
+    among_edits edit.NoFreeSlot bad = among_at edit.Device edit_candidates 7 (omega arith)
+    among_edits edit.NoRoom bad = among_at edit.Device edit_candidates 8 (omega arith)
+    among_edits edit.LastSlot bad = among_at edit.Device edit_candidates 9 (omega arith)
+    among_edits edit.Iterations bad = among_at edit.Device edit_candidates 10 (omega arith)
+    among_edits edit.Argon2 bad = among_at edit.Device edit_candidates 11 (omega arith)
+    among_edits edit.BadLabel bad = among_at edit.Device edit_candidates 12 (omega arith)
+    among_edits edit.SeqExhausted bad = among_at edit.Device edit_candidates 13 (omega arith)
+    among_edits edit.MetadataFull bad = among_at edit.Device edit_candidates 14 (omega arith)
+    among_edits edit.RandomLength bad = among_at edit.Device edit_candidates 15 (omega arith)
+    among_edits (edit.Slot slot.Argon2) bad = among_at edit.Device edit_candidates 16 (omega arith)
+    among_edits (edit.Slot slot.Cipher) bad = among_at edit.Device edit_candidates 17 (omega arith)
+    among_edits (edit.Slot slot.Hash) bad = among_at edit.Device edit_candidates 18 (omega arith)
+    among_edits (edit.Slot slot.KeySize) bad = among_at edit.Device edit_candidates 19 (omega arith)
+    among_edits (edit.Slot slot.Device) bad = among_at edit.Device edit_candidates 20 (omega arith)
+    among_edits (edit.Slot slot.Memory) bad = among_at edit.Device edit_candidates 21 (omega arith)
+    among_edits edit.Memory bad = among_at edit.Device edit_candidates 22 (omega arith)
+    among_edits edit.Device bad = among_at edit.Device edit_candidates 23 (omega arith)
 
   -- ---- any volume
 

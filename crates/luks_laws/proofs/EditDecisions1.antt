@@ -9,8 +9,9 @@ use Rattle.luks_edit.specs.declared.edit.Edit.{Edit}
 use Rattle.luks_edit.specs.declared.edit_fault.EditFault.{EditFault}
 use Rattle.luks_edit.specs.declared.edit_fault.EditFault.TheVariants as edit
 use Rattle.luks1_edits.specs.Refused.{IsEditFault1}
-use Rattle.luks_laws.proofs.AskedDecisions.{argon2_decided, few_decided, itself_decided, locked_decided, shut_decided}
+use Rattle.luks_laws.proofs.AskedDecisions.{argon2_decided, few_decided, itself_decided}
 use Rattle.luks_laws.proofs.DecidedFacts.{Decided}
+use Rattle.luks_laws.proofs.KeyDecisions1.{unopened1_decided}
 use Rattle.luks_laws.proofs.RowDecisions1.{absent_decided, label_decided, last_decided, miscounted_decided, no_free_decided, taken_decided}
 
 module _ (v : List ℕ) (payload : Data) (answer : (m : Allowed) (n : ℕ) (p : List ℕ) → (a : Opened) × AnswerWithin m v n p a) (sound : (f : CheckFault) → IsFault v payload f → ⊥) (e : Edit) (r : List ℕ) where
@@ -20,8 +21,10 @@ module _ (v : List ℕ) (payload : Data) (answer : (m : Allowed) (n : ℕ) (p : 
   fault1_decided edit.Requirements = inr (λ bad. bad)
   fault1_decided edit.NoSuchSlot = absent_decided v e
   fault1_decided edit.SameSlot = itself_decided e
-  fault1_decided edit.Locked = locked_decided v answer e
-  fault1_decided (edit.Slot f) = shut_decided v answer e f
+  fault1_decided edit.Locked = unopened1_decided v answer e edit.Locked
+  fault1_decided edit.KeyLength = unopened1_decided v answer e edit.KeyLength
+  fault1_decided edit.WrongKey = unopened1_decided v answer e edit.WrongKey
+  fault1_decided (edit.Slot f) = unopened1_decided v answer e (edit.Slot f)
   fault1_decided edit.SlotTaken = taken_decided v e
   fault1_decided edit.NoFreeSlot = no_free_decided v e
   fault1_decided edit.NoRoom = inr (λ bad. bad)

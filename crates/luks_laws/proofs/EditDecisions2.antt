@@ -1,5 +1,5 @@
 -- Each fault of an edit of an accepted volume stands by LUKS2's rules, or it doesn't.
-use Rattle.std.proofs.Common.{◌≡◌, ◌⊎◌, ℕ, ◌+◌, ◌^◌, List, length, subst, inl, inr}
+use Rattle.std.proofs.Common.{◌≡◌, ◌⊎◌, ℕ, Bool, ◌+◌, ◌^◌, List, length, subst, inl, inr}
 use Rattle.std.proofs.lemmas.Bool.{cases_eq}
 use Rattle.base64.specs.GeneralPurpose.{IsBytes}
 use Rattle.serde_json.specs.Data.{Data as Value}
@@ -13,17 +13,23 @@ use Rattle.luks_reading.specs.declared.check_fault.CheckFault.{CheckFault}
 use Rattle.luks_reading.specs.declared.report.Data.{Data}
 use Rattle.luks_reading.specs.Answer.{AnswerWithin, Opened}
 use Rattle.luks_reading.specs.Checked.{IsFault}
+use Rattle.luks_edit.specs.Asked.{allowed_by, deed_of, opener_in}
 use Rattle.luks_edit.specs.declared.edit.Edit.{Edit}
+use Rattle.luks_edit.specs.declared.edit.Opener.{Opener}
+use Rattle.luks_edit.specs.declared.edit.Opener.TheVariants.{Keyslot, Key}
 use Rattle.luks_edit.specs.declared.edit_fault.EditFault.{EditFault}
 use Rattle.luks_edit.specs.declared.edit_fault.EditFault.TheVariants as edit
+use Rattle.luks2_edit_laws.specs.declared.like.Like.{Like}
 use Rattle.luks2_edit_laws.specs.Edited.{IsEdited}
-use Rattle.luks2_edit_laws.specs.Metadata.{HasMetadata, IsInUse}
+use Rattle.luks2_edit_laws.specs.Metadata.{HasMetadata}
 use Rattle.luks2_edit_laws.specs.Places.{HasNoNewArea, IsNewArea}
-use Rattle.luks2_edit_laws.specs.Refused.{HasSaid, IsEditFault2}
-use Rattle.luks_laws.proofs.AskedDecisions.{beyond_decided, few_decided, itself_decided, locked_decided, shut_decided}
+use Rattle.luks2_edit_laws.specs.Refused.{HasSaid, IsEditFault2, IsUnkeyed2, IsUnopened2, IsUnopenedBy2}
+use Rattle.luks2_judging.specs.Keys.{IsThereLike}
+use Rattle.luks_laws.proofs.AskedDecisions.{beyond_decided, few_decided, itself_decided, keyslot_decided}
 use Rattle.luks_laws.proofs.DecidedFacts.{Decided, true_decided}
 use Rattle.luks_laws.proofs.FullDecisions2.{full_decided}
 use Rattle.luks_laws.proofs.RowDecisions2.{absent_decided, bad_label_decided, last_decided, miscounted_decided, no_free_decided, no_room_decided, taken_decided}
+use Rattle.luks_laws.proofs.SearchFacts.{some_decided}
 
 -- ---- the metadata that counts
 
@@ -34,8 +40,9 @@ pub record Counting (v : List ℕ) (payload : Data) : Type 0 where
   pub there : HasMetadata v place value
   pub only : (p : ℕ) (i : Value) → HasMetadata v p i → (p ≡ place) × (i ≡ value)
   pub digest : (n m k : ℕ) → IsDigestOf value n m → IsDigestOf value n k → m ≡ k
-  pub area : (n : ℕ) → IsInUse value n → ((a : Area) × IsNewArea (hdr_size (header_at v place)) (length v) payload value n a)
-      ⊎ HasNoNewArea (hdr_size (header_at v place)) (length v) payload value n
+  pub unkeyed : (older : Bool) (key : List ℕ) (f : EditFault) → Decided (IsUnkeyed2 older value key f)
+  pub area : (l : Like) → IsThereLike value l → ((a : Area) × IsNewArea (hdr_size (header_at v place)) (length v) payload value l a)
+      ⊎ HasNoNewArea (hdr_size (header_at v place)) (length v) payload value l
   pub alike : (e : Edit) (a b : List ℕ) (x y : Value) → IsBytes a → IsBytes b → length a ≡ length b
       → IsEdited (hdr_size (header_at v place)) (length v) payload e a value x → IsEdited (hdr_size (header_at v place)) (length v) payload e b value y
       → length (compact_text x) ≡ length (compact_text y)
@@ -46,17 +53,34 @@ said_decided v payload c says (inl is) = inl (record { place = c.place; value = 
 said_decided v payload c says (inr isnt) = inr (λ x. let same = c.only x.place x.value x.metadata in
     isnt (subst (says c.place) same.1 (subst (λ p. says p x.value) same.0 x.is)))
 
+-- ---- what gives the key
+
+module _ (v : List ℕ) (answer : (m : Allowed) (n : ℕ) (p : List ℕ) → (a : Opened) × AnswerWithin m v n p a)
+    (unkeyed : (older : Bool) (key : List ℕ) (f : EditFault) → Decided (HasSaid v (λ o j. IsUnkeyed2 older j key f))) (e : Edit) (f : EditFault) where
+  by_opener : (o : Opener) → Decided (IsUnopenedBy2 (allowed_by e) v o f)
+  by_opener (Keyslot slot secret) = (let a = answer (allowed_by e) slot secret.bytes.now in keyslot_decided (allowed_by e) v slot secret a.0 a.1 f)
+  by_opener (Key key) = unkeyed key.allowed.older key.bytes.now f
+
+  -- the fault says why it gives none, or it doesn't
+  unopened2_decided : Decided (IsUnopened2 v e f)
+  unopened2_decided = some_decided Opener (opener_in (deed_of e)) (λ o. IsUnopenedBy2 (allowed_by e) v o f) by_opener
+
 -- ---- the edit
 
 module _ (v : List ℕ) (payload : Data) (answer : (m : Allowed) (n : ℕ) (p : List ℕ) → (a : Opened) × AnswerWithin m v n p a) (sound : (f : CheckFault) → IsFault v payload f → ⊥) (e : Edit) (r : List ℕ) where
   -- where metadata counts
+  unopened_of_counting : Counting v payload → (f : EditFault) → Decided (IsUnopened2 v e f)
+  unopened_of_counting c = unopened2_decided v answer (λ older key f. said_decided v payload c (λ o j. IsUnkeyed2 older j key f) (c.unkeyed older key f)) e
+
   fault_of_counting : Counting v payload → (f : EditFault) → Decided (IsEditFault2 v payload e r f)
   fault_of_counting c (edit.NotAccepted f) = inr (sound f)
   fault_of_counting c edit.Requirements = said_decided v payload c _ (true_decided (has_requirements c.value))
   fault_of_counting c edit.NoSuchSlot = said_decided v payload c _ (absent_decided c.value e)
   fault_of_counting c edit.SameSlot = itself_decided e
-  fault_of_counting c edit.Locked = locked_decided v answer e
-  fault_of_counting c (edit.Slot f) = shut_decided v answer e f
+  fault_of_counting c edit.Locked = unopened_of_counting c edit.Locked
+  fault_of_counting c edit.KeyLength = unopened_of_counting c edit.KeyLength
+  fault_of_counting c edit.WrongKey = unopened_of_counting c edit.WrongKey
+  fault_of_counting c (edit.Slot f) = unopened_of_counting c (edit.Slot f)
   fault_of_counting c edit.SlotTaken = said_decided v payload c _ (taken_decided c.value e)
   fault_of_counting c edit.NoFreeSlot = said_decided v payload c _ (no_free_decided c.value e)
   fault_of_counting c edit.NoRoom = said_decided v payload c _ (no_room_decided (hdr_size (header_at v c.place)) (length v) payload c.value c.area e)
@@ -71,11 +95,16 @@ module _ (v : List ℕ) (payload : Data) (answer : (m : Allowed) (n : ℕ) (p : 
   fault_of_counting c edit.Device = inr (λ bad. bad)
 
   -- where none counts
+  unopened_of_none : ((p : ℕ) (i : Value) → HasMetadata v p i → ⊥) → (f : EditFault) → Decided (IsUnopened2 v e f)
+  unopened_of_none none = unopened2_decided v answer (λ older key f. inr (λ x. none x.place x.value x.metadata)) e
+
   fault_of_none : ((p : ℕ) (i : Value) → HasMetadata v p i → ⊥) → (f : EditFault) → Decided (IsEditFault2 v payload e r f)
   fault_of_none none (edit.NotAccepted f) = inr (sound f)
   fault_of_none none edit.SameSlot = itself_decided e
-  fault_of_none none edit.Locked = locked_decided v answer e
-  fault_of_none none (edit.Slot f) = shut_decided v answer e f
+  fault_of_none none edit.Locked = unopened_of_none none edit.Locked
+  fault_of_none none edit.KeyLength = unopened_of_none none edit.KeyLength
+  fault_of_none none edit.WrongKey = unopened_of_none none edit.WrongKey
+  fault_of_none none (edit.Slot f) = unopened_of_none none (edit.Slot f)
   fault_of_none none edit.Iterations = few_decided e
   fault_of_none none edit.Argon2 = beyond_decided e
   fault_of_none none edit.BadLabel = bad_label_decided e

@@ -27,6 +27,7 @@ use Rattle.luks_laws.proofs.EditDecisions.{first_edit_fault_or_none}
 use Rattle.luks_laws.proofs.EditDecisions1.{fault1_decided}
 use Rattle.luks_laws.proofs.EditDecisions2.{Counting, fault2_decided}
 use Rattle.luks_laws.proofs.GapVolumes.{area_or_no_room}
+use Rattle.luks_laws.proofs.UnkeyedDecisions2.{unkeyed_decided}
 
 -- ---- the faults of any volume, by what counts of it
 
@@ -62,6 +63,7 @@ module _ (v : List ℕ) (payload : Data) where
         there = there;
         only = λ p i x. (one_place v o p copies x.copies chosen x.chosen, one_metadata v o p copies x.copies j i chosen accepted.json x.chosen x.holds);
         digest = digest;
+        unkeyed = unkeyed_decided (json_at v o) j accepted;
         area = area_or_no_room v payload o j there formed;
         alike = λ e a b x y a_bytes b_bytes long. texts_as_long (hdr_size (header_at v o)) (length v) payload e a b j x y a_bytes b_bytes long (record { one = digest });
       })

@@ -105,14 +105,14 @@ same_within allowed h n a b x y =
 
 module _ (h : List ℕ) (n : ℕ) where
   -- a keyslot has a plan where it has a number below 8
-  find_plan : PlanOrNone (HasLuks1Plan h n)
+  pub find_plan : PlanOrNone (HasLuks1Plan h n)
   find_plan = elim (cases_lt n 8) [
     | inl low ↦ inl (has_luks1_plan h n low)
     | inr high ↦ inr (λ plan x. let low = x.numbered in absurd (omega (arith, low, high)))
   ]
 
   -- its plans are alike
-  alike_plans : (a b : SlotPlan) → HasLuks1Plan h n a → HasLuks1Plan h n b → AreAlike a b
+  pub alike_plans : (a b : SlotPlan) → HasLuks1Plan h n a → HasLuks1Plan h n b → AreAlike a b
   alike_plans a b x y = record {
     start = x.is.start ∙ sym y.is.start;
     len = x.is.len ∙ sym y.is.len;

@@ -75,7 +75,7 @@ module _ (says : (text : List ℕ) (n : ℕ) → number_of text ≡ Some n → (
       (λ x low. subst (λ i. object_at i Keyslots n ≡ None) (value x.value x.holds) (x.absent low)) absent_decided
 
   -- a keyslot that is there has a plan, and one that isn't has none
-  find_plan : PlanOrNone (HasLuks2Plan json n)
+  pub find_plan : PlanOrNone (HasLuks2Plan json n)
   find_plan = elim (cases_lt n 32) [
     | inl low ↦ elim (option_there (object_at j Keyslots n)) [
       | inl there ↦ inl (has_luks2_plan says json j n there.0 accepted low there.1)

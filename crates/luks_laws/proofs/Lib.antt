@@ -24,6 +24,10 @@ pub mod LeastDecisions
 pub mod AskedDecisions
 pub mod RowDecisions1
 pub mod MemberDecisions2
+pub mod KeyDecisions1
+pub mod DigestDecisions2
+pub mod LikeDecisions2
+pub mod UnkeyedDecisions2
 pub mod RowDecisions2
 pub mod FullDecisions2
 pub mod EditDecisions

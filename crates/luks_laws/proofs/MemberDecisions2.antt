@@ -1,5 +1,5 @@
 -- What the metadata of a LUKS2 volume says of a keyslot, and which digest names it: each is there once, or not at all.
-use Rattle.std.proofs.Common.{◌≡◌, ℕ, ◌<◌, Bool, true, List, Option, Some, None, is_some, bytes_eq, codes, refl, sym, ap, subst, ◌∙◌, inl, inr}
+use Rattle.std.proofs.Common.{◌≡◌, ℕ, ◌<◌, true, List, Option, Some, None, is_some, bytes_eq, codes, refl, sym, ap, subst, ◌∙◌, inl, inr}
 use Rattle.std.proofs.lemmas.Slice.Eq.{bytes_eq-Decides}
 use Rattle.serde_json.specs.Data.{Data as Value}
 use Rattle.serde_json.specs.Find.{get}
@@ -17,7 +17,7 @@ use Rattle.luks_making.specs.Keyslots.{by_argon2i, by_argon2id, by_pbkdf2, deriv
 use Rattle.luks_making.specs.Naming.{IsDigestOf}
 use Rattle.luks2_edit_laws.specs.Metadata.{HasStripes, IsInUse, IsLeastFree, IsNewKeyslot}
 use Rattle.luks_laws.proofs.DecidedFacts.{alike_decided, both_decided, Decided, less_decided, true_decided}
-use Rattle.luks_laws.proofs.SearchFacts.{held_or_none, least_or_none_below, some_same, SomeOrNone}
+use Rattle.luks_laws.proofs.SearchFacts.{held_decided, held_or_none, least_or_none_below, least_or_none_of, some_same, SomeOrNone}
 
 -- ---- keyslots in use and free
 
@@ -26,7 +26,7 @@ pub in_use_decided : (j : Value) (n : ℕ) → Decided (IsInUse j n)
 in_use_decided j n = both_decided _ _ (less_decided n 32) (true_decided (is_some (object_at j Keyslots n)))
 
 -- an option that is decided to hold nothing
-none_decided : {A : Type 0} (o : Option A) → Decided (o ≡ None)
+pub none_decided : {A : Type 0} (o : Option A) → Decided (o ≡ None)
 none_decided None = inl refl
 none_decided (Some x) = inr (λ e. cc)
 
@@ -241,29 +241,18 @@ made_or_none d f = elim (held_or_none (number_in 1 128 (inside_at outer.Top (cod
 
 -- ---- the digest that names a keyslot
 
--- an option that holds something of which a test holds
-held_decided : {A : Type 0} (test : A → Bool) (o : Option A) → SomeOrNone A (λ x. (o ≡ Some x) × (test x ≡ true))
-held_decided test o = elim (held_or_none o) [
-  | inl x ↦ elim (true_decided (test x.0)) [
-    | inl holds ↦ inl (x.0, (x.1, holds))
-    | inr fails ↦ inr (λ y is. fails (subst (λ z. test z ≡ true) (some_same y x.0 (sym is.0 ∙ x.1)) is.1))
-  ]
-  | inr none ↦ inr (λ y is. none y is.0)
-]
-
 -- a digest names a keyslot, or it doesn't
 pub digest_decided : (j : Value) (n m : ℕ) → Decided (IsDigestOf j n m)
 digest_decided j n m = elim (both_decided (IsInUse j n) (m < 32) (in_use_decided j n) (less_decided m 32)) [
-  | inl low ↦ elim (held_decided (λ d. names (number_text n) (get (codes "keyslots") d)) (object_at j Digests m)) [
-    | inl d ↦ inl (record { named = low.0.0; keyslot = low.0.1; numbered = low.1; object = d.0; is = d.1.0; lists = d.1.1 })
-    | inr none ↦ inr (λ x. none x.object (x.is, x.lists))
-  ]
+  | inl low ↦ alike_decided ((d : Value) × (object_at j Digests m ≡ Some d) × (names (number_text n) (get (codes "keyslots") d) ≡ true)) (IsDigestOf j n m)
+      (λ x. record { named = low.0.0; keyslot = low.0.1; numbered = low.1; object = x.0; is = x.1; lists = x.2 }) (λ x. (x.object, x.is, x.lists))
+      (held_decided (object_at j Digests m) (λ d. names (number_text n) (get (codes "keyslots") d) ≡ true) (λ d. true_decided (names (number_text n) (get (codes "keyslots") d))))
   | inr high ↦ inr (λ x. high ((x.named, x.keyslot), x.numbered))
 ]
 
 -- some digest names a keyslot, or none does
 pub digest_or_none : (j : Value) (n : ℕ) → SomeOrNone ℕ (IsDigestOf j n)
-digest_or_none j n = elim (least_or_none_below (IsDigestOf j n) (digest_decided j n) 32) [
+digest_or_none j n = elim (least_or_none_of (IsDigestOf j n) (digest_decided j n) 32 (λ m x. x.numbered)) [
   | inl found ↦ inl (found.0, found.1)
-  | inr none ↦ inr (λ m x. none m x.numbered x)
+  | inr none ↦ inr none
 ]

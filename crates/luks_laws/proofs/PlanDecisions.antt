@@ -31,7 +31,7 @@ unfoldable pub of_keyslot : List OpenFault
 of_keyslot = opening.NoSuchSlot ∷ opening.SlotFree ∷ opening.Outside ∷ map opening.Slot slot_faults
 
 -- two faults are one, or they are not
-same_fault_decided : (f g : SlotFault) → Decided (f ≡ g)
+pub same_fault_decided : (f g : SlotFault) → Decided (f ≡ g)
 same_fault_decided slot.Argon2 slot.Argon2 = inl refl
 same_fault_decided slot.Cipher slot.Cipher = inl refl
 same_fault_decided slot.Hash slot.Hash = inl refl
@@ -41,7 +41,7 @@ same_fault_decided slot.Memory slot.Memory = inl refl
 same_fault_decided f g = inr (λ e. cc)
 
 -- an answer is this fault or not
-is_fault_decided : (o : Option SlotFault) (f : SlotFault) → Decided (o ≡ Some f)
+pub is_fault_decided : (o : Option SlotFault) (f : SlotFault) → Decided (o ≡ Some f)
 is_fault_decided None f = inr (λ e. cc)
 is_fault_decided (Some g) f = elim (same_fault_decided g f) [ inl same ↦ inl (ap Some same) | inr other ↦ inr (λ e. other (cc)) ]
 

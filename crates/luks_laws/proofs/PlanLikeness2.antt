@@ -89,7 +89,7 @@ module _ (json : List ℕ) (j : Data) (n : ℕ) (value : (i : Data) → Json jso
   object_of_plan plan x = subst (λ i. object_at i Keyslots n ≡ Some x.object) (value x.value x.holds) x.there
 
   -- a plan is that of the value's object
-  plan_of_object : (d : Data) → object_at j Keyslots n ≡ Some d → (plan : SlotPlan) → HasLuks2Plan json n plan → IsLuks2Plan j n d plan
+  pub plan_of_object : (d : Data) → object_at j Keyslots n ≡ Some d → (plan : SlotPlan) → HasLuks2Plan json n plan → IsLuks2Plan j n d plan
   plan_of_object d there plan x =
       subst (λ o. IsLuks2Plan j n o plan) (some_same (object_at j Keyslots n) x.object d (object_of_plan plan x) there)
       (subst (λ i. IsLuks2Plan i n x.object plan) (value x.value x.holds) x.is)

@@ -12,15 +12,19 @@ use Rattle.luks_reading.specs.Layout2.{Luks2Area}
 use Rattle.luks_edit.specs.declared.edit.Edit.{Edit}
 use Rattle.luks_edit.specs.declared.deed.Removed.{Removed}
 use Rattle.luks_edit.specs.declared.deed.Sealed.{Sealed}
-use Rattle.luks_edit.specs.Asked.{label_by, MatchPlace, removed_by, sealed_by, Wants}
+use Rattle.luks_edit.specs.Asked.{label_by, MatchPlace, opener_at, removed_by, sealed_by, Wants}
+use Rattle.luks2_edit_laws.specs.declared.like.Like.{Like}
 use Rattle.luks2_edit_laws.specs.Gap.{IsGap}
+use Rattle.luks2_edit_laws.specs.Likes.{ForLike}
 use Rattle.luks2_edit_laws.specs.Metadata.{IsInUse}
 use Rattle.luks2_edit_laws.specs.Places.{HasNoNewArea, IsNewArea, key_areas_end, rounded_to_blocks}
 use Rattle.luks2_edit_laws.specs.Refused.{HasNoFree, HasNoNumber, HasNoRoom, IsAbsent, IsBadLabel, IsLast, IsMiscounted, IsNumberTaken, IsOnlyOne, IsTaken, Need2, NeedsLike}
+use Rattle.luks2_judging.specs.Keys.{IsThereLike}
 use Rattle.luks_laws.proofs.AskedDecisions.{wanted_decided}
 use Rattle.luks_laws.proofs.DecidedFacts.{alike_decided, both_decided, Decided, less_decided, not_decided, one_decided, true_decided}
 use Rattle.luks_laws.proofs.SearchFacts.{least_or_none_below, OneOrNone, other_decided, place_decided, some_decided, some_same, SomeOrNone}
-use Rattle.luks_laws.proofs.MemberDecisions2.{digest_decided, digest_or_none, in_use_decided, none_free_decided, one_key_length, one_stripes, stripes_in_use, stripes_or_none}
+use Rattle.luks_laws.proofs.LikeDecisions2.{for_like_decided, for_like_one, one_length_like, one_stripes_like, stripes_like_or_none, stripes_there, there_decided}
+use Rattle.luks_laws.proofs.MemberDecisions2.{digest_decided, digest_or_none, in_use_decided, none_free_decided}
 
 -- ---- the keyslots that the edit wants
 
@@ -39,8 +43,8 @@ number_taken_decided j None = inr (λ bad. bad)
 
 -- the same of an edit
 pub taken_decided : (j : Value) (e : Edit) → Decided (IsTaken j e)
-taken_decided j e = some_decided Sealed (sealed_by e) (λ s. MatchPlace s.place (IsNumberTaken j) ⊥)
-    (λ s. place_decided s.place (IsNumberTaken j) ⊥ (number_taken_decided j) (inr (λ bad. bad)))
+taken_decided j e = some_decided Sealed (sealed_by e) (λ s. MatchPlace s.place (λ o to. IsNumberTaken j to) (λ slot secret. ⊥))
+    (λ s. place_decided s.place (λ o to. IsNumberTaken j to) (λ slot secret. ⊥) (λ o to. number_taken_decided j to) (λ slot secret. inr (λ bad. bad)))
 
 -- there is no number for a new keyslot, or there is one
 no_number_decided : (j : Value) (to : Option ℕ) → Decided (HasNoNumber j to)
@@ -49,45 +53,46 @@ no_number_decided j None = none_free_decided j
 
 -- the same of an edit
 pub no_free_decided : (j : Value) (e : Edit) → Decided (HasNoFree j e)
-no_free_decided j e = some_decided Sealed (sealed_by e) (λ s. MatchPlace s.place (HasNoNumber j) ⊥)
-    (λ s. place_decided s.place (HasNoNumber j) ⊥ (no_number_decided j) (inr (λ bad. bad)))
+no_free_decided j e = some_decided Sealed (sealed_by e) (λ s. MatchPlace s.place (λ o to. HasNoNumber j to) (λ slot secret. ⊥))
+    (λ s. place_decided s.place (λ o to. HasNoNumber j to) (λ slot secret. ⊥) (λ o to. no_number_decided j to) (λ slot secret. inr (λ bad. bad)))
 
 -- ---- the area of a keyslot that is made
 
 -- there is an area or no room, not both
-room_or_area : (h total : ℕ) (payload : Data) (j : Value) (n : ℕ) → HasNoNewArea h total payload j n → (a : Area) → IsNewArea h total payload j n a → ⊥
-room_or_area h total payload j n x a y =
+room_or_area : (h total : ℕ) (payload : Data) (j : Value) (l : Like) → HasNoNewArea h total payload j l → (a : Area) → IsNewArea h total payload j l a → ⊥
+room_or_area h total payload j l x a y =
     let region : y.region ≡ x.region = some_same y.region x.region (sym y.region_is ∙ x.region_is) in
-    let len : a.len ≡ rounded_to_blocks (x.key_bytes * x.stripes) = y.len ∙ ap (λ k. rounded_to_blocks (k * y.stripes)) (one_key_length j n _ _ _ _ y.slot x.slot)
-    ∙ ap (λ s. rounded_to_blocks (x.key_bytes * s)) (one_stripes j n _ _ _ _ y.slot x.slot) in
-    x.none a.start (subst (λ l. IsGap (Luks2Area j h payload total) (2 * h) (key_areas_end h total x.region) l a.start) len
+    let len : a.len ≡ rounded_to_blocks (x.key_bytes * x.stripes) = y.len ∙ ap (λ k. rounded_to_blocks (k * y.stripes)) (one_length_like j l _ _ _ _ y.slot x.slot)
+    ∙ ap (λ s. rounded_to_blocks (x.key_bytes * s)) (one_stripes_like j l _ _ _ _ y.slot x.slot) in
+    x.none a.start (subst (λ n. IsGap (Luks2Area j h payload total) (2 * h) (key_areas_end h total x.region) n a.start) len
     (subst (λ r. IsGap (Luks2Area j h payload total) (2 * h) (key_areas_end h total r) a.len a.start) region y.gap.gap))
 
 module _ (h total : ℕ) (payload : Data) (j : Value)
-    (area : (n : ℕ) → IsInUse j n → ((a : Area) × IsNewArea h total payload j n a) ⊎ HasNoNewArea h total payload j n) where
-  -- a keyslot that is made like `n` has its area, or none
-  pub area_or_none : (n : ℕ) → SomeOrNone Area (IsNewArea h total payload j n)
-  area_or_none n = elim (in_use_decided j n) [
-    | inl used ↦ elim (area n used) [
+    (area : (l : Like) → IsThereLike j l → ((a : Area) × IsNewArea h total payload j l a) ⊎ HasNoNewArea h total payload j l) where
+  -- a keyslot that is made so has its area, or none
+  pub area_or_none : (l : Like) → SomeOrNone Area (IsNewArea h total payload j l)
+  area_or_none l = elim (there_decided j l) [
+    | inl there ↦ elim (area l there) [
       | inl found ↦ inl found
-      | inr none ↦ inr (room_or_area h total payload j n none)
+      | inr none ↦ inr (room_or_area h total payload j l none)
     ]
-    | inr unused ↦ inr (λ a x. unused (stripes_in_use j n _ _ x.slot))
+    | inr missing ↦ inr (λ a x. missing (stripes_there j l _ _ x.slot))
   ]
 
   -- there is no room for it, or there is
-  no_area_decided : (n : ℕ) → Decided (HasNoNewArea h total payload j n)
-  no_area_decided n = elim (in_use_decided j n) [
-    | inl used ↦ elim (area n used) [
-      | inl found ↦ inr (λ x. room_or_area h total payload j n x found.0 found.1)
+  no_area_decided : (l : Like) → Decided (HasNoNewArea h total payload j l)
+  no_area_decided l = elim (there_decided j l) [
+    | inl there ↦ elim (area l there) [
+      | inl found ↦ inr (λ x. room_or_area h total payload j l x found.0 found.1)
       | inr none ↦ inl none
     ]
-    | inr unused ↦ inr (λ x. unused (stripes_in_use j n _ _ x.slot))
+    | inr missing ↦ inr (λ x. missing (stripes_there j l _ _ x.slot))
   ]
 
   -- the same of an edit
   pub no_room_decided : (e : Edit) → Decided (HasNoRoom h total payload j e)
-  no_room_decided e = some_decided Sealed (sealed_by e) (λ s. HasNoNewArea h total payload j s.opener.slot) (λ s. no_area_decided s.opener.slot)
+  no_room_decided e = some_decided Sealed (sealed_by e) (λ s. ForLike j (opener_at s.place) (HasNoNewArea h total payload j))
+      (λ s. for_like_decided j (opener_at s.place) (HasNoNewArea h total payload j) no_area_decided)
 
 -- ---- the last keyslot of a digest
 
@@ -122,14 +127,14 @@ bad_label_decided e = some_decided (Bor (List ℕ)) (label_by e) (λ text. (47 <
 
 -- ---- random bytes
 
--- of a keyslot that is sealed like `n` the random bytes are so many, or its stripes aren't said
-need_like : (j : Value) (n : ℕ) → OneOrNone (NeedsLike j n)
-need_like j n = elim (stripes_or_none j n) [
+-- of a keyslot that is made so the random bytes are so many, or its stripes aren't said
+need_like : (j : Value) (l : Like) → OneOrNone (λ k. NeedsLike j k l)
+need_like j l = elim (stripes_like_or_none j l) [
   | inl x ↦ inl (
     64 + 64 + 32 + (x.0.1 - 1) * x.0.0,
     record { key_bytes = x.0.0; stripes = x.0.1; slot = x.1; count = refl },
-    λ m y. y.count ∙ ap (λ s. 64 + 64 + 32 + (s - 1) * y.key_bytes) (one_stripes j n _ _ _ _ y.slot x.1)
-        ∙ ap (λ k. 64 + 64 + 32 + (x.0.1 - 1) * k) (one_key_length j n _ _ _ _ y.slot x.1),
+    λ m y. y.count ∙ ap (λ s. 64 + 64 + 32 + (s - 1) * y.key_bytes) (one_stripes_like j l _ _ _ _ y.slot x.1)
+        ∙ ap (λ k. 64 + 64 + 32 + (x.0.1 - 1) * k) (one_length_like j l _ _ _ _ y.slot x.1),
   )
   | inr none ↦ inr (λ k y. none (y.key_bytes, y.stripes) y.slot)
 ]
@@ -139,9 +144,9 @@ need_of_copies : OneOrNone (λ k. k ≡ 64 + 64)
 need_of_copies = inl (64 + 64, refl, λ m x. x)
 
 -- the same of an edit
-need_in : (j : Value) (o : Option Sealed) → OneOrNone (λ k. MatchOption o (k ≡ 64 + 64) (λ s. NeedsLike j s.opener.slot k))
+need_in : (j : Value) (o : Option Sealed) → OneOrNone (λ k. MatchOption o (k ≡ 64 + 64) (λ s. ForLike j (opener_at s.place) (NeedsLike j k)))
 need_in j None = need_of_copies
-need_in j (Some s) = need_like j s.opener.slot
+need_in j (Some s) = for_like_one j (opener_at s.place) (NeedsLike j) (need_like j)
 
 one_need : (j : Value) (e : Edit) → OneOrNone (Need2 j e)
 one_need j e = need_in j (sealed_by e)

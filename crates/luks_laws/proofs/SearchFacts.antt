@@ -1,11 +1,13 @@
 -- What there is some of or none, and searches among numbers.
-use Rattle.std.proofs.Common.{◌≡◌, ◌⊎◌, ℕ, zero, suc, ◌≤◌, ◌<◌, Option, Some, None, refl, sym, subst, ◌∙◌, arith, inl, inr}
+use Rattle.std.proofs.Common.{◌≡◌, ◌⊎◌, ℕ, zero, suc, ◌≤◌, ◌<◌, Option, Some, None, refl, sym, ap, subst, ◌∙◌, arith, inl, inr}
 use Rattle.std.specs.Prelude.{IsSomeAnd}
 use Rattle.std.proofs.lemmas.Bool.{cases_eq, cases_lt}
 use Rattle.luks_edit.specs.declared.deed.Place.{Place}
 use Rattle.luks_edit.specs.declared.deed.Place.TheVariants.{New, Opened}
+use Rattle.luks_edit.specs.declared.edit.Opener.{Opener}
+use Rattle.luks_edit.specs.declared.edit.Secret.{Secret}
 use Rattle.luks_edit.specs.Asked.{MatchPlace}
-use Rattle.luks_laws.proofs.DecidedFacts.{Decided}
+use Rattle.luks_laws.proofs.DecidedFacts.{alike_decided, Decided}
 
 -- what is decided of each part is decided of the part that there is
 pub some_decided : (A : Type 0) (o : Option A) (P : A → Type 0) → ((x : A) → Decided (P x)) → Decided (IsSomeAnd o P)
@@ -13,9 +15,10 @@ some_decided A None P decide = inr (λ bad. bad)
 some_decided A (Some x) P decide = decide x
 
 -- what is decided of each place of a key is decided of the place that it has
-pub place_decided : (p : Place) (N : Option ℕ → Type 0) (O : Type 0) → ((to : Option ℕ) → Decided (N to)) → Decided O → Decided (MatchPlace p N O)
-place_decided (New to) N O new opened = new to
-place_decided Opened N O new opened = opened
+pub place_decided : (p : Place) (N : Opener → Option ℕ → Type 0) (O : ℕ → Secret → Type 0) → ((o : Opener) (to : Option ℕ) → Decided (N o to))
+    → ((slot : ℕ) (secret : Secret) → Decided (O slot secret)) → Decided (MatchPlace p N O)
+place_decided (New o to) N O new opened = new o to
+place_decided (Opened slot secret) N O new opened = opened slot secret
 
 -- ---- what there is some of
 
@@ -31,6 +34,16 @@ some_same x y e = cc
 pub held_or_none : {A : Type 0} (o : Option A) → SomeOrNone A (λ x. o ≡ Some x)
 held_or_none None = inr (λ x e. cc)
 held_or_none (Some x) = inl (x, refl)
+
+-- what is decided of each value is decided of the one that an option holds
+pub held_decided : {A : Type 0} (o : Option A) (P : A → Type 0) → ((x : A) → Decided (P x)) → Decided ((x : A) × (o ≡ Some x) × P x)
+held_decided None P decide = inr (λ x. let none = x.1 in cc)
+held_decided (Some y) P decide = alike_decided (P y) ((x : _) × (Some y ≡ Some x) × P x) (λ is. (y, refl, is)) (λ x. subst P (sym (some_same y x.0 x.1)) x.2) (decide y)
+
+-- it holds this number, or it doesn't
+pub number_decided : (o : Option ℕ) (n : ℕ) → Decided (o ≡ Some n)
+number_decided None n = inr (λ same. cc)
+number_decided (Some m) n = alike_decided (m ≡ n) (Some m ≡ Some n) (λ same. ap Some same) (λ same. some_same m n same) (cases_eq m n)
 
 -- ---- numbers
 
@@ -58,6 +71,27 @@ least_or_none_below P each (suc n) = elim (least_or_none_below P each n) [
     | inl here ↦ inl (n, here, λ k is. elim (cases_lt k n) [ inl under ↦ absurd (none k under is) | inr over ↦ over ])
     | inr away ↦ inr (λ k low is. elim (cases_eq k n) [ inl same ↦ away (subst P same is) | inr other ↦ none k (omega (arith, low, other)) is ])
   ]
+]
+
+-- so there is one, or none, where those that have it are below `n`
+pub least_or_none_of : (P : ℕ → Type 0) → ((k : ℕ) → Decided (P k)) → (n : ℕ) → ((k : ℕ) → P k → k < n) → LeastNumber P ⊎ ((k : ℕ) → P k → ⊥)
+least_or_none_of P each n low = elim (least_or_none_below P each n) [
+  | inl found ↦ inl found
+  | inr none ↦ inr (λ k is. none k (low k is) is)
+]
+
+-- and so it is decided whether some has it
+pub some_of_decided : (P : ℕ → Type 0) → ((k : ℕ) → Decided (P k)) → (n : ℕ) → ((k : ℕ) → P k → k < n) → Decided ((k : ℕ) × P k)
+some_of_decided P each n low = elim (least_or_none_of P each n low) [
+  | inl found ↦ inl (found.0, found.1)
+  | inr none ↦ inr (λ x. none x.0 x.1)
+]
+
+-- and whether none has it
+pub none_of_decided : (P : ℕ → Type 0) → ((k : ℕ) → Decided (P k)) → (n : ℕ) → ((k : ℕ) → P k → k < n) → Decided ((k : ℕ) → P k → ⊥)
+none_of_decided P each n low = elim (least_or_none_of P each n low) [
+  | inl found ↦ inr (λ none. none found.0 found.1)
+  | inr none ↦ inl none
 ]
 
 -- one number has the property, or none has it

@@ -8,9 +8,9 @@ ghost use Rattle.luks_slot.specs.declared.plan.SlotPlan.{SlotPlan as ThePlan};
 ghost use Rattle.luks_reading.specs.Answer.{Answer, AnswerWithin, HasPlanAs, IsRefusalAs, Opened};
 ghost use Rattle.luks_reading.specs.declared.open_fault.OpenFault.TheVariants.{Slot as SlotRefusal};
 ghost use Rattle.luks_reading.specs.declared.report.Data.{Data as Payload};
-ghost use Rattle.luks_edit.specs.Asked.{allowed_by, allowed_for};
+ghost use Rattle.luks_edit.specs.Asked.{allowed_by, allowed_for, allowed_of};
 ghost use Rattle.luks_edit.specs.declared.edit.Edit.{Edit as TheEdit};
-ghost use Rattle.luks_edit.specs.declared.edit.Secret.{Secret as TheSecret};
+ghost use Rattle.luks_edit.specs.declared.edit.Opener.{Opener as TheOpener};
 ghost use Rattle.luks1_edits.specs.Refused.{IsUnrefused1, Refusal1};
 ghost use Rattle.luks2_edit_laws.specs.Refused.{IsUnrefused2, Refusal2};
 ghost use Rattle.luks2_judging.specs.Opened.{TakesMemoryToOpen};
@@ -35,14 +35,14 @@ pub fn first_refusal_or_unrefused()
     every_keyslot_has_an_answer();
 }
 
-/// A passphrase without memory allows none to an edit, and one to which nothing is allowed nothing.
+/// What opens without memory allows none to an edit, and what is allowed nothing allows nothing.
 /// Where no memory is allowed, a keyslot answers the edit exactly as it does without Argon2, and takes
 /// none; where nothing is, the plan of a keyslot of either version is refused as it is without older
 /// ciphers and hashes too. A keyslot of LUKS1 answers alike whatever memory is allowed.
 pub fn nothing_allowed_edits_as_before()
-    ensures memoryless { (old : TheSecret) (new : List ℕ) → old.allowed.memory ≡ 0
-        → allowed_for old new ≡ without_memory old.allowed.older }
-    ensures allowed { (old : TheSecret) (new : List ℕ) → old.allowed ≡ none_allowed
+    ensures memoryless { (old : TheOpener) (new : List ℕ) → (allowed_of old).memory ≡ 0
+        → allowed_for old new ≡ without_memory (allowed_of old).older }
+    ensures allowed { (old : TheOpener) (new : List ℕ) → allowed_of old ≡ none_allowed
         → allowed_for old new ≡ none_allowed }
     ensures answer { (v : List ℕ) (e : TheEdit) (n : ℕ) (p : List ℕ) (a : Opened)
         → (allowed_by e).memory ≡ 0

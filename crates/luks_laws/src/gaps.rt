@@ -5,14 +5,16 @@ ghost use Rattle.luks_area.specs.declared.area.Area.{Area as TheArea};
 ghost use Rattle.luks2_header.specs.Header2.{hdr_size, header_at};
 ghost use Rattle.luks_reading.specs.declared.report.Data.{Data as Payload};
 ghost use Rattle.luks_reading.specs.Checked.{WellFormed};
-ghost use Rattle.luks2_edit_laws.specs.Metadata.{HasMetadata, IsInUse};
+ghost use Rattle.luks2_edit_laws.specs.declared.like.Like.{Like as TheLike};
+ghost use Rattle.luks2_edit_laws.specs.Metadata.{HasMetadata};
 ghost use Rattle.luks2_edit_laws.specs.Places.{HasNoNewArea, IsNewArea};
+ghost use Rattle.luks2_judging.specs.Keys.{IsThereLike};
 
-/// In a well formed LUKS2 volume a keyslot that is made like the keyslot `n` has its area, or there
-/// is no room for it.
+/// In a well formed LUKS2 volume a keyslot that is made like one that is there, or like that of a new volume,
+/// has its area, or there is no room for it.
 pub fn area_or_no_room()
-    ensures { (v : List ℕ) (payload : Payload) (place : ℕ) (j : Metadata) (n : ℕ)
-        → WellFormed v payload → HasMetadata v place j → IsInUse j n
-        → ((a : TheArea) × IsNewArea (hdr_size (header_at v place)) (length v) payload j n a)
-        ⊎ HasNoNewArea (hdr_size (header_at v place)) (length v) payload j n }
+    ensures { (v : List ℕ) (payload : Payload) (place : ℕ) (j : Metadata) (like : TheLike)
+        → WellFormed v payload → HasMetadata v place j → IsThereLike j like
+        → ((a : TheArea) × IsNewArea (hdr_size (header_at v place)) (length v) payload j like a)
+        ⊎ HasNoNewArea (hdr_size (header_at v place)) (length v) payload j like }
 {}

@@ -6,6 +6,7 @@ mod command_line;
 mod command_name;
 mod commands;
 mod derivation;
+mod encryption;
 mod fields;
 mod manner;
 mod matching;

@@ -20,6 +20,14 @@ pub(crate) fn wrong_key(given: &ArgMatches<'_>) -> Option<&'static str> {
     None
 }
 
+/// That an addition names neither a keyslot nor a key.
+pub(crate) fn wrong_opener(given: &ArgMatches<'_>) -> Option<&'static str> {
+    if given.get_one::<u8>("slot").is_none() && given.get_str("key").is_none() {
+        return Some("the argument '--slot <N>' is needed without '--key <FILE>'");
+    }
+    None
+}
+
 /// That a key is judged, where one is named.
 pub(crate) fn matching_of<'a>(given: &ArgMatches<'a>) -> Option<Command<'a>> {
     Some(Command::Match(Matching {

@@ -17,6 +17,7 @@ pub(crate) enum LongOption {
     NeededRandom,
     TriedSlot,
     OpenedSlot,
+    AddedSlot,
     To,
     Memory,
     Older,
@@ -62,6 +63,10 @@ pub(crate) enum LongOption {
     NewUuid,
     Label,
     Subsystem,
+    NewCipher,
+    NewKeyBytes,
+    SectorSize,
+    OlderCipher,
 }
 
 impl LongOption {
@@ -79,7 +84,7 @@ pub(crate) struct OptionRow {
 }
 
 /// In the order of `LongOption`.
-static OPTIONS: [OptionRow; 56] = [
+static OPTIONS: [OptionRow; 61] = [
     OptionRow {
         name: "detached",
         needed: false,
@@ -143,6 +148,12 @@ static OPTIONS: [OptionRow; 56] = [
     OptionRow {
         name: "slot",
         needed: true,
+        help: "The keyslot that the passphrase opens, 0 to 31",
+        takes: Takes::Slot,
+    },
+    OptionRow {
+        name: "slot",
+        needed: false,
         help: "The keyslot that the passphrase opens, 0 to 31",
         takes: Takes::Slot,
     },
@@ -377,7 +388,7 @@ static OPTIONS: [OptionRow; 56] = [
     OptionRow {
         name: "key",
         needed: false,
-        help: "Instead, the file of the keyslot's key",
+        help: "Instead, the file of the volume key",
         takes: Takes::File,
     },
     OptionRow {
@@ -415,5 +426,29 @@ static OPTIONS: [OptionRow; 56] = [
         needed: false,
         help: "LUKS2: the volume's subsystem",
         takes: Takes::Label,
+    },
+    OptionRow {
+        name: "cipher",
+        needed: false,
+        help: "Of data and key areas, as below",
+        takes: Takes::NewCipher,
+    },
+    OptionRow {
+        name: "key-bytes",
+        needed: false,
+        help: "How long the volume key is; else 64, of cbc 32",
+        takes: Takes::KeyBytes,
+    },
+    OptionRow {
+        name: "sector-size",
+        needed: false,
+        help: "LUKS2: how long the data's sectors are",
+        takes: Takes::SectorSize,
+    },
+    OptionRow {
+        name: "older",
+        needed: false,
+        help: "Accept a cipher of older disks",
+        takes: Takes::Nothing,
     },
 ];

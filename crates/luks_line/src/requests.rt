@@ -2,6 +2,7 @@
 
 use crate::command_name::CommandName;
 use crate::derivation::{argon2_of, kdf_of};
+use crate::encryption::{cipher_of, key_bytes_of};
 use crate::fields::fields_of;
 use crate::matching::matching_of;
 use crate::search::Search;
@@ -122,9 +123,29 @@ fn edit_of<'a>(name: CommandName, given: &ArgMatches<'a>) -> Option<EditRequest<
     }
 }
 
+/// The addition by a keyslot, or by the volume key where none is named.
 fn adding_of<'a>(given: &ArgMatches<'a>) -> Option<EditRequest<'a>> {
+    match given.get_one::<u8>("slot") {
+        Some(by_) => adding_by(by_, given),
+        None => adding_by_key(given),
+    }
+}
+
+fn adding_by_key<'a>(given: &ArgMatches<'a>) -> Option<EditRequest<'a>> {
+    Some(EditRequest::AddByKey {
+        key: given.get_str("key")?,
+        memory: mib_of(given, "memory")?,
+        older: given.get_flag("older"),
+        new: new_of(given)?,
+        to: given.get_one::<u8>("to"),
+        iterations: given.get_one::<u32>("iterations")?,
+        kdf: kdf_of(given)?,
+    })
+}
+
+fn adding_by<'a>(by_: u8, given: &ArgMatches<'a>) -> Option<EditRequest<'a>> {
     Some(EditRequest::Add {
-        by_: given.get_one::<u8>("slot")?,
+        by_,
         opener: opener_of(given)?,
         memory: mib_of(given, "memory")?,
         older: given.get_flag("older"),
@@ -174,21 +195,26 @@ fn formatting_of<'a>(given: &ArgMatches<'a>) -> Option<Command<'a>> {
         },
         kdf: argon2_of(given)?,
         memory: mib_of(given, "memory")?,
+        older: given.get_flag("older"),
         payload: data_of(given),
-        given: new_fields_of(given),
+        given: new_fields_of(given)?,
         over: given.get_flag("over"),
     }))
 }
 
 /// What is given of a new volume.
-fn new_fields_of<'a>(given: &ArgMatches<'a>) -> NewFields<'a> {
-    NewFields {
+fn new_fields_of<'a>(given: &ArgMatches<'a>) -> Option<NewFields<'a>> {
+    let cipher = cipher_of(given)?;
+    Some(NewFields {
         key: given.get_str("key"),
         sector: given.get_one::<u32>("payload").map(u64::from),
         uuid: given.get_str("uuid"),
         label: given.get_str("label"),
         subsystem: given.get_str("subsystem"),
-    }
+        cipher,
+        key_bytes: key_bytes_of(given, cipher),
+        sector_size: given.get_one::<u32>("sector-size")?,
+    })
 }
 
 fn version_of(given: &ArgMatches<'_>) -> Option<NewVersion> {

@@ -42,8 +42,12 @@ pub(crate) enum Takes {
     Cipher,
     /// The name of a hash, which this program needn't know.
     Name,
+    /// A cipher that a new volume may have.
+    NewCipher,
     /// The length of a volume key in bytes.
     KeyBytes,
+    /// The length of the data's sectors in bytes.
+    SectorSize,
     /// A sector, by its number.
     Sector,
     /// A key derivation function, one of which counts without the option.
@@ -67,6 +71,15 @@ static COPY_SIZES: [&str; 9] = [
     "16384", "32768", "65536", "131072", "262144", "524288", "1048576", "2097152", "4194304",
 ];
 
+/// The ciphers that a new volume may have.
+static CIPHERS: [&str; 5] = [
+    "aes-xts-plain64",
+    "aes-xts-plain",
+    "aes-cbc-essiv:sha256",
+    "aes-cbc-plain64",
+    "aes-cbc-plain",
+];
+
 impl Takes {
     pub(crate) fn action(self) -> ArgAction {
         match self {
@@ -84,12 +97,15 @@ impl Takes {
             Takes::Memory | Takes::KdfMemory | Takes::Offset | Takes::Bytes | Takes::CopySize =>
                 ValueParser::String,
             Takes::Slot | Takes::Digest => ValueParser::Unsigned(0, 31),
-            Takes::Iterations | Takes::Sector => ValueParser::Unsigned(0, 4294967295),
+            Takes::Iterations | Takes::Sector | Takes::SectorSize => ValueParser::Unsigned(
+                0, 4294967295,
+            ),
             Takes::KeyBytes => ValueParser::Unsigned(1, 128),
             Takes::Kdf | Takes::ChosenKdf => ValueParser::Names(&["pbkdf2", "argon2i", "argon2id"]),
             Takes::Passes | Takes::Milliseconds => ValueParser::Unsigned(1, 4294967295),
             Takes::Lanes => ValueParser::Unsigned(1, 4),
             Takes::Version => ValueParser::Names(&["1", "2"]),
+            Takes::NewCipher => ValueParser::Names(&CIPHERS),
             Takes::Hash => ValueParser::Names(HashName::NAMES),
         }
     }
@@ -118,8 +134,8 @@ impl Takes {
             Takes::Version => &["VERSION"],
             Takes::Hash => &["HASH"],
             Takes::Uuid | Takes::Label => &["TEXT"],
-            Takes::Offset | Takes::Bytes | Takes::CopySize => &["BYTES"],
-            Takes::Cipher => &["NAME-MODE"],
+            Takes::Offset | Takes::Bytes | Takes::CopySize | Takes::SectorSize => &["BYTES"],
+            Takes::Cipher | Takes::NewCipher => &["NAME-MODE"],
             Takes::Name => &["NAME"],
             Takes::Sector => &["SECTOR"],
         }
@@ -132,6 +148,8 @@ impl Takes {
             Takes::Iterations => &["100000"],
             Takes::Version => &["2"],
             Takes::Hash => &["sha256"],
+            Takes::NewCipher => &["aes-xts-plain64"],
+            Takes::SectorSize => &["512"],
             Takes::Kdf => &["pbkdf2"],
             Takes::KdfMemory => &["1024"],
             Takes::Passes | Takes::Lanes => &["4"],
@@ -143,7 +161,7 @@ impl Takes {
     pub(crate) fn hides(self) -> bool {
         matches!(
             self,
-            Takes::Hash | Takes::CopySize | Takes::Kdf | Takes::ChosenKdf
+            Takes::Hash | Takes::CopySize | Takes::Kdf | Takes::ChosenKdf | Takes::NewCipher
         )
     }
 }

@@ -392,9 +392,9 @@ fn asked_kdf(command: &Command<'_>) -> Option<(AskedKdf, u32)> {
     match command {
         Command::Format(making) => Some((making.kdf?, making.memory)),
         Command::Edit(editing) => match &editing.request {
-            EditRequest::Add { kdf, memory, .. } | EditRequest::Change { kdf, memory, .. } => {
-                Some(((*kdf)?, *memory))
-            }
+            EditRequest::Add { kdf, memory, .. }
+            | EditRequest::AddByKey { kdf, memory, .. }
+            | EditRequest::Change { kdf, memory, .. } => Some(((*kdf)?, *memory)),
             _ => None,
         },
         _ => None,

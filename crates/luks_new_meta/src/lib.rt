@@ -11,4 +11,6 @@ pub use luks_making::{
     Argon2Costs, AskedDerivation, New, NewDerivation, NewVolume, SourceSlot, SourceVolume,
     area_size, area_start,
 };
-pub use metadata::{changed_slot, converted, formatted, json_area, with_slot, without_slot};
+pub use metadata::{
+    changed_slot, converted, formatted, json_area, with_new_slot, with_slot, without_slot,
+};

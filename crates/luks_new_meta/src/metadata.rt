@@ -7,15 +7,19 @@ ghost use Rattle.luks_making.specs.Conditions.{CanFormat, CanSeal, IsFree};
 ghost use Rattle.luks_making.specs.Conversions.{CanConvert};
 ghost use Rattle.luks_making.specs.Converted.{converted, source_members};
 ghost use Rattle.luks_making.specs.Formatted.{formatted, volume_members};
-ghost use Rattle.luks_making.specs.Keyslots.{new_members};
+ghost use Rattle.luks_making.specs.Keyslots.{new_members, slot_members};
 ghost use Rattle.luks_making.specs.Naming.{HasUniqueDigests};
-ghost use Rattle.luks_making.specs.With.{IsAdded};
+ghost use Rattle.luks_making.specs.With.{IsAdded, with_slot};
 ghost use Rattle.luks_making.specs.Without.{without_slot};
 ghost use Rattle.luks_making.specs.WrittenArea.{IsWrittenArea};
 ghost use Rattle.luks_meta.specs.Content.{area_len, content};
+ghost use Rattle.luks_new_meta.specs.Made.{HasRoom};
 
 use crate::adding::added;
-use luks_making::{New, NewVolume, SourceVolume, new_fits, source_fits, volume_fits, written_area};
+use luks_making::{
+    New, NewKeyslot, NewVolume, SourceVolume, new_fits, slot_value, source_fits, volume_fits,
+    written_area,
+};
 use luks_meta::Meta;
 use std::alloc::{AllocError, Global};
 
@@ -102,6 +106,31 @@ pub fn with_slot(
     new_fits(new);
     let len = meta.area_len();
     let value = added(alloc, meta, to, by, new)?;
+    Ok(Meta::of_value(value, len))
+}
+
+/// The metadata with a keyslot of these members, without a priority, whose name goes last in the array of
+/// the digest. All else stays as it is. No digest's name stands twice in the metadata, which is given up:
+/// its value is edited in place.
+///
+/// Takes memory for the new keyslot.
+pub fn with_new_slot(
+    alloc: Global,
+    meta: Meta,
+    to: u8,
+    digest: u8,
+    keyslot: &NewKeyslot<'_>,
+) -> Result<Meta, AllocError>
+    requires { HasRoom (area_len meta) to digest (slot_members keyslot.now) (content meta) }
+    ensures value { IfOk result (λ m.
+        content m ≡ with_slot to digest (slot_members keyslot.now) (content meta)) }
+    ensures length { IfOk result (λ m. area_len m ≡ area_len meta) }
+    ensures unique { HasUniqueDigests (content meta) }
+{
+    let len = meta.area_len();
+    meta.digests_stand_once();
+    let made = slot_value(alloc, keyslot)?;
+    let value = luks_making::with_slot(alloc, meta.into_value(), to, digest, made)?;
     Ok(Meta::of_value(value, len))
 }
 

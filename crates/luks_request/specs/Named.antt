@@ -3,7 +3,7 @@ use Rattle.std.specs.Prelude.{ℕ, List, Option, None, Some, option_map, Bool, t
 use Rattle.luks_request.specs.declared.request.Command.{Command}
 use Rattle.luks_request.specs.declared.request.Command.TheVariants.{Check, Show, Open, Match, Edit, Format, Convert, Rebuild, Backup, Restore, Compare, KeepKey}
 use Rattle.luks_request.specs.declared.request.EditRequest.{EditRequest}
-use Rattle.luks_request.specs.declared.request.EditRequest.TheVariants.{Add, Change, Remove, Repair, Label}
+use Rattle.luks_request.specs.declared.request.EditRequest.TheVariants.{Add, AddByKey, Change, Remove, Repair, Label}
 use Rattle.luks_request.specs.declared.request.OpenerFile.{OpenerFile}
 use Rattle.luks_request.specs.declared.request.OpenerFile.TheVariants.{Passphrase, Key}
 
@@ -15,6 +15,7 @@ file_of (Key name) = name.now
 -- the edits that open a keyslot need its passphrase or its key
 abbrev pub edit_passphrase_of : EditRequest → Option (List ℕ)
 edit_passphrase_of (Add by_ opener memory older new to iterations kdf) = Some (file_of opener)
+edit_passphrase_of (AddByKey key memory older new to iterations kdf) = Some key.now
 edit_passphrase_of (Change slot opener memory older new iterations kdf) = Some (file_of opener)
 edit_passphrase_of (Remove slot by_ opener memory older) = Some (file_of opener)
 edit_passphrase_of Repair = None
@@ -23,6 +24,7 @@ edit_passphrase_of (Label text) = None
 -- and those that seal one the new passphrase
 abbrev pub edit_new_of : EditRequest → Option (List ℕ)
 edit_new_of (Add by_ opener memory older new to iterations kdf) = Some new.now
+edit_new_of (AddByKey key memory older new to iterations kdf) = Some new.now
 edit_new_of (Change slot opener memory older new iterations kdf) = Some new.now
 edit_new_of (Remove slot by_ opener memory older) = None
 edit_new_of Repair = None

@@ -1,12 +1,14 @@
 //! What a command line of the program `luks` asks for: the command, its volume and its files.
 #![tactic(auto)]
 
+mod cipher;
 mod derivation;
 mod keeping;
 mod place;
 mod rebuilding;
 mod request;
 
+pub use cipher::AskedCipher;
 pub use derivation::{AskedArgon2, AskedKdf, AskedKind};
 pub use keeping::{BackingUp, Comparing, KeepingKey, Restoring};
 pub use place::Place;

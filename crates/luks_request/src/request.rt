@@ -2,6 +2,7 @@ ghost use Rattle.std.specs.Prelude.{◌≡◌, option_map};
 ghost use Rattle.luks_request.specs.Named.{backup_of, edit_new_of, edit_passphrase_of, file_of, is_writer, new_of};
 ghost use Rattle.luks_request.specs.Named.{passphrase_of, random_of, target_of};
 
+use crate::cipher::AskedCipher;
 use crate::derivation::AskedKdf;
 use crate::keeping::{BackingUp, Comparing, KeepingKey, Restoring};
 use crate::place::Place;
@@ -124,6 +125,23 @@ pub enum EditRequest<'a> {
         /// What the new keyslot derives by; without it that is as of the one that opens.
         kdf: Option<AskedKdf>,
     },
+    /// Add a keyslot for a new passphrase by the volume key, with no keyslot.
+    AddByKey {
+        /// The file of the key.
+        key: &'a str,
+        /// How many MiB of memory Argon2 may take for the new passphrase.
+        memory: u32,
+        /// Whether ciphers and hashes of older disks are accepted.
+        older: bool,
+        /// The file of the new passphrase.
+        new: &'a str,
+        /// The number of the new keyslot, 0 to 31; without one the least that is free.
+        to: Option<u8>,
+        /// The iterations of its derivation, where that is PBKDF2.
+        iterations: u32,
+        /// What the new keyslot derives by; without it that is PBKDF2.
+        kdf: Option<AskedKdf>,
+    },
     /// Put a new passphrase in the place of an old one.
     Change {
         /// The keyslot that the old passphrase or the key opens.
@@ -141,11 +159,12 @@ pub enum EditRequest<'a> {
         /// What it derives by then; without it that is as before.
         kdf: Option<AskedKdf>,
     },
-    /// Remove a keyslot, by its own passphrase or key, or by another keyslot's.
+    /// Remove a keyslot, by its own passphrase, by another keyslot's or its key, or by the volume key.
     Remove {
         /// The keyslot.
         slot: u8,
-        /// The keyslot that the passphrase or the key opens; without one `slot`.
+        /// The keyslot that the passphrase or the key opens; without one the passphrase opens `slot`, and the
+        /// key is the volume's.
         by_: Option<u8>,
         /// The file of the passphrase, or of the key.
         opener: OpenerFile<'a>,
@@ -192,6 +211,7 @@ impl<'a> EditRequest<'a> {
             EditRequest::Add { opener, .. }
             | EditRequest::Change { opener, .. }
             | EditRequest::Remove { opener, .. } => Some(opener.name()),
+            EditRequest::AddByKey { key, .. } => Some(key),
             EditRequest::Repair | EditRequest::Label { .. } => None,
         }
     }
@@ -201,7 +221,9 @@ impl<'a> EditRequest<'a> {
         ensures { option_map (λ name. name.now) result ≡ edit_new_of self.now }
     {
         match *self {
-            EditRequest::Add { new, .. } | EditRequest::Change { new, .. } => Some(new),
+            EditRequest::Add { new, .. }
+            | EditRequest::AddByKey { new, .. }
+            | EditRequest::Change { new, .. } => Some(new),
             _ => None,
         }
     }
@@ -222,6 +244,8 @@ pub struct Making<'a> {
     pub kdf: Option<AskedKdf>,
     /// How many MiB of memory Argon2 may take.
     pub memory: u32,
+    /// Whether a cipher of older disks is accepted.
+    pub older: bool,
     /// Where the payload lies.
     pub payload: Data,
     /// What is given in the place of what is made for it.
@@ -243,6 +267,12 @@ pub struct NewFields<'a> {
     pub label: Option<&'a str>,
     /// LUKS2: the subsystem.
     pub subsystem: Option<&'a str>,
+    /// The cipher.
+    pub cipher: AskedCipher,
+    /// The length of the volume key in bytes.
+    pub key_bytes: u32,
+    /// The length of the data's sectors in bytes.
+    pub sector_size: u32,
 }
 
 /// What is made by converting, and of which files.

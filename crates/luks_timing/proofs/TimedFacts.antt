@@ -1,5 +1,5 @@
 -- Costs of Argon2 in whole MiB.
-use Rattle.std.proofs.Common.{◌≡◌, ℕ, ◌*◌, ◌/◌, ◌^◌, ◌-◌, ◌≤◌, min, arith}
+use Rattle.std.proofs.Common.{ℕ, ◌*◌, ◌/◌, ◌^◌, ◌-◌, ◌≤◌, min, arith}
 
 -- the memory between the bounds in KiB lies between those in MiB
 pub in_mib : (asked memory : ℕ) → min 65536 (min (asked * 1024) (2 ^ 32 - 1)) ≤ memory → memory ≤ min (asked * 1024) (2 ^ 32 - 1)

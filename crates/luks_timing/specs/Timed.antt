@@ -8,9 +8,8 @@ use Rattle.luks_request.specs.declared.derivation.AskedKdf.{AskedKdf}
 use Rattle.luks_request.specs.declared.derivation.AskedKdf.TheVariants.{Pbkdf2, Argon2}
 use Rattle.luks_request.specs.declared.request.Command.{Command}
 use Rattle.luks_request.specs.declared.request.Command.TheVariants.{Edit, Format}
-use Rattle.luks_request.specs.declared.request.Editing.{Editing}
 use Rattle.luks_request.specs.declared.request.EditRequest.{EditRequest}
-use Rattle.luks_request.specs.declared.request.EditRequest.TheVariants.{Add, Change}
+use Rattle.luks_request.specs.declared.request.EditRequest.TheVariants.{Add, AddByKey, Change}
 use Rattle.luks_request.specs.declared.request.Making.{Making}
 use Rattle.luks_request.specs.declared.request.NewVersion.{NewVersion}
 use Rattle.luks_request.specs.declared.request.NewVersion.TheVariants.{Luks1, Luks2}
@@ -39,6 +38,8 @@ IsTimedKdf allowed asked timed = ⊥
 abbrev pub IsTimedEdit : EditRequest → EditRequest → Type 0
 IsTimedEdit (Add by_ opener memory older new to iterations (Some kdf)) timed =
     (chosen : AskedKdf) × IsTimedKdf memory kdf chosen × (timed ≡ Add by_ opener memory older new to iterations (Some chosen))
+IsTimedEdit (AddByKey key memory older new to iterations (Some kdf)) timed =
+    (chosen : AskedKdf) × IsTimedKdf memory kdf chosen × (timed ≡ AddByKey key memory older new to iterations (Some chosen))
 IsTimedEdit (Change slot opener memory older new iterations (Some kdf)) timed =
     (chosen : AskedKdf) × IsTimedKdf memory kdf chosen × (timed ≡ Change slot opener memory older new iterations (Some chosen))
 IsTimedEdit request timed = timed ≡ request
@@ -61,6 +62,7 @@ pub record IsTimedMaking (making timed : Making) : Type 0 where
   pub iterations : 1000 ≤ timed.format.iterations
   pub kdf : IsTimedOf making.version making timed.kdf
   pub memory : timed.memory ≡ making.memory
+  pub older : timed.older ≡ making.older
   pub payload : timed.payload ≡ making.payload
   pub given : timed.given ≡ making.given
   pub over : timed.over ≡ making.over
@@ -92,6 +94,7 @@ IsKdfFault allowed kdf Memory = TimesArgon2 allowed kdf
 -- of an edit: none where it asks for no derivation
 abbrev pub IsEditCostFault : EditRequest → CostFault → Type 0
 IsEditCostFault (Add by_ opener memory older new to iterations (Some kdf)) f = IsKdfFault memory kdf f
+IsEditCostFault (AddByKey key memory older new to iterations (Some kdf)) f = IsKdfFault memory kdf f
 IsEditCostFault (Change slot opener memory older new iterations (Some kdf)) f = IsKdfFault memory kdf f
 IsEditCostFault request f = ⊥
 

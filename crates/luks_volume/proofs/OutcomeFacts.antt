@@ -4,10 +4,13 @@ use Rattle.std.specs.Prelude.{OnOk}
 use Rattle.luks2_header.specs.declared.selection.Copies.{Copies}
 use Rattle.luks2_header.specs.Selection.{Choice, luks1, luks2, nothing, Chosen}
 use Rattle.luks2_header.proofs.ChoiceFacts.{choices_agree}
+use Rattle.luks_slot.specs.declared.allowed.Allowed.{Allowed}
 use Rattle.luks_reading.specs.declared.report.Data.{Data}
 use Rattle.luks_reading.specs.Checked.{WellFormed, WellFormedAs}
 use Rattle.luks_edit.specs.declared.edit.Edit.{Edit}
-use Rattle.luks_edit.specs.declared.edit.Edit.TheVariants.{Add, Change, Remove, Repair, Label}
+use Rattle.luks_edit.specs.declared.edit.Edit.TheVariants.{Add, AddByKey, Change, Remove, Repair, Label}
+use Rattle.luks_edit.specs.declared.edit.Opener.{Opener}
+use Rattle.luks_edit.specs.declared.edit.Opener.TheVariants as opener
 use Rattle.luks_edit.specs.Asked.{allowed_for}
 use Rattle.luks_edit.specs.declared.edit_fault.EditFault.{EditFault}
 use Rattle.luks_edit.specs.declared.edit_fault.EditFault.TheVariants as fault
@@ -18,7 +21,7 @@ use Rattle.luks2_edit_laws.specs.Edited.{HasRanges, OpensAfter2}
 use Rattle.luks2_edit_laws.specs.Places.{Loses}
 use Rattle.luks2_edit_laws.specs.Refused.{IsUnrefused2}
 use Rattle.luks_volume.specs.Edits.{AfterAs, IsEditFault, IsUnrefused, LeftoverAs, Leftover, Makes, MakesAs, Replies}
-use Rattle.luks_volume.specs.Outcome.{IsApplied, OpensMade, Spares, SparesAs, WipesLost}
+use Rattle.luks_volume.specs.Outcome.{Gives, GivesAs, IsApplied, OpensMade, Spares, SparesAs, WipesLost}
 use Rattle.luks1_edits.proofs.EditedFacts.{leftover_keeps, leftover_opens, leftover_rest as leftover_rest1, opens_after as opens_after1, removed_area}
 use Rattle.luks1_edits.proofs.RefusalFacts.{leftover_refused as leftover_refused1}
 use Rattle.luks2_edit_laws.proofs.AfterFacts.{lost_zeros}
@@ -33,6 +36,7 @@ use Rattle.luks_volume.proofs.VersionFacts.{fault_by}
 -- a keyslot that is lost is removed
 removes : (e : Edit) (n : ℕ) → Loses e n → Removes e n
 removes (Add by_ old new to iterations d) n x = x
+removes (AddByKey key new to iterations d) n x = x
 removes (Change slot old new iterations d) n x = x
 removes (Remove slot by_ passphrase) n x = x
 removes Repair n x = x
@@ -49,19 +53,32 @@ unrefused2 v payload e r o copies chosen fine = record { none = λ f is. fine.no
 makes_by : (v : List ℕ) (e : Edit) (c : Choice) (n : ℕ) → Chosen v c → Makes v e n → MakesAs v e c n
 makes_by v e c n chosen x = subst (λ d. MakesAs v e d n) (choices_agree v x.choice c x.chosen chosen) x.makes
 
+gives_by : (allowed : Allowed) (v : List ℕ) (o : Opener) (key : List ℕ) (c : Choice) → Chosen v c → Gives allowed v o key → GivesAs allowed v o key c
+gives_by allowed v o key c chosen x = subst (GivesAs allowed v o key) (choices_agree v x.choice c x.chosen chosen) x.gives
+
 opens_by1 : (v : List ℕ) (e : Edit) (w : List ℕ) → Chosen v luks1 → OpensAfter1 v e w → OpensMade v e w
-opens_by1 v (Add by_ old new to iterations d) w chosen x = λ n key made opened.
-    x (allowed_for old new.now) n key (makes_by v (Add by_ old new to iterations d) luks1 n chosen made) opened
-opens_by1 v (Change slot old new iterations d) w chosen x = λ n key made opened.
-    x (allowed_for old new.now) n key (makes_by v (Change slot old new iterations d) luks1 n chosen made) opened
+opens_by1 v (Add by_ old new to iterations d) w chosen x = λ n key made given.
+    let o : Opener = opener.Keyslot by_ old in
+    x (allowed_for o new.now) n key (makes_by v (Add by_ old new to iterations d) luks1 n chosen made) (gives_by (allowed_for o new.now) v o key luks1 chosen given)
+opens_by1 v (AddByKey own new to iterations d) w chosen x = λ n key made given.
+    let o : Opener = opener.Key own in
+    x (allowed_for o new.now) n key (makes_by v (AddByKey own new to iterations d) luks1 n chosen made) (gives_by (allowed_for o new.now) v o key luks1 chosen given)
+opens_by1 v (Change slot old new iterations d) w chosen x = λ n key made given.
+    let o : Opener = opener.Keyslot slot old in
+    x (allowed_for o new.now) n key (makes_by v (Change slot old new iterations d) luks1 n chosen made) (gives_by (allowed_for o new.now) v o key luks1 chosen given)
 opens_by1 v (Remove slot by_ passphrase) w chosen x = tt
 opens_by1 v Repair w chosen x = tt
 opens_by1 v (Label text) w chosen x = tt
 
 opens_by2 : (v : List ℕ) (e : Edit) (w : List ℕ) (o : ℕ) (copies : Copies) → Chosen v (luks2 o copies) → OpensAfter2 v e w → OpensMade v e w
-opens_by2 v (Add by_ old new to iterations d) w o copies chosen x = λ n key made. x n key (makes_by v (Add by_ old new to iterations d) (luks2 o copies) n chosen made)
-opens_by2 v (Change slot old new iterations d) w o copies chosen x = λ n key made opened.
-    let is : n ≡ slot = makes_by v (Change slot old new iterations d) (luks2 o copies) n chosen made in rw is (x key opened)
+opens_by2 v (Add by_ old new to iterations d) w o copies chosen x = λ n key made given.
+    x n key (makes_by v (Add by_ old new to iterations d) (luks2 o copies) n chosen made)
+    (gives_by (allowed_for (opener.Keyslot by_ old) new.now) v (opener.Keyslot by_ old) key (luks2 o copies) chosen given)
+opens_by2 v (AddByKey own new to iterations d) w o copies chosen x = λ n key made given.
+    x n key (makes_by v (AddByKey own new to iterations d) (luks2 o copies) n chosen made) (gives_by (allowed_for (opener.Key own) new.now) v (opener.Key own) key (luks2 o copies) chosen given)
+opens_by2 v (Change slot old new iterations d) w o copies chosen x = λ n key made given.
+    let is : n ≡ slot = makes_by v (Change slot old new iterations d) (luks2 o copies) n chosen made in
+    rw is (x key (gives_by (allowed_for (opener.Keyslot slot old) new.now) v (opener.Keyslot slot old) key (luks2 o copies) chosen given))
 opens_by2 v (Remove slot by_ passphrase) w o copies chosen x = tt
 opens_by2 v Repair w o copies chosen x = tt
 opens_by2 v (Label text) w o copies chosen x = tt

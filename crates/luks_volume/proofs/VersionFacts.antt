@@ -12,7 +12,7 @@ use Rattle.luks_reading.specs.declared.report.Data.{Data}
 use Rattle.luks_reading.specs.Checked.{First, IsFault}
 use Rattle.luks_reading.specs.Header.{IsChosenCopy, IsReadFaultAs, NeedsMetadata, TakesNoMemory}
 use Rattle.luks_edit.specs.declared.edit.Edit.{Edit}
-use Rattle.luks_edit.specs.declared.edit.Edit.TheVariants.{Add, Change, Remove, Repair, Label}
+use Rattle.luks_edit.specs.declared.edit.Edit.TheVariants.{Add, AddByKey, Change, Remove, Repair, Label}
 use Rattle.luks_edit.specs.declared.edit_fault.EditFault.{EditFault}
 use Rattle.luks_edit.specs.declared.edit_fault.EditFault.TheVariants as fault
 use Rattle.luks_edit.specs.EditFaults.{edit_key}
@@ -61,6 +61,8 @@ first_untold v payload e f first =
 pub tells_slot1 : (v : List ℕ) (e : Edit) (told : Option ℕ) → Chosen v luks1 → Tells1 v e told → TellsSlot v e told
 tells_slot1 v (Add by_ old new to iterations d) (Some n) chosen x = record { choice = luks1; chosen = chosen; makes = x }
 tells_slot1 v (Add by_ old new to iterations d) None chosen x = absurd x
+tells_slot1 v (AddByKey key new to iterations d) (Some n) chosen x = record { choice = luks1; chosen = chosen; makes = x }
+tells_slot1 v (AddByKey key new to iterations d) None chosen x = absurd x
 tells_slot1 v (Change slot old new iterations d) (Some n) chosen x = record { choice = luks1; chosen = chosen; makes = x }
 tells_slot1 v (Change slot old new iterations d) None chosen x = absurd x
 tells_slot1 v (Remove slot by_ passphrase) told chosen x = subst (λ t. TellsSlot v (Remove slot by_ passphrase) t) (sym x) (λ n made. made.makes)
@@ -70,6 +72,8 @@ tells_slot1 v (Label text) told chosen x = absurd x
 pub tells_slot2 : (v : List ℕ) (e : Edit) (told : Option ℕ) (o : ℕ) (copies : Copies) → Chosen v (luks2 o copies) → Tells2 v e told → TellsSlot v e told
 tells_slot2 v (Add by_ old new to iterations d) (Some n) o copies chosen x = record { choice = luks2 o copies; chosen = chosen; makes = x }
 tells_slot2 v (Add by_ old new to iterations d) None o copies chosen x = absurd x
+tells_slot2 v (AddByKey key new to iterations d) (Some n) o copies chosen x = record { choice = luks2 o copies; chosen = chosen; makes = x }
+tells_slot2 v (AddByKey key new to iterations d) None o copies chosen x = absurd x
 tells_slot2 v (Change slot old new iterations d) told o copies chosen x =
     subst (λ t. TellsSlot v (Change slot old new iterations d) t) (sym x) (record { choice = luks2 o copies; chosen = chosen; makes = refl })
 tells_slot2 v (Remove slot by_ passphrase) told o copies chosen x = subst (λ t. TellsSlot v (Remove slot by_ passphrase) t) (sym x) (λ n made. made.makes)

@@ -1,37 +1,49 @@
 -- What an edit brings about in a well formed volume of either version, beside what it keeps: the
 -- keyslot that it made opens, the area that a keyslot lost is zeros; and what a failing device call
 -- spares of it.
-use Rattle.std.specs.Prelude.{◌≡◌, ◌⊎◌, ℕ, List, replicate, IfSome, OnOk}
+use Rattle.std.specs.Prelude.{◌≡◌, ◌⊎◌, ℕ, List, replicate, Some, IfSome, OnOk}
 use Rattle.luks_area.specs.declared.area.Area.{Area}
 use Rattle.luks_area.specs.declared.area.AreaName.TheVariants.{Slot}
 use Rattle.luks_area.specs.Ranges.{part, SameBut}
 use Rattle.luks2_header.specs.declared.selection.Copies.{Copies}
 use Rattle.luks2_header.specs.Selection.{Choice, luks1, luks2, nothing, Chosen}
+use Rattle.luks_slot.specs.declared.allowed.Allowed.{Allowed}
 use Rattle.luks_reading.specs.declared.report.Data.{Data}
 use Rattle.luks_reading.specs.Answer.{AnswerWithin, opens}
 use Rattle.luks_reading.specs.Checked.{AreaOf}
 use Rattle.luks_edit.specs.declared.edit.Edit.{Edit}
-use Rattle.luks_edit.specs.Secrets.{AnswersTo}
-use Rattle.luks_edit.specs.Asked.{allowed_for, sealed_by}
+use Rattle.luks_edit.specs.declared.edit.Opener.{Opener}
+use Rattle.luks_edit.specs.Asked.{allowed_for, opener_at, sealed_by}
 use Rattle.luks_edit.specs.declared.edit_fault.EditFault.{EditFault}
 use Rattle.luks_edit.specs.Kept.{Keeps}
 use Rattle.luks_edit.specs.Ran.{IsCompleted, IsFailure, Reply}
 use Rattle.luks_reading.specs.Checked.{WellFormed}
-use Rattle.luks1_edits.specs.Edited.{NamedKeyslots1}
+use Rattle.luks1_edits.specs.Edited.{Gives1, NamedKeyslots1}
 use Rattle.luks1_edits.specs.Kept.{KeepsOthers}
 use Rattle.luks1_edits.specs.Leftovers.{OpensEither1}
 use Rattle.luks1_edits.specs.Places.{IsOfKeyslots}
-use Rattle.luks2_edit_laws.specs.Edited.{NamedKeyslots2}
+use Rattle.luks2_edit_laws.specs.Edited.{Gives2, NamedKeyslots2}
 use Rattle.luks2_edit_laws.specs.Leftovers.{CountsAsAfter, CountsAsBefore, IsNotStray, OpensEither2}
 use Rattle.luks2_edit_laws.specs.Places.{IsTouchedIn, Loses}
 use Rattle.luks_volume.specs.Edits.{IsEditFault, Makes, NamedSlots, Replies}
 
+-- the opener gives the key of the volume, where so much is allowed, by what counts of it
+abbrev pub GivesAs : Allowed → List ℕ → Opener → List ℕ → Choice → Type 0
+GivesAs allowed v o key luks1 = Gives1 allowed v o (Some key)
+GivesAs allowed v o key (luks2 place copies) = Gives2 allowed v o key
+GivesAs allowed v o key nothing = ⊥
+
+pub record Gives (allowed : Allowed) (v : List ℕ) (o : Opener) (key : List ℕ) : Type 0 where
+  pub choice : Choice
+  pub chosen : Chosen v choice
+  pub gives : GivesAs allowed v o key choice
+
 -- the keyslot that the edit of `v` made, or sealed again, opens in `w` by the new passphrase to the
--- key that the secret gave, where as much is allowed
+-- key that the opener gave, a keyslot by its secret or the volume key itself, where as much is allowed
 abbrev pub OpensMade : List ℕ → Edit → List ℕ → Type 0
 OpensMade v e w = IfSome (sealed_by e) (λ s. (n : ℕ) (key : List ℕ) → Makes v e n
-    → AnswersTo s.opener.secret.kind (allowed_for s.opener.secret s.passphrase.now) v s.opener.slot s.opener.secret.bytes.now (opens key)
-    → AnswerWithin (allowed_for s.opener.secret s.passphrase.now) w n s.passphrase.now (opens key))
+    → Gives (allowed_for (opener_at s.place) s.passphrase.now) v (opener_at s.place) key
+    → AnswerWithin (allowed_for (opener_at s.place) s.passphrase.now) w n s.passphrase.now (opens key))
 
 -- the area that a keyslot of `v` lost by the edit is zeros in `w`
 pub record WipesLost (v : List ℕ) (payload : Data) (e : Edit) (w : List ℕ) : Type 0 where

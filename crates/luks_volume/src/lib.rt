@@ -32,6 +32,7 @@ pub use luks_edit::RunFault;
 pub use luks_edit::Secret;
 pub use luks_edit::SecretKind;
 pub use luks_edit::Step;
+pub use luks_edit::VolumeKey;
 pub use luks_formatting::FORMAT1_RANDOM;
 pub use luks_formatting::FORMAT2_RANDOM;
 pub use luks_formatting::Format;

@@ -14,7 +14,7 @@ use std::alloc::Global;
 
 /// How many random bytes `apply` takes for the edit, or the first of the faults that are seen
 /// without opening a keyslot: `NotAccepted`, `Requirements`, `NoSuchSlot`, `SameSlot`, `SlotTaken`
-/// and `NoFreeSlot`.
+/// and `NoFreeSlot`; before these last two of `AddByKey` to LUKS2 `KeyLength`, `WrongKey` and `Slot`.
 ///
 /// `payload` says where the payload lies. `Device` comes exactly where a device call failed. Memory
 /// is taken for the metadata of LUKS2 alone.

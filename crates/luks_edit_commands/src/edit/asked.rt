@@ -8,7 +8,7 @@ ghost use Rattle.luks_edit_commands.specs.Editing.{IsAsked, kind_of};
 use luks_commands::chosen_of;
 use luks_commands::open::allowed_of;
 use luks_request::{AskedKdf, EditRequest, OpenerFile};
-use luks_volume::{Edit, Secret, SecretKind};
+use luks_volume::{Edit, Secret, SecretKind, VolumeKey};
 
 /// The edit, with the bytes of its passphrases, or of the key and the new passphrase, in the place of their
 /// files.
@@ -33,6 +33,23 @@ pub(super) fn edit_of<'a>(request: &EditRequest<'a>, old: &'a [u8], new: &'a [u8
             iterations,
             kdf,
         ),
+        EditRequest::AddByKey {
+            memory,
+            older,
+            to,
+            iterations,
+            kdf,
+            ..
+        } => Edit::AddByKey {
+            key: VolumeKey {
+                bytes: old,
+                allowed: allowed_of(memory, older),
+            },
+            new,
+            to,
+            iterations,
+            derivation: chosen_of(kdf),
+        },
         EditRequest::Change {
             slot,
             opener,

@@ -62,7 +62,11 @@ fn note_luks1<E: Write>(edit: &Edit<'_>, err: &mut E) -> io::Result<()>
             err,
             "luks: LUKS1 has one copy of its header: there is nothing to repair"
         ),
-        Edit::Add { .. } | Edit::Change { .. } | Edit::Remove { .. } | Edit::Label { .. } => Ok(()),
+        Edit::Add { .. }
+        | Edit::AddByKey { .. }
+        | Edit::Change { .. }
+        | Edit::Remove { .. }
+        | Edit::Label { .. } => Ok(()),
     }
 }
 
@@ -73,7 +77,7 @@ fn note_luks2<E: Write>(meta: &Meta, edit: &Edit<'_>, err: &mut E) -> io::Result
     match *edit {
         Edit::Change { slot, .. } => note_tokens(meta, slot, Fate::Changed, err),
         Edit::Remove { slot, .. } => note_tokens(meta, slot, Fate::Removed, err),
-        Edit::Add { .. } | Edit::Repair | Edit::Label { .. } => Ok(()),
+        Edit::Add { .. } | Edit::AddByKey { .. } | Edit::Repair | Edit::Label { .. } => Ok(()),
     }
 }
 

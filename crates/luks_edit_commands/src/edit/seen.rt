@@ -1,17 +1,20 @@
 //! What is seen of an edit before it is applied.
-ghost use Rattle.std.specs.Prelude.{◌≡◌, ◌+◌, ◌<◌, ◌^◌, IfOk, IfErr};
+ghost use Rattle.std.specs.Prelude.{◌≡◌, ◌+◌, ◌<◌, ◌^◌, ℕ, List, false, length, IfOk, IfErr};
 ghost use Rattle.luks_area.specs.Device.{CountsFailure, IsUnchanged};
+ghost use Rattle.luks_edit.specs.EditFaults.{is_edit_failure};
 ghost use Rattle.luks_reading.specs.Header.{IsAcceptedHeader, IsHeader};
-ghost use Rattle.luks_volume.specs.Needed.{NeedsRandom};
+ghost use Rattle.luks_volume.specs.Needed.{NeedsRandom, TellsNeed};
 ghost use Rattle.luks_edit_commands.specs.OtherUses.{is_unseen_failure, IsUnseen, SeesBarred};
 
+use super::older_digest::{is_older_digest, note_older_digest};
 use crate::other_use::barring_use;
-use luks_edit::NewDerivation;
+use luks_edit::{NewDerivation, Opener};
 use luks_notes::{MemoryNote, OlderNote, memory_note, older_note};
 use luks_request::Editing;
 use luks_signatures::OtherUse;
 use luks_volume::{
-    Cost, Device, DeviceFault, Edit, EditFault, Header, Luks1, edited_header, needed_of_header,
+    Cost, Data, Device, DeviceFault, Edit, EditFault, Header, Luks1, edited_header,
+    needed_of_header,
 };
 use std::alloc::Global;
 use std::io::Write;
@@ -25,12 +28,22 @@ pub(super) struct Seen {
     pub(super) needed: u64,
     /// The keyslot that it makes, where that has fewer iterations than the one that it opens.
     pub(super) weaker: Option<Weaker>,
-    /// The keyslot that it opens, where that derives by Argon2.
-    pub(super) argon2: Option<MemoryNote>,
-    /// The keyslot that it opens, where ciphers and hashes of older disks would have to be accepted.
-    pub(super) older: Option<OlderNote>,
-    /// Whether it takes away the last keyslot by PBKDF2, by the passphrase of one by Argon2.
+    /// What would have to be allowed for what opens.
+    pub(super) opener: OpenerNotes,
+    /// Whether it takes away the last keyslot by PBKDF2, and leaves others, by none of its own.
     pub(super) leaves_argon2: bool,
+}
+
+/// What would have to be allowed for what an edit opens, or for the volume key.
+#[derive(Clone, Copy)]
+pub(super) struct OpenerNotes {
+    /// The keyslot, where that derives by Argon2.
+    argon2: Option<MemoryNote>,
+    /// The keyslot, where ciphers and hashes of older disks would have to be accepted.
+    older: Option<OlderNote>,
+    /// Whether it is by the volume key, and a digest that this may meet has a hash of older disks, which
+    /// would have to be accepted.
+    older_digest: bool,
 }
 
 /// A keyslot that is made with fewer iterations than the one that opens has.
@@ -76,11 +89,12 @@ impl From<DeviceFault> for Unseen {
 
 /// What is seen of the edit by the header, or why nothing is: another use of the disk is asked for
 /// before what the edit names. The header is read once.
-pub(super) fn look_at_volume<D: Device>(
+pub(super) fn look_at_volume<D: Device, E: Write>(
     alloc: Global,
     device: &mut D,
     editing: &Editing<'_>,
     edit: &Edit<'_>,
+    err: &mut E,
 ) -> Result<Seen, Unseen>
     requires { D.failed device.old + 1 < 2 ^ 64 }
     ensures unchanged { IsUnchanged D.tells D.size D.bytes D.unsettled device.old device.new }
@@ -98,19 +112,40 @@ pub(super) fn look_at_volume<D: Device>(
     if let Some(found) = barring_use(device, &header, editing.over)? {
         return Err(Unseen::Used(found));
     }
-    let needed = needed_of_header(&header, editing.payload, device.len(), edit)?;
+    let needed = needed_told(&header, editing.payload, device.len(), edit, err)?;
     let weaker = weaker_keyslot(&header, edit);
-    let argon2 = argon2_keyslot(&header, device.len(), edit);
-    let older = older_keyslot(&header, device.len(), edit);
+    let opener = opener_notes(&header, device.len(), edit);
     let leaves_argon2 = leaves_argon2(&header, edit);
     Ok(Seen {
         header,
         needed,
         weaker,
-        argon2,
-        older,
+        opener,
         leaves_argon2,
     })
+}
+
+/// How many random bytes the edit takes of a volume of `total` bytes with this header. Where that is refused,
+/// and by the volume key, it says whether a hash of older disks would have to be accepted.
+fn needed_told<E: Write>(
+    header: &Header,
+    payload: Data,
+    total: u64,
+    edit: &Edit<'_>,
+    err: &mut E,
+) -> Result<u64, EditFault>
+    requires { IsAcceptedHeader header.now }
+    ensures own { IfErr result (λ f. is_edit_failure f ≡ false) }
+    ensures tells { (v : List ℕ) → IsHeader v header.now → length v ≡ total
+        → TellsNeed payload v edit.now result }
+{
+    match needed_of_header(header, payload, total, edit) {
+        Ok(needed) => Ok(needed),
+        Err(fault) => {
+            note_older_digest(&fault, is_older_digest(header, edit), err);
+            Err(fault)
+        }
+    }
 }
 
 /// The keyslot that the edit makes, where that has fewer iterations than the one that it opens in a
@@ -168,13 +203,32 @@ fn iterations_of(header: &Header, n: u8) -> Option<u32> {
     }
 }
 
+/// What would have to be allowed for what the edit opens in a volume of `total` bytes with this header.
+fn opener_notes(header: &Header, total: u64, edit: &Edit<'_>) -> OpenerNotes
+    requires { IsAcceptedHeader header.now }
+{
+    OpenerNotes {
+        argon2: argon2_keyslot(header, total, edit),
+        older: older_keyslot(header, total, edit),
+        older_digest: is_older_digest(header, edit),
+    }
+}
+
+/// The number of the keyslot that the edit opens; none by the volume key.
+fn opened_keyslot(edit: &Edit<'_>) -> Option<u8> {
+    match edit.opener()? {
+        Opener::Keyslot { slot, secret: _ } => Some(slot),
+        Opener::Key(_) => None,
+    }
+}
+
 /// The keyslot that the edit opens in a volume of `total` bytes with this header, where it derives by
 /// Argon2.
 fn argon2_keyslot(header: &Header, total: u64, edit: &Edit<'_>) -> Option<MemoryNote>
     requires { IsAcceptedHeader header.now }
 {
-    let opener = edit.opener()?;
-    memory_note(header, opener.slot, total, edit.allowed())
+    let slot = opened_keyslot(edit)?;
+    memory_note(header, slot, total, edit.allowed())
 }
 
 /// The keyslot that the edit opens in a volume of `total` bytes with this header, where ciphers and hashes of
@@ -182,23 +236,32 @@ fn argon2_keyslot(header: &Header, total: u64, edit: &Edit<'_>) -> Option<Memory
 fn older_keyslot(header: &Header, total: u64, edit: &Edit<'_>) -> Option<OlderNote>
     requires { IsAcceptedHeader header.now }
 {
-    let opener = edit.opener()?;
-    older_note(header, opener.slot, total, edit.allowed())
+    let slot = opened_keyslot(edit)?;
+    older_note(header, slot, total, edit.allowed())
 }
 
-/// Whether the edit removes, by the passphrase of another keyslot, the last one by PBKDF2 of a volume with
-/// this header.
+/// Whether the edit removes the last keyslot by PBKDF2 of a volume with this header, and leaves others: by the
+/// secret of another keyslot, or by the volume key.
 fn leaves_argon2(header: &Header, edit: &Edit<'_>) -> bool {
     match *edit {
-        Edit::Remove {
-            slot,
-            by_: Some(_),
-            ..
-        } => {
-            iterations_of(header, slot).is_some()
+        Edit::Remove { slot, .. } => {
+            opened_keyslot(edit) != Some(slot)
+                && iterations_of(header, slot).is_some()
                 && (0..32).all(|n| n == slot || iterations_of(header, n).is_none())
+                && (0..32).any(|n| is_by_argon2(header, n))
         }
         _ => false,
+    }
+}
+
+/// Whether the keyslot `n` is there and derives by Argon2.
+fn is_by_argon2(header: &Header, n: u8) -> bool {
+    let Header::Luks2(copy) = header else {
+        return false;
+    };
+    match copy.meta.keyslot(n) {
+        Some(keyslot) => matches!(keyslot.kdf.cost, Cost::Argon2i(_) | Cost::Argon2id(_)),
+        None => false,
     }
 }
 
@@ -212,24 +275,21 @@ pub(super) fn note_leaving_argon2<E: Write>(leaves_argon2: bool, err: &mut E) {
     }
 }
 
-/// Says of the keyslot that was refused what would have to be allowed, where that helps: so much memory,
-/// ciphers and hashes of older disks, or both.
-pub(super) fn note_refused<E: Write>(
-    argon2: Option<MemoryNote>,
-    older: Option<OlderNote>,
-    err: &mut E,
-) {
-    if let Some(note) = argon2 {
+/// Says of the keyslot, or the digest, that was refused by this fault what would have to be allowed, where that
+/// helps: so much memory, ciphers and hashes of older disks, or both.
+pub(super) fn note_refused<E: Write>(fault: &EditFault, notes: OpenerNotes, err: &mut E) {
+    if let Some(note) = notes.argon2 {
         let _ = note.say_refused(err);
     }
-    if let Some(note) = older {
+    if let Some(note) = notes.older {
         let _ = note.say(err);
     }
+    note_older_digest(fault, notes.older_digest, err);
 }
 
 /// Says of the keyslot how much memory it asked for, where memory was refused.
-pub(super) fn note_wanting<E: Write>(argon2: Option<MemoryNote>, err: &mut E) {
-    if let Some(note) = argon2 {
+pub(super) fn note_wanting<E: Write>(notes: OpenerNotes, err: &mut E) {
+    if let Some(note) = notes.argon2 {
         let _ = note.say_wanting(err);
     }
 }

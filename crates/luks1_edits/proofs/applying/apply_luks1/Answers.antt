@@ -2,7 +2,7 @@ use Rattle.std.proofs.Common.{[], subst, sym, ◌∙◌}
 use Rattle.luks1_edits.specs.Accepted.{IsHeaderOf}
 use Rattle.luks1_edits.specs.Replies.{Replies1}
 use Rattle.luks1_edits.proofs.AcceptedFacts.{early_ends, rewrite_replies}
-use Rattle.luks1_edits.proofs.NewKeyslotFacts.{making}
+use Rattle.luks1_edits.proofs.NewKeyslotFacts.{making, making_usable}
 use Rattle.luks1_edits.proofs.RemovalFacts.{removable_of, removal}
 use Rattle.luks1_edits.proofs.applying.apply_luks1.Goals as goal
 
@@ -34,9 +34,9 @@ returns-in-Rewrite-clause-replies g c = λ tells is.
     let header = c.in-Ok.ensures.header v is (g.met.D.Device.sized c.args.device.now tells ∙ sym c.len.ensures) in
     rewrite_replies v c.args.payload c.args.random.now header.faultless c.args.edit.now c.in-Rewrite.label (sym c.in-Rewrite.ensures) c.repair.result c.repair.ensures
 
-pub seal-requires-clause-used : goal.seal-requires-clause-used
-seal-requires-clause-used g c = λ v holds.
-    (c.in-Ok.ensures.there v holds).there c.in-Seal.sealed.opener.slot (making v c.args.edit.now c.in-Seal.sealed (sym c.in-Seal.ensures)).opening.wanted
+pub seal-requires-clause-usable : goal.seal-requires-clause-usable
+seal-requires-clause-usable g c = λ v holds.
+    making_usable _ (making v c.args.edit.now c.in-Seal.sealed (sym c.in-Seal.ensures)) (c.in-Ok.ensures.there v holds)
 
 pub remove-requires-clause-removable : goal.remove-requires-clause-removable
 remove-requires-clause-removable g c = λ v holds. removable_of (removal v c.args.edit.now c.in-Remove.removed [] (sym c.in-Remove.ensures)) (c.in-Ok.ensures.there v holds)

@@ -1,19 +1,15 @@
-use Rattle.std.proofs.Common.{[], refl, sym}
-use Rattle.luks1_edits.proofs.NewKeyslotFacts.{making}
+use Rattle.std.proofs.Common.{[], subst, sym}
+use Rattle.std.proofs.Common.{MatchResult}
+use Rattle.luks1_edits.specs.Accepted.{IsUnusable, IsUsable}
+use Rattle.luks1_edits.proofs.NewKeyslotFacts.{making, making_judged}
 use Rattle.luks1_edits.proofs.RemovalFacts.{removal, removal_judged}
 use Rattle.luks1_edits.proofs.RowFacts.{none_wanted, opens_none}
 use Rattle.luks1_edits.proofs.keyslots.judge_named.Goals as goal
 
-pub returns-then-is_there-clause-judged : goal.returns-then-is_there-clause-judged
-returns-then-is_there-clause-judged c = λ v holds.
-    (making v c.args.edit.now c.in-Seal.sealed (sym c.in-Seal.ensures)).opening.all (c.if-is_there.ensures.used refl v holds)
-
-pub returns-else-is_there-clause-judged : goal.returns-else-is_there-clause-judged
-returns-else-is_there-clause-judged c = λ v holds. record {
-  slot = c.in-Seal.sealed.opener.slot;
-  wanted = (making v c.args.edit.now c.in-Seal.sealed (sym c.in-Seal.ensures)).opening.wanted;
-  unused = c.if-is_there.ensures.absent refl v holds;
-}
+pub returns-in-Seal-clause-judged : goal.returns-in-Seal-clause-judged
+returns-in-Seal-clause-judged c = λ v holds.
+    making_judged _ (making v c.args.edit.now c.in-Seal.sealed (sym c.in-Seal.ensures)) c.judge_opener.result
+    (subst (λ o. MatchResult c.judge_opener.result (λ _. IsUsable v o) (IsUnusable v o)) c.opener.ensures (c.judge_opener.ensures.judged v holds))
 
 pub returns-in-Rewrite-clause-judged : goal.returns-in-Rewrite-clause-judged
 returns-in-Rewrite-clause-judged c = λ v holds. none_wanted v c.args.edit.now (opens_none c.args.edit.now c.in-Rewrite.label (sym c.in-Rewrite.ensures))

@@ -1,6 +1,10 @@
-use Rattle.std.proofs.Common.{◌≤◌, length, sym, take, refl, ap, subst, ◌∙◌, arith, inl, inr}
+use Rattle.std.proofs.Common.{◌≡◌, ◌≤◌, length, sym, take, refl, ap, subst, ◌∙◌, arith, inl, inr}
+use Rattle.luks_edit.specs.Asked.{allowed_of, opener_at}
 use Rattle.luks1_edits.proofs.KeptFacts.{header_inside}
 use Rattle.luks1_edits.proofs.MakingFacts.{area_torn, entry_torn, IsNewPlan, keyslot_made, new_plan, plan_inside, plan_key_length, plan_random_length, sealed_rest, unsealed_unmade}
+use Rattle.luks_slot.specs.declared.allowed.Allowed.{Allowed}
+use Rattle.luks_slot.specs.Allowance.{without_memory}
+use Rattle.luks_slot.specs.Fault.{IsAnsweredWithin}
 use Rattle.luks_slot.specs.Opening.{area_bytes}
 use Rattle.luks_slot.specs.Sealing.{IsSealed}
 use Rattle.luks1_edits.specs.Leftovers.{IsMadeButEntry}
@@ -30,7 +34,9 @@ returns-in-Err-clause-fault g c =
     let p : IsNewPlan h c.args.n c.entry_bytes-entry.result c.iterations_of.result (take 32 c.args.random.now) c.luks1_plan-plan.result =
     new_plan h c.args.header.now.fields c.args.n c.entry_bytes-entry.result c.new_slot-slot.result c.iterations_of.result (take 32 c.args.random.now) c.luks1_plan-plan.result
     c.requires.accepted.fields c.requires.numbered (subst (λ k. 1 ≤ k) (sym c.iterations_of.ensures) c.requires.iterated) c.new_slot-slot.ensures c.entry_bytes-entry.ensures c.luks1_plan-plan.ensures.is c.luks1_plan-plan.ensures.judged in
-    rw c.keyslot_fault.ensures (unsealed_unmade c.args.sealed.now.opener.secret.allowed.older h c.entry_bytes-entry.result c.luks1_plan-plan.result c.in-Err.fault p.is c.in-Err.ensures.fault)
+    let older : c.allowed.result.older ≡ (allowed_of (opener_at c.args.sealed.now.place)).older = ap (λ (a : Allowed). a.older) (c.allowed.ensures ∙ ap allowed_of c.opener.ensures) in
+    rw c.keyslot_fault.ensures (unsealed_unmade (allowed_of (opener_at c.args.sealed.now.place)).older h c.entry_bytes-entry.result c.luks1_plan-plan.result c.in-Err.fault p.is
+    (subst (λ b. IsAnsweredWithin (without_memory b) c.luks1_plan-plan.result c.in-Err.fault) older c.in-Err.ensures.fault))
 
 pub returns-in-Err-clause-torn : goal.returns-in-Err-clause-torn
 returns-in-Err-clause-torn g c = λ tells x.

@@ -1,5 +1,5 @@
 use Rattle.std.proofs.Common.{[], ap, subst, sym, MatchResult}
-use Rattle.luks_edit.specs.Asked.{sealed_in}
+use Rattle.luks_edit.specs.Asked.{opener_at, sealed_in}
 use Rattle.luks1_edits.specs.Accepted.{IsNewFault, IsNewFree}
 use Rattle.luks1_edits.specs.Edited.{number_asked}
 use Rattle.luks1_edits.specs.Refused.{NeedsFor}
@@ -19,7 +19,7 @@ returns-in-Seal-clause-tells c = λ v is size.
     let fields = c.in-Ok.ensures.accepted.fields in
     let slots = slots_in a.bytes.now c.args.payload v a.fields.slots header fields.slots in
     let s = c.in-Seal.sealed in
-    new_need_tells v c.args.payload c.args.edit.now header.faultless (c.in-Ok.ensures.there v slots) s.opener.slot s.opener.secret.bytes.now (number_asked s.place) s.derivation (making v c.args.edit.now s (sym c.in-Seal.ensures)) c.new_need.result
+    new_need_tells v c.args.payload c.args.edit.now header.faultless (c.in-Ok.ensures.there v slots) (opener_at s.place) (number_asked s.place) s.derivation (making v c.args.edit.now s (sym c.in-Seal.ensures)) c.new_need.result
     (subst (λ t. MatchResult c.new_need.result (NeedsFor v (IsNewFree v t)) (IsNewFault v t)) c.number_asked.ensures
     (c.new_need.ensures.need v slots (key_bytes_in a.bytes.now a.fields c.args.payload v header fields)))
 

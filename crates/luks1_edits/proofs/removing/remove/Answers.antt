@@ -1,11 +1,12 @@
-use Rattle.std.proofs.Common.{refl, subst, sym, arith}
+use Rattle.std.proofs.Common.{refl, arith}
 use Rattle.std.proofs.lemmas.Result.{err_from_is_err_and}
 use Rattle.luks_area.proofs.DeviceFacts.{settled_unchanged}
-use Rattle.luks1_edits.specs.Edited.{IsInUse}
+use Rattle.luks_edit.specs.Asked.{remover_of}
+use Rattle.luks1_edits.proofs.NewKeyslotFacts.{own_opened, own_unopened, own_usable}
 use Rattle.luks1_edits.proofs.KeyslotPlaces.{half_removed_same, keyslot_at, keyslot_at_same, keyslot_inside, removed_same}
 use Rattle.luks1_edits.proofs.KeptFacts.{header_inside}
 use Rattle.luks1_edits.proofs.OpenerFacts.{slots_in}
-use Rattle.luks1_edits.proofs.RemovalFacts.{last_refused, random_refused, removal, removal_done, removal_opener, removal_torn}
+use Rattle.luks1_edits.proofs.RemovalFacts.{last_refused, random_refused, removable_usable, removal, removal_done, removal_opener, removal_torn}
 use Rattle.luks1_edits.proofs.RowFacts.{unopened_ends}
 use Rattle.luks1_edits.proofs.removing.remove.Goals as goal
 
@@ -13,23 +14,27 @@ pub returns-in_err-unlock-clause-replies : goal.returns-in_err-unlock-clause-rep
 returns-in_err-unlock-clause-replies g c = λ tells e is x.
     let v = g.D.Device.bytes c.args.device.now in
     let a = c.args.header.now in
+    let d = c.args.removed.now in
     let p = err_from_is_err_and c.from_residual.result c.from_residual.ensures.1 in
     rw (p.1, p.2)
-    (unopened_ends v a.payload e c.args.random.now x.faultless x.chosen c.opener_of.result c.args.removed.now.secret.bytes.now
-    (removal_opener v a.payload e c.args.random.now c.args.removed.now.slot c.args.removed.now.by_ c.args.removed.now.secret.bytes.now (removal v e c.args.removed.now c.args.random.now is) (c.requires.removable v (slots_in a.bytes.now a.payload v a.fields.slots x c.requires.accepted.fields.slots)) c.opener_of.result c.opener_of.ensures)
-    (g.D.Device.bytes c.unlock.new.device) c.in_err-unlock.field-0.0 (c.unlock.ensures.unchanged.same tells) (c.in_err-unlock.ensures.refused tells x))
+    (unopened_ends v a.payload e c.args.random.now x.faultless x.chosen (remover_of d.slot d.by_ d.secret)
+    (removal_opener v a.payload e c.args.random.now (remover_of d.slot d.by_ d.secret) d.slot d.by_ (removal v e d c.args.random.now is) (c.requires.removable v (slots_in a.bytes.now a.payload v a.fields.slots x c.requires.accepted.fields.slots)))
+    (removable_usable v d.slot d.by_ d.secret (c.requires.removable v (slots_in a.bytes.now a.payload v a.fields.slots x c.requires.accepted.fields.slots)))
+    (g.D.Device.bytes c.unlock.new.device) c.in_err-unlock.field-0.0 (c.unlock.ensures.unchanged.same tells) (own_unopened (g.D.Device.bytes c.args.device.now) c.in_err-unlock.field-0.0 c.opener.ensures (c.in_err-unlock.ensures.refused tells x)))
 
 pub returns-then-is_last-clause-replies : goal.returns-then-is_last-clause-replies
 returns-then-is_last-clause-replies g c = λ tells e is x.
     let v = g.D.Device.bytes c.args.device.now in
     let a = c.args.header.now in
-    (last_refused v a.payload e c.args.random.now c.args.removed.now.slot c.args.removed.now.by_ c.args.removed.now.secret.bytes.now c.in_ok-unlock.field-0 (removal v e c.args.removed.now c.args.random.now is) a.bytes.now x (c.requires.removable v (slots_in a.bytes.now a.payload v a.fields.slots x c.requires.accepted.fields.slots)) c.opener_of.result c.opener_of.ensures (c.in_ok-unlock.ensures.opened tells x) (c.if-is_last.ensures.last refl v (slots_in a.bytes.now a.payload v a.fields.slots x c.requires.accepted.fields.slots)), c.unlock.ensures.unchanged.same tells)
+    let d = c.args.removed.now in
+    (last_refused v a.payload e c.args.random.now (remover_of d.slot d.by_ d.secret) d.slot d.by_ c.in_ok-unlock.field-0 (removal v e d c.args.random.now is) a.bytes.now x (c.requires.removable v (slots_in a.bytes.now a.payload v a.fields.slots x c.requires.accepted.fields.slots)) (removable_usable v d.slot d.by_ d.secret (c.requires.removable v (slots_in a.bytes.now a.payload v a.fields.slots x c.requires.accepted.fields.slots))) (own_opened c.opener.ensures (c.in_ok-unlock.ensures.opened tells x)) (c.if-is_last.ensures.last refl v (slots_in a.bytes.now a.payload v a.fields.slots x c.requires.accepted.fields.slots)), c.unlock.ensures.unchanged.same tells)
 
 pub returns-then-random-ne0-clause-replies : goal.returns-then-random-ne0-clause-replies
 returns-then-random-ne0-clause-replies g c = λ tells e is x.
     let v = g.D.Device.bytes c.args.device.now in
     let a = c.args.header.now in
-    (random_refused v a.payload e c.args.random.now c.args.removed.now.slot c.args.removed.now.by_ c.args.removed.now.secret.bytes.now c.in_ok-unlock.field-0 (removal v e c.args.removed.now c.args.random.now is) a.bytes.now x (c.requires.removable v (slots_in a.bytes.now a.payload v a.fields.slots x c.requires.accepted.fields.slots)) c.opener_of.result c.opener_of.ensures (c.in_ok-unlock.ensures.opened tells x) (c.if-is_last.ensures.other refl v (slots_in a.bytes.now a.payload v a.fields.slots x c.requires.accepted.fields.slots)) c.if-random-ne0.true, c.unlock.ensures.unchanged.same tells)
+    let d = c.args.removed.now in
+    (random_refused v a.payload e c.args.random.now (remover_of d.slot d.by_ d.secret) d.slot d.by_ c.in_ok-unlock.field-0 (removal v e d c.args.random.now is) a.bytes.now x (c.requires.removable v (slots_in a.bytes.now a.payload v a.fields.slots x c.requires.accepted.fields.slots)) (removable_usable v d.slot d.by_ d.secret (c.requires.removable v (slots_in a.bytes.now a.payload v a.fields.slots x c.requires.accepted.fields.slots))) (own_opened c.opener.ensures (c.in_ok-unlock.ensures.opened tells x)) (c.if-is_last.ensures.other refl v (slots_in a.bytes.now a.payload v a.fields.slots x c.requires.accepted.fields.slots)) c.if-random-ne0.true, c.unlock.ensures.unchanged.same tells)
 
 pub free_keyslot-requires-clause-within : goal.free_keyslot-requires-clause-within
 free_keyslot-requires-clause-within g c =
@@ -48,22 +53,24 @@ pub returns-in-Ok-clause-replies : goal.returns-in-Ok-clause-replies
 returns-in-Ok-clause-replies g c = λ tells e is x.
     let v = g.D.Device.bytes c.args.device.now in
     let a = c.args.header.now in
+    let d = c.args.removed.now in
     let at = keyslot_at a.bytes.now a.fields a.payload v c.args.removed.now.slot _ c.luks1_area-area.result x c.requires.accepted.fields
     (c.requires.removable c.args.header.now.bytes.now c.requires.accepted.fields.slots).removed.0 c.luks1_area-area.ensures.start c.luks1_area-area.ensures.len in
     let same = c.unlock.ensures.unchanged.same tells in
     let w = g.D.Device.bytes c.free_keyslot.new.device in
-    removal_done v a.payload e c.args.random.now c.args.removed.now.slot c.args.removed.now.by_ c.args.removed.now.secret.bytes.now c.in_ok-unlock.field-0 (removal v e c.args.removed.now c.args.random.now is) a.bytes.now x (c.requires.removable v (slots_in a.bytes.now a.payload v a.fields.slots x c.requires.accepted.fields.slots)) c.opener_of.result c.opener_of.ensures (c.in_ok-unlock.ensures.opened tells x)
+    removal_done v a.payload e c.args.random.now (remover_of d.slot d.by_ d.secret) d.slot d.by_ c.in_ok-unlock.field-0 (removal v e d c.args.random.now is) a.bytes.now x (c.requires.removable v (slots_in a.bytes.now a.payload v a.fields.slots x c.requires.accepted.fields.slots)) (removable_usable v d.slot d.by_ d.secret (c.requires.removable v (slots_in a.bytes.now a.payload v a.fields.slots x c.requires.accepted.fields.slots))) (own_opened c.opener.ensures (c.in_ok-unlock.ensures.opened tells x))
     (c.if-is_last.ensures.other refl v (slots_in a.bytes.now a.payload v a.fields.slots x c.requires.accepted.fields.slots)) c.if-random-ne0.false w (removed_same same (c.in-Ok.ensures.removed tells (keyslot_at_same same at)))
 
 pub returns-in-Err-clause-replies : goal.returns-in-Err-clause-replies
 returns-in-Err-clause-replies g c = λ tells e is x.
     let v = g.D.Device.bytes c.args.device.now in
     let a = c.args.header.now in
+    let d = c.args.removed.now in
     let at = keyslot_at a.bytes.now a.fields a.payload v c.args.removed.now.slot _ c.luks1_area-area.result x c.requires.accepted.fields
     (c.requires.removable c.args.header.now.bytes.now c.requires.accepted.fields.slots).removed.0 c.luks1_area-area.ensures.start c.luks1_area-area.ensures.len in
     let same = c.unlock.ensures.unchanged.same tells in
     let w = g.D.Device.bytes c.free_keyslot.new.device in
-    removal_torn v a.payload e c.args.random.now c.args.removed.now.slot c.args.removed.now.by_ c.args.removed.now.secret.bytes.now c.in_ok-unlock.field-0 (removal v e c.args.removed.now c.args.random.now is) a.bytes.now x (c.requires.removable v (slots_in a.bytes.now a.payload v a.fields.slots x c.requires.accepted.fields.slots)) c.opener_of.result c.opener_of.ensures (c.in_ok-unlock.ensures.opened tells x)
+    removal_torn v a.payload e c.args.random.now (remover_of d.slot d.by_ d.secret) d.slot d.by_ c.in_ok-unlock.field-0 (removal v e d c.args.random.now is) a.bytes.now x (c.requires.removable v (slots_in a.bytes.now a.payload v a.fields.slots x c.requires.accepted.fields.slots)) (removable_usable v d.slot d.by_ d.secret (c.requires.removable v (slots_in a.bytes.now a.payload v a.fields.slots x c.requires.accepted.fields.slots))) (own_opened c.opener.ensures (c.in_ok-unlock.ensures.opened tells x))
     (c.if-is_last.ensures.other refl v (slots_in a.bytes.now a.payload v a.fields.slots x c.requires.accepted.fields.slots)) c.if-random-ne0.false w (half_removed_same same (c.in-Err.ensures.torn tells (keyslot_at_same same at)))
 
 pub returns-in_err-unlock-clause-settled : goal.returns-in_err-unlock-clause-settled
@@ -78,8 +85,8 @@ returns-then-random-ne0-clause-settled g c = λ tells same. settled_unchanged te
 pub free_keyslot-requires-clause-settled : goal.free_keyslot-requires-clause-settled
 free_keyslot-requires-clause-settled g c = λ tells. settled_unchanged tells c.unlock.ensures.unchanged (c.requires.settled tells)
 
-pub unlock-requires-clause-used : goal.unlock-requires-clause-used
-unlock-requires-clause-used g c = λ v holds. subst (λ n. IsInUse v n) (sym c.opener_of.ensures) (c.requires.removable v holds).opener
+pub unlock-requires-clause-usable : goal.unlock-requires-clause-usable
+unlock-requires-clause-usable g c = λ v holds. let d = c.args.removed.now in own_usable v c.opener.ensures (removable_usable v d.slot d.by_ d.secret (c.requires.removable v holds))
 
 pub bounds-header-removed : goal.bounds-header-removed
 bounds-header-removed g c = (c.requires.removable c.args.header.now.bytes.now c.requires.accepted.fields.slots).removed.0

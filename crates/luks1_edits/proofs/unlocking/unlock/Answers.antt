@@ -1,65 +1,11 @@
-use Rattle.std.proofs.Common.{◌≡◌, IfSome, length, subst, ◌∙◌, arith, rules}
-use Rattle.luks_area.specs.declared.area.AreaName.TheVariants.{Slot}
-use Rattle.luks1_edits.proofs.OpenerFacts.{locked_by, never_memory, opened_by, plan_openable, plan_there, slots_in, unopened_by}
+-- By a keyslot it is as that answers, and by the volume key as that does, with no call of the device.
 use Rattle.luks1_edits.proofs.unlocking.unlock.Goals as goal
 
-pub give_within-requires : goal.give_within-requires
-give_within-requires g c =
-    let a = c.args.header.now in
-    let used = c.requires.used in
-    let ready = plan_openable a.bytes.now a.fields c.args.n _ c.luks1_plan-plan.result c.requires.accepted.fields used c.luks1_plan-plan.ensures.judged in
-    let there = plan_there a.bytes.now a.fields c.args.n _ c.luks1_plan-plan.result c.requires.accepted.fields used c.luks1_plan-plan.ensures.is in
-    record {
-      room = search rules;
-      passphrase = λ some. absurd (omega (arith, some));
-      iterations = ready.turns;
-      digest_iterations = ready.digest_turns;
-      digest_length = ready.digest_length;
-      some_bytes = ready.some_bytes;
-      at_most_128 = ready.at_most_128;
-      some_stripes = ready.some_stripes;
-      sectors = ready.sectors;
-      within = c.requires.accepted.volume.fit.inside (Slot c.args.n) c.luks1_plan-plan.result.area (there.numbered, there.is.start, there.is.len);
-    }
+pub unlock_keyslot-requires-clause-used : goal.unlock_keyslot-requires-clause-used
+unlock_keyslot-requires-clause-used g c = λ v holds. rw c.in-Keyslot.is at (c.requires.usable v holds)
 
-pub returns-in-Some-clause-length : goal.returns-in-Some-clause-length
-returns-in-Some-clause-length g c =
-    let a = c.args.header.now in
-    let there = plan_there a.bytes.now a.fields c.args.n _ c.luks1_plan-plan.result c.requires.accepted.fields c.requires.used c.luks1_plan-plan.ensures.is in
-    subst (λ o. IfSome o (λ k. length k ≡ c.luks1_plan-plan.result.key_bytes)) c.in-Some.is c.in-Ok.ensures.length ∙ there.is.key_bytes
+pub returns-in-Key-clause-opened : goal.returns-in-Key-clause-opened
+returns-in-Key-clause-opened g c = λ tells x. rw c.in-Key.is (c.own_volume_key.ensures.opened (g.D.Device.bytes c.args.device.now) x)
 
-pub returns-in-Some-clause-opened : goal.returns-in-Some-clause-opened
-returns-in-Some-clause-opened g c = λ tells x.
-    let v = g.D.Device.bytes c.args.device.now in
-    let a = c.args.header.now in
-    let there = plan_there a.bytes.now a.fields c.args.n _ c.luks1_plan-plan.result c.requires.accepted.fields c.requires.used c.luks1_plan-plan.ensures.is in
-    let used = c.requires.used v (slots_in a.bytes.now a.payload v a.fields.slots x c.requires.accepted.fields.slots) in
-    opened_by a.bytes.now a.payload v x c.args.n used c.luks1_plan-plan.result there c.args.secret.now.allowed.older c.args.secret.now.kind c.args.secret.now.bytes.now c.in-Some.key c.in-Ok.found
-    c.in-Ok.ensures.accepted (c.in-Ok.ensures.value tells) c.in-Some.is
-
-pub returns-in-None-clause-refused : goal.returns-in-None-clause-refused
-returns-in-None-clause-refused g c = λ tells x.
-    let v = g.D.Device.bytes c.args.device.now in
-    let a = c.args.header.now in
-    let there = plan_there a.bytes.now a.fields c.args.n _ c.luks1_plan-plan.result c.requires.accepted.fields c.requires.used c.luks1_plan-plan.ensures.is in
-    let used = c.requires.used v (slots_in a.bytes.now a.payload v a.fields.slots x c.requires.accepted.fields.slots) in
-    locked_by a.bytes.now a.payload v x c.args.n used c.luks1_plan-plan.result there c.args.secret.now.allowed.older c.args.secret.now.kind c.args.secret.now.bytes.now c.in-Ok.found
-    c.in-Ok.ensures.accepted (c.in-Ok.ensures.value tells) c.in-None.is
-
-pub returns-in-Err-clause-refused : goal.returns-in-Err-clause-refused
-returns-in-Err-clause-refused g c = λ tells x.
-    let v = g.D.Device.bytes c.args.device.now in
-    let a = c.args.header.now in
-    let there = plan_there a.bytes.now a.fields c.args.n _ c.luks1_plan-plan.result c.requires.accepted.fields c.requires.used c.luks1_plan-plan.ensures.is in
-    let used = c.requires.used v (slots_in a.bytes.now a.payload v a.fields.slots x c.requires.accepted.fields.slots) in
-    rw c.keyslot_fault.ensures
-    (unopened_by a.bytes.now a.payload v x c.args.n used c.luks1_plan-plan.result there c.args.secret.now.allowed.older c.args.secret.now.kind c.args.secret.now.bytes.now c.in-Err.fault c.in-Err.ensures.fault)
-
-pub returns-in-Err-clause-memory : goal.returns-in-Err-clause-memory
-returns-in-Err-clause-memory g c =
-    let a = c.args.header.now in
-    let there = plan_there a.bytes.now a.fields c.args.n _ c.luks1_plan-plan.result c.requires.accepted.fields c.requires.used c.luks1_plan-plan.ensures.is in
-    rw c.keyslot_fault.ensures (never_memory c.args.secret.now.allowed.older a.bytes.now c.args.n c.luks1_plan-plan.result there c.in-Err.fault c.in-Err.ensures.fault)
-
-pub bounds-header-n : goal.bounds-header-n
-bounds-header-n g c = (c.requires.used c.args.header.now.bytes.now c.requires.accepted.fields.slots).0
+pub returns-in-Key-clause-refused : goal.returns-in-Key-clause-refused
+returns-in-Key-clause-refused g c = λ tells x. rw c.in-Key.is (c.own_volume_key.ensures.refused (g.D.Device.bytes c.args.device.now) x)

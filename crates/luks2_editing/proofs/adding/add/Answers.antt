@@ -1,12 +1,10 @@
 use Rattle.std.proofs.Common.{◌≡◌, ℕ, false, length, sym, ◌∙◌, subst}
 use Rattle.std.proofs.lemmas.Result.{err_from_is_err_and}
-use Rattle.luks_edit.specs.declared.edit.Edit.TheVariants.{Add}
 use Rattle.luks_making.specs.Derivations.{asked_beyond}
 use Rattle.luks_making.proofs.KdfFacts.{unrefused_positive}
 use Rattle.luks_meta.specs.Content.{area_len, content}
 use Rattle.luks_slot.specs.declared.allowed.Allowed.{Allowed}
 use Rattle.luks_slot.specs.declared.fault.SlotFault.{SlotFault}
-use Rattle.luks2_judging.proofs.DeedFacts.{edit_is}
 use Rattle.luks2_editing.specs.SealedKeyslot.{HasRefusedKeyslot}
 use Rattle.luks2_editing.proofs.MadeMetadataFacts.{enough_random}
 use Rattle.luks2_editing.specs.Prepared.{AreCopiesWithin}
@@ -17,9 +15,7 @@ use Rattle.luks2_editing.proofs.RenewalFacts.{renewing}
 use Rattle.luks2_editing.proofs.adding.add.Goals as goal
 
 pub returns-in_err-made-clause-replies : goal.returns-in_err-made-clause-replies
-returns-in_err-made-clause-replies g c = λ tells payload e_ old to asked chosen well before_ same opened is_new place.
-    let is = edit_is e_ _ asked in
-    let before = rw is at before_ in
+returns-in_err-made-clause-replies g c = λ tells payload e o to asked chosen well before same opened is_like is_new place.
     let v = g.D.Device.bytes c.args.device.now in
     let copy = c.args.copy in
     let addition = c.args.addition.now in
@@ -27,10 +23,11 @@ returns-in_err-made-clause-replies g c = λ tells payload e_ old to asked chosen
     let key = c.args.secrets.now.key.now in
     let random = c.args.secrets.now.random.now in
     let total : length v ≡ c.len.result = g.met.D.Device.sized c.args.device.now tells ∙ sym c.len.ensures in
-    let x : IsJudgedAddition v payload copy addition old new to key random = record { chosen = chosen; well = well; before = before; opened = opened; is_new = is_new; place = place } in
+    let x : IsJudgedAddition v payload copy addition e o new to key random =
+    record { chosen = chosen; well = well; asked = asked; before = before; opened = opened; is_like = is_like; is_new = is_new; place = place } in
     let p = err_from_is_err_and c.from_residual.result c.from_residual.ensures.1 in
-    rw (p.1, p.2, is)
-    (c.in_err-made.ensures.refused v payload (Add addition.by_ old new to addition.derivation.iterations addition.derivation.chosen) (addition_seals v payload copy addition old new to key random x) total)
+    rw (p.1, p.2)
+    (c.in_err-made.ensures.refused v payload e (addition_seals v payload copy addition e o new to key random x) total)
 
 pub new_metadata-requires-clause-positive : goal.new_metadata-requires-clause-positive
 new_metadata-requires-clause-positive g c =
@@ -46,13 +43,11 @@ write_keyslot-requires-clause-sealable g c =
     (subst (λ (n : ℕ). AreCopiesWithin copy.header (area_len c.in_ok-made.made.meta) n) c.len.ensures c.in_ok-made.ensures.within) in
     let j = content copy.meta in
     let k = content c.in_ok-made.made.meta in
-    alike_sealable j k addition.by_ addition.made addition.area (made_alike j k addition.made addition.by_ addition.derivation _ addition.area c.in_ok-made.ensures.made c.requires.free.small)
+    alike_sealable j k addition.like addition.made addition.area (made_alike j k addition.made addition.like addition.derivation _ addition.area c.in_ok-made.ensures.made c.requires.free.small)
     (area_len copy.meta) (g.D.Device.size c.args.device.now) copy.header c.args.secrets.now.key.now c.args.secrets.now.random.now c.in_ok-made.ensures.counted c.requires.key_length c.requires.placed within
 
 pub returns-in_err-write_keyslot-clause-replies : goal.returns-in_err-write_keyslot-clause-replies
-returns-in_err-write_keyslot-clause-replies g c = λ tells payload e_ old to asked chosen well before_ same opened is_new place.
-    let is = edit_is e_ _ asked in
-    let before = rw is at before_ in
+returns-in_err-write_keyslot-clause-replies g c = λ tells payload e o to asked chosen well before same opened is_like is_new place.
     let v = g.D.Device.bytes c.args.device.now in
     let copy = c.args.copy in
     let addition = c.args.addition.now in
@@ -60,25 +55,23 @@ returns-in_err-write_keyslot-clause-replies g c = λ tells payload e_ old to ask
     let key = c.args.secrets.now.key.now in
     let random = c.args.secrets.now.random.now in
     let total : length v ≡ c.len.result = g.met.D.Device.sized c.args.device.now tells ∙ sym c.len.ensures in
-    let x : IsJudgedAddition v payload copy addition old new to key random = record { chosen = chosen; well = well; before = before; opened = opened; is_new = is_new; place = place } in
-    let e = Add addition.by_ old new to addition.derivation.iterations addition.derivation.chosen in
-    let seals = addition_seals v payload copy addition old new to key random x in
+    let x : IsJudgedAddition v payload copy addition e o new to key random =
+    record { chosen = chosen; well = well; asked = asked; before = before; opened = opened; is_like = is_like; is_new = is_new; place = place } in
+    let seals = addition_seals v payload copy addition e o new to key random x in
     let k = content c.in_ok-made.made.meta in
-    let renews = subst (λ (n : ℕ). IsRenewing v e copy.header copy.header.label n) (sym c.in_ok-made.ensures.length) (renewing v payload copy chosen well e copy.header.label (sym chosen.header.label)) in
+    let renews = subst (λ (n : ℕ). IsRenewing v e copy.header copy.header.label n) (sym c.in_ok-made.ensures.length) (renewing v payload copy chosen well e copy.header.label (rw asked (sym chosen.header.label))) in
     let p = err_from_is_err_and c.from_residual-in_err-write_keyslot.result c.from_residual-in_err-write_keyslot.ensures.1 in
-    rw (p.1, p.2, is)
+    rw (p.1, p.2)
     (unsealed_ends v payload copy chosen well e random k (c.in_ok-made.ensures.unrefused v payload e seals total) (c.in_ok-made.ensures.edited v payload e seals total)
     (g.D.Device.bytes c.write_keyslot.new.device) c.args.secrets.now.allowed addition.made (subst (λ (m : Allowed). (g : SlotFault) → HasRefusedKeyslot m k addition.made g → ⊥) same
-    (addition_fine v payload copy addition old new to key random x c.requires.free.small k c.in_ok-made.ensures.made
-    (enough_random (content copy.meta) addition.by_ (length random) c.in_ok-made.ensures.counted)
+    (addition_fine v payload copy addition e o new to key random x c.requires.free.small k c.in_ok-made.ensures.made
+    (enough_random (content copy.meta) addition.like (length random) c.in_ok-made.ensures.counted)
     (subst (λ (m : Allowed). asked_beyond m.memory addition.derivation ≡ false) (sym same) c.requires.allowed.within)))
-    (c.write_keyslot.ensures.torn tells payload e (content copy.meta) renews (addition_sealing v payload copy addition old new to key random x c.requires.free.small k c.in_ok-made.ensures.made))
+    (c.write_keyslot.ensures.torn tells payload e (content copy.meta) renews (addition_sealing v payload copy addition e o new to key random x c.requires.free.small k c.in_ok-made.ensures.made))
     c.in_err-write_keyslot.field-0.0 (c.in_err-write_keyslot.ensures.same tells) c.in_err-write_keyslot.ensures.fault)
 
 pub returns-clause-replies : goal.returns-clause-replies
-returns-clause-replies g c = λ tells payload e_ old to asked chosen well before_ same opened is_new place.
-    let is = edit_is e_ _ asked in
-    let before = rw is at before_ in
+returns-clause-replies g c = λ tells payload e o to asked chosen well before same opened is_like is_new place.
     let v = g.D.Device.bytes c.args.device.now in
     let copy = c.args.copy in
     let addition = c.args.addition.now in
@@ -86,16 +79,16 @@ returns-clause-replies g c = λ tells payload e_ old to asked chosen well before
     let key = c.args.secrets.now.key.now in
     let random = c.args.secrets.now.random.now in
     let total : length v ≡ c.len.result = g.met.D.Device.sized c.args.device.now tells ∙ sym c.len.ensures in
-    let x : IsJudgedAddition v payload copy addition old new to key random = record { chosen = chosen; well = well; before = before; opened = opened; is_new = is_new; place = place } in
-    let e = Add addition.by_ old new to addition.derivation.iterations addition.derivation.chosen in
-    let seals = addition_seals v payload copy addition old new to key random x in
+    let x : IsJudgedAddition v payload copy addition e o new to key random =
+    record { chosen = chosen; well = well; asked = asked; before = before; opened = opened; is_like = is_like; is_new = is_new; place = place } in
+    let seals = addition_seals v payload copy addition e o new to key random x in
     let k = content c.in_ok-made.made.meta in
-    let renews = subst (λ (n : ℕ). IsRenewing v e copy.header copy.header.label n) (sym c.in_ok-made.ensures.length) (renewing v payload copy chosen well e copy.header.label (sym chosen.header.label)) in
+    let renews = subst (λ (n : ℕ). IsRenewing v e copy.header copy.header.label n) (sym c.in_ok-made.ensures.length) (renewing v payload copy chosen well e copy.header.label (rw asked (sym chosen.header.label))) in
     let unrefused = c.in_ok-made.ensures.unrefused v payload e seals total in
     let edited = c.in_ok-made.ensures.edited v payload e seals total in
     let w = g.D.Device.bytes c.write_keyslot.new.device in
-    rw is (record {
+    record {
       unrefused = unrefused;
-      after = added_after v payload copy addition old new to key random x c.requires.free.small k c.in_ok-made.ensures.made edited w (c.in_ok-write_keyslot.ensures.written tells e renews);
-      told = made_in v payload copy addition old new to key random x c.requires.free.small k c.in_ok-made.ensures.made edited w;
-    })
+      after = added_after v payload copy addition e o new to key random x c.requires.free.small k c.in_ok-made.ensures.made edited w (c.in_ok-write_keyslot.ensures.written tells e renews);
+      told = rw asked (made_in v payload copy addition e o new to key random x c.requires.free.small k c.in_ok-made.ensures.made edited w);
+    }

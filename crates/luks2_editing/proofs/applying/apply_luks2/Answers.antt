@@ -4,13 +4,10 @@ use Rattle.luks2_header.specs.Header2.{hdr_size, header_at}
 use Rattle.luks_meta.specs.Content.{content}
 use Rattle.luks_slot.specs.declared.allowed.Allowed.{Allowed}
 use Rattle.luks_edit.proofs.AllowedMemory.{short_where_allowed}
-use Rattle.luks_edit.specs.Asked.{allowed_by, HasShortPassphrases}
-use Rattle.luks_edit.specs.declared.edit.Edit.{Edit}
-use Rattle.luks_edit.specs.declared.edit.Edit.TheVariants.{Add, Change}
+use Rattle.luks_edit.specs.Asked.{allowed_in, AreShortIn}
 use Rattle.luks2_judging.specs.declared.judged.JudgedEdit.TheVariants as judged
 use Rattle.luks2_judging.specs.Judging.{IsLostArea, Seals, Takes}
 use Rattle.luks2_judging.specs.Room.{IsAllowed}
-use Rattle.luks2_judging.proofs.DeedFacts.{edit_is}
 use Rattle.luks2_editing.proofs.JudgedFacts.{judged_edit, refused_ends, replied}
 use Rattle.luks2_editing.proofs.applying.apply_luks2.Goals as goal
 
@@ -56,14 +53,13 @@ returns-in-Opened-clause-replies g c = λ tells is.
     let takes = subst (λ t. Takes copy (g.D.Device.size c.args.device.now) c.args.edit.now (judged.Seal t c.in-Seal.key c.in-Seal.passphrase)) c.in-Opened.is
     (subst (λ t. Takes copy (g.D.Device.size c.args.device.now) c.args.edit.now t) c.in-Seal.is c.in_ok-judged.ensures.judged.takes) in
     let same = c.judge_luks2.ensures.unchanged.same tells in
-    let now = judged_edit same (edit_is c.args.edit.now _ takes.asked) c.in_ok-judged.judged c.in_ok-judged.ensures.judged.is is (c.in_ok-judged.ensures.unrefused tells is) in
+    let now = judged_edit same refl c.in_ok-judged.judged c.in_ok-judged.ensures.judged.is is (c.in_ok-judged.ensures.unrefused tells is) in
     let v = g.D.Device.bytes c.judge_luks2.new.device in
-    let e : Edit = Change c.in-Opened.renewal.slot takes.old c.in-Seal.passphrase c.in-Opened.renewal.derivation.iterations c.in-Opened.renewal.derivation.chosen in
-    let seals = subst (λ t. Seals (hdr_size (header_at v copy.header.hdr_offset)) v c.args.payload (content copy.meta) e (judged.Seal t c.in-Seal.key c.in-Seal.passphrase)) c.in-Opened.is
-    (subst (λ t. Seals (hdr_size (header_at v copy.header.hdr_offset)) v c.args.payload (content copy.meta) e t) c.in-Seal.is now.seals) in
+    let seals = subst (λ t. Seals (hdr_size (header_at v copy.header.hdr_offset)) v c.args.payload (content copy.meta) c.args.edit.now (judged.Seal t c.in-Seal.key c.in-Seal.passphrase)) c.in-Opened.is
+    (subst (λ t. Seals (hdr_size (header_at v copy.header.hdr_offset)) v c.args.payload (content copy.meta) c.args.edit.now t) c.in-Seal.is now.seals) in
     let replies = rw (c.new-secrets.ensures, c.in-Seal.is) at (c.change.ensures.replies tells c.args.payload) in
-    replied same (edit_is c.args.edit.now _ takes.asked) c.args.payload c.args.random.now _ _ (replies e takes.old refl now.chosen now.well (now.none c.args.random.now)
-    (sym (c.allowed-allowed.ensures ∙ ap allowed_by (edit_is c.args.edit.now _ takes.asked))) (seals.0 c.in-Opened.renewal.slot takes.old.bytes.now (refl, refl)) seals.1)
+    replied same refl c.args.payload c.args.random.now _ _ (replies c.args.edit.now takes.old takes.asked now.chosen now.well (now.none c.args.random.now)
+    (sym (c.allowed-allowed.ensures ∙ ap allowed_in takes.asked)) (rw takes.asked at seals.0) seals.1)
 
 pub returns-in-New-clause-replies : goal.returns-in-New-clause-replies
 returns-in-New-clause-replies g c = λ tells is.
@@ -71,14 +67,13 @@ returns-in-New-clause-replies g c = λ tells is.
     let takes = subst (λ t. Takes copy (g.D.Device.size c.args.device.now) c.args.edit.now (judged.Seal t c.in-Seal.key c.in-Seal.passphrase)) c.in-New.is
     (subst (λ t. Takes copy (g.D.Device.size c.args.device.now) c.args.edit.now t) c.in-Seal.is c.in_ok-judged.ensures.judged.takes) in
     let same = c.judge_luks2.ensures.unchanged.same tells in
-    let now = judged_edit same (edit_is c.args.edit.now _ takes.asked) c.in_ok-judged.judged c.in_ok-judged.ensures.judged.is is (c.in_ok-judged.ensures.unrefused tells is) in
+    let now = judged_edit same refl c.in_ok-judged.judged c.in_ok-judged.ensures.judged.is is (c.in_ok-judged.ensures.unrefused tells is) in
     let v = g.D.Device.bytes c.judge_luks2.new.device in
-    let e : Edit = Add c.in-New.addition.by_ takes.old c.in-Seal.passphrase takes.to c.in-New.addition.derivation.iterations c.in-New.addition.derivation.chosen in
-    let seals = subst (λ t. Seals (hdr_size (header_at v copy.header.hdr_offset)) v c.args.payload (content copy.meta) e (judged.Seal t c.in-Seal.key c.in-Seal.passphrase)) c.in-New.is
-    (subst (λ t. Seals (hdr_size (header_at v copy.header.hdr_offset)) v c.args.payload (content copy.meta) e t) c.in-Seal.is now.seals) in
+    let seals = subst (λ t. Seals (hdr_size (header_at v copy.header.hdr_offset)) v c.args.payload (content copy.meta) c.args.edit.now (judged.Seal t c.in-Seal.key c.in-Seal.passphrase)) c.in-New.is
+    (subst (λ t. Seals (hdr_size (header_at v copy.header.hdr_offset)) v c.args.payload (content copy.meta) c.args.edit.now t) c.in-Seal.is now.seals) in
     let replies = rw (c.new-secrets.ensures, c.in-Seal.is) at (c.add.ensures.replies tells c.args.payload) in
-    replied same (edit_is c.args.edit.now _ takes.asked) c.args.payload c.args.random.now _ _ (replies e takes.old takes.to refl now.chosen now.well (now.none c.args.random.now)
-    (sym (c.allowed-allowed.ensures ∙ ap allowed_by (edit_is c.args.edit.now _ takes.asked))) (seals.0 c.in-New.addition.by_ takes.old.bytes.now (refl, refl)) takes.number.is_new seals.1)
+    replied same refl c.args.payload c.args.random.now _ _ (replies c.args.edit.now takes.opener takes.to takes.asked now.chosen now.well (now.none c.args.random.now)
+    (sym (c.allowed-allowed.ensures ∙ ap allowed_in takes.asked)) (rw takes.asked at seals.0) takes.is_like takes.number.is_new seals.1)
 
 pub add-requires-clause-passphrase : goal.add-requires-clause-passphrase
 add-requires-clause-passphrase g c =
@@ -86,7 +81,7 @@ add-requires-clause-passphrase g c =
     let takes = subst (λ t. Takes copy (g.D.Device.size c.args.device.now) c.args.edit.now (judged.Seal t c.in-Seal.key c.in-Seal.passphrase)) c.in-New.is
     (subst (λ t. Takes copy (g.D.Device.size c.args.device.now) c.args.edit.now t) c.in-Seal.is c.in_ok-judged.ensures.judged.takes) in
     rw (c.new-secrets.ensures, c.in-Seal.is)
-    (λ some. (subst HasShortPassphrases (edit_is c.args.edit.now _ takes.asked) (short_where_allowed c.args.edit.now (subst (λ (m : Allowed). 0 < m.memory) c.allowed-allowed.ensures some))).1)
+    (λ some. (subst AreShortIn takes.asked (short_where_allowed c.args.edit.now (subst (λ (m : Allowed). 0 < m.memory) c.allowed-allowed.ensures some))).1)
 
 pub change-requires-clause-passphrase : goal.change-requires-clause-passphrase
 change-requires-clause-passphrase g c =
@@ -94,18 +89,18 @@ change-requires-clause-passphrase g c =
     let takes = subst (λ t. Takes copy (g.D.Device.size c.args.device.now) c.args.edit.now (judged.Seal t c.in-Seal.key c.in-Seal.passphrase)) c.in-Opened.is
     (subst (λ t. Takes copy (g.D.Device.size c.args.device.now) c.args.edit.now t) c.in-Seal.is c.in_ok-judged.ensures.judged.takes) in
     rw (c.new-secrets.ensures, c.in-Seal.is)
-    (λ some. (subst HasShortPassphrases (edit_is c.args.edit.now _ takes.asked) (short_where_allowed c.args.edit.now (subst (λ (m : Allowed). 0 < m.memory) c.allowed-allowed.ensures some))).1)
+    (λ some. (subst AreShortIn takes.asked (short_where_allowed c.args.edit.now (subst (λ (m : Allowed). 0 < m.memory) c.allowed-allowed.ensures some))).1)
 
 pub add-requires-clause-allowed : goal.add-requires-clause-allowed
 add-requires-clause-allowed g c =
     let copy = c.in_ok-judged.judged.copy in
     let takes = subst (λ t. Takes copy (g.D.Device.size c.args.device.now) c.args.edit.now (judged.Seal t c.in-Seal.key c.in-Seal.passphrase)) c.in-New.is
     (subst (λ t. Takes copy (g.D.Device.size c.args.device.now) c.args.edit.now t) c.in-Seal.is c.in_ok-judged.ensures.judged.takes) in
-    rw c.new-secrets.ensures (subst (λ (m : Allowed). IsAllowed m.memory c.in-New.addition.derivation) (sym (c.allowed-allowed.ensures ∙ ap allowed_by (edit_is c.args.edit.now _ takes.asked))) takes.allowed)
+    rw c.new-secrets.ensures (subst (λ (m : Allowed). IsAllowed m.memory c.in-New.addition.derivation) (sym (c.allowed-allowed.ensures ∙ ap allowed_in takes.asked)) takes.allowed)
 
 pub change-requires-clause-allowed : goal.change-requires-clause-allowed
 change-requires-clause-allowed g c =
     let copy = c.in_ok-judged.judged.copy in
     let takes = subst (λ t. Takes copy (g.D.Device.size c.args.device.now) c.args.edit.now (judged.Seal t c.in-Seal.key c.in-Seal.passphrase)) c.in-Opened.is
     (subst (λ t. Takes copy (g.D.Device.size c.args.device.now) c.args.edit.now t) c.in-Seal.is c.in_ok-judged.ensures.judged.takes) in
-    rw c.new-secrets.ensures (subst (λ (m : Allowed). IsAllowed m.memory c.in-Opened.renewal.derivation) (sym (c.allowed-allowed.ensures ∙ ap allowed_by (edit_is c.args.edit.now _ takes.asked))) takes.allowed)
+    rw c.new-secrets.ensures (subst (λ (m : Allowed). IsAllowed m.memory c.in-Opened.renewal.derivation) (sym (c.allowed-allowed.ensures ∙ ap allowed_in takes.asked)) takes.allowed)

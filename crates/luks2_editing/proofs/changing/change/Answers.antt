@@ -7,7 +7,8 @@ use Rattle.luks_making.proofs.KdfFacts.{unrefused_positive}
 use Rattle.luks_meta.specs.Content.{area_len, content}
 use Rattle.luks_slot.specs.declared.allowed.Allowed.{Allowed}
 use Rattle.luks_slot.specs.declared.fault.SlotFault.{SlotFault}
-use Rattle.luks2_judging.proofs.DeedFacts.{edit_is}
+use Rattle.luks2_judging.proofs.DeedFacts.{changed_is}
+use Rattle.luks2_edit_laws.specs.declared.like.Like.TheVariants.{Keyslot}
 use Rattle.luks2_editing.specs.SealedKeyslot.{HasRefusedKeyslot}
 use Rattle.luks2_editing.proofs.MadeMetadataFacts.{enough_random}
 use Rattle.luks2_editing.specs.Prepared.{AreCopiesWithin}
@@ -26,7 +27,7 @@ returns-in_err-made-clause-replies g c = λ tells payload e_ old asked x well be
     let key = c.args.secrets.now.key.now in
     let random = c.args.secrets.now.random.now in
     let total : length v ≡ c.len.result = g.met.D.Device.sized c.args.device.now tells ∙ sym c.len.ensures in
-    let is = edit_is e_ _ asked in
+    let is = changed_is e_ r.slot old new r.derivation asked in
     let e : Edit = Change r.slot old new r.derivation.iterations r.derivation.chosen in
     let seals = renewal_seals v payload copy r old new key random x well (rw is at before) opened place in
     let p = err_from_is_err_and c.from_residual.result c.from_residual.ensures.1 in
@@ -47,7 +48,7 @@ write_keyslot-requires-clause-sealable g c =
     let within : AreCopiesWithin copy.header (area_len copy.meta) (g.D.Device.size c.args.device.now) =
     subst (λ (n : ℕ). AreCopiesWithin copy.header n (g.D.Device.size c.args.device.now)) made.length
     (subst (λ (n : ℕ). AreCopiesWithin copy.header (area_len c.in_ok-made.made.meta) n) c.len.ensures made.within) in
-    alike_sealable j k renewal.slot renewal.slot renewal.area (renewed_alike j k renewal.slot renewal.derivation _ renewal.area made.made)
+    alike_sealable j k (Keyslot renewal.slot) renewal.slot renewal.area (renewed_alike j k renewal.slot renewal.derivation _ renewal.area made.made)
     (area_len copy.meta) (g.D.Device.size c.args.device.now) copy.header c.args.secrets.now.key.now c.args.secrets.now.random.now made.counted c.requires.key_length c.requires.placed within
 
 pub returns-in_err-write_keyslot-clause-replies : goal.returns-in_err-write_keyslot-clause-replies
@@ -59,7 +60,7 @@ returns-in_err-write_keyslot-clause-replies g c = λ tells payload e_ old asked 
     let key = c.args.secrets.now.key.now in
     let random = c.args.secrets.now.random.now in
     let total : length v ≡ c.len.result = g.met.D.Device.sized c.args.device.now tells ∙ sym c.len.ensures in
-    let is = edit_is e_ _ asked in
+    let is = changed_is e_ r.slot old new r.derivation asked in
     let e : Edit = Change r.slot old new r.derivation.iterations r.derivation.chosen in
     let seals = renewal_seals v payload copy r old new key random x well (rw is at before) opened place in
     let made = c.in_ok-made.ensures in
@@ -72,7 +73,7 @@ returns-in_err-write_keyslot-clause-replies g c = λ tells payload e_ old asked 
     (unsealed_ends v payload copy x well e random k free edited (g.D.Device.bytes c.write_keyslot.new.device)
     c.args.secrets.now.allowed r.slot
     (subst (λ (m : Allowed). (g : SlotFault) → HasRefusedKeyslot m k r.slot g → ⊥) same (renewed_unrefused v payload copy x well r.slot old new r.derivation key random r.area k opened place made.made
-    (enough_random (content copy.meta) r.slot (length random) made.counted)
+    (enough_random (content copy.meta) (Keyslot r.slot) (length random) made.counted)
     (subst (λ (m : Allowed). asked_beyond m.memory r.derivation ≡ false) (sym same) c.requires.allowed.within)))
     (c.write_keyslot.ensures.torn tells payload e (content copy.meta) renews
     (change_sealing v payload copy x well r.slot old new r.derivation key random r.area k opened place made.made))
@@ -87,7 +88,7 @@ returns-in-Ok-clause-replies g c = λ tells payload e_ old asked x well before s
     let key = c.args.secrets.now.key.now in
     let random = c.args.secrets.now.random.now in
     let total : length v ≡ c.len.result = g.met.D.Device.sized c.args.device.now tells ∙ sym c.len.ensures in
-    let is = edit_is e_ _ asked in
+    let is = changed_is e_ r.slot old new r.derivation asked in
     let e : Edit = Change r.slot old new r.derivation.iterations r.derivation.chosen in
     let seals = renewal_seals v payload copy r old new key random x well (rw is at before) opened place in
     let made = c.in_ok-made.ensures in
@@ -114,7 +115,7 @@ returns-clause-replies g c = λ tells payload e_ old asked x well before same op
     let key = c.args.secrets.now.key.now in
     let random = c.args.secrets.now.random.now in
     let total : length v ≡ c.len.result = g.met.D.Device.sized c.args.device.now tells ∙ sym c.len.ensures in
-    let is = edit_is e_ _ asked in
+    let is = changed_is e_ r.slot old new r.derivation asked in
     let e : Edit = Change r.slot old new r.derivation.iterations r.derivation.chosen in
     let seals = renewal_seals v payload copy r old new key random x well (rw is at before) opened place in
     let made = c.in_ok-made.ensures in

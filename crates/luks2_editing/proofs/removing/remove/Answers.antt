@@ -2,7 +2,7 @@ use Rattle.std.proofs.Common.{◌≡◌, ℕ, length, refl, sym, ◌∙◌, subs
 use Rattle.std.proofs.lemmas.Result.{err_from_is_err_and}
 use Rattle.luks_edit.specs.declared.edit.Edit.TheVariants.{Remove}
 use Rattle.luks_meta.specs.Content.{area_len, content}
-use Rattle.luks2_judging.proofs.DeedFacts.{edit_is}
+use Rattle.luks2_judging.proofs.DeedFacts.{removed_is}
 use Rattle.luks2_editing.specs.Prepared.{AreCopiesWithin, IsPrepared, IsUnwritten}
 use Rattle.luks2_editing.specs.Rewriting.{IsRenewing}
 use Rattle.luks2_editing.proofs.RemovalFacts.{removal_passed, removed_after, torn_lost}
@@ -11,7 +11,7 @@ use Rattle.luks2_editing.proofs.removing.remove.Goals as goal
 
 pub returns-in_err-rewrite-clause-replies : goal.returns-in_err-rewrite-clause-replies
 returns-in_err-rewrite-clause-replies g c = λ tells payload e_ by_ pass asked x well before_.
-    let is = edit_is e_ _ asked in
+    let is = removed_is e_ _ asked in
     let before = rw is at before_ in
     let v = g.D.Device.bytes c.args.device.now in
     let copy = c.args.copy in
@@ -35,7 +35,7 @@ returns-in_err-rewrite-clause-replies g c = λ tells payload e_ by_ pass asked x
 
 pub returns-in-Ok-clause-replies : goal.returns-in-Ok-clause-replies
 returns-in-Ok-clause-replies g c = λ tells payload e_ by_ pass asked x well before_.
-    let is = edit_is e_ _ asked in
+    let is = removed_is e_ _ asked in
     let before = rw is at before_ in
     let v = g.D.Device.bytes c.args.device.now in
     let copy = c.args.copy in
@@ -58,7 +58,7 @@ returns-in-Ok-clause-replies g c = λ tells payload e_ by_ pass asked x well bef
 
 pub returns-clause-replies : goal.returns-clause-replies
 returns-clause-replies g c = λ tells payload e_ by_ pass asked x well before_.
-    let is = edit_is e_ _ asked in
+    let is = removed_is e_ _ asked in
     let before = rw is at before_ in
     let v = g.D.Device.bytes c.args.device.now in
     let copy = c.args.copy in

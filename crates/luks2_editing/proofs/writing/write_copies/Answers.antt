@@ -1,8 +1,8 @@
-use Rattle.std.proofs.Common.{◌≡◌, ℕ, List, arith, subst, sym}
+use Rattle.std.proofs.Common.{◌≡◌, ℕ, arith, subst, sym}
 use Rattle.luks_area.specs.Ranges.{IsAt, SameBut}
 use Rattle.luks_area.proofs.RangeFacts.{same_but-then, same_but-wider}
 use Rattle.luks2_edit_laws.specs.Copies.{copy_salt, other_place}
-use Rattle.luks2_editing.specs.NewCopy.{HasNewCopy, IsCopyPlace, IsNewSummed}
+use Rattle.luks2_editing.specs.NewCopy.{HasNewCopy, IsCopyPlace}
 use Rattle.luks2_editing.proofs.NewCopyFacts.{area_fits, inside, new_copy, of_new_copy}
 use Rattle.luks2_editing.proofs.RewritingFacts.{all_done, half_begun, half_done, of_chosen, of_other, other_inside, other_is_place, own_is_place}
 use Rattle.luks2_editing.proofs.writing.write_copies.Goals as goal

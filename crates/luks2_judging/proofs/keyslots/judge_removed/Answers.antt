@@ -1,11 +1,16 @@
-use Rattle.std.proofs.Common.{refl, sym}
+use Rattle.std.proofs.Common.{IfSome, refl, subst, sym}
 use Rattle.luks_meta.specs.Content.{content}
-use Rattle.luks2_judging.proofs.KeyslotFacts.{removal_there, removed_wanted, rewriting_there, sealing_there}
+use Rattle.luks2_judging.specs.Judged.{IsUsable}
+use Rattle.luks2_judging.proofs.KeyslotFacts.{removal_there, removed_opens, removed_wanted, rewriting_there, sealed_opens, sealing_there}
 use Rattle.luks2_judging.proofs.keyslots.judge_removed.Goals as goal
 
 pub returns-then-is_used : goal.returns-then-is_used
 returns-then-is_used c =
-    removal_there (content c.args.meta.now) c.args.edit.now c.requires c.in-Remove.removed (sym c.in-Remove.ensures) (c.is_used.ensures.used c.if-is_used.true)
+    let j = content c.args.meta.now in
+    let e = c.args.edit.now in
+    let d = c.in-Remove.removed in
+    let is = sym c.in-Remove.ensures in
+    removal_there j e d is (subst (λ x. IfSome x (IsUsable j)) (removed_opens e d is) c.requires) (c.is_used.ensures.used c.if-is_used.true)
 
 pub returns-else-is_used : goal.returns-else-is_used
 returns-else-is_used c = (
@@ -18,7 +23,12 @@ returns-else-is_used c = (
 )
 
 pub returns-in-Seal : goal.returns-in-Seal
-returns-in-Seal c = sealing_there (content c.args.meta.now) c.args.edit.now c.requires c.in-Seal.field-0 (sym c.in-Seal.ensures)
+returns-in-Seal c =
+    let j = content c.args.meta.now in
+    let e = c.args.edit.now in
+    let s = c.in-Seal.field-0 in
+    let is = sym c.in-Seal.ensures in
+    sealing_there j e s is (subst (λ x. IfSome x (IsUsable j)) (sealed_opens e s is) c.requires)
 
 pub returns-in-Rewrite : goal.returns-in-Rewrite
 returns-in-Rewrite c = rewriting_there (content c.args.meta.now) c.args.edit.now c.in-Rewrite.label (sym c.in-Rewrite.ensures)

@@ -12,7 +12,7 @@ returns-in-Ok-format2_as-clause-answers g c =
     let device = c.format2_as.new.device in
     let e = c.in-Ok-format2_as.ensures in
     let both = of_volume
-    (λ (n : ℕ) (o : List ℕ) (m : ℕ). HasNoFault (IsFormat2FaultAs c.args.given.now c.args.chosen (allowed_for c.args.passphrase.now.allowed.memory c.args.passphrase.now.bytes.now) n c.args.format.now c.args.random.now)
+    (λ (n : ℕ) (o : List ℕ) (m : ℕ). HasNoFault (IsFormat2FaultAs c.args.given.now c.args.passphrase.now.allowed.older c.args.chosen (allowed_for c.args.passphrase.now.allowed.memory c.args.passphrase.now.bytes.now) n c.args.format.now c.args.random.now)
     × IsMade2 c.args.given.now c.args.format.now c.args.chosen c.args.passphrase.now.bytes.now c.args.random.now o
     c.give_plan.new.told.slot (planned_bytes device))
     (planned_size c.in-Ok.device) c.args.total (planned_size device) (planned_bytes c.in-Ok.device) g.K.Given.bytes

@@ -11,7 +11,7 @@ pub returns-clause-left : goal.returns-clause-left
 returns-clause-left g c =
     let HasWords : List ℕ → Type 0 = IsWhole g.R.Read.remaining c.args.inputs.now.passphrase in
     let HasCounted : ℕ → List ℕ → Type 0 = λ count. AreFirstBytes count g.N.Read.remaining c.args.inputs.now.random in
-    let HasRandom : List ℕ → Type 0 = HasCounted (needed c.args.making.now.version) in
+    let HasRandom : List ℕ → Type 0 = HasCounted (needed c.args.making.now) in
     let HasKey : List ℕ → Type 0 = IsWhole g.R.Read.remaining c.args.inputs.now.new_passphrase in
     let keyed : IsGivenKey HasKey c.args.making.now.given.key c.slice_of.result = given_slice HasKey c.args.making.now.given.key c.in-Ok-given_key.key c.slice_of.result c.in-Ok-given_key.ensures.whole c.slice_of.ensures in
     let words : HasWords c.as_slice-words.result.now = subst HasWords (sym c.as_slice-words.ensures.value) c.in-Ok.ensures.whole in
@@ -30,7 +30,7 @@ pub returns-clause-answers : goal.returns-clause-answers
 returns-clause-answers g c =
     let HasWords : List ℕ → Type 0 = IsWhole g.R.Read.remaining c.args.inputs.now.passphrase in
     let HasCounted : ℕ → List ℕ → Type 0 = λ count. AreFirstBytes count g.N.Read.remaining c.args.inputs.now.random in
-    let HasRandom : List ℕ → Type 0 = HasCounted (needed c.args.making.now.version) in
+    let HasRandom : List ℕ → Type 0 = HasCounted (needed c.args.making.now) in
     let HasKey : List ℕ → Type 0 = IsWhole g.R.Read.remaining c.args.inputs.now.new_passphrase in
     let keyed : IsGivenKey HasKey c.args.making.now.given.key c.slice_of.result = given_slice HasKey c.args.making.now.given.key c.in-Ok-given_key.key c.slice_of.result c.in-Ok-given_key.ensures.whole c.slice_of.ensures in
     let words : HasWords c.as_slice-words.result.now = subst HasWords (sym c.as_slice-words.ensures.value) c.in-Ok.ensures.whole in

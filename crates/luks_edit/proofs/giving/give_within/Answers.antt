@@ -1,4 +1,3 @@
-use Rattle.std.proofs.Common.{refl}
 use Rattle.std.proofs.lemmas.Result.{IfErr-weaker}
 use Rattle.luks_edit.proofs.SecretFacts.{uncounted_refusal}
 use Rattle.luks_slot.proofs.DerivationFacts.{refusal_answered}

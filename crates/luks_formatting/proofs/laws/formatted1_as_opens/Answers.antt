@@ -5,4 +5,4 @@ pub returns-clause-well_formed : goal.returns-clause-well_formed
 returns-clause-well_formed c = well_formed
 
 pub returns-clause-opens : goal.returns-clause-opens
-returns-clause-opens c given format passphrase random old new some large counted sound x = slot_opens given format passphrase random old new some large sound x counted
+returns-clause-opens c given format passphrase random old new some large counted sound x allowed may = slot_opens given format passphrase random old new some large sound x allowed may counted

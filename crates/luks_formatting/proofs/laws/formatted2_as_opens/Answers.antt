@@ -5,5 +5,5 @@ pub returns-clause-well_formed : goal.returns-clause-well_formed
 returns-clause-well_formed c = well_formed
 
 pub returns-clause-opens : goal.returns-clause-opens
-returns-clause-opens c given format chosen passphrase random old new some large counted sound fits x memory allowed can enough =
-    slot_opens given format chosen passphrase random old new some large counted sound fits x memory allowed can enough
+returns-clause-opens c given format chosen passphrase random old new some large counted sound fits x memory allowed can enough may =
+    slot_opens given format chosen passphrase random old new some large counted sound fits x memory allowed can enough may

@@ -1,4 +1,5 @@
 use Rattle.std.proofs.Common.{length}
+use Rattle.std.proofs.lemmas.Bool.{false≢true}
 use Rattle.luks_formatting.specs.Given.{nothing_given}
 use Rattle.luks_formatting.proofs.GivenFacts.{nothing_sound2}
 use Rattle.luks_formatting.proofs.Formatted2Facts.{slot_opens, well_formed}
@@ -10,4 +11,4 @@ returns-clause-well_formed c payload format chosen passphrase random old new som
 
 pub returns-clause-opens : goal.returns-clause-opens
 returns-clause-opens c payload format chosen passphrase random old new some large counted fits x memory allowed can enough =
-    slot_opens (nothing_given payload) format chosen passphrase random old new some large counted (nothing_sound2 payload (length new)) fits x memory allowed can enough
+    slot_opens (nothing_given payload) format chosen passphrase random old new some large counted (nothing_sound2 payload (length new)) fits x memory allowed can enough (λ is. absurd (false≢true is))

@@ -1,4 +1,5 @@
 use Rattle.std.proofs.Common.{length, None, arith}
+use Rattle.std.proofs.lemmas.Bool.{false≢true}
 use Rattle.luks_slot.specs.Allowance.{none_allowed}
 use Rattle.luks_formatting.specs.Given.{nothing_given}
 use Rattle.luks_formatting.proofs.GivenFacts.{nothing_sound2}
@@ -11,4 +12,4 @@ returns-clause-well_formed c payload format passphrase random old new some large
 
 pub returns-clause-opens : goal.returns-clause-opens
 returns-clause-opens c payload format passphrase random old new some large counted fits x =
-    slot_opens (nothing_given payload) format None passphrase random old new some large counted (nothing_sound2 payload (length new)) fits x 0 none_allowed tt (omega arith)
+    slot_opens (nothing_given payload) format None passphrase random old new some large counted (nothing_sound2 payload (length new)) fits x 0 none_allowed tt (omega arith) (λ is. absurd (false≢true is))

@@ -19,7 +19,7 @@ returns-clause-well_formed g c tells =
     (omega (arith, some)) (omega (arith, size, least, total)) (subst (IsSound1 c.args.given.now) (sym (size ∙ sym total)) ready.sound) (c.in_ok-write_volume.ensures.formatted tells)
 
 pub returns-clause-opens : goal.returns-clause-opens
-returns-clause-opens g c tells =
+returns-clause-opens g c tells allowed may =
     let bytes = g.D.Device.bytes in
     let w = bytes c.write_volume.new.device in
     let ready = c.in_ok-judge.ensures.formattable in
@@ -28,14 +28,14 @@ returns-clause-opens g c tells =
     let total = c.len.ensures in
     let size : length w ≡ g.D.Device.size c.args.device.now = g.met.D.Device.sized c.write_volume.new.device tells ∙ c.write_volume.ensures.size in
     slot_opens c.args.given.now c.args.format.now c.args.passphrase.now c.args.random.now (bytes c.args.device.now) w
-    (omega (arith, some)) (omega (arith, size, least, total)) (subst (IsSound1 c.args.given.now) (sym (size ∙ sym total)) ready.sound) (c.in_ok-write_volume.ensures.formatted tells) ready.counted
+    (omega (arith, some)) (omega (arith, size, least, total)) (subst (IsSound1 c.args.given.now) (sym (size ∙ sym total)) ready.sound) (c.in_ok-write_volume.ensures.formatted tells) allowed may ready.counted
 
 pub returns-clause-payload : goal.returns-clause-payload
 returns-clause-payload g c tells here =
     let ready = c.in_ok-judge.ensures.formattable in
-    before_payload (payload_sector c.args.given.now) (placed1 c.args.given.now c.len.result ready.sound ready.large here).low (c.write_volume.ensures.rest tells)
+    before_payload c.args.given.now.key_bytes (payload_sector c.args.given.now) (placed1 c.args.given.now c.len.result ready.sound ready.large here).low (c.write_volume.ensures.rest tells)
 
 pub returns-in_err-write_volume-clause-payload : goal.returns-in_err-write_volume-clause-payload
 returns-in_err-write_volume-clause-payload g c tells here =
     let ready = c.in_ok-judge.ensures.formattable in
-    before_payload (payload_sector c.args.given.now) (placed1 c.args.given.now c.len.result ready.sound ready.large here).low (c.write_volume.ensures.rest tells)
+    before_payload c.args.given.now.key_bytes (payload_sector c.args.given.now) (placed1 c.args.given.now c.len.result ready.sound ready.large here).low (c.write_volume.ensures.rest tells)

@@ -8,5 +8,5 @@ abbrev pub invariant-loop-n : goal.invariant-loop-n
 invariant-loop-n l = record {
   eight : length l.slots ≡ 8;
   some : 1 ≤ l.n;
-  each : (k : ℕ) (s : Luks1Slot) → k < l.n → slice_index_or l.slots k s ≡ new_slot l.format l.random k;
+  each : (k : ℕ) (s : Luks1Slot) → k < l.n → slice_index_or l.slots k s ≡ new_slot l.key_bytes l.format l.random k;
 }

@@ -5,13 +5,13 @@ use Rattle.luks_formatting.proofs.Written2Facts.{cleared_rest, over_cleared, ove
 use Rattle.luks_formatting.proofs.volume2.write_volume.Goals as goal
 
 pub returns-in_err-clear_places-clause-rest : goal.returns-in_err-clear_places-clause-rest
-returns-in_err-clear_places-clause-rest g c tells = cleared_rest (c.clear_places.ensures.rest tells)
+returns-in_err-clear_places-clause-rest g c tells = cleared_rest c.args.volume.now.given.now.key_bytes (c.clear_places.ensures.rest tells)
 
 pub returns-in_err-clear_places-clause-order : goal.returns-in_err-clear_places-clause-order
 returns-in_err-clear_places-clause-order g c tells = clearing_fails 16384 (lit≤ tt) (c.clear_places.ensures.rest tells) (c.clear_places.ensures.order tells)
 
 pub returns-clause-rest : goal.returns-clause-rest
-returns-clause-rest g c tells = over_rest (c.clear_places.ensures.rest tells) (c.write_over_cleared.ensures.rest tells)
+returns-clause-rest g c tells = over_rest c.args.volume.now.given.now.key_bytes (c.clear_places.ensures.rest tells) (c.write_over_cleared.ensures.rest tells)
 
 pub returns-clause-order : goal.returns-clause-order
 returns-clause-order g c tells = cleared_then 16384 (lit≤ tt) (c.in_ok-clear_places.ensures.cleared tells) (c.clear_places.ensures.rest tells) (c.write_over_cleared.ensures.order tells)

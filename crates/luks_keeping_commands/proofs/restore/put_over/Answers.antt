@@ -9,21 +9,21 @@ use Rattle.luks_keeping_commands.proofs.restore.put_over.Goals as goal
 pub returns-in-Ok-clause-rest : goal.returns-in-Ok-clause-rest
 returns-in-Ok-clause-rest g c = λ told.
     keeps_rest c.args.restoring.now.payload _ _ _ (g.D.Device.size c.args.volume.now) (g.met.D.Device.sized c.args.volume.now told)
-    (c.restore.ensures.rest told told) (c.restore.ensures.segments told told) (c.restore.ensures.order told told)
+    (c.restore_header.ensures.rest told told) (c.restore_header.ensures.segments told told) (c.restore_header.ensures.order told told)
 
 pub returns-in-Err-clause-rest : goal.returns-in-Err-clause-rest
 returns-in-Err-clause-rest g c = λ told.
     keeps_rest c.args.restoring.now.payload _ _ _ (g.D.Device.size c.args.volume.now) (g.met.D.Device.sized c.args.volume.now told)
-    (c.restore.ensures.rest told told) (c.restore.ensures.segments told told) (c.restore.ensures.order told told)
+    (c.restore_header.ensures.rest told told) (c.restore_header.ensures.segments told told) (c.restore_header.ensures.order told told)
 
 pub returns-in-Err-2-clause-rest : goal.returns-in-Err-2-clause-rest
 returns-in-Err-2-clause-rest g c = λ told.
     keeps_rest c.args.restoring.now.payload _ _ _ (g.D.Device.size c.args.volume.now) (g.met.D.Device.sized c.args.volume.now told)
-    (c.restore.ensures.rest told told) (c.restore.ensures.segments told told) (c.restore.ensures.order told told)
+    (c.restore_header.ensures.rest told told) (c.restore_header.ensures.segments told told) (c.restore_header.ensures.order told told)
 
 pub returns-in-Err-clause-answers : goal.returns-in-Err-clause-answers
 returns-in-Err-clause-answers g c =
-    let d : Pair = pair_of g.D.Device.size g.D.Device.bytes g.D.Device.failed c.args.backup.now c.restore.new.backup c.args.volume.now c.restore.new.target in
+    let d : Pair = pair_of g.D.Device.size g.D.Device.bytes g.D.Device.failed c.args.backup.now c.restore_header.new.backup c.args.volume.now c.restore_header.new.target in
     subst (IsRestoreAnswer g.D.Device.tells c.args.restoring.now.payload (over_of c.args.restoring.now) d) (sym c.not_restored.ensures)
     (subst (λ (o : Over). IsRestoreAnswer g.D.Device.tells c.args.restoring.now.payload o d (restore_fault_answer c.in-Err.fault)) c.over_of-over.ensures
     (answers_fault g.D.Device.tells c.args.restoring.now.payload c.over_of-over.result d c.in-Err.fault c.in-Err.ensures.count

@@ -1,4 +1,4 @@
-use Rattle.std.proofs.Common.{◌≡◌, ◌≤◌, ◌*◌, ◌/◌, ℕ, sym, arith}
+use Rattle.std.proofs.Common.{◌*◌, sym}
 use Rattle.luks_timing.proofs.SampleFacts.{no_time, quotient}
 use Rattle.luks_timing.proofs.sample.Sample.most.Goals as goal
 
