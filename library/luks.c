@@ -36,6 +36,7 @@
 struct held {
     int fd;
     uint64_t start, total, ahead, unread; /* the last is the place that couldn't be read, where one couldn't */
+    unsigned blanks;                      /* so many sectors that can't be read may stand as zeros: of a search, which says where the first of them is */
     struct luks_range *ranges;
     size_t ranges_count;
     uint8_t *bytes;
@@ -187,6 +188,14 @@ static uint32_t read_gap(struct held *held, size_t i, size_t before, uint64_t pl
     held->bytes = bytes;
     memmove(bytes + before + count, bytes + before, behind);
     size_t got = read_some(held->fd, bytes + before, count, held->start + place);
+    while (got < needed - place && held->blanks > 0) {
+        uint64_t at = held->start + place + got;
+        size_t blank = (size_t)least(SECTOR - at % SECTOR, count - got);
+        memset(bytes + before + got, 0, blank);
+        held->blanks--;
+        got += blank;
+        got += read_some(held->fd, bytes + before + got, count - got, at + blank);
+    }
     memmove(bytes + before + got, bytes + before + count, behind);
     held->bytes_count += got;
     if (got > 0)
@@ -1667,12 +1676,14 @@ uint32_t luks_find(int fd, uint64_t offset, uint64_t length, uint64_t from, uint
 }
 
 /* Searches one block, whose first byte is that at `first` of the window, for the starts at `at` or behind it and before this one. `unread` is the place that
- * couldn't be read, or LUKS_TO_END. */
-static uint32_t find_in_block(int fd, uint64_t start, uint64_t first, uint64_t count, uint64_t at, uint64_t before, uint64_t *place, uint64_t *unread)
+ * couldn't be read, or LUKS_TO_END; so many sectors that can't be may stand as zeros. */
+static uint32_t find_in_block(int fd, uint64_t start, uint64_t first, uint64_t count, uint64_t at, uint64_t before, unsigned blanks, uint64_t *place,
+                              uint64_t *unread)
 {
     struct held held;
     *place = *unread = LUKS_TO_END;
     uint32_t answer = begin(&held, fd, start + first, count, count);
+    held.blanks = blanks;
     if (answer == LUKS_DONE)
         answer = find_in(&held, at - first, before - first, place);
     if (answer == LUKS_DONE && *place != LUKS_TO_END)
@@ -1683,16 +1694,23 @@ static uint32_t find_in_block(int fd, uint64_t start, uint64_t first, uint64_t c
     return answer;
 }
 
-/* Passes over a sector that can't be read: the block then begins behind it, where it lies before `at`. Else what the block has from `at` on is searched up to it, and
- * where no volume begins there this is LUKS_DEVICE, and `place` what lies behind it. */
-static uint32_t pass_over(int fd, uint64_t start, uint64_t *first, uint64_t at, uint64_t unread, uint64_t *place)
+/* Of so many sectors that can't be read a search goes on at once: each takes a failing disk a second or more. */
+#define MOST_BLANKS 16
+
+/* Passes over a sector that can't be read: the block, of so many bytes, then begins behind it, where it lies before `at`. Else what begins from `at` on and not behind
+ * that sector is searched for: a volume that begins there is told by its second copy. Where there is none this is LUKS_DEVICE, and `place` what lies behind the sector;
+ * so it is where the search goes on in the midst of it, behind a volume that begins there. */
+static uint32_t pass_over(int fd, uint64_t start, uint64_t *first, uint64_t count, uint64_t from, uint64_t at, uint64_t unread, uint64_t *place)
 {
     uint64_t again, behind = ((start + unread) / SECTOR + 1) * SECTOR - start;
-    if (behind <= at) {
+    if (behind <= at && (from <= unread || from >= behind)) {
         *first = behind;
         return LUKS_DONE;
     }
-    uint32_t answer = unread > at ? find_in_block(fd, start, *first, unread - *first, at, unread, place, &again) : (uint32_t)LUKS_DONE;
+    again = LUKS_TO_END;
+    uint32_t answer = at < behind ? find_in_block(fd, start, *first, count, at, behind, MOST_BLANKS, place, &again) : (uint32_t)LUKS_DONE;
+    if (again != LUKS_TO_END)
+        answer = unread > at ? find_in_block(fd, start, *first, unread - *first, at, unread, 0, place, &again) : (uint32_t)LUKS_DONE;
     if (answer != LUKS_DONE || *place != LUKS_TO_END)
         return answer;
     *place = behind;
@@ -1723,9 +1741,9 @@ uint32_t luks_find_watched(int fd, uint64_t offset, uint64_t length, uint64_t fr
         do {
             uint64_t count = least(block, total - first);
             before = first + (count < total - first ? count - TELLS : count);
-            answer = find_in_block(fd, start, first, count, at, before, place, &unread);
+            answer = find_in_block(fd, start, first, count, at, before, 0, place, &unread);
             if (unread != LUKS_TO_END)
-                answer = pass_over(fd, start, &first, at, unread, place);
+                answer = pass_over(fd, start, &first, count, from, at, unread, place);
         } while (answer == LUKS_DONE && unread < at);
         if (answer != LUKS_DONE || *place != LUKS_TO_END)
             return answer;
