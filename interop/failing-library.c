@@ -126,7 +126,7 @@ static uint32_t called(const char *call, int fd, int other, const struct given *
     if (strcmp(call, "label") == 0)
         return edited(fd, LUKS_LABEL, random);
     if (strcmp(call, "repair") == 0)
-        return luks_repair(fd, ALL, false);
+        return edited(fd, LUKS_REPAIR, random);
     if (strcmp(call, "format1") == 0)
         return luks_format1(fd, ALL, false, &given, LUKS_SHA256, 1000, "new", 3, random->bytes, 256080);
     if (strcmp(call, "format2") == 0)
