@@ -2,7 +2,7 @@
  *
  * luks.c is compiled with pread, pwrite and fsync as they stand here. The Nth of them, counted from 1, fails by the MODE: eio, enospc, after (it and all
  * later ones), torn (a write leaves its first half), short (it does one byte), intr, or kill (the process ends there). Prints the call's answer, errno's
- * name where that is LUKS_DEVICE, and how many of these calls were made. Beside the calls there are `opens PASSPHRASE`, which prints the keyslot, and
+ * name where that is LUKS_DEVICE, and how many of these calls were made. Beside the calls there are `opens PASSPHRASE ..`, which prints the answer and the keyslot of each, and
  * `random SEED COUNT`, which makes all calls with arguments and on files that a generator makes of VOLUME and OTHER.
  */
 #define _GNU_SOURCE
@@ -126,7 +126,7 @@ static uint32_t called(const char *call, int fd, int other, const struct given *
     if (strcmp(call, "label") == 0)
         return edited(fd, LUKS_LABEL, random);
     if (strcmp(call, "repair") == 0)
-        return luks_repair(fd, ALL, false);
+        return edited(fd, LUKS_REPAIR, random);
     if (strcmp(call, "format1") == 0)
         return luks_format1(fd, ALL, false, &given, LUKS_SHA256, 1000, "new", 3, random->bytes, 256080);
     if (strcmp(call, "format2") == 0)
@@ -227,12 +227,13 @@ int main(int count, char **words)
     random.count = from >= 0 ? (size_t)read(from, random.bytes, sizeof random.bytes) : 0;
     if (strcmp(words[1], "random") == 0 && count == 7)
         return at_random(fd, other, &random, strtoull(words[5], NULL, 10), strtoul(words[6], NULL, 10));
-    if (strcmp(words[1], "opens") == 0 && count == 6) {
+    for (int i = 5; strcmp(words[1], "opens") == 0 && i < count; i++) {
         struct luks_opened opened = {.size = sizeof opened};
-        uint32_t answer = luks_unlock(fd, ALL, words[5], strlen(words[5]), 0, 0, NULL, 0, &opened);
-        printf("%u %u\n", answer, opened.slot);
-        return 0;
+        uint32_t answer = luks_unlock(fd, ALL, words[i], strlen(words[i]), 0, 0, NULL, 0, &opened);
+        printf("%s %u %u\n", words[i], answer, opened.slot);
     }
+    if (strcmp(words[1], "opens") == 0)
+        return 0;
     if (count != 7)
         return 2;
     failing = strtoul(words[5], NULL, 10);
