@@ -132,7 +132,7 @@ complete -c luks -n '__fish_seen_subcommand_from format' -l iter-time -x -d 'Cho
 complete -c luks -n '__fish_seen_subcommand_from format' -l memory -x -d 'The MiB that Argon2 may take'
 complete -c luks -n '__fish_seen_subcommand_from format' -l cipher -x -a 'aes-xts-plain64 aes-xts-plain aes-cbc-essiv:sha256 aes-cbc-plain64 aes-cbc-plain' -d 'The cipher of data and key areas'
 complete -c luks -n '__fish_seen_subcommand_from format' -l key-bytes -x -a '16 32 64' -d 'How long the volume key is; else 64, of cbc 32'
-complete -c luks -n '__fish_seen_subcommand_from format' -l sector-size -x -a '512 1024 2048 4096' -d "LUKS2: how long the data's sectors are"
+complete -c luks -n '__fish_seen_subcommand_from format' -l sector-size -x -a '512 1024 2048 4096' -d 'LUKS2: how long a data sector is'
 complete -c luks -n '__fish_seen_subcommand_from format' -l older -d 'Accept a cipher of older disks'
 complete -c luks -n '__fish_seen_subcommand_from format' -l key -r -F -d 'The file of the volume key; else it is random'
 complete -c luks -n '__fish_seen_subcommand_from format' -l payload -x -d 'Where the data begins, in sectors of 512 bytes'

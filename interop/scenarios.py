@@ -19,6 +19,7 @@ WORDS = ("one", "two", "three")
 # what the edit is to do: (kept, one of these, opens where all went well, doesn't then)
 EDITS = {
     "add": ({"one", "two"}, set(), {"three"}, set()),
+    "add-by-key": ({"one", "two"}, set(), {"three"}, set()),
     "change": ({"two"}, {"one", "three"}, {"three"}, {"one"}),
     "change-0": ({"two"}, {"one", "three"}, {"three"}, {"one"}),
     "remove": ({"two"}, set(), set(), {"one"}),
@@ -36,6 +37,7 @@ THEIRS = {
 }
 OURS = {
     "add": "LUKS add V --slot 0 --passphrase one --new three --random random --iterations 1000",
+    "add-by-key": "LUKS add V --key key-{version} --new three --random random --iterations 1000",
     "change": "LUKS change V --slot 0 --passphrase one --new three --random random --iterations 1000",
     "remove": "LUKS remove V --slot 0 --passphrase one --random random",
     "remove-by": "LUKS remove V --slot 0 --by 1 --passphrase two --random random",
@@ -45,8 +47,8 @@ OURS = {
 # How often the program syncs the volume in each edit: once before it begins, and then after each step. A copy of LUKS2's header that is
 # damaged or older is written first, so that a repair has as many steps whichever it is.
 SYNCS = {
-    "luks1": {"add": 3, "change": 5, "remove": 3, "remove-by": 3},
-    "luks2": {"add": 4, "change": 5, "remove": 4, "remove-by": 4, "repair": 3, "label": 3},
+    "luks1": {"add": 3, "add-by-key": 3, "change": 5, "remove": 3, "remove-by": 3},
+    "luks2": {"add": 4, "add-by-key": 4, "change": 5, "remove": 4, "remove-by": 4, "repair": 3, "label": 3},
 }
 
 
@@ -63,6 +65,7 @@ def make_volumes(folder):
         put(folder, version, bytes(LENGTH))
         cryptsetup(f"{line}--key-file one {version}", folder)
         cryptsetup(f"luksAddKey -q {DERIVATION[version]} --key-file one {version} two", folder)
+        cryptsetup(f"luksDump -q --dump-volume-key --volume-key-file key-{version} --key-file one {version}", folder)
         with open(os.path.join(folder, version), "r+b") as volume:
             volume.seek(PAYLOAD)
             volume.write(payload())

@@ -430,7 +430,7 @@ static OPTIONS: [OptionRow; 61] = [
     OptionRow {
         name: "cipher",
         needed: false,
-        help: "Of data and key areas, as below",
+        help: "The cipher, as below",
         takes: Takes::NewCipher,
     },
     OptionRow {
@@ -442,7 +442,7 @@ static OPTIONS: [OptionRow; 61] = [
     OptionRow {
         name: "sector-size",
         needed: false,
-        help: "LUKS2: how long the data's sectors are",
+        help: "LUKS2: how long a data sector is",
         takes: Takes::SectorSize,
     },
     OptionRow {
