@@ -1,10 +1,9 @@
 -- How much a command hashes at most to find what checksums vouch for.
-use Rattle.std.specs.Prelude.{◌≡◌, ◌⊎◌, ℕ, ◌+◌, ◌≤◌, true, Option, Result, IfOk, IfSome}
+use Rattle.std.specs.Prelude.{◌≡◌, ℕ, ◌+◌}
 use Rattle.luks_rebuilding.specs.Shares.{whole}
 use Rattle.luks_rebuilding.specs.declared.place.Effort.{Effort}
 use Rattle.luks_rebuilding.specs.declared.place.Effort.TheVariants.{Brief, Usual, Thorough}
 use Rattle.luks_notes.specs.declared.hashing.Hashing.{Hashing}
-use Rattle.luks_notes.specs.declared.told.Told.{Told}
 
 -- all searches of a command together hash at most 64 MiB of JSON areas
 abbrev pub of_command : ℕ

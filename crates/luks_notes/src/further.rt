@@ -188,15 +188,13 @@ fn say_sizes<D: Device, E: Write>(
 {
     let mut left = SIZES.as_slice();
     while let [size, later @ ..] = left {
-        if *size != said.found.place.size {
-            say_size(alloc, device, said, *size, seek, hashing, err)?;
-        }
+        say_size(alloc, device, said, *size, seek, hashing, err)?;
         left = later;
     }
     Ok(())
 }
 
-/// Says what is whole of a header of this size.
+/// Says what is whole of a header of this size, if that is another one.
 fn say_size<D: Device, E: Write>(
     alloc: Global,
     device: &mut D,
@@ -215,6 +213,9 @@ fn say_size<D: Device, E: Write>(
     ensures of_command { IsOfCommand hashing.new }
     ensures more { hashing.old.hashed ≤ hashing.new.hashed }
 {
+    if size == said.found.place.size {
+        return Ok(());
+    }
     if let Some(further) = size_of(alloc, device, size, seek, hashing, err)? {
         if !said.has(&further) {
             say_of_size(said.found, &further, err);
