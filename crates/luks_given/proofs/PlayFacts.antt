@@ -2,6 +2,7 @@
 use Rattle.std.proofs.Common.{◌≡◌, ℕ, ◌+◌, ◌-◌, ◌<◌, ◌≤◌, ◌⊎◌, inl, inr, List, [], ◌∷◌, ◌++◌, length, take, drop, min, max, refl, sym, ap, ◌∙◌, arith, length-append, length-drop, length-take}
 use Rattle.std.proofs.lemmas.Bool.{cases_eq, cases_lt}
 use Rattle.std.proofs.lemmas.List.{drop-drop, take-append-drop}
+use Rattle.std.proofs.Math.Seq.{take-add}
 use Rattle.luks_area.specs.Ranges.{part, written}
 use Rattle.luks_area.proofs.RangeFacts.{length-part_inside, length-written, part-add, part-whole, written-none, written-written}
 use Rattle.luks_given.specs.declared.planned_writes.PlannedCall.{PlannedCall}
@@ -83,7 +84,7 @@ written-same : (v : List ℕ) (at n : ℕ) → at + n ≤ length v → written v
 written-same v at n inside =
     let long : length (part v at n) ≡ n = length-part_inside v at n inside in
     ap (λ k. (take at v ++ part v at n) ++ drop (at + k) v) long
-    ∙ ap (λ l. l ++ drop (at + n) v) (sym (part-add v 0 at n))
+    ∙ ap (λ l. l ++ drop (at + n) v) (sym (take-add at n v))
     ∙ take-append-drop (at + n) v
 
 -- a write whose rest stands there already is one of what comes before that
@@ -115,7 +116,7 @@ standing-more v at from start len low high here rest =
     let end_ : (at + start) + n ≡ at + len = omega (arith, low) in
     let all : start + n ≡ len = omega (arith, low) in
     sym (take-append-drop n (drop start from))
-    ∙ ap (λ l. part from start n ++ l) (drop-drop n start from ∙ ap (λ k. drop k from) (omega (arith, all)))
+    ∙ ap (λ l. part from start n ++ l) (drop-drop n start from ∙ ap (λ k. drop k from) all)
     ∙ ap (λ l. l ++ drop len from) here
     ∙ ap (λ l. part v (at + start) n ++ l) rest
     ∙ ap (λ k. part v (at + start) n ++ part v k m) (sym end_)
