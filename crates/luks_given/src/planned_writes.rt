@@ -164,13 +164,13 @@ impl<'a, K: Given> PlannedWrites<'a, K> {
         ensures { IsTrue result → from.now ≡ part (planned_bytes self.now) at (length from.now) }
     {
         let len = from.len();
-        let zeros = [0; SECTOR];
-        let mut standing = [0; SECTOR];
-        if from != &zeros[..len] {
+        let mut sector = [0u8; SECTOR];
+        let standing = &mut sector[..len];
+        if &*standing != from {
             return false;
         }
-        self.read_held(at, k, &mut standing[..len]);
-        &standing[..len] == from
+        self.read_held(at, k, standing);
+        &*standing == from
     }
 }
 

@@ -70,8 +70,8 @@ loop-call-preserved c =
           let now = met ∙ ap (λ l. part (written w call.at l) at n) front in
           let after = later u (omega (arith, whole, furthest_, fits)) (omega (arith, whole, room, same)) (now ∙ ap (part u at) (sym same)) in
           after ∙ ap (part (played (drop (i + 1) calls) c.split_at.result.1.now u) at) same
-              ∙ ap (λ l. part (played (drop (i + 1) calls) l u) at n) back
-              ∙ sym (ap (λ cs. part (played cs left w) at n) e));
+          ∙ ap (λ l. part (played (drop (i + 1) calls) l u) at n) back
+          ∙ sym (ap (λ cs. part (played cs left w) at n) e));
     }
 
 pub returns : goal.returns
