@@ -253,7 +253,8 @@ placed-some (r ∷ rs) before at end_ k a e low high is = elim is [
 -- so many of these, from the one numbered `start` on
 pub placed-part : (rs : List Part) (at n k start m : ℕ) → start + m ≤ n → IsPlaced rs 0 at (at + n) k → IsPlaced rs 0 (at + start) ((at + start) + m) (k + start)
 placed-part rs at n k start m inside is =
-    subst (λ j. IsPlaced rs 0 (at + start) ((at + start) + m) j) (omega arith)
+    let e : k + ((at + start) - at) ≡ k + start = omega arith in
+    subst (λ j. IsPlaced rs 0 (at + start) ((at + start) + m) j) e
     (placed-some rs 0 at (at + n) k (at + start) ((at + start) + m) (omega arith) (omega (arith, inside)) is)
 
 -- they are of the volume, and their bytes of those that are held

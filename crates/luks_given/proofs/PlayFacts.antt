@@ -88,7 +88,7 @@ written-same v at n inside =
     ∙ take-append-drop (at + n) v
 
 -- a write whose rest stands there already is one of what comes before that
-pub pub written-front : (v : List ℕ) (at : ℕ) (from : List ℕ) (n : ℕ) → at + length from ≤ length v → n ≤ length from
+pub written-front : (v : List ℕ) (at : ℕ) (from : List ℕ) (n : ℕ) → at + length from ≤ length v → n ≤ length from
     → drop n from ≡ part v (at + n) (length from - n) → written v at (take n from) ≡ written v at from
 written-front v at from n fits some same =
     let kept : List ℕ = take n from in
