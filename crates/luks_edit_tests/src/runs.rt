@@ -3,20 +3,16 @@
 ghost use Rattle.std.specs.Prelude.{◌+◌, ◌<◌, ◌^◌};
 
 use crate::answers::line_of;
-use crate::rows::{List, Row};
-use crate::{luks1, luks2};
-use luks_area::{Device, FaultyDevice, Leave, MemDevice};
-use luks_edit::{Done, Edit, EditFault, Step};
-use luks_formatting::{Format, format2};
+use crate::calls::{is_at, is_formatted, key_of, runs};
+use crate::luks1::LUKS1;
+use crate::luks2::LUKS2;
+use crate::rows::{List, Reply, Row};
+use luks_area::{FaultyDevice, Leave, MemDevice};
+use luks_edit::{Edit, EditFault, Step};
 use luks_kdf::HashName;
-use luks_reading::{Allowed, Copies, Data, Version, check, open_slot};
 use luks_test_devices::{VOLUME_KEY, add, counted, is_sum, remove, small1, small2};
-use luks_volume::run;
 use std::alloc::Global;
 use std::test::Fail;
-
-/// A reply of `run`.
-pub(crate) type Reply = Result<Done, EditFault>;
 
 /// For each row its random bytes, counted from its number on.
 pub(crate) fn random_of(alloc: Global, rows: &[Row]) -> Result<Vec<Vec<u8>>, Fail> {
@@ -54,37 +50,24 @@ fn are_told(alloc: Global, rows: &[Row], replies: &[Reply]) -> Result<bool, Fail
 }
 
 /// Whether the list has its replies, and leaves the last volume.
-fn runs(alloc: Global, image: Vec<u8>, list: List<'_>) -> Result<bool, Fail> {
-    let List { rows, sums } = list;
-    let random = random_of(alloc, rows)?;
-    let steps = steps_of(alloc, rows, &random)?;
+fn leaves(alloc: Global, image: Vec<u8>, list: List<'_>) -> Result<bool, Fail> {
+    let random = random_of(alloc, list.rows)?;
+    let steps = steps_of(alloc, list.rows, &random)?;
     let mut device = MemDevice::new(image);
     let mut replies = Vec::new(alloc);
-    let ran = run(alloc, &mut device, Data::Here, &steps, &mut replies);
-    let last = sums.last().ok_or("no sum")?;
-    let told = are_told(alloc, rows, &replies)?;
-    Ok(ran.is_ok() && told && is_sum(device.contents(), last))
+    let before = is_sum(device.contents(), list.before);
+    let ran = runs(alloc, &mut device, &steps, &mut replies);
+    let told = are_told(alloc, list.rows, &replies)?;
+    Ok(before && ran && told && is_sum(device.contents(), list.after))
 }
-
-/// The list over the small LUKS1 volume by SHA-256.
-pub(crate) const LUKS1: List<'static> = List {
-    rows: &luks1::table::LIST,
-    sums: &luks1::table::SHA256,
-};
-
-/// That over the LUKS2 volume.
-const LUKS2: List<'static> = List {
-    rows: &luks2::table::LIST,
-    sums: &luks2::table::SHA256,
-};
 
 #[test]
 fn whole_lists(rt: HostRuntime) -> Result<(), Fail> {
     let alloc = rt.alloc();
     let old = small1(alloc, HashName::Sha256)?;
-    assert!(rt; runs(alloc, old, LUKS1)?, "LUKS1");
+    assert!(rt; leaves(alloc, old, LUKS1)?, "LUKS1");
     let new = small2(alloc, HashName::Sha256)?;
-    assert!(rt; runs(alloc, new, LUKS2)?, "LUKS2");
+    assert!(rt; leaves(alloc, new, LUKS2)?, "LUKS2");
     Ok(())
 }
 
@@ -105,38 +88,10 @@ const WORKED: [Row; 5] = [
 fn formatted(alloc: Global) -> Result<MemDevice, Fail> {
     let random = counted(alloc, 0, 256208)?;
     let mut device = MemDevice::new(vec![in alloc; 0xA5u8; 16777728]?);
-    let format = Format {
-        hash: HashName::Sha256,
-        iterations: 1000,
-    };
-    match format2(alloc, &mut device, Data::Here, &format, b"one", &random) {
-        Ok(_) => Ok(device),
-        Err(_) => Err("not formatted".into()),
-    }
-}
-
-/// Whether `check` accepts the volume, as one of LUKS2 with this sequence number and both copies in
-/// step.
-fn is_at(alloc: Global, device: &mut MemDevice, number: u64) -> bool {
-    match check(alloc, device, Data::Here) {
-        Ok(report) => match report.version {
-            Version::Luks2 { copies, seqid } => copies == Copies::InStep && seqid == number,
-            Version::Luks1 => false,
-        },
-        Err(_) => false,
-    }
-}
-
-/// The bytes of the key that the keyslot opens to.
-fn key_of(
-    alloc: Global,
-    device: &mut MemDevice,
-    n: u8,
-    passphrase: &[u8],
-) -> Result<Vec<u8>, Fail> {
-    match open_slot(alloc, device, n, passphrase, Allowed::NOTHING) {
-        Ok(Some(key)) => Ok(key.as_bytes().to_vec(alloc)?),
-        _ => Err("no key".into()),
+    if is_formatted(alloc, &mut device, &random) {
+        Ok(device)
+    } else {
+        Err("not formatted".into())
     }
 }
 
@@ -148,11 +103,8 @@ fn worked_list(rt: HostRuntime) -> Result<(), Fail> {
     let random = random_of(alloc, &WORKED)?;
     let steps = steps_of(alloc, &WORKED, &random)?;
     let mut replies = Vec::new(alloc);
-    let ran = run(alloc, &mut device, Data::Here, &steps, &mut replies);
-    assert!(rt;
-        ran.is_ok() && are_told(alloc, &WORKED, &replies)?,
-        "the replies"
-    );
+    let ran = runs(alloc, &mut device, &steps, &mut replies);
+    assert!(rt; ran && are_told(alloc, &WORKED, &replies)?, "the replies");
     assert!(rt; is_at(alloc, &mut device, 4), "the sequence number");
     let after = key_of(alloc, &mut device, 1, b"two")?;
     assert!(rt; after == before, "the key");
@@ -169,8 +121,8 @@ fn no_step(rt: HostRuntime) -> Result<(), Fail> {
     let mut device = MemDevice::new(small1(alloc, HashName::Sha256)?);
     let mut replies = Vec::new(alloc);
     replies.push(Err(EditFault::LastSlot))?;
-    let ran = run(alloc, &mut device, Data::Here, &[], &mut replies);
-    assert!(rt; ran.is_ok(), "the list");
+    let ran = runs(alloc, &mut device, &[], &mut replies);
+    assert!(rt; ran, "the list");
     assert!(rt;
         matches!(replies.as_slice(), [Err(EditFault::LastSlot)]),
         "the replies"
@@ -181,7 +133,7 @@ fn no_step(rt: HostRuntime) -> Result<(), Fail> {
 }
 
 /// How a list of two edits ended.
-#[derive(Debug, Clone, Copy, PartialEq, Eq)]
+#[derive(Clone, Copy)]
 enum End {
     /// Both were done.
     Done,
@@ -200,7 +152,7 @@ fn end_of(alloc: Global, call: u64) -> Result<End, Fail> {
     let image = MemDevice::new(small1(alloc, HashName::Sha256)?);
     let mut device = FaultyDevice::new(image, call, Leave::Ones);
     let mut replies = Vec::new(alloc);
-    if run(alloc, &mut device, Data::Here, &steps, &mut replies).is_err() {
+    if !runs(alloc, &mut device, &steps, &mut replies) {
         return Ok(End::Other);
     }
     let failures = device.failures();
@@ -215,8 +167,8 @@ fn end_of(alloc: Global, call: u64) -> Result<End, Fail> {
 
 /// The keyslot that the first addition made opens, whatever is left of the second.
 fn second_end(alloc: Global, left: &mut MemDevice) -> End {
-    match open_slot(alloc, left, 1, b"two", Allowed::NOTHING) {
-        Ok(Some(key)) if key.as_bytes() == VOLUME_KEY.as_slice() => End::Second,
+    match key_of(alloc, left, 1, b"two") {
+        Ok(key) if key.as_slice() == VOLUME_KEY.as_slice() => End::Second,
         _ => End::Other,
     }
 }
