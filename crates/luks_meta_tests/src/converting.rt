@@ -2,9 +2,10 @@
 
 use crate::making::converted::CONVERTED;
 use crate::rows::read;
+use luks_json::compact_text_of;
 use luks_new_meta::{SourceSlot, SourceVolume};
+use luks_test_devices::is_sum;
 use std::alloc::Global;
-use std::process::Abort;
 use std::test::Fail;
 
 /// The enabled keyslots of these numbers, each with its own iterations and salt.
@@ -22,16 +23,19 @@ fn slots_of(stripes: u32, numbers: &[usize]) -> [Option<SourceSlot>; 8] {
     slots
 }
 
-/// Whether converting makes the metadata of this text, which meets every rule.
-fn converts(alloc: Global, volume: &SourceVolume<'_>, want: &str) -> Result<bool, Fail> {
+/// Whether converting makes the metadata of the text of this SHA-256, which meets every rule.
+fn converts(alloc: Global, volume: &SourceVolume<'_>, sum: &str) -> Result<bool, Fail> {
     let value = luks_making::converted(alloc, volume)?;
-    let meta = read(alloc, want)?;
-    Ok(value == *meta.value() && meta.text(alloc)?.as_str() == want)
+    let text = compact_text_of(alloc, &value)?;
+    let meta = read(alloc, text.as_str())?;
+    let again = meta.text(alloc)?;
+    Ok(is_sum(text.as_bytes(), sum) && value == *meta.value() && again.as_str() == text.as_str())
 }
 
 #[test]
 fn of_luks1_headers(rt: HostRuntime) -> Result<(), Fail> {
-    for (hash, encryption, key_bytes, payload_offset, stripes, numbers, want) in CONVERTED {
+    for (i, row) in CONVERTED.into_iter().enumerate() {
+        let (hash, encryption, key_bytes, payload_offset, stripes, numbers, sum) = row;
         let volume = SourceVolume {
             hash,
             encryption,
@@ -42,10 +46,7 @@ fn of_luks1_headers(rt: HostRuntime) -> Result<(), Fail> {
             payload_offset,
             slots: slots_of(stripes, numbers),
         };
-        assert!(rt;
-            converts(rt.alloc(), &volume, want)?,
-            "{numbers:?} of {hash}"
-        );
+        assert!(rt; converts(rt.alloc(), &volume, sum)?, "row {i}");
     }
     Ok(())
 }
