@@ -10,7 +10,7 @@ use crate::rows::{List, Reply, Row};
 use luks_area::{FaultyDevice, Leave, MemDevice};
 use luks_edit::{Edit, EditFault, Step};
 use luks_kdf::HashName;
-use luks_test_devices::{VOLUME_KEY, add, counted, is_sum, remove, small1, small2};
+use luks_test_devices::{VOLUME_KEY, add, counted, is_sum, label, remove, small1, small2};
 use std::alloc::Global;
 use std::test::Fail;
 
@@ -71,12 +71,24 @@ fn whole_lists(rt: HostRuntime) -> Result<(), Fail> {
     Ok(())
 }
 
-/// A list over a formatted LUKS2 volume, with its replies.
-const WORKED: [Row; 5] = [
+/// A list over a formatted LUKS2 volume, with its replies: printed by `testdata/oracle/edit_scripts worked`.
+const WORKED: [Row; 9] = [
+    (
+        add!(0, b"one", b"two", None),
+        Some(256097),
+        "refused RandomLength",
+    ),
+    (remove!(0, b"one"), Some(129), "refused LastSlot"),
+    (label!(b"x\x0a"), Some(128), "refused BadLabel"),
+    (
+        add!(0, b"one", b"two", Some(32)),
+        None,
+        "refused NoFreeSlot",
+    ),
     (add!(0, b"one", b"two", None), Some(256096), "done slot 1"),
     (
         add!(0, b"one", b"three", Some(1)),
-        Some(256096),
+        None,
         "refused SlotTaken",
     ),
     (remove!(0, b"one"), Some(128), "done"),
