@@ -1,9 +1,19 @@
 //! The metadata of headers that are made from LUKS1 headers, printed by `testdata/oracle/maker_rows converted`.
 
-/// Hash, encryption, the bytes of the key, where the payload begins, stripes, the enabled keyslots, and SHA-256 of the text. The
+/// Hash, encryption, the bytes of the key, where the payload begins, stripes, the enabled keyslots, and the text. The
 /// digest has 4294967295 iterations, a salt of 32 bytes 0x11 and 20 bytes 0x33; the keyslot n has 4294967288 + n
 /// iterations and a salt of 32 bytes 0x40 + n.
-pub const CONVERTED: [(&str, &str, u8, u64, u32, &[usize], &str); 12] = [
+pub type Row = (
+    &'static str,
+    &'static str,
+    u8,
+    u64,
+    u32,
+    &'static [usize],
+    &'static str,
+);
+
+pub static CONVERTED: [Row; 12] = [
     // 1036 bytes.
     (
         "sha256",
@@ -12,7 +22,14 @@ pub const CONVERTED: [(&str, &str, u8, u64, u32, &[usize], &str); 12] = [
         2097152,
         4000,
         &[0, 3],
-        "c3645f0098a86fe290ed1adcb2a65c47d86ecf5df5ab8199522e03e2ebbc6bdd",
+        "{\"config\":{\"json_size\":\"12288\",\"keyslots_size\":\"2064384\"},\"digests\":{\"0\":{\"digest\":\"MzMzMzMzMzMzMzMzMzMzMzMzMzM=\",\"hash\":\"sha256\",\"iterations\":4294967295,\
+         \"keyslots\":[\"0\",\"3\"],\"salt\":\"ERERERERERERERERERERERERERERERERERERERERERE=\",\"segments\":[\"0\"],\"type\":\"pbkdf2\"}},\"keyslots\":{\"0\":{\"af\":{\"hash\":\"sha256\",\
+         \"stripes\":4000,\"type\":\"luks1\"},\"area\":{\"encryption\":\"aes-xts-plain64\",\"key_size\":64,\"offset\":\"32768\",\"size\":\"258048\",\"type\":\"raw\"},\
+         \"kdf\":{\"hash\":\"sha256\",\"iterations\":4294967288,\"salt\":\"QEBAQEBAQEBAQEBAQEBAQEBAQEBAQEBAQEBAQEBAQEA=\",\"type\":\"pbkdf2\"},\"key_size\":64,\"type\":\"luks2\"},\
+         \"3\":{\"af\":{\"hash\":\"sha256\",\"stripes\":4000,\"type\":\"luks1\"},\"area\":{\"encryption\":\"aes-xts-plain64\",\"key_size\":64,\"offset\":\"290816\",\"size\":\"258048\",\
+         \"type\":\"raw\"},\"kdf\":{\"hash\":\"sha256\",\"iterations\":4294967291,\"salt\":\"Q0NDQ0NDQ0NDQ0NDQ0NDQ0NDQ0NDQ0NDQ0NDQ0NDQ0M=\",\"type\":\"pbkdf2\"},\"key_size\":64,\
+         \"type\":\"luks2\"}},\"segments\":{\"0\":{\"encryption\":\"aes-xts-plain64\",\"iv_tweak\":\"0\",\"offset\":\"2097152\",\"sector_size\":512,\"size\":\"dynamic\",\
+         \"type\":\"crypt\"}},\"tokens\":{}}",
     ),
     // 412 bytes.
     (
@@ -22,7 +39,9 @@ pub const CONVERTED: [(&str, &str, u8, u64, u32, &[usize], &str); 12] = [
         0,
         4000,
         &[],
-        "d66e5f0dbbb8a6e907fc6e7541fcef27bd7f5a3952896064b84c4b7d31bdf3c7",
+        "{\"config\":{\"json_size\":\"12288\",\"keyslots_size\":\"16744448\"},\"digests\":{\"0\":{\"digest\":\"MzMzMzMzMzMzMzMzMzMzMzMzMzM=\",\"hash\":\"sha256\",\"iterations\":4294967295,\
+         \"keyslots\":[],\"salt\":\"ERERERERERERERERERERERERERERERERERERERERERE=\",\"segments\":[\"0\"],\"type\":\"pbkdf2\"}},\"keyslots\":{},\
+         \"segments\":{\"0\":{\"encryption\":\"aes-xts-plain64\",\"iv_tweak\":\"0\",\"offset\":\"0\",\"sector_size\":512,\"size\":\"dynamic\",\"type\":\"crypt\"}},\"tokens\":{}}",
     ),
     // 2914 bytes.
     (
@@ -32,7 +51,27 @@ pub const CONVERTED: [(&str, &str, u8, u64, u32, &[usize], &str); 12] = [
         1052672,
         4000,
         &[0, 1, 2, 3, 4, 5, 6, 7],
-        "a0524c2e4264d7e1d4d26b9cb3a565262415ae203fbb936710f9de96ae611b05",
+        "{\"config\":{\"json_size\":\"12288\",\"keyslots_size\":\"16744448\"},\"digests\":{\"0\":{\"digest\":\"MzMzMzMzMzMzMzMzMzMzMzMzMzM=\",\"hash\":\"sha1\",\"iterations\":4294967295,\
+         \"keyslots\":[\"0\",\"1\",\"2\",\"3\",\"4\",\"5\",\"6\",\"7\"],\"salt\":\"ERERERERERERERERERERERERERERERERERERERERERE=\",\"segments\":[\"0\"],\"type\":\"pbkdf2\"}},\
+         \"keyslots\":{\"0\":{\"af\":{\"hash\":\"sha1\",\"stripes\":4000,\"type\":\"luks1\"},\"area\":{\"encryption\":\"aes-cbc-essiv:sha256\",\"key_size\":32,\"offset\":\"32768\",\
+         \"size\":\"131072\",\"type\":\"raw\"},\"kdf\":{\"hash\":\"sha1\",\"iterations\":4294967288,\"salt\":\"QEBAQEBAQEBAQEBAQEBAQEBAQEBAQEBAQEBAQEBAQEA=\",\"type\":\"pbkdf2\"},\
+         \"key_size\":32,\"type\":\"luks2\"},\"1\":{\"af\":{\"hash\":\"sha1\",\"stripes\":4000,\"type\":\"luks1\"},\"area\":{\"encryption\":\"aes-cbc-essiv:sha256\",\"key_size\":32,\
+         \"offset\":\"163840\",\"size\":\"131072\",\"type\":\"raw\"},\"kdf\":{\"hash\":\"sha1\",\"iterations\":4294967289,\"salt\":\"QUFBQUFBQUFBQUFBQUFBQUFBQUFBQUFBQUFBQUFBQUE=\",\
+         \"type\":\"pbkdf2\"},\"key_size\":32,\"type\":\"luks2\"},\"2\":{\"af\":{\"hash\":\"sha1\",\"stripes\":4000,\"type\":\"luks1\"},\"area\":{\"encryption\":\"aes-cbc-essiv:sha256\",\
+         \"key_size\":32,\"offset\":\"294912\",\"size\":\"131072\",\"type\":\"raw\"},\"kdf\":{\"hash\":\"sha1\",\"iterations\":4294967290,\
+         \"salt\":\"QkJCQkJCQkJCQkJCQkJCQkJCQkJCQkJCQkJCQkJCQkI=\",\"type\":\"pbkdf2\"},\"key_size\":32,\"type\":\"luks2\"},\"3\":{\"af\":{\"hash\":\"sha1\",\"stripes\":4000,\
+         \"type\":\"luks1\"},\"area\":{\"encryption\":\"aes-cbc-essiv:sha256\",\"key_size\":32,\"offset\":\"425984\",\"size\":\"131072\",\"type\":\"raw\"},\"kdf\":{\"hash\":\"sha1\",\
+         \"iterations\":4294967291,\"salt\":\"Q0NDQ0NDQ0NDQ0NDQ0NDQ0NDQ0NDQ0NDQ0NDQ0NDQ0M=\",\"type\":\"pbkdf2\"},\"key_size\":32,\"type\":\"luks2\"},\"4\":{\"af\":{\"hash\":\"sha1\",\
+         \"stripes\":4000,\"type\":\"luks1\"},\"area\":{\"encryption\":\"aes-cbc-essiv:sha256\",\"key_size\":32,\"offset\":\"557056\",\"size\":\"131072\",\"type\":\"raw\"},\
+         \"kdf\":{\"hash\":\"sha1\",\"iterations\":4294967292,\"salt\":\"REREREREREREREREREREREREREREREREREREREREREQ=\",\"type\":\"pbkdf2\"},\"key_size\":32,\"type\":\"luks2\"},\
+         \"5\":{\"af\":{\"hash\":\"sha1\",\"stripes\":4000,\"type\":\"luks1\"},\"area\":{\"encryption\":\"aes-cbc-essiv:sha256\",\"key_size\":32,\"offset\":\"688128\",\"size\":\"131072\",\
+         \"type\":\"raw\"},\"kdf\":{\"hash\":\"sha1\",\"iterations\":4294967293,\"salt\":\"RUVFRUVFRUVFRUVFRUVFRUVFRUVFRUVFRUVFRUVFRUU=\",\"type\":\"pbkdf2\"},\"key_size\":32,\
+         \"type\":\"luks2\"},\"6\":{\"af\":{\"hash\":\"sha1\",\"stripes\":4000,\"type\":\"luks1\"},\"area\":{\"encryption\":\"aes-cbc-essiv:sha256\",\"key_size\":32,\"offset\":\"819200\",\
+         \"size\":\"131072\",\"type\":\"raw\"},\"kdf\":{\"hash\":\"sha1\",\"iterations\":4294967294,\"salt\":\"RkZGRkZGRkZGRkZGRkZGRkZGRkZGRkZGRkZGRkZGRkY=\",\"type\":\"pbkdf2\"},\
+         \"key_size\":32,\"type\":\"luks2\"},\"7\":{\"af\":{\"hash\":\"sha1\",\"stripes\":4000,\"type\":\"luks1\"},\"area\":{\"encryption\":\"aes-cbc-essiv:sha256\",\"key_size\":32,\
+         \"offset\":\"950272\",\"size\":\"131072\",\"type\":\"raw\"},\"kdf\":{\"hash\":\"sha1\",\"iterations\":4294967295,\"salt\":\"R0dHR0dHR0dHR0dHR0dHR0dHR0dHR0dHR0dHR0dHR0c=\",\
+         \"type\":\"pbkdf2\"},\"key_size\":32,\"type\":\"luks2\"}},\"segments\":{\"0\":{\"encryption\":\"aes-cbc-essiv:sha256\",\"iv_tweak\":\"0\",\"offset\":\"1052672\",\
+         \"sector_size\":512,\"size\":\"dynamic\",\"type\":\"crypt\"}},\"tokens\":{}}",
     ),
     // 2328 bytes.
     (
@@ -42,7 +81,23 @@ pub const CONVERTED: [(&str, &str, u8, u64, u32, &[usize], &str); 12] = [
         2097152,
         40000,
         &[1, 2, 4, 5, 6, 7],
-        "95f51ad518c6fa394cd041b5540ed0ac103a79f8c8fe0af6ee568504bcab0c21",
+        "{\"config\":{\"json_size\":\"12288\",\"keyslots_size\":\"16744448\"},\"digests\":{\"0\":{\"digest\":\"MzMzMzMzMzMzMzMzMzMzMzMzMzM=\",\"hash\":\"sha512\",\"iterations\":4294967295,\
+         \"keyslots\":[\"1\",\"2\",\"4\",\"5\",\"6\",\"7\"],\"salt\":\"ERERERERERERERERERERERERERERERERERERERERERE=\",\"segments\":[\"0\"],\"type\":\"pbkdf2\"}},\
+         \"keyslots\":{\"1\":{\"af\":{\"hash\":\"sha512\",\"stripes\":40000,\"type\":\"luks1\"},\"area\":{\"encryption\":\"serpent-xts-plain64\",\"key_size\":64,\"offset\":\"32768\",\
+         \"size\":\"2560000\",\"type\":\"raw\"},\"kdf\":{\"hash\":\"sha512\",\"iterations\":4294967289,\"salt\":\"QUFBQUFBQUFBQUFBQUFBQUFBQUFBQUFBQUFBQUFBQUE=\",\"type\":\"pbkdf2\"},\
+         \"key_size\":64,\"type\":\"luks2\"},\"2\":{\"af\":{\"hash\":\"sha512\",\"stripes\":40000,\"type\":\"luks1\"},\"area\":{\"encryption\":\"serpent-xts-plain64\",\"key_size\":64,\
+         \"offset\":\"2592768\",\"size\":\"2560000\",\"type\":\"raw\"},\"kdf\":{\"hash\":\"sha512\",\"iterations\":4294967290,\"salt\":\"QkJCQkJCQkJCQkJCQkJCQkJCQkJCQkJCQkJCQkJCQkI=\",\
+         \"type\":\"pbkdf2\"},\"key_size\":64,\"type\":\"luks2\"},\"4\":{\"af\":{\"hash\":\"sha512\",\"stripes\":40000,\"type\":\"luks1\"},\"area\":{\"encryption\":\"serpent-xts-plain64\",\
+         \"key_size\":64,\"offset\":\"5152768\",\"size\":\"2560000\",\"type\":\"raw\"},\"kdf\":{\"hash\":\"sha512\",\"iterations\":4294967292,\
+         \"salt\":\"REREREREREREREREREREREREREREREREREREREREREQ=\",\"type\":\"pbkdf2\"},\"key_size\":64,\"type\":\"luks2\"},\"5\":{\"af\":{\"hash\":\"sha512\",\"stripes\":40000,\
+         \"type\":\"luks1\"},\"area\":{\"encryption\":\"serpent-xts-plain64\",\"key_size\":64,\"offset\":\"7712768\",\"size\":\"2560000\",\"type\":\"raw\"},\"kdf\":{\"hash\":\"sha512\",\
+         \"iterations\":4294967293,\"salt\":\"RUVFRUVFRUVFRUVFRUVFRUVFRUVFRUVFRUVFRUVFRUU=\",\"type\":\"pbkdf2\"},\"key_size\":64,\"type\":\"luks2\"},\"6\":{\"af\":{\"hash\":\"sha512\",\
+         \"stripes\":40000,\"type\":\"luks1\"},\"area\":{\"encryption\":\"serpent-xts-plain64\",\"key_size\":64,\"offset\":\"10272768\",\"size\":\"2560000\",\"type\":\"raw\"},\
+         \"kdf\":{\"hash\":\"sha512\",\"iterations\":4294967294,\"salt\":\"RkZGRkZGRkZGRkZGRkZGRkZGRkZGRkZGRkZGRkZGRkY=\",\"type\":\"pbkdf2\"},\"key_size\":64,\"type\":\"luks2\"},\
+         \"7\":{\"af\":{\"hash\":\"sha512\",\"stripes\":40000,\"type\":\"luks1\"},\"area\":{\"encryption\":\"serpent-xts-plain64\",\"key_size\":64,\"offset\":\"12832768\",\
+         \"size\":\"2560000\",\"type\":\"raw\"},\"kdf\":{\"hash\":\"sha512\",\"iterations\":4294967295,\"salt\":\"R0dHR0dHR0dHR0dHR0dHR0dHR0dHR0dHR0dHR0dHR0c=\",\"type\":\"pbkdf2\"},\
+         \"key_size\":64,\"type\":\"luks2\"}},\"segments\":{\"0\":{\"encryption\":\"serpent-xts-plain64\",\"iv_tweak\":\"0\",\"offset\":\"2097152\",\"sector_size\":512,\"size\":\"dynamic\",\
+         \"type\":\"crypt\"}},\"tokens\":{}}",
     ),
     // 4972 bytes.
     (
@@ -52,7 +107,52 @@ pub const CONVERTED: [(&str, &str, u8, u64, u32, &[usize], &str); 12] = [
         2199023255040,
         16000,
         &[0, 1, 2, 3, 4, 5, 6, 7],
-        "31d08ae68a183913556c79494ab2af4a122c39feecf6090b3753bba206f77282",
+        "{\"config\":{\"json_size\":\"12288\",\"keyslots_size\":\"16744448\"},\"digests\":{\"0\":{\"digest\":\"MzMzMzMzMzMzMzMzMzMzMzMzMzM=\",\
+         \"hash\":\"\\\"\\\"\\\"\\\"\\\"\\\"\\\"\\\"\\\"\\\"\\\"\\\"\\\"\\\"\\\"\\\"\\\"\\\"\\\"\\\"\\\"\\\"\\\"\\\"\\\"\\\"\\\"\\\"\\\"\\\"\\\"\\\"\",\"iterations\":4294967295,\
+         \"keyslots\":[\"0\",\"1\",\"2\",\"3\",\"4\",\"5\",\"6\",\"7\"],\"salt\":\"ERERERERERERERERERERERERERERERERERERERERERE=\",\"segments\":[\"0\"],\"type\":\"pbkdf2\"}},\
+         \"keyslots\":{\"0\":{\"af\":{\"hash\":\"\\\"\\\"\\\"\\\"\\\"\\\"\\\"\\\"\\\"\\\"\\\"\\\"\\\"\\\"\\\"\\\"\\\"\\\"\\\"\\\"\\\"\\\"\\\"\\\"\\\"\\\"\\\"\\\"\\\"\\\"\\\"\\\"\",\
+         \"stripes\":16000,\"type\":\"luks1\"},\"area\":{\"encryption\":\"\\\\\\\\\\\\\\\\\\\\\\\\\\\\\\\\\\\\\\\\\\\\\\\\\\\\\\\\\\\\\\\\\\\\\\\\\\\\\\\\\\\\\\\\\\\\\\\\\\\\\\\\\\\\\\\\\\\
+         \\\\\\\\\\\\\\\\\\\\\\\\\\\\\\\\\\\\\\\\\\\\\\\\\\\\\\\\\\\\\\\\\\\\\\\\\\\\\\\\\\\\\\\\\\\\\\\\\\\\\\\\\\\\\\\\\\\\\\\\\\\\\\\\\\\\\\\\\\\\\\\\\\\",\"key_size\":128,\
+         \"offset\":\"32768\",\"size\":\"2048000\",\"type\":\"raw\"},\"kdf\":{\"hash\":\"\\\"\\\"\\\"\\\"\\\"\\\"\\\"\\\"\\\"\\\"\\\"\\\"\\\"\\\"\\\"\\\"\\\"\\\"\\\"\\\"\\\"\\\"\\\"\\\"\\\"\
+         \\\"\\\"\\\"\\\"\\\"\\\"\\\"\",\"iterations\":4294967288,\"salt\":\"QEBAQEBAQEBAQEBAQEBAQEBAQEBAQEBAQEBAQEBAQEA=\",\"type\":\"pbkdf2\"},\"key_size\":128,\"type\":\"luks2\"},\
+         \"1\":{\"af\":{\"hash\":\"\\\"\\\"\\\"\\\"\\\"\\\"\\\"\\\"\\\"\\\"\\\"\\\"\\\"\\\"\\\"\\\"\\\"\\\"\\\"\\\"\\\"\\\"\\\"\\\"\\\"\\\"\\\"\\\"\\\"\\\"\\\"\\\"\",\"stripes\":16000,\
+         \"type\":\"luks1\"},\"area\":{\"encryption\":\"\\\\\\\\\\\\\\\\\\\\\\\\\\\\\\\\\\\\\\\\\\\\\\\\\\\\\\\\\\\\\\\\\\\\\\\\\\\\\\\\\\\\\\\\\\\\\\\\\\\\\\\\\\\\\\\\\\\\\\\\\\\\\\\\\\\\\
+         \\\\\\\\\\\\\\\\\\\\\\\\\\\\\\\\\\\\\\\\\\\\\\\\\\\\\\\\\\\\\\\\\\\\\\\\\\\\\\\\\\\\\\\\\\\\\\\\\\\\\\\\\\\\\\\\\\\\\\\\\\\\\\\\\",\"key_size\":128,\"offset\":\"2080768\",\
+         \"size\":\"2048000\",\"type\":\"raw\"},\"kdf\":{\"hash\":\"\\\"\\\"\\\"\\\"\\\"\\\"\\\"\\\"\\\"\\\"\\\"\\\"\\\"\\\"\\\"\\\"\\\"\\\"\\\"\\\"\\\"\\\"\\\"\\\"\\\"\\\"\\\"\\\"\\\"\\\"\
+         \\\"\\\"\",\"iterations\":4294967289,\"salt\":\"QUFBQUFBQUFBQUFBQUFBQUFBQUFBQUFBQUFBQUFBQUE=\",\"type\":\"pbkdf2\"},\"key_size\":128,\"type\":\"luks2\"},\
+         \"2\":{\"af\":{\"hash\":\"\\\"\\\"\\\"\\\"\\\"\\\"\\\"\\\"\\\"\\\"\\\"\\\"\\\"\\\"\\\"\\\"\\\"\\\"\\\"\\\"\\\"\\\"\\\"\\\"\\\"\\\"\\\"\\\"\\\"\\\"\\\"\\\"\",\"stripes\":16000,\
+         \"type\":\"luks1\"},\"area\":{\"encryption\":\"\\\\\\\\\\\\\\\\\\\\\\\\\\\\\\\\\\\\\\\\\\\\\\\\\\\\\\\\\\\\\\\\\\\\\\\\\\\\\\\\\\\\\\\\\\\\\\\\\\\\\\\\\\\\\\\\\\\\\\\\\\\\\\\\\\\\\
+         \\\\\\\\\\\\\\\\\\\\\\\\\\\\\\\\\\\\\\\\\\\\\\\\\\\\\\\\\\\\\\\\\\\\\\\\\\\\\\\\\\\\\\\\\\\\\\\\\\\\\\\\\\\\\\\\\\\\\\\\\\\\\\\\\",\"key_size\":128,\"offset\":\"4128768\",\
+         \"size\":\"2048000\",\"type\":\"raw\"},\"kdf\":{\"hash\":\"\\\"\\\"\\\"\\\"\\\"\\\"\\\"\\\"\\\"\\\"\\\"\\\"\\\"\\\"\\\"\\\"\\\"\\\"\\\"\\\"\\\"\\\"\\\"\\\"\\\"\\\"\\\"\\\"\\\"\\\"\
+         \\\"\\\"\",\"iterations\":4294967290,\"salt\":\"QkJCQkJCQkJCQkJCQkJCQkJCQkJCQkJCQkJCQkJCQkI=\",\"type\":\"pbkdf2\"},\"key_size\":128,\"type\":\"luks2\"},\
+         \"3\":{\"af\":{\"hash\":\"\\\"\\\"\\\"\\\"\\\"\\\"\\\"\\\"\\\"\\\"\\\"\\\"\\\"\\\"\\\"\\\"\\\"\\\"\\\"\\\"\\\"\\\"\\\"\\\"\\\"\\\"\\\"\\\"\\\"\\\"\\\"\\\"\",\"stripes\":16000,\
+         \"type\":\"luks1\"},\"area\":{\"encryption\":\"\\\\\\\\\\\\\\\\\\\\\\\\\\\\\\\\\\\\\\\\\\\\\\\\\\\\\\\\\\\\\\\\\\\\\\\\\\\\\\\\\\\\\\\\\\\\\\\\\\\\\\\\\\\\\\\\\\\\\\\\\\\\\\\\\\\\\
+         \\\\\\\\\\\\\\\\\\\\\\\\\\\\\\\\\\\\\\\\\\\\\\\\\\\\\\\\\\\\\\\\\\\\\\\\\\\\\\\\\\\\\\\\\\\\\\\\\\\\\\\\\\\\\\\\\\\\\\\\\\\\\\\\\",\"key_size\":128,\"offset\":\"6176768\",\
+         \"size\":\"2048000\",\"type\":\"raw\"},\"kdf\":{\"hash\":\"\\\"\\\"\\\"\\\"\\\"\\\"\\\"\\\"\\\"\\\"\\\"\\\"\\\"\\\"\\\"\\\"\\\"\\\"\\\"\\\"\\\"\\\"\\\"\\\"\\\"\\\"\\\"\\\"\\\"\\\"\
+         \\\"\\\"\",\"iterations\":4294967291,\"salt\":\"Q0NDQ0NDQ0NDQ0NDQ0NDQ0NDQ0NDQ0NDQ0NDQ0NDQ0M=\",\"type\":\"pbkdf2\"},\"key_size\":128,\"type\":\"luks2\"},\
+         \"4\":{\"af\":{\"hash\":\"\\\"\\\"\\\"\\\"\\\"\\\"\\\"\\\"\\\"\\\"\\\"\\\"\\\"\\\"\\\"\\\"\\\"\\\"\\\"\\\"\\\"\\\"\\\"\\\"\\\"\\\"\\\"\\\"\\\"\\\"\\\"\\\"\",\"stripes\":16000,\
+         \"type\":\"luks1\"},\"area\":{\"encryption\":\"\\\\\\\\\\\\\\\\\\\\\\\\\\\\\\\\\\\\\\\\\\\\\\\\\\\\\\\\\\\\\\\\\\\\\\\\\\\\\\\\\\\\\\\\\\\\\\\\\\\\\\\\\\\\\\\\\\\\\\\\\\\\\\\\\\\\\
+         \\\\\\\\\\\\\\\\\\\\\\\\\\\\\\\\\\\\\\\\\\\\\\\\\\\\\\\\\\\\\\\\\\\\\\\\\\\\\\\\\\\\\\\\\\\\\\\\\\\\\\\\\\\\\\\\\\\\\\\\\\\\\\\\\",\"key_size\":128,\"offset\":\"8224768\",\
+         \"size\":\"2048000\",\"type\":\"raw\"},\"kdf\":{\"hash\":\"\\\"\\\"\\\"\\\"\\\"\\\"\\\"\\\"\\\"\\\"\\\"\\\"\\\"\\\"\\\"\\\"\\\"\\\"\\\"\\\"\\\"\\\"\\\"\\\"\\\"\\\"\\\"\\\"\\\"\\\"\
+         \\\"\\\"\",\"iterations\":4294967292,\"salt\":\"REREREREREREREREREREREREREREREREREREREREREQ=\",\"type\":\"pbkdf2\"},\"key_size\":128,\"type\":\"luks2\"},\
+         \"5\":{\"af\":{\"hash\":\"\\\"\\\"\\\"\\\"\\\"\\\"\\\"\\\"\\\"\\\"\\\"\\\"\\\"\\\"\\\"\\\"\\\"\\\"\\\"\\\"\\\"\\\"\\\"\\\"\\\"\\\"\\\"\\\"\\\"\\\"\\\"\\\"\",\"stripes\":16000,\
+         \"type\":\"luks1\"},\"area\":{\"encryption\":\"\\\\\\\\\\\\\\\\\\\\\\\\\\\\\\\\\\\\\\\\\\\\\\\\\\\\\\\\\\\\\\\\\\\\\\\\\\\\\\\\\\\\\\\\\\\\\\\\\\\\\\\\\\\\\\\\\\\\\\\\\\\\\\\\\\\\\
+         \\\\\\\\\\\\\\\\\\\\\\\\\\\\\\\\\\\\\\\\\\\\\\\\\\\\\\\\\\\\\\\\\\\\\\\\\\\\\\\\\\\\\\\\\\\\\\\\\\\\\\\\\\\\\\\\\\\\\\\\\\\\\\\\\",\"key_size\":128,\"offset\":\"10272768\",\
+         \"size\":\"2048000\",\"type\":\"raw\"},\"kdf\":{\"hash\":\"\\\"\\\"\\\"\\\"\\\"\\\"\\\"\\\"\\\"\\\"\\\"\\\"\\\"\\\"\\\"\\\"\\\"\\\"\\\"\\\"\\\"\\\"\\\"\\\"\\\"\\\"\\\"\\\"\\\"\\\"\
+         \\\"\\\"\",\"iterations\":4294967293,\"salt\":\"RUVFRUVFRUVFRUVFRUVFRUVFRUVFRUVFRUVFRUVFRUU=\",\"type\":\"pbkdf2\"},\"key_size\":128,\"type\":\"luks2\"},\
+         \"6\":{\"af\":{\"hash\":\"\\\"\\\"\\\"\\\"\\\"\\\"\\\"\\\"\\\"\\\"\\\"\\\"\\\"\\\"\\\"\\\"\\\"\\\"\\\"\\\"\\\"\\\"\\\"\\\"\\\"\\\"\\\"\\\"\\\"\\\"\\\"\\\"\",\"stripes\":16000,\
+         \"type\":\"luks1\"},\"area\":{\"encryption\":\"\\\\\\\\\\\\\\\\\\\\\\\\\\\\\\\\\\\\\\\\\\\\\\\\\\\\\\\\\\\\\\\\\\\\\\\\\\\\\\\\\\\\\\\\\\\\\\\\\\\\\\\\\\\\\\\\\\\\\\\\\\\\\\\\\\\\\
+         \\\\\\\\\\\\\\\\\\\\\\\\\\\\\\\\\\\\\\\\\\\\\\\\\\\\\\\\\\\\\\\\\\\\\\\\\\\\\\\\\\\\\\\\\\\\\\\\\\\\\\\\\\\\\\\\\\\\\\\\\\\\\\\\\",\"key_size\":128,\"offset\":\"12320768\",\
+         \"size\":\"2048000\",\"type\":\"raw\"},\"kdf\":{\"hash\":\"\\\"\\\"\\\"\\\"\\\"\\\"\\\"\\\"\\\"\\\"\\\"\\\"\\\"\\\"\\\"\\\"\\\"\\\"\\\"\\\"\\\"\\\"\\\"\\\"\\\"\\\"\\\"\\\"\\\"\\\"\
+         \\\"\\\"\",\"iterations\":4294967294,\"salt\":\"RkZGRkZGRkZGRkZGRkZGRkZGRkZGRkZGRkZGRkZGRkY=\",\"type\":\"pbkdf2\"},\"key_size\":128,\"type\":\"luks2\"},\
+         \"7\":{\"af\":{\"hash\":\"\\\"\\\"\\\"\\\"\\\"\\\"\\\"\\\"\\\"\\\"\\\"\\\"\\\"\\\"\\\"\\\"\\\"\\\"\\\"\\\"\\\"\\\"\\\"\\\"\\\"\\\"\\\"\\\"\\\"\\\"\\\"\\\"\",\"stripes\":16000,\
+         \"type\":\"luks1\"},\"area\":{\"encryption\":\"\\\\\\\\\\\\\\\\\\\\\\\\\\\\\\\\\\\\\\\\\\\\\\\\\\\\\\\\\\\\\\\\\\\\\\\\\\\\\\\\\\\\\\\\\\\\\\\\\\\\\\\\\\\\\\\\\\\\\\\\\\\\\\\\\\\\\
+         \\\\\\\\\\\\\\\\\\\\\\\\\\\\\\\\\\\\\\\\\\\\\\\\\\\\\\\\\\\\\\\\\\\\\\\\\\\\\\\\\\\\\\\\\\\\\\\\\\\\\\\\\\\\\\\\\\\\\\\\\\\\\\\\\",\"key_size\":128,\"offset\":\"14368768\",\
+         \"size\":\"2048000\",\"type\":\"raw\"},\"kdf\":{\"hash\":\"\\\"\\\"\\\"\\\"\\\"\\\"\\\"\\\"\\\"\\\"\\\"\\\"\\\"\\\"\\\"\\\"\\\"\\\"\\\"\\\"\\\"\\\"\\\"\\\"\\\"\\\"\\\"\\\"\\\"\\\"\
+         \\\"\\\"\",\"iterations\":4294967295,\"salt\":\"R0dHR0dHR0dHR0dHR0dHR0dHR0dHR0dHR0dHR0dHR0c=\",\"type\":\"pbkdf2\"},\"key_size\":128,\"type\":\"luks2\"}},\
+         \"segments\":{\"0\":{\"encryption\":\"\\\\\\\\\\\\\\\\\\\\\\\\\\\\\\\\\\\\\\\\\\\\\\\\\\\\\\\\\\\\\\\\\\\\\\\\\\\\\\\\\\\\\\\\\\\\\\\\\\\\\\\\\\\\\\\\\\\\\\\\\\\\\\\\\\\\\\\\\\\\\\\
+         \\\\\\\\\\\\\\\\\\\\\\\\\\\\\\\\\\\\\\\\\\\\\\\\\\\\\\\\\\\\\\\\\\\\\\\\\\\\\\\\\\\\\\\\\\\\\\\\\\\\\\\\\\\\\\\\\\\\\\\",\"iv_tweak\":\"0\",\"offset\":\"2199023255040\",\
+         \"sector_size\":512,\"size\":\"dynamic\",\"type\":\"crypt\"}},\"tokens\":{}}",
     ),
     // 407 bytes.
     (
@@ -62,7 +162,9 @@ pub const CONVERTED: [(&str, &str, u8, u64, u32, &[usize], &str); 12] = [
         36352,
         4000,
         &[],
-        "b68d002ff294ba9ba5a877733578cbd547961c5e4289f84fce61331fa4a45a4c",
+        "{\"config\":{\"json_size\":\"12288\",\"keyslots_size\":\"0\"},\"digests\":{\"0\":{\"digest\":\"MzMzMzMzMzMzMzMzMzMzMzMzMzM=\",\"hash\":\"sha1\",\"iterations\":4294967295,\
+         \"keyslots\":[],\"salt\":\"ERERERERERERERERERERERERERERERERERERERERERE=\",\"segments\":[\"0\"],\"type\":\"pbkdf2\"}},\"keyslots\":{},\
+         \"segments\":{\"0\":{\"encryption\":\"aes-xts-plain64\",\"iv_tweak\":\"0\",\"offset\":\"36352\",\"sector_size\":512,\"size\":\"dynamic\",\"type\":\"crypt\"}},\"tokens\":{}}",
     ),
     // 1024 bytes.
     (
@@ -72,7 +174,14 @@ pub const CONVERTED: [(&str, &str, u8, u64, u32, &[usize], &str); 12] = [
         294912,
         4000,
         &[5, 6],
-        "ec2ec633ba39dd2f659b65fd0509bab8f204cd34d1489ba8bee6c587851d1103",
+        "{\"config\":{\"json_size\":\"12288\",\"keyslots_size\":\"262144\"},\"digests\":{\"0\":{\"digest\":\"MzMzMzMzMzMzMzMzMzMzMzMzMzM=\",\"hash\":\"sha1\",\"iterations\":4294967295,\
+         \"keyslots\":[\"5\",\"6\"],\"salt\":\"ERERERERERERERERERERERERERERERERERERERERERE=\",\"segments\":[\"0\"],\"type\":\"pbkdf2\"}},\"keyslots\":{\"5\":{\"af\":{\"hash\":\"sha1\",\
+         \"stripes\":4000,\"type\":\"luks1\"},\"area\":{\"encryption\":\"aes-xts-plain64\",\"key_size\":32,\"offset\":\"32768\",\"size\":\"131072\",\"type\":\"raw\"},\
+         \"kdf\":{\"hash\":\"sha1\",\"iterations\":4294967293,\"salt\":\"RUVFRUVFRUVFRUVFRUVFRUVFRUVFRUVFRUVFRUVFRUU=\",\"type\":\"pbkdf2\"},\"key_size\":32,\"type\":\"luks2\"},\
+         \"6\":{\"af\":{\"hash\":\"sha1\",\"stripes\":4000,\"type\":\"luks1\"},\"area\":{\"encryption\":\"aes-xts-plain64\",\"key_size\":32,\"offset\":\"163840\",\"size\":\"131072\",\
+         \"type\":\"raw\"},\"kdf\":{\"hash\":\"sha1\",\"iterations\":4294967294,\"salt\":\"RkZGRkZGRkZGRkZGRkZGRkZGRkZGRkZGRkZGRkZGRkY=\",\"type\":\"pbkdf2\"},\"key_size\":32,\
+         \"type\":\"luks2\"}},\"segments\":{\"0\":{\"encryption\":\"aes-xts-plain64\",\"iv_tweak\":\"0\",\"offset\":\"294912\",\"sector_size\":512,\"size\":\"dynamic\",\"type\":\"crypt\"}},\
+         \"tokens\":{}}",
     ),
     // 1026 bytes.
     (
@@ -82,7 +191,14 @@ pub const CONVERTED: [(&str, &str, u8, u64, u32, &[usize], &str); 12] = [
         294400,
         4000,
         &[5, 6],
-        "637b06363482ede3b2d507805d02cc69cff1ab7ec0b22c974b08042cf07bf27d",
+        "{\"config\":{\"json_size\":\"12288\",\"keyslots_size\":\"16744448\"},\"digests\":{\"0\":{\"digest\":\"MzMzMzMzMzMzMzMzMzMzMzMzMzM=\",\"hash\":\"sha1\",\"iterations\":4294967295,\
+         \"keyslots\":[\"5\",\"6\"],\"salt\":\"ERERERERERERERERERERERERERERERERERERERERERE=\",\"segments\":[\"0\"],\"type\":\"pbkdf2\"}},\"keyslots\":{\"5\":{\"af\":{\"hash\":\"sha1\",\
+         \"stripes\":4000,\"type\":\"luks1\"},\"area\":{\"encryption\":\"aes-xts-plain64\",\"key_size\":32,\"offset\":\"32768\",\"size\":\"131072\",\"type\":\"raw\"},\
+         \"kdf\":{\"hash\":\"sha1\",\"iterations\":4294967293,\"salt\":\"RUVFRUVFRUVFRUVFRUVFRUVFRUVFRUVFRUVFRUVFRUU=\",\"type\":\"pbkdf2\"},\"key_size\":32,\"type\":\"luks2\"},\
+         \"6\":{\"af\":{\"hash\":\"sha1\",\"stripes\":4000,\"type\":\"luks1\"},\"area\":{\"encryption\":\"aes-xts-plain64\",\"key_size\":32,\"offset\":\"163840\",\"size\":\"131072\",\
+         \"type\":\"raw\"},\"kdf\":{\"hash\":\"sha1\",\"iterations\":4294967294,\"salt\":\"RkZGRkZGRkZGRkZGRkZGRkZGRkZGRkZGRkZGRkZGRkY=\",\"type\":\"pbkdf2\"},\"key_size\":32,\
+         \"type\":\"luks2\"}},\"segments\":{\"0\":{\"encryption\":\"aes-xts-plain64\",\"iv_tweak\":\"0\",\"offset\":\"294400\",\"sector_size\":512,\"size\":\"dynamic\",\"type\":\"crypt\"}},\
+         \"tokens\":{}}",
     ),
     // 1024 bytes.
     (
@@ -92,7 +208,14 @@ pub const CONVERTED: [(&str, &str, u8, u64, u32, &[usize], &str); 12] = [
         298496,
         4000,
         &[5, 6],
-        "3193b8c53c413dd987a3fbcee50307b0a43c19cefd2bb61896cbdaf4b04282a8",
+        "{\"config\":{\"json_size\":\"12288\",\"keyslots_size\":\"262144\"},\"digests\":{\"0\":{\"digest\":\"MzMzMzMzMzMzMzMzMzMzMzMzMzM=\",\"hash\":\"sha1\",\"iterations\":4294967295,\
+         \"keyslots\":[\"5\",\"6\"],\"salt\":\"ERERERERERERERERERERERERERERERERERERERERERE=\",\"segments\":[\"0\"],\"type\":\"pbkdf2\"}},\"keyslots\":{\"5\":{\"af\":{\"hash\":\"sha1\",\
+         \"stripes\":4000,\"type\":\"luks1\"},\"area\":{\"encryption\":\"aes-xts-plain64\",\"key_size\":32,\"offset\":\"32768\",\"size\":\"131072\",\"type\":\"raw\"},\
+         \"kdf\":{\"hash\":\"sha1\",\"iterations\":4294967293,\"salt\":\"RUVFRUVFRUVFRUVFRUVFRUVFRUVFRUVFRUVFRUVFRUU=\",\"type\":\"pbkdf2\"},\"key_size\":32,\"type\":\"luks2\"},\
+         \"6\":{\"af\":{\"hash\":\"sha1\",\"stripes\":4000,\"type\":\"luks1\"},\"area\":{\"encryption\":\"aes-xts-plain64\",\"key_size\":32,\"offset\":\"163840\",\"size\":\"131072\",\
+         \"type\":\"raw\"},\"kdf\":{\"hash\":\"sha1\",\"iterations\":4294967294,\"salt\":\"RkZGRkZGRkZGRkZGRkZGRkZGRkZGRkZGRkZGRkZGRkY=\",\"type\":\"pbkdf2\"},\"key_size\":32,\
+         \"type\":\"luks2\"}},\"segments\":{\"0\":{\"encryption\":\"aes-xts-plain64\",\"iv_tweak\":\"0\",\"offset\":\"298496\",\"sector_size\":512,\"size\":\"dynamic\",\"type\":\"crypt\"}},\
+         \"tokens\":{}}",
     ),
     // 727 bytes.
     (
@@ -102,7 +225,11 @@ pub const CONVERTED: [(&str, &str, u8, u64, u32, &[usize], &str); 12] = [
         16776704,
         4000,
         &[7],
-        "907900fbfd87b5861ba5376946bd90f3696c7672ce762045468c3dc336aba310",
+        "{\"config\":{\"json_size\":\"12288\",\"keyslots_size\":\"16740352\"},\"digests\":{\"0\":{\"digest\":\"MzMzMzMzMzMzMzMzMzMzMzMzMzM=\",\"hash\":\"sha256\",\"iterations\":4294967295,\
+         \"keyslots\":[\"7\"],\"salt\":\"ERERERERERERERERERERERERERERERERERERERERERE=\",\"segments\":[\"0\"],\"type\":\"pbkdf2\"}},\"keyslots\":{\"7\":{\"af\":{\"hash\":\"sha256\",\
+         \"stripes\":4000,\"type\":\"luks1\"},\"area\":{\"encryption\":\"aes-xts-plain64\",\"key_size\":64,\"offset\":\"32768\",\"size\":\"258048\",\"type\":\"raw\"},\
+         \"kdf\":{\"hash\":\"sha256\",\"iterations\":4294967295,\"salt\":\"R0dHR0dHR0dHR0dHR0dHR0dHR0dHR0dHR0dHR0dHR0c=\",\"type\":\"pbkdf2\"},\"key_size\":64,\"type\":\"luks2\"}},\
+         \"segments\":{\"0\":{\"encryption\":\"aes-xts-plain64\",\"iv_tweak\":\"0\",\"offset\":\"16776704\",\"sector_size\":512,\"size\":\"dynamic\",\"type\":\"crypt\"}},\"tokens\":{}}",
     ),
     // 727 bytes.
     (
@@ -112,7 +239,11 @@ pub const CONVERTED: [(&str, &str, u8, u64, u32, &[usize], &str); 12] = [
         16777216,
         4000,
         &[7],
-        "4ca31fbf577f3384dbf15515422f7edf09eab5ae27005183399a9605a3fbfb8f",
+        "{\"config\":{\"json_size\":\"12288\",\"keyslots_size\":\"16744448\"},\"digests\":{\"0\":{\"digest\":\"MzMzMzMzMzMzMzMzMzMzMzMzMzM=\",\"hash\":\"sha256\",\"iterations\":4294967295,\
+         \"keyslots\":[\"7\"],\"salt\":\"ERERERERERERERERERERERERERERERERERERERERERE=\",\"segments\":[\"0\"],\"type\":\"pbkdf2\"}},\"keyslots\":{\"7\":{\"af\":{\"hash\":\"sha256\",\
+         \"stripes\":4000,\"type\":\"luks1\"},\"area\":{\"encryption\":\"aes-xts-plain64\",\"key_size\":64,\"offset\":\"32768\",\"size\":\"258048\",\"type\":\"raw\"},\
+         \"kdf\":{\"hash\":\"sha256\",\"iterations\":4294967295,\"salt\":\"R0dHR0dHR0dHR0dHR0dHR0dHR0dHR0dHR0dHR0dHR0c=\",\"type\":\"pbkdf2\"},\"key_size\":64,\"type\":\"luks2\"}},\
+         \"segments\":{\"0\":{\"encryption\":\"aes-xts-plain64\",\"iv_tweak\":\"0\",\"offset\":\"16777216\",\"sector_size\":512,\"size\":\"dynamic\",\"type\":\"crypt\"}},\"tokens\":{}}",
     ),
     // 727 bytes.
     (
@@ -122,6 +253,10 @@ pub const CONVERTED: [(&str, &str, u8, u64, u32, &[usize], &str); 12] = [
         16777728,
         4000,
         &[7],
-        "14efaead31cb9379a8f3b590c4a7ca44086a9044f3440cdb3c87550454b93a26",
+        "{\"config\":{\"json_size\":\"12288\",\"keyslots_size\":\"16744448\"},\"digests\":{\"0\":{\"digest\":\"MzMzMzMzMzMzMzMzMzMzMzMzMzM=\",\"hash\":\"sha256\",\"iterations\":4294967295,\
+         \"keyslots\":[\"7\"],\"salt\":\"ERERERERERERERERERERERERERERERERERERERERERE=\",\"segments\":[\"0\"],\"type\":\"pbkdf2\"}},\"keyslots\":{\"7\":{\"af\":{\"hash\":\"sha256\",\
+         \"stripes\":4000,\"type\":\"luks1\"},\"area\":{\"encryption\":\"aes-xts-plain64\",\"key_size\":64,\"offset\":\"32768\",\"size\":\"258048\",\"type\":\"raw\"},\
+         \"kdf\":{\"hash\":\"sha256\",\"iterations\":4294967295,\"salt\":\"R0dHR0dHR0dHR0dHR0dHR0dHR0dHR0dHR0dHR0dHR0c=\",\"type\":\"pbkdf2\"},\"key_size\":64,\"type\":\"luks2\"}},\
+         \"segments\":{\"0\":{\"encryption\":\"aes-xts-plain64\",\"iv_tweak\":\"0\",\"offset\":\"16777728\",\"sector_size\":512,\"size\":\"dynamic\",\"type\":\"crypt\"}},\"tokens\":{}}",
     ),
 ];
