@@ -1,13 +1,14 @@
 //! Lists of edits: beside the model in testdata/oracle, and with a failing call.
 
 ghost use Rattle.std.specs.Prelude.{◌+◌, ◌<◌, ◌^◌};
+ghost use Rattle.luks_area.specs.Device.{IsSettled};
 
 use crate::answers::line_of;
 use crate::calls::{is_at, is_formatted, key_of, runs};
 use crate::luks1::LUKS1;
 use crate::luks2::LUKS2;
 use crate::rows::{List, Reply, Row};
-use luks_area::{FaultyDevice, Leave, MemDevice};
+use luks_area::{Device, FaultyDevice, Leave, MemDevice};
 use luks_edit::{Edit, EditFault, Step};
 use luks_kdf::HashName;
 use luks_test_devices::{VOLUME_KEY, add, counted, is_sum, label, remove, small1, small2};
@@ -49,16 +50,35 @@ fn are_told(alloc: Global, rows: &[Row], replies: &[Reply]) -> Result<bool, Fail
     Ok(replies.len() == rows.len())
 }
 
+/// The replies to the rows' edits, which are run in turn.
+fn replies_of<D: Device>(alloc: Global, device: &mut D, rows: &[Row]) -> Result<Vec<Reply>, Fail>
+    requires room { D.failed device.old + 1 < 2 ^ 64 }
+    requires settled { D.tells → IsSettled D.unsettled device.old }
+{
+    let random = random_of(alloc, rows)?;
+    let steps = steps_of(alloc, rows, &random)?;
+    let mut replies = Vec::new(alloc);
+    if runs(alloc, device, &steps, &mut replies) {
+        Ok(replies)
+    } else {
+        Err("no room for the replies".into())
+    }
+}
+
+/// Whether each of the rows has its reply.
+fn is_answered(alloc: Global, device: &mut MemDevice, rows: &[Row]) -> Result<bool, Fail> {
+    let replies = replies_of(alloc, device, rows)?;
+    are_told(alloc, rows, &replies)
+}
+
 /// Whether the list has its replies, and leaves the last volume.
 fn leaves(alloc: Global, image: Vec<u8>, list: List<'_>) -> Result<bool, Fail> {
-    let random = random_of(alloc, list.rows)?;
-    let steps = steps_of(alloc, list.rows, &random)?;
+    if !is_sum(&image, list.before) {
+        return Ok(false);
+    }
     let mut device = MemDevice::new(image);
-    let mut replies = Vec::new(alloc);
-    let before = is_sum(device.contents(), list.before);
-    let ran = runs(alloc, &mut device, &steps, &mut replies);
-    let told = are_told(alloc, list.rows, &replies)?;
-    Ok(before && ran && told && is_sum(device.contents(), list.after))
+    let told = is_answered(alloc, &mut device, list.rows)?;
+    Ok(told && is_sum(device.contents(), list.after))
 }
 
 #[test]
@@ -72,7 +92,7 @@ fn whole_lists(rt: HostRuntime) -> Result<(), Fail> {
 }
 
 /// A list over a formatted LUKS2 volume, with its replies: printed by `testdata/oracle/edit_scripts worked`.
-const WORKED: [Row; 9] = [
+static WORKED: [Row; 9] = [
     (
         add!(0, b"one", b"two", None),
         Some(256097),
@@ -107,22 +127,28 @@ fn formatted(alloc: Global) -> Result<MemDevice, Fail> {
     }
 }
 
+/// Whether the list has its replies, and keyslot 1 opens then to the key to which keyslot 0 did before.
+fn keeps_key(alloc: Global, device: &mut MemDevice) -> Result<bool, Fail> {
+    let before = key_of(alloc, device, 0, b"one")?;
+    let told = is_answered(alloc, device, &WORKED)?;
+    let after = key_of(alloc, device, 1, b"two")?;
+    Ok(told && after == before)
+}
+
+/// Whether the payload is as it was.
+fn keeps_payload(volume: &[u8]) -> bool {
+    let payload = volume.get(16777216..).unwrap_or(&[]);
+    payload.len() == 512 && payload.iter().all(|byte| *byte == 0xA5)
+}
+
 #[test]
 fn worked_list(rt: HostRuntime) -> Result<(), Fail> {
-    let alloc = rt.alloc();
-    let mut device = formatted(alloc)?;
-    let before = key_of(alloc, &mut device, 0, b"one")?;
-    let random = random_of(alloc, &WORKED)?;
-    let steps = steps_of(alloc, &WORKED, &random)?;
-    let mut replies = Vec::new(alloc);
-    let ran = runs(alloc, &mut device, &steps, &mut replies);
-    assert!(rt; ran && are_told(alloc, &WORKED, &replies)?, "the replies");
-    assert!(rt; is_at(alloc, &mut device, 4), "the sequence number");
-    let after = key_of(alloc, &mut device, 1, b"two")?;
-    assert!(rt; after == before, "the key");
-    let payload = device.contents().get(16777216..).unwrap_or(&[]);
-    let same = payload.iter().all(|byte| *byte == 0xA5);
-    assert!(rt; payload.len() == 512 && same, "the payload");
+    let mut device = formatted(rt.alloc())?;
+    let kept = keeps_key(rt.alloc(), &mut device)?;
+    assert!(rt; kept, "the replies and the key");
+    let number = is_at(rt.alloc(), &mut device, 4);
+    assert!(rt; number, "the sequence number");
+    assert!(rt; keeps_payload(device.contents()), "the payload");
     Ok(())
 }
 
@@ -159,22 +185,17 @@ enum End {
 /// The first two additions of the rows, with a device whose call of this number fails.
 fn end_of(alloc: Global, call: u64) -> Result<End, Fail> {
     let rows = LUKS1.rows.get(1..3).ok_or("no rows")?;
-    let random = random_of(alloc, rows)?;
-    let steps = steps_of(alloc, rows, &random)?;
     let image = MemDevice::new(small1(alloc, HashName::Sha256)?);
     let mut device = FaultyDevice::new(image, call, Leave::Ones);
-    let mut replies = Vec::new(alloc);
-    if !runs(alloc, &mut device, &steps, &mut replies) {
-        return Ok(End::Other);
-    }
+    let replies = replies_of(alloc, &mut device, rows)?;
     let failures = device.failures();
     let mut left = device.into_inner();
-    match replies.as_slice() {
-        [Ok(_), Ok(_)] if failures == 0 => Ok(End::Done),
-        [Err(EditFault::Device)] if failures == 1 => Ok(End::First),
-        [Ok(_), Err(EditFault::Device)] if failures == 1 => Ok(second_end(alloc, &mut left)),
-        _ => Ok(End::Other),
-    }
+    Ok(match replies.as_slice() {
+        [Ok(_), Ok(_)] if failures == 0 => End::Done,
+        [Err(EditFault::Device)] if failures == 1 => End::First,
+        [Ok(_), Err(EditFault::Device)] if failures == 1 => second_end(alloc, &mut left),
+        _ => End::Other,
+    })
 }
 
 /// The keyslot that the first addition made opens, whatever is left of the second.
