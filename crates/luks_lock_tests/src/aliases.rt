@@ -238,27 +238,45 @@ static PARTS: [(&str, u64, &str, bool, bool); 7] = [
     ("image", 4096, "within", false, true),
 ];
 
-fn have_common<'a>(
+/// Whether the system tells that they have common bytes, whichever is named first.
+fn have_common<'a, S: System>(
     alloc: Global,
+    system: &mut S,
     one: Stretch<'a>,
     other: Stretch<'a>,
 ) -> Result<bool, AllocError> {
-    let told = have_common_bytes(alloc, &mut Told::new(), one, other, BLOCKS)?;
-    let back = have_common_bytes(alloc, &mut Told::new(), other, one, BLOCKS)?;
+    let told = have_common_bytes(alloc, system, one, other, BLOCKS)?;
+    let back = have_common_bytes(alloc, system, other, one, BLOCKS)?;
     Ok(told && back)
+}
+
+/// Whether the row's two names have a byte in common, or none.
+fn is_told(alloc: Global, row: &(&str, &str, bool)) -> Result<bool, AllocError> {
+    let (one, other, want) = *row;
+    Ok(have_common(alloc, &mut Told::new(), all(one), all(other))? == want)
+}
+
+/// The same of the row's parts.
+fn are_told(
+    alloc: Global,
+    row: &(&str, u64, &str, bool, bool),
+) -> Result<(bool, bool), AllocError> {
+    let (name, at, other, before, behind) = *row;
+    let mut told = Told::new();
+    let front = have_common(alloc, &mut told, bytes(name, 0, at), all(other))?;
+    let rest = have_common(alloc, &mut told, bytes(name, at, u64::MAX), all(other))?;
+    Ok((front == before, rest == behind))
 }
 
 #[test]
 fn by_what_the_system_tells(rt: HostRuntime) -> Result<(), Fail> {
-    for (i, (one, other, want)) in WHOLE.iter().enumerate() {
-        let found = have_common(rt.alloc(), all(one), all(other))?;
-        assert!(rt; found == *want, "row {i}");
+    for (i, row) in WHOLE.iter().enumerate() {
+        assert!(rt; is_told(rt.alloc(), row)?, "row {i}");
     }
-    for (i, (name, at, other, before, behind)) in PARTS.iter().enumerate() {
-        let found = have_common(rt.alloc(), bytes(name, 0, *at), all(other))?;
-        assert!(rt; found == *before, "part {i}: before");
-        let found = have_common(rt.alloc(), bytes(name, *at, u64::MAX), all(other))?;
-        assert!(rt; found == *behind, "part {i}: behind");
+    for (i, row) in PARTS.iter().enumerate() {
+        let (before, behind) = are_told(rt.alloc(), row)?;
+        assert!(rt; before, "part {i}: before");
+        assert!(rt; behind, "part {i}: behind");
     }
     Ok(())
 }

@@ -4,13 +4,14 @@ use luks_guarded_files::{
 };
 use luks_samples::new_folder;
 use std::fs::{self, File, OpenOptions};
+use std::io;
 use std::os::unix::fs::{MetadataExt, symlink};
-use std::rt::Clock;
+use std::rt::{Clock, Files};
 use std::test::Fail;
 
 /// The number that Linux gives, the major and the minor one, and the name of the file. The third is
 /// 12345678 and 9abcdef0 in hexadecimal digits, MMMMm mmmmm MMM mm by glibc's sysmacros.h.
-const NODES: [(u64, u32, u32, &str); 4] = [
+static NODES: [(u64, u32, u32, &str); 4] = [
     (0x700, 7, 0, "L_7:0"),
     (0x10_0301, 3, 257, "L_3:257"),
     (
@@ -24,13 +25,11 @@ const NODES: [(u64, u32, u32, &str); 4] = [
 
 #[test]
 fn names_block_devices(rt: HostRuntime) -> Result<(), Fail> {
-    for (i, (number, major, minor, name)) in NODES.into_iter().enumerate() {
-        let node = Node::of(number);
+    for (i, (number, major, minor, name)) in NODES.iter().enumerate() {
+        let node = Node::of(*number);
         let text = format!(in rt.alloc(); "{node}")?;
-        assert!(rt;
-            node == Node { major, minor } && text.as_str() == name,
-            "row {i}"
-        );
+        let same = node.major == *major && node.minor == *minor;
+        assert!(rt; same && text.as_str() == *name, "row {i}");
     }
     Ok(())
 }
@@ -38,29 +37,36 @@ fn names_block_devices(rt: HostRuntime) -> Result<(), Fail> {
 /// The device of these tests.
 const LOOP: Node = Node { major: 7, minor: 0 };
 
+/// What comes of asking for the name's lock, as the program asks.
+fn asked<R: AllocGlobal + Clock + Files<File = File>>(
+    rt: &R,
+    folder: &str,
+    node: Node,
+    share: Share,
+) -> Named {
+    hold_name(rt.alloc(), &mut Host::new(rt), folder, node, share)
+}
+
+/// The mode of what the name is of.
+fn mode_of<R: AllocGlobal + Files<File = File>>(rt: &R, path: &str) -> io::Result<u32> {
+    Ok(fs::symlink_metadata(rt, path)?.mode() % 0o1000)
+}
+
 #[test]
 fn a_named_lock_keeps_others_out(rt: HostRuntime) -> Result<(), Fail> {
     let top = new_folder(&rt, "named")?;
     let folder = format!(in rt.alloc(); "{top}/cryptsetup")?;
     let folder = folder.as_str();
-    let held = hold_name(
-        rt.alloc(),
-        &mut Host::new(&rt),
-        folder,
-        LOOP,
-        Share::Exclusive,
-    );
+    let held = asked(&rt, folder, LOOP, Share::Exclusive);
     assert!(rt; matches!(held, Named::Held(_)), "made and held");
-    let mode = fs::symlink_metadata(&rt, folder)?.mode() % 0o1000;
-    assert!(rt; mode == 0o700, "the folder's mode");
+    assert!(rt; mode_of(&rt, folder)? == 0o700, "the folder's mode");
     let path = format!(in rt.alloc(); "{folder}/L_7:0")?;
-    let mode = fs::symlink_metadata(&rt, path.as_str())?.mode() % 0o1000;
-    assert!(rt; mode == 0o600, "the file's mode");
-    let other = hold_name(rt.alloc(), &mut Host::new(&rt), folder, LOOP, Share::Shared);
+    assert!(rt; mode_of(&rt, path.as_str())? == 0o600, "the file's mode");
+    let other = asked(&rt, folder, LOOP, Share::Shared);
     assert!(rt; matches!(other, Named::Taken), "not shared with it");
     drop(held);
-    let one = hold_name(rt.alloc(), &mut Host::new(&rt), folder, LOOP, Share::Shared);
-    let two = hold_name(rt.alloc(), &mut Host::new(&rt), folder, LOOP, Share::Shared);
+    let one = asked(&rt, folder, LOOP, Share::Shared);
+    let two = asked(&rt, folder, LOOP, Share::Shared);
     assert!(rt;
         matches!(one, Named::Held(_)) && matches!(two, Named::Held(_)),
         "shared by two"
@@ -78,24 +84,12 @@ fn no_symbolic_link_is_followed(rt: HostRuntime) -> Result<(), Fail> {
     fs::write(&rt, aim.as_str(), "aim")?;
     let path = format!(in rt.alloc(); "{folder}/L_7:0")?;
     symlink(&rt, aim.as_str(), path.as_str())?;
-    let named = hold_name(
-        rt.alloc(),
-        &mut Host::new(&rt),
-        folder.as_str(),
-        LOOP,
-        Share::Exclusive,
-    );
+    let named = asked(&rt, folder.as_str(), LOOP, Share::Exclusive);
     assert!(rt; matches!(named, Named::Unheld), "a file that is a link");
     let path = format!(in rt.alloc(); "{top}/link")?;
     symlink(&rt, folder.as_str(), path.as_str())?;
     let other = Node { major: 7, minor: 1 };
-    let named = hold_name(
-        rt.alloc(),
-        &mut Host::new(&rt),
-        path.as_str(),
-        other,
-        Share::Exclusive,
-    );
+    let named = asked(&rt, path.as_str(), other, Share::Exclusive);
     assert!(rt; matches!(named, Named::Unheld), "a folder that is a link");
     fs::remove_dir_all(&rt, top.as_str())?;
     Ok(())
