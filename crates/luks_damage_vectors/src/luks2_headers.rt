@@ -152,7 +152,14 @@ impl DamagedLuks2 {
         let which = asked.which();
         let mut hashing = Hashing::after(which.effort);
         let mut said = Vec::new(alloc);
-        note_taken(alloc, &mut source, &mut target, which, &mut hashing, &mut said);
+        note_taken(
+            alloc,
+            &mut source,
+            &mut target,
+            which,
+            &mut hashing,
+            &mut said,
+        );
         let said = str::from_utf8(said.as_slice()).unwrap_or("no text");
         Ok(String::from_str(alloc, said.trim_end())?)
     }

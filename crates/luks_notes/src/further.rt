@@ -127,16 +127,15 @@ fn size_of<D: Device, E: Write>(
     ensures of_command { IsOfCommand hashing.new }
     ensures more { hashing.old.hashed ≤ hashing.new.hashed }
 {
-    let which = Which {
-        copies: Copies::OfSize(size),
-        effort: Effort::Brief,
-    };
-    match seek {
-        Seek::Any if has_standing(device, size)? => {
-            sought_and_said(alloc, device, which, hashing, err)
-        }
-        _ => whole_of(alloc, device, which.copies),
+    let copies = Copies::OfSize(size);
+    if matches!(seek, Seek::Whole) {
+        return whole_of(alloc, device, copies);
     }
+    if !has_standing(device, size)? {
+        return whole_of(alloc, device, copies);
+    }
+    let effort = Effort::Brief;
+    sought_and_said(alloc, device, Which { copies, effort }, hashing, err)
 }
 
 /// What is found of these copies; where no checksum vouches for it, it is said of which copy not all was tried.

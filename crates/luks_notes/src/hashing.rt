@@ -36,10 +36,7 @@ impl Hashing {
         ensures of_command { IsOfCommand result }
         ensures own { result.hashed ≡ own effort }
     {
-        let hashed = match effort {
-            Effort::Brief => bytes_of(Effort::Brief),
-            Effort::Usual | Effort::Thorough => bytes_of(Effort::Usual),
-        };
+        let hashed = own_bytes(effort);
         Hashing {
             hashed,
             left: OF_COMMAND - hashed,
@@ -62,6 +59,17 @@ impl Hashing {
         self.hashed += bytes;
         self.left -= bytes;
         true
+    }
+}
+
+/// How many bytes are counted of a command's own search with this effort.
+fn own_bytes(effort: Effort) -> u64
+    ensures own { result ≡ own effort }
+    ensures few { result ≤ 33554432 }
+{
+    match effort {
+        Effort::Brief => 16_777_216,
+        Effort::Usual | Effort::Thorough => 33_554_432,
     }
 }
 

@@ -92,6 +92,9 @@ fn of_more_headers_than_are_sought(rt: HostRuntime) -> Result<(), Fail> {
         "luks: nothing was tried that checksums of a header of 65536 bytes may vouch for: luks rebuild --size 65536 tries it\n",
         "luks: that of a header of 65536 bytes is whole too, and differs, with 0 keyslots that this hasn't: luks rebuild --size 65536 takes it\n",
     );
-    assert!(rt; is_said(alloc, volume, lines), "64 MiB are for three searches");
+    assert!(rt;
+        is_said(alloc, volume, lines),
+        "64 MiB are for three searches"
+    );
     Ok(())
 }
