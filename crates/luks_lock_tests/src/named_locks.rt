@@ -1,7 +1,5 @@
 //! The locks of the files that stand for block devices.
-use luks_guarded_files::{
-    Answer, Found, Host, Kind, Lock, Named, Node, Notice, Share, System, hold_name,
-};
+use luks_guarded_files::{Answer, Host, Kind, Lock, Named, Node, Notice, Share, System, hold_name};
 use luks_samples::new_folder;
 use std::fs::{self, File, OpenOptions};
 use std::io;
@@ -141,50 +139,52 @@ fn tells_which_lock_is_not_held(rt: HostRuntime) {
     );
 }
 
+/// Whether by the link the file that it leads to is told, as the runtime tells it, and by the open file the same.
+fn is_told<R: Clock + Files<File = File>>(rt: &R, path: &str, link: &str) -> io::Result<bool> {
+    let owed = fs::metadata(rt, path)?;
+    let mut host = Host::new(rt);
+    let found = host.stat(link)?;
+    let opened = host.fstat(&File::open(rt, path)?)?;
+    let linked = host.lstat(link)?;
+    let is_file = found.kind == Kind::Regular && found.len == 1 && opened == found;
+    let is_same = found.system == owed.dev() && found.inode == owed.ino();
+    let is_own = found.owner == owed.uid() && host.caller() == Some(found.owner);
+    let is_link = linked.kind == Kind::Link && linked.inode != found.inode;
+    Ok(is_file && is_same && is_own && is_link)
+}
+
+/// The kind of what the name is of, and its number.
+fn kind_of<R: Clock + Files<File = File>>(rt: &R, path: &str) -> io::Result<(Kind, u64)> {
+    let found = Host::new(rt).stat(path)?;
+    Ok((found.kind, found.device))
+}
+
+/// The first byte of the file.
+fn first_byte_of<R: Clock + Files<File = File>>(rt: &R, path: &str) -> Option<u8> {
+    Host::new(rt).first_byte(path)
+}
+
 // The number of /dev/null is 1:3 ("Linux allocated devices").
 #[test]
 fn what_the_system_tells_of_a_file(rt: HostRuntime) -> Result<(), Fail> {
     let top = new_folder(&rt, "told")?;
     let path = format!(in rt.alloc(); "{top}/v")?;
-    let path = path.as_str();
-    fs::write(&rt, path, "v")?;
     let link = format!(in rt.alloc(); "{top}/link")?;
-    symlink(&rt, path, link.as_str())?;
-    let owed = fs::metadata(&rt, path)?;
-    let mut host = Host::new(&rt);
-    let found = host.stat(link.as_str())?;
-    let Found {
-        kind,
-        system,
-        inode,
-        device: _,
-        owner,
-        len,
-    } = found;
-    assert!(rt; len == 1, "its length");
+    fs::write(&rt, path.as_str(), "v")?;
+    symlink(&rt, path.as_str(), link.as_str())?;
+    assert!(rt; is_told(&rt, path.as_str(), link.as_str())?, "a file");
     assert!(rt;
-        kind == Kind::Regular && system == owed.dev() && inode == owed.ino(),
-        "a file by a link"
+        first_byte_of(&rt, path.as_str()) == Some(b'v'),
+        "its first byte"
     );
     assert!(rt;
-        owner == owed.uid() && host.caller() == Some(owner),
-        "its owner, who made it"
+        first_byte_of(&rt, "/dev/null").is_none(),
+        "no byte is there"
     );
-    let linked = host.lstat(link.as_str())?;
-    assert!(rt;
-        linked.kind == Kind::Link && linked.inode != inode,
-        "the link"
-    );
-    let opened = host.fstat(&File::open(&rt, path)?)?;
-    assert!(rt; opened == found, "the open file");
-    assert!(rt; host.first_byte(path) == Some(b'v'), "its first byte");
-    assert!(rt; host.first_byte("/dev/null").is_none(), "no byte is there");
-    assert!(rt; host.stat(top.as_str())?.kind == Kind::Folder, "a folder");
-    let null = host.stat("/dev/null")?;
-    assert!(rt;
-        null.kind == Kind::Other && null.device == 0x103,
-        "a device"
-    );
+    let (folder, _) = kind_of(&rt, top.as_str())?;
+    assert!(rt; folder == Kind::Folder, "a folder");
+    let (null, number) = kind_of(&rt, "/dev/null")?;
+    assert!(rt; null == Kind::Other && number == 0x103, "a device");
     fs::remove_dir_all(&rt, top.as_str())?;
     Ok(())
 }

@@ -200,10 +200,8 @@ fn forms(alloc: Global, row: &new::NewRow) -> Result<bool, Fail> {
 
 #[test]
 fn of_a_new_volume(rt: HostRuntime) -> Result<(), Fail> {
-    for (hash, iterations, offset, digest_length, sum) in new::NEW {
-        let digest = vec![in rt.alloc(); 0x33u8; digest_length]?;
-        let same = forms(rt.alloc(), hash, iterations, offset, digest.as_slice(), sum)?;
-        assert!(rt; same, "{hash}");
+    for (i, row) in new::NEW.iter().enumerate() {
+        assert!(rt; forms(rt.alloc(), row)?, "row {i}");
     }
     Ok(())
 }
