@@ -1,4 +1,4 @@
-use Rattle.std.proofs.Common.{◌≡◌, ℕ, ◌+◌, ◌-◌, List, length, rules, take, drop, refl, sym, ap, ◌∙◌, arith}
+use Rattle.std.proofs.Common.{◌≡◌, ℕ, ◌+◌, ◌-◌, List, length, take, drop, sym, ap, ◌∙◌, arith}
 use Rattle.luks_area.specs.Ranges.{part, written}
 use Rattle.luks_given.proofs.PlayFacts.{part-met_written, part-unmet_written}
 use Rattle.luks_given.proofs.planned_writes.put.Goals as goal
@@ -22,4 +22,7 @@ returns-clause-met c = λ v fits inside is.
     let count : (last - c.args.to) - (first - c.args.to) ≡ last - first = omega (arith, begins, ends, met) in
     let wrote : part (written v c.args.to from) c.args.at len ≡ written (part v c.args.at len) (first - c.args.at) (part from (first - c.args.to) (last - first)) =
     part-met_written v c.args.at len c.args.to first last from fits inside begins ends met in
-    ?
+    c.copy_over.ensures
+    ∙ ap (λ l. written l (first - c.args.at) (take (last - c.args.to - (first - c.args.to)) (drop (first - c.args.to) from))) is
+    ∙ ap (λ m. written (part v c.args.at len) (first - c.args.at) (take m (drop (first - c.args.to) from))) count
+    ∙ sym wrote
