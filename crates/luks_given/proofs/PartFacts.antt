@@ -138,7 +138,7 @@ read-placed rs at len k bytes v is are counted =
 -- ---- writes
 
 -- a range in three
-part-in_three : (v : List ℕ) (at a n rest : ℕ) → part v at ((a + n) + rest) ≡ (part v at a ++ part v (at + a) n) ++ part v (at + (a + n)) rest
+pub part-in_three : (v : List ℕ) (at a n rest : ℕ) → part v at ((a + n) + rest) ≡ (part v at a ++ part v (at + a) n) ++ part v (at + (a + n)) rest
 part-in_three v at a n rest = part-add v at (a + n) rest ∙ ap (λ l. l ++ part v (at + (a + n)) rest) (part-add v at a n)
 
 -- a write within a range

@@ -227,8 +227,15 @@ fn put(into: &mut [u8], at: u64, from: &[u8], to: u64)
         return;
     }
     let met = &from[(first - to) as usize..(last - to) as usize];
-    let k = (first - at) as usize;
-    into[k..k + met.len()].copy_from_slice(met);
+    copy_over(into, (first - at) as usize, met);
+}
+
+/// Writes `from` over the bytes from the one numbered `at` on.
+fn copy_over(bytes: &mut [u8], at: usize, from: &[u8])
+    requires { at + length from.now ≤ length bytes.old }
+    ensures { bytes.new ≡ written bytes.old at from.now }
+{
+    bytes[at..at + from.len()].copy_from_slice(from);
 }
 
 /// Where among `len` bytes from the place `at` on the last sector begins that they have a byte of, or the

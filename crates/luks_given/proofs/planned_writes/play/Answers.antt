@@ -43,7 +43,7 @@ loop-call-preserved c =
     let i : ℕ = c.loop-call.call-index in
     let d : PlannedCall = record { at = 0; len = 0 } in
     let call : PlannedCall = slice_index_or calls i d in
-    let left : List ℕ = c.loop-call.left in
+    let left : List ℕ = c.loop-call.left.now in
     let at : ℕ = c.args.at in
     let n : ℕ = length c.loop-call.into in
     let e = drop_more calls i d c.loop-call-test.true in
@@ -79,4 +79,4 @@ unfolding played
 returns c = λ v inside room is.
     let e : drop c.loop-call.call-index c.args.calls.now ≡ [] = drop_all c.loop-call.call-index c.args.calls.now (omega (arith, c.loop-call-test.false)) in
     c.loop-call.invariant.leaves c.loop-call.into
-    (λ w fits within there. there ∙ sym (ap (λ cs. part (played cs c.loop-call.left w) c.args.at (length c.loop-call.into)) e)) v inside room is
+    (λ w fits within there. there ∙ sym (ap (λ cs. part (played cs c.loop-call.left.now w) c.args.at (length c.loop-call.into)) e)) v inside room is

@@ -10,8 +10,8 @@ use Rattle.luks_given.proofs.PlanFacts.{furthest-more, planned_length-more, unfl
 use Rattle.luks_given.proofs.PlayFacts.{played-front_more, written-front}
 use Rattle.luks_given.proofs.planned_writes.PlannedWritesDevice.write_at.Goals as goal
 
-pub changing-requires : goal.changing-requires
-changing-requires g c =
+pub changing-len-requires : goal.changing-len-requires
+changing-len-requires g c =
     let self = c.args.self.now in
     subst (λ rs. IsPlaced rs 0 c.args.at (c.args.at + length c.args.from.now) c.in-Ok.k) self.same c.in-Ok.ensures.there
 
@@ -27,8 +27,8 @@ returns-then-len-eq0-clause-wrote g c = λ t.
     ∙ sym (ap (λ n. written w c.args.at (take n from)) c.if-len-eq0.true)
     ∙ written-front w c.args.at from c.changing-len.result (omega (arith, long, within)) c.changing-len.ensures.most c.changing-len.ensures.rest
 
-pub invariant_of-self-in-Ok-clause-last : goal.invariant_of-self-in-Ok-clause-last
-invariant_of-self-in-Ok-clause-last g c =
+pub invariant_of-self-else-not-add_call-clause-last : goal.invariant_of-self-else-not-add_call-clause-last
+invariant_of-self-else-not-add_call-clause-last g c =
     let self = c.args.self.now in
     let kept : List ℕ = take c.changing-len.result c.args.from.now in
     let within = c.requires.within in
@@ -36,8 +36,8 @@ invariant_of-self-in-Ok-clause-last g c =
     let long = length-take c.changing-len.result c.args.from.now in
     rw (c.if-not-add_call.ensures.calls refl) (furthest-more self.calls.items (record { at = c.args.at; len = length kept }) self.total self.last (omega (arith, within, most, long)))
 
-pub invariant_of-self-in-Ok-clause-planned : goal.invariant_of-self-in-Ok-clause-planned
-invariant_of-self-in-Ok-clause-planned g c =
+pub invariant_of-self-else-not-add_call-clause-planned : goal.invariant_of-self-else-not-add_call-clause-planned
+invariant_of-self-else-not-add_call-clause-planned g c =
     let self = c.args.self.now in
     let kept : List ℕ = take c.changing-len.result c.args.from.now in
     let call : PlannedCall = record { at = c.args.at; len = length kept } in
@@ -46,8 +46,8 @@ invariant_of-self-in-Ok-clause-planned g c =
     let counted = self.planned in
     ap planned_length (c.if-not-add_call.ensures.calls refl) ∙ omega (arith, longer, all, counted) ∙ sym (ap length (c.if-not-add_call.ensures.bytes refl))
 
-pub invariant_of-self-in-Ok-clause-inside : goal.invariant_of-self-in-Ok-clause-inside
-invariant_of-self-in-Ok-clause-inside g c = λ p out by_.
+pub invariant_of-self-else-not-add_call-clause-inside : goal.invariant_of-self-else-not-add_call-clause-inside
+invariant_of-self-else-not-add_call-clause-inside g c = λ p out by_.
     let self = c.args.self.now in
     let at : ℕ = c.args.at in
     let from : List ℕ = c.args.from.now in
