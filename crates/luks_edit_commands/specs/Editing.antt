@@ -94,9 +94,14 @@ IsMissed payload (Change None opener memory older new iterations kdf) IsOld v f 
 IsMissed payload (Remove None by_ opener memory older) IsOld v f = Misses payload opener memory older IsOld v f
 IsMissed payload request IsOld v f = ⊥
 
--- the keyslot that is told of the edit, which made this one, if any: of a removal the one that was found
+-- the keyslot that the edit removes, or else the one that it made
+abbrev pub removed_in : Edit → Option ℕ → Option ℕ
+removed_in (edit.Remove s b o) made = Some s
+removed_in e made = made
+
+-- the keyslot that is told of the edit: of a removal the one that was found
 abbrev pub told_slot : EditRequest → Edit → Option ℕ → Option ℕ
-told_slot (Remove None by_ opener memory older) (edit.Remove s b o) made = Some s
+told_slot (Remove None by_ opener memory older) e made = removed_in e made
 told_slot request e made = made
 
 -- the edit is it for some passphrases, and names the keyslot `n` of the volume `v`

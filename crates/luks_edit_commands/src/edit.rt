@@ -34,7 +34,7 @@ use seen::{
 };
 use std::alloc::Global;
 use std::io::{Read, Write};
-use words::{Words, words};
+use words::{EditWords, words};
 
 /// Edits the volume of this name. The passphrase is read first, then the new one, and the random bytes last.
 #[tactic(auto, using(luks_commands::proofs::FileFacts::settled_same, crate::proofs::EditAnswerFacts::answers_wordless))]
@@ -87,7 +87,7 @@ pub fn run<D: Device, R: Read, N: Read, E: Write>(
         Ok(device) => device,
         Err(fault) => return unread(*fault, name, err),
     };
-    let words = Words {
+    let words = EditWords {
         old: old.as_slice(),
         new: new.as_slice(),
     };
@@ -102,7 +102,7 @@ fn edit_device<'a, D: Device, N: Read, E: Write>(
     random: &mut Result<N, InputFault>,
     name: &str,
     editing: &Editing<'a>,
-    words: &Words<'a>,
+    words: &EditWords<'a>,
     err: &mut E,
 ) -> Answer
     requires room { D.failed device.old + 1 < 2 ^ 64 }

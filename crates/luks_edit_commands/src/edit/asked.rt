@@ -6,10 +6,10 @@ ghost use Rattle.luks_commands.specs.OpenAnswers.{allowed_of};
 ghost use Rattle.luks_edit.specs.declared.edit.Edit.{Edit};
 ghost use Rattle.luks_edit.specs.EditFaults.{is_edit_failure};
 ghost use Rattle.luks_reading.specs.Header.{IsAcceptedHeader, IsHeader};
-ghost use Rattle.luks_edit_commands.specs.Editing.{IsAsked, IsMissed, kind_of, told_slot, UnlessOutside};
+ghost use Rattle.luks_edit_commands.specs.Editing.{IsAsked, IsMissed, kind_of, removed_in, told_slot, UnlessOutside};
 
 use super::finding::keyslot_of;
-use super::words::Words;
+use super::words::EditWords;
 use luks_commands::chosen_of;
 use luks_commands::open::allowed_of;
 use luks_request::{AskedKdf, EditRequest, Editing, OpenerFile};
@@ -24,7 +24,7 @@ pub(super) fn edit_of<'a, D: Device, E: Write>(
     device: &mut D,
     header: &Header,
     editing: &Editing<'a>,
-    words: &Words<'a>,
+    words: &EditWords<'a>,
     err: &mut E,
 ) -> Result<Edit<'a>, EditFault>
     requires room { D.failed device.old + 1 < 2 ^ 64 }
@@ -41,7 +41,7 @@ pub(super) fn edit_of<'a, D: Device, E: Write>(
         editing.now.request (λ p. p ≡ words.now.old.now) (D.bytes device.old))) }
 {
     let payload = editing.payload;
-    let Words { old, new } = *words;
+    let EditWords { old, new } = *words;
     match editing.request {
         EditRequest::Add {
             by_,
@@ -109,8 +109,18 @@ pub(super) fn edit_of<'a, D: Device, E: Write>(
 pub(super) fn told_slot(request: &EditRequest<'_>, edit: &Edit<'_>, made: Option<u8>) -> Option<u8>
     ensures { result ≡ told_slot request.now edit.now made }
 {
-    match (request, edit) {
-        (EditRequest::Remove { slot: None, .. }, Edit::Remove { slot, .. }) => Some(*slot),
+    match request {
+        EditRequest::Remove { slot: None, .. } => removed_in(edit, made),
+        _ => made,
+    }
+}
+
+/// The keyslot that the edit removes, or else the one that it made.
+fn removed_in(edit: &Edit<'_>, made: Option<u8>) -> Option<u8>
+    ensures { result ≡ removed_in edit.now made }
+{
+    match edit {
+        Edit::Remove { slot, .. } => Some(*slot),
         _ => made,
     }
 }

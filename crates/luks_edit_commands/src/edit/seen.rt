@@ -9,7 +9,7 @@ ghost use Rattle.luks_edit_commands.specs.OtherUses.{is_unseen_failure, SeesBarr
 
 use super::asked::edit_of;
 use super::older_digest::{is_older_digest, note_older_digest};
-use super::words::Words;
+use super::words::EditWords;
 use crate::other_use::barring_use;
 use luks_edit::{NewDerivation, Opener};
 use luks_notes::{MemoryNote, OlderNote, memory_note, older_note};
@@ -98,7 +98,7 @@ pub(super) fn look_at_volume<'a, D: Device, E: Write>(
     alloc: Global,
     device: &mut D,
     editing: &Editing<'a>,
-    words: &Words<'a>,
+    words: &EditWords<'a>,
     err: &mut E,
 ) -> Result<Seen<'a>, Unseen>
     requires room { D.failed device.old + 1 < 2 ^ 64 }

@@ -11,7 +11,7 @@ use std::io::{Read, Write};
 /// The bytes of the passphrases of an edit, or of its key and the new passphrase: none of one that it doesn't
 /// need.
 #[derive(Clone, Copy)]
-pub(super) struct Words<'a> {
+pub(super) struct EditWords<'a> {
     /// Those of the passphrase, or the key.
     pub(super) old: &'a [u8],
     /// Those of the new passphrase.
