@@ -7,10 +7,9 @@ use luks_area::Device;
 use luks_edit::Step;
 use luks_formatting::{Format, format2};
 use luks_kdf::HashName;
-use luks_reading::{Allowed, Copies, Data, Version, check, open_slot};
+use luks_reading::{Allowed, Copies, Data, Key, Version, check, open_slot};
 use luks_volume::run;
 use std::alloc::Global;
-use std::test::Fail;
 
 /// Runs the steps; whether there was room for the replies, which are appended.
 pub(crate) fn runs<D: Device>(
@@ -51,17 +50,17 @@ pub(crate) fn is_at<D: Device>(alloc: Global, device: &mut D, number: u64) -> bo
     }
 }
 
-/// The bytes of the key that the keyslot opens to.
+/// The key to which the keyslot opens.
 pub(crate) fn key_of<D: Device>(
     alloc: Global,
     device: &mut D,
     n: u8,
     passphrase: &[u8],
-) -> Result<Vec<u8>, Fail>
+) -> Option<Key>
     requires { D.failed device.old + 1 < 2 ^ 64 }
 {
     match open_slot(alloc, device, n, passphrase, Allowed::NOTHING) {
-        Ok(Some(key)) => Ok(key.as_bytes().to_vec(alloc)?),
-        _ => Err("no key".into()),
+        Ok(key) => key,
+        Err(_) => None,
     }
 }

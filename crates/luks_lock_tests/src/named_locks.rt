@@ -50,25 +50,32 @@ fn mode_of<R: AllocGlobal + Files<File = File>>(rt: &R, path: &str) -> io::Resul
     Ok(fs::symlink_metadata(rt, path)?.mode() % 0o1000)
 }
 
+/// Whether the name's lock is held, and isn't shared with another then.
+fn shuts_out<R: AllocGlobal + Clock + Files<File = File>>(rt: &R, folder: &str) -> bool {
+    let held = asked(rt, folder, LOOP, Share::Exclusive);
+    let other = asked(rt, folder, LOOP, Share::Shared);
+    matches!(held, Named::Held(_)) && matches!(other, Named::Taken)
+}
+
+/// Whether it is shared by two.
+fn is_shared<R: AllocGlobal + Clock + Files<File = File>>(rt: &R, folder: &str) -> bool {
+    let one = asked(rt, folder, LOOP, Share::Shared);
+    let two = asked(rt, folder, LOOP, Share::Shared);
+    matches!(one, Named::Held(_)) && matches!(two, Named::Held(_))
+}
+
 #[test]
 fn a_named_lock_keeps_others_out(rt: HostRuntime) -> Result<(), Fail> {
     let top = new_folder(&rt, "named")?;
     let folder = format!(in rt.alloc(); "{top}/cryptsetup")?;
-    let folder = folder.as_str();
-    let held = asked(&rt, folder, LOOP, Share::Exclusive);
-    assert!(rt; matches!(held, Named::Held(_)), "made and held");
-    assert!(rt; mode_of(&rt, folder)? == 0o700, "the folder's mode");
-    let path = format!(in rt.alloc(); "{folder}/L_7:0")?;
-    assert!(rt; mode_of(&rt, path.as_str())? == 0o600, "the file's mode");
-    let other = asked(&rt, folder, LOOP, Share::Shared);
-    assert!(rt; matches!(other, Named::Taken), "not shared with it");
-    drop(held);
-    let one = asked(&rt, folder, LOOP, Share::Shared);
-    let two = asked(&rt, folder, LOOP, Share::Shared);
+    let path = format!(in rt.alloc(); "{top}/cryptsetup/L_7:0")?;
+    assert!(rt; shuts_out(&rt, folder.as_str()), "held, and not shared");
     assert!(rt;
-        matches!(one, Named::Held(_)) && matches!(two, Named::Held(_)),
-        "shared by two"
+        mode_of(&rt, folder.as_str())? == 0o700,
+        "the folder's mode"
     );
+    assert!(rt; mode_of(&rt, path.as_str())? == 0o600, "the file's mode");
+    assert!(rt; is_shared(&rt, folder.as_str()), "shared by two");
     fs::remove_dir_all(&rt, top.as_str())?;
     Ok(())
 }
@@ -93,26 +100,25 @@ fn no_symbolic_link_is_followed(rt: HostRuntime) -> Result<(), Fail> {
     Ok(())
 }
 
+/// Whether a lock that an open file holds is had again by it, isn't by another, and is once it is closed.
+fn is_by_file<R: Clock + Files<File = File>>(rt: &R, path: &str) -> io::Result<bool> {
+    let one = OpenOptions::new().read(true).write(true).open(rt, path)?;
+    let two = File::open(rt, path)?;
+    let mut host = Host::new(rt);
+    let held = host.flock(&one, Share::Exclusive) == Answer::Held;
+    let again = host.flock(&one, Share::Exclusive) == Answer::Held;
+    let taken = host.flock(&two, Share::Shared) == Answer::Taken;
+    drop(one);
+    let let_go = host.flock(&two, Share::Exclusive) == Answer::Held;
+    Ok(held && again && taken && let_go)
+}
+
 #[test]
 fn a_lock_is_held_by_the_open_file(rt: HostRuntime) -> Result<(), Fail> {
     let top = new_folder(&rt, "asked")?;
     let path = format!(in rt.alloc(); "{top}/v")?;
     fs::write(&rt, path.as_str(), "v")?;
-    let one = OpenOptions::new()
-        .read(true)
-        .write(true)
-        .open(&rt, path.as_str())?;
-    let two = File::open(&rt, path.as_str())?;
-    let mut host = Host::new(&rt);
-    let held = host.flock(&one, Share::Exclusive) == Answer::Held;
-    assert!(rt; held, "held");
-    let again = host.flock(&one, Share::Exclusive) == Answer::Held;
-    assert!(rt; again, "asked for again");
-    let taken = host.flock(&two, Share::Shared) == Answer::Taken;
-    assert!(rt; taken, "not shared with it");
-    drop(one);
-    let held = host.flock(&two, Share::Exclusive) == Answer::Held;
-    assert!(rt; held, "let go");
+    assert!(rt; is_by_file(&rt, path.as_str())?, "each answer");
     fs::remove_dir_all(&rt, top.as_str())?;
     Ok(())
 }
