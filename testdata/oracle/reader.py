@@ -296,10 +296,10 @@ def metadata(copy):
 
 def judge(copy, value):
     """Refuses a value in the place of the copy's metadata likewise: one that nests too deep isn't read again."""
-    if any_not_whole(value):
-        raise Fault("NotWhole")
     if levels(value) > 127:
         raise Fault("BadJson")
+    if any_not_whole(value):
+        raise Fault("NotWhole")
     rows = Rows(value)
     refuse_least("Shape", rows.shapes)
     refuse_least("Kind", rows.kinds)
