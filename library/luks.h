@@ -23,9 +23,8 @@
  * are needed, and held in memory until the call returns: the header and the key areas that are opened or written. Where it reads first it
  * reads 64 KiB, or 544 KiB where a keyslot is opened or made; at each other place half as much as at the one before, and behind what
  * was read as much again, at most 1 MiB. So beside what the call needs it holds some 1 MiB. A call that writes holds what stands where it
- * writes, and twice what it writes there; but for zeros that it writes over zeros, which it leaves out. Pages of zeros take no memory. So
- * no call takes more than some 1 MiB beyond what `luks` reads for the same (docs/PERFORMANCE.md has a table), where a target holds zeros. A
- * sector that can't be read is LUKS_DEVICE only where a byte of it is needed. The position in the file stays.
+ * writes, and twice what it writes there, but for zeros at a write's end that stand there already, which aren't written. Pages of zeros take no
+ * memory (docs/PERFORMANCE.md has a table). A sector that can't be read is LUKS_DEVICE only where a byte of it is needed. The position in the file stays.
  *
  * Locks. No call but luks_open_volume locks anything. As `luks` does, the caller holds flock(LOCK_SH) on the volume's file while it is
  * read, LOCK_EX from before it is read until it was written; of a block device also on the file /run/cryptsetup/L_MAJOR:MINOR, which

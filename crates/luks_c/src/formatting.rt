@@ -13,11 +13,11 @@ ghost use Rattle.luks_c.specs.FormatAnswers.{AnswersChosen, AnswersFormat1, Answ
 
 use crate::giving::{LuksEncryption, cipher_of, given_of};
 use luks_c_answers::{
-    LuksDerivation, LuksPlan, MEMORY, USAGE, allowed_of, chosen_of, format_number, give_plan,
-    tell_wanted,
+    LuksDerivation, LuksPlan, MEMORY, USAGE, chosen_of, format_number, give_plan, tell_wanted,
 };
 use luks_formatting::{Given as Layout, format1_as, format2_as};
 use luks_given::{Given, Part, PlannedCall, PlannedWrites, are_parts};
+use luks_reading::Allowed;
 use luks_volume::{Format, FormatFault, HashName, NewDerivation, Passphrase};
 use std::alloc::Global;
 use std::marker::Brand;
@@ -149,7 +149,10 @@ pub extern "C" fn luks_format2_bytes(
     };
     let by_ = Passphrase {
         bytes: passphrase,
-        allowed: allowed_of(memory, encryption.older),
+        allowed: Allowed {
+            memory,
+            older: encryption.older != 0,
+        },
     };
     match format_of(parts, held, total, hash, iterations) {
         Some(format) => make2::<Brand>(
