@@ -3,19 +3,16 @@ use Rattle.std.proofs.Common.{◌≡◌, ℕ, List, ◌⊎◌, Bool, Option, Som
 use Rattle.std.specs.Borrow.{Bor}
 use Rattle.luks_area.specs.First.{IsLeast}
 use Rattle.luks_area.specs.Device.{count_after}
-use Rattle.luks_area.specs.declared.area.AreaName.TheVariants.{Segment}
 use Rattle.luks2_header.specs.Selection.{Choice, luks1, luks2, nothing}
-use Rattle.luks_rules.specs.declared.fault.MetaFault.{MetaFault}
-use Rattle.luks_rules.specs.declared.fault.MetaFault.TheVariants as meta
-use Rattle.luks_meta.specs.MetaFault.{IsMetaFault}
 use Rattle.luks_reading.specs.declared.check_fault.CheckFault.{CheckFault}
 use Rattle.luks_reading.specs.declared.check_fault.CheckFault.TheVariants as checking
 use Rattle.luks_reading.specs.declared.open_fault.OpenFault.{OpenFault}
 use Rattle.luks_reading.specs.declared.open_fault.OpenFault.TheVariants as opening
 use Rattle.luks_reading.specs.declared.report.Data.{Data}
-use Rattle.luks_reading.specs.Checked.{IsFault, IsFaultAs, IsLuks2MetaFault}
+use Rattle.luks_reading.specs.Checked.{IsFault, IsFaultAs}
 use Rattle.luks_reading.specs.Failures.{is_open_failure}
-use Rattle.luks_reading.specs.Header.{NeedsMetadata}
+use Rattle.luks_reading.specs.Header.{json_at}
+use Rattle.luks_reading.proofs.Luks2FaultFacts.{to_luks2_fault}
 use Rattle.luks_reading.specs.Unlocking.{IsVolumeRefusal, IsVolumeRefusalAs, IsVolumeRefusedBy}
 use Rattle.luks_edit.specs.declared.edit.Edit.{Edit}
 use Rattle.luks_edit.specs.declared.edit.Edit.TheVariants as edit
@@ -42,24 +39,23 @@ outside_as v P Q of f is = of f is
 
 -- ---- an accepted volume isn't refused when its keyslots are tried
 
-meta_refused : (json : List ℕ) (payload : Data) (f : MetaFault) → IsMetaFault json f → IsLuks2MetaFault json payload f
-meta_refused json payload (meta.Region (Segment n)) is = absurd is.fault
-meta_refused json payload f is = is
-
+-- what refuses it then refuses it as a whole
 volume_refused : (v : List ℕ) (payload : Data) (c : Choice) (f : OpenFault) → IsVolumeRefusalAs v c f → (g : CheckFault) × IsFaultAs v payload c g
 volume_refused v payload luks1 (opening.Head f) is = (checking.Head f, is.1)
 volume_refused v payload luks1 f is = absurd is
 volume_refused v payload (luks2 o copies) (opening.Head f) is = (checking.Head f, is)
-volume_refused v payload (luks2 o copies) (opening.Meta f) is = (checking.Meta f, meta_refused _ payload f is)
+volume_refused v payload (luks2 o copies) (opening.Meta f) is = (checking.Meta f, to_luks2_fault (json_at v o) payload f is)
 volume_refused v payload (luks2 o copies) f is = absurd is
 volume_refused v payload nothing (opening.Head f) is = (checking.Head f, is)
 volume_refused v payload nothing f is = absurd is
 
+-- and every edit of it
 not_accepted_as : (v : List ℕ) (payload : Data) (e : Edit) (c : Choice) (g : CheckFault) → IsFault v payload g → IsNeedFaultAs v payload e c (fault.NotAccepted g)
 not_accepted_as v payload e luks1 g is = is
 not_accepted_as v payload e (luks2 o copies) g is = is
 not_accepted_as v payload e nothing g is = is
 
+-- from the choice to the volume
 refusal_told : (v : List ℕ) (payload : Data) (e : Edit) (f : OpenFault) → IsVolumeRefusal v f → (g : EditFault) × IsNeedFault v payload e g
 refusal_told v payload e f x =
     let y = volume_refused v payload x.choice f x.fault in
