@@ -45,14 +45,14 @@ module _ (tells : Type 0) (payload : Data) (lacks : Lacking) (v w : List ℕ) (b
 
   module _ (given : Given) where
     -- how many random bytes the edit takes isn't told
-    answers_untold : (f : EditFault) → after ≡ count_after (is_edit_failure f) before → (tells → w ≡ v) → (tells → UnlessOutside v (λ g. given.misses v g ⊎ IsFirstSeen payload given v g) f)
+    answers_untold : (f : EditFault) → after ≡ count_after (is_edit_failure f) before → (tells → w ≡ v) → (tells → UnlessOutside v (λ g. given.misses v g ⊎ IsFirstSeen payload (given.asks v) v g) f)
         → IsEditAnswer tells payload given lacks v w before after (edit_fault_answer f)
     answers_untold fault.Device count same is = inl count
     answers_untold fault.Memory count same is = (count, same, inr is)
     answers_untold f count same is = (count, λ t. inl (same t, is t))
 
     -- nothing is seen of it
-    pub answers_unseen : (unseen : Unseen) → after ≡ count_after (is_unseen_failure unseen) before → (tells → w ≡ v) → (tells → IsUnseen payload given v unseen)
+    pub answers_unseen : (unseen : Unseen) → after ≡ count_after (is_unseen_failure unseen) before → (tells → w ≡ v) → (tells → IsUnseen payload (given.asks v) (given.misses v) given.over v unseen)
         → IsEditAnswer tells payload given lacks v w before after (unseen_answer unseen)
     answers_unseen (Untold f) count same is = answers_untold f count same is
     answers_unseen (Used found) count same is = (count, λ t. (same t, is t))
@@ -104,7 +104,7 @@ lacks_as tells payload given other lacks more v a asks words random (inr x) = in
 
 -- what refused an edit early that is given so, refuses one that is given otherwise
 early_as : (payload : Data) (given other : Given) (v : List ℕ) (f : EditFault) → ((e : Edit) → given.asks v e → other.asks v e)
-    → ((f : EditFault) → given.misses v f → other.misses v f) → given.misses v f ⊎ IsFirstSeen payload given v f → other.misses v f ⊎ IsFirstSeen payload other v f
+    → ((f : EditFault) → given.misses v f → other.misses v f) → given.misses v f ⊎ IsFirstSeen payload (given.asks v) v f → other.misses v f ⊎ IsFirstSeen payload (other.asks v) v f
 early_as payload given other v f asks misses (inl missed) = inl (misses f missed)
 early_as payload given other v f asks misses (inr x) = inr (record { edit = x.edit; asked = asks x.edit x.asked; first = x.first })
 

@@ -149,18 +149,18 @@ module _ (payload : Data) (v w : List ℕ) (ended : Status) (given : Given) wher
   }
 
   -- what refused it before a keyslot was opened that is named
-  refused_early : (f : EditFault) → given.misses v f ⊎ IsFirstSeen payload given v f → IsRefusedUnfound given v ⊎ IsRefusedAtOnce payload given v ⊎ IsRefusedLate payload given v
+  refused_early : (f : EditFault) → given.misses v f ⊎ IsFirstSeen payload (given.asks v) v f → IsRefusedUnfound given v ⊎ IsRefusedAtOnce payload given v ⊎ IsRefusedLate payload given v
   refused_early f (inl missed) = inl (record { fault = f; missed = missed })
   refused_early f (inr x) = inr (inl (record { edit = x.edit; asked = x.asked; fault = f; first = x.first }))
 
-  refused_untold : (f : EditFault) → UnlessOutside v (λ g. given.misses v g ⊎ IsFirstSeen payload given v g) f → ended_by f ≡ Refused
+  refused_untold : (f : EditFault) → UnlessOutside v (λ g. given.misses v g ⊎ IsFirstSeen payload (given.asks v) v g) f → ended_by f ≡ Refused
       → IsRefusedUnfound given v ⊎ IsRefusedAtOnce payload given v ⊎ IsRefusedLate payload given v
   refused_untold fault.Memory is refused = absurd (no_refusal refused)
   refused_untold fault.Device is refused = absurd (no_refusal refused)
   refused_untold f is refused = refused_early f is
 
   -- nothing was seen of it
-  pub says_unseen : (unseen : Unseen) → w ≡ v → IsUnseen payload given v unseen → ended ≡ answer_status (unseen_answer unseen)
+  pub says_unseen : (unseen : Unseen) → w ≡ v → IsUnseen payload (given.asks v) (given.misses v) given.over v unseen → ended ≡ answer_status (unseen_answer unseen)
       → SaysEdit payload given v w (ended ≡ Done) (ended ≡ Refused)
   says_unseen (Untold f) same is told = record {
     done = λ d. absurd (never_done f (so ended (ended_by f) Done told d));

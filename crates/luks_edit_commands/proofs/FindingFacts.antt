@@ -29,7 +29,7 @@ use Rattle.luks_request.specs.declared.request.OpenerFile.{OpenerFile}
 use Rattle.luks_commands.specs.Chosen.{chosen_of}
 use Rattle.luks_commands.specs.OpenAnswers.{allowed_of}
 use Rattle.luks_edit_commands.specs.declared.edit.seen.Unseen.TheVariants.{Untold}
-use Rattle.luks_edit_commands.specs.Editing.{Given, IsAsked, IsFirstSeen, IsMissed, IsSecret, IsUnfound, IsUnseen, Misses, UnlessOutside, given_words, kind_of, unopened_fault}
+use Rattle.luks_edit_commands.specs.Editing.{IsAsked, IsMissed, IsSecret, IsUnfound, IsUnseen, Misses, UnlessOutside, kind_of, unopened_fault}
 
 -- what follows from a fault follows unless the device failed or memory was refused
 pub outside_as : (v : List ℕ) (P Q : EditFault → Type 0) → ((f : EditFault) → P f → Q f) → (f : EditFault) → UnlessOutside v P f → UnlessOutside v Q f
@@ -134,23 +134,23 @@ module _ (payload : Data) (v : List ℕ) (old new : Bor (List ℕ)) (f : EditFau
 -- ---- what is seen of it
 
 -- the header isn't read
-pub header_unseen : (editing : Editing) (old new : Bor (List ℕ)) (has_random : ℕ → List ℕ → Type 0) (v : List ℕ) (f : EditFault)
-    → ((e : Edit) → IsUntold v editing.payload e f) → IsUnseen editing.payload (given_words editing old.now new.now has_random) v (Untold f)
-header_unseen editing old new has_random v fault.Memory is = is edit.Repair
-header_unseen editing old new has_random v fault.Device is = tt
-header_unseen editing old new has_random v f is = elim (either_way editing.payload v old new f is editing.request) [
+pub header_unseen : (editing : Editing) (old new : Bor (List ℕ)) (v : List ℕ) (f : EditFault)
+    → ((e : Edit) → IsUntold v editing.payload e f) → IsUnseen editing.payload (IsAsked v editing.request (λ p. p ≡ old.now) (λ p. p ≡ new.now)) (IsMissed editing.payload editing.request (λ p. p ≡ old.now) v) editing.over v (Untold f)
+header_unseen editing old new v fault.Memory is = is edit.Repair
+header_unseen editing old new v fault.Device is = tt
+header_unseen editing old new v f is = elim (either_way editing.payload v old new f is editing.request) [
   | inl missed ↦ inl missed
   | inr x ↦ inr (record { edit = x.0; asked = x.1; first = is x.0 })
 ]
 
 -- no keyslot is found
-pub missed_unseen : (editing : Editing) (old new : List ℕ) (has_random : ℕ → List ℕ → Type 0) (v : List ℕ) (f : EditFault)
-    → UnlessOutside v (IsMissed editing.payload editing.request (λ p. p ≡ old) v) f → IsUnseen editing.payload (given_words editing old new has_random) v (Untold f)
-missed_unseen editing old new has_random v f is = outside_as v _ _ (λ g missed. inl missed) f is
+pub missed_unseen : (editing : Editing) (old new : List ℕ) (v : List ℕ) (f : EditFault)
+    → UnlessOutside v (IsMissed editing.payload editing.request (λ p. p ≡ old) v) f → IsUnseen editing.payload (IsAsked v editing.request (λ p. p ≡ old) (λ p. p ≡ new)) (IsMissed editing.payload editing.request (λ p. p ≡ old) v) editing.over v (Untold f)
+missed_unseen editing old new v f is = outside_as v _ _ (λ g missed. inl missed) f is
 
 -- how many random bytes the edit takes isn't told
-pub untold_unseen : (editing : Editing) (old new : List ℕ) (has_random : ℕ → List ℕ → Type 0) (v : List ℕ) (e : Edit) → IsAsked v editing.request (λ p. p ≡ old) (λ p. p ≡ new) e
-    → (f : EditFault) → IsUntold v editing.payload e f → IsUnseen editing.payload (given_words editing old new has_random) v (Untold f)
-untold_unseen editing old new has_random v e asked fault.Memory is = is
-untold_unseen editing old new has_random v e asked fault.Device is = tt
-untold_unseen editing old new has_random v e asked f is = inr (record { edit = e; asked = asked; first = is })
+pub untold_unseen : (editing : Editing) (old new : List ℕ) (v : List ℕ) (e : Edit) → IsAsked v editing.request (λ p. p ≡ old) (λ p. p ≡ new) e
+    → (f : EditFault) → IsUntold v editing.payload e f → IsUnseen editing.payload (IsAsked v editing.request (λ p. p ≡ old) (λ p. p ≡ new)) (IsMissed editing.payload editing.request (λ p. p ≡ old) v) editing.over v (Untold f)
+untold_unseen editing old new v e asked fault.Memory is = is
+untold_unseen editing old new v e asked fault.Device is = tt
+untold_unseen editing old new v e asked f is = inr (record { edit = e; asked = asked; first = is })

@@ -4,7 +4,7 @@ ghost use Rattle.luks_area.specs.Device.{CountsFailure, IsUnchanged};
 ghost use Rattle.luks_edit.specs.EditFaults.{is_edit_failure};
 ghost use Rattle.luks_reading.specs.Header.{IsAcceptedHeader, IsHeader};
 ghost use Rattle.luks_volume.specs.Needed.{NeedsRandom, TellsNeed};
-ghost use Rattle.luks_edit_commands.specs.Editing.{given_words, IsAsked, IsUnseen};
+ghost use Rattle.luks_edit_commands.specs.Editing.{IsAsked, IsMissed, IsUnseen};
 ghost use Rattle.luks_edit_commands.specs.OtherUses.{is_unseen_failure, SeesBarred};
 
 use super::asked::edit_of;
@@ -112,10 +112,10 @@ pub(super) fn look_at_volume<'a, D: Device, E: Write>(
         (λ p. p ≡ old.now) (λ p. p ≡ new.now) seen.edit) }
     ensures tells { D.tells → IfOk result (λ seen.
         NeedsRandom (D.bytes device.old) editing.now.payload seen.edit seen.needed) }
-    ensures unseen { (has_random : ℕ → List ℕ → Type 0) → D.tells → IfErr result
-        (IsUnseen editing.now.payload
-        (given_words editing.now old.now new.now has_random)
-        (D.bytes device.old)) }
+    ensures unseen { D.tells → IfErr result (IsUnseen editing.now.payload
+        (IsAsked (D.bytes device.old) editing.now.request (λ p. p ≡ old.now) (λ p. p ≡ new.now))
+        (IsMissed editing.now.payload editing.now.request (λ p. p ≡ old.now) (D.bytes device.old))
+        editing.now.over (D.bytes device.old)) }
     ensures barred { D.tells → SeesBarred editing.now.over (D.bytes device.old) result }
 {
     let header = edited_header(alloc, device)?;

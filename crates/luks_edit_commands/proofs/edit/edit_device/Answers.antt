@@ -14,14 +14,14 @@ use Rattle.luks_edit_commands.proofs.edit.edit_device.Goals as goal
 pub returns-in-Err-clause-says : goal.returns-in-Err-clause-says
 returns-in-Err-clause-says g c = λ tells.
     says_unseen c.args.editing.now.payload _ _ (answer_status c.not_begun.result) (given_words c.args.editing.now c.args.old.now c.args.new.now (AreFirstOf g.N.Read.remaining c.args.random.now)) c.in-Err.unseen
-    (c.look_at_volume.ensures.unchanged.same tells) (c.in-Err.ensures.unseen (AreFirstOf g.N.Read.remaining c.args.random.now) tells) (ap answer_status c.not_begun.ensures.answer)
+    (c.look_at_volume.ensures.unchanged.same tells) (c.in-Err.ensures.unseen tells) (ap answer_status c.not_begun.ensures.answer)
 
 pub returns-in-Err-clause-answers : goal.returns-in-Err-clause-answers
 returns-in-Err-clause-answers g c =
     let lacks = lacking_random (λ count. IsUnreadRandom count c.args.random.now) in
     subst (IsEditAnswer g.D.Device.tells c.args.editing.now.payload (given_words c.args.editing.now c.args.old.now c.args.new.now (AreFirstOf g.N.Read.remaining c.args.random.now)) lacks _ _ _ _) (sym c.not_begun.ensures.answer)
     (answers_unseen g.D.Device.tells c.args.editing.now.payload lacks _ _ _ _ (given_words c.args.editing.now c.args.old.now c.args.new.now (AreFirstOf g.N.Read.remaining c.args.random.now)) c.in-Err.unseen c.in-Err.ensures.count
-    c.look_at_volume.ensures.unchanged.same (c.in-Err.ensures.unseen (AreFirstOf g.N.Read.remaining c.args.random.now)))
+    c.look_at_volume.ensures.unchanged.same c.in-Err.ensures.unseen)
 
 pub returns-in-Ok-apply_of_header-clause-says : goal.returns-in-Ok-apply_of_header-clause-says
 returns-in-Ok-apply_of_header-clause-says g c = λ tells.
