@@ -102,14 +102,14 @@ pub fn run<D: Device, R: Read, N: Read, E: Write>(
 
 /// Edits the volume as the command line asks for it, with these bytes of its passphrases.
 #[tactic(auto, using(luks_area::proofs::DeviceFacts::settled_unchanged))]
-fn edit_device<'a, D: Device, N: Read, E: Write>(
+fn edit_device<D: Device, N: Read, E: Write>(
     alloc: Global,
     device: &mut D,
     random: &mut Result<N, InputFault>,
     name: &str,
-    editing: &Editing<'a>,
-    old: &'a [u8],
-    new: &'a [u8],
+    editing: &Editing<'_>,
+    old: &[u8],
+    new: &[u8],
     err: &mut E,
 ) -> Answer
     requires room { D.failed device.old + 1 < 2 ^ 64 }
