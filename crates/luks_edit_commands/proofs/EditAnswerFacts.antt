@@ -78,6 +78,7 @@ module _ (tells : Type 0) (payload : Data) (lacks : Lacking) (v w : List ℕ) (b
         -- it is done
         pub answers_done : (made : Made) (slot : Option ℕ) → given.told e made.slot ≡ slot → after ≡ before → (tells → Replies payload u e random (Ok made) w)
             → IsEditAnswer tells payload given lacks v w before after (answer.Done slot)
+        unfolding run_replied
         answers_done made slot told counted is = (
           counted,
           λ t. record {
@@ -112,6 +113,7 @@ early_as payload given other v f asks misses (inr x) = inr (record { edit = x.ed
 pub answers_as : (tells : Type 0) (payload : Data) (given other : Given) (lacks more : Lacking) (v w : List ℕ) (before after : ℕ) → ((e : Edit) → given.asks v e → other.asks v e)
     → ((f : EditFault) → given.misses v f → other.misses v f) → ((e : Edit) (m : Option ℕ) → given.told e m ≡ other.told e m) → ((n : ℕ) (b : List ℕ) → given.has_random n b → other.has_random n b) → (given.is_long → other.is_long) → given.over ≡ other.over → ((f : InputFault) → lacks.words f → more.words f) → ((n : ℕ) (f : InputFault) → lacks.random n f → more.random n f) → (a : Answer)
     → IsEditAnswer tells payload given lacks v w before after a → IsEditAnswer tells payload other more v w before after a
+unfolding replied_as
 answers_as tells payload given other lacks more v w before after asks misses told has long over words random (answer.Done slot) x = (
   x.0,
   λ t.

@@ -126,7 +126,7 @@ never_done fault.Device is = cc
 never_done f is = cc
 
 -- the edit was run
-pub run_replied : (payload : Data) (v w : List ℕ) (given : Given) (e : Edit) → given.asks v e → (u : List ℕ) → u ≡ v → (count : ℕ) (random : List ℕ)
+unfoldable pub run_replied : (payload : Data) (v w : List ℕ) (given : Given) (e : Edit) → given.asks v e → (u : List ℕ) → u ≡ v → (count : ℕ) (random : List ℕ)
     → NeedsRandom v payload e count → given.has_random count random → (reply : Reply) → Replies payload u e random reply w
     → IsReplied payload given v w reply
 run_replied payload v w given e asked u unchanged count random needs taken reply is = record {
@@ -227,7 +227,7 @@ pub taken_as : {N : Type 0} (remaining : N → Option (List ℕ)) (random : Resu
 taken_as remaining random count is taken = subst (AreFirstOf remaining random count) (sym is) taken
 
 -- what is told of an edit that is given so, is told of one that is given otherwise
-pub replied_as : (payload : Data) (given other : Given) (v w : List ℕ) (reply : Reply) → ((e : Edit) → given.asks v e → other.asks v e)
+unfoldable pub replied_as : (payload : Data) (given other : Given) (v w : List ℕ) (reply : Reply) → ((e : Edit) → given.asks v e → other.asks v e)
     → ((n : ℕ) (b : List ℕ) → given.has_random n b → other.has_random n b) → IsReplied payload given v w reply → IsReplied payload other v w reply
 replied_as payload given other v w reply asks has x = record {
   edit = x.edit;

@@ -29,7 +29,7 @@ use Rattle.luks_request.specs.declared.request.OpenerFile.{OpenerFile}
 use Rattle.luks_commands.specs.Chosen.{chosen_of}
 use Rattle.luks_commands.specs.OpenAnswers.{allowed_of}
 use Rattle.luks_edit_commands.specs.declared.edit.seen.Unseen.TheVariants.{Untold}
-use Rattle.luks_edit_commands.specs.Editing.{IsAsked, IsMissed, IsSecret, IsUnfound, IsUnseen, Misses, UnlessOutside, kind_of, unopened_fault}
+use Rattle.luks_edit_commands.specs.Editing.{IsAsked, IsFirstSeen, IsMissed, IsSecret, IsUnfound, IsUnseen, Misses, UnlessOutside, kind_of, unopened_fault}
 
 -- what follows from a fault follows unless the device failed or memory was refused
 pub outside_as : (v : List ℕ) (P Q : EditFault → Type 0) → ((f : EditFault) → P f → Q f) → (f : EditFault) → UnlessOutside v P f → UnlessOutside v Q f
@@ -146,7 +146,10 @@ header_unseen editing old new v f is = elim (either_way editing.payload v old ne
 -- no keyslot is found
 pub missed_unseen : (editing : Editing) (old new : List ℕ) (v : List ℕ) (f : EditFault)
     → UnlessOutside v (IsMissed editing.payload editing.request (λ p. p ≡ old) v) f → IsUnseen editing.payload (IsAsked v editing.request (λ p. p ≡ old) (λ p. p ≡ new)) (IsMissed editing.payload editing.request (λ p. p ≡ old) v) editing.over v (Untold f)
-missed_unseen editing old new v f is = outside_as v _ _ (λ g missed. inl missed) f is
+missed_unseen editing old new v f is =
+    outside_as v (IsMissed editing.payload editing.request (λ p. p ≡ old) v)
+    (λ g. IsMissed editing.payload editing.request (λ p. p ≡ old) v g ⊎ IsFirstSeen editing.payload (IsAsked v editing.request (λ p. p ≡ old) (λ p. p ≡ new)) v g)
+    (λ g missed. inl missed) f is
 
 -- how many random bytes the edit takes isn't told
 pub untold_unseen : (editing : Editing) (old new : List ℕ) (v : List ℕ) (e : Edit) → IsAsked v editing.request (λ p. p ≡ old) (λ p. p ≡ new) e
