@@ -151,6 +151,16 @@ missed_unseen editing old new v f is =
     (λ g. IsMissed editing.payload editing.request (λ p. p ≡ old) v g ⊎ IsFirstSeen editing.payload (IsAsked v editing.request (λ p. p ≡ old) (λ p. p ≡ new)) v g)
     (λ g missed. inl missed) f is
 
+-- of a volume whose bytes are those
+pub missed_moved : (editing : Editing) (old new v w : List ℕ) → w ≡ v → (f : EditFault) → UnlessOutside w (IsMissed editing.payload editing.request (λ p. p ≡ old) w) f
+    → IsUnseen editing.payload (IsAsked v editing.request (λ p. p ≡ old) (λ p. p ≡ new)) (IsMissed editing.payload editing.request (λ p. p ≡ old) v) editing.over v (Untold f)
+missed_moved editing old new v w same f is =
+    missed_unseen editing old new v f (subst (λ (x : List ℕ). UnlessOutside x (IsMissed editing.payload editing.request (λ p. p ≡ old) x) f) same is)
+
+pub asked_moved : (editing : Editing) (old new v w : List ℕ) → w ≡ v → (e : Edit) → IsAsked w editing.request (λ p. p ≡ old) (λ p. p ≡ new) e
+    → IsAsked v editing.request (λ p. p ≡ old) (λ p. p ≡ new) e
+asked_moved editing old new v w same e is = subst (λ (x : List ℕ). IsAsked x editing.request (λ p. p ≡ old) (λ p. p ≡ new) e) same is
+
 -- how many random bytes the edit takes isn't told
 pub untold_unseen : (editing : Editing) (old new : List ℕ) (v : List ℕ) (e : Edit) → IsAsked v editing.request (λ p. p ≡ old) (λ p. p ≡ new) e
     → (f : EditFault) → IsUntold v editing.payload e f → IsUnseen editing.payload (IsAsked v editing.request (λ p. p ≡ old) (λ p. p ≡ new)) (IsMissed editing.payload editing.request (λ p. p ≡ old) v) editing.over v (Untold f)
