@@ -58,8 +58,7 @@ not_accepted_as v payload e nothing g is = is
 -- from the choice to the volume
 refusal_told : (v : List ℕ) (payload : Data) (e : Edit) (f : OpenFault) → IsVolumeRefusal v f → (g : EditFault) × IsNeedFault v payload e g
 refusal_told v payload e f x =
-    let y = volume_refused v payload x.choice f x.fault in
-    (
+    let y = volume_refused v payload x.choice f x.fault in (
       fault.NotAccepted y.0,
       record { choice = x.choice; chosen = x.chosen; fault = not_accepted_as v payload e x.choice y.0 (record { choice = x.choice; chosen = x.chosen; fault = y.1 }) },
     )

@@ -156,7 +156,14 @@ fn edit_device<D: Device, N: Read, E: Write>(
     note_leaving_argon2(seen.leaves_argon2, err);
     let edit = seen.edit;
     let _ = note_edit(&seen.header, &edit, err);
-    match apply_of_header(alloc, device, seen.header, payload, &edit, random.as_slice()) {
+    match apply_of_header(
+        alloc,
+        device,
+        seen.header,
+        payload,
+        &edit,
+        random.as_slice(),
+    ) {
         Ok(made) => {
             note_weaker(seen.weaker, err);
             Answer::Done(told_slot(&editing.request, &edit, made.slot))

@@ -95,8 +95,8 @@ returns-in-Ok-apply_of_header-clause-keeps g c = λ tells well fine.
     let same = c.look_at_volume.ensures.unchanged.same tells in
     let well_met = subst (λ u. WellFormed u c.args.editing.now.payload) (sym same) well in
     let kept = subst (λ u. Keeps c.args.editing.now.payload (NamedSlots u c.in-Ok.seen.edit) u (g.D.Device.bytes c.apply_of_header.new.device)) same
-        (kept_once _ _ (g.D.Device.bytes c.apply_of_header.new.device) c.in-Ok.seen.edit (Ok c.in-Ok-apply_of_header.made) _ _ c.in-Ok-apply_of_header.ensures.count (fine ∙ sym c.in-Ok.ensures.count)
-        ((c.in-Ok-apply_of_header.ensures.applied tells).keeps well_met)) in
+    (kept_once _ _ (g.D.Device.bytes c.apply_of_header.new.device) c.in-Ok.seen.edit (Ok c.in-Ok-apply_of_header.made) _ _ c.in-Ok-apply_of_header.ensures.count (fine ∙ sym c.in-Ok.ensures.count)
+    ((c.in-Ok-apply_of_header.ensures.applied tells).keeps well_met)) in
     named_asked c.args.editing.now _ _ _ _ c.in-Ok.seen.edit (c.in-Ok.ensures.asked tells) kept
 
 pub returns-clause-keeps : goal.returns-clause-keeps
@@ -104,6 +104,6 @@ returns-clause-keeps g c = λ tells well fine.
     let same = c.look_at_volume.ensures.unchanged.same tells in
     let well_met = subst (λ u. WellFormed u c.args.editing.now.payload) (sym same) well in
     let kept = subst (λ u. Keeps c.args.editing.now.payload (NamedSlots u c.in-Ok.seen.edit) u (g.D.Device.bytes c.apply_of_header.new.device)) same
-        (kept_once _ _ (g.D.Device.bytes c.apply_of_header.new.device) c.in-Ok.seen.edit (Err c.in-Err-apply_of_header.fault) _ _ c.in-Err-apply_of_header.ensures.count (fine ∙ sym c.in-Ok.ensures.count)
-        ((c.in-Err-apply_of_header.ensures.applied tells).keeps well_met)) in
+    (kept_once _ _ (g.D.Device.bytes c.apply_of_header.new.device) c.in-Ok.seen.edit (Err c.in-Err-apply_of_header.fault) _ _ c.in-Err-apply_of_header.ensures.count (fine ∙ sym c.in-Ok.ensures.count)
+    ((c.in-Err-apply_of_header.ensures.applied tells).keeps well_met)) in
     named_asked c.args.editing.now _ _ _ _ c.in-Ok.seen.edit (c.in-Ok.ensures.asked tells) kept

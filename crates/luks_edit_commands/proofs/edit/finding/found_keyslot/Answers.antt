@@ -13,7 +13,7 @@ returns-in-Ok-None-clause-unfound g c = λ tells read.
       refl,
       (c.in_ok-needed_of_header.ensures.tells v read long).unrefused,
       subst (λ (o : Option (ℕ × List ℕ)). Unlocks c.args.secret.now.allowed v c.args.secret.now.bytes.now o) c.in-Ok-None.field-0-is
-      (c.in-Ok-None.ensures.answers.unlocks tells read),
+          (c.in-Ok-None.ensures.answers.unlocks tells read),
     )
 
 pub returns-in-Err-clause-unfound : goal.returns-in-Err-clause-unfound

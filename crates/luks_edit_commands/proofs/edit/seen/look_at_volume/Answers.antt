@@ -71,7 +71,7 @@ returns-in_err-needed-clause-unseen g c = λ tells.
     let read = subst (λ x. IsHeader x c.in_ok-header.header) (sym same) (c.in_ok-header.ensures.read tells) in
     let asked = asked_moved c.args.editing.now c.args.old.now c.args.new.now v _ same c.in_ok-edit.edit (c.in_ok-edit.ensures.asked tells read) in
     let long = g.met.D.Device.sized c.args.device.now tells ∙ sym c.in_ok-header.ensures.unchanged.size ∙ sym c.in_ok-found.ensures.unchanged.size
-        ∙ sym c.in_ok-edit.ensures.unchanged.size ∙ sym c.len.ensures in
+    ∙ sym c.in_ok-edit.ensures.unchanged.size ∙ sym c.len.ensures in
     let p = err_from_is_err_and c.from_residual-in_err-needed.result c.from_residual-in_err-needed.ensures.1 in
     rw (p.1, p.2) (untold_unseen c.args.editing.now c.args.old.now c.args.new.now v c.in_ok-edit.edit asked _ (c.in_err-needed.ensures.tells v (c.in_ok-header.ensures.read tells) long))
 
