@@ -1,5 +1,5 @@
 -- Which keyslot an edit opens where none is named, and what is seen of it before.
-use Rattle.std.proofs.Common.{◌≡◌, ℕ, List, ◌⊎◌, Bool, Option, Some, None, refl, inl, inr, subst, ◌∙◌}
+use Rattle.std.proofs.Common.{◌≡◌, ℕ, List, ◌⊎◌, Bool, Option, Some, None, refl, inl, inr, subst}
 use Rattle.std.specs.Borrow.{Bor}
 use Rattle.luks_area.specs.First.{IsLeast}
 use Rattle.luks_area.specs.Device.{count_after}

@@ -1,4 +1,4 @@
-use Rattle.std.proofs.Common.{List, ℕ, Ok, Err, ap, refl, sym, subst, ◌∙◌}
+use Rattle.std.proofs.Common.{Ok, Err, ap, refl, sym, subst, ◌∙◌}
 use Rattle.luks_reading.specs.Checked.{WellFormed}
 use Rattle.luks_commands.specs.declared.answers.Status.TheVariants.{Done}
 use Rattle.luks_commands.specs.Answer.{answer_status}
