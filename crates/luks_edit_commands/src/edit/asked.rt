@@ -9,7 +9,6 @@ ghost use Rattle.luks_reading.specs.Header.{IsAcceptedHeader, IsHeader};
 ghost use Rattle.luks_edit_commands.specs.Editing.{IsAsked, IsMissed, kind_of, removed_in, told_slot, UnlessOutside};
 
 use super::finding::keyslot_of;
-use super::words::EditWords;
 use luks_commands::chosen_of;
 use luks_commands::open::allowed_of;
 use luks_request::{AskedKdf, EditRequest, Editing, OpenerFile};
@@ -24,24 +23,24 @@ pub(super) fn edit_of<'a, D: Device, E: Write>(
     device: &mut D,
     header: &Header,
     editing: &Editing<'a>,
-    words: &EditWords<'a>,
+    old: &'a [u8],
+    new: &'a [u8],
     err: &mut E,
 ) -> Result<Edit<'a>, EditFault>
     requires room { D.failed device.old + 1 < 2 ^ 64 }
     requires accepted { IsAcceptedHeader header.now }
-    requires short { length words.now.old.now < 2 ^ 32 }
+    requires short { length old.now < 2 ^ 32 }
     ensures unchanged { IsUnchanged D.tells D.size D.bytes D.unsettled device.old device.new }
     ensures count { CountsFailure is_edit_failure result
         (D.failed device.old) (D.failed device.new) }
     ensures asked { D.tells → IsHeader (D.bytes device.old) header.now
         → IfOk result (IsAsked (D.bytes device.old) editing.now.request
-        (λ p. p ≡ words.now.old.now) (λ p. p ≡ words.now.new.now)) }
+        (λ p. p ≡ old.now) (λ p. p ≡ new.now)) }
     ensures missed { D.tells → IsHeader (D.bytes device.old) header.now
         → IfErr result (UnlessOutside (D.bytes device.old) (IsMissed editing.now.payload
-        editing.now.request (λ p. p ≡ words.now.old.now) (D.bytes device.old))) }
+        editing.now.request (λ p. p ≡ old.now) (D.bytes device.old))) }
 {
     let payload = editing.payload;
-    let EditWords { old, new } = *words;
     match editing.request {
         EditRequest::Add {
             by_,

@@ -8,16 +8,6 @@ use luks_wiping::Secret;
 use std::alloc::Global;
 use std::io::{Read, Write};
 
-/// The bytes of the passphrases of an edit, or of its key and the new passphrase: none of one that it doesn't
-/// need.
-#[derive(Clone, Copy)]
-pub(super) struct EditWords<'a> {
-    /// Those of the passphrase, or the key.
-    pub(super) old: &'a [u8],
-    /// Those of the new passphrase.
-    pub(super) new: &'a [u8],
-}
-
 /// The bytes of the passphrase whose file has this name, none where the edit needs none; or what the
 /// command answers without it.
 pub(super) fn words<R: Read, E: Write>(
