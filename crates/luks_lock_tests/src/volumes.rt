@@ -41,8 +41,11 @@ fn readers_go_on_beside_an_edit(rt: HostRuntime) -> Result<(), Fail> {
     );
     assert!(rt; opened(&rt, path, true).is_err(), "no second edit");
     drop(editor);
+    let reader = opened(&rt, path, false);
+    assert!(rt; notices(&reader) == Some([None, None]), "nothing to tell");
     let told = notices(&opened(&rt, path, false));
-    assert!(rt; told == Some([None, None]), "nothing to tell");
+    assert!(rt; told == Some([None, None]), "read beside a reader");
+    assert!(rt; opened(&rt, path, true).is_err(), "no edit beside a reader");
     fs::remove_dir_all(&rt, top.as_str())?;
     Ok(())
 }
