@@ -37,7 +37,7 @@ complete -c luks -n '__fish_seen_subcommand_from open' -l quiet -d 'No hints on 
 
 complete -c luks -n __fish_use_subcommand -a add -d 'Adds a keyslot for a new passphrase'
 complete -c luks -n '__fish_seen_subcommand_from add' -F
-complete -c luks -n '__fish_seen_subcommand_from add' -l slot -x -a '(seq 0 31)' -d 'The keyslot that the passphrase opens, 0 to 31'
+complete -c luks -n '__fish_seen_subcommand_from add' -l slot -x -a '(seq 0 31)' -d 'The keyslot that the passphrase opens'
 complete -c luks -n '__fish_seen_subcommand_from add' -l passphrase -r -F -d 'The file of the passphrase, taken whole'
 complete -c luks -n '__fish_seen_subcommand_from add' -l passphrase-line -r -F -d 'The file whose first line is the passphrase'
 complete -c luks -n '__fish_seen_subcommand_from add' -l key -r -F -d 'The file of the volume key'
@@ -61,7 +61,7 @@ complete -c luks -n '__fish_seen_subcommand_from add' -l quiet -d 'No hints on s
 
 complete -c luks -n __fish_use_subcommand -a change -d 'Puts a new passphrase in the place of an old one'
 complete -c luks -n '__fish_seen_subcommand_from change' -F
-complete -c luks -n '__fish_seen_subcommand_from change' -l slot -x -a '(seq 0 31)' -d 'The keyslot that the passphrase opens, 0 to 31'
+complete -c luks -n '__fish_seen_subcommand_from change' -l slot -x -a '(seq 0 31)' -d 'The keyslot that the passphrase opens'
 complete -c luks -n '__fish_seen_subcommand_from change' -l passphrase -r -F -d 'The file of the passphrase, taken whole'
 complete -c luks -n '__fish_seen_subcommand_from change' -l passphrase-line -r -F -d 'The file whose first line is the passphrase'
 complete -c luks -n '__fish_seen_subcommand_from change' -l key -r -F -d 'The file of the volume key'
@@ -84,7 +84,7 @@ complete -c luks -n '__fish_seen_subcommand_from change' -l quiet -d 'No hints o
 
 complete -c luks -n __fish_use_subcommand -a remove -d 'Removes a keyslot'
 complete -c luks -n '__fish_seen_subcommand_from remove' -F
-complete -c luks -n '__fish_seen_subcommand_from remove' -l slot -x -a '(seq 0 31)' -d 'The keyslot to remove, 0 to 31'
+complete -c luks -n '__fish_seen_subcommand_from remove' -l slot -x -a '(seq 0 31)' -d 'The keyslot to remove'
 complete -c luks -n '__fish_seen_subcommand_from remove' -l by -x -a '(seq 0 31)' -d 'The one that the passphrase opens; else --slot'
 complete -c luks -n '__fish_seen_subcommand_from remove' -l passphrase -r -F -d 'The file of the passphrase, taken whole'
 complete -c luks -n '__fish_seen_subcommand_from remove' -l passphrase-line -r -F -d 'The file whose first line is the passphrase'

@@ -1,6 +1,6 @@
 //! A small volume that lines damage, and the header that is made of it.
 use luks_area::MemDevice;
-use luks_notes::note_taken;
+use luks_notes::{Hashing, note_taken};
 use luks_reading::{Data, check};
 use luks_rebuilding::{Copies, Effort, RebuildFault, Which, rebuild};
 use luks_test_devices::{counted, old_bytes, two_hashes};
@@ -130,8 +130,17 @@ impl DamagedLuks2 {
         let mut target = MemDevice::new(old_bytes(alloc, image.len())?);
         let asked = Asked::read(alloc, words)?;
         let _ = asked.rebuild(alloc, &mut source, &mut target, &counted(alloc, 0, 144)?);
+        let which = asked.which();
+        let mut hashing = Hashing::after(which.effort);
         let mut said = Vec::new(alloc);
-        note_taken(alloc, &mut source, &mut target, asked.which(), &mut said);
+        note_taken(
+            alloc,
+            &mut source,
+            &mut target,
+            which,
+            &mut hashing,
+            &mut said,
+        );
         let said = str::from_utf8(said.as_slice()).unwrap_or("no text");
         Ok(String::from_str(alloc, said.trim_end())?)
     }

@@ -1,5 +1,5 @@
 -- What the commands that edit answer, by what they met.
-use Rattle.std.proofs.Common.{◌≡◌, ◌≢◌, ℕ, List, Result, Ok, Err, IfErr, Bool, false, ap, inl, inr, refl, ◌∙◌, sym, subst, Option, Some, None, option_map}
+use Rattle.std.proofs.Common.{◌≡◌, ◌≢◌, ◌⊎◌, ℕ, List, Result, Ok, Err, IfErr, Bool, false, ap, inl, inr, refl, ◌∙◌, sym, subst, Option, Some, None, option_map}
 use Rattle.luks_area.specs.Device.{count_after}
 use Rattle.luks_reading.specs.declared.report.Data.{Data}
 use Rattle.luks_edit.specs.declared.edit.Done.{Done as Made}
@@ -9,7 +9,7 @@ use Rattle.luks_edit.specs.declared.edit_fault.EditFault.TheVariants as fault
 use Rattle.luks_edit.specs.EditFaults.{is_edit_failure}
 use Rattle.luks_reading.specs.Header.{NeedsMetadata}
 use Rattle.luks_volume.specs.Edits.{Replies}
-use Rattle.luks_volume.specs.Needed.{IsUntold, NeedsRandom}
+use Rattle.luks_volume.specs.Needed.{NeedsRandom}
 use Rattle.luks_commands.specs.declared.answers.Answer.{Answer}
 use Rattle.luks_commands.specs.declared.answers.Answer.TheVariants as answer
 use Rattle.luks_commands.specs.declared.answers.Refusal.TheVariants as refusal
@@ -21,8 +21,8 @@ use Rattle.luks_edit_commands.specs.EditAnswers.{AnswersEdit, IsEditAnswer, Lack
 use Rattle.luks_signatures.specs.declared.other_use.OtherUse.{OtherUse}
 use Rattle.luks_edit_commands.specs.declared.edit.seen.Unseen.{Unseen}
 use Rattle.luks_edit_commands.specs.declared.edit.seen.Unseen.TheVariants.{Untold, Used}
-use Rattle.luks_edit_commands.specs.OtherUses.{Bars, HasOtherUse, HoldsBack, HoldsBackVolume, IsBarred, IsUnseen, is_unseen_failure, unseen_answer}
-use Rattle.luks_edit_commands.specs.Editing.{Given, Lacking, given_edit}
+use Rattle.luks_edit_commands.specs.OtherUses.{Bars, HasOtherUse, HoldsBack, HoldsBackVolume, IsBarred, is_unseen_failure, unseen_answer}
+use Rattle.luks_edit_commands.specs.Editing.{Given, IsFirstSeen, IsUnseen, Lacking, UnlessOutside}
 use Rattle.luks_commands.specs.Files.{OfNamed}
 use Rattle.luks_commands.proofs.EndFacts.{unread_is_fault}
 use Rattle.luks_edit_commands.proofs.EditFacts.{replied_as, run_replied}
@@ -43,51 +43,52 @@ module _ (tells : Type 0) (payload : Data) (lacks : Lacking) (v w : List ℕ) (b
   answers_unread given f a is count same lacking =
       subst (IsEditAnswer tells payload given lacks v w before after) (sym is) (unread_alone given f count same lacking)
 
-  module _ (over : Bool) (e : Edit) (has_random : ℕ → List ℕ → Type 0) where
+  module _ (given : Given) where
     -- how many random bytes the edit takes isn't told
-    pub answers_untold : (f : EditFault) → after ≡ count_after (is_edit_failure f) before → (tells → w ≡ v) → (tells → IsUntold v payload e f)
-        → IsEditAnswer tells payload (given_edit over e has_random) lacks v w before after (edit_fault_answer f)
+    answers_untold : (f : EditFault) → after ≡ count_after (is_edit_failure f) before → (tells → w ≡ v) → (tells → UnlessOutside v (λ g. given.misses v g ⊎ IsFirstSeen payload given v g) f)
+        → IsEditAnswer tells payload given lacks v w before after (edit_fault_answer f)
     answers_untold fault.Device count same is = inl count
     answers_untold fault.Memory count same is = (count, same, inr is)
-    answers_untold f count same is = (count, λ t. inl (same t, record { edit = e; asked = refl; first = is t }))
+    answers_untold f count same is = (count, λ t. inl (same t, is t))
 
     -- nothing is seen of it
-    pub answers_unseen : (unseen : Unseen) → after ≡ count_after (is_unseen_failure unseen) before → (tells → w ≡ v) → (tells → IsUnseen over v payload e unseen)
-        → IsEditAnswer tells payload (given_edit over e has_random) lacks v w before after (unseen_answer unseen)
+    pub answers_unseen : (unseen : Unseen) → after ≡ count_after (is_unseen_failure unseen) before → (tells → w ≡ v) → (tells → IsUnseen payload given v unseen)
+        → IsEditAnswer tells payload given lacks v w before after (unseen_answer unseen)
     answers_unseen (Untold f) count same is = answers_untold f count same is
     answers_unseen (Used found) count same is = (count, λ t. (same t, is t))
 
-    -- the random bytes can't be read
-    pub answers_randomless : (count : ℕ) → (tells → NeedsRandom v payload e count) → (f : InputFault) (a : Answer) → a ≡ unread_answer f → after ≡ before
-        → (tells → w ≡ v) → lacks.random count f → IsEditAnswer tells payload (given_edit over e has_random) lacks v w before after a
-    answers_randomless count needs f a is counted same unread = answers_unread (given_edit over e has_random) f a is counted same (λ said answered.
-        inr (λ t. record { edit = e; asked = refl; count = count; needs = needs t; fault = f; unread = unread; answered = answered }))
+    module _ (e : Edit) (asked : tells → given.asks v e) (count : ℕ) (needs : tells → NeedsRandom v payload e count) where
+      -- the random bytes can't be read
+      pub answers_randomless : (f : InputFault) (a : Answer) → a ≡ unread_answer f → after ≡ before
+          → (tells → w ≡ v) → lacks.random count f → IsEditAnswer tells payload given lacks v w before after a
+      answers_randomless f a is counted same unread = answers_unread given f a is counted same (λ said answered.
+          inr (λ t. record { edit = e; asked = asked t; count = count; needs = needs t; fault = f; unread = unread; answered = answered }))
 
-    module _ (u : List ℕ) (unchanged : tells → u ≡ v) (count : ℕ) (random : List ℕ) (needs : tells → NeedsRandom v payload e count) (taken : has_random count random) where
-      -- a fault ended it
-      pub answers_fault : (f : EditFault) → after ≡ count_after (is_edit_failure f) before → (tells → Replies payload u e random (Err f) w)
-          → IsEditAnswer tells payload (given_edit over e has_random) lacks v w before after (edit_fault_answer f)
-      answers_fault fault.Device counted is = inl counted
-      answers_fault fault.Memory counted is = (counted, λ t. (is t).1 ∙ unchanged t, inr (λ t. subst NeedsMetadata (unchanged t) (is t).0))
-      answers_fault f counted is = (
-        counted,
-        λ t. inr (run_replied payload v w over e has_random u (unchanged t) count random (needs t) taken (Err f) (is t)),
-      )
+      module _ (u : List ℕ) (unchanged : tells → u ≡ v) (random : List ℕ) (taken : given.has_random count random) where
+        -- a fault ended it
+        pub answers_fault : (f : EditFault) → after ≡ count_after (is_edit_failure f) before → (tells → Replies payload u e random (Err f) w)
+            → IsEditAnswer tells payload given lacks v w before after (edit_fault_answer f)
+        answers_fault fault.Device counted is = inl counted
+        answers_fault fault.Memory counted is = (counted, λ t. (is t).1 ∙ unchanged t, inr (λ t. subst NeedsMetadata (unchanged t) (is t).0))
+        answers_fault f counted is = (
+          counted,
+          λ t. inr (run_replied payload v w given e (asked t) u (unchanged t) count random (needs t) taken (Err f) (is t)),
+        )
 
-      -- it is done
-      pub answers_done : (made : Made) → after ≡ before → (tells → Replies payload u e random (Ok made) w)
-          → IsEditAnswer tells payload (given_edit over e has_random) lacks v w before after (answer.Done made.slot)
-      answers_done made counted is = (
-        counted,
-        λ t. record {
-          made = made;
-          replied = run_replied payload v w over e has_random u (unchanged t) count random (needs t) taken (Ok made) (is t);
-          told = refl;
-        },
-      )
+        -- it is done
+        pub answers_done : (made : Made) (slot : Option ℕ) → given.told e made.slot ≡ slot → after ≡ before → (tells → Replies payload u e random (Ok made) w)
+            → IsEditAnswer tells payload given lacks v w before after (answer.Done slot)
+        answers_done made slot told counted is = (
+          counted,
+          λ t. record {
+            made = made;
+            replied = run_replied payload v w given e (asked t) u (unchanged t) count random (needs t) taken (Ok made) (is t);
+            told = told;
+          },
+        )
 
 -- a file that is lacked so, is lacked otherwise
-lacks_as : (tells : Type 0) (payload : Data) (given other : Given) (lacks more : Lacking) (v : List ℕ) (a : Answer) → ((e : Edit) → given.asks e → other.asks e)
+lacks_as : (tells : Type 0) (payload : Data) (given other : Given) (lacks more : Lacking) (v : List ℕ) (a : Answer) → ((e : Edit) → given.asks v e → other.asks v e)
     → ((f : InputFault) → lacks.words f → more.words f) → ((n : ℕ) (f : InputFault) → lacks.random n f → more.random n f)
     → LacksFile tells payload given lacks v a → LacksFile tells payload other more v a
 lacks_as tells payload given other lacks more v a asks words random (inl x) = inl (x.0, words x.0 x.1, x.2)
@@ -101,32 +102,38 @@ lacks_as tells payload given other lacks more v a asks words random (inr x) = in
   answered = y.answered;
 })
 
+-- what refused an edit early that is given so, refuses one that is given otherwise
+early_as : (payload : Data) (given other : Given) (v : List ℕ) (f : EditFault) → ((e : Edit) → given.asks v e → other.asks v e)
+    → ((f : EditFault) → given.misses v f → other.misses v f) → given.misses v f ⊎ IsFirstSeen payload given v f → other.misses v f ⊎ IsFirstSeen payload other v f
+early_as payload given other v f asks misses (inl missed) = inl (misses f missed)
+early_as payload given other v f asks misses (inr x) = inr (record { edit = x.edit; asked = asks x.edit x.asked; first = x.first })
+
 -- what is answered of an edit that is given so, is answered of one that is given otherwise
-pub answers_as : (tells : Type 0) (payload : Data) (given other : Given) (lacks more : Lacking) (v w : List ℕ) (before after : ℕ) → ((e : Edit) → given.asks e → other.asks e)
-    → ((n : ℕ) (b : List ℕ) → given.has_random n b → other.has_random n b) → (given.is_long → other.is_long) → given.over ≡ other.over → ((f : InputFault) → lacks.words f → more.words f) → ((n : ℕ) (f : InputFault) → lacks.random n f → more.random n f) → (a : Answer)
+pub answers_as : (tells : Type 0) (payload : Data) (given other : Given) (lacks more : Lacking) (v w : List ℕ) (before after : ℕ) → ((e : Edit) → given.asks v e → other.asks v e)
+    → ((f : EditFault) → given.misses v f → other.misses v f) → ((e : Edit) (m : Option ℕ) → given.told e m ≡ other.told e m) → ((n : ℕ) (b : List ℕ) → given.has_random n b → other.has_random n b) → (given.is_long → other.is_long) → given.over ≡ other.over → ((f : InputFault) → lacks.words f → more.words f) → ((n : ℕ) (f : InputFault) → lacks.random n f → more.random n f) → (a : Answer)
     → IsEditAnswer tells payload given lacks v w before after a → IsEditAnswer tells payload other more v w before after a
-answers_as tells payload given other lacks more v w before after asks has long over words random (answer.Done slot) x = (
+answers_as tells payload given other lacks more v w before after asks misses told has long over words random (answer.Done slot) x = (
   x.0,
   λ t.
-      let y = x.1 t in record { made = y.made; replied = replied_as payload given other v w (Ok y.made) asks has y.replied; told = y.told },
+      let y = x.1 t in record { made = y.made; replied = replied_as payload given other v w (Ok y.made) asks has y.replied; told = sym (told y.replied.edit y.made.slot) ∙ y.told },
 )
-answers_as tells payload given other lacks more v w before after asks has long over words random (answer.Refused refusal.LongPassphrase) x = (x.0, x.1, long x.2)
-answers_as tells payload given other lacks more v w before after asks has long over words random (answer.Refused (refusal.OtherUse found)) x =
+answers_as tells payload given other lacks more v w before after asks misses told has long over words random (answer.Refused refusal.LongPassphrase) x = (x.0, x.1, long x.2)
+answers_as tells payload given other lacks more v w before after asks misses told has long over words random (answer.Refused (refusal.OtherUse found)) x =
     (x.0, λ t. let y = x.1 t in (y.0, (sym over ∙ y.1.0, y.1.1)))
-answers_as tells payload given other lacks more v w before after asks has long over words random (answer.Refused (refusal.Edit fault.Device)) x = x
-answers_as tells payload given other lacks more v w before after asks has long over words random (answer.Refused (refusal.Edit fault.Memory)) x = x
-answers_as tells payload given other lacks more v w before after asks has long over words random (answer.Refused (refusal.Edit f)) x = (
+answers_as tells payload given other lacks more v w before after asks misses told has long over words random (answer.Refused (refusal.Edit fault.Device)) x = x
+answers_as tells payload given other lacks more v w before after asks misses told has long over words random (answer.Refused (refusal.Edit fault.Memory)) x = x
+answers_as tells payload given other lacks more v w before after asks misses told has long over words random (answer.Refused (refusal.Edit f)) x = (
   x.0,
   λ t. elim (x.1 t) [
-    | inl y ↦ inl (y.0, record { edit = y.1.edit; asked = asks y.1.edit y.1.asked; first = y.1.first })
+    | inl y ↦ inl (y.0, early_as payload given other v f asks misses y.1)
     | inr y ↦ inr (replied_as payload given other v w (Err f) asks has y)
   ],
 )
-answers_as tells payload given other lacks more v w before after asks has long over words random answer.DeviceFault x = elim x [
+answers_as tells payload given other lacks more v w before after asks misses told has long over words random answer.DeviceFault x = elim x [
   | inl failed ↦ inl failed
   | inr y ↦ inr (y.0, y.1, lacks_as tells payload given other lacks more v answer.DeviceFault asks words random y.2)
 ]
-answers_as tells payload given other lacks more v w before after asks has long over words random answer.NoMemory x = (
+answers_as tells payload given other lacks more v w before after asks misses told has long over words random answer.NoMemory x = (
   x.0,
   x.1,
   elim x.2 [
@@ -134,7 +141,7 @@ answers_as tells payload given other lacks more v w before after asks has long o
     | inr metadata ↦ inr metadata
   ],
 )
-answers_as tells payload given other lacks more v w before after asks has long over words random a x = absurd x
+answers_as tells payload given other lacks more v w before after asks misses told has long over words random a x = absurd x
 
 -- ---- over devices
 

@@ -1,7 +1,6 @@
 -- What an edit leaves of a volume, by how the command ended.
-use Rattle.std.proofs.Common.{◌≡◌, ◌≢◌, ℕ, List, Bool, Option, Some, None, IfSome, Result, Ok, Err, option_map, refl, sym, ap, ◌∙◌, ◌+◌, subst, inl, inr, arith}
+use Rattle.std.proofs.Common.{◌≡◌, ◌≢◌, ℕ, List, Bool, Option, Some, None, IfSome, Result, Ok, Err, option_map, refl, sym, ap, ◌∙◌, ◌⊎◌, ◌+◌, subst, inl, inr, arith}
 use Rattle.luks_area.specs.Device.{CountsFailure}
-use Rattle.luks_area.specs.First.{IsLeast}
 use Rattle.luks_area.specs.declared.area.AreaName.{AreaName}
 use Rattle.luks_area.specs.declared.area.AreaName.TheVariants.{Slot, Segment}
 use Rattle.luks_reading.specs.declared.report.Data.{Data}
@@ -12,11 +11,11 @@ use Rattle.luks_edit.specs.declared.edit.Edit.TheVariants as edit
 use Rattle.luks_edit.specs.declared.edit.Secret.{Secret}
 use Rattle.luks_edit.specs.declared.edit_fault.EditFault.{EditFault}
 use Rattle.luks_edit.specs.declared.edit_fault.EditFault.TheVariants as fault
-use Rattle.luks_edit.specs.EditFaults.{edit_key, is_edit_failure}
+use Rattle.luks_edit.specs.EditFaults.{is_edit_failure}
 use Rattle.luks_edit.specs.Kept.{Keeps, KeepsArea, KeepsSlot}
 use Rattle.luks_edit.specs.Ran.{IsCompleted, IsFailure, Reply}
 use Rattle.luks_volume.specs.Edits.{NamedSlots, Refusal, Replies}
-use Rattle.luks_volume.specs.Needed.{IsNeedFault, NeedsRandom, TellsNeed}
+use Rattle.luks_volume.specs.Needed.{NeedsRandom}
 use Rattle.luks_volume.specs.Outcome.{Spares}
 use Rattle.luks_request.specs.declared.request.EditRequest.{EditRequest}
 use Rattle.luks_request.specs.declared.request.EditRequest.TheVariants.{Add, AddByKey, Change, Remove, Repair, Label}
@@ -29,8 +28,9 @@ use Rattle.luks_commands.specs.declared.answers.Status.TheVariants.{Done, Refuse
 use Rattle.luks_commands.specs.Answer.{answer_status, edit_fault_answer, IsWordless}
 use Rattle.luks_edit_commands.specs.declared.edit.seen.Unseen.{Unseen}
 use Rattle.luks_edit_commands.specs.declared.edit.seen.Unseen.TheVariants.{Untold, Used}
-use Rattle.luks_edit_commands.specs.OtherUses.{IsUnseen, unseen_answer}
-use Rattle.luks_edit_commands.specs.Editing.{Given, IsAsked, IsSecret, KeepsUnnamed, WhereFailed, IsRefused, IsReplied, SaysEdit, SparesEdit, given_edit}
+use Rattle.luks_edit_commands.specs.OtherUses.{unseen_answer}
+use Rattle.luks_edit_commands.specs.Editing.{Given, IsAsked, IsFirstSeen, IsMissed, IsRefused, IsRefusedAtOnce, IsRefusedLate, IsRefusedUnfound, IsReplied, IsSecret, IsUnseen}
+use Rattle.luks_edit_commands.specs.Editing.{KeepsUnnamed, Misses, NamesSlot, SaysEdit, SparesEdit, UnlessOutside, WhereFailed}
 use Rattle.luks_commands.specs.declared.inputs.InputFault.{InputFault}
 use Rattle.luks_commands.specs.Files.{AreFirstBytes, LeavesVolume}
 use Rattle.luks_commands.proofs.EndFacts.{unread_is_fault}
@@ -111,13 +111,6 @@ refused_by payload v w e random fault.Memory is refused = absurd (no_refusal ref
 refused_by payload v w e random fault.Device is refused = absurd (no_refusal refused)
 refused_by payload v w e random f is refused = (is.1, is.0)
 
--- the same of what is told before a keyslot is opened
-refused_at_once : (payload : Data) (v : List ℕ) (e : Edit) (f : EditFault) → TellsNeed payload v e (Err f) → ended_by f ≡ Refused
-    → IsLeast edit_key (IsNeedFault v payload e) f
-refused_at_once payload v e fault.Memory is refused = absurd (no_refusal refused)
-refused_at_once payload v e fault.Device is refused = absurd (no_refusal refused)
-refused_at_once payload v e f is refused = is
-
 -- ---- what the command tells, by how it ended
 
 -- how a command ended isn't how it didn't
@@ -133,12 +126,12 @@ never_done fault.Device is = cc
 never_done f is = cc
 
 -- the edit was run
-pub run_replied : (payload : Data) (v w : List ℕ) (over : Bool) (e : Edit) (has_random : ℕ → List ℕ → Type 0) (u : List ℕ) → u ≡ v → (count : ℕ) (random : List ℕ)
-    → NeedsRandom v payload e count → has_random count random → (reply : Reply) → Replies payload u e random reply w
-    → IsReplied payload (given_edit over e has_random) v w reply
-run_replied payload v w over e has_random u unchanged count random needs taken reply is = record {
+pub run_replied : (payload : Data) (v w : List ℕ) (given : Given) (e : Edit) → given.asks v e → (u : List ℕ) → u ≡ v → (count : ℕ) (random : List ℕ)
+    → NeedsRandom v payload e count → given.has_random count random → (reply : Reply) → Replies payload u e random reply w
+    → IsReplied payload given v w reply
+run_replied payload v w given e asked u unchanged count random needs taken reply is = record {
   edit = e;
-  asked = refl;
+  asked = asked;
   count = count;
   needs = needs;
   random = random;
@@ -146,76 +139,73 @@ run_replied payload v w over e has_random u unchanged count random needs taken r
   replies = subst (λ x. Replies payload x e random reply w) unchanged is;
 }
 
-module _ (payload : Data) (v w : List ℕ) (ended : Status) where
+module _ (payload : Data) (v w : List ℕ) (ended : Status) (given : Given) where
   -- a file couldn't be read
-  pub says_unread : (given : Given) → w ≡ v → ended ≡ Fault → SaysEdit payload given v w (ended ≡ Done) (ended ≡ Refused)
-  says_unread given same told = record {
+  pub says_unread : w ≡ v → ended ≡ Fault → SaysEdit payload given v w (ended ≡ Done) (ended ≡ Refused)
+  says_unread same told = record {
     done = λ is. absurd (not_so ended Fault Done told (λ e. cc) is);
     refused = λ is. absurd (not_so ended Fault Refused told (λ e. cc) is);
     rest = inl same;
   }
 
-  module _ (over : Bool) (e : Edit) (has_random : ℕ → List ℕ → Type 0) where
-    -- how many random bytes it takes wasn't told
-    pub says_untold : (f : EditFault) → w ≡ v → TellsNeed payload v e (Err f) → ended ≡ ended_by f
-        → SaysEdit payload (given_edit over e has_random) v w (ended ≡ Done) (ended ≡ Refused)
-    says_untold f same tells told = record {
-      done = λ is. absurd (never_done f (so ended (ended_by f) Done told is));
-      refused = λ is. (
-        same,
-        inr (inr (inl (record {
+  -- what refused it before a keyslot was opened that is named
+  refused_early : (f : EditFault) → given.misses v f ⊎ IsFirstSeen payload given v f → IsRefusedUnfound given v ⊎ IsRefusedAtOnce payload given v ⊎ IsRefusedLate payload given v
+  refused_early f (inl missed) = inl (record { fault = f; missed = missed })
+  refused_early f (inr x) = inr (inl (record { edit = x.edit; asked = x.asked; fault = f; first = x.first }))
+
+  refused_untold : (f : EditFault) → UnlessOutside v (λ g. given.misses v g ⊎ IsFirstSeen payload given v g) f → ended_by f ≡ Refused
+      → IsRefusedUnfound given v ⊎ IsRefusedAtOnce payload given v ⊎ IsRefusedLate payload given v
+  refused_untold fault.Memory is refused = absurd (no_refusal refused)
+  refused_untold fault.Device is refused = absurd (no_refusal refused)
+  refused_untold f is refused = refused_early f is
+
+  -- nothing was seen of it
+  pub says_unseen : (unseen : Unseen) → w ≡ v → IsUnseen payload given v unseen → ended ≡ answer_status (unseen_answer unseen)
+      → SaysEdit payload given v w (ended ≡ Done) (ended ≡ Refused)
+  says_unseen (Untold f) same is told = record {
+    done = λ d. absurd (never_done f (so ended (ended_by f) Done told d));
+    refused = λ r. (same, inr (inr (refused_untold f is (so ended (ended_by f) Refused told r))));
+    rest = inl same;
+  }
+  says_unseen (Used found) same is told = record {
+    done = λ d. absurd (not_so ended Refused Done told (λ e. cc) d);
+    refused = λ r. (same, inr (inl (record { found = found; barred = is })));
+    rest = inl same;
+  }
+
+  module _ (e : Edit) (asked : given.asks v e) (u : List ℕ) (unchanged : u ≡ v) (count : ℕ) (random : List ℕ) (needs : NeedsRandom v payload e count) (taken : given.has_random count random) where
+    replied : (reply : Reply) → Replies payload u e random reply w → IsReplied payload given v w reply
+    replied reply is = run_replied payload v w given e asked u unchanged count random needs taken reply is
+
+    -- the edit was completed
+    pub says_made : (made : Made) → Replies payload u e random (Ok made) w → ended ≡ Done
+        → SaysEdit payload given v w (ended ≡ Done) (ended ≡ Refused)
+    says_made made is told = record {
+      done = λ _. record { done = made; replied = replied (Ok made) is };
+      refused = λ same. absurd (not_so ended Done Refused told (λ e. cc) same);
+      rest = inr (Ok made, replied (Ok made) is);
+    }
+
+    -- a fault ended it
+    pub says_fault : (f : EditFault) → Replies payload u e random (Err f) w → ended ≡ ended_by f
+        → SaysEdit payload given v w (ended ≡ Done) (ended ≡ Refused)
+    says_fault f is told = record {
+      done = λ same. absurd (never_done f (so ended (ended_by f) Done told same));
+      refused = λ same. let by = refused_by payload u w e random f is (so ended (ended_by f) Refused told same) in (
+        by.0 ∙ unchanged,
+        inr (inr (inr (inr (record {
           edit = e;
-          asked = refl;
+          asked = asked;
+          count = count;
+          needs = needs;
+          random = random;
+          taken = taken;
           fault = f;
-          first = refused_at_once payload v e f tells (so ended (ended_by f) Refused told is);
-        }))),
+          first = subst (λ x. Refusal x payload e random f) unchanged by.1;
+        })))),
       );
-      rest = inl same;
+      rest = inr (Err f, replied (Err f) is);
     }
-
-    -- nothing was seen of it
-    pub says_unseen : (unseen : Unseen) → w ≡ v → IsUnseen over v payload e unseen → ended ≡ answer_status (unseen_answer unseen)
-        → SaysEdit payload (given_edit over e has_random) v w (ended ≡ Done) (ended ≡ Refused)
-    says_unseen (Untold f) same is told = says_untold f same is told
-    says_unseen (Used found) same is told = record {
-      done = λ d. absurd (not_so ended Refused Done told (λ e. cc) d);
-      refused = λ r. (same, inr (inl (record { found = found; barred = is })));
-      rest = inl same;
-    }
-
-    module _ (u : List ℕ) (unchanged : u ≡ v) (count : ℕ) (random : List ℕ) (needs : NeedsRandom v payload e count) (taken : has_random count random) where
-      replied : (reply : Reply) → Replies payload u e random reply w → IsReplied payload (given_edit over e has_random) v w reply
-      replied reply is = run_replied payload v w over e has_random u unchanged count random needs taken reply is
-
-      -- the edit was completed
-      pub says_made : (made : Made) → Replies payload u e random (Ok made) w → ended ≡ Done
-          → SaysEdit payload (given_edit over e has_random) v w (ended ≡ Done) (ended ≡ Refused)
-      says_made made is told = record {
-        done = λ _. record { done = made; replied = replied (Ok made) is };
-        refused = λ same. absurd (not_so ended Done Refused told (λ e. cc) same);
-        rest = inr (Ok made, replied (Ok made) is);
-      }
-
-      -- a fault ended it
-      pub says_fault : (f : EditFault) → Replies payload u e random (Err f) w → ended ≡ ended_by f
-          → SaysEdit payload (given_edit over e has_random) v w (ended ≡ Done) (ended ≡ Refused)
-      says_fault f is told = record {
-        done = λ same. absurd (never_done f (so ended (ended_by f) Done told same));
-        refused = λ same. let by = refused_by payload u w e random f is (so ended (ended_by f) Refused told same) in (
-          by.0 ∙ unchanged,
-          inr (inr (inr (record {
-            edit = e;
-            asked = refl;
-            count = count;
-            needs = needs;
-            random = random;
-            taken = taken;
-            fault = f;
-            first = subst (λ x. Refusal x payload e random f) unchanged by.1;
-          }))),
-        );
-        rest = inr (Err f, replied (Err f) is);
-      }
 
 -- there is no passphrase
 pub says_wordless : (payload : Data) (given : Given) (unread : InputFault → Type 0) (v w : List ℕ) (a : Answer) → w ≡ v → IsWordless given.is_long unread a
@@ -237,7 +227,7 @@ pub taken_as : {N : Type 0} (remaining : N → Option (List ℕ)) (random : Resu
 taken_as remaining random count is taken = subst (AreFirstOf remaining random count) (sym is) taken
 
 -- what is told of an edit that is given so, is told of one that is given otherwise
-pub replied_as : (payload : Data) (given other : Given) (v w : List ℕ) (reply : Reply) → ((e : Edit) → given.asks e → other.asks e)
+pub replied_as : (payload : Data) (given other : Given) (v w : List ℕ) (reply : Reply) → ((e : Edit) → given.asks v e → other.asks v e)
     → ((n : ℕ) (b : List ℕ) → given.has_random n b → other.has_random n b) → IsReplied payload given v w reply → IsReplied payload other v w reply
 replied_as payload given other v w reply asks has x = record {
   edit = x.edit;
@@ -249,17 +239,18 @@ replied_as payload given other v w reply asks has x = record {
   replies = x.replies;
 }
 
-refused_as : (payload : Data) (given other : Given) (v : List ℕ) → ((e : Edit) → given.asks e → other.asks e)
+refused_as : (payload : Data) (given other : Given) (v : List ℕ) → ((e : Edit) → given.asks v e → other.asks v e) → ((f : EditFault) → given.misses v f → other.misses v f)
     → ((n : ℕ) (b : List ℕ) → given.has_random n b → other.has_random n b) → (given.is_long → other.is_long) → given.over ≡ other.over → IsRefused payload given v → IsRefused payload other v
-refused_as payload given other v asks has long over (inl is) = inl (long is)
-refused_as payload given other v asks has long over (inr (inl x)) = inr (inl (record { found = x.found; barred = (sym over ∙ x.barred.0, x.barred.1) }))
-refused_as payload given other v asks has long over (inr (inr (inl x))) = inr (inr (inl (record {
+refused_as payload given other v asks misses has long over (inl is) = inl (long is)
+refused_as payload given other v asks misses has long over (inr (inl x)) = inr (inl (record { found = x.found; barred = (sym over ∙ x.barred.0, x.barred.1) }))
+refused_as payload given other v asks misses has long over (inr (inr (inl x))) = inr (inr (inl (record { fault = x.fault; missed = misses x.fault x.missed })))
+refused_as payload given other v asks misses has long over (inr (inr (inr (inl x)))) = inr (inr (inr (inl (record {
   edit = x.edit;
   asked = asks x.edit x.asked;
   fault = x.fault;
   first = x.first;
-})))
-refused_as payload given other v asks has long over (inr (inr (inr x))) = inr (inr (inr (record {
+}))))
+refused_as payload given other v asks misses has long over (inr (inr (inr (inr x)))) = inr (inr (inr (inr (record {
   edit = x.edit;
   asked = asks x.edit x.asked;
   count = x.count;
@@ -268,14 +259,14 @@ refused_as payload given other v asks has long over (inr (inr (inr x))) = inr (i
   taken = has x.count x.random x.taken;
   fault = x.fault;
   first = x.first;
-})))
+}))))
 
-pub says_as : (payload : Data) (given other : Given) (v w : List ℕ) (D R D' R' : Type 0) → ((e : Edit) → given.asks e → other.asks e)
+pub says_as : (payload : Data) (given other : Given) (v w : List ℕ) (D R D' R' : Type 0) → ((e : Edit) → given.asks v e → other.asks v e) → ((f : EditFault) → given.misses v f → other.misses v f)
     → ((n : ℕ) (b : List ℕ) → given.has_random n b → other.has_random n b) → (given.is_long → other.is_long) → given.over ≡ other.over → (D' → D) → (R' → R)
     → SaysEdit payload given v w D R → SaysEdit payload other v w D' R'
-says_as payload given other v w D R D' R' asks has long over of_done of_refused x = record {
+says_as payload given other v w D R D' R' asks misses has long over of_done of_refused x = record {
   done = λ is. let c = x.done (of_done is) in record { done = c.done; replied = replied_as payload given other v w (Ok c.done) asks has c.replied };
-  refused = λ is. let r = x.refused (of_refused is) in (r.0, refused_as payload given other v asks has long over r.1);
+  refused = λ is. let r = x.refused (of_refused is) in (r.0, refused_as payload given other v asks misses has long over r.1);
   rest = elim x.rest [
     | inl same ↦ inl same
     | inr y ↦ inr (y.0, replied_as payload given other v w y.0 asks has y.1)
@@ -283,20 +274,20 @@ says_as payload given other v w D R D' R' asks has long over of_done of_refused 
 }
 
 -- what is spared by an edit that is given so, is spared by one that is given otherwise
-pub spared_as : (payload : Data) (given other : Given) (v w : List ℕ) → ((e : Edit) → given.asks e → other.asks e)
+pub spared_as : (payload : Data) (given other : Given) (v w : List ℕ) → ((e : Edit) → given.asks v e → other.asks v e)
     → ((n : ℕ) (b : List ℕ) → given.has_random n b → other.has_random n b) → SparesEdit payload given v w → SparesEdit payload other v w
 unfolding replied_as
 spared_as payload given other v w asks has (inl same) = inl same
 spared_as payload given other v w asks has (inr x) = inr (record { replied = replied_as payload given other v w (Err fault.Device) asks has x.replied; spares = x.spares })
 
 -- where the device failed in the edit that was run, its reply and what it spares are those of the command
-pub spared_edit : (payload : Data) (v u w : List ℕ) (over : Bool) (e : Edit) (has_random : ℕ → List ℕ → Type 0) → u ≡ v → (count : ℕ) (random : List ℕ)
-    → NeedsRandom v payload e count → has_random count random → (f : EditFault) → Replies payload u e random (Err f) w
-    → (ended_in f ≡ Err fault.Device) × Spares u payload e random w → SparesEdit payload (given_edit over e has_random) v w
-spared_edit payload v u w over e has_random unchanged count random needs taken f by x = inr (record {
+pub spared_edit : (payload : Data) (v u w : List ℕ) (given : Given) (e : Edit) → given.asks v e → u ≡ v → (count : ℕ) (random : List ℕ)
+    → NeedsRandom v payload e count → given.has_random count random → (f : EditFault) → Replies payload u e random (Err f) w
+    → (ended_in f ≡ Err fault.Device) × Spares u payload e random w → SparesEdit payload given v w
+spared_edit payload v u w given e asked unchanged count random needs taken f by x = inr (record {
   replied = record {
     edit = e;
-    asked = refl;
+    asked = asked;
     count = count;
     needs = needs;
     random = random;
@@ -317,23 +308,23 @@ secret_somehow : (opener : OpenerFile) (memory : ℕ) (older : Bool) (IsOld : Li
 secret_somehow opener memory older IsOld s is = record { kind_is = is.kind_is; words = tt; allowed = is.allowed }
 
 -- the passphrases are those that the files have, where the edit needs them
-pub asked_of : (request : EditRequest) (IsOld IsNew : List ℕ → Type 0) (p q : List ℕ) (e : Edit) → IfSome (edit_passphrase_of request) (λ name. IsOld p)
-    → IfSome (edit_new_of request) (λ name. IsNew q) → IsAsked request (λ x. x ≡ p) (λ x. x ≡ q) e → IsAsked request IsOld IsNew e
-asked_of (Add by_ opener memory older new to iterations kdf) IsOld IsNew p q (edit.Add b o n t i d) old fresh is =
+pub asked_of : (v : List ℕ) (request : EditRequest) (IsOld IsNew : List ℕ → Type 0) (p q : List ℕ) (e : Edit) → IfSome (edit_passphrase_of request) (λ name. IsOld p)
+    → IfSome (edit_new_of request) (λ name. IsNew q) → IsAsked v request (λ x. x ≡ p) (λ x. x ≡ q) e → IsAsked v request IsOld IsNew e
+asked_of v (Add by_ opener memory older new to iterations kdf) IsOld IsNew p q (edit.Add b o n t i d) old fresh is =
     (is.0, secret_of opener memory older IsOld p o old is.1, subst IsNew (sym is.2) fresh, is.3, is.4, is.5)
-asked_of (AddByKey key memory older new to iterations kdf) IsOld IsNew p q (edit.AddByKey k n t i d) old fresh is =
+asked_of v (AddByKey key memory older new to iterations kdf) IsOld IsNew p q (edit.AddByKey k n t i d) old fresh is =
     (subst IsOld (sym is.0) old, is.1, subst IsNew (sym is.2) fresh, is.3, is.4, is.5)
-asked_of (Change slot opener memory older new iterations kdf) IsOld IsNew p q (edit.Change s o n i d) old fresh is =
+asked_of v (Change slot opener memory older new iterations kdf) IsOld IsNew p q (edit.Change s o n i d) old fresh is =
     (is.0, secret_of opener memory older IsOld p o old is.1, subst IsNew (sym is.2) fresh, is.3, is.4)
-asked_of (Remove slot by_ opener memory older) IsOld IsNew p q (edit.Remove s b o) old fresh is = (is.0, is.1, secret_of opener memory older IsOld p o old is.2)
-asked_of Repair IsOld IsNew p q edit.Repair old fresh is = is
-asked_of (Label text) IsOld IsNew p q (edit.Label t) old fresh is = is
-asked_of (Add by_ opener memory older new to iterations kdf) IsOld IsNew p q e old fresh is = absurd is
-asked_of (AddByKey key memory older new to iterations kdf) IsOld IsNew p q e old fresh is = absurd is
-asked_of (Change slot opener memory older new iterations kdf) IsOld IsNew p q e old fresh is = absurd is
-asked_of (Remove slot by_ opener memory older) IsOld IsNew p q e old fresh is = absurd is
-asked_of Repair IsOld IsNew p q e old fresh is = absurd is
-asked_of (Label text) IsOld IsNew p q e old fresh is = absurd is
+asked_of v (Remove slot by_ opener memory older) IsOld IsNew p q (edit.Remove s b o) old fresh is = (is.0, is.1, secret_of opener memory older IsOld p o old is.2)
+asked_of v Repair IsOld IsNew p q edit.Repair old fresh is = is
+asked_of v (Label text) IsOld IsNew p q (edit.Label t) old fresh is = is
+asked_of v (Add by_ opener memory older new to iterations kdf) IsOld IsNew p q e old fresh is = absurd is
+asked_of v (AddByKey key memory older new to iterations kdf) IsOld IsNew p q e old fresh is = absurd is
+asked_of v (Change slot opener memory older new iterations kdf) IsOld IsNew p q e old fresh is = absurd is
+asked_of v (Remove slot by_ opener memory older) IsOld IsNew p q e old fresh is = absurd is
+asked_of v Repair IsOld IsNew p q e old fresh is = absurd is
+asked_of v (Label text) IsOld IsNew p q e old fresh is = absurd is
 
 -- what holds where there is a name, holds where there are its bytes
 pub some_as : {A B : Type 0} (f : A → B) (o : Option A) (named : Option B) (P : Type 0) → option_map f o ≡ named → IfSome o (λ x. P) → IfSome named (λ x. P)
@@ -341,20 +332,44 @@ some_as {A} {B} f None named P is held = subst (λ (x : Option B). IfSome x (λ 
 some_as {A} {B} f (Some x) named P is held = subst (λ (x : Option B). IfSome x (λ y. P)) is held
 
 -- whatever they are
-pub asked_somehow : (request : EditRequest) (IsOld IsNew : List ℕ → Type 0) (e : Edit) → IsAsked request IsOld IsNew e
-    → IsAsked request (λ p. Unit {0}) (λ p. Unit {0}) e
-asked_somehow (Add by_ opener memory older new to iterations kdf) IsOld IsNew (edit.Add b o n t i d) is = (is.0, secret_somehow opener memory older IsOld o is.1, tt, is.3, is.4, is.5)
-asked_somehow (AddByKey key memory older new to iterations kdf) IsOld IsNew (edit.AddByKey k n t i d) is = (tt, is.1, tt, is.3, is.4, is.5)
-asked_somehow (Change slot opener memory older new iterations kdf) IsOld IsNew (edit.Change s o n i d) is = (is.0, secret_somehow opener memory older IsOld o is.1, tt, is.3, is.4)
-asked_somehow (Remove slot by_ opener memory older) IsOld IsNew (edit.Remove s b o) is = (is.0, is.1, secret_somehow opener memory older IsOld o is.2)
-asked_somehow Repair IsOld IsNew edit.Repair is = is
-asked_somehow (Label text) IsOld IsNew (edit.Label t) is = is
-asked_somehow (Add by_ opener memory older new to iterations kdf) IsOld IsNew e is = absurd is
-asked_somehow (AddByKey key memory older new to iterations kdf) IsOld IsNew e is = absurd is
-asked_somehow (Change slot opener memory older new iterations kdf) IsOld IsNew e is = absurd is
-asked_somehow (Remove slot by_ opener memory older) IsOld IsNew e is = absurd is
-asked_somehow Repair IsOld IsNew e is = absurd is
-asked_somehow (Label text) IsOld IsNew e is = absurd is
+pub asked_somehow : (v : List ℕ) (request : EditRequest) (IsOld IsNew : List ℕ → Type 0) (e : Edit) → IsAsked v request IsOld IsNew e
+    → IsAsked v request (λ p. Unit {0}) (λ p. Unit {0}) e
+asked_somehow v (Add by_ opener memory older new to iterations kdf) IsOld IsNew (edit.Add b o n t i d) is = (is.0, secret_somehow opener memory older IsOld o is.1, tt, is.3, is.4, is.5)
+asked_somehow v (AddByKey key memory older new to iterations kdf) IsOld IsNew (edit.AddByKey k n t i d) is = (tt, is.1, tt, is.3, is.4, is.5)
+asked_somehow v (Change slot opener memory older new iterations kdf) IsOld IsNew (edit.Change s o n i d) is = (is.0, secret_somehow opener memory older IsOld o is.1, tt, is.3, is.4)
+asked_somehow v (Remove slot by_ opener memory older) IsOld IsNew (edit.Remove s b o) is = (is.0, is.1, secret_somehow opener memory older IsOld o is.2)
+asked_somehow v Repair IsOld IsNew edit.Repair is = is
+asked_somehow v (Label text) IsOld IsNew (edit.Label t) is = is
+asked_somehow v (Add by_ opener memory older new to iterations kdf) IsOld IsNew e is = absurd is
+asked_somehow v (AddByKey key memory older new to iterations kdf) IsOld IsNew e is = absurd is
+asked_somehow v (Change slot opener memory older new iterations kdf) IsOld IsNew e is = absurd is
+asked_somehow v (Remove slot by_ opener memory older) IsOld IsNew e is = absurd is
+asked_somehow v Repair IsOld IsNew e is = absurd is
+asked_somehow v (Label text) IsOld IsNew e is = absurd is
+
+-- the edit that is asked for keeps what it doesn't name
+pub named_asked : (editing : Editing) (old new : List ℕ) (v w : List ℕ) (e : Edit) → IsAsked v editing.request (λ p. p ≡ old) (λ p. p ≡ new) e
+    → Keeps editing.payload (NamedSlots v e) v w → Keeps editing.payload (NamesSlot editing.request v) v w
+named_asked editing old new v w e asked kept =
+    keeps_fewer editing.payload (NamedSlots v e) (NamesSlot editing.request v) v w
+    (λ n named. record { edit = e; asked = asked_somehow v editing.request (λ p. p ≡ old) (λ p. p ≡ new) e asked; named = named }) kept
+
+-- no keyslot is found by the passphrase that the file has
+misses_of : (payload : Data) (opener : OpenerFile) (memory : ℕ) (older : Bool) (IsOld : List ℕ → Type 0) (p v : List ℕ) (f : EditFault) → IsOld p
+    → Misses payload opener memory older (λ x. x ≡ p) v f → Misses payload opener memory older IsOld v f
+misses_of payload opener memory older IsOld p v f old x = record { secret = x.secret; asked = secret_of opener memory older IsOld p x.secret old x.asked; why = x.why }
+
+pub missed_of : (payload : Data) (v : List ℕ) (request : EditRequest) (IsOld : List ℕ → Type 0) (p : List ℕ) → IfSome (edit_passphrase_of request) (λ name. IsOld p)
+    → (f : EditFault) → IsMissed payload request (λ x. x ≡ p) v f → IsMissed payload request IsOld v f
+missed_of payload v (Add None opener memory older new to iterations kdf) IsOld p old f is = misses_of payload opener memory older IsOld p v f old is
+missed_of payload v (Add (Some n) opener memory older new to iterations kdf) IsOld p old f is = absurd is
+missed_of payload v (AddByKey key memory older new to iterations kdf) IsOld p old f is = absurd is
+missed_of payload v (Change None opener memory older new iterations kdf) IsOld p old f is = misses_of payload opener memory older IsOld p v f old is
+missed_of payload v (Change (Some n) opener memory older new iterations kdf) IsOld p old f is = absurd is
+missed_of payload v (Remove None by_ opener memory older) IsOld p old f is = misses_of payload opener memory older IsOld p v f old is
+missed_of payload v (Remove (Some n) by_ opener memory older) IsOld p old f is = absurd is
+missed_of payload v Repair IsOld p old f is = absurd is
+missed_of payload v (Label text) IsOld p old f is = absurd is
 
 -- ---- over devices
 

@@ -1,4 +1,5 @@
 pub mod EditAnswerFacts
 pub mod EditFacts
 pub mod OtherUseFacts
+mod FindingFacts
 mod EditNoteFacts

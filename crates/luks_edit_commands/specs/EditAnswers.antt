@@ -1,26 +1,24 @@
 -- What the commands that edit may answer.
 use Rattle.std.specs.Prelude.{◌≡◌, ◌⊎◌, ℕ, ◌+◌, List, Option, Some, Result, Ok, Err}
-use Rattle.luks_area.specs.First.{IsLeast}
 use Rattle.luks_reading.specs.declared.report.Data.{Data}
 use Rattle.luks_reading.specs.Header.{NeedsMetadata}
 use Rattle.luks_edit.specs.declared.edit.Done.{Done as Made}
 use Rattle.luks_edit.specs.declared.edit.Edit.{Edit as TheEdit}
 use Rattle.luks_edit.specs.declared.edit_fault.EditFault.{EditFault}
 use Rattle.luks_edit.specs.declared.edit_fault.EditFault.TheVariants as fault
-use Rattle.luks_edit.specs.EditFaults.{edit_key}
-use Rattle.luks_volume.specs.Needed.{IsNeedFault, NeedsRandom}
+use Rattle.luks_volume.specs.Needed.{NeedsRandom}
 use Rattle.luks_commands.specs.declared.answers.Answer.{Answer}
 use Rattle.luks_commands.specs.declared.answers.Answer.TheVariants.{Done, Refused, DeviceFault, NoMemory}
 use Rattle.luks_commands.specs.declared.answers.Refusal.TheVariants.{Edit, LongPassphrase, OtherUse}
 use Rattle.luks_commands.specs.declared.inputs.InputFault.{InputFault}
 use Rattle.luks_commands.specs.Answer.{IsWordless, unread_answer}
-use Rattle.luks_edit_commands.specs.Editing.{Given, IsReplied, Lacking}
+use Rattle.luks_edit_commands.specs.Editing.{Given, IsFirstSeen, IsReplied, Lacking}
 use Rattle.luks_edit_commands.specs.OtherUses.{Bars}
 
 -- as many random bytes as the edit takes of the volume `v` can't be read, and this is answered
 pub record LacksRandom (payload : Data) (given : Given) (lacks : Lacking) (v : List ℕ) (a : Answer) : Type 0 where
   pub edit : TheEdit
-  pub asked : given.asks edit
+  pub asked : given.asks v edit
   pub count : ℕ
   pub needs : NeedsRandom v payload edit count
   pub fault : InputFault
@@ -37,21 +35,16 @@ LacksFile tells payload given lacks v a = ((f : InputFault) × lacks.words f × 
 abbrev pub TakesMemory : Type 0 → Data → Given → Lacking → List ℕ → Type 0
 TakesMemory tells payload given lacks v = LacksFile tells payload given lacks v NoMemory ⊎ (tells → NeedsMetadata v)
 
--- the edit was run over `v`, completed, and left `w`; it told this keyslot
+-- the edit was run over `v`, completed, and left `w`; this keyslot is told of it
 pub record IsDoneWith (payload : Data) (given : Given) (v w : List ℕ) (slot : Option ℕ) : Type 0 where
   pub made : Made
   pub replied : IsReplied payload given v w (Ok made)
-  pub told : made.slot ≡ slot
+  pub told : given.told replied.edit made.slot ≡ slot
 
--- the edit was refused at once: by the first of the faults that are seen without opening a keyslot
-pub record IsFirstSeen (payload : Data) (given : Given) (v : List ℕ) (f : EditFault) : Type 0 where
-  pub edit : TheEdit
-  pub asked : given.asks edit
-  pub first : IsLeast edit_key (IsNeedFault v payload edit) f
-
--- the edit was refused by this fault: at once, or when it was run over `v`, by the first of all its faults
+-- the edit was refused by this fault: since no keyslot is found for it, or by the first that is seen without opening one, or
+-- when it was run over `v`, by the first of all its faults
 abbrev pub IsRefusedBy : Data → Given → List ℕ → List ℕ → EditFault → Type 0
-IsRefusedBy payload given v w f = ((w ≡ v) × IsFirstSeen payload given v f) ⊎ IsReplied payload given v w (Err f)
+IsRefusedBy payload given v w f = ((w ≡ v) × (given.misses v f ⊎ IsFirstSeen payload given v f)) ⊎ IsReplied payload given v w (Err f)
 
 -- of the volume `v` that was left as `w`, while the device's count of failures went from `before` to
 -- `after`. Where a call of it failed nothing but `device fault` is answered; else the same comes where a

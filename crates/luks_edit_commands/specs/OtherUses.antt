@@ -9,11 +9,8 @@ use Rattle.luks2_header.specs.declared.selection.Copies.TheVariants.{InStep, Fir
 use Rattle.luks_signatures.specs.Signatures.{Finds, table}
 use Rattle.luks_signatures.specs.UseTexts.{use_text}
 use Rattle.luks_signatures.specs.declared.other_use.OtherUse.{OtherUse}
-use Rattle.luks_reading.specs.declared.report.Data.{Data}
-use Rattle.luks_edit.specs.declared.edit.Edit.{Edit}
 use Rattle.luks_edit.specs.declared.edit_fault.EditFault.TheVariants as fault
 use Rattle.luks_edit.specs.EditFaults.{is_edit_failure}
-use Rattle.luks_volume.specs.Needed.{IsUntold}
 use Rattle.luks_commands.specs.declared.answers.Answer.{Answer}
 use Rattle.luks_commands.specs.declared.answers.Answer.TheVariants.{Refused, DeviceFault, NoMemory}
 use Rattle.luks_commands.specs.declared.answers.Refusal.TheVariants as refusal
@@ -90,11 +87,6 @@ unseen_answer (Used found) = Refused (refusal.OtherUse found)
 abbrev pub is_unseen_failure : Unseen → Bool
 is_unseen_failure (Untold f) = is_edit_failure f
 is_unseen_failure (Used found) = false
-
--- why nothing is seen of the volume `v`
-abbrev pub IsUnseen : Bool → List ℕ → Data → Edit → Unseen → Type 0
-IsUnseen over v payload e (Untold f) = IsUntold v payload e f
-IsUnseen over v payload e (Used found) = Bars over v (Some found)
 
 -- where the volume `v` has another use that the edit may not write over, nothing is seen, and this is answered
 abbrev pub SeesBarred : Bool → List ℕ → Result Seen Unseen → Type 0

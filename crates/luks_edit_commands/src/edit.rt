@@ -1,32 +1,32 @@
 //! The commands that edit a volume: `add`, `change`, `remove`, `repair` and `label`.
-ghost use Rattle.std.specs.Prelude.{◌≡◌, ◌≢◌, ◌+◌, ◌<◌, ◌^◌, IfErr};
+ghost use Rattle.std.specs.Prelude.{◌≡◌, ◌≢◌, ◌+◌, ◌<◌, ◌^◌, IfErr, length};
 ghost use Rattle.std.specs.Result.{ForOk};
 ghost use Rattle.luks_area.specs.Device.{IsSettled};
 ghost use Rattle.luks_reading.specs.Checked.{WellFormed};
 ghost use Rattle.luks_edit.specs.Kept.{Keeps};
-ghost use Rattle.luks_volume.specs.Edits.{NamedSlots};
 ghost use Rattle.luks_commands.specs.Answer.{answer_status, edit_fault_answer};
 ghost use Rattle.luks_edit_commands.specs.EditAnswers.{AnswersEdit, IsEditAnswer};
-ghost use Rattle.luks_edit_commands.specs.Editing.{given_by, given_edit, KeepsUnnamed, lacking_by, lacking_random, SaysEdit};
-ghost use Rattle.luks_edit_commands.specs.Editing.{SparesEdit, SparesVolume, WhereFailed};
+ghost use Rattle.luks_edit_commands.specs.Editing.{given_by, given_words, KeepsUnnamed, lacking_by, lacking_random};
+ghost use Rattle.luks_edit_commands.specs.Editing.{NamesSlot, SaysEdit, SparesEdit, SparesVolume, WhereFailed};
 ghost use Rattle.luks_edit_commands.specs.OtherUses.{HoldsBack, HoldsBackVolume, unseen_answer};
 ghost use Rattle.luks_commands.specs.Files.{AreFirstBytes, IsUnreadRandom, LeavesSettled, LeavesVolume};
 
 mod applying;
 mod asked;
+mod finding;
 mod noted;
 mod older_digest;
 mod seen;
 mod words;
 
 use applying::apply_of_header;
-use asked::edit_of;
+use asked::told_slot;
 use luks_commands::{
     Answer, InputFault, Inputs, RandomBytes, Refusal, Status, device_fault, few_random_bytes,
     random_bytes, unread,
 };
 use luks_request::Editing;
-use luks_volume::{Device, Edit, EditFault};
+use luks_volume::{Device, EditFault};
 use noted::note_edit;
 use seen::{
     OpenerNotes, Unseen, look_at_volume, note_leaving_argon2, note_refused, note_wanting,
@@ -34,7 +34,7 @@ use seen::{
 };
 use std::alloc::Global;
 use std::io::{Read, Write};
-use words::words;
+use words::{EditWords, words};
 
 /// Edits the volume of this name. The passphrase is read first, then the new one, and the random bytes last.
 #[tactic(auto, using(luks_commands::proofs::FileFacts::settled_same, crate::proofs::EditAnswerFacts::answers_wordless))]
@@ -87,43 +87,50 @@ pub fn run<D: Device, R: Read, N: Read, E: Write>(
         Ok(device) => device,
         Err(fault) => return unread(*fault, name, err),
     };
-    let edit = edit_of(request, old.as_slice(), new.as_slice());
-    edit_device(alloc, device, &mut inputs.random, name, editing, &edit, err)
+    let words = EditWords {
+        old: old.as_slice(),
+        new: new.as_slice(),
+    };
+    edit_device(alloc, device, &mut inputs.random, name, editing, &words, err)
 }
 
-/// Edits the volume by this edit, which is the one that the command line asks for.
+/// Edits the volume as the command line asks for it, with these bytes of its passphrases.
 #[tactic(auto, using(luks_area::proofs::DeviceFacts::settled_unchanged))]
-fn edit_device<D: Device, N: Read, E: Write>(
+fn edit_device<'a, D: Device, N: Read, E: Write>(
     alloc: Global,
     device: &mut D,
     random: &mut Result<N, InputFault>,
     name: &str,
-    editing: &Editing<'_>,
-    edit: &Edit<'_>,
+    editing: &Editing<'a>,
+    words: &EditWords<'a>,
     err: &mut E,
 ) -> Answer
     requires room { D.failed device.old + 1 < 2 ^ 64 }
+    requires short { length words.now.old.now < 2 ^ 32 }
     requires settled { D.tells → IsSettled D.unsettled device.old }
     ensures settled { D.tells → D.failed device.new ≡ D.failed device.old
         → IsSettled D.unsettled device.new }
     ensures size { D.size device.new ≡ D.size device.old }
     ensures says { D.tells → SaysEdit editing.now.payload
-        (given_edit editing.now.over edit.now (λ count. AreFirstBytes count N.remaining random.old))
+        (given_words editing.now words.now.old.now words.now.new.now
+        (λ count. AreFirstBytes count N.remaining random.old))
         (D.bytes device.old) (D.bytes device.new)
         (answer_status result ≡ Status.Done) (answer_status result ≡ Status.Refused) }
     ensures keeps { D.tells → WellFormed (D.bytes device.old) editing.now.payload
         → D.failed device.new ≡ D.failed device.old
-        → Keeps editing.now.payload (NamedSlots (D.bytes device.old) edit.now)
+        → Keeps editing.now.payload (NamesSlot editing.now.request (D.bytes device.old))
         (D.bytes device.old) (D.bytes device.new) }
     ensures failure { (D.failed device.new ≡ D.failed device.old → ⊥)
         → answer_status result ≡ Status.Fault }
     ensures spared { D.tells → WellFormed (D.bytes device.old) editing.now.payload
         → (D.failed device.new ≡ D.failed device.old → ⊥) → SparesEdit editing.now.payload
-        (given_edit editing.now.over edit.now (λ count. AreFirstBytes count N.remaining random.old))
+        (given_words editing.now words.now.old.now words.now.new.now
+        (λ count. AreFirstBytes count N.remaining random.old))
         (D.bytes device.old) (D.bytes device.new) }
     ensures kinds { answer_status result ≢ Status.NotInStep }
     ensures answers { IsEditAnswer D.tells editing.now.payload
-        (given_edit editing.now.over edit.now (λ count. AreFirstBytes count N.remaining random.old))
+        (given_words editing.now words.now.old.now words.now.new.now
+        (λ count. AreFirstBytes count N.remaining random.old))
         (lacking_random (λ count. IsUnreadRandom count random.old))
         (D.bytes device.old) (D.bytes device.new) (D.failed device.old) (D.failed device.new)
         result }
@@ -131,7 +138,7 @@ fn edit_device<D: Device, N: Read, E: Write>(
         → HoldsBack editing.now.over (D.bytes device.old) (D.bytes device.new) result }
 {
     let payload = editing.payload;
-    let seen = match look_at_volume(alloc, device, editing, edit, err) {
+    let seen = match look_at_volume(alloc, device, editing, words, err) {
         Ok(seen) => seen,
         Err(unseen) => return not_begun(unseen, name, err),
     };
@@ -140,11 +147,12 @@ fn edit_device<D: Device, N: Read, E: Write>(
         Err(fault) => return unread(fault, editing.random.unwrap_or_default(), err),
     };
     note_leaving_argon2(seen.leaves_argon2, err);
-    let _ = note_edit(&seen.header, edit, err);
-    match apply_of_header(alloc, device, seen.header, payload, edit, random.as_slice()) {
+    let edit = seen.edit;
+    let _ = note_edit(&seen.header, &edit, err);
+    match apply_of_header(alloc, device, seen.header, payload, &edit, random.as_slice()) {
         Ok(made) => {
             note_weaker(seen.weaker, err);
-            Answer::Done(made.slot)
+            Answer::Done(told_slot(&editing.request, &edit, made.slot))
         }
         Err(fault) => {
             let random = RandomBytes {

@@ -1,8 +1,8 @@
 //! The texts of `--help`, of at most 80 columns.
 
 /// What `--version` prints after the program's name: the version, whose section is the first of
-/// CHANGELOG.md, and the kit that proves and builds the program, as `rt version` says it.
-pub const VERSION: &str = "0.2.0 (rattle-kit-13b logic dac8208d650f15bf)";
+/// CHANGELOG.md, and the logic by which it is proved, as `rt version` says it behind the kit's name.
+pub const VERSION: &str = "0.2.0 (Rattle logic dac8208d650f15bf)";
 
 /// What the program does, in a line.
 pub const PROGRAM: &str = "Checks and lists the header of a LUKS volume, and manages its keyslots";
@@ -178,11 +178,12 @@ luks add [OPTIONS] --random <FILE>
 
 /// The help of `add` after its words.
 pub const ADD_MORE: &str = "\
-The passphrase opens keyslot --slot. A new keyslot is made, in which the new
-passphrase opens the same volume key: keyslot --to, or the least that is free,
-of 0 to 7 in LUKS1 and 0 to 31 in LUKS2. All others stay as they are. A
-passphrase is all bytes of its file, a last newline too, at most 65536; by
---passphrase-line and --new-line what stands there before the first newline.
+The passphrase opens keyslot --slot, or else the first that it opens, tried as
+by luks open. A new keyslot is made, in which the new passphrase opens the same
+volume key: keyslot --to, or the least that is free, of 0 to 7 in LUKS1 and 0 to
+31 in LUKS2. All others stay as they are. A passphrase is all bytes of its file,
+a last newline too, at most 65536; by --passphrase-line and --new-line what
+stands there before the first newline.
 
 Who has the volume key needs neither a passphrase nor a keyslot: --key is its
 file, and the key has to meet the digest that the header has of it. So a header
@@ -206,7 +207,8 @@ error says what it chose.
 
 Memory is taken for Argon2 by --memory alone, once to open the one and once to
 seal the other; standard error says how much. --older accepts a cipher and
-hashes of older disks, as open does; the new keyslot has them too.
+hashes of older disks, as open does; the new keyslot has them too. Without
+--slot each keyslot that is tried is derived, and the one that opens once more.
 
 Where only one copy of a LUKS2 header is sound and another use of the disk, as
 a file system or a partition table, stands in the place of the other, nothing
@@ -216,12 +218,12 @@ Prints one line:
   done slot N    keyslot N is made
   refused FAULT  the first fault, and nothing was written: what check refuses,
                  OtherUse (as above), Requirements, NoSuchSlot, Locked (the
-                 passphrase doesn't open it), KeyLength, WrongKey (the key isn't
-                 the volume's, or the keyslot's), Argon2, Cipher, Hash, KeySize,
-                 SlotTaken, NoFreeSlot, NoRoom, Iterations, Argon2 (the new one
-                 takes more memory than is allowed, or LUKS1 has none),
-                 SeqExhausted, MetadataFull, RandomLength (the random file is
-                 too short), or Passphrase (one is too long)
+                 passphrase doesn't open it, or none), KeyLength, WrongKey (the
+                 key isn't the volume's, or the keyslot's), Argon2, Cipher,
+                 Hash, KeySize, SlotTaken, NoFreeSlot, NoRoom, Iterations,
+                 Argon2 (the new one takes more memory than is allowed, or LUKS1
+                 has none), SeqExhausted, MetadataFull, RandomLength (the random
+                 file is too short), or Passphrase (one is too long)
   device fault   a file can't be read, or the volume read or written
   no memory      memory was refused; nothing was written
 
@@ -240,18 +242,19 @@ pub const CHANGE: &str = "Puts a new passphrase in the place of an old one";
 
 /// The usage of `change` after `Usage: `, on several lines, since one would have more than 80 columns.
 pub const CHANGE_USAGE: &str = "\
-luks change [OPTIONS] --slot <N> --random <FILE>
+luks change [OPTIONS] --random <FILE>
                    <--passphrase <FILE>|--passphrase-line <FILE>|--key <FILE>>
                    <--new <FILE>|--new-line <FILE>> <VOLUME>";
 
 /// The help of `change` after its words.
 pub const CHANGE_MORE: &str = "\
-The passphrase opens keyslot --slot; then the new one does, and the old no more.
-LUKS2 keeps the keyslot's number, and takes a free area. LUKS1 makes the least
-keyslot that is free, and disables the old one. All others stay as they are. A
-passphrase is all bytes of its file, a last newline too, at most 65536; by
---passphrase-line and --new-line what stands there before the first newline. Who
-has the volume key gives it by --key in the place of the old passphrase.
+The passphrase opens keyslot --slot, or else the first that it opens, tried as
+by luks open; then the new one does, and the old no more. LUKS2 keeps the
+keyslot's number, and takes a free area. LUKS1 makes the least keyslot that is
+free, and disables the old one. All others stay as they are. A passphrase is all
+bytes of its file, a last newline too, at most 65536; by --passphrase-line and
+--new-line what stands there before the first newline. Who has the volume key
+gives it by --key in the place of the old passphrase, and names the keyslot.
 
 Written are, with a flush after each: the new area; then of LUKS1 the new
 keyslot's entry and the old one's, of LUKS2 the copy of the header that doesn't
@@ -268,7 +271,8 @@ least 64 MiB. Standard error says what it chose.
 
 Memory is taken for Argon2 by --memory alone, once to open it and once to seal
 it; standard error says how much. --older accepts a cipher and hashes of older
-disks, as open does; the keyslot keeps them.
+disks, as open does; the keyslot keeps them. Without --slot each keyslot that is
+tried is derived, and the one that opens once more.
 
 Where only one copy of a LUKS2 header is sound and another use of the disk, as
 a file system or a partition table, stands in the place of the other, nothing
@@ -278,10 +282,10 @@ Prints one line:
   done slot N    the new passphrase opens keyslot N
   refused FAULT  the first fault, and nothing was written: what check refuses,
                  OtherUse (as above), Requirements, NoSuchSlot, Locked (the
-                 passphrase doesn't open it), KeyLength, WrongKey (the key isn't
-                 its own), Argon2, Cipher, Hash, KeySize, NoFreeSlot, NoRoom,
-                 Iterations, Argon2 (the new one takes more memory than is
-                 allowed, or LUKS1 has none), SeqExhausted, MetadataFull,
+                 passphrase doesn't open it, or none), KeyLength, WrongKey (the
+                 key isn't its own), Argon2, Cipher, Hash, KeySize, NoFreeSlot,
+                 NoRoom, Iterations, Argon2 (the new one takes more memory than
+                 is allowed, or LUKS1 has none), SeqExhausted, MetadataFull,
                  RandomLength (the random file is too short), or Passphrase (one
                  is too long)
   device fault   a file can't be read, or the volume read or written
@@ -303,7 +307,7 @@ pub const REMOVE: &str = "Removes a keyslot";
 
 /// The usage of `remove` after `Usage: `, on several lines, since one would have more than 80 columns.
 pub const REMOVE_USAGE: &str = "\
-luks remove [OPTIONS] --slot <N>
+luks remove [OPTIONS]
                    <--passphrase <FILE>|--passphrase-line <FILE>|--key <FILE>>
                    <VOLUME>";
 
@@ -311,33 +315,37 @@ luks remove [OPTIONS] --slot <N>
 pub const REMOVE_MORE: &str = "\
 Keyslot --slot is removed, and its area is overwritten with zeros, once. The
 passphrase opens it, or keyslot --by where that is given: then --slot needn't be
-one that opens here. The last keyslot of its key isn't removed. All others stay
-as they are. The passphrase is all bytes of its file, a last newline
-too, at most 65536; by --passphrase-line what stands there before the first
-newline. Who has the volume key gives it by --key in its place, and needs no
-keyslot that opens: the key is judged as of add, by the header's digest, or with
---by by that of keyslot --by.
+one that opens here. Without --slot the first keyslot is removed that the
+passphrase opens, tried as by luks open. The last keyslot of its key isn't
+removed. All others stay as they are. The passphrase is all bytes of its file, a
+last newline too, at most 65536; by --passphrase-line what stands there before
+the first newline. Who has the volume key gives it by --key in its place, and
+needs no keyslot that opens: the key is judged as of add, by the header's
+digest, or with --by by that of keyslot --by.
 
 Written are, with a flush after each: of LUKS1 the keyslot's entry, of LUKS2 the
 copy of the header that doesn't count and the one that does; then the zeros. Of
 LUKS2 the salts are the first 128 bytes of the random file; LUKS1 takes none.
 
 Memory is taken for Argon2 by --memory alone; standard error says how much.
---older accepts a cipher and hashes of older disks, as open does.
+--older accepts a cipher and hashes of older disks, as open does. Without --slot
+each keyslot that is tried is derived, and the one that opens once more.
 
 Where only one copy of a LUKS2 header is sound and another use of the disk, as
 a file system or a partition table, stands in the place of the other, nothing
 is written but with --over.
 
 Prints one line:
-  done           the keyslot is removed
+  done           keyslot --slot is removed
+  done slot N    without --slot: keyslot N is removed
   refused FAULT  the first fault, and nothing was written: what check refuses,
                  OtherUse (as above), Requirements, NoSuchSlot, SameSlot (--by
-                 is --slot), Locked (the passphrase doesn't open it), KeyLength,
-                 WrongKey (the key isn't the volume's, or the keyslot's),
-                 Argon2, Cipher, Hash, KeySize, LastSlot, SeqExhausted,
-                 MetadataFull, RandomLength (of LUKS2, the random file is too
-                 short or none is named), or Passphrase (it is too long)
+                 is --slot), Locked (the passphrase doesn't open it, or none),
+                 KeyLength, WrongKey (the key isn't the volume's, or the
+                 keyslot's), Argon2, Cipher, Hash, KeySize, LastSlot,
+                 SeqExhausted, MetadataFull, RandomLength (of LUKS2, the random
+                 file is too short or none is named), or Passphrase (it is too
+                 long)
   device fault   a file can't be read, or the volume read or written
   no memory      memory was refused; nothing was written
 

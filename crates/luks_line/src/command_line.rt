@@ -3,7 +3,7 @@ use crate::commands::command_row;
 use crate::derivation::wrong_derivation;
 use crate::fields::wrong_field;
 use crate::manner::{Manner, manner_of};
-use crate::matching::{wrong_key, wrong_opener};
+use crate::matching::{wrong_change, wrong_key, wrong_removal};
 use crate::other_words::other_word;
 use crate::program::program;
 use crate::requests::{line_of, search_of};
@@ -115,8 +115,9 @@ fn wrong_words(name: CommandName, given: &ArgMatches<'_>) -> Option<&'static str
     match name {
         CommandName::Open => wrong_key(given),
         CommandName::Rebuild => wrong_field(given),
-        CommandName::Add => wrong_opener(given).or(wrong_derivation(given)),
-        CommandName::Format | CommandName::Change => wrong_derivation(given),
+        CommandName::Change => wrong_change(given).or(wrong_derivation(given)),
+        CommandName::Remove => wrong_removal(given),
+        CommandName::Format | CommandName::Add => wrong_derivation(given),
         _ => None,
     }
 }

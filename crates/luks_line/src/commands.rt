@@ -86,7 +86,7 @@ static COMMANDS: [Described; 17] = [
         overwrites: false,
         operands: &[Operand::Volume],
         options: &[
-            LongOption::AddedSlot,
+            LongOption::OpenedSlot,
             LongOption::Passphrase,
             LongOption::PassphraseLine,
             LongOption::OpenerKey,

@@ -20,12 +20,24 @@ pub(crate) fn wrong_key(given: &ArgMatches<'_>) -> Option<&'static str> {
     None
 }
 
-/// That an addition names neither a keyslot nor a key.
-pub(crate) fn wrong_opener(given: &ArgMatches<'_>) -> Option<&'static str> {
-    if given.get_one::<u8>("slot").is_none() && given.get_str("key").is_none() {
-        return Some("the argument '--slot <N>' is needed without '--key <FILE>'");
+/// That a keyslot isn't named which a key can't find: of a change the one that is changed.
+pub(crate) fn wrong_change(given: &ArgMatches<'_>) -> Option<&'static str> {
+    if lacks_slot(given) && given.get_str("key").is_some() {
+        return Some("the argument '--slot <N>' is needed with '--key <FILE>'");
     }
     None
+}
+
+/// The same of a removal, and that the one isn't named which another's passphrase removes.
+pub(crate) fn wrong_removal(given: &ArgMatches<'_>) -> Option<&'static str> {
+    if lacks_slot(given) && (given.get_str("key").is_some() || is_given(given, "by")) {
+        return Some("the argument '--slot <N>' is needed with '--key <FILE>' or '--by <N>'");
+    }
+    None
+}
+
+fn lacks_slot(given: &ArgMatches<'_>) -> bool {
+    given.get_one::<u8>("slot").is_none()
 }
 
 /// That a key is judged, where one is named.

@@ -17,7 +17,6 @@ pub(crate) enum LongOption {
     NeededRandom,
     TriedSlot,
     OpenedSlot,
-    AddedSlot,
     To,
     Memory,
     Older,
@@ -84,7 +83,7 @@ pub(crate) struct OptionRow {
 }
 
 /// In the order of `LongOption`.
-static OPTIONS: [OptionRow; 61] = [
+static OPTIONS: [OptionRow; 60] = [
     OptionRow {
         name: "detached",
         needed: false,
@@ -147,14 +146,8 @@ static OPTIONS: [OptionRow; 61] = [
     },
     OptionRow {
         name: "slot",
-        needed: true,
-        help: "The keyslot that the passphrase opens, 0 to 31",
-        takes: Takes::Slot,
-    },
-    OptionRow {
-        name: "slot",
         needed: false,
-        help: "The keyslot that the passphrase opens, 0 to 31",
+        help: "The one that the passphrase opens; else found",
         takes: Takes::Slot,
     },
     OptionRow {
@@ -279,8 +272,8 @@ static OPTIONS: [OptionRow; 61] = [
     },
     OptionRow {
         name: "slot",
-        needed: true,
-        help: "The keyslot to remove, 0 to 31",
+        needed: false,
+        help: "The one to remove; else that of the passphrase",
         takes: Takes::Slot,
     },
     OptionRow {

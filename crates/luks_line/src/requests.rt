@@ -123,17 +123,17 @@ fn edit_of<'a>(name: CommandName, given: &ArgMatches<'a>) -> Option<EditRequest<
     }
 }
 
-/// The addition by a keyslot, or by the volume key where none is named.
+/// The addition by a keyslot, or by the volume key where that is named and no keyslot.
 fn adding_of<'a>(given: &ArgMatches<'a>) -> Option<EditRequest<'a>> {
-    match given.get_one::<u8>("slot") {
-        Some(by_) => adding_by(by_, given),
-        None => adding_by_key(given),
+    match (given.get_one::<u8>("slot"), given.get_str("key")) {
+        (None, Some(key)) => adding_by_key(key, given),
+        (by_, _) => adding_by(by_, given),
     }
 }
 
-fn adding_by_key<'a>(given: &ArgMatches<'a>) -> Option<EditRequest<'a>> {
+fn adding_by_key<'a>(key: &'a str, given: &ArgMatches<'a>) -> Option<EditRequest<'a>> {
     Some(EditRequest::AddByKey {
-        key: given.get_str("key")?,
+        key,
         memory: mib_of(given, "memory")?,
         older: given.get_flag("older"),
         new: new_of(given)?,
@@ -143,7 +143,7 @@ fn adding_by_key<'a>(given: &ArgMatches<'a>) -> Option<EditRequest<'a>> {
     })
 }
 
-fn adding_by<'a>(by_: u8, given: &ArgMatches<'a>) -> Option<EditRequest<'a>> {
+fn adding_by<'a>(by_: Option<u8>, given: &ArgMatches<'a>) -> Option<EditRequest<'a>> {
     Some(EditRequest::Add {
         by_,
         opener: opener_of(given)?,
@@ -158,7 +158,7 @@ fn adding_by<'a>(by_: u8, given: &ArgMatches<'a>) -> Option<EditRequest<'a>> {
 
 fn changing_of<'a>(given: &ArgMatches<'a>) -> Option<EditRequest<'a>> {
     Some(EditRequest::Change {
-        slot: given.get_one::<u8>("slot")?,
+        slot: given.get_one::<u8>("slot"),
         opener: opener_of(given)?,
         memory: mib_of(given, "memory")?,
         older: given.get_flag("older"),
@@ -170,7 +170,7 @@ fn changing_of<'a>(given: &ArgMatches<'a>) -> Option<EditRequest<'a>> {
 
 fn removing_of<'a>(given: &ArgMatches<'a>) -> Option<EditRequest<'a>> {
     Some(EditRequest::Remove {
-        slot: given.get_one::<u8>("slot")?,
+        slot: given.get_one::<u8>("slot"),
         by_: given.get_one::<u8>("by"),
         opener: opener_of(given)?,
         memory: mib_of(given, "memory")?,

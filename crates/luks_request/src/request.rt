@@ -103,13 +103,14 @@ pub struct Editing<'a> {
 /// What an edit does. Its passphrases are named by their files.
 ///
 /// The keyslot that an edit names as `by_`, or else as `slot`, 0 to 31, is the one that the passphrase or
-/// the key in the file `opener` opens.
+/// the key in the file `opener` opens. Where it names none, that is the first that the passphrase opens, of
+/// those that `open` tries and in its order.
 #[derive(Debug, Clone, Copy)]
 pub enum EditRequest<'a> {
     /// Add a keyslot for a new passphrase.
     Add {
-        /// The keyslot that the old passphrase or the key opens.
-        by_: u8,
+        /// The keyslot that the old passphrase or the key opens; without one the passphrase's is looked for.
+        by_: Option<u8>,
         /// The file of the old passphrase, or of the key.
         opener: OpenerFile<'a>,
         /// How many MiB of memory Argon2 may take for each passphrase.
@@ -144,8 +145,8 @@ pub enum EditRequest<'a> {
     },
     /// Put a new passphrase in the place of an old one.
     Change {
-        /// The keyslot that the old passphrase or the key opens.
-        slot: u8,
+        /// The keyslot that the old passphrase or the key opens; without one the passphrase's is looked for.
+        slot: Option<u8>,
         /// The file of the old passphrase, or of the key.
         opener: OpenerFile<'a>,
         /// How many MiB of memory Argon2 may take for each passphrase.
@@ -161,8 +162,8 @@ pub enum EditRequest<'a> {
     },
     /// Remove a keyslot, by its own passphrase, by another keyslot's or its key, or by the volume key.
     Remove {
-        /// The keyslot.
-        slot: u8,
+        /// The keyslot; without one that of the passphrase is looked for.
+        slot: Option<u8>,
         /// The keyslot that the passphrase or the key opens; without one the passphrase opens `slot`, and the
         /// key is the volume's.
         by_: Option<u8>,

@@ -1,21 +1,48 @@
-//! The edit that a command line asks for.
-ghost use Rattle.std.specs.Prelude.{◌≡◌};
+//! The edit that a command line asks for of a volume.
+ghost use Rattle.std.specs.Prelude.{◌≡◌, ◌+◌, ◌<◌, ◌^◌, IfOk, IfErr, length};
+ghost use Rattle.luks_area.specs.Device.{CountsFailure, IsUnchanged};
 ghost use Rattle.luks_commands.specs.Chosen.{chosen_of};
 ghost use Rattle.luks_commands.specs.OpenAnswers.{allowed_of};
 ghost use Rattle.luks_edit.specs.declared.edit.Edit.{Edit};
-ghost use Rattle.luks_edit_commands.specs.Editing.{IsAsked, kind_of};
+ghost use Rattle.luks_edit.specs.EditFaults.{is_edit_failure};
+ghost use Rattle.luks_reading.specs.Header.{IsAcceptedHeader, IsHeader};
+ghost use Rattle.luks_edit_commands.specs.Editing.{IsAsked, IsMissed, kind_of, removed_in, told_slot, UnlessOutside};
 
+use super::finding::keyslot_of;
+use super::words::EditWords;
 use luks_commands::chosen_of;
 use luks_commands::open::allowed_of;
-use luks_request::{AskedKdf, EditRequest, OpenerFile};
-use luks_volume::{Edit, Secret, SecretKind, VolumeKey};
+use luks_request::{AskedKdf, EditRequest, Editing, OpenerFile};
+use luks_volume::{Device, Edit, EditFault, Header, Secret, SecretKind, VolumeKey};
+use std::alloc::Global;
+use std::io::Write;
 
-/// The edit, with the bytes of its passphrases, or of the key and the new passphrase, in the place of their
-/// files.
-pub(super) fn edit_of<'a>(request: &EditRequest<'a>, old: &'a [u8], new: &'a [u8]) -> Edit<'a>
-    ensures { IsAsked request.now (λ p. p ≡ old.now) (λ p. p ≡ new.now) result }
+/// The edit of a volume with this header, with these bytes in the place of its passphrases' files, and where the
+/// command line names no keyslot with the one that is found; or why none is.
+pub(super) fn edit_of<'a, D: Device, E: Write>(
+    alloc: Global,
+    device: &mut D,
+    header: &Header,
+    editing: &Editing<'a>,
+    words: &EditWords<'a>,
+    err: &mut E,
+) -> Result<Edit<'a>, EditFault>
+    requires room { D.failed device.old + 1 < 2 ^ 64 }
+    requires accepted { IsAcceptedHeader header.now }
+    requires short { length words.now.old.now < 2 ^ 32 }
+    ensures unchanged { IsUnchanged D.tells D.size D.bytes D.unsettled device.old device.new }
+    ensures count { CountsFailure is_edit_failure result
+        (D.failed device.old) (D.failed device.new) }
+    ensures asked { D.tells → IsHeader (D.bytes device.old) header.now
+        → IfOk result (IsAsked (D.bytes device.old) editing.now.request
+        (λ p. p ≡ words.now.old.now) (λ p. p ≡ words.now.new.now)) }
+    ensures missed { D.tells → IsHeader (D.bytes device.old) header.now
+        → IfErr result (UnlessOutside (D.bytes device.old) (IsMissed editing.now.payload
+        editing.now.request (λ p. p ≡ words.now.old.now) (D.bytes device.old))) }
 {
-    match *request {
+    let payload = editing.payload;
+    let EditWords { old, new } = *words;
+    match editing.request {
         EditRequest::Add {
             by_,
             opener,
@@ -25,14 +52,11 @@ pub(super) fn edit_of<'a>(request: &EditRequest<'a>, old: &'a [u8], new: &'a [u8
             iterations,
             kdf,
             ..
-        } => adding(
-            by_,
-            secret_of(opener, old, memory, older),
-            new,
-            to,
-            iterations,
-            kdf,
-        ),
+        } => {
+            let old = secret_of(opener, old, memory, older);
+            let by_ = keyslot_of(alloc, device, header, payload, by_, &old, err)?;
+            Ok(adding(by_, old, new, to, iterations, kdf))
+        }
         EditRequest::AddByKey {
             memory,
             older,
@@ -40,7 +64,7 @@ pub(super) fn edit_of<'a>(request: &EditRequest<'a>, old: &'a [u8], new: &'a [u8
             iterations,
             kdf,
             ..
-        } => Edit::AddByKey {
+        } => Ok(Edit::AddByKey {
             key: VolumeKey {
                 bytes: old,
                 allowed: allowed_of(memory, older),
@@ -49,7 +73,7 @@ pub(super) fn edit_of<'a>(request: &EditRequest<'a>, old: &'a [u8], new: &'a [u8
             to,
             iterations,
             derivation: chosen_of(kdf),
-        },
+        }),
         EditRequest::Change {
             slot,
             opener,
@@ -58,28 +82,46 @@ pub(super) fn edit_of<'a>(request: &EditRequest<'a>, old: &'a [u8], new: &'a [u8
             iterations,
             kdf,
             ..
-        } => changing(
-            slot,
-            secret_of(opener, old, memory, older),
-            new,
-            iterations,
-            kdf,
-        ),
+        } => {
+            let old = secret_of(opener, old, memory, older);
+            let slot = keyslot_of(alloc, device, header, payload, slot, &old, err)?;
+            Ok(changing(slot, old, new, iterations, kdf))
+        }
         EditRequest::Remove {
             slot,
             by_,
             opener,
             memory,
             older,
-        } => Edit::Remove {
-            slot,
-            by_,
-            secret: secret_of(opener, old, memory, older),
-        },
-        EditRequest::Repair => Edit::Repair,
-        EditRequest::Label { text } => Edit::Label {
+        } => {
+            let secret = secret_of(opener, old, memory, older);
+            let slot = keyslot_of(alloc, device, header, payload, slot, &secret, err)?;
+            Ok(Edit::Remove { slot, by_, secret })
+        }
+        EditRequest::Repair => Ok(Edit::Repair),
+        EditRequest::Label { text } => Ok(Edit::Label {
             text: text.as_bytes(),
-        },
+        }),
+    }
+}
+
+/// The keyslot that is told of the edit, which made this one, if any: of a removal the one that was found.
+pub(super) fn told_slot(request: &EditRequest<'_>, edit: &Edit<'_>, made: Option<u8>) -> Option<u8>
+    ensures { result ≡ told_slot request.now edit.now made }
+{
+    match request {
+        EditRequest::Remove { slot: None, .. } => removed_in(edit, made),
+        _ => made,
+    }
+}
+
+/// The keyslot that the edit removes, or else the one that it made.
+fn removed_in(edit: &Edit<'_>, made: Option<u8>) -> Option<u8>
+    ensures { result ≡ removed_in edit.now made }
+{
+    match edit {
+        Edit::Remove { slot, .. } => Some(*slot),
+        _ => made,
     }
 }
 

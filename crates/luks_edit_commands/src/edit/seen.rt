@@ -4,9 +4,12 @@ ghost use Rattle.luks_area.specs.Device.{CountsFailure, IsUnchanged};
 ghost use Rattle.luks_edit.specs.EditFaults.{is_edit_failure};
 ghost use Rattle.luks_reading.specs.Header.{IsAcceptedHeader, IsHeader};
 ghost use Rattle.luks_volume.specs.Needed.{NeedsRandom, TellsNeed};
-ghost use Rattle.luks_edit_commands.specs.OtherUses.{is_unseen_failure, IsUnseen, SeesBarred};
+ghost use Rattle.luks_edit_commands.specs.Editing.{given_words, IsAsked, IsUnseen};
+ghost use Rattle.luks_edit_commands.specs.OtherUses.{is_unseen_failure, SeesBarred};
 
+use super::asked::edit_of;
 use super::older_digest::{is_older_digest, note_older_digest};
+use super::words::EditWords;
 use crate::other_use::barring_use;
 use luks_edit::{NewDerivation, Opener};
 use luks_notes::{MemoryNote, OlderNote, memory_note, older_note};
@@ -21,9 +24,11 @@ use std::io::Write;
 
 /// What is seen of an edit before it is applied.
 #[derive(Drop)]
-pub(super) struct Seen {
+pub(super) struct Seen<'a> {
     /// The header that counts, which the edit is applied over.
     pub(super) header: Header,
+    /// The edit that is asked for.
+    pub(super) edit: Edit<'a>,
     /// How many random bytes it takes.
     pub(super) needed: u64,
     /// The keyslot that it makes, where that has fewer iterations than the one that it opens.
@@ -88,36 +93,43 @@ impl From<DeviceFault> for Unseen {
 }
 
 /// What is seen of the edit by the header, or why nothing is: another use of the disk is asked for
-/// before what the edit names. The header is read once.
-pub(super) fn look_at_volume<D: Device, E: Write>(
+/// before what the edit names, or a keyslot is looked for. The header is read once.
+pub(super) fn look_at_volume<'a, D: Device, E: Write>(
     alloc: Global,
     device: &mut D,
-    editing: &Editing<'_>,
-    edit: &Edit<'_>,
+    editing: &Editing<'a>,
+    words: &EditWords<'a>,
     err: &mut E,
-) -> Result<Seen, Unseen>
-    requires { D.failed device.old + 1 < 2 ^ 64 }
+) -> Result<Seen<'a>, Unseen>
+    requires room { D.failed device.old + 1 < 2 ^ 64 }
+    requires short { length words.now.old.now < 2 ^ 32 }
     ensures unchanged { IsUnchanged D.tells D.size D.bytes D.unsettled device.old device.new }
     ensures count { CountsFailure is_unseen_failure result
         (D.failed device.old) (D.failed device.new) }
     ensures accepted { IfOk result (λ seen. IsAcceptedHeader seen.header) }
     ensures read { D.tells → IfOk result (λ seen. IsHeader (D.bytes device.old) seen.header) }
+    ensures asked { D.tells → IfOk result (λ seen. IsAsked (D.bytes device.old) editing.now.request
+        (λ p. p ≡ words.now.old.now) (λ p. p ≡ words.now.new.now) seen.edit) }
     ensures tells { D.tells → IfOk result (λ seen.
-        NeedsRandom (D.bytes device.old) editing.now.payload edit.now seen.needed) }
-    ensures unseen { D.tells → IfErr result
-        (IsUnseen editing.now.over (D.bytes device.old) editing.now.payload edit.now) }
+        NeedsRandom (D.bytes device.old) editing.now.payload seen.edit seen.needed) }
+    ensures unseen { (has_random : ℕ → List ℕ → Type 0) → D.tells → IfErr result
+        (IsUnseen editing.now.payload
+        (given_words editing.now words.now.old.now words.now.new.now has_random)
+        (D.bytes device.old)) }
     ensures barred { D.tells → SeesBarred editing.now.over (D.bytes device.old) result }
 {
     let header = edited_header(alloc, device)?;
     if let Some(found) = barring_use(device, &header, editing.over)? {
         return Err(Unseen::Used(found));
     }
-    let needed = needed_told(&header, editing.payload, device.len(), edit, err)?;
-    let weaker = weaker_keyslot(&header, edit);
-    let opener = opener_notes(&header, device.len(), edit);
-    let leaves_argon2 = leaves_argon2(&header, edit);
+    let edit = edit_of(alloc, device, &header, editing, words, err)?;
+    let needed = needed_told(&header, editing.payload, device.len(), &edit, err)?;
+    let weaker = weaker_keyslot(&header, &edit);
+    let opener = opener_notes(&header, device.len(), &edit);
+    let leaves_argon2 = leaves_argon2(&header, &edit);
     Ok(Seen {
         header,
+        edit,
         needed,
         weaker,
         opener,

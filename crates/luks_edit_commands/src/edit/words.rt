@@ -1,5 +1,5 @@
 //! Reading the passphrases of an edit.
-ghost use Rattle.std.specs.Prelude.{◌≡◌, IfOk, IfErr, IfSome};
+ghost use Rattle.std.specs.Prelude.{◌≡◌, ◌<◌, ◌^◌, IfOk, IfErr, IfSome, length};
 ghost use Rattle.luks_commands.specs.Answer.{IsWordless};
 ghost use Rattle.luks_commands.specs.Files.{IsLong, IsUnread, IsWhole, OfNamed};
 
@@ -7,6 +7,16 @@ use luks_commands::{Answer, InputFault, PassphraseFault, Refusal, passphrase, un
 use luks_wiping::Secret;
 use std::alloc::Global;
 use std::io::{Read, Write};
+
+/// The bytes of the passphrases of an edit, or of its key and the new passphrase: none of one that it doesn't
+/// need.
+#[derive(Clone, Copy)]
+pub(super) struct EditWords<'a> {
+    /// Those of the passphrase, or the key.
+    pub(super) old: &'a [u8],
+    /// Those of the new passphrase.
+    pub(super) new: &'a [u8],
+}
 
 /// The bytes of the passphrase whose file has this name, none where the edit needs none; or what the
 /// command answers without it.
@@ -17,6 +27,7 @@ pub(super) fn words<R: Read, E: Write>(
     err: &mut E,
 ) -> Result<Secret, Answer>
     ensures whole { IfOk result (λ p. IfSome name.entry (λ _. IsWhole R.remaining file.old p)) }
+    ensures short { IfOk result (λ p. length p < 2 ^ 32) }
     ensures wordless { IfErr result (IsWordless
         (OfNamed name.entry (IsLong R.remaining file.old))
         (λ f. OfNamed name.entry (IsUnread file.old f))) }

@@ -1,11 +1,11 @@
 use Rattle.std.proofs.Common.{◌≡◌, List, ℕ, sym, subst, refl, inl, inr, IfSome}
 use Rattle.luks_edit.specs.declared.edit.Edit.{Edit}
-use Rattle.luks_volume.specs.Edits.{NamedSlots}
+use Rattle.luks_edit.specs.declared.edit_fault.EditFault.{EditFault}
 use Rattle.luks_request.specs.Named.{edit_new_of, edit_passphrase_of}
-use Rattle.luks_edit_commands.specs.Editing.{given_by, given_edit, IsAsked, lacking_by, lacking_random, NamesSlot}
+use Rattle.luks_edit_commands.specs.Editing.{given_by, given_words, IsAsked, IsMissed, lacking_by, lacking_random}
 use Rattle.luks_commands.specs.Files.{AreFirstBytes, IsUnreadRandom, IsWhole}
 use Rattle.luks_edit_commands.proofs.EditAnswerFacts.{answers_as, answers_wordless, err_holds, holds_back_wordless, named_as, wordless_as, wordless_kinds, wordless_undone}
-use Rattle.luks_edit_commands.proofs.EditFacts.{left_same, says_wordless, asked_of, asked_somehow, keeps_fewer, says_as, some_as, spared_as}
+use Rattle.luks_edit_commands.proofs.EditFacts.{left_same, says_wordless, asked_of, missed_of, says_as, some_as, spared_as}
 use Rattle.luks_edit_commands.proofs.edit.run.Goals as goal
 
 pub returns-clause-left : goal.returns-clause-left
@@ -22,27 +22,20 @@ returns-clause-left g c =
     let fresh : IfSome (edit_new_of request) (λ name. IsNew q) =
     some_as (λ name. name.now) c.new_passphrase.result (edit_new_of request) (IsNew q) c.new_passphrase.ensures
     (subst (λ x. IfSome c.new_passphrase.result (λ name. IsNew x)) (sym c.as_slice-2.ensures.value) c.in-Ok-words.ensures.whole) in
-    let edit : Edit = c.edit_of-edit.result in
-    let asks : (e : Edit) → e ≡ edit → IsAsked request IsOld IsNew e =
-    λ e is. subst (IsAsked request IsOld IsNew) (sym is) (asked_of request IsOld IsNew p q edit old fresh c.edit_of-edit.ensures) in
+    let v = g.D.Device.bytes c.in-Ok-volume.device in
+    let asks : (e : Edit) → IsAsked v request (λ x. x ≡ p) (λ x. x ≡ q) e → IsAsked v request IsOld IsNew e =
+    λ e is. asked_of v request IsOld IsNew p q e old fresh is in
+    let misses : (f : EditFault) → IsMissed c.args.editing.now.payload request (λ x. x ≡ p) v f → IsMissed c.args.editing.now.payload request IsOld v f =
+    λ f is. missed_of c.args.editing.now.payload v request IsOld p old f is in
     rw c.in-Ok-volume.is (record {
       size = c.edit_device.ensures.size;
-      said = λ tells. says_as c.args.editing.now.payload (given_edit c.args.editing.now.over edit HasRandom)
-          (given_by c.args.editing.now g.R.Read.remaining g.N.Read.remaining c.args.inputs.now) _ _ _ _ _ _ asks (λ n b is. is) (λ is. absurd is) refl (λ is. is) (λ is. is)
+      said = λ tells. says_as c.args.editing.now.payload (given_words c.args.editing.now p q HasRandom)
+          (given_by c.args.editing.now g.R.Read.remaining g.N.Read.remaining c.args.inputs.now) _ _ _ _ _ _ asks misses (λ n b is. is) (λ is. absurd is) refl (λ is. is) (λ is. is)
           (c.edit_device.ensures.says tells);
     })
 
 pub returns-clause-keeps : goal.returns-clause-keeps
-returns-clause-keeps g c =
-    let request = c.args.editing.now.request in
-    let p = c.as_slice.result.now in
-    let q = c.as_slice-2.result.now in
-    let edit : Edit = c.edit_of-edit.result in
-    rw c.in-Ok-volume.is (λ tells well same.
-    let v = g.D.Device.bytes c.in-Ok-volume.device in
-    keeps_fewer c.args.editing.now.payload (NamedSlots v edit) (NamesSlot request v) v _
-    (λ n named. record { edit = edit; asked = asked_somehow request (λ x. x ≡ p) (λ x. x ≡ q) edit c.edit_of-edit.ensures; named = named })
-    (c.edit_device.ensures.keeps tells well same))
+returns-clause-keeps g c = rw c.in-Ok-volume.is (λ tells well same. c.edit_device.ensures.keeps tells well same)
 
 pub returns-clause-spared : goal.returns-clause-spared
 returns-clause-spared g c =
@@ -58,11 +51,11 @@ returns-clause-spared g c =
     let fresh : IfSome (edit_new_of request) (λ name. IsNew q) =
     some_as (λ name. name.now) c.new_passphrase.result (edit_new_of request) (IsNew q) c.new_passphrase.ensures
     (subst (λ x. IfSome c.new_passphrase.result (λ name. IsNew x)) (sym c.as_slice-2.ensures.value) c.in-Ok-words.ensures.whole) in
-    let edit : Edit = c.edit_of-edit.result in
-    let asks : (e : Edit) → e ≡ edit → IsAsked request IsOld IsNew e =
-    λ e is. subst (IsAsked request IsOld IsNew) (sym is) (asked_of request IsOld IsNew p q edit old fresh c.edit_of-edit.ensures) in
+    let v = g.D.Device.bytes c.in-Ok-volume.device in
+    let asks : (e : Edit) → IsAsked v request (λ x. x ≡ p) (λ x. x ≡ q) e → IsAsked v request IsOld IsNew e =
+    λ e is. asked_of v request IsOld IsNew p q e old fresh is in
     rw c.in-Ok-volume.is (λ tells well apart.
-    spared_as c.args.editing.now.payload (given_edit c.args.editing.now.over edit HasRandom) (given_by c.args.editing.now g.R.Read.remaining g.N.Read.remaining c.args.inputs.now) _ _
+    spared_as c.args.editing.now.payload (given_words c.args.editing.now p q HasRandom) (given_by c.args.editing.now g.R.Read.remaining g.N.Read.remaining c.args.inputs.now) _ _
     asks (λ n b is. is) (c.edit_device.ensures.spared tells well apart))
 
 pub returns-clause-answers : goal.returns-clause-answers
@@ -79,13 +72,15 @@ returns-clause-answers g c =
     let fresh : IfSome (edit_new_of request) (λ name. IsNew q) =
     some_as (λ name. name.now) c.new_passphrase.result (edit_new_of request) (IsNew q) c.new_passphrase.ensures
     (subst (λ x. IfSome c.new_passphrase.result (λ name. IsNew x)) (sym c.as_slice-2.ensures.value) c.in-Ok-words.ensures.whole) in
-    let edit : Edit = c.edit_of-edit.result in
-    let asks : (e : Edit) → e ≡ edit → IsAsked request IsOld IsNew e =
-    λ e is. subst (IsAsked request IsOld IsNew) (sym is) (asked_of request IsOld IsNew p q edit old fresh c.edit_of-edit.ensures) in
+    let v = g.D.Device.bytes c.in-Ok-volume.device in
+    let asks : (e : Edit) → IsAsked v request (λ x. x ≡ p) (λ x. x ≡ q) e → IsAsked v request IsOld IsNew e =
+    λ e is. asked_of v request IsOld IsNew p q e old fresh is in
+    let misses : (f : EditFault) → IsMissed c.args.editing.now.payload request (λ x. x ≡ p) v f → IsMissed c.args.editing.now.payload request IsOld v f =
+    λ f is. missed_of c.args.editing.now.payload v request IsOld p old f is in
     rw c.in-Ok-volume.is
-    (answers_as g.D.Device.tells c.args.editing.now.payload (given_edit c.args.editing.now.over edit HasRandom) (given_by c.args.editing.now g.R.Read.remaining g.N.Read.remaining c.args.inputs.now)
+    (answers_as g.D.Device.tells c.args.editing.now.payload (given_words c.args.editing.now p q HasRandom) (given_by c.args.editing.now g.R.Read.remaining g.N.Read.remaining c.args.inputs.now)
     (lacking_random (λ count. IsUnreadRandom count c.args.inputs.now.random)) (lacking_by request c.args.inputs.now)
-    _ _ _ _ asks (λ n b is. is) (λ is. absurd is) refl (λ f is. absurd is) (λ n f is. is) c.edit_device.result c.edit_device.ensures.answers)
+    _ _ _ _ asks misses (λ e m. refl) (λ n b is. is) (λ is. absurd is) refl (λ f is. absurd is) (λ n f is. is) c.edit_device.result c.edit_device.ensures.answers)
 
 pub returns-in-Err-clause-left : goal.returns-in-Err-clause-left
 returns-in-Err-clause-left g c =

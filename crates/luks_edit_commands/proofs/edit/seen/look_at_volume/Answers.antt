@@ -4,12 +4,13 @@ use Rattle.luks_signatures.specs.declared.other_use.OtherUse.{OtherUse}
 use Rattle.luks_reading.specs.Header.{IsHeader}
 use Rattle.luks_edit_commands.specs.OtherUses.{Bars}
 use Rattle.luks_edit_commands.proofs.OtherUseFacts.{header_barred, one_use, unbarred_found}
+use Rattle.luks_edit_commands.proofs.FindingFacts.{header_unseen}
 use Rattle.luks_edit_commands.proofs.edit.seen.look_at_volume.Goals as goal
 
 pub returns-in_err-header-clause-unseen : goal.returns-in_err-header-clause-unseen
-returns-in_err-header-clause-unseen g c = λ tells.
+returns-in_err-header-clause-unseen g c = λ has_random tells.
     let p = err_from_is_err_and c.from_residual.result c.from_residual.ensures.1 in
-    rw (p.1, p.2) (c.in_err-header.ensures.untold tells c.args.editing.now.payload c.args.edit.now)
+    rw (p.1, p.2) (header_unseen c.args.editing.now c.args.words.now.old c.args.words.now.new has_random _ _ (c.in_err-header.ensures.untold tells c.args.editing.now.payload))
 
 pub returns-in_err-header-clause-barred : goal.returns-in_err-header-clause-barred
 returns-in_err-header-clause-barred g c = λ tells.
