@@ -1,8 +1,5 @@
 //! A small volume that lines damage, and the header that is made of it.
-ghost use Rattle.std.specs.Prelude.{◌+◌, ◌<◌, ◌^◌};
-ghost use Rattle.luks_area.specs.Device.{IsSettled};
-
-use luks_area::{Device, MemDevice};
+use luks_area::MemDevice;
 use luks_notes::{Hashing, note_taken};
 use luks_reading::{Data, check};
 use luks_rebuilding::{Copies, Effort, RebuildFault, Which, rebuild};
@@ -64,36 +61,20 @@ impl Asked {
         Which { copies, effort }
     }
 
-    /// The uuid that is given.
-    fn uuid(&self) -> Option<&str> {
-        match &self.uuid {
-            Some(uuid) => Some(uuid.as_str()),
-            None => None,
-        }
-    }
-
     /// What rebuilding answers.
-    fn rebuild<S: Device, T: Device>(
+    fn rebuild(
         &self,
         alloc: Global,
-        source: &mut S,
-        target: &mut T,
+        source: &mut MemDevice,
+        target: &mut MemDevice,
         random: &[u8],
-    ) -> Result<(), RebuildFault>
-        requires source_room { S.failed source.old + 1 < 2 ^ 64 }
-        requires target_room { T.failed target.old + 1 < 2 ^ 64 }
-        requires settled { T.tells → IsSettled T.unsettled target.old }
-    {
+    ) -> Result<(), RebuildFault> {
         let which = self.which();
-        rebuild(alloc, source, target, which, self.uuid(), random)
+        match &self.uuid {
+            Some(uuid) => rebuild(alloc, source, target, which, Some(uuid.as_str()), random),
+            None => rebuild(alloc, source, target, which, None, random),
+        }
     }
-}
-
-/// Whether the header is accepted.
-fn is_accepted<D: Device>(alloc: Global, header: &mut D) -> bool
-    requires { D.failed header.old + 1 < 2 ^ 64 }
-{
-    check(alloc, header, Data::Elsewhere).is_ok()
 }
 
 impl DamagedLuks2 {
@@ -134,7 +115,7 @@ impl DamagedLuks2 {
         }
         match answer {
             Err(fault) => Ok(format!(in alloc; "{fault} {sum}")?),
-            Ok(()) if !is_accepted(alloc, &mut target) => {
+            Ok(()) if check(alloc, &mut target, Data::Elsewhere).is_err() => {
                 Ok(String::from_str(alloc, "the header isn't accepted")?)
             }
             Ok(()) => Ok(format!(in alloc; "done {sum}")?),

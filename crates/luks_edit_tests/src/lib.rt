@@ -6,8 +6,6 @@
 #[cfg(test)]
 mod answers;
 #[cfg(test)]
-mod calls;
-#[cfg(test)]
 mod luks1;
 #[cfg(test)]
 mod luks2;

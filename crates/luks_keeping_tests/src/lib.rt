@@ -5,8 +5,6 @@
 #[cfg(test)]
 mod backups;
 #[cfg(test)]
-mod calls;
-#[cfg(test)]
 mod comparisons;
 #[cfg(test)]
 mod cut_power;

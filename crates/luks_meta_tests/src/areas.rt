@@ -1,10 +1,9 @@
 //! Areas that hold no value, have other bytes behind it, or have another length.
 use crate::rows::{AREA, PLAIN, answers, area_of};
-use std::alloc::{AllocError, Global};
 use std::test::Fail;
 
 /// An area and what is answered.
-static AREAS: [(&[u8], &str); 20] = [
+const AREAS: [(&[u8], &str); 20] = [
     (b"", "JsonArea"),
     (b"\0", "JsonArea"),
     (b"\0\0", "JsonArea"),
@@ -29,27 +28,28 @@ static AREAS: [(&[u8], &str); 20] = [
 
 #[test]
 fn areas_of_no_metadata(rt: HostRuntime) -> Result<(), Fail> {
-    for (i, (area, want)) in AREAS.iter().enumerate() {
+    for (i, (area, want)) in AREAS.into_iter().enumerate() {
         assert!(rt; answers(rt.alloc(), area, want)?, "row {i}");
     }
     Ok(())
 }
 
-/// Whether this is answered of the plain text in an area of so many bytes, the last of which is this one.
-fn ends_so(alloc: Global, len: usize, last: u8, want: &str) -> Result<bool, AllocError> {
-    let mut area = area_of(alloc, PLAIN.as_bytes(), len)?;
-    if let Some(byte) = area.last_mut() {
-        *byte = last;
-    }
-    answers(alloc, area.as_slice(), want)
-}
-
+// The plain text in an area a byte shorter or longer than it says, and with another byte than zero
+// at its end.
 #[test]
 fn lengths_and_other_bytes(rt: HostRuntime) -> Result<(), Fail> {
-    let alloc = rt.alloc();
-    assert!(rt; ends_so(alloc, AREA, 0, "accepted")?, "as long as it says");
-    assert!(rt; ends_so(alloc, AREA, 1, "JsonArea")?, "another byte");
-    assert!(rt; ends_so(alloc, AREA - 1, 0, "Sizes")?, "a byte shorter");
-    assert!(rt; ends_so(alloc, AREA + 1, 0, "Sizes")?, "a byte longer");
+    for (len, last, want) in [
+        (AREA, 0, "accepted"),
+        (AREA, 1, "JsonArea"),
+        (AREA - 1, 0, "Sizes"),
+        (AREA + 1, 0, "Sizes"),
+    ] {
+        let mut area = area_of(rt.alloc(), PLAIN.as_bytes(), len - 1)?;
+        area.push(last)?;
+        assert!(rt;
+            answers(rt.alloc(), area.as_slice(), want)?,
+            "{want}: {len}"
+        );
+    }
     Ok(())
 }

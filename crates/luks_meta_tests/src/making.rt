@@ -178,67 +178,63 @@ fn of_many_keyslots(rt: HostRuntime) -> Result<(), Fail> {
     compare(&rt, rt.alloc(), texts::MANY, &rows::OF_MANY)
 }
 
-/// Whether the metadata of the row's new volume is its.
-fn forms(alloc: Global, row: &new::NewRow) -> Result<bool, Fail> {
-    let (hash, iterations, segment_offset, len, sum) = *row;
-    if iterations == 0 || len < 20 || len > 64 {
-        return Ok(false);
-    }
-    let digest = [0x33; 64];
+/// Whether the metadata of a new volume is this.
+fn forms(
+    alloc: Global,
+    hash: &str,
+    iterations: u32,
+    segment_offset: u64,
+    digest: &[u8],
+    sum: &str,
+) -> Result<bool, Fail> {
     let volume = NewVolume {
         hash,
         iterations,
         segment_offset,
         digest_salt: &[0x11; 32],
-        digest: &digest[..len],
+        digest,
         slot_salt: &[0x22; 32],
         encryption: "aes-xts-plain64",
         sector_size: 512,
     };
+    let len = digest.len();
+    if iterations == 0 || len < 20 || len > 64 {
+        return Ok(false);
+    }
     is_text(alloc, &luks_new_meta::formatted(alloc, &volume)?, sum)
 }
 
 #[test]
 fn of_a_new_volume(rt: HostRuntime) -> Result<(), Fail> {
-    for (i, row) in new::NEW.iter().enumerate() {
-        assert!(rt; forms(rt.alloc(), row)?, "row {i}");
+    for (hash, iterations, offset, digest_length, sum) in new::NEW {
+        let digest = vec![in rt.alloc(); 0x33u8; digest_length]?;
+        let same = forms(rt.alloc(), hash, iterations, offset, digest.as_slice(), sum)?;
+        assert!(rt; same, "{hash}");
     }
     Ok(())
 }
 
-/// The text of `PLAIN`, which a member fills so that it has 12287 bytes.
-fn full(alloc: Global) -> Result<String, AllocError> {
+// A member fills the compact text of `PLAIN`, so that it has 12287 bytes: an edit that takes room leaves
+// no area.
+#[test]
+fn of_a_full_area(rt: HostRuntime) -> Result<(), Fail> {
+    let alloc = rt.alloc();
     let mut member = String::from_str(alloc, "\"config\":{\"a\":\"")?;
     for _ in 0..11549 {
         member.push('p')?;
     }
     member.push_str("\",")?;
-    edited(alloc, PLAIN, "\"config\":{", member.as_str())
-}
-
-/// Whether the metadata has an area, the one of this text.
-fn has_area(alloc: Global, meta: &Meta, text: &str) -> Result<bool, AllocError> {
-    let want = area_of(alloc, text.as_bytes(), AREA)?;
-    Ok(luks_new_meta::json_area(alloc, meta)?.is_some_and(|area| area.as_slice()
-        == want.as_slice()))
-}
-
-/// Whether the keyslot 1 is added to the metadata, which has no area then.
-fn grows_too_long(alloc: Global, meta: Meta) -> Result<bool, AllocError>
-    requires { area_len meta ≡ 12288 }
-{
-    match made(alloc, meta, Maker::Add { to: 1, by_: 0 }, None)? {
-        Some(after) => Ok(luks_new_meta::json_area(alloc, &after)?.is_none()),
-        None => Ok(false),
-    }
-}
-
-#[test]
-fn of_a_full_area(rt: HostRuntime) -> Result<(), Fail> {
-    let text = full(rt.alloc())?;
-    let meta = read(rt.alloc(), text.as_str())?;
-    assert!(rt; text.len() == 12287, "the length");
-    assert!(rt; has_area(rt.alloc(), &meta, text.as_str())?, "before");
-    assert!(rt; grows_too_long(rt.alloc(), meta)?, "afterwards");
+    let text = edited(alloc, PLAIN, "\"config\":{", member.as_str())?;
+    let meta = read(alloc, text.as_str())?;
+    let before = area_of(alloc, text.as_bytes(), AREA)?;
+    let full = luks_new_meta::json_area(alloc, &meta)?.ok_or("no room")?;
+    assert!(rt;
+        text.len() == 12287 && full.as_slice() == before.as_slice(),
+        "before"
+    );
+    let maker = Maker::Add { to: 1, by_: 0 };
+    let after = made(alloc, meta, maker, None)?.ok_or("nothing is made")?;
+    let area = luks_new_meta::json_area(alloc, &after)?;
+    assert!(rt; area.is_none(), "after");
     Ok(())
 }

@@ -129,7 +129,7 @@ fn ends_with_little_memory(alloc: Global, work: Work) -> Result<(End, usize), Fa
 }
 
 /// What is done, by the words that tell it.
-static WORKS: [(&str, Work); 6] = [
+const WORKS: [(&str, Work); 6] = [
     ("read", Work::Read),
     ("added", Work::Make(Maker::Add { to: 7, by_: 0 })),
     ("changed", Work::Make(Maker::Change(0))),
@@ -140,8 +140,8 @@ static WORKS: [(&str, Work); 6] = [
 
 #[test]
 fn tell_refused_memory(rt: HostRuntime) -> Result<(), Fail> {
-    for (name, work) in WORKS.iter() {
-        let (end, left) = ends_with_little_memory(rt.alloc(), *work)?;
+    for (name, work) in WORKS {
+        let (end, left) = ends_with_little_memory(rt.alloc(), work)?;
         assert!(rt; end == End::Done, "the end: {name}");
         assert!(rt; left < BLOCKS - 1, "{left} blocks left: {name}");
     }

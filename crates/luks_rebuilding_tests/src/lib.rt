@@ -5,8 +5,6 @@
 #![tactic(auto)]
 
 #[cfg(test)]
-mod calls;
-#[cfg(test)]
 mod failing_calls;
 #[cfg(test)]
 mod keyslots;

@@ -1,9 +1,8 @@
 //! Each device call fails in turn, and each allocation is refused.
-use crate::calls::vouched_at;
-use crate::vouching::whole;
+use crate::vouching::{MOST, SIZE, whole};
 use luks_area::{Device, FaultyDevice, Leave, MemDevice};
 use luks_test_devices::{BLOCKS, TakenMemory};
-use luks_vouching::VouchFault;
+use luks_vouching::{VouchFault, find_vouched};
 use std::alloc::Global;
 use std::test::Fail;
 
@@ -17,12 +16,12 @@ fn each_call(rt: HostRuntime) -> Result<(), Fail> {
     let volume = whole(alloc)?;
     for call in 0..CALLS {
         let mut source = FaultyDevice::new(MemDevice::new(volume.to_vec(alloc)?), call, Leave::Old);
-        let answer = vouched_at(alloc, &mut source, 0);
+        let answer = find_vouched(alloc, &mut source, SIZE, 0, MOST);
         let told = matches!(answer, Err(VouchFault::Device));
         assert!(rt; told && source.failures() == 1, "the call {call}");
     }
     let mut source = FaultyDevice::new(MemDevice::new(volume.to_vec(alloc)?), CALLS, Leave::Old);
-    let answer = vouched_at(alloc, &mut source, 0);
+    let answer = find_vouched(alloc, &mut source, SIZE, 0, MOST);
     assert!(rt;
         matches!(answer, Ok(Some(_))) && source.failures() == 0,
         "no further call"
@@ -36,7 +35,7 @@ fn blocks_needed(alloc: Global) -> Result<Option<usize>, Fail> {
     let mut source = MemDevice::new(whole(alloc)?);
     let mut taken = TakenMemory::take(alloc)?;
     for turn in 0..BLOCKS {
-        match vouched_at(alloc, &mut source, 0) {
+        match find_vouched(alloc, &mut source, SIZE, 0, MOST) {
             Err(VouchFault::Memory) => taken.give_back(),
             Ok(Some(_)) => return Ok(Some(turn)),
             _ => return Ok(None),

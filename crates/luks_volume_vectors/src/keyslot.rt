@@ -271,9 +271,9 @@ pub fn opened(
 }
 
 /// `open` or `open_within`, where their conditions hold.
-fn open_by<D: Device>(
+fn open_by(
     alloc: Global,
-    volume: &mut D,
+    volume: &mut Volume,
     plan: &SlotPlan<'_>,
     passphrase: &[u8],
     allowed: Option<Allowed>,
@@ -315,9 +315,9 @@ pub fn sealed(
 }
 
 /// `seal` or `seal_within`, where their conditions hold.
-fn seal_by<D: Device>(
+fn seal_by(
     alloc: Global,
-    volume: &mut D,
+    volume: &mut Volume,
     plan: &SlotPlan<'_>,
     passphrase: &[u8],
     key: &Key,
@@ -346,9 +346,9 @@ fn seal_by<D: Device>(
 }
 
 /// `wipe START LEN`: `done`, or the fault.
-pub fn wiped<D: Device>(
+pub fn wiped(
     alloc: Global,
-    volume: &mut D,
+    volume: &mut Volume,
     words: &mut Words<'_>,
 ) -> Result<String, Malformed> {
     let start = words.number()?;

@@ -2,9 +2,7 @@
 
 /// Hash, iterations, where the segment begins, how many bytes 0x33 the digest has, and SHA-256 of the text.
 /// The digest's salt is 32 bytes 0x11, the keyslot's 32 bytes 0x22.
-pub type NewRow = (&'static str, u32, u64, usize, &'static str);
-
-pub static NEW: [NewRow; 2] = [
+pub const NEW: [(&str, u32, u64, usize, &str); 2] = [
     (
         "sha256",
         1000,

@@ -4,7 +4,7 @@ use crate::making::{Maker, Row};
 use luks_new_meta::{Argon2Costs, NewDerivation};
 
 /// What they make of `TOKENS`.
-pub static OF_TOKENS: [Row; 7] = [
+pub const OF_TOKENS: [Row; 7] = [
     // 1564 bytes.
     (
         Maker::Add { to: 2, by_: 1 },
@@ -60,7 +60,7 @@ pub static OF_TOKENS: [Row; 7] = [
 ];
 
 /// What they make of `UNBOUND`.
-pub static OF_UNBOUND: [Row; 3] = [
+pub const OF_UNBOUND: [Row; 3] = [
     // 1532 bytes.
     (
         Maker::Add { to: 2, by_: 0 },
@@ -82,7 +82,7 @@ pub static OF_UNBOUND: [Row; 3] = [
 ];
 
 /// What they make of `PRIORITIES`.
-pub static OF_PRIORITIES: [Row; 3] = [
+pub const OF_PRIORITIES: [Row; 3] = [
     // 1979 bytes.
     (
         Maker::Add { to: 1, by_: 10 },
@@ -104,7 +104,7 @@ pub static OF_PRIORITIES: [Row; 3] = [
 ];
 
 /// What they make of `ARGON2`.
-pub static OF_ARGON2: [Row; 6] = [
+pub const OF_ARGON2: [Row; 6] = [
     // 1639 bytes.
     (
         Maker::Add { to: 3, by_: 1 },
@@ -152,7 +152,7 @@ pub static OF_ARGON2: [Row; 6] = [
 ];
 
 /// What they make of `CONVERTED`.
-pub static OF_CONVERTED: [Row; 2] = [
+pub const OF_CONVERTED: [Row; 2] = [
     // 1309 bytes.
     (
         Maker::Add { to: 1, by_: 5 },
@@ -168,7 +168,7 @@ pub static OF_CONVERTED: [Row; 2] = [
 ];
 
 /// What they make of `COMPACT`.
-pub static OF_COMPACT: [Row; 4] = [
+pub const OF_COMPACT: [Row; 4] = [
     // 4250 bytes.
     (
         Maker::Add { to: 3, by_: 1 },
@@ -196,7 +196,7 @@ pub static OF_COMPACT: [Row; 4] = [
 ];
 
 /// What they make of `ODDLY_WRITTEN`.
-pub static OF_ODDLY_WRITTEN: [Row; 4] = [
+pub const OF_ODDLY_WRITTEN: [Row; 4] = [
     // 2660 bytes.
     (
         Maker::Add { to: 3, by_: 1 },
@@ -230,7 +230,7 @@ pub static OF_ODDLY_WRITTEN: [Row; 4] = [
 ];
 
 /// What they make of `MANY`.
-pub static OF_MANY: [Row; 2] = [
+pub const OF_MANY: [Row; 2] = [
     // 10253 bytes.
     (
         Maker::Add { to: 31, by_: 30 },
