@@ -205,7 +205,9 @@ const READ: Case = Case {
 };
 
 /// What the system answers, which calls are made, and what comes of it.
-static ROWS: [(Case, &str, &str); 9] = [
+type Row = (Case, &'static str, &'static str);
+
+static ROWS: [Row; 9] = [
     (READ, "stat v\nopen v read\nfstat\nflock shared\n", "opened"),
     (
         Case {
@@ -310,23 +312,43 @@ fn answering<'a, R: AllocGlobal>(rt: &'a R, real: &'a str, case: Case) -> Fake<'
     }
 }
 
+/// Whether what comes of the row's open, and the calls that are made, are its.
+fn meets<R: AllocGlobal + Files<File = File>>(rt: &R, real: &str, row: &Row) -> (bool, bool) {
+    let (case, calls, outcome) = *row;
+    let mut fake = answering(rt, real, case);
+    let found = outcome_of(rt.alloc(), &mut fake);
+    (found == outcome, fake.log.as_slice() == calls.as_bytes())
+}
+
 #[test]
 fn in_their_order(rt: HostRuntime) -> Result<(), Fail> {
     let top = new_folder(&rt, "calls")?;
     let path = format!(in rt.alloc(); "{top}/v")?;
     fs::write(&rt, path.as_str(), "v")?;
     for (i, row) in ROWS.iter().enumerate() {
-        let (case, calls, outcome) = *row;
-        let mut fake = answering(&rt, path.as_str(), case);
-        let found = outcome_of(rt.alloc(), &mut fake);
-        assert!(rt; found == outcome, "row {i}");
-        assert!(rt;
-            fake.log.as_slice() == calls.as_bytes(),
-            "row {i}: the calls"
-        );
+        let (same, called) = meets(&rt, path.as_str(), row);
+        assert!(rt; same, "row {i}");
+        assert!(rt; called, "row {i}: the calls");
     }
     fs::remove_dir_all(&rt, top.as_str())?;
     Ok(())
+}
+
+/// What comes of an open whose lock another program keeps; how often it is asked for, and how many pauses
+/// are made.
+fn kept<R: AllocGlobal + Files<File = File>>(
+    rt: &R,
+    real: &str,
+    writes: bool,
+) -> (&'static str, usize, u32) {
+    let case = Case {
+        writes,
+        answers: &[Answer::Taken],
+        ..READ
+    };
+    let mut fake = answering(rt, real, case);
+    let found = outcome_of(rt.alloc(), &mut fake);
+    (found, fake.asked, fake.sleeps)
 }
 
 // A lock that another program keeps is asked for 60 times, with a pause between each two.
@@ -335,20 +357,10 @@ fn for_three_seconds(rt: HostRuntime) -> Result<(), Fail> {
     let top = new_folder(&rt, "kept")?;
     let path = format!(in rt.alloc(); "{top}/v")?;
     fs::write(&rt, path.as_str(), "v")?;
-    for (writes, outcome) in [(true, "edited"), (false, "opened, noticed")] {
-        let case = Case {
-            writes,
-            answers: &[Answer::Taken],
-            ..READ
-        };
-        let mut fake = answering(&rt, path.as_str(), case);
-        let found = outcome_of(rt.alloc(), &mut fake);
-        assert!(rt; found == outcome, "{outcome}");
-        assert!(rt;
-            fake.asked == 60 && fake.sleeps == 59,
-            "{outcome}: the tries"
-        );
-    }
+    let edited = kept(&rt, path.as_str(), true);
+    assert!(rt; edited == ("edited", 60, 59), "it isn't edited");
+    let read = kept(&rt, path.as_str(), false);
+    assert!(rt; read == ("opened, noticed", 60, 59), "it is read");
     fs::remove_dir_all(&rt, top.as_str())?;
     Ok(())
 }

@@ -65,6 +65,20 @@ impl Device for Meddled<'_> {
     ghost bounded = { λ d. d.fits };
 }
 
+/// Whether six bytes are read and two others written at the place 7, of a device of nine.
+fn writes_behind<D: Device>(device: &mut D) -> bool {
+    let mut six = [0; 6];
+    let read = device.failures() == 0 && device.len() == 9 && device.read_at(0, &mut six).is_ok();
+    read && device.failures() == 0 && device.len() == 9 && device.write_at(7, &[70, 80]).is_ok()
+}
+
+/// The bytes of a device of nine.
+fn bytes_of<D: Device>(device: &mut D) -> [u8; 9] {
+    let mut bytes = [0; 9];
+    let _ = device.failures() == 0 && device.len() == 9 && device.read_at(0, &mut bytes).is_ok();
+    bytes
+}
+
 /// What is told after six bytes were read and two others written at the place 7: whether the write
 /// was done, whether a change was seen, and how many calls failed; and the bytes behind it then.
 fn told(
@@ -80,21 +94,14 @@ fn told(
         place,
     };
     let mut device = CachedDevice::new(alloc, meddled)?;
-    let mut six = [0; 6];
-    let read = device.failures() == 0 && device.len() == 9 && device.read_at(0, &mut six).is_ok();
-    let wrote = read
-        && device.failures() == 0
-        && device.len() == 9
-        && device.write_at(7, &[70, 80]).is_ok();
+    let wrote = writes_behind(&mut device);
     let told = (wrote, device.has_changed(), device.failures());
     drop(device);
-    let mut left = [0; 9];
-    let _ = behind.failures() == 0 && behind.len() == 9 && behind.read_at(0, &mut left).is_ok();
-    Ok((told, left))
+    Ok((told, bytes_of(&mut behind)))
 }
 
 /// Before which read which byte is changed, what is told, and the bytes that are left.
-const ROWS: [(u64, u64, (bool, bool, u64), [u8; 9]); 6] = [
+static ROWS: [(u64, u64, (bool, bool, u64), [u8; 9]); 6] = [
     // nothing changes
     (9, 0, (true, false, 0), [1, 2, 3, 4, 5, 6, 7, 70, 80]),
     // changed before it was read
@@ -109,10 +116,10 @@ const ROWS: [(u64, u64, (bool, bool, u64), [u8; 9]); 6] = [
 
 #[test]
 fn changed_bytes_stop_a_write(rt: HostRuntime) -> Result<(), Fail> {
-    for (i, (before, place, want, bytes)) in ROWS.into_iter().enumerate() {
-        let (found, left) = told(rt.alloc(), before, place)?;
-        assert!(rt; found == want, "row {i}");
-        assert!(rt; left == bytes, "row {i}: the bytes");
+    for (i, (before, place, want, bytes)) in ROWS.iter().enumerate() {
+        let (found, left) = told(rt.alloc(), *before, *place)?;
+        assert!(rt; found == *want, "row {i}");
+        assert!(rt; left == *bytes, "row {i}: the bytes");
     }
     Ok(())
 }

@@ -1,13 +1,7 @@
-//! A file whose lock another open file holds, opened as the program does. What commands answer then stands in
-//! `luks_file_transcript`.
-ghost use Rattle.std.specs.Prelude.{◌≡◌, IfOk};
-ghost use Rattle.luks_guarded_files.specs.Cached.{cached_failures};
-
+//! Readers and editors of a file beside each other, opened as the program does. What commands answer then stands
+//! in `luks_file_transcript`.
 use luks_area::FileDevice;
-use luks_execution::{InputFault, Reason};
-use luks_guarded_files::{
-    CachedDevice, FittedFile, Host, LockedDevice, Notice, OpenFault, open_locked,
-};
+use luks_guarded_files::{FittedFile, Host, LockedDevice, Notice, OpenFault, open_locked};
 use luks_samples::new_folder;
 use std::fs::{self, File};
 use std::rt::{Clock, Files};
@@ -16,19 +10,19 @@ use std::test::Fail;
 /// A folder that isn't there; a regular file needs none.
 const NO_FOLDER: &str = "/nowhere";
 
+/// The volume, to be read or to be written too.
+type Opened = Result<LockedDevice<FileDevice<FittedFile>>, OpenFault>;
+
 /// The volume, as the program opens it.
-fn opened<R: AllocGlobal + Clock + Files<File = File>>(
-    rt: &R,
-    path: &str,
-    writes: bool,
-) -> Result<CachedDevice<LockedDevice<FileDevice<FittedFile>>>, InputFault>
-    ensures { IfOk result (λ device. cached_failures device ≡ 0) }
-{
-    match open_locked(rt.alloc(), &mut Host::new(rt), path, writes, NO_FOLDER) {
-        Ok(device) => CachedDevice::new(rt.alloc(), device).map_err(|_| InputFault::NoMemory),
-        Err(OpenFault::Edited) => Err(InputFault::Unreadable(Reason::Edited)),
-        Err(OpenFault::NoVolume) => Err(InputFault::Unreadable(Reason::NoVolume)),
-        Err(_) => Err(InputFault::Unreadable(Reason::Other)),
+fn opened<R: AllocGlobal + Clock + Files<File = File>>(rt: &R, path: &str, writes: bool) -> Opened {
+    open_locked(rt.alloc(), &mut Host::new(rt), path, writes, NO_FOLDER)
+}
+
+/// What is told of its lock; none where it isn't opened.
+fn notices(opened: &Opened) -> Option<[Option<Notice>; 2]> {
+    match opened {
+        Ok(device) => Some(device.lock().notices()),
+        Err(_) => None,
     }
 }
 
@@ -40,23 +34,15 @@ fn readers_go_on_beside_an_edit(rt: HostRuntime) -> Result<(), Fail> {
     fs::write(&rt, path, "no volume")?;
     let editor = opened(&rt, path, true);
     assert!(rt; editor.is_ok(), "an edit is begun");
-    let noticed = match open_locked(rt.alloc(), &mut Host::new(&rt), path, false, NO_FOLDER) {
-        Ok(device) => device.lock().notices() == [Some(Notice::Edited), None],
-        Err(_) => false,
-    };
-    assert!(rt; noticed, "read, and told");
+    let told = notices(&opened(&rt, path, false));
+    assert!(rt;
+        told == Some([Some(Notice::Edited), None]),
+        "read, and told"
+    );
     assert!(rt; opened(&rt, path, true).is_err(), "no second edit");
     drop(editor);
-    let quiet = match open_locked(rt.alloc(), &mut Host::new(&rt), path, false, NO_FOLDER) {
-        Ok(device) => device.lock().notices() == [None, None],
-        Err(_) => false,
-    };
-    assert!(rt; quiet, "nothing to tell");
-    let reader = opened(&rt, path, false);
-    assert!(rt; reader.is_ok(), "a reader");
-    assert!(rt; opened(&rt, path, false).is_ok(), "read beside a reader");
-    assert!(rt; opened(&rt, path, true).is_err(), "no edit beside a reader");
-    drop(reader);
+    let told = notices(&opened(&rt, path, false));
+    assert!(rt; told == Some([None, None]), "nothing to tell");
     fs::remove_dir_all(&rt, top.as_str())?;
     Ok(())
 }
