@@ -1,6 +1,7 @@
 //! New values of a LUKS2 header's metadata, made of old ones or from nothing.
 #![tactic(auto)]
 
+mod amended;
 mod changed;
 mod changing;
 mod derivation;
@@ -12,6 +13,7 @@ mod source_volume;
 mod with;
 mod without;
 
+pub use amended::{Change, Priority, with_priority, with_token, without_token};
 pub use changed::changed_slot;
 pub use derivation::{
     Argon2Costs, AskedDerivation, LEAST_ITERATIONS, NewDerivation, asked_fits, chosen_fits,
