@@ -20,9 +20,9 @@ pub use derivation::{
 };
 pub use json_area::written_area;
 pub use laws::{
-    addition_keeps_the_rest, amendment_keeps_the_rest, change_keeps_the_rest, converted_volume_is_accepted,
-    made_keyslot_has_room, names_are_apart, new_volume_is_accepted, removal_keeps_the_rest,
-    unchosen_derives_alike, unrefused_is_positive,
+    addition_keeps_the_rest, amendment_keeps_the_rest, change_keeps_the_rest,
+    converted_volume_is_accepted, made_keyslot_has_room, names_are_apart, new_volume_is_accepted,
+    removal_keeps_the_rest, unchosen_derives_alike, unrefused_is_positive,
 };
 pub use new_keyslot::{KeyslotDerivation, New, NewKeyslot, new_fits, slot_value};
 pub use new_volume::{NewVolume, formatted, volume_fits};

@@ -51,8 +51,14 @@ fn tokens_that_are_refused(rt: HostRuntime) -> Result<(), Fail> {
         ("{}", "Shape(tokens.3.keyslots)"),
         (r#"{"keyslots":["0"]}"#, "Shape(tokens.3.type)"),
         (r#"{"keyslots":[0],"type":"a"}"#, "Shape(tokens.3.keyslots)"),
-        (r#"{"keyslots":["1"],"type":"a"}"#, "NoSuchName(tokens.3.keyslots)"),
-        (r#"{"keyslots":["0","0"],"type":"a"}"#, "Assigned(tokens.3.keyslots)"),
+        (
+            r#"{"keyslots":["1"],"type":"a"}"#,
+            "NoSuchName(tokens.3.keyslots)",
+        ),
+        (
+            r#"{"keyslots":["0","0"],"type":"a"}"#,
+            "Assigned(tokens.3.keyslots)",
+        ),
         (r#"{"keyslots":["1"],"type":"a","x":1.5}"#, "NotWhole"),
     ] {
         assert!(rt; answer(rt.alloc(), token)?.as_str() == want, "{token}");
@@ -93,8 +99,14 @@ fn priorities(rt: HostRuntime) -> Result<(), Fail> {
     let alloc = rt.alloc();
     let mut text = String::from_str(alloc, PLAIN)?;
     for (priority, want) in [
-        (Priority::Ignore, "\"key_size\":64,\"priority\":0,\"type\":\"luks2\""),
-        (Priority::Prefer, "\"key_size\":64,\"priority\":2,\"type\":\"luks2\""),
+        (
+            Priority::Ignore,
+            "\"key_size\":64,\"priority\":0,\"type\":\"luks2\"",
+        ),
+        (
+            Priority::Prefer,
+            "\"key_size\":64,\"priority\":2,\"type\":\"luks2\"",
+        ),
         (Priority::Normal, "\"key_size\":64,\"type\":\"luks2\""),
     ] {
         text = prior(alloc, text.as_str(), priority)?;

@@ -23,8 +23,8 @@ ghost use Rattle.luks_new_meta.specs.Made.{HasRoom};
 
 use crate::adding::added;
 use luks_making::{
-    New, NewKeyslot, NewVolume, Priority, SourceVolume, new_fits, slot_value, source_fits, volume_fits,
-    written_area,
+    New, NewKeyslot, NewVolume, Priority, SourceVolume, new_fits, slot_value, source_fits,
+    volume_fits, written_area,
 };
 use luks_meta::Meta;
 use luks_rules::{MetaFault, judge_value};
@@ -189,12 +189,7 @@ pub fn with_priority(
 ///
 /// Refused by the first fault that the metadata with the token would have. Takes memory for a copy of the
 /// token; `Memory` is answered only where it was refused.
-pub fn with_token(
-    alloc: Global,
-    meta: Meta,
-    number: u8,
-    token: &Value,
-) -> Result<Meta, MetaFault>
+pub fn with_token(alloc: Global, meta: Meta, number: u8, token: &Value) -> Result<Meta, MetaFault>
     requires { number < 32 }
     ensures value { IfOk result (λ m.
         content m ≡ with_token number (view token.now) (content meta)) }
