@@ -1,11 +1,10 @@
 -- What metadata with a keyslot's priority, with a token or without one shares with the old one.
-use Rattle.std.proofs.Common.{◌≡◌, ◌≢◌, ◌↔◌, ℕ, ◌-◌, ◌<◌, List, [], ◌∷◌, length, codes, Option, Some, None, option_and_then, refl, sym, ap, subst, ◌∙◌}
+use Rattle.std.proofs.Common.{◌≡◌, ◌≢◌, ◌↔◌, ℕ, ◌-◌, List, [], ◌∷◌, length, codes, Option, Some, None, option_and_then, refl, sym, ap, subst, ◌∙◌}
 use Rattle.serde_json.specs.Data.{Data as Value}
 use Rattle.serde_json.specs.Find.{get}
 use Rattle.luks_area.specs.declared.area.Area.{Area}
 use Rattle.luks_area.specs.declared.area.AreaName.{AreaName}
 use Rattle.luks_area.specs.declared.area.AreaName.TheVariants.{Head1, Head2, Slot, Segment}
-use Rattle.luks_area.specs.Area.{Fit}
 use Rattle.luks_area.specs.Ranges.{part}
 use Rattle.luks2_header.specs.Header2.{header_at, uuid_field}
 use Rattle.luks2_header.proofs.ChoiceFacts.{choices_agree}
@@ -14,7 +13,7 @@ use Rattle.luks_rules.specs.declared.table.Section.TheVariants.{Digests, Keyslot
 use Rattle.luks_rules.specs.Faults.{object_at, section_at}
 use Rattle.luks_rules.specs.Held.{IsHeld}
 use Rattle.luks_rules.specs.MetaFault.{Json}
-use Rattle.luks_rules.specs.Reading.{bytes_in, decimal_in, number_in, text_of}
+use Rattle.luks_rules.specs.Reading.{decimal_in, number_in, text_of}
 use Rattle.luks_rules.proofs.AreaFaults.{one_value}
 use Rattle.luks_making.specs.Unchanged.{KeepsOthers, KeepsUnnamed}
 use Rattle.luks_slot.specs.declared.allowed.Allowed.{Allowed}
