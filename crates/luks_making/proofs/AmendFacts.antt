@@ -23,11 +23,12 @@ use Rattle.luks_making.specs.declared.amended.Priority.{Priority}
 use Rattle.luks_making.specs.declared.amended.Priority.TheVariants.{Ignore, Normal, Prefer}
 use Rattle.luks_making.specs.Amended.{priority_number, with_priority, with_priority_number, with_token, without_token}
 use Rattle.luks_making.specs.Changing.{at_member, drop_member, in_object}
+use Rattle.luks_making.specs.Naming.{IsDigestOf}
 use Rattle.luks_making.specs.Unchanged.{AddsToken, KeepsObjects, KeepsOthers, KeepsUnnamed, LosesToken, SetsPriority}
 use Rattle.luks_making.proofs.ChangeFacts.{judged_by}
 use Rattle.luks_making.proofs.EachFacts.{IsFine, KeepsFine, Named, each_left, fine_at, fine_left, fine_put, named_map, neither}
 use Rattle.luks_making.proofs.EditFacts.{SlotBack, held_edited, kept, made, naming_kept, naming_same, object_same}
-use Rattle.luks_making.proofs.MemberFacts.{beside, get_changed, get_gone, get_kept, get_left, mapped, no_some, nowhere, put_beside, put_here, still_object, tested_object}
+use Rattle.luks_making.proofs.MemberFacts.{beside, get_changed, get_gone, get_kept, get_left, mapped, no_some, nowhere, put_beside, put_here, some_same, still_object, tested_object}
 use Rattle.luks_making.proofs.NameFacts.{texts_differ}
 use Rattle.luks_making.proofs.RowFacts.{RowRead, rows_read}
 use Rattle.luks_making.proofs.SlotFacts.{beside_held, maps_edited, naming, other_section, slot_beside, slot_held, slot_here, slots_more}

@@ -1,5 +1,5 @@
 -- The metadata with a keyslot's priority, with a token, and without one.
-use Rattle.std.specs.Prelude.{ℕ, codes, Option, Some, None}
+use Rattle.std.specs.Prelude.{ℕ, List, codes, Option, Some, None}
 use Rattle.serde_json.specs.Data.{Data, number, put, unsigned}
 use Rattle.luks_json.specs.Number.{number_text}
 use Rattle.luks_making.specs.declared.amended.Priority.{Priority}

@@ -1,7 +1,8 @@
 -- What the readers tell of a value that differs in a keyslot's priority or in a token.
-use Rattle.std.proofs.Common.{◌≡◌, ◌↔◌, ℕ, [], ◌∷◌, Option, Some, None, option_map, option_and_then, codes, refl, sym, ap, ◌∙◌}
+use Rattle.std.proofs.Common.{◌≡◌, ◌≢◌, ◌↔◌, ℕ, ◌<◌, [], ◌∷◌, Option, Some, None, option_map, option_and_then, codes, refl, sym, ap, ◌∙◌}
 use Rattle.serde_json.specs.Data.{Data, number, unsigned}
 use Rattle.serde_json.specs.Find.{get}
+use Rattle.luks_json.specs.Number.{number_text}
 use Rattle.luks_rules.specs.declared.table.Outer.TheVariants as outer
 use Rattle.luks_rules.specs.declared.table.Member.TheVariants as name
 use Rattle.luks_rules.specs.declared.table.Rule.TheVariants as rule
@@ -18,7 +19,7 @@ use Rattle.luks_meta.specs.declared.keyslots.Derivation.{Derivation}
 use Rattle.luks_meta.specs.declared.keyslots.KeyArea.{KeyArea}
 use Rattle.luks_meta.specs.declared.keyslots.Keyslot.{Keyslot}
 use Rattle.luks_meta.specs.declared.keyslots.Splitter.{Splitter}
-use Rattle.luks_meta.specs.Objects.{IsMissing}
+use Rattle.luks_meta.specs.Objects.{IsMissing, IsObject}
 use Rattle.luks_meta.specs.Says.{TellsArea, TellsCost, TellsDigest, TellsKdf, TellsKeyslot, TellsSegment, TellsSplitter, TellsToken, priority_field}
 use Rattle.luks_new_meta.specs.Records.{KeepsButPriority, KeepsTold, with_own_priority}
 use Rattle.luks_new_meta.proofs.RecordFacts.{config_moved, in_section, same_missing, same_object}
