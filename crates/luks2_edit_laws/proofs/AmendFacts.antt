@@ -9,7 +9,7 @@ use Rattle.luks_area.specs.Ranges.{part}
 use Rattle.luks2_header.specs.Header2.{header_at, uuid_field}
 use Rattle.luks2_header.proofs.ChoiceFacts.{choices_agree}
 use Rattle.luks_json.specs.Number.{number_text}
-use Rattle.luks_rules.specs.declared.table.Section.TheVariants.{Digests, Keyslots}
+use Rattle.luks_rules.specs.declared.table.Section.TheVariants.{Digests, Keyslots, Segments}
 use Rattle.luks_rules.specs.Faults.{object_at, section_at}
 use Rattle.luks_rules.specs.Held.{IsHeld}
 use Rattle.luks_rules.specs.MetaFault.{Json}
@@ -114,8 +114,9 @@ module _ (slot token : Option ℕ) (j k : Value) (rest : KeepsUnnamed slot token
   area_kept h total payload Head2 a x = x
   area_kept h total payload (Slot m) a x = (x.0, sym (number_kept m (codes "offset")) ∙ x.1, sym (number_kept m (codes "size")) ∙ x.2)
   area_kept h total payload (Segment m) a x =
-      let offset : segment_offset k m ≡ segment_offset j m = rw (rest.others (codes "segments") refl) refl in
-      let extent : segment_extent k m ≡ segment_extent j m = rw (rest.others (codes "segments") refl) refl in
+      let segments : section_at k Segments ≡ section_at j Segments = rest.others (codes "segments") refl in
+      let offset : segment_offset k m ≡ segment_offset j m = rw segments refl in
+      let extent : segment_extent k m ≡ segment_extent j m = rw segments refl in
       (x.0, x.1, sym offset ∙ x.2, subst (HasExtent total a.start a.len) extent x.3)
 
   -- in JSON areas that hold them, each keyslot is there as it was
