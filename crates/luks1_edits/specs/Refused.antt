@@ -77,7 +77,7 @@ HasNoFree v e = IsSomeAnd (sealed_by e) (λ s. LacksFree v (number_asked s.place
 abbrev pub IsLast : List ℕ → Edit → Type 0
 IsLast v e = IsSomeAnd (removed_by e) (λ r. (n : ℕ) → IsInUse v n → n ≡ r.slot)
 
--- the edit sets something in the header: LUKS1 has no label
+-- the edit sets something in the header: LUKS1 has no label, subsystem or metadata
 abbrev pub IsLabel : Edit → Type 0
 IsLabel e = IsSomeAnd (rewritten_by e) (λ r. sets_nothing r ≡ false)
 

@@ -1,11 +1,15 @@
 -- What an edit asks for, whatever the version of the volume.
 use Rattle.std.specs.Prelude.{◌≡◌, ◌⊎◌, ℕ, ◌^◌, ◌<◌, ◌&&◌, nat_lt, if◌then◌else◌, List, [], length, Bool, true, Option, Some, None, is_none, IsSomeAnd, ⊤}
 use Rattle.std.specs.Borrow.{Bor}
+use Rattle.serde_json.specs.declared.value.Value.{Value}
 use Rattle.luks_slot.specs.declared.allowed.Allowed.{Allowed}
 use Rattle.luks_slot.specs.Allowance.{none_allowed}
 use Rattle.luks_making.specs.Derivations.{asked_beyond, asked_few_turns, takes_memory}
 use Rattle.luks_making.specs.declared.derivation.NewDerivation.{NewDerivation}
 use Rattle.luks_making.specs.declared.derivation.NewDerivation.TheVariants.{Pbkdf2}
+use Rattle.luks_making.specs.declared.amended.Change.{Change}
+use Rattle.luks_making.specs.declared.amended.Change.TheVariants as changes
+use Rattle.luks_making.specs.declared.amended.Priority.{Priority}
 use Rattle.luks_edit.specs.declared.deed.Deed.{Deed}
 use Rattle.luks_edit.specs.declared.deed.Deed.TheVariants as deed
 use Rattle.luks_edit.specs.declared.deed.Place.{Place}
@@ -14,7 +18,7 @@ use Rattle.luks_edit.specs.declared.deed.Removed.{Removed}
 use Rattle.luks_edit.specs.declared.deed.Rewritten.{Rewritten}
 use Rattle.luks_edit.specs.declared.deed.Sealed.{Sealed}
 use Rattle.luks_edit.specs.declared.edit.Edit.{Edit}
-use Rattle.luks_edit.specs.declared.edit.Edit.TheVariants.{Add, AddByKey, Change, Remove, Repair, Label}
+use Rattle.luks_edit.specs.declared.edit.Edit.TheVariants.{Add, AddByKey, Change as ChangeKey, Remove, Repair, Label, Amend}
 use Rattle.luks_edit.specs.declared.edit.Opener.{Opener}
 use Rattle.luks_edit.specs.declared.edit.Opener.TheVariants as opener
 use Rattle.luks_edit.specs.declared.edit.Secret.{Secret}
@@ -49,12 +53,13 @@ deed_of (Add by_ old new to iterations chosen) =
     deed.Seal (record { place = New (opener.Keyslot by_ old) to; passphrase = new; derivation = record { iterations = iterations; chosen = chosen } })
 deed_of (AddByKey key new to iterations chosen) =
     deed.Seal (record { place = New (opener.Key key) to; passphrase = new; derivation = record { iterations = iterations; chosen = Some (chosen_or iterations chosen) } })
-deed_of (Change slot old new iterations chosen) =
+deed_of (ChangeKey slot old new iterations chosen) =
     deed.Seal (record { place = Opened slot old; passphrase = new; derivation = record { iterations = iterations; chosen = chosen } })
 deed_of (Remove slot by_ secret) =
     deed.Remove (record { slot = slot; by_ = by_; secret = secret })
-deed_of Repair = deed.Rewrite (record { label = None; subsystem = None })
-deed_of (Label text subsystem) = deed.Rewrite (record { label = Some text; subsystem = subsystem })
+deed_of Repair = deed.Rewrite (record { label = None; subsystem = None; change = None })
+deed_of (Label text subsystem) = deed.Rewrite (record { label = Some text; subsystem = subsystem; change = None })
+deed_of (Amend change) = deed.Rewrite (record { label = None; subsystem = None; change = Some change })
 
 -- ---- by what is done
 
@@ -122,9 +127,27 @@ subsystem_in (deed.Seal s) = None
 subsystem_in (deed.Remove r) = None
 subsystem_in (deed.Rewrite r) = r.subsystem
 
+-- what it changes of the metadata
+abbrev pub change_in : Deed → Option Change
+change_in (deed.Seal s) = None
+change_in (deed.Remove r) = None
+change_in (deed.Rewrite r) = r.change
+
+-- the keyslot whose priority the change sets, the token that it adds with the number that is asked for it, and the
+-- token that it removes
+abbrev pub MatchChange : Change → (ℕ → Priority → Type 0) → (Option ℕ → Bor Value → Type 0) → (ℕ → Type 0) → Type 0
+MatchChange (changes.Priority slot priority) P A R = P slot priority
+MatchChange (changes.AddToken to token) P A R = A to token
+MatchChange (changes.RemoveToken number) P A R = R number
+
+-- the keyslot that a change names: the one whose priority it sets
+abbrev pub AmendsSlot : Option Change → ℕ → Type 0
+AmendsSlot None n = ⊥
+AmendsSlot (Some c) n = MatchChange c (λ slot priority. n ≡ slot) (λ to token. ⊥) (λ number. ⊥)
+
 -- the header says all that it said
 abbrev pub sets_nothing : Rewritten → Bool
-sets_nothing r = is_none r.label && is_none r.subsystem
+sets_nothing r = is_none r.label && is_none r.subsystem && is_none r.change
 
 -- the key is sealed in the keyslot that was opened
 abbrev pub again_at : Place → Sealed → Option Sealed
@@ -149,7 +172,7 @@ lost_in (deed.Rewrite r) = None
 -- ---- of an edit
 
 -- the key that it seals, the one that it seals in the keyslot that was opened, the keyslot that it
--- removes, the one that loses its area, what it sets, and of that the label and the subsystem
+-- removes, the one that loses its area, what it sets, and of that the label, the subsystem and the change
 abbrev pub sealed_by : Edit → Option Sealed
 sealed_by e = sealed_in (deed_of e)
 
@@ -170,6 +193,9 @@ label_by e = label_in (deed_of e)
 
 abbrev pub subsystem_by : Edit → Option (Bor (List ℕ))
 subsystem_by e = subsystem_in (deed_of e)
+
+abbrev pub change_by : Edit → Option Change
+change_by e = change_in (deed_of e)
 
 -- the edit wants the keyslot `n` to be there: the one that it opens, and the one that it removes
 abbrev pub Wants : Edit → ℕ → Type 0

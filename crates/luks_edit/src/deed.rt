@@ -3,7 +3,7 @@ ghost use Rattle.std.specs.Prelude.{◌≡◌};
 ghost use Rattle.luks_edit.specs.Asked.{opener_at, remover_of, sets_nothing};
 
 use crate::edit::{Opener, Secret, SecretKind, VolumeKey};
-use luks_making::AskedDerivation;
+use luks_making::{AskedDerivation, Change};
 
 /// What an edit does of a volume.
 ///
@@ -103,6 +103,8 @@ pub struct Rewritten<'a> {
     pub label: Option<&'a [u8]>,
     /// The new subsystem.
     pub subsystem: Option<&'a [u8]>,
+    /// What changes of the metadata.
+    pub change: Option<Change<'a>>,
 }
 
 impl Rewritten<'_> {
@@ -110,6 +112,6 @@ impl Rewritten<'_> {
     pub fn sets_nothing(&self) -> bool
         ensures { result ≡ sets_nothing self.now }
     {
-        self.label.is_none() && self.subsystem.is_none()
+        self.label.is_none() && self.subsystem.is_none() && self.change.is_none()
     }
 }

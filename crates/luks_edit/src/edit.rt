@@ -5,7 +5,7 @@ ghost use Rattle.luks_edit.specs.declared.deed.Deed.TheVariants.{Rewrite};
 ghost use Rattle.luks_edit.specs.declared.deed.Place.TheVariants.{New};
 
 use crate::deed::{Deed, Place, Removed, Rewritten, Sealed};
-use luks_making::{AskedDerivation, NewDerivation};
+use luks_making::{AskedDerivation, Change, NewDerivation};
 use luks_slot::Allowed;
 
 /// A passphrase, and what may be spent on it.
@@ -50,7 +50,7 @@ pub struct VolumeKey<'a> {
     pub allowed: Allowed,
 }
 
-/// An edit of a volume's keyslots, header or label.
+/// An edit of a volume's keyslots, header, label or metadata.
 ///
 /// The keyslot that an edit names as `by_`, or else as `slot`, is the one that its secret has to open:
 /// its passphrase, or the key that it gives.
@@ -133,6 +133,9 @@ pub enum Edit<'a> {
         /// The subsystem, of as many such bytes; where it isn't given, it stays as it was.
         subsystem: Option<&'a [u8]>,
     },
+    /// LUKS2: changes the metadata in named members. Every key area, and what each keyslot answers,
+    /// stays as it was.
+    Amend(Change<'a>),
 }
 
 /// What gives the key for an edit.
@@ -218,8 +221,9 @@ impl<'a> Edit<'a> {
                 derivation: asked(iterations, derivation),
             }),
             Edit::Remove { slot, by_, secret } => Deed::Remove(Removed { slot, by_, secret }),
-            Edit::Repair => rewriting(None, None),
-            Edit::Label { text, subsystem } => rewriting(Some(text), subsystem),
+            Edit::Repair => rewriting(None, None, None),
+            Edit::Label { text, subsystem } => rewriting(Some(text), subsystem, None),
+            Edit::Amend(change) => rewriting(None, None, Some(change)),
         }
     }
 
@@ -242,11 +246,20 @@ fn added_by(opener: Opener<'_>, to: Option<u8>) -> Place<'_>
     Place::New { opener, to }
 }
 
-/// The header is written anew with this label and this subsystem, where they are given.
-fn rewriting<'a>(label: Option<&'a [u8]>, subsystem: Option<&'a [u8]>) -> Deed<'a>
-    ensures { result ≡ Rewrite (record { label = label.entry; subsystem = subsystem.entry }) }
+/// The header is written anew with this label, this subsystem and this change, where they are given.
+fn rewriting<'a>(
+    label: Option<&'a [u8]>,
+    subsystem: Option<&'a [u8]>,
+    change: Option<Change<'a>>,
+) -> Deed<'a>
+    ensures { result ≡ Rewrite (record { label = label.entry; subsystem = subsystem.entry;
+        change = change.entry }) }
 {
-    Deed::Rewrite(Rewritten { label, subsystem })
+    Deed::Rewrite(Rewritten {
+        label,
+        subsystem,
+        change,
+    })
 }
 
 /// What is chosen, or so many iterations.
@@ -329,7 +342,7 @@ fn is_short(passphrase: &[u8]) -> bool
 /// What a completed edit made.
 #[derive(Clone, Copy, PartialEq, Eq, Drop)]
 pub struct Done {
-    /// The keyslot that was made or changed; none after a removal, a repair and a new label.
+    /// The keyslot that was made or sealed again; none after any other edit.
     pub slot: Option<u8>,
 }
 

@@ -15,4 +15,6 @@ pub use edit::{
 pub use edit_fault::{EditFault, RunFault};
 pub use giving::{give_within, lock_fault, own_key};
 pub use laws::secrets_answer_once;
-pub use luks_making::{Argon2Costs, AskedDerivation, LEAST_ITERATIONS, NewDerivation};
+pub use luks_making::{
+    Argon2Costs, AskedDerivation, Change, LEAST_ITERATIONS, NewDerivation, Priority,
+};
