@@ -23,7 +23,7 @@ use Rattle.luks_reading.specs.Checked.{WellFormed, WellFormedAs}
 use Rattle.luks_reading.specs.Header.{json_at}
 use Rattle.luks_edit.proofs.SecretFacts.{one_answer_to}
 use Rattle.luks_edit.specs.declared.edit.Edit.{Edit}
-use Rattle.luks_edit.specs.declared.edit.Edit.TheVariants.{Add, AddByKey, Change, Remove, Repair, Label}
+use Rattle.luks_edit.specs.declared.edit.Edit.TheVariants.{Add, AddByKey, Change, Remove, Repair, Label, Amend}
 use Rattle.luks_edit.specs.declared.edit.Opener.{Opener}
 use Rattle.luks_edit.specs.declared.edit.Opener.TheVariants as opener
 use Rattle.luks_edit.specs.Asked.{allowed_for}
@@ -62,6 +62,7 @@ sealed_behind h total payload j (Change slot old new iterations d) p x = new_beh
 sealed_behind h total payload j (Remove slot by_ passphrase) p x = absurd x
 sealed_behind h total payload j Repair p x = absurd x
 sealed_behind h total payload j (Label text subsystem) p x = absurd x
+sealed_behind h total payload j (Amend c) p x = absurd x
 
 -- the other copy lies in the front
 other_first : (h o : ℕ) → o ≡ 0 → other_place h o ≡ h
@@ -236,6 +237,7 @@ opens_written v payload (Change slot old new iterations d) random w well ranges 
 opens_written v payload (Remove slot by_ passphrase) random w well ranges free long j k p b chosen a edited sealed = tt
 opens_written v payload Repair random w well ranges free long j k p b chosen a edited sealed = tt
 opens_written v payload (Label text subsystem) random w well ranges free long j k p b chosen a edited sealed = tt
+opens_written v payload (Amend c) random w well ranges free long j k p b chosen a edited sealed = tt
 
 sealed_or_copy : (A B : Type 0) → A ⊎ B → B ⊎ A ⊎ ⊥
 sealed_or_copy A B (inl a) = inr (inl a)
@@ -275,6 +277,7 @@ opens_before v payload (Change slot old new iterations d) random w well ranges o
 opens_before v payload (Remove slot by_ passphrase) random w well ranges o j m b chosen same rest = tt
 opens_before v payload Repair random w well ranges o j m b chosen same rest = tt
 opens_before v payload (Label text subsystem) random w well ranges o j m b chosen same rest = tt
+opens_before v payload (Amend c) random w well ranges o j m b chosen same rest = tt
 
 -- the other copy's place
 other_at : (h o : ℕ) → (o ≡ 0) ⊎ (o ≡ h) → 16384 ≤ h → (other_place h o ≡ 0) ⊎ (other_place h o ≡ h)
