@@ -11,6 +11,7 @@ use Rattle.luks_area.specs.Text.{is_plain}
 use Rattle.luks2_header.specs.Header2.{binary_header_size, hdr_size, header_at, seqid}
 use Rattle.luks_rules.specs.declared.fault.MetaFault.{MetaFault}
 use Rattle.luks_making.specs.Amended.{with_token, IsMadeFault}
+use Rattle.luks_making.specs.declared.amended.Change.{Change}
 use Rattle.luks_making.specs.Conditions.{IsFree}
 use Rattle.luks_making.specs.Naming.{IsDigestOf}
 use Rattle.luks_meta.specs.Requirements.{has_requirements}
@@ -84,8 +85,8 @@ IsBadLabel e = IsBadText (label_by e) ⊎ IsBadText (subsystem_by e)
 -- ---- the token
 
 -- the token to remove isn't there
-abbrev pub LacksToken : Value → Edit → Type 0
-LacksToken j e = IsSomeAnd (change_by e) (λ c. MatchChange c (λ slot priority. ⊥) (λ to token. ⊥) (λ number. HasToken j number → ⊥))
+abbrev pub LacksToken : Value → Change → Type 0
+LacksToken j c = MatchChange c (λ slot priority. ⊥) (λ to token. ⊥) (λ number. HasToken j number → ⊥)
 
 -- the number that is asked for a token is in use
 abbrev pub IsTokenAt : Value → Option ℕ → Type 0
@@ -97,11 +98,11 @@ abbrev pub HasNoTokenNumber : Value → Option ℕ → Type 0
 HasNoTokenNumber j (Some t) = 31 < t
 HasNoTokenNumber j None = (n : ℕ) → IsFreeToken j n → ⊥
 
-abbrev pub IsTokenTaken : Value → Edit → Type 0
-IsTokenTaken j e = IsSomeAnd (change_by e) (λ c. MatchChange c (λ slot priority. ⊥) (λ to token. IsTokenAt j to) (λ number. ⊥))
+abbrev pub IsTokenTaken : Value → Change → Type 0
+IsTokenTaken j c = MatchChange c (λ slot priority. ⊥) (λ to token. IsTokenAt j to) (λ number. ⊥)
 
-abbrev pub HasNoFreeToken : Value → Edit → Type 0
-HasNoFreeToken j e = IsSomeAnd (change_by e) (λ c. MatchChange c (λ slot priority. ⊥) (λ to token. HasNoTokenNumber j to) (λ number. ⊥))
+abbrev pub HasNoFreeToken : Value → Change → Type 0
+HasNoFreeToken j c = MatchChange c (λ slot priority. ⊥) (λ to token. HasNoTokenNumber j to) (λ number. ⊥)
 
 -- the metadata with the token has the fault, in a JSON area of `len` bytes
 pub record IsFaultyWith (len : ℕ) (j : Value) (to : Option ℕ) (token : Value) (f : MetaFault) : Type 0 where
@@ -109,8 +110,8 @@ pub record IsFaultyWith (len : ℕ) (j : Value) (to : Option ℕ) (token : Value
   pub is_new : IsNewToken j to number
   pub fault : IsMadeFault len (with_token number token j) f
 
-abbrev pub IsBadToken : ℕ → Value → Edit → MetaFault → Type 0
-IsBadToken len j e f = IsSomeAnd (change_by e) (λ c. MatchChange c (λ slot priority. ⊥) (λ to token. IsFaultyWith len j to (view token.now) f) (λ number. ⊥))
+abbrev pub IsBadToken : ℕ → Value → MetaFault → Change → Type 0
+IsBadToken len j f c = MatchChange c (λ slot priority. ⊥) (λ to token. IsFaultyWith len j to (view token.now) f) (λ number. ⊥)
 
 -- ---- the header
 
@@ -186,10 +187,10 @@ IsEditFault2 v payload e random fault.LastSlot = HasSaid v (λ o j. IsLast j e)
 IsEditFault2 v payload e random fault.Iterations = HasFewIterations e
 IsEditFault2 v payload e random fault.Argon2 = IsBeyondMemory e
 IsEditFault2 v payload e random fault.BadLabel = IsBadLabel e
-IsEditFault2 v payload e random fault.NoSuchToken = HasSaid v (λ o j. LacksToken j e)
-IsEditFault2 v payload e random fault.TokenTaken = HasSaid v (λ o j. IsTokenTaken j e)
-IsEditFault2 v payload e random fault.NoFreeToken = HasSaid v (λ o j. HasNoFreeToken j e)
-IsEditFault2 v payload e random (fault.BadToken f) = HasSaid v (λ o j. IsBadToken (hdr_size (header_at v o) - binary_header_size) j e f)
+IsEditFault2 v payload e random fault.NoSuchToken = HasSaid v (λ o j. IsSomeAnd (change_by e) (LacksToken j))
+IsEditFault2 v payload e random fault.TokenTaken = HasSaid v (λ o j. IsSomeAnd (change_by e) (IsTokenTaken j))
+IsEditFault2 v payload e random fault.NoFreeToken = HasSaid v (λ o j. IsSomeAnd (change_by e) (HasNoFreeToken j))
+IsEditFault2 v payload e random (fault.BadToken f) = HasSaid v (λ o j. IsSomeAnd (change_by e) (IsBadToken (hdr_size (header_at v o) - binary_header_size) j f))
 IsEditFault2 v payload e random fault.SeqExhausted = HasSaid v (λ o j. seqid (header_at v o) + 1 ≡ 2 ^ 64)
 IsEditFault2 v payload e random fault.MetadataFull = HasSaid v (λ o j. IsFull (hdr_size (header_at v o)) (length v) payload j e)
 IsEditFault2 v payload e random fault.RandomLength = HasSaid v (λ o j. IsMiscounted j e random)

@@ -203,7 +203,7 @@ module _ (v : List ℕ) (payload : Data) (o : ℕ) (j : Value) (m : HasMetadata 
   unsealed_first f bad = absurd bad
 
   pub sealed_past : (HasNoNewArea (hdr_size (header_at v o)) (length v) payload j like → ⊥) → IsAllowed memory asked → (random : List ℕ)
-      → HasNoFaultBefore 15 v payload e random
+      → HasNoFaultBefore 18 v payload e random
   sealed_past room enough random = before_of 15 v payload e random
       (past_label v payload e random
       (past_large v payload e random (past_few v payload e random (past_area room random) (λ bad. both_ways _ enough.turns (few.0 bad))) (λ bad. both_ways _ enough.within (large.0 bad))) good)
@@ -242,7 +242,7 @@ module _ (v : List ℕ) (payload : Data) (o : ℕ) (j : Value) (m : HasMetadata 
         (sealed_few e _ is) (sealed_large e _ is) (λ x. rw is at x) (λ x. rw is at x) ten f bad
 
     pub added_past : (HasNoNewArea (hdr_size (header_at v o)) (length v) payload j like → ⊥) → IsAllowed (allowed_for opener_ new.now).memory asked → (random : List ℕ)
-        → HasNoFaultBefore 15 v payload e random
+        → HasNoFaultBefore 18 v payload e random
     added_past =
         sealed_past v payload o j m e like (allowed_for opener_ new.now).memory asked (sealed_rooms (hdr_size (header_at v o)) (length v) payload j e _ is like is_like)
         (sealed_few e _ is) (sealed_large e _ is) (λ x. rw is at x) (λ x. rw is at x) ten
@@ -260,7 +260,7 @@ module _ (v : List ℕ) (payload : Data) (o : ℕ) (j : Value) (m : HasMetadata 
       (sealed_rooms (hdr_size (header_at v o)) (length v) payload j e _ is (made_like.Keyslot slot) refl) (sealed_few e _ is) (sealed_large e _ is) (λ x. rw is at x) (λ x. rw is at x) change_ten f bad
 
   pub changed_past : (HasNoNewArea (hdr_size (header_at v o)) (length v) payload j (made_like.Keyslot slot) → ⊥) → IsAllowed (allowed_for (opener.Keyslot slot old) new.now).memory asked
-      → (random : List ℕ) → HasNoFaultBefore 15 v payload e random
+      → (random : List ℕ) → HasNoFaultBefore 18 v payload e random
   changed_past =
       sealed_past v payload o j m e (made_like.Keyslot slot) (allowed_for (opener.Keyslot slot old) new.now).memory asked
       (sealed_rooms (hdr_size (header_at v o)) (length v) payload j e _ is (made_like.Keyslot slot) refl) (sealed_few e _ is) (sealed_large e _ is) (λ x. rw is at x) (λ x. rw is at x) change_ten
@@ -275,7 +275,7 @@ module _ (v : List ℕ) (payload : Data) (o : ℕ) (j : Value) (m : HasMetadata 
   pub only_first : IsOnlyOne j r.slot → IsRefusedEarly v payload e fault.LastSlot
   only_first bad = λ random. last_first v payload o j m e random (eleven random) (rw is bad)
 
-  pub removed_past : (IsOnlyOne j r.slot → ⊥) → (random : List ℕ) → HasNoFaultBefore 15 v payload e random
+  pub removed_past : (IsOnlyOne j r.slot → ⊥) → (random : List ℕ) → HasNoFaultBefore 18 v payload e random
   removed_past other random = before_of 15 v payload e random
       (past_label v payload e random
       (past_large v payload e random
@@ -292,5 +292,5 @@ module _ (v : List ℕ) (payload : Data) (o : ℕ) (j : Value) (m : HasMetadata 
   pub label_first : IsBadLabel e → IsRefusedEarly v payload e fault.BadLabel
   label_first bad = λ random. unlabelled_first v payload e random (fourteen random) bad
 
-  pub label_past : (IsBadLabel e → ⊥) → (random : List ℕ) → HasNoFaultBefore 15 v payload e random
+  pub label_past : (IsBadLabel e → ⊥) → (random : List ℕ) → HasNoFaultBefore 18 v payload e random
   label_past good random = before_of 15 v payload e random (past_label v payload e random (fourteen random) good)

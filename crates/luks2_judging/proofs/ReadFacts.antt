@@ -99,7 +99,7 @@ module _ {v : List ℕ} {payload : Data} {e : Edit} {o : ℕ} {meta : Meta} {ent
           bad.0.number bad.0.is like is_like f (said_of (λ h t. IsUnsealable h t payload (content meta) like (allowed_for opener_ new.now).memory asked f) bad.1)
 
       pub added_passed : {made : ℕ} {a : Area} → IsNewNumber (content meta) to made → IsAllowed (allowed_for opener_ new.now).memory asked
-          → IsNewArea (area_len meta + 4096) total payload (content meta) like a → (random : List ℕ) → HasNoFaultBefore 15 v payload e random
+          → IsNewArea (area_len meta + 4096) total payload (content meta) like a → (random : List ℕ) → HasNoFaultBefore 18 v payload e random
       added_passed {made} {a} number enough place random =
           added_past v payload o (content meta) r.metadata e opener_ to new asked is eight_of made number like is_like
           (λ none. area_excludes (hdr_size (header_at v o)) (length v) payload (content meta) like a (free_of place) none) enough random
@@ -113,7 +113,7 @@ module _ {v : List ℕ} {payload : Data} {e : Edit} {o : ℕ} {meta : Meta} {ent
           f (said_of (λ h t. IsUnsealable h t payload (content meta) (Keyslot slot) (allowed_for (opener.Keyslot slot old) new.now).memory asked f) bad)
 
       pub changed_passed : {a : Area} → IsAllowed (allowed_for (opener.Keyslot slot old) new.now).memory asked → IsNewArea (area_len meta + 4096) total payload (content meta) (Keyslot slot) a
-          → (random : List ℕ) → HasNoFaultBefore 15 v payload e random
+          → (random : List ℕ) → HasNoFaultBefore 18 v payload e random
       changed_passed {a} enough place random =
           changed_past v payload o (content meta) r.metadata e slot old new asked is eight_of
           (λ none. area_excludes (hdr_size (header_at v o)) (length v) payload (content meta) (Keyslot slot) a (free_of place) none) enough random
@@ -123,7 +123,7 @@ module _ {v : List ℕ} {payload : Data} {e : Edit} {o : ℕ} {meta : Meta} {ent
       pub last_refused : IsOnlyOne (content meta) d.slot → IsRefusedEarly v payload e fault.LastSlot
       last_refused bad = only_first v payload o (content meta) r.metadata e d is eight_of bad
 
-      pub removed_passed : (IsOnlyOne (content meta) d.slot → ⊥) → (random : List ℕ) → HasNoFaultBefore 15 v payload e random
+      pub removed_passed : (IsOnlyOne (content meta) d.slot → ⊥) → (random : List ℕ) → HasNoFaultBefore 18 v payload e random
       removed_passed other random = removed_past v payload o (content meta) r.metadata e d is eight_of other random
 
   -- the header is written anew
@@ -134,11 +134,11 @@ module _ {v : List ℕ} {payload : Data} {e : Edit} {o : ℕ} {meta : Meta} {ent
     label_refused : IsBadLabel e → IsRefusedEarly v payload e fault.BadLabel
     label_refused bad = label_first v payload o (content meta) r.metadata e (λ x. rw is at x) (λ x. rw is at x) (λ x. rw is at x) (λ x. rw is at x) (λ x. rw is at x) (λ x. rw is at x) eight_of_none bad
 
-    label_passed : (IsBadLabel e → ⊥) → (random : List ℕ) → HasNoFaultBefore 15 v payload e random
+    label_passed : (IsBadLabel e → ⊥) → (random : List ℕ) → HasNoFaultBefore 18 v payload e random
     label_passed good random =
         label_past v payload o (content meta) r.metadata e (λ x. rw is at x) (λ x. rw is at x) (λ x. rw is at x) (λ x. rw is at x) (λ x. rw is at x) (λ x. rw is at x) eight_of_none good random
 
-    pub rewriting_judged : (it : Result JudgedEdit EditFault) → Judges (IsBadIn rewritten) fault.BadLabel it → OnOk it ((random : List ℕ) → HasNoFaultBefore 15 v payload e random)
+    pub rewriting_judged : (it : Result JudgedEdit EditFault) → Judges (IsBadIn rewritten) fault.BadLabel it → OnOk it ((random : List ℕ) → HasNoFaultBefore 18 v payload e random)
     rewriting_judged (Ok it) good = label_passed (λ bad. good (rw is at bad))
     rewriting_judged (Err f) bad = tt
 

@@ -10,3 +10,5 @@ pub mod Rows
 pub mod Salts
 pub mod Sealing
 pub mod Texts
+pub mod Changes
+pub mod Rewriting

@@ -3,13 +3,14 @@ ghost use Rattle.std.specs.Prelude.{◌≡◌};
 ghost use Rattle.luks2_judging.specs.Texts.{texts_of};
 
 use luks_area::Area;
-use luks_making::AskedDerivation;
+use luks_making::{AskedDerivation, Priority};
 use luks_reading::ChosenCopy;
 use luks_slot::Key;
 use luks2_edit_laws::Like;
 use luks2_header::Bin2;
+use serde_json::Value;
 
-/// An edit that none of the rows up to `BadLabel` refuses.
+/// An edit that none of the rows up to `NoFreeToken` refuses.
 #[derive(Drop)]
 pub struct Judged<'a> {
     /// The copy of the header that counts.
@@ -37,8 +38,37 @@ pub enum JudgedEdit<'a> {
         /// Its area.
         area: Area,
     },
-    /// Both copies of the header are written anew, with these fields.
-    Rewrite(TextFields),
+    /// Both copies of the header are written anew.
+    Rewrite {
+        /// The fields of their texts.
+        fields: TextFields,
+        /// What changes of the metadata, if anything does.
+        change: Option<JudgedChange<'a>>,
+    },
+}
+
+/// What a change of the metadata takes.
+#[derive(Clone, Copy)]
+pub enum JudgedChange<'a> {
+    /// A keyslot gets a priority.
+    Priority {
+        /// Its number, 0 to 31; it is there.
+        slot: u8,
+        /// The priority.
+        priority: Priority,
+    },
+    /// A token is added.
+    AddToken {
+        /// Its number, 0 to 31, which is free.
+        number: u8,
+        /// The token.
+        token: &'a Value,
+    },
+    /// A token is removed.
+    RemoveToken {
+        /// Its number, 0 to 31; it is there.
+        number: u8,
+    },
 }
 
 /// The fields of a header's texts, each of 48 bytes: a text and zeros.

@@ -168,12 +168,12 @@ module _ (faults : EditFault → Type 0) where
   after_token passed not = record { none = λ g under bad. (let m = token_of g (of_row 18 g passed under bad) in not m.0 (subst faults m.1 bad)) }
 
   -- the rows of the token, from `NoSuchToken` on
-  pub past_number : Passed faults 15 → (faults fault.NoSuchToken → ⊥) → (faults fault.TokenTaken → ⊥) → (faults fault.NoFreeToken → ⊥) → Passed faults 18
-  past_number passed there untaken free = next fault.NoFreeToken refl (next fault.TokenTaken refl (next fault.NoSuchToken refl passed there) untaken) free
+  pub past_token_number : Passed faults 15 → (faults fault.NoSuchToken → ⊥) → (faults fault.TokenTaken → ⊥) → (faults fault.NoFreeToken → ⊥) → Passed faults 18
+  past_token_number passed there untaken free = next fault.NoFreeToken refl (next fault.TokenTaken refl (next fault.NoSuchToken refl passed there) untaken) free
 
   pub past_tokens : Passed faults 15 → (faults fault.NoSuchToken → ⊥) → (faults fault.TokenTaken → ⊥) → (faults fault.NoFreeToken → ⊥)
       → ((m : MetaFault) → faults (fault.BadToken m) → ⊥) → Passed faults 19
-  past_tokens passed there untaken free good = after_token (past_number passed there untaken free) good
+  past_tokens passed there untaken free good = after_token (past_token_number passed there untaken free) good
 
   -- ---- the first fault
 
