@@ -28,7 +28,7 @@ use Rattle.luks2_edit_laws.specs.declared.like.Like.TheVariants.{Keyslot}
 use Rattle.luks2_edit_laws.specs.Likes.{IsLike}
 use Rattle.luks2_edit_laws.specs.Metadata.{HasMetadata}
 use Rattle.luks2_edit_laws.specs.Places.{IsNewArea}
-use Rattle.luks2_edit_laws.specs.Refused.{HasSaid, IsAbsent, IsBadLabel, IsBadText, IsOnlyOne}
+use Rattle.luks2_edit_laws.specs.Refused.{HasBadText, HasSaid, IsAbsent, IsBadLabel, IsOnlyOne}
 use Rattle.luks2_judging.specs.declared.judged.JudgedEdit.{JudgedEdit}
 use Rattle.luks2_judging.specs.Judged.{IsNewNumber, Judges}
 use Rattle.luks2_judging.specs.Judging.{IsJudgedTo, IsRefusedEarly, sealing}
@@ -41,10 +41,6 @@ use Rattle.luks2_judging.proofs.ChosenFacts.{metadata_of}
 use Rattle.luks2_judging.proofs.JudgedFacts.{added_past, changed_past, label_first, label_past, none_opened, number_first, only_first, passed_of, past_opened}
 use Rattle.luks2_judging.proofs.JudgedFacts.{removed_past, unadded_first, unchanged_first, unopened_first, IsPast}
 use Rattle.luks2_judging.proofs.RoomFacts.{area_excludes}
-
--- a text of it is one that can't be set
-abbrev pub IsBadIn : Rewritten → Type 0
-IsBadIn rewritten = IsBadText rewritten.label ⊎ IsBadText rewritten.subsystem
 
 -- a volume of `total` bytes with the areas `entries`, whose metadata `meta` is that of the copy at the
 -- place `o`; no row up to `SameSlot` refuses the edit
@@ -138,10 +134,10 @@ module _ {v : List ℕ} {payload : Data} {e : Edit} {o : ℕ} {meta : Meta} {ent
     label_passed good random =
         label_past v payload o (content meta) r.metadata e (λ x. rw is at x) (λ x. rw is at x) (λ x. rw is at x) (λ x. rw is at x) (λ x. rw is at x) (λ x. rw is at x) eight_of_none good random
 
-    pub rewriting_judged : (it : Result JudgedEdit EditFault) → Judges (IsBadIn rewritten) fault.BadLabel it → OnOk it ((random : List ℕ) → HasNoFaultBefore 15 v payload e random)
+    pub rewriting_judged : (it : Result JudgedEdit EditFault) → Judges (HasBadText rewritten) fault.BadLabel it → OnOk it ((random : List ℕ) → HasNoFaultBefore 15 v payload e random)
     rewriting_judged (Ok it) good = label_passed (λ bad. good (rw is at bad))
     rewriting_judged (Err f) bad = tt
 
-    pub rewriting_ended : (it : Result JudgedEdit EditFault) → Judges (IsBadIn rewritten) fault.BadLabel it → IfErr it (IsRefusedEarly v payload e)
+    pub rewriting_ended : (it : Result JudgedEdit EditFault) → Judges (HasBadText rewritten) fault.BadLabel it → IfErr it (IsRefusedEarly v payload e)
     rewriting_ended (Ok it) good = tt
     rewriting_ended (Err f) bad = subst (IsRefusedEarly v payload e) (sym bad.0) (label_refused (rw is bad.1))

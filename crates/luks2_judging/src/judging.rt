@@ -1,5 +1,5 @@
 //! Judging an edit of a LUKS2 volume by the rows that nothing has to be made for.
-ghost use Rattle.std.specs.Prelude.{◌≡◌, ◌≢◌, ◌+◌, ◌-◌, ◌^◌, ◌<◌, ◌⊎◌, false, IfErr, IfOk};
+ghost use Rattle.std.specs.Prelude.{◌≡◌, ◌≢◌, ◌+◌, ◌-◌, ◌^◌, ◌<◌, false, IfErr, IfOk};
 ghost use Rattle.luks_area.specs.declared.area.Area.{Area as TheArea};
 ghost use Rattle.luks_area.specs.declared.area.AreaName.{AreaName};
 ghost use Rattle.luks_area.specs.Area.{IsInside};
@@ -16,7 +16,7 @@ ghost use Rattle.luks_edit.specs.Asked.{allowed_by, deed_of};
 ghost use Rattle.luks_edit.specs.declared.deed.Deed.TheVariants.{Remove as RemovesKeyslot, Seal as SealsKey};
 ghost use Rattle.luks_edit.specs.EditFaults.{is_edit_failure};
 ghost use Rattle.luks2_judging.specs.Calls.{IsReadyToJudge, PassesOf, Reads, RefusesOf, SealsOf, TakesOf};
-ghost use Rattle.luks2_edit_laws.specs.Refused.{IsBadText};
+ghost use Rattle.luks2_edit_laws.specs.Refused.{HasBadText};
 ghost use Rattle.luks2_judging.specs.Judged.{IsNewNumber, Judges};
 ghost use Rattle.luks2_judging.specs.Texts.{texts_after, texts_of};
 ghost use Rattle.luks2_judging.specs.declared.judged.JudgedEdit.TheVariants.{Rewrite as Rewrites};
@@ -234,8 +234,7 @@ fn judge_rewriting<'a>(
 ) -> Result<JudgedEdit<'a>, EditFault>
     ensures own { IfErr result (λ f. is_edit_failure f ≡ false) }
     ensures memory { IfErr result (λ f. f ≢ EditFault.Memory) }
-    ensures row { Judges (IsBadText rewritten.now.label ⊎ IsBadText rewritten.now.subsystem)
-        EditFault.BadLabel result }
+    ensures row { Judges (HasBadText rewritten.now) EditFault.BadLabel result }
     ensures fields { IfOk result (λ it. it ≡ Rewrites (texts_after rewritten.now
         (texts_of accepted.now.copy.now.header))) }
 {
