@@ -22,3 +22,4 @@ pub mod TouchedFacts
 mod UniqueFacts
 pub mod VolumeFacts
 pub mod SoundCopyFacts
+pub mod AmendedFacts

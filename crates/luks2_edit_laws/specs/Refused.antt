@@ -18,12 +18,13 @@ use Rattle.luks_meta.specs.Requirements.{has_requirements}
 use Rattle.luks_slot.specs.declared.allowed.Allowed.{Allowed}
 use Rattle.luks_reading.specs.declared.report.Data.{Data}
 use Rattle.luks_reading.specs.Checked.{IsFault}
+use Rattle.luks_edit.specs.declared.deed.Rewritten.{Rewritten}
 use Rattle.luks_edit.specs.declared.edit.Edit.{Edit}
 use Rattle.luks_edit.specs.declared.edit_fault.EditFault.{EditFault}
 use Rattle.luks_edit.specs.declared.edit_fault.EditFault.TheVariants as fault
 use Rattle.luks_edit.specs.declared.edit.Opener.{Opener}
 use Rattle.luks_edit.specs.declared.edit.Opener.TheVariants as opener
-use Rattle.luks_edit.specs.Asked.{allowed_by, AmendsSlot, change_by, deed_of, HasFewIterations, IsBeyondMemory, label_by, MatchChange, MatchPlace, NamesItself, opener_at, opener_in, removed_by, sealed_by, subsystem_by, Wants}
+use Rattle.luks_edit.specs.Asked.{allowed_by, AmendsSlot, change_by, deed_of, HasFewIterations, IsBeyondMemory, MatchChange, MatchPlace, NamesItself, opener_at, opener_in, removed_by, rewritten_by, sealed_by, Wants}
 use Rattle.luks_edit.specs.EditFaults.{edit_key}
 use Rattle.luks_edit.specs.Opener.{IsUnopenedKeyslot}
 use Rattle.luks2_edit_laws.specs.declared.like.Like.{Like}
@@ -79,8 +80,11 @@ abbrev pub IsBadText : Option (Bor (List ℕ)) → Type 0
 IsBadText given = IsSomeAnd given (λ text. (47 < length text.now) ⊎ (is_plain text.now ≡ true → ⊥))
 
 -- the label is such a one, or the subsystem
+abbrev pub HasBadText : Rewritten → Type 0
+HasBadText r = IsBadText r.label ⊎ IsBadText r.subsystem
+
 abbrev pub IsBadLabel : Edit → Type 0
-IsBadLabel e = IsBadText (label_by e) ⊎ IsBadText (subsystem_by e)
+IsBadLabel e = IsSomeAnd (rewritten_by e) HasBadText
 
 -- ---- the token
 

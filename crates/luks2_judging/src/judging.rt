@@ -18,7 +18,8 @@ ghost use Rattle.luks_edit.specs.EditFaults.{is_edit_failure};
 ghost use Rattle.luks2_judging.specs.Calls.{IsReadyToJudge, PassesOf, Reads, RefusesOf, SealsOf, TakesOf};
 ghost use Rattle.luks2_judging.specs.Changes.{HasPriorityThere};
 ghost use Rattle.luks2_judging.specs.Judged.{IsNewNumber};
-ghost use Rattle.luks2_judging.specs.Rewriting.{IsBadTexts, IsRewrittenAs, IsUnrewritten};
+ghost use Rattle.luks2_edit_laws.specs.Refused.{HasBadText};
+ghost use Rattle.luks2_judging.specs.Rewriting.{IsRewrittenAs, IsUnrewritten};
 ghost use Rattle.luks2_judging.specs.Texts.{texts_of};
 ghost use Rattle.luks2_judging.specs.Judging.{IsJudged, IsRefusedEarly, IsUnrefusedOf, IsUnrefusedSoFar};
 ghost use Rattle.luks2_edit_laws.specs.declared.like.Like.TheVariants.{Keyslot};
@@ -238,7 +239,7 @@ fn judge_rewriting<'a>(
         (HasPriorityThere (content accepted.now.copy.now.meta)) }
     ensures own { IfErr result (λ f. is_edit_failure f ≡ false) }
     ensures memory { IfErr result (λ f. f ≢ EditFault.Memory) }
-    ensures good { OnOk result (IsBadTexts rewritten.now → ⊥) }
+    ensures good { OnOk result (HasBadText rewritten.now → ⊥) }
     ensures takes { IfOk result (IsRewrittenAs (content accepted.now.copy.now.meta)
         (texts_of accepted.now.copy.now.header) rewritten.now) }
     ensures refused { IfErr result (IsUnrewritten (content accepted.now.copy.now.meta)

@@ -3,7 +3,7 @@ ghost use Rattle.std.specs.Prelude.{◌≡◌, ◌≢◌, ◌++◌, ◌-◌, ◌
 ghost use Rattle.luks_area.specs.Text.{is_plain, is_printable};
 ghost use Rattle.luks_edit.specs.EditFaults.{is_edit_failure};
 ghost use Rattle.luks2_edit_laws.specs.Copies.{field_after};
-ghost use Rattle.luks2_edit_laws.specs.Refused.{IsBadText};
+ghost use Rattle.luks2_edit_laws.specs.Refused.{HasBadText, IsBadText};
 ghost use Rattle.luks2_judging.specs.Judged.{Judges};
 ghost use Rattle.luks2_judging.specs.Texts.{texts_after};
 
@@ -21,8 +21,7 @@ pub(crate) fn judge_texts(
 ) -> Result<TextFields, EditFault>
     ensures own { IfErr result (λ f. is_edit_failure f ≡ false) }
     ensures memory { IfErr result (λ f. f ≢ EditFault.Memory) }
-    ensures row { Judges (IsBadText rewritten.now.label ⊎ IsBadText rewritten.now.subsystem)
-        EditFault.BadLabel result }
+    ensures row { Judges (HasBadText rewritten.now) EditFault.BadLabel result }
     ensures fields { IfOk result (λ it. it ≡ texts_after rewritten.now kept.now) }
 {
     let label = judge_text(rewritten.label, kept.label)?;

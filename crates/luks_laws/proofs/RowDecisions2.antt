@@ -11,14 +11,15 @@ use Rattle.luks_reading.specs.declared.report.Data.{Data}
 use Rattle.luks_reading.specs.Layout2.{Luks2Area}
 use Rattle.luks_edit.specs.declared.edit.Edit.{Edit}
 use Rattle.luks_edit.specs.declared.deed.Removed.{Removed}
+use Rattle.luks_edit.specs.declared.deed.Rewritten.{Rewritten}
 use Rattle.luks_edit.specs.declared.deed.Sealed.{Sealed}
-use Rattle.luks_edit.specs.Asked.{label_by, MatchPlace, opener_at, removed_by, sealed_by, subsystem_by, Wants}
+use Rattle.luks_edit.specs.Asked.{MatchPlace, opener_at, removed_by, rewritten_by, sealed_by, Wants}
 use Rattle.luks2_edit_laws.specs.declared.like.Like.{Like}
 use Rattle.luks2_edit_laws.specs.Gap.{IsGap}
 use Rattle.luks2_edit_laws.specs.Likes.{ForLike}
 use Rattle.luks2_edit_laws.specs.Metadata.{IsInUse}
 use Rattle.luks2_edit_laws.specs.Places.{HasNoNewArea, IsNewArea, key_areas_end, rounded_to_blocks}
-use Rattle.luks2_edit_laws.specs.Refused.{HasNoFree, HasNoNumber, HasNoRoom, IsAbsent, IsBadLabel, IsBadText, IsLast, IsMiscounted, IsNumberTaken, IsOnlyOne, IsTaken, Need2, NeedsLike}
+use Rattle.luks2_edit_laws.specs.Refused.{HasBadText, HasNoFree, HasNoNumber, HasNoRoom, IsAbsent, IsBadLabel, IsBadText, IsLast, IsMiscounted, IsNumberTaken, IsOnlyOne, IsTaken, Need2, NeedsLike}
 use Rattle.luks2_judging.specs.Keys.{IsThereLike}
 use Rattle.luks_laws.proofs.AskedDecisions.{wanted_decided}
 use Rattle.luks_laws.proofs.DecidedFacts.{alike_decided, both_decided, Decided, less_decided, not_decided, one_decided, true_decided}
@@ -127,7 +128,7 @@ bad_text_decided given = some_decided (Bor (List ℕ)) given (λ text. (47 < len
 
 -- so its label is a bad one, or its subsystem, or neither is
 pub bad_label_decided : (e : Edit) → Decided (IsBadLabel e)
-bad_label_decided e = one_decided _ _ (bad_text_decided (label_by e)) (bad_text_decided (subsystem_by e))
+bad_label_decided e = some_decided Rewritten (rewritten_by e) HasBadText (λ r. one_decided _ _ (bad_text_decided r.label) (bad_text_decided r.subsystem))
 
 -- ---- random bytes
 
