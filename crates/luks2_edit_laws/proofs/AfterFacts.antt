@@ -1,7 +1,8 @@
 -- What an edit that was completed keeps of a LUKS2 volume.
-use Rattle.std.proofs.Common.{◌≡◌, ◌≢◌, ℕ, ◌+◌, ◌-◌, ◌*◌, ◌<◌, ◌≤◌, ◌^◌, List, [], ◌∷◌, length, replicate, codes, true, false, Option, Some, None, option_and_then, is_some, inl, inr, refl, sym, ap, subst, ◌∙◌, arith}
+use Rattle.std.proofs.Common.{◌≡◌, ◌≢◌, ℕ, ◌+◌, ◌-◌, ◌*◌, ◌<◌, ◌≤◌, ◌^◌, List, length, replicate, codes, true, false, Option, Some, None, option_and_then, is_some, inl, inr, refl, sym, ap, subst, ◌∙◌, arith}
 use Rattle.std.specs.Prelude.{IfSome, IsSomeAnd, MatchOption}
 use Rattle.std.proofs.lemmas.Bool.{cases_eq, cases_lt, false_from_ne_true}
+use Rattle.std.proofs.lemmas.Option.{same_Some}
 use Rattle.base64.specs.GeneralPurpose.{IsBytes}
 use Rattle.serde_json.specs.Data.{Data as Value}
 use Rattle.serde_json.specs.Find.{get}
@@ -26,12 +27,12 @@ use Rattle.luks_making.specs.declared.derivation.AskedDerivation.{AskedDerivatio
 use Rattle.luks_making.specs.declared.derivation.NewDerivation.{NewDerivation}
 use Rattle.luks_making.specs.Keyslots.{derivation_by, slot_value, IsDerivedOr, NewMembers, SlotMembers}
 use Rattle.luks_making.specs.Naming.{HasUniqueDigests}
-use Rattle.luks_making.specs.Unchanged.{ChangesSlot, GainsSlot, KeepsOthers, SaysMembers}
+use Rattle.luks_making.specs.Unchanged.{ChangesSlot, GainsSlot, SaysMembers}
 use Rattle.luks_making.specs.Without.{without_slot}
 use Rattle.luks_making.specs.declared.amended.Change.TheVariants as changes
 use Rattle.luks_making.specs.declared.amended.Priority.{Priority}
 use Rattle.luks_making.proofs.AdditionFacts.{held_with, slot_gained}
-use Rattle.luks_making.proofs.AmendFacts.{held_faultless, held_priority, held_without_token, priority_objects, priority_rest, with_token_others, without_token_others}
+use Rattle.luks_making.proofs.AmendFacts.{held_prior, held_without_token, priority_set, token_added, token_lost}
 use Rattle.luks_making.proofs.FreeNumberFacts.{unnamed_free}
 use Rattle.luks_making.proofs.KdfFacts.{chosen_fits, unrefused_positive}
 use Rattle.luks_making.proofs.ChangeFacts.{held_changed, slot_renewed}
@@ -47,7 +48,7 @@ use Rattle.luks_edit.specs.declared.edit.Edit.TheVariants.{Add, AddByKey, Change
 use Rattle.luks_edit.specs.declared.edit.Opener.{Opener}
 use Rattle.luks_edit.specs.declared.edit.Opener.TheVariants as opener
 use Rattle.luks_edit.specs.Asked.{allowed_for, chosen_or, opener_at, sealed_by}
-use Rattle.luks_edit.specs.declared.edit_fault.EditFault.TheVariants.{Argon2, BadToken, Iterations, NoFreeSlot, NoSuchSlot, RandomLength, SlotTaken}
+use Rattle.luks_edit.specs.declared.edit_fault.EditFault.TheVariants.{Argon2, BadToken, Iterations, NoFreeSlot, RandomLength, SlotTaken}
 use Rattle.luks_edit.specs.Kept.{Keeps}
 use Rattle.luks2_edit_laws.specs.declared.like.Like.{Like}
 use Rattle.luks2_edit_laws.specs.declared.like.Like.TheVariants.{Keyslot, Digest}
@@ -56,14 +57,16 @@ use Rattle.luks2_edit_laws.specs.Likes.{digest_by, fresh_members, ForLike, HasSt
 use Rattle.luks2_edit_laws.specs.Metadata.{HasMetadata, IsNewKeyslot}
 use Rattle.luks2_edit_laws.specs.Places.{key_areas_end, IsNewArea, Loses}
 use Rattle.luks2_edit_laws.specs.Refused.{HasNoNumber, IsFaultyWith, IsNumberTaken, IsUnrefused2, NeedsLike}
+use Rattle.luks2_edit_laws.proofs.AmendFacts.{amended_metadata}
 use Rattle.luks2_edit_laws.proofs.CopyFacts.{both_chosen}
 use Rattle.luks2_edit_laws.proofs.KeptFacts.{all_kept, says_itself, KeepsMetadata}
 use Rattle.luks2_edit_laws.proofs.LikeFacts.{model_by_key, IsModel}
 use Rattle.luks2_edit_laws.proofs.SoundCopyFacts.{copy_sound}
-use Rattle.luks2_edit_laws.proofs.MetadataFacts.{lost_metadata, placed_metadata, still_metadata, token_metadata}
+use Rattle.luks2_edit_laws.proofs.MetadataFacts.{lost_metadata, placed_metadata}
 use Rattle.luks2_edit_laws.proofs.PlaceFacts.{left_bytes}
 use Rattle.luks2_edit_laws.proofs.SealFacts.{can_seal, enough_random, fits_new, holds_stripes, in_region, none_of, opened_there, opened_plan, part_bytes, salt_length, under}
 use Rattle.luks2_edit_laws.proofs.UniqueFacts.{unique_digests}
+use Rattle.luks2_edit_laws.proofs.ValuedFacts.{valued_held}
 use Rattle.luks2_edit_laws.proofs.VolumeFacts.{areas_are, copy_of, layout_of, HasCopy, IsLayout}
 
 -- what an edit is given has the ranges of its types
@@ -93,56 +96,33 @@ without_metadata h total payload named n j k is same old =
     lost_metadata n j (without_slot n j) (slot_lost n j).rest h total payload named is (held_left (h - 4096) n j old.held) old (slot_lost n j).gone in
     subst (KeepsMetadata h total payload named j) (sym same) without
 
--- the area of a keyslot is the same where its priority alone changed
-area_kept : (was now : Option Value) → ((d : Value) → was ≡ Some d → (e : Value) × (now ≡ Some e) × KeepsOthers (codes "priority" ∷ []) d e)
-    → ((e : Value) → now ≡ Some e → (d : Value) × (was ≡ Some d) × KeepsOthers (codes "priority" ∷ []) d e)
-    → option_and_then (get (codes "area")) now ≡ option_and_then (get (codes "area")) was
-area_kept was (Some e) there back = let d = back e refl in d.2 (codes "area") refl ∙ ap (option_and_then (get (codes "area"))) (sym d.1)
-area_kept (Some d) None there back = let e = there d refl in absurd (cc)
-area_kept None None there back = refl
-
-prioritized_metadata : (h total : ℕ) (payload : Data) (named : ℕ → Type 0) (n : ℕ) (priority : Priority) (j k : Value) → named n → n < 32 → k ≡ with_priority n priority j
+-- so does metadata with a priority, without a token, and with one that leaves it without a fault
+prioritized_metadata : (h total : ℕ) (payload : Data) (named : ℕ → Type 0) (n : ℕ) (priority : Priority) (j k : Value) → named n → k ≡ with_priority n priority j
     → IsLayout h total payload j → KeepsMetadata h total payload named j k
-prioritized_metadata h total payload named n priority j k is lt same old =
+prioritized_metadata h total payload named n priority j k is same old =
     let new : Value = with_priority n priority j in
-    let objects = priority_objects n priority j in
-    let area : option_and_then (get (codes "area")) (object_at new Keyslots n) ≡ option_and_then (get (codes "area")) (object_at j Keyslots n) =
-    area_kept (object_at j Keyslots n) (object_at new Keyslots n) (objects.there n) (objects.back n) in
     let kept : KeepsMetadata h total payload named j new =
-    still_metadata n j new (priority_rest n priority j) (ap (λ a. decimal_in (option_and_then (get (codes "offset")) a)) area)
-    (ap (λ a. decimal_in (option_and_then (get (codes "size")) a)) area) h total payload named is (held_priority (h - 4096) n priority j lt old.held) old in
+    amended_metadata (Some n) None j new (priority_set (h - 4096) n priority j old.held).rest h total payload named
+    (λ m same_. subst named (same_Some n m same_) is) (held_prior (h - 4096) n priority j old.held) old in
     subst (KeepsMetadata h total payload named j) (sym same) kept
 
 without_token_metadata : (h total : ℕ) (payload : Data) (named : ℕ → Type 0) (n : ℕ) (j k : Value) → k ≡ without_token n j
     → IsLayout h total payload j → KeepsMetadata h total payload named j k
 without_token_metadata h total payload named n j k same old =
     let kept : KeepsMetadata h total payload named j (without_token n j) =
-    token_metadata j (without_token n j) (without_token_others n j) h total payload named (held_without_token (h - 4096) n j old.held) old in
+    amended_metadata None (Some n) j (without_token n j) (token_lost n j).rest h total payload named (λ m none. absurd (cc)) (held_without_token (h - 4096) n j old.held) old in
     subst (KeepsMetadata h total payload named j) (sym same) kept
 
 with_token_metadata : (h total : ℕ) (payload : Data) (named : ℕ → Type 0) (j k : Value) (to : Option ℕ) (token : Value) → HasNewToken to token j k
     → ((f : MetaFault) → IsFaultyWith (h - 4096) j to token f → ⊥) → IsLayout h total payload j → KeepsMetadata h total payload named j k
 with_token_metadata h total payload named j k to token new good old =
-    let held : IsHeld (h - 4096) (with_token new.number token j) =
-    held_faultless (h - 4096) (with_token new.number token j) (λ f bad. good f (record { number = new.number; is_new = new.is_new; fault = bad })) in
-    let kept : KeepsMetadata h total payload named j (with_token new.number token j) =
-    token_metadata j (with_token new.number token j) (with_token_others new.number token j) h total payload named held old in
+    let made : Value = with_token new.number token j in
+    let held : IsHeld (h - 4096) made = valued_held (h - 4096) made (λ f bad. good f (record { number = new.number; is_new = new.is_new; fault = bad })) in
+    let kept : KeepsMetadata h total payload named j made =
+    amended_metadata None (Some new.number) j made (token_added (h - 4096) new.number token j old.held).rest h total payload named (λ m none. absurd (cc)) held old in
     subst (KeepsMetadata h total payload named j) (sym new.is) kept
 
 -- ---- what no refusal means
-
--- the keyslot whose priority is set is there
-amended_numbered : (v : List ℕ) (o : ℕ) (payload : Data) (slot : ℕ) (priority : Priority) (random : List ℕ) (j : Value) → HasMetadata v o j
-    → IsUnrefused2 v payload (Amend (changes.Priority slot priority)) random → slot < 32
-amended_numbered v o payload slot priority random j m free = elim (cases_lt slot 32) [
-  | inl lt ↦ lt
-  | inr past ↦ absurd (free.none NoSuchSlot (record {
-    place = o;
-    value = j;
-    metadata = m;
-    is = record { slot = slot; wanted = inr refl; unused = λ used. (let lt = used.0 in omega (arith, lt, past)) };
-  }))
-]
 
 -- the keyslot that is to be made is free
 new_free : (j : Value) (to : Option ℕ) (n : ℕ) → (IsNumberTaken j to → ⊥) → (HasNoNumber j to → ⊥) → IsNewKeyslot j to n → IsFree j n
@@ -445,8 +425,7 @@ edited_metadata v o payload Repair random j k m before ranges free sealed is lay
 edited_metadata v o payload (Label text subsystem) random j k m before ranges free sealed is layout =
     same_metadata (hdr_size (header_at v o)) (length v) payload (λ n. ⊥) j k is layout
 edited_metadata v o payload (Amend (changes.Priority slot priority)) random j k m before ranges free sealed is layout =
-    prioritized_metadata (hdr_size (header_at v o)) (length v) payload (λ n. n ≡ slot) slot priority j k refl
-    (amended_numbered v o payload slot priority random j m free) is layout
+    prioritized_metadata (hdr_size (header_at v o)) (length v) payload (λ n. n ≡ slot) slot priority j k refl is layout
 edited_metadata v o payload (Amend (changes.AddToken to token)) random j k m before ranges free sealed is layout =
     with_token_metadata (hdr_size (header_at v o)) (length v) payload (λ n. ⊥) j k to (view token.now) is
     (λ f bad. free.none (BadToken f) (record { place = o; value = j; metadata = m; is = bad })) layout

@@ -24,3 +24,4 @@ mod UniqueFacts
 pub mod VolumeFacts
 pub mod SoundCopyFacts
 pub mod AmendedFacts
+pub mod ValuedFacts

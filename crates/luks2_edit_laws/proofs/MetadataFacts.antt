@@ -1,5 +1,5 @@
 -- What the metadata that an edit makes shares with the old one.
-use Rattle.std.proofs.Common.{◌≡◌, ◌≢◌, ℕ, ◌+◌, ◌-◌, ◌<◌, ◌≤◌, ◌⊎◌, [], ◌∷◌, codes, Some, None, is_some, option_and_then, unwrap_or, inl, inr, refl, sym, ap, subst, ◌∙◌, arith}
+use Rattle.std.proofs.Common.{◌≡◌, ◌≢◌, ℕ, ◌+◌, ◌-◌, ◌<◌, ◌≤◌, ◌⊎◌, [], ◌∷◌, codes, Some, None, option_and_then, unwrap_or, inl, inr, refl, sym, ap, subst, ◌∙◌, arith}
 use Rattle.std.proofs.lemmas.Bool.{cases_eq}
 use Rattle.serde_json.specs.Data.{Data as Value}
 use Rattle.serde_json.specs.Find.{get}
@@ -50,36 +50,6 @@ digest_moves j k m n d x now names there same = record {
   salt = ap (bytes_in 1 128) (same (codes "salt") refl) ∙ x.salt;
   stored = ap (bytes_in 20 64) (same (codes "digest") refl) ∙ x.stored;
 }
-
--- a digest names the same keyslots where both sections are the same
-named_with : (j k : Value) → section_at k Keyslots ≡ section_at j Keyslots → section_at k Digests ≡ section_at j Digests → (m n : ℕ) → IsDigestOf j m n → IsDigestOf k m n
-named_with j k keyslots digests m n x = record {
-  named = x.named;
-  keyslot = ap (λ s. is_some (option_and_then (get (number_text m)) s)) keyslots ∙ x.keyslot;
-  numbered = x.numbered;
-  object = x.object;
-  is = ap (option_and_then (get (number_text n))) digests ∙ x.is;
-  lists = x.lists;
-}
-
--- so it says the same
-digest_with : (j k : Value) → section_at k Keyslots ≡ section_at j Keyslots → section_at k Digests ≡ section_at j Digests → (m : ℕ) (d : DigestPlan)
-    → IsLuks2Digest j m d → IsLuks2Digest k m d
-digest_with j k keyslots digests m d x =
-    digest_moves j k m m d x x.object (named_with j k keyslots digests m x.number x.names) (ap (option_and_then (get (number_text x.number))) digests ∙ x.there) (λ key off. refl)
-
--- where the keyslots and the segments are the same each area was there
-section_area : (j k : Value) → section_at k Keyslots ≡ section_at j Keyslots → section_at k Segments ≡ section_at j Segments
-    → (h total : ℕ) (payload : Data) (name : AreaName) (a : Area) → Luks2Area k h payload total name a → Luks2Area j h payload total name a
-section_area j k keyslots segments h total payload Head1 a x = x
-section_area j k keyslots segments h total payload Head2 a x = x
-section_area j k keyslots segments h total payload (Slot m) a x =
-    let same : object_at k Keyslots m ≡ object_at j Keyslots m = ap (option_and_then (get (number_text m))) keyslots in
-    (x.0, sym (number_same j k m (codes "offset") same) ∙ x.1, sym (number_same j k m (codes "size") same) ∙ x.2)
-section_area j k keyslots segments h total payload (Segment m) a x =
-    let offset : segment_offset k m ≡ segment_offset j m = rw segments refl in
-    let extent : segment_extent k m ≡ segment_extent j m = rw segments refl in
-    (x.0, x.1, sym offset ∙ x.2, subst (HasExtent total a.start a.len) extent x.3)
 
 -- ---- metadata that keep all but the keyslot `n`
 
@@ -185,58 +155,3 @@ module _ (n : ℕ) (j k : Value) (rest : KeepsRest n j k) where
       inside = λ name a x. inside_by name a old.fit x (is_slot name);
       disjoint = λ m l a b x y apart. disjoint_by m l a b old.fit x y apart (is_slot m) (is_slot l);
     })
-
-  -- ---- where the keyslot keeps its area
-
-  module _ (offset : slot_number k n (codes "offset") ≡ slot_number j n (codes "offset")) (size : slot_number k n (codes "size") ≡ slot_number j n (codes "size")) where
-    own_back : (h total : ℕ) (payload : Data) (m : ℕ) (a : Area) → m ≡ n → Luks2Area k h payload total (Slot m) a → Luks2Area j h payload total (Slot m) a
-    own_back h total payload m a same x =
-        (x.0, sym (subst (λ l. slot_number k l (codes "offset") ≡ slot_number j l (codes "offset")) (sym same) offset) ∙ x.1,
-        sym (subst (λ l. slot_number k l (codes "size") ≡ slot_number j l (codes "size")) (sym same) size) ∙ x.2)
-
-    each_back : (h total : ℕ) (payload : Data) (name : AreaName) (a : Area) → Luks2Area k h payload total name a → Luks2Area j h payload total name a
-    each_back h total payload Head1 a x = x
-    each_back h total payload Head2 a x = x
-    each_back h total payload (Slot m) a x = elim (cases_eq m n) [
-      | inl same ↦ own_back h total payload m a same x
-      | inr other ↦ area_back h total payload (Slot m) a (λ same. other (ap name_number same)) x
-    ]
-    each_back h total payload (Segment m) a x =
-        area_back h total payload (Segment m) a (λ same. (let kind : 3 ≡ 2 = ap name_kind same in absurd (omega (arith, kind)))) x
-
-    pub still_metadata : (h total : ℕ) (payload : Data) (named : ℕ → Type 0) → named n → IsHeld (h - 4096) k → IsLayout h total payload j → KeepsMetadata h total payload named j k
-    still_metadata h total payload named is held old = kept_metadata h total payload named is held old (record {
-      inside = λ name a x. old.fit.inside name a (each_back h total payload name a x);
-      disjoint = λ m l a b x y. old.fit.disjoint m l a b (each_back h total payload m a x) (each_back h total payload l b y);
-    })
-
--- ---- metadata that keep all but the tokens
-
-module _ (j k : Value) (others : KeepsOthers (codes "tokens" ∷ []) j k) where
-  -- a keyslot is the same one, and so is what its digest says
-  token_says : (m : ℕ) → SaysSame j k m
-  token_says m =
-      let keyslots : section_at k Keyslots ≡ section_at j Keyslots = others (codes "keyslots") refl in
-      let digests : section_at k Digests ≡ section_at j Digests = others (codes "digests") refl in
-      record {
-        there = ap (option_and_then (get (number_text m))) keyslots;
-        digests = λ d. (digest_with j k keyslots digests m d, digest_with k j (sym keyslots) (sym digests) m d);
-      }
-
-  pub token_metadata : (h total : ℕ) (payload : Data) (named : ℕ → Type 0) → IsHeld (h - 4096) k → IsLayout h total payload j → KeepsMetadata h total payload named j k
-  token_metadata h total payload named held old =
-      let keyslots : section_at k Keyslots ≡ section_at j Keyslots = others (codes "keyslots") refl in
-      let segments : section_at k Segments ≡ section_at j Segments = others (codes "segments") refl in
-      let config : section_at k Config ≡ section_at j Config = others (codes "config") refl in
-      record {
-        layout = record {
-          held = held;
-          segments = λ here. segments_follow (h - 4096) j k segments config (old.segments here);
-          fit = record {
-            inside = λ name a x. old.fit.inside name a (section_area j k keyslots segments h total payload name a x);
-            disjoint = λ m l a b x y. old.fit.disjoint m l a b (section_area j k keyslots segments h total payload m a x) (section_area j k keyslots segments h total payload l b y);
-          };
-        };
-        segments = segments;
-        slots = λ m lt free. token_says m;
-      }

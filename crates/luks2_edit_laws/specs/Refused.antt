@@ -10,7 +10,8 @@ use Rattle.luks_area.specs.First.{IsLeast}
 use Rattle.luks_area.specs.Text.{is_plain}
 use Rattle.luks2_header.specs.Header2.{binary_header_size, hdr_size, header_at, seqid}
 use Rattle.luks_rules.specs.declared.fault.MetaFault.{MetaFault}
-use Rattle.luks_making.specs.Amended.{with_token, IsMadeFault}
+use Rattle.luks_rules.specs.Valued.{IsValueFault}
+use Rattle.luks_making.specs.Amended.{with_token}
 use Rattle.luks_making.specs.declared.amended.Change.{Change}
 use Rattle.luks_making.specs.Conditions.{IsFree}
 use Rattle.luks_making.specs.Naming.{IsDigestOf}
@@ -112,7 +113,7 @@ HasNoFreeToken j c = MatchChange c (λ slot priority. ⊥) (λ to token. HasNoTo
 pub record IsFaultyWith (len : ℕ) (j : Value) (to : Option ℕ) (token : Value) (f : MetaFault) : Type 0 where
   pub number : ℕ
   pub is_new : IsNewToken j to number
-  pub fault : IsMadeFault len (with_token number token j) f
+  pub fault : IsValueFault len (with_token number token j) f
 
 abbrev pub IsBadToken : ℕ → Value → MetaFault → Change → Type 0
 IsBadToken len j f c = MatchChange c (λ slot priority. ⊥) (λ to token. IsFaultyWith len j to (view token.now) f) (λ number. ⊥)

@@ -5,6 +5,7 @@ use Rattle.serde_json.specs.Data.{Data as Value}
 use Rattle.luks_area.specs.Ranges.{SameBut}
 use Rattle.luks2_header.specs.Header2.{hdr_size, header_at}
 use Rattle.luks_rules.specs.declared.fault.MetaFault.{MetaFault}
+use Rattle.luks_rules.specs.Held.{IsHeld}
 use Rattle.luks_meta.specs.Content.{area_len, content}
 use Rattle.luks_reading.specs.declared.header.ChosenCopy.{ChosenCopy}
 use Rattle.luks_reading.specs.declared.report.Data.{Data}
@@ -29,7 +30,7 @@ use Rattle.luks2_editing.specs.Amending.{HasMadeFault, IsChangedBy, IsUnmade}
 use Rattle.luks2_editing.specs.Prepared.{IsPrepared, IsUnwritten}
 use Rattle.luks2_editing.specs.Replies.{EndsBy2, IsDone2}
 use Rattle.luks2_editing.specs.Rewriting.{AreWrittenAnew, IsRenewing, MayBeHalfWritten}
-use Rattle.luks2_editing.proofs.AmendingFacts.{amended_by, made_fault, token_fault}
+use Rattle.luks2_editing.proofs.AmendingFacts.{amended_by, made_fault, token_fault, unfaulted}
 use Rattle.luks2_editing.proofs.RenewalFacts.{copies_touched, len_here, prepared_unrefused, renewing, said, said_here, unwritten_ends, written_after}
 
 module _ (v : List ℕ) (payload : Data) (copy : ChosenCopy) (x : IsChosenCopy v copy) (well : WellFormed v payload) (e : Edit) (texts : TextFields) (change : Option JudgedChange)
@@ -64,11 +65,11 @@ module _ (v : List ℕ) (payload : Data) (copy : ChosenCopy) (x : IsChosenCopy v
     unmade_ends fault.Memory wanting = refl
     unmade_ends f bad = absurd bad
 
-    module _ (good : (f : MetaFault) → HasMadeFault (area_len copy.meta) (content copy.meta) change f → ⊥) (new : Value) (made : IsChangedBy change (content copy.meta) new) where
+    module _ (new : Value) (made : IsChangedBy change (content copy.meta) new) (held : IsHeld (area_len copy.meta) new) where
       passed : Passed (IsEditFault2 v payload e random) 19
       passed =
           let s = IsEditFault2 v payload e random in
-          after_token s (passed_from s 18 before.each) (λ f bad. good f (made_bad f bad))
+          after_token s (passed_from s 18 before.each) (λ f bad. unfaulted (area_len copy.meta) (content copy.meta) new change made held f (made_bad f bad))
 
       amends : IsAmended is.rewritten.change (content copy.meta) new
       amends = amended_by (content copy.meta) new is.rewritten.change change is.takes made

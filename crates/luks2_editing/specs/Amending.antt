@@ -4,8 +4,10 @@ use Rattle.serde_json.specs.Data.{Data as Value}
 use Rattle.serde_json.specs.View.{view}
 use Rattle.luks_area.specs.First.{IsLeast}
 use Rattle.luks_rules.specs.declared.fault.MetaFault.{MetaFault}
+use Rattle.luks_rules.specs.declared.fault.MetaFault.TheVariants as unread
 use Rattle.luks_rules.specs.MetaFault.{meta_key}
-use Rattle.luks_making.specs.Amended.{with_priority, with_token, without_token, IsMadeFault}
+use Rattle.luks_rules.specs.Valued.{IsValueFault}
+use Rattle.luks_making.specs.Amended.{with_priority, with_token, without_token}
 use Rattle.luks_edit.specs.declared.edit_fault.EditFault.{EditFault}
 use Rattle.luks_edit.specs.declared.edit_fault.EditFault.TheVariants as fault
 use Rattle.luks2_judging.specs.declared.judged.JudgedChange.{JudgedChange}
@@ -26,11 +28,19 @@ IsChangedBy (Some (judged.RemoveToken number)) j k = k ≡ without_token number 
 
 -- the metadata with the change has the fault, in a JSON area of `len` bytes: by a new token alone
 abbrev pub HasMadeFault : ℕ → Value → Option JudgedChange → MetaFault → Type 0
-HasMadeFault len j (Some (judged.AddToken number token)) f = IsMadeFault len (with_token number (view token.now) j) f
+HasMadeFault len j (Some (judged.AddToken number token)) f = IsValueFault len (with_token number (view token.now) j) f
 HasMadeFault len j c f = ⊥
 
--- why it isn't made
+-- why nothing is made that would have these faults
+abbrev pub IsFaultOf : (MetaFault → Type 0) → EditFault → Type 0
+IsFaultOf faults (fault.BadToken f) = IsLeast meta_key faults f
+IsFaultOf faults fault.Memory = ⊤
+IsFaultOf faults f = ⊥
+
 abbrev pub IsUnmade : ℕ → Value → Option JudgedChange → EditFault → Type 0
-IsUnmade len j c (fault.BadToken f) = IsLeast meta_key (HasMadeFault len j c) f
-IsUnmade len j c fault.Memory = ⊤
-IsUnmade len j c f = ⊥
+IsUnmade len j c = IsFaultOf (HasMadeFault len j c)
+
+-- the fault of the metadata with a token as that of an edit
+abbrev pub token_fault : MetaFault → EditFault
+token_fault unread.Memory = fault.Memory
+token_fault f = fault.BadToken f

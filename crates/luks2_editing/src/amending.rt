@@ -1,11 +1,10 @@
 //! Changing the metadata of a LUKS2 volume in named members.
-ghost use Rattle.std.specs.Prelude.{◌≡◌, ◌<◌, IfErr, IfOk, IfSome, OnOk};
+ghost use Rattle.std.specs.Prelude.{◌≡◌, ◌<◌, IfErr, IfOk, IfSome};
 ghost use Rattle.serde_json.specs.View.{view};
 ghost use Rattle.luks_meta.specs.Content.{area_len, content};
 ghost use Rattle.luks_making.specs.Amended.{with_priority, with_token, without_token};
-ghost use Rattle.luks_making.specs.declared.amended.Priority.{Priority as ThePriority};
-ghost use Rattle.luks_rules.specs.declared.fault.MetaFault.{MetaFault as TheMetaFault};
-ghost use Rattle.luks2_editing.specs.Amending.{HasMadeFault, IsChangedBy, IsNumbered, IsTokenFault, IsUnmade};
+ghost use Rattle.luks_rules.specs.Valued.{IsValueFault};
+ghost use Rattle.luks2_editing.specs.Amending.{IsChangedBy, IsFaultOf, IsNumbered, IsUnmade, token_fault};
 
 use luks_edit::{EditFault, Priority};
 use luks_meta::{Meta, MetaFault};
@@ -25,8 +24,6 @@ pub(crate) fn amended(
     requires { IfSome change.entry IsNumbered }
     ensures value { IfOk result (λ m. IsChangedBy change.entry (content meta) (content m)) }
     ensures length { IfOk result (λ m. area_len m ≡ area_len meta) }
-    ensures good { OnOk result ((f : TheMetaFault)
-        → HasMadeFault (area_len meta) (content meta) change.entry f → ⊥) }
     ensures refused { IfErr result (IsUnmade (area_len meta) (content meta) change.entry) }
 {
     match change {
@@ -54,6 +51,31 @@ fn with_priority(
     match luks_new_meta::with_priority(alloc, meta, slot, priority) {
         Ok(made) => Ok(made),
         Err(_) => Err(EditFault::Memory),
+    }
+}
+
+/// The metadata with the token. Refused by `BadToken`, or `Memory`.
+fn with_token(alloc: Global, meta: Meta, number: u8, token: &Value) -> Result<Meta, EditFault>
+    requires { number < 32 }
+    ensures value { IfOk result (λ m.
+        content m ≡ with_token number (view token.now) (content meta)) }
+    ensures length { IfOk result (λ m. area_len m ≡ area_len meta) }
+    ensures refused { IfErr result (IsFaultOf (IsValueFault (area_len meta)
+        (with_token number (view token.now) (content meta)))) }
+{
+    match luks_new_meta::with_token(alloc, meta, number, token) {
+        Ok(made) => Ok(made),
+        Err(fault) => Err(token_fault(fault)),
+    }
+}
+
+/// The fault of the metadata with a token as that of an edit.
+fn token_fault(fault: MetaFault) -> EditFault
+    ensures { result ≡ token_fault fault }
+{
+    match fault {
+        MetaFault::Memory => EditFault::Memory,
+        other => EditFault::BadToken(other),
     }
 }
 

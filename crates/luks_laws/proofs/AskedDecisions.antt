@@ -50,7 +50,7 @@ argon2_decided e = some_decided Sealed (sealed_by e) (λ s. takes_memory s.deriv
 -- ---- the keyslots that it wants
 
 -- a keyslot of one number has the property, or it hasn't
-of_one_decided : (P : ℕ → Type 0) → ((n : ℕ) → Decided (P n)) → (m : ℕ) → Decided ((n : ℕ) × (n ≡ m) × P n)
+pub of_one_decided : (P : ℕ → Type 0) → ((n : ℕ) → Decided (P n)) → (m : ℕ) → Decided ((n : ℕ) × (n ≡ m) × P n)
 of_one_decided P decide m = alike_decided (P m) ((n : ℕ) × (n ≡ m) × P n) (λ x. (m, refl, x)) (λ x. subst P x.1 x.2) (decide m)
 
 -- of the keyslot of an opener, if it is of one

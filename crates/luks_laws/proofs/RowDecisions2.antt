@@ -13,7 +13,7 @@ use Rattle.luks_edit.specs.declared.edit.Edit.{Edit}
 use Rattle.luks_edit.specs.declared.deed.Removed.{Removed}
 use Rattle.luks_edit.specs.declared.deed.Rewritten.{Rewritten}
 use Rattle.luks_edit.specs.declared.deed.Sealed.{Sealed}
-use Rattle.luks_edit.specs.Asked.{MatchPlace, opener_at, removed_by, rewritten_by, sealed_by, Wants}
+use Rattle.luks_edit.specs.Asked.{AmendsSlot, change_by, MatchPlace, opener_at, removed_by, rewritten_by, sealed_by, Wants}
 use Rattle.luks2_edit_laws.specs.declared.like.Like.{Like}
 use Rattle.luks2_edit_laws.specs.Gap.{IsGap}
 use Rattle.luks2_edit_laws.specs.Likes.{ForLike}
@@ -22,6 +22,7 @@ use Rattle.luks2_edit_laws.specs.Places.{HasNoNewArea, IsNewArea, key_areas_end,
 use Rattle.luks2_edit_laws.specs.Refused.{HasBadText, HasNoFree, HasNoNumber, HasNoRoom, IsAbsent, IsBadLabel, IsBadText, IsLast, IsMiscounted, IsNumberTaken, IsOnlyOne, IsTaken, Need2, NeedsLike}
 use Rattle.luks2_judging.specs.Keys.{IsThereLike}
 use Rattle.luks_laws.proofs.AskedDecisions.{wanted_decided}
+use Rattle.luks_laws.proofs.ChangeDecisions2.{amended_decided}
 use Rattle.luks_laws.proofs.DecidedFacts.{alike_decided, both_decided, Decided, less_decided, not_decided, one_decided, true_decided}
 use Rattle.luks_laws.proofs.SearchFacts.{least_or_none_below, OneOrNone, other_decided, place_decided, some_decided, some_same, SomeOrNone}
 use Rattle.luks_laws.proofs.LikeDecisions2.{for_like_decided, for_like_one, one_length_like, one_stripes_like, stripes_like_or_none, stripes_there, there_decided}
@@ -31,9 +32,14 @@ use Rattle.luks_laws.proofs.MemberDecisions2.{digest_decided, digest_or_none, in
 
 -- one of them isn't there, or all are
 pub absent_decided : (j : Value) (e : Edit) → Decided (IsAbsent j e)
-absent_decided j e = alike_decided ((n : ℕ) × Wants e n × (IsInUse j n → ⊥)) (IsAbsent j e)
-    (λ x. record { slot = x.0; wanted = x.1; unused = x.2 }) (λ x. (x.slot, x.wanted, x.unused))
-    (wanted_decided e (λ n. IsInUse j n → ⊥) (λ n. not_decided (IsInUse j n) (in_use_decided j n)))
+absent_decided j e = alike_decided (((n : ℕ) × Wants e n × (IsInUse j n → ⊥)) ⊎ ((n : ℕ) × AmendsSlot (change_by e) n × (IsInUse j n → ⊥))) (IsAbsent j e)
+    (λ x. elim x [
+      | inl wanted ↦ record { slot = wanted.0; wanted = inl wanted.1; unused = wanted.2 }
+      | inr amended ↦ record { slot = amended.0; wanted = inr amended.1; unused = amended.2 }
+    ])
+    (λ x. elim x.wanted [ inl wanted ↦ inl (x.slot, wanted, x.unused) | inr amended ↦ inr (x.slot, amended, x.unused) ])
+    (one_decided _ _ (wanted_decided e (λ n. IsInUse j n → ⊥) (λ n. not_decided (IsInUse j n) (in_use_decided j n)))
+    (amended_decided (change_by e) (λ n. IsInUse j n → ⊥) (λ n. not_decided (IsInUse j n) (in_use_decided j n))))
 
 -- ---- the keyslot that the edit makes
 
