@@ -37,12 +37,7 @@ pub(crate) fn amended(
 }
 
 /// The metadata with the priority in the keyslot, or `Memory`.
-fn with_priority(
-    alloc: Global,
-    meta: Meta,
-    slot: u8,
-    priority: Priority,
-) -> Result<Meta, EditFault>
+fn with_priority(alloc: Global, meta: Meta, slot: u8, priority: Priority) -> Result<Meta, EditFault>
     requires { slot < 32 }
     ensures value { IfOk result (λ m. content m ≡ with_priority slot priority (content meta)) }
     ensures length { IfOk result (λ m. area_len m ≡ area_len meta) }

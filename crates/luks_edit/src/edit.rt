@@ -252,8 +252,11 @@ fn rewriting<'a>(
     subsystem: Option<&'a [u8]>,
     change: Option<Change<'a>>,
 ) -> Deed<'a>
-    ensures { result ≡ Rewrite (record { label = label.entry; subsystem = subsystem.entry;
-        change = change.entry }) }
+    ensures { result ≡ Rewrite (record {
+      label = label.entry;
+      subsystem = subsystem.entry;
+      change = change.entry;
+    }) }
 {
     Deed::Rewrite(Rewritten {
         label,

@@ -258,21 +258,33 @@ known_value len j meta.JsonArea bad = absurd bad
 known_value len j meta.BadJson bad = (meta.BadJson, among_whole _ (inr (inl refl)), bad, refl)
 known_value len j meta.NotWhole bad = (meta.NotWhole, among_whole _ (inr (inr (inl refl))), bad, refl)
 known_value len j (meta.Shape path) bad =
-    let p = bad.place in
-    (meta.Shape (array (path_of p.section p.number p.row)), among_shapes _ (among_at_paths meta.Shape _ (among_places p.section p.number p.row bad.faulty.place)),
-    record { place = p; faulty = bad.faulty; is = refl }, ap (λ k. 4 ∷ k) (sym bad.is))
+    let p = bad.place in (
+      meta.Shape (array (path_of p.section p.number p.row)),
+      among_shapes _ (among_at_paths meta.Shape _ (among_places p.section p.number p.row bad.faulty.place)),
+      record { place = p; faulty = bad.faulty; is = refl },
+      ap (λ k. 4 ∷ k) (sym bad.is),
+    )
 known_value len j (meta.Kind path) bad =
-    let p = bad.place in
-    (meta.Kind (array (path_of p.section p.number p.row)), among_kinds _ (among_at_paths meta.Kind _ (among_places p.section p.number p.row bad.faulty.place)),
-    record { place = p; faulty = bad.faulty; is = refl }, ap (λ k. 5 ∷ k) (sym bad.is))
+    let p = bad.place in (
+      meta.Kind (array (path_of p.section p.number p.row)),
+      among_kinds _ (among_at_paths meta.Kind _ (among_places p.section p.number p.row bad.faulty.place)),
+      record { place = p; faulty = bad.faulty; is = refl },
+      ap (λ k. 5 ∷ k) (sym bad.is),
+    )
 known_value len j (meta.NoSuchName path) bad =
-    let p = bad.place in
-    (meta.NoSuchName (array (path_of p.section p.number p.row)), among_no_names _ (among_at_paths meta.NoSuchName _ (among_places p.section p.number p.row bad.faulty.place)),
-    record { place = p; faulty = bad.faulty; is = refl }, ap (λ k. 6 ∷ k) (sym bad.is))
+    let p = bad.place in (
+      meta.NoSuchName (array (path_of p.section p.number p.row)),
+      among_no_names _ (among_at_paths meta.NoSuchName _ (among_places p.section p.number p.row bad.faulty.place)),
+      record { place = p; faulty = bad.faulty; is = refl },
+      ap (λ k. 6 ∷ k) (sym bad.is),
+    )
 known_value len j (meta.Assigned path) bad =
-    let p = bad.place in
-    (meta.Assigned (array (path_of p.section p.number p.row)), among_assigned _ (among_at_paths meta.Assigned _ (among_places p.section p.number p.row bad.faulty.place)),
-    record { place = p; faulty = bad.faulty; is = refl }, ap (λ k. 7 ∷ k) (sym bad.is))
+    let p = bad.place in (
+      meta.Assigned (array (path_of p.section p.number p.row)),
+      among_assigned _ (among_at_paths meta.Assigned _ (among_places p.section p.number p.row bad.faulty.place)),
+      record { place = p; faulty = bad.faulty; is = refl },
+      ap (λ k. 7 ∷ k) (sym bad.is),
+    )
 known_value len j meta.Sizes bad = (meta.Sizes, among_whole _ (inr (inr (inr (inl refl)))), bad, refl)
 known_value len j (meta.AreaTooSmall n) bad = (meta.AreaTooSmall n, among_too_small n bad.0, bad, refl)
 known_value len j (meta.Region Head1) bad = absurd bad
