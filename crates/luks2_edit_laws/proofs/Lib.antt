@@ -25,3 +25,4 @@ pub mod VolumeFacts
 pub mod SoundCopyFacts
 pub mod AmendedFacts
 pub mod ValuedFacts
+pub mod AmendedAnswers
