@@ -1,6 +1,6 @@
 -- The metadata with a keyslot's priority, with a token and without one: what is there of the old, and that
 -- it meets every rule that the old met.
-use Rattle.std.proofs.Common.{◌≡◌, ◌≢◌, ℕ, true, false, List, [], ◌∷◌, Option, Some, None, option_map, option_and_then, is_some, bytes_eq, codes, refl, sym, ap, ◌∙◌, inl, inr, arith}
+use Rattle.std.proofs.Common.{◌≡◌, ◌≢◌, ℕ, true, false, List, [], ◌∷◌, Option, Some, None, option_map, option_and_then, is_some, bytes_eq, codes, refl, sym, ap, subst, ◌∙◌, inl, inr, arith}
 use Rattle.std.specs.Prelude.{slice_get}
 use Rattle.std.specs.List.{list_any}
 use Rattle.std.proofs.lemmas.Bool.{cases_eq}
@@ -131,13 +131,13 @@ module _ (n : ℕ) (q : Priority) (j : Data) where
   slots_kept : KeepsObjects (codes "priority" ∷ []) Keyslots j prior
   slots_kept = record {
     there = λ m was is. elim (cases_eq m n) [
-      | inl same ↦ (rw same at (own was, (slot_here n own j ∙ ap (option_map own) (rw same at is)), beside_priority (priority_number q) was))
+      | inl same ↦ rw same (own was, slot_here n own j ∙ ap (option_map own) (rw same at is), beside_priority (priority_number q) was)
       | inr other ↦ (was, slot_beside n own j m other ∙ is, λ k off. refl)
     ];
     back = λ m d is. elim (cases_eq m n) [
       | inl same ↦ (
           let p = mapped own (object_at j Keyslots n) d (sym (slot_here n own j) ∙ (rw same at is)) in
-          rw (same) (p.0, p.1, λ k off. ap (get k) p.2 ∙ beside_priority (priority_number q) p.0 k off))
+          rw same (p.0, p.1, λ k off. ap (get k) p.2 ∙ beside_priority (priority_number q) p.0 k off))
       | inr other ↦ (d, sym (slot_beside n own j m other) ∙ is, λ k off. refl)
     ];
   }
@@ -165,7 +165,7 @@ module _ (n : ℕ) (q : Priority) (j : Data) where
     slot_back i d h = elim (cases_eq i n) [
       | inl same ↦ (
           let w = slot_was d (rw same at h) in
-          rw (w.2) (made (slot_read q w.0 (c.objects Keyslots n w.0 w.1))
+          subst (SlotBack len j i) (sym w.2) (made (slot_read q w.0 (c.objects Keyslots n w.0 w.1))
           (λ key stripes size a b z. c.large n w.0 key stripes size w.1 (ap (number_in 1 128) (sym (member_same q w.0 outer.Top (codes "key_size") refl)) ∙ a)
           (ap (number_in 1 4294967295) (sym (member_same q w.0 outer.Af (codes "stripes") refl)) ∙ b) (ap decimal_in (sym (member_same q w.0 outer.Area (codes "size") refl)) ∙ z))
           (λ bytes start size region o z. c.within n w.0 bytes start size w.1 region (ap decimal_in (sym (member_same q w.0 outer.Area (codes "offset") refl)) ∙ o)
@@ -180,7 +180,7 @@ module _ (n : ℕ) (q : Priority) (j : Data) where
     ])
 
     prior_says : (d : Data) → HasObject prior Keyslots n d → get (codes "priority") d ≡ said (priority_number q)
-    prior_says d h = let w = slot_was d h in rw (w.2) (says q w.0 (c.objects Keyslots n w.0 w.1))
+    prior_says d h = let w = slot_was d h in subst (λ (x : Data). get (codes "priority") x ≡ said (priority_number q)) (sym w.2) (says q w.0 (c.objects Keyslots n w.0 w.1))
 
 -- the value with the priority says it, and is as it was but for that
 pub priority_set : (len n : ℕ) (q : Priority) (j : Data) → IsHeld len j → SetsPriority n q j (with_priority n q j)

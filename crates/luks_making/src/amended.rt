@@ -127,7 +127,8 @@ pub fn with_token(
     requires { number < 32 }
     ensures { IfOk result (λ v. view v ≡ with_token number (view token.now) (view value)) }
 {
-    with_object(alloc, value, "tokens", number_text(number), token.clone()?)
+    let own = token.clone()?;
+    with_object(alloc, value, "tokens", number_text(number), own)
 }
 
 /// The metadata without the token. All else is as in `value`, which is edited in place.

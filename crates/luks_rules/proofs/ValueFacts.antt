@@ -1,15 +1,24 @@
 -- The faults of a value that is to stand in an area, from those of its members and its nesting.
-use Rattle.std.proofs.Common.{◌≡◌, ◌<◌, ◌≤◌, ℕ, ◌∷◌, [], arith}
+use Rattle.std.proofs.Common.{◌≡◌, ◌↔◌, Bool, true, false, ◌<◌, ◌≤◌, ℕ, ◌∷◌, [], Result, Ok, Err, OnOk, IfErr, sym, ◌∙◌, inl, inr, arith}
+use Rattle.std.proofs.lemmas.Bool.{cases_lt, true≢false}
 use Rattle.serde_json.specs.Data.{Data, depth}
 use Rattle.serde_json.specs.Read.{max_depth}
 use Rattle.luks_area.specs.First.{IsLeast, NotAfter}
 use Rattle.luks_rules.specs.declared.fault.MetaFault.{MetaFault}
 use Rattle.luks_rules.specs.declared.fault.MetaFault.TheVariants as fault
 use Rattle.luks_rules.specs.Held.{IsHeld}
-use Rattle.luks_rules.specs.MetaFault.{IsDataFault, meta_key}
+use Rattle.luks_rules.specs.MetaFault.{IsDataFault, IsFaultless, meta_key}
 use Rattle.luks_rules.specs.Valued.{IsValueFault}
+use Rattle.luks_rules.proofs.Accepting.{content_of}
 use Rattle.luks_rules.proofs.AreaFaults.{data_none}
 use Rattle.luks_rules.proofs.Refusing.{faultless_of}
+
+-- a number that isn't within another is above it
+pub above : (b : Bool) (d n : ℕ) → b ≡ false → (b ≡ true) ↔ (d ≤ n) → n < d
+above b d n off within = elim (cases_lt n d) [
+  | inl more ↦ more
+  | inr low ↦ absurd (true≢false (sym (within.1 low) ∙ off))
+]
 
 -- of a value that nests too deep
 pub deep_least : (len : ℕ) (j : Data) → max_depth < depth j → IsLeast meta_key (IsValueFault len j) fault.BadJson
@@ -55,9 +64,20 @@ from_members len j (fault.AreaTooSmall n) h = h
 from_members len j (fault.Region name) h = h
 from_members len j fault.Memory h = h
 
-pub members_least : (len : ℕ) (j : Data) (f : MetaFault) → depth j ≤ max_depth → IsLeast meta_key (IsDataFault len j) f → IsLeast meta_key (IsValueFault len j) f
+members_least : (len : ℕ) (j : Data) (f : MetaFault) → depth j ≤ max_depth → IsLeast meta_key (IsDataFault len j) f → IsLeast meta_key (IsValueFault len j) f
 members_least len j f low least = (from_members len j f least.0, λ g h. least.1 g (into_members len j low g h))
 
--- a value that is held has none
-pub held_none : (len : ℕ) (j : Data) → IsHeld len j → (g : MetaFault) → IsDataFault len j g → ⊥
-held_none len j h g is = data_none len j (faultless_of len j h.content) g is
+-- ---- what the judge of its members answers
+
+pub judged_held : {X : Type 0} (len : ℕ) (j : Data) (r : Result X MetaFault) → depth j ≤ max_depth → OnOk r (IsFaultless len j) → OnOk r (IsHeld len j)
+judged_held len j (Ok x) low h = record { nests = low; content = content_of len j h }
+judged_held len j (Err f) low h = tt
+
+pub judged_fault : {X : Type 0} (len : ℕ) (j : Data) (r : Result X MetaFault) → depth j ≤ max_depth → IfErr r (λ f. IsLeast meta_key (IsDataFault len j) f) → IfErr r (λ f. IsLeast meta_key (IsValueFault len j) f)
+judged_fault len j (Ok x) low h = tt
+judged_fault len j (Err f) low h = members_least len j f low h
+
+-- a value that is held has no fault
+pub judged_only : {X : Type 0} (len : ℕ) (j : Data) (r : Result X MetaFault) → IfErr r (λ f. IsLeast meta_key (IsDataFault len j) f) → IsHeld len j → IfErr r (λ f. ⊥)
+judged_only len j (Ok x) h held = tt
+judged_only len j (Err f) h held = data_none len j (faultless_of len j held.content) f h.0

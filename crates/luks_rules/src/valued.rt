@@ -15,6 +15,13 @@ use serde_json::Value;
 
 /// The first fault of a value that is to stand in an area of `len` bytes. One that nests deeper than 127
 /// levels is `BadJson`, since its text isn't read.
+#[tactic(auto, using(
+    crate::proofs::ValueFacts::above,
+    crate::proofs::ValueFacts::deep_least,
+    crate::proofs::ValueFacts::judged_held,
+    crate::proofs::ValueFacts::judged_fault,
+    crate::proofs::ValueFacts::judged_only
+))]
 pub fn judge_value(len: usize, value: &Value) -> Result<(), MetaFault>
     ensures held { OnOk result (IsHeld len (view value.now)) }
     ensures fault { IfErr result (λ f. IsLeast meta_key (IsValueFault len (view value.now)) f) }
