@@ -246,7 +246,10 @@ fn judge_rewriting<'a>(
         rewritten.now) }
 {
     let kept = TextFields::of(&accepted.copy.header);
-    let fields = judge_texts(rewritten, &kept)?;
+    let fields = match judge_texts(rewritten, &kept) {
+        Ok(fields) => fields,
+        Err(fault) => return Err(fault),
+    };
     match judge_change(&accepted.copy.meta, rewritten.change) {
         Ok(change) => Ok(JudgedEdit::Rewrite { fields, change }),
         Err(fault) => Err(fault),

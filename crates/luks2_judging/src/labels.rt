@@ -24,9 +24,15 @@ pub(crate) fn judge_texts(
     ensures row { Judges (HasBadText rewritten.now) EditFault.BadLabel result }
     ensures fields { IfOk result (λ it. it ≡ texts_after rewritten.now kept.now) }
 {
-    let label = judge_text(rewritten.label, kept.label)?;
-    let subsystem = judge_text(rewritten.subsystem, kept.subsystem)?;
-    Ok(TextFields { label, subsystem })
+    // Not by `?`: the kit makes no proof of it where no parameter holds a fault of the metadata.
+    let label = match judge_text(rewritten.label, kept.label) {
+        Ok(field) => field,
+        Err(fault) => return Err(fault),
+    };
+    match judge_text(rewritten.subsystem, kept.subsystem) {
+        Ok(subsystem) => Ok(TextFields { label, subsystem }),
+        Err(fault) => Err(fault),
+    }
 }
 
 /// The field of the text that is given, or else the one that was there. Refused by `BadLabel`.
