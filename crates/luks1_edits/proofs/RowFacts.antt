@@ -1,6 +1,5 @@
 -- The first refusal of an edit, row by row.
 use Rattle.std.proofs.Common.{◌≡◌, ℕ, ◌<◌, ◌≤◌, List, subst, refl, sym, arith, inl, Option, Some, None}
-use Rattle.std.specs.Borrow.{Bor}
 use Rattle.luks_area.specs.First.{NotAfter}
 use Rattle.luks_slot.specs.Allowance.{without_memory}
 use Rattle.luks_reading.specs.declared.check_fault.CheckFault.{CheckFault}
@@ -9,6 +8,7 @@ use Rattle.luks2_header.specs.Selection.{luks1, Chosen}
 use Rattle.luks_reading.specs.Checked.{IsFault}
 use Rattle.luks_edit.specs.declared.edit.Edit.{Edit}
 use Rattle.luks_edit.specs.declared.deed.Deed.TheVariants as deed
+use Rattle.luks_edit.specs.declared.deed.Rewritten.{Rewritten}
 use Rattle.luks_edit.specs.declared.edit.Opener.{Opener}
 use Rattle.luks_edit.specs.declared.edit.Opener.TheVariants.{Keyslot, Key}
 use Rattle.luks_edit.specs.declared.edit_fault.EditFault.{EditFault}
@@ -35,8 +35,8 @@ pub record OpensNone (e : Edit) : Type 0 where
   pub other : NamesItself e → ⊥
 
 -- one that rewrites the header doesn't
-pub opens_none : (e : Edit) (label : Option (Bor (List ℕ))) → deed_of e ≡ deed.Rewrite label → OpensNone e
-opens_none e label is = record { opens = rw is refl; wants = λ n x. rw is at x; other = λ x. rw is at x }
+pub opens_none : (e : Edit) (r : Rewritten) → deed_of e ≡ deed.Rewrite r → OpensNone e
+opens_none e r is = record { opens = rw is refl; wants = λ n x. rw is at x; other = λ x. rw is at x }
 
 -- the keyslot of an opener that can be asked is in use
 in_use_of : (v : List ℕ) (o : Opener) (m : ℕ) → IsUsable v o → MatchOpener o (λ slot secret. m ≡ slot) (λ key. ⊥) → IsInUse v m

@@ -71,7 +71,7 @@ lost_is_named v (AddByKey key new to iterations d) n lost = absurd lost
 lost_is_named v (Change slot old new iterations d) n lost = lost
 lost_is_named v (Remove slot by_ passphrase) n lost = lost
 lost_is_named v Repair n lost = absurd lost
-lost_is_named v (Label text) n lost = absurd lost
+lost_is_named v (Label text subsystem) n lost = absurd lost
 
 -- metadata keeps itself
 pub same_metadata : (h total : ℕ) (payload : Data) (named : ℕ → Type 0) (j k : Value) → k ≡ j → IsLayout h total payload j → KeepsMetadata h total payload named j k
@@ -346,7 +346,7 @@ was_opened v (AddByKey key new to iterations d) random j w k sealed = (sealed.ke
 was_opened v (Change slot old new iterations d) random j w k sealed = (sealed.key, sealed.opened)
 was_opened v (Remove slot by_ passphrase) random j w k sealed = tt
 was_opened v Repair random j w k sealed = tt
-was_opened v (Label text) random j w k sealed = tt
+was_opened v (Label text subsystem) random j w k sealed = tt
 
 -- so what a new keyslot is made like is there
 pub model_by : (allowed : Allowed) (v : List ℕ) (o : ℕ) (j : Value) (opener_ : Opener) (key : List ℕ) (like : Like) → HasMetadata v o j → Gives2 allowed v opener_ key → IsLike j opener_ like
@@ -385,7 +385,7 @@ edited_metadata v o payload (Remove slot by_ passphrase) random j k m before ran
     without_metadata (hdr_size (header_at v o)) (length v) payload (λ n. n ≡ slot) slot j k refl is layout
 edited_metadata v o payload Repair random j k m before ranges free sealed is layout =
     same_metadata (hdr_size (header_at v o)) (length v) payload (λ n. ⊥) j k is layout
-edited_metadata v o payload (Label text) random j k m before ranges free sealed is layout =
+edited_metadata v o payload (Label text subsystem) random j k m before ranges free sealed is layout =
     same_metadata (hdr_size (header_at v o)) (length v) payload (λ n. ⊥) j k is layout
 
 module _
@@ -429,7 +429,7 @@ wiped_is (AddByKey key new to iterations d) j w n wiped lost = absurd lost
 wiped_is (Change slot old new iterations d) j w n wiped lost = subst (λ m. IsWiped j m w) (sym lost) wiped
 wiped_is (Remove slot by_ passphrase) j w n wiped lost = subst (λ m. IsWiped j m w) (sym lost) wiped
 wiped_is Repair j w n wiped lost = absurd lost
-wiped_is (Label text) j w n wiped lost = absurd lost
+wiped_is (Label text subsystem) j w n wiped lost = absurd lost
 
 -- so it is zeros
 pub lost_zeros : (v : List ℕ) (payload : Data) (e : Edit) (random w : List ℕ) (n : ℕ) (a : Area) → WellFormed v payload

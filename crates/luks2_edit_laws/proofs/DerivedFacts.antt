@@ -129,4 +129,4 @@ module _ (v : List ℕ) (payload : Data) (random w : List ℕ) (well : WellForme
       (changed_as slot old f d c.was (renewed_slot f c.was) c.says.derivation))
   derives (Remove slot by_ passphrase) ranges free a = tt
   derives Repair ranges free a = tt
-  derives (Label text) ranges free a = tt
+  derives (Label text subsystem) ranges free a = tt

@@ -118,4 +118,4 @@ module _ (v : List ℕ) (payload : Data) (random w : List ℕ) (well : WellForme
       subst (λ k. AnswerWithin allowed w slot new.now (opens k)) key_same opened)
   opens_after (Remove slot by_ passphrase) ranges free a = tt
   opens_after Repair ranges free a = tt
-  opens_after (Label text) ranges free a = tt
+  opens_after (Label text subsystem) ranges free a = tt

@@ -74,7 +74,7 @@ beside_sealed h total payload j (Change slot old new iterations d) fit n a left 
     beside_new h total payload j (Change slot old new iterations d) fit n a left is p at x.like x.has
 beside_sealed h total payload j (Remove slot by_ passphrase) fit n a left is p at x = x
 beside_sealed h total payload j Repair fit n a left is p at x = x
-beside_sealed h total payload j (Label text) fit n a left is p at x = x
+beside_sealed h total payload j (Label text subsystem) fit n a left is p at x = x
 
 -- nor of what is lost
 beside_losing : (h total : ℕ) (payload : Data) (j : Value) (e : Edit) (fit : Fit (Luks2Area j h payload total) total) (n : AreaName) (a : Area)
@@ -86,7 +86,7 @@ beside_losing h total payload j (Change slot old new iterations d) fit n a left 
 beside_losing h total payload j (Remove slot by_ passphrase) fit n a left is p at x =
     beside_lost h total payload j (Remove slot by_ passphrase) fit n a left is p at slot refl x
 beside_losing h total payload j Repair fit n a left is p at x = x
-beside_losing h total payload j (Label text) fit n a left is p at x = x
+beside_losing h total payload j (Label text subsystem) fit n a left is p at x = x
 
 -- nor of anything that the edit may change
 beside_touched : (h total : ℕ) (payload : Data) (j : Value) (e : Edit) (fit : Fit (Luks2Area j h payload total) total) (n : AreaName) (a : Area)

@@ -52,7 +52,7 @@ need_once j (AddByKey key new to iterations d) a b x y = needed_once j (opener.K
 need_once j (Change slot old new iterations d) a b x y = needed_once j (opener.Keyslot slot old) a b x y
 need_once j (Remove slot by_ passphrase) a b x y = x ∙ sym y
 need_once j Repair a b x y = x ∙ sym y
-need_once j (Label text) a b x y = x ∙ sym y
+need_once j (Label text subsystem) a b x y = x ∙ sym y
 
 -- a number that is read is in its range
 kept_by : (b : Bool) (x n : ℕ) → cond b (Some x) None ≡ Some n → (b ≡ true) × (x ≡ n)

@@ -46,7 +46,7 @@ abbrev pub IsSealedIn : List ℕ → Sealed → ℕ → Type 0
 IsSealedIn v s n = MatchPlace s.place (λ o to. IsMadeIn v to n) (λ slot secret. n ≡ slot)
 
 abbrev pub NamedKeyslots2 : List ℕ → Edit → ℕ → Type 0
-NamedKeyslots2 v e n = MatchDeed (deed_of e) (λ s. IsSealedIn v s n) (λ r. n ≡ r.slot) (λ label. ⊥)
+NamedKeyslots2 v e n = MatchDeed (deed_of e) (λ s. IsSealedIn v s n) (λ r. n ≡ r.slot) (λ r. ⊥)
 
 -- ---- what a call is given
 
@@ -94,7 +94,7 @@ IsEdited h total payload e salt j k = MatchDeed (deed_of e)
     (λ o to. ForLike j o (HasAdded h total payload to s.derivation salt j k))
     (λ slot secret. HasChanged h total payload slot s.derivation salt j k))
     (λ r. k ≡ without_slot r.slot j)
-    (λ label. k ≡ j)
+    (λ r. k ≡ j)
 
 -- of the random bytes those behind the salts of the copies: the salt of a keyslot, and its stripes
 abbrev pub keyslot_salt : List ℕ → List ℕ

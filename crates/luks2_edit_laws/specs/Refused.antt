@@ -1,6 +1,7 @@
 -- When an edit of a LUKS2 volume is refused, and how many random bytes it takes. The order of the
 -- faults is that of every edit.
 use Rattle.std.specs.Prelude.{◌≡◌, ◌≢◌, ℕ, ◌+◌, ◌-◌, ◌*◌, ◌^◌, ◌<◌, ◌≤◌, ◌⊎◌, Bool, List, length, true, Option, Some, None, IsSomeAnd, MatchOption}
+use Rattle.std.specs.Borrow.{Bor}
 use Rattle.base64.specs.GeneralPurpose.{IsBytes}
 use Rattle.serde_json.specs.Data.{Data as Value}
 use Rattle.serde_json.specs.Written.{compact_text}
@@ -13,12 +14,13 @@ use Rattle.luks_meta.specs.Requirements.{has_requirements}
 use Rattle.luks_slot.specs.declared.allowed.Allowed.{Allowed}
 use Rattle.luks_reading.specs.declared.report.Data.{Data}
 use Rattle.luks_reading.specs.Checked.{IsFault}
+use Rattle.luks_edit.specs.declared.deed.Rewritten.{Rewritten}
 use Rattle.luks_edit.specs.declared.edit.Edit.{Edit}
 use Rattle.luks_edit.specs.declared.edit_fault.EditFault.{EditFault}
 use Rattle.luks_edit.specs.declared.edit_fault.EditFault.TheVariants as fault
 use Rattle.luks_edit.specs.declared.edit.Opener.{Opener}
 use Rattle.luks_edit.specs.declared.edit.Opener.TheVariants as opener
-use Rattle.luks_edit.specs.Asked.{allowed_by, deed_of, HasFewIterations, IsBeyondMemory, label_by, MatchPlace, NamesItself, opener_at, opener_in, removed_by, sealed_by, Wants}
+use Rattle.luks_edit.specs.Asked.{allowed_by, deed_of, HasFewIterations, IsBeyondMemory, MatchPlace, NamesItself, opener_at, opener_in, removed_by, rewritten_by, sealed_by, Wants}
 use Rattle.luks_edit.specs.EditFaults.{edit_key}
 use Rattle.luks_edit.specs.Opener.{IsUnopenedKeyslot}
 use Rattle.luks2_edit_laws.specs.declared.like.Like.{Like}
@@ -69,9 +71,16 @@ pub record IsOnlyOne (j : Value) (slot : ℕ) : Type 0 where
 abbrev pub IsLast : Value → Edit → Type 0
 IsLast j e = IsSomeAnd (removed_by e) (λ r. IsOnlyOne j r.slot)
 
--- the label has more than 47 bytes, or one outside 0x20 to 0x7E
+-- the text, where one is given, has more than 47 bytes, or one outside 0x20 to 0x7E
+abbrev pub IsBadText : Option (Bor (List ℕ)) → Type 0
+IsBadText given = IsSomeAnd given (λ text. (47 < length text.now) ⊎ (is_plain text.now ≡ true → ⊥))
+
+-- the label is such a one, or the subsystem
+abbrev pub HasBadText : Rewritten → Type 0
+HasBadText r = IsBadText r.label ⊎ IsBadText r.subsystem
+
 abbrev pub IsBadLabel : Edit → Type 0
-IsBadLabel e = IsSomeAnd (label_by e) (λ text. (47 < length text.now) ⊎ (is_plain text.now ≡ true → ⊥))
+IsBadLabel e = IsSomeAnd (rewritten_by e) HasBadText
 
 -- the new metadata leaves no zero byte in the JSON area; with each salt of 32 bytes its text is as long
 pub record IsFull (h total : ℕ) (payload : Data) (j : Value) (e : Edit) : Type 0 where

@@ -244,12 +244,12 @@ is_key (opener.Key key) = true
 abbrev is_keyed : Deed → Bool
 is_keyed (Seal s) = is_key (opener_at s.place)
 is_keyed (deed.Remove r) = false
-is_keyed (deed.Rewrite label) = false
+is_keyed (deed.Rewrite r) = false
 
 abbrev chosen_in : Deed → Option NewDerivation
 chosen_in (Seal s) = s.derivation.chosen
 chosen_in (deed.Remove r) = None
-chosen_in (deed.Rewrite label) = None
+chosen_in (deed.Rewrite r) = None
 
 -- an edit by the volume key chooses a derivation
 key_chooses : (e : Edit) (own : VolumeKey) (to : Option ℕ) (new : Bor (List ℕ)) (asked : AskedDerivation) → deed_of e ≡ Seal (sealing (New (opener.Key own) to) new asked)
@@ -259,7 +259,7 @@ key_chooses (AddByKey key passphrase at iterations chosen) own to new asked is =
 key_chooses (Change slot old passphrase iterations chosen) own to new asked is = absurd (false≢true (ap is_keyed is))
 key_chooses (Remove slot by_ secret) own to new asked is = absurd (false≢true (ap is_keyed is))
 key_chooses Repair own to new asked is = absurd (false≢true (ap is_keyed is))
-key_chooses (Label text) own to new asked is = absurd (false≢true (ap is_keyed is))
+key_chooses (Label text subsystem) own to new asked is = absurd (false≢true (ap is_keyed is))
 
 -- the plan of the new keyslot isn't refused
 pub addition_fine : (v : List ℕ) (payload : Data) (copy : ChosenCopy) (addition : Addition) (e : Edit) (o : Opener) (new : Bor (List ℕ)) (to : Option ℕ) (key random : List ℕ)

@@ -27,13 +27,14 @@ use Rattle.luks_edit.specs.declared.edit.Edit.{Edit}
 use Rattle.luks_edit.specs.declared.edit_fault.EditFault.{EditFault}
 use Rattle.luks_edit.specs.declared.edit_fault.EditFault.TheVariants as fault
 use Rattle.luks_edit.proofs.RowFacts.{first_of_row, next, none_at_all, Passed}
-use Rattle.luks2_edit_laws.specs.Copies.{label_after, label_field}
+use Rattle.luks2_edit_laws.specs.Copies.{label_after, label_field, subsystem_after, subsystem_field}
 use Rattle.luks2_edit_laws.specs.Edited.{keyslot_salt, After2, IsEdited, IsSealedBy, IsWipedBy}
 use Rattle.luks2_edit_laws.specs.Leftovers.{IsTornAt}
 use Rattle.luks2_edit_laws.specs.Metadata.{HasMetadata}
 use Rattle.luks2_edit_laws.specs.Places.{IsOfCopies, IsTouched}
 use Rattle.luks2_edit_laws.specs.Refused.{IsEditFault2, HasSaid, IsFull, IsMiscounted, IsUnrefused2, Need2}
 use Rattle.luks2_edit_laws.proofs.SoundCopyFacts.{copy_sound}
+use Rattle.luks2_judging.specs.declared.judged.TextFields.{TextFields}
 use Rattle.luks2_editing.specs.Prepared.{AreCopiesWithin, IsPrepared, IsUnwritten}
 use Rattle.luks2_editing.specs.Replies.{EndsBy2}
 use Rattle.luks2_editing.specs.Rewriting.{AreWrittenAnew, IsRenewing, MayBeHalfWritten}
@@ -111,12 +112,14 @@ module _ (v : List ℕ) (payload : Data) (copy : ChosenCopy) (x : IsChosenCopy v
       }
 
   -- it may be written anew
-  pub renewing : (e : Edit) (label : List ℕ) → label ≡ label_after e (label_field (header_at v copy.header.hdr_offset)) → IsRenewing v e copy.header label (area_len copy.meta)
-  renewing e label is = record {
+  pub renewing : (e : Edit) (texts : TextFields) → texts.label ≡ label_after e (label_field (header_at v copy.header.hdr_offset))
+      → texts.subsystem ≡ subsystem_after e (subsystem_field (header_at v copy.header.hdr_offset)) → IsRenewing v e copy.header texts (area_len copy.meta)
+  renewing e texts label subsystem = record {
     header = x.header;
     listed = subst IsListed size_is sound_here.form.listed;
     second = λ more. sym size_is ∙ sound_here.form.second more;
-    label_is = is;
+    label_is = label;
+    subsystem_is = subsystem;
     len_is = len_here ∙ ap (λ n. n - 4096) size_is;
   }
 

@@ -10,21 +10,25 @@ use Rattle.luks_edit.specs.declared.edit.Edit.{Edit}
 use Rattle.luks_edit.specs.declared.edit_fault.EditFault.{EditFault}
 use Rattle.luks_edit.specs.declared.edit_fault.EditFault.TheVariants as fault
 use Rattle.luks_edit.proofs.RowFacts.{passed_from, Passed}
-use Rattle.luks2_edit_laws.specs.Copies.{labelled}
+use Rattle.luks2_edit_laws.specs.Copies.{field_after}
 use Rattle.luks2_edit_laws.specs.Places.{IsOfCopies}
 use Rattle.luks2_edit_laws.specs.Refused.{IsEditFault2}
 use Rattle.luks2_judging.specs.Judging.{IsRewriting}
 use Rattle.luks2_judging.specs.Rows.{HasNoFaultBefore}
+use Rattle.luks2_judging.specs.Texts.{texts_of}
+use Rattle.luks2_judging.specs.declared.judged.TextFields.{TextFields}
 use Rattle.luks2_editing.specs.Prepared.{IsPrepared, IsUnwritten}
 use Rattle.luks2_editing.specs.Replies.{EndsBy2, IsDone2}
 use Rattle.luks2_editing.specs.Rewriting.{AreWrittenAnew, IsRenewing, MayBeHalfWritten}
 use Rattle.luks2_editing.proofs.RenewalFacts.{copies_touched, prepared_unrefused, renewing, unwritten_ends, written_after}
 
-module _ (v : List ℕ) (payload : Data) (copy : ChosenCopy) (x : IsChosenCopy v copy) (well : WellFormed v payload) (e : Edit) (field_ : List ℕ)
-    (is : IsRewriting copy.header.label e field_) where
-  -- it may be written anew with this label
-  pub rewriting_renews : IsRenewing v e copy.header field_ (area_len copy.meta)
-  rewriting_renews = renewing v payload copy x well e field_ (rw is.asked (is.is ∙ ap (λ (f : List ℕ). labelled is.label f) (sym x.header.label)))
+module _ (v : List ℕ) (payload : Data) (copy : ChosenCopy) (x : IsChosenCopy v copy) (well : WellFormed v payload) (e : Edit) (texts : TextFields)
+    (is : IsRewriting (texts_of copy.header) e texts) where
+  -- it may be written anew with these texts
+  pub rewriting_renews : IsRenewing v e copy.header texts (area_len copy.meta)
+  rewriting_renews = renewing v payload copy x well e texts
+      (rw is.asked (ap (λ (t : TextFields). t.label) is.is ∙ ap (λ (f : List ℕ). field_after is.rewritten.label f) (sym x.header.label)))
+      (rw is.asked (ap (λ (t : TextFields). t.subsystem) is.is ∙ ap (λ (f : List ℕ). field_after is.rewritten.subsystem f) (sym x.header.subsystem)))
 
   module _ (random : List ℕ) (before : HasNoFaultBefore 15 v payload e random) where
     passed : Passed (IsEditFault2 v payload e random) 15

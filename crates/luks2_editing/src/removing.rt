@@ -21,6 +21,7 @@ use luks_edit::{Done, EditFault};
 use luks_meta::Meta;
 use luks_reading::ChosenCopy;
 use luks_writing::wipe_area;
+use luks2_judging::TextFields;
 use std::alloc::Global;
 
 /// Removes the keyslot from the metadata, writes both copies of the header anew, the other copy first,
@@ -55,7 +56,8 @@ pub(crate) fn remove<D: Device>(
 {
     let header = copy.header;
     let meta = without_slot(alloc, copy.meta, slot)?;
-    rewrite(alloc, device, &header, &meta, header.label, random)?;
+    let texts = TextFields::of(&header);
+    rewrite(alloc, device, &header, &meta, texts, random)?;
     match wipe_area(device, area) {
         Ok(()) => Ok(Done { slot: None }),
         Err(_) => Err(EditFault::Device),

@@ -186,7 +186,7 @@ module _ (h total : ℕ) (payload : Data) (j : Value) (a b : List ℕ) (salts : 
   edited_as_long (Change slot old new iterations chosen) x y one two = renewed_as_long slot (record { iterations = iterations; chosen = chosen }) x y one two
   edited_as_long (Remove slot by_ passphrase) x y one two = subst (λ v. AsLong x v) (one ∙ sym two) refl
   edited_as_long Repair x y one two = subst (λ v. AsLong x v) (one ∙ sym two) refl
-  edited_as_long (Label text) x y one two = subst (λ v. AsLong x v) (one ∙ sym two) refl
+  edited_as_long (Label text subsystem) x y one two = subst (λ v. AsLong x v) (one ∙ sym two) refl
 
 salts_long : (a b : List ℕ) → IsBytes a → IsBytes b → length a ≡ length b → SaltsAsLong a b
 salts_long a b one two same = record { same = quoted_length a b one two same }

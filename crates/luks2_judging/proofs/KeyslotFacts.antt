@@ -17,6 +17,7 @@ use Rattle.luks_edit.specs.declared.edit.SecretKind.TheVariants.{Passphrase, Key
 use Rattle.luks_edit.specs.declared.edit_fault.EditFault.{EditFault}
 use Rattle.luks_edit.specs.declared.deed.Deed.TheVariants as deed
 use Rattle.luks_edit.specs.declared.deed.Removed.{Removed}
+use Rattle.luks_edit.specs.declared.deed.Rewritten.{Rewritten}
 use Rattle.luks_edit.specs.declared.deed.Sealed.{Sealed}
 use Rattle.luks_edit.specs.Asked.{AreShortIn, bytes_of, deed_of, HasShortPassphrases, MatchOpener, NamesItself, opener_at, opener_in, opener_of, remover_by, remover_of, Wants}
 use Rattle.luks2_edit_laws.specs.declared.like.Like.{Like}
@@ -79,7 +80,7 @@ opener_wanted (AddByKey key new to iterations chosen) n secret asked = absurd (c
 opener_wanted (Change slot old new iterations chosen) n secret asked = sym (ap slot_in (same_Some (opener.Keyslot slot old) (opener.Keyslot n secret) asked))
 opener_wanted (Remove slot by_ own) n secret asked = inl (remover_other slot n by_ own secret asked)
 opener_wanted Repair n secret asked = absurd (cc)
-opener_wanted (Label text) n secret asked = absurd (cc)
+opener_wanted (Label text subsystem) n secret asked = absurd (cc)
 
 -- one that needs no key wants none
 pub none_wanted : (e : Edit) → opener_in (deed_of e) ≡ None → (n : ℕ) → Wants e n → ⊥
@@ -88,7 +89,7 @@ none_wanted (AddByKey key new to iterations chosen) none n wanted = wanted
 none_wanted (Change slot old new iterations chosen) none n wanted = absurd (cc)
 none_wanted (Remove slot by_ own) none n wanted = absurd (cc)
 none_wanted Repair none n wanted = wanted
-none_wanted (Label text) none n wanted = wanted
+none_wanted (Label text subsystem) none n wanted = wanted
 
 -- a keyslot that isn't missed is there
 wanted_used : (j : Value) (e : Edit) (n : ℕ) → Wants e n → (IsAbsent j e → ⊥) → IsInUse j n
@@ -142,8 +143,8 @@ itself_only e d is same = rw is at same
 pub sealing_apart : (e : Edit) (s : Sealed) → deed_of e ≡ deed.Seal s → NamesItself e → ⊥
 sealing_apart e s is same = rw is at same
 
-pub rewriting_apart : (e : Edit) (label : Option (Bor (List ℕ))) → deed_of e ≡ deed.Rewrite label → NamesItself e → ⊥
-rewriting_apart e label is same = rw is at same
+pub rewriting_apart : (e : Edit) (r : Rewritten) → deed_of e ≡ deed.Rewrite r → NamesItself e → ⊥
+rewriting_apart e r is same = rw is at same
 
 -- no keyslot is missed by an edit where that of its opener is there, and the one that it removes
 opener_used : (j : Value) (o : Opener) (n : ℕ) → IsUsable j o → MatchOpener o (λ slot secret. n ≡ slot) (λ key. ⊥) → IsInUse j n
@@ -165,8 +166,8 @@ module _ (j : Value) (e : Edit) where
   pub sealing_there : (s : Sealed) → deed_of e ≡ deed.Seal s → IsUsable j (opener_at s.place) → IsAbsent j e → ⊥
   sealing_there s is usable absent = absent.unused (opener_used j (opener_at s.place) absent.slot usable (rw is at absent.wanted))
 
-pub rewriting_there : (j : Value) (e : Edit) (label : Option (Bor (List ℕ))) → deed_of e ≡ deed.Rewrite label → IsAbsent j e → ⊥
-rewriting_there j e label is absent = rw is at absent.wanted
+pub rewriting_there : (j : Value) (e : Edit) (r : Rewritten) → deed_of e ≡ deed.Rewrite r → IsAbsent j e → ⊥
+rewriting_there j e r is absent = rw is at absent.wanted
 
 -- a row is judged alike by an equivalent fact
 pub judged_as : (A P Q : Type 0) (row : EditFault) → (P → Q) → (Q → P) → (r : Result A EditFault) → Judges P row r → Judges Q row r

@@ -51,7 +51,7 @@ unkeyed_by : (v : List ℕ) (e : Edit) (d : Deed) → deed_of e ≡ d → (f : E
 unkeyed_by v e (deed.Seal s) is f bad =
     subst (λ x. IsSomeAnd x (λ o. IsUnopenedBy2 (allowed_by e) v o f)) (sym (ap opener_in is)) (unkeyed_opener (allowed_by e) v (opener_at s.place) f (rw is at bad))
 unkeyed_by v e (deed.Remove r) is f bad = absurd (rw is at bad)
-unkeyed_by v e (deed.Rewrite label) is f bad = absurd (rw is at bad)
+unkeyed_by v e (deed.Rewrite r) is f bad = absurd (rw is at bad)
 
 unkeyed_unopened : (v : List ℕ) (e : Edit) (f : EditFault) → IsUnkeyedNew v e f → IsUnopened2 v e f
 unkeyed_unopened v e f bad = unkeyed_by v e (deed_of e) refl f bad
@@ -64,7 +64,7 @@ locked_opener v (opener.Key key) bad = bad.is
 unkeyed_locked : (v : List ℕ) (e : Edit) (d : Deed) → deed_of e ≡ d → IsUnkeyedNew v e fault.Locked → ⊥
 unkeyed_locked v e (deed.Seal s) is bad = locked_opener v (opener_at s.place) (rw is at bad)
 unkeyed_locked v e (deed.Remove r) is bad = rw is at bad
-unkeyed_locked v e (deed.Rewrite label) is bad = rw is at bad
+unkeyed_locked v e (deed.Rewrite r) is bad = rw is at bad
 
 -- ---- the rows that are judged without opening a keyslot are those of the edit
 

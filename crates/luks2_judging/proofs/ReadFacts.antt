@@ -1,8 +1,6 @@
 -- An edit judged by the header that was read: a fault of it is the volume's first, and where none was
 -- found none stands.
 use Rattle.std.proofs.Common.{◌≡◌, ℕ, ◌+◌, ◌<◌, ◌⊎◌, Bor, List, [], length, true, Option, Result, Ok, Err, OnOk, IfErr, arith, inl, inr, refl, subst, sym}
-use Rattle.std.specs.Prelude.{IsSomeAnd}
-use Rattle.luks_area.specs.Text.{is_plain}
 use Rattle.luks_area.specs.declared.area.Area.{Area}
 use Rattle.luks_area.specs.declared.areas.Entry.{Entry}
 use Rattle.luks2_header.specs.Header2.{hdr_size, header_at}
@@ -16,6 +14,7 @@ use Rattle.luks_edit.specs.declared.edit.Edit.{Edit}
 use Rattle.luks_edit.specs.declared.deed.Deed.TheVariants as deed
 use Rattle.luks_edit.specs.declared.deed.Place.TheVariants.{New, Opened}
 use Rattle.luks_edit.specs.declared.deed.Removed.{Removed}
+use Rattle.luks_edit.specs.declared.deed.Rewritten.{Rewritten}
 use Rattle.luks_edit.specs.declared.edit.Opener.{Opener}
 use Rattle.luks_edit.specs.declared.edit.Opener.TheVariants as opener
 use Rattle.luks_making.specs.declared.derivation.AskedDerivation.{AskedDerivation}
@@ -29,7 +28,7 @@ use Rattle.luks2_edit_laws.specs.declared.like.Like.TheVariants.{Keyslot}
 use Rattle.luks2_edit_laws.specs.Likes.{IsLike}
 use Rattle.luks2_edit_laws.specs.Metadata.{HasMetadata}
 use Rattle.luks2_edit_laws.specs.Places.{IsNewArea}
-use Rattle.luks2_edit_laws.specs.Refused.{HasSaid, IsAbsent, IsBadLabel, IsOnlyOne}
+use Rattle.luks2_edit_laws.specs.Refused.{HasBadText, HasSaid, IsAbsent, IsBadLabel, IsOnlyOne}
 use Rattle.luks2_judging.specs.declared.judged.JudgedEdit.{JudgedEdit}
 use Rattle.luks2_judging.specs.Judged.{IsNewNumber, Judges}
 use Rattle.luks2_judging.specs.Judging.{IsJudgedTo, IsRefusedEarly, sealing}
@@ -42,10 +41,6 @@ use Rattle.luks2_judging.proofs.ChosenFacts.{metadata_of}
 use Rattle.luks2_judging.proofs.JudgedFacts.{added_past, changed_past, label_first, label_past, none_opened, number_first, only_first, passed_of, past_opened}
 use Rattle.luks2_judging.proofs.JudgedFacts.{removed_past, unadded_first, unchanged_first, unopened_first, IsPast}
 use Rattle.luks2_judging.proofs.RoomFacts.{area_excludes}
-
--- the label is one that can't be set
-abbrev pub IsBadIn : Option (Bor (List ℕ)) → Type 0
-IsBadIn label = IsSomeAnd label (λ text. (47 < length text.now) ⊎ (is_plain text.now ≡ true → ⊥))
 
 -- a volume of `total` bytes with the areas `entries`, whose metadata `meta` is that of the copy at the
 -- place `o`; no row up to `SameSlot` refuses the edit
@@ -128,7 +123,7 @@ module _ {v : List ℕ} {payload : Data} {e : Edit} {o : ℕ} {meta : Meta} {ent
       removed_passed other random = removed_past v payload o (content meta) r.metadata e d is eight_of other random
 
   -- the header is written anew
-  module _ {label : Option (Bor (List ℕ))} (is : deed_of e ≡ deed.Rewrite label) where
+  module _ {rewritten : Rewritten} (is : deed_of e ≡ deed.Rewrite rewritten) where
     eight_of_none : (random : List ℕ) → IsPast 8 v payload e random
     eight_of_none random = past_opened v payload e random (none_opened v e (rw is refl)) (r.four random)
 
@@ -139,10 +134,10 @@ module _ {v : List ℕ} {payload : Data} {e : Edit} {o : ℕ} {meta : Meta} {ent
     label_passed good random =
         label_past v payload o (content meta) r.metadata e (λ x. rw is at x) (λ x. rw is at x) (λ x. rw is at x) (λ x. rw is at x) (λ x. rw is at x) (λ x. rw is at x) eight_of_none good random
 
-    pub rewriting_judged : (it : Result JudgedEdit EditFault) → Judges (IsBadIn label) fault.BadLabel it → OnOk it ((random : List ℕ) → HasNoFaultBefore 15 v payload e random)
+    pub rewriting_judged : (it : Result JudgedEdit EditFault) → Judges (HasBadText rewritten) fault.BadLabel it → OnOk it ((random : List ℕ) → HasNoFaultBefore 15 v payload e random)
     rewriting_judged (Ok it) good = label_passed (λ bad. good (rw is at bad))
     rewriting_judged (Err f) bad = tt
 
-    pub rewriting_ended : (it : Result JudgedEdit EditFault) → Judges (IsBadIn label) fault.BadLabel it → IfErr it (IsRefusedEarly v payload e)
+    pub rewriting_ended : (it : Result JudgedEdit EditFault) → Judges (HasBadText rewritten) fault.BadLabel it → IfErr it (IsRefusedEarly v payload e)
     rewriting_ended (Ok it) good = tt
     rewriting_ended (Err f) bad = subst (IsRefusedEarly v payload e) (sym bad.0) (label_refused (rw is bad.1))

@@ -9,3 +9,4 @@ pub mod Room
 pub mod Rows
 pub mod Salts
 pub mod Sealing
+pub mod Texts

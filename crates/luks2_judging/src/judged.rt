@@ -1,9 +1,13 @@
 //! What an edit takes once it was judged.
+ghost use Rattle.std.specs.Prelude.{◌≡◌};
+ghost use Rattle.luks2_judging.specs.Texts.{texts_of};
+
 use luks_area::Area;
 use luks_making::AskedDerivation;
 use luks_reading::ChosenCopy;
 use luks_slot::Key;
 use luks2_edit_laws::Like;
+use luks2_header::Bin2;
 
 /// An edit that none of the rows up to `BadLabel` refuses.
 #[derive(Drop)]
@@ -33,11 +37,29 @@ pub enum JudgedEdit<'a> {
         /// Its area.
         area: Area,
     },
-    /// Both copies of the header are written anew.
-    Rewrite {
-        /// The label's field of both, 48 bytes: the new label and zeros, or the field as it was.
-        label: [u8; 48],
-    },
+    /// Both copies of the header are written anew, with these fields.
+    Rewrite(TextFields),
+}
+
+/// The fields of a header's texts, each of 48 bytes: a text and zeros.
+#[derive(Clone, Copy, Drop)]
+pub struct TextFields {
+    /// That of the label.
+    pub label: [u8; 48],
+    /// That of the subsystem.
+    pub subsystem: [u8; 48],
+}
+
+impl TextFields {
+    /// Those that the header has.
+    pub fn of(header: &Bin2) -> TextFields
+        ensures { result ≡ texts_of header.now }
+    {
+        TextFields {
+            label: header.label,
+            subsystem: header.subsystem,
+        }
+    }
 }
 
 /// The keyslot that a key is sealed in.

@@ -16,21 +16,24 @@ ghost use Rattle.luks_edit.specs.Asked.{allowed_by, deed_of};
 ghost use Rattle.luks_edit.specs.declared.deed.Deed.TheVariants.{Remove as RemovesKeyslot, Seal as SealsKey};
 ghost use Rattle.luks_edit.specs.EditFaults.{is_edit_failure};
 ghost use Rattle.luks2_judging.specs.Calls.{IsReadyToJudge, PassesOf, Reads, RefusesOf, SealsOf, TakesOf};
-ghost use Rattle.luks2_judging.specs.Judged.{IsNewNumber};
+ghost use Rattle.luks2_edit_laws.specs.Refused.{HasBadText};
+ghost use Rattle.luks2_judging.specs.Judged.{IsNewNumber, Judges};
+ghost use Rattle.luks2_judging.specs.Texts.{texts_after, texts_of};
+ghost use Rattle.luks2_judging.specs.declared.judged.JudgedEdit.TheVariants.{Rewrite as Rewrites};
 ghost use Rattle.luks2_judging.specs.Judging.{IsJudged, IsRefusedEarly, IsUnrefusedOf, IsUnrefusedSoFar};
 ghost use Rattle.luks2_edit_laws.specs.declared.like.Like.TheVariants.{Keyslot};
 ghost use Rattle.luks2_judging.specs.Room.{IsAllowed, IsPlaced, IsSealableLike, IsUnsealable};
 ghost use Rattle.luks2_judging.specs.Sealing.{IsUnadded};
 
 use crate::accepted::judge_without_key;
-use crate::judged::{Addition, Judged, JudgedEdit, JudgedPlace, Renewal};
+use crate::judged::{Addition, Judged, JudgedEdit, JudgedPlace, Renewal, TextFields};
 use crate::keyslots::{key_area, new_number};
-use crate::labels::judge_rewriting;
+use crate::labels::judge_texts;
 use crate::room::{Room, judge_sealing};
 use crate::rows::judge_removal;
 use crate::unlocking::unlock;
 use luks_area::{Areas, Device};
-use luks_edit::{AskedDerivation, Deed, Edit, EditFault, Place, Removed, Sealed};
+use luks_edit::{AskedDerivation, Deed, Edit, EditFault, Place, Removed, Rewritten, Sealed};
 use luks_reading::{ChosenCopy, Data};
 use luks2_edit_laws::Like;
 use std::alloc::Global;
@@ -139,7 +142,7 @@ fn judge_with_key<'a, D: Device>(
     match edit.deed() {
         Deed::Seal(sealed) => judge_sealing_of(alloc, device, accepted, edit, &sealed),
         Deed::Remove(removed) => judge_removal_of(alloc, device, accepted, edit, &removed),
-        Deed::Rewrite { label } => judge_rewriting(label, accepted.copy.header.label),
+        Deed::Rewrite(rewritten) => judge_rewriting(accepted, &rewritten),
     }
 }
 
@@ -222,6 +225,22 @@ fn judge_removal_of<'a, D: Device>(
     let _given = unlock(alloc, device, accepted.copy, &removed.opener(), allowed)?;
     let area = judge_removal(room.meta, slot)?;
     Ok(JudgedEdit::Remove { slot, area })
+}
+
+/// The same of an edit that writes the header anew: `BadLabel`.
+fn judge_rewriting<'a>(
+    accepted: &Accepted<'_>,
+    rewritten: &Rewritten<'a>,
+) -> Result<JudgedEdit<'a>, EditFault>
+    ensures own { IfErr result (λ f. is_edit_failure f ≡ false) }
+    ensures memory { IfErr result (λ f. f ≢ EditFault.Memory) }
+    ensures row { Judges (HasBadText rewritten.now) EditFault.BadLabel result }
+    ensures fields { IfOk result (λ it. it ≡ Rewrites (texts_after rewritten.now
+        (texts_of accepted.now.copy.now.header))) }
+{
+    let kept = TextFields::of(&accepted.copy.header);
+    let fields = judge_texts(rewritten, &kept)?;
+    Ok(JudgedEdit::Rewrite(fields))
 }
 
 /// The keyslot that is added like this one, which is there: of the number `to`, or else of the least that

@@ -93,7 +93,7 @@ fn judge_removed(meta: &Meta, edit: &Edit<'_>) -> Result<(), EditFault>
             }
         }
         Deed::Seal(_) => Ok(()),
-        Deed::Rewrite { .. } => Ok(()),
+        Deed::Rewrite(_) => Ok(()),
     }
 }
 
@@ -104,7 +104,7 @@ pub(crate) fn judge_opener(edit: &Edit<'_>) -> Result<(), EditFault>
     match edit.deed() {
         Deed::Remove(removed) => judge_another(removed.slot, removed.by_),
         Deed::Seal(_) => Ok(()),
-        Deed::Rewrite { .. } => Ok(()),
+        Deed::Rewrite(_) => Ok(()),
     }
 }
 

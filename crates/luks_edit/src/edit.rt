@@ -1,9 +1,10 @@
 //! The edits of a volume.
 ghost use Rattle.std.specs.Prelude.{◌≡◌, ◌^◌, Some, length, nat_lt};
 ghost use Rattle.luks_edit.specs.Asked.{allowed_by, allowed_for, allowed_of, bytes_of, chosen_or, deed_of, opener_in, opener_of};
+ghost use Rattle.luks_edit.specs.declared.deed.Deed.TheVariants.{Rewrite};
 ghost use Rattle.luks_edit.specs.declared.deed.Place.TheVariants.{New};
 
-use crate::deed::{Deed, Place, Removed, Sealed};
+use crate::deed::{Deed, Place, Removed, Rewritten, Sealed};
 use luks_making::{AskedDerivation, NewDerivation};
 use luks_slot::Allowed;
 
@@ -125,10 +126,12 @@ pub enum Edit<'a> {
     },
     /// LUKS2: writes both copies of the header anew from the one that counts. LUKS1: nothing.
     Repair,
-    /// LUKS2: sets the volume's label.
+    /// LUKS2: sets the volume's label and, where it is given, its subsystem.
     Label {
         /// The label, at most 47 bytes of 0x20 to 0x7E.
         text: &'a [u8],
+        /// The subsystem, of as many such bytes; where it isn't given, it stays as it was.
+        subsystem: Option<&'a [u8]>,
     },
 }
 
@@ -215,8 +218,8 @@ impl<'a> Edit<'a> {
                 derivation: asked(iterations, derivation),
             }),
             Edit::Remove { slot, by_, secret } => Deed::Remove(Removed { slot, by_, secret }),
-            Edit::Repair => Deed::Rewrite { label: None },
-            Edit::Label { text } => Deed::Rewrite { label: Some(text) },
+            Edit::Repair => rewriting(None, None),
+            Edit::Label { text, subsystem } => rewriting(Some(text), subsystem),
         }
     }
 
@@ -227,7 +230,7 @@ impl<'a> Edit<'a> {
         match self.deed() {
             Deed::Seal(sealed) => Some(sealed.opener()),
             Deed::Remove(removed) => Some(removed.opener()),
-            Deed::Rewrite { label: _ } => None,
+            Deed::Rewrite(_) => None,
         }
     }
 }
@@ -237,6 +240,13 @@ fn added_by(opener: Opener<'_>, to: Option<u8>) -> Place<'_>
     ensures { result ≡ New opener.entry to }
 {
     Place::New { opener, to }
+}
+
+/// The header is written anew with this label and this subsystem, where they are given.
+fn rewriting<'a>(label: Option<&'a [u8]>, subsystem: Option<&'a [u8]>) -> Deed<'a>
+    ensures { result ≡ Rewrite (record { label = label.entry; subsystem = subsystem.entry }) }
+{
+    Deed::Rewrite(Rewritten { label, subsystem })
 }
 
 /// What is chosen, or so many iterations.
@@ -288,7 +298,7 @@ impl Edit<'_> {
         match self.deed() {
             Deed::Seal(sealed) => allowed_for(&sealed.opener(), sealed.passphrase),
             Deed::Remove(removed) => allowed_for(&removed.opener(), b""),
-            Deed::Rewrite { label: _ } => Allowed::NOTHING,
+            Deed::Rewrite(_) => Allowed::NOTHING,
         }
     }
 }

@@ -8,7 +8,7 @@ mod edit_fault;
 mod giving;
 mod laws;
 
-pub use deed::{Deed, Place, Removed, Sealed};
+pub use deed::{Deed, Place, Removed, Rewritten, Sealed};
 pub use edit::{
     Done, Edit, Opener, Passphrase, Secret, SecretKind, Step, VolumeKey, chosen_or, opener_of,
 };

@@ -139,7 +139,7 @@ module _ (h total : ℕ) (payload : Data) (j : Value)
   edited_in : (d : Deed) (salt : List ℕ) → SomeOrNone Value (λ k. EditedIn h total payload d salt j k)
   edited_in (deed.Seal s) salt = sealed_or_none s.place s.derivation salt
   edited_in (deed.Remove r) salt = inl (without_slot r.slot j, refl)
-  edited_in (deed.Rewrite label) salt = inl (j, refl)
+  edited_in (deed.Rewrite r) salt = inl (j, refl)
 
   edited_or_none : (e : Edit) (salt : List ℕ) → SomeOrNone Value (IsEdited h total payload e salt j)
   edited_or_none e = edited_in (deed_of e)
@@ -161,7 +161,7 @@ module _ (h total : ℕ) (payload : Data) (a b : List ℕ) (j x : Value) where
   salted_in : (d : Deed) → EditedIn h total payload d a j x → (y : Value) × EditedIn h total payload d b j y
   salted_in (deed.Seal s) is = sealed_anew s.place s.derivation is
   salted_in (deed.Remove r) is = (x, is)
-  salted_in (deed.Rewrite label) is = (x, is)
+  salted_in (deed.Rewrite r) is = (x, is)
 
 salted_anew : (h total : ℕ) (payload : Data) (e : Edit) (a b : List ℕ) (j x : Value) → IsEdited h total payload e a j x → (y : Value) × IsEdited h total payload e b j y
 salted_anew h total payload e a b j x = salted_in h total payload a b j x (deed_of e)

@@ -11,14 +11,15 @@ use Rattle.luks_reading.specs.declared.report.Data.{Data}
 use Rattle.luks_reading.specs.Layout2.{Luks2Area}
 use Rattle.luks_edit.specs.declared.edit.Edit.{Edit}
 use Rattle.luks_edit.specs.declared.deed.Removed.{Removed}
+use Rattle.luks_edit.specs.declared.deed.Rewritten.{Rewritten}
 use Rattle.luks_edit.specs.declared.deed.Sealed.{Sealed}
-use Rattle.luks_edit.specs.Asked.{label_by, MatchPlace, opener_at, removed_by, sealed_by, Wants}
+use Rattle.luks_edit.specs.Asked.{MatchPlace, opener_at, removed_by, rewritten_by, sealed_by, Wants}
 use Rattle.luks2_edit_laws.specs.declared.like.Like.{Like}
 use Rattle.luks2_edit_laws.specs.Gap.{IsGap}
 use Rattle.luks2_edit_laws.specs.Likes.{ForLike}
 use Rattle.luks2_edit_laws.specs.Metadata.{IsInUse}
 use Rattle.luks2_edit_laws.specs.Places.{HasNoNewArea, IsNewArea, key_areas_end, rounded_to_blocks}
-use Rattle.luks2_edit_laws.specs.Refused.{HasNoFree, HasNoNumber, HasNoRoom, IsAbsent, IsBadLabel, IsLast, IsMiscounted, IsNumberTaken, IsOnlyOne, IsTaken, Need2, NeedsLike}
+use Rattle.luks2_edit_laws.specs.Refused.{HasBadText, HasNoFree, HasNoNumber, HasNoRoom, IsAbsent, IsBadLabel, IsBadText, IsLast, IsMiscounted, IsNumberTaken, IsOnlyOne, IsTaken, Need2, NeedsLike}
 use Rattle.luks2_judging.specs.Keys.{IsThereLike}
 use Rattle.luks_laws.proofs.AskedDecisions.{wanted_decided}
 use Rattle.luks_laws.proofs.DecidedFacts.{alike_decided, both_decided, Decided, less_decided, not_decided, one_decided, true_decided}
@@ -120,10 +121,14 @@ module _ (j : Value) (one : (n m k : ℕ) → IsDigestOf j n m → IsDigestOf j 
 
 -- ---- the label
 
--- its label is a bad one, or it isn't
-pub bad_label_decided : (e : Edit) → Decided (IsBadLabel e)
-bad_label_decided e = some_decided (Bor (List ℕ)) (label_by e) (λ text. (47 < length text.now) ⊎ (is_plain text.now ≡ true → ⊥))
+-- a text is a bad one, or it isn't
+bad_text_decided : (given : Option (Bor (List ℕ))) → Decided (IsBadText given)
+bad_text_decided given = some_decided (Bor (List ℕ)) given (λ text. (47 < length text.now) ⊎ (is_plain text.now ≡ true → ⊥))
     (λ text. one_decided _ _ (less_decided 47 (length text.now)) (not_decided _ (true_decided (is_plain text.now))))
+
+-- so its label is a bad one, or its subsystem, or neither is
+pub bad_label_decided : (e : Edit) → Decided (IsBadLabel e)
+bad_label_decided e = some_decided Rewritten (rewritten_by e) HasBadText (λ r. one_decided _ _ (bad_text_decided r.label) (bad_text_decided r.subsystem))
 
 -- ---- random bytes
 

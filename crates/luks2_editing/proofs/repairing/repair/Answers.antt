@@ -15,12 +15,12 @@ returns-in_err-rewrite-clause-replies g c = λ tells payload e is x well before.
     subst (λ n. AreCopiesWithin copy.header (area_len copy.meta) n) size (copy_within v payload copy x well) in
     let p = err_from_is_err_and c.from_residual.result c.from_residual.ensures.1 in
     rw (p.1, p.2)
-    (rewriting_ends v payload copy x well e c.args.label is c.args.random.now before (g.D.Device.bytes c.rewrite.new.device) c.in_err-rewrite.field-0.0
-    (c.in_err-rewrite.ensures.refused within) (c.in_err-rewrite.ensures.same tells) (c.rewrite.ensures.torn tells v e (rewriting_renews v payload copy x well e c.args.label is)))
+    (rewriting_ends v payload copy x well e c.args.texts is c.args.random.now before (g.D.Device.bytes c.rewrite.new.device) c.in_err-rewrite.field-0.0
+    (c.in_err-rewrite.ensures.refused within) (c.in_err-rewrite.ensures.same tells) (c.rewrite.ensures.torn tells v e (rewriting_renews v payload copy x well e c.args.texts is)))
 
 pub returns-clause-replies : goal.returns-clause-replies
 returns-clause-replies g c = λ tells payload e is x well before.
     let v = g.D.Device.bytes c.args.device.now in
     let copy = c.args.copy.now in
-    rewriting_done v payload copy x well e c.args.label is c.args.random.now before (g.D.Device.bytes c.rewrite.new.device) c.in_ok-rewrite.ensures.ready
-    (c.in_ok-rewrite.ensures.anew tells v e (rewriting_renews v payload copy x well e c.args.label is)) (c.rewrite.ensures.rest tells)
+    rewriting_done v payload copy x well e c.args.texts is c.args.random.now before (g.D.Device.bytes c.rewrite.new.device) c.in_ok-rewrite.ensures.ready
+    (c.in_ok-rewrite.ensures.anew tells v e (rewriting_renews v payload copy x well e c.args.texts is)) (c.rewrite.ensures.rest tells)

@@ -9,8 +9,8 @@ pub returns-in-Rewrite-clause-takes : goal.returns-in-Rewrite-clause-takes
 returns-in-Rewrite-clause-takes g c =
     IfOk-weaker c.judge_rewriting.result _ _ (λ it is.
     subst (λ (k : JudgedEdit). Takes c.args.accepted.now.copy.now (g.D.Device.size c.args.device.now) c.args.edit.now k) (sym is)
-    (record { label = c.in-Rewrite.label; asked = sym c.in-Rewrite.ensures; is = refl }))
-    c.judge_rewriting.ensures.field
+    (record { rewritten = c.in-Rewrite.rewritten; asked = sym c.in-Rewrite.ensures; is = refl }))
+    c.judge_rewriting.ensures.fields
 
 pub returns-in-Rewrite-clause-passed : goal.returns-in-Rewrite-clause-passed
 returns-in-Rewrite-clause-passed g c = λ tells is payload judged.

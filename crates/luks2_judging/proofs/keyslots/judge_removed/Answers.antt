@@ -31,4 +31,4 @@ returns-in-Seal c =
     sealing_there j e s is (subst (λ x. IfSome x (IsUsable j)) (sealed_opens e s is) c.requires)
 
 pub returns-in-Rewrite : goal.returns-in-Rewrite
-returns-in-Rewrite c = rewriting_there (content c.args.meta.now) c.args.edit.now c.in-Rewrite.label (sym c.in-Rewrite.ensures)
+returns-in-Rewrite c = rewriting_there (content c.args.meta.now) c.args.edit.now c.in-Rewrite.field-0 (sym c.in-Rewrite.ensures)
