@@ -1,18 +1,20 @@
 //! The edit that a command line asks for of a volume.
-ghost use Rattle.std.specs.Prelude.{◌≡◌, ◌+◌, ◌<◌, ◌^◌, IfOk, IfErr, length};
+ghost use Rattle.std.specs.Prelude.{◌≡◌, ◌+◌, ◌<◌, ◌^◌, IfOk, IfErr, length, option_map};
 ghost use Rattle.luks_area.specs.Device.{CountsFailure, IsUnchanged};
 ghost use Rattle.luks_commands.specs.Chosen.{chosen_of};
 ghost use Rattle.luks_commands.specs.OpenAnswers.{allowed_of};
 ghost use Rattle.luks_edit.specs.declared.edit.Edit.{Edit};
 ghost use Rattle.luks_edit.specs.EditFaults.{is_edit_failure};
 ghost use Rattle.luks_reading.specs.Header.{IsAcceptedHeader, IsHeader};
-ghost use Rattle.luks_edit_commands.specs.Editing.{IsAsked, IsMissed, kind_of, told_slot, UnlessOutside};
+ghost use Rattle.luks_edit_commands.specs.Editing.{IsAsked, IsMissed, IsTokenOf, kind_of, priority_of, told_slot, UnlessOutside};
 
 use super::finding::keyslot_of;
 use super::words::Words;
 use luks_commands::chosen_of;
 use luks_commands::open::allowed_of;
-use luks_request::{AskedKdf, EditRequest, Editing, OpenerFile};
+use luks_making::{Change, Priority};
+use luks_request::{AskedKdf, AskedPriority, EditRequest, Editing, OpenerFile};
+use luks_rules::MetaFault;
 use luks_volume::{Device, Edit, EditFault, Header, Secret, SecretKind, VolumeKey};
 use std::alloc::Global;
 use std::io::Write;
@@ -30,6 +32,7 @@ pub(super) fn edit_of<'a, D: Device, E: Write>(
     requires room { D.failed device.old + 1 < 2 ^ 64 }
     requires accepted { IsAcceptedHeader header.now }
     requires short { length words.now.old.now < 2 ^ 32 }
+    requires token { IsTokenOf editing.now.request words.now.old.now words.now.token }
     ensures unchanged { IsUnchanged D.tells D.size D.bytes D.unsettled device.old device.new }
     ensures count { CountsFailure is_edit_failure result
         (D.failed device.old) (D.failed device.new) }
@@ -41,7 +44,7 @@ pub(super) fn edit_of<'a, D: Device, E: Write>(
         editing.now.request (λ p. p ≡ words.now.old.now) (D.bytes device.old))) }
 {
     let payload = editing.payload;
-    let Words { old, new } = *words;
+    let Words { old, new, .. } = *words;
     match editing.request {
         EditRequest::Add {
             by_,
@@ -99,9 +102,19 @@ pub(super) fn edit_of<'a, D: Device, E: Write>(
             Ok(Edit::Remove { slot, by_, secret })
         }
         EditRequest::Repair => Ok(Edit::Repair),
-        EditRequest::Label { text } => Ok(Edit::Label {
+        EditRequest::Label { text, subsystem } => Ok(Edit::Label {
             text: text.as_bytes(),
+            subsystem: bytes_in(subsystem),
         }),
+        EditRequest::Priority { slot, priority } => Ok(Edit::Amend(Change::Priority {
+            slot,
+            priority: priority_of(priority),
+        })),
+        EditRequest::AddToken { to, .. } => match words.token {
+            Some(token) => Ok(Edit::Amend(Change::AddToken { to, token })),
+            None => Err(EditFault::BadToken(MetaFault::BadJson)),
+        },
+        EditRequest::RemoveToken { number } => Ok(Edit::Amend(Change::RemoveToken { number })),
     }
 }
 
@@ -162,6 +175,26 @@ fn secret_of<'a>(opener: OpenerFile<'_>, bytes: &'a [u8], mib: u32, older: bool)
         kind: kind_of(opener),
         bytes,
         allowed: allowed_of(mib, older),
+    }
+}
+
+fn priority_of(asked: AskedPriority) -> Priority
+    ensures { result ≡ priority_of asked }
+{
+    match asked {
+        AskedPriority::Ignore => Priority::Ignore,
+        AskedPriority::Normal => Priority::Normal,
+        AskedPriority::Prefer => Priority::Prefer,
+    }
+}
+
+/// The bytes of the text, where one is given.
+fn bytes_in(text: Option<&str>) -> Option<&[u8]>
+    ensures { option_map (λ bytes. bytes.now) result ≡ option_map (λ t. t.now) text }
+{
+    match text {
+        Some(text) => Some(text.as_bytes()),
+        None => None,
     }
 }
 

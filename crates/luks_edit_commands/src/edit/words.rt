@@ -1,10 +1,12 @@
 //! Reading the passphrases of an edit.
 ghost use Rattle.std.specs.Prelude.{◌≡◌, ◌<◌, ◌^◌, IfOk, IfErr, IfSome, length};
-ghost use Rattle.luks_commands.specs.Answer.{IsWordless};
+ghost use Rattle.luks_commands.specs.Answer.{IsWordless, unread_answer};
 ghost use Rattle.luks_commands.specs.Files.{IsLong, IsUnread, IsWhole, OfNamed};
 
 use luks_commands::{Answer, InputFault, PassphraseFault, Refusal, passphrase, unread};
+use luks_request::EditRequest;
 use luks_wiping::Secret;
+use serde_json::{Category, Value};
 use std::alloc::Global;
 use std::io::{Read, Write};
 
@@ -16,6 +18,8 @@ pub(super) struct Words<'a> {
     pub(super) old: &'a [u8],
     /// Those of the new passphrase.
     pub(super) new: &'a [u8],
+    /// The token that the first of them are the text of, where they are one's.
+    pub(super) token: Option<&'a Value>,
 }
 
 /// The bytes of the passphrase whose file has this name, none where the edit needs none; or what the
@@ -39,5 +43,28 @@ pub(super) fn words<R: Read, E: Write>(
         Ok(words) => Ok(words),
         Err(PassphraseFault::TooLong) => Err(Answer::Refused(Refusal::LongPassphrase)),
         Err(PassphraseFault::Input(fault)) => Err(unread(fault, name, err)),
+    }
+}
+
+/// The token whose text the bytes of its file are, where the request has one and they are such a text; or what is
+/// answered where memory is refused to it.
+pub(super) fn token_of<E: Write>(
+    alloc: Global,
+    request: &EditRequest<'_>,
+    text: &[u8],
+    err: &mut E,
+) -> Result<Option<Value>, Answer>
+    ensures token { IfOk result (λ t. IsTextOf request.now text.now t) }
+    ensures memory { IfErr result (λ a. (a ≡ unread_answer InputFault.NoMemory) × AddsToken request.now) }
+{
+    let EditRequest::AddToken { token, .. } = *request else {
+        return Ok(None);
+    };
+    match Value::from_slice(alloc, text) {
+        Ok(value) => Ok(Some(value)),
+        Err(error) => match error.classify() {
+            Category::Memory => Err(unread(InputFault::NoMemory, token, err)),
+            _ => Ok(None),
+        },
     }
 }
