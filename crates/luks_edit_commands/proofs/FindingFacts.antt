@@ -26,7 +26,7 @@ use Rattle.luks_edit.specs.EditFaults.{edit_key, is_edit_failure}
 use Rattle.luks_volume.specs.Needed.{IsNeedFault, IsNeedFaultAs, IsUntold}
 use Rattle.luks_request.specs.declared.derivation.AskedKdf.{AskedKdf}
 use Rattle.luks_request.specs.declared.request.EditRequest.{EditRequest}
-use Rattle.luks_request.specs.declared.request.EditRequest.TheVariants.{Add, AddByKey, Change, Remove, Repair, Label}
+use Rattle.luks_request.specs.declared.request.EditRequest.TheVariants.{Add, AddByKey, Change, Remove, Repair, Label, Priority, AddToken, RemoveToken}
 use Rattle.luks_request.specs.declared.request.Editing.{Editing}
 use Rattle.luks_request.specs.declared.request.OpenerFile.{OpenerFile}
 use Rattle.luks_commands.specs.Chosen.{chosen_of}
@@ -133,7 +133,10 @@ module _ (payload : Data) (v : List ℕ) (old new : Bor (List ℕ)) (f : EditFau
   either_way (Remove None by_ opener memory older) = inl (missed_by opener memory older)
   either_way (Remove (Some slot) by_ opener memory older) = inr (edit.Remove slot by_ (secret_for opener old memory older), (refl, refl, secret_is opener old memory older))
   either_way Repair = inr (edit.Repair, tt)
-  either_way (Label text) = inr (edit.Label text, refl)
+  either_way (Label text subsystem) = inr (edit.Label text subsystem, (refl, refl))
+  either_way (Priority slot priority) = inr (edit.Amend (change.Priority slot (priority_of priority)), (refl, refl))
+  either_way (AddToken token to) = added_way token to value read_
+  either_way (RemoveToken number) = inr (edit.Amend (change.RemoveToken number), refl)
 
 -- ---- what is seen of it
 

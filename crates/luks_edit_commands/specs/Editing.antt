@@ -7,7 +7,9 @@ use Rattle.luks_reading.specs.Header.{NeedsMetadata}
 use Rattle.luks_reading.specs.Unlocking.{Unlocks}
 use Rattle.luks_reading.specs.declared.open_fault.OpenFault.{OpenFault}
 use Rattle.luks_reading.specs.declared.open_fault.OpenFault.TheVariants as opening
+use Rattle.std.specs.Borrow.{Bor}
 use Rattle.serde_json.specs.Data.{Data as Value}
+use Rattle.serde_json.specs.declared.value.Value.{Value as TheValue}
 use Rattle.serde_json.specs.Read.{read}
 use Rattle.serde_json.specs.View.{view}
 use Rattle.luks_rules.specs.declared.fault.MetaFault.TheVariants.{BadJson}
@@ -294,7 +296,10 @@ unopened_fault opening.Memory = Memory
 unopened_fault f = Locked
 
 -- what the bytes `p` of the file of a token are read as; of other edits it is nothing
-abbrev pub IsTokenOf : EditRequest → List ℕ → Option (Bor Value_) → Type 0
-IsTokenOf (AddToken token to) p (Some t) = IsUtf8 p × (read p ≡ Some (view t.now))
-IsTokenOf (AddToken token to) p None = IsUtf8 p → read p ≡ None
-IsTokenOf request p t = ⊤
+abbrev pub IsTextOf : EditRequest → List ℕ → Option TheValue → Type 0
+IsTextOf (AddToken token to) p (Some t) = IsUtf8 p × (read p ≡ Some (view t))
+IsTextOf (AddToken token to) p None = IsUtf8 p → read p ≡ None
+IsTextOf request p t = ⊤
+
+abbrev pub IsTokenOf : EditRequest → List ℕ → Option (Bor TheValue) → Type 0
+IsTokenOf request p t = IsTextOf request p (option_map (λ x. x.now) t)

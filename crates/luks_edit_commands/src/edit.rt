@@ -1,4 +1,4 @@
-//! The commands that edit a volume: `add`, `change`, `remove`, `repair` and `label`.
+//! The commands that edit a volume: `add`, `change`, `remove`, `repair`, `label`, `priority` and `token`.
 ghost use Rattle.std.specs.Prelude.{◌≡◌, ◌≢◌, ◌+◌, ◌<◌, ◌^◌, IfErr, length};
 ghost use Rattle.std.specs.Result.{ForOk};
 ghost use Rattle.luks_area.specs.Device.{IsSettled};
@@ -6,7 +6,7 @@ ghost use Rattle.luks_reading.specs.Checked.{WellFormed};
 ghost use Rattle.luks_edit.specs.Kept.{Keeps};
 ghost use Rattle.luks_commands.specs.Answer.{answer_status, edit_fault_answer};
 ghost use Rattle.luks_edit_commands.specs.EditAnswers.{AnswersEdit, IsEditAnswer};
-ghost use Rattle.luks_edit_commands.specs.Editing.{given_by, given_words, KeepsUnnamed, lacking_by, lacking_random};
+ghost use Rattle.luks_edit_commands.specs.Editing.{given_by, given_words, IsTokenOf, KeepsUnnamed, lacking_by, lacking_random};
 ghost use Rattle.luks_edit_commands.specs.Editing.{NamesSlot, SaysEdit, SparesEdit, SparesVolume, WhereFailed};
 ghost use Rattle.luks_edit_commands.specs.OtherUses.{HoldsBack, HoldsBackVolume, unseen_answer};
 ghost use Rattle.luks_commands.specs.Files.{AreFirstBytes, IsUnreadRandom, LeavesSettled, LeavesVolume};
@@ -34,7 +34,7 @@ use seen::{
 };
 use std::alloc::Global;
 use std::io::{Read, Write};
-use words::{Words, words};
+use words::{Words, token_of, words};
 
 /// Edits the volume of this name. The passphrase is read first, then the new one, and the random bytes last.
 #[tactic(auto, using(luks_commands::proofs::FileFacts::settled_same, crate::proofs::EditAnswerFacts::answers_wordless))]
@@ -83,6 +83,10 @@ pub fn run<D: Device, R: Read, N: Read, E: Write>(
         Ok(words) => words,
         Err(answer) => return answer,
     };
+    let token = match token_of(alloc, request, old.as_slice(), err) {
+        Ok(token) => token,
+        Err(answer) => return answer,
+    };
     let device = match &mut inputs.volume {
         Ok(device) => device,
         Err(fault) => return unread(*fault, name, err),
@@ -90,6 +94,7 @@ pub fn run<D: Device, R: Read, N: Read, E: Write>(
     let words = Words {
         old: old.as_slice(),
         new: new.as_slice(),
+        token: token.as_ref(),
     };
     edit_device(alloc, device, &mut inputs.random, name, editing, &words, err)
 }
@@ -107,6 +112,7 @@ fn edit_device<'a, D: Device, N: Read, E: Write>(
 ) -> Answer
     requires room { D.failed device.old + 1 < 2 ^ 64 }
     requires short { length words.now.old.now < 2 ^ 32 }
+    requires token { IsTokenOf editing.now.request words.now.old.now words.now.token }
     requires settled { D.tells → IsSettled D.unsettled device.old }
     ensures settled { D.tells → D.failed device.new ≡ D.failed device.old
         → IsSettled D.unsettled device.new }

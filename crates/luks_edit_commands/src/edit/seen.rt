@@ -4,7 +4,7 @@ ghost use Rattle.luks_area.specs.Device.{CountsFailure, IsUnchanged};
 ghost use Rattle.luks_edit.specs.EditFaults.{is_edit_failure};
 ghost use Rattle.luks_reading.specs.Header.{IsAcceptedHeader, IsHeader};
 ghost use Rattle.luks_volume.specs.Needed.{NeedsRandom, TellsNeed};
-ghost use Rattle.luks_edit_commands.specs.Editing.{given_words, IsAsked, IsUnseen};
+ghost use Rattle.luks_edit_commands.specs.Editing.{given_words, IsAsked, IsTokenOf, IsUnseen};
 ghost use Rattle.luks_edit_commands.specs.OtherUses.{is_unseen_failure, SeesBarred};
 
 use super::asked::edit_of;
@@ -103,6 +103,7 @@ pub(super) fn look_at_volume<'a, D: Device, E: Write>(
 ) -> Result<Seen<'a>, Unseen>
     requires room { D.failed device.old + 1 < 2 ^ 64 }
     requires short { length words.now.old.now < 2 ^ 32 }
+    requires token { IsTokenOf editing.now.request words.now.old.now words.now.token }
     ensures unchanged { IsUnchanged D.tells D.size D.bytes D.unsettled device.old device.new }
     ensures count { CountsFailure is_unseen_failure result
         (D.failed device.old) (D.failed device.new) }

@@ -1,6 +1,8 @@
 //! Reading the passphrases of an edit.
-ghost use Rattle.std.specs.Prelude.{◌≡◌, ◌<◌, ◌^◌, IfOk, IfErr, IfSome, length};
+ghost use Rattle.std.specs.Prelude.{◌≡◌, ◌<◌, ◌^◌, IfOk, IfErr, IfSome, IsSome, length};
 ghost use Rattle.luks_commands.specs.Answer.{IsWordless, unread_answer};
+ghost use Rattle.luks_request.specs.Named.{edit_passphrase_of};
+ghost use Rattle.luks_edit_commands.specs.Editing.{IsTextOf};
 ghost use Rattle.luks_commands.specs.Files.{IsLong, IsUnread, IsWhole, OfNamed};
 
 use luks_commands::{Answer, InputFault, PassphraseFault, Refusal, passphrase, unread};
@@ -54,8 +56,9 @@ pub(super) fn token_of<E: Write>(
     text: &[u8],
     err: &mut E,
 ) -> Result<Option<Value>, Answer>
-    ensures token { IfOk result (λ t. IsTextOf request.now text.now t) }
-    ensures memory { IfErr result (λ a. (a ≡ unread_answer InputFault.NoMemory) × AddsToken request.now) }
+    ensures token { IfOk result (IsTextOf request.now text.now) }
+    ensures memory { IfErr result (λ a. (a ≡ unread_answer InputFault.NoMemory)
+        × IsSome (edit_passphrase_of request.now)) }
 {
     let EditRequest::AddToken { token, .. } = *request else {
         return Ok(None);
