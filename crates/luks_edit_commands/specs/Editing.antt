@@ -110,7 +110,8 @@ IsAsked v request IsOld IsNew e = ⊥
 -- why no keyslot is found in the volume `v`: what refuses every edit of it, as one that opens none; else that the secret
 -- opens none of those that are tried
 abbrev pub IsUnfound : Data → List ℕ → Secret → EditFault → Type 0
-IsUnfound payload v secret f = IsLeast edit_key (IsNeedFault v payload edit.Repair) f ⊎ ((f ≡ Locked) × Unlocks secret.allowed v secret.bytes.now None)
+IsUnfound payload v secret f = IsLeast edit_key (IsNeedFault v payload edit.Repair) f
+    ⊎ ((f ≡ Locked) × ((g : EditFault) → IsNeedFault v payload edit.Repair g → ⊥) × Unlocks secret.allowed v secret.bytes.now None)
 
 -- a keyslot is looked for in the volume `v` by the passphrase of this file, and none is found
 pub record Misses (payload : Data) (opener : OpenerFile) (memory : ℕ) (older : Bool) (IsOld : List ℕ → Type 0) (v : List ℕ) (f : EditFault) : Type 0 where

@@ -149,7 +149,10 @@ pub(crate) fn place(fault: Fault) -> &'static str {
        the digest of the keyslot of --slot or --by; accepted by --older are also
        sha224, sha384, ripemd160, whirlpool and blake2b-512"
         }
-        Fault::Locked => "add, change and remove: the keyslot of --slot or --by",
+        Fault::Locked => {
+            "add, change and remove: the keyslot of --slot or --by; without --slot,
+       each that is tried"
+        }
         Fault::Passphrase => "the file of --passphrase or --new",
         Fault::Requirements => {
             "add, change, remove, repair and label, of LUKS2: config.requirements"
