@@ -203,7 +203,7 @@ pub fn edit_number(fault: &EditFault) -> u32
         EditFault::NoSuchToken => number_of(Fault::NoSuchToken),
         EditFault::TokenTaken => number_of(Fault::TokenTaken),
         EditFault::NoFreeToken => number_of(Fault::NoFreeToken),
-        EditFault::BadToken(fault) => meta_number(fault),
+        EditFault::BadToken(fault) => told_number(Fault::of_meta(fault)),
         EditFault::SeqExhausted => number_of(Fault::SeqExhausted),
         EditFault::MetadataFull => number_of(Fault::MetadataFull),
         EditFault::RandomLength => number_of(Fault::RandomLength),
