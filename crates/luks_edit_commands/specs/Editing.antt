@@ -119,17 +119,27 @@ pub record Misses (payload : Data) (opener : OpenerFile) (memory : ℕ) (older :
   pub asked : IsSecret opener memory older IsOld secret
   pub why : IsUnfound payload v secret f
 
+-- why a file that holds no text adds no token to the volume `v`: what refuses every edit of it, or that
+abbrev pub IsUntokened : Data → List ℕ → EditFault → Type 0
+IsUntokened payload v f = IsLeast edit_key (IsNeedFault v payload edit.Repair) f
+    ⊎ ((f ≡ BadToken BadJson) × ((g : EditFault) → IsNeedFault v payload edit.Repair g → ⊥))
+
 -- the command line names no keyslot, and for its edit none is found in the volume `v`; or the file of a token holds none
 abbrev pub IsMissed : Data → EditRequest → (List ℕ → Type 0) → List ℕ → EditFault → Type 0
 IsMissed payload (Add None opener memory older new to iterations kdf) IsOld v f = Misses payload opener memory older IsOld v f
 IsMissed payload (Change None opener memory older new iterations kdf) IsOld v f = Misses payload opener memory older IsOld v f
 IsMissed payload (Remove None by_ opener memory older) IsOld v f = Misses payload opener memory older IsOld v f
-IsMissed payload (AddToken token to) IsOld v f = (f ≡ BadToken BadJson) × HasNoText IsOld
+IsMissed payload (AddToken token to) IsOld v f = HasNoText IsOld × IsUntokened payload v f
 IsMissed payload request IsOld v f = ⊥
 
--- the keyslot that is told of the edit, which made this one, if any: of a removal the one that was found
+-- the keyslot that the edit removes, or else the one that it made
+abbrev pub removed_in : Edit → Option ℕ → Option ℕ
+removed_in (edit.Remove s b o) made = Some s
+removed_in e made = made
+
+-- the keyslot that is told of the edit: of a removal the one that was found
 abbrev pub told_slot : EditRequest → Edit → Option ℕ → Option ℕ
-told_slot (Remove None by_ opener memory older) (edit.Remove s b o) made = Some s
+told_slot (Remove None by_ opener memory older) e made = removed_in e made
 told_slot request e made = made
 
 -- the edit is it for some passphrases, and names the keyslot `n` of the volume `v`

@@ -1,12 +1,16 @@
 //! The edit that a command line asks for of a volume.
-ghost use Rattle.std.specs.Prelude.{◌≡◌, ◌+◌, ◌<◌, ◌^◌, IfOk, IfErr, length, option_map};
+ghost use Rattle.std.specs.Prelude.{◌≡◌, ◌+◌, ◌<◌, ◌^◌, ℕ, List, IfOk, IfErr, false, length, option_map};
 ghost use Rattle.luks_area.specs.Device.{CountsFailure, IsUnchanged};
 ghost use Rattle.luks_commands.specs.Chosen.{chosen_of};
 ghost use Rattle.luks_commands.specs.OpenAnswers.{allowed_of};
 ghost use Rattle.luks_edit.specs.declared.edit.Edit.{Edit};
 ghost use Rattle.luks_edit.specs.EditFaults.{is_edit_failure};
 ghost use Rattle.luks_reading.specs.Header.{IsAcceptedHeader, IsHeader};
-ghost use Rattle.luks_edit_commands.specs.Editing.{IsAsked, IsMissed, IsTokenOf, kind_of, priority_of, told_slot, UnlessOutside};
+<<<<<<< HEAD
+ghost use Rattle.luks_edit_commands.specs.Editing.{IsAsked, IsMissed, IsTokenOf, IsUntokened, kind_of, priority_of, told_slot, UnlessOutside};
+=======
+ghost use Rattle.luks_edit_commands.specs.Editing.{IsAsked, IsMissed, kind_of, removed_in, told_slot, UnlessOutside};
+>>>>>>> main
 
 use super::finding::keyslot_of;
 use super::words::Words;
@@ -15,7 +19,9 @@ use luks_commands::open::allowed_of;
 use luks_making::{Change, Priority};
 use luks_request::{AskedKdf, AskedPriority, EditRequest, Editing, OpenerFile};
 use luks_rules::MetaFault;
-use luks_volume::{Device, Edit, EditFault, Header, Secret, SecretKind, VolumeKey};
+use luks_volume::{
+    Data, Device, Edit, EditFault, Header, Secret, SecretKind, VolumeKey, needed_of_header,
+};
 use std::alloc::Global;
 use std::io::Write;
 
@@ -112,7 +118,7 @@ pub(super) fn edit_of<'a, D: Device, E: Write>(
         })),
         EditRequest::AddToken { to, .. } => match words.token {
             Some(token) => Ok(Edit::Amend(Change::AddToken { to, token })),
-            None => Err(EditFault::BadToken(MetaFault::BadJson)),
+            None => Err(no_token(header, payload, device.len())),
         },
         EditRequest::RemoveToken { number } => Ok(Edit::Amend(Change::RemoveToken { number })),
     }
@@ -122,8 +128,18 @@ pub(super) fn edit_of<'a, D: Device, E: Write>(
 pub(super) fn told_slot(request: &EditRequest<'_>, edit: &Edit<'_>, made: Option<u8>) -> Option<u8>
     ensures { result ≡ told_slot request.now edit.now made }
 {
-    match (request, edit) {
-        (EditRequest::Remove { slot: None, .. }, Edit::Remove { slot, .. }) => Some(*slot),
+    match request {
+        EditRequest::Remove { slot: None, .. } => removed_in(edit, made),
+        _ => made,
+    }
+}
+
+/// The keyslot that the edit removes, or else the one that it made.
+fn removed_in(edit: &Edit<'_>, made: Option<u8>) -> Option<u8>
+    ensures { result ≡ removed_in edit.now made }
+{
+    match edit {
+        Edit::Remove { slot, .. } => Some(*slot),
         _ => made,
     }
 }
@@ -175,6 +191,20 @@ fn secret_of<'a>(opener: OpenerFile<'_>, bytes: &'a [u8], mib: u32, older: bool)
         kind: kind_of(opener),
         bytes,
         allowed: allowed_of(mib, older),
+    }
+}
+
+/// Why a file that holds no text adds no token: what refuses every edit of a volume of `total` bytes with this header, or
+/// that.
+fn no_token(header: &Header, payload: Data, total: u64) -> EditFault
+    requires { IsAcceptedHeader header.now }
+    ensures own { is_edit_failure result ≡ false }
+    ensures is { (v : List ℕ) → IsHeader v header.now → length v ≡ total
+        → UnlessOutside v (IsUntokened payload v) result }
+{
+    match needed_of_header(header, payload, total, &Edit::Repair) {
+        Ok(_) => EditFault::BadToken(MetaFault::BadJson),
+        Err(fault) => fault,
     }
 }
 
