@@ -6,11 +6,8 @@ ghost use Rattle.luks_commands.specs.OpenAnswers.{allowed_of};
 ghost use Rattle.luks_edit.specs.declared.edit.Edit.{Edit};
 ghost use Rattle.luks_edit.specs.EditFaults.{is_edit_failure};
 ghost use Rattle.luks_reading.specs.Header.{IsAcceptedHeader, IsHeader};
-<<<<<<< HEAD
-ghost use Rattle.luks_edit_commands.specs.Editing.{IsAsked, IsMissed, IsTokenOf, IsUntokened, kind_of, priority_of, told_slot, UnlessOutside};
-=======
-ghost use Rattle.luks_edit_commands.specs.Editing.{IsAsked, IsMissed, kind_of, removed_in, told_slot, UnlessOutside};
->>>>>>> main
+ghost use Rattle.luks_edit_commands.specs.Editing.{IsAsked, IsMissed, IsTokenOf, IsUntokened, kind_of, priority_of};
+ghost use Rattle.luks_edit_commands.specs.Editing.{removed_in, told_slot, UnlessOutside};
 
 use super::finding::keyslot_of;
 use super::words::Words;
