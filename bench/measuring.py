@@ -39,7 +39,7 @@ def peak_of(words, folder):
 
 
 def calls_on(words, folder, volume, names):
-    """What each of one run's calls of these names on the volume answered; none where strace isn't there or may not trace."""
+    """What each of one run's calls of these names on the volume, or on one of several, answered; none where strace isn't there or may not trace."""
     if not shutil.which("strace"):
         return None
     trace = os.path.join(folder, "trace")
@@ -47,5 +47,6 @@ def calls_on(words, folder, volume, names):
     if ran.returncode != 0 or not os.path.exists(trace):
         return None
     with open(trace) as lines:
-        told = [re.search(r"^\d+ +(\w+)\(.*\) = (\d+)$", line) for line in lines if f"/{volume}>" in line]
+        volumes = (volume,) if isinstance(volume, str) else volume
+        told = [re.search(r"^\d+ +(\w+)\(.*\) = (\d+)$", line) for line in lines if any(f"/{it}>" in line for it in volumes)]
     return [(found.group(1), int(found.group(2))) for found in told if found]

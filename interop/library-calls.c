@@ -295,17 +295,25 @@ static const char *maybe(const char *word)
     return strcmp(word, "none") == 0 ? NULL : word;
 }
 
-/* The same of a volume of which something is given: VERSION ITERATIONS PASSPHRASE RANDOM PLACE SECTOR KEY UUID LABEL SUBSYSTEM, of the last five `none` where
- * it isn't. KEY is a file. */
+/* The same of a volume of which something is given: VERSION ITERATIONS PASSPHRASE RANDOM PLACE SECTOR KEY UUID LABEL SUBSYSTEM [CIPHER KEY_BYTES SECTOR_BYTES OLDER],
+ * of the five from SECTOR on `none` where it isn't. KEY is a file; the last four are numbers. */
 static int formats_as(int fd, uint64_t offset, uint64_t length, char **words)
 {
     static const uint8_t no_byte = 0;
     size_t old_bytes, random_bytes = 0, key_bytes = 0;
     bool is_first = strcmp(words[0], "1") == 0, is_detached = strcmp(words[4], "detached") == 0;
-    uint8_t *old = file_of(words[2], 65537, &old_bytes), *random = file_of(words[3], is_first ? 256080 : 256208, &random_bytes);
+    uint8_t *old = file_of(words[2], 65537, &old_bytes);
     uint8_t *key = strcmp(words[6], "none") == 0 ? NULL : file_of(words[6], 65537, &key_bytes);
     struct luks_given given = {.size = sizeof given, .sector = strcmp(words[5], "none") == 0 ? LUKS_NO_SECTOR : strtoull(words[5], NULL, 10), .key = key,
                                .key_bytes = key_bytes, .uuid = maybe(words[7]), .label = maybe(words[8]), .subsystem = maybe(words[9])};
+    if (words[10] != NULL) {
+        given.cipher = number(words[10]);
+        given.key_bytes = key != NULL ? key_bytes : number(words[11]);
+        given.sector_bytes = number(words[12]);
+        given.older = number(words[13]);
+    }
+    size_t each = given.key_bytes > 0 && given.key_bytes < 64 ? given.key_bytes : given.key_bytes == 0 && given.cipher > 2 ? 32 : 64;
+    uint8_t *random = file_of(words[3], (is_first ? 80 : 208) + 4000 * each, &random_bytes);
     uint32_t iterations = number(words[1]);
     if (key == NULL && strcmp(words[6], "none") != 0)
         given.key = &no_byte;
@@ -599,7 +607,7 @@ int main(int count, char **words)
         status = edits_by_name(fd, offset, length, words + 5);
     else if (strcmp(words[1], "format") == 0 && (count == 11 || count == 16))
         status = formats(fd, offset, length, words + 5);
-    else if (strcmp(words[1], "format-as") == 0 && count == 15)
+    else if (strcmp(words[1], "format-as") == 0 && (count == 15 || count == 19))
         status = formats_as(fd, offset, length, words + 5);
     else if (strcmp(words[1], "meets") == 0 && count == 8)
         status = meets(fd, offset, length, words + 5);

@@ -1,7 +1,7 @@
 """The volumes and the commands that `faults` and `power` try: edits of the program and of cryptsetup."""
 import os
 
-from common import cryptsetup, put
+from common import cryptsetup, put, status
 
 TOP = os.path.dirname(os.path.dirname(os.path.abspath(__file__)))
 
@@ -26,6 +26,8 @@ EDITS = {
     "remove-by": ({"two"}, set(), set(), {"one"}),
     "repair": ({"one", "two"}, set(), set(), set()),
     "label": ({"one", "two"}, set(), set(), set()),
+    "priority": ({"one", "two"}, set(), set(), set()),
+    "token": ({"one", "two"}, set(), set(), set()),
 }
 THEIRS = {
     "add": "cryptsetup luksAddKey -q {derivation} --key-file one V three",
@@ -34,6 +36,8 @@ THEIRS = {
     "remove": "cryptsetup luksKillSlot -q --key-file two V 0",
     "repair": "cryptsetup repair -q V",
     "label": "cryptsetup config -q --label disk V",
+    "priority": "cryptsetup config -q --priority prefer --key-slot 1 V",
+    "token": "cryptsetup token import -q --json-file token V",
 }
 OURS = {
     "add": "LUKS add V --slot 0 --passphrase one --new three --random random --iterations 1000",
@@ -43,13 +47,22 @@ OURS = {
     "remove-by": "LUKS remove V --slot 0 --by 1 --passphrase two --random random",
     "repair": "LUKS repair V --random random",
     "label": "LUKS label V disk --random random",
+    "priority": "LUKS priority V prefer --slot 1 --random random",
+    "token": "LUKS token V import token --random random",
 }
 # How often the program syncs the volume in each edit: once before it begins, and then after each step. A copy of LUKS2's header that is
 # damaged or older is written first, so that a repair has as many steps whichever it is.
 SYNCS = {
     "luks1": {"add": 3, "add-by-key": 3, "change": 5, "remove": 3, "remove-by": 3},
-    "luks2": {"add": 4, "add-by-key": 4, "change": 5, "remove": 4, "remove-by": 4, "repair": 3, "label": 3},
+    "luks2": {"add": 4, "add-by-key": 4, "change": 5, "remove": 4, "remove-by": 4, "repair": 3, "label": 3, "priority": 3, "token": 3},
 }
+# what LUKS1 hasn't
+OF_LUKS2 = ("label", "repair", "priority", "token")
+
+
+def ours(program):
+    """The program's edits, but for the commands that it hasn't."""
+    return {edit: line for edit, line in OURS.items() if edit not in ("priority", "token") or status([program, edit, "--help"], None) == 0}
 
 
 def payload():
@@ -61,6 +74,7 @@ def make_volumes(folder):
     for word in WORDS:
         put(folder, word, word.encode())
     put(folder, "random", bytes(i * 7 % 251 for i in range(400000)))
+    put(folder, "token", b'{"type":"systemd-recovery","keyslots":["1"]}')
     for version, line in FORMATS.items():
         put(folder, version, bytes(LENGTH))
         cryptsetup(f"{line}--key-file one {version}", folder)

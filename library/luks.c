@@ -26,13 +26,17 @@
 #define LEAST_AHEAD ((uint64_t)1 << 12)
 #define MOST_AHEAD ((uint64_t)1 << 20)
 
-/* The most that one call of pread is asked for. */
-#define MOST_AT_ONCE ((uint64_t)1 << 24)
+/* The most that one call of pread is asked for, before pages of zeros are given back. */
+#define MOST_AT_ONCE ((uint64_t)1 << 18)
+
+/* What memory for the bytes grows by. */
+#define ROOM_STEP ((size_t)1 << 20)
 
 /* What a disk reads at once, or not. */
 #define SECTOR ((uint64_t)512)
 
-/* Ranges of a volume that were read, in their order, with a gap between any two, and their bytes one after the other. */
+/* Ranges of a volume that were read, in their order, with a gap between any two, and their bytes one after the other: these lie in pages of their own, of which
+ * those that hold zeros alone take no memory. */
 struct held {
     int fd;
     uint64_t start, total, ahead, unread; /* the last is the place that couldn't be read, where one couldn't */
@@ -40,7 +44,7 @@ struct held {
     struct luks_range *ranges;
     size_t ranges_count;
     uint8_t *bytes;
-    size_t bytes_count;
+    size_t bytes_count, room;
 };
 
 /* As the calls over bytes take them. */
@@ -127,6 +131,41 @@ static int read_all(int fd, uint8_t *into, size_t count, uint64_t at)
     return 0;
 }
 
+/* Makes room for so many bytes. */
+static bool make_room(struct held *held, size_t count)
+{
+    size_t room = (count / ROOM_STEP + 1) * ROOM_STEP;
+    if (count < held->room)
+        return true;
+    void *bytes = held->room == 0 ? mmap(NULL, room, PROT_READ | PROT_WRITE, MAP_PRIVATE | MAP_ANONYMOUS, -1, 0)
+                                  : mremap(held->bytes, held->room, room, MREMAP_MAYMOVE);
+    if (bytes == MAP_FAILED)
+        return false;
+    held->bytes = bytes;
+    held->room = room;
+    return true;
+}
+
+static bool are_zeros(const uint8_t *bytes, size_t count)
+{
+    return bytes[0] == 0 && memcmp(bytes, bytes + 1, count - 1) == 0;
+}
+
+/* Gives back the pages from that of this address to before that one that hold zeros alone: what is read of such a page then are zeros too. */
+static void give_zeros_back(uint8_t *from, const uint8_t *to)
+{
+    size_t page = (size_t)sysconf(_SC_PAGESIZE), blank = 0;
+    uint8_t *at = from - (uintptr_t)from % page;
+    for (; (size_t)(to - at) >= page; at += page) {
+        bool is_blank = are_zeros(at, page);
+        if (!is_blank && blank > 0)
+            (void)madvise(at - blank, blank, MADV_DONTNEED);
+        blank = is_blank ? blank + page : 0;
+    }
+    if (blank > 0)
+        (void)madvise(at - blank, blank, MADV_DONTNEED);
+}
+
 /* Reads as many bytes from the place on as can be read, and answers how many these are: all up to the first sector that can't. What fails is tried
  * again by smaller pieces, none of which lies in two sectors at last. The file's end is a failure. */
 static size_t read_some(int fd, uint8_t *into, size_t count, uint64_t at)
@@ -138,9 +177,10 @@ static size_t read_some(int fd, uint8_t *into, size_t count, uint64_t at)
         ssize_t got = pread(fd, into + done, (size_t)least(piece - place % piece, count - done), (off_t)place);
         if (got < 0 && errno == EINTR)
             continue;
-        if (got > 0)
+        if (got > 0) {
+            give_zeros_back(into + done, into + done + got);
             done += (size_t)got;
-        else if (got == 0)
+        } else if (got == 0)
             break;
         else if (piece > SECTOR)
             piece = piece > SECTOR * 8 ? SECTOR * 8 : SECTOR;
@@ -182,10 +222,9 @@ static uint32_t read_gap(struct held *held, size_t i, size_t before, uint64_t pl
     if (ranges == NULL)
         return LUKS_MEMORY;
     held->ranges = ranges;
-    uint8_t *bytes = realloc(held->bytes, held->bytes_count + count);
-    if (bytes == NULL)
+    if (!make_room(held, held->bytes_count + count))
         return LUKS_MEMORY;
-    held->bytes = bytes;
+    uint8_t *bytes = held->bytes;
     memmove(bytes + before + count, bytes + before, behind);
     size_t got = read_some(held->fd, bytes + before, count, held->start + place);
     while (got < needed - place && held->blanks > 0) {
@@ -274,15 +313,15 @@ static uint32_t begin(struct held *held, int fd, uint64_t offset, uint64_t lengt
     held->ahead = ahead;
     held->unread = LUKS_TO_END;
     held->ranges = malloc(sizeof *held->ranges);
-    held->bytes = malloc(1);
-    return held->ranges != NULL && held->bytes != NULL ? LUKS_DONE : LUKS_MEMORY;
+    return held->ranges != NULL && make_room(held, 0) ? LUKS_DONE : LUKS_MEMORY;
 }
 
 static void end(struct held *held)
 {
     int kept = errno;
     free(held->ranges);
-    free(held->bytes);
+    if (held->room > 0)
+        (void)munmap(held->bytes, held->room);
     errno = kept;
 }
 
@@ -925,6 +964,7 @@ struct asked {
     uint32_t hash, iterations, memory;
     struct luks_derivation_bytes derivation;
     struct luks_given given;
+    struct luks_encryption_bytes encryption;
     uint64_t size;
     const uint8_t *passphrase, *text, *random;
     size_t passphrase_bytes, text_bytes, random_bytes;
@@ -1072,18 +1112,19 @@ static uint32_t plan_of_source(const struct held *held, const struct asked *it, 
 }
 
 /* What is given of a volume that is made, as the calls over bytes take it. */
-#define LAYOUT(given) \
-    (given)->sector, (given)->key != NULL, bytes_of((given)->key), (size_t)(given)->key_bytes, bytes_of((given)->uuid), count_of((given)->uuid), \
-        bytes_of((given)->label), count_of((given)->label), bytes_of((given)->subsystem), count_of((given)->subsystem)
+#define LAYOUT(it) \
+    (it)->given.sector, (it)->given.key != NULL, bytes_of((it)->given.key), (size_t)(it)->given.key_bytes, bytes_of((it)->given.uuid), \
+        count_of((it)->given.uuid), bytes_of((it)->given.label), count_of((it)->given.label), bytes_of((it)->given.subsystem), \
+        count_of((it)->given.subsystem), &(it)->encryption
 
 /* Plans what is asked over the bytes that are held. */
 static uint32_t plan_of(const struct held *held, const struct asked *it, struct room *room, struct luks_plan *plan)
 {
     if (it->kind == FORMAT1)
-        return luks_format1_bytes(GIVEN(held), it->is_detached, LAYOUT(&it->given), it->hash, it->iterations, it->passphrase,
+        return luks_format1_bytes(GIVEN(held), it->is_detached, LAYOUT(it), it->hash, it->iterations, it->passphrase,
                                   it->passphrase_bytes, it->random, it->random_bytes, room->calls, room->calls_room, room->bytes, room->bytes_room, plan);
     if (it->kind == FORMAT2)
-        return luks_format2_bytes(GIVEN(held), it->is_detached, LAYOUT(&it->given), it->hash, it->iterations, &it->derivation, it->passphrase,
+        return luks_format2_bytes(GIVEN(held), it->is_detached, LAYOUT(it), it->hash, it->iterations, &it->derivation, it->passphrase,
                                   it->passphrase_bytes, it->memory, it->random, it->random_bytes, room->calls, room->calls_room, room->bytes,
                                   room->bytes_room, plan);
     if (it->kind != EDIT)
@@ -1326,19 +1367,41 @@ static bool layout_of(const struct luks_given *given, struct luks_given *layout)
     *layout = (struct luks_given){.size = sizeof *layout, .sector = LUKS_NO_SECTOR};
     if (given == NULL)
         return true;
-    if (!is_known(given, given->size, sizeof *given) || given->key_bytes > SIZE_MAX || !are_given(given->key, (size_t)given->key_bytes))
+    if (!is_known(given, given->size, sizeof *given) || given->key_bytes > SIZE_MAX || given->nothing != 0)
         return false;
     memcpy(layout, given, sizeof *layout);
     return true;
 }
 
-/* Makes a volume, which takes so many random bytes. */
+/* The longest volume key of a volume that is made, in bytes, and how many random bytes each of these takes. */
+#define MOST_KEY_BYTES 64
+#define RANDOM_BYTES 4000
+
+/* By what it is encrypted, as the calls over bytes take it; what isn't given is as the program has it. */
+static struct luks_encryption_bytes encryption_of(const struct luks_given *given)
+{
+    struct luks_encryption_bytes found = {.cipher = given->cipher, .key_bytes = (uint32_t)least(given->key_bytes, UINT32_MAX),
+                                          .sector_bytes = given->sector_bytes, .older = given->older};
+    if (found.cipher == 0)
+        found.cipher = LUKS_AES_XTS_PLAIN64;
+    if (found.key_bytes == 0)
+        found.key_bytes = found.cipher >= LUKS_AES_CBC_ESSIV_SHA256 ? 32 : MOST_KEY_BYTES;
+    if (found.sector_bytes == 0)
+        found.sector_bytes = 512;
+    return found;
+}
+
+/* Makes a volume, which takes so many random bytes beside those of each byte of its key. */
 static uint32_t format(int fd, uint64_t offset, uint64_t length, const struct luks_given *layout, struct asked *it, uint64_t count)
 {
     struct held held;
     if (!layout_of(layout, &it->given) || !are_given(it->passphrase, it->passphrase_bytes) || !are_given(it->random, it->random_bytes))
         return LUKS_USAGE;
     it->passphrase = given(it->passphrase);
+    it->encryption = encryption_of(&it->given);
+    count += RANDOM_BYTES * least(it->encryption.key_bytes, MOST_KEY_BYTES);
+    if (it->given.key == NULL)
+        it->given.key_bytes = 0;
     uint32_t answer = settle(fd);
     if (answer != LUKS_DONE)
         return answer;
@@ -1356,7 +1419,7 @@ uint32_t luks_format1(int fd, uint64_t offset, uint64_t length, bool is_detached
 {
     struct asked it = {.kind = FORMAT1, .is_detached = is_detached, .hash = hash, .iterations = iterations, .passphrase = passphrase,
                        .passphrase_bytes = passphrase_bytes, .random = random, .random_bytes = random_bytes};
-    return format(fd, offset, length, given, &it, 256080);
+    return format(fd, offset, length, given, &it, 80);
 }
 
 uint32_t luks_format2(int fd, uint64_t offset, uint64_t length, bool is_detached, const struct luks_given *given, uint32_t hash, uint32_t iterations,
@@ -1367,7 +1430,7 @@ uint32_t luks_format2(int fd, uint64_t offset, uint64_t length, bool is_detached
                        .passphrase_bytes = passphrase_bytes, .memory = memory, .random = random, .random_bytes = random_bytes};
     if (!choice_of(derivation, &it.derivation))
         return LUKS_USAGE;
-    return format(fd, offset, length, given, &it, 256208);
+    return format(fd, offset, length, given, &it, 208);
 }
 
 /* ---- costs by time ---- */

@@ -22,8 +22,9 @@
  * What is read. Each call has a window: the `length` bytes from `offset` on, fewer where the file ends. Ranges of it are read as they
  * are needed, and held in memory until the call returns: the header and the key areas that are opened or written. Where it reads first it
  * reads 64 KiB, or 544 KiB where a keyslot is opened or made; at each other place half as much as at the one before, and behind what
- * was read as much again, at most 1 MiB. So beside what the call needs it holds some 1 MiB (docs/PERFORMANCE.md has a table). A call
- * that writes holds what stands where it writes, and what it writes there, in several copies: of luks_backup the whole backup. A
+ * was read as much again, at most 1 MiB. So beside what the call needs it holds some 1 MiB. A call that writes holds what stands where it
+ * writes, and twice what it writes there; but for zeros that it writes over zeros, which it leaves out. Pages of zeros take no memory. So
+ * no call takes more than some 1 MiB beyond what `luks` reads for the same (docs/PERFORMANCE.md has a table), where a target holds zeros. A
  * sector that can't be read is LUKS_DEVICE only where a byte of it is needed. The position in the file stays.
  *
  * Locks. No call but luks_open_volume locks anything. As `luks` does, the caller holds flock(LOCK_SH) on the volume's file while it is
@@ -250,13 +251,26 @@ struct luks_edit {
     const struct luks_derivation *derivation; /* add, change: the new keyslot's; NULL as that of the keyslot that the secret opens */
 };
 
+/* The cipher of a volume that is made, of its data and its key areas. The last three are of older disks, for data that is there already. */
+enum {
+    LUKS_AES_XTS_PLAIN64 = 1,      /* with keys of 32 or 64 bytes */
+    LUKS_AES_XTS_PLAIN = 2,        /* likewise */
+    LUKS_AES_CBC_ESSIV_SHA256 = 3, /* with keys of 16, 24 or 32 bytes */
+    LUKS_AES_CBC_PLAIN64 = 4,
+    LUKS_AES_CBC_PLAIN = 5
+};
+
 /* What is given of a volume that is made; a pointer is NULL where nothing is. */
 struct luks_given {
-    uint64_t size;     /* of the struct */
-    uint64_t sector;   /* where its data begins, in sectors of 512 bytes; LUKS_NO_SECTOR at 2 MiB, of LUKS2 at 16 MiB, and at 0 where `is_detached` */
-    const void *key;   /* the volume key, in the place of random bytes: 64 bytes, else LUKS_FAULT_KEY_LENGTH */
-    uint64_t key_bytes;
+    uint64_t size;         /* of the struct */
+    uint64_t sector;       /* where its data begins, in sectors of 512 bytes; LUKS_NO_SECTOR at 2 MiB, of LUKS2 at 16 MiB, and at 0 where `is_detached` */
+    const void *key;       /* the volume key, in the place of random bytes */
+    uint64_t key_bytes;    /* how long the volume key is, also a random one; 0: 64, of a cipher of older disks 32 */
     const char *uuid, *label, *subsystem; /* texts that end with a 0; one without a byte isn't given. LUKS1 has neither of the last two */
+    uint32_t cipher;       /* which one: the numbers above; 0: LUKS_AES_XTS_PLAIN64 */
+    uint32_t sector_bytes; /* how long a sector of the data is: 512, of LUKS2 also 1024, 2048 or 4096; 0: 512 */
+    uint32_t older;        /* whether a cipher of older disks is accepted; 0: no */
+    uint32_t nothing;      /* 0, else it is LUKS_USAGE */
 };
 
 /* The hash of a volume that is made: of the derivation, the splitter and the digest. */
@@ -344,6 +358,10 @@ struct luks_opened_bytes {
 struct luks_derivation_bytes {
     uint32_t kind; /* 0 where none is chosen */
     uint32_t turns, memory, lanes;
+};
+
+struct luks_encryption_bytes {
+    uint32_t cipher, key_bytes, sector_bytes, older; /* as of luks_given, but that 0 is no cipher and no number of bytes */
 };
 
 struct luks_edit_bytes {
@@ -521,10 +539,12 @@ uint32_t luks_repair(int fd, uint64_t offset, uint64_t length, bool is_detached)
 uint32_t luks_label(int fd, uint64_t offset, uint64_t length, bool is_detached, const char *label, size_t label_bytes);
 
 /* Makes a LUKS1 or a LUKS2 volume whose keyslot 0 opens by the passphrase, with what is `given` in the place of what is made of random bytes, or NULL.
- * LUKS_FAULT_PAYLOAD (in the header or the key areas, or past what the header can tell), _TOO_SMALL, _UUID, _BAD_LABEL, _KEY_LENGTH, _ITERATIONS, _ARGON2 and
- * _RANDOM_LENGTH may refuse it, in this order. What stood there before is written over without question, but no byte where the data begins or
- * behind it. They take 256080 and 256208 random bytes, also those in whose place something is given. The keyslot of LUKS2 derives by
- * `derivation`, Argon2 with up to `memory` KiB, or where it is NULL as the digest of the volume key: by PBKDF2 with `iterations`. */
+ * LUKS_FAULT_PAYLOAD (in the header or the key areas, or past what the header can tell), _TOO_SMALL, _SECTOR_SIZE, _UNEVEN (the data's part isn't a whole number
+ * of such sectors), _UUID, _BAD_LABEL, _CIPHER (of older disks, and `older` is 0), _KEY_LENGTH (the cipher takes no such key), _ITERATIONS, _ARGON2 and
+ * _RANDOM_LENGTH may refuse it, in this order; a number that is no cipher's is LUKS_USAGE. What stood there before is written over without question, but no byte where
+ * the data begins or behind it. They take 80 and 208 random bytes and 4000 for each byte of the volume key, also those in whose place something is given: of a key of 64
+ * bytes 256080 and 256208. The keyslot of LUKS2 derives by `derivation`, Argon2 with up to `memory` KiB, or where it is NULL as the digest of the volume key: by
+ * PBKDF2 with `iterations`. */
 uint32_t luks_format1(int fd, uint64_t offset, uint64_t length, bool is_detached, const struct luks_given *given, uint32_t hash, uint32_t iterations,
                       const void *passphrase, size_t passphrase_bytes, const void *random, size_t random_bytes);
 
@@ -620,17 +640,20 @@ uint32_t luks_apply_bytes(const struct luks_range *ranges, size_t ranges_count, 
                           const uint8_t *passphrase, size_t passphrase_bytes, const uint8_t *text, size_t text_bytes, const uint8_t *random,
                           size_t random_bytes, struct luks_call *calls, size_t calls_room, uint8_t *bytes, size_t bytes_room, struct luks_plan *plan);
 
-/* `sector` is LUKS_NO_SECTOR where none is given; the key is given where `is_keyed`, each text where it has a byte. A text that isn't UTF-8 is LUKS_USAGE. */
+/* `sector` is LUKS_NO_SECTOR where none is given; the key is given where `is_keyed`, each text where it has a byte. A text that isn't UTF-8 is LUKS_USAGE, and
+ * so is a number that is no cipher's. */
 uint32_t luks_format1_bytes(const struct luks_range *ranges, size_t ranges_count, const uint8_t *held, size_t held_bytes, uint64_t total, bool is_detached,
                             uint64_t sector, bool is_keyed, const uint8_t *key, size_t key_bytes, const uint8_t *uuid, size_t uuid_bytes,
-                            const uint8_t *label, size_t label_bytes, const uint8_t *subsystem, size_t subsystem_bytes, uint32_t hash, uint32_t iterations,
+                            const uint8_t *label, size_t label_bytes, const uint8_t *subsystem, size_t subsystem_bytes,
+                            const struct luks_encryption_bytes *encryption, uint32_t hash, uint32_t iterations,
                             const uint8_t *passphrase, size_t passphrase_bytes, const uint8_t *random, size_t random_bytes,
                             struct luks_call *calls, size_t calls_room, uint8_t *bytes, size_t bytes_room, struct luks_plan *plan);
 
 /* `derivation` is of kind 0 where none is chosen. */
 uint32_t luks_format2_bytes(const struct luks_range *ranges, size_t ranges_count, const uint8_t *held, size_t held_bytes, uint64_t total, bool is_detached,
                             uint64_t sector, bool is_keyed, const uint8_t *key, size_t key_bytes, const uint8_t *uuid, size_t uuid_bytes,
-                            const uint8_t *label, size_t label_bytes, const uint8_t *subsystem, size_t subsystem_bytes, uint32_t hash, uint32_t iterations,
+                            const uint8_t *label, size_t label_bytes, const uint8_t *subsystem, size_t subsystem_bytes,
+                            const struct luks_encryption_bytes *encryption, uint32_t hash, uint32_t iterations,
                             const struct luks_derivation_bytes *derivation, const uint8_t *passphrase, size_t passphrase_bytes, uint32_t memory,
                             const uint8_t *random, size_t random_bytes, struct luks_call *calls, size_t calls_room, uint8_t *bytes,
                             size_t bytes_room, struct luks_plan *plan);

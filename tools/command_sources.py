@@ -49,7 +49,7 @@ def of_program(table):
     record = table.program
     more = [*record.lines("more"), "", *table.status_lines(table.statuses), "", *record.lines("last")]
     return [constant("VERSION", record.rest("version"), "What `--version` prints after the program's name: the version, whose section is the first of",
-                     "CHANGELOG.md, and the kit that proves and builds the program, as `rt version` says it."),
+                     "CHANGELOG.md, and the logic by which it is proved, as `rt version` says it behind the kit's name."),
             constant("PROGRAM", record.rest("line"), "What the program does, in a line."),
             constant("PROGRAM_MORE", narrow(more), "The program's help after its commands.")]
 

@@ -53,7 +53,7 @@ from .library import (KEYSLOTS, LIBRARY, NO_NUMBER, NO_SECTOR, NO_SLOT, TO_END, 
 from .numbers import Number
 from .records import Digest, Header, Keyslot, Segment, Token
 
-__all__ = ["Comparison", "Derivation", "Digest", "Fault", "Header", "Keyslot", "Number", "Report", "Segment", "Token", "Unreadable", "Untried", "VERSION", "Volume",
+__all__ = ["CIPHERS", "Comparison", "Derivation", "Digest", "Fault", "Header", "Keyslot", "Number", "Report", "Segment", "Token", "Unreadable", "Untried", "VERSION", "Volume",
            "explain"]
 
 VERSION = LIBRARY.luks_version().decode("ascii")
@@ -61,6 +61,7 @@ VERSION = LIBRARY.luks_version().decode("ascii")
 
 ADD, CHANGE, REMOVE, REPAIR, LABEL = range(1, 6)
 HASHES = (None, "sha1", "sha256", "sha512")
+CIPHERS = ("aes-xts-plain64", "aes-xts-plain", "aes-cbc-essiv:sha256", "aes-cbc-plain64", "aes-cbc-plain")
 KINDS = (None, "pbkdf2", "argon2i", "argon2id")
 KEY_ROOM = 128
 KEEPINGS = ("absent", "same", "older", "missing", "removed", "damaged")
@@ -429,11 +430,15 @@ class Volume:
 
     def format(self, version: int, passphrase: Buffer, hash: str = "sha256", iterations: int = 100000, force: bool = False, *,
                derivation: Optional[Derivation] = None, memory: int = 0, key: Optional[Buffer] = None, payload: Optional[int] = None,
-               uuid: Optional[str] = None, label: Optional[str] = None, subsystem: Optional[str] = None) -> None:
+               uuid: Optional[str] = None, label: Optional[str] = None, subsystem: Optional[str] = None, cipher: str = "aes-xts-plain64",
+               key_bytes: Optional[int] = None, sector_size: int = 512, older: bool = False) -> None:
         """Makes a volume of LUKS1 or LUKS2 whose keyslot 0 opens by the passphrase.
 
-        `key` is its volume key, 64 bytes, in the place of random ones; `payload` the sector of 512 bytes at which its data begins, of which no byte
+        `key` is its volume key in the place of random bytes; `payload` the sector of 512 bytes at which its data begins, of which no byte
         changes; `uuid` the text of its uuid. LUKS2 has a `label` and a `subsystem`. Payload, KeyLength, Uuid and BadLabel may refuse these.
+
+        `cipher` is one of CIPHERS, those of older disks with `older` alone, else Cipher refuses it. The volume key has `key_bytes`: if they aren't given
+        as many as `key`, or 64, of a cipher of older disks 32. `sector_size` is how long a sector of the data is, of LUKS2 up to 4096 (SectorSize, Uneven).
 
         The keyslot of LUKS2 derives by the `derivation`, Argon2 with up to `memory` MiB, or where there is none by PBKDF2, as the digest.
         Where a LUKS header stands that is accepted, at least as a detached one, it is refused by OtherVolume, in the midst of a reencryption
@@ -445,12 +450,18 @@ class Volume:
             raise ValueError("a derivation is chosen for LUKS2")
         if payload is not None and not 0 <= payload < NO_SECTOR:
             raise ValueError("a payload's sector is a number of 64 bits")
+        if cipher not in CIPHERS or not 0 < sector_size < 1 << 32:
+            raise ValueError("a cipher is one of CIPHERS, and a sector has some bytes")
+        if key_bytes is not None and not 0 < key_bytes < 1 << 32:
+            raise ValueError("a key's length is a number of 32 bits")
         choice = _choice(derivation)
         if not force:
             self._refuse_standing(None)
-        with Secret(passphrase) as words, Secret(b"" if key is None else key) as (key_at, key_bytes):
-            given = GivenRecord(NO_SECTOR if payload is None else payload, None if key is None else ctypes.addressof(key_at), key_bytes,
-                                *map(_text, (uuid, label, subsystem)))
+        with Secret(passphrase) as words, Secret(b"" if key is None else key) as (key_at, key_count):
+            if key is not None and key_bytes not in (None, key_count):
+                raise ValueError("the key hasn't so many bytes")
+            given = GivenRecord(NO_SECTOR if payload is None else payload, None if key is None else ctypes.addressof(key_at), key_bytes or key_count,
+                                *map(_text, (uuid, label, subsystem)), CIPHERS.index(cipher) + 1, sector_size, older)
             made = (self._fd, *self._window, self._is_detached, ctypes.byref(given), HASHES.index(hash), _iterations(iterations))
             if version == 1:
                 answer = LIBRARY.luks_format1(*made, *words, None, 0)

@@ -46,7 +46,8 @@ class EditRecord(Sized):
 
 class GivenRecord(Sized):
     _fields_ = _sized(("sector", ctypes.c_uint64), ("key", ctypes.c_void_p), ("key_bytes", ctypes.c_uint64),
-                      *((name, ctypes.c_char_p) for name in ("uuid", "label", "subsystem")))
+                      *((name, ctypes.c_char_p) for name in ("uuid", "label", "subsystem")),
+                      *((name, ctypes.c_uint32) for name in ("cipher", "sector_bytes", "older", "nothing")))
 
 
 class FieldsRecord(Sized):

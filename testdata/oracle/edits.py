@@ -1,7 +1,8 @@
 """Edits of a volume in Python: the first refusal, or the volume that is left, byte for byte, of the old one and the random bytes.
 
 An edit's `memory` is how many KiB Argon2 may take, its `older` whether ciphers and hashes of older disks are accepted; its `kdf` is what a new keyslot is to derive by, the members of the metadata that say so, and none where
-that is as of the keyslot that opens. An edit is a list of writes, each followed by a flush, so that what a failing call leaves can be told too (`left`).
+that is as of the keyslot that opens. Add, Change and Remove that name no keyslot are those of the first one that the passphrase opens, as `open` tries them (`named`). An edit is a list of writes, each followed by a flush, so
+that what a failing call leaves can be told too (`left`).
 """
 from dataclasses import dataclass, replace
 
@@ -23,7 +24,7 @@ class Key(bytes):
 
 @dataclass(frozen=True)
 class Add:
-    """By the keyslot `by`; where there is none, by a key that is the volume's."""
+    """By the keyslot `by`; where there is none, by the one that the passphrase opens, or by a key that is the volume's."""
     by: int
     old: bytes
     new: bytes
@@ -62,11 +63,36 @@ class Repair:
 
 @dataclass(frozen=True)
 class Label:
+    """The label, and the subsystem where it is given."""
     text: bytes
+    subsystem: bytes = None
+
+
+@dataclass(frozen=True)
+class Priority:
+    """A keyslot gets a priority: `ignore`, `normal` or `prefer`."""
+    slot: int
+    priority: str
+
+
+@dataclass(frozen=True)
+class AddToken:
+    """The token that the text says, by the number `to`, or the least that is free."""
+    text: bytes
+    to: int = None
+
+
+@dataclass(frozen=True)
+class RemoveToken:
+    number: int
+
+
+# the edits that change the header alone
+REWRITES = (Label, Priority, AddToken, RemoveToken)
 
 
 def opened_by(edit):
-    """The keyslot that the edit's passphrase, or key, has to open, none of a key that is the volume's, and that; none for Repair and Label."""
+    """The keyslot that the edit's passphrase, or key, has to open, none of a key that is the volume's, and that; none for an edit of the header alone."""
     if isinstance(edit, Add):
         return edit.by, edit.old
     if isinstance(edit, Change):
@@ -75,6 +101,13 @@ def opened_by(edit):
         own = None if isinstance(edit.passphrase, Key) else edit.slot
         return own if edit.by is None else edit.by, edit.passphrase
     return None
+
+
+def by_passphrase(edit):
+    """The name of the member that says which keyslot the passphrase opens, where the edit names none, and it is to be found; else none."""
+    if opened_by(edit) is None or isinstance(opened_by(edit)[1], Key) or opened_by(edit)[0] is not None:
+        return None
+    return "by" if isinstance(edit, Add) else "slot"
 
 
 def kdf_of(edit):
@@ -114,8 +147,10 @@ class Volume1:
     def is_last(self, n):
         return self.used == [n]
 
-    def takes_label(self, text):
-        return False
+    def refuse_rewrite(self, edit):
+        """LUKS1 has nothing of these."""
+        if isinstance(edit, REWRITES):
+            raise Fault("BadLabel")
 
     def refuse_header(self, edit):
         pass
@@ -248,8 +283,24 @@ class Volume2:
     def is_last(self, n):
         return makers.digest_of(self.value, n)["keyslots"] == [str(n)]
 
-    def takes_label(self, text):
-        return len(text) <= 47 and all(0x20 <= byte <= 0x7E for byte in text)
+    def refuse_rewrite(self, edit):
+        """The texts of a label, and the rules of tokens: of a new one those of the metadata that it would be part of."""
+        if isinstance(edit, Label) and not all(takes_text(text) for text in (edit.text, edit.subsystem or b"")):
+            raise Fault("BadLabel")
+        tokens = self.value["tokens"]
+        if isinstance(edit, RemoveToken) and str(edit.number) not in tokens:
+            raise Fault("NoSuchToken")
+        if not isinstance(edit, AddToken):
+            return
+        if edit.to is not None and str(edit.to) in tokens:
+            raise Fault("TokenTaken")
+        if self.token_number(edit) is None:
+            raise Fault("NoFreeToken")
+        reader.judge(self.copy, self.made(edit, None))
+
+    def token_number(self, edit):
+        """That of a new token, or none."""
+        return next((n for n in range(32) if str(n) not in self.value["tokens"] and edit.to in (None, n)), None)
 
     def refuse_header(self, edit):
         if self.copy["seqid"] == LARGEST_SEQID:
@@ -261,6 +312,12 @@ class Volume2:
         """The new metadata."""
         if isinstance(edit, Remove):
             return makers.without_slot(self.value, edit.slot)
+        if isinstance(edit, Priority):
+            return makers.with_priority(self.value, edit.slot, edit.priority)
+        if isinstance(edit, RemoveToken):
+            return makers.without_token(self.value, edit.number)
+        if isinstance(edit, AddToken):
+            return makers.with_token(self.value, self.token_number(edit), reader.read_value(edit.text))
         if not isinstance(edit, (Add, Change)):
             return self.value
         like, name = self.like(edit)
@@ -276,7 +333,9 @@ class Volume2:
         """Both copies of the new header, the one that wasn't chosen first."""
         at, size = self.copy["at"], self.copy["size"]
         label, uuid, subsystem = (self.volume[at + place:at + place + length] for place, length in ((24, 48), (168, 40), (208, 48)))
-        fields = {"seqid": self.copy["seqid"] + 1, "label": edit.text if isinstance(edit, Label) else label, "uuid": uuid, "subsystem": subsystem}
+        if isinstance(edit, Label):
+            label, subsystem = edit.text, subsystem if edit.subsystem is None else edit.subsystem
+        fields = {"seqid": self.copy["seqid"] + 1, "label": label, "uuid": uuid, "subsystem": subsystem}
         written = {place: images.copy(makers.compact(value), place, size, salt=salt, **fields) for place, salt in zip((0, size), salts)}
         return [(place, written[place]) for place in sorted(written, key=lambda place: place == at)]
 
@@ -294,6 +353,11 @@ class Volume2:
             start, length = reader.slot_area2(self.keyslot(edit.slot))
             wiped.append((start, bytes(length)))
         return areas + self.copies(edit, self.made(edit, salt), salts) + wiped
+
+
+def takes_text(text):
+    """A label or a subsystem."""
+    return len(text) <= 47 and all(0x20 <= byte <= 0x7E for byte in text)
 
 
 def iterations_of(edit):
@@ -334,12 +398,29 @@ def accepted(volume, detached, over=True):
     return v
 
 
+def named(volume, detached, edit, over=True):
+    """The edit with the keyslot that its passphrase opens, where it names none: what refuses every edit refuses it first."""
+    member = by_passphrase(edit)
+    if member is None:
+        return edit
+    accepted(volume, detached, over)
+    plan, _, order = reader.openable(volume, edit.memory, edit.older)
+    for n in order:
+        try:
+            key = reader.opened(plan(n), opened_by(edit)[1])
+        except Fault:
+            continue
+        if key is not None:
+            return replace(edit, **{member: n})
+    raise Fault("Locked")
+
+
 def find(v, edit):
-    """The keyslots that the edit names are there: the one that it opens and, of a removal, the one that goes, which is named once."""
-    named = {opened_by(edit)[0]} - {None} if opened_by(edit) else set()
-    if isinstance(edit, Remove):
-        named.add(edit.slot)
-    if not named <= set(v.used):
+    """The keyslots that the edit names are there: the one that it opens or whose priority it sets and, of a removal, the one that goes, which is named once."""
+    wanted = {opened_by(edit)[0]} - {None} if opened_by(edit) else set()
+    if isinstance(edit, (Remove, Priority)):
+        wanted.add(edit.slot)
+    if not wanted <= set(v.used):
         raise Fault("NoSuchSlot")
     if isinstance(edit, Remove) and edit.by == edit.slot:
         raise Fault("SameSlot")
@@ -378,7 +459,7 @@ def key_of(v, edit):
 
 
 def place_of(v, edit):
-    """The slot that the edit makes or changes; none for Remove, Repair and Label."""
+    """The slot that the edit makes or changes; none for Remove and for edits of the header alone."""
     to = edit.to if isinstance(edit, Add) else None
     if not v.takes_a_free_slot(edit):
         return edit.slot if isinstance(edit, Change) else None
@@ -393,6 +474,7 @@ def place_of(v, edit):
 def needed(volume, detached, edit, over=True):
     """How many random bytes the edit takes, or the refusal."""
     try:
+        edit = named(volume, detached, edit, over)
         v = accepted(volume, detached, over)
         find(v, edit)
         v.judge_need(edit)
@@ -403,7 +485,8 @@ def needed(volume, detached, edit, over=True):
 
 
 def steps(volume, detached, edit, random, over=True):
-    """The slot that is made or changed, and the writes; or the first refusal."""
+    """The slot that is made or changed, or that was found for a removal, and the writes; or the first refusal."""
+    asked, edit = edit, named(volume, detached, edit, over)
     v = accepted(volume, detached, over)
     find(v, edit)
     key = key_of(v, edit)
@@ -416,12 +499,11 @@ def steps(volume, detached, edit, random, over=True):
         raise Fault("Iterations")
     if isinstance(edit, (Add, Change)) and v.is_beyond(edit):
         raise Fault("Argon2")
-    if isinstance(edit, Label) and not v.takes_label(edit.text):
-        raise Fault("BadLabel")
+    v.refuse_rewrite(edit)
     v.refuse_header(edit)
     if len(random) != v.need(edit):
         raise Fault("RandomLength")
-    return to, v.writes(edit, key, random)
+    return to if edit is asked or not isinstance(edit, Remove) else edit.slot, v.writes(edit, key, random)
 
 
 def written(volume, writes):

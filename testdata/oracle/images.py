@@ -67,7 +67,7 @@ def copy(text, at=0, size=16384, seqid=1, label=b"", subsystem=b"", uuid=UUID, s
     magic = FIRST_MAGIC if at == 0 else SECOND_MAGIC
     binary = magic + struct.pack(">HQQ48s32s64s40s48sQ184x64s3584x", version, size, seqid, label, algorithm, salt, uuid, subsystem,
                                  at if hdr_offset is None else hdr_offset, bytes(64))
-    assert len(binary) == 4096 and len(text) < size - 4096
+    assert len(binary) == 4096 and len(text) <= size - 4096
     whole = binary + text.ljust(size - 4096, b"\0")
     return whole[:448] + hashlib.sha256(whole).digest() + whole[480:]
 

@@ -83,6 +83,26 @@ def without_slot(value, n):
     return value
 
 
+PRIORITIES = {"ignore": 0, "normal": None, "prefer": 2}
+
+
+def with_priority(value, n, priority):
+    """With the priority of that name in keyslot n, or none where it is the normal one."""
+    value = copy.deepcopy(value)
+    slot, number = value["keyslots"][str(n)], PRIORITIES[priority]
+    slot.pop("priority", None)
+    slot.update({} if number is None else {"priority": number})
+    return value
+
+
+def with_token(value, n, token):
+    return {**value, "tokens": {**value["tokens"], str(n): token}}
+
+
+def without_token(value, n):
+    return {**value, "tokens": {name: token for name, token in value["tokens"].items() if name != str(n)}}
+
+
 def formatted(hash_name, iterations, segment_offset, digest_salt, digest, slot_salt):
     """What formatting writes."""
     return images.metadata({"0": images.keyslot(hash_name, iterations, slot_salt)}, hash_name, iterations, digest, digest_salt, segment_offset)

@@ -151,17 +151,29 @@ def depth(text):
 def read_json(area):
     if area[:1] != b"{" or b"\0" not in area or area.rstrip(b"\0") != area.split(b"\0", 1)[0]:
         raise Fault("JsonArea")
+    value = read_value(area.split(b"\0", 1)[0])
+    if any_not_whole(value):
+        raise Fault("NotWhole")
+    return value
+
+
+def read_value(text):
+    """The value of a JSON text, in which numbers may be that the metadata hasn't."""
     try:
-        text = area.split(b"\0", 1)[0].decode()
+        text = text.decode()
         if depth(text) > 127:
             raise ValueError("deep")
         value = json.loads(text, parse_int=read_number, parse_float=read_number, parse_constant=refused, object_pairs_hook=read_pairs)
         json.dumps(value, ensure_ascii=False, default=lambda _: None).encode()
     except (ValueError, RecursionError):
         raise Fault("BadJson") from None
-    if any_not_whole(value):
-        raise Fault("NotWhole")
     return value
+
+
+def levels(value):
+    """How deep the value nests."""
+    inner = value.values() if isinstance(value, dict) else value if isinstance(value, list) else None
+    return 0 if inner is None else 1 + max(map(levels, inner), default=0)
 
 
 def any_not_whole(value):
@@ -278,6 +290,16 @@ def unassigned(value):
 def metadata(copy):
     """The value of a chosen copy's metadata; refuses by every row but the region of segments."""
     value = read_json(copy["json"])
+    judge(copy, value)
+    return value
+
+
+def judge(copy, value):
+    """Refuses a value in the place of the copy's metadata likewise: one that nests too deep isn't read again."""
+    if any_not_whole(value):
+        raise Fault("NotWhole")
+    if levels(value) > 127:
+        raise Fault("BadJson")
     rows = Rows(value)
     refuse_least("Shape", rows.shapes)
     refuse_least("Kind", rows.kinds)
@@ -293,7 +315,6 @@ def metadata(copy):
         start, length = slot_area2(slot)
         if start < least or start + length > most:
             raise Fault(f"Region(Slot({n}))")
-    return value
 
 
 def region(copy, value):

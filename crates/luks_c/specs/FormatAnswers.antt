@@ -1,5 +1,5 @@
 -- What the calls answer that make a volume.
-use Rattle.std.specs.Prelude.{◌≡◌, ℕ, ◌*◌, ◌≤◌, List, Option, true, false}
+use Rattle.std.specs.Prelude.{◌≡◌, ℕ, ◌*◌, ◌≤◌, List, Option, Bool, true}
 use Rattle.luks_area.specs.First.{IsLeast}
 use Rattle.luks_area.specs.Ranges.{SameBut}
 use Rattle.luks_kdf.specs.declared.hash_name.HashName.{HashName}
@@ -72,10 +72,10 @@ pub record IsFirstOf (faults : FormatFault → Type 0) (number : ℕ) : Type 0 w
 abbrev pub AnswersFormat : List Part → List ℕ → (FormatFault → Type 0) → (List ℕ → Type 0) → Buffers → Buffers → LuksPlan → ℕ → Type 0
 AnswersFormat parts v faults = AnswersPlan parts v (HasNoFault faults) (IsFirstOf faults)
 
--- of a LUKS1 volume
-abbrev pub AnswersFormat1 : List Part → List ℕ → ℕ → Given → Format → List ℕ → List ℕ → Buffers → Buffers → LuksPlan → ℕ → Type 0
-AnswersFormat1 parts v total given format passphrase random old new told number =
-    AnswersFormat parts v (IsFormat1FaultAs given false total format random)
+-- of a LUKS1 volume, whose cipher may be one of older disks or not
+abbrev pub AnswersFormat1 : List Part → List ℕ → ℕ → Given → Bool → Format → List ℕ → List ℕ → Buffers → Buffers → LuksPlan → ℕ → Type 0
+AnswersFormat1 parts v total given older format passphrase random old new told number =
+    AnswersFormat parts v (IsFormat1FaultAs given older total format random)
     (IsMade1 given format passphrase random v told.slot) old new told number
 
 -- of a LUKS2 volume, by the derivation that is chosen, with what is allowed of its keyslot

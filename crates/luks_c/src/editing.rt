@@ -10,7 +10,7 @@ ghost use Rattle.luks_c_answers.specs.EditAsked.{IsUnasked};
 
 use luks_c_answers::{
     LuksEdit, LuksPlan, MEMORY, USAGE, data_of, edit_number, edit_of, give_plan, number_of_slot,
-    planned_writes, tell_wanted,
+    tell_wanted,
 };
 use luks_given::{Given, Part, PlannedCall, PlannedWrites, are_parts};
 use luks_volume::{Data, Done, Edit, EditFault, apply};
@@ -89,7 +89,7 @@ fn apply_given<K: Given>(
         (record { calls = calls.new; bytes = bytes.new }) told.new result }
     ensures wanted { result ≡ 102 → IsWanted K.parts total told.new.beyond }
 {
-    let Ok(mut device) = planned_writes::<K>(alloc, parts, held, total) else {
+    let Ok(mut device) = PlannedWrites::<K>::new(alloc, parts, held, total) else {
         return MEMORY;
     };
     match apply(alloc, &mut device, payload, edit, random) {

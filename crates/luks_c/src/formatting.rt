@@ -1,24 +1,23 @@
 //! Making a volume.
-ghost use Rattle.std.specs.Prelude.{◌≡◌, ◌≢◌, ◌⊎◌, ◌↔◌, ◌≤◌, ◌<◌, false, length, MatchOption, Option};
+ghost use Rattle.std.specs.Prelude.{◌≡◌, ◌≢◌, ◌⊎◌, ◌↔◌, ◌==◌, not, length, MatchOption, Option};
 ghost use Rattle.luks_kdf.specs.declared.hash_name.HashName.{HashName as TheHash};
 ghost use Rattle.luks_making.specs.declared.derivation.NewDerivation.{NewDerivation as Chosen};
 ghost use Rattle.luks_formatting.specs.declared.given.Given.{Given as Whole};
 ghost use Rattle.luks_reading.specs.declared.format.Format.{Format as TheFormat};
 ghost use Rattle.luks_given.specs.Parts.{AreGiven, AreNoParts, IsWanted, volume};
-ghost use Rattle.luks_c_answers.specs.Asked.{payload_of};
+ghost use Rattle.luks_c_answers.specs.Asked.{allowed_of, payload_of};
 ghost use Rattle.luks_c_answers.specs.ChoiceAsked.{IsNoChoice};
 ghost use Rattle.luks_c_headers.specs.RebuildAnswers.{IsNoText};
-ghost use Rattle.luks_c.specs.GivenAsked.{IsGivenBy};
+ghost use Rattle.luks_c.specs.GivenAsked.{IsGivenBy, IsNoCipher};
 ghost use Rattle.luks_c.specs.FormatAnswers.{AnswersChosen, AnswersFormat1, AnswersFormat2, AnswersNumbered, IsFormat, IsNoHash, hash_number};
 
-use crate::giving::given_of;
+use crate::giving::{LuksEncryption, cipher_of, given_of};
 use luks_c_answers::{
-    LuksDerivation, LuksPlan, MEMORY, USAGE, chosen_of, format_number, give_plan, planned_writes,
+    LuksDerivation, LuksPlan, MEMORY, USAGE, allowed_of, chosen_of, format_number, give_plan,
     tell_wanted,
 };
 use luks_formatting::{Given as Layout, format1_as, format2_as};
-use luks_given::{Given, Part, PlannedCall, are_parts};
-use luks_reading::Allowed;
+use luks_given::{Given, Part, PlannedCall, PlannedWrites, are_parts};
 use luks_volume::{Format, FormatFault, HashName, NewDerivation, Passphrase};
 use std::alloc::Global;
 use std::marker::Brand;
@@ -29,7 +28,7 @@ use std::marker::Brand;
 /// The payload begins at the `sector` of 512 bytes, or, where that is 2^64 - 1, where it does unless asked.
 /// With `is_keyed` the volume key is `key`. The uuid, the label and the subsystem are the texts that are given,
 /// where they have a byte; LUKS1 has neither of the last two. The hash is 1 for SHA-1, 2 for SHA-256, 3 for
-/// SHA-512; it takes 256080 random bytes. Takes memory for a copy of the given bytes and for the plan.
+/// SHA-512. It takes 80 random bytes and 4000 for each byte of the volume key, and memory for the plan.
 #[unsafe(no_mangle)]
 pub extern "C" fn luks_format1_bytes(
     alloc: Global,
@@ -43,6 +42,7 @@ pub extern "C" fn luks_format1_bytes(
     uuid: &[u8],
     label: &[u8],
     subsystem: &[u8],
+    encryption: &LuksEncryption,
     hash: u32,
     iterations: u32,
     passphrase: &[u8],
@@ -51,29 +51,46 @@ pub extern "C" fn luks_format1_bytes(
     bytes: &mut [u8],
     told: &mut LuksPlan,
 ) -> u32
-    ensures usage { result ≡ 101 ↔ ((AreNoParts parts.now held.now total ⊎ IsNoHash hash)
-        ⊎ (IsNoText uuid.now ⊎ (IsNoText label.now ⊎ IsNoText subsystem.now))) }
+    ensures usage { result ≡ 101 ↔ (IsNoCipher encryption.now.cipher
+        ⊎ ((AreNoParts parts.now held.now total ⊎ IsNoHash hash)
+        ⊎ (IsNoText uuid.now ⊎ (IsNoText label.now ⊎ IsNoText subsystem.now)))) }
     ensures answers { result ≢ 101 → AnswersNumbered hash iterations
-        (IsGivenBy (payload_of is_detached) sector is_keyed key.now uuid.now label.now subsystem.now)
+        (IsGivenBy (payload_of is_detached) sector is_keyed key.now uuid.now label.now subsystem.now encryption.now)
         (λ (given : Whole) (format : TheFormat).
-        AnswersFormat1 parts.now (volume parts.now held.now total) total given format passphrase.now random.now
+        AnswersFormat1 parts.now (volume parts.now held.now total) total given
+        (not (encryption.now.older == 0)) format passphrase.now random.now
         (record { calls = calls.old; bytes = bytes.old })
         (record { calls = calls.new; bytes = bytes.new }) told.new result) }
     ensures wanted { result ≡ 102 → IsWanted parts.now total told.new.beyond }
 {
     *told = LuksPlan::default();
-    let Ok(given) = given_of(is_detached, sector, is_keyed, key, uuid, label, subsystem) else {
+    let Some(cipher) = cipher_of(encryption.cipher) else {
         return USAGE;
     };
+    let Ok(given) = given_of(
+        is_detached,
+        sector,
+        is_keyed,
+        key,
+        uuid,
+        label,
+        subsystem,
+        encryption,
+        cipher,
+    ) else {
+        return USAGE;
+    };
+    let older = encryption.older != 0;
     match format_of(parts, held, total, hash, iterations) {
         Some(format) => make1::<Brand>(
-            alloc, parts, held, total, &given, &format, passphrase, random, calls, bytes, told,
+            alloc, parts, held, total, &given, older, &format, passphrase, random, calls, bytes,
+            told,
         ),
         None => USAGE,
     }
 }
 
-/// The same by LUKS2, which takes 256208 random bytes, and memory for its metadata. The keyslot is derived
+/// The same by LUKS2, which takes 128 random bytes more, and memory for its metadata. The keyslot is derived
 /// as is chosen, and Argon2 may take `memory` KiB; the random bytes are those of any choice.
 #[unsafe(no_mangle)]
 pub extern "C" fn luks_format2_bytes(
@@ -88,6 +105,7 @@ pub extern "C" fn luks_format2_bytes(
     uuid: &[u8],
     label: &[u8],
     subsystem: &[u8],
+    encryption: &LuksEncryption,
     hash: u32,
     iterations: u32,
     derivation: &LuksDerivation,
@@ -98,14 +116,14 @@ pub extern "C" fn luks_format2_bytes(
     bytes: &mut [u8],
     told: &mut LuksPlan,
 ) -> u32
-    ensures usage { result ≡ 101 ↔ (IsNoChoice derivation.now
+    ensures usage { result ≡ 101 ↔ (IsNoChoice derivation.now ⊎ (IsNoCipher encryption.now.cipher
         ⊎ ((AreNoParts parts.now held.now total ⊎ IsNoHash hash)
-        ⊎ (IsNoText uuid.now ⊎ (IsNoText label.now ⊎ IsNoText subsystem.now)))) }
+        ⊎ (IsNoText uuid.now ⊎ (IsNoText label.now ⊎ IsNoText subsystem.now))))) }
     ensures answers { result ≢ 101 → AnswersChosen hash iterations
-        (IsGivenBy (payload_of is_detached) sector is_keyed key.now uuid.now label.now subsystem.now)
+        (IsGivenBy (payload_of is_detached) sector is_keyed key.now uuid.now label.now subsystem.now encryption.now)
         derivation.now (λ (given : Whole) (format : TheFormat) (chosen : Option Chosen).
         AnswersFormat2 parts.now (volume parts.now held.now total) total given format chosen
-        (record { memory = memory; older = false }) passphrase.now random.now (record { calls = calls.old; bytes = bytes.old })
+        (allowed_of memory encryption.now.older) passphrase.now random.now (record { calls = calls.old; bytes = bytes.old })
         (record { calls = calls.new; bytes = bytes.new }) told.new result) }
     ensures wanted { result ≡ 102 → IsWanted parts.now total told.new.beyond }
 {
@@ -113,15 +131,25 @@ pub extern "C" fn luks_format2_bytes(
     let Ok(chosen) = chosen_of(derivation) else {
         return USAGE;
     };
-    let Ok(given) = given_of(is_detached, sector, is_keyed, key, uuid, label, subsystem) else {
+    let Some(cipher) = cipher_of(encryption.cipher) else {
+        return USAGE;
+    };
+    let Ok(given) = given_of(
+        is_detached,
+        sector,
+        is_keyed,
+        key,
+        uuid,
+        label,
+        subsystem,
+        encryption,
+        cipher,
+    ) else {
         return USAGE;
     };
     let by_ = Passphrase {
         bytes: passphrase,
-        allowed: Allowed {
-            memory,
-            older: false,
-        },
+        allowed: allowed_of(memory, encryption.older),
     };
     match format_of(parts, held, total, hash, iterations) {
         Some(format) => make2::<Brand>(
@@ -138,6 +166,7 @@ fn make1<K: Given>(
     held: &[u8],
     total: u64,
     given: &Layout<'_>,
+    older: bool,
     format: &Format,
     passphrase: &[u8],
     random: &[u8],
@@ -149,15 +178,15 @@ fn make1<K: Given>(
     requires given { AreGiven parts.now held.now total K.bytes }
     requires slot { told.old.slot ≡ 0 }
     ensures own { result ≢ 101 }
-    ensures answers { AnswersFormat1 K.parts K.bytes total given.now format.now passphrase.now random.now
+    ensures answers { AnswersFormat1 K.parts K.bytes total given.now older format.now passphrase.now random.now
         (record { calls = calls.old; bytes = bytes.old })
         (record { calls = calls.new; bytes = bytes.new }) told.new result }
     ensures wanted { result ≡ 102 → IsWanted K.parts total told.new.beyond }
 {
-    let Ok(mut device) = planned_writes::<K>(alloc, parts, held, total) else {
+    let Ok(mut device) = PlannedWrites::<K>::new(alloc, parts, held, total) else {
         return MEMORY;
     };
-    match format1_as(alloc, &mut device, given, format, passphrase, false, random) {
+    match format1_as(alloc, &mut device, given, format, passphrase, older, random) {
         Ok(_) => give_plan(&device, calls, bytes, told),
         Err(FormatFault::Device) => tell_wanted(&device, told),
         Err(fault) => format_number(&fault),
@@ -189,7 +218,7 @@ fn make2<K: Given>(
         (record { calls = calls.new; bytes = bytes.new }) told.new result }
     ensures wanted { result ≡ 102 → IsWanted K.parts total told.new.beyond }
 {
-    let Ok(mut device) = planned_writes::<K>(alloc, parts, held, total) else {
+    let Ok(mut device) = PlannedWrites::<K>::new(alloc, parts, held, total) else {
         return MEMORY;
     };
     match format2_as(

@@ -18,6 +18,6 @@ pub use numbers::{
     edit_number, fault_of, format_number, key_number, number_of, open_number, read_number,
     rebuild_number, rebuild1_number, restore_number,
 };
-pub use plans::{LuksPlan, give_plan, planned_writes, tell_either, tell_wanted};
+pub use plans::{LuksPlan, give_plan, tell_either, tell_wanted};
 pub use texts::{number_name, number_text};
 pub use uses::{number_shown, use_name};

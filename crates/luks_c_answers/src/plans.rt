@@ -1,16 +1,14 @@
 //! The plan of a call that writes, in the caller's buffers.
-ghost use Rattle.std.specs.Prelude.{IsTrue, ℕ, ◌≡◌, ◌≤◌, ◌≢◌, ◌<◌, ◌⊎◌, length, IfOk};
-ghost use Rattle.luks_area.specs.Device.{IsSettled};
+ghost use Rattle.std.specs.Prelude.{IsTrue, ℕ, ◌≡◌, ◌≤◌, ◌≢◌, ◌<◌, ◌⊎◌, length};
 ghost use Rattle.luks_given.specs.Given.{given_failures, given_size, IsUnwritten};
-ghost use Rattle.luks_given.specs.Parts.{AreGiven, IsWanted};
-ghost use Rattle.luks_given.specs.Planned.{lacked_memory, planned_bytes, planned_calls, planned_failures, planned_size, planned_unsettled, planned_written};
+ghost use Rattle.luks_given.specs.Parts.{IsWanted};
+ghost use Rattle.luks_given.specs.Planned.{lacked_memory, planned_bytes, planned_calls, planned_failures, planned_size, planned_written};
 ghost use Rattle.luks_c_answers.specs.Plans.{IsPlan, IsPlanGiven, WantsEither};
 
 use crate::buffers::fill_front;
 use crate::numbers::{BEYOND, DONE, MEMORY, ROOM};
 use luks_area::Device;
 use luks_given::{Given, GivenParts, Part, PlannedCall, PlannedWrites};
-use std::alloc::{AllocError, Global};
 
 /// What a call tells that writes.
 #[repr(C)]
@@ -28,25 +26,6 @@ pub struct LuksPlan {
     pub source_beyond: Part,
     /// The keyslot that is made or sealed again; 2^32 - 1 where none is.
     pub slot: u32,
-}
-
-/// The volume of `total` bytes that has these in these ranges, over a copy of them, with an empty plan.
-pub fn planned_writes<'a, K: Given>(
-    alloc: Global,
-    parts: &'a [Part],
-    held: &[u8],
-    total: u64,
-) -> Result<PlannedWrites<'a, K>, AllocError>
-    requires parts { K.parts ≡ parts.now }
-    requires given { AreGiven parts.now held.now total K.bytes }
-    ensures bytes { IfOk result (λ device. planned_bytes device ≡ K.bytes) }
-    ensures size { IfOk result (λ device. planned_size device ≡ total) }
-    ensures failures { IfOk result (λ device. planned_failures device ≡ 0) }
-    ensures settled { IfOk result (IsSettled planned_unsettled) }
-{
-    let mut copied = Vec::new(alloc);
-    copied.extend_from_slice(held)?;
-    Ok(PlannedWrites::new(alloc, parts, copied, total))
 }
 
 /// Gives the plan, where both buffers have room for it.

@@ -4,9 +4,9 @@ ghost use Rattle.luks_given.specs.Parts.{AreGiven};
 ghost use Rattle.luks_c_answers.specs.Plans.{WantsEither};
 ghost use Rattle.luks_c_headers.specs.ConvertAnswers.{AnswersConvert};
 
-use luks_c_answers::{LuksPlan, MEMORY, convert_number, give_plan, planned_writes, tell_either};
+use luks_c_answers::{LuksPlan, MEMORY, convert_number, give_plan, tell_either};
 use luks_converting::{ConvertFault, convert};
-use luks_given::{Given, GivenParts, Part, PlannedCall};
+use luks_given::{Given, GivenParts, Part, PlannedCall, PlannedWrites};
 use luks_reading::Data;
 use std::alloc::Global;
 
@@ -40,7 +40,7 @@ pub fn convert_given<S: Given, K: Given>(
         → WantsEither S.parts source_total K.parts total told.new }
 {
     let mut from: GivenParts<'_, S> = GivenParts::new(source_parts, source, source_total);
-    let Ok(mut device) = planned_writes::<K>(alloc, parts, held, total) else {
+    let Ok(mut device) = PlannedWrites::<K>::new(alloc, parts, held, total) else {
         return MEMORY;
     };
     match convert(alloc, &mut from, payload, &mut device, random) {

@@ -4,8 +4,8 @@ ghost use Rattle.luks_given.specs.Parts.{AreGiven};
 ghost use Rattle.luks_c_answers.specs.Plans.{WantsEither};
 ghost use Rattle.luks_c_headers.specs.KeepAnswers.{AnswersRestore, over_asked};
 
-use luks_c_answers::{LuksPlan, MEMORY, give_plan, planned_writes, restore_number, tell_either};
-use luks_given::{Given, GivenParts, Part, PlannedCall};
+use luks_c_answers::{LuksPlan, MEMORY, give_plan, restore_number, tell_either};
+use luks_given::{Given, GivenParts, Part, PlannedCall, PlannedWrites};
 use luks_keeping::{Over, RestoreFault, restore};
 use luks_reading::Data;
 use std::alloc::Global;
@@ -39,7 +39,7 @@ pub fn restore_given<S: Given, K: Given>(
         → WantsEither S.parts source_total K.parts total told.new }
 {
     let mut from: GivenParts<'_, S> = GivenParts::new(source_parts, source, source_total);
-    let Ok(mut device) = planned_writes::<K>(alloc, parts, held, total) else {
+    let Ok(mut device) = PlannedWrites::<K>::new(alloc, parts, held, total) else {
         return MEMORY;
     };
     match restore(alloc, &mut from, &mut device, payload, over) {

@@ -1,9 +1,9 @@
 //! What is made of small volumes, byte for byte.
+use crate::calls::{is_accepted, make_header};
 use crate::sources::{LEAST, RANDOM};
 use crate::volumes::{ROWS, Row};
 use luks_area::MemDevice;
-use luks_converting::convert;
-use luks_reading::{Data, check};
+use luks_reading::Data;
 use luks_test_devices::{counted, is_sum, put_all, small1, target};
 use std::alloc::Global;
 use std::test::Fail;
@@ -28,8 +28,8 @@ fn holds(alloc: Global, row: &Row) -> Result<bool, Fail> {
     } else {
         Data::Here
     };
-    let answer = convert(alloc, &mut source, payload, &mut made, &random);
-    let accepted = check(alloc, &mut made, Data::Elsewhere).is_ok();
+    let answer = make_header(alloc, &mut source, payload, &mut made, &random);
+    let accepted = is_accepted(alloc, &mut made);
     let kept = is_sum(source.contents(), row.source);
     let owed = is_sum(made.front.contents(), row.target) && made.beyond == 0;
     Ok(given && answer.is_ok() && accepted && kept && owed)

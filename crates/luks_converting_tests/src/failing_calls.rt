@@ -1,7 +1,8 @@
 //! Converting on devices of which each call fails in turn.
+use crate::calls::make_header;
 use crate::sources::{LEAST, RANDOM, two_keyslots};
 use luks_area::{Device, FaultyDevice, Leave, MemDevice};
-use luks_converting::{ConvertFault, convert};
+use luks_converting::ConvertFault;
 use luks_reading::Data;
 use luks_test_devices::{
     Call, Front, KEPT, Recording, counted, leave_behind, old_bytes, part, put, target,
@@ -49,7 +50,7 @@ fn end_of(alloc: Global, image: &[u8], failing: Failing, leave: Leave) -> Result
         calls: Vec::with_capacity(alloc, 128)?,
     };
     let random = counted(alloc, 0, RANDOM)?;
-    let answer = convert(alloc, &mut source, Data::Here, &mut target, &random);
+    let answer = make_header(alloc, &mut source, Data::Here, &mut target, &random);
     let end = match (answer, source.failures(), target.failures()) {
         (Ok(()), 0, 0) => End::Done,
         (Err(ConvertFault::Device), 1, 0) => End::Source,
@@ -176,7 +177,7 @@ fn refused_before_a_call_of_the_target(rt: HostRuntime) -> Result<(), Fail> {
     let mut source = MemDevice::new(two_keyslots(alloc)?);
     let mut target = FaultyDevice::new(target(alloc, LEAST)?, 0, Leave::Ones);
     let random = counted(alloc, 0, 127)?;
-    let answer = convert(alloc, &mut source, Data::Here, &mut target, &random);
+    let answer = make_header(alloc, &mut source, Data::Here, &mut target, &random);
     let told = matches!(answer, Err(ConvertFault::RandomLength));
     assert!(rt; told && target.failures() == 0, "no call");
     assert!(rt; target.len() == LEAST, "the length");

@@ -1,11 +1,10 @@
 //! What opens by the header that is made, and an edit of it.
+use crate::calls::{edit_header, is_accepted, key_of, make_header};
 use crate::sources::{LEAST, RANDOM, two_keyslots};
 use luks_area::MemDevice;
-use luks_converting::convert;
 use luks_edit::Edit;
-use luks_reading::{Allowed, Data, OpenFault, check, open_slot};
+use luks_reading::{Data, OpenFault};
 use luks_test_devices::{VOLUME_KEY, add, counted, old_bytes, part};
-use luks_volume::apply;
 use std::alloc::Global;
 use std::test::Fail;
 
@@ -14,7 +13,7 @@ fn converted(alloc: Global) -> Result<MemDevice, Fail> {
     let mut source = MemDevice::new(two_keyslots(alloc)?);
     let mut made = MemDevice::new(old_bytes(alloc, LEAST as usize)?);
     let random = counted(alloc, 0, RANDOM)?;
-    match convert(alloc, &mut source, Data::Here, &mut made, &random) {
+    match make_header(alloc, &mut source, Data::Here, &mut made, &random) {
         Ok(()) => Ok(made),
         Err(_) => Err("not converted".into()),
     }
@@ -22,7 +21,7 @@ fn converted(alloc: Global) -> Result<MemDevice, Fail> {
 
 /// Whether the keyslot opens by the passphrase to the volume key.
 fn opens(alloc: Global, header: &mut MemDevice, n: u8, passphrase: &[u8]) -> bool {
-    match open_slot(alloc, header, n, passphrase, Allowed::NOTHING) {
+    match key_of(alloc, header, n, passphrase) {
         Ok(Some(key)) => key.as_bytes() == VOLUME_KEY.as_slice(),
         _ => false,
     }
@@ -30,10 +29,7 @@ fn opens(alloc: Global, header: &mut MemDevice, n: u8, passphrase: &[u8]) -> boo
 
 /// Whether there is no keyslot of this number.
 fn is_absent(alloc: Global, header: &mut MemDevice, n: u8) -> bool {
-    matches!(
-        open_slot(alloc, header, n, b"one", Allowed::NOTHING),
-        Err(OpenFault::NoSuchSlot)
-    )
+    matches!(key_of(alloc, header, n, b"one"), Err(OpenFault::NoSuchSlot))
 }
 
 #[test]
@@ -68,7 +64,7 @@ fn adding_by_keyslot_3(rt: HostRuntime) -> Result<(), Fail> {
     assert!(rt; says(&header, DIGEST), "the digest");
     let random = counted(alloc, 7, 2656)?;
     let edit = add!(3, b"three", b"four", None);
-    let answer = apply(alloc, &mut header, Data::Elsewhere, &edit, &random);
+    let answer = edit_header(alloc, &mut header, &edit, &random);
     let slot = answer.ok().and_then(|done| done.slot);
     assert!(rt; slot == Some(1), "the new keyslot's number");
     assert!(rt; says(&header, DIGEST), "the digest afterwards");
@@ -76,7 +72,7 @@ fn adding_by_keyslot_3(rt: HostRuntime) -> Result<(), Fail> {
         let found = opens(alloc, &mut header, n, passphrase.as_bytes());
         assert!(rt; found, "keyslot {n}");
     }
-    let accepted = check(alloc, &mut header, Data::Elsewhere).is_ok();
+    let accepted = is_accepted(alloc, &mut header);
     assert!(rt; accepted, "accepted");
     Ok(())
 }

@@ -1,10 +1,11 @@
 //! Converting to a device that loses, with each call in turn, what was written and not flushed.
+use crate::calls::{is_accepted, key_of, make_header};
 use crate::lengthened::Lengthened;
 use crate::sources::{LEAST, RANDOM};
 use luks_area::{Device, MemDevice};
-use luks_converting::{ConvertFault, convert};
+use luks_converting::ConvertFault;
 use luks_kdf::HashName;
-use luks_reading::{Allowed, Data, check, open_slot};
+use luks_reading::Data;
 use luks_test_devices::{KEPT, LosingDevice, Loss, counted, old_bytes, part, put, small1, small2};
 use std::alloc::Global;
 use std::process::Abort;
@@ -33,10 +34,10 @@ const END: usize = 36864;
 
 /// Whether the header is refused, or its keyslot opens.
 fn opens_where_accepted(alloc: Global, left: &mut Lengthened<MemDevice>) -> bool {
-    if check(alloc, left, Data::Elsewhere).is_err() {
+    if !is_accepted(alloc, left) {
         return true;
     }
-    open_slot(alloc, left, 0, b"one", Allowed::NOTHING).is_ok_and(|key| key.is_some())
+    matches!(key_of(alloc, left, 0, b"one"), Ok(Some(_)))
 }
 
 /// What converting comes to where the call of this number fails and no later one does anything. The source
@@ -57,7 +58,7 @@ fn end_of(
         beyond: 0,
     };
     let random = counted(alloc, 0, RANDOM)?;
-    let answer = convert(alloc, &mut source, Data::Here, &mut target, &random);
+    let answer = make_header(alloc, &mut source, Data::Here, &mut target, &random);
     assert!(rt; source.contents() == image, "call {call}: the source");
     let left = target.front.contents();
     let kept = left.len() == old.len() && left.get(END..) == old.get(END..);

@@ -1,7 +1,7 @@
 //! Which calls converting makes, and in which order.
+use crate::calls::make_header;
 use crate::sources::{LEAST, RANDOM, two_keyslots};
 use luks_area::MemDevice;
-use luks_converting::convert;
 use luks_reading::Data;
 use luks_test_devices::{Call, Recording, counted, target};
 use std::test::Fail;
@@ -67,7 +67,7 @@ fn order_of_calls(rt: HostRuntime) -> Result<(), Fail> {
         calls: Vec::new(alloc),
     };
     let random = counted(alloc, 0, RANDOM)?;
-    let answer = convert(alloc, &mut source, Data::Here, &mut target, &random);
+    let answer = make_header(alloc, &mut source, Data::Here, &mut target, &random);
     assert!(rt; answer.is_ok(), "done");
     assert!(rt; clear_first(target.calls.as_slice()), "the target");
     assert!(rt; target.device.beyond == 0, "nothing behind");

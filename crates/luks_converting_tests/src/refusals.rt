@@ -1,10 +1,10 @@
 //! Which fault is told, and the large areas.
+use crate::calls::{is_accepted, make_header};
 use crate::lengthened::Lengthened;
 use crate::sources::{LEAST, RANDOM, two_keyslots};
 use luks_area::MemDevice;
-use luks_converting::convert;
 use luks_kdf::HashName;
-use luks_reading::{Data, check};
+use luks_reading::Data;
 use luks_test_devices::{
     KEPT, LARGE, counted, large_areas, old_bytes, put, small1, small2, target,
 };
@@ -103,8 +103,8 @@ fn holds(alloc: Global, row: &(Source, bool, u64, usize, &str)) -> Result<bool, 
     } else {
         Data::Here
     };
-    let told = match convert(alloc, &mut source, payload, &mut made, &random) {
-        Ok(()) => owed.is_empty() && check(alloc, &mut made, Data::Elsewhere).is_ok(),
+    let told = match make_header(alloc, &mut source, payload, &mut made, &random) {
+        Ok(()) => owed.is_empty() && is_accepted(alloc, &mut made),
         Err(fault) => {
             let text = format!(in alloc; "{fault}")?;
             let old = old_bytes(alloc, KEPT)?;

@@ -1,7 +1,8 @@
 //! Converting with refused memory.
+use crate::calls::make_header;
 use crate::sources::{LEAST, RANDOM, two_keyslots};
 use luks_area::MemDevice;
-use luks_converting::{ConvertFault, convert};
+use luks_converting::ConvertFault;
 use luks_reading::Data;
 use luks_test_devices::{BLOCKS, KEPT, TakenMemory, counted, old_bytes, target};
 use std::alloc::Global;
@@ -28,7 +29,7 @@ fn ends_with_little_memory(alloc: Global) -> Result<(End, usize), Fail> {
     let mut end = End::Memory;
     let mut given = 0;
     for turn in 0..BLOCKS {
-        let answer = convert(alloc, &mut source, Data::Here, &mut made, &random);
+        let answer = make_header(alloc, &mut source, Data::Here, &mut made, &random);
         let kept = made.front.contents() == old.as_slice() && made.beyond == 0;
         end = match answer {
             Ok(()) => End::Done,

@@ -1,6 +1,9 @@
 //! A volume in memory that may be damaged further, and what is made of it.
+ghost use Rattle.std.specs.Prelude.{◌+◌, ◌<◌, ◌^◌};
+ghost use Rattle.luks_area.specs.Device.{IsSettled};
+
 use crate::given::give_all;
-use luks_area::MemDevice;
+use luks_area::{Device, MemDevice};
 use luks_reading::{Allowed, open_slot};
 use luks_test_devices::old_bytes;
 use luks_vector_lines::{Functions, Malformed, Words, demand};
@@ -62,7 +65,7 @@ impl DamagedLuks1 {
         let len = words.len()?;
         let mut source = self.turned(alloc, words)?;
         let mut target = MemDevice::new(old_bytes(alloc, len)?);
-        let rebuilt = rebuild1(&mut source, &mut target, &self.given);
+        let rebuilt = made(&mut source, &mut target, &self.given);
         Ok(rebuilt.map(|()| target))
     }
 
@@ -98,8 +101,23 @@ impl DamagedLuks1 {
     }
 }
 
+/// Makes the header.
+fn made<S: Device, T: Device>(
+    source: &mut S,
+    target: &mut T,
+    given: &Given,
+) -> Result<(), Rebuild1Fault>
+    requires source_room { S.failed source.old + 1 < 2 ^ 64 }
+    requires target_room { T.failed target.old + 1 < 2 ^ 64 }
+    requires settled { T.tells → IsSettled T.unsettled target.old }
+{
+    rebuild1(source, target, given)
+}
+
 /// Whether this keyslot opens.
-fn opens(alloc: Global, target: &mut MemDevice, slot: u8, passphrase: &[u8]) -> &'static str {
+fn opens<D: Device>(alloc: Global, target: &mut D, slot: u8, passphrase: &[u8]) -> &'static str
+    requires { D.failed target.old + 1 < 2 ^ 64 }
+{
     match open_slot(alloc, target, slot, passphrase, Allowed::NOTHING) {
         Ok(Some(_)) => "opens",
         Ok(None) => "shut",

@@ -1,6 +1,9 @@
 //! A small volume that lines damage, and the header that is made of it.
-use luks_area::MemDevice;
-use luks_notes::note_taken;
+ghost use Rattle.std.specs.Prelude.{◌+◌, ◌<◌, ◌^◌};
+ghost use Rattle.luks_area.specs.Device.{IsSettled};
+
+use luks_area::{Device, MemDevice};
+use luks_notes::{Hashing, note_taken};
 use luks_reading::{Data, check};
 use luks_rebuilding::{Copies, Effort, RebuildFault, Which, rebuild};
 use luks_test_devices::{counted, old_bytes, two_hashes};
@@ -61,20 +64,36 @@ impl Asked {
         Which { copies, effort }
     }
 
-    /// What rebuilding answers.
-    fn rebuild(
-        &self,
-        alloc: Global,
-        source: &mut MemDevice,
-        target: &mut MemDevice,
-        random: &[u8],
-    ) -> Result<(), RebuildFault> {
-        let which = self.which();
+    /// The uuid that is given.
+    fn uuid(&self) -> Option<&str> {
         match &self.uuid {
-            Some(uuid) => rebuild(alloc, source, target, which, Some(uuid.as_str()), random),
-            None => rebuild(alloc, source, target, which, None, random),
+            Some(uuid) => Some(uuid.as_str()),
+            None => None,
         }
     }
+
+    /// What rebuilding answers.
+    fn rebuild<S: Device, T: Device>(
+        &self,
+        alloc: Global,
+        source: &mut S,
+        target: &mut T,
+        random: &[u8],
+    ) -> Result<(), RebuildFault>
+        requires source_room { S.failed source.old + 1 < 2 ^ 64 }
+        requires target_room { T.failed target.old + 1 < 2 ^ 64 }
+        requires settled { T.tells → IsSettled T.unsettled target.old }
+    {
+        let which = self.which();
+        rebuild(alloc, source, target, which, self.uuid(), random)
+    }
+}
+
+/// Whether the header is accepted.
+fn is_accepted<D: Device>(alloc: Global, header: &mut D) -> bool
+    requires { D.failed header.old + 1 < 2 ^ 64 }
+{
+    check(alloc, header, Data::Elsewhere).is_ok()
 }
 
 impl DamagedLuks2 {
@@ -115,7 +134,7 @@ impl DamagedLuks2 {
         }
         match answer {
             Err(fault) => Ok(format!(in alloc; "{fault} {sum}")?),
-            Ok(()) if check(alloc, &mut target, Data::Elsewhere).is_err() => {
+            Ok(()) if !is_accepted(alloc, &mut target) => {
                 Ok(String::from_str(alloc, "the header isn't accepted")?)
             }
             Ok(()) => Ok(format!(in alloc; "done {sum}")?),
@@ -130,8 +149,17 @@ impl DamagedLuks2 {
         let mut target = MemDevice::new(old_bytes(alloc, image.len())?);
         let asked = Asked::read(alloc, words)?;
         let _ = asked.rebuild(alloc, &mut source, &mut target, &counted(alloc, 0, 144)?);
+        let which = asked.which();
+        let mut hashing = Hashing::after(which.effort);
         let mut said = Vec::new(alloc);
-        note_taken(alloc, &mut source, &mut target, asked.which(), &mut said);
+        note_taken(
+            alloc,
+            &mut source,
+            &mut target,
+            which,
+            &mut hashing,
+            &mut said,
+        );
         let said = str::from_utf8(said.as_slice()).unwrap_or("no text");
         Ok(String::from_str(alloc, said.trim_end())?)
     }

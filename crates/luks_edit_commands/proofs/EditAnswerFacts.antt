@@ -45,14 +45,14 @@ module _ (tells : Type 0) (payload : Data) (lacks : Lacking) (v w : List ℕ) (b
 
   module _ (given : Given) where
     -- how many random bytes the edit takes isn't told
-    answers_untold : (f : EditFault) → after ≡ count_after (is_edit_failure f) before → (tells → w ≡ v) → (tells → UnlessOutside v (λ g. given.misses v g ⊎ IsFirstSeen payload given v g) f)
+    answers_untold : (f : EditFault) → after ≡ count_after (is_edit_failure f) before → (tells → w ≡ v) → (tells → UnlessOutside v (λ g. given.misses v g ⊎ IsFirstSeen payload (given.asks v) v g) f)
         → IsEditAnswer tells payload given lacks v w before after (edit_fault_answer f)
     answers_untold fault.Device count same is = inl count
     answers_untold fault.Memory count same is = (count, same, inr is)
     answers_untold f count same is = (count, λ t. inl (same t, is t))
 
     -- nothing is seen of it
-    pub answers_unseen : (unseen : Unseen) → after ≡ count_after (is_unseen_failure unseen) before → (tells → w ≡ v) → (tells → IsUnseen payload given v unseen)
+    pub answers_unseen : (unseen : Unseen) → after ≡ count_after (is_unseen_failure unseen) before → (tells → w ≡ v) → (tells → IsUnseen payload (given.asks v) (given.misses v) given.over v unseen)
         → IsEditAnswer tells payload given lacks v w before after (unseen_answer unseen)
     answers_unseen (Untold f) count same is = answers_untold f count same is
     answers_unseen (Used found) count same is = (count, λ t. (same t, is t))
@@ -78,6 +78,7 @@ module _ (tells : Type 0) (payload : Data) (lacks : Lacking) (v w : List ℕ) (b
         -- it is done
         pub answers_done : (made : Made) (slot : Option ℕ) → given.told e made.slot ≡ slot → after ≡ before → (tells → Replies payload u e random (Ok made) w)
             → IsEditAnswer tells payload given lacks v w before after (answer.Done slot)
+        unfolding run_replied
         answers_done made slot told counted is = (
           counted,
           λ t. record {
@@ -104,7 +105,7 @@ lacks_as tells payload given other lacks more v a asks words random (inr x) = in
 
 -- what refused an edit early that is given so, refuses one that is given otherwise
 early_as : (payload : Data) (given other : Given) (v : List ℕ) (f : EditFault) → ((e : Edit) → given.asks v e → other.asks v e)
-    → ((f : EditFault) → given.misses v f → other.misses v f) → given.misses v f ⊎ IsFirstSeen payload given v f → other.misses v f ⊎ IsFirstSeen payload other v f
+    → ((f : EditFault) → given.misses v f → other.misses v f) → given.misses v f ⊎ IsFirstSeen payload (given.asks v) v f → other.misses v f ⊎ IsFirstSeen payload (other.asks v) v f
 early_as payload given other v f asks misses (inl missed) = inl (misses f missed)
 early_as payload given other v f asks misses (inr x) = inr (record { edit = x.edit; asked = asks x.edit x.asked; first = x.first })
 
@@ -112,6 +113,7 @@ early_as payload given other v f asks misses (inr x) = inr (record { edit = x.ed
 pub answers_as : (tells : Type 0) (payload : Data) (given other : Given) (lacks more : Lacking) (v w : List ℕ) (before after : ℕ) → ((e : Edit) → given.asks v e → other.asks v e)
     → ((f : EditFault) → given.misses v f → other.misses v f) → ((e : Edit) (m : Option ℕ) → given.told e m ≡ other.told e m) → ((n : ℕ) (b : List ℕ) → given.has_random n b → other.has_random n b) → (given.is_long → other.is_long) → given.over ≡ other.over → ((f : InputFault) → lacks.words f → more.words f) → ((n : ℕ) (f : InputFault) → lacks.random n f → more.random n f) → (a : Answer)
     → IsEditAnswer tells payload given lacks v w before after a → IsEditAnswer tells payload other more v w before after a
+unfolding replied_as
 answers_as tells payload given other lacks more v w before after asks misses told has long over words random (answer.Done slot) x = (
   x.0,
   λ t.

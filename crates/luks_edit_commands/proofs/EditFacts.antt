@@ -129,7 +129,7 @@ never_done fault.Device is = cc
 never_done f is = cc
 
 -- the edit was run
-pub run_replied : (payload : Data) (v w : List ℕ) (given : Given) (e : Edit) → given.asks v e → (u : List ℕ) → u ≡ v → (count : ℕ) (random : List ℕ)
+unfoldable pub run_replied : (payload : Data) (v w : List ℕ) (given : Given) (e : Edit) → given.asks v e → (u : List ℕ) → u ≡ v → (count : ℕ) (random : List ℕ)
     → NeedsRandom v payload e count → given.has_random count random → (reply : Reply) → Replies payload u e random reply w
     → IsReplied payload given v w reply
 run_replied payload v w given e asked u unchanged count random needs taken reply is = record {
@@ -152,18 +152,18 @@ module _ (payload : Data) (v w : List ℕ) (ended : Status) (given : Given) wher
   }
 
   -- what refused it before a keyslot was opened that is named
-  refused_early : (f : EditFault) → given.misses v f ⊎ IsFirstSeen payload given v f → IsRefusedUnfound given v ⊎ IsRefusedAtOnce payload given v ⊎ IsRefusedLate payload given v
+  refused_early : (f : EditFault) → given.misses v f ⊎ IsFirstSeen payload (given.asks v) v f → IsRefusedUnfound given v ⊎ IsRefusedAtOnce payload given v ⊎ IsRefusedLate payload given v
   refused_early f (inl missed) = inl (record { fault = f; missed = missed })
   refused_early f (inr x) = inr (inl (record { edit = x.edit; asked = x.asked; fault = f; first = x.first }))
 
-  refused_untold : (f : EditFault) → UnlessOutside v (λ g. given.misses v g ⊎ IsFirstSeen payload given v g) f → ended_by f ≡ Refused
+  refused_untold : (f : EditFault) → UnlessOutside v (λ g. given.misses v g ⊎ IsFirstSeen payload (given.asks v) v g) f → ended_by f ≡ Refused
       → IsRefusedUnfound given v ⊎ IsRefusedAtOnce payload given v ⊎ IsRefusedLate payload given v
   refused_untold fault.Memory is refused = absurd (no_refusal refused)
   refused_untold fault.Device is refused = absurd (no_refusal refused)
   refused_untold f is refused = refused_early f is
 
   -- nothing was seen of it
-  pub says_unseen : (unseen : Unseen) → w ≡ v → IsUnseen payload given v unseen → ended ≡ answer_status (unseen_answer unseen)
+  pub says_unseen : (unseen : Unseen) → w ≡ v → IsUnseen payload (given.asks v) (given.misses v) given.over v unseen → ended ≡ answer_status (unseen_answer unseen)
       → SaysEdit payload given v w (ended ≡ Done) (ended ≡ Refused)
   says_unseen (Untold f) same is told = record {
     done = λ d. absurd (never_done f (so ended (ended_by f) Done told d));
@@ -230,7 +230,7 @@ pub taken_as : {N : Type 0} (remaining : N → Option (List ℕ)) (random : Resu
 taken_as remaining random count is taken = subst (AreFirstOf remaining random count) (sym is) taken
 
 -- what is told of an edit that is given so, is told of one that is given otherwise
-pub replied_as : (payload : Data) (given other : Given) (v w : List ℕ) (reply : Reply) → ((e : Edit) → given.asks v e → other.asks v e)
+unfoldable pub replied_as : (payload : Data) (given other : Given) (v w : List ℕ) (reply : Reply) → ((e : Edit) → given.asks v e → other.asks v e)
     → ((n : ℕ) (b : List ℕ) → given.has_random n b → other.has_random n b) → IsReplied payload given v w reply → IsReplied payload other v w reply
 replied_as payload given other v w reply asks has x = record {
   edit = x.edit;

@@ -1,21 +1,18 @@
 -- Which keyslot an edit opens where none is named, and what is seen of it before.
-use Rattle.std.proofs.Common.{◌≡◌, ℕ, List, ◌⊎◌, Bool, Option, Some, None, refl, inl, inr, subst, ◌∙◌}
+use Rattle.std.proofs.Common.{◌≡◌, ℕ, List, ◌⊎◌, Bool, Option, Some, None, refl, inl, inr, subst}
 use Rattle.std.specs.Borrow.{Bor}
 use Rattle.luks_area.specs.First.{IsLeast}
 use Rattle.luks_area.specs.Device.{count_after}
-use Rattle.luks_area.specs.declared.area.AreaName.TheVariants.{Segment}
 use Rattle.luks2_header.specs.Selection.{Choice, luks1, luks2, nothing}
-use Rattle.luks_rules.specs.declared.fault.MetaFault.{MetaFault}
-use Rattle.luks_rules.specs.declared.fault.MetaFault.TheVariants as meta
-use Rattle.luks_meta.specs.MetaFault.{IsMetaFault}
 use Rattle.luks_reading.specs.declared.check_fault.CheckFault.{CheckFault}
 use Rattle.luks_reading.specs.declared.check_fault.CheckFault.TheVariants as checking
 use Rattle.luks_reading.specs.declared.open_fault.OpenFault.{OpenFault}
 use Rattle.luks_reading.specs.declared.open_fault.OpenFault.TheVariants as opening
 use Rattle.luks_reading.specs.declared.report.Data.{Data}
-use Rattle.luks_reading.specs.Checked.{IsFault, IsFaultAs, IsLuks2MetaFault}
+use Rattle.luks_reading.specs.Checked.{IsFault, IsFaultAs}
 use Rattle.luks_reading.specs.Failures.{is_open_failure}
-use Rattle.luks_reading.specs.Header.{NeedsMetadata}
+use Rattle.luks_reading.specs.Header.{json_at}
+use Rattle.luks_reading.proofs.Luks2FaultFacts.{to_luks2_fault}
 use Rattle.luks_reading.specs.Unlocking.{IsVolumeRefusal, IsVolumeRefusalAs, IsVolumeRefusedBy}
 use Rattle.serde_json.specs.declared.value.Value.{Value as TheValue}
 use Rattle.luks_making.specs.declared.amended.Change.TheVariants as change
@@ -34,7 +31,7 @@ use Rattle.luks_request.specs.declared.request.OpenerFile.{OpenerFile}
 use Rattle.luks_commands.specs.Chosen.{chosen_of}
 use Rattle.luks_commands.specs.OpenAnswers.{allowed_of}
 use Rattle.luks_edit_commands.specs.declared.edit.seen.Unseen.TheVariants.{Untold}
-use Rattle.luks_edit_commands.specs.Editing.{Given, IsAsked, IsFirstSeen, IsMissed, IsSecret, IsTokenOf, IsUnfound, IsUnseen, Misses, UnlessOutside, given_words, kind_of, priority_of, unopened_fault}
+use Rattle.luks_edit_commands.specs.Editing.{IsAsked, IsFirstSeen, IsMissed, IsSecret, IsUnfound, IsUnseen, Misses, UnlessOutside, IsTokenOf, kind_of, priority_of, unopened_fault}
 
 -- what follows from a fault follows unless the device failed or memory was refused
 pub outside_as : (v : List ℕ) (P Q : EditFault → Type 0) → ((f : EditFault) → P f → Q f) → (f : EditFault) → UnlessOutside v P f → UnlessOutside v Q f
@@ -44,28 +41,26 @@ outside_as v P Q of f is = of f is
 
 -- ---- an accepted volume isn't refused when its keyslots are tried
 
-meta_refused : (json : List ℕ) (payload : Data) (f : MetaFault) → IsMetaFault json f → IsLuks2MetaFault json payload f
-meta_refused json payload (meta.Region (Segment n)) is = absurd is.fault
-meta_refused json payload f is = is
-
+-- what refuses it then refuses it as a whole
 volume_refused : (v : List ℕ) (payload : Data) (c : Choice) (f : OpenFault) → IsVolumeRefusalAs v c f → (g : CheckFault) × IsFaultAs v payload c g
 volume_refused v payload luks1 (opening.Head f) is = (checking.Head f, is.1)
 volume_refused v payload luks1 f is = absurd is
 volume_refused v payload (luks2 o copies) (opening.Head f) is = (checking.Head f, is)
-volume_refused v payload (luks2 o copies) (opening.Meta f) is = (checking.Meta f, meta_refused _ payload f is)
+volume_refused v payload (luks2 o copies) (opening.Meta f) is = (checking.Meta f, to_luks2_fault (json_at v o) payload f is)
 volume_refused v payload (luks2 o copies) f is = absurd is
 volume_refused v payload nothing (opening.Head f) is = (checking.Head f, is)
 volume_refused v payload nothing f is = absurd is
 
+-- and every edit of it
 not_accepted_as : (v : List ℕ) (payload : Data) (e : Edit) (c : Choice) (g : CheckFault) → IsFault v payload g → IsNeedFaultAs v payload e c (fault.NotAccepted g)
 not_accepted_as v payload e luks1 g is = is
 not_accepted_as v payload e (luks2 o copies) g is = is
 not_accepted_as v payload e nothing g is = is
 
+-- from the choice to the volume
 refusal_told : (v : List ℕ) (payload : Data) (e : Edit) (f : OpenFault) → IsVolumeRefusal v f → (g : EditFault) × IsNeedFault v payload e g
 refusal_told v payload e f x =
-    let y = volume_refused v payload x.choice f x.fault in
-    (
+    let y = volume_refused v payload x.choice f x.fault in (
       fault.NotAccepted y.0,
       record { choice = x.choice; chosen = x.chosen; fault = not_accepted_as v payload e x.choice y.0 (record { choice = x.choice; chosen = x.chosen; fault = y.1 }) },
     )
@@ -148,23 +143,36 @@ module _ (payload : Data) (v : List ℕ) (old new : Bor (List ℕ)) (f : EditFau
 -- ---- what is seen of it
 
 -- the header isn't read
-pub header_unseen : (editing : Editing) (old new : Bor (List ℕ)) (value : Option (Bor TheValue)) → IsTokenOf editing.request old.now value → (has_random : ℕ → List ℕ → Type 0) (v : List ℕ) (f : EditFault)
-    → ((e : Edit) → IsUntold v editing.payload e f) → IsUnseen editing.payload (given_words editing old.now new.now has_random) v (Untold f)
-header_unseen editing old new value read_ has_random v fault.Memory is = is edit.Repair
-header_unseen editing old new value read_ has_random v fault.Device is = tt
-header_unseen editing old new value read_ has_random v f is = elim (either_way editing.payload v old new f is value editing.request read_) [
+pub header_unseen : (editing : Editing) (old new : Bor (List ℕ)) (value : Option (Bor TheValue)) → IsTokenOf editing.request old.now value → (v : List ℕ) (f : EditFault)
+    → ((e : Edit) → IsUntold v editing.payload e f) → IsUnseen editing.payload (IsAsked v editing.request (λ p. p ≡ old.now) (λ p. p ≡ new.now)) (IsMissed editing.payload editing.request (λ p. p ≡ old.now) v) editing.over v (Untold f)
+header_unseen editing old new value read_ v fault.Memory is = is edit.Repair
+header_unseen editing old new value read_ v fault.Device is = tt
+header_unseen editing old new value read_ v f is = elim (either_way editing.payload v old new f is value editing.request read_) [
   | inl missed ↦ inl missed
   | inr x ↦ inr (record { edit = x.0; asked = x.1; first = is x.0 })
 ]
 
 -- no keyslot is found
-pub missed_unseen : (editing : Editing) (old new : List ℕ) (has_random : ℕ → List ℕ → Type 0) (v : List ℕ) (f : EditFault)
-    → UnlessOutside v (IsMissed editing.payload editing.request (λ p. p ≡ old) v) f → IsUnseen editing.payload (given_words editing old new has_random) v (Untold f)
-missed_unseen editing old new has_random v f is = outside_as v _ _ (λ g missed. inl missed) f is
+pub missed_unseen : (editing : Editing) (old new : List ℕ) (v : List ℕ) (f : EditFault)
+    → UnlessOutside v (IsMissed editing.payload editing.request (λ p. p ≡ old) v) f → IsUnseen editing.payload (IsAsked v editing.request (λ p. p ≡ old) (λ p. p ≡ new)) (IsMissed editing.payload editing.request (λ p. p ≡ old) v) editing.over v (Untold f)
+missed_unseen editing old new v f is =
+    outside_as v (IsMissed editing.payload editing.request (λ p. p ≡ old) v)
+    (λ g. IsMissed editing.payload editing.request (λ p. p ≡ old) v g ⊎ IsFirstSeen editing.payload (IsAsked v editing.request (λ p. p ≡ old) (λ p. p ≡ new)) v g)
+    (λ g missed. inl missed) f is
+
+-- of a volume whose bytes are those
+pub missed_moved : (editing : Editing) (old new v w : List ℕ) → w ≡ v → (f : EditFault) → UnlessOutside w (IsMissed editing.payload editing.request (λ p. p ≡ old) w) f
+    → IsUnseen editing.payload (IsAsked v editing.request (λ p. p ≡ old) (λ p. p ≡ new)) (IsMissed editing.payload editing.request (λ p. p ≡ old) v) editing.over v (Untold f)
+missed_moved editing old new v w same f is =
+    missed_unseen editing old new v f (subst (λ (x : List ℕ). UnlessOutside x (IsMissed editing.payload editing.request (λ p. p ≡ old) x) f) same is)
+
+pub asked_moved : (editing : Editing) (old new v w : List ℕ) → w ≡ v → (e : Edit) → IsAsked w editing.request (λ p. p ≡ old) (λ p. p ≡ new) e
+    → IsAsked v editing.request (λ p. p ≡ old) (λ p. p ≡ new) e
+asked_moved editing old new v w same e is = subst (λ (x : List ℕ). IsAsked x editing.request (λ p. p ≡ old) (λ p. p ≡ new) e) same is
 
 -- how many random bytes the edit takes isn't told
-pub untold_unseen : (editing : Editing) (old new : List ℕ) (has_random : ℕ → List ℕ → Type 0) (v : List ℕ) (e : Edit) → IsAsked v editing.request (λ p. p ≡ old) (λ p. p ≡ new) e
-    → (f : EditFault) → IsUntold v editing.payload e f → IsUnseen editing.payload (given_words editing old new has_random) v (Untold f)
-untold_unseen editing old new has_random v e asked fault.Memory is = is
-untold_unseen editing old new has_random v e asked fault.Device is = tt
-untold_unseen editing old new has_random v e asked f is = inr (record { edit = e; asked = asked; first = is })
+pub untold_unseen : (editing : Editing) (old new : List ℕ) (v : List ℕ) (e : Edit) → IsAsked v editing.request (λ p. p ≡ old) (λ p. p ≡ new) e
+    → (f : EditFault) → IsUntold v editing.payload e f → IsUnseen editing.payload (IsAsked v editing.request (λ p. p ≡ old) (λ p. p ≡ new)) (IsMissed editing.payload editing.request (λ p. p ≡ old) v) editing.over v (Untold f)
+untold_unseen editing old new v e asked fault.Memory is = is
+untold_unseen editing old new v e asked fault.Device is = tt
+untold_unseen editing old new v e asked f is = inr (record { edit = e; asked = asked; first = is })

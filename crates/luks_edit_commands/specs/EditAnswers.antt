@@ -44,7 +44,7 @@ pub record IsDoneWith (payload : Data) (given : Given) (v w : List ℕ) (slot : 
 -- the edit was refused by this fault: since no keyslot is found for it, or by the first that is seen without opening one, or
 -- when it was run over `v`, by the first of all its faults
 abbrev pub IsRefusedBy : Data → Given → List ℕ → List ℕ → EditFault → Type 0
-IsRefusedBy payload given v w f = ((w ≡ v) × (given.misses v f ⊎ IsFirstSeen payload given v f)) ⊎ IsReplied payload given v w (Err f)
+IsRefusedBy payload given v w f = ((w ≡ v) × (given.misses v f ⊎ IsFirstSeen payload (given.asks v) v f)) ⊎ IsReplied payload given v w (Err f)
 
 -- of the volume `v` that was left as `w`, while the device's count of failures went from `before` to
 -- `after`. Where a call of it failed nothing but `device fault` is answered; else the same comes where a

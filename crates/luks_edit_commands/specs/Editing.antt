@@ -232,9 +232,9 @@ pub record IsRefusedAtOnce (payload : Data) (given : Given) (v : List ℕ) : Typ
   pub first : IsLeast edit_key (IsNeedFault v payload edit) fault
 
 -- the first of these faults is this one
-pub record IsFirstSeen (payload : Data) (given : Given) (v : List ℕ) (f : EditFault) : Type 0 where
+pub record IsFirstSeen (payload : Data) (asks : Edit → Type 0) (v : List ℕ) (f : EditFault) : Type 0 where
   pub edit : Edit
-  pub asked : given.asks v edit
+  pub asked : asks edit
   pub first : IsLeast edit_key (IsNeedFault v payload edit) f
 
 -- it was refused since no keyslot is found for it
@@ -295,10 +295,10 @@ UnlessOutside v holds Device = ⊤
 UnlessOutside v holds Memory = NeedsMetadata v
 UnlessOutside v holds f = holds f
 
--- why nothing is seen of the volume `v`
-abbrev pub IsUnseen : Data → Given → List ℕ → Unseen → Type 0
-IsUnseen payload given v (Untold f) = UnlessOutside v (λ g. given.misses v g ⊎ IsFirstSeen payload given v g) f
-IsUnseen payload given v (Used found) = Bars given.over v (Some found)
+-- why nothing is seen of the volume `v`, of which such edits are asked for, or none is found by such faults
+abbrev pub IsUnseen : Data → (Edit → Type 0) → (EditFault → Type 0) → Bool → List ℕ → Unseen → Type 0
+IsUnseen payload asks misses over v (Untold f) = UnlessOutside v (λ g. misses g ⊎ IsFirstSeen payload asks v g) f
+IsUnseen payload asks misses over v (Used found) = Bars over v (Some found)
 
 -- why the keyslots of a volume can't be tried, as the fault of an edit
 abbrev pub unopened_fault : OpenFault → EditFault

@@ -32,9 +32,10 @@ use seen::{
     OpenerNotes, Unseen, look_at_volume, note_leaving_argon2, note_refused, note_wanting,
     note_weaker,
 };
+use serde_json::Value;
 use std::alloc::Global;
 use std::io::{Read, Write};
-use words::{Words, token_of, words};
+use words::{token_of, words};
 
 /// Edits the volume of this name. The passphrase is read first, then the new one, and the random bytes last.
 #[tactic(auto, using(luks_commands::proofs::FileFacts::settled_same, crate::proofs::EditAnswerFacts::answers_wordless))]
@@ -91,34 +92,42 @@ pub fn run<D: Device, R: Read, N: Read, E: Write>(
         Ok(device) => device,
         Err(fault) => return unread(*fault, name, err),
     };
-    let words = Words {
-        old: old.as_slice(),
-        new: new.as_slice(),
-        token: token.as_ref(),
-    };
-    edit_device(alloc, device, &mut inputs.random, name, editing, &words, err)
+    let random = &mut inputs.random;
+    edit_device(
+        alloc,
+        device,
+        random,
+        name,
+        editing,
+        old.as_slice(),
+        new.as_slice(),
+        token.as_ref(),
+        err,
+    )
 }
 
 /// Edits the volume as the command line asks for it, with these bytes of its passphrases.
 #[tactic(auto, using(luks_area::proofs::DeviceFacts::settled_unchanged))]
-fn edit_device<'a, D: Device, N: Read, E: Write>(
+fn edit_device<D: Device, N: Read, E: Write>(
     alloc: Global,
     device: &mut D,
     random: &mut Result<N, InputFault>,
     name: &str,
-    editing: &Editing<'a>,
-    words: &Words<'a>,
+    editing: &Editing<'_>,
+    old: &[u8],
+    new: &[u8],
+    token: Option<&Value>,
     err: &mut E,
 ) -> Answer
     requires room { D.failed device.old + 1 < 2 ^ 64 }
-    requires short { length words.now.old.now < 2 ^ 32 }
-    requires token { IsTokenOf editing.now.request words.now.old.now words.now.token }
+    requires short { length old.now < 2 ^ 32 }
+    requires token { IsTokenOf editing.now.request old.now token }
     requires settled { D.tells → IsSettled D.unsettled device.old }
     ensures settled { D.tells → D.failed device.new ≡ D.failed device.old
         → IsSettled D.unsettled device.new }
     ensures size { D.size device.new ≡ D.size device.old }
     ensures says { D.tells → SaysEdit editing.now.payload
-        (given_words editing.now words.now.old.now words.now.new.now
+        (given_words editing.now old.now new.now
         (λ count. AreFirstBytes count N.remaining random.old))
         (D.bytes device.old) (D.bytes device.new)
         (answer_status result ≡ Status.Done) (answer_status result ≡ Status.Refused) }
@@ -130,12 +139,12 @@ fn edit_device<'a, D: Device, N: Read, E: Write>(
         → answer_status result ≡ Status.Fault }
     ensures spared { D.tells → WellFormed (D.bytes device.old) editing.now.payload
         → (D.failed device.new ≡ D.failed device.old → ⊥) → SparesEdit editing.now.payload
-        (given_words editing.now words.now.old.now words.now.new.now
+        (given_words editing.now old.now new.now
         (λ count. AreFirstBytes count N.remaining random.old))
         (D.bytes device.old) (D.bytes device.new) }
     ensures kinds { answer_status result ≢ Status.NotInStep }
     ensures answers { IsEditAnswer D.tells editing.now.payload
-        (given_words editing.now words.now.old.now words.now.new.now
+        (given_words editing.now old.now new.now
         (λ count. AreFirstBytes count N.remaining random.old))
         (lacking_random (λ count. IsUnreadRandom count random.old))
         (D.bytes device.old) (D.bytes device.new) (D.failed device.old) (D.failed device.new)
@@ -144,7 +153,7 @@ fn edit_device<'a, D: Device, N: Read, E: Write>(
         → HoldsBack editing.now.over (D.bytes device.old) (D.bytes device.new) result }
 {
     let payload = editing.payload;
-    let seen = match look_at_volume(alloc, device, editing, words, err) {
+    let seen = match look_at_volume(alloc, device, editing, old, new, token, err) {
         Ok(seen) => seen,
         Err(unseen) => return not_begun(unseen, name, err),
     };
@@ -155,7 +164,14 @@ fn edit_device<'a, D: Device, N: Read, E: Write>(
     note_leaving_argon2(seen.leaves_argon2, err);
     let edit = seen.edit;
     let _ = note_edit(&seen.header, &edit, err);
-    match apply_of_header(alloc, device, seen.header, payload, &edit, random.as_slice()) {
+    match apply_of_header(
+        alloc,
+        device,
+        seen.header,
+        payload,
+        &edit,
+        random.as_slice(),
+    ) {
         Ok(made) => {
             note_weaker(seen.weaker, err);
             Answer::Done(told_slot(&editing.request, &edit, made.slot))

@@ -1,11 +1,12 @@
-//! Tests of edits of small volumes, one by one and in lists, beside the model in testdata/oracle. They
-//! stand here so that no crate is proved a second time for them.
+//! Tests of lists of edits of small volumes, beside the model in testdata/oracle. They stand here so that no
+//! crate is proved a second time for them. What each edit of the lists leaves, by each hash, stands in
+//! `luks_volume_transcript`.
 #![tactic(auto)]
 
 #[cfg(test)]
 mod answers;
 #[cfg(test)]
-mod discarded;
+mod calls;
 #[cfg(test)]
 mod luks1;
 #[cfg(test)]

@@ -1,89 +1,58 @@
-//! Edits of small LUKS1 volumes: a list of them beside the model in testdata/oracle.
+//! A list of edits of the small LUKS1 volume by SHA-256, and what it leaves: printed by `testdata/oracle/edit_values edits1`.
 
-ghost use Rattle.std.specs.Prelude.{◌+◌, ◌<◌, ◌^◌};
-
-pub(crate) mod table;
-
-use crate::answers::line_of;
 use crate::rows::{List, Row};
-use luks_area::MemDevice;
-use luks_kdf::HashName;
-use luks_reading::Data;
-use luks_test_devices::{counted, is_sum, put, small1};
-use luks1_edits::{apply_luks1, needed_luks1};
-use std::alloc::Global;
-use std::process::Abort;
-use std::test::Fail;
+use luks_edit::Edit;
+use luks_test_devices::{add, change, label, remove};
 
-/// The volume's header.
-fn header_of(volume: &[u8]) -> [u8; 592] {
-    let mut header = [0; 592];
-    put(&mut header, 0, volume.get(..592).unwrap_or(&[]));
-    header
-}
-
-/// Whether the edit of this number in its list is told what it takes, is answered so, and leaves the
-/// volume of this sum.
-fn leaves(
-    alloc: Global,
-    device: &mut MemDevice,
-    number: usize,
-    row: &Row,
-    sum: &str,
-) -> Result<bool, Fail> {
-    let (edit, count, line) = row;
-    let header = header_of(device.contents());
-    let random = counted(alloc, number, count.unwrap_or(0))?;
-    let enough = match (needed_luks1(&header, Data::Here, 66048, edit), count) {
-        (Ok(needed), Some(count)) => needed == *count as u64,
-        (Err(fault), None) => line_of(alloc, &Err(fault))?.as_str() == *line,
-        _ => false,
-    };
-    let answer = apply_luks1(alloc, device, &header, Data::Here, edit, &random);
-    let same = line_of(alloc, &answer)?.as_str() == *line;
-    Ok(enough && same && is_sum(device.contents(), sum))
-}
-
-/// Asserts that the list's edits of the volume are answered so, and leave its sums.
-fn compare(rt: &impl Abort, alloc: Global, volume: Vec<u8>, list: List<'_>) -> Result<(), Fail> {
-    let [before, after @ ..] = list.sums else {
-        return Err("no sum".into());
-    };
-    let mut device = MemDevice::new(volume);
-    assert!(rt; is_sum(device.contents(), before), "the volume");
-    assert!(rt; after.len() == list.rows.len(), "a sum for each edit");
-    for (i, (row, sum)) in list.rows.iter().zip(after).enumerate() {
-        let number = i.wrapping_add(1);
-        let same = leaves(alloc, &mut device, number, row, sum)?;
-        assert!(rt; same, "edit {number}");
-    }
-    Ok(())
-}
-
-/// The list's sums by each hash.
-const BY_HASHES: [(HashName, &[&str]); 3] = [
-    (HashName::Sha1, &table::SHA1),
-    (HashName::Sha256, &table::SHA256),
-    (HashName::Sha512, &table::SHA512),
+/// A passphrase of 80 bytes.
+const LONG: &[u8] = &[
+    0x00, 0xff, 0x00, 0xff, 0x00, 0xff, 0x00, 0xff, 0x00, 0xff, 0x00, 0xff, 0x00, 0xff, 0x00, 0xff,
+    0x00, 0xff, 0x00, 0xff, 0x00, 0xff, 0x00, 0xff, 0x00, 0xff, 0x00, 0xff, 0x00, 0xff, 0x00, 0xff,
+    0x00, 0xff, 0x00, 0xff, 0x00, 0xff, 0x00, 0xff, 0x00, 0xff, 0x00, 0xff, 0x00, 0xff, 0x00, 0xff,
+    0x00, 0xff, 0x00, 0xff, 0x00, 0xff, 0x00, 0xff, 0x00, 0xff, 0x00, 0xff, 0x00, 0xff, 0x00, 0xff,
+    0x00, 0xff, 0x00, 0xff, 0x00, 0xff, 0x00, 0xff, 0x00, 0xff, 0x00, 0xff, 0x00, 0xff, 0x00, 0xff,
 ];
 
-#[test]
-fn lists_of_edits(rt: HostRuntime) -> Result<(), Fail> {
-    for (hash, sums) in BY_HASHES {
-        let rows = &table::LIST;
-        let list = List { rows, sums };
-        compare(&rt, rt.alloc(), small1(rt.alloc(), hash)?, list)?;
-    }
-    Ok(())
-}
+const ROWS: [Row; 26] = [
+    (remove!(0, b"one"), Some(0), "refused LastSlot"),
+    (add!(0, b"one", b"two", None), Some(2528), "done slot 1"),
+    (
+        add!(0, b"one", b"three", Some(7)),
+        Some(2528),
+        "done slot 7",
+    ),
+    (add!(0, b"one", b"four", Some(7)), None, "refused SlotTaken"),
+    (add!(1, b"one", b"four", None), Some(2528), "refused Locked"),
+    (change!(1, b"two", b"four", 1001), Some(2528), "done slot 2"),
+    (add!(0, b"one", b"", Some(4)), Some(2528), "done slot 4"),
+    (remove!(0, b"one"), Some(0), "done"),
+    (remove!(0, b"one"), None, "refused NoSuchSlot"),
+    (remove!(7, b"two"), Some(0), "refused Locked"),
+    (remove!(7, b"three"), Some(0), "done"),
+    (Edit::Repair, Some(0), "done"),
+    (add!(4, b"", LONG, None, 1500), Some(2528), "done slot 0"),
+    (
+        add!(4, b"", b"one", None, 999),
+        Some(2528),
+        "refused Iterations",
+    ),
+    (label!(b"disk"), Some(0), "refused BadLabel"),
+    (add!(4, b"", b"one", Some(8)), None, "refused NoFreeSlot"),
+    (add!(4, b"", b"one", None), Some(2528), "done slot 1"),
+    (add!(4, b"", b"one", None), Some(2528), "done slot 3"),
+    (add!(4, b"", b"one", None), Some(2528), "done slot 5"),
+    (add!(4, b"", b"one", None), Some(2528), "done slot 6"),
+    (add!(4, b"", b"one", None), Some(2528), "done slot 7"),
+    (add!(4, b"", b"one", None), None, "refused NoFreeSlot"),
+    (change!(4, b"", b"two"), None, "refused NoFreeSlot"),
+    (remove!(4, b""), Some(0), "done"),
+    (change!(5, b"one", b"three"), Some(2528), "done slot 4"),
+    (remove!(5, b"one"), None, "refused NoSuchSlot"),
+];
 
-// The passphrase is that of another keyslot than the one that goes.
-#[test]
-fn removals_by_another_keyslot(rt: HostRuntime) -> Result<(), Fail> {
-    let list = List {
-        rows: &table::BY_ANOTHER,
-        sums: &table::BY_ANOTHER_SUMS,
-    };
-    let volume = small1(rt.alloc(), HashName::Sha256)?;
-    compare(&rt, rt.alloc(), volume, list)
-}
+/// The list.
+pub(crate) const LUKS1: List<'static> = List {
+    rows: &ROWS,
+    before: "49c146b90a6cc8d0a840a2e39f93b73d79540be7401a1278b50ecc5c931b70ce",
+    after: "1a09cc11ab1352ad0ec5efc960a80f61a5be8b070b43f09b794007206ada3ffc",
+};

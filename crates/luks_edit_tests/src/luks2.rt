@@ -1,89 +1,65 @@
-//! Edits of small LUKS2 volumes: lists of them beside the model in testdata/oracle.
+//! A list of edits of the small LUKS2 volume by SHA-256, and what it leaves: printed by `testdata/oracle/edit_values edits2`.
 
-pub(crate) mod table;
-
-use crate::answers::line_of;
 use crate::rows::{List, Row};
-use luks_area::MemDevice;
-use luks_kdf::HashName;
-use luks_reading::Data;
-use luks_test_devices::{counted, is_sum, small2, two_hashes};
-use luks_volume::{apply, needed};
-use std::alloc::Global;
-use std::process::Abort;
-use std::test::Fail;
+use luks_edit::Edit;
+use luks_test_devices::{add, change, label, remove};
 
-/// Whether the edit of this number in its list is told what it takes, is answered so, and leaves the
-/// volume of this sum.
-fn leaves(
-    alloc: Global,
-    device: &mut MemDevice,
-    number: usize,
-    row: &Row,
-    sum: &str,
-) -> Result<bool, Fail> {
-    let (edit, count, line) = row;
-    let random = counted(alloc, number, count.unwrap_or(0))?;
-    let enough = match (needed(alloc, device, Data::Here, edit), count) {
-        (Ok(needed), Some(count)) => needed == *count as u64,
-        (Err(fault), None) => line_of(alloc, &Err(fault))?.as_str() == *line,
-        _ => false,
-    };
-    let answer = apply(alloc, device, Data::Here, edit, &random);
-    let same = line_of(alloc, &answer)?.as_str() == *line;
-    Ok(enough && same && is_sum(device.contents(), sum))
-}
-
-/// Asserts that the list's edits of the volume are answered so, and leave its sums.
-fn compare(rt: &impl Abort, alloc: Global, volume: Vec<u8>, list: List<'_>) -> Result<(), Fail> {
-    let [before, after @ ..] = list.sums else {
-        return Err("no sum".into());
-    };
-    let mut device = MemDevice::new(volume);
-    assert!(rt; is_sum(device.contents(), before), "the volume");
-    assert!(rt; after.len() == list.rows.len(), "a sum for each edit");
-    for (i, (row, sum)) in list.rows.iter().zip(after).enumerate() {
-        let number = i.wrapping_add(1);
-        let same = leaves(alloc, &mut device, number, row, sum)?;
-        assert!(rt; same, "edit {number}");
-    }
-    Ok(())
-}
-
-/// The list's sums by each hash.
-const BY_HASHES: [(HashName, &[&str]); 3] = [
-    (HashName::Sha1, &table::SHA1),
-    (HashName::Sha256, &table::SHA256),
-    (HashName::Sha512, &table::SHA512),
+/// A passphrase of 80 bytes.
+const LONG: &[u8] = &[
+    0x00, 0xff, 0x00, 0xff, 0x00, 0xff, 0x00, 0xff, 0x00, 0xff, 0x00, 0xff, 0x00, 0xff, 0x00, 0xff,
+    0x00, 0xff, 0x00, 0xff, 0x00, 0xff, 0x00, 0xff, 0x00, 0xff, 0x00, 0xff, 0x00, 0xff, 0x00, 0xff,
+    0x00, 0xff, 0x00, 0xff, 0x00, 0xff, 0x00, 0xff, 0x00, 0xff, 0x00, 0xff, 0x00, 0xff, 0x00, 0xff,
+    0x00, 0xff, 0x00, 0xff, 0x00, 0xff, 0x00, 0xff, 0x00, 0xff, 0x00, 0xff, 0x00, 0xff, 0x00, 0xff,
+    0x00, 0xff, 0x00, 0xff, 0x00, 0xff, 0x00, 0xff, 0x00, 0xff, 0x00, 0xff, 0x00, 0xff, 0x00, 0xff,
 ];
 
-#[test]
-fn lists_of_edits(rt: HostRuntime) -> Result<(), Fail> {
-    for (hash, sums) in BY_HASHES {
-        let rows = &table::LIST;
-        let list = List { rows, sums };
-        compare(&rt, rt.alloc(), small2(rt.alloc(), hash)?, list)?;
-    }
-    Ok(())
-}
+const ROWS: [Row; 29] = [
+    (remove!(0, b"one"), Some(128), "refused LastSlot"),
+    (add!(0, b"one", b"two", None), Some(2656), "done slot 1"),
+    (
+        add!(0, b"one", b"three", Some(7)),
+        Some(2656),
+        "done slot 7",
+    ),
+    (add!(0, b"one", b"four", Some(7)), None, "refused SlotTaken"),
+    (add!(1, b"one", b"four", None), Some(2656), "refused Locked"),
+    (change!(1, b"two", b"four", 1001), Some(2656), "done slot 1"),
+    (add!(0, b"one", b"", Some(4)), Some(2656), "done slot 4"),
+    (remove!(0, b"one"), Some(128), "done"),
+    (remove!(0, b"one"), None, "refused NoSuchSlot"),
+    (remove!(7, b"two"), Some(128), "refused Locked"),
+    (remove!(7, b"three"), Some(128), "done"),
+    (Edit::Repair, Some(128), "done"),
+    (add!(4, b"", LONG, None, 1500), Some(2656), "done slot 0"),
+    (
+        add!(4, b"", b"one", None, 999),
+        Some(2656),
+        "refused Iterations",
+    ),
+    (label!(b"disk"), Some(128), "done"),
+    (
+        label!(b"dddddddddddddddddddddddddddddddddddddddddddddddd"),
+        Some(128),
+        "refused BadLabel",
+    ),
+    (add!(4, b"", b"one", Some(32)), None, "refused NoFreeSlot"),
+    (change!(4, b"", b""), Some(2656), "done slot 4"),
+    (add!(4, b"", b"one", Some(31)), Some(2656), "done slot 31"),
+    (add!(4, b"", b"one", None), Some(2656), "done slot 2"),
+    (add!(4, b"", b"one", None), Some(2656), "done slot 3"),
+    (add!(4, b"", b"one", None), Some(2656), "done slot 5"),
+    (add!(4, b"", b"one", None), Some(2656), "done slot 6"),
+    (add!(4, b"", b"one", None), Some(2656), "refused NoRoom"),
+    (change!(4, b"", b"two"), Some(2656), "refused NoRoom"),
+    (label!(b""), Some(128), "done"),
+    (remove!(31, b"one"), Some(128), "done"),
+    (change!(4, b"", b"two"), Some(2656), "done slot 4"),
+    (Edit::Repair, Some(128), "done"),
+];
 
-// The passphrase is that of another keyslot than the one that goes.
-#[test]
-fn removals_by_another_keyslot(rt: HostRuntime) -> Result<(), Fail> {
-    let list = List {
-        rows: &table::BY_ANOTHER,
-        sums: &table::BY_ANOTHER_SUMS,
-    };
-    let volume = small2(rt.alloc(), HashName::Sha256)?;
-    compare(&rt, rt.alloc(), volume, list)
-}
-
-// What is made has the hashes of the keyslot that opened.
-#[test]
-fn keyslots_of_two_hashes(rt: HostRuntime) -> Result<(), Fail> {
-    let list = List {
-        rows: &table::TWO_HASHES,
-        sums: &table::TWO_HASHES_SUMS,
-    };
-    compare(&rt, rt.alloc(), two_hashes(rt.alloc())?, list)
-}
+/// The list.
+pub(crate) const LUKS2: List<'static> = List {
+    rows: &ROWS,
+    before: "af156ffb590a89e9ff381ebbdd10221ff67a34f693270d682256e37f9b25a274",
+    after: "2b5e195d8fb1856b9ed8616c068caa630da21b555b02dfd7718be9454744fc28",
+};

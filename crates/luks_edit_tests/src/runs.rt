@@ -1,22 +1,19 @@
 //! Lists of edits: beside the model in testdata/oracle, and with a failing call.
 
 ghost use Rattle.std.specs.Prelude.{◌+◌, ◌<◌, ◌^◌};
+ghost use Rattle.luks_area.specs.Device.{IsSettled};
 
 use crate::answers::line_of;
-use crate::rows::{List, Row};
-use crate::{luks1, luks2};
+use crate::calls::{is_at, is_formatted, key_of, runs};
+use crate::luks1::LUKS1;
+use crate::luks2::LUKS2;
+use crate::rows::{List, Reply, Row};
 use luks_area::{Device, FaultyDevice, Leave, MemDevice};
-use luks_edit::{Done, Edit, EditFault, Step};
-use luks_formatting::{Format, format2};
+use luks_edit::{Edit, EditFault, Step};
 use luks_kdf::HashName;
-use luks_reading::{Allowed, Copies, Data, Version, check, open_slot};
-use luks_test_devices::{VOLUME_KEY, add, counted, is_sum, remove, small1, small2};
-use luks_volume::run;
+use luks_test_devices::{VOLUME_KEY, add, counted, is_sum, label, remove, small1, small2};
 use std::alloc::Global;
 use std::test::Fail;
-
-/// A reply of `run`.
-pub(crate) type Reply = Result<Done, EditFault>;
 
 /// For each row its random bytes, counted from its number on.
 pub(crate) fn random_of(alloc: Global, rows: &[Row]) -> Result<Vec<Vec<u8>>, Fail> {
@@ -53,47 +50,65 @@ fn are_told(alloc: Global, rows: &[Row], replies: &[Reply]) -> Result<bool, Fail
     Ok(replies.len() == rows.len())
 }
 
-/// Whether the list has its replies, and leaves the last volume.
-fn runs(alloc: Global, image: Vec<u8>, list: List<'_>) -> Result<bool, Fail> {
-    let List { rows, sums } = list;
+/// The replies to the rows' edits, which are run in turn.
+fn replies_of<D: Device>(alloc: Global, device: &mut D, rows: &[Row]) -> Result<Vec<Reply>, Fail>
+    requires room { D.failed device.old + 1 < 2 ^ 64 }
+    requires settled { D.tells → IsSettled D.unsettled device.old }
+{
     let random = random_of(alloc, rows)?;
     let steps = steps_of(alloc, rows, &random)?;
-    let mut device = MemDevice::new(image);
     let mut replies = Vec::new(alloc);
-    let ran = run(alloc, &mut device, Data::Here, &steps, &mut replies);
-    let last = sums.last().ok_or("no sum")?;
-    let told = are_told(alloc, rows, &replies)?;
-    Ok(ran.is_ok() && told && is_sum(device.contents(), last))
+    if runs(alloc, device, &steps, &mut replies) {
+        Ok(replies)
+    } else {
+        Err("no room for the replies".into())
+    }
 }
 
-/// The list over the small LUKS1 volume by SHA-256.
-pub(crate) const LUKS1: List<'static> = List {
-    rows: &luks1::table::LIST,
-    sums: &luks1::table::SHA256,
-};
+/// Whether each of the rows has its reply.
+fn is_answered(alloc: Global, device: &mut MemDevice, rows: &[Row]) -> Result<bool, Fail> {
+    let replies = replies_of(alloc, device, rows)?;
+    are_told(alloc, rows, &replies)
+}
 
-/// That over the LUKS2 volume.
-const LUKS2: List<'static> = List {
-    rows: &luks2::table::LIST,
-    sums: &luks2::table::SHA256,
-};
+/// Whether the list has its replies, and leaves the last volume.
+fn leaves(alloc: Global, image: Vec<u8>, list: List<'_>) -> Result<bool, Fail> {
+    if !is_sum(&image, list.before) {
+        return Ok(false);
+    }
+    let mut device = MemDevice::new(image);
+    let told = is_answered(alloc, &mut device, list.rows)?;
+    Ok(told && is_sum(device.contents(), list.after))
+}
 
 #[test]
 fn whole_lists(rt: HostRuntime) -> Result<(), Fail> {
     let alloc = rt.alloc();
     let old = small1(alloc, HashName::Sha256)?;
-    assert!(rt; runs(alloc, old, LUKS1)?, "LUKS1");
+    assert!(rt; leaves(alloc, old, LUKS1)?, "LUKS1");
     let new = small2(alloc, HashName::Sha256)?;
-    assert!(rt; runs(alloc, new, LUKS2)?, "LUKS2");
+    assert!(rt; leaves(alloc, new, LUKS2)?, "LUKS2");
     Ok(())
 }
 
-/// A list over a formatted LUKS2 volume, with its replies.
-const WORKED: [Row; 5] = [
+/// A list over a formatted LUKS2 volume, with its replies: printed by `testdata/oracle/edit_scripts worked`.
+static WORKED: [Row; 9] = [
+    (
+        add!(0, b"one", b"two", None),
+        Some(256097),
+        "refused RandomLength",
+    ),
+    (remove!(0, b"one"), Some(129), "refused LastSlot"),
+    (label!(b"x\x0a"), Some(128), "refused BadLabel"),
+    (
+        add!(0, b"one", b"two", Some(32)),
+        None,
+        "refused NoFreeSlot",
+    ),
     (add!(0, b"one", b"two", None), Some(256096), "done slot 1"),
     (
         add!(0, b"one", b"three", Some(1)),
-        Some(256096),
+        None,
         "refused SlotTaken",
     ),
     (remove!(0, b"one"), Some(128), "done"),
@@ -105,60 +120,35 @@ const WORKED: [Row; 5] = [
 fn formatted(alloc: Global) -> Result<MemDevice, Fail> {
     let random = counted(alloc, 0, 256208)?;
     let mut device = MemDevice::new(vec![in alloc; 0xA5u8; 16777728]?);
-    let format = Format {
-        hash: HashName::Sha256,
-        iterations: 1000,
-    };
-    match format2(alloc, &mut device, Data::Here, &format, b"one", &random) {
-        Ok(_) => Ok(device),
-        Err(_) => Err("not formatted".into()),
+    if is_formatted(alloc, &mut device, &random) {
+        Ok(device)
+    } else {
+        Err("not formatted".into())
     }
 }
 
-/// Whether `check` accepts the volume, as one of LUKS2 with this sequence number and both copies in
-/// step.
-fn is_at(alloc: Global, device: &mut MemDevice, number: u64) -> bool {
-    match check(alloc, device, Data::Here) {
-        Ok(report) => match report.version {
-            Version::Luks2 { copies, seqid } => copies == Copies::InStep && seqid == number,
-            Version::Luks1 => false,
-        },
-        Err(_) => false,
-    }
+/// Whether the list has its replies, and keyslot 1 opens then to the key to which keyslot 0 did before.
+fn keeps_key(alloc: Global, device: &mut MemDevice) -> Result<bool, Fail> {
+    let before = key_of(alloc, device, 0, b"one")?;
+    let told = is_answered(alloc, device, &WORKED)?;
+    let after = key_of(alloc, device, 1, b"two")?;
+    Ok(told && after == before)
 }
 
-/// The bytes of the key that the keyslot opens to.
-fn key_of(
-    alloc: Global,
-    device: &mut MemDevice,
-    n: u8,
-    passphrase: &[u8],
-) -> Result<Vec<u8>, Fail> {
-    match open_slot(alloc, device, n, passphrase, Allowed::NOTHING) {
-        Ok(Some(key)) => Ok(key.as_bytes().to_vec(alloc)?),
-        _ => Err("no key".into()),
-    }
+/// Whether the payload is as it was.
+fn keeps_payload(volume: &[u8]) -> bool {
+    let payload = volume.get(16777216..).unwrap_or(&[]);
+    payload.len() == 512 && payload.iter().all(|byte| *byte == 0xA5)
 }
 
 #[test]
 fn worked_list(rt: HostRuntime) -> Result<(), Fail> {
-    let alloc = rt.alloc();
-    let mut device = formatted(alloc)?;
-    let before = key_of(alloc, &mut device, 0, b"one")?;
-    let random = random_of(alloc, &WORKED)?;
-    let steps = steps_of(alloc, &WORKED, &random)?;
-    let mut replies = Vec::new(alloc);
-    let ran = run(alloc, &mut device, Data::Here, &steps, &mut replies);
-    assert!(rt;
-        ran.is_ok() && are_told(alloc, &WORKED, &replies)?,
-        "the replies"
-    );
-    assert!(rt; is_at(alloc, &mut device, 4), "the sequence number");
-    let after = key_of(alloc, &mut device, 1, b"two")?;
-    assert!(rt; after == before, "the key");
-    let payload = device.contents().get(16777216..).unwrap_or(&[]);
-    let same = payload.iter().all(|byte| *byte == 0xA5);
-    assert!(rt; payload.len() == 512 && same, "the payload");
+    let mut device = formatted(rt.alloc())?;
+    let kept = keeps_key(rt.alloc(), &mut device)?;
+    assert!(rt; kept, "the replies and the key");
+    let number = is_at(rt.alloc(), &mut device, 4);
+    assert!(rt; number, "the sequence number");
+    assert!(rt; keeps_payload(device.contents()), "the payload");
     Ok(())
 }
 
@@ -169,8 +159,8 @@ fn no_step(rt: HostRuntime) -> Result<(), Fail> {
     let mut device = MemDevice::new(small1(alloc, HashName::Sha256)?);
     let mut replies = Vec::new(alloc);
     replies.push(Err(EditFault::LastSlot))?;
-    let ran = run(alloc, &mut device, Data::Here, &[], &mut replies);
-    assert!(rt; ran.is_ok(), "the list");
+    let ran = runs(alloc, &mut device, &[], &mut replies);
+    assert!(rt; ran, "the list");
     assert!(rt;
         matches!(replies.as_slice(), [Err(EditFault::LastSlot)]),
         "the replies"
@@ -181,7 +171,7 @@ fn no_step(rt: HostRuntime) -> Result<(), Fail> {
 }
 
 /// How a list of two edits ended.
-#[derive(Debug, Clone, Copy, PartialEq, Eq)]
+#[derive(Clone, Copy)]
 enum End {
     /// Both were done.
     Done,
@@ -195,28 +185,23 @@ enum End {
 /// The first two additions of the rows, with a device whose call of this number fails.
 fn end_of(alloc: Global, call: u64) -> Result<End, Fail> {
     let rows = LUKS1.rows.get(1..3).ok_or("no rows")?;
-    let random = random_of(alloc, rows)?;
-    let steps = steps_of(alloc, rows, &random)?;
     let image = MemDevice::new(small1(alloc, HashName::Sha256)?);
     let mut device = FaultyDevice::new(image, call, Leave::Ones);
-    let mut replies = Vec::new(alloc);
-    if run(alloc, &mut device, Data::Here, &steps, &mut replies).is_err() {
-        return Ok(End::Other);
-    }
+    let replies = replies_of(alloc, &mut device, rows)?;
     let failures = device.failures();
     let mut left = device.into_inner();
-    match replies.as_slice() {
-        [Ok(_), Ok(_)] if failures == 0 => Ok(End::Done),
-        [Err(EditFault::Device)] if failures == 1 => Ok(End::First),
-        [Ok(_), Err(EditFault::Device)] if failures == 1 => Ok(second_end(alloc, &mut left)),
-        _ => Ok(End::Other),
-    }
+    Ok(match replies.as_slice() {
+        [Ok(_), Ok(_)] if failures == 0 => End::Done,
+        [Err(EditFault::Device)] if failures == 1 => End::First,
+        [Ok(_), Err(EditFault::Device)] if failures == 1 => second_end(alloc, &mut left),
+        _ => End::Other,
+    })
 }
 
 /// The keyslot that the first addition made opens, whatever is left of the second.
 fn second_end(alloc: Global, left: &mut MemDevice) -> End {
-    match open_slot(alloc, left, 1, b"two", Allowed::NOTHING) {
-        Ok(Some(key)) if key.as_bytes() == VOLUME_KEY.as_slice() => End::Second,
+    match key_of(alloc, left, 1, b"two") {
+        Ok(key) if key.as_slice() == VOLUME_KEY.as_slice() => End::Second,
         _ => End::Other,
     }
 }

@@ -1,14 +1,12 @@
 //! Edits of volumes on devices of which each call fails in turn.
 
+use crate::calls::{counting, edited, is_accepted, need_of};
 use crate::trials::{
     ARGON2, LUKS1, LUKS2, Trial, argon2_keyslots, keyslots_open, two_luks1_keyslots,
 };
 use luks_area::{Device, FaultyDevice, Leave, MemDevice};
 use luks_edit::{Edit, EditFault};
-use luks_reading::{Data, check};
 use luks_test_devices::{Call, Recording, change, counted, leave_behind, part, put, two_keyslots};
-use luks_volume::{apply, needed};
-use luks2_header::{Selected, select};
 use std::alloc::Global;
 use std::process::Abort;
 use std::test::Fail;
@@ -46,7 +44,7 @@ fn end_of(
         device: FaultyDevice::new(inner, call, leave),
         calls: Vec::with_capacity(alloc, 128)?,
     };
-    let answer = apply(alloc, &mut device, Data::Here, edit, random);
+    let answer = edited(alloc, &mut device, edit, random);
     let end = match (answer, device.failures()) {
         (Ok(_), 0) => End::Done,
         (Err(EditFault::Device), 1) => End::Told,
@@ -63,12 +61,12 @@ fn end_of(
 
 /// The bytes of the copy that counts; nothing where none does.
 fn copy_that_counts(device: &mut MemDevice) -> &[u8] {
-    match select(device) {
-        Ok(Selected::V2 { header, .. }) => {
-            let at = header.hdr_offset as usize;
+    match counting(device) {
+        Some((at, ..)) => {
+            let at = at as usize;
             part(device.contents(), at, at.wrapping_add(16384))
         }
-        _ => &[],
+        None => &[],
     }
 }
 
@@ -80,7 +78,7 @@ fn is_before_or_after(
     before: &[u8],
     after: &[u8],
 ) -> Result<bool, Fail> {
-    let accepted = check(alloc, left, Data::Here).is_ok();
+    let accepted = is_accepted(alloc, left);
     let counting = copy_that_counts(left).to_vec(alloc)?;
     let known = [0usize, 16384].iter().any(|at| {
         let end = at.wrapping_add(16384);
@@ -193,7 +191,7 @@ fn wrong_passphrase(rt: HostRuntime) -> Result<(), Fail> {
 fn end_of_needed(alloc: Global, volume: &[u8], trial: &Trial, call: u64) -> Result<End, Fail> {
     let inner = MemDevice::new(volume.to_vec(alloc)?);
     let mut device = FaultyDevice::new(inner, call, Leave::Old);
-    let answer = needed(alloc, &mut device, Data::Here, &trial.edit);
+    let answer = need_of(alloc, &mut device, &trial.edit);
     match (answer, device.failures()) {
         (Ok(need), 0) if need == trial.random as u64 => Ok(End::Done),
         (Err(EditFault::Device), 1) => Ok(End::Told),

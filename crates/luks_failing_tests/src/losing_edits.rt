@@ -1,11 +1,10 @@
 //! Edits of volumes on devices that lose, with each call in turn, what was written and not flushed.
 
+use crate::calls::{edited, is_accepted};
 use crate::trials::{LUKS1, LUKS2, Trial, keyslots_open, two_luks1_keyslots};
 use luks_area::{Device, MemDevice};
 use luks_edit::EditFault;
-use luks_reading::{Data, check};
 use luks_test_devices::{LosingDevice, Loss, counted, two_keyslots};
-use luks_volume::apply;
 use std::alloc::Global;
 use std::process::Abort;
 use std::test::Fail;
@@ -38,9 +37,9 @@ fn end_of(
     loss: Loss,
 ) -> Result<End, Fail> {
     let mut device = LosingDevice::new(alloc, volume, call, loss, true)?;
-    let answer = apply(alloc, &mut device, Data::Here, &trial.edit, random);
+    let answer = edited(alloc, &mut device, &trial.edit, random);
     let mut left = MemDevice::new(device.contents().to_vec(alloc)?);
-    let accepted = check(alloc, &mut left, Data::Here).is_ok();
+    let accepted = is_accepted(alloc, &mut left);
     let opened = keyslots_open(alloc, &mut left, trial);
     let is_flushed = device.contents() == device.settled();
     Ok(match (answer, device.failures()) {

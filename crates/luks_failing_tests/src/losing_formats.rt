@@ -2,11 +2,12 @@
 ghost use Rattle.std.specs.Prelude.{◌+◌, ◌<◌, ◌^◌};
 ghost use Rattle.luks_area.specs.Device.{IsSettled};
 
+use crate::calls::{is_accepted, is_open};
 use luks_area::{Device, MemDevice};
 use luks_edit::Done;
 use luks_formatting::{FORMAT1_RANDOM, FORMAT2_RANDOM, Format, FormatFault, format1, format2};
 use luks_kdf::HashName;
-use luks_reading::{Allowed, Data, check, open_slot};
+use luks_reading::Data;
 use luks_test_devices::{LosingDevice, Loss, counted, part, put, small1, small2};
 use std::alloc::Global;
 use std::process::Abort;
@@ -62,10 +63,7 @@ fn rest_is_same(volume: &[u8], old: &[u8], header: usize, from: usize, to: usize
 
 /// Whether the volume is refused, or its keyslot opens.
 fn opens_where_accepted(alloc: Global, left: &mut MemDevice) -> bool {
-    if check(alloc, left, Data::Here).is_err() {
-        return true;
-    }
-    open_slot(alloc, left, 0, b"one", Allowed::NOTHING).is_ok_and(|key| key.is_some())
+    !is_accepted(alloc, left) || is_open(alloc, left, 0, b"one")
 }
 
 /// Formats by the version of LUKS over what begins with these bytes, with each loss and at these calls.

@@ -1,11 +1,10 @@
 //! Edits of LUKS2 volumes with refused memory.
 
+use crate::calls::{edited, need_of};
 use crate::trials::{LUKS2, Trial};
 use luks_area::MemDevice;
 use luks_edit::{Edit, EditFault};
-use luks_reading::Data;
 use luks_test_devices::{BLOCKS, TakenMemory, counted, two_keyslots};
-use luks_volume::{apply, needed};
 use std::alloc::Global;
 use std::test::Fail;
 
@@ -20,7 +19,7 @@ enum End {
 
 /// How telling the need ends.
 fn end_of_needed(alloc: Global, device: &mut MemDevice, edit: &Edit<'_>, before: &[u8]) -> End {
-    match needed(alloc, device, Data::Here, edit) {
+    match need_of(alloc, device, edit) {
         Ok(_) => End::Done,
         Err(EditFault::Memory) if device.contents() == before => End::Memory,
         Err(_) => End::Other,
@@ -35,7 +34,7 @@ fn end_of(
     random: &[u8],
     before: &[u8],
 ) -> End {
-    match apply(alloc, device, Data::Here, edit, random) {
+    match edited(alloc, device, edit, random) {
         Ok(_) => End::Done,
         Err(EditFault::Memory) if device.contents() == before => End::Memory,
         Err(_) => End::Other,

@@ -1,10 +1,10 @@
 //! A volume that a failed write may leave, in which bytes of the torn write are taken for a header.
 
+use crate::calls::{counting, is_accepted, is_open};
 use luks_area::MemDevice;
 use luks_kdf::HashName;
-use luks_reading::{Allowed, Data, check, open_slot};
 use luks_test_devices::{Fields, TEXT, UUID, copy_of, key_area, part, put};
-use luks2_header::{Copies, Selected, select};
+use luks2_header::Copies;
 use std::alloc::Global;
 use std::test::Fail;
 
@@ -56,14 +56,6 @@ fn torn_volume(alloc: Global, volume: &[u8]) -> Result<Vec<u8>, Fail> {
     Ok(torn)
 }
 
-/// The place and the length of the copy that counts, and how the copies stand to each other.
-fn counting(device: &mut MemDevice) -> Option<(u64, u64, Copies)> {
-    match select(device) {
-        Ok(Selected::V2 { header, copies }) => Some((header.hdr_offset, header.hdr_size, copies)),
-        _ => None,
-    }
-}
-
 // So what is said of a volume that a failing call left needs that it isn't stray: the copy at 16384
 // counts, though the one at 32768 is as it was, and keyslot 0 no longer opens.
 #[test]
@@ -76,10 +68,8 @@ fn bytes_of_a_torn_write_count(rt: HostRuntime) -> Result<(), Fail> {
     let mut device = MemDevice::new(volume);
     let found = counting(&mut device);
     assert!(rt; found == Some((0, 32768, Copies::InStep)), "the volume");
-    assert!(rt; check(alloc, &mut device, Data::Here).is_ok(), "accepted");
-    let opened = open_slot(alloc, &mut device, 0, b"one", Allowed::NOTHING).is_ok_and(
-        |key| key.is_some(),
-    );
+    assert!(rt; is_accepted(alloc, &mut device), "accepted");
+    let opened = is_open(alloc, &mut device, 0, b"one");
     assert!(rt; opened, "its keyslot");
     let mut device = MemDevice::new(torn);
     let found = counting(&mut device);
@@ -87,9 +77,7 @@ fn bytes_of_a_torn_write_count(rt: HostRuntime) -> Result<(), Fail> {
         found == Some((16384, 16384, Copies::SecondOnly)),
         "what counts"
     );
-    let opened = open_slot(alloc, &mut device, 0, b"one", Allowed::NOTHING).is_ok_and(
-        |key| key.is_some(),
-    );
+    let opened = is_open(alloc, &mut device, 0, b"one");
     assert!(rt; !opened, "the keyslot");
     Ok(())
 }

@@ -1,12 +1,12 @@
 //! Edits of volumes with two keyslots or three.
 
+use crate::calls::{ALLOWED, edited, key_of};
 use luks_area::MemDevice;
 use luks_edit::Edit;
 use luks_kdf::HashName;
-use luks_reading::{Allowed, Data, open_slot};
 use luks_samples::{ARGON2I_1, ARGON2ID_0, STRIPE_BY_ARGON2I, roomy_luks2, roomy_text};
 use luks_test_devices::{VOLUME_KEY, add, change, counted, label, put, remove, small1};
-use luks_volume::{Secret, SecretKind, apply};
+use luks_volume::{Secret, SecretKind};
 use std::alloc::Global;
 use std::test::Fail;
 
@@ -189,28 +189,16 @@ pub(crate) fn two_luks1_keyslots(alloc: Global) -> Result<Vec<u8>, Fail> {
     let mut device = MemDevice::new(small1(alloc, HashName::Sha256)?);
     let random = counted(alloc, 3, 2528)?;
     let edit = add!(0, b"one", b"two", Some(1));
-    match apply(alloc, &mut device, Data::Here, &edit, &random) {
+    match edited(alloc, &mut device, &edit, &random) {
         Ok(_) => Ok(device.contents().to_vec(alloc)?),
         Err(_) => Err("no keyslot 1".into()),
     }
 }
 
-/// What is allowed to each keyslot.
-const ALLOWED: Allowed = Allowed {
-    memory: 64,
-    older: false,
-};
-
 /// Whether the keyslot opens by the passphrase to the volume key.
 pub(crate) fn opens(alloc: Global, device: &mut MemDevice, opening: Opening) -> bool {
     let (n, passphrase) = opening;
-    // Argon2 takes no passphrase of 2^32 bytes.
-    let allowed = if passphrase.len() < 16 {
-        ALLOWED
-    } else {
-        Allowed::NOTHING
-    };
-    match open_slot(alloc, device, n, passphrase, allowed) {
+    match key_of(alloc, device, n, passphrase) {
         Ok(Some(key)) => key.as_bytes() == VOLUME_KEY.as_slice(),
         _ => false,
     }

@@ -21,7 +21,8 @@
 //!     metadata NAME SEQID SEQID OLD NEW     both copies of its header are written anew, with these sequence
 //!                            numbers, and with the metadata in which NEW stands for OLD, both with no space
 //!     typed TEXT             standard input of the commands behind
-//!     hold NAME, release NAME   another program takes the lock of the file, and lets it go
+//!     hold NAME, share NAME   another program takes the lock of the file, for itself alone or as a reader
+//!     release NAME           and lets it go
 //!     meanwhile NAME OTHER LEN  as soon as a command opens or makes the file NAME, another program cuts OTHER to so
 //!                            many bytes
 //!     $ WORDS                runs the command, its words parted by single spaces: prints standard output,

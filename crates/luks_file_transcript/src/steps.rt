@@ -65,8 +65,8 @@ impl<'a, R: AllocGlobal + Files<File = File>> Folder<'a, R> {
                 self.meanwhile = text_of(self.rt, rest)?;
                 Ok(())
             }
-            "hold" => {
-                self.held = Some(self.locked(rest)?);
+            "hold" | "share" => {
+                self.held = Some(self.locked(rest, step == "share")?);
                 Ok(())
             }
             "release" => {
@@ -83,10 +83,15 @@ impl<'a, R: AllocGlobal + Files<File = File>> Folder<'a, R> {
         Ok(format!(in self.rt.alloc(); "{folder}/{name}")?)
     }
 
-    /// The file of this name, opened as by another program, and locked by it alone.
-    fn locked(&self, name: &str) -> io::Result<File> {
+    /// The file of this name, opened as by another program, and locked by it alone or beside readers.
+    fn locked(&self, name: &str, is_shared: bool) -> io::Result<File> {
         let file = File::open(self.rt, self.place(name)?.as_str())?;
-        match file.try_lock() {
+        let locked = if is_shared {
+            file.try_lock_shared()
+        } else {
+            file.try_lock()
+        };
+        match locked {
             Ok(()) => Ok(file),
             Err(_) => Err(io::Error::from(ErrorKind::WouldBlock)),
         }

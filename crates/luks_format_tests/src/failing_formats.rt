@@ -129,15 +129,15 @@ fn made(
     );
     let (header, from, to) = places(asked.version);
     let mut rows = 0usize;
-    for (version, hash, detached, _, head, area) in FORMATS {
+    for (version, hash, detached, _, head, area) in FORMATS.iter() {
         if let Some(front) = &left
-            && version == asked.version
-            && hash == "sha256"
-            && !detached
+            && *version == asked.version
+            && *hash == "sha256"
+            && !*detached
         {
             let volume = front.contents();
-            assert!(rt; is_sum(part(volume, 0, header), head), "the header");
-            assert!(rt; is_sum(part(volume, from, to), area), "the key area");
+            assert!(rt; is_sum(part(volume, 0, header), *head), "the header");
+            assert!(rt; is_sum(part(volume, from, to), *area), "the key area");
             rows = rows.wrapping_add(1);
         }
     }

@@ -1,7 +1,16 @@
 //! What formatting leaves of a volume that was filled with 0xA5: printed by `testdata/oracle/edit_values formats`.
 
 /// Version, hash, whether the data is elsewhere, and SHA-256 of the whole volume, of the header (or both copies) and of the key area.
-pub(crate) const FORMATS: [(u8, &str, bool, &str, &str, &str); 12] = [
+pub(crate) type Row = (
+    u8,
+    &'static str,
+    bool,
+    &'static str,
+    &'static str,
+    &'static str,
+);
+
+pub(crate) static FORMATS: [Row; 12] = [
     (
         1,
         "sha1",

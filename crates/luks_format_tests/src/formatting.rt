@@ -3,7 +3,7 @@
 ghost use Rattle.std.specs.Prelude.{◌+◌, ◌<◌, ◌^◌};
 ghost use Rattle.luks_area.specs.Device.{IsSettled};
 
-use crate::formats::FORMATS;
+use crate::formats::{FORMATS, Row};
 use luks_area::{Device, MemDevice};
 use luks_edit::Done;
 use luks_formatting::{FORMAT1_RANDOM, FORMAT2_RANDOM, Format, FormatFault, format1, format2};
@@ -62,21 +62,6 @@ pub(crate) fn places(version: u8) -> (usize, usize, usize) {
     }
 }
 
-/// Whether the header, the key area and the whole volume have these sums.
-fn leaves(
-    alloc: Global,
-    asked: Asked,
-    header: &str,
-    area: &str,
-    whole: &str,
-) -> Result<bool, Fail> {
-    let (device, fault) = formatted(alloc, asked)?;
-    let volume = device.contents();
-    let (end, from, to) = places(asked.version);
-    let same = is_sum(part(volume, 0, end), header) && is_sum(part(volume, from, to), area);
-    Ok(fault.is_none() && same && is_sum(volume, whole))
-}
-
 fn format_of(hash: &str) -> Option<Format> {
     let hash = HashName::parse(hash)?;
     Some(Format {
@@ -85,28 +70,37 @@ fn format_of(hash: &str) -> Option<Format> {
     })
 }
 
+/// Whether the volume of the row is made, and its header, its key area and the whole have these sums.
+fn makes(alloc: Global, row: &Row) -> Result<bool, Fail> {
+    let (version, hash, detached, whole, header, area) = *row;
+    let asked = Asked {
+        version,
+        len: if version == 1 { 2097664 } else { 16777728 },
+        random: if version == 1 { 256080 } else { 256208 },
+        data: if detached {
+            Data::Elsewhere
+        } else {
+            Data::Here
+        },
+        format: format_of(hash).ok_or("no hash")?,
+    };
+    let (device, fault) = formatted(alloc, asked)?;
+    let volume = device.contents();
+    let (end, from, to) = places(version);
+    let same = is_sum(part(volume, 0, end), header) && is_sum(part(volume, from, to), area);
+    Ok(fault.is_none() && same && is_sum(volume, whole))
+}
+
 #[test]
 fn whole_volumes(rt: HostRuntime) -> Result<(), Fail> {
-    for (version, hash, detached, whole, header, area) in FORMATS {
-        let asked = Asked {
-            version,
-            len: if version == 1 { 2097664 } else { 16777728 },
-            random: if version == 1 { 256080 } else { 256208 },
-            data: if detached {
-                Data::Elsewhere
-            } else {
-                Data::Here
-            },
-            format: format_of(hash).ok_or("no hash")?,
-        };
-        let same = leaves(rt.alloc(), asked, header, area, whole)?;
-        assert!(rt; same, "{version} {hash} {detached}");
+    for (i, row) in FORMATS.iter().enumerate() {
+        assert!(rt; makes(rt.alloc(), row)?, "row {i}");
     }
     Ok(())
 }
 
 /// The version, the volume's length, the iterations, how many random bytes, and the fault.
-const REFUSED: [(u8, usize, u32, usize, FormatFault); 14] = [
+static REFUSED: [(u8, usize, u32, usize, FormatFault); 14] = [
     (1, 2097151, 999, 0, FormatFault::TooSmall),
     (1, 2097151, 1000, 256080, FormatFault::TooSmall),
     (1, 0, 1000, 256080, FormatFault::TooSmall),
@@ -123,8 +117,19 @@ const REFUSED: [(u8, usize, u32, usize, FormatFault); 14] = [
     (2, 16777216, 1000, 256209, FormatFault::RandomLength),
 ];
 
-/// Whether it is refused with this fault.
-fn refuses(alloc: Global, asked: Asked, want: FormatFault) -> Result<bool, Fail> {
+/// Whether the row is refused with its fault.
+fn refuses(alloc: Global, row: &(u8, usize, u32, usize, FormatFault)) -> Result<bool, Fail> {
+    let (version, len, iterations, random, want) = *row;
+    let asked = Asked {
+        version,
+        len,
+        random,
+        data: Data::Here,
+        format: Format {
+            hash: HashName::Sha1,
+            iterations,
+        },
+    };
     let (_, fault) = formatted(alloc, asked)?;
     Ok(fault == Some(want))
 }
@@ -135,18 +140,8 @@ fn refusals(rt: HostRuntime) -> Result<(), Fail> {
         FORMAT1_RANDOM == 256080 && FORMAT2_RANDOM == 256208,
         "the random bytes"
     );
-    for (version, len, iterations, random, want) in REFUSED {
-        let asked = Asked {
-            version,
-            len,
-            random,
-            data: Data::Here,
-            format: Format {
-                hash: HashName::Sha1,
-                iterations,
-            },
-        };
-        assert!(rt; refuses(rt.alloc(), asked, want)?, "{version} {want}");
+    for (i, row) in REFUSED.iter().enumerate() {
+        assert!(rt; refuses(rt.alloc(), row)?, "row {i}");
     }
     Ok(())
 }

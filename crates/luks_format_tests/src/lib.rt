@@ -1,9 +1,7 @@
-//! Tests of formatting, and of edits of the volumes that it makes. They stand here so that no crate is
-//! proved a second time for them.
+//! Tests of formatting. What edits leave of the volumes that it makes stands in `luks_volume_transcript`. They stand
+//! here so that no crate is proved a second time for them.
 #![tactic(auto)]
 
-#[cfg(test)]
-mod answers;
 #[cfg(test)]
 mod failing_formats;
 #[cfg(test)]
@@ -13,8 +11,4 @@ mod formatting;
 #[cfg(test)]
 mod left_behind;
 #[cfg(test)]
-mod new_volumes;
-#[cfg(test)]
 mod refused_memory;
-#[cfg(test)]
-mod torn_labels;

@@ -1,7 +1,8 @@
 //! Formatting with refused memory.
 
+use crate::formatting::{Asked, format};
 use luks_area::MemDevice;
-use luks_formatting::{Format, FormatFault, format2};
+use luks_formatting::{Format, FormatFault};
 use luks_kdf::HashName;
 use luks_reading::Data;
 use luks_test_devices::{End, Work, counted, ends_with_little_memory};
@@ -17,12 +18,18 @@ struct Formatting<'a> {
 
 impl Work for Formatting<'_> {
     fn end(&mut self, alloc: Global) -> End {
-        let format = Format {
-            hash: HashName::Sha256,
-            iterations: 1000,
+        let asked = Asked {
+            version: 2,
+            len: 16777216,
+            random: self.random.len(),
+            data: Data::Here,
+            format: Format {
+                hash: HashName::Sha256,
+                iterations: 1000,
+            },
         };
         let device = &mut self.device;
-        match format2(alloc, device, Data::Here, &format, b"one", self.random) {
+        match format(alloc, device, asked, self.random) {
             Ok(_) => End::Done,
             Err(FormatFault::Memory) if device.contents().iter().all(|byte| *byte == 0xA5) => {
                 End::Memory

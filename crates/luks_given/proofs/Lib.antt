@@ -1,3 +1,4 @@
 pub mod PlanFacts
 pub mod PartFacts
 mod AskingFacts
+mod PlayFacts

@@ -1,5 +1,5 @@
 -- Facts on ranges of a volume that are given.
-use Rattle.std.proofs.Common.{◌≡◌, ℕ, ◌+◌, ◌-◌, ◌<◌, ◌≤◌, inl, inr, List, [], ◌∷◌, ◌++◌, length, refl, sym, ap, ◌∙◌, arith}
+use Rattle.std.proofs.Common.{◌≡◌, ℕ, ◌+◌, ◌-◌, ◌<◌, ◌≤◌, inl, inr, List, [], ◌∷◌, ◌++◌, length, refl, subst, sym, ap, ◌∙◌, arith}
 use Rattle.std.proofs.lemmas.List.{length-replicate}
 use Rattle.luks_area.specs.Ranges.{part, written}
 use Rattle.luks_area.proofs.RangeFacts.{length-part_inside, part-add, part-part, part-whole, length-written, part-written, same_outside-written, same_but-same_outside, part-same_but_at}
@@ -138,7 +138,7 @@ read-placed rs at len k bytes v is are counted =
 -- ---- writes
 
 -- a range in three
-part-in_three : (v : List ℕ) (at a n rest : ℕ) → part v at ((a + n) + rest) ≡ (part v at a ++ part v (at + a) n) ++ part v (at + (a + n)) rest
+pub part-in_three : (v : List ℕ) (at a n rest : ℕ) → part v at ((a + n) + rest) ≡ (part v at a ++ part v (at + a) n) ++ part v (at + (a + n)) rest
 part-in_three v at a n rest = part-add v at (a + n) rest ∙ ap (λ l. l ++ part v (at + (a + n)) rest) (part-add v at a n)
 
 -- a write within a range
@@ -236,3 +236,31 @@ placed-written free (r ∷ rs) before at end_ k bytes v from apart inside is are
             placed-written (r.at + r.len + 1) rs (before + r.len) at end_ k bytes v from apart.1 inside.1 later are.1 (omega (arith, counted)) long,
           ))
     ]
+
+-- of places of one range some
+pub placed-some : (rs : List Part) (before at end_ k a e : ℕ) → at ≤ a → e ≤ end_ → IsPlaced rs before at end_ k → IsPlaced rs before a e (k + (a - at))
+unfolding IsPlaced
+placed-some [] before at end_ k a e low high is = is
+placed-some (r ∷ rs) before at end_ k a e low high is = elim is [
+  | inl here ↦ (
+      let first = here.0 in
+      let last = here.1 in
+      let k_is = here.2 in
+      inl (omega (arith, first, low), omega (arith, last, high), omega (arith, k_is, first, low)))
+  | inr later ↦ inr (placed-some rs (before + r.len) at end_ k a e low high later)
+]
+
+-- so many of these, from the one numbered `start` on
+pub placed-part : (rs : List Part) (at n k start m : ℕ) → start + m ≤ n → IsPlaced rs 0 at (at + n) k → IsPlaced rs 0 (at + start) ((at + start) + m) (k + start)
+placed-part rs at n k start m inside is =
+    let e : k + ((at + start) - at) ≡ k + start = omega arith in
+    subst (λ j. IsPlaced rs 0 (at + start) ((at + start) + m) j) e
+    (placed-some rs 0 at (at + n) k (at + start) ((at + start) + m) (omega arith) (omega (arith, inside)) is)
+
+-- they are of the volume, and their bytes of those that are held
+pub placed-fits : (rs : List Part) (at n k total count : ℕ) → AreApart 0 rs → AreInside total rs → parts_length rs ≡ count → IsPlaced rs 0 at (at + n) k
+    → (at + n ≤ total) × (k + n ≤ count)
+placed-fits rs at n k total count apart inside counted is =
+    let all = placed-within 0 rs 0 at (at + n) k total count apart inside is (omega (arith, counted)) (omega arith) in
+    let room = all.3 in
+    (all.1, omega (arith, room))

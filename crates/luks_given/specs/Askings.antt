@@ -1,5 +1,5 @@
 -- Askings for ranges of a volume, one after the other.
-use Rattle.std.proofs.Common.{inl, inr}
+use mathlib.Core.Logic.{inl, inr}
 use Rattle.std.specs.Prelude.{ℕ, List, [], ◌∷◌, ◌⊎◌, ⊤}
 use Rattle.luks_area.specs.Ranges.{IsAt}
 use Rattle.luks_given.specs.declared.parts.Part.{Part}

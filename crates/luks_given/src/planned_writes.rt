@@ -1,15 +1,18 @@
 //! A volume of which ranges are given, as a device whose writes are planned.
-ghost use Rattle.std.specs.Prelude.{◌≡◌, ◌≢◌, ◌+◌, ◌≤◌, ◌<◌, ◌^◌, ◌∷◌, ◌++◌, [], IsTrue, IsFalse, false, length};
-ghost use Rattle.luks_area.specs.Ranges.{written};
+ghost use Rattle.std.specs.Prelude.{◌≡◌, ◌≢◌, ◌+◌, ◌-◌, ◌≤◌, ◌<◌, ◌^◌, ◌∷◌, ◌++◌, List, ℕ, [], IsTrue, IsFalse, drop, false, length};
+ghost use Rattle.luks_area.specs.Ranges.{part, written};
 ghost use Rattle.luks_given.specs.PartProps.{apart-prop, inside-prop, parts-prop};
-ghost use Rattle.luks_given.specs.Parts.{AreApart, AreGiven, AreInside, AreParts, HasPlace, IsWanted, parts_length};
+ghost use Rattle.luks_given.specs.Parts.{AreApart, AreGiven, AreInside, AreParts, HasPlace, IsPlaced, IsWanted, parts_length};
 ghost use Rattle.luks_given.specs.Plan.{WritesGiven, furthest, planned_length, played};
 
 use crate::given::Given;
 use crate::parts::{Part, find};
 use luks_area::{Device, DeviceFault};
-use std::alloc::Global;
+use std::alloc::{AllocError, Global};
 use std::marker::PhantomData;
+
+/// The bytes of a sector.
+const SECTOR: usize = 512;
 
 /// A call of the plan: so many bytes are written from the place `at` on, or, where they are none, all
 /// that was written is to stay before a later call begins.
@@ -23,7 +26,8 @@ pub struct PlannedCall {
 }
 
 /// A volume of which ranges lie in memory, as a device of which nothing is written: it keeps the writes
-/// and flushes as a plan, in their order, and reads what the plan would leave.
+/// and flushes as a plan, in their order, and reads what the plan would leave, made anew for each read. Zeros
+/// that a write would leave at its end as they are aren't planned, sector by sector.
 ///
 /// It tells the bytes of the volume, of which those that aren't given may be any: each read or write fails
 /// that meets one of them. It keeps what the last such call wanted. A call fails also where there is no
@@ -31,7 +35,7 @@ pub struct PlannedCall {
 #[derive(Drop)]
 pub struct PlannedWrites<'a, K: Given> {
     parts: &'a [Part],
-    held: Vec<u8>,
+    held: &'a [u8],
     calls: Vec<PlannedCall>,
     bytes: Vec<u8>,
     total: u64,
@@ -44,8 +48,8 @@ pub struct PlannedWrites<'a, K: Given> {
     ghost same: { parts.now ≡ K.parts },
     ghost apart: { AreApart 0 parts.now } by { apart-prop 0 parts.now },
     ghost ends: { AreInside total parts.now } by { inside-prop total parts.now },
-    ghost counted: { parts_length parts.now ≡ length held.items },
-    ghost known: { AreParts parts.now 0 held.items (played calls.items bytes.items K.bytes) } by { parts-prop parts.now 0 held.items (played calls.items bytes.items K.bytes) },
+    ghost counted: { parts_length parts.now ≡ length held.now },
+    ghost known: { AreParts parts.now 0 held.now K.bytes } by { parts-prop parts.now 0 held.now K.bytes },
     ghost far: { failures ≢ 0 → is_full ≡ false → IsWanted K.parts total missing },
     ghost last: { furthest calls.items ≤ total },
     ghost planned: { planned_length calls.items ≡ length bytes.items },
@@ -53,30 +57,39 @@ pub struct PlannedWrites<'a, K: Given> {
 }
 
 impl<'a, K: Given> PlannedWrites<'a, K> {
-    ghost use Rattle.std.specs.Prelude.{◌↔◌, ◌⊎◌, IfSome, IsNone, IsTrue};
+    ghost use Rattle.std.specs.Prelude.{◌↔◌, ◌⊎◌, IfOk, IfSome, IsNone, IsTrue};
     ghost use Rattle.luks_given.specs.Planned.{lacked_memory, planned_bytes, planned_calls, planned_failures, planned_size, planned_unsettled, planned_written};
     ghost use Rattle.luks_area.specs.Device.{IsSettled};
 
-    /// The volume of `total` bytes that has these in these ranges, and an empty plan.
-    pub fn new(alloc: Global, parts: &'a [Part], held: Vec<u8>, total: u64) -> Self
+    /// The volume of `total` bytes that has these in these ranges, and an empty plan, with memory for as
+    /// many bytes as are held: few plans write more.
+    pub fn new(
+        alloc: Global,
+        parts: &'a [Part],
+        held: &'a [u8],
+        total: u64,
+    ) -> Result<Self, AllocError>
         requires parts { K.parts ≡ parts.now }
-        requires given { AreGiven parts.now held.items total K.bytes }
-        ensures bytes { planned_bytes result ≡ K.bytes }
-        ensures size { planned_size result ≡ total }
-        ensures failures { planned_failures result ≡ 0 }
-        ensures settled { IsSettled planned_unsettled result }
+        requires given { AreGiven parts.now held.now total K.bytes }
+        ensures bytes { IfOk result (λ device. planned_bytes device ≡ K.bytes) }
+        ensures size { IfOk result (λ device. planned_size device ≡ total) }
+        ensures failures { IfOk result (λ device. planned_failures device ≡ 0) }
+        ensures settled { IfOk result (IsSettled planned_unsettled) }
     {
-        PlannedWrites {
+        let calls = Vec::new(alloc);
+        let mut bytes = Vec::new(alloc);
+        bytes.reserve_exact(held.len())?;
+        Ok(PlannedWrites {
             parts,
             held,
-            calls: Vec::new(alloc),
-            bytes: Vec::new(alloc),
+            calls,
+            bytes,
             total,
             missing: Part::default(),
             is_full: false,
             failures: 0,
             given: PhantomData,
-        }
+        })
     }
 
     /// The calls of the plan, in their order. Played over the volume, with the bytes that they write, they
@@ -113,6 +126,52 @@ impl<'a, K: Given> PlannedWrites<'a, K> {
             Some(self.missing)
         }
     }
+
+    /// Reads what the plan leaves from the place `at` on, which is held from the byte `k` on.
+    fn read_held(&self, at: u64, k: usize, into: &mut [u8])
+        requires { IsPlaced K.parts 0 at (at + length into.old) k }
+        ensures { into.new ≡ part (planned_bytes self.now) at (length into.old) }
+    {
+        into.copy_from_slice(&self.held[k..k + into.len()]);
+        play(self.calls.as_slice(), self.bytes.as_slice(), at, into);
+    }
+
+    /// How many of these bytes have to be written from the place `at` on, which is held from the byte `k` on:
+    /// up to the last sector of 512 in which not all are zeros, here and there. The others stand there.
+    fn changing(&self, at: u64, k: usize, from: &[u8]) -> usize
+        requires { IsPlaced K.parts 0 at (at + length from.now) k }
+        ensures most { result ≤ length from.now }
+        ensures rest { drop result from.now
+            ≡ part (planned_bytes self.now) (at + result) (length from.now - result) }
+    {
+        let mut len = from.len();
+        while len > 0 {
+            let start = last_sector(at, len);
+            let place = at + start as u64;
+            let first = k + start;
+            if !self.are_zeros(place, first, &from[start..len]) {
+                break;
+            }
+            len = start;
+        }
+        len
+    }
+
+    /// Whether these bytes of a sector, and those that stand from the place `at` on, are zeros.
+    fn are_zeros(&self, at: u64, k: usize, from: &[u8]) -> bool
+        requires placed { IsPlaced K.parts 0 at (at + length from.now) k }
+        requires short { length from.now ≤ 512 }
+        ensures { IsTrue result → from.now ≡ part (planned_bytes self.now) at (length from.now) }
+    {
+        let len = from.len();
+        let mut sector = [0u8; SECTOR];
+        let standing = &mut sector[..len];
+        if &*standing != from {
+            return false;
+        }
+        self.read_held(at, k, standing);
+        &*standing == from
+    }
 }
 
 /// Adds a call to a plan, unless memory is refused; answers whether it did.
@@ -133,12 +192,61 @@ fn add_call(calls: &mut Vec<PlannedCall>, bytes: &mut Vec<u8>, at: u64, from: &[
     true
 }
 
-/// Writes `from` over the bytes from `at` on.
-fn put(bytes: &mut Vec<u8>, at: usize, from: &[u8])
-    requires { at + length from.now ≤ length bytes.old.items }
-    ensures { bytes.new.items ≡ written bytes.old.items at from.now }
+/// Makes of the bytes that stand from `at` on what the plan leaves of them.
+fn play(calls: &[PlannedCall], bytes: &[u8], at: u64, into: &mut [u8])
+    requires counted { planned_length calls.now ≡ length bytes.now }
+    requires ends { furthest calls.now < 2 ^ 64 }
+    requires within { at + length into.old < 2 ^ 64 }
+    ensures { (v : List ℕ) → furthest calls.now ≤ length v → at + length into.old ≤ length v
+        → into.old ≡ part v at (length into.old)
+        → into.new ≡ part (played calls.now bytes.now v) at (length into.old) }
+{
+    let mut left = bytes;
+    for call in calls {
+        let (from, rest) = left.split_at(call.len as usize);
+        put(into, at, from, call.at);
+        left = rest;
+    }
+}
+
+/// Writes `from`, which goes to the place `to`, over the bytes that stand from `at` on, as far as these are
+/// met.
+fn put(into: &mut [u8], at: u64, from: &[u8], to: u64)
+    requires from { to + length from.now < 2 ^ 64 }
+    requires within { at + length into.old < 2 ^ 64 }
+    ensures long { length into.new ≡ length into.old }
+    ensures met { (v : List ℕ) → to + length from.now ≤ length v → at + length into.old ≤ length v
+        → into.old ≡ part v at (length into.old)
+        → into.new ≡ part (written v to from.now) at (length into.old) }
+{
+    let end = at + into.len() as u64;
+    let to_end = to + from.len() as u64;
+    let first = at.max(to);
+    let last = end.min(to_end);
+    if last <= first {
+        return;
+    }
+    let met = &from[(first - to) as usize..(last - to) as usize];
+    copy_over(into, (first - at) as usize, met);
+}
+
+/// Writes `from` over the bytes from the one numbered `at` on.
+fn copy_over(bytes: &mut [u8], at: usize, from: &[u8])
+    requires { at + length from.now ≤ length bytes.old }
+    ensures { bytes.new ≡ written bytes.old at from.now }
 {
     bytes[at..at + from.len()].copy_from_slice(from);
+}
+
+/// Where among `len` bytes from the place `at` on the last sector begins that they have a byte of, or the
+/// first of them.
+fn last_sector(at: u64, len: usize) -> usize
+    requires { 0 < len }
+    ensures below { result < len }
+    ensures short { len ≤ result + 512 }
+{
+    let behind = (at % 512 + (len as u64 - 1) % 512) % 512;
+    len.saturating_sub(behind as usize + 1)
 }
 
 impl<K: Given> Device for PlannedWrites<'_, K> {
@@ -170,7 +278,7 @@ impl<K: Given> Device for PlannedWrites<'_, K> {
         let end = at + into.len() as u64;
         match find(self.parts, at, end) {
             Ok(k) => {
-                into.copy_from_slice(&self.held[k..k + into.len()]);
+                self.read_held(at, k, into);
                 Ok(())
             }
             Err(place) => {
@@ -191,12 +299,15 @@ impl<K: Given> Device for PlannedWrites<'_, K> {
         let end = at + from.len() as u64;
         match find(self.parts, at, end) {
             Ok(k) => {
-                if !add_call(&mut self.calls, &mut self.bytes, at, from) {
+                let len = self.changing(at, k, from);
+                if len == 0 {
+                    return Ok(());
+                }
+                if !add_call(&mut self.calls, &mut self.bytes, at, &from[..len]) {
                     self.is_full = true;
                     self.failures += 1;
                     return Err(DeviceFault);
                 }
-                put(&mut self.held, k, from);
                 Ok(())
             }
             Err(place) => {

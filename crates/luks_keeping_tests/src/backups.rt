@@ -1,9 +1,10 @@
 //! What a backup is, byte for byte.
+use crate::calls::{back_up, opens};
 use crate::sources::{LEN, SIZE, backup_of};
 use luks_area::{Device, MemDevice};
 use luks_kdf::HashName;
-use luks_keeping::{BackupFault, backup, backup_length};
-use luks_reading::{Allowed, Data, open_slot};
+use luks_keeping::{BackupFault, backup_length};
+use luks_reading::Data;
 use luks_test_devices::{old_bytes, part, put, small1, small2, two_keyslots};
 use std::alloc::Global;
 use std::process::Abort;
@@ -29,7 +30,7 @@ fn of_luks1(rt: HostRuntime) -> Result<(), Fail> {
     let mut source = MemDevice::new(image.to_vec(rt.alloc())?);
     let old = old_bytes(rt.alloc(), LEN)?;
     let mut target = MemDevice::new(old.to_vec(rt.alloc())?);
-    let answer = backup(rt.alloc(), &mut source, Data::Here, &mut target);
+    let answer = back_up(rt.alloc(), &mut source, &mut target);
     assert!(rt; answer.is_ok(), "it is made");
     let made = target.contents();
     assert!(rt; source.contents() == image.as_slice(), "the source");
@@ -38,8 +39,7 @@ fn of_luks1(rt: HostRuntime) -> Result<(), Fail> {
     assert!(rt; is_cleared(part(made, 592, 4096)), "between");
     assert!(rt; is_cleared(part(made, 6656, SIZE)), "behind");
     assert!(rt; is_alike(made, &old, SIZE, LEN), "the rest");
-    let key = open_slot(rt.alloc(), &mut target, 0, b"one", Allowed::NOTHING)?;
-    assert!(rt; key.is_some(), "it opens");
+    assert!(rt; opens(rt.alloc(), &mut target, 0, b"one"), "it opens");
     Ok(())
 }
 
@@ -55,8 +55,7 @@ fn of_luks2(rt: HostRuntime) -> Result<(), Fail> {
     assert!(rt; is_alike(&made, &image, 36864, 39424), "the other key area");
     assert!(rt; is_cleared(part(&made, 40960, SIZE)), "behind");
     let mut device = MemDevice::new(made);
-    let key = open_slot(rt.alloc(), &mut device, 1, b"two", Allowed::NOTHING)?;
-    assert!(rt; key.is_some(), "it opens");
+    assert!(rt; opens(rt.alloc(), &mut device, 1, b"two"), "it opens");
     Ok(())
 }
 
@@ -87,7 +86,7 @@ fn onto_a_short_target(rt: HostRuntime) -> Result<(), Fail> {
     let mut source = MemDevice::new(small1(rt.alloc(), HashName::Sha256)?);
     let old = old_bytes(rt.alloc(), SIZE - 1)?;
     let mut target = MemDevice::new(old.to_vec(rt.alloc())?);
-    let answer = backup(rt.alloc(), &mut source, Data::Here, &mut target);
+    let answer = back_up(rt.alloc(), &mut source, &mut target);
     assert!(rt; matches!(answer, Err(BackupFault::TooSmall)), "refused");
     assert!(rt; target.contents() == old.as_slice(), "nothing is written");
     Ok(())

@@ -1,5 +1,6 @@
 //! How backups stand to volumes, as the command `compare` prints it.
 
+use crate::calls::outline;
 use crate::sources::{backup_of, renamed};
 use luks_area::MemDevice;
 use luks_kdf::HashName;
@@ -13,7 +14,7 @@ use std::test::Fail;
 /// The outline of the header of these bytes, as one without its payload.
 fn outline_of(alloc: Global, bytes: &[u8]) -> Result<Outline, Fail> {
     let mut device = MemDevice::new(bytes.to_vec(alloc)?);
-    Ok(read_outline(alloc, &mut device, Data::Elsewhere)?)
+    Ok(outline(alloc, &mut device)?)
 }
 
 /// What is printed of the backup of the one volume, compared with the other.

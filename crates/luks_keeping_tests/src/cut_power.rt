@@ -1,10 +1,11 @@
 //! What a power cut leaves of a file in which a backup is made over an older one, and of a volume onto which
 //! one is restored.
+use crate::calls::{back_up, give_back, is_accepted, opens};
 use crate::sources::{backup_of, demand};
 use luks_area::MemDevice;
 use luks_kdf::HashName;
-use luks_keeping::{Over, backup, restore};
-use luks_reading::{Allowed, Data, check, open_slot};
+use luks_keeping::Over;
+use luks_reading::Data;
 use luks_test_devices::{
     Fields, LosingDevice, Loss, TEXT, UUID, copy_of, key_area, part, put, small1, small2,
     two_keyslots,
@@ -13,18 +14,13 @@ use std::alloc::Global;
 use std::process::Abort;
 use std::test::Fail;
 
-/// Whether the passphrase opens the keyslot 0.
-fn opens_by(alloc: Global, device: &mut MemDevice, passphrase: &[u8]) -> bool {
-    open_slot(alloc, device, 0, passphrase, Allowed::NOTHING).is_ok_and(|key| key.is_some())
-}
-
 /// Whether what is left isn't accepted, or a passphrase opens it.
 fn opens_where_accepted(alloc: Global, left: &[u8]) -> Result<bool, Fail> {
     let mut device = MemDevice::new(left.to_vec(alloc)?);
-    if check(alloc, &mut device, Data::Elsewhere).is_err() {
+    if !is_accepted(alloc, &mut device, Data::Elsewhere) {
         return Ok(true);
     }
-    Ok(opens_by(alloc, &mut device, b"one") || opens_by(alloc, &mut device, b"two"))
+    Ok(opens(alloc, &mut device, 0, b"one") || opens(alloc, &mut device, 0, b"two"))
 }
 
 /// At whichever third call of the file the power is cut, nothing is accepted that doesn't open. How many
@@ -40,7 +36,7 @@ fn backs_up(
         let call = turn * 3;
         let mut source = MemDevice::new(volume.to_vec(alloc)?);
         let mut target = LosingDevice::new(alloc, file, call, loss, true)?;
-        if backup(alloc, &mut source, Data::Here, &mut target).is_ok() {
+        if back_up(alloc, &mut source, &mut target).is_ok() {
             return Ok(call);
         }
         assert!(rt;
@@ -72,7 +68,7 @@ fn restores(
         let call = turn * 3;
         let mut backup = MemDevice::new(kept.to_vec(alloc)?);
         let mut target = LosingDevice::new(alloc, volume, call, loss, true)?;
-        let answer = restore(alloc, &mut backup, &mut target, Data::Here, Over::AnyVolume);
+        let answer = give_back(alloc, &mut backup, &mut target, Over::AnyVolume);
         if answer.is_ok() {
             return Ok(call);
         }
@@ -158,7 +154,7 @@ const LARGER: &[(&str, &str)] = &[
 fn large_backup(alloc: Global, volume: &[u8]) -> Result<Vec<u8>, Fail> {
     let mut source = MemDevice::new(volume.to_vec(alloc)?);
     let mut target = MemDevice::new(vec![in alloc; 0u8; 131072]?);
-    let answer = backup(alloc, &mut source, Data::Here, &mut target);
+    let answer = back_up(alloc, &mut source, &mut target);
     demand(answer.is_ok())?;
     Ok(target.contents().to_vec(alloc)?)
 }

@@ -1,9 +1,9 @@
 //! Making backups on devices of which each call fails in turn.
+use crate::calls::back_up;
 use crate::sources::{LEN, SIZE, backup_of};
 use luks_area::{Device, FaultyDevice, Leave, MemDevice};
 use luks_kdf::HashName;
-use luks_keeping::{BackupFault, backup};
-use luks_reading::Data;
+use luks_keeping::BackupFault;
 use luks_test_devices::{old_bytes, part, small1, two_keyslots};
 use std::alloc::Global;
 use std::process::Abort;
@@ -30,7 +30,7 @@ fn end_of(
 ) -> Result<(End, MemDevice), Fail> {
     let mut source = FaultyDevice::new(MemDevice::new(volume.to_vec(alloc)?), calls.0, leave);
     let mut target = FaultyDevice::new(MemDevice::new(file.to_vec(alloc)?), calls.1, leave);
-    let answer = backup(alloc, &mut source, Data::Here, &mut target);
+    let answer = back_up(alloc, &mut source, &mut target);
     let end = match (answer, source.failures(), target.failures()) {
         (Ok(()), 0, 0) => End::Done,
         (Err(BackupFault::Device), 1, 0) => End::Volume,

@@ -1,9 +1,10 @@
 //! Restoring on devices of which each call fails in turn.
+use crate::calls::{give_back, is_accepted, opens};
 use crate::sources::{LEN, SIZE, backup_of};
 use luks_area::{Device, FaultyDevice, Leave, MemDevice};
 use luks_kdf::HashName;
-use luks_keeping::{Over, RestoreFault, restore};
-use luks_reading::{Allowed, Data, check, open_slot};
+use luks_keeping::{Over, RestoreFault};
+use luks_reading::Data;
 use luks_test_devices::{part, small1, two_keyslots};
 use std::alloc::Global;
 use std::process::Abort;
@@ -29,13 +30,7 @@ fn end_of(
 ) -> Result<(End, MemDevice), Fail> {
     let mut backup = FaultyDevice::new(MemDevice::new(kept.to_vec(alloc)?), calls.0, leave);
     let mut target = FaultyDevice::new(MemDevice::new(volume.to_vec(alloc)?), calls.1, leave);
-    let answer = restore(
-        alloc,
-        &mut backup,
-        &mut target,
-        Data::Here,
-        Over::SameVolume,
-    );
+    let answer = give_back(alloc, &mut backup, &mut target, Over::SameVolume);
     let end = match (answer, backup.failures(), target.failures()) {
         (Ok(()), 0, 0) => End::Done,
         (Err(RestoreFault::Device), 1, 0) => End::Backup,
@@ -47,8 +42,7 @@ fn end_of(
 
 /// Whether the header that is left is refused, or its keyslot opens.
 fn opens_where_accepted(alloc: Global, left: &mut MemDevice) -> bool {
-    check(alloc, left, Data::Here).is_err()
-        || open_slot(alloc, left, 0, b"one", Allowed::NOTHING).is_ok_and(|key| key.is_some())
+    !is_accepted(alloc, left, Data::Here) || opens(alloc, left, 0, b"one")
 }
 
 /// Whichever call fails, it is told, the payload stays, a header that counts opens, and the backup is

@@ -5,6 +5,8 @@
 #[cfg(test)]
 mod backups;
 #[cfg(test)]
+mod calls;
+#[cfg(test)]
 mod comparisons;
 #[cfg(test)]
 mod cut_power;

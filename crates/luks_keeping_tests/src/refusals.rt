@@ -1,9 +1,9 @@
 //! Backups that aren't restored: no byte changes.
+use crate::calls::give_back;
 use crate::sources::{backup_of, renamed};
 use luks_area::{Device, MemDevice};
 use luks_kdf::HashName;
-use luks_keeping::{Over, RestoreFault, restore};
-use luks_reading::Data;
+use luks_keeping::{Over, RestoreFault};
 use luks_test_devices::{part, put, small1, small2};
 use std::alloc::Global;
 use std::process::Abort;
@@ -23,13 +23,7 @@ enum End {
 fn end_of(rt: &impl Abort, alloc: Global, kept: &[u8], volume: &[u8]) -> Result<End, Fail> {
     let mut backup = MemDevice::new(kept.to_vec(alloc)?);
     let mut target = MemDevice::new(volume.to_vec(alloc)?);
-    let answer = restore(
-        alloc,
-        &mut backup,
-        &mut target,
-        Data::Here,
-        Over::SameVolume,
-    );
+    let answer = give_back(alloc, &mut backup, &mut target, Over::SameVolume);
     assert!(rt; backup.contents() == kept, "the backup");
     assert!(rt; answer.is_ok() || target.contents() == volume, "the target");
     Ok(match answer {

@@ -1,9 +1,9 @@
 //! Making backups and restoring them with refused memory.
+use crate::calls::{back_up, give_back};
 use crate::sources::{SIZE, backup_of, wiped};
 use luks_area::MemDevice;
 use luks_kdf::HashName;
-use luks_keeping::{BackupFault, Over, RestoreFault, backup, restore};
-use luks_reading::Data;
+use luks_keeping::{BackupFault, Over, RestoreFault};
 use luks_test_devices::{BLOCKS, TakenMemory, old_bytes, small2};
 use std::alloc::Global;
 use std::test::Fail;
@@ -29,13 +29,7 @@ fn restoring_with_little_memory(alloc: Global) -> Result<(End, usize), Fail> {
     let mut end = End::Memory;
     let mut given = 0;
     for turn in 0..BLOCKS {
-        let answer = restore(
-            alloc,
-            &mut backup,
-            &mut target,
-            Data::Here,
-            Over::SameVolume,
-        );
+        let answer = give_back(alloc, &mut backup, &mut target, Over::SameVolume);
         let same = target.contents() == old.as_slice();
         end = match answer {
             Ok(()) => End::Done,
@@ -65,7 +59,7 @@ fn backing_up_with_little_memory(alloc: Global) -> Result<(End, usize), Fail> {
     let mut end = End::Memory;
     let mut given = 0;
     for turn in 0..BLOCKS {
-        let answer = backup(alloc, &mut source, Data::Here, &mut target);
+        let answer = back_up(alloc, &mut source, &mut target);
         let same = target.contents() == old.as_slice();
         end = match answer {
             Ok(()) => End::Done,

@@ -1,9 +1,9 @@
 //! Backups of volumes of which each call of their disk fails in turn, as far as they can be read.
+use crate::calls::{opening, save};
 use crate::sources::{LEN, SIZE, backup_of};
 use luks_area::{Device, FaultyDevice, Leave, MemDevice};
 use luks_kdf::HashName;
-use luks_keeping::{BackupFault, LostKeyslots, rescue};
-use luks_reading::{Allowed, Data, open_slot};
+use luks_keeping::{BackupFault, LostKeyslots};
 use luks_test_devices::{old_bytes, part, put, small1, two_keyslots};
 use std::alloc::Global;
 use std::process::Abort;
@@ -42,7 +42,7 @@ fn end_of(alloc: Global, volume: &[u8], call: u64) -> Result<(End, Vec<u8>), Fai
     let disk = MemDevice::new(volume.to_vec(alloc)?);
     let mut source = FaultyDevice::new(disk, call, Leave::Old);
     let mut target = MemDevice::new(old_bytes(alloc, LEN)?);
-    let answer = rescue(alloc, &mut source, Data::Here, &mut target);
+    let answer = save(alloc, &mut source, &mut target);
     let end = match (answer, source.failures()) {
         (Ok(None), 0) => End::Whole,
         (Ok(Some(lost)), 1) => only_lost(&lost).map_or(End::Other, End::Lost),
@@ -133,10 +133,10 @@ fn opens_by_the_other_keyslot(rt: HostRuntime) -> Result<(), Fail> {
     for call in 0..256 {
         if let (End::Lost(0), made) = end_of(rt.alloc(), &volume, call)? {
             let mut backup = MemDevice::new(made);
-            let own = open_slot(rt.alloc(), &mut backup, 0, b"one", Allowed::NOTHING)?;
-            let other = open_slot(rt.alloc(), &mut backup, 1, b"two", Allowed::NOTHING)?;
-            assert!(rt; own.is_none(), "the lost keyslot");
-            assert!(rt; other.is_some(), "the other");
+            let own = opening(rt.alloc(), &mut backup, 0, b"one")?;
+            let other = opening(rt.alloc(), &mut backup, 1, b"two")?;
+            assert!(rt; !own, "the lost keyslot");
+            assert!(rt; other, "the other");
             return Ok(());
         }
     }

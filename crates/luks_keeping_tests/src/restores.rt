@@ -1,9 +1,10 @@
 //! What restoring a backup leaves.
+use crate::calls::{give_back, is_accepted, opens};
 use crate::sources::{LEN, SIZE, backup_of, demand, renamed, wiped};
 use luks_area::{Device, MemDevice};
 use luks_kdf::HashName;
-use luks_keeping::{Over, restore};
-use luks_reading::{Allowed, Data, check, open_slot};
+use luks_keeping::Over;
+use luks_reading::Data;
 use luks_test_devices::{part, put, small1, small2, two_keyslots};
 use std::alloc::Global;
 use std::process::Abort;
@@ -13,7 +14,7 @@ use std::test::Fail;
 fn restored(alloc: Global, kept: &[u8], volume: &[u8], over: Over) -> Result<MemDevice, Fail> {
     let mut backup = MemDevice::new(kept.to_vec(alloc)?);
     let mut target = MemDevice::new(volume.to_vec(alloc)?);
-    let answer = restore(alloc, &mut backup, &mut target, Data::Here, over);
+    let answer = give_back(alloc, &mut backup, &mut target, over);
     demand(answer.is_ok())?;
     Ok(target)
 }
@@ -40,9 +41,9 @@ fn gives_back(
         part(made, from, to) == part(&volume, from, to),
         "the key area"
     );
-    check(alloc, &mut left, Data::Here)?;
-    let key = open_slot(alloc, &mut left, 0, b"one", Allowed::NOTHING)?;
-    assert!(rt; key.is_some(), "it opens");
+    let accepted = is_accepted(alloc, &mut left, Data::Here);
+    assert!(rt; accepted, "it is accepted");
+    assert!(rt; opens(alloc, &mut left, 0, b"one"), "it opens");
     Ok(())
 }
 
@@ -52,11 +53,6 @@ fn over_nothing(rt: HostRuntime) -> Result<(), Fail> {
     gives_back(&rt, rt.alloc(), &luks1, (4096, 6656))?;
     let luks2 = small2(rt.alloc(), HashName::Sha256)?;
     gives_back(&rt, rt.alloc(), &luks2, (32768, 35328))
-}
-
-/// Whether the keyslot of this volume opens.
-fn opens(alloc: Global, volume: &mut MemDevice, n: u8, passphrase: &[u8]) -> bool {
-    open_slot(alloc, volume, n, passphrase, Allowed::NOTHING).is_ok_and(|key| key.is_some())
 }
 
 #[test]

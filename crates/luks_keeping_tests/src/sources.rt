@@ -1,7 +1,6 @@
 //! What the tests begin with.
+use crate::calls::back_up;
 use luks_area::MemDevice;
-use luks_keeping::backup;
-use luks_reading::Data;
 use luks_test_devices::{old_bytes, put};
 use std::alloc::Global;
 use std::test::Fail;
@@ -22,7 +21,7 @@ pub(crate) fn demand(done: bool) -> Result<(), Fail> {
 pub(crate) fn backup_of(alloc: Global, image: &[u8]) -> Result<Vec<u8>, Fail> {
     let mut source = MemDevice::new(image.to_vec(alloc)?);
     let mut target = MemDevice::new(old_bytes(alloc, SIZE)?);
-    let answer = backup(alloc, &mut source, Data::Here, &mut target);
+    let answer = back_up(alloc, &mut source, &mut target);
     demand(answer.is_ok())?;
     Ok(target.contents().to_vec(alloc)?)
 }

@@ -8,6 +8,7 @@ use luks_samples::new_folder;
 use std::alloc::{AllocError, Global};
 use std::fs::{self, File};
 use std::io::{self, ErrorKind};
+use std::rt::{Clock, Files};
 use std::test::Fail;
 
 /// The folder that has a folder for each block device.
@@ -238,29 +239,70 @@ static PARTS: [(&str, u64, &str, bool, bool); 7] = [
     ("image", 4096, "within", false, true),
 ];
 
-fn have_common<'a>(
+/// Whether the system tells that they have common bytes, whichever is named first.
+fn have_common<'a, S: System>(
     alloc: Global,
+    system: &mut S,
     one: Stretch<'a>,
     other: Stretch<'a>,
 ) -> Result<bool, AllocError> {
-    let told = have_common_bytes(alloc, &mut Told::new(), one, other, BLOCKS)?;
-    let back = have_common_bytes(alloc, &mut Told::new(), other, one, BLOCKS)?;
+    let told = have_common_bytes(alloc, system, one, other, BLOCKS)?;
+    let back = have_common_bytes(alloc, system, other, one, BLOCKS)?;
     Ok(told && back)
+}
+
+/// Whether the row's two names have a byte in common, or none.
+fn is_told(alloc: Global, row: &(&str, &str, bool)) -> Result<bool, AllocError> {
+    let (one, other, want) = *row;
+    Ok(have_common(alloc, &mut Told::new(), all(one), all(other))? == want)
+}
+
+/// The same of the row's parts.
+fn are_told(
+    alloc: Global,
+    row: &(&str, u64, &str, bool, bool),
+) -> Result<(bool, bool), AllocError> {
+    let (name, at, other, before, behind) = *row;
+    let mut told = Told::new();
+    let front = have_common(alloc, &mut told, bytes(name, 0, at), all(other))?;
+    let rest = have_common(alloc, &mut told, bytes(name, at, u64::MAX), all(other))?;
+    Ok((front == before, rest == behind))
 }
 
 #[test]
 fn by_what_the_system_tells(rt: HostRuntime) -> Result<(), Fail> {
-    for (i, (one, other, want)) in WHOLE.iter().enumerate() {
-        let found = have_common(rt.alloc(), all(one), all(other))?;
-        assert!(rt; found == *want, "row {i}");
+    for (i, row) in WHOLE.iter().enumerate() {
+        assert!(rt; is_told(rt.alloc(), row)?, "row {i}");
     }
-    for (i, (name, at, other, before, behind)) in PARTS.iter().enumerate() {
-        let found = have_common(rt.alloc(), bytes(name, 0, *at), all(other))?;
-        assert!(rt; found == *before, "part {i}: before");
-        let found = have_common(rt.alloc(), bytes(name, *at, u64::MAX), all(other))?;
-        assert!(rt; found == *behind, "part {i}: behind");
+    for (i, row) in PARTS.iter().enumerate() {
+        let (before, behind) = are_told(rt.alloc(), row)?;
+        assert!(rt; before, "part {i}: before");
+        assert!(rt; behind, "part {i}: behind");
     }
     Ok(())
+}
+
+/// How many bytes of the small file are told where there is room for so many.
+fn told_of<R: Clock + Files<File = File>>(rt: &R, path: &str, room: usize) -> Option<usize> {
+    let mut bytes = [0; 64];
+    Host::new(rt).text(path, bytes.get_mut(..room)?)
+}
+
+/// Whether the small file is told whole, and has these bytes.
+fn has_bytes<R: Clock + Files<File = File>>(rt: &R, path: &str, want: &[u8]) -> bool {
+    let mut bytes = [0; 64];
+    match Host::new(rt).text(path, &mut bytes) {
+        Some(len) => bytes.get(..len) == Some(want),
+        None => false,
+    }
+}
+
+/// Whether the folder's names are told, and this is one of them; none where they aren't.
+fn has_name<R: Clock + Files<File = File>>(rt: &R, path: &str, want: &str) -> Option<bool> {
+    let mut bytes = [0; 64];
+    let len = Host::new(rt).names(path, &mut bytes)?;
+    let names = str::from_utf8(bytes.get(..len)?).ok()?;
+    Some(names.split('\0').any(|name| name == want))
 }
 
 // The host reads small files whole, or not at all, and the names of a folder.
@@ -269,22 +311,13 @@ fn small_files_and_folders(rt: HostRuntime) -> Result<(), Fail> {
     let top = new_folder(&rt, "small")?;
     let path = format!(in rt.alloc(); "{top}/name")?;
     fs::write(&rt, path.as_str(), "12345")?;
-    let mut host = Host::new(&rt);
-    let mut room = [0; 64];
-    let len = host.text(path.as_str(), &mut room);
-    assert!(rt; len == Some(5) && room.starts_with(b"12345"), "its bytes");
-    let mut six = [0; 6];
-    assert!(rt; host.text(path.as_str(), &mut six) == Some(5), "just room");
-    let mut five = [0; 5];
-    assert!(rt; host.text(path.as_str(), &mut five) == None, "no room");
-    assert!(rt; host.text(top.as_str(), &mut room) == None, "a folder");
-    let len = host.names(top.as_str(), &mut room).unwrap_or(0);
-    let names = str::from_utf8(room.get(..len).unwrap_or_default())?;
-    assert!(rt;
-        names.split('\0').any(|name| name == "name"),
-        "its name in the folder"
-    );
-    assert!(rt; host.names(path.as_str(), &mut room) == None, "no folder");
-    fs::remove_dir_all(&rt, top.as_str())?;
+    let (folder, file) = (top.as_str(), path.as_str());
+    assert!(rt; has_bytes(&rt, file, b"12345"), "its bytes");
+    assert!(rt; told_of(&rt, file, 6) == Some(5), "just room");
+    assert!(rt; told_of(&rt, file, 5).is_none(), "no room");
+    assert!(rt; told_of(&rt, folder, 64).is_none(), "a folder");
+    assert!(rt; has_name(&rt, folder, "name") == Some(true), "its name");
+    assert!(rt; has_name(&rt, file, "name").is_none(), "no folder");
+    fs::remove_dir_all(&rt, folder)?;
     Ok(())
 }

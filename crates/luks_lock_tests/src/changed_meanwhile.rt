@@ -94,7 +94,7 @@ fn told(
 }
 
 /// Before which read which byte is changed, what is told, and the bytes that are left.
-const ROWS: [(u64, u64, (bool, bool, u64), [u8; 9]); 6] = [
+static ROWS: [(u64, u64, (bool, bool, u64), [u8; 9]); 6] = [
     // nothing changes
     (9, 0, (true, false, 0), [1, 2, 3, 4, 5, 6, 7, 70, 80]),
     // changed before it was read
@@ -109,10 +109,10 @@ const ROWS: [(u64, u64, (bool, bool, u64), [u8; 9]); 6] = [
 
 #[test]
 fn changed_bytes_stop_a_write(rt: HostRuntime) -> Result<(), Fail> {
-    for (i, (before, place, want, bytes)) in ROWS.into_iter().enumerate() {
-        let (found, left) = told(rt.alloc(), before, place)?;
-        assert!(rt; found == want, "row {i}");
-        assert!(rt; left == bytes, "row {i}: the bytes");
+    for (i, (before, place, want, bytes)) in ROWS.iter().enumerate() {
+        let (found, left) = told(rt.alloc(), *before, *place)?;
+        assert!(rt; found == *want, "row {i}");
+        assert!(rt; left == *bytes, "row {i}: the bytes");
     }
     Ok(())
 }

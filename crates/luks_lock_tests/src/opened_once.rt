@@ -7,7 +7,7 @@ use luks_samples::new_folder;
 use std::fs::{self, File};
 use std::io::{self, ErrorKind};
 use std::os::unix::fs::{MetadataExt, symlink};
-use std::rt::Files;
+use std::rt::{Clock, Files};
 use std::test::Fail;
 
 /// What the system tells.
@@ -292,6 +292,15 @@ fn by_one_call(rt: HostRuntime) -> Result<(), Fail> {
     Ok(())
 }
 
+/// Whether the file is made, or is there by now.
+fn makes<R: AllocGlobal + Clock + Files<File = File>>(
+    rt: &R,
+    path: &str,
+) -> Result<bool, OpenFault> {
+    let (_file, is_made) = open_or_make(&mut Host::new(rt), path)?;
+    Ok(is_made)
+}
+
 // Of real files: one is made with mode 0600, a link of the caller's is followed, and one that leads
 // nowhere makes no file.
 #[test]
@@ -302,26 +311,14 @@ fn over_real_files(rt: HostRuntime) -> Result<(), Fail> {
     let link = format!(in rt.alloc(); "{top}/link")?;
     let link = link.as_str();
     symlink(&rt, path, link)?;
-    let mut host = Host::new(&rt);
-    assert!(rt;
-        matches!(open_or_make(&mut host, link), Err(OpenFault::File(_))),
-        "nowhere"
-    );
+    let told = makes(&rt, link);
+    assert!(rt; matches!(told, Err(OpenFault::File(_))), "nowhere");
     assert!(rt; !fs::exists(&rt, path)?, "nothing is made");
-    assert!(rt;
-        matches!(open_or_make(&mut host, path), Ok((_, true))),
-        "made"
-    );
+    assert!(rt; matches!(makes(&rt, path), Ok(true)), "made");
     let mode = fs::metadata(&rt, path)?.mode() & 0o7777;
     assert!(rt; mode == 0o600, "its mode");
-    assert!(rt;
-        matches!(open_or_make(&mut host, path), Ok((_, false))),
-        "there by now"
-    );
-    assert!(rt;
-        matches!(open_or_make(&mut host, link), Ok((_, false))),
-        "by the link"
-    );
+    assert!(rt; matches!(makes(&rt, path), Ok(false)), "there by now");
+    assert!(rt; matches!(makes(&rt, link), Ok(false)), "by the link");
     fs::remove_dir_all(&rt, top.as_str())?;
     Ok(())
 }

@@ -1,2 +1,3 @@
+pub mod Hashed
 pub mod Outcomes
 pub mod Statuses

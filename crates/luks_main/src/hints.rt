@@ -1,9 +1,11 @@
 //! What is noted for standard error once a command has ended, and that the command itself doesn't look
 //! for. Its devices, which are still open, are read for it; where they can't be, or memory is refused, nothing
 //! is noted.
-ghost use Rattle.std.specs.Prelude.{◌≡◌, ◌≢◌, ◌+◌, ◌<◌, ◌^◌, IsTrue, None};
+ghost use Rattle.std.specs.Prelude.{◌≡◌, ◌≢◌, ◌+◌, ◌<◌, ◌≤◌, ◌^◌, IsTrue, None};
 ghost use Rattle.luks_guarded_files.specs.Cached.{missed_by};
 ghost use Rattle.luks_commands.specs.Answer.{answer_status};
+ghost use Rattle.luks_notes.specs.Hashed.{IsOfCommand};
+ghost use Rattle.luks_main.specs.Hashed.{own_search};
 
 use crate::refusals::fault_of;
 use luks_area::{Area, Device};
@@ -13,7 +15,7 @@ use luks_explain::Fault;
 use luks_files::{Volume, reopened};
 use luks_header_commands::copies_asked;
 use luks_notes::{
-    FrontFault, header_end, leftovers, note_leftovers, note_lost, note_moved_areas,
+    FrontFault, Hashing, header_end, leftovers, note_leftovers, note_lost, note_moved_areas,
     note_no_keyslots, note_taken, note_untried, note_whole, read_front,
 };
 use luks_request::{AskedKdf, EditRequest, Meant, Rebuilding};
@@ -91,7 +93,7 @@ pub(crate) fn tell_ended(
     notes: &mut Vec<u8>,
 ) {
     if let Ok(device) = volume {
-        tell_opened(alloc, line, ended, device, target, notes);
+        let _hashed = tell_opened(alloc, line, ended, device, target, notes);
         tell_missed(device, line.volume, notes);
     }
     if let Some(name) = line.target().or(line.backup()) {
@@ -115,7 +117,8 @@ fn tell_next(volume: &str, ended: &Ended<'_>, notes: &mut Vec<u8>) {
     }
 }
 
-/// Notes what is to be known of a volume that was opened: what stands in the place of its header, and all else.
+/// Notes what is to be known of a volume that was opened: what stands in the place of its header, and all else. Gives
+/// what the command has hashed to find what checksums vouch for, with its notes: together at most 64 MiB.
 fn tell_opened<D: Device>(
     alloc: Global,
     line: &Line<'_>,
@@ -123,9 +126,26 @@ fn tell_opened<D: Device>(
     volume: &mut D,
     target: &mut Result<D, InputFault>,
     notes: &mut Vec<u8>,
-) {
+) -> Hashing
+    ensures of_command { IsOfCommand result }
+    ensures own { own_search line.now.command ≤ result.hashed }
+{
     tell_instead(volume, line.volume, ended.fault(), notes);
-    tell_more(alloc, line, ended, volume, target, notes);
+    let mut hashing = hashing_of(&line.command);
+    tell_more(alloc, line, ended, volume, target, &mut hashing, notes);
+    hashing
+}
+
+/// What the command has hashed itself to find what checksums vouch for, and what may still be for its notes: `rebuild`
+/// alone searches.
+fn hashing_of(command: &Command<'_>) -> Hashing
+    ensures of_command { IsOfCommand result }
+    ensures own { result.hashed ≡ own_search command.now }
+{
+    match command {
+        Command::Rebuild(rebuilding) => Hashing::after(copies_asked(rebuilding).effort),
+        _ => Hashing::new(),
+    }
 }
 
 /// Notes which bytes of the file couldn't be read, if some were missed: the first range, counted from the
@@ -159,19 +179,24 @@ fn tell_more<D: Device>(
     ended: &Ended<'_>,
     volume: &mut D,
     target: &mut Result<D, InputFault>,
+    hashing: &mut Hashing,
     notes: &mut Vec<u8>,
-) {
+)
+    requires of_command { IsOfCommand hashing.old }
+    ensures of_command { IsOfCommand hashing.new }
+    ensures more { hashing.old.hashed ≤ hashing.new.hashed }
+{
     if !has_room(volume) {
         return;
     }
     match ended.answer.status() {
-        Status::Done => tell_done(alloc, line, volume, target, notes),
+        Status::Done => tell_done(alloc, line, volume, target, hashing, notes),
         Status::NotInStep => {
             if let Command::Check { payload: _ } = &line.command {
                 note_other_use(volume, line.volume, notes);
             }
         }
-        Status::Refused => tell_refused(alloc, line, ended, volume, notes),
+        Status::Refused => tell_refused(alloc, line, ended, volume, hashing, notes),
         Status::Fault => {}
     }
 }
@@ -182,14 +207,20 @@ fn tell_done<D: Device>(
     line: &Line<'_>,
     volume: &mut D,
     target: &mut Result<D, InputFault>,
+    hashing: &mut Hashing,
     notes: &mut Vec<u8>,
 )
-    requires { D.failed volume.old + 1 < 2 ^ 64 }
+    requires room { D.failed volume.old + 1 < 2 ^ 64 }
+    requires of_command { IsOfCommand hashing.old }
+    ensures of_command { IsOfCommand hashing.new }
+    ensures more { hashing.old.hashed ≤ hashing.new.hashed }
 {
     match &line.command {
         Command::Format(_) => tell_leftovers(alloc, volume, line.volume, line.place.offset, notes),
         Command::Convert(converting) => tell_target(alloc, target, converting.target, notes),
-        Command::Rebuild(rebuilding) => tell_rebuilt(alloc, rebuilding, volume, target, notes),
+        Command::Rebuild(rebuilding) => {
+            tell_rebuilt(alloc, rebuilding, volume, target, hashing, notes)
+        }
         _ => {}
     }
 }
@@ -200,12 +231,18 @@ fn tell_refused<D: Device>(
     line: &Line<'_>,
     ended: &Ended<'_>,
     volume: &mut D,
+    hashing: &mut Hashing,
     notes: &mut Vec<u8>,
 )
-    requires { D.failed volume.old + 1 < 2 ^ 64 }
+    requires room { D.failed volume.old + 1 < 2 ^ 64 }
+    requires of_command { IsOfCommand hashing.old }
+    ensures of_command { IsOfCommand hashing.new }
+    ensures more { hashing.old.hashed ≤ hashing.new.hashed }
 {
     match &line.command {
-        Command::Check { payload: _ } | Command::Show(_) => note_whole(alloc, volume, notes),
+        Command::Check { payload: _ } | Command::Show(_) => {
+            note_whole(alloc, volume, hashing, notes)
+        }
         Command::Open { .. } | Command::KeepKey(_) => {
             if matches!(ended.answer, Answer::NoneOpens) {
                 tell_unopened(alloc, volume, line.volume, notes);
@@ -250,13 +287,17 @@ fn tell_rebuilt<D: Device>(
     rebuilding: &Rebuilding<'_>,
     volume: &mut D,
     target: &mut Result<D, InputFault>,
+    hashing: &mut Hashing,
     notes: &mut Vec<u8>,
 )
-    requires { D.failed volume.old + 1 < 2 ^ 64 }
+    requires room { D.failed volume.old + 1 < 2 ^ 64 }
+    requires of_command { IsOfCommand hashing.old }
+    ensures of_command { IsOfCommand hashing.new }
+    ensures more { hashing.old.hashed ≤ hashing.new.hashed }
 {
     let meant = rebuilding.meant();
     if meant != Meant::Luks1 {
-        tell_taken(alloc, rebuilding, volume, target, notes);
+        tell_taken(alloc, rebuilding, volume, target, hashing, notes);
     }
     if meant != Meant::Luks2 {
         tell_lost(volume, target, notes);
@@ -270,13 +311,19 @@ fn tell_taken<D: Device>(
     rebuilding: &Rebuilding<'_>,
     volume: &mut D,
     target: &mut Result<D, InputFault>,
+    hashing: &mut Hashing,
     notes: &mut Vec<u8>,
-) {
+)
+    requires of_command { IsOfCommand hashing.old }
+    ensures of_command { IsOfCommand hashing.new }
+    ensures more { hashing.old.hashed ≤ hashing.new.hashed }
+{
     let Ok(made) = target else {
         return;
     };
     if has_room(volume) && has_room(made) {
-        note_taken(alloc, volume, made, copies_asked(rebuilding), notes);
+        let which = copies_asked(rebuilding);
+        note_taken(alloc, volume, made, which, hashing, notes);
     }
 }
 

@@ -1,4 +1,6 @@
-//! Tests of luks_meta. They stand here so that it isn't proved a second time for them.
+//! Tests of what no command prints of metadata: areas that are no metadata, what each maker makes of it, and
+//! refused memory. What `check` and `show` tell of it stands in `luks_volume_transcript`. They stand here so that
+//! luks_meta isn't proved a second time for them.
 #![tactic(auto)]
 
 #[cfg(test)]
@@ -8,16 +10,8 @@ mod converting;
 #[cfg(test)]
 mod making;
 #[cfg(test)]
-mod members;
-#[cfg(test)]
 mod objects;
-#[cfg(test)]
-mod readers;
 #[cfg(test)]
 mod refused_memory;
 #[cfg(test)]
 mod rows;
-#[cfg(test)]
-mod texts;
-#[cfg(test)]
-mod values;

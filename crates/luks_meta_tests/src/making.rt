@@ -6,24 +6,23 @@ ghost use Rattle.luks_making.specs.Derivations.{ArePositive, IsPositive};
 ghost use Rattle.luks_making.specs.Keyslots.{new_members};
 ghost use Rattle.luks_meta.specs.Content.{area_len, content};
 
-mod chosen;
 pub mod converted;
-mod cryptsetup;
-mod many;
 mod new;
-mod odd;
+mod rows;
+mod texts;
 
-use crate::rows::{AREA, edited, read};
+use crate::rows::{AREA, PLAIN, area_of, edited, read};
 use luks_area::rounded_to_sectors;
 use luks_meta::Meta;
 use luks_new_meta::{Argon2Costs, AskedDerivation, New, NewDerivation, NewVolume};
 use luks_samples::shapes;
+use luks_test_devices::is_sum;
 use std::alloc::{AllocError, Global};
 use std::process::Abort;
 use std::test::Fail;
 
 /// A maker with the keyslots that it is asked for.
-#[derive(Clone, Copy, Debug)]
+#[derive(Clone, Copy)]
 pub enum Maker {
     /// The keyslot `to` is added with the members of the keyslot `by_`.
     Add { to: u8, by_: u8 },
@@ -32,6 +31,10 @@ pub enum Maker {
     /// The keyslot goes.
     Remove(u8),
 }
+
+/// A maker, the derivation that is chosen for the keyslot, if one is, and SHA-256 of the text of what is
+/// made.
+pub type Row = (Maker, Option<NewDerivation>, &'static str);
 
 const SALT: [u8; 32] = [
     0xf0, 0xf1, 0xf2, 0xf3, 0xf4, 0xf5, 0xf6, 0xf7, 0xf8, 0xf9, 0xfa, 0xfb, 0xfc, 0xfd, 0xfe, 0xff,
@@ -84,15 +87,9 @@ fn suits(meta: &Meta, number: u8, new: &New<'_>) -> bool
     new.size <= region - (new.offset - 32768)
 }
 
-/// What the maker makes of the metadata; none where it can't be asked for that.
-pub fn made(alloc: Global, meta: Meta, maker: Maker) -> Result<Option<Meta>, AllocError>
-    requires { area_len meta ≡ 12288 }
-{
-    made_as(alloc, meta, maker, None)
-}
-
-/// The same with the derivation that is chosen for the keyslot.
-fn made_as(
+/// What the maker makes of the metadata, with the derivation that is chosen; none where it can't be asked
+/// for that.
+pub fn made(
     alloc: Global,
     meta: Meta,
     maker: Maker,
@@ -122,168 +119,126 @@ fn made_as(
     }
 }
 
-/// Whether this is the text, and zeros follow it in the area that is written.
-fn is_text(alloc: Global, meta: &Meta, want: &str) -> Result<bool, Fail> {
+/// Whether SHA-256 of the text is this, and zeros follow it in the area that is written.
+pub fn is_text(alloc: Global, meta: &Meta, sum: &str) -> Result<bool, Fail> {
+    let text = meta.text(alloc)?;
     let area = luks_new_meta::json_area(alloc, meta)?.ok_or("no room")?;
-    let (text, zeros) = area.split_at_checked(want.len()).ok_or("a short area")?;
-    let same = text == want.as_bytes() && zeros.iter().all(|byte| *byte == 0);
-    Ok(same && area.len() == AREA && meta.text(alloc)?.as_str() == want)
+    let want = area_of(alloc, text.as_bytes(), AREA)?;
+    Ok(is_sum(text.as_bytes(), sum) && area.as_slice() == want.as_slice())
 }
 
-/// Whether the maker makes this, and it is read again.
-fn makes(alloc: Global, text: &str, maker: Maker, want: &str) -> Result<bool, Fail> {
+/// Whether the metadata is read again from its text, and written again as this one.
+fn is_read_again(alloc: Global, meta: &Meta, sum: &str) -> Result<bool, Fail> {
+    let text = meta.text(alloc)?;
+    let again = read(alloc, text.as_str())?;
+    is_text(alloc, &again, sum)
+}
+
+/// Whether the row's maker makes this, and it is read again.
+fn makes(alloc: Global, text: &str, row: &Row) -> Result<bool, Fail> {
+    let (maker, chosen, sum) = *row;
     let meta = read(alloc, text)?;
-    let after = made(alloc, meta, maker)?.ok_or("nothing is made")?;
-    Ok(is_text(alloc, &after, want)? && is_text(alloc, &read(alloc, want)?, want)?)
+    let after = made(alloc, meta, maker, chosen)?.ok_or("nothing is made")?;
+    Ok(is_text(alloc, &after, sum)? && is_read_again(alloc, &after, sum)?)
 }
 
-fn compare(rt: &impl Abort, alloc: Global, text: &str, rows: &[(Maker, &str)]) -> Result<(), Fail> {
-    for (maker, want) in rows.iter() {
-        assert!(rt; makes(alloc, text, *maker, want)?, "{maker:?}");
+fn compare(rt: &impl Abort, alloc: Global, text: &str, rows: &[Row]) -> Result<(), Fail> {
+    for (i, row) in rows.iter().enumerate() {
+        assert!(rt; makes(alloc, text, row)?, "row {i}");
     }
     Ok(())
 }
 
+// Some with a derivation that is chosen: keyslots by PBKDF2 made of ones by Argon2, and the other way
+// round; all that the old derivation says goes.
 #[test]
 fn of_cryptsetup(rt: HostRuntime) -> Result<(), Fail> {
-    compare(&rt, rt.alloc(), shapes::TOKENS, &cryptsetup::OF_TOKENS)?;
-    compare(
-        &rt,
-        rt.alloc(),
-        cryptsetup::UNBOUND,
-        &cryptsetup::OF_UNBOUND,
-    )?;
-    compare(
-        &rt,
-        rt.alloc(),
-        shapes::PRIORITIES,
-        &cryptsetup::OF_PRIORITIES,
-    )?;
-    compare(&rt, rt.alloc(), shapes::ARGON2, &cryptsetup::OF_ARGON2)?;
-    compare(
-        &rt,
-        rt.alloc(),
-        shapes::CONVERTED,
-        &cryptsetup::OF_CONVERTED,
-    )
-}
-
-/// Whether the maker makes this with the derivation that is chosen, and it is read again.
-fn makes_as(
-    alloc: Global,
-    text: &str,
-    maker: Maker,
-    chosen: NewDerivation,
-    want: &str,
-) -> Result<bool, Fail> {
-    let meta = read(alloc, text)?;
-    let after = made_as(alloc, meta, maker, Some(chosen))?.ok_or("nothing is made")?;
-    Ok(is_text(alloc, &after, want)? && is_text(alloc, &read(alloc, want)?, want)?)
-}
-
-fn compare_as(
-    rt: &impl Abort,
-    alloc: Global,
-    text: &str,
-    rows: &[(Maker, NewDerivation, &str)],
-) -> Result<(), Fail> {
-    for (maker, chosen, want) in rows.iter() {
-        assert!(rt; makes_as(alloc, text, *maker, *chosen, want)?, "{maker:?}");
-    }
-    Ok(())
-}
-
-// Keyslots by PBKDF2 made of ones by Argon2, and the other way round; all that the old derivation
-// says goes.
-#[test]
-fn of_chosen_derivations(rt: HostRuntime) -> Result<(), Fail> {
-    compare_as(&rt, rt.alloc(), shapes::TOKENS, &chosen::OF_TOKENS)?;
-    compare_as(&rt, rt.alloc(), shapes::ARGON2, &chosen::OF_ARGON2)?;
-    compare_as(
-        &rt,
-        rt.alloc(),
-        odd::ODDLY_WRITTEN,
-        &chosen::OF_ODDLY_WRITTEN,
-    )
+    compare(&rt, rt.alloc(), shapes::TOKENS, &rows::OF_TOKENS)?;
+    compare(&rt, rt.alloc(), texts::UNBOUND, &rows::OF_UNBOUND)?;
+    compare(&rt, rt.alloc(), shapes::PRIORITIES, &rows::OF_PRIORITIES)?;
+    compare(&rt, rt.alloc(), shapes::ARGON2, &rows::OF_ARGON2)?;
+    compare(&rt, rt.alloc(), shapes::CONVERTED, &rows::OF_CONVERTED)
 }
 
 // Unnamed members of every kind, deep ones, escaped ones, and such as stand twice.
 #[test]
 fn of_unnamed_members(rt: HostRuntime) -> Result<(), Fail> {
-    compare(&rt, rt.alloc(), odd::COMPACT, &odd::OF_COMPACT)?;
-    compare(&rt, rt.alloc(), odd::ODDLY_WRITTEN, &odd::OF_ODDLY_WRITTEN)
+    compare(&rt, rt.alloc(), texts::COMPACT, &rows::OF_COMPACT)?;
+    compare(
+        &rt,
+        rt.alloc(),
+        texts::ODDLY_WRITTEN,
+        &rows::OF_ODDLY_WRITTEN,
+    )
 }
 
 // The 32nd keyslot, and one of 31 that goes.
 #[test]
 fn of_many_keyslots(rt: HostRuntime) -> Result<(), Fail> {
-    compare(&rt, rt.alloc(), many::MANY, &many::OF_MANY)
+    compare(&rt, rt.alloc(), texts::MANY, &rows::OF_MANY)
 }
 
-/// Whether the metadata of a new volume is this.
-fn forms(
-    alloc: Global,
-    hash: &str,
-    iterations: u32,
-    segment_offset: u64,
-    digest: &[u8],
-    want: &str,
-) -> Result<bool, Fail> {
+/// Whether the metadata of the row's new volume is its.
+fn forms(alloc: Global, row: &new::NewRow) -> Result<bool, Fail> {
+    let (hash, iterations, segment_offset, len, sum) = *row;
+    if iterations == 0 || len < 20 || len > 64 {
+        return Ok(false);
+    }
+    let digest = [0x33; 64];
     let volume = NewVolume {
         hash,
         iterations,
         segment_offset,
         digest_salt: &[0x11; 32],
-        digest,
+        digest: &digest[..len],
         slot_salt: &[0x22; 32],
         encryption: "aes-xts-plain64",
         sector_size: 512,
     };
-    let len = digest.len();
-    if iterations == 0 || len < 20 || len > 64 {
-        return Ok(false);
-    }
-    is_text(alloc, &luks_new_meta::formatted(alloc, &volume)?, want)
+    is_text(alloc, &luks_new_meta::formatted(alloc, &volume)?, sum)
 }
 
 #[test]
 fn of_a_new_volume(rt: HostRuntime) -> Result<(), Fail> {
-    for (hash, iterations, offset, digest_length, want) in new::NEW {
-        let mut digest = Vec::new(rt.alloc());
-        digest.resize(digest_length, 0x33)?;
-        let same = forms(
-            rt.alloc(),
-            hash,
-            iterations,
-            offset,
-            digest.as_slice(),
-            want,
-        )?;
-        assert!(rt; same, "{hash}");
+    for (i, row) in new::NEW.iter().enumerate() {
+        assert!(rt; forms(rt.alloc(), row)?, "row {i}");
     }
     Ok(())
 }
 
-/// How many bytes a member fills so that the compact text of `PLAIN` has 12287, and what an edit
-/// that takes room leaves of it.
-fn has_no_area(alloc: Global, maker: Maker) -> Result<bool, Fail> {
+/// The text of `PLAIN`, which a member fills so that it has 12287 bytes.
+fn full(alloc: Global) -> Result<String, AllocError> {
     let mut member = String::from_str(alloc, "\"config\":{\"a\":\"")?;
     for _ in 0..11549 {
         member.push('p')?;
     }
     member.push_str("\",")?;
-    let text = edited(alloc, crate::rows::PLAIN, "\"config\":{", member.as_str())?;
-    let meta = read(alloc, text.as_str())?;
-    let is_full = text.len() == 12287 && is_text(alloc, &meta, text.as_str())?;
-    let after = made(alloc, meta, maker)?.ok_or("nothing is made")?;
-    Ok(is_full && luks_new_meta::json_area(alloc, &after)?.is_none())
+    edited(alloc, PLAIN, "\"config\":{", member.as_str())
+}
+
+/// Whether the metadata has an area, the one of this text.
+fn has_area(alloc: Global, meta: &Meta, text: &str) -> Result<bool, AllocError> {
+    let want = area_of(alloc, text.as_bytes(), AREA)?;
+    Ok(luks_new_meta::json_area(alloc, meta)?.is_some_and(|area| area.as_slice()
+        == want.as_slice()))
+}
+
+/// Whether the keyslot 1 is added to the metadata, which has no area then.
+fn grows_too_long(alloc: Global, meta: Meta) -> Result<bool, AllocError>
+    requires { area_len meta ≡ 12288 }
+{
+    match made(alloc, meta, Maker::Add { to: 1, by_: 0 }, None)? {
+        Some(after) => Ok(luks_new_meta::json_area(alloc, &after)?.is_none()),
+        None => Ok(false),
+    }
 }
 
 #[test]
 fn of_a_full_area(rt: HostRuntime) -> Result<(), Fail> {
-    assert!(rt;
-        has_no_area(rt.alloc(), Maker::Add { to: 1, by_: 0 })?,
-        "added"
-    );
+    let text = full(rt.alloc())?;
+    let meta = read(rt.alloc(), text.as_str())?;
+    assert!(rt; text.len() == 12287, "the length");
+    assert!(rt; has_area(rt.alloc(), &meta, text.as_str())?, "before");
+    assert!(rt; grows_too_long(rt.alloc(), meta)?, "afterwards");
     Ok(())
 }

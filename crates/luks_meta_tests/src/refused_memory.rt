@@ -8,11 +8,10 @@ use luks_meta::{Meta, MetaFault};
 use luks_new_meta::{NewVolume, SourceSlot, SourceVolume};
 use luks_test_devices::{BLOCKS, TakenMemory};
 use std::alloc::{AllocError, Global};
-use std::process::Abort;
 use std::test::Fail;
 
 /// How the work ended.
-#[derive(Debug, Clone, Copy, PartialEq, Eq)]
+#[derive(Clone, Copy, PartialEq, Eq)]
 enum End {
     Done,
     Memory,
@@ -20,7 +19,7 @@ enum End {
 }
 
 /// What is done with little memory.
-#[derive(Debug, Clone, Copy)]
+#[derive(Clone, Copy)]
 enum Work {
     Read,
     Make(Maker),
@@ -73,7 +72,7 @@ fn converted(alloc: Global) -> Result<String, AllocError> {
 fn text_in_area(alloc: Global, meta: &Meta) -> Result<Option<String>, AllocError> {
     let text = meta.text(alloc)?;
     match luks_new_meta::json_area(alloc, meta)? {
-        Some(area) if area.as_slice().starts_with(text.as_bytes()) => Ok(Some(text)),
+        Some(area) if area.get(..text.len()) == Some(text.as_bytes()) => Ok(Some(text)),
         _ => Ok(None),
     }
 }
@@ -88,7 +87,7 @@ fn text_after(alloc: Global, work: Work, area: &[u8]) -> Result<Option<String>, 
         Work::Convert => {
             return converted(alloc).map(Some).map_err(|_| MetaFault::Memory);
         }
-        Work::Make(maker) => made(alloc, Meta::read(alloc, area)?, maker),
+        Work::Make(maker) => made(alloc, Meta::read(alloc, area)?, maker, None),
     };
     match after {
         Ok(Some(after)) => text_in_area(alloc, &after).map_err(|_| MetaFault::Memory),
@@ -129,27 +128,22 @@ fn ends_with_little_memory(alloc: Global, work: Work) -> Result<(End, usize), Fa
     Ok((end, left))
 }
 
-fn compare(rt: &impl Abort, alloc: Global, work: Work) -> Result<(), Fail> {
-    let (end, left) = ends_with_little_memory(alloc, work)?;
-    assert!(rt; end == End::Done, "the end of {work:?}");
-    assert!(rt; left < BLOCKS - 1, "{left} blocks left after {work:?}");
-    Ok(())
-}
+/// What is done, by the words that tell it.
+static WORKS: [(&str, Work); 6] = [
+    ("read", Work::Read),
+    ("added", Work::Make(Maker::Add { to: 7, by_: 0 })),
+    ("changed", Work::Make(Maker::Change(0))),
+    ("removed", Work::Make(Maker::Remove(0))),
+    ("formed", Work::Form),
+    ("converted", Work::Convert),
+];
 
 #[test]
-fn tells_refused_memory(rt: HostRuntime) -> Result<(), Fail> {
-    compare(&rt, rt.alloc(), Work::Read)
-}
-
-#[test]
-fn makers_tell_refused_memory(rt: HostRuntime) -> Result<(), Fail> {
-    for maker in [
-        Maker::Add { to: 7, by_: 0 },
-        Maker::Change(0),
-        Maker::Remove(0),
-    ] {
-        compare(&rt, rt.alloc(), Work::Make(maker))?;
+fn tell_refused_memory(rt: HostRuntime) -> Result<(), Fail> {
+    for (name, work) in WORKS.iter() {
+        let (end, left) = ends_with_little_memory(rt.alloc(), *work)?;
+        assert!(rt; end == End::Done, "the end: {name}");
+        assert!(rt; left < BLOCKS - 1, "{left} blocks left: {name}");
     }
-    compare(&rt, rt.alloc(), Work::Form)?;
-    compare(&rt, rt.alloc(), Work::Convert)
+    Ok(())
 }

@@ -1,5 +1,6 @@
 pub mod BehindZerosFacts
 pub mod EndFacts
+pub mod SizeFacts
 pub mod ThoseFacts
 pub mod NotedFacts
 pub mod RefusalFacts

@@ -1,6 +1,7 @@
 pub mod BehindZeros
 pub mod FrontFailures
 pub mod HeaderEnd
+pub mod Hashed
 pub mod Leftovers
 pub mod Lost
 pub mod Noted

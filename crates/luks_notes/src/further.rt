@@ -1,13 +1,18 @@
 //! The lines of further candidates: other metadata that is whole in the volume.
-ghost use Rattle.std.specs.Prelude.{◌+◌, ◌^◌, ◌<◌};
+ghost use Rattle.std.specs.Prelude.{◌+◌, ◌^◌, ◌<◌, ◌≤◌};
 ghost use Rattle.luks_area.specs.Device.{CountsFailure, IsUnchanged};
+ghost use Rattle.luks2_header.specs.Sizes.{IsListed};
 ghost use Rattle.luks_rebuilding.specs.RebuildFaults.{is_rebuild_failure};
+ghost use Rattle.luks_notes.specs.Hashed.{IsOfCommand};
 
+use crate::hashing::Hashing;
 use crate::metadata::keyslots_of;
 use crate::older::say_older;
+use crate::seeking::{has_standing, sought, whole_of};
 use crate::told::Told;
+use crate::untried::say_untried;
 use luks_area::Device;
-use luks_rebuilding::{Copies, Effort, RebuildFault, Which, find_candidate, find_plain};
+use luks_rebuilding::{Copies, Effort, RebuildFault, Which};
 use std::alloc::Global;
 use std::io::Write;
 
@@ -18,26 +23,34 @@ const SIZES: [u64; 9] = [
 
 /// Says to `err` what other metadata is whole, of a second copy or of a header of another size, how
 /// many keyslots it has that this hasn't, and by which option `rebuild` takes it. Where it is known that no
-/// checksum vouches for any, that isn't sought once more; else it is sought with the least effort. Each copy is of
-/// two searches at most.
+/// checksum vouches for any, that isn't sought once more; else it is sought with the least effort, and what
+/// wasn't tried is said.
 pub(crate) fn say_further<D: Device, E: Write>(
     alloc: Global,
     device: &mut D,
     found: &Told,
     seek: Seek,
+    hashing: &mut Hashing,
     err: &mut E,
 ) -> Result<(), RebuildFault>
-    requires { D.failed device.old + 1 < 2 ^ 64 }
-    ensures { IsUnchanged D.tells D.size D.bytes D.unsettled device.old device.new }
+    requires room { D.failed device.old + 1 < 2 ^ 64 }
+    requires of_command { IsOfCommand hashing.old }
+    ensures unchanged { IsUnchanged D.tells D.size D.bytes D.unsettled device.old device.new }
+    ensures of_command { IsOfCommand hashing.new }
+    ensures more { hashing.old.hashed ≤ hashing.new.hashed }
 {
-    let second = further_of(alloc, device, Copies::Second, seek)?;
+    let second = second_of(alloc, device, found, seek, hashing, err)?;
     if let Some(further) = &second {
         if !found.is_same(further) {
             say_second(found, further, err);
             say_older(device, further, err)?;
         }
     }
-    say_sizes(alloc, device, found, &second, seek, err)
+    let said = Said {
+        found,
+        second: &second,
+    };
+    say_sizes(alloc, device, said, seek, hashing, err)
 }
 
 /// What is sought of other copies.
@@ -49,115 +62,166 @@ pub(crate) enum Seek {
     Whole,
 }
 
-/// What is found so of these copies, if there is anything.
-fn further_of<D: Device>(
-    alloc: Global,
-    device: &mut D,
-    copies: Copies,
-    seek: Seek,
-) -> Result<Option<Told>, RebuildFault>
-    requires { D.failed device.old + 1 < 2 ^ 64 }
-    ensures unchanged { IsUnchanged D.tells D.size D.bytes D.unsettled device.old device.new }
-    ensures count { CountsFailure is_rebuild_failure result
-        (D.failed device.old) (D.failed device.new) }
-{
-    match seek {
-        Seek::Any => {
-            let effort = Effort::Brief;
-            candidate_of(alloc, device, Which { copies, effort })
+/// What was said already.
+#[derive(Clone, Copy)]
+struct Said<'a> {
+    /// That of which a header is made.
+    found: &'a Told,
+    /// That of the second copy, if there is any.
+    second: &'a Option<Told>,
+}
+
+impl Said<'_> {
+    /// Whether this is the same as one of them.
+    fn has(&self, other: &Told) -> bool {
+        match self.second {
+            Some(second) if second.is_same(other) => true,
+            _ => self.found.is_same(other),
         }
-        Seek::Whole => whole_of(alloc, device, copies),
     }
 }
 
-/// What is whole of these copies, if there is anything.
-pub(crate) fn whole_of<D: Device>(
-    alloc: Global,
-    device: &mut D,
-    copies: Copies,
-) -> Result<Option<Told>, RebuildFault>
-    requires { D.failed device.old + 1 < 2 ^ 64 }
-    ensures unchanged { IsUnchanged D.tells D.size D.bytes D.unsettled device.old device.new }
-    ensures count { CountsFailure is_rebuild_failure result
-        (D.failed device.old) (D.failed device.new) }
-{
-    match find_plain(alloc, device, copies) {
-        Ok(found) => Ok(Some(Told::of(found))),
-        Err(RebuildFault::NoMetadata) => Ok(None),
-        Err(fault) => Err(fault),
-    }
-}
-
-/// The candidate of these copies, if there is one.
-pub(crate) fn candidate_of<D: Device>(
-    alloc: Global,
-    device: &mut D,
-    which: Which,
-) -> Result<Option<Told>, RebuildFault>
-    requires { D.failed device.old + 1 < 2 ^ 64 }
-    ensures unchanged { IsUnchanged D.tells D.size D.bytes D.unsettled device.old device.new }
-    ensures count { CountsFailure is_rebuild_failure result
-        (D.failed device.old) (D.failed device.new) }
-{
-    match find_candidate(alloc, device, which) {
-        Ok(found) => Ok(Some(Told::of(found))),
-        Err(RebuildFault::NoMetadata) => Ok(None),
-        Err(fault) => Err(fault),
-    }
-}
-
-/// Says what is whole of headers of other sizes than this one's, but for what is the second copy's.
-fn say_sizes<D: Device, E: Write>(
+/// What is found so of second copies, if there is anything.
+fn second_of<D: Device, E: Write>(
     alloc: Global,
     device: &mut D,
     found: &Told,
-    second: &Option<Told>,
     seek: Seek,
+    hashing: &mut Hashing,
+    err: &mut E,
+) -> Result<Option<Told>, RebuildFault>
+    requires room { D.failed device.old + 1 < 2 ^ 64 }
+    requires of_command { IsOfCommand hashing.old }
+    ensures unchanged { IsUnchanged D.tells D.size D.bytes D.unsettled device.old device.new }
+    ensures count { CountsFailure is_rebuild_failure result
+        (D.failed device.old) (D.failed device.new) }
+    ensures of_command { IsOfCommand hashing.new }
+    ensures more { hashing.old.hashed ≤ hashing.new.hashed }
+{
+    let which = Which {
+        copies: Copies::Second,
+        effort: Effort::Brief,
+    };
+    match seek {
+        Seek::Whole => whole_of(alloc, device, Copies::Second),
+        Seek::Any if found.place.at != 0 => sought(alloc, device, which, hashing, err),
+        Seek::Any => sought_and_said(alloc, device, which, hashing, err),
+    }
+}
+
+/// What is found so of a header of this size, if there is anything. Where no copy of it stands nothing is hashed.
+fn size_of<D: Device, E: Write>(
+    alloc: Global,
+    device: &mut D,
+    size: u64,
+    seek: Seek,
+    hashing: &mut Hashing,
+    err: &mut E,
+) -> Result<Option<Told>, RebuildFault>
+    requires listed { IsListed size }
+    requires room { D.failed device.old + 1 < 2 ^ 64 }
+    requires of_command { IsOfCommand hashing.old }
+    ensures unchanged { IsUnchanged D.tells D.size D.bytes D.unsettled device.old device.new }
+    ensures count { CountsFailure is_rebuild_failure result
+        (D.failed device.old) (D.failed device.new) }
+    ensures of_command { IsOfCommand hashing.new }
+    ensures more { hashing.old.hashed ≤ hashing.new.hashed }
+{
+    let copies = Copies::OfSize(size);
+    if matches!(seek, Seek::Whole) {
+        return whole_of(alloc, device, copies);
+    }
+    if !has_standing(device, size)? {
+        return whole_of(alloc, device, copies);
+    }
+    let effort = Effort::Brief;
+    sought_and_said(alloc, device, Which { copies, effort }, hashing, err)
+}
+
+/// What is found of these copies; where no checksum vouches for it, it is said of which copy not all was tried.
+fn sought_and_said<D: Device, E: Write>(
+    alloc: Global,
+    device: &mut D,
+    which: Which,
+    hashing: &mut Hashing,
+    err: &mut E,
+) -> Result<Option<Told>, RebuildFault>
+    requires room { D.failed device.old + 1 < 2 ^ 64 }
+    requires of_command { IsOfCommand hashing.old }
+    ensures unchanged { IsUnchanged D.tells D.size D.bytes D.unsettled device.old device.new }
+    ensures count { CountsFailure is_rebuild_failure result
+        (D.failed device.old) (D.failed device.new) }
+    ensures of_command { IsOfCommand hashing.new }
+    ensures more { hashing.old.hashed ≤ hashing.new.hashed }
+{
+    let found = sought(alloc, device, which, hashing, err)?;
+    if !is_vouched(&found) {
+        say_untried(alloc, device, which, err)?;
+    }
+    Ok(found)
+}
+
+/// Whether something was found, and a checksum vouches for it.
+fn is_vouched(found: &Option<Told>) -> bool {
+    match found {
+        Some(told) => told.is_vouched,
+        None => false,
+    }
+}
+
+/// Says what is whole of headers of other sizes than that of which a header is made, but for what is the second
+/// copy's.
+fn say_sizes<D: Device, E: Write>(
+    alloc: Global,
+    device: &mut D,
+    said: Said<'_>,
+    seek: Seek,
+    hashing: &mut Hashing,
     err: &mut E,
 ) -> Result<(), RebuildFault>
-    requires { D.failed device.old + 1 < 2 ^ 64 }
-    ensures { IsUnchanged D.tells D.size D.bytes D.unsettled device.old device.new }
+    requires room { D.failed device.old + 1 < 2 ^ 64 }
+    requires of_command { IsOfCommand hashing.old }
+    ensures unchanged { IsUnchanged D.tells D.size D.bytes D.unsettled device.old device.new }
+    ensures of_command { IsOfCommand hashing.new }
+    ensures more { hashing.old.hashed ≤ hashing.new.hashed }
 {
     let mut left = SIZES.as_slice();
     while let [size, later @ ..] = left {
-        if *size != found.place.size {
-            say_size(alloc, device, found, second, *size, seek, err)?;
-        }
+        say_size(alloc, device, said, *size, seek, hashing, err)?;
         left = later;
     }
     Ok(())
 }
 
-/// Says what is whole of a header of this size.
+/// Says what is whole of a header of this size, if that is another one.
 fn say_size<D: Device, E: Write>(
     alloc: Global,
     device: &mut D,
-    found: &Told,
-    second: &Option<Told>,
+    said: Said<'_>,
     size: u64,
     seek: Seek,
+    hashing: &mut Hashing,
     err: &mut E,
 ) -> Result<(), RebuildFault>
-    requires { D.failed device.old + 1 < 2 ^ 64 }
+    requires listed { IsListed size }
+    requires room { D.failed device.old + 1 < 2 ^ 64 }
+    requires of_command { IsOfCommand hashing.old }
     ensures unchanged { IsUnchanged D.tells D.size D.bytes D.unsettled device.old device.new }
     ensures count { CountsFailure is_rebuild_failure result
         (D.failed device.old) (D.failed device.new) }
+    ensures of_command { IsOfCommand hashing.new }
+    ensures more { hashing.old.hashed ≤ hashing.new.hashed }
 {
-    if let Some(further) = further_of(alloc, device, Copies::OfSize(size), seek)? {
-        if !found.is_same(&further) && !is_said(second, &further) {
-            say_of_size(found, &further, err);
+    if size == said.found.place.size {
+        return Ok(());
+    }
+    if let Some(further) = size_of(alloc, device, size, seek, hashing, err)? {
+        if !said.has(&further) {
+            say_of_size(said.found, &further, err);
             say_older(device, &further, err)?;
         }
     }
     Ok(())
-}
-
-/// Whether the second copy's is the same.
-fn is_said(second: &Option<Told>, other: &Told) -> bool {
-    match second {
-        Some(second) => second.is_same(other),
-        None => false,
-    }
 }
 
 /// Says of the second copy's metadata how it is taken.

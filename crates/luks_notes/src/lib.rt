@@ -9,6 +9,7 @@
 mod ending;
 mod front;
 mod further;
+mod hashing;
 mod keyslots;
 mod leftover;
 mod lost;
@@ -19,6 +20,7 @@ mod noted;
 mod older;
 mod older_keyslot;
 mod passed_over;
+mod seeking;
 mod taken;
 mod telling;
 mod told;
@@ -28,6 +30,7 @@ mod untypable;
 
 pub use ending::header_end;
 pub use front::{FrontFault, read_front};
+pub use hashing::Hashing;
 pub use keyslots::note_no_keyslots;
 pub use leftover::Leftover;
 pub use lost::note_lost;

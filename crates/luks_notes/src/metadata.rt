@@ -1,10 +1,13 @@
 //! The lines of one candidate: where its metadata is whole, how many keyslots it has, and what vouches
 //! for it.
-ghost use Rattle.std.specs.Prelude.{◌+◌, ◌^◌, ◌<◌};
+ghost use Rattle.std.specs.Prelude.{◌+◌, ◌^◌, ◌<◌, ◌≤◌};
 ghost use Rattle.luks_area.specs.Device.{IsUnchanged};
+ghost use Rattle.luks_notes.specs.Hashed.{IsOfCommand};
 
-use crate::further::{Seek, candidate_of, say_further};
+use crate::further::{Seek, say_further};
+use crate::hashing::Hashing;
 use crate::older::say_older;
+use crate::seeking::sought;
 use crate::told::Told;
 use crate::untried::say_untried;
 use luks_area::Device;
@@ -16,28 +19,40 @@ use std::io::Write;
 /// the order of `rebuild`, and that a header can be made of it; whether a checksum vouches for it, and
 /// whether it is of an older volume; and what other metadata is whole there. Where no metadata is whole it
 /// says of which copy not all was tried; where a header counts nothing, and where the device fails or memory
-/// is refused no more.
-pub fn note_whole<D: Device, E: Write>(alloc: Global, device: &mut D, err: &mut E)
-    requires { D.failed device.old + 1 < 2 ^ 64 }
-    ensures { IsUnchanged D.tells D.size D.bytes D.unsettled device.old device.new }
+/// is refused no more. What its searches may hash is counted.
+pub fn note_whole<D: Device, E: Write>(
+    alloc: Global,
+    device: &mut D,
+    hashing: &mut Hashing,
+    err: &mut E,
+)
+    requires room { D.failed device.old + 1 < 2 ^ 64 }
+    requires of_command { IsOfCommand hashing.old }
+    ensures unchanged { IsUnchanged D.tells D.size D.bytes D.unsettled device.old device.new }
+    ensures of_command { IsOfCommand hashing.new }
+    ensures more { hashing.old.hashed ≤ hashing.new.hashed }
 {
-    let _ = say_whole(alloc, device, err);
+    let _ = say_whole(alloc, device, hashing, err);
 }
 
 /// The same, until a fault ends it.
 fn say_whole<D: Device, E: Write>(
     alloc: Global,
     device: &mut D,
+    hashing: &mut Hashing,
     err: &mut E,
 ) -> Result<(), RebuildFault>
-    requires { D.failed device.old + 1 < 2 ^ 64 }
-    ensures { IsUnchanged D.tells D.size D.bytes D.unsettled device.old device.new }
+    requires room { D.failed device.old + 1 < 2 ^ 64 }
+    requires of_command { IsOfCommand hashing.old }
+    ensures unchanged { IsUnchanged D.tells D.size D.bytes D.unsettled device.old device.new }
+    ensures of_command { IsOfCommand hashing.new }
+    ensures more { hashing.old.hashed ≤ hashing.new.hashed }
 {
     let which = Which {
         copies: Copies::Any,
         effort: Effort::Usual,
     };
-    let Some(found) = candidate_of(alloc, device, which)? else {
+    let Some(found) = sought(alloc, device, which, hashing, err)? else {
         return say_untried(alloc, device, which, err);
     };
     let count = found.count();
@@ -47,7 +62,7 @@ fn say_whole<D: Device, E: Write>(
         err,
         "luks: metadata of {count} {keyslots} is whole in the {copy} copy: luks rebuild makes a header of it"
     );
-    say_origin(alloc, device, which, &found, err)
+    say_origin(alloc, device, which, &found, hashing, err)
 }
 
 /// Says whether a checksum vouches for the metadata, of which copy not all was tried where none does, whether
@@ -57,17 +72,22 @@ pub(crate) fn say_origin<D: Device, E: Write>(
     device: &mut D,
     which: Which,
     found: &Told,
+    hashing: &mut Hashing,
     err: &mut E,
 ) -> Result<(), RebuildFault>
-    requires { D.failed device.old + 1 < 2 ^ 64 }
-    ensures { IsUnchanged D.tells D.size D.bytes D.unsettled device.old device.new }
+    requires room { D.failed device.old + 1 < 2 ^ 64 }
+    requires of_command { IsOfCommand hashing.old }
+    ensures unchanged { IsUnchanged D.tells D.size D.bytes D.unsettled device.old device.new }
+    ensures of_command { IsOfCommand hashing.new }
+    ensures more { hashing.old.hashed ≤ hashing.new.hashed }
 {
     say_vouch(found, err);
     if !found.is_vouched {
         say_untried(alloc, device, which, err)?;
     }
     say_older(device, found, err)?;
-    say_further(alloc, device, found, seek_of(which.copies, found), err)
+    let seek = seek_of(which.copies, found);
+    say_further(alloc, device, found, seek, hashing, err)
 }
 
 /// What is left to be sought of other copies, of a volume in which this was found first.

@@ -1,11 +1,13 @@
 //! The lines of the metadata of which a header was made.
-ghost use Rattle.std.specs.Prelude.{◌+◌, ◌^◌, ◌<◌};
+ghost use Rattle.std.specs.Prelude.{◌+◌, ◌^◌, ◌<◌, ◌≤◌};
 ghost use Rattle.luks_area.specs.Device.{CountsFailure, IsUnchanged};
 ghost use Rattle.luks_rebuilding.specs.RebuildFaults.{is_rebuild_failure};
+ghost use Rattle.luks_notes.specs.Hashed.{IsOfCommand};
 
-use crate::further::whole_of;
+use crate::hashing::Hashing;
 use crate::metadata::{copy_of, keyslots_of, say_origin};
 use crate::older::header_at;
+use crate::seeking::whole_of;
 use crate::told::Told;
 use luks_area::Device;
 use luks_rebuilding::{Candidate, Copies, Place, RebuildFault, Which, find_plain, find_voucher};
@@ -20,15 +22,19 @@ pub fn note_taken<S: Device, T: Device, E: Write>(
     source: &mut S,
     target: &mut T,
     which: Which,
+    hashing: &mut Hashing,
     err: &mut E,
 )
     requires source { S.failed source.old + 1 < 2 ^ 64 }
     requires target { T.failed target.old + 1 < 2 ^ 64 }
+    requires of_command { IsOfCommand hashing.old }
     ensures source { IsUnchanged S.tells S.size S.bytes S.unsettled source.old source.new }
     ensures target { IsUnchanged T.tells T.size T.bytes T.unsettled target.old target.new }
+    ensures of_command { IsOfCommand hashing.new }
+    ensures more { hashing.old.hashed ≤ hashing.new.hashed }
 {
     if let Ok(made) = made_on(alloc, target) {
-        let _ = say_taken(alloc, source, which, made, err);
+        let _ = say_taken(alloc, source, which, made, hashing, err);
     }
 }
 
@@ -53,12 +59,17 @@ fn say_taken<S: Device, E: Write>(
     source: &mut S,
     which: Which,
     made: Candidate,
+    hashing: &mut Hashing,
     err: &mut E,
 ) -> Result<(), RebuildFault>
-    requires { S.failed source.old + 1 < 2 ^ 64 }
-    ensures { IsUnchanged S.tells S.size S.bytes S.unsettled source.old source.new }
+    requires room { S.failed source.old + 1 < 2 ^ 64 }
+    requires of_command { IsOfCommand hashing.old }
+    ensures unchanged { IsUnchanged S.tells S.size S.bytes S.unsettled source.old source.new }
+    ensures of_command { IsOfCommand hashing.new }
+    ensures more { hashing.old.hashed ≤ hashing.new.hashed }
 {
-    let voucher = find_voucher(source, which.copies, &made.json)?;
+    let size = made.place.size;
+    let voucher = find_voucher(source, of_size(which.copies, size), &made.json)?;
     let mut found = Told::of(made);
     let Some(place) = place_of(alloc, source, which.copies, voucher)? else {
         return Ok(());
@@ -72,7 +83,16 @@ fn say_taken<S: Device, E: Write>(
         err,
         "luks: made of the metadata in the {copy} copy, which has {count} {keyslots}"
     );
-    say_origin(alloc, source, which, &found, err)
+    say_origin(alloc, source, which, &found, hashing, err)
+}
+
+/// Those of the copies that are asked for that have this size: what a checksum vouches for is of its own, so that an
+/// area is hashed twice at most.
+fn of_size(copies: Copies, size: u64) -> Copies {
+    match copies {
+        Copies::Any | Copies::OfSize(_) => Copies::OfSize(size),
+        Copies::Second | Copies::SecondOfSize(_) => Copies::SecondOfSize(size),
+    }
 }
 
 /// The place of the copy of which it is: that whose checksum vouches for it, else the first that is whole.

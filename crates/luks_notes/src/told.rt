@@ -1,4 +1,6 @@
 //! What is told of metadata, once its value is gone.
+ghost use Rattle.std.specs.Prelude.{◌≡◌, is_some};
+
 use luks_meta::Meta;
 use luks_rebuilding::{Candidate, Place};
 use sha2::{Digest, Sha256};
@@ -18,7 +20,9 @@ pub(crate) struct Told {
 
 impl Told {
     /// What is told of this metadata.
-    pub(crate) fn of(found: Candidate) -> Told {
+    pub(crate) fn of(found: Candidate) -> Told
+        ensures { result.is_vouched ≡ is_some found.vouch }
+    {
         let Candidate {
             place,
             json,

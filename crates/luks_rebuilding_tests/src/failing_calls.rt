@@ -1,8 +1,9 @@
 //! Rebuilding on devices of which each call fails in turn.
-use crate::sources::{ANY, LEN, RANDOM, wiped};
+use crate::calls::make_header;
+use crate::sources::{LEN, RANDOM, wiped};
 use luks_area::{Device, FaultyDevice, Leave, MemDevice};
 use luks_reading::select;
-use luks_rebuilding::{RebuildFault, rebuild};
+use luks_rebuilding::RebuildFault;
 use luks_test_devices::{counted, damaged, old_bytes, part, two_keyslots};
 use std::alloc::Global;
 use std::process::Abort;
@@ -48,7 +49,7 @@ fn end_of(
     let mut source = FaultyDevice::new(MemDevice::new(image.to_vec(alloc)?), of_source, leave);
     let mut target = FaultyDevice::new(MemDevice::new(old.to_vec(alloc)?), of_target, leave);
     let random = counted(alloc, 0, RANDOM)?;
-    let answer = rebuild(alloc, &mut source, &mut target, ANY, None, &random);
+    let answer = make_header(alloc, &mut source, &mut target, &random);
     let end = match (answer, source.failures(), target.failures()) {
         (Ok(()), 0, 0) => End::Done,
         (Err(RebuildFault::Device), 1, 0) => End::Source,

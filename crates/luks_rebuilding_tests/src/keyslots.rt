@@ -1,8 +1,9 @@
 //! What opens by the header that is made, and what is found before it is made.
+use crate::calls::{key_of, make_header};
 use crate::sources::{ANY, LEN, RANDOM, SECOND};
 use luks_area::MemDevice;
-use luks_reading::{Allowed, OpenFault, open_slot};
-use luks_rebuilding::{find_candidate, rebuild};
+use luks_reading::OpenFault;
+use luks_rebuilding::find_candidate;
 use luks_test_devices::{VOLUME_KEY, counted, damaged, old_bytes};
 use std::alloc::Global;
 use std::test::Fail;
@@ -12,7 +13,7 @@ fn rebuilt(alloc: Global) -> Result<MemDevice, Fail> {
     let mut source = MemDevice::new(damaged(alloc)?);
     let mut made = MemDevice::new(old_bytes(alloc, LEN)?);
     let random = counted(alloc, 0, RANDOM)?;
-    match rebuild(alloc, &mut source, &mut made, ANY, None, &random) {
+    match make_header(alloc, &mut source, &mut made, &random) {
         Ok(()) => Ok(made),
         Err(_) => Err("not rebuilt".into()),
     }
@@ -20,7 +21,7 @@ fn rebuilt(alloc: Global) -> Result<MemDevice, Fail> {
 
 /// Whether the keyslot opens by the passphrase to the volume key.
 fn opens(alloc: Global, header: &mut MemDevice, n: u8, passphrase: &[u8]) -> bool {
-    match open_slot(alloc, header, n, passphrase, Allowed::NOTHING) {
+    match key_of(alloc, header, n, passphrase) {
         Ok(Some(key)) => key.as_bytes() == VOLUME_KEY.as_slice(),
         _ => false,
     }
@@ -33,7 +34,7 @@ fn opening(rt: HostRuntime) -> Result<(), Fail> {
     assert!(rt; opens(alloc, &mut header, 0, b"one"), "keyslot 0");
     assert!(rt; opens(alloc, &mut header, 1, b"two"), "keyslot 1");
     assert!(rt; !opens(alloc, &mut header, 1, b"one"), "by another one's");
-    let absent = open_slot(alloc, &mut header, 2, b"one", Allowed::NOTHING);
+    let absent = key_of(alloc, &mut header, 2, b"one");
     assert!(rt; matches!(absent, Err(OpenFault::NoSuchSlot)), "keyslot 2");
     Ok(())
 }

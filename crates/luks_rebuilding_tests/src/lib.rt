@@ -5,6 +5,8 @@
 #![tactic(auto)]
 
 #[cfg(test)]
+mod calls;
+#[cfg(test)]
 mod failing_calls;
 #[cfg(test)]
 mod keyslots;

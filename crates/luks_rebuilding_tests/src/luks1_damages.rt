@@ -1,10 +1,10 @@
 //! What opens by the header that is made of a damaged volume, and what is refused.
+use crate::calls::{key_of, make_header1};
 use arrayvec::ArrayString;
 use luks_area::MemDevice;
 use luks_kdf::HashName;
-use luks_reading::{Allowed, open_slot};
 use luks_test_devices::{VOLUME_KEY, old_bytes, put, small1};
-use luks1_rebuilding::{Given, Rebuild1Fault, rebuild1};
+use luks1_rebuilding::{Given, Rebuild1Fault};
 use luks2_header::TextField;
 use std::alloc::Global;
 use std::test::Fail;
@@ -35,8 +35,8 @@ fn opens_after(alloc: Global, at: usize, damage: &[u8], given: &Given) -> Result
     put(&mut volume, at, damage);
     let mut source = MemDevice::new(volume);
     let mut made = MemDevice::new(old_bytes(alloc, LEN)?);
-    match rebuild1(&mut source, &mut made, given) {
-        Ok(()) => match open_slot(alloc, &mut made, 0, b"one", Allowed::NOTHING) {
+    match make_header1(&mut source, &mut made, given) {
+        Ok(()) => match key_of(alloc, &mut made, 0, b"one") {
             Ok(Some(key)) => Ok(key.as_bytes() == VOLUME_KEY.as_slice()),
             _ => Ok(false),
         },
@@ -56,7 +56,7 @@ fn refused_after(
     put(&mut volume, at, damage);
     let mut source = MemDevice::new(volume);
     let mut made = MemDevice::new(old_bytes(alloc, len)?);
-    Ok(rebuild1(&mut source, &mut made, given).err())
+    Ok(make_header1(&mut source, &mut made, given).err())
 }
 
 #[test]

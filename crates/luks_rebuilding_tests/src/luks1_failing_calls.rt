@@ -1,10 +1,11 @@
 //! Rebuilding and the trial on devices of which each call fails in turn.
+use crate::calls::make_header1;
 use luks_area::{Device, FaultyDevice, Leave, MemDevice};
 use luks_kdf::HashName;
 use luks_test_devices::{old_bytes, part, put, small1};
 use luks1_mending::Given;
+use luks1_rebuilding::Rebuild1Fault;
 use luks1_rebuilding::trial::{Untold, try_combinations};
-use luks1_rebuilding::{Rebuild1Fault, rebuild1};
 use std::alloc::Global;
 use std::test::Fail;
 
@@ -16,7 +17,7 @@ fn told(alloc: Global, volume: &[u8], call: u64, leave: Leave) -> Result<bool, F
     let mut source = MemDevice::new(volume.to_vec(alloc)?);
     let old = MemDevice::new(old_bytes(alloc, LEN)?);
     let mut target = FaultyDevice::new(old, call, leave);
-    let answer = rebuild1(&mut source, &mut target, &Given::NOTHING);
+    let answer = make_header1(&mut source, &mut target, &Given::NOTHING);
     let failures = target.failures();
     let left = target.into_inner();
     let whole = part(left.contents(), 0, 6) == b"LUKS\xBA\xBE".as_slice();
@@ -42,7 +43,7 @@ fn told_of_source(alloc: Global, volume: &[u8], call: u64) -> Result<bool, Fail>
     let behind = MemDevice::new(volume.to_vec(alloc)?);
     let mut source = FaultyDevice::new(behind, call, Leave::Old);
     let mut target = MemDevice::new(old_bytes(alloc, LEN)?);
-    let answer = rebuild1(&mut source, &mut target, &Given::NOTHING);
+    let answer = make_header1(&mut source, &mut target, &Given::NOTHING);
     let whole = part(target.contents(), 0, 6) == b"LUKS\xBA\xBE".as_slice();
     Ok(match answer {
         Ok(()) => source.failures() == 0 && whole,

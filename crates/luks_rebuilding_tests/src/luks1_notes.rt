@@ -1,9 +1,10 @@
 //! Which keyslots are named that may have been in use, and are disabled in the header that was made.
+use crate::calls::make_header1;
 use luks_area::MemDevice;
 use luks_kdf::HashName;
 use luks_notes::note_lost;
 use luks_test_devices::{old_bytes, put, small1};
-use luks1_rebuilding::{Given, rebuild1};
+use luks1_rebuilding::Given;
 use std::alloc::Global;
 use std::test::Fail;
 
@@ -70,7 +71,7 @@ fn is_said(alloc: Global, row: &Row) -> Result<bool, Fail> {
     put(&mut volume, row.at, row.damage);
     let mut source = MemDevice::new(volume);
     let mut made = MemDevice::new(old_bytes(alloc, 40960)?);
-    let rebuilt = rebuild1(&mut source, &mut made, &Given::NOTHING);
+    let rebuilt = make_header1(&mut source, &mut made, &Given::NOTHING);
     let mut err = Vec::new(alloc);
     note_lost(&mut source, &mut made, &mut err);
     Ok(rebuilt.is_ok() && err.as_slice() == row.lines.as_bytes())

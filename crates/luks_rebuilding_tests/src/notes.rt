@@ -1,14 +1,15 @@
 //! What is said of metadata that is whole, where no header was made of it.
 use luks_area::MemDevice;
-use luks_notes::note_whole;
-use luks_test_devices::{damaged, put, two_hashes};
-use std::alloc::Global;
+use luks_notes::{Hashing, note_whole};
+use luks_test_devices::{Fields, TEXT, UUID, copy_of, damaged, put, two_hashes};
+use std::alloc::{AllocError, Global};
 use std::test::Fail;
 
 /// Whether so much is said of the volume.
 fn is_said(alloc: Global, volume: Vec<u8>, want: &str) -> bool {
     let mut err = Vec::new(alloc);
-    note_whole(alloc, &mut MemDevice::new(volume), &mut err);
+    let mut hashing = Hashing::new();
+    note_whole(alloc, &mut MemDevice::new(volume), &mut hashing, &mut err);
     err.as_slice() == want.as_bytes()
 }
 
@@ -52,5 +53,48 @@ fn of_a_volume_of_which_not_all_was_tried(rt: HostRuntime) -> Result<(), Fail> {
     let line =
         "luks: not all was tried that the checksum of the first copy may vouch for: luks rebuild --thorough tries more\n";
     assert!(rt; is_said(alloc, covered, line), "the second area is garbage");
+    Ok(())
+}
+
+/// Puts a sound copy of a header of so many bytes there, but for its magic.
+fn put_copy(
+    alloc: Global,
+    volume: &mut [u8],
+    at: u32,
+    size: u32,
+    json_size: &str,
+) -> Result<(), AllocError> {
+    let fields = Fields {
+        size,
+        seqid: 1,
+        uuid: UUID,
+        text: TEXT,
+        changes: &[(r#""json_size":"12288""#, json_size)],
+    };
+    let copy = copy_of(alloc, at, &fields)?;
+    put(volume, at as usize, &copy);
+    put(volume, at as usize, &[0; 6]);
+    Ok(())
+}
+
+#[test]
+fn of_more_headers_than_are_sought(rt: HostRuntime) -> Result<(), Fail> {
+    let alloc = rt.alloc();
+    let mut volume = vec![in alloc; 0u8; 131072]?;
+    put_copy(alloc, &mut volume, 0, 16384, r#""json_size":"12288""#)?;
+    put_copy(alloc, &mut volume, 16384, 16384, r#""json_size":"12288""#)?;
+    put_copy(alloc, &mut volume, 32768, 32768, r#""json_size":"28672""#)?;
+    put_copy(alloc, &mut volume, 65536, 65536, r#""json_size":"61440""#)?;
+    let lines = concat!(
+        "luks: metadata of 1 keyslot is whole in the first copy: luks rebuild makes a header of it\n",
+        "luks: vouched by the checksum of the first copy\n",
+        "luks: that of a header of 32768 bytes is whole too, and differs, with 0 keyslots that this hasn't: luks rebuild --size 32768 takes it\n",
+        "luks: nothing was tried that checksums of a header of 65536 bytes may vouch for: luks rebuild --size 65536 tries it\n",
+        "luks: that of a header of 65536 bytes is whole too, and differs, with 0 keyslots that this hasn't: luks rebuild --size 65536 takes it\n",
+    );
+    assert!(rt;
+        is_said(alloc, volume, lines),
+        "64 MiB are for three searches"
+    );
     Ok(())
 }

@@ -1,7 +1,8 @@
 //! Rebuilding with refused memory.
-use crate::sources::{ANY, LEN, RANDOM, wiped};
+use crate::calls::make_header;
+use crate::sources::{LEN, RANDOM, wiped};
 use luks_area::MemDevice;
-use luks_rebuilding::{RebuildFault, rebuild};
+use luks_rebuilding::RebuildFault;
 use luks_test_devices::{BLOCKS, TakenMemory, counted, damaged, old_bytes};
 use std::alloc::Global;
 use std::test::Fail;
@@ -26,7 +27,7 @@ fn ends_with_little_memory(alloc: Global, image: &[u8]) -> Result<(End, usize), 
     let mut end = End::Memory;
     let mut given = 0;
     for turn in 0..BLOCKS {
-        let answer = rebuild(alloc, &mut source, &mut made, ANY, None, &random);
+        let answer = make_header(alloc, &mut source, &mut made, &random);
         let kept = made.contents() == old.as_slice();
         end = match answer {
             Ok(()) => End::Done,

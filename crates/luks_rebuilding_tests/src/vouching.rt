@@ -1,9 +1,10 @@
 //! What is vouched for in a volume of 16384 bytes a copy.
 ghost use Rattle.std.specs.Prelude.{◌≡◌, ◌⊎◌};
 
+use crate::calls::vouched_at;
 use luks_area::MemDevice;
 use luks_test_devices::{part, put, two_hashes};
-use luks_vouching::{find_vouched, is_cut_short};
+use luks_vouching::is_cut_short;
 use std::alloc::Global;
 use std::test::Fail;
 
@@ -18,7 +19,7 @@ fn is_vouched_at(alloc: Global, volume: &[u8], at: u64, json: &[u8]) -> Result<b
     requires { (at ≡ 0) ⊎ (at ≡ 16384) }
 {
     let mut device = MemDevice::new(volume.to_vec(alloc)?);
-    match find_vouched(alloc, &mut device, SIZE, at, MOST) {
+    match vouched_at(alloc, &mut device, at) {
         Ok(Some(found)) => Ok(found.json.as_slice() == json),
         _ => Ok(false),
     }

@@ -1,8 +1,9 @@
 //! Each device call fails in turn, and each allocation is refused.
-use crate::vouching::{MOST, SIZE, whole};
+use crate::calls::vouched_at;
+use crate::vouching::whole;
 use luks_area::{Device, FaultyDevice, Leave, MemDevice};
 use luks_test_devices::{BLOCKS, TakenMemory};
-use luks_vouching::{VouchFault, find_vouched};
+use luks_vouching::VouchFault;
 use std::alloc::Global;
 use std::test::Fail;
 
@@ -16,12 +17,12 @@ fn each_call(rt: HostRuntime) -> Result<(), Fail> {
     let volume = whole(alloc)?;
     for call in 0..CALLS {
         let mut source = FaultyDevice::new(MemDevice::new(volume.to_vec(alloc)?), call, Leave::Old);
-        let answer = find_vouched(alloc, &mut source, SIZE, 0, MOST);
+        let answer = vouched_at(alloc, &mut source, 0);
         let told = matches!(answer, Err(VouchFault::Device));
         assert!(rt; told && source.failures() == 1, "the call {call}");
     }
     let mut source = FaultyDevice::new(MemDevice::new(volume.to_vec(alloc)?), CALLS, Leave::Old);
-    let answer = find_vouched(alloc, &mut source, SIZE, 0, MOST);
+    let answer = vouched_at(alloc, &mut source, 0);
     assert!(rt;
         matches!(answer, Ok(Some(_))) && source.failures() == 0,
         "no further call"
@@ -35,7 +36,7 @@ fn blocks_needed(alloc: Global) -> Result<Option<usize>, Fail> {
     let mut source = MemDevice::new(whole(alloc)?);
     let mut taken = TakenMemory::take(alloc)?;
     for turn in 0..BLOCKS {
-        match find_vouched(alloc, &mut source, SIZE, 0, MOST) {
+        match vouched_at(alloc, &mut source, 0) {
             Err(VouchFault::Memory) => taken.give_back(),
             Ok(Some(_)) => return Ok(Some(turn)),
             _ => return Ok(None),

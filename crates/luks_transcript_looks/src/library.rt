@@ -1,7 +1,8 @@
 //! What the library tells of the volume that no command prints.
-ghost use Rattle.std.specs.Prelude.{◌≡◌, ◌<◌, ◌^◌, length};
+ghost use Rattle.std.specs.Prelude.{◌≡◌, ◌+◌, ◌<◌, ◌^◌, length};
 
 use crate::printing::print_hex;
+use luks_area::Device;
 use luks_test_devices::TakenMemory;
 use luks_transcript_volumes::{Disk, Fault, Kept, Oddity, parted};
 use luks_volume::{Allowed, Area, Data, Key, OpenFault, check, open_slot, unlock};
@@ -78,14 +79,21 @@ const OLDER: Allowed = Allowed {
     older: true,
 };
 
-/// Whether the keyslot of this number opens by the passphrase; ciphers and hashes of older disks are
-/// accepted.
+/// Whether the keyslot of this number of the disk opens by the passphrase; ciphers and hashes of older disks
+/// are accepted.
+fn opens_on<D: Device>(alloc: Global, disk: &mut D, slot: u8, passphrase: &[u8]) -> bool
+    requires { D.failed disk.old + 1 < 2 ^ 64 }
+{
+    matches!(open_slot(alloc, disk, slot, passphrase, OLDER), Ok(Some(_)))
+}
+
+/// The same of the volume.
 pub fn opens(alloc: Global, volume: &mut Option<Kept>, slot: u8, passphrase: &[u8]) -> bool {
     let Some(kept) = volume.take() else {
         return false;
     };
     let mut disk = disk_of(alloc, kept);
-    let opens = open_slot(alloc, &mut disk, slot, passphrase, OLDER).is_ok_and(|key| key.is_some());
+    let opens = opens_on(alloc, &mut disk, slot, passphrase);
     let (kept, _record) = disk.into_parts();
     *volume = Some(kept);
     opens
@@ -104,14 +112,14 @@ fn shortened(passphrase: &[u8]) -> &[u8]
 
 impl What {
     /// Prints what the library answers of the disk by this passphrase.
-    fn ask<W: Write>(
+    fn ask<D: Device, W: Write>(
         self,
         alloc: Global,
-        disk: &mut Disk,
+        disk: &mut D,
         passphrase: &[u8],
         out: &mut W,
     ) -> Result<(), Fault>
-        requires failures { disk.old.failures ≡ 0 }
+        requires room { D.failed disk.old + 1 < 2 ^ 64 }
         requires passphrase { length passphrase.now < 2 ^ 32 }
     {
         match self {
@@ -153,8 +161,8 @@ impl Question {
     }
 }
 
-fn print_areas<W: Write>(alloc: Global, disk: &mut Disk, out: &mut W) -> Result<(), Fault>
-    requires { disk.old.failures ≡ 0 }
+fn print_areas<D: Device, W: Write>(alloc: Global, disk: &mut D, out: &mut W) -> Result<(), Fault>
+    requires { D.failed disk.old + 1 < 2 ^ 64 }
 {
     match check(alloc, disk, Data::Here) {
         Ok(report) => {

@@ -6,14 +6,14 @@ use crate::texts::{byte, number, parted, two_numbers, unescaped};
 use crate::volumes::Volumes;
 use luks_kdf::HashName;
 use luks_test_devices::{
-    LARGE, damaged, key_area, large_areas, old_bytes, small1, two_hashes, two_keyslots,
+    LARGE, damaged, key_area, large_areas, old_bytes, small1, small2, two_hashes, two_keyslots,
 };
 use std::alloc::Global;
 
 /// A step that makes a volume or a target, or changes the volume.
 #[derive(Clone, Copy)]
 pub enum Sealing<'a> {
-    /// The small volume of this name.
+    /// The small volume of this name, or of this one and a hash.
     Small(&'a str),
     /// The LUKS1 volume with large key areas, of which so many are in use.
     Large(usize),
@@ -50,10 +50,21 @@ fn back_of<'a>(at: &str, rest: &str) -> Option<Sealing<'a>> {
     })
 }
 
-/// The small volume of this name.
+/// The hash of this name; SHA-256 where none is named.
+fn hash_of(name: &str) -> Result<HashName, Fault> {
+    match name {
+        "" => Ok(HashName::Sha256),
+        _ => HashName::parse(name).ok_or(Fault::Unknown),
+    }
+}
+
+/// The small volume of this name, or of this one and a hash.
 fn small(alloc: Global, name: &str) -> Result<Vec<u8>, Fault> {
+    let (name, hash) = parted(name);
+    let hash = hash_of(hash)?;
     Ok(match name {
-        "luks1" => small1(alloc, HashName::Sha256)?,
+        "luks1" => small1(alloc, hash)?,
+        "one" => small2(alloc, hash)?,
         "luks2" => two_keyslots(alloc)?,
         "two-hashes" => two_hashes(alloc)?,
         "damaged" => damaged(alloc)?,

@@ -1,16 +1,20 @@
 //! Commands of the program.
-ghost use Rattle.std.specs.Prelude.{◌≡◌, IfOk};
+ghost use Rattle.std.specs.Prelude.{◌≡◌, ◌+◌, ◌<◌, ◌^◌, IfOk};
+ghost use Rattle.std.specs.Result.{ForOk};
+ghost use Rattle.luks_area.specs.Device.{IsSettled};
 
 use crate::failing::{Room, Trouble, Troubles};
 use crate::objects::print_object;
 use crate::secrets::tells_secret;
+use luks_area::Device;
 use luks_execution::{
-    Command as Named, CountingPrinter, InputFault, Inputs, Line, MakesFile, Untold, end, execute,
+    Answer, Command as Named, CountingPrinter, InputFault, Inputs, Line, MakesFile, Untold, end,
+    execute,
 };
 use luks_line::{Asked as Parsed, parse};
 use luks_transcript_volumes::{Asked, Disk, Fault, Files, Kept, Record, Source, Volumes};
 use std::alloc::{AllocError, Global};
-use std::io::{Cursor, Write};
+use std::io::{Cursor, Read, Write};
 
 /// A command: its words, which single spaces part.
 #[derive(Clone, Copy)]
@@ -130,6 +134,23 @@ pub fn run_line(
     run_as(alloc, line, false, volumes, files, troubles, told)
 }
 
+/// What the command answers over files of any kind, so that what `execute` promises needn't be stated of a
+/// session's.
+fn executed<D: Device, R: Read, N: Read, M: MakesFile<D>, E: Write>(
+    alloc: Global,
+    line: &Line<'_>,
+    inputs: &mut Inputs<D, R, N>,
+    maker: &mut M,
+    err: &mut E,
+) -> Answer
+    requires room { ForOk inputs.old.volume (λ d. D.failed d + 1 < 2 ^ 64) }
+    requires target_room { ForOk inputs.old.target (λ d. D.failed d + 1 < 2 ^ 64) }
+    requires settled { D.tells → ForOk inputs.old.volume (IsSettled D.unsettled) }
+    requires target_settled { D.tells → ForOk inputs.old.target (IsSettled D.unsettled) }
+{
+    execute(alloc, line, inputs, maker, err, &mut Untold)
+}
+
 /// Runs the command of this line, whose answer is told as an object or by lines.
 fn run_as(
     alloc: Global,
@@ -153,14 +174,7 @@ fn run_as(
         new_passphrase: reader(&files.new, &troubles.new),
         random: reader(&files.random, &troubles.random),
     };
-    let answer = execute(
-        alloc,
-        line,
-        &mut inputs,
-        &mut key_file,
-        &mut err,
-        &mut Untold,
-    );
+    let answer = executed(alloc, line, &mut inputs, &mut key_file, &mut err);
     told.said = err.position() as usize;
     let said = told.err.get(..told.said).unwrap_or(&[]);
     let mut out = CountingPrinter::new(Cursor::new(told.out.as_mut_slice()));

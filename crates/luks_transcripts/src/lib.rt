@@ -90,7 +90,8 @@
 //!
 //! `sealed`, small volumes whose keyslots open, and targets:
 //!
-//!     small NAME             the volume is the small one of this name: luks1, luks2, two-hashes, damaged
+//!     small NAME [HASH]      the volume is the small one of this name: luks1, luks2, two-hashes, damaged, and one, LUKS2
+//!                            with keyslot 0 alone; of luks1 and one by this hash, else by sha256
 //!     large USED             LUKS1 with large key areas, of which so many are in use
 //!     seal AT PASSPHRASE     the key area of 40 stripes is put there that this passphrase opens
 //!     back AT LEN BYTE       of the volume so many bytes from there on are kept too, each this one

@@ -210,7 +210,7 @@ pub fn selected(
     chosen(alloc, &mut volume::volume(bytes))
 }
 
-fn chosen(alloc: Global, volume: &mut Volume) -> Result<String, Malformed> {
+fn chosen<D: Device>(alloc: Global, volume: &mut D) -> Result<String, Malformed> {
     demand(volume.failures() < u64::MAX)?;
     match select(volume) {
         Ok(Selected::V1(_)) => Ok(String::from_str(alloc, "luks1")?),

@@ -271,9 +271,9 @@ pub fn opened(
 }
 
 /// `open` or `open_within`, where their conditions hold.
-fn open_by(
+fn open_by<D: Device>(
     alloc: Global,
-    volume: &mut Volume,
+    volume: &mut D,
     plan: &SlotPlan<'_>,
     passphrase: &[u8],
     allowed: Option<Allowed>,
@@ -315,9 +315,9 @@ pub fn sealed(
 }
 
 /// `seal` or `seal_within`, where their conditions hold.
-fn seal_by(
+fn seal_by<D: Device>(
     alloc: Global,
-    volume: &mut Volume,
+    volume: &mut D,
     plan: &SlotPlan<'_>,
     passphrase: &[u8],
     key: &Key,
@@ -346,9 +346,9 @@ fn seal_by(
 }
 
 /// `wipe START LEN`: `done`, or the fault.
-pub fn wiped(
+pub fn wiped<D: Device>(
     alloc: Global,
-    volume: &mut Volume,
+    volume: &mut D,
     words: &mut Words<'_>,
 ) -> Result<String, Malformed> {
     let start = words.number()?;

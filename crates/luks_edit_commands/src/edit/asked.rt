@@ -6,11 +6,9 @@ ghost use Rattle.luks_commands.specs.OpenAnswers.{allowed_of};
 ghost use Rattle.luks_edit.specs.declared.edit.Edit.{Edit};
 ghost use Rattle.luks_edit.specs.EditFaults.{is_edit_failure};
 ghost use Rattle.luks_reading.specs.Header.{IsAcceptedHeader, IsHeader};
-ghost use Rattle.luks_edit_commands.specs.Editing.{IsAsked, IsMissed, IsTokenOf, IsUntokened, kind_of, priority_of};
-ghost use Rattle.luks_edit_commands.specs.Editing.{removed_in, told_slot, UnlessOutside};
+ghost use Rattle.luks_edit_commands.specs.Editing.{IsAsked, IsMissed, IsTokenOf, IsUntokened, kind_of, priority_of, removed_in, told_slot, UnlessOutside};
 
 use super::finding::keyslot_of;
-use super::words::Words;
 use luks_commands::chosen_of;
 use luks_commands::open::allowed_of;
 use luks_making::{Change, Priority};
@@ -19,6 +17,7 @@ use luks_rules::MetaFault;
 use luks_volume::{
     Data, Device, Edit, EditFault, Header, Secret, SecretKind, VolumeKey, needed_of_header,
 };
+use serde_json::Value;
 use std::alloc::Global;
 use std::io::Write;
 
@@ -29,25 +28,26 @@ pub(super) fn edit_of<'a, D: Device, E: Write>(
     device: &mut D,
     header: &Header,
     editing: &Editing<'a>,
-    words: &Words<'a>,
+    old: &'a [u8],
+    new: &'a [u8],
+    token: Option<&'a Value>,
     err: &mut E,
 ) -> Result<Edit<'a>, EditFault>
     requires room { D.failed device.old + 1 < 2 ^ 64 }
     requires accepted { IsAcceptedHeader header.now }
-    requires short { length words.now.old.now < 2 ^ 32 }
-    requires token { IsTokenOf editing.now.request words.now.old.now words.now.token }
+    requires short { length old.now < 2 ^ 32 }
+    requires token { IsTokenOf editing.now.request old.now token }
     ensures unchanged { IsUnchanged D.tells D.size D.bytes D.unsettled device.old device.new }
     ensures count { CountsFailure is_edit_failure result
         (D.failed device.old) (D.failed device.new) }
     ensures asked { D.tells → IsHeader (D.bytes device.old) header.now
         → IfOk result (IsAsked (D.bytes device.old) editing.now.request
-        (λ p. p ≡ words.now.old.now) (λ p. p ≡ words.now.new.now)) }
+        (λ p. p ≡ old.now) (λ p. p ≡ new.now)) }
     ensures missed { D.tells → IsHeader (D.bytes device.old) header.now
         → IfErr result (UnlessOutside (D.bytes device.old) (IsMissed editing.now.payload
-        editing.now.request (λ p. p ≡ words.now.old.now) (D.bytes device.old))) }
+        editing.now.request (λ p. p ≡ old.now) (D.bytes device.old))) }
 {
     let payload = editing.payload;
-    let Words { old, new, .. } = *words;
     match editing.request {
         EditRequest::Add {
             by_,
@@ -113,7 +113,7 @@ pub(super) fn edit_of<'a, D: Device, E: Write>(
             slot,
             priority: priority_of(priority),
         })),
-        EditRequest::AddToken { to, .. } => match words.token {
+        EditRequest::AddToken { to, .. } => match token {
             Some(token) => Ok(Edit::Amend(Change::AddToken { to, token })),
             None => Err(no_token(header, payload, device.len())),
         },

@@ -6,9 +6,7 @@ ghost use Rattle.luks_reading.specs.Header.{IsAcceptedHeader, IsHeader};
 ghost use Rattle.luks_edit_commands.specs.Editing.{IsFound, IsMeant, IsUnfound, unopened_fault, UnlessOutside};
 
 use luks_commands::open::try_each;
-use luks_volume::{
-    Data, Device, Edit, EditFault, Header, OpenFault, Secret, needed_of_header,
-};
+use luks_volume::{Data, Device, Edit, EditFault, Header, OpenFault, Secret, needed_of_header};
 use std::alloc::Global;
 use std::io::Write;
 

@@ -4,12 +4,11 @@ ghost use Rattle.luks_area.specs.Device.{CountsFailure, IsUnchanged};
 ghost use Rattle.luks_edit.specs.EditFaults.{is_edit_failure};
 ghost use Rattle.luks_reading.specs.Header.{IsAcceptedHeader, IsHeader};
 ghost use Rattle.luks_volume.specs.Needed.{NeedsRandom, TellsNeed};
-ghost use Rattle.luks_edit_commands.specs.Editing.{given_words, IsAsked, IsTokenOf, IsUnseen};
+ghost use Rattle.luks_edit_commands.specs.Editing.{IsAsked, IsMissed, IsTokenOf, IsUnseen};
 ghost use Rattle.luks_edit_commands.specs.OtherUses.{is_unseen_failure, SeesBarred};
 
 use super::asked::edit_of;
 use super::older_digest::{is_older_digest, note_older_digest};
-use super::words::Words;
 use crate::other_use::barring_use;
 use luks_edit::{NewDerivation, Opener};
 use luks_notes::{MemoryNote, OlderNote, memory_note, older_note};
@@ -19,6 +18,7 @@ use luks_volume::{
     Cost, Data, Device, DeviceFault, Edit, EditFault, Header, Luks1, edited_header,
     needed_of_header,
 };
+use serde_json::Value;
 use std::alloc::Global;
 use std::io::Write;
 
@@ -98,32 +98,34 @@ pub(super) fn look_at_volume<'a, D: Device, E: Write>(
     alloc: Global,
     device: &mut D,
     editing: &Editing<'a>,
-    words: &Words<'a>,
+    old: &'a [u8],
+    new: &'a [u8],
+    token: Option<&'a Value>,
     err: &mut E,
 ) -> Result<Seen<'a>, Unseen>
     requires room { D.failed device.old + 1 < 2 ^ 64 }
-    requires short { length words.now.old.now < 2 ^ 32 }
-    requires token { IsTokenOf editing.now.request words.now.old.now words.now.token }
+    requires short { length old.now < 2 ^ 32 }
+    requires token { IsTokenOf editing.now.request old.now token }
     ensures unchanged { IsUnchanged D.tells D.size D.bytes D.unsettled device.old device.new }
     ensures count { CountsFailure is_unseen_failure result
         (D.failed device.old) (D.failed device.new) }
     ensures accepted { IfOk result (λ seen. IsAcceptedHeader seen.header) }
     ensures read { D.tells → IfOk result (λ seen. IsHeader (D.bytes device.old) seen.header) }
     ensures asked { D.tells → IfOk result (λ seen. IsAsked (D.bytes device.old) editing.now.request
-        (λ p. p ≡ words.now.old.now) (λ p. p ≡ words.now.new.now) seen.edit) }
+        (λ p. p ≡ old.now) (λ p. p ≡ new.now) seen.edit) }
     ensures tells { D.tells → IfOk result (λ seen.
         NeedsRandom (D.bytes device.old) editing.now.payload seen.edit seen.needed) }
-    ensures unseen { (has_random : ℕ → List ℕ → Type 0) → D.tells → IfErr result
-        (IsUnseen editing.now.payload
-        (given_words editing.now words.now.old.now words.now.new.now has_random)
-        (D.bytes device.old)) }
+    ensures unseen { D.tells → IfErr result (IsUnseen editing.now.payload
+        (IsAsked (D.bytes device.old) editing.now.request (λ p. p ≡ old.now) (λ p. p ≡ new.now))
+        (IsMissed editing.now.payload editing.now.request (λ p. p ≡ old.now) (D.bytes device.old))
+        editing.now.over (D.bytes device.old)) }
     ensures barred { D.tells → SeesBarred editing.now.over (D.bytes device.old) result }
 {
     let header = edited_header(alloc, device)?;
     if let Some(found) = barring_use(device, &header, editing.over)? {
         return Err(Unseen::Used(found));
     }
-    let edit = edit_of(alloc, device, &header, editing, words, err)?;
+    let edit = edit_of(alloc, device, &header, editing, old, new, token, err)?;
     let needed = needed_told(&header, editing.payload, device.len(), &edit, err)?;
     let weaker = weaker_keyslot(&header, &edit);
     let opener = opener_notes(&header, device.len(), &edit);

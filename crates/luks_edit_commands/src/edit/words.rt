@@ -12,18 +12,6 @@ use serde_json::{Category, Value};
 use std::alloc::Global;
 use std::io::{Read, Write};
 
-/// The bytes of the passphrases of an edit, or of its key and the new passphrase: none of one that it doesn't
-/// need.
-#[derive(Clone, Copy)]
-pub(super) struct Words<'a> {
-    /// Those of the passphrase, or the key.
-    pub(super) old: &'a [u8],
-    /// Those of the new passphrase.
-    pub(super) new: &'a [u8],
-    /// The token that the first of them are the text of, where they are one's.
-    pub(super) token: Option<&'a Value>,
-}
-
 /// The bytes of the passphrase whose file has this name, none where the edit needs none; or what the
 /// command answers without it.
 pub(super) fn words<R: Read, E: Write>(

@@ -3,7 +3,17 @@
 /// Hash, encryption, the bytes of the key, where the payload begins, stripes, the enabled keyslots, and the text. The
 /// digest has 4294967295 iterations, a salt of 32 bytes 0x11 and 20 bytes 0x33; the keyslot n has 4294967288 + n
 /// iterations and a salt of 32 bytes 0x40 + n.
-pub const CONVERTED: [(&str, &str, u8, u64, u32, &[usize], &str); 12] = [
+pub type Row = (
+    &'static str,
+    &'static str,
+    u8,
+    u64,
+    u32,
+    &'static [usize],
+    &'static str,
+);
+
+pub static CONVERTED: [Row; 12] = [
     // 1036 bytes.
     (
         "sha256",

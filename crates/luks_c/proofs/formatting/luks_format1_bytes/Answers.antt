@@ -1,26 +1,29 @@
 use Rattle.std.proofs.Common.{inl, inr}
 use Rattle.luks_c.proofs.formatting.luks_format1_bytes.Goals as goal
 
-pub returns-in-Some-clause-usage : goal.returns-in-Some-clause-usage
-returns-in-Some-clause-usage c =
-    let within = c.in-Some.ensures.0 in
+pub returns-in-Some-format_of-clause-usage : goal.returns-in-Some-format_of-clause-usage
+returns-in-Some-format_of-clause-usage c =
+    let within = c.in-Some-format_of.ensures.0 in
     let given_is = c.in-Ok.ensures in (
       (λ usage. absurd (c.make1.ensures.own usage)),
       (λ any. absurd (elim any [
-        | inl unasked ↦ elim unasked [ inl out ↦ out within.parts_ | inr none ↦ none c.in-Some.format.hash c.in-Some.ensures.1.hash_is ]
-        | inr text ↦ elim text [
-          | inl uuid ↦ uuid _ given_is.uuid_is
-          | inr names ↦ elim names [ inl label ↦ label _ given_is.label_is | inr subsystem ↦ subsystem _ given_is.subsystem_is ]
+        | inl uncoded ↦ uncoded c.in-Some.cipher c.in-Some.ensures
+        | inr other ↦ elim other [
+          | inl unasked ↦ elim unasked [ inl out ↦ out within.parts_ | inr none ↦ none c.in-Some-format_of.format.hash c.in-Some-format_of.ensures.1.hash_is ]
+          | inr text ↦ elim text [
+            | inl uuid ↦ uuid _ given_is.uuid_is
+            | inr names ↦ elim names [ inl label ↦ label _ given_is.label_is | inr subsystem ↦ subsystem _ given_is.subsystem_is ]
+          ]
         ]
       ])),
     )
 
-pub returns-in-Some-clause-answers : goal.returns-in-Some-clause-answers
-returns-in-Some-clause-answers c = λ used.
+pub returns-in-Some-format_of-clause-answers : goal.returns-in-Some-format_of-clause-answers
+returns-in-Some-format_of-clause-answers c = λ used.
     record {
       given = c.in-Ok.given;
       given_is = c.in-Ok.ensures;
-      format = c.in-Some.format;
-      is = c.in-Some.ensures.1;
+      format = c.in-Some-format_of.format;
+      is = c.in-Some-format_of.ensures.1;
       so = c.make1.ensures.answers;
     }

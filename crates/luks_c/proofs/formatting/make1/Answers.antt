@@ -1,4 +1,4 @@
-use Rattle.std.proofs.Common.{ℕ, List, false, ◌∙◌, subst}
+use Rattle.std.proofs.Common.{ℕ, List, ◌∙◌, subst}
 use Rattle.luks_formatting.specs.FormatFaults.{HasNoFault, IsFormat1FaultAs}
 use Rattle.luks_given.specs.Planned.{planned_bytes, planned_calls, planned_size, planned_written}
 use Rattle.luks_c_answers.proofs.PlanFacts.{plan_answered}
@@ -11,7 +11,7 @@ returns-in-Ok-format1_as-clause-answers g c =
     let device = c.format1_as.new.device in
     let e = c.in-Ok-format1_as.ensures in
     let both = of_volume
-    (λ (n : ℕ) (o : List ℕ) (m : ℕ). HasNoFault (IsFormat1FaultAs c.args.given.now false n c.args.format.now c.args.random.now)
+    (λ (n : ℕ) (o : List ℕ) (m : ℕ). HasNoFault (IsFormat1FaultAs c.args.given.now c.args.older n c.args.format.now c.args.random.now)
     × IsMade1 c.args.given.now c.args.format.now c.args.passphrase.now c.args.random.now o
     c.give_plan.new.told.slot (planned_bytes device))
     (planned_size c.in-Ok.device) c.args.total (planned_size device) (planned_bytes c.in-Ok.device) g.K.Given.bytes

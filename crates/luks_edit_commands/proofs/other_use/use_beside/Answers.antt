@@ -1,4 +1,4 @@
-use Rattle.std.proofs.Common.{◌≡◌, ℕ, List, refl, sym, subst}
+use Rattle.std.proofs.Common.{ℕ, List, refl, subst}
 use Rattle.luks2_header.specs.Selection.{Chosen, luks2}
 use Rattle.luks2_header.specs.declared.selection.Copies.{Copies}
 use Rattle.luks2_header.specs.declared.selection.Copies.TheVariants.{FirstOnly, SecondOnly}

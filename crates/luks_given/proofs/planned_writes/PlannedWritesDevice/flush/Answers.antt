@@ -1,7 +1,6 @@
 use Rattle.std.proofs.Common.{◌≡◌, ℕ, ◌+◌, List, ◌∷◌, ◌++◌, [], inl, inr, length, subst, refl, sym, ap, ◌∙◌, arith, length-append}
 use Rattle.luks_area.proofs.RangeFacts.{same_but-equal}
 use Rattle.luks_given.specs.declared.planned_writes.PlannedCall.{PlannedCall}
-use Rattle.luks_given.specs.Parts.{AreParts}
 use Rattle.luks_given.specs.Plan.{planned_length, played, IsUnflushed, IsWrittenBy}
 use Rattle.luks_given.proofs.PlanFacts.{furthest-more, planned_length-more, played-flush, unflushed-flush, writes-more}
 use Rattle.luks_given.proofs.planned_writes.PlannedWritesDevice.flush.Goals as goal
@@ -14,17 +13,6 @@ returns-clause-same g c = λ t.
     ap (λ calls. played calls c.add_call.new.bytes.items v) (c.if-not-add_call.ensures.calls refl)
     ∙ ap (λ bytes. played (self.calls.items ++ call ∷ []) bytes v) (c.if-not-add_call.ensures.bytes refl)
     ∙ played-flush self.calls.items self.bytes.items v self.planned
-
-pub invariant_of-self-else-not-add_call-clause-known : goal.invariant_of-self-else-not-add_call-clause-known
-invariant_of-self-else-not-add_call-clause-known g c =
-    let self = c.args.self.now in
-    let call : PlannedCall = record { at = 0; len = 0 } in
-    let v : List ℕ = g.K.Given.bytes in
-    let same : played c.add_call.new.calls.items c.add_call.new.bytes.items v ≡ played self.calls.items self.bytes.items v =
-    ap (λ calls. played calls c.add_call.new.bytes.items v) (c.if-not-add_call.ensures.calls refl)
-    ∙ ap (λ bytes. played (self.calls.items ++ call ∷ []) bytes v) (c.if-not-add_call.ensures.bytes refl)
-    ∙ played-flush self.calls.items self.bytes.items v self.planned in
-    subst (λ w. AreParts self.parts.now 0 self.held.items w) (sym same) self.known
 
 pub invariant_of-self-else-not-add_call-clause-last : goal.invariant_of-self-else-not-add_call-clause-last
 invariant_of-self-else-not-add_call-clause-last g c =
