@@ -10,7 +10,7 @@ use crate::hashing::Hashing;
 use crate::told::Told;
 use crate::untried::say_unsought;
 use luks_area::Device;
-use luks_rebuilding::{Copies, RebuildFault, Which, find_candidate, find_plain};
+use luks_rebuilding::{Copies, RebuildFault, Untold, Which, find_candidate, find_plain};
 use luks_vouching::standing_header;
 use std::alloc::Global;
 use std::io::Write;
@@ -53,7 +53,7 @@ fn candidate_of<D: Device>(
     ensures count { CountsFailure is_rebuild_failure result
         (D.failed device.old) (D.failed device.new) }
 {
-    match find_candidate(alloc, device, which) {
+    match find_candidate(alloc, device, which, &mut Untold) {
         Ok(found) => Ok(Some(Told::of(found))),
         Err(RebuildFault::NoMetadata) => Ok(None),
         Err(fault) => Err(fault),
