@@ -878,10 +878,32 @@ static uint32_t open_one(int fd, uint64_t offset, uint64_t length, uint32_t n, c
     return answer;
 }
 
+/* The same of any keyslot where one couldn't be read: they are tried one by one in their order, and those that can't be read, or to which memory is
+ * refused, are passed over, as `luks open` does. */
+static uint32_t open_beside(int fd, uint64_t offset, uint64_t length, const void *passphrase, size_t passphrase_bytes, uint32_t memory,
+                            uint32_t older, void *key, size_t key_room, struct luks_opened *opened)
+{
+    struct luks_keyslot keyslots[LUKS_KEYSLOTS];
+    size_t count = 0;
+    int kept = errno;
+    (void)luks_keyslots(fd, offset, length, keyslots, sizeof *keyslots, LUKS_KEYSLOTS, &count);
+    for (uint32_t priority = 2; priority > 0; priority--)
+        for (size_t i = 0; i < count && i < LUKS_KEYSLOTS; i++) {
+            if (!keyslots[i].is_enabled || keyslots[i].priority != priority)
+                continue;
+            uint32_t answer = open_one(fd, offset, length, keyslots[i].number, passphrase, passphrase_bytes, memory, older, key, key_room, opened);
+            if (answer == LUKS_DONE || answer == LUKS_ROOM)
+                return answer;
+        }
+    errno = kept;
+    return LUKS_DEVICE;
+}
+
 uint32_t luks_unlock(int fd, uint64_t offset, uint64_t length, const void *passphrase, size_t passphrase_bytes, uint32_t memory,
                      uint32_t older, void *key, size_t key_room, struct luks_opened *opened)
 {
-    return open_one(fd, offset, length, ANY, passphrase, passphrase_bytes, memory, older, key, key_room, opened);
+    uint32_t answer = open_one(fd, offset, length, ANY, passphrase, passphrase_bytes, memory, older, key, key_room, opened);
+    return answer != LUKS_DEVICE ? answer : open_beside(fd, offset, length, passphrase, passphrase_bytes, memory, older, key, key_room, opened);
 }
 
 uint32_t luks_open(int fd, uint64_t offset, uint64_t length, uint32_t n, const void *passphrase, size_t passphrase_bytes, uint32_t memory,
@@ -933,8 +955,6 @@ uint32_t luks_try(int fd, uint64_t offset, uint64_t length, const void *passphra
         if (!goes_on(progress, context, n, LUKS_KEYSLOTS))
             return LUKS_STOPPED;
         answers[n] = open_one(fd, offset, length, n, passphrase, passphrase_bytes, memory, older, NULL, 0, &opened);
-        if (answers[n] == LUKS_DEVICE || answers[n] == LUKS_MEMORY)
-            return answers[n];
     }
     return LUKS_DONE;
 }
@@ -1308,7 +1328,7 @@ static uint32_t any_keyslot(int fd, uint64_t offset, uint64_t length, const void
         return LUKS_DONE;
     uint32_t answer = judge(fd, true);
     if (answer == LUKS_DONE)
-        answer = open_one(fd, offset, length, ANY, passphrase, passphrase_bytes, memory, older, NULL, 0, &opened);
+        answer = luks_unlock(fd, offset, length, passphrase, passphrase_bytes, memory, older, NULL, 0, &opened);
     *slot = opened.slot;
     return answer;
 }

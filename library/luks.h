@@ -425,7 +425,8 @@ uint32_t luks_tokens(int fd, uint64_t offset, uint64_t length, struct luks_token
  * and sha224, sha384, ripemd160, whirlpool and blake2b-512; else such keyslots are passed over. The volume key is put into `key`,
  * where `key_room` isn't 0; 128 bytes hold any, and with fewer than it has this is LUKS_ROOM, and `key_bytes` tells how many. Of LUKS2 those
  * of priority 2 are tried first, those of priority 0 not at all. LUKS_SHUT: it opens no keyslot that was tried. That isn't
- * yet a wrong passphrase: a keyslot may want more `memory`, or `older`, and luks_try tells which one wasn't tried. Else the header's first fault. */
+ * yet a wrong passphrase: a keyslot may want more `memory`, or `older`, and luks_try tells which one wasn't tried. A keyslot that can't be read is passed over;
+ * LUKS_DEVICE is answered where none of the others opens, after each was tried once more. Else the header's first fault. */
 uint32_t luks_unlock(int fd, uint64_t offset, uint64_t length, const void *passphrase, size_t passphrase_bytes, uint32_t memory,
                      uint32_t older, void *key, size_t key_room, struct luks_opened *opened);
 
@@ -436,8 +437,9 @@ uint32_t luks_open(int fd, uint64_t offset, uint64_t length, uint32_t n, const v
                    uint32_t older, void *key, size_t key_room, struct luks_opened *opened);
 
 /* Tries the passphrase on each keyslot alone, and puts what luks_open answers of the keyslot `n` into answers[n]: LUKS_DONE, LUKS_SHUT, or the
- * fault by which it wasn't tried. It takes as long as luks_unlock where that finds none; `progress`, which may be NULL, is called before each. A header
- * that is refused, LUKS_STOPPED, and what ends it in its midst, is the answer, and `answers` has those of the keyslots before. */
+ * fault by which it wasn't tried, or LUKS_DEVICE or LUKS_MEMORY, which end it not. It takes as long as luks_unlock where that finds none; `progress`, which may
+ * be NULL, is called before each. Where the header can't be read, or is refused, that is the answer, and nothing is put into `answers`; with LUKS_STOPPED it has those of
+ * the keyslots before. */
 uint32_t luks_try(int fd, uint64_t offset, uint64_t length, const void *passphrase, size_t passphrase_bytes, uint32_t memory, uint32_t older,
                   luks_progress *progress, void *context, uint32_t answers[LUKS_KEYSLOTS]);
 
