@@ -93,7 +93,7 @@ fn apply_given<K: Given>(
         return MEMORY;
     };
     match apply(alloc, &mut device, payload, edit, random) {
-        Ok(done) => give_edited(payload, edit, random, done, &device, calls, bytes, told),
+        Ok(done) => give_edited(payload, edit, random, done, device, calls, bytes, told),
         Err(EditFault::Device) => tell_wanted(&device, told),
         Err(fault) => edit_number(&fault),
     }
@@ -105,14 +105,14 @@ fn give_edited<K: Given>(
     edit: &Edit<'_>,
     random: &[u8],
     done: Done,
-    device: &PlannedWrites<'_, K>,
+    device: PlannedWrites<'_, K>,
     calls: &mut [PlannedCall],
     bytes: &mut [u8],
     told: &mut LuksPlan,
 ) -> u32
-    requires settled { IsSettled planned_unsettled device.now }
+    requires settled { IsSettled planned_unsettled device.entry }
     requires applied { IsApplied payload K.bytes edit.now random.now (Ok done)
-        (planned_bytes device.now) }
+        (planned_bytes device.entry) }
     ensures answers { AnswersEdit K.parts K.bytes payload edit.now random.now
         (record { calls = calls.old; bytes = bytes.old })
         (record { calls = calls.new; bytes = bytes.new }) told.new result }

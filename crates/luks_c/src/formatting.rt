@@ -190,7 +190,7 @@ fn make1<K: Given>(
         return MEMORY;
     };
     match format1_as(alloc, &mut device, given, format, passphrase, older, random) {
-        Ok(_) => give_plan(&device, calls, bytes, told),
+        Ok(_) => give_plan(device, calls, bytes, told),
         Err(FormatFault::Device) => tell_wanted(&device, told),
         Err(fault) => format_number(&fault),
     }
@@ -233,7 +233,7 @@ fn make2<K: Given>(
         passphrase,
         random,
     ) {
-        Ok(_) => give_plan(&device, calls, bytes, told),
+        Ok(_) => give_plan(device, calls, bytes, told),
         Err(FormatFault::Device) => tell_wanted(&device, told),
         Err(fault) => format_number(&fault),
     }

@@ -45,7 +45,7 @@ pub fn rebuild_given<S: Given, K: Given>(
         return MEMORY;
     };
     match rebuild(alloc, &mut from, &mut device, which, uuid, random) {
-        Ok(()) => give_plan(&device, calls, bytes, told),
+        Ok(()) => give_plan(device, calls, bytes, told),
         Err(RebuildFault::Device) => tell_either(&from, &device, told),
         Err(fault) => rebuild_number(&fault),
     }
