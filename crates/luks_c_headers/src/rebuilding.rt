@@ -6,7 +6,7 @@ ghost use Rattle.luks_c_headers.specs.RebuildAnswers.{AnswersRebuild};
 
 use luks_c_answers::{LuksPlan, MEMORY, give_plan, rebuild_number, tell_either};
 use luks_given::{Given, GivenParts, Part, PlannedCall, PlannedWrites};
-use luks_rebuilding::{RebuildFault, Which, rebuild};
+use luks_rebuilding::{RebuildFault, Untold, Which, rebuild};
 use std::alloc::Global;
 
 /// Plans a detached LUKS2 header of the metadata that is taken of these copies, with this uuid, as
@@ -44,7 +44,15 @@ pub fn rebuild_given<S: Given, K: Given>(
     let Ok(mut device) = PlannedWrites::<K>::new(alloc, parts, held, total) else {
         return MEMORY;
     };
-    match rebuild(alloc, &mut from, &mut device, which, uuid, random) {
+    match rebuild(
+        alloc,
+        &mut from,
+        &mut device,
+        which,
+        uuid,
+        random,
+        &mut Untold,
+    ) {
         Ok(()) => give_plan(device, calls, bytes, told),
         Err(RebuildFault::Device) => tell_either(&from, &device, told),
         Err(fault) => rebuild_number(&fault),

@@ -2,7 +2,7 @@
 use luks_area::MemDevice;
 use luks_notes::{Hashing, note_taken};
 use luks_reading::{Data, check};
-use luks_rebuilding::{Copies, Effort, RebuildFault, Which, rebuild};
+use luks_rebuilding::{Copies, Effort, RebuildFault, Untold, Which, rebuild};
 use luks_test_devices::{counted, old_bytes, two_hashes};
 use luks_vector_lines::{Functions, Malformed, Words, demand};
 use sha2::{Digest, Sha256};
@@ -70,10 +70,11 @@ impl Asked {
         random: &[u8],
     ) -> Result<(), RebuildFault> {
         let which = self.which();
-        match &self.uuid {
-            Some(uuid) => rebuild(alloc, source, target, which, Some(uuid.as_str()), random),
-            None => rebuild(alloc, source, target, which, None, random),
-        }
+        let uuid = match &self.uuid {
+            Some(uuid) => Some(uuid.as_str()),
+            None => None,
+        };
+        rebuild(alloc, source, target, which, uuid, random, &mut Untold)
     }
 }
 

@@ -12,13 +12,13 @@ ghost use Rattle.luks_header_commands.specs.Target.{AnswersHeader, IsLater, IsOt
 ghost use Rattle.luks_commands.specs.Beside.{IsSameFile, LeavesTarget, SettlesTarget};
 ghost use Rattle.luks_header_commands.specs.Target.{Pair, pair_of};
 
+use crate::progress::{Progress, SearchProgress};
 use luks_commands::{
     Answer, Bar, Inputs, Refusal, Status, are_one_file, held_back, judge_standing, random_bytes,
     unread, uuid_of,
 };
 use luks_reading::Device;
 use luks_request::Place;
-use luks1_rebuilding::trial::Progress;
 use std::alloc::Global;
 use std::io::{Read, Write};
 
@@ -65,7 +65,7 @@ pub(crate) trait HeaderWork {
     /// What is answered of two devices with these random bytes, where they tell their bytes.
     ghost may_answer: { Self → Type 0 → List ℕ → Pair → TheAnswer → Type 0 };
 
-    fn run<D: Device, E: Write, G: Progress>(
+    fn run<D: Device, E: Write, G: Progress + SearchProgress>(
         &self,
         alloc: Global,
         volume: &mut D,
@@ -97,7 +97,14 @@ pub(crate) trait HeaderWork {
 /// and the random bytes are read last. Nothing is done where the target is the volume itself, nor, unless
 /// it may be, where another volume's header or another use stands there.
 #[tactic(auto, using(luks_commands::proofs::FileFacts::keeps_same, luks_commands::proofs::BesideFacts::leaves_same, luks_commands::proofs::BesideFacts::settles_same))]
-pub(crate) fn make_header<W: HeaderWork, D: Device, R: Read, N: Read, E: Write, G: Progress>(
+pub(crate) fn make_header<
+    W: HeaderWork,
+    D: Device,
+    R: Read,
+    N: Read,
+    E: Write,
+    G: Progress + SearchProgress,
+>(
     alloc: Global,
     inputs: &mut Inputs<D, R, N>,
     files: &HeaderFiles<'_>,

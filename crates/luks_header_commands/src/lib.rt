@@ -7,8 +7,9 @@ mod header_work;
 mod of_either;
 mod of_fields;
 mod of_metadata;
+mod progress;
 pub mod rebuild;
 mod trying;
 
-pub use luks1_rebuilding::trial::{Progress, Untold};
 pub use of_metadata::copies_asked;
+pub use progress::{Progress, SearchProgress, Untold};

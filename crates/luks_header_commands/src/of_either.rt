@@ -14,7 +14,7 @@ use crate::of_metadata::{copies_asked, not_of_metadata, note_metadata};
 use crate::rebuild::Making;
 use luks_commands::{Answer, Refusal, Status, device_fault};
 use luks_reading::{Device, DeviceFault};
-use luks_rebuilding::{RebuildFault, rebuild};
+use luks_rebuilding::{RebuildFault, SearchProgress, rebuild};
 use luks1_header::fields::{field, u16_at};
 use luks1_header::luks1_places::{MAGIC, SIZE, VERSION};
 use luks1_rebuilding::{Given, Rebuild1Fault};
@@ -22,7 +22,7 @@ use std::alloc::Global;
 use std::io::Write;
 
 /// Makes a header on the target of the volume's metadata, or where that leads there of a LUKS1 header.
-pub(crate) fn make_of_either<D: Device, E: Write>(
+pub(crate) fn make_of_either<D: Device, E: Write, G: SearchProgress>(
     alloc: Global,
     volume: &mut D,
     target: &mut D,
@@ -30,6 +30,7 @@ pub(crate) fn make_of_either<D: Device, E: Write>(
     given: &Given,
     random: &[u8],
     err: &mut E,
+    progress: &mut G,
 ) -> Answer
     requires volume_room { D.failed volume.old + 1 < 2 ^ 64 }
     requires target_room { D.failed target.old + 1 < 2 ^ 64 }
@@ -47,7 +48,8 @@ pub(crate) fn make_of_either<D: Device, E: Write>(
     let files = making.files;
     let before = volume.failures();
     let which = copies_asked(&making.rebuilding);
-    match rebuild(alloc, volume, target, which, making.rebuilding.uuid, random) {
+    let uuid = making.rebuilding.uuid;
+    match rebuild(alloc, volume, target, which, uuid, random, progress) {
         Ok(()) => {
             note_metadata(files, err);
             Answer::Done(None)

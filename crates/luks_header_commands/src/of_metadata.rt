@@ -9,19 +9,20 @@ use crate::header_work::{HeaderFiles, READING_FAILED, TARGET_FAILED};
 use crate::rebuild::Making;
 use luks_commands::{Answer, RandomBytes, Refusal, Status, device_fault, few_random_bytes};
 use luks_reading::Device;
-use luks_rebuilding::{Copies, Effort, RebuildFault, Which, rebuild};
+use luks_rebuilding::{Copies, Effort, RebuildFault, SearchProgress, Which, rebuild};
 use luks_request::Rebuilding;
 use std::alloc::Global;
 use std::io::Write;
 
 /// Makes a LUKS2 header of the volume's metadata on the target.
-pub(crate) fn make_of_metadata<D: Device, E: Write>(
+pub(crate) fn make_of_metadata<D: Device, E: Write, G: SearchProgress>(
     alloc: Global,
     volume: &mut D,
     target: &mut D,
     making: &Making<'_>,
     random: &[u8],
     err: &mut E,
+    progress: &mut G,
 ) -> Answer
     requires volume_room { D.failed volume.old + 1 < 2 ^ 64 }
     requires target_room { D.failed target.old + 1 < 2 ^ 64 }
@@ -40,7 +41,8 @@ pub(crate) fn make_of_metadata<D: Device, E: Write>(
     let files = making.files;
     let before = volume.failures();
     let which = copies_asked(&making.rebuilding);
-    match rebuild(alloc, volume, target, which, making.rebuilding.uuid, random) {
+    let uuid = making.rebuilding.uuid;
+    match rebuild(alloc, volume, target, which, uuid, random, progress) {
         Ok(()) => {
             note_metadata(files, err);
             Answer::Done(None)

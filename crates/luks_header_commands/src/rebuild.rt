@@ -17,6 +17,7 @@ use crate::header_work::{HeaderFiles, HeaderWork, make_header};
 use crate::of_either::make_of_either;
 use crate::of_fields::make_of_fields;
 use crate::of_metadata::make_of_metadata;
+use crate::progress::{Progress, SearchProgress};
 use crate::trying::make_tried;
 use arrayvec::ArrayString;
 use luks_commands::{Answer, Inputs, Status};
@@ -24,7 +25,6 @@ use luks_reading::Device;
 use luks_rebuilding::REBUILD_RANDOM;
 use luks_request::{Meant, Place, Rebuilding};
 use luks1_rebuilding::Given;
-use luks1_rebuilding::trial::Progress;
 use std::alloc::Global;
 use std::io::{Read, Write};
 
@@ -37,8 +37,8 @@ use std::io::{Read, Write};
 ///
 /// With a passphrase, which means LUKS1, and is read before the volume: what of the cipher, the hash and the
 /// length of the key isn't given is tried (`try_combinations`), and the header is made with the first
-/// combination by which a keyslot opens; `progress` is told of each.
-pub fn run<D: Device, R: Read, N: Read, E: Write, G: Progress>(
+/// combination by which a keyslot opens; `progress` is told of each, and of a search for what checksums vouch for.
+pub fn run<D: Device, R: Read, N: Read, E: Write, G: Progress + SearchProgress>(
     alloc: Global,
     inputs: &mut Inputs<D, R, N>,
     name: &str,
@@ -102,25 +102,27 @@ impl HeaderWork for Making<'_> {
 
     ghost may_answer = { λ work tells random d a. IsRebuildAnswer tells work.rebuilding random d a };
 
-    fn run<D: Device, E: Write, G: Progress>(
+    fn run<D: Device, E: Write, G: Progress + SearchProgress>(
         &self,
         alloc: Global,
         volume: &mut D,
         target: &mut D,
         random: &[u8],
         err: &mut E,
-        _progress: &mut G,
+        progress: &mut G,
     ) -> Answer {
         let given = given_of(&self.rebuilding);
         let meant = self.rebuilding.meant();
-        make_meant(alloc, volume, target, meant, self, &given, random, err)
+        make_meant(
+            alloc, volume, target, meant, self, &given, random, err, progress,
+        )
     }
 
     ghost rest_of_same = { λ work volume target. inl refl };
 }
 
 /// Makes a header of the version that is meant.
-fn make_meant<D: Device, E: Write>(
+fn make_meant<D: Device, E: Write, G: SearchProgress>(
     alloc: Global,
     volume: &mut D,
     target: &mut D,
@@ -129,6 +131,7 @@ fn make_meant<D: Device, E: Write>(
     given: &Given,
     random: &[u8],
     err: &mut E,
+    progress: &mut G,
 ) -> Answer
     requires volume_room { D.failed volume.old + 1 < 2 ^ 64 }
     requires target_room { D.failed target.old + 1 < 2 ^ 64 }
@@ -145,8 +148,10 @@ fn make_meant<D: Device, E: Write>(
 {
     match meant {
         Meant::Luks1 => make_of_fields(volume, target, making.files, given, err),
-        Meant::Luks2 => make_of_metadata(alloc, volume, target, making, random, err),
-        Meant::Either => make_of_either(alloc, volume, target, making, given, random, err),
+        Meant::Luks2 => make_of_metadata(alloc, volume, target, making, random, err, progress),
+        Meant::Either => make_of_either(
+            alloc, volume, target, making, given, random, err, progress,
+        ),
     }
 }
 

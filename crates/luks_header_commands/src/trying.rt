@@ -12,6 +12,7 @@ ghost use Rattle.luks_header_commands.specs.Trying.{KeepsTried, TriedAnswer};
 
 use crate::header_work::{HeaderFiles, HeaderWork, READING_FAILED, make_header};
 use crate::of_fields::{make_of_fields, not_of_fields};
+use crate::progress::{Progress, SearchProgress};
 use crate::rebuild::given_of;
 use luks_commands::{
     Answer, Inputs, PassphraseFault, Refusal, Status, are_one_file, passphrase, unread,
@@ -20,14 +21,14 @@ use luks_notes::note_tried_passphrase;
 use luks_reading::Device;
 use luks_request::Rebuilding;
 use luks1_rebuilding::Given;
-use luks1_rebuilding::trial::{Opening, Progress, try_combinations};
+use luks1_rebuilding::trial::{Opening, try_combinations};
 use std::alloc::Global;
 use std::io::{Read, Write};
 
 /// Reads the passphrase of this file and makes a header by it, or answers which of the files is missing.
 /// Nothing is read where the target is the volume itself.
 #[tactic(auto, using(luks_commands::proofs::FileFacts::keeps_same, luks_commands::proofs::BesideFacts::leaves_same, luks_commands::proofs::BesideFacts::settles_same))]
-pub(crate) fn make_tried<D: Device, R: Read, N: Read, E: Write, G: Progress>(
+pub(crate) fn make_tried<D: Device, R: Read, N: Read, E: Write, G: Progress + SearchProgress>(
     alloc: Global,
     inputs: &mut Inputs<D, R, N>,
     files: &HeaderFiles<'_>,
@@ -94,7 +95,7 @@ impl HeaderWork for Trying<'_> {
 
     ghost may_answer = { λ work tells random d a. IsTriedAnswer tells work.rebuilding work.passphrase.now d a };
 
-    fn run<D: Device, E: Write, G: Progress>(
+    fn run<D: Device, E: Write, G: Progress + SearchProgress>(
         &self,
         alloc: Global,
         volume: &mut D,
@@ -111,7 +112,7 @@ impl HeaderWork for Trying<'_> {
 }
 
 /// Tries the combinations, and makes a header on the target with the first that opens a keyslot.
-fn make_opened<D: Device, E: Write, G: Progress>(
+fn make_opened<D: Device, E: Write, G: Progress + SearchProgress>(
     alloc: Global,
     volume: &mut D,
     target: &mut D,

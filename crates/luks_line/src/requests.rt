@@ -75,7 +75,7 @@ fn new_of<'a>(given: &ArgMatches<'a>) -> Option<&'a str> {
 
 fn checking_of<'a>(given: &ArgMatches<'a>) -> Command<'a> {
     Command::Check {
-        payload: data_of(given),
+        payload: payload_of(given),
     }
 }
 
@@ -107,7 +107,7 @@ fn editing_of<'a>(name: CommandName, given: &ArgMatches<'a>) -> Option<Command<'
     Some(Command::Edit(Editing {
         request: edit_of(name, given)?,
         random: given.get_str("random"),
-        payload: data_of(given),
+        payload: payload_of(given),
         over: given.get_flag("over"),
     }))
 }
@@ -196,7 +196,7 @@ fn formatting_of<'a>(given: &ArgMatches<'a>) -> Option<Command<'a>> {
         kdf: argon2_of(given)?,
         memory: mib_of(given, "memory")?,
         older: given.get_flag("older"),
-        payload: data_of(given),
+        payload: payload_of(given),
         given: new_fields_of(given)?,
         over: given.get_flag("over"),
     }))
@@ -228,7 +228,7 @@ fn converting_of<'a>(given: &ArgMatches<'a>) -> Option<Command<'a>> {
     Some(Command::Convert(Converting {
         target: given.get_str("TARGET")?,
         random: given.get_str("random")?,
-        payload: data_of(given),
+        payload: payload_of(given),
         over: given.get_flag("over"),
     }))
 }
@@ -250,7 +250,7 @@ fn rebuilding_of<'a>(given: &ArgMatches<'a>) -> Option<Command<'a>> {
 fn backing_up_of<'a>(given: &ArgMatches<'a>) -> Option<Command<'a>> {
     Some(Command::Backup(BackingUp {
         target: given.get_str("FILE")?,
-        payload: data_of(given),
+        payload: payload_of(given),
         over: given.get_flag("over"),
         rescue: given.get_flag("rescue"),
     }))
@@ -259,7 +259,7 @@ fn backing_up_of<'a>(given: &ArgMatches<'a>) -> Option<Command<'a>> {
 fn restoring_of<'a>(given: &ArgMatches<'a>) -> Option<Command<'a>> {
     Some(Command::Restore(Restoring {
         backup: given.get_str("FILE")?,
-        payload: data_of(given),
+        payload: payload_of(given),
         other: given.get_flag("other"),
         over: given.get_flag("over"),
         over_reencryption: given.get_flag("over-reencryption"),
@@ -269,7 +269,7 @@ fn restoring_of<'a>(given: &ArgMatches<'a>) -> Option<Command<'a>> {
 fn comparing_of<'a>(given: &ArgMatches<'a>) -> Option<Command<'a>> {
     Some(Command::Compare(Comparing {
         backup: given.get_str("FILE")?,
-        payload: data_of(given),
+        payload: payload_of(given),
     }))
 }
 
@@ -284,7 +284,7 @@ fn keeping_key_of<'a>(given: &ArgMatches<'a>) -> Option<Command<'a>> {
     }))
 }
 
-fn data_of(given: &ArgMatches<'_>) -> Data {
+fn payload_of(given: &ArgMatches<'_>) -> Data {
     if given.get_flag("detached") {
         Data::Elsewhere
     } else {

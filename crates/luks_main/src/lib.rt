@@ -14,7 +14,7 @@ mod running;
 mod searching;
 mod thorough;
 mod told;
-mod trial;
+mod tried;
 
 pub use running::run;
 

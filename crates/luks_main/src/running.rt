@@ -12,10 +12,10 @@ use crate::outcome::{Outcome, outcome_of};
 use crate::searching::search;
 use crate::thorough::tell_search;
 use crate::told::{device_fault, explain, list_faults, no_memory, tell_untimed, tell_usage};
-use crate::trial::TrialLines;
+use crate::tried::TriedLines;
 use crate::{FAULT, USAGE};
 use luks_execution::{
-    CountingPrinter, InputFault, Inputs, Line, OtherUse, Printer, Progress, Reason,
+    CountingPrinter, InputFault, Inputs, Line, OtherUse, Printer, Progress, Reason, SearchProgress,
 };
 use luks_files::{
     KeyFile, Openings, Passphrases, Volume, Volumes, has_changed, open_volumes, reader, take_away,
@@ -210,16 +210,8 @@ fn run_read<R: AllocGlobal + Clock + Files<File = File> + Input + Print + Eprint
         is_source,
     } = volumes;
     let mut inputs = inputs_of(rt, volume, target, passphrases, openings);
-    let mut trial = TrialLines::new(rt, line, manner.quiet);
     let mut key_file = KeyFile::of(rt, line);
-    let mut outcome = outcome_beside(
-        rt.alloc(),
-        line,
-        &mut inputs,
-        &mut key_file,
-        &mut trial,
-        &is_source,
-    );
+    let mut outcome = outcome_told(rt, line, manner, &mut inputs, &mut key_file, &is_source);
     let is_noted = outcome.is_noted(manner.quiet);
     if is_noted {
         tell(rt, noticed.as_slice());
@@ -247,9 +239,28 @@ fn run_read<R: AllocGlobal + Clock + Files<File = File> + Input + Print + Eprint
     }
 }
 
+/// What the command comes to; on a terminal what `rebuild` tries is told meanwhile.
+fn outcome_told<R: AllocGlobal + Clock + Files<File = File> + Eprint>(
+    rt: &R,
+    line: &Line<'_>,
+    manner: Manner,
+    inputs: &mut Inputs<Volume, &[u8], LazyFile<'_, R>>,
+    key_file: &mut KeyFile<'_, R>,
+    is_source: &Option<Rc<Cell<bool>>>,
+) -> Outcome
+    requires volume { IfOk inputs.old.volume (λ device. cached_failures device ≡ 0) }
+    requires target { IfOk inputs.old.target (λ device. cached_failures device ≡ 0) }
+    ensures { IsOutcome line.now.command result }
+{
+    let mut lines = TriedLines::new(rt, line, manner.quiet);
+    let outcome = outcome_beside(rt.alloc(), line, inputs, key_file, &mut lines, is_source);
+    lines.clear();
+    outcome
+}
+
 /// What the command comes to: that both its files are one, where its target, or the file of its key, has turned
 /// out to be its source.
-fn outcome_beside<R: AllocGlobal + Clock + Files<File = File>, G: Progress>(
+fn outcome_beside<R: AllocGlobal + Clock + Files<File = File>, G: Progress + SearchProgress>(
     alloc: Global,
     line: &Line<'_>,
     inputs: &mut Inputs<Volume, &[u8], LazyFile<'_, R>>,

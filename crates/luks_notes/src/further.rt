@@ -10,7 +10,6 @@ use crate::metadata::keyslots_of;
 use crate::older::say_older;
 use crate::seeking::{has_standing, sought, whole_of};
 use crate::told::Told;
-use crate::untried::say_untried;
 use luks_area::Device;
 use luks_rebuilding::{Copies, Effort, RebuildFault, Which};
 use std::alloc::Global;
@@ -102,11 +101,14 @@ fn second_of<D: Device, E: Write>(
         copies: Copies::Second,
         effort: Effort::Brief,
     };
-    match seek {
-        Seek::Whole => whole_of(alloc, device, Copies::Second),
-        Seek::Any if found.place.at != 0 => sought(alloc, device, which, hashing, err),
-        Seek::Any => sought_and_said(alloc, device, which, hashing, err),
+    if matches!(seek, Seek::Whole) {
+        return whole_of(alloc, device, Copies::Second);
     }
+    let search = sought(alloc, device, which, hashing, err)?;
+    if found.place.at == 0 {
+        search.say_untried(alloc, device, which, err)?;
+    }
+    Ok(search.found)
 }
 
 /// What is found so of a header of this size, if there is anything. Where no copy of it stands nothing is hashed.
@@ -134,39 +136,13 @@ fn size_of<D: Device, E: Write>(
     if !has_standing(device, size)? {
         return whole_of(alloc, device, copies);
     }
-    let effort = Effort::Brief;
-    sought_and_said(alloc, device, Which { copies, effort }, hashing, err)
-}
-
-/// What is found of these copies; where no checksum vouches for it, it is said of which copy not all was tried.
-fn sought_and_said<D: Device, E: Write>(
-    alloc: Global,
-    device: &mut D,
-    which: Which,
-    hashing: &mut Hashing,
-    err: &mut E,
-) -> Result<Option<Told>, RebuildFault>
-    requires room { D.failed device.old + 1 < 2 ^ 64 }
-    requires of_command { IsOfCommand hashing.old }
-    ensures unchanged { IsUnchanged D.tells D.size D.bytes D.unsettled device.old device.new }
-    ensures count { CountsFailure is_rebuild_failure result
-        (D.failed device.old) (D.failed device.new) }
-    ensures of_command { IsOfCommand hashing.new }
-    ensures more { hashing.old.hashed ≤ hashing.new.hashed }
-{
-    let found = sought(alloc, device, which, hashing, err)?;
-    if !is_vouched(&found) {
-        say_untried(alloc, device, which, err)?;
-    }
-    Ok(found)
-}
-
-/// Whether something was found, and a checksum vouches for it.
-fn is_vouched(found: &Option<Told>) -> bool {
-    match found {
-        Some(told) => told.is_vouched,
-        None => false,
-    }
+    let which = Which {
+        copies,
+        effort: Effort::Brief,
+    };
+    let search = sought(alloc, device, which, hashing, err)?;
+    search.say_untried(alloc, device, which, err)?;
+    Ok(search.found)
 }
 
 /// Says what is whole of headers of other sizes than that of which a header is made, but for what is the second

@@ -9,7 +9,6 @@ use crate::hashing::Hashing;
 use crate::older::say_older;
 use crate::seeking::sought;
 use crate::told::Told;
-use crate::untried::say_untried;
 use luks_area::Device;
 use luks_rebuilding::{Copies, Effort, Place, RebuildFault, Which};
 use std::alloc::Global;
@@ -52,8 +51,9 @@ fn say_whole<D: Device, E: Write>(
         copies: Copies::Any,
         effort: Effort::Usual,
     };
-    let Some(found) = sought(alloc, device, which, hashing, err)? else {
-        return say_untried(alloc, device, which, err);
+    let search = sought(alloc, device, which, hashing, err)?;
+    let Some(found) = &search.found else {
+        return search.say_untried(alloc, device, which, err);
     };
     let count = found.count();
     let keyslots = keyslots_of(count);
@@ -62,15 +62,17 @@ fn say_whole<D: Device, E: Write>(
         err,
         "luks: metadata of {count} {keyslots} is whole in the {copy} copy: luks rebuild makes a header of it"
     );
-    say_origin(alloc, device, which, &found, hashing, err)
+    say_vouch(found, err);
+    search.say_untried(alloc, device, which, err)?;
+    say_others(alloc, device, which.copies, found, hashing, err)
 }
 
-/// Says whether a checksum vouches for the metadata, of which copy not all was tried where none does, whether
-/// it is of an older volume, and what other metadata is whole.
-pub(crate) fn say_origin<D: Device, E: Write>(
+/// Says whether the metadata, which was found first of these copies, is of an older volume, and what other metadata
+/// is whole.
+pub(crate) fn say_others<D: Device, E: Write>(
     alloc: Global,
     device: &mut D,
-    which: Which,
+    copies: Copies,
     found: &Told,
     hashing: &mut Hashing,
     err: &mut E,
@@ -81,12 +83,8 @@ pub(crate) fn say_origin<D: Device, E: Write>(
     ensures of_command { IsOfCommand hashing.new }
     ensures more { hashing.old.hashed ≤ hashing.new.hashed }
 {
-    say_vouch(found, err);
-    if !found.is_vouched {
-        say_untried(alloc, device, which, err)?;
-    }
     say_older(device, found, err)?;
-    let seek = seek_of(which.copies, found);
+    let seek = seek_of(copies, found);
     say_further(alloc, device, found, seek, hashing, err)
 }
 
@@ -99,7 +97,7 @@ fn seek_of(copies: Copies, found: &Told) -> Seek {
 }
 
 /// Says whether a checksum vouches for the metadata.
-fn say_vouch<E: Write>(found: &Told, err: &mut E) {
+pub(crate) fn say_vouch<E: Write>(found: &Told, err: &mut E) {
     let copy = copy_of(&found.place);
     let _ = if found.is_vouched {
         writeln!(err, "luks: vouched by the checksum of the {copy} copy")

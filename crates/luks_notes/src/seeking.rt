@@ -8,22 +8,60 @@ ghost use Rattle.luks_notes.specs.Hashed.{CountsSearch, IsOfCommand};
 
 use crate::hashing::Hashing;
 use crate::told::Told;
-use crate::untried::say_unsought;
+use crate::untried::{say_unsought, say_untried};
 use luks_area::Device;
-use luks_rebuilding::{Copies, RebuildFault, Which, find_candidate, find_plain};
+use luks_rebuilding::{Copies, RebuildFault, Untold, Which, find_candidate, find_plain};
 use luks_vouching::standing_header;
 use std::alloc::Global;
 use std::io::Write;
 
-/// The candidate of these copies, if there is one. Where less is left of what may be hashed than this search may hash,
-/// it is the first that is whole, and standard error says that what checksums vouch for wasn't sought.
+/// What came of a search for the candidate of some copies.
+#[derive(Drop)]
+pub(crate) struct Search {
+    /// What was found, if there is anything.
+    pub(crate) found: Option<Told>,
+    /// What checksums vouch for was sought: else what was found is the first that is whole.
+    pub(crate) is_made: bool,
+}
+
+impl Search {
+    /// Where it was made and no checksum vouches for what was found, says of which of these copies not all was tried.
+    pub(crate) fn say_untried<D: Device, E: Write>(
+        &self,
+        alloc: Global,
+        device: &mut D,
+        which: Which,
+        err: &mut E,
+    ) -> Result<(), RebuildFault>
+        requires { D.failed device.old + 1 < 2 ^ 64 }
+        ensures unchanged { IsUnchanged D.tells D.size D.bytes D.unsettled device.old device.new }
+        ensures count { CountsFailure is_rebuild_failure result
+            (D.failed device.old) (D.failed device.new) }
+    {
+        if self.is_made && !self.is_vouched() {
+            say_untried(alloc, device, which, err)?;
+        }
+        Ok(())
+    }
+
+    /// Whether something was found, and a checksum vouches for it.
+    fn is_vouched(&self) -> bool {
+        match &self.found {
+            Some(told) => told.is_vouched,
+            None => false,
+        }
+    }
+}
+
+/// Seeks the candidate of these copies. Where less is left of what may be hashed than this search may hash, it isn't
+/// made, and standard error says so.
 pub(crate) fn sought<D: Device, E: Write>(
     alloc: Global,
     device: &mut D,
     which: Which,
     hashing: &mut Hashing,
     err: &mut E,
-) -> Result<Option<Told>, RebuildFault>
+) -> Result<Search, RebuildFault>
     requires room { D.failed device.old + 1 < 2 ^ 64 }
     requires of_command { IsOfCommand hashing.old }
     ensures unchanged { IsUnchanged D.tells D.size D.bytes D.unsettled device.old device.new }
@@ -32,14 +70,20 @@ pub(crate) fn sought<D: Device, E: Write>(
     ensures of_command { IsOfCommand hashing.new }
     ensures hashed { CountsSearch which.effort hashing.old hashing.new ⊎ (hashing.new ≡ hashing.old) }
     ensures more { hashing.old.hashed ≤ hashing.new.hashed }
-    ensures vouched { IfOk result (λ found. IfSome found (λ told. told.is_vouched ≡ true
+    ensures made { IfOk result (λ search. search.is_made ≡ true
+        → CountsSearch which.effort hashing.old hashing.new) }
+    ensures unmade { IfOk result (λ search. search.is_made ≡ false → hashing.new ≡ hashing.old) }
+    ensures vouched { IfOk result (λ search. IfSome search.found (λ told. told.is_vouched ≡ true
         → CountsSearch which.effort hashing.old hashing.new)) }
 {
-    if !hashing.take(which.effort) {
+    let is_made = hashing.take(which.effort);
+    let found = if is_made {
+        candidate_of(alloc, device, which)?
+    } else {
         say_unsought(which.copies, err);
-        return whole_of(alloc, device, which.copies);
-    }
-    candidate_of(alloc, device, which)
+        whole_of(alloc, device, which.copies)?
+    };
+    Ok(Search { found, is_made })
 }
 
 /// The candidate of these copies, if there is one.
@@ -53,7 +97,7 @@ fn candidate_of<D: Device>(
     ensures count { CountsFailure is_rebuild_failure result
         (D.failed device.old) (D.failed device.new) }
 {
-    match find_candidate(alloc, device, which) {
+    match find_candidate(alloc, device, which, &mut Untold) {
         Ok(found) => Ok(Some(Told::of(found))),
         Err(RebuildFault::NoMetadata) => Ok(None),
         Err(fault) => Err(fault),

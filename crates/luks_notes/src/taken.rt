@@ -5,10 +5,11 @@ ghost use Rattle.luks_rebuilding.specs.RebuildFaults.{is_rebuild_failure};
 ghost use Rattle.luks_notes.specs.Hashed.{IsOfCommand};
 
 use crate::hashing::Hashing;
-use crate::metadata::{copy_of, keyslots_of, say_origin};
+use crate::metadata::{copy_of, keyslots_of, say_others, say_vouch};
 use crate::older::header_at;
 use crate::seeking::whole_of;
 use crate::told::Told;
+use crate::untried::say_untried;
 use luks_area::Device;
 use luks_rebuilding::{Candidate, Copies, Place, RebuildFault, Which, find_plain, find_voucher};
 use std::alloc::Global;
@@ -83,7 +84,11 @@ fn say_taken<S: Device, E: Write>(
         err,
         "luks: made of the metadata in the {copy} copy, which has {count} {keyslots}"
     );
-    say_origin(alloc, source, which, &found, hashing, err)
+    say_vouch(&found, err);
+    if !found.is_vouched {
+        say_untried(alloc, source, which, err)?;
+    }
+    say_others(alloc, source, which.copies, &found, hashing, err)
 }
 
 /// Those of the copies that are asked for that have this size: what a checksum vouches for is of its own, so that an

@@ -12,6 +12,7 @@ use crate::search::{found_of, least_of};
 use crate::vouching::first_vouched;
 use luks_area::Device;
 use luks_meta::Meta;
+use luks_vouching::SearchProgress;
 use luks2_header::{Bin2, HeadFault, select};
 use std::alloc::Global;
 
@@ -35,11 +36,12 @@ pub struct Candidate {
 /// Refused by `Counts` or `NoMetadata`; `Device` comes exactly where a device call failed. Takes
 /// memory for the JSON areas and the metadata of one copy at a time, where a copy's binary header stands or its
 /// JSON area begins with a brace; of others only these are read. For all that checksums vouch for at most as many
-/// bytes are hashed as `which.effort` says.
-pub fn find_candidate<D: Device>(
+/// bytes are hashed as `which.effort` says; `progress` is told of the search.
+pub fn find_candidate<D: Device, P: SearchProgress>(
     alloc: Global,
     source: &mut D,
     which: Which,
+    progress: &mut P,
 ) -> Result<Candidate, RebuildFault>
     requires { D.failed source.old + 1 < 2 ^ 64 }
     ensures unchanged { IsUnchanged D.tells D.size D.bytes D.unsettled source.old source.new }
@@ -50,7 +52,7 @@ pub fn find_candidate<D: Device>(
     ensures refused { D.tells → IfErr result (IsNotFound (D.bytes source.old) which) }
 {
     pass_counting(source, which)?;
-    match first_vouched(alloc, source, which)? {
+    match first_vouched(alloc, source, which, progress)? {
         Some(vouched) => Ok(vouched),
         None => find_plain(alloc, source, which.copies),
     }

@@ -19,6 +19,7 @@ mod vouching;
 
 pub use candidate::{Candidate, find_candidate, find_plain};
 pub use laws::{one_candidate, rebuilt_header_opens_alike, search_is_bounded};
+pub use luks_vouching::{SearchProgress, Untold};
 pub use place::{Copies, Effort, Place, Which};
 pub use rebuild_fault::RebuildFault;
 pub use rebuilding::{REBUILD_RANDOM, rebuild};

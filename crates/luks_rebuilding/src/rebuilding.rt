@@ -24,6 +24,7 @@ use crate::own_uuid::own_field;
 use crate::place::Which;
 use crate::rebuild_fault::RebuildFault;
 use luks_area::{Device, DeviceFault};
+use luks_vouching::SearchProgress;
 use luks_writing::clear_places;
 use std::alloc::Global;
 
@@ -44,14 +45,15 @@ pub const REBUILD_RANDOM: u64 = 144;
 /// Before all else the first sectors of both copies' places become zeros, with one flush: an older
 /// header there would still count while its key areas are overwritten. Then the key areas are written,
 /// then the second copy of the header, then the first, a flush after each. Takes memory for the
-/// metadata, before the first write.
-pub fn rebuild<S: Device, T: Device>(
+/// metadata, before the first write. `progress` is told of the search for what checksums vouch for.
+pub fn rebuild<S: Device, T: Device, P: SearchProgress>(
     alloc: Global,
     source: &mut S,
     target: &mut T,
     which: Which,
     uuid: Option<&str>,
     random: &[u8],
+    progress: &mut P,
 ) -> Result<(), RebuildFault>
     requires source_room { S.failed source.old + 1 < 2 ^ 64 }
     requires target_room { T.failed target.old + 1 < 2 ^ 64 }
@@ -98,7 +100,7 @@ pub fn rebuild<S: Device, T: Device>(
         → Gives allowed taken.json (S.bytes source.old) n p a
         ↔ AnswerWithin allowed (T.bytes target.new) n p a)) }
 {
-    let found = find_candidate(alloc, source, which)?;
+    let found = find_candidate(alloc, source, which, progress)?;
     judge(&found, source.len(), target.len(), uuid, random)?;
     let field = own_field(source, found.place, uuid, random)?;
     write_rebuilt(source, target, &found, field, random)?;

@@ -12,15 +12,16 @@ use crate::place::{Copies, Place, Which};
 use crate::rebuild_fault::RebuildFault;
 use crate::standing::{share, standing_copies, take_first};
 use luks_area::Device;
-use luks_vouching::{VouchFault, Vouched, find_vouched};
+use luks_vouching::{SearchProgress, VouchFault, Vouched, find_vouched};
 use std::alloc::Global;
 
 /// The first of the sources that a checksum vouches for: what the copies vouch for is sought in their order, until
 /// there is one. So the metadata of one is held, and none is sought for copies behind it.
-pub(crate) fn first_vouched<D: Device>(
+pub(crate) fn first_vouched<D: Device, P: SearchProgress>(
     alloc: Global,
     source: &mut D,
     which: Which,
+    progress: &mut P,
 ) -> Result<Option<Candidate>, RebuildFault>
     requires { D.failed source.old + 1 < 2 ^ 64 }
     ensures unchanged { IsUnchanged D.tells D.size D.bytes D.unsettled source.old source.new }
@@ -34,7 +35,7 @@ pub(crate) fn first_vouched<D: Device>(
     let mut left = standing_copies(source)?;
     let most = share(which.effort, left.len());
     while let Some(copy) = take_first(&mut left) {
-        if let Some(found) = vouched_at(alloc, source, which, copy.place, most)? {
+        if let Some(found) = vouched_at(alloc, source, which, copy.place, most, progress)? {
             return Ok(Some(found));
         }
     }
@@ -42,12 +43,13 @@ pub(crate) fn first_vouched<D: Device>(
 }
 
 /// What the checksum of the copy at the place vouches for, if the copy is asked for.
-fn vouched_at<D: Device>(
+fn vouched_at<D: Device, P: SearchProgress>(
     alloc: Global,
     source: &mut D,
     which: Which,
     place: Place,
     most: usize,
+    progress: &mut P,
 ) -> Result<Option<Candidate>, RebuildFault>
     requires listed { IsListed place.size }
     requires half { (place.at ≡ 0) ⊎ (place.at ≡ place.size) }
@@ -65,7 +67,7 @@ fn vouched_at<D: Device>(
     if !is_asked(which.copies, place) {
         return Ok(None);
     }
-    match find_vouched(alloc, source, place.size, place.at, most) {
+    match find_vouched(alloc, source, place.size, place.at, most, progress) {
         Ok(Some(found)) => Ok(Some(candidate_of(place, found))),
         Ok(None) => Ok(None),
         Err(VouchFault::Memory) => Err(RebuildFault::Memory),

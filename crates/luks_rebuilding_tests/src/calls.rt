@@ -6,7 +6,7 @@ use crate::sources::ANY;
 use crate::vouching::{MOST, SIZE};
 use luks_area::Device;
 use luks_reading::{Allowed, Key, OpenFault, open_slot};
-use luks_rebuilding::{RebuildFault, rebuild};
+use luks_rebuilding::{RebuildFault, SearchProgress, Untold, rebuild};
 use luks_vouching::{VouchFault, Vouched, find_vouched};
 use luks1_mending::Given;
 use luks1_rebuilding::{Rebuild1Fault, rebuild1};
@@ -23,7 +23,7 @@ pub(crate) fn make_header<S: Device, T: Device>(
     requires target_room { T.failed target.old + 1 < 2 ^ 64 }
     requires settled { T.tells → IsSettled T.unsettled target.old }
 {
-    rebuild(alloc, source, target, ANY, None, random)
+    rebuild(alloc, source, target, ANY, None, random, &mut Untold)
 }
 
 /// Makes a header on the target of what is left of a LUKS1 header, and of what is given.
@@ -51,14 +51,15 @@ pub(crate) fn key_of<D: Device>(
     open_slot(alloc, header, n, passphrase, Allowed::NOTHING)
 }
 
-/// What the checksum of the copy at `at` vouches for.
-pub(crate) fn vouched_at<D: Device>(
+/// What the checksum of the copy at `at` vouches for; `progress` is told of the search.
+pub(crate) fn vouched_at<D: Device, P: SearchProgress>(
     alloc: Global,
     source: &mut D,
     at: u64,
+    progress: &mut P,
 ) -> Result<Option<Vouched>, VouchFault>
     requires half { (at ≡ 0) ⊎ (at ≡ 16384) }
     requires room { D.failed source.old + 1 < 2 ^ 64 }
 {
-    find_vouched(alloc, source, SIZE, at, MOST)
+    find_vouched(alloc, source, SIZE, at, MOST, progress)
 }

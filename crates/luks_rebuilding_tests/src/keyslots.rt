@@ -3,7 +3,7 @@ use crate::calls::{key_of, make_header};
 use crate::sources::{ANY, LEN, RANDOM, SECOND};
 use luks_area::MemDevice;
 use luks_reading::OpenFault;
-use luks_rebuilding::find_candidate;
+use luks_rebuilding::{Untold, find_candidate};
 use luks_test_devices::{VOLUME_KEY, counted, damaged, old_bytes};
 use std::alloc::Global;
 use std::test::Fail;
@@ -44,7 +44,7 @@ fn finding(rt: HostRuntime) -> Result<(), Fail> {
     let alloc = rt.alloc();
     let mut source = MemDevice::new(damaged(alloc)?);
     for (which, at) in [(ANY, 0u64), (SECOND, 16384)] {
-        let Ok(found) = find_candidate(alloc, &mut source, which) else {
+        let Ok(found) = find_candidate(alloc, &mut source, which, &mut Untold) else {
             return Err("none is found".into());
         };
         assert!(rt;

@@ -4,7 +4,7 @@ ghost use Rattle.std.specs.Prelude.{◌≡◌, ◌⊎◌};
 use crate::calls::vouched_at;
 use luks_area::MemDevice;
 use luks_test_devices::{part, put, two_hashes};
-use luks_vouching::is_cut_short;
+use luks_vouching::{SearchProgress, Untold, is_cut_short};
 use std::alloc::Global;
 use std::test::Fail;
 
@@ -19,7 +19,7 @@ fn is_vouched_at(alloc: Global, volume: &[u8], at: u64, json: &[u8]) -> Result<b
     requires { (at ≡ 0) ⊎ (at ≡ 16384) }
 {
     let mut device = MemDevice::new(volume.to_vec(alloc)?);
-    match vouched_at(alloc, &mut device, at) {
+    match vouched_at(alloc, &mut device, at, &mut Untold) {
         Ok(Some(found)) => Ok(found.json.as_slice() == json),
         _ => Ok(false),
     }
@@ -59,6 +59,52 @@ fn is_cut(alloc: Global, count: usize) -> Result<bool, Fail> {
     let mut volume = whole(alloc)?;
     put_run(&mut volume, 4096, 0xAA, count);
     Ok(is_cut_short(alloc, &mut MemDevice::new(volume), SIZE, 0, MOST)?)
+}
+
+/// What was told of a search.
+#[derive(Drop)]
+struct Heard {
+    /// How many times it was said that compositions are tried.
+    searches: usize,
+    /// How many sectors and pieces differed, together.
+    differing: usize,
+    /// How many compositions were tried.
+    tried: usize,
+}
+
+impl SearchProgress for Heard {
+    fn seeks(&mut self, differing: usize) {
+        self.searches = self.searches.wrapping_add(1);
+        self.differing = self.differing.wrapping_add(differing);
+    }
+
+    fn tried(&mut self) {
+        self.tried = self.tried.wrapping_add(1);
+    }
+}
+
+// Three sectors differ, each in more than 16 bytes: eight compositions of sectors, and eight of pieces. A byte that is
+// wrong in both copies lets none meet the checksum.
+#[test]
+fn told(rt: HostRuntime) -> Result<(), Fail> {
+    let alloc = rt.alloc();
+    let mut volume = whole(alloc)?;
+    put_run(&mut volume, 4096, 0xAA, 3 * 512);
+    put(&mut volume, 16000, &[1]);
+    put(&mut volume, 32384, &[1]);
+    let mut heard = Heard {
+        searches: 0,
+        differing: 0,
+        tried: 0,
+    };
+    let found = vouched_at(alloc, &mut MemDevice::new(volume), 0, &mut heard);
+    assert!(rt; matches!(found, Ok(None)), "nothing is vouched for");
+    assert!(rt;
+        heard.searches == 2 && heard.differing == 6,
+        "of sectors, then of pieces"
+    );
+    assert!(rt; heard.tried == 16, "twice eight");
+    Ok(())
 }
 
 // Of 16 bytes of a sector each is a piece, and 2^16 compositions are too many; 17 are one piece.

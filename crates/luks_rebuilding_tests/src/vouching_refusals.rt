@@ -3,7 +3,7 @@ use crate::calls::vouched_at;
 use crate::vouching::whole;
 use luks_area::{Device, FaultyDevice, Leave, MemDevice};
 use luks_test_devices::{BLOCKS, TakenMemory};
-use luks_vouching::VouchFault;
+use luks_vouching::{Untold, VouchFault};
 use std::alloc::Global;
 use std::test::Fail;
 
@@ -17,12 +17,12 @@ fn each_call(rt: HostRuntime) -> Result<(), Fail> {
     let volume = whole(alloc)?;
     for call in 0..CALLS {
         let mut source = FaultyDevice::new(MemDevice::new(volume.to_vec(alloc)?), call, Leave::Old);
-        let answer = vouched_at(alloc, &mut source, 0);
+        let answer = vouched_at(alloc, &mut source, 0, &mut Untold);
         let told = matches!(answer, Err(VouchFault::Device));
         assert!(rt; told && source.failures() == 1, "the call {call}");
     }
     let mut source = FaultyDevice::new(MemDevice::new(volume.to_vec(alloc)?), CALLS, Leave::Old);
-    let answer = vouched_at(alloc, &mut source, 0);
+    let answer = vouched_at(alloc, &mut source, 0, &mut Untold);
     assert!(rt;
         matches!(answer, Ok(Some(_))) && source.failures() == 0,
         "no further call"
@@ -36,7 +36,7 @@ fn blocks_needed(alloc: Global) -> Result<Option<usize>, Fail> {
     let mut source = MemDevice::new(whole(alloc)?);
     let mut taken = TakenMemory::take(alloc)?;
     for turn in 0..BLOCKS {
-        match vouched_at(alloc, &mut source, 0) {
+        match vouched_at(alloc, &mut source, 0, &mut Untold) {
             Err(VouchFault::Memory) => taken.give_back(),
             Ok(Some(_)) => return Ok(Some(turn)),
             _ => return Ok(None),

@@ -103,6 +103,8 @@ pub use luks_rebuilding::Effort;
 pub use luks_rebuilding::Place;
 pub use luks_rebuilding::REBUILD_RANDOM;
 pub use luks_rebuilding::RebuildFault;
+pub use luks_rebuilding::SearchProgress;
+pub use luks_rebuilding::Untold as UntoldSearch;
 pub use luks_rebuilding::Which;
 pub use luks_rebuilding::find_candidate;
 pub use luks_rebuilding::one_candidate;

@@ -10,18 +10,20 @@ use crate::borders::least_border;
 use crate::bound::{all_may, may_begin};
 use crate::cutting::try_cut;
 use crate::piecing::compose_pieces;
+use crate::progress::SearchProgress;
 use crate::search::{fed, search};
 use sha2::Sha256;
 
 /// Whether a composition that is tried meets the checksum, by a hasher that was fed what stands before
 /// it, where at most `most` bytes of areas may be hashed. Then `json` holds the first one.
-pub(crate) fn compose(
+pub(crate) fn compose<P: SearchProgress>(
     first: &[u8],
     second: &[u8],
     json: &mut [u8],
     hasher: Sha256,
     sum: &[u8],
     most: usize,
+    progress: &mut P,
 ) -> bool
     requires whole { IsWholeSectors first.now }
     requires long { length second.now ≡ length first.now }
@@ -42,20 +44,21 @@ pub(crate) fn compose(
         return true;
     }
     let again = fed(&hasher, &[]);
-    if compose_sectors(first, second, json, hasher, sum, most) {
+    if compose_sectors(first, second, json, hasher, sum, most, progress) {
         return true;
     }
-    compose_pieces(first, second, json, &again, sum, most)
+    compose_pieces(first, second, json, &again, sum, most, progress)
 }
 
 /// The same, of the compositions of sectors.
-fn compose_sectors(
+fn compose_sectors<P: SearchProgress>(
     first: &[u8],
     second: &[u8],
     json: &mut [u8],
     hasher: Sha256,
     sum: &[u8],
     most: usize,
+    progress: &mut P,
 ) -> bool
     requires whole { IsWholeSectors first.now }
     requires long { length second.now ≡ length first.now }
@@ -67,7 +70,8 @@ fn compose_sectors(
         → (j : List ℕ) → IsTriedOfSectors most first.now second.now j → sum.now ≡ sha256 (done ++ j) → ⊥ }
 {
     if may_try_all(first, second, most) {
-        search(first, second, json, hasher, sum)
+        progress.seeks(differing(first, second));
+        search(first, second, json, hasher, sum, progress)
     } else {
         compose_by_border(first, second, json, &hasher, sum, most)
     }

@@ -11,6 +11,7 @@ mod headers;
 mod laws;
 mod pieces;
 mod piecing;
+mod progress;
 mod search;
 mod standing;
 mod vouch_fault;
@@ -20,5 +21,6 @@ pub use headers::{meets, standing_header};
 pub use laws::{
     one_vouched, pieces_are_all, sound_copy_meets, vouched_is_composed, work_is_bounded,
 };
+pub use progress::{SearchProgress, Untold};
 pub use vouch_fault::VouchFault;
 pub use vouched::{Vouched, find_vouched, is_cut_short};

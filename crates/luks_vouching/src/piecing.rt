@@ -9,19 +9,21 @@ ghost use Rattle.luks_vouching.specs.Tried.{bytes_of_pieces, IsCutShort, IsFirst
 use crate::areas::differing;
 use crate::bound::pieces_may;
 use crate::pieces::{Piece, pieces};
+use crate::progress::SearchProgress;
 use crate::search::{fed, is_sum};
 use arrayvec::ArrayVec;
 use sha2::Sha256;
 
 /// Whether a composition of pieces meets the checksum, by a hasher that was fed what stands before it, where
 /// all of them may be hashed. Then `json` holds the first one.
-pub(crate) fn compose_pieces(
+pub(crate) fn compose_pieces<P: SearchProgress>(
     first: &[u8],
     second: &[u8],
     json: &mut [u8],
     hasher: &Sha256,
     sum: &[u8],
     most: usize,
+    progress: &mut P,
 ) -> bool
     requires whole { IsWholeSectors first.now }
     requires long { length second.now ≡ length first.now }
@@ -33,7 +35,7 @@ pub(crate) fn compose_pieces(
         → (j : List ℕ) → IsTriedOfPieces most first.now second.now j → sum.now ≡ sha256 (done ++ j) → ⊥ }
 {
     match may_try_pieces(first, second, most) {
-        Some(found) => try_pieces(first, second, json, &found, hasher, sum),
+        Some(found) => try_pieces(first, second, json, &found, hasher, sum, progress),
         None => false,
     }
 }
@@ -66,13 +68,14 @@ fn may_try_pieces(first: &[u8], second: &[u8], most: usize) -> Option<ArrayVec<P
 }
 
 /// Whether a composition of these pieces meets the checksum. Then `json` holds the first one.
-fn try_pieces(
+fn try_pieces<P: SearchProgress>(
     first: &[u8],
     second: &[u8],
     json: &mut [u8],
     found: &[Piece],
     hasher: &Sha256,
     sum: &[u8],
+    progress: &mut P,
 ) -> bool
     requires inside { AreInside (length first.now) found.now }
     requires few { length found.now ≤ 32 }
@@ -85,7 +88,9 @@ fn try_pieces(
     ensures none { (done : List ℕ) → Holds256 hasher.now done → result ≡ false → (n : ℕ)
         → n < 2 ^ length found.now → sum.now ≡ sha256 (done ++ numbered second.now found.now n first.now) → ⊥ }
 {
+    progress.seeks(found.len());
     for n in 0..1 << found.len() {
+        progress.tried();
         json.copy_from_slice(first);
         put_numbered(json, second, found, n);
         if is_sum(fed(hasher, json), sum) {

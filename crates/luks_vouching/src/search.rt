@@ -6,19 +6,21 @@ ghost use Rattle.luks_vouching.specs.Composed.{IsComposed, IsWholeSectors};
 ghost use Rattle.luks_vouching.specs.Tried.{IsFirstOfAll};
 
 use crate::areas::{SECTOR, alike};
+use crate::progress::SearchProgress;
 use sha2::{Digest, Sha256};
 
 /// Whether a composition meets the checksum, by a hasher that was fed what stands before it. Then
 /// `json` holds the first one that does.
 ///
 /// Where two sectors differ, the first copy's is tried with all that follows, then the second's: each
-/// of these doubles the work behind it.
-pub(crate) fn search(
+/// of these doubles the work behind it. `progress` is told of each composition.
+pub(crate) fn search<P: SearchProgress>(
     first: &[u8],
     second: &[u8],
     json: &mut [u8],
     mut hasher: Sha256,
     sum: &[u8],
+    progress: &mut P,
 ) -> bool
     requires whole { IsWholeSectors first.now }
     requires long { length second.now ≡ length first.now }
@@ -32,6 +34,7 @@ pub(crate) fn search(
     hasher.update(&first[..at]);
     if at == first.len() {
         json.copy_from_slice(first);
+        progress.tried();
         return is_sum(hasher, sum);
     }
     let after = at + SECTOR;
@@ -42,6 +45,7 @@ pub(crate) fn search(
         &mut json[after..],
         own,
         sum,
+        progress,
     ) {
         put_front(json, &first[..after]);
         return true;
@@ -53,6 +57,7 @@ pub(crate) fn search(
         &mut json[after..],
         other,
         sum,
+        progress,
     );
     put_front(json, &second[..after]);
     found

@@ -11,6 +11,7 @@ ghost use Rattle.luks_vouching.specs.Vouched.{area_at, FindsComposed, FindsVouch
 use crate::composing::compose;
 use crate::headers::reads_standing;
 use crate::piecing::are_cut_short;
+use crate::progress::SearchProgress;
 use crate::standing::{HEADER, hasher_of, sum_of};
 use crate::vouch_fault::VouchFault;
 use luks_area::Device;
@@ -35,14 +36,16 @@ pub struct Vouched {
 ///
 /// At most `most` bytes of JSON areas are hashed: nothing where two have more. All compositions are tried where
 /// these have no more bytes together; else those that have the first sectors of one copy and the rest of the
-/// other, as many. What isn't tried `is_cut_short` tells. Takes memory, for three JSON areas and the metadata,
+/// other, as many. What isn't tried `is_cut_short` tells. `progress` is told of the
+/// compositions where all are tried. Takes memory, for three JSON areas and the metadata,
 /// only where the binary header stands.
-pub fn find_vouched<D: Device>(
+pub fn find_vouched<D: Device, P: SearchProgress>(
     alloc: Global,
     source: &mut D,
     size: u64,
     at: u64,
     most: usize,
+    progress: &mut P,
 ) -> Result<Option<Vouched>, VouchFault>
     requires listed { IsListed size }
     requires most { most ≤ 2 ^ 40 }
@@ -59,7 +62,7 @@ pub fn find_vouched<D: Device>(
     if !reads_standing(source, size, at, &mut head)? {
         return Ok(None);
     }
-    vouched_by(alloc, source, size, &head, most)
+    vouched_by(alloc, source, size, &head, most, progress)
 }
 
 /// Whether, of what the checksum of the copy at `at` may vouch for, not all is tried by `find_vouched`: its
@@ -93,12 +96,13 @@ pub fn is_cut_short<D: Device>(
 
 /// The metadata that is composed of both copies' JSON areas and meets the checksum of the binary
 /// header.
-fn vouched_by<D: Device>(
+fn vouched_by<D: Device, P: SearchProgress>(
     alloc: Global,
     source: &mut D,
     size: u64,
     head: &[u8],
     most: usize,
+    progress: &mut P,
 ) -> Result<Option<Vouched>, VouchFault>
     requires listed { IsListed size }
     requires most { most ≤ 2 ^ 40 }
@@ -114,7 +118,7 @@ fn vouched_by<D: Device>(
 {
     let first = read_area(alloc, source, size, 0)?;
     let second = read_area(alloc, source, size, size)?;
-    composed(alloc, head, first, second, most)
+    composed(alloc, head, first, second, most, progress)
 }
 
 /// The bytes of the JSON area of the copy at `at` of a header of `size` bytes.
@@ -141,12 +145,13 @@ fn read_area<D: Device>(
 
 /// The metadata that is composed of these two JSON areas and meets the checksum of the binary header. They are
 /// given back before it is read. Fails only where memory was refused.
-fn composed(
+fn composed<P: SearchProgress>(
     alloc: Global,
     head: &[u8],
     first: Vec<u8>,
     second: Vec<u8>,
     most: usize,
+    progress: &mut P,
 ) -> Result<Option<Vouched>, VouchFault>
     requires most { most ≤ 2 ^ 40 }
     requires header { length head.now ≡ 4096 }
@@ -167,6 +172,7 @@ fn composed(
         hasher_of(head),
         sum_of(head),
         most,
+        progress,
     );
     drop(first);
     drop(second);

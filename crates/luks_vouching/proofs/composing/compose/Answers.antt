@@ -5,7 +5,7 @@ use Rattle.luks_vouching.proofs.composing.compose.Goals as goal
 
 -- with none of the two areas that are cut, and none of sectors
 pub returns-clause-found : goal.returns-clause-found
-returns-clause-found c = λ done held is.
+returns-clause-found g c = λ done held is.
     let again : Holds256 c.fed-again.result done = subst (Holds256 c.fed-again.result) (append-nil done) (c.fed-again.ensures done held) in (
       c.may_begin.ensures.0 c.if-not-may_begin.false,
       inr (

@@ -61,7 +61,7 @@ joins_long : (a b x found whole sum done : List ℕ) (m : ℕ) → 512 * (m + 1)
 joins_long a b x found whole sum done m inside j got = same_long a whole (512 * (m + 1)) inside j.inside got.composed.as_first
 
 pub returns-then-at-first-clause-found : goal.returns-then-at-first-clause-found
-returns-then-at-first-clause-found t c = λ done held is.
+returns-then-at-first-clause-found g t c = λ done held is.
     let a : List ℕ = c.args.first.now in
     let fed : Holds256 c.update.new.self (done ++ a) = subst (λ l. Holds256 c.update.new.self (done ++ l)) (all_fed a c.alike-at.result c.if-at-first.true) (c.update.ensures done held) in
     subst (IsFirstOfAll a c.args.second.now (MeetsAfter c.args.sum.now done)) (sym c.copy_from_slice.ensures.after)
@@ -69,14 +69,14 @@ returns-then-at-first-clause-found t c = λ done held is.
     (c.is_sum.ensures.met (done ++ a) fed is))
 
 pub returns-then-at-first-clause-none : goal.returns-then-at-first-clause-none
-returns-then-at-first-clause-none t c = λ done held is.
+returns-then-at-first-clause-none g t c = λ done held is.
     let a : List ℕ = c.args.first.now in
     let fed : Holds256 c.update.new.self (done ++ a) = subst (λ l. Holds256 c.update.new.self (done ++ l)) (all_fed a c.alike-at.result c.if-at-first.true) (c.update.ensures done held) in
     only_none a c.args.second.now (MeetsAfter c.args.sum.now done) (all_alike a c.args.second.now c.alike-at.result c.if-at-first.true c.requires.long c.alike-at.ensures.alike)
     (c.is_sum.ensures.not_met (done ++ a) fed is)
 
 pub returns-then-search-clause-found : goal.returns-then-search-clause-found
-returns-then-search-clause-found t c = λ done held is.
+returns-then-search-clause-found g t c = λ done held is.
     let a : List ℕ = c.args.first.now in
     let b : List ℕ = c.args.second.now in
     let m : ℕ = c.alike-at.result in
@@ -95,7 +95,7 @@ returns-then-search-clause-found t c = λ done held is.
 
 -- none with the first copy's sector
 pub returns-clause-found : goal.returns-clause-found
-returns-clause-found t c = λ done held is.
+returns-clause-found g t c = λ done held is.
     let a : List ℕ = c.args.first.now in
     let b : List ℕ = c.args.second.now in
     let m : ℕ = c.alike-at.result in
@@ -118,7 +118,7 @@ returns-clause-found t c = λ done held is.
     (moved_none _ _ _ _ c.args.sum.now (before ++ sector a m) (rest_cut a m) (rest_cut b m) none) j.begins rest
 
 pub returns-clause-none : goal.returns-clause-none
-returns-clause-none t c = λ done held is.
+returns-clause-none g t c = λ done held is.
     let a : List ℕ = c.args.first.now in
     let b : List ℕ = c.args.second.now in
     let m : ℕ = c.alike-at.result in

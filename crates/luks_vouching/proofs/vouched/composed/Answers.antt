@@ -7,7 +7,7 @@ use Rattle.luks_vouching.proofs.FoundFacts.{judged_area, same_items}
 use Rattle.luks_vouching.proofs.vouched.composed.Goals as goal
 
 pub returns-clause-found : goal.returns-clause-found
-returns-clause-found c =
+returns-clause-found g c =
     let F : List ℕ → Type 0 = λ s. IsFirstTried c.args.most c.deref.result.now c.deref-2.result.now (λ j. s ≡ sha256 (with_zero_checksum c.args.head.now ++ j)) c.compose-is_met.new.json in
     let of_derefs : IsFirstTried c.args.most c.deref.result.now c.deref-2.result.now (MeetsSum c.args.head.now) c.compose-is_met.new.json =
     subst F c.sum_of.ensures (c.compose-is_met.ensures.found (with_zero_checksum c.args.head.now) c.hasher_of.ensures c.if-not-is_met.false) in
@@ -20,7 +20,7 @@ returns-clause-found c =
     (subst (IsFirstTried c.args.most c.args.first.items c.args.second.items (MeetsSum c.args.head.now)) (sym same) tried) c.judged.ensures.found c.judged.ensures.same
 
 pub returns-then-not-is_met-clause-found : goal.returns-then-not-is_met-clause-found
-returns-then-not-is_met-clause-found c =
+returns-then-not-is_met-clause-found g c =
     let F : List ℕ → Type 0 = λ s. IsNoneTried c.args.most c.deref.result.now c.deref-2.result.now (λ j. s ≡ sha256 (with_zero_checksum c.args.head.now ++ j)) in
     let of_derefs : IsNoneTried c.args.most c.deref.result.now c.deref-2.result.now (MeetsSum c.args.head.now) =
     subst F c.sum_of.ensures (c.compose-is_met.ensures.none (with_zero_checksum c.args.head.now) c.hasher_of.ensures c.if-not-is_met.true) in
