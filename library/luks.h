@@ -284,6 +284,8 @@ struct luks_plan {
     struct luks_range beyond;        /* with LUKS_BEYOND: the range that has to be given; without a byte where one of the source's is */
     struct luks_range source_beyond; /* of a call with a source: the same of the source; without a byte where one of the target's is */
     uint32_t slot;          /* of an edit the keyslot that is made or sealed again, LUKS_NO_SLOT where none is */
+    uint32_t to_write;      /* with LUKS_BEYOND: 1 where the bytes of `beyond` are to be written, and none of them is read before that; else 0. A caller who can't read
+                               them may give any others in their place that aren't 0: the plan writes over each */
 };
 
 /* What is given of a LUKS1 header that is made of what stands: texts that end with a 0, NULL where none is given. */

@@ -21,8 +21,8 @@ use std::marker::Brand;
 /// `luks_needed_bytes` tells: the calls, and the bytes that they write one after the other. Played in
 /// their order, they do the edit; a call that writes no byte is a flush.
 ///
-/// `text` is the new passphrase, or the label. Takes memory for a copy of the given bytes and for the
-/// plan, and as much as the edit takes: for the metadata of LUKS2, and for Argon2.
+/// `text` is the new passphrase, or the label. Takes memory for the plan, and as much as the edit takes:
+/// for the metadata of LUKS2, and for Argon2.
 #[unsafe(no_mangle)]
 pub extern "C" fn luks_apply_bytes(
     alloc: Global,
