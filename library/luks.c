@@ -36,12 +36,15 @@
 /* What a disk reads at once, or not. */
 #define SECTOR ((uint64_t)512)
 
+/* Of how many of the first bytes those that were read are compared before the first write. */
+#define COMPARED ((uint64_t)1 << 15)
+
 /* Ranges of a volume that were read, in their order, with a gap between any two, and their bytes one after the other: these lie in pages of their own, of which
  * those that hold zeros alone take no memory. */
 struct held {
     int fd;
     uint64_t start, total, ahead, unread; /* the last is the place that couldn't be read, where one couldn't */
-    unsigned blanks;                      /* in so many sectors that can't be read other bytes may stand */
+    unsigned blanks;                      /* in so many stretches that can't be read other bytes may stand */
     uint8_t blank;                        /* these: zeros in a search, which says where the first of them is; in ranges that are only written what is written over */
     bool has_blanks;                      /* some do */
     struct luks_range *ranges;
@@ -231,8 +234,10 @@ static uint32_t read_gap(struct held *held, size_t i, size_t before, uint64_t pl
     memmove(bytes + before + count, bytes + before, behind);
     size_t got = read_some(held->fd, bytes + before, count, held->start + place);
     while (got < needed - place && held->blanks > 0) {
-        uint64_t at = held->start + place + got;
-        size_t blank = (size_t)least(SECTOR - at % SECTOR, needed - place - got);
+        uint64_t at = held->start + place + got, rest = needed - place - got;
+        /* what is only written needn't be read, unless it is to be compared */
+        bool is_rest = held->blank != 0 && place + got >= COMPARED;
+        size_t blank = (size_t)(is_rest ? rest : least(SECTOR - at % SECTOR, rest));
         memset(bytes + before + got, held->blank, blank);
         held->blanks--;
         held->has_blanks = true;
@@ -968,9 +973,6 @@ uint32_t luks_try(int fd, uint64_t offset, uint64_t length, const void *passphra
 /* The room for a plan at first: more than any edit of a volume as cryptsetup makes it takes. What isn't touched costs nothing. */
 #define CALLS_ROOM ((size_t)1 << 16)
 #define BYTES_ROOM ((size_t)1 << 25)
-
-/* Of how many of the first bytes those that were read are compared before the first write. */
-#define COMPARED ((uint64_t)1 << 15)
 
 struct room {
     struct luks_call *calls;

@@ -21,10 +21,11 @@
  *
  * What is read. Each call has a window: the `length` bytes from `offset` on, fewer where the file ends. Ranges of it are read as they
  * are needed, and held in memory until the call returns: the header and the key areas that are opened or written. Where it reads first it
- * reads 64 KiB, or 544 KiB where a keyslot is opened or made; at each other place half as much as at the one before, and behind what
+ * reads 64 KiB, or 544 KiB where a keyslot is opened; at each other place half as much as at the one before, and behind what
  * was read as much again, at most 1 MiB. So beside what the call needs it holds some 1 MiB. A call that writes holds what stands where it
- * writes, and twice what it writes there, but for zeros at a write's end that stand there already, which aren't written. Pages of zeros take no
- * memory (docs/PERFORMANCE.md has a table). A sector that can't be read is LUKS_DEVICE only where a byte of it is needed. The position in the file stays.
+ * writes, and what it writes there, but for zeros at a write's end that stand there already, which aren't written. Pages of zeros take no
+ * memory (docs/PERFORMANCE.md has a table). A sector that can't be read is LUKS_DEVICE only where a byte of it is needed; one that is only written is
+ * written. The position in the file stays.
  *
  * Locks. No call but luks_open_volume locks anything. As `luks` does, the caller holds flock(LOCK_SH) on the volume's file while it is
  * read, LOCK_EX from before it is read until it was written; of a block device also on the file /run/cryptsetup/L_MAJOR:MINOR, which
@@ -481,7 +482,7 @@ uint32_t luks_backup_length(int fd, uint64_t offset, uint64_t length, bool is_de
 /* ---- through a descriptor that is open for reading and writing ----
  *
  * LUKS_READONLY, LUKS_APPENDS and LUKS_DIRECT are answered before anything is read. Then what was written before is asked to stay, by
- * fsync, and all of the volume that is needed is read. Where a fault refuses the call, nothing is written. `is_detached`: the volume is a header alone, and
+ * fsync, and all of the volume that is needed is read, or is to be written over. Where a fault refuses the call, nothing is written. `is_detached`: the volume is a header alone, and
  * its data lies elsewhere. `random` are bytes that nobody can guess, as many as luks_needed tells, or NULL:
  * then they are taken by getrandom. No call asks what else the disk is used for: before luks_format1 and so on, and of the
  * target of luks_convert and so on, ask luks_signature of the whole, and luks_check, detached, whether another volume's header
