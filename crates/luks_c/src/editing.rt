@@ -110,9 +110,9 @@ fn give_edited<K: Given>(
     bytes: &mut [u8],
     told: &mut LuksPlan,
 ) -> u32
-    requires settled { IsSettled planned_unsettled device.entry }
+    requires settled { IsSettled planned_unsettled device }
     requires applied { IsApplied payload K.bytes edit.now random.now (Ok done)
-        (planned_bytes device.entry) }
+        (planned_bytes device) }
     ensures answers { AnswersEdit K.parts K.bytes payload edit.now random.now
         (record { calls = calls.old; bytes = bytes.old })
         (record { calls = calls.new; bytes = bytes.new }) told.new result }
