@@ -5,6 +5,7 @@
 
 #include <errno.h>
 #include <fcntl.h>
+#include <limits.h>
 #include <linux/fs.h>
 #include <stddef.h>
 #include <stdio.h>
@@ -35,12 +36,17 @@
 /* What a disk reads at once, or not. */
 #define SECTOR ((uint64_t)512)
 
+/* Of how many of the first bytes those that were read are compared before the first write. */
+#define COMPARED ((uint64_t)1 << 15)
+
 /* Ranges of a volume that were read, in their order, with a gap between any two, and their bytes one after the other: these lie in pages of their own, of which
  * those that hold zeros alone take no memory. */
 struct held {
     int fd;
     uint64_t start, total, ahead, unread; /* the last is the place that couldn't be read, where one couldn't */
-    unsigned blanks;                      /* so many sectors that can't be read may stand as zeros: of a search, which says where the first of them is */
+    unsigned blanks;                      /* in so many stretches that can't be read other bytes may stand */
+    uint8_t blank;                        /* these: zeros in a search, which says where the first of them is; in ranges that are only written what is written over */
+    bool has_blanks;                      /* some do */
     struct luks_range *ranges;
     size_t ranges_count;
     uint8_t *bytes;
@@ -228,10 +234,13 @@ static uint32_t read_gap(struct held *held, size_t i, size_t before, uint64_t pl
     memmove(bytes + before + count, bytes + before, behind);
     size_t got = read_some(held->fd, bytes + before, count, held->start + place);
     while (got < needed - place && held->blanks > 0) {
-        uint64_t at = held->start + place + got;
-        size_t blank = (size_t)least(SECTOR - at % SECTOR, count - got);
-        memset(bytes + before + got, 0, blank);
+        uint64_t at = held->start + place + got, rest = needed - place - got;
+        /* what is only written needn't be read, unless it is to be compared */
+        bool is_rest = held->blank != 0 && place + got >= COMPARED;
+        size_t blank = (size_t)(is_rest ? rest : least(SECTOR - at % SECTOR, rest));
+        memset(bytes + before + got, held->blank, blank);
         held->blanks--;
+        held->has_blanks = true;
         got += blank;
         got += read_some(held->fd, bytes + before + got, count - got, at + blank);
     }
@@ -878,10 +887,32 @@ static uint32_t open_one(int fd, uint64_t offset, uint64_t length, uint32_t n, c
     return answer;
 }
 
+/* The same of any keyslot where one couldn't be read: they are tried one by one in their order, and those that can't be read, or to which memory is
+ * refused, are passed over, as `luks open` does. */
+static uint32_t open_beside(int fd, uint64_t offset, uint64_t length, const void *passphrase, size_t passphrase_bytes, uint32_t memory,
+                            uint32_t older, void *key, size_t key_room, struct luks_opened *opened)
+{
+    struct luks_keyslot keyslots[LUKS_KEYSLOTS];
+    size_t count = 0;
+    int kept = errno;
+    (void)luks_keyslots(fd, offset, length, keyslots, sizeof *keyslots, LUKS_KEYSLOTS, &count);
+    for (uint32_t priority = 2; priority > 0; priority--)
+        for (size_t i = 0; i < count && i < LUKS_KEYSLOTS; i++) {
+            if (!keyslots[i].is_enabled || keyslots[i].priority != priority)
+                continue;
+            uint32_t answer = open_one(fd, offset, length, keyslots[i].number, passphrase, passphrase_bytes, memory, older, key, key_room, opened);
+            if (answer == LUKS_DONE || answer == LUKS_ROOM)
+                return answer;
+        }
+    errno = kept;
+    return LUKS_DEVICE;
+}
+
 uint32_t luks_unlock(int fd, uint64_t offset, uint64_t length, const void *passphrase, size_t passphrase_bytes, uint32_t memory,
                      uint32_t older, void *key, size_t key_room, struct luks_opened *opened)
 {
-    return open_one(fd, offset, length, ANY, passphrase, passphrase_bytes, memory, older, key, key_room, opened);
+    uint32_t answer = open_one(fd, offset, length, ANY, passphrase, passphrase_bytes, memory, older, key, key_room, opened);
+    return answer != LUKS_DEVICE ? answer : open_beside(fd, offset, length, passphrase, passphrase_bytes, memory, older, key, key_room, opened);
 }
 
 uint32_t luks_open(int fd, uint64_t offset, uint64_t length, uint32_t n, const void *passphrase, size_t passphrase_bytes, uint32_t memory,
@@ -933,8 +964,6 @@ uint32_t luks_try(int fd, uint64_t offset, uint64_t length, const void *passphra
         if (!goes_on(progress, context, n, LUKS_KEYSLOTS))
             return LUKS_STOPPED;
         answers[n] = open_one(fd, offset, length, n, passphrase, passphrase_bytes, memory, older, NULL, 0, &opened);
-        if (answers[n] == LUKS_DEVICE || answers[n] == LUKS_MEMORY)
-            return answers[n];
     }
     return LUKS_DONE;
 }
@@ -944,9 +973,6 @@ uint32_t luks_try(int fd, uint64_t offset, uint64_t length, const void *passphra
 /* The room for a plan at first: more than any edit of a volume as cryptsetup makes it takes. What isn't touched costs nothing. */
 #define CALLS_ROOM ((size_t)1 << 16)
 #define BYTES_ROOM ((size_t)1 << 25)
-
-/* Of how many of the first bytes those that were read are compared before the first write. */
-#define COMPARED ((uint64_t)1 << 15)
 
 struct room {
     struct luks_call *calls;
@@ -1031,18 +1057,26 @@ static uint32_t settle(int fd)
     return answer;
 }
 
-/* Whether these bytes stand there still. */
+/* Whether these bytes stand there still. Where others stand for those that can't be read, sectors of these are passed over that still can't. */
 static int is_range_as_read(const struct held *held, uint64_t at, const uint8_t *bytes, uint64_t count)
 {
     uint8_t again[4096];
-    for (uint64_t done = 0; done < count; done += sizeof again) {
-        size_t some = (size_t)least(sizeof again, count - done);
-        if (read_all(held->fd, again, some, held->start + at + done) != 0)
+    uint64_t piece = sizeof again;
+    for (uint64_t done = 0; done < count;) {
+        uint64_t place = held->start + at + done;
+        size_t some = (size_t)least(piece - place % piece, count - done);
+        if (read_all(held->fd, again, some, place) == 0) {
+            if (memcmp(again, bytes + done, some) != 0) {
+                errno = EBUSY;
+                return -1;
+            }
+            done += some;
+        } else if (held->has_blanks && piece > SECTOR)
+            piece = SECTOR;
+        else if (held->has_blanks && bytes[done] == held->blank && memcmp(bytes + done, bytes + done + 1, some - 1) == 0)
+            done += some;
+        else
             return -1;
-        if (memcmp(again, bytes + done, some) != 0) {
-            errno = EBUSY;
-            return -1;
-        }
     }
     return 0;
 }
@@ -1133,6 +1167,20 @@ static uint32_t plan_of(const struct held *held, const struct asked *it, struct 
                             it->text_bytes, it->random, it->random_bytes, room->calls, room->calls_room, room->bytes, room->bytes_room, plan);
 }
 
+/* What stands for a byte that can't be read and is only written: not 0, since zeros over zeros aren't planned. */
+#define BLANK 0xFF
+
+/* Holds the range of the volume too that the plan asked for. What is only to be written may be of sectors that can't be read: the plan writes over each of
+ * these bytes, and none of them is read before, so that others may stand there. */
+static uint32_t hold_to_write(struct held *held, const struct luks_plan *plan)
+{
+    held->blank = BLANK;
+    held->blanks = plan->to_write == 1 ? UINT_MAX : 0;
+    uint32_t answer = hold_more(held, plan->beyond);
+    held->blanks = 0;
+    return answer;
+}
+
 /* Plans it, with as many ranges held and as much room as it takes, and plays the plan. */
 static uint32_t carry_out(struct held *held, const struct asked *it, uint32_t *slot)
 {
@@ -1142,7 +1190,7 @@ static uint32_t carry_out(struct held *held, const struct asked *it, uint32_t *s
     while (answer == LUKS_BEYOND || answer == LUKS_ROOM) {
         answer = plan_of(held, it, &room, &plan);
         if (answer == LUKS_BEYOND)
-            answer = plan.source_beyond.len > 0 ? hold_more(it->source, plan.source_beyond) : hold_more(held, plan.beyond);
+            answer = plan.source_beyond.len > 0 ? hold_more(it->source, plan.source_beyond) : hold_to_write(held, &plan);
         else if (answer == LUKS_ROOM && !take_room(&room, plan.calls, plan.bytes))
             answer = LUKS_MEMORY;
     }
@@ -1308,7 +1356,7 @@ static uint32_t any_keyslot(int fd, uint64_t offset, uint64_t length, const void
         return LUKS_DONE;
     uint32_t answer = judge(fd, true);
     if (answer == LUKS_DONE)
-        answer = open_one(fd, offset, length, ANY, passphrase, passphrase_bytes, memory, older, NULL, 0, &opened);
+        answer = luks_unlock(fd, offset, length, passphrase, passphrase_bytes, memory, older, NULL, 0, &opened);
     *slot = opened.slot;
     return answer;
 }
@@ -1537,10 +1585,11 @@ static uint32_t begin_both(struct held *source, int source_fd, uint64_t source_o
     int is_one = are_one(source_fd, fd);
     if (is_one != 0)
         return is_one > 0 ? (uint32_t)LUKS_FAULT_SAME_FILE : (uint32_t)LUKS_DEVICE;
+    /* no keyslot is opened, so that asking once more costs little */
     uint32_t answer = settle(fd);
     if (answer == LUKS_DONE)
-        answer = begin(source, source_fd, source_offset, source_length, WITH_KEY_AREAS);
-    return answer == LUKS_DONE ? begin(held, fd, offset, length, WITH_KEY_AREAS) : answer;
+        answer = begin(source, source_fd, source_offset, source_length, HEADS);
+    return answer == LUKS_DONE ? begin(held, fd, offset, length, HEADS) : answer;
 }
 
 static void end_both(struct held *source, struct held *held)

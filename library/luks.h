@@ -21,10 +21,11 @@
  *
  * What is read. Each call has a window: the `length` bytes from `offset` on, fewer where the file ends. Ranges of it are read as they
  * are needed, and held in memory until the call returns: the header and the key areas that are opened or written. Where it reads first it
- * reads 64 KiB, or 544 KiB where a keyslot is opened or made; at each other place half as much as at the one before, and behind what
+ * reads 64 KiB, or 544 KiB where a keyslot is opened; at each other place half as much as at the one before, and behind what
  * was read as much again, at most 1 MiB. So beside what the call needs it holds some 1 MiB. A call that writes holds what stands where it
- * writes, and twice what it writes there, but for zeros at a write's end that stand there already, which aren't written. Pages of zeros take no
- * memory (docs/PERFORMANCE.md has a table). A sector that can't be read is LUKS_DEVICE only where a byte of it is needed. The position in the file stays.
+ * writes, and what it writes there, but for zeros at a write's end that stand there already, which aren't written. Pages of zeros take no
+ * memory (docs/PERFORMANCE.md has a table). A sector that can't be read is LUKS_DEVICE only where a byte of it is needed; one that is only written is
+ * written. The position in the file stays.
  *
  * Locks. No call but luks_open_volume locks anything. As `luks` does, the caller holds flock(LOCK_SH) on the volume's file while it is
  * read, LOCK_EX from before it is read until it was written; of a block device also on the file /run/cryptsetup/L_MAJOR:MINOR, which
@@ -284,6 +285,8 @@ struct luks_plan {
     struct luks_range beyond;        /* with LUKS_BEYOND: the range that has to be given; without a byte where one of the source's is */
     struct luks_range source_beyond; /* of a call with a source: the same of the source; without a byte where one of the target's is */
     uint32_t slot;          /* of an edit the keyslot that is made or sealed again, LUKS_NO_SLOT where none is */
+    uint32_t to_write;      /* with LUKS_BEYOND: 1 where the bytes of `beyond` are to be written, and none of them is read before that; else 0. A caller who can't read
+                               them may give any others in their place that aren't 0: the plan writes over each */
 };
 
 /* What is given of a LUKS1 header that is made of what stands: texts that end with a 0, NULL where none is given. */
@@ -425,7 +428,8 @@ uint32_t luks_tokens(int fd, uint64_t offset, uint64_t length, struct luks_token
  * and sha224, sha384, ripemd160, whirlpool and blake2b-512; else such keyslots are passed over. The volume key is put into `key`,
  * where `key_room` isn't 0; 128 bytes hold any, and with fewer than it has this is LUKS_ROOM, and `key_bytes` tells how many. Of LUKS2 those
  * of priority 2 are tried first, those of priority 0 not at all. LUKS_SHUT: it opens no keyslot that was tried. That isn't
- * yet a wrong passphrase: a keyslot may want more `memory`, or `older`, and luks_try tells which one wasn't tried. Else the header's first fault. */
+ * yet a wrong passphrase: a keyslot may want more `memory`, or `older`, and luks_try tells which one wasn't tried. A keyslot that can't be read is passed over;
+ * LUKS_DEVICE is answered where none of the others opens, after each was tried once more. Else the header's first fault. */
 uint32_t luks_unlock(int fd, uint64_t offset, uint64_t length, const void *passphrase, size_t passphrase_bytes, uint32_t memory,
                      uint32_t older, void *key, size_t key_room, struct luks_opened *opened);
 
@@ -436,8 +440,9 @@ uint32_t luks_open(int fd, uint64_t offset, uint64_t length, uint32_t n, const v
                    uint32_t older, void *key, size_t key_room, struct luks_opened *opened);
 
 /* Tries the passphrase on each keyslot alone, and puts what luks_open answers of the keyslot `n` into answers[n]: LUKS_DONE, LUKS_SHUT, or the
- * fault by which it wasn't tried. It takes as long as luks_unlock where that finds none; `progress`, which may be NULL, is called before each. A header
- * that is refused, LUKS_STOPPED, and what ends it in its midst, is the answer, and `answers` has those of the keyslots before. */
+ * fault by which it wasn't tried, or LUKS_DEVICE or LUKS_MEMORY, which end it not. It takes as long as luks_unlock where that finds none; `progress`, which may
+ * be NULL, is called before each. Where the header can't be read, or is refused, that is the answer, and nothing is put into `answers`; with LUKS_STOPPED it has those of
+ * the keyslots before. */
 uint32_t luks_try(int fd, uint64_t offset, uint64_t length, const void *passphrase, size_t passphrase_bytes, uint32_t memory, uint32_t older,
                   luks_progress *progress, void *context, uint32_t answers[LUKS_KEYSLOTS]);
 
@@ -477,7 +482,7 @@ uint32_t luks_backup_length(int fd, uint64_t offset, uint64_t length, bool is_de
 /* ---- through a descriptor that is open for reading and writing ----
  *
  * LUKS_READONLY, LUKS_APPENDS and LUKS_DIRECT are answered before anything is read. Then what was written before is asked to stay, by
- * fsync, and all of the volume that is needed is read. Where a fault refuses the call, nothing is written. `is_detached`: the volume is a header alone, and
+ * fsync, and all of the volume that is needed is read, or is to be written over. Where a fault refuses the call, nothing is written. `is_detached`: the volume is a header alone, and
  * its data lies elsewhere. `random` are bytes that nobody can guess, as many as luks_needed tells, or NULL:
  * then they are taken by getrandom. No call asks what else the disk is used for: before luks_format1 and so on, and of the
  * target of luks_convert and so on, ask luks_signature of the whole, and luks_check, detached, whether another volume's header

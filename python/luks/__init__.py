@@ -71,6 +71,8 @@ PAUSE = 0.05
 """Seconds before a lock is asked for again."""
 UNTRIED = (Number.OUTSIDE, Number.ARGON2, Number.CIPHER, Number.HASH, Number.KEY_SIZE)
 """The faults by which a passphrase isn't tried on a keyslot."""
+OLDER = (Number.CIPHER, Number.HASH)
+"""Those of them that a keyslot of an older disk may have only because `older` wasn't said."""
 
 
 def _slot(number: int) -> int:
@@ -138,17 +140,18 @@ class Untried(Exception):
     """The passphrase opens no keyslot that it was tried on, and on these it wasn't tried.
 
     `keyslots` has each of them with the fault by which it wasn't, or None where its priority is 0: it is tried only where it is named, by `open`.
-    `memory` is how many MiB would let all that take too much be tried, 0 where none does.
+    `memory` is how many MiB would let all that take too much be tried, 0 where none does; `older` whether some weren't for their cipher or hash, which
+    `older=True` accepts where it is one of older disks.
     """
 
-    def __init__(self, keyslots: Dict[int, Optional[Fault]], memory: int = 0) -> None:
-        self.keyslots, self.memory = keyslots, memory
+    def __init__(self, keyslots: Dict[int, Optional[Fault]], memory: int = 0, older: bool = False) -> None:
+        self.keyslots, self.memory, self.older = keyslots, memory, older
         said = ", ".join(f"keyslot {n} by {'priority 0' if fault is None else fault.name}" for n, fault in sorted(keyslots.items()))
-        more = f" (memory={memory} lets Argon2 be tried)" if memory else ""
-        super().__init__(f"no keyslot opens that was tried; not tried: {said}{more}")
+        more = [*([f"memory={memory} lets Argon2 be tried"] if memory else []), *(["older=True accepts those of older disks"] if older else [])]
+        super().__init__(f"no keyslot opens that was tried; not tried: {said}" + (f" ({'; '.join(more)})" if more else ""))
 
-    def __reduce__(self) -> Tuple[Type[Untried], Tuple[Dict[int, Optional[Fault]], int]]:
-        return Untried, (self.keyslots, self.memory)
+    def __reduce__(self) -> Tuple[Type[Untried], Tuple[Dict[int, Optional[Fault]], int, bool]]:
+        return Untried, (self.keyslots, self.memory, self.older)
 
 
 class Unreadable(OSError):
@@ -358,8 +361,8 @@ class Volume:
 
         Argon2 may take `memory` MiB; a keyslot that takes more isn't tried. Nor is one with a cipher or a hash of older disks, as
         aes-cbc-essiv:sha256 or ripemd160, unless `older` says that they are accepted, nor one of priority 0. Where none opens and some weren't
-        tried, `Untried` is raised, and says which. KeyboardInterrupt ends it at once: what was begun is ended by a thread of its own, which
-        holds the volume's lock until then.
+        tried, `Untried` is raised, and says which. A keyslot that can't be read is passed over; its OSError is raised where none of the others opens.
+        KeyboardInterrupt ends it at once: what was begun is ended by a thread of its own, which holds the volume's lock until then.
         """
         found = self._unlocked(passphrase, memory, older, 0)
         return None if found is None else found[0]
@@ -707,6 +710,7 @@ class Volume:
         """The first keyslot that opens: of LUKS2 those of priority 2 come before those of priority 1."""
         keyslots = [it for it in self.header().keyslots if it.is_enabled]
         untried: Dict[int, Optional[Fault]] = {it.number: None for it in keyslots if it.priority == 0}
+        unread: Optional[OSError] = None
         for keyslot in sorted((it for it in keyslots if it.priority > 0), key=lambda it: (-it.priority, it.number)):
             try:
                 found = self._tried(keyslot.number, passphrase, memory, older, room)
@@ -715,10 +719,15 @@ class Volume:
                     raise
                 untried[keyslot.number] = fault
                 continue
+            except OSError as fault:
+                unread = fault
+                continue
             if found is not None:
                 return found
+        if unread is not None:
+            raise unread
         if untried:
-            raise Untried(untried, self._wanted(keyslots, untried))
+            raise Untried(untried, self._wanted(keyslots, untried), not older and any(fault is not None and fault.number in OLDER for fault in untried.values()))
         return None
 
     @staticmethod

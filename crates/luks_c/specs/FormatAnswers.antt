@@ -1,5 +1,5 @@
 -- What the calls answer that make a volume.
-use Rattle.std.specs.Prelude.{◌≡◌, ℕ, ◌*◌, ◌≤◌, List, Option, Bool, true}
+use Rattle.std.specs.Prelude.{◌≡◌, ◌⊎◌, ℕ, ◌*◌, ◌≤◌, List, Option, Bool, true}
 use Rattle.luks_area.specs.First.{IsLeast}
 use Rattle.luks_area.specs.Ranges.{SameBut}
 use Rattle.luks_kdf.specs.declared.hash_name.HashName.{HashName}
@@ -21,12 +21,15 @@ use Rattle.luks_formatting.specs.Given.{key_of, IsBefore}
 use Rattle.luks_formatting.specs.NewHeader1.{payload_sector}
 use Rattle.luks_formatting.specs.NewHeader2.{segment_start}
 use Rattle.luks_formatting.specs.declared.given.Given.{Given}
+use Rattle.luks_given.specs.Parts.{AreNoParts}
 use Rattle.luks_given.specs.declared.parts.Part.{Part}
 use Rattle.luks_c_answers.specs.ChoiceAsked.{IsChoice}
 use Rattle.luks_c_answers.specs.declared.asking.LuksDerivation.{LuksDerivation}
 use Rattle.luks_c_answers.specs.declared.plans.LuksPlan.{LuksPlan}
 use Rattle.luks_c_answers.specs.Numbers.{format_number}
 use Rattle.luks_c_answers.specs.Plans.{AnswersPlan, Buffers}
+use Rattle.luks_c_headers.specs.RebuildAnswers.{IsNoText}
+use Rattle.luks_c.specs.GivenAsked.{IsNoCipher}
 
 -- a hash by its number
 abbrev pub hash_number : HashName → ℕ
@@ -93,11 +96,12 @@ pub record AnswersNumbered (hash iterations : ℕ) (is_given : Given → Type 0)
   pub so : answers given format
 
 -- and by the derivation that is chosen
-pub record AnswersChosen (hash iterations : ℕ) (is_given : Given → Type 0) (asked : LuksDerivation) (answers : Given → Format → Option NewDerivation → Type 0) : Type 0 where
-  pub given : Given
-  pub given_is : is_given given
-  pub format : Format
-  pub is : IsFormat hash iterations format
+pub record AnswersChosen (asked : LuksDerivation) (answers : Option NewDerivation → Type 0) : Type 0 where
   pub chosen : Option NewDerivation
   pub choice : IsChoice asked chosen
-  pub so : answers given format chosen
+  pub so : answers chosen
+
+-- by these numbers and texts nothing can be made over these ranges
+abbrev pub IsUnmade : List Part → List ℕ → ℕ → ℕ → ℕ → List ℕ → List ℕ → List ℕ → Type 0
+IsUnmade parts held total hash cipher uuid label subsystem =
+    IsNoCipher cipher ⊎ ((AreNoParts parts held total ⊎ IsNoHash hash) ⊎ (IsNoText uuid ⊎ (IsNoText label ⊎ IsNoText subsystem)))

@@ -27,7 +27,7 @@ pub struct LuksLength {
 /// Plans a backup of the header of the source: the header and the key areas in use at their places, from
 /// the start of the target on. Of both volumes ranges are given; `luks_apply_bytes` says what a plan is.
 ///
-/// Takes memory for a copy of the target's given bytes, for the plan, and for the metadata.
+/// Takes memory for the plan, and for the metadata.
 #[unsafe(no_mangle)]
 pub extern "C" fn luks_backup_bytes(
     alloc: Global,

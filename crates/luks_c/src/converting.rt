@@ -14,8 +14,7 @@ use std::marker::Brand;
 /// Plans a detached LUKS2 header of the LUKS1 volume that is the source, on the target. Of both ranges are
 /// given; `luks_apply_bytes` says what a plan is.
 ///
-/// It takes 128 random bytes. Takes memory for a copy of the target's given bytes, for the plan, and
-/// for the metadata.
+/// It takes 128 random bytes. Takes memory for the plan, and for the metadata.
 #[unsafe(no_mangle)]
 pub extern "C" fn luks_convert_bytes(
     alloc: Global,

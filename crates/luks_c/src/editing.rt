@@ -21,8 +21,8 @@ use std::marker::Brand;
 /// `luks_needed_bytes` tells: the calls, and the bytes that they write one after the other. Played in
 /// their order, they do the edit; a call that writes no byte is a flush.
 ///
-/// `text` is the new passphrase, or the label. Takes memory for a copy of the given bytes and for the
-/// plan, and as much as the edit takes: for the metadata of LUKS2, and for Argon2.
+/// `text` is the new passphrase, or the label. Takes memory for the plan, and as much as the edit takes:
+/// for the metadata of LUKS2, and for Argon2.
 #[unsafe(no_mangle)]
 pub extern "C" fn luks_apply_bytes(
     alloc: Global,
@@ -93,7 +93,7 @@ fn apply_given<K: Given>(
         return MEMORY;
     };
     match apply(alloc, &mut device, payload, edit, random) {
-        Ok(done) => give_edited(payload, edit, random, done, &device, calls, bytes, told),
+        Ok(done) => give_edited(payload, edit, random, done, device, calls, bytes, told),
         Err(EditFault::Device) => tell_wanted(&device, told),
         Err(fault) => edit_number(&fault),
     }
@@ -105,14 +105,14 @@ fn give_edited<K: Given>(
     edit: &Edit<'_>,
     random: &[u8],
     done: Done,
-    device: &PlannedWrites<'_, K>,
+    device: PlannedWrites<'_, K>,
     calls: &mut [PlannedCall],
     bytes: &mut [u8],
     told: &mut LuksPlan,
 ) -> u32
-    requires settled { IsSettled planned_unsettled device.now }
+    requires settled { IsSettled planned_unsettled device }
     requires applied { IsApplied payload K.bytes edit.now random.now (Ok done)
-        (planned_bytes device.now) }
+        (planned_bytes device) }
     ensures answers { AnswersEdit K.parts K.bytes payload edit.now random.now
         (record { calls = calls.old; bytes = bytes.old })
         (record { calls = calls.new; bytes = bytes.new }) told.new result }

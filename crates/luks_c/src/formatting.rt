@@ -7,9 +7,8 @@ ghost use Rattle.luks_reading.specs.declared.format.Format.{Format as TheFormat}
 ghost use Rattle.luks_given.specs.Parts.{AreGiven, AreNoParts, IsWanted, volume};
 ghost use Rattle.luks_c_answers.specs.Asked.{allowed_of, payload_of};
 ghost use Rattle.luks_c_answers.specs.ChoiceAsked.{IsNoChoice};
-ghost use Rattle.luks_c_headers.specs.RebuildAnswers.{IsNoText};
-ghost use Rattle.luks_c.specs.GivenAsked.{IsGivenBy, IsNoCipher};
-ghost use Rattle.luks_c.specs.FormatAnswers.{AnswersChosen, AnswersFormat1, AnswersFormat2, AnswersNumbered, IsFormat, IsNoHash, hash_number};
+ghost use Rattle.luks_c.specs.GivenAsked.{IsGivenBy};
+ghost use Rattle.luks_c.specs.FormatAnswers.{AnswersChosen, AnswersFormat1, AnswersFormat2, AnswersNumbered, IsFormat, IsNoHash, IsUnmade, hash_number};
 
 use crate::giving::{LuksEncryption, cipher_of, given_of};
 use luks_c_answers::{
@@ -51,9 +50,8 @@ pub extern "C" fn luks_format1_bytes(
     bytes: &mut [u8],
     told: &mut LuksPlan,
 ) -> u32
-    ensures usage { result ≡ 101 ↔ (IsNoCipher encryption.now.cipher
-        ⊎ ((AreNoParts parts.now held.now total ⊎ IsNoHash hash)
-        ⊎ (IsNoText uuid.now ⊎ (IsNoText label.now ⊎ IsNoText subsystem.now)))) }
+    ensures usage { result ≡ 101 ↔ IsUnmade parts.now held.now total hash encryption.now.cipher
+        uuid.now label.now subsystem.now }
     ensures answers { result ≢ 101 → AnswersNumbered hash iterations
         (IsGivenBy (payload_of is_detached) sector is_keyed key.now uuid.now label.now subsystem.now encryption.now)
         (λ (given : Whole) (format : TheFormat).
@@ -116,15 +114,14 @@ pub extern "C" fn luks_format2_bytes(
     bytes: &mut [u8],
     told: &mut LuksPlan,
 ) -> u32
-    ensures usage { result ≡ 101 ↔ (IsNoChoice derivation.now ⊎ (IsNoCipher encryption.now.cipher
-        ⊎ ((AreNoParts parts.now held.now total ⊎ IsNoHash hash)
-        ⊎ (IsNoText uuid.now ⊎ (IsNoText label.now ⊎ IsNoText subsystem.now))))) }
-    ensures answers { result ≢ 101 → AnswersChosen hash iterations
+    ensures usage { result ≡ 101 ↔ (IsNoChoice derivation.now ⊎ IsUnmade parts.now held.now total
+        hash encryption.now.cipher uuid.now label.now subsystem.now) }
+    ensures answers { result ≢ 101 → AnswersNumbered hash iterations
         (IsGivenBy (payload_of is_detached) sector is_keyed key.now uuid.now label.now subsystem.now encryption.now)
-        derivation.now (λ (given : Whole) (format : TheFormat) (chosen : Option Chosen).
+        (λ (given : Whole) (format : TheFormat). AnswersChosen derivation.now (λ (chosen : Option Chosen).
         AnswersFormat2 parts.now (volume parts.now held.now total) total given format chosen
         (allowed_of memory encryption.now.older) passphrase.now random.now (record { calls = calls.old; bytes = bytes.old })
-        (record { calls = calls.new; bytes = bytes.new }) told.new result) }
+        (record { calls = calls.new; bytes = bytes.new }) told.new result)) }
     ensures wanted { result ≡ 102 → IsWanted parts.now total told.new.beyond }
 {
     *told = LuksPlan::default();
@@ -190,7 +187,7 @@ fn make1<K: Given>(
         return MEMORY;
     };
     match format1_as(alloc, &mut device, given, format, passphrase, older, random) {
-        Ok(_) => give_plan(&device, calls, bytes, told),
+        Ok(_) => give_plan(device, calls, bytes, told),
         Err(FormatFault::Device) => tell_wanted(&device, told),
         Err(fault) => format_number(&fault),
     }
@@ -233,7 +230,7 @@ fn make2<K: Given>(
         passphrase,
         random,
     ) {
-        Ok(_) => give_plan(&device, calls, bytes, told),
+        Ok(_) => give_plan(device, calls, bytes, told),
         Err(FormatFault::Device) => tell_wanted(&device, told),
         Err(fault) => format_number(&fault),
     }

@@ -15,7 +15,7 @@ use std::marker::Brand;
 ///
 /// With `is_second` the metadata is a second copy's, with a `size` that isn't 0 one of that size, and
 /// with either a header may count. The uuid has no byte where none is given. It takes 144 random
-/// bytes. Takes memory for a copy of the target's given bytes, for the plan, and for the metadata.
+/// bytes. Takes memory for the plan, and for the metadata.
 #[unsafe(no_mangle)]
 pub extern "C" fn luks_rebuild2_bytes(
     alloc: Global,

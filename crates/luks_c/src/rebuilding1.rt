@@ -14,8 +14,7 @@ use std::marker::Brand;
 /// Plans a detached LUKS1 header of what still stands of one in the source, and of what is given, on the
 /// target. Of both ranges are given; `luks_apply_bytes` says what a plan is.
 ///
-/// A text has no byte where none is given; a number is 2^32 - 1. Takes memory for a copy of the target's
-/// given bytes and for the plan.
+/// A text has no byte where none is given; a number is 2^32 - 1. Takes memory for the plan.
 #[unsafe(no_mangle)]
 pub extern "C" fn luks_rebuild1_bytes(
     alloc: Global,

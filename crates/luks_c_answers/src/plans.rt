@@ -2,10 +2,10 @@
 ghost use Rattle.std.specs.Prelude.{IsTrue, ℕ, ◌≡◌, ◌≤◌, ◌≢◌, ◌<◌, ◌⊎◌, length};
 ghost use Rattle.luks_given.specs.Given.{given_failures, given_size, IsUnwritten};
 ghost use Rattle.luks_given.specs.Parts.{IsWanted};
-ghost use Rattle.luks_given.specs.Planned.{lacked_memory, planned_bytes, planned_calls, planned_failures, planned_size, planned_written};
+ghost use Rattle.luks_given.specs.Planned.{lacked_memory, planned_bytes, planned_calls, planned_failures, planned_size, planned_written, wants_to_write};
 ghost use Rattle.luks_c_answers.specs.Plans.{IsPlan, IsPlanGiven, WantsEither};
 
-use crate::buffers::fill_front;
+use crate::buffers::{fill_front, move_front};
 use crate::numbers::{BEYOND, DONE, MEMORY, ROOM};
 use luks_area::Device;
 use luks_given::{Given, GivenParts, Part, PlannedCall, PlannedWrites};
@@ -26,22 +26,26 @@ pub struct LuksPlan {
     pub source_beyond: Part,
     /// The keyslot that is made or sealed again; 2^32 - 1 where none is.
     pub slot: u32,
+    /// With the answer BEYOND, whether the range in `beyond` is to be written, and no byte of it was asked
+    /// for by a read: 1, else 0. Then any bytes may be given that aren't zeros, and the plan writes over
+    /// each.
+    pub to_write: u32,
 }
 
-/// Gives the plan, where both buffers have room for it.
+/// Gives the plan of the device, where both buffers have room for it.
 pub fn give_plan<K: Given>(
-    device: &PlannedWrites<'_, K>,
+    device: PlannedWrites<'_, K>,
     calls: &mut [PlannedCall],
     bytes: &mut [u8],
     told: &mut LuksPlan,
 ) -> u32
-    ensures plan { IsPlan K.parts K.bytes (planned_bytes device.now)
-        (planned_calls device.now) (planned_written device.now) }
-    ensures calls { told.new.calls ≡ length (planned_calls device.now) }
-    ensures bytes { told.new.bytes ≡ length (planned_written device.now) }
+    ensures plan { IsPlan K.parts K.bytes (planned_bytes device.entry)
+        (planned_calls device.entry) (planned_written device.entry) }
+    ensures calls { told.new.calls ≡ length (planned_calls device.entry) }
+    ensures bytes { told.new.bytes ≡ length (planned_written device.entry) }
     ensures slot { told.new.slot ≡ told.old.slot }
     ensures answers { (result ≡ 0) ⊎ (result ≡ 106) }
-    ensures given { IsPlanGiven (planned_calls device.now) (planned_written device.now)
+    ensures given { IsPlanGiven (planned_calls device.entry) (planned_written device.entry)
         (record { calls = calls.old; bytes = bytes.old })
         (record { calls = calls.new; bytes = bytes.new }) result }
 {
@@ -53,7 +57,7 @@ pub fn give_plan<K: Given>(
         return ROOM;
     }
     fill_front(calls, planned);
-    fill_front(bytes, written);
+    move_front(bytes, device.into_bytes());
     DONE
 }
 
@@ -65,10 +69,12 @@ pub fn tell_wanted<K: Given>(device: &PlannedWrites<'_, K>, told: &mut LuksPlan)
     ensures wanted { (m : ℕ) → planned_size device.now ≡ m → result ≡ 102
         → IsWanted K.parts m told.new.beyond }
     ensures source { told.new.source_beyond ≡ told.old.source_beyond }
+    ensures writes { result ≡ 102 → told.new.to_write ≡ 1 → IsTrue (wants_to_write device.now) }
 {
     match device.wanted() {
         Some(part) => {
             told.beyond = part;
+            told.to_write = u32::from(device.is_to_write());
             BEYOND
         }
         None => MEMORY,

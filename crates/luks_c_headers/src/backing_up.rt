@@ -42,7 +42,7 @@ pub fn backup_given<S: Given, K: Given>(
         return MEMORY;
     };
     match backup(alloc, &mut from, payload, &mut device) {
-        Ok(()) => give_plan(&device, calls, bytes, told),
+        Ok(()) => give_plan(device, calls, bytes, told),
         Err(BackupFault::Device) => tell_either(&from, &device, told),
         Err(fault) => backup_number(&fault),
     }

@@ -44,7 +44,7 @@ pub fn convert_given<S: Given, K: Given>(
         return MEMORY;
     };
     match convert(alloc, &mut from, payload, &mut device, random) {
-        Ok(()) => give_plan(&device, calls, bytes, told),
+        Ok(()) => give_plan(device, calls, bytes, told),
         Err(ConvertFault::Device) => tell_either(&from, &device, told),
         Err(fault) => convert_number(&fault),
     }

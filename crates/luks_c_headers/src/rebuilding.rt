@@ -53,7 +53,7 @@ pub fn rebuild_given<S: Given, K: Given>(
         random,
         &mut Untold,
     ) {
-        Ok(()) => give_plan(&device, calls, bytes, told),
+        Ok(()) => give_plan(device, calls, bytes, told),
         Err(RebuildFault::Device) => tell_either(&from, &device, told),
         Err(fault) => rebuild_number(&fault),
     }

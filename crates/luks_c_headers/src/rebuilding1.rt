@@ -42,7 +42,7 @@ pub fn rebuild1_given<S: Given, K: Given>(
         return MEMORY;
     };
     match rebuild1(&mut from, &mut device, fields) {
-        Ok(()) => give_plan(&device, calls, bytes, told),
+        Ok(()) => give_plan(device, calls, bytes, told),
         Err(Rebuild1Fault::Device) => tell_either(&from, &device, told),
         Err(fault) => rebuild1_number(&fault),
     }

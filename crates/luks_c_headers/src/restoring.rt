@@ -43,7 +43,7 @@ pub fn restore_given<S: Given, K: Given>(
         return MEMORY;
     };
     match restore(alloc, &mut from, &mut device, payload, over) {
-        Ok(()) => give_plan(&device, calls, bytes, told),
+        Ok(()) => give_plan(device, calls, bytes, told),
         Err(RestoreFault::Device) => tell_either(&from, &device, told),
         Err(fault) => restore_number(&fault),
     }

@@ -32,3 +32,7 @@ lacked_memory device = device.is_full
 -- the places that the plan writes and doesn't flush
 abbrev pub planned_unsettled : {K : Type 0} {given : OfGiven K} → PlannedWrites K given → ℕ → Type 0
 planned_unsettled device p = IsUnflushed device.calls.items p
+
+-- whether one call has failed alone, which was to write bytes of which one isn't given
+abbrev pub wants_to_write : {K : Type 0} {given : OfGiven K} → PlannedWrites K given → Bool
+wants_to_write device = device.is_to_write

@@ -1,5 +1,5 @@
 //! A volume of which ranges are given, as a device whose writes are planned.
-ghost use Rattle.std.specs.Prelude.{◌≡◌, ◌≢◌, ◌+◌, ◌-◌, ◌≤◌, ◌<◌, ◌^◌, ◌∷◌, ◌++◌, List, ℕ, [], IsTrue, IsFalse, drop, false, length};
+ghost use Rattle.std.specs.Prelude.{◌≡◌, ◌≢◌, ◌+◌, ◌-◌, ◌≤◌, ◌<◌, ◌^◌, ◌∷◌, ◌++◌, List, ℕ, [], IsTrue, IsFalse, drop, false, length, true};
 ghost use Rattle.luks_area.specs.Ranges.{part, written};
 ghost use Rattle.luks_given.specs.PartProps.{apart-prop, inside-prop, parts-prop};
 ghost use Rattle.luks_given.specs.Parts.{AreApart, AreGiven, AreInside, AreParts, HasPlace, IsPlaced, IsWanted, parts_length};
@@ -40,6 +40,7 @@ pub struct PlannedWrites<'a, K: Given> {
     bytes: Vec<u8>,
     total: u64,
     missing: Part,
+    is_to_write: bool,
     is_full: bool,
     failures: u64,
     given: PhantomData<K>,
@@ -54,11 +55,12 @@ pub struct PlannedWrites<'a, K: Given> {
     ghost last: { furthest calls.items ≤ total },
     ghost planned: { planned_length calls.items ≡ length bytes.items },
     ghost inside: { WritesGiven K.parts calls.items },
+    ghost alone: { is_to_write ≡ true → failures ≡ 1 },
 }
 
 impl<'a, K: Given> PlannedWrites<'a, K> {
     ghost use Rattle.std.specs.Prelude.{◌↔◌, ◌⊎◌, IfOk, IfSome, IsNone, IsTrue};
-    ghost use Rattle.luks_given.specs.Planned.{lacked_memory, planned_bytes, planned_calls, planned_failures, planned_size, planned_unsettled, planned_written};
+    ghost use Rattle.luks_given.specs.Planned.{lacked_memory, planned_bytes, planned_calls, planned_failures, planned_size, planned_unsettled, planned_written, wants_to_write};
     ghost use Rattle.luks_area.specs.Device.{IsSettled};
 
     /// The volume of `total` bytes that has these in these ranges, and an empty plan, with memory for as
@@ -86,6 +88,7 @@ impl<'a, K: Given> PlannedWrites<'a, K> {
             bytes,
             total,
             missing: Part::default(),
+            is_to_write: false,
             is_full: false,
             failures: 0,
             given: PhantomData,
@@ -111,6 +114,14 @@ impl<'a, K: Given> PlannedWrites<'a, K> {
         self.bytes.as_slice()
     }
 
+    /// The same, in the place of the device.
+    pub fn into_bytes(self) -> Vec<u8>
+        ensures { result.items ≡ planned_written self.entry }
+    {
+        let PlannedWrites { bytes, .. } = self;
+        bytes
+    }
+
     /// What the last call wanted that met a byte which isn't given, from the first such place on; None where
     /// none did since the device was made, or memory was refused.
     pub fn wanted(&self) -> Option<Part>
@@ -125,6 +136,14 @@ impl<'a, K: Given> PlannedWrites<'a, K> {
         } else {
             Some(self.missing)
         }
+    }
+
+    /// Whether that call was to write there, and no other has failed: then none asked what stands there.
+    pub fn is_to_write(&self) -> bool
+        ensures value { result ≡ wants_to_write self.now }
+        ensures one { IsTrue result → planned_failures self.now ≡ 1 }
+    {
+        self.is_to_write
     }
 
     /// Reads what the plan leaves from the place `at` on, which is held from the byte `k` on.
@@ -286,6 +305,7 @@ impl<K: Given> Device for PlannedWrites<'_, K> {
                     at: place,
                     len: end - place,
                 };
+                self.is_to_write = false;
                 self.failures += 1;
                 Err(DeviceFault)
             }
@@ -305,6 +325,7 @@ impl<K: Given> Device for PlannedWrites<'_, K> {
                 }
                 if !add_call(&mut self.calls, &mut self.bytes, at, &from[..len]) {
                     self.is_full = true;
+                    self.is_to_write = false;
                     self.failures += 1;
                     return Err(DeviceFault);
                 }
@@ -315,6 +336,7 @@ impl<K: Given> Device for PlannedWrites<'_, K> {
                     at: place,
                     len: end - place,
                 };
+                self.is_to_write = self.failures == 0;
                 self.failures += 1;
                 Err(DeviceFault)
             }
@@ -324,6 +346,7 @@ impl<K: Given> Device for PlannedWrites<'_, K> {
     fn flush(&mut self) -> Result<(), DeviceFault> {
         if !add_call(&mut self.calls, &mut self.bytes, 0, b"") {
             self.is_full = true;
+            self.is_to_write = false;
             self.failures += 1;
             return Err(DeviceFault);
         }

@@ -7,7 +7,7 @@ use Rattle.luks_c.proofs.editing.give_edited.Goals as goal
 
 pub returns-clause-answers : goal.returns-clause-answers
 returns-clause-answers g c =
-    let device = c.args.device.now in
+    let device = c.args.device in
     edit_planned g.K.Given.parts g.K.Given.bytes (planned_bytes device) c.args.payload c.args.edit.now c.args.random.now c.args.done (planned_calls device) (planned_written device) _ _ _ _
     c.requires.applied
     (subst (λ (n : ℕ). IsMaybeSlot n c.args.done.slot) (sym c.give_plan.ensures.slot) c.number_of_slot-told.ensures)

@@ -28,7 +28,5 @@ returns-in-Some-format_of-clause-answers c = λ used.
       given_is = c.in-Ok-given_of.ensures;
       format = c.in-Some-format_of.format;
       is = c.in-Some-format_of.ensures.1;
-      chosen = c.in-Ok.chosen;
-      choice = c.in-Ok.ensures;
-      so = c.make2.ensures.answers;
+      so = record { chosen = c.in-Ok.chosen; choice = c.in-Ok.ensures; so = c.make2.ensures.answers };
     }

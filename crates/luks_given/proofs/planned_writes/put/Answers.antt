@@ -1,4 +1,4 @@
-use Rattle.std.proofs.Common.{◌≡◌, ℕ, ◌+◌, ◌-◌, List, length, take, drop, sym, ap, ◌∙◌, arith}
+use Rattle.std.proofs.Common.{◌≡◌, ℕ, ◌-◌, List, length, take, drop, sym, ap, ◌∙◌, arith}
 use Rattle.luks_area.specs.Ranges.{part, written}
 use Rattle.luks_given.proofs.PlayFacts.{part-met_written, part-unmet_written}
 use Rattle.luks_given.proofs.planned_writes.put.Goals as goal

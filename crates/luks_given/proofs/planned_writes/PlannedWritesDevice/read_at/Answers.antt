@@ -1,4 +1,4 @@
-use Rattle.std.proofs.Common.{◌≡◌, ◌+◌, length, subst}
+use Rattle.std.proofs.Common.{◌+◌, length, subst}
 use Rattle.luks_given.specs.Parts.{IsPlaced}
 use Rattle.luks_given.proofs.planned_writes.PlannedWritesDevice.read_at.Goals as goal
 

@@ -1,6 +1,6 @@
 use Rattle.std.proofs.Common.{◌≡◌, ℕ, ◌+◌, List, [], ◌∷◌, ◌++◌, inl, inr, length, take, subst, refl, sym, ap, ◌∙◌, arith, length-append, length-take}
 use Rattle.luks_area.specs.Ranges.{written, IsAt, IsOfEither, SameBut}
-use Rattle.luks_area.proofs.RangeFacts.{same_but-same, same_but-same_outside, same_but-wider, same_outside-written, written-none}
+use Rattle.luks_area.proofs.RangeFacts.{same_but-same_outside, same_but-wider, same_outside-written, written-none}
 use Rattle.luks_given.specs.declared.planned_writes.PlannedCall.{PlannedCall}
 use Rattle.luks_given.specs.Parts.{HasPlace, IsPlaced}
 use Rattle.luks_given.specs.Plan.{planned_length, played, IsUnflushed, IsWrittenBy}
