@@ -84,14 +84,13 @@ impl SearchProgress for Heard {
 }
 
 // Three sectors differ, each in more than 16 bytes: eight compositions of sectors, and eight of pieces. A byte that is
-// wrong in both copies lets none meet the checksum.
+// wrong in the second copy, where the first has none of the text, lets none meet the checksum.
 #[test]
 fn told(rt: HostRuntime) -> Result<(), Fail> {
     let alloc = rt.alloc();
     let mut volume = whole(alloc)?;
     put_run(&mut volume, 4096, 0xAA, 3 * 512);
-    put(&mut volume, 16000, &[1]);
-    put(&mut volume, 32384, &[1]);
+    put(&mut volume, 16384 + 4096 + 10, &[1]);
     let mut heard = Heard {
         searches: 0,
         differing: 0,

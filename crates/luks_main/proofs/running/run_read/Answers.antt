@@ -10,5 +10,5 @@ pub returns-clause-ends : goal.returns-clause-ends
 returns-clause-ends g c =
     let a : Answer = c.note_ended.new.outcome.answer in
     told_ends c.args.line.now.command a
-    (subst (λ (x : Answer). EndsWith c.args.line.now.command x (own x)) (sym c.note_ended.ensures.answer) c.outcome_beside-outcome.ensures)
+    (subst (λ (x : Answer). EndsWith c.args.line.now.command x (own x)) (sym c.note_ended.ensures.answer) c.outcome_told-outcome.ensures)
     (IsObjectOf a) _ _ _ _ c.print_object.result c.print_object.ensures
