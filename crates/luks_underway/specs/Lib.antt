@@ -1,0 +1,6 @@
+pub mod Members
+pub mod Reencryptions
+pub mod Segments
+pub mod Slots
+pub mod Requirements
+pub mod Sides

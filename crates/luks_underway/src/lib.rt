@@ -1,0 +1,22 @@
+#![tactic(auto)]
+//! Metadata of LUKS2 in the midst of something: a reencryption that isn't finished, or a disk that encrypts itself.
+//! The rules of `luks_rules` refuse it; what else it may hold, and what that tells, is said here.
+
+mod flags;
+mod member;
+mod opal;
+mod reencryption;
+mod requirements;
+mod resilience;
+mod segments;
+mod sides;
+mod slots;
+
+pub use flags::{Flags, has_flag, read_flags};
+pub use opal::{Opal, read_opal};
+pub use reencryption::{Direction, Mode, ReencryptArea, Reencryption, read_reencryption};
+pub use requirements::{are_requirements, has_requirement};
+pub use resilience::{Checksum, Resilience};
+pub use segments::{WideKind, WideSegment, read_wide_segment};
+pub use sides::{Side, keyslot_side, new_digest, old_digest};
+pub use slots::{WideKeyslot, read_wide_keyslot};
