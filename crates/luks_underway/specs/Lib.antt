@@ -4,3 +4,6 @@ pub mod Segments
 pub mod Slots
 pub mod Requirements
 pub mod Sides
+pub mod Kinds
+pub mod Consistent
+pub mod Accepted
