@@ -2,6 +2,7 @@
 
 ghost use Rattle.std.specs.Prelude.{◌≡◌, IfSome, IsSome};
 ghost use Rattle.serde_json.specs.View.{view};
+ghost use Rattle.luks_underway.specs.Kinds.{is_opal};
 ghost use Rattle.luks_underway.specs.Segments.{HasEncryption, HasPlace, IsOpalKind, IsWideSegment, TellsEncryption, TellsFlags, TellsWideKind, TellsWideSegment};
 
 use crate::flags::{Flags, read_flags};
@@ -44,7 +45,7 @@ pub fn read_wide_segment(object: &Value) -> Option<WideSegment<'_>>
     ensures there { IsWideSegment (view object.now) → IsSome result }
 {
     let flags = read_flags(object)?;
-    if has_type(object, Outer::Top, "hw-opal") || has_type(object, Outer::Top, "hw-opal-crypt") {
+    if is_opal(object) {
         return read_opal_segment(object, flags);
     }
     let segment = read_segment(object)?;
@@ -54,6 +55,13 @@ pub fn read_wide_segment(object: &Value) -> Option<WideSegment<'_>>
         kind: WideKind::from(segment.kind),
         flags,
     })
+}
+
+/// The segment is one of a disk that encrypts itself.
+pub(crate) fn is_opal(object: &Value) -> bool
+    ensures { result ≡ is_opal (view object.now) }
+{
+    has_type(object, Outer::Top, "hw-opal") || has_type(object, Outer::Top, "hw-opal-crypt")
 }
 
 /// The members of a segment of a disk that encrypts itself, with these flags.
