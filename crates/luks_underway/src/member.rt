@@ -56,7 +56,11 @@ fn is_unit(n: u64) -> bool
 pub(crate) fn unit_at(object: &Value) -> Option<u32>
     ensures { result ≡ unit_in (member_at (view object.now) Outer.Area Member.SectorSize) }
 {
-    let n = number_in(member_at(object, Outer::Area, Member::SectorSize), 512, 2147483648)?;
+    let n = number_in(
+        member_at(object, Outer::Area, Member::SectorSize),
+        512,
+        2147483648,
+    )?;
     if !is_unit(n) {
         return None;
     }

@@ -25,7 +25,11 @@ pub fn read_opal(object: &Value) -> Option<Opal>
     ensures tells { IfSome result (λ k. TellsOpal (view object.now) k) }
     ensures there { HasOpal (view object.now) → IsSome result }
 {
-    let number = number_in(inside_at(object, Outer::Top, "opal_segment_number"), 0, 4294967295)?;
+    let number = number_in(
+        inside_at(object, Outer::Top, "opal_segment_number"),
+        0,
+        4294967295,
+    )?;
     let key_size = number_in(inside_at(object, Outer::Top, "opal_key_size"), 1, 128)?;
     let segment_size = positive_inside(object, "opal_segment_size")?;
     Some(Opal {
