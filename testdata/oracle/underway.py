@@ -65,10 +65,8 @@ class Rows(reader.Rows):
             self.requirements(config["requirements"])
 
     def requirements(self, it):
-        if not isinstance(it, dict):
+        if not isinstance(it, dict) or ("mandatory" in it and not is_names(it["mandatory"])):
             self.shapes.append("config.requirements")
-        elif "mandatory" in it and not is_names(it["mandatory"]):
-            self.shapes.append("config.requirements.mandatory")
 
     def keyslot(self, path, it):
         if type_of(it) != "reencrypt":
@@ -155,7 +153,7 @@ def alike(one, other):
 
 
 def contradictions(value):
-    """The paths where what is under way contradicts itself, in the order in which they are judged."""
+    """The paths where what is under way contradicts itself."""
     slots = reencryptions(value)
     segments = by_number(value["segments"])
     kept, used = [(n, it) for n, it in segments if is_backup(it)], [(n, it) for n, it in segments if not is_backup(it)]
@@ -214,8 +212,7 @@ def judge(copy, value):
         start, length = reader.slot_area2(slot)
         if start < least or start + length > most:
             raise Fault(f"Region(Slot({n}))")
-    for path in contradictions(value):
-        raise Fault(f"UnderWay({path})")
+    reader.refuse_least("UnderWay", list(contradictions(value)))
 
 
 # --- what is told

@@ -18,6 +18,10 @@ is_reencrypt d = is_type d (codes "reencrypt")
 abbrev pub is_opal : Data → Bool
 is_opal d = is_type d (codes "hw-opal") || is_type d (codes "hw-opal-crypt")
 
+-- its data is encrypted, by software or by the disk
+abbrev pub needs_digest : Data → Bool
+needs_digest d = is_type d (codes "crypt") || is_opal d
+
 -- the part in hand
 abbrev pub is_hot : Data → Bool
 is_hot d = has_flag (codes "in-reencryption") d

@@ -5,5 +5,3 @@ pub mod Slots
 pub mod Requirements
 pub mod Sides
 pub mod Kinds
-pub mod Consistent
-pub mod Accepted

@@ -51,7 +51,8 @@ pub fn has_flag(object: &Value, flag: &str) -> bool
     names(inside_at(object, Outer::Top, "flags"), flag)
 }
 
-fn are_flags(flags: Option<&Value>) -> bool
+/// The value isn't there, or is an array of texts.
+pub fn are_flags(flags: Option<&Value>) -> bool
     ensures { result ≡ are_flags (option_map (λ v. view v.now) flags.entry) }
 {
     match flags {

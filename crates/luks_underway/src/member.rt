@@ -22,7 +22,7 @@ const UNITS: [u64; 23] = [
 ];
 
 /// The member of the object, or of the one inside it.
-pub(crate) fn inside_at<'a>(object: &'a Value, outer: Outer, name: &str) -> Option<&'a Value>
+pub fn inside_at<'a>(object: &'a Value, outer: Outer, name: &str) -> Option<&'a Value>
     ensures { option_map (λ v. view v.now) result ≡ inside_at outer name.now (view object.now) }
 {
     outer_at(object, outer)?.get(name)
@@ -36,7 +36,7 @@ pub(crate) fn text_inside<'a>(object: &'a Value, outer: Outer, name: &str) -> Op
 }
 
 /// The object itself, or the one inside it, is of the type.
-pub(crate) fn has_type(object: &Value, outer: Outer, kind: &str) -> bool
+pub fn has_type(object: &Value, outer: Outer, kind: &str) -> bool
     ensures { result ≡ option_map_or (λ t. bytes_eq t kind.now) (type_at (view object.now) outer) false }
 {
     match type_at(object, outer) {
@@ -53,7 +53,7 @@ fn is_unit(n: u64) -> bool
 }
 
 /// The size of a unit that the member `sector_size` of the area is.
-pub(crate) fn unit_at(object: &Value) -> Option<u32>
+pub fn unit_at(object: &Value) -> Option<u32>
     ensures { result ≡ unit_in (member_at (view object.now) Outer.Area Member.SectorSize) }
 {
     let n = number_in(
@@ -68,7 +68,7 @@ pub(crate) fn unit_at(object: &Value) -> Option<u32>
 }
 
 /// By how many bytes the data moves: whole sectors, one at least.
-pub(crate) fn shift_at(object: &Value) -> Option<u64>
+pub fn shift_at(object: &Value) -> Option<u64>
     ensures { result ≡ shift_in (inside_at Outer.Area (codes "shift_size") (view object.now)) }
 {
     let n = decimal_in(inside_at(object, Outer::Area, "shift_size"))?;
@@ -79,7 +79,7 @@ pub(crate) fn shift_at(object: &Value) -> Option<u64>
 }
 
 /// The number above 0 whose decimal text the member is.
-pub(crate) fn positive_inside(object: &Value, name: &str) -> Option<u64>
+pub fn positive_inside(object: &Value, name: &str) -> Option<u64>
     ensures { result ≡ positive_in (inside_at Outer.Top name.now (view object.now)) }
 {
     let n = decimal_in(inside_at(object, Outer::Top, name))?;
@@ -90,7 +90,7 @@ pub(crate) fn positive_inside(object: &Value, name: &str) -> Option<u64>
 }
 
 /// The priority is a number from 0 to 2, or isn't there.
-pub(crate) fn has_priority(object: &Value) -> bool
+pub fn has_priority(object: &Value) -> bool
     ensures { result ≡ is_some (reads (MayBeNumber 0 2) (member_at (view object.now) Outer.Top Member.Priority)) }
 {
     let value = member_at(object, Outer::Top, Member::Priority);

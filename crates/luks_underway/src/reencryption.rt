@@ -71,7 +71,8 @@ pub fn read_reencryption(object: &Value) -> Option<Reencryption<'_>>
     })
 }
 
-fn mode_at(object: &Value) -> Option<Mode>
+/// The mode that the member `mode` tells.
+pub fn mode_at(object: &Value) -> Option<Mode>
     ensures { result ≡ mode_in (view object.now) }
 {
     mode_named(text_inside(object, Outer::Top, "mode")?)
@@ -91,7 +92,8 @@ fn mode_named(text: &str) -> Option<Mode>
     }
 }
 
-fn direction_at(object: &Value) -> Option<Direction>
+/// The direction that the member `direction` tells.
+pub fn direction_at(object: &Value) -> Option<Direction>
     ensures { result ≡ direction_in (view object.now) }
 {
     direction_named(text_inside(object, Outer::Top, "direction")?)

@@ -3,10 +3,10 @@
 ghost use Rattle.std.specs.Prelude.{◌≡◌, option_map};
 ghost use Rattle.serde_json.specs.View.{view};
 ghost use Rattle.luks_json.specs.Arrays.{names};
-ghost use Rattle.luks_underway.specs.Segments.{are_flags};
 ghost use Rattle.luks_underway.specs.Requirements.{are_requirements, mandatory_in, requirements_in};
 
-use luks_json::{is_text_array, names};
+use crate::flags::are_flags;
+use luks_json::names;
 use luks_rules::{Section, section_at};
 use serde_json::Value;
 
@@ -22,7 +22,7 @@ pub fn are_requirements(value: &Value) -> bool
     ensures { result ≡ are_requirements (view value.now) }
 {
     match requirements_in(value) {
-        Some(requirements) => requirements.is_object() && is_list(requirements.get("mandatory")),
+        Some(requirements) => requirements.is_object() && are_flags(requirements.get("mandatory")),
         None => true,
     }
 }
@@ -37,13 +37,4 @@ fn mandatory_in(value: &Value) -> Option<&Value>
     ensures { option_map (λ v. view v.now) result ≡ mandatory_in (view value.now) }
 {
     requirements_in(value)?.get("mandatory")
-}
-
-fn is_list(texts: Option<&Value>) -> bool
-    ensures { result ≡ are_flags (option_map (λ v. view v.now) texts.entry) }
-{
-    match texts {
-        Some(_) => is_text_array(texts),
-        None => true,
-    }
 }

@@ -58,7 +58,7 @@ pub fn read_wide_segment(object: &Value) -> Option<WideSegment<'_>>
 }
 
 /// The segment is one of a disk that encrypts itself.
-pub(crate) fn is_opal(object: &Value) -> bool
+pub fn is_opal(object: &Value) -> bool
     ensures { result ≡ is_opal (view object.now) }
 {
     has_type(object, Outer::Top, "hw-opal") || has_type(object, Outer::Top, "hw-opal-crypt")

@@ -111,7 +111,7 @@ fn first_naming(value: &Value, segment: u8) -> Option<u8>
 }
 
 /// The digest has the number's name in its array `list`.
-fn is_named(value: &Value, list: &str, number: u8, digest: u8) -> bool
+pub fn is_named(value: &Value, list: &str, number: u8, digest: u8) -> bool
     requires number { number < 32 }
     requires digest { digest < 32 }
     ensures { result ≡ is_named (view value.now) list.now number digest }

@@ -1,30 +1,24 @@
 -- When the metadata of a JSON area is accepted by the wider reading, said of its value. Where nothing is under way that is said by `luks_rules` alone.
-use Rattle.std.specs.Prelude.{◌≡◌, ◌⊎◌, ℕ, ◌+◌, ◌*◌, ◌<◌, ◌≤◌, List, codes, length, Bool, true, false, ◌||◌, Option, Some}
-use Rattle.std.specs.Option.{option_map_or}
-use Rattle.std.specs.Str.{bytes_eq}
+use Rattle.std.specs.Prelude.{◌≡◌, ◌⊎◌, ℕ, ◌+◌, ◌*◌, ◌≤◌, List, codes, length, true, false, Some}
 use Rattle.serde_json.specs.Data.{Data, Items}
 use Rattle.serde_json.specs.Written.{has_float}
 use Rattle.luks_area.specs.Sectors.{rounded_to_sectors}
-use Rattle.luks_json.specs.Arrays.{all_there, has_repeat, naming_count}
-use Rattle.luks_json.specs.Number.{number_text}
+use Rattle.luks_json.specs.Arrays.{all_there, has_repeat}
 use Rattle.luks_rules.specs.declared.table.Section.{Section}
 use Rattle.luks_rules.specs.declared.table.Section.TheVariants.{Config, Digests, Keyslots, Segments, Tokens}
 use Rattle.luks_rules.specs.declared.table.Outer.TheVariants as outer
 use Rattle.luks_rules.specs.Accepted.{HasNames, HasObject, IsMeta, IsRead}
-use Rattle.luks_rules.specs.Faults.{is_section, object_at, section_at, type_at}
+use Rattle.luks_rules.specs.Faults.{is_section, section_at}
 use Rattle.luks_rules.specs.MetaFault.{Json}
 use Rattle.luks_rules.specs.Reading.{number_in, decimal_in}
 use Rattle.luks_rules.specs.Sizes.{inside_at, json_size, keyslots_size, region_start}
 use Rattle.luks_rules.specs.Table.{config_rows, digest_rows, keyslot_rows, token_rows}
-use Rattle.luks_underway.specs.Consistent.{IsConsistent}
-use Rattle.luks_underway.specs.Kinds.{is_hot, is_opal, is_reencrypt, is_type, IsUnderWay}
+use Rattle.luks_wider.specs.Consistent.{IsConsistent}
+use Rattle.luks_wider.specs.Counts.{digests_of}
+use Rattle.luks_underway.specs.Kinds.{is_hot, is_reencrypt, IsUnderWay, needs_digest}
 use Rattle.luks_underway.specs.Requirements.{are_requirements}
 use Rattle.luks_underway.specs.Segments.{IsWideSegment}
 use Rattle.luks_underway.specs.Slots.{IsWideKeyslot}
-
--- how many digests have the name of the object in their array
-abbrev pub digests_of : Data → List ℕ → ℕ → ℕ
-digests_of j list n = naming_count list (number_text n) (section_at j Digests)
 
 -- each name in an array is that of an object that is there, and stands in it once; a keyslot with a key is of one digest, the one that says what is
 -- under way of one at most; a segment that is encrypted is of one, and the part in hand of one or two
@@ -33,8 +27,8 @@ pub record WideResolves (j : Data) : Type 0 where
   pub once : (s target : Section) (list : Items) → HasNames j s target list → has_repeat list ≡ false
   pub keyslots : (n : ℕ) (d : Data) → HasObject j Keyslots n d → is_reencrypt d ≡ false → digests_of j (codes "keyslots") n ≡ 1
   pub reencryption : (n : ℕ) (d : Data) → HasObject j Keyslots n d → is_reencrypt d ≡ true → digests_of j (codes "keyslots") n ≤ 1
-  pub segments : (n : ℕ) (d : Data) → HasObject j Segments n d → is_type d (codes "linear") ≡ false → is_hot d ≡ false → digests_of j (codes "segments") n ≡ 1
-  pub hot : (n : ℕ) (d : Data) → HasObject j Segments n d → is_type d (codes "linear") ≡ false → is_hot d ≡ true
+  pub segments : (n : ℕ) (d : Data) → HasObject j Segments n d → needs_digest d ≡ true → is_hot d ≡ false → digests_of j (codes "segments") n ≡ 1
+  pub hot : (n : ℕ) (d : Data) → HasObject j Segments n d → needs_digest d ≡ true → is_hot d ≡ true
       → (digests_of j (codes "segments") n ≡ 1) ⊎ (digests_of j (codes "segments") n ≡ 2)
 
 -- a value in an area of `len` bytes in which something is under way, and that meets the rules of that
