@@ -31,9 +31,9 @@ pub record WideResolves (j : Data) : Type 0 where
   pub hot : (n : ℕ) (d : Data) → HasObject j Segments n d → needs_digest d ≡ true → is_hot d ≡ true
       → (digests_of j (codes "segments") n ≡ 1) ⊎ (digests_of j (codes "segments") n ≡ 2)
 
--- a value in an area of `len` bytes in which something is under way, and that meets the rules of that
-pub record IsWideContent (len : ℕ) (j : Data) : Type 0 where
-  pub under_way : IsUnderWay j
+-- a value in an area of `len` bytes whose members meet the rules of what is under way, whose names resolve, and whose key areas are large enough and lie
+-- in their region
+pub record IsWideRules (len : ℕ) (j : Data) : Type 0 where
   pub whole : has_float j ≡ false
   pub sections : (s : Section) → is_section s (section_at j s) ≡ true
   pub config : (d : Data) → section_at j Config ≡ Some d → IsRead config_rows d
@@ -54,6 +54,11 @@ pub record IsWideContent (len : ℕ) (j : Data) : Type 0 where
       → decimal_in (inside_at outer.Area (codes "offset") d) ≡ Some start
       → decimal_in (inside_at outer.Area (codes "size") d) ≡ Some size
       → (region_start len ≤ start) × (start + size ≤ region_start len + bytes)
+
+-- something is under way in it, which doesn't contradict itself, and it meets the rules of that
+pub record IsWideContent (len : ℕ) (j : Data) : Type 0 where
+  pub under_way : IsUnderWay j
+  pub rules : IsWideRules len j
   pub consistent : IsConsistent j
 
 -- the metadata of the area is accepted by the wider reading, with the value
