@@ -15,9 +15,7 @@ mod tokens;
 
 pub use configuration::{Config, read_config};
 pub use digests::{Digest, read_digest};
-pub use keyslots::{
-    Argon2, Cost, Derivation, KeyArea, Keyslot, Pbkdf2, Splitter, read_keyslot,
-};
+pub use keyslots::{Argon2, Cost, Derivation, KeyArea, Keyslot, Pbkdf2, Splitter, read_keyslot};
 pub use laws::one_digest;
 pub use luks_json::one_value;
 pub use luks_rules::{MetaFault, metadata_without_faults};

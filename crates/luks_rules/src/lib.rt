@@ -22,4 +22,6 @@ pub use place::Test;
 pub use reading::sector_size_in;
 pub use row_faults::{row_fault, section_fault};
 pub use sizes::{first_segment_below, has_slot_outside, has_small_area, json_size};
-pub use table::{Listed, Member, Outer, Row, Rule, Section, When, member_name, section_name};
+pub use table::{
+    Listed, Member, Outer, Row, Rule, Section, When, member_name, rows_of, section_name,
+};

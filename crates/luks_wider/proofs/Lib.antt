@@ -2,5 +2,8 @@ pub mod WideOrder
 pub mod WideWalking
 pub mod WideRowFaults
 pub mod WideAccepting
+pub mod WideRefusing
+pub mod WideAreaFaults
+pub mod UnderWayFacts
 pub mod Counted
 pub mod Finding

@@ -1,5 +1,5 @@
 -- The faults of metadata in which something is under way, and their order: by row, among paths by the order of their bytes, among objects by number.
-use Rattle.std.specs.Prelude.{codes, ◌++◌, ◌≡◌, ℕ, ◌<◌, List, [], ◌∷◌, Bool, true, false, ◌&&◌, not}
+use Rattle.std.specs.Prelude.{codes, ◌++◌, ◌≡◌, ℕ, ◌<◌, List, ◌∷◌, length, Bool, true, false, ◌&&◌, not}
 use Rattle.serde_json.specs.Data.{Data}
 use Rattle.serde_json.specs.Written.{has_float}
 use Rattle.luks_area.specs.declared.area.AreaName.TheVariants.{Head1, Head2, Slot, Segment}
@@ -7,6 +7,7 @@ use Rattle.luks_rules.specs.declared.fault.MetaFault.{MetaFault}
 use Rattle.luks_rules.specs.declared.fault.MetaFault.TheVariants as fault
 use Rattle.luks_rules.specs.declared.place.Test.{Test}
 use Rattle.luks_rules.specs.declared.place.Test.TheVariants as test
+use Rattle.luks_json.specs.AreaText.{IsBadJson, Json, JsonText}
 use Rattle.luks_rules.specs.MetaFault.{fault_text, meta_key}
 use Rattle.luks_rules.specs.Sizes.{has_other_size, has_slot_outside, has_small_area}
 use Rattle.luks_underway.specs.Kinds.{has_reencrypt}
@@ -35,6 +36,25 @@ IsWideDataFault len j (fault.Region Head2) = ⊥
 IsWideDataFault len j (fault.Region (Slot n)) = (n < 32) × (has_slot_outside len j n ≡ true)
 IsWideDataFault len j (fault.Region (Segment n)) = ⊥
 IsWideDataFault len j fault.Memory = ⊥
+
+-- a fault of the value that the area holds, and the faults of an area
+pub record HasWideDataFault (area : List ℕ) (f : MetaFault) : Type 0 where
+  pub value : Data
+  pub json : Json area value
+  pub fault : IsWideDataFault (length area) value f
+
+abbrev pub IsWideMetaFault : List ℕ → MetaFault → Type 0
+IsWideMetaFault area fault.JsonArea = (text : List ℕ) → JsonText area text → ⊥
+IsWideMetaFault area fault.BadJson = IsBadJson area
+IsWideMetaFault area fault.NotWhole = HasWideDataFault area fault.NotWhole
+IsWideMetaFault area (fault.Shape path) = HasWideDataFault area (fault.Shape path)
+IsWideMetaFault area (fault.Kind path) = HasWideDataFault area (fault.Kind path)
+IsWideMetaFault area (fault.NoSuchName path) = HasWideDataFault area (fault.NoSuchName path)
+IsWideMetaFault area (fault.Assigned path) = HasWideDataFault area (fault.Assigned path)
+IsWideMetaFault area fault.Sizes = HasWideDataFault area fault.Sizes
+IsWideMetaFault area (fault.AreaTooSmall n) = HasWideDataFault area (fault.AreaTooSmall n)
+IsWideMetaFault area (fault.Region name) = HasWideDataFault area (fault.Region name)
+IsWideMetaFault area fault.Memory = ⊥
 
 -- no test finds a fault in a value that stands in an area of `len` bytes
 pub record IsWideFaultless (len : ℕ) (j : Data) : Type 0 where

@@ -36,7 +36,13 @@ const SECTIONS: [Section; 5] = [
 ];
 
 /// The first of these known rows of a section's object with a fault.
-fn first_known(test: Test, rows: &[Row], section: Section, value: &Value, object: &Value) -> Option<WideRow>
+fn first_known(
+    test: Test,
+    rows: &[Row],
+    section: Section,
+    value: &Value,
+    object: &Value,
+) -> Option<WideRow>
     ensures { result ≡ find (wide_row_fault test section (view value.now) (view object.now)) (map Known rows.now) }
 {
     for row in rows {
@@ -48,7 +54,13 @@ fn first_known(test: Test, rows: &[Row], section: Section, value: &Value, object
 }
 
 /// The first of these new rows of an object with a fault.
-fn first_new(test: Test, rows: &[NewRow], section: Section, value: &Value, object: &Value) -> Option<WideRow>
+fn first_new(
+    test: Test,
+    rows: &[NewRow],
+    section: Section,
+    value: &Value,
+    object: &Value,
+) -> Option<WideRow>
     ensures { result ≡ find (wide_row_fault test section (view value.now) (view object.now)) (map New rows.now) }
 {
     for row in rows {
@@ -63,9 +75,21 @@ fn first_new(test: Test, rows: &[NewRow], section: Section, value: &Value, objec
 fn first_config_row(test: Test, value: &Value, config: &Value) -> Option<WideRow>
     ensures { result ≡ first_faulty test (view value.now) Section.Config (view config.now) }
 {
-    match first_known(test, rows_of(Section::Config), Section::Config, value, config) {
+    match first_known(
+        test,
+        rows_of(Section::Config),
+        Section::Config,
+        value,
+        config,
+    ) {
         Some(row) => Some(row),
-        None => first_new(test, &[NewRow::Requirements], Section::Config, value, config),
+        None => first_new(
+            test,
+            &[NewRow::Requirements],
+            Section::Config,
+            value,
+            config,
+        ),
     }
 }
 
