@@ -11,3 +11,7 @@ find-append f (x ∷ xs) ys = elim (cases_Bool (f x)) [
   | inl is ↦ rw is refl
   | inr other ↦ rw other (find-append f xs ys)
 ]
+
+-- the first of one row, else of the others
+pub find-cons : {A : Type 0} (f : A → Bool) (x : A) (xs : List A) → find f (x ∷ xs) ≡ or_else (find f (x ∷ [])) (find f xs)
+find-cons f x xs = elim (cases_Bool (f x)) [ inl is ↦ rw is refl | inr other ↦ rw other refl ]
