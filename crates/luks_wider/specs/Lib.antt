@@ -4,4 +4,5 @@ pub mod Places
 pub mod WideWalk
 pub mod WideFaults
 pub mod Consistent
+pub mod Contradictions
 pub mod Accepted
