@@ -5,5 +5,6 @@ pub mod WideAccepting
 pub mod WideRefusing
 pub mod WideAreaFaults
 pub mod UnderWayFacts
+pub mod WideListed
 pub mod Counted
 pub mod Finding

@@ -1,7 +1,7 @@
 -- Nothing is under way in what `luks_rules` accepts.
 use Rattle.std.proofs.Common.{◌≡◌, ℕ, ◌<◌, Bool, true, false, Option, Some, None, refl, sym, ◌∙◌, MatchOption}
 use Rattle.std.specs.Option.{option_map_or}
-use Rattle.std.specs.Prelude.{◌||◌, is_some}
+use Rattle.std.specs.Prelude.{is_some}
 use Rattle.std.proofs.lemmas.Bool.{false≢true}
 use Rattle.serde_json.specs.Data.{Data}
 use Rattle.luks_rules.specs.declared.table.Section.TheVariants.{Keyslots, Segments}
@@ -28,18 +28,18 @@ pub none_under_way : (j : Data) → ((n : ℕ) → n < 32 → has_reencrypt j n 
 none_under_way j none other (reencryption n lt is) = false≢true (sym (none n lt) ∙ is)
 none_under_way j none other (opal n lt is) = false≢true (sym (other n lt) ∙ is)
 
-pub under_way_by : (j : Data) (a b : Option ℕ)
-    → MatchOption a ((n : ℕ) → n < 32 → has_reencrypt j n ≡ false) (λ n. IsFirst (has_reencrypt j) n)
-    → MatchOption b ((n : ℕ) → n < 32 → has_opal j n ≡ false) (λ n. IsFirst (has_opal j) n)
-    → (is_some a || is_some b) ≡ true → IsUnderWay j
-under_way_by j (Some n) b first other h = reencryption n first.below first.holds
-under_way_by j None (Some n) none first h = opal n first.below first.holds
-under_way_by j None None none other h = absurd (false≢true h)
+pub under_way_by : (j : Data) (a : Option ℕ) → MatchOption a ((n : ℕ) → n < 32 → has_reencrypt j n ≡ false) (λ n. IsFirst (has_reencrypt j) n) → is_some a ≡ true → IsUnderWay j
+under_way_by j (Some n) first h = reencryption n first.below first.holds
+under_way_by j None none h = absurd (false≢true h)
+
+pub opal_by : (j : Data) (b : Option ℕ) → MatchOption b ((n : ℕ) → n < 32 → has_opal j n ≡ false) (λ n. IsFirst (has_opal j) n) → is_some b ≡ true → IsUnderWay j
+opal_by j (Some n) first h = opal n first.below first.holds
+opal_by j None none h = absurd (false≢true h)
 
 pub not_by : (j : Data) (a b : Option ℕ)
     → MatchOption a ((n : ℕ) → n < 32 → has_reencrypt j n ≡ false) (λ n. IsFirst (has_reencrypt j) n)
     → MatchOption b ((n : ℕ) → n < 32 → has_opal j n ≡ false) (λ n. IsFirst (has_opal j) n)
-    → (is_some a || is_some b) ≡ false → IsUnderWay j → ⊥
-not_by j (Some n) b first other h under = absurd (false≢true (sym h))
-not_by j None (Some n) none first h under = absurd (false≢true (sym h))
-not_by j None None none other h under = none_under_way j none other under
+    → is_some a ≡ false → is_some b ≡ false → IsUnderWay j → ⊥
+not_by j (Some n) b first other h k under = absurd (false≢true (sym h))
+not_by j None (Some n) none first h k under = absurd (false≢true (sym k))
+not_by j None None none other h k under = none_under_way j none other under

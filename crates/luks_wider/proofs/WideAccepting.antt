@@ -35,7 +35,7 @@ use Rattle.luks_underway.proofs.Typed.{not_reencrypt}
 use Rattle.luks_wider.specs.Accepted.{IsWideRules, WideResolves}
 use Rattle.luks_wider.specs.Counts.{digests_of}
 use Rattle.luks_wider.specs.Places.{wide_object_fault, wide_row_fault}
-use Rattle.luks_wider.specs.Rows.{area_type, area_types, breaks_new, checksum_types, has_area, has_judged_area, is_foreign, is_known_segment, is_none_of, is_of, opal_rows, reencrypt_rows, rows_for, segment_types, shift_types, with_flags}
+use Rattle.luks_wider.specs.Rows.{area_type, area_types, are_requirements_of, breaks_new, checksum_types, has_area, has_judged_area, is_foreign, is_known_segment, is_none_of, is_of, opal_rows, reencrypt_rows, rows_for, segment_types, shift_types, with_flags}
 use Rattle.luks_wider.specs.WideFaults.{IsWideFaultless}
 use Rattle.luks_wider.specs.WideWalk.{place}
 use Rattle.luks_wider.specs.declared.rows.NewRow.{NewRow}
@@ -214,7 +214,7 @@ module _ (len : ℕ) (j : Data) (f : IsWideFaultless len j) where
   config_read : (d : Data) → section_at j Config ≡ Some d → IsRead config_rows d
   config_read d e =
       let is : is_some (as_object d) ≡ true = rw e at (sections_there Config) in
-      let into : (r : Row) → Among r config_rows → Among (Known r) (rows_for Config d) = λ r m. among_front (Known r) (map Known config_rows) _ (among_map Known r config_rows m) in
+      let into : (r : Row) → Among r config_rows → Among (Known r) (rows_for Config d) = λ r m. among_front (Known r) (map Known config_rows) (New new.Requirements ∷ []) (among_map Known r config_rows m) in
       all_read config_rows d is (λ r m. config_at test.Shape d e (Known r) (into r m)) (λ r m. config_at test.Kind d e (Known r) (into r m))
 
   object_read : (s : Section) (n : ℕ) (d : Data) → HasObject j s n d → ((r : Row) → Among r (rows_of s) → Among (Known r) (rows_for s d)) → IsRead (rows_of s) d
@@ -324,7 +324,7 @@ module _ (len : ℕ) (j : Data) (f : IsWideFaultless len j) where
     where
       by : (o : Option Data) → section_at j Config ≡ o → are_requirements j ≡ true
       by None e = rw e refl
-      by (Some d) e = rw e (not_false _ (config_at test.Shape d e (New new.Requirements) (among_behind (New new.Requirements) (map Known config_rows) _ (inl refl))))
+      by (Some d) e = rw e (not_false (are_requirements_of d) (config_at test.Shape d e (New new.Requirements) (among_behind (New new.Requirements) (map Known config_rows) (New new.Requirements ∷ []) (inl refl))))
 
   pub rules_of : IsWideRules len j
   rules_of = record {

@@ -29,7 +29,7 @@ use Rattle.luks_underway.proofs.Typed.{not_opal, not_reencrypt}
 use Rattle.luks_wider.specs.Accepted.{IsWideRules}
 use Rattle.luks_wider.specs.Counts.{digests_of}
 use Rattle.luks_wider.specs.Places.{HasWidePlace, is_unassigned, wide_fault_at, wide_object_fault, wide_row_fault}
-use Rattle.luks_wider.specs.Rows.{area_type, breaks_new, has_area, is_foreign, is_known_segment, opal_rows, reencrypt_rows, rows_for, with_flags}
+use Rattle.luks_wider.specs.Rows.{area_type, breaks_new, checksum_types, has_area, is_foreign, is_known_segment, is_of, opal_rows, reencrypt_rows, rows_for, shift_types, with_flags}
 use Rattle.luks_wider.specs.WideFaults.{has_small_key_area, IsWideFaultless}
 use Rattle.luks_wider.specs.declared.rows.NewRow.{NewRow}
 use Rattle.luks_wider.specs.declared.rows.NewRow.TheVariants as new
@@ -103,22 +103,44 @@ area_off d (journal t) =
     record { has = has; kind = rw t refl; hash = rw (has, t) refl; sector = rw (has, t) refl; shift = rw (has, t) refl; foreign = rw (has, t) refl }
 area_off d (checksum t s) =
     let has : has_area d ≡ true = home_of (outer_at d outer.Area) (codes "type") (codes "checksum") t in
-    record { has = has; kind = rw t refl; hash = third_off _ _ _ s.hash; sector = third_off _ _ _ s.unit; shift = rw (has, t) refl; foreign = rw (has, t) refl }
+    record { has = has; kind = rw t refl; hash = third_off (has_area d) (is_of checksum_types (area_type d)) _ s.hash; sector = third_off (has_area d) (is_of checksum_types (area_type d)) _ s.unit; shift = rw (has, t) refl; foreign = rw (has, t) refl }
 area_off d (datashift t n) =
     let has : has_area d ≡ true = home_of (outer_at d outer.Area) (codes "type") (codes "datashift") t in
-    record { has = has; kind = rw t refl; hash = rw (has, t) refl; sector = rw (has, t) refl; shift = third_off _ _ _ n; foreign = rw (has, t) refl }
+    record { has = has; kind = rw t refl; hash = rw (has, t) refl; sector = rw (has, t) refl; shift = third_off (has_area d) (is_of shift_types (area_type d)) _ n; foreign = rw (has, t) refl }
 area_off d (datashift_journal t n) =
     let has : has_area d ≡ true = home_of (outer_at d outer.Area) (codes "type") (codes "datashift-journal") t in
-    record { has = has; kind = rw t refl; hash = rw (has, t) refl; sector = rw (has, t) refl; shift = third_off _ _ _ n; foreign = rw (has, t) refl }
+    record { has = has; kind = rw t refl; hash = rw (has, t) refl; sector = rw (has, t) refl; shift = third_off (has_area d) (is_of shift_types (area_type d)) _ n; foreign = rw (has, t) refl }
 area_off d (datashift_checksum t n s) =
     let has : has_area d ≡ true = home_of (outer_at d outer.Area) (codes "type") (codes "datashift-checksum") t in
-    record { has = has; kind = rw t refl; hash = third_off _ _ _ s.hash; sector = third_off _ _ _ s.unit; shift = third_off _ _ _ n; foreign = rw (has, t) refl }
+    record { has = has; kind = rw t refl; hash = third_off (has_area d) (is_of checksum_types (area_type d)) _ s.hash; sector = third_off (has_area d) (is_of checksum_types (area_type d)) _ s.unit; shift = third_off (has_area d) (is_of shift_types (area_type d)) _ n; foreign = rw (has, t) refl }
 
 reencryption_off : (d : Data) → IsReencryption d → AllOff (λ x. breaks_new x d) reencrypt_rows
 reencryption_off d r =
-    let a = area_off d r.area.resilience in
-    (rw a.has refl, (a.hash, (unless_true _ _ r.area.offset, (a.sector, (a.shift, (unless_true _ _ r.area.size, (unless_true _ _ a.kind, (rw r.has_direction refl,
-    (rw r.key_size refl, (rw r.has_mode refl, (rw r.priority refl, tt)))))))))))
+    let a = area_off d r.area.resilience in (
+      rw a.has refl,
+      (
+        a.hash,
+        (
+          unless_true _ _ r.area.offset,
+          (
+            a.sector,
+            (
+              a.shift,
+              (
+                unless_true _ _ r.area.size,
+                (
+                  unless_true _ _ a.kind,
+                  (
+                    rw r.has_direction refl,
+                    (rw r.key_size refl, (rw r.has_mode refl, (rw r.priority refl, tt))),
+                  ),
+                ),
+              ),
+            ),
+          ),
+        ),
+      ),
+    )
 
 -- no other new row is that of a type
 plain_kind : (d : Data) → is_foreign new.AreaKind d ≡ false → (x : NewRow) → is_foreign x d ≡ false

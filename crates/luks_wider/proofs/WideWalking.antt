@@ -204,7 +204,7 @@ config_test : (t : Test) (j : Data) (d : Data) → section_at j Config ≡ Some 
 config_test t j d e r = rw e refl
 
 members_of_config : (j : Data) (d : Data) → section_at j Config ≡ Some d → (q : WidePlace) → IsOfConfig j q → IsOfRows Config None (rows_for Config d) q
-members_of_config j d e q m = let same_object : m.0 ≡ d = some_same m.0 d (sym m.1.0 ∙ e) in rw same_object at m.1.1
+members_of_config j d e q m = m.1.1
 
 config_found : (t : Test) (j : Data) (o : Option Data) → section_at j Config ≡ o → Finds (IsInside j Config) (has_wide_fault t j) (first_of_config t j o)
 config_found t j None e = record { none = λ _ q m. no_config t j e q m; some = λ p is. absurd (cc) }

@@ -61,6 +61,11 @@ pub record IsWideArea (area : List ℕ) (j : Data) : Type 0 where
   pub json : Json area j
   pub rules : IsWideRules (length area) j
 
+-- a value that does in an area of some length
+pub record IsWideAccepted (j : Data) : Type 0 where
+  pub len : ℕ
+  pub rules : IsWideRules len j
+
 -- and one that nests no deeper than a JSON text is read
 pub record IsWideHeld (len : ℕ) (j : Data) : Type 0 where
   pub nests : depth j ≤ max_depth

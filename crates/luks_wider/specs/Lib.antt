@@ -6,3 +6,4 @@ pub mod WideFaults
 pub mod Consistent
 pub mod Contradictions
 pub mod Accepted
+pub mod Underways

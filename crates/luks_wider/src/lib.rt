@@ -6,13 +6,16 @@ mod fault;
 mod judging;
 mod laws;
 mod object_faults;
+mod objects;
 mod place;
 mod row_faults;
 mod rows;
 mod under_way;
+mod underway;
 mod walk;
 
 pub use content::read_members;
 pub use fault::WideFault;
 pub use laws::accepted_is_not_under_way;
 pub use under_way::{first_reencryption, is_under_way};
+pub use underway::Underway;

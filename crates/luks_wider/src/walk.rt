@@ -97,11 +97,25 @@ fn first_config_row(test: Test, value: &Value, config: &Value) -> Option<WideRow
 fn first_segment_row(test: Test, rows: &[Row], value: &Value, segment: &Value) -> Option<WideRow>
     ensures { result ≡ find (wide_row_fault test Section.Segments (view value.now) (view segment.now)) (with_flags rows.now) }
 {
-    let [first, rest @ ..] = rows else {
-        return first_new(test, &[NewRow::Flags], Section::Segments, value, segment);
-    };
-    if row_fault(test, rows_of(Section::Segments), value, segment, first) {
-        return Some(WideRow::Known(*first));
+    match rows {
+        [] => first_new(test, &[NewRow::Flags], Section::Segments, value, segment),
+        [first, rest @ ..] => first_beside_flags(test, first, rest, value, segment),
+    }
+}
+
+fn first_beside_flags(
+    test: Test,
+    first: &Row,
+    rest: &[Row],
+    value: &Value,
+    segment: &Value,
+) -> Option<WideRow>
+    ensures { result ≡ find (wide_row_fault test Section.Segments (view value.now) (view segment.now))
+        (Known first.now ∷ New NewRow.Flags ∷ map Known rest.now) }
+{
+    let first = WideRow::Known(*first);
+    if wide_row_fault(test, Section::Segments, value, segment, &first) {
+        return Some(first);
     }
     match first_new(test, &[NewRow::Flags], Section::Segments, value, segment) {
         Some(row) => Some(row),
