@@ -19,12 +19,12 @@ find-cons f x xs = elim (cases_Bool (f x)) [ inl is ↦ rw is refl | inr other �
 -- behind a first one of which the test doesn't hold: the second, else the first of the others
 pub found-second : {A : Type 0} (f : A → Bool) (x y : A) (zs : List A) (r : A) → f x ≡ false → Some r ≡ find f (y ∷ []) → Some r ≡ find f (x ∷ y ∷ zs)
 found-second f x y zs r off is = elim (cases_Bool (f y)) [
-  | inl yes ↦ rw (off, yes) (rw yes at is)
-  | inr no ↦ absurd (let lost : Some r ≡ None = rw no at is in cc)
+  | inl here ↦ rw (off, here) (rw here at is)
+  | inr away ↦ absurd (let lost : Some r ≡ None = rw away at is in cc)
 ]
 
 pub found-later : {A : Type 0} (f : A → Bool) (x y : A) (zs : List A) (o : Option A) → f x ≡ false → None ≡ find f (y ∷ []) → o ≡ find f zs → o ≡ find f (x ∷ y ∷ zs)
 found-later f x y zs o off is e = elim (cases_Bool (f y)) [
-  | inl yes ↦ absurd (let lost : None ≡ Some y = rw yes at is in cc)
-  | inr no ↦ rw (off, no) e
+  | inl here ↦ absurd (let lost : None ≡ Some y = rw here at is in cc)
+  | inr away ↦ rw (off, away) e
 ]

@@ -8,3 +8,4 @@ pub mod UnderWayFacts
 pub mod WideListed
 pub mod Counted
 pub mod Finding
+pub mod WiderFacts

@@ -32,11 +32,11 @@ use Rattle.luks_underway.specs.Requirements.{are_requirements}
 use Rattle.luks_underway.specs.Segments.{are_flags, flags_at, HasEncryption, HasOpal, IsOpalKind, IsWideSegment, hardware, both, plain, opal}
 use Rattle.luks_underway.specs.Slots.{IsWideKeyslot, plain as plain_slot, reencrypt}
 use Rattle.luks_underway.proofs.Typed.{not_reencrypt}
-use Rattle.luks_wider.specs.Accepted.{IsWideRules, WideResolves}
+use Rattle.luks_wider.specs.Accepted.{IsWideAccepted, IsWideRules, WideResolves}
 use Rattle.luks_wider.specs.Counts.{digests_of}
 use Rattle.luks_wider.specs.Places.{wide_object_fault, wide_row_fault}
 use Rattle.luks_wider.specs.Rows.{area_type, area_types, are_requirements_of, breaks_new, checksum_types, has_area, has_judged_area, is_foreign, is_known_segment, is_none_of, is_of, opal_rows, reencrypt_rows, rows_for, segment_types, shift_types, with_flags}
-use Rattle.luks_wider.specs.WideFaults.{IsWideFaultless}
+use Rattle.luks_wider.specs.WideFaults.{IsWideFaultless, IsWideHeld}
 use Rattle.luks_wider.specs.WideWalk.{place}
 use Rattle.luks_wider.specs.declared.rows.NewRow.{NewRow}
 use Rattle.luks_wider.specs.declared.rows.NewRow.TheVariants as new
@@ -341,3 +341,7 @@ module _ (len : ℕ) (j : Data) (f : IsWideFaultless len j) where
     large = large_enough;
     within = in_region;
   }
+
+-- what was read is accepted in the area of its length
+pub accepted_of : (len : ℕ) (j : Data) → IsWideHeld len j → IsWideAccepted j
+accepted_of len j held = record { len = len; rules = rules_of len j held.faultless }

@@ -1,7 +1,6 @@
 -- When the metadata of a JSON area is accepted by the wider reading, said of its value. Where nothing is under way that is said by `luks_rules` alone.
 use Rattle.std.specs.Prelude.{◌≡◌, ◌⊎◌, ℕ, ◌+◌, ◌*◌, ◌≤◌, List, codes, length, true, false, Some}
-use Rattle.serde_json.specs.Data.{Data, Items, depth}
-use Rattle.serde_json.specs.Read.{max_depth}
+use Rattle.serde_json.specs.Data.{Data, Items}
 use Rattle.serde_json.specs.Written.{has_float}
 use Rattle.luks_area.specs.Sectors.{rounded_to_sectors}
 use Rattle.luks_json.specs.Arrays.{all_there, has_repeat}
@@ -64,11 +63,6 @@ pub record IsWideArea (area : List ℕ) (j : Data) : Type 0 where
 -- a value that does in an area of some length
 pub record IsWideAccepted (j : Data) : Type 0 where
   pub len : ℕ
-  pub rules : IsWideRules len j
-
--- and one that nests no deeper than a JSON text is read
-pub record IsWideHeld (len : ℕ) (j : Data) : Type 0 where
-  pub nests : depth j ≤ max_depth
   pub rules : IsWideRules len j
 
 -- something is under way in it, which doesn't contradict itself, and it meets the rules of that

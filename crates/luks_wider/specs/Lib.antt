@@ -7,3 +7,4 @@ pub mod Consistent
 pub mod Contradictions
 pub mod Accepted
 pub mod Underways
+pub mod Wide

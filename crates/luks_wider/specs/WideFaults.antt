@@ -1,6 +1,7 @@
 -- The faults of metadata in which something is under way, and their order: by row, among paths by the order of their bytes, among objects by number.
-use Rattle.std.specs.Prelude.{codes, ◌++◌, ◌≡◌, ℕ, ◌<◌, List, ◌∷◌, length, Bool, true, false, ◌&&◌, not}
-use Rattle.serde_json.specs.Data.{Data}
+use Rattle.std.specs.Prelude.{codes, ◌++◌, ◌≡◌, ℕ, ◌<◌, ◌≤◌, List, ◌∷◌, length, Bool, true, false, ◌&&◌, not}
+use Rattle.serde_json.specs.Data.{Data, depth}
+use Rattle.serde_json.specs.Read.{max_depth}
 use Rattle.serde_json.specs.Written.{has_float}
 use Rattle.luks_area.specs.declared.area.AreaName.TheVariants.{Head1, Head2, Slot, Segment}
 use Rattle.luks_rules.specs.declared.fault.MetaFault.{MetaFault}
@@ -63,6 +64,11 @@ pub record IsWideFaultless (len : ℕ) (j : Data) : Type 0 where
   pub sizes : has_other_size len j ≡ false
   pub areas : (n : ℕ) → n < 32 → has_small_key_area j n ≡ false
   pub region : (n : ℕ) → n < 32 → has_slot_outside len j n ≡ false
+
+-- and it nests no deeper than a JSON text that is read: what a value keeps that was read
+pub record IsWideHeld (len : ℕ) (j : Data) : Type 0 where
+  pub nests : depth j ≤ max_depth
+  pub faultless : IsWideFaultless len j
 
 -- the order of the faults: those of `MetaFault` by theirs, then what contradicts itself
 abbrev pub wide_key : WideFault → List ℕ

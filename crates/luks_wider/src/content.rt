@@ -6,8 +6,8 @@ ghost use Rattle.serde_json.specs.View.{view};
 ghost use Rattle.luks_area.specs.First.{IsLeast};
 ghost use Rattle.luks_json.specs.AreaText.{JsonText};
 ghost use Rattle.luks_rules.specs.MetaFault.{meta_key};
-ghost use Rattle.luks_wider.specs.Accepted.{IsWideArea, IsWideHeld};
-ghost use Rattle.luks_wider.specs.WideFaults.{IsWideMetaFault};
+ghost use Rattle.luks_wider.specs.Accepted.{IsWideArea};
+ghost use Rattle.luks_wider.specs.WideFaults.{IsWideHeld, IsWideMetaFault};
 
 use crate::judging::{Content, judge_members};
 use luks_json::read_json;

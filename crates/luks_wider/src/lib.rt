@@ -13,9 +13,11 @@ mod rows;
 mod under_way;
 mod underway;
 mod walk;
+mod wider;
 
 pub use content::read_members;
 pub use fault::WideFault;
 pub use laws::accepted_is_not_under_way;
 pub use under_way::{first_reencryption, is_under_way};
 pub use underway::Underway;
+pub use wider::{Wider, read_wider};

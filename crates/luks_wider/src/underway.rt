@@ -2,7 +2,7 @@
 
 ghost use Rattle.std.specs.Prelude.{◌≡◌, ◌≢◌, ◌≤◌, ℕ, List, length, IfOk, IfErr, IfSome, IsNone};
 ghost use Rattle.serde_json.specs.View.{view};
-ghost use Rattle.luks_wider.specs.Accepted.{IsWideHeld};
+ghost use Rattle.luks_wider.specs.WideFaults.{IsWideHeld};
 
 use crate::content::read_members;
 use crate::objects::{config_in, digest_in, keyslot_in, segment_in, token_in};

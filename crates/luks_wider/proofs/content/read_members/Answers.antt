@@ -35,8 +35,7 @@ returns-clause-found c =
     record { json = c.in_ok-value.ensures.json; rules = rules_of (length c.args.area.now) (view c.in_ok-value.value) c.in_ok-judge_members.ensures.clean }
 
 pub returns-clause-held : goal.returns-clause-held
-returns-clause-held c =
-    record { nests = c.in_ok-value.ensures.nests; rules = rules_of (length c.args.area.now) (view c.in_ok-value.value) c.in_ok-judge_members.ensures.clean }
+returns-clause-held c = record { nests = c.in_ok-value.ensures.nests; faultless = c.in_ok-judge_members.ensures.clean }
 
 pub returns-clause-faultless : goal.returns-clause-faultless
 returns-clause-faultless c =
