@@ -2,7 +2,8 @@
 use Rattle.std.proofs.Common.{◌≡◌, ℕ, List, length, subst}
 use Rattle.serde_json.specs.Data.{Data}
 use Rattle.luks_area.specs.First.{IsLeast}
-use Rattle.luks_json.specs.AreaText.{Json}
+use Rattle.luks_json.specs.AreaText.{IsBadJson, Json, JsonText}
+use Rattle.luks_json.proofs.AreaKinds.{not_bad}
 use Rattle.luks_rules.specs.Accepted.{IsMeta}
 use Rattle.luks_rules.specs.MetaFault.{IsMetaFault, meta_key}
 use Rattle.luks_rules.specs.declared.fault.MetaFault.{MetaFault}
@@ -27,3 +28,10 @@ least_under area f h least = (under_way h least.0, λ g w. elim w [ under_way k 
 
 pub least_narrow : (area : List ℕ) (f : MetaFault) → (HasUnderWay area → ⊥) → IsLeast meta_key (IsMetaFault area) f → IsLeast meta_key (IsWiderFault area) f
 least_narrow area f none least = (narrow none least.0, λ g w. elim w [ under_way k i ↦ absurd (none k) | narrow other i ↦ least.1 g i ])
+
+-- nothing is under way in an area that holds no text, or one that is no value
+pub none_without_text : (area : List ℕ) → ((text : List ℕ) → JsonText area text → ⊥) → HasUnderWay area → ⊥
+none_without_text area none h = none h.json.text h.json.placed
+
+pub none_in_bad : (area : List ℕ) → IsBadJson area → HasUnderWay area → ⊥
+none_in_bad area bad h = not_bad area h.value h.json bad
