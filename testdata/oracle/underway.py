@@ -3,12 +3,9 @@
 `wider` answers the value that is read, or raises the first fault. What is listed, opened and told of it stands behind. Metadata in which nothing is under way
 is read by `reader.py` alone, so that nothing of it changes.
 """
-import json
-import re
-
 import reader
 from equations import round_up
-from reader import DECIMAL, NAME, SMALL, Fault, by_number, is_base64, is_decimal, is_names, is_number
+from reader import NAME, SMALL, Fault, by_number, is_decimal, is_names, is_number
 
 MODES, DIRECTIONS = ("reencrypt", "encrypt", "decrypt"), ("forward", "backward")
 CHECKSUMS, SHIFTS = ("checksum", "datashift-checksum"), ("datashift", "datashift-journal", "datashift-checksum")
