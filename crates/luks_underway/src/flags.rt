@@ -4,6 +4,7 @@ ghost use Rattle.std.specs.Prelude.{◌≡◌, codes, option_map, option_and_the
 ghost use Rattle.serde_json.specs.View.{items_view, view};
 ghost use Rattle.luks_rules.specs.declared.table.Outer.TheVariants.{Top};
 ghost use Rattle.luks_rules.specs.Sizes.{inside_at};
+ghost use Rattle.luks_underway.specs.Kinds.{is_kept_back};
 ghost use Rattle.luks_underway.specs.Segments.{are_flags, has_backup, has_flag, is_backup, is_backup_item, TellsFlags};
 
 use crate::member::inside_at;
@@ -49,6 +50,13 @@ pub fn has_flag(object: &Value, flag: &str) -> bool
     ensures { result ≡ has_flag flag.now (view object.now) }
 {
     names(inside_at(object, Outer::Top, "flags"), flag)
+}
+
+/// A flag of the segment begins with `backup-`: no data is read by it.
+pub fn is_kept_back(object: &Value) -> bool
+    ensures { result ≡ is_kept_back (view object.now) }
+{
+    is_backup(inside_at(object, Outer::Top, "flags"))
 }
 
 /// The value isn't there, or is an array of texts.

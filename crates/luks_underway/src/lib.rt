@@ -12,13 +12,13 @@ mod segments;
 mod sides;
 mod slots;
 
-pub use flags::{Flags, are_flags, has_flag, read_flags};
+pub use flags::{Flags, are_flags, has_flag, is_kept_back, read_flags};
 pub use member::{has_priority, has_type, inside_at, positive_inside, shift_at, unit_at};
 pub use opal::{Opal, read_opal};
 pub use reencryption::{
     Direction, Mode, ReencryptArea, Reencryption, direction_at, mode_at, read_reencryption,
 };
-pub use requirements::{are_requirements, has_requirement};
+pub use requirements::{are_requirements, has_requirement, mandatory_in};
 pub use resilience::{Checksum, Resilience};
 pub use segments::{WideKind, WideSegment, is_opal, read_wide_segment};
 pub use sides::{Side, is_named, keyslot_side, new_digest, old_digest};

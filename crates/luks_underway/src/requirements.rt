@@ -33,7 +33,8 @@ fn requirements_in(value: &Value) -> Option<&Value>
     section_at(value, Section::Config)?.get("requirements")
 }
 
-fn mandatory_in(value: &Value) -> Option<&Value>
+/// `config.requirements.mandatory`.
+pub fn mandatory_in(value: &Value) -> Option<&Value>
     ensures { option_map (λ v. view v.now) result ≡ mandatory_in (view value.now) }
 {
     requirements_in(value)?.get("mandatory")

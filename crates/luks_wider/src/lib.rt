@@ -2,9 +2,11 @@
 //! The rules that metadata of LUKS2 has to meet in which something is under way, and the first that it breaks.
 
 mod content;
+mod contradictions;
 mod fault;
 mod judging;
 mod laws;
+mod marks;
 mod object_faults;
 mod objects;
 mod place;

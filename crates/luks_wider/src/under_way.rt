@@ -46,7 +46,8 @@ fn first_opal(value: &Value) -> Option<u8>
     None
 }
 
-fn has_opal(value: &Value, number: u8) -> bool
+/// The segment with the number is one of a disk that encrypts itself.
+pub(crate) fn has_opal(value: &Value, number: u8) -> bool
     requires { number < 32 }
     ensures { result ≡ has_opal (view value.now) number }
 {

@@ -8,4 +8,4 @@ pub loop-number-preserved : goal.loop-number-preserved
 loop-number-preserved c = any_step (has_opal (view c.args.value.now)) c.loop-number.number c.loop-number.invariant (sym c.if-has_opal.ensures)
 
 pub returns-then-has_opal : goal.returns-then-has_opal
-returns-then-has_opal c = sym (any_at (has_opal (view c.args.value.now)) c.loop-number.number 32 (omega arith) (sym c.if-has_opal.ensures))
+returns-then-has_opal c = sym (any_at (has_opal (view c.args.value.now)) c.loop-number.number c.args.count (omega arith) (sym c.if-has_opal.ensures))

@@ -17,7 +17,7 @@ pub(crate) fn lacks_requirement(value: &Value) -> bool
     ensures { result ≡ lacks_requirement (view value.now) }
 {
     (any_reencrypt(value, 32) && !requires_reencryption(value))
-        || (any_opal(value) && !has_requirement(value, "opal"))
+        || (any_opal(value, 32) && !has_requirement(value, "opal"))
 }
 
 /// One of the first keyslots is of the type `reencrypt`.
@@ -33,11 +33,12 @@ fn any_reencrypt(value: &Value, count: u8) -> bool
     false
 }
 
-/// A segment is one of a disk that encrypts itself.
-fn any_opal(value: &Value) -> bool
-    ensures { result ≡ any_below (has_opal (view value.now)) 32 }
+/// One of the first segments is one of a disk that encrypts itself.
+fn any_opal(value: &Value, count: u8) -> bool
+    requires { count ≤ 32 }
+    ensures { result ≡ any_below (has_opal (view value.now)) count }
 {
-    for number in 0..32u8 {
+    for number in 0..count {
         if has_opal(value, number) {
             return true;
         }
