@@ -1,5 +1,6 @@
 pub mod AfterFacts
 pub mod AlikeFacts
+pub mod AmendFacts
 mod CopyFacts
 mod GapFacts
 mod GivenFacts
