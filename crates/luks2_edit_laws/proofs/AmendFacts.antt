@@ -35,7 +35,7 @@ use Rattle.luks2_edit_laws.proofs.MetadataFacts.{segments_follow}
 use Rattle.luks2_edit_laws.proofs.VolumeFacts.{copy_faultless, HasCopy, IsLayout}
 
 -- what is kept one way is kept the other way
-turned : (slot token : Option ℕ) (j k : Value) → KeepsUnnamed slot token j k → KeepsUnnamed slot token k j
+pub turned : (slot token : Option ℕ) (j k : Value) → KeepsUnnamed slot token j k → KeepsUnnamed slot token k j
 turned slot token j k r = record {
   keyslots = λ m off. sym (r.keyslots m off);
   named = record {

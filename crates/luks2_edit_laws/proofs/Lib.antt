@@ -23,3 +23,6 @@ pub mod TouchedFacts
 mod UniqueFacts
 pub mod VolumeFacts
 pub mod SoundCopyFacts
+pub mod AmendedFacts
+pub mod ValuedFacts
+pub mod AmendedAnswers

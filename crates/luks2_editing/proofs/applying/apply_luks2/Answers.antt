@@ -8,6 +8,7 @@ use Rattle.luks_edit.specs.Asked.{allowed_in, AreShortIn}
 use Rattle.luks2_judging.specs.declared.judged.JudgedEdit.TheVariants as judged
 use Rattle.luks2_judging.specs.Judging.{IsLostArea, Seals, Takes}
 use Rattle.luks2_judging.specs.Room.{IsAllowed}
+use Rattle.luks2_editing.proofs.AmendingFacts.{taken_numbered}
 use Rattle.luks2_editing.proofs.JudgedFacts.{judged_edit, refused_ends, replied}
 use Rattle.luks2_editing.proofs.applying.apply_luks2.Goals as goal
 
@@ -29,6 +30,12 @@ remove-requires-clause-lost g c =
     let copy = c.in_ok-judged.judged.copy in
     let takes = subst (λ t. Takes copy (g.D.Device.size c.args.device.now) c.args.edit.now t) c.in-Remove.is c.in_ok-judged.ensures.judged.takes in
     subst (λ (n : ℕ). IsLostArea (content copy.meta) n c.in-Remove.slot c.in-Remove.area) (sym c.judge_luks2.ensures.unchanged.size) takes.lost
+
+pub repair-requires-clause-numbered : goal.repair-requires-clause-numbered
+repair-requires-clause-numbered g c =
+    let copy = c.in_ok-judged.judged.copy in
+    let takes = subst (λ t. Takes copy (g.D.Device.size c.args.device.now) c.args.edit.now t) c.in-Rewrite.is c.in_ok-judged.ensures.judged.takes in
+    taken_numbered (content copy.meta) takes.rewritten.change c.in-Rewrite.change takes.takes
 
 pub returns-in-Rewrite-clause-replies : goal.returns-in-Rewrite-clause-replies
 returns-in-Rewrite-clause-replies g c = λ tells is.

@@ -1,8 +1,10 @@
-use Rattle.std.proofs.Common.{IfSome, refl, subst, sym}
+use Rattle.std.proofs.Common.{IfSome, inl, refl, subst, sym}
 use Rattle.luks_meta.specs.Content.{content}
-use Rattle.luks2_judging.specs.Judged.{IsUsable}
-use Rattle.luks2_judging.proofs.KeyslotFacts.{removal_there, removed_opens, removed_wanted, rewriting_there, sealed_opens, sealing_there}
-use Rattle.luks2_judging.proofs.keyslots.judge_removed.Goals as goal
+use Rattle.luks_edit.specs.declared.edit_fault.EditFault.TheVariants.{NoSuchSlot}
+use Rattle.luks2_edit_laws.specs.Refused.{IsAbsent}
+use Rattle.luks2_judging.specs.Judged.{IsAbsentAmended, IsUsable}
+use Rattle.luks2_judging.proofs.KeyslotFacts.{judged_as, removal_there, removed_opens, removed_wanted, rewriting_absent, rewriting_there, sealed_opens, sealing_there}
+use Rattle.luks2_judging.proofs.keyslots.judge_others.Goals as goal
 
 pub returns-then-is_used : goal.returns-then-is_used
 returns-then-is_used c =
@@ -17,7 +19,7 @@ returns-else-is_used c = (
   refl,
   record {
     slot = c.in-Remove.removed.slot;
-    wanted = removed_wanted c.args.edit.now c.in-Remove.removed (sym c.in-Remove.ensures);
+    wanted = inl (removed_wanted c.args.edit.now c.in-Remove.removed (sym c.in-Remove.ensures));
     unused = c.is_used.ensures.unused c.if-is_used.false;
   },
 )
@@ -31,4 +33,9 @@ returns-in-Seal c =
     sealing_there j e s is (subst (λ x. IfSome x (IsUsable j)) (sealed_opens e s is) c.requires)
 
 pub returns-in-Rewrite : goal.returns-in-Rewrite
-returns-in-Rewrite c = rewriting_there (content c.args.meta.now) c.args.edit.now c.in-Rewrite.label (sym c.in-Rewrite.ensures)
+returns-in-Rewrite c =
+    let j = content c.args.meta.now in
+    let e = c.args.edit.now in
+    let r = c.in-Rewrite.rewritten in
+    let is = sym c.in-Rewrite.ensures in
+    judged_as _ (IsAbsentAmended j r.change) (IsAbsent j e) NoSuchSlot (rewriting_absent j e r is) (rewriting_there j e r is) c.judge_amended.result c.judge_amended.ensures

@@ -1,0 +1,101 @@
+//! Judging a change of the metadata, by the tokens that are there.
+ghost use Rattle.std.specs.Prelude.{◌≡◌, ◌<◌, ℕ, false, IfSome, IsSomeAnd, IsTrue, MatchOption, MatchResult};
+ghost use Rattle.luks_meta.specs.Content.{content};
+ghost use Rattle.luks2_edit_laws.specs.Metadata.{HasToken, IsFreeToken, IsLeastFreeToken};
+ghost use Rattle.luks2_judging.specs.Changes.{HasPriorityThere, IsChangeFault, IsNewTokenNumber, IsTakenAs, IsTakenChange, IsTokenNumberFault};
+
+use crate::judged::JudgedChange;
+use luks_edit::{Change, EditFault};
+use luks_meta::Meta;
+
+/// Whether the token is there.
+fn is_token(meta: &Meta, n: u8) -> bool
+    ensures used { IsTrue result → HasToken (content meta.now) n }
+    ensures free { result ≡ false → n < 32 → IsFreeToken (content meta.now) n }
+    ensures unused { result ≡ false → HasToken (content meta.now) n → ⊥ }
+{
+    if n > 31 {
+        return false;
+    }
+    match meta.token(n) {
+        Some(_) => true,
+        None => false,
+    }
+}
+
+/// The least number that no token has.
+fn least_free_token(meta: &Meta) -> Option<u8>
+    ensures { MatchOption result ((n : ℕ) → IsFreeToken (content meta.now) n → ⊥)
+        (IsLeastFreeToken (content meta.now)) }
+{
+    for n in 0..32 {
+        if !is_token(meta, n) {
+            return Some(n);
+        }
+    }
+    None
+}
+
+/// The number of the token to add: `to`, or else the least that is free. Refused by `TokenTaken`,
+/// `NoFreeToken`.
+fn new_token_number(meta: &Meta, to: Option<u8>) -> Result<u8, EditFault>
+    ensures { MatchResult result (IsNewTokenNumber (content meta.now) to)
+        (IsTokenNumberFault (content meta.now) to) }
+{
+    match to {
+        Some(n) => {
+            if n > 31 {
+                return Err(EditFault::NoFreeToken);
+            }
+            if is_token(meta, n) {
+                return Err(EditFault::TokenTaken);
+            }
+            Ok(n)
+        }
+        None => match least_free_token(meta) {
+            Some(n) => Ok(n),
+            None => Err(EditFault::NoFreeToken),
+        },
+    }
+}
+
+/// What the change takes, whose keyslot is there if it names one. Refused by `NoSuchToken`,
+/// `TokenTaken`, `NoFreeToken`.
+fn judge_amending<'a>(meta: &Meta, change: Change<'a>) -> Result<JudgedChange<'a>, EditFault>
+    requires { HasPriorityThere (content meta.now) change.entry }
+    ensures { MatchResult result (IsTakenAs (content meta.now) change.entry)
+        (IsChangeFault (content meta.now) change.entry) }
+{
+    match change {
+        Change::Priority { slot, priority } => Ok(JudgedChange::Priority { slot, priority }),
+        Change::AddToken { to, token } => match new_token_number(meta, to) {
+            Ok(number) => Ok(JudgedChange::AddToken { number, token }),
+            Err(fault) => Err(fault),
+        },
+        Change::RemoveToken { number } => {
+            if is_token(meta, number) {
+                Ok(JudgedChange::RemoveToken { number })
+            } else {
+                Err(EditFault::NoSuchToken)
+            }
+        }
+    }
+}
+
+/// The same of a change, if there is one.
+pub(crate) fn judge_change<'a>(
+    meta: &Meta,
+    change: Option<Change<'a>>,
+) -> Result<Option<JudgedChange<'a>>, EditFault>
+    requires { IfSome change.entry (HasPriorityThere (content meta.now)) }
+    ensures { MatchResult result (IsTakenChange (content meta.now) change.entry)
+        (λ f. IsSomeAnd change.entry (λ c. IsChangeFault (content meta.now) c f)) }
+{
+    match change {
+        None => Ok(None),
+        Some(change) => match judge_amending(meta, change) {
+            Ok(taken) => Ok(Some(taken)),
+            Err(fault) => Err(fault),
+        },
+    }
+}
