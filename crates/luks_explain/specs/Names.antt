@@ -50,6 +50,9 @@ name_of fault.NoFreeSlot = codes "NoFreeSlot"
 name_of fault.NoRoom = codes "NoRoom"
 name_of fault.LastSlot = codes "LastSlot"
 name_of fault.BadLabel = codes "BadLabel"
+name_of fault.NoSuchToken = codes "NoSuchToken"
+name_of fault.TokenTaken = codes "TokenTaken"
+name_of fault.NoFreeToken = codes "NoFreeToken"
 name_of fault.SeqExhausted = codes "SeqExhausted"
 name_of fault.MetadataFull = codes "MetadataFull"
 name_of fault.RandomLength = codes "RandomLength"
@@ -112,6 +115,9 @@ all_faults =
     ∷ fault.NoRoom
     ∷ fault.LastSlot
     ∷ fault.BadLabel
+    ∷ fault.NoSuchToken
+    ∷ fault.TokenTaken
+    ∷ fault.NoFreeToken
     ∷ fault.SeqExhausted
     ∷ fault.MetadataFull
     ∷ fault.RandomLength
@@ -178,6 +184,9 @@ named fault.NoFreeSlot = refl
 named fault.NoRoom = refl
 named fault.LastSlot = refl
 named fault.BadLabel = refl
+named fault.NoSuchToken = refl
+named fault.TokenTaken = refl
+named fault.NoFreeToken = refl
 named fault.SeqExhausted = refl
 named fault.MetadataFull = refl
 named fault.RandomLength = refl
@@ -243,6 +252,9 @@ called fault.NoFreeSlot = refl
 called fault.NoRoom = refl
 called fault.LastSlot = refl
 called fault.BadLabel = refl
+called fault.NoSuchToken = refl
+called fault.TokenTaken = refl
+called fault.NoFreeToken = refl
 called fault.SeqExhausted = refl
 called fault.MetadataFull = refl
 called fault.RandomLength = refl

@@ -44,6 +44,9 @@ pub(crate) fn means(fault: Fault) -> &'static str {
         Fault::NoRoom => "no gap of the key areas holds a new one; of convert: too large",
         Fault::LastSlot => "no other keyslot would give the key",
         Fault::BadLabel => "more than 47 bytes, or one that can't be printed, or LUKS1",
+        Fault::NoSuchToken => "the volume has no token of this number",
+        Fault::TokenTaken => "the volume has a token of the number of --to",
+        Fault::NoFreeToken => "the volume has 32 tokens, and no number is free",
         Fault::SeqExhausted => "there is no higher sequence number",
         Fault::MetadataFull => "the new metadata is longer than its area",
         Fault::RandomLength => "the random file is too short, or none is given",
@@ -161,7 +164,12 @@ pub(crate) fn place(fault: Fault) -> &'static str {
         Fault::NoFreeSlot => "add, and change of LUKS1: LUKS1 has 0 to 7, LUKS2 0 to 31",
         Fault::NoRoom => "add and change, of LUKS2; convert: the areas would end past 16777216",
         Fault::LastSlot => "remove: the keyslot of --slot is the last one of its volume key",
-        Fault::BadLabel => "label: TEXT; format: --label or --subsystem",
+        Fault::BadLabel => {
+            "label: TEXT or --subsystem; format: --label or --subsystem; priority and
+       token: the volume, which is of LUKS1"
+        }
+        Fault::NoSuchToken => "token export and token remove: N",
+        Fault::TokenTaken | Fault::NoFreeToken => "token import: --to, 0 to 31",
         Fault::SeqExhausted => {
             "add, change, remove, repair and label: seqid of the copy that counts, of
        LUKS2"
@@ -288,6 +296,9 @@ pub(crate) fn safe(fault: Fault) -> &'static str {
         | Fault::NoRoom
         | Fault::LastSlot
         | Fault::BadLabel
+        | Fault::NoSuchToken
+        | Fault::TokenTaken
+        | Fault::NoFreeToken
         | Fault::SeqExhausted
         | Fault::MetadataFull
         | Fault::RandomLength
@@ -447,6 +458,8 @@ pub(crate) fn next(fault: Fault) -> &'static str {
             "add another keyslot first (luks add), or change this one (luks change)"
         }
         Fault::BadLabel => "give at most 47 bytes of 0x20 to 0x7E; LUKS1 has no label",
+        Fault::NoSuchToken | Fault::TokenTaken => "luks token VOLUME list lists those that there are",
+        Fault::NoFreeToken => "remove one that isn't needed: luks token VOLUME remove N",
         Fault::SeqExhausted => {
             "no count of edits leads there: some program wrote it so; restore a header
        backup with a lower one (luks show BACKUP prints it as seqid)"

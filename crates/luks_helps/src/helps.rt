@@ -403,6 +403,7 @@ pub const LABEL: &str = "Sets the label of a LUKS2 volume";
 pub const LABEL_MORE: &str = "\
 The label is at most 47 bytes of 0x20 to 0x7E, and may be empty. One that begins
 with a hyphen comes after --, with the volume: luks label .. -- VOLUME TEXT.
+With --subsystem the subsystem is set too; without it that stays as it is.
 
 Written are, with a flush after each, the copy of the header that doesn't count
 and the one that does. The salts are the first 128 bytes of the random file.
@@ -412,7 +413,7 @@ a file system or a partition table, stands in the place of the other, nothing
 is written but with --over.
 
 Prints one line:
-  done           the label is set, and the copies are in step
+  done           it is set, and the copies are in step
   refused FAULT  the first fault, and nothing was written: what check refuses,
                  OtherUse (as above), Requirements, BadLabel (it is too long,
                  has another character, or the volume is of LUKS1),
@@ -426,6 +427,81 @@ new one, and each keyslot opens as before. Run luks repair, and luks show.
 
 Exit status:
   0  done, or help was asked for
+  1  refused; nothing was written
+  2  the command line is wrong; the text is on standard error
+  4  device fault, no memory, or the output can't be written";
+
+/// What `priority` does, in a line.
+pub const PRIORITY: &str = "Sets when a keyslot of LUKS2 is tried";
+
+/// The help of `priority` after its words.
+pub const PRIORITY_MORE: &str = "\
+Where no keyslot is named, those of the priority prefer are tried first, then
+those of normal, each by number, and those of ignore never; so do cryptsetup and
+luks open. The metadata says 2 or 0, and of normal nothing.
+
+Written are, with a flush after each, the copy of the header that doesn't count
+and the one that does. The salts are the first 128 bytes of the random file.
+
+Where only one copy of a LUKS2 header is sound and another use of the disk, as
+a file system or a partition table, stands in the place of the other, nothing
+is written but with --over.
+
+Prints one line:
+  done           the priority is set, and the copies are in step
+  refused FAULT  the first fault, and nothing was written: what check refuses,
+                 OtherUse (as above), Requirements, NoSuchSlot, BadLabel (the
+                 volume is of LUKS1), SeqExhausted, MetadataFull or RandomLength
+                 (the random file is too short)
+  device fault   a file can't be read, or the volume read or written
+  no memory      memory was refused; nothing was written
+
+If the device fails in the midst, a copy is sound and has the old priority or
+the new one, and each keyslot opens as before. Run luks repair, and luks show.
+
+Exit status:
+  0  done, or help was asked for
+  1  refused; nothing was written
+  2  the command line is wrong; the text is on standard error
+  4  device fault, no memory, or the output can't be written";
+
+/// What `token` does, in a line.
+pub const TOKEN: &str = "Lists, exports, imports and removes tokens of LUKS2";
+
+/// The help of `token` after its words.
+pub const TOKEN_MORE: &str = "\
+VOLUME list prints a line for each token, VOLUME export N - the text of one: a
+JSON object, with no white space outside its texts.
+
+VOLUME import FILE adds the token whose text FILE holds, at most 65536 bytes, or
+standard input (-): one JSON object of a type, an array keyslots of the numbers
+of keyslots as texts, and any other members, all of which are kept. VOLUME
+remove N takes a token away; no keyslot loses anything by it.
+
+Written are, with a flush after each, the copy of the header that doesn't count
+and the one that does. The salts are the first 128 bytes of the random file.
+
+Where only one copy of a LUKS2 header is sound and another use of the disk, as
+a file system or a partition table, stands in the place of the other, nothing
+is written but with --over.
+
+Prints the lines or the text, or one line:
+  done           the token is there, or gone, and the copies are in step
+  refused FAULT  the first fault, and nothing was written: what check refuses,
+                 OtherUse (as above), Requirements, BadLabel (the volume is of
+                 LUKS1), NoSuchToken, TokenTaken, NoFreeToken, what check would
+                 refuse with the token, as Shape(tokens.N.keyslots) or
+                 NoSuchName(..), BadJson (FILE holds no JSON text),
+                 SeqExhausted, MetadataFull, RandomLength (the random file is
+                 too short or none is named), or Passphrase (FILE is too long)
+  device fault   a file can't be read, or the volume read or written
+  no memory      memory was refused; nothing was written
+
+If the device fails in the midst, a copy is sound and has the tokens as before
+or as after, and each keyslot opens as before. Run luks repair, and luks show.
+
+Exit status:
+  0  listed, exported or done, or help was asked for
   1  refused; nothing was written
   2  the command line is wrong; the text is on standard error
   4  device fault, no memory, or the output can't be written";

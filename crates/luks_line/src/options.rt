@@ -37,6 +37,8 @@ pub(crate) enum LongOption {
     KeyFile,
     Rescue,
     Other,
+    PreferredSlot,
+    ToToken,
     RemovedSlot,
     By,
     Size,
@@ -83,7 +85,7 @@ pub(crate) struct OptionRow {
 }
 
 /// In the order of `LongOption`.
-static OPTIONS: [OptionRow; 60] = [
+static OPTIONS: [OptionRow; 62] = [
     OptionRow {
         name: "detached",
         needed: false,
@@ -269,6 +271,18 @@ static OPTIONS: [OptionRow; 60] = [
         needed: false,
         help: "Write over the header of another volume",
         takes: Takes::Nothing,
+    },
+    OptionRow {
+        name: "slot",
+        needed: true,
+        help: "The keyslot, 0 to 31",
+        takes: Takes::Slot,
+    },
+    OptionRow {
+        name: "to",
+        needed: false,
+        help: "The number of the new token; else the least free",
+        takes: Takes::Slot,
     },
     OptionRow {
         name: "slot",

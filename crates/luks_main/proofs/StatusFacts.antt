@@ -16,7 +16,8 @@ use Rattle.luks_request.specs.declared.rebuilding.Rebuilding.{Rebuilding}
 use Rattle.luks_request.specs.declared.request.ShowAs.{ShowAs}
 use Rattle.luks_request.specs.declared.request.ShowAs.TheVariants as form
 use Rattle.luks_commands.specs.declared.answers.Answer.{Answer}
-use Rattle.luks_commands.specs.declared.answers.Answer.TheVariants.{Accepted, Listed, ListedFully, Mapped, Json, Opens, Closed, NoneOpens, Matches, Differs, Done, Compared, Rescued, Refused, DeviceFault, NoMemory}
+use Rattle.luks_edit.specs.declared.edit_fault.EditFault.TheVariants.{NoSuchToken}
+use Rattle.luks_commands.specs.declared.answers.Answer.TheVariants.{Accepted, Listed, ListedFully, Mapped, Tokens, Json, Opens, Closed, NoneOpens, Matches, Differs, Done, Compared, Rescued, Refused, DeviceFault, NoMemory}
 use Rattle.luks_commands.specs.declared.answers.Refusal.TheVariants as refusal
 use Rattle.luks_commands.specs.declared.inputs.InputFault.{InputFault}
 use Rattle.luks_commands.specs.declared.inputs.InputFault.TheVariants.{Absent, Unreadable, NoMemory as NoMemoryToRead}
@@ -39,7 +40,7 @@ use Rattle.luks_reading.specs.declared.open_fault.OpenFault.TheVariants as openi
 use Rattle.luks_area.specs.declared.device.Device.{Ghosts as Device}
 use Rattle.luks_commands.specs.FormatAnswers.{AnswersFormat, IsFormatAnswer}
 use Rattle.luks_rebuilding.specs.declared.place.Which.{Which}
-use Rattle.luks_commands.specs.ShowAnswers.{AnswersShow, IsFullAnswer, IsJsonAnswer, IsListedAnswer, IsMapAnswer, IsShowAnswer}
+use Rattle.luks_commands.specs.ShowAnswers.{AnswersShow, IsFullAnswer, IsJsonAnswer, IsListedAnswer, IsMapAnswer, IsShowAnswer, IsTokenAnswer, IsTokensAnswer}
 use Rattle.luks_header_commands.specs.Converting.{AnswersConvert, IsConvertAnswer}
 use Rattle.luks_header_commands.specs.Trying.{no_header, none_open, one_opens, trial_failed, AnswersBy, AnswersRebuild, IsTriedAnswer, TriedAnswer}
 use Rattle.luks_header_commands.specs.Rebuilding.{given_of, copies_asked, IsAnswerOf, IsLuks1Answer, IsLuks2Answer, IsRebuildAnswer}
@@ -158,16 +159,35 @@ json_there tells v before after DeviceFault said = refl
 json_there tells v before after NoMemory said = refl
 json_there tells v before after a said = absurd said
 
+tokens_there : (tells : Type 0) (v : List ℕ) (before after : ℕ) (a : Answer) → IsTokensAnswer tells v before after a → EndsShow form.Tokens a (own a)
+tokens_there tells v before after (Tokens t) said = refl
+tokens_there tells v before after (Refused (refusal.Check f)) said = refl
+tokens_there tells v before after DeviceFault said = refl
+tokens_there tells v before after NoMemory said = refl
+tokens_there tells v before after a said = absurd said
+
+token_there : (n : ℕ) (tells : Type 0) (v : List ℕ) (before after : ℕ) (a : Answer) → IsTokenAnswer n tells v before after a → EndsShow (form.Token n) a (own a)
+token_there n tells v before after (Json text) said = refl
+token_there n tells v before after (Refused (refusal.Check f)) said = refl
+token_there n tells v before after (Refused (refusal.Edit NoSuchToken)) said = refl
+token_there n tells v before after DeviceFault said = refl
+token_there n tells v before after NoMemory said = refl
+token_there n tells v before after a said = absurd said
+
 show_there : (shown_as : ShowAs) (tells : Type 0) (v : List ℕ) (before after : ℕ) (a : Answer) → IsShowAnswer shown_as tells v before after a → EndsShow shown_as a (own a)
 show_there form.Lines tells v before after a said = listed_there tells v before after a said
 show_there form.All tells v before after a said = full_there tells v before after a said
 show_there form.Map tells v before after a said = map_there tells v before after a said
+show_there form.Tokens tells v before after a said = tokens_there tells v before after a said
+show_there (form.Token n) tells v before after a said = token_there n tells v before after a said
 show_there form.Json tells v before after a said = json_there tells v before after a said
 
 show_unread : (shown_as : ShowAs) (f : InputFault) (a : Answer) → a ≡ unread_answer f → EndsShow shown_as a (own a)
 show_unread form.Lines f a is = unread_ends (EndsShow form.Lines) refl refl f a is
 show_unread form.All f a is = unread_ends (EndsShow form.All) refl refl f a is
 show_unread form.Map f a is = unread_ends (EndsShow form.Map) refl refl f a is
+show_unread form.Tokens f a is = unread_ends (EndsShow form.Tokens) refl refl f a is
+show_unread (form.Token n) f a is = unread_ends (EndsShow (form.Token n)) refl refl f a is
 show_unread form.Json f a is = unread_ends (EndsShow form.Json) refl refl f a is
 
 pub show_ends : {D : Type 0} (shown_as : ShowAs) (tells : Type 0) (bytes : D → List ℕ) (failed : D → ℕ) (old new : Result D InputFault) (a : Answer)

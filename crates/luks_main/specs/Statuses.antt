@@ -7,8 +7,9 @@ use Rattle.luks_request.specs.declared.request.Command.TheVariants as command
 use Rattle.luks_request.specs.declared.request.ShowAs.{ShowAs}
 use Rattle.luks_request.specs.declared.request.ShowAs.TheVariants as form
 use Rattle.luks_keeping.specs.ComparisonTexts.{is_current}
+use Rattle.luks_edit.specs.declared.edit_fault.EditFault.TheVariants.{NoSuchToken}
 use Rattle.luks_commands.specs.declared.answers.Answer.{Answer}
-use Rattle.luks_commands.specs.declared.answers.Answer.TheVariants.{Accepted, Listed, ListedFully, Mapped, Json, Opens, Closed, NoneOpens, Matches, Differs, Done, Compared, Rescued, Refused, DeviceFault, NoMemory}
+use Rattle.luks_commands.specs.declared.answers.Answer.TheVariants.{Accepted, Listed, ListedFully, Mapped, Tokens, Json, Opens, Closed, NoneOpens, Matches, Differs, Done, Compared, Rescued, Refused, DeviceFault, NoMemory}
 use Rattle.luks_commands.specs.declared.answers.Refusal.TheVariants as refusal
 
 -- of every command: a file or the device failed, or memory was refused
@@ -33,6 +34,9 @@ abbrev pub EndsShow : ShowAs → Answer → ℕ → Type 0
 EndsShow form.Lines (Listed listing) status = status ≡ 0
 EndsShow form.All (ListedFully listing) status = status ≡ 0
 EndsShow form.Map (Mapped map) status = status ≡ 0
+EndsShow form.Tokens (Tokens listing) status = status ≡ 0
+EndsShow (form.Token n) (Json text) status = status ≡ 0
+EndsShow (form.Token n) (Refused (refusal.Edit NoSuchToken)) status = status ≡ 1
 EndsShow form.Json (Json text) status = status ≡ 0
 EndsShow shown_as (Refused (refusal.Check fault)) status = status ≡ 1
 EndsShow shown_as answer status = EndsAny answer status

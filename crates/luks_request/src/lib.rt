@@ -7,6 +7,7 @@ mod keeping;
 mod place;
 mod rebuilding;
 mod request;
+mod token;
 
 pub use cipher::AskedCipher;
 pub use derivation::{AskedArgon2, AskedKdf, AskedKind};
@@ -17,3 +18,4 @@ pub use request::{
     Command, Converting, EditRequest, Editing, Line, Making, Matching, NewFields, NewVersion,
     OpenerFile, ShowAs,
 };
+pub use token::AskedPriority;
