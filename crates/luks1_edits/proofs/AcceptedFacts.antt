@@ -67,7 +67,7 @@ module _ (v : List ℕ) (payload : Data) (r : List ℕ) (accepted : (f : CheckFa
   unset nothing bad = let set : sets_nothing rewritten ≡ false = (rw is at bad) in false≢true (sym set ∙ nothing)
 
   -- there is nothing to repair
-  idle : sets_nothing rewritten ≡ true → Passed (IsEditFault1 v payload e r) 21
+  idle : sets_nothing rewritten ≡ true → Passed (IsEditFault1 v payload e r) 22
   idle nothing = past_label v payload e r new_passed (λ bad. rw is at bad) (λ bad. rw is at bad) (λ bad. rw is at bad) (unset nothing)
 
   need_none : (k : ℕ) → Need1 v e k → k ≡ 0

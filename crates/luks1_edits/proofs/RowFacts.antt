@@ -67,17 +67,17 @@ module _ (v : List ℕ) (payload : Data) (e : Edit) (r : List ℕ) where
       next s fault.NoRoom refl (next s fault.NoFreeSlot refl (next s fault.SlotTaken refl before untaken) free) (λ bad. bad)
 
   pub past_label : Passed (IsEditFault1 v payload e r) 11 → (IsLast v e → ⊥) → (HasFewIterations e → ⊥) → (ChoosesArgon2 e → ⊥) → (IsLabel e → ⊥)
-      → Passed (IsEditFault1 v payload e r) 21
+      → Passed (IsEditFault1 v payload e r) 22
   past_label before last few argon2 label =
       let s = IsEditFault1 v payload e r in
       next s fault.MetadataFull refl
       (next s fault.SeqExhausted refl
       (past_tokens s (next s fault.BadLabel refl (next s fault.Argon2 refl (next s fault.Iterations refl (next s fault.LastSlot refl before last) few) argon2) label)
-      (λ bad. bad) (λ bad. bad) (λ bad. bad) (λ m bad. bad)) (λ bad. bad))
+      (λ bad. bad) (λ bad. bad) (λ bad. bad) (λ bad. bad) (λ m bad. bad)) (λ bad. bad))
       (λ bad. bad)
 
   -- nothing refuses it
-  pub unrefused : Passed (IsEditFault1 v payload e r) 21 → (IsMiscounted v e r → ⊥) → IsUnrefused1 v payload e r
+  pub unrefused : Passed (IsEditFault1 v payload e r) 22 → (IsMiscounted v e r → ⊥) → IsUnrefused1 v payload e r
   unrefused before counted =
       let s = IsEditFault1 v payload e r in
       record { none = none_at_all s (next s fault.Device refl (next s fault.Memory refl (next s fault.RandomLength refl before counted) (λ bad. bad)) (λ bad. bad)) }

@@ -1,15 +1,17 @@
 -- When an edit of a LUKS2 volume is refused, and how many random bytes it takes. The order of the
 -- faults is that of every edit.
-use Rattle.std.specs.Prelude.{◌≡◌, ◌≢◌, ℕ, ◌+◌, ◌-◌, ◌*◌, ◌^◌, ◌<◌, ◌≤◌, ◌⊎◌, Bool, List, length, true, Option, Some, None, IsSomeAnd, MatchOption}
+use Rattle.std.specs.Prelude.{◌≡◌, ◌≢◌, ℕ, ◌+◌, ◌-◌, ◌*◌, ◌^◌, ◌<◌, ◌≤◌, ◌⊎◌, Bool, List, [], length, true, Option, Some, None, IsSomeAnd, MatchOption}
 use Rattle.std.specs.Borrow.{Bor}
 use Rattle.base64.specs.GeneralPurpose.{IsBytes}
-use Rattle.serde_json.specs.Data.{Data as Value}
+use Rattle.serde_json.specs.Data.{Data as Value, depth}
 use Rattle.serde_json.specs.View.{view}
 use Rattle.serde_json.specs.Written.{compact_text}
 use Rattle.luks_area.specs.First.{IsLeast}
 use Rattle.luks_area.specs.Text.{is_plain}
 use Rattle.luks2_header.specs.Header2.{binary_header_size, hdr_size, header_at, seqid}
 use Rattle.luks_rules.specs.declared.fault.MetaFault.{MetaFault}
+use Rattle.luks_rules.specs.declared.table.Outer.TheVariants as outer
+use Rattle.luks_rules.specs.Faults.{type_at}
 use Rattle.luks_rules.specs.Valued.{IsValueFault}
 use Rattle.luks_making.specs.Amended.{with_token}
 use Rattle.luks_making.specs.declared.amended.Change.{Change}
@@ -109,6 +111,15 @@ IsTokenTaken j c = MatchChange c (λ slot priority. ⊥) (λ to token. IsTokenAt
 abbrev pub HasNoFreeToken : Value → Change → Type 0
 HasNoFreeToken j c = MatchChange c (λ slot priority. ⊥) (λ to token. HasNoTokenNumber j to) (λ number. ⊥)
 
+-- cryptsetup 2.6.1 doesn't read metadata with the token: its type is the empty text, or arrays and objects
+-- nest in it deeper than 29 levels. It stands two levels deep in the metadata, in which a text or a number
+-- may lie within 31
+abbrev pub IsUnreadable : Value → Type 0
+IsUnreadable token = (type_at token outer.Top ≡ Some []) ⊎ (29 < depth token)
+
+abbrev pub IsUnreadableToken : Change → Type 0
+IsUnreadableToken c = MatchChange c (λ slot priority. ⊥) (λ to token. IsUnreadable (view token.now)) (λ number. ⊥)
+
 -- the metadata with the token has the fault, in a JSON area of `len` bytes
 pub record IsFaultyWith (len : ℕ) (j : Value) (to : Option ℕ) (token : Value) (f : MetaFault) : Type 0 where
   pub number : ℕ
@@ -195,6 +206,7 @@ IsEditFault2 v payload e random fault.BadLabel = IsBadLabel e
 IsEditFault2 v payload e random fault.NoSuchToken = HasSaid v (λ o j. IsSomeAnd (change_by e) (LacksToken j))
 IsEditFault2 v payload e random fault.TokenTaken = HasSaid v (λ o j. IsSomeAnd (change_by e) (IsTokenTaken j))
 IsEditFault2 v payload e random fault.NoFreeToken = HasSaid v (λ o j. IsSomeAnd (change_by e) (HasNoFreeToken j))
+IsEditFault2 v payload e random fault.UnreadableToken = IsSomeAnd (change_by e) IsUnreadableToken
 IsEditFault2 v payload e random (fault.BadToken f) = HasSaid v (λ o j. IsSomeAnd (change_by e) (IsBadToken (hdr_size (header_at v o) - binary_header_size) j f))
 IsEditFault2 v payload e random fault.SeqExhausted = HasSaid v (λ o j. seqid (header_at v o) + 1 ≡ 2 ^ 64)
 IsEditFault2 v payload e random fault.MetadataFull = HasSaid v (λ o j. IsFull (hdr_size (header_at v o)) (length v) payload j e)

@@ -135,7 +135,7 @@ pub record IsJudgedAddition (v : List ℕ) (payload : Data) (copy : ChosenCopy) 
   pub chosen : IsChosenCopy v copy
   pub well : WellFormed v payload
   pub asked : deed_of e ≡ Seal (sealing (New o to) new addition.derivation)
-  pub before : HasNoFaultBefore 18 v payload e random
+  pub before : HasNoFaultBefore 19 v payload e random
   pub opened : Gives2 (allowed_for o new.now) v o key
   pub is_like : IsLike (content copy.meta) o addition.like
   pub is_new : IsNewKeyslot (content copy.meta) to addition.made

@@ -29,11 +29,11 @@ use Rattle.luks2_editing.proofs.RenewalFacts.{metadata_here, prepared_unrefused,
 -- ---- the keyslot's area
 
 module _ (v : List ℕ) (payload : Data) (copy : ChosenCopy) (x : IsChosenCopy v copy) (well : WellFormed v payload)
-    (slot : ℕ) (by_ : Option ℕ) (passphrase : Secret) (random : List ℕ) (before : HasNoFaultBefore 18 v payload (Remove slot by_ passphrase) random) where
-  pub removal_passed : Passed (IsEditFault2 v payload (Remove slot by_ passphrase) random) 19
+    (slot : ℕ) (by_ : Option ℕ) (passphrase : Secret) (random : List ℕ) (before : HasNoFaultBefore 19 v payload (Remove slot by_ passphrase) random) where
+  pub removal_passed : Passed (IsEditFault2 v payload (Remove slot by_ passphrase) random) 20
   removal_passed =
       let s = IsEditFault2 v payload (Remove slot by_ passphrase) random in
-      after_token s (passed_from s 18 before.each) (λ f bad. bad.is)
+      after_token s (passed_from s 19 before.each) (λ f bad. bad.is)
 
   module _ (area : Area) (is : IsKeyArea (content copy.meta) slot area) where
     module _ (new : Value) (made : new ≡ without_slot slot (content copy.meta)) (w y : List ℕ)

@@ -125,7 +125,7 @@ module _ (v : List ℕ) (payload : Data) (copy : ChosenCopy) (x : IsChosenCopy v
 
   -- ---- an edit that makes `new` of the metadata, once the rows before that of the number were passed
 
-  module _ (e : Edit) (random : List ℕ) (new : Value) (passed : Passed (IsEditFault2 v payload e random) 19)
+  module _ (e : Edit) (random : List ℕ) (new : Value) (passed : Passed (IsEditFault2 v payload e random) 20)
       (edited : (salt : List ℕ) → IsEdited (hdr_size (header_at v copy.header.hdr_offset)) (length v) payload e salt (content copy.meta) new)
       (edited_only : (salt : List ℕ) (k : Value) → IsEdited (hdr_size (header_at v copy.header.hdr_offset)) (length v) payload e salt (content copy.meta) k → k ≡ new)
       (need : Need2 (content copy.meta) e 128) (need_only : (k : ℕ) → Need2 (content copy.meta) e k → k ≡ 128)
@@ -151,13 +151,13 @@ module _ (v : List ℕ) (payload : Data) (copy : ChosenCopy) (x : IsChosenCopy v
         let other : IsMiscounted (content copy.meta) e random = said_here (λ o j. IsMiscounted j e random) bad in
         other.other (count ∙ sym (need_only other.need other.is))
 
-    past_number : copy.header.seqid + 1 < 2 ^ 64 → Passed (IsEditFault2 v payload e random) 20
+    past_number : copy.header.seqid + 1 < 2 ^ 64 → Passed (IsEditFault2 v payload e random) 21
     past_number low = next (IsEditFault2 v payload e random) fault.SeqExhausted refl passed (numbered_of low)
 
-    past_room : copy.header.seqid + 1 < 2 ^ 64 → length (compact_text new) < area_len copy.meta → Passed (IsEditFault2 v payload e random) 21
+    past_room : copy.header.seqid + 1 < 2 ^ 64 → length (compact_text new) < area_len copy.meta → Passed (IsEditFault2 v payload e random) 22
     past_room low room = next (IsEditFault2 v payload e random) fault.MetadataFull refl (past_number low) (roomy_of room)
 
-    past_all : copy.header.seqid + 1 < 2 ^ 64 → length (compact_text new) < area_len copy.meta → length random ≡ 128 → Passed (IsEditFault2 v payload e random) 24
+    past_all : copy.header.seqid + 1 < 2 ^ 64 → length (compact_text new) < area_len copy.meta → length random ≡ 128 → Passed (IsEditFault2 v payload e random) 25
     past_all low room count =
         let s = IsEditFault2 v payload e random in
         next s fault.Device refl (next s fault.Memory refl (next s fault.RandomLength refl (past_room low room) (counted_of count)) (λ bad. bad)) (λ bad. bad)

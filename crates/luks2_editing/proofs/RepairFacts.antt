@@ -54,11 +54,11 @@ module _ (v : List ℕ) (payload : Data) (copy : ChosenCopy) (x : IsChosenCopy v
       (rw is.asked (subst (λ n. IsSomeAnd is.rewritten.change (IsBadToken n (content copy.meta) f)) (len_here v payload copy x well)
       (token_fault (area_len copy.meta) (content copy.meta) f is.rewritten.change change is.takes bad)))
 
-  module _ (random : List ℕ) (before : HasNoFaultBefore 18 v payload e random) where
+  module _ (random : List ℕ) (before : HasNoFaultBefore 19 v payload e random) where
     -- how it ends where the metadata isn't made
     pub unmade_ends : (f : EditFault) → IsUnmade (area_len copy.meta) (content copy.meta) change f → EndsBy2 payload v e random f v
     unmade_ends (fault.BadToken f) least = (
-      first_of_token (IsEditFault2 v payload e random) f (passed_from (IsEditFault2 v payload e random) 18 before.each) (bad_made f least.0)
+      first_of_token (IsEditFault2 v payload e random) f (passed_from (IsEditFault2 v payload e random) 19 before.each) (bad_made f least.0)
           (λ g bad. least.1 g (made_bad g bad)),
       refl,
     )
@@ -66,10 +66,10 @@ module _ (v : List ℕ) (payload : Data) (copy : ChosenCopy) (x : IsChosenCopy v
     unmade_ends f bad = absurd bad
 
     module _ (new : Value) (made : IsChangedBy change (content copy.meta) new) (held : IsHeld (area_len copy.meta) new) where
-      passed : Passed (IsEditFault2 v payload e random) 19
+      passed : Passed (IsEditFault2 v payload e random) 20
       passed =
           let s = IsEditFault2 v payload e random in
-          after_token s (passed_from s 18 before.each) (λ f bad. unfaulted (area_len copy.meta) (content copy.meta) new change made held f (made_bad f bad))
+          after_token s (passed_from s 19 before.each) (λ f bad. unfaulted (area_len copy.meta) (content copy.meta) new change made held f (made_bad f bad))
 
       amends : IsAmended is.rewritten.change (content copy.meta) new
       amends = amended_by (content copy.meta) new is.rewritten.change change is.takes made

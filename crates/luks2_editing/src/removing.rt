@@ -26,7 +26,7 @@ use std::alloc::Global;
 
 /// Removes the keyslot from the metadata, writes both copies of the header anew, the other copy first,
 /// and then overwrites the keyslot's area, which is `area`, with zeros; each with a flush. The rows of
-/// the faults up to `NoFreeToken` were judged. The old metadata is given up for the new.
+/// the faults up to `UnreadableToken` were judged. The old metadata is given up for the new.
 ///
 /// Refused by `SeqExhausted`, `MetadataFull` or `RandomLength`; 128 random bytes are needed, the salts
 /// of the copies. Takes memory for the maps of tokens and digests and for the JSON area, before the

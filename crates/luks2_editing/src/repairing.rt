@@ -23,7 +23,7 @@ use std::alloc::Global;
 
 /// Writes both copies of the header anew from the one that counts, with these fields for its texts and
 /// with the change of its metadata, if there is one: the other copy first, each with a flush. The rows of
-/// the faults up to `NoFreeToken` were judged. The old metadata is given up for the new.
+/// the faults up to `UnreadableToken` were judged. The old metadata is given up for the new.
 ///
 /// Refused by `BadToken`, `SeqExhausted`, `MetadataFull` or `RandomLength`; 128 random bytes are needed,
 /// the salts of the copies. Takes memory for the change and for the JSON area, before the first write.

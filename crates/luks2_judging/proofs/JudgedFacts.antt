@@ -31,7 +31,7 @@ use Rattle.luks2_edit_laws.specs.declared.like.Like.TheVariants as made_like
 use Rattle.luks2_edit_laws.specs.Likes.{IsLike}
 use Rattle.luks2_edit_laws.specs.Metadata.{HasMetadata}
 use Rattle.luks2_edit_laws.specs.Places.{HasNoNewArea}
-use Rattle.luks2_edit_laws.specs.Refused.{HasNoFree, HasNoFreeToken, HasNoRoom, HasSaid, IsAbsent, IsBadLabel, IsEditFault2, IsLast, IsOnlyOne, IsTaken, IsTokenTaken, IsUnkeyed2, IsUnopened2, LacksToken, Refusal2}
+use Rattle.luks2_edit_laws.specs.Refused.{HasNoFree, HasNoFreeToken, HasNoRoom, HasSaid, IsAbsent, IsBadLabel, IsEditFault2, IsLast, IsOnlyOne, IsTaken, IsTokenTaken, IsUnkeyed2, IsUnopened2, IsUnreadableToken, LacksToken, Refusal2}
 use Rattle.luks2_edit_laws.proofs.LikeFacts.{for_like}
 use Rattle.luks2_judging.specs.Accepted.{IsUnaccepted}
 use Rattle.luks2_judging.specs.Judged.{IsNewNumber, IsNumberFault}
@@ -188,10 +188,10 @@ module _ (v : List ℕ) (payload : Data) (e : Edit) (random : List ℕ) where
   pub past_label : IsPast 14 v payload e random → (IsBadLabel e → ⊥) → IsPast 15 v payload e random
   past_label passed not = next (IsEditFault2 v payload e random) fault.BadLabel refl passed not
 
-  -- NoSuchToken, TokenTaken, NoFreeToken: of an edit that changes nothing of the metadata none stands
-  pub past_unamended : change_by e ≡ None → IsPast 15 v payload e random → IsPast 18 v payload e random
+  -- NoSuchToken, TokenTaken, NoFreeToken, UnreadableToken: of an edit that changes nothing of the metadata none stands
+  pub past_unamended : change_by e ≡ None → IsPast 15 v payload e random → IsPast 19 v payload e random
   past_unamended none passed =
-      past_token_number (IsEditFault2 v payload e random) passed (λ bad. rw none at bad.is) (λ bad. rw none at bad.is) (λ bad. rw none at bad.is)
+      past_token_number (IsEditFault2 v payload e random) passed (λ bad. rw none at bad.is) (λ bad. rw none at bad.is) (λ bad. rw none at bad.is) (λ bad. rw none at bad)
 
 -- a keyslot is sealed that is made like this one, and derives as is asked: the rows `NoRoom` to `BadLabel`
 module _ (v : List ℕ) (payload : Data) (o : ℕ) (j : Value) (m : HasMetadata v o j) (e : Edit) (like : Like) (memory : ℕ) (asked : AskedDerivation)
@@ -209,8 +209,8 @@ module _ (v : List ℕ) (payload : Data) (o : ℕ) (j : Value) (m : HasMetadata 
   unsealed_first f bad = absurd bad
 
   pub sealed_past : (HasNoNewArea (hdr_size (header_at v o)) (length v) payload j like → ⊥) → IsAllowed memory asked → (random : List ℕ)
-      → HasNoFaultBefore 18 v payload e random
-  sealed_past room enough random = before_of 18 v payload e random
+      → HasNoFaultBefore 19 v payload e random
+  sealed_past room enough random = before_of 19 v payload e random
       (past_unamended v payload e random unamended
       (past_label v payload e random
       (past_large v payload e random (past_few v payload e random (past_area room random) (λ bad. both_ways _ enough.turns (few.0 bad))) (λ bad. both_ways _ enough.within (large.0 bad))) good))
@@ -249,7 +249,7 @@ module _ (v : List ℕ) (payload : Data) (o : ℕ) (j : Value) (m : HasMetadata 
         (sealed_few e _ is) (sealed_large e _ is) (λ x. rw is at x) (λ x. rw is at x) (ap change_in is) ten f bad
 
     pub added_past : (HasNoNewArea (hdr_size (header_at v o)) (length v) payload j like → ⊥) → IsAllowed (allowed_for opener_ new.now).memory asked → (random : List ℕ)
-        → HasNoFaultBefore 18 v payload e random
+        → HasNoFaultBefore 19 v payload e random
     added_past =
         sealed_past v payload o j m e like (allowed_for opener_ new.now).memory asked (sealed_rooms (hdr_size (header_at v o)) (length v) payload j e _ is like is_like)
         (sealed_few e _ is) (sealed_large e _ is) (λ x. rw is at x) (λ x. rw is at x) (ap change_in is) ten
@@ -267,7 +267,7 @@ module _ (v : List ℕ) (payload : Data) (o : ℕ) (j : Value) (m : HasMetadata 
       (sealed_rooms (hdr_size (header_at v o)) (length v) payload j e _ is (made_like.Keyslot slot) refl) (sealed_few e _ is) (sealed_large e _ is) (λ x. rw is at x) (λ x. rw is at x) (ap change_in is) change_ten f bad
 
   pub changed_past : (HasNoNewArea (hdr_size (header_at v o)) (length v) payload j (made_like.Keyslot slot) → ⊥) → IsAllowed (allowed_for (opener.Keyslot slot old) new.now).memory asked
-      → (random : List ℕ) → HasNoFaultBefore 18 v payload e random
+      → (random : List ℕ) → HasNoFaultBefore 19 v payload e random
   changed_past =
       sealed_past v payload o j m e (made_like.Keyslot slot) (allowed_for (opener.Keyslot slot old) new.now).memory asked
       (sealed_rooms (hdr_size (header_at v o)) (length v) payload j e _ is (made_like.Keyslot slot) refl) (sealed_few e _ is) (sealed_large e _ is) (λ x. rw is at x) (λ x. rw is at x) (ap change_in is) change_ten
@@ -282,8 +282,8 @@ module _ (v : List ℕ) (payload : Data) (o : ℕ) (j : Value) (m : HasMetadata 
   pub only_first : IsOnlyOne j r.slot → IsRefusedEarly v payload e fault.LastSlot
   only_first bad = λ random. last_first v payload o j m e random (eleven random) (rw is bad)
 
-  pub removed_past : (IsOnlyOne j r.slot → ⊥) → (random : List ℕ) → HasNoFaultBefore 18 v payload e random
-  removed_past other random = before_of 18 v payload e random
+  pub removed_past : (IsOnlyOne j r.slot → ⊥) → (random : List ℕ) → HasNoFaultBefore 19 v payload e random
+  removed_past other random = before_of 19 v payload e random
       (past_unamended v payload e random (ap change_in is)
       (past_label v payload e random
       (past_large v payload e random
@@ -325,7 +325,15 @@ module _ (v : List ℕ) (payload : Data) (o : ℕ) (j : Value) (m : HasMetadata 
         unfree_token_first bad = λ random.
             first_of_row (IsEditFault2 v payload e random) fault.NoFreeToken refl (past_taken_token random) (say v o j m (λ p i. IsSomeAnd (change_by e) (HasNoFreeToken i)) bad)
 
-        pub amended_past : (IsSomeAnd (change_by e) (HasNoFreeToken j) → ⊥) → (random : List ℕ) → HasNoFaultBefore 18 v payload e random
-        amended_past numbered random = before_of 18 v payload e random
-            (next (IsEditFault2 v payload e random) fault.NoFreeToken refl (past_taken_token random)
-            (λ bad. numbered (said v o j m (λ p i. IsSomeAnd (change_by e) (HasNoFreeToken i)) bad)))
+        module _ (numbered : IsSomeAnd (change_by e) (HasNoFreeToken j) → ⊥) where
+          past_token : (random : List ℕ) → IsPast 18 v payload e random
+          past_token random =
+              next (IsEditFault2 v payload e random) fault.NoFreeToken refl (past_taken_token random)
+              (λ bad. numbered (said v o j m (λ p i. IsSomeAnd (change_by e) (HasNoFreeToken i)) bad))
+
+          pub unread_token_first : IsSomeAnd (change_by e) IsUnreadableToken → IsRefusedEarly v payload e fault.UnreadableToken
+          unread_token_first bad = λ random. first_of_row (IsEditFault2 v payload e random) fault.UnreadableToken refl (past_token random) bad
+
+          pub amended_past : (IsSomeAnd (change_by e) IsUnreadableToken → ⊥) → (random : List ℕ) → HasNoFaultBefore 19 v payload e random
+          amended_past readable random = before_of 19 v payload e random
+              (next (IsEditFault2 v payload e random) fault.UnreadableToken refl (past_token random) readable)

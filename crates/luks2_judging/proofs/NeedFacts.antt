@@ -135,7 +135,7 @@ module _ (v : List ℕ) (payload : Data) (o : ℕ) (j : Value) (m : HasMetadata 
   need_unfree untaken bad = first_of_row (IsNeedFault2 v payload e) fault.NoFreeSlot refl (past_taken untaken) (say v o j m (λ p i. HasNoFree i e) bad)
 
   -- none of the faults stands
-  past_all : (untaken : IsTaken j e → ⊥) → (HasNoFree j e → ⊥) → Passed (IsNeedFault2 v payload e) 24
+  past_all : (untaken : IsTaken j e → ⊥) → (HasNoFree j e → ⊥) → Passed (IsNeedFault2 v payload e) 25
   past_all untaken free =
       let s = IsNeedFault2 v payload e in
       let p10 : Passed s 10 = next s fault.NoFreeSlot refl (past_taken untaken) (λ bad. free (said v o j m (λ p i. HasNoFree i e) bad)) in
@@ -144,12 +144,12 @@ module _ (v : List ℕ) (payload : Data) (o : ℕ) (j : Value) (m : HasMetadata 
       let p13 : Passed s 13 = next s fault.Iterations refl p12 (λ bad. bad) in
       let p14 : Passed s 14 = next s fault.Argon2 refl p13 (λ bad. bad) in
       let p15 : Passed s 15 = next s fault.BadLabel refl p14 (λ bad. bad) in
-      let p19 : Passed s 19 = past_tokens s p15 (λ bad. bad) (λ bad. bad) (λ bad. bad) (λ m bad. bad) in
-      let p20 : Passed s 20 = next s fault.SeqExhausted refl p19 (λ bad. bad) in
-      let p21 : Passed s 21 = next s fault.MetadataFull refl p20 (λ bad. bad) in
-      let p22 : Passed s 22 = next s fault.RandomLength refl p21 (λ bad. bad) in
-      let p23 : Passed s 23 = next s fault.Memory refl p22 (λ bad. bad) in
-      next s fault.Device refl p23 (λ bad. bad)
+      let p20 : Passed s 20 = past_tokens s p15 (λ bad. bad) (λ bad. bad) (λ bad. bad) (λ bad. bad) (λ m bad. bad) in
+      let p21 : Passed s 21 = next s fault.SeqExhausted refl p20 (λ bad. bad) in
+      let p22 : Passed s 22 = next s fault.MetadataFull refl p21 (λ bad. bad) in
+      let p23 : Passed s 23 = next s fault.RandomLength refl p22 (λ bad. bad) in
+      let p24 : Passed s 24 = next s fault.Memory refl p23 (λ bad. bad) in
+      next s fault.Device refl p24 (λ bad. bad)
 
   pub need_told : (k : ℕ) → (IsTaken j e → ⊥) → (HasNoFree j e → ⊥) → Need2 j e k → NeedsRandom v payload e k
   need_told k untaken free need = record {

@@ -7,11 +7,12 @@ use Rattle.serde_json.specs.declared.value.Value.{Value as Json}
 use Rattle.std.specs.Borrow.{Bor}
 use Rattle.luks_making.specs.declared.amended.Change.{Change}
 use Rattle.luks_making.specs.declared.amended.Change.TheVariants as changes
+use Rattle.luks_edit.specs.declared.edit_fault.EditFault.TheVariants as fault
 use Rattle.luks2_edit_laws.specs.Metadata.{HasToken, IsFreeToken, IsLeastFreeToken}
-use Rattle.luks2_edit_laws.specs.Refused.{HasNoFreeToken, HasNoTokenNumber, IsTokenAt, IsTokenTaken, LacksToken}
+use Rattle.luks2_edit_laws.specs.Refused.{HasNoFreeToken, HasNoTokenNumber, IsTokenAt, IsTokenTaken, IsUnreadableToken, LacksToken}
 use Rattle.luks2_judging.specs.declared.judged.JudgedChange.{JudgedChange}
 use Rattle.luks2_judging.specs.declared.judged.JudgedChange.TheVariants as judged
-use Rattle.luks2_judging.specs.Changes.{IsNewTokenNumber, IsTakenAs, IsTakenChange}
+use Rattle.luks2_judging.specs.Changes.{IsChangeFault, IsNewTokenNumber, IsTakenAs, IsTakenChange}
 
 -- ---- number by number
 
@@ -79,6 +80,28 @@ pub taken_unfree : (j : Value) (o : Option Change) → IsSomeAnd o (IsTokenTaken
 taken_unfree j None x y = x
 taken_unfree j (Some c) x y = taken_unnumbered j c x y
 
+lacks_readable : (j : Value) (c : Change) → LacksToken j c → IsUnreadableToken c → ⊥
+lacks_readable j (changes.Priority slot priority) x y = x
+lacks_readable j (changes.AddToken to token) x y = x
+lacks_readable j (changes.RemoveToken number) x y = y
+
+pub lacks_unread : (j : Value) (o : Option Change) → IsSomeAnd o (LacksToken j) → IsSomeAnd o IsUnreadableToken → ⊥
+lacks_unread j None x y = x
+lacks_unread j (Some c) x y = lacks_readable j c x y
+
+-- where a token can't be read, none of the others stands
+pub unread_is : (j : Value) (o : Option Change) → IsSomeAnd o (λ c. IsChangeFault j c fault.UnreadableToken) → IsSomeAnd o IsUnreadableToken
+unread_is j None x = x
+unread_is j (Some c) x = x.2
+
+pub unread_untaken : (j : Value) (o : Option Change) → IsSomeAnd o (λ c. IsChangeFault j c fault.UnreadableToken) → IsSomeAnd o (IsTokenTaken j) → ⊥
+unread_untaken j None x y = x
+unread_untaken j (Some c) x y = x.0 y
+
+pub unread_numbered : (j : Value) (o : Option Change) → IsSomeAnd o (λ c. IsChangeFault j c fault.UnreadableToken) → IsSomeAnd o (HasNoFreeToken j) → ⊥
+unread_numbered j None x y = x
+unread_numbered j (Some c) x y = x.1 y
+
 -- no other fault is one of a change
 pub no_change_fault : (o : Option Change) → IsSomeAnd o (λ c. ⊥) → ⊥
 no_change_fault None x = x
@@ -94,18 +117,25 @@ there_by j (changes.Priority slot priority) t x bad = bad
 there_by j (changes.AddToken to token) t x bad = bad
 
 untaken_by : (j : Value) (c : Change) (t : JudgedChange) → IsTakenAs j c t → IsTokenTaken j c → ⊥
-untaken_by j (changes.AddToken to token) (judged.AddToken n t) x bad = new_untaken j to n x.1 bad
+untaken_by j (changes.AddToken to token) (judged.AddToken n t) x bad = new_untaken j to n x.1.0 bad
 untaken_by j (changes.AddToken to token) (judged.Priority n p) x bad = x
 untaken_by j (changes.AddToken to token) (judged.RemoveToken n) x bad = x
 untaken_by j (changes.Priority slot priority) t x bad = bad
 untaken_by j (changes.RemoveToken number) t x bad = bad
 
 numbered_by : (j : Value) (c : Change) (t : JudgedChange) → IsTakenAs j c t → HasNoFreeToken j c → ⊥
-numbered_by j (changes.AddToken to token) (judged.AddToken n t) x bad = new_numbered j to n x.1 bad
+numbered_by j (changes.AddToken to token) (judged.AddToken n t) x bad = new_numbered j to n x.1.0 bad
 numbered_by j (changes.AddToken to token) (judged.Priority n p) x bad = x
 numbered_by j (changes.AddToken to token) (judged.RemoveToken n) x bad = x
 numbered_by j (changes.Priority slot priority) t x bad = bad
 numbered_by j (changes.RemoveToken number) t x bad = bad
+
+readable_by : (j : Value) (c : Change) (t : JudgedChange) → IsTakenAs j c t → IsUnreadableToken c → ⊥
+readable_by j (changes.AddToken to token) (judged.AddToken n t) x bad = x.2 bad
+readable_by j (changes.AddToken to token) (judged.Priority n p) x bad = x
+readable_by j (changes.AddToken to token) (judged.RemoveToken n) x bad = x
+readable_by j (changes.Priority slot priority) t x bad = bad
+readable_by j (changes.RemoveToken number) t x bad = bad
 
 pub taken_there : (j : Value) (o : Option Change) (t : Option JudgedChange) → IsTakenChange j o t → IsSomeAnd o (LacksToken j) → ⊥
 taken_there j None t x bad = bad
@@ -121,3 +151,8 @@ pub taken_numbered : (j : Value) (o : Option Change) (t : Option JudgedChange) �
 taken_numbered j None t x bad = bad
 taken_numbered j (Some c) (Some t) x bad = numbered_by j c t x bad
 taken_numbered j (Some c) None x bad = x
+
+pub taken_readable : (j : Value) (o : Option Change) (t : Option JudgedChange) → IsTakenChange j o t → IsSomeAnd o IsUnreadableToken → ⊥
+taken_readable j None t x bad = bad
+taken_readable j (Some c) (Some t) x bad = readable_by j c t x bad
+taken_readable j (Some c) None x bad = x

@@ -1,12 +1,13 @@
 -- How a change of the metadata `j` is judged by the tokens that are there, and what it takes.
 use Rattle.std.specs.Prelude.{◌≡◌, ℕ, ◌<◌, Option, Some, None, ⊤}
 use Rattle.serde_json.specs.Data.{Data as Value}
+use Rattle.serde_json.specs.View.{view}
 use Rattle.luks_making.specs.declared.amended.Change.{Change}
 use Rattle.luks_edit.specs.declared.edit_fault.EditFault.{EditFault}
 use Rattle.luks_edit.specs.declared.edit_fault.EditFault.TheVariants as fault
 use Rattle.luks_edit.specs.Asked.{MatchChange}
 use Rattle.luks2_edit_laws.specs.Metadata.{HasToken, IsFreeToken, IsInUse, IsNewToken}
-use Rattle.luks2_edit_laws.specs.Refused.{HasNoFreeToken, HasNoTokenNumber, IsTokenAt, IsTokenTaken, LacksToken}
+use Rattle.luks2_edit_laws.specs.Refused.{HasNoFreeToken, HasNoTokenNumber, IsTokenAt, IsTokenTaken, IsUnreadable, IsUnreadableToken, LacksToken}
 use Rattle.luks2_judging.specs.declared.judged.JudgedChange.{JudgedChange}
 use Rattle.luks2_judging.specs.declared.judged.JudgedChange.TheVariants as judged
 
@@ -31,7 +32,7 @@ HasPriorityThere j c = MatchChange c (λ slot priority. IsInUse j slot) (λ to t
 -- the change takes this
 abbrev pub IsTakenAs : Value → Change → JudgedChange → Type 0
 IsTakenAs j c (judged.Priority n p) = MatchChange c (λ slot priority. (n ≡ slot) × (p ≡ priority) × IsInUse j n) (λ to token. ⊥) (λ number. ⊥)
-IsTakenAs j c (judged.AddToken n t) = MatchChange c (λ slot priority. ⊥) (λ to token. (t ≡ token) × IsNewTokenNumber j to n) (λ number. ⊥)
+IsTakenAs j c (judged.AddToken n t) = MatchChange c (λ slot priority. ⊥) (λ to token. (t ≡ token) × IsNewTokenNumber j to n × (IsUnreadable (view token.now) → ⊥)) (λ number. ⊥)
 IsTakenAs j c (judged.RemoveToken n) = MatchChange c (λ slot priority. ⊥) (λ to token. ⊥) (λ number. (n ≡ number) × HasToken j n)
 
 -- nothing is taken where nothing changes
@@ -45,4 +46,5 @@ abbrev pub IsChangeFault : Value → Change → EditFault → Type 0
 IsChangeFault j c fault.NoSuchToken = LacksToken j c
 IsChangeFault j c fault.TokenTaken = IsTokenTaken j c
 IsChangeFault j c fault.NoFreeToken = HasNoFreeToken j c
+IsChangeFault j c fault.UnreadableToken = (IsTokenTaken j c → ⊥) × (HasNoFreeToken j c → ⊥) × IsUnreadableToken c
 IsChangeFault j c f = ⊥

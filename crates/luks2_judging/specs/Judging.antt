@@ -1,4 +1,4 @@
--- What judging an edit of a LUKS2 volume by the rows up to `NoFreeToken` gives.
+-- What judging an edit of a LUKS2 volume by the rows up to `UnreadableToken` gives.
 use Rattle.std.specs.Prelude.{◌≡◌, ℕ, List, length, Option, ⊤}
 use Rattle.std.specs.Borrow.{Bor}
 use Rattle.serde_json.specs.Data.{Data as Value}
@@ -134,11 +134,11 @@ Seals h v payload j e (judged.Seal (sealed_in.New a) key passphrase) = IsOpenedT
 Seals h v payload j e (judged.Seal (sealed_in.Opened r) key passphrase) = IsOpenedTo v e key × IsNewArea h (length v) payload j (Keyslot r.slot) r.area
 Seals h v payload j e it = ⊤
 
--- none of the rows up to `NoFreeToken` refuses the edit, and this is what it takes by the copy that counts
+-- none of the rows up to `UnreadableToken` refuses the edit, and this is what it takes by the copy that counts
 pub record IsUnrefusedOf (copy : ChosenCopy) (v : List ℕ) (payload : Data) (e : Edit) (it : JudgedEdit) : Type 0 where
   pub well : WellFormed v payload
   pub seals : Seals (hdr_size (header_at v copy.header.hdr_offset)) v payload (content copy.meta) e it
-  pub none : (random : List ℕ) → HasNoFaultBefore 18 v payload e random
+  pub none : (random : List ℕ) → HasNoFaultBefore 19 v payload e random
 
 abbrev pub IsUnrefusedSoFar : List ℕ → Data → Edit → Judged → Type 0
 IsUnrefusedSoFar v payload e it = IsUnrefusedOf it.copy v payload e it.edit

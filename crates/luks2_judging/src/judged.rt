@@ -10,7 +10,7 @@ use luks2_edit_laws::Like;
 use luks2_header::Bin2;
 use serde_json::Value;
 
-/// An edit that none of the rows up to `NoFreeToken` refuses.
+/// An edit that none of the rows up to `UnreadableToken` refuses.
 #[derive(Drop)]
 pub struct Judged<'a> {
     /// The copy of the header that counts.

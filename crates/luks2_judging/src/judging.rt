@@ -65,7 +65,7 @@ impl Accepted<'_> {
 }
 
 /// Judges the edit of the LUKS2 volume with this copy by the rows `NotAccepted` to
-/// `NoFreeToken` of the table of its faults, in their order: what the edit takes, or the first fault.
+/// `UnreadableToken` of the table of its faults, in their order: what the edit takes, or the first fault.
 ///
 /// The rows `BadToken`, `SeqExhausted`, `MetadataFull` and `RandomLength` are left to the edit itself. A
 /// keyslot is opened at most, and no byte is written. Memory is taken for Argon2 alone, where the edit
@@ -122,7 +122,8 @@ fn taken_by<'a, D: Device>(
 }
 
 /// The rows from what gives the key on: `Locked`, `KeyLength`, `WrongKey`, `Slot`, `SlotTaken`, `NoFreeSlot`,
-/// `NoRoom`, `LastSlot`, `Iterations`, `Argon2`, `BadLabel`, `NoSuchToken`, `TokenTaken`, `NoFreeToken`.
+/// `NoRoom`, `LastSlot`, `Iterations`, `Argon2`, `BadLabel`, `NoSuchToken`, `TokenTaken`, `NoFreeToken`,
+/// `UnreadableToken`.
 fn judge_with_key<'a, D: Device>(
     alloc: Global,
     device: &mut D,
@@ -230,7 +231,7 @@ fn judge_removal_of<'a, D: Device>(
 }
 
 /// The same of an edit that writes the header anew: `BadLabel`, `NoSuchToken`, `TokenTaken`,
-/// `NoFreeToken`.
+/// `NoFreeToken`, `UnreadableToken`.
 fn judge_rewriting<'a>(
     accepted: &Accepted<'_>,
     rewritten: &Rewritten<'a>,

@@ -1,12 +1,22 @@
 //! Judging a change of the metadata, by the tokens that are there.
-ghost use Rattle.std.specs.Prelude.{◌≡◌, ◌<◌, ℕ, false, IfSome, IsSomeAnd, IsTrue, MatchOption, MatchResult};
+ghost use Rattle.std.specs.Prelude.{◌≡◌, ◌<◌, ◌↔◌, ℕ, [], false, IfSome, IsSomeAnd, IsTrue, MatchOption, MatchResult, Some};
+ghost use Rattle.serde_json.specs.View.{view};
 ghost use Rattle.luks_meta.specs.Content.{content};
+ghost use Rattle.luks_rules.specs.declared.table.Outer.TheVariants.{Top};
+ghost use Rattle.luks_rules.specs.Faults.{type_at};
 ghost use Rattle.luks2_edit_laws.specs.Metadata.{HasToken, IsFreeToken, IsLeastFreeToken};
+ghost use Rattle.luks2_edit_laws.specs.Refused.{IsUnreadable};
 ghost use Rattle.luks2_judging.specs.Changes.{HasPriorityThere, IsChangeFault, IsNewTokenNumber, IsTakenAs, IsTakenChange, IsTokenNumberFault};
 
 use crate::judged::JudgedChange;
 use luks_edit::{Change, EditFault};
 use luks_meta::Meta;
+use luks_rules::{Outer, nests_within, type_at};
+use serde_json::Value;
+
+/// The most levels by which arrays and objects nest in a token that cryptsetup reads, two levels deep in
+/// the metadata.
+const MOST_LEVELS: u8 = 29;
 
 /// Whether the token is there.
 fn is_token(meta: &Meta, n: u8) -> bool
@@ -59,8 +69,26 @@ fn new_token_number(meta: &Meta, to: Option<u8>) -> Result<u8, EditFault>
     }
 }
 
+/// Whether cryptsetup doesn't read metadata with the token.
+fn is_unreadable(token: &Value) -> bool
+    ensures unreadable { IsTrue result → IsUnreadable (view token.now) }
+    ensures readable { result ≡ false → IsUnreadable (view token.now) → ⊥ }
+{
+    has_empty_type(token) || !nests_within(token, MOST_LEVELS)
+}
+
+/// Whether the token's type is the empty text.
+fn has_empty_type(token: &Value) -> bool
+    ensures { IsTrue result ↔ type_at (view token.now) Top ≡ Some [] }
+{
+    match type_at(token, Outer::Top) {
+        Some(kind) => kind.is_empty(),
+        None => false,
+    }
+}
+
 /// What the change takes, whose keyslot is there if it names one. Refused by `NoSuchToken`,
-/// `TokenTaken`, `NoFreeToken`.
+/// `TokenTaken`, `NoFreeToken`, `UnreadableToken`.
 fn judge_amending<'a>(meta: &Meta, change: Change<'a>) -> Result<JudgedChange<'a>, EditFault>
     requires { HasPriorityThere (content meta.now) change.entry }
     ensures { MatchResult result (IsTakenAs (content meta.now) change.entry)
@@ -69,7 +97,13 @@ fn judge_amending<'a>(meta: &Meta, change: Change<'a>) -> Result<JudgedChange<'a
     match change {
         Change::Priority { slot, priority } => Ok(JudgedChange::Priority { slot, priority }),
         Change::AddToken { to, token } => match new_token_number(meta, to) {
-            Ok(number) => Ok(JudgedChange::AddToken { number, token }),
+            Ok(number) => {
+                if is_unreadable(token) {
+                    Err(EditFault::UnreadableToken)
+                } else {
+                    Ok(JudgedChange::AddToken { number, token })
+                }
+            }
             Err(fault) => Err(fault),
         },
         Change::RemoveToken { number } => {

@@ -17,7 +17,7 @@ use Rattle.luks_edit.specs.EditFaults.{edit_key, edit_place, edit_row}
 
 -- the row has one place
 abbrev pub is_plain : ℕ → Bool
-is_plain k = if k == 0 then false else (if k == 7 then false else (if k == 18 then false else true))
+is_plain k = if k == 0 then false else (if k == 7 then false else (if k == 19 then false else true))
 
 -- the fault of a row with one place
 abbrev fault_at : ℕ → EditFault
@@ -38,18 +38,19 @@ fault_at n =
     else (if n == 15 then fault.NoSuchToken
     else (if n == 16 then fault.TokenTaken
     else (if n == 17 then fault.NoFreeToken
-    else (if n == 19 then fault.SeqExhausted
-    else (if n == 20 then fault.MetadataFull
-    else (if n == 21 then fault.RandomLength
-    else (if n == 22 then fault.Memory
-    else fault.Device)))))))))))))))))))
+    else (if n == 18 then fault.UnreadableToken
+    else (if n == 20 then fault.SeqExhausted
+    else (if n == 21 then fault.MetadataFull
+    else (if n == 22 then fault.RandomLength
+    else (if n == 23 then fault.Memory
+    else fault.Device))))))))))))))))))))
 
 pub record IsOnly (f : EditFault) : Type 0 where
   pub plain : is_plain (edit_row f) ≡ true
   pub is : fault_at (edit_row f) ≡ f
   pub place : edit_place f ≡ []
   pub low : 1 ≤ edit_row f
-  pub high : edit_row f ≤ 23
+  pub high : edit_row f ≤ 24
 
 abbrev pub View : EditFault → Type 0
 View f = ((c : CheckFault) × (f ≡ fault.NotAccepted c)) ⊎ (((s : SlotFault) × (f ≡ fault.Slot s)) ⊎ (((m : MetaFault) × (f ≡ fault.BadToken m)) ⊎ IsOnly f))
@@ -72,7 +73,7 @@ only_of f plain = elim (view f) [
   | inr other ↦ (elim other [
     | inl s ↦ absurd (not_plain 7 f (ap edit_row s.1) refl plain)
     | inr rest ↦ (elim rest [
-      | inl m ↦ absurd (not_plain 18 f (ap edit_row m.1) refl plain)
+      | inl m ↦ absurd (not_plain 19 f (ap edit_row m.1) refl plain)
       | inr only ↦ only
     ])
   ])
@@ -82,13 +83,13 @@ pub only_one : (f g : EditFault) → is_plain (edit_row f) ≡ true → edit_row
 only_one f g plain same = sym (only_of g (ap is_plain same ∙ plain)).is ∙ ap fault_at same ∙ (only_of f plain).is
 
 -- each row is one of the table
-pub in_table : (f : EditFault) → edit_row f < 24
+pub in_table : (f : EditFault) → edit_row f < 25
 in_table f = elim (view f) [
   | inl c ↦ (let row : edit_row f ≡ 0 = ap edit_row c.1 in omega (arith, row))
   | inr other ↦ (elim other [
     | inl s ↦ (let row : edit_row f ≡ 7 = ap edit_row s.1 in omega (arith, row))
     | inr rest ↦ (elim rest [
-      | inl m ↦ (let row : edit_row f ≡ 18 = ap edit_row m.1 in omega (arith, row))
+      | inl m ↦ (let row : edit_row f ≡ 19 = ap edit_row m.1 in omega (arith, row))
       | inr only ↦ (let high = only.high in omega (arith, high))
     ])
   ])
@@ -101,21 +102,21 @@ plan_of g row = elim (view g) [
   | inr other ↦ (elim other [
     | inl s ↦ s
     | inr rest ↦ (elim rest [
-      | inl m ↦ (let token : edit_row g ≡ 18 = ap edit_row m.1 in absurd (omega (arith, row, token)))
+      | inl m ↦ (let token : edit_row g ≡ 19 = ap edit_row m.1 in absurd (omega (arith, row, token)))
       | inr only ↦ absurd (not_plain 7 g row refl only.plain)
     ])
   ])
 ]
 
 -- a fault of the row of the metadata with a token
-token_of : (g : EditFault) → edit_row g ≡ 18 → (m : MetaFault) × (g ≡ fault.BadToken m)
+token_of : (g : EditFault) → edit_row g ≡ 19 → (m : MetaFault) × (g ≡ fault.BadToken m)
 token_of g row = elim (view g) [
   | inl c ↦ (let first : edit_row g ≡ 0 = ap edit_row c.1 in absurd (omega (arith, row, first)))
   | inr other ↦ (elim other [
     | inl s ↦ (let plan : edit_row g ≡ 7 = ap edit_row s.1 in absurd (omega (arith, row, plan)))
     | inr rest ↦ (elim rest [
       | inl m ↦ m
-      | inr only ↦ absurd (not_plain 18 g row refl only.plain)
+      | inr only ↦ absurd (not_plain 19 g row refl only.plain)
     ])
   ])
 ]
@@ -134,7 +135,7 @@ module _ (faults : EditFault → Type 0) where
   passed_from k each = record { none = λ g under bad. (let over : k ≤ edit_row g = each g bad in omega (arith, under, over)) }
 
   -- there is none at all
-  pub none_at_all : Passed faults 24 → (f : EditFault) → faults f → ⊥
+  pub none_at_all : Passed faults 25 → (f : EditFault) → faults f → ⊥
   none_at_all passed f bad = passed.none f (in_table f) bad
 
   -- a fault of the row `k`, and none before it
@@ -155,7 +156,7 @@ module _ (faults : EditFault → Type 0) where
         | inr other ↦ (elim other [
           | inl s ↦ (let row : edit_row g ≡ 7 = ap edit_row s.1 in omega (arith, row, under))
           | inr rest ↦ (elim rest [
-            | inl m ↦ (let row : edit_row g ≡ 18 = ap edit_row m.1 in omega (arith, row, under))
+            | inl m ↦ (let row : edit_row g ≡ 19 = ap edit_row m.1 in omega (arith, row, under))
             | inr only ↦ (let low = only.low in omega (arith, low, under))
           ])
         ])
@@ -164,16 +165,18 @@ module _ (faults : EditFault → Type 0) where
   pub after_plan : Passed faults 7 → ((s : SlotFault) → faults (fault.Slot s) → ⊥) → Passed faults 8
   after_plan passed not = record { none = λ g under bad. (let s = plan_of g (of_row 7 g passed under bad) in not s.0 (subst faults s.1 bad)) }
 
-  pub after_token : Passed faults 18 → ((m : MetaFault) → faults (fault.BadToken m) → ⊥) → Passed faults 19
-  after_token passed not = record { none = λ g under bad. (let m = token_of g (of_row 18 g passed under bad) in not m.0 (subst faults m.1 bad)) }
+  pub after_token : Passed faults 19 → ((m : MetaFault) → faults (fault.BadToken m) → ⊥) → Passed faults 20
+  after_token passed not = record { none = λ g under bad. (let m = token_of g (of_row 19 g passed under bad) in not m.0 (subst faults m.1 bad)) }
 
   -- the rows of the token, from `NoSuchToken` on
-  pub past_token_number : Passed faults 15 → (faults fault.NoSuchToken → ⊥) → (faults fault.TokenTaken → ⊥) → (faults fault.NoFreeToken → ⊥) → Passed faults 18
-  past_token_number passed there untaken free = next fault.NoFreeToken refl (next fault.TokenTaken refl (next fault.NoSuchToken refl passed there) untaken) free
+  pub past_token_number : Passed faults 15 → (faults fault.NoSuchToken → ⊥) → (faults fault.TokenTaken → ⊥) → (faults fault.NoFreeToken → ⊥)
+      → (faults fault.UnreadableToken → ⊥) → Passed faults 19
+  past_token_number passed there untaken free read =
+      next fault.UnreadableToken refl (next fault.NoFreeToken refl (next fault.TokenTaken refl (next fault.NoSuchToken refl passed there) untaken) free) read
 
   pub past_tokens : Passed faults 15 → (faults fault.NoSuchToken → ⊥) → (faults fault.TokenTaken → ⊥) → (faults fault.NoFreeToken → ⊥)
-      → ((m : MetaFault) → faults (fault.BadToken m) → ⊥) → Passed faults 19
-  past_tokens passed there untaken free good = after_token (past_token_number passed there untaken free) good
+      → (faults fault.UnreadableToken → ⊥) → ((m : MetaFault) → faults (fault.BadToken m) → ⊥) → Passed faults 20
+  past_tokens passed there untaken free read good = after_token (past_token_number passed there untaken free read) good
 
   -- ---- the first fault
 
@@ -195,7 +198,7 @@ module _ (faults : EditFault → Type 0) where
         | inr other ↦ (elim other [
           | inl s ↦ (let row : edit_row g ≡ 7 = ap edit_row s.1 in (omega (arith, row), λ same. absurd (omega (arith, same, row))))
           | inr rest ↦ (elim rest [
-            | inl m ↦ (let row : edit_row g ≡ 18 = ap edit_row m.1 in (omega (arith, row), λ same. absurd (omega (arith, same, row))))
+            | inl m ↦ (let row : edit_row g ≡ 19 = ap edit_row m.1 in (omega (arith, row), λ same. absurd (omega (arith, same, row))))
             | inr only ↦ (let low = only.low in (omega (arith, low), λ same. absurd (omega (arith, same, low))))
           ])
         ])
@@ -210,11 +213,11 @@ module _ (faults : EditFault → Type 0) where
       place g bad same = let s = plan_of g (sym same) in rw s.1 (least s.0 (subst faults s.1 bad), λ _. tt)
 
   -- that of the metadata with a token is, where it is the first of them
-  pub first_of_token : (f : MetaFault) → Passed faults 18 → faults (fault.BadToken f) → ((g : MetaFault) → faults (fault.BadToken g) → NotAfter (meta_key f) (meta_key g))
+  pub first_of_token : (f : MetaFault) → Passed faults 19 → faults (fault.BadToken f) → ((g : MetaFault) → faults (fault.BadToken g) → NotAfter (meta_key f) (meta_key g))
       → IsLeast edit_key faults (fault.BadToken f)
-  first_of_token f passed here least = (here, λ g bad. (not_before 18 g passed bad, λ same. place g bad same))
+  first_of_token f passed here least = (here, λ g bad. (not_before 19 g passed bad, λ same. place g bad same))
     where
-      place : (g : EditFault) → faults g → 18 ≡ edit_row g → NotAfter (meta_key f) (edit_place g)
+      place : (g : EditFault) → faults g → 19 ≡ edit_row g → NotAfter (meta_key f) (edit_place g)
       place g bad same = let m = token_of g (sym same) in rw m.1 (least m.0 (subst faults m.1 bad))
 
   -- ---- the rows of what gives the key, from `Locked` to that of a keyslot's plan

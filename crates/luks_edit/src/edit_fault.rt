@@ -52,6 +52,9 @@ pub enum EditFault {
     TokenTaken,
     /// LUKS2: there is no token of that number, or none is free.
     NoFreeToken,
+    /// LUKS2: cryptsetup doesn't read metadata with the new token: its type is the empty text, or arrays
+    /// and objects nest in it deeper than 29 levels.
+    UnreadableToken,
     /// LUKS2: the metadata with the new token breaks a rule.
     BadToken(MetaFault),
     /// LUKS2: there is no higher sequence number.
@@ -89,6 +92,7 @@ impl fmt::Display for EditFault {
             EditFault::NoSuchToken => f.write_str("NoSuchToken"),
             EditFault::TokenTaken => f.write_str("TokenTaken"),
             EditFault::NoFreeToken => f.write_str("NoFreeToken"),
+            EditFault::UnreadableToken => f.write_str("UnreadableToken"),
             EditFault::BadToken(fault) => write!(f, "{fault}"),
             EditFault::SeqExhausted => f.write_str("SeqExhausted"),
             EditFault::MetadataFull => f.write_str("MetadataFull"),

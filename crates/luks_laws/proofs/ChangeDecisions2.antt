@@ -1,5 +1,5 @@
 -- What refuses a change of the metadata of a LUKS2 volume, and what it makes: each stands or doesn't.
-use Rattle.std.proofs.Common.{◌≡◌, ◌⊎◌, ℕ, ◌<◌, true, List, Option, Some, None, is_some, refl, subst, inl, inr}
+use Rattle.std.proofs.Common.{◌≡◌, ◌⊎◌, ℕ, ◌<◌, true, List, [], Option, Some, None, is_some, refl, ap, subst, inl, inr}
 use Rattle.std.specs.Prelude.{IsSomeAnd}
 use Rattle.std.specs.Borrow.{Bor}
 use Rattle.serde_json.specs.Data.{Data as Value, depth}
@@ -7,8 +7,9 @@ use Rattle.serde_json.specs.Read.{max_depth}
 use Rattle.serde_json.specs.View.{view}
 use Rattle.luks_rules.specs.declared.fault.MetaFault.{MetaFault}
 use Rattle.luks_rules.specs.declared.fault.MetaFault.TheVariants as meta
+use Rattle.luks_rules.specs.declared.table.Outer.TheVariants as outer
 use Rattle.luks_rules.specs.declared.table.Section.TheVariants.{Tokens}
-use Rattle.luks_rules.specs.Faults.{Among, object_at}
+use Rattle.luks_rules.specs.Faults.{Among, object_at, type_at}
 use Rattle.luks_rules.specs.MetaFault.{meta_key}
 use Rattle.luks_rules.specs.Valued.{IsValueFault}
 use Rattle.luks_making.specs.Amended.{with_priority, with_token, without_token}
@@ -17,13 +18,13 @@ use Rattle.luks_making.specs.declared.amended.Change.TheVariants as changes
 use Rattle.luks_edit.specs.Asked.{AmendsSlot}
 use Rattle.luks2_edit_laws.specs.Edited.{HasNewToken, IsAmended}
 use Rattle.luks2_edit_laws.specs.Metadata.{HasToken, IsFreeToken, IsLeastFreeToken, IsNewToken}
-use Rattle.luks2_edit_laws.specs.Refused.{HasNoFreeToken, HasNoTokenNumber, IsBadToken, IsFaultyWith, IsTokenAt, IsTokenTaken, LacksToken}
+use Rattle.luks2_edit_laws.specs.Refused.{HasNoFreeToken, HasNoTokenNumber, IsBadToken, IsFaultyWith, IsTokenAt, IsTokenTaken, IsUnreadable, IsUnreadableToken, LacksToken}
 use Rattle.luks2_edit_laws.proofs.AmendedFacts.{token_once}
 use Rattle.luks_laws.proofs.AskedDecisions.{of_one_decided}
-use Rattle.luks_laws.proofs.DecidedFacts.{alike_decided, both_decided, Decided, less_decided, not_decided, true_decided}
+use Rattle.luks_laws.proofs.DecidedFacts.{alike_decided, both_decided, Decided, less_decided, not_decided, one_decided, same_list_decided, true_decided}
 use Rattle.luks_laws.proofs.HeaderDecisions2.{data_fault_decided, known_value, meta_candidates}
 use Rattle.luks_laws.proofs.MemberDecisions2.{none_decided}
-use Rattle.luks_laws.proofs.SearchFacts.{least_or_none_below, some_decided, SomeOrNone}
+use Rattle.luks_laws.proofs.SearchFacts.{least_or_none_below, some_decided, some_same, SomeOrNone}
 
 -- ---- the keyslot whose priority is set
 
@@ -88,6 +89,19 @@ no_free_decided j (changes.Priority slot priority) = inr (λ bad. bad)
 no_free_decided j (changes.AddToken to token) = no_number_decided j to
 no_free_decided j (changes.RemoveToken number) = inr (λ bad. bad)
 
+-- it is the empty text, or it isn't
+empty_decided : (o : Option (List ℕ)) → Decided (o ≡ Some [])
+empty_decided None = inr (λ same. cc)
+empty_decided (Some t) = alike_decided (t ≡ []) (Some t ≡ Some []) (λ same. ap Some same) (λ same. some_same t [] same) (same_list_decided t [])
+
+unreadable_decided : (token : Value) → Decided (IsUnreadable token)
+unreadable_decided token = one_decided _ _ (empty_decided (type_at token outer.Top)) (less_decided 29 (depth token))
+
+unread_decided : (c : Change) → Decided (IsUnreadableToken c)
+unread_decided (changes.Priority slot priority) = inr (λ bad. bad)
+unread_decided (changes.AddToken to token) = unreadable_decided (view token.now)
+unread_decided (changes.RemoveToken number) = inr (λ bad. bad)
+
 -- ---- a fault of the metadata with a token
 
 value_fault_decided : (len : ℕ) (j : Value) (f : MetaFault) → Decided (IsValueFault len j f)
@@ -129,6 +143,9 @@ some_taken_decided j o = some_decided Change o (IsTokenTaken j) (taken_decided j
 
 pub some_no_free_decided : (j : Value) (o : Option Change) → Decided (IsSomeAnd o (HasNoFreeToken j))
 some_no_free_decided j o = some_decided Change o (HasNoFreeToken j) (no_free_decided j)
+
+pub some_unread_decided : (o : Option Change) → Decided (IsSomeAnd o IsUnreadableToken)
+some_unread_decided o = some_decided Change o IsUnreadableToken unread_decided
 
 pub some_bad_decided : (len : ℕ) (j : Value) (f : MetaFault) (o : Option Change) → Decided (IsSomeAnd o (IsBadToken len j f))
 some_bad_decided len j f o = some_decided Change o (IsBadToken len j f) (bad_decided len j f)

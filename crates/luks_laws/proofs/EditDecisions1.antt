@@ -35,6 +35,7 @@ module _ (v : List ℕ) (payload : Data) (answer : (m : Allowed) (n : ℕ) (p : 
   fault1_decided edit.NoSuchToken = inr (λ bad. bad)
   fault1_decided edit.TokenTaken = inr (λ bad. bad)
   fault1_decided edit.NoFreeToken = inr (λ bad. bad)
+  fault1_decided edit.UnreadableToken = inr (λ bad. bad)
   fault1_decided (edit.BadToken f) = inr (λ bad. bad)
   fault1_decided edit.SeqExhausted = inr (λ bad. bad)
   fault1_decided edit.MetadataFull = inr (λ bad. bad)

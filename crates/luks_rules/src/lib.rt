@@ -20,6 +20,7 @@ pub use content::read_content;
 pub use fault::MetaFault;
 pub use laws::metadata_without_faults;
 pub use members::{member_at, object_at, outer_at, section_at, type_at};
+pub use nesting::nests_within;
 pub use reading::sector_size_in;
 pub use sizes::first_segment_below;
 pub use table::{Listed, Member, Outer, Row, Rule, Section, When, member_name, section_name};

@@ -8,7 +8,7 @@ use serde_json::{Map, Value};
 
 /// Whether arrays and objects nest in the value no deeper than so many levels.
 #[cycle(nesting)]
-pub(crate) fn nests_within(value: &Value, levels: u8) -> bool
+pub fn nests_within(value: &Value, levels: u8) -> bool
     ensures { IsTrue result ↔ depth (view value.now) ≤ levels }
 {
     match value {
