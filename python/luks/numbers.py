@@ -70,6 +70,7 @@ class Number(enum.IntEnum):
     NO_SUCH_TOKEN = 59
     TOKEN_TAKEN = 60
     NO_FREE_TOKEN = 61
+    UNREADABLE_TOKEN = 62
     USAGE = 101
     BEYOND = 102
     MEMORY = 103

@@ -296,6 +296,9 @@ class Volume2:
             raise Fault("TokenTaken")
         if self.token_number(edit) is None:
             raise Fault("NoFreeToken")
+        token = reader.read_value(edit.text)
+        if reader.levels(token) > 29 or isinstance(token, dict) and token.get("type") == "":
+            raise Fault("UnreadableToken")
         reader.judge(self.copy, self.made(edit, None))
 
     def token_number(self, edit):

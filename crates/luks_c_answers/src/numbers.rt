@@ -120,6 +120,7 @@ fn number_of_call(fault: Fault) -> u32
         Fault::NoSuchToken => 59,
         Fault::TokenTaken => 60,
         Fault::NoFreeToken => 61,
+        Fault::UnreadableToken => 62,
         _ => UNKNOWN,
     }
 }
@@ -203,6 +204,7 @@ pub fn edit_number(fault: &EditFault) -> u32
         EditFault::NoSuchToken => number_of(Fault::NoSuchToken),
         EditFault::TokenTaken => number_of(Fault::TokenTaken),
         EditFault::NoFreeToken => number_of(Fault::NoFreeToken),
+        EditFault::UnreadableToken => number_of(Fault::UnreadableToken),
         EditFault::BadToken(fault) => told_number(Fault::of_meta(fault)),
         EditFault::SeqExhausted => number_of(Fault::SeqExhausted),
         EditFault::MetadataFull => number_of(Fault::MetadataFull),

@@ -53,6 +53,7 @@ name_of fault.BadLabel = codes "BadLabel"
 name_of fault.NoSuchToken = codes "NoSuchToken"
 name_of fault.TokenTaken = codes "TokenTaken"
 name_of fault.NoFreeToken = codes "NoFreeToken"
+name_of fault.UnreadableToken = codes "UnreadableToken"
 name_of fault.SeqExhausted = codes "SeqExhausted"
 name_of fault.MetadataFull = codes "MetadataFull"
 name_of fault.RandomLength = codes "RandomLength"
@@ -118,6 +119,7 @@ all_faults =
     ∷ fault.NoSuchToken
     ∷ fault.TokenTaken
     ∷ fault.NoFreeToken
+    ∷ fault.UnreadableToken
     ∷ fault.SeqExhausted
     ∷ fault.MetadataFull
     ∷ fault.RandomLength
@@ -187,6 +189,7 @@ named fault.BadLabel = refl
 named fault.NoSuchToken = refl
 named fault.TokenTaken = refl
 named fault.NoFreeToken = refl
+named fault.UnreadableToken = refl
 named fault.SeqExhausted = refl
 named fault.MetadataFull = refl
 named fault.RandomLength = refl
@@ -255,6 +258,7 @@ called fault.BadLabel = refl
 called fault.NoSuchToken = refl
 called fault.TokenTaken = refl
 called fault.NoFreeToken = refl
+called fault.UnreadableToken = refl
 called fault.SeqExhausted = refl
 called fault.MetadataFull = refl
 called fault.RandomLength = refl

@@ -97,6 +97,8 @@ pub enum Fault {
     TokenTaken,
     /// All 32 numbers of tokens are taken.
     NoFreeToken,
+    /// cryptsetup doesn't read metadata with the token.
+    UnreadableToken,
     /// There is no higher sequence number.
     SeqExhausted,
     /// The new metadata is longer than its area.
@@ -192,6 +194,7 @@ impl Fault {
         Fault::NoSuchToken,
         Fault::TokenTaken,
         Fault::NoFreeToken,
+        Fault::UnreadableToken,
         Fault::SeqExhausted,
         Fault::MetadataFull,
         Fault::RandomLength,
@@ -232,7 +235,7 @@ impl Fault {
             JsonArea BadJson NotWhole Shape Kind NoSuchName Assigned Sizes AreaTooSmall Region
             Outside Overlap NoSuchSlot SameSlot SlotFree Argon2 Cipher Hash KeySize NoSuchDigest KeyLength
             WrongKey Locked Passphrase Requirements SlotTaken NoFreeSlot NoRoom LastSlot BadLabel
-            NoSuchToken TokenTaken NoFreeToken SeqExhausted MetadataFull
+            NoSuchToken TokenTaken NoFreeToken UnreadableToken SeqExhausted MetadataFull
             RandomLength Payload TooSmall SectorSize Uneven NotLuks1 SameFile Counts NoMetadata NoHeader Exists
             NotAccepted DoesNotFit OtherVolume OtherUse Reencrypting
         )

@@ -150,6 +150,7 @@ impl Fault {
             EditFault::NoSuchToken => Some(Fault::NoSuchToken),
             EditFault::TokenTaken => Some(Fault::TokenTaken),
             EditFault::NoFreeToken => Some(Fault::NoFreeToken),
+            EditFault::UnreadableToken => Some(Fault::UnreadableToken),
             EditFault::BadToken(fault) => Fault::of_meta(fault),
             EditFault::SeqExhausted => Some(Fault::SeqExhausted),
             EditFault::MetadataFull => Some(Fault::MetadataFull),

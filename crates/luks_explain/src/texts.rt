@@ -47,6 +47,10 @@ pub(crate) fn means(fault: Fault) -> &'static str {
         Fault::NoSuchToken => "the volume has no token of this number",
         Fault::TokenTaken => "the volume has a token of the number of --to",
         Fault::NoFreeToken => "the volume has 32 tokens, and no number is free",
+        Fault::UnreadableToken => {
+            "cryptsetup doesn't read metadata with the token: its type is empty, or it nests
+       more than 29 deep"
+        }
         Fault::SeqExhausted => "there is no higher sequence number",
         Fault::MetadataFull => "the new metadata is longer than its area",
         Fault::RandomLength => "the random file is too short, or none is given",
@@ -170,6 +174,7 @@ pub(crate) fn place(fault: Fault) -> &'static str {
         }
         Fault::NoSuchToken => "token export and token remove: N",
         Fault::TokenTaken | Fault::NoFreeToken => "token import: --to, 0 to 31",
+        Fault::UnreadableToken => "token import: FILE",
         Fault::SeqExhausted => {
             "add, change, remove, repair and label: seqid of the copy that counts, of
        LUKS2"
@@ -299,6 +304,7 @@ pub(crate) fn safe(fault: Fault) -> &'static str {
         | Fault::NoSuchToken
         | Fault::TokenTaken
         | Fault::NoFreeToken
+        | Fault::UnreadableToken
         | Fault::SeqExhausted
         | Fault::MetadataFull
         | Fault::RandomLength
@@ -460,6 +466,7 @@ pub(crate) fn next(fault: Fault) -> &'static str {
         Fault::BadLabel => "give at most 47 bytes of 0x20 to 0x7E; LUKS1 has no label",
         Fault::NoSuchToken | Fault::TokenTaken => "luks token VOLUME list lists those that there are",
         Fault::NoFreeToken => "remove one that isn't needed: luks token VOLUME remove N",
+        Fault::UnreadableToken => "give it a type of at least one byte, and at most 29 levels",
         Fault::SeqExhausted => {
             "no count of edits leads there: some program wrote it so; restore a header
        backup with a lower one (luks show BACKUP prints it as seqid)"

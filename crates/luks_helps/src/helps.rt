@@ -489,9 +489,10 @@ Prints the lines or the text, or one line:
   done           the token is there, or gone, and the copies are in step
   refused FAULT  the first fault, and nothing was written: what check refuses,
                  OtherUse (as above), Requirements, BadLabel (the volume is of
-                 LUKS1), NoSuchToken, TokenTaken, NoFreeToken, what check would
-                 refuse with the token, as Shape(tokens.N.keyslots) or
-                 NoSuchName(..), BadJson (FILE holds no JSON text),
+                 LUKS1), NoSuchToken, TokenTaken, NoFreeToken, UnreadableToken
+                 (its type is empty, or it nests more than 29 deep), what
+                 check would refuse with the token, as NoSuchName(..) or
+                 Shape(tokens.N.keyslots), BadJson (FILE holds no JSON text),
                  SeqExhausted, MetadataFull, RandomLength (the random file is
                  too short or none is named), or Passphrase (FILE is too long)
   device fault   a file can't be read, or the volume read or written
