@@ -48,8 +48,8 @@ pub(crate) fn means(fault: Fault) -> &'static str {
         Fault::TokenTaken => "the volume has a token of the number of --to",
         Fault::NoFreeToken => "the volume has 32 tokens, and no number is free",
         Fault::UnreadableToken => {
-            "cryptsetup doesn't read metadata with the token: its type is empty, or it nests
-       more than 29 deep"
+            "cryptsetup doesn't read metadata with the token: its type is empty, or it
+       nests more than 29 deep"
         }
         Fault::SeqExhausted => "there is no higher sequence number",
         Fault::MetadataFull => "the new metadata is longer than its area",
