@@ -51,7 +51,7 @@ pub(crate) fn remove<D: Device>(
     ensures replies { D.tells → (payload : Payload) (e : Edit) (by_ : Option ℕ)
         (passphrase : Secret) → deed_of e ≡ Remove (removing slot by_ passphrase)
         → IsChosenCopy (D.bytes device.old) copy → WellFormed (D.bytes device.old) payload
-        → HasNoFaultBefore 18 (D.bytes device.old) payload e random.now
+        → HasNoFaultBefore 19 (D.bytes device.old) payload e random.now
         → Replies2 payload (D.bytes device.old) e random.now result (D.bytes device.new) }
 {
     let header = copy.header;

@@ -46,7 +46,7 @@ pub(crate) fn repair<D: Device>(
     ensures replies { D.tells → (payload : Payload) (e : Edit)
         → IsRewriting (content copy.meta) (texts_of copy.header) e texts change.entry
         → IsChosenCopy (D.bytes device.old) copy → WellFormed (D.bytes device.old) payload
-        → HasNoFaultBefore 18 (D.bytes device.old) payload e random.now
+        → HasNoFaultBefore 19 (D.bytes device.old) payload e random.now
         → Replies2 payload (D.bytes device.old) e random.now result (D.bytes device.new) }
 {
     let header = copy.header;
