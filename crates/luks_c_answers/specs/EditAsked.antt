@@ -1,7 +1,7 @@
 -- The edit that a caller asks for by numbers.
 use Rattle.std.specs.Prelude.{◌≡◌, ◌≢◌, ◌==◌, ℕ, ◌<◌, List, if◌then◌else◌, Option, Some, None}
 use Rattle.luks_edit.specs.declared.edit.Edit.{Edit}
-use Rattle.luks_edit.specs.declared.edit.Edit.TheVariants.{Add, AddByKey, Change, Remove, Repair, Label}
+use Rattle.luks_edit.specs.declared.edit.Edit.TheVariants.{Add, AddByKey, Change, Remove, Repair, Label, Amend}
 use Rattle.luks_edit.specs.declared.edit.Secret.{Secret}
 use Rattle.luks_edit.specs.declared.edit.SecretKind.{SecretKind}
 use Rattle.luks_edit.specs.declared.edit.SecretKind.TheVariants.{Key, Passphrase}
@@ -38,7 +38,8 @@ IsAsked asked words text (Change slot old new iterations derivation) = (asked.ki
 IsAsked asked words text (Remove slot by_ secret) = (asked.kind ≡ 3) × IsSlot asked.slot slot × IsMaybeSlot asked.by_ by_
     × IsSecret words asked secret
 IsAsked asked words text Repair = asked.kind ≡ 4
-IsAsked asked words text (Label label) = (asked.kind ≡ 5) × (label.now ≡ text)
+IsAsked asked words text (Label label subsystem) = (asked.kind ≡ 5) × (label.now ≡ text) × (subsystem ≡ None)
+IsAsked asked words text (Amend change) = ⊥
 
 -- no edit is
 abbrev pub IsUnasked : LuksEdit → List ℕ → List ℕ → Type 0

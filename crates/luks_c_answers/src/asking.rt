@@ -101,7 +101,10 @@ pub fn edit_of<'a>(asked: &LuksEdit, secret: &'a [u8], text: &'a [u8]) -> Result
             secret: old,
         }),
         4 => Ok(Edit::Repair),
-        5 => Ok(Edit::Label { text }),
+        5 => Ok(Edit::Label {
+            text,
+            subsystem: None,
+        }),
         _ => Err(Unasked),
     }
 }
