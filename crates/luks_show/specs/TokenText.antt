@@ -1,5 +1,5 @@
 -- What is shown of a header's tokens: their lines, and the text of one.
-use Rattle.std.specs.Prelude.{◌≡◌, ◌≤◌, ℕ, List, [], All, Option, Some, None, chars, false}
+use Rattle.std.specs.Prelude.{◌≡◌, ◌⊎◌, ◌≤◌, ◌<◌, ℕ, List, [], All, Option, Some, None, chars, false}
 use Rattle.serde_json.specs.Data.{Data, depth}
 use Rattle.serde_json.specs.Read.{max_depth, read}
 use Rattle.serde_json.specs.Written.{compact_text, has_float}
@@ -23,9 +23,9 @@ pub record IsTokenText (token : Data) (text : List ℕ) : Type 0 where
   pub escaped : text ≡ unsteering written
   pub plain : All IsSteerless (chars text)
 
--- what is shown where the token is asked for: its text, or none
+-- what is shown where the token is asked for: its text, or that there is none; tokens have the numbers 0 to 31
 abbrev pub IsShownToken : Listing → ℕ → Option (List ℕ) → Type 0
-IsShownToken listing n None = token_of listing n ≡ None
+IsShownToken listing n None = (31 < n) ⊎ (token_of listing n ≡ None)
 IsShownToken listing n (Some text) = (token : Data) × ((token_of listing n ≡ Some token) × IsTokenText token text)
 
 -- every line; of LUKS2 they aren't told
