@@ -25,7 +25,7 @@ use Rattle.luks2_editing.specs.Amending.{token_fault as fault_by}
 -- the number of what is taken is one
 numbered_as : (j : Value) (c : Change) (t : JudgedChange) → IsTakenAs j c t → IsNumbered t
 numbered_as j (changes.Priority slot priority) (judged.Priority n p) x = x.2.0
-numbered_as j (changes.AddToken to token) (judged.AddToken n t) x = x.1.0.free.0
+numbered_as j (changes.AddToken to token) (judged.AddToken n t) x = x.1.free.0
 numbered_as j (changes.RemoveToken number) (judged.RemoveToken n) x = x.1.0
 numbered_as j (changes.Priority slot priority) (judged.AddToken n t) x = absurd x
 numbered_as j (changes.Priority slot priority) (judged.RemoveToken n) x = absurd x
@@ -43,7 +43,7 @@ taken_numbered j None (Some t) x = absurd x
 amended_as : (j k : Value) (c : Change) (t : JudgedChange) → IsTakenAs j c t → IsChangedBy (Some t) j k → IsAmended (Some c) j k
 amended_as j k (changes.Priority slot priority) (judged.Priority n p) x made = made ∙ ap (λ m. with_priority m p j) x.0 ∙ ap (λ q. with_priority slot q j) x.1
 amended_as j k (changes.AddToken to token) (judged.AddToken n t) x made =
-    record { number = n; is_new = x.1.0.is_new; is = made ∙ ap (λ u. with_token n (view u.now) j) x.0 }
+    record { number = n; is_new = x.1.is_new; is = made ∙ ap (λ u. with_token n (view u.now) j) x.0 }
 amended_as j k (changes.RemoveToken number) (judged.RemoveToken n) x made = made ∙ ap (λ m. without_token m j) x.0
 amended_as j k (changes.Priority slot priority) (judged.AddToken n t) x made = absurd x
 amended_as j k (changes.Priority slot priority) (judged.RemoveToken n) x made = absurd x
@@ -62,7 +62,7 @@ amended_by j k (Some c) None x made = absurd x
 fault_as : (len : ℕ) (j : Value) (f : MetaFault) (c : Change) (t : JudgedChange) → IsTakenAs j c t → IsBadToken len j f c → HasMadeFault len j (Some t) f
 fault_as len j f (changes.AddToken to token) (judged.AddToken n t) x bad =
     subst (λ u. IsValueFault len (with_token n (view u.now) j) f) (sym x.0)
-    (subst (λ m. IsValueFault len (with_token m (view token.now) j) f) (token_once j to bad.number n bad.is_new x.1.0.is_new) bad.fault)
+    (subst (λ m. IsValueFault len (with_token m (view token.now) j) f) (token_once j to bad.number n bad.is_new x.1.is_new) bad.fault)
 fault_as len j f (changes.AddToken to token) (judged.Priority n p) x bad = absurd x
 fault_as len j f (changes.AddToken to token) (judged.RemoveToken n) x bad = absurd x
 fault_as len j f (changes.Priority slot priority) t x bad = absurd bad
@@ -75,7 +75,7 @@ made_fault len j f (Some c) None x bad = absurd x
 
 token_fault_as : (len : ℕ) (j : Value) (f : MetaFault) (c : Change) (t : JudgedChange) → IsTakenAs j c t → HasMadeFault len j (Some t) f → IsBadToken len j f c
 token_fault_as len j f (changes.AddToken to token) (judged.AddToken n t) x bad =
-    record { number = n; is_new = x.1.0.is_new; fault = subst (λ u. IsValueFault len (with_token n (view u.now) j) f) x.0 bad }
+    record { number = n; is_new = x.1.is_new; fault = subst (λ u. IsValueFault len (with_token n (view u.now) j) f) x.0 bad }
 token_fault_as len j f (changes.AddToken to token) (judged.Priority n p) x bad = absurd x
 token_fault_as len j f (changes.AddToken to token) (judged.RemoveToken n) x bad = absurd x
 token_fault_as len j f (changes.Priority slot priority) (judged.AddToken n t) x bad = absurd x

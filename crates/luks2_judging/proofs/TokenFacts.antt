@@ -117,14 +117,14 @@ there_by j (changes.Priority slot priority) t x bad = bad
 there_by j (changes.AddToken to token) t x bad = bad
 
 untaken_by : (j : Value) (c : Change) (t : JudgedChange) → IsTakenAs j c t → IsTokenTaken j c → ⊥
-untaken_by j (changes.AddToken to token) (judged.AddToken n t) x bad = new_untaken j to n x.1.0 bad
+untaken_by j (changes.AddToken to token) (judged.AddToken n t) x bad = new_untaken j to n x.1 bad
 untaken_by j (changes.AddToken to token) (judged.Priority n p) x bad = x
 untaken_by j (changes.AddToken to token) (judged.RemoveToken n) x bad = x
 untaken_by j (changes.Priority slot priority) t x bad = bad
 untaken_by j (changes.RemoveToken number) t x bad = bad
 
 numbered_by : (j : Value) (c : Change) (t : JudgedChange) → IsTakenAs j c t → HasNoFreeToken j c → ⊥
-numbered_by j (changes.AddToken to token) (judged.AddToken n t) x bad = new_numbered j to n x.1.0 bad
+numbered_by j (changes.AddToken to token) (judged.AddToken n t) x bad = new_numbered j to n x.1 bad
 numbered_by j (changes.AddToken to token) (judged.Priority n p) x bad = x
 numbered_by j (changes.AddToken to token) (judged.RemoveToken n) x bad = x
 numbered_by j (changes.Priority slot priority) t x bad = bad
