@@ -1,6 +1,5 @@
 -- After a change of the metadata in named members each keyslot has its area, and answers as it did.
-use Rattle.std.proofs.Common.{◌≡◌, ℕ, ◌-◌, List, length, Option, Some, None, refl, sym, subst}
-use Rattle.std.proofs.lemmas.Option.{same_Some}
+use Rattle.std.proofs.Common.{◌≡◌, ℕ, ◌-◌, List, length, Option, Some, None, sym, subst}
 use Rattle.serde_json.specs.Data.{Data as Value}
 use Rattle.serde_json.specs.View.{view}
 use Rattle.luks_area.specs.declared.area.Area.{Area}
@@ -8,7 +7,6 @@ use Rattle.luks_area.specs.declared.area.AreaName.TheVariants.{Slot}
 use Rattle.luks_area.specs.Ranges.{part}
 use Rattle.luks2_header.specs.Header2.{hdr_size, header_at}
 use Rattle.luks_rules.specs.Held.{IsHeld}
-use Rattle.luks_making.specs.Amended.{with_priority, with_token, without_token}
 use Rattle.luks_making.specs.Unchanged.{KeepsUnnamed}
 use Rattle.luks_making.specs.declared.amended.Change.{Change}
 use Rattle.luks_making.specs.declared.amended.Change.TheVariants as changes
@@ -20,11 +18,10 @@ use Rattle.luks_edit.specs.declared.edit.Edit.{Edit}
 use Rattle.luks_edit.specs.declared.edit.Edit.TheVariants.{Add, AddByKey, Change as ChangeKey, Remove, Repair, Label, Amend}
 use Rattle.luks_edit.specs.Asked.{change_by}
 use Rattle.luks_edit.specs.Kept.{KeepsAnswers, KeepsArea}
-use Rattle.luks2_edit_laws.specs.Edited.{After2, HasNewToken, HasRanges, IsAmended, NamedKeyslots2}
+use Rattle.luks2_edit_laws.specs.Edited.{After2, HasRanges, IsAmended}
 use Rattle.luks2_edit_laws.specs.Refused.{IsUnrefused2}
 use Rattle.luks2_edit_laws.proofs.AfterFacts.{after, before, edited_metadata, layout, was_opened}
 use Rattle.luks2_edit_laws.proofs.AmendFacts.{amended_answers, area_kept, turned}
-use Rattle.luks2_edit_laws.proofs.KeptFacts.{KeepsMetadata}
 use Rattle.luks2_edit_laws.proofs.PlaceFacts.{left_bytes}
 use Rattle.luks2_edit_laws.proofs.VolumeFacts.{areas_are, areas_back, HasCopy, IsLayout}
 
