@@ -21,7 +21,7 @@ pub(crate) fn amended(
     meta: Meta,
     change: Option<JudgedChange<'_>>,
 ) -> Result<Meta, EditFault>
-    requires { IfSome change.entry IsNumbered }
+    requires { IfSome change IsNumbered }
     ensures value { IfOk result (λ m. IsChangedBy change.entry (content meta) (content m)) }
     ensures length { IfOk result (λ m. area_len m ≡ area_len meta) }
     ensures refused { IfErr result (IsUnmade (area_len meta) (content meta) change.entry) }

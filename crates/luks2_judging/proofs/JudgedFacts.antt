@@ -316,10 +316,10 @@ module _ (v : List ℕ) (payload : Data) (o : ℕ) (j : Value) (m : HasMetadata 
       token_taken_first bad = λ random.
           first_of_row (IsEditFault2 v payload e random) fault.TokenTaken refl (past_lacking random) (say v o j m (λ p i. IsSomeAnd (change_by e) (IsTokenTaken i)) bad)
 
-      module _ (free : IsSomeAnd (change_by e) (IsTokenTaken j) → ⊥) where
+      module _ (fresh : IsSomeAnd (change_by e) (IsTokenTaken j) → ⊥) where
         past_taken_token : (random : List ℕ) → IsPast 17 v payload e random
         past_taken_token random =
-            next (IsEditFault2 v payload e random) fault.TokenTaken refl (past_lacking random) (λ bad. free (said v o j m (λ p i. IsSomeAnd (change_by e) (IsTokenTaken i)) bad))
+            next (IsEditFault2 v payload e random) fault.TokenTaken refl (past_lacking random) (λ bad. fresh (said v o j m (λ p i. IsSomeAnd (change_by e) (IsTokenTaken i)) bad))
 
         pub unfree_token_first : IsSomeAnd (change_by e) (HasNoFreeToken j) → IsRefusedEarly v payload e fault.NoFreeToken
         unfree_token_first bad = λ random.

@@ -168,14 +168,14 @@ module _ {v : List ℕ} {payload : Data} {e : Edit} {o : ℕ} {meta : Meta} {ent
       change_refused fault.UnreadableToken bad = unread bad
       change_refused f bad = absurd (no_change_fault rewritten.change bad)
 
-      rewriting_passed : {change : Option JudgedChange} → IsTakenChange (content meta) rewritten.change change → (random : List ℕ) → HasNoFaultBefore 19 v payload e random
-      rewriting_passed {change} takes random =
+      rewriting_passed : (change : Option JudgedChange) → IsTakenChange (content meta) rewritten.change change → (random : List ℕ) → HasNoFaultBefore 19 v payload e random
+      rewriting_passed change takes random =
           amended_past v payload o (content meta) r.metadata e (λ x. rw is at x) (λ x. rw is at x) (λ x. rw is at x) (λ x. rw is at x) (λ x. rw is at x) (λ x. rw is at x) eight_of_none good_label
           (λ x. taken_there (content meta) rewritten.change change takes (rw is at x)) (λ x. taken_untaken (content meta) rewritten.change change takes (rw is at x))
           (λ x. taken_numbered (content meta) rewritten.change change takes (rw is at x)) (λ x. taken_readable (content meta) rewritten.change change takes (rw is at x)) random
 
     rewritten_passed : (own : TextFields) (it : JudgedEdit) → (HasBadText rewritten → ⊥) → IsRewrittenAs (content meta) own rewritten it → (random : List ℕ) → HasNoFaultBefore 19 v payload e random
-    rewritten_passed own (judged.Rewrite fields change) good x = rewriting_passed good x.1
+    rewritten_passed own (judged.Rewrite fields change) good x = rewriting_passed good change x.1
     rewritten_passed own it good x = absurd x
 
     pub rewriting_judged : (own : TextFields) (it : Result JudgedEdit EditFault) → OnOk it (HasBadText rewritten → ⊥) → IfOk it (IsRewrittenAs (content meta) own rewritten)

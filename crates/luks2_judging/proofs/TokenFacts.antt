@@ -34,7 +34,7 @@ pub none_free : (j : Value) (end : ℕ) → 32 ≤ end → AllThere j end → (n
 none_free j end past all n free = let low = free.0 in token_or_free j n (all n (omega (arith, past, low))) free
 
 pub all_more : (j : Value) (n : ℕ) → AllThere j n → HasToken j n → AllThere j (n + 1)
-all_more j n all here = below_more (HasToken j n) n all here
+all_more j n all here = below_more (HasToken j) n all here
 
 -- ---- the number of a token that is added
 

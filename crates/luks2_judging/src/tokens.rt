@@ -90,7 +90,7 @@ fn has_empty_type(token: &Value) -> bool
 /// What the change takes, whose keyslot is there if it names one. Refused by `NoSuchToken`,
 /// `TokenTaken`, `NoFreeToken`, `UnreadableToken`.
 fn judge_amending<'a>(meta: &Meta, change: Change<'a>) -> Result<JudgedChange<'a>, EditFault>
-    requires { HasPriorityThere (content meta.now) change.entry }
+    requires { HasPriorityThere (content meta.now) change }
     ensures { MatchResult result (IsTakenAs (content meta.now) change.entry)
         (IsChangeFault (content meta.now) change.entry) }
 {
@@ -121,7 +121,7 @@ pub(crate) fn judge_change<'a>(
     meta: &Meta,
     change: Option<Change<'a>>,
 ) -> Result<Option<JudgedChange<'a>>, EditFault>
-    requires { IfSome change.entry (HasPriorityThere (content meta.now)) }
+    requires { IfSome change (HasPriorityThere (content meta.now)) }
     ensures { MatchResult result (IsTakenChange (content meta.now) change.entry)
         (λ f. IsSomeAnd change.entry (λ c. IsChangeFault (content meta.now) c f)) }
 {

@@ -37,8 +37,9 @@ returns-in-Rewrite-clause-refused g c = λ tells is payload well judged_.
     rewriting_ended read (sym c.in-Rewrite.ensures) c.judge_rewriting.result c.judge_rewriting.ensures.refused
 
 pub judge_rewriting-requires : goal.judge_rewriting-requires
-judge_rewriting-requires g c =
-    amended_there (content c.args.accepted.now.copy.now.meta) c.args.edit.now c.in-Rewrite.rewritten (sym c.in-Rewrite.ensures) c.requires.ready.own.there
+judge_rewriting-requires g c = record {
+  there = amended_there (content c.args.accepted.now.copy.now.meta) c.args.edit.now c.in-Rewrite.rewritten (sym c.in-Rewrite.ensures) c.requires.ready.own.there;
+}
 
 pub judge_sealing_of-requires-clause-asked : goal.judge_sealing_of-requires-clause-asked
 judge_sealing_of-requires-clause-asked g c = sym c.in-Seal.ensures
