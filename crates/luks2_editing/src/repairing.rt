@@ -35,7 +35,7 @@ pub(crate) fn repair<D: Device>(
     change: Option<JudgedChange<'_>>,
     random: &[u8],
 ) -> Result<Done, EditFault>
-    requires numbered { IfSome change.entry IsNumbered }
+    requires numbered { IfSome change IsNumbered }
     requires room { D.failed device.old + 1 < 2 ^ 64 }
     requires settled { D.tells → IsSettled D.unsettled device.old }
     ensures size { D.size device.new ≡ D.size device.old }
