@@ -4,12 +4,13 @@ use Rattle.std.specs.Prelude.{IsSomeAnd}
 use Rattle.std.proofs.lemmas.Bool.{cases_lt, false≢true}
 use Rattle.serde_json.specs.Data.{Data as Value}
 use Rattle.serde_json.specs.declared.value.Value.{Value as Json}
+use Rattle.serde_json.specs.View.{view}
 use Rattle.std.specs.Borrow.{Bor}
 use Rattle.luks_making.specs.declared.amended.Change.{Change}
 use Rattle.luks_making.specs.declared.amended.Change.TheVariants as changes
 use Rattle.luks_edit.specs.declared.edit_fault.EditFault.TheVariants as fault
 use Rattle.luks2_edit_laws.specs.Metadata.{HasToken, IsFreeToken, IsLeastFreeToken}
-use Rattle.luks2_edit_laws.specs.Refused.{HasNoFreeToken, HasNoTokenNumber, IsTokenAt, IsTokenTaken, IsUnreadableToken, LacksToken}
+use Rattle.luks2_edit_laws.specs.Refused.{HasNoFreeToken, HasNoTokenNumber, IsTokenAt, IsTokenTaken, IsUnreadable, IsUnreadableToken, LacksToken}
 use Rattle.luks2_judging.specs.declared.judged.JudgedChange.{JudgedChange}
 use Rattle.luks2_judging.specs.declared.judged.JudgedChange.TheVariants as judged
 use Rattle.luks2_judging.specs.Changes.{IsChangeFault, IsNewTokenNumber, IsTakenAs, IsTakenChange}
@@ -106,6 +107,11 @@ unread_numbered j (Some c) x y = x.1 y
 pub no_change_fault : (o : Option Change) → IsSomeAnd o (λ c. ⊥) → ⊥
 no_change_fault None x = x
 no_change_fault (Some c) x = x
+
+-- of a token that has a number it is the fault that it can't be read
+pub unreadable_of : (j : Value) (c : Change) (to : Option ℕ) (token : Bor Json) (n : ℕ) → c ≡ changes.AddToken to token → IsNewTokenNumber j to n → IsUnreadable (view token.now)
+    → (IsTokenTaken j c → ⊥) × (HasNoFreeToken j c → ⊥) × IsUnreadableToken c
+unreadable_of j c to token n is new bad = rw is (new_untaken j to n new, new_numbered j to n new, bad)
 
 -- ---- what is taken is refused by none
 
