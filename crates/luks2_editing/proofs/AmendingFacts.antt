@@ -1,7 +1,9 @@
 -- The metadata that a change makes is what the edit makes, and its faults are those of the edit.
-use Rattle.std.proofs.Common.{◌≡◌, ◌≢◌, ℕ, ◌<◌, Option, Some, None, IfSome, sym, subst, ◌∙◌, ap}
+use Rattle.std.proofs.Common.{◌≡◌, ◌≢◌, ℕ, ◌<◌, Option, Some, None, IfErr, IfOk, IfSome, Result, sym, subst, ◌∙◌, ap}
 use Rattle.std.specs.Prelude.{IsSomeAnd}
+use Rattle.std.specs.Borrow.{Bor}
 use Rattle.serde_json.specs.Data.{Data as Value}
+use Rattle.serde_json.specs.declared.value.Value.{Value as TheValue}
 use Rattle.serde_json.specs.View.{view}
 use Rattle.luks_area.specs.First.{IsLeast}
 use Rattle.luks_rules.specs.declared.fault.MetaFault.{MetaFault}
@@ -11,7 +13,11 @@ use Rattle.luks_rules.specs.Held.{IsHeld}
 use Rattle.luks_rules.specs.Valued.{IsValueFault}
 use Rattle.luks_making.specs.Amended.{with_priority, with_token, without_token}
 use Rattle.luks_making.specs.declared.amended.Change.{Change}
+use Rattle.luks_making.specs.declared.amended.Priority.{Priority}
 use Rattle.luks_making.specs.declared.amended.Change.TheVariants as changes
+use Rattle.luks_meta.specs.declared.meta.Meta.{Meta}
+use Rattle.luks_meta.specs.Content.{content}
+use Rattle.luks_edit.specs.declared.edit_fault.EditFault.{EditFault}
 use Rattle.luks2_edit_laws.specs.Edited.{IsAmended}
 use Rattle.luks2_edit_laws.specs.Refused.{IsBadToken}
 use Rattle.luks2_edit_laws.proofs.AmendedFacts.{token_once}
@@ -19,7 +25,7 @@ use Rattle.luks2_edit_laws.proofs.ValuedFacts.{held_valued}
 use Rattle.luks2_judging.specs.declared.judged.JudgedChange.{JudgedChange}
 use Rattle.luks2_judging.specs.declared.judged.JudgedChange.TheVariants as judged
 use Rattle.luks2_judging.specs.Changes.{IsTakenAs, IsTakenChange}
-use Rattle.luks2_editing.specs.Amending.{HasMadeFault, IsChangedBy, IsFaultOf, IsNumbered}
+use Rattle.luks2_editing.specs.Amending.{HasMadeFault, IsChangedBy, IsFaultOf, IsNumbered, IsUnmade}
 use Rattle.luks2_editing.specs.Amending.{token_fault as fault_by}
 
 -- the number of what is taken is one
@@ -101,3 +107,16 @@ unfaulted len j k (Some (judged.RemoveToken number)) made held f bad = bad
 pub fault_of_token : (faults : MetaFault → Type 0) (f : MetaFault) → (f ≢ unread.Memory → IsLeast meta_key faults f) → IsFaultOf faults (fault_by f)
 fault_of_token faults unread.Memory least = tt
 fault_of_token faults f least = least (λ same. cc)
+
+-- what is made by each change is made by it
+pub prioritized_by : (o : Option JudgedChange) (slot : ℕ) (priority : Priority) (j : Value) (r : Result Meta EditFault) → o ≡ Some (judged.Priority slot priority)
+    → IfOk r (λ m. content m ≡ with_priority slot priority j) → IfOk r (λ m. IsChangedBy o j (content m))
+prioritized_by o slot priority j r is x = rw is x
+
+pub token_by : (o : Option JudgedChange) (n : ℕ) (token : Bor TheValue) (j : Value) (r : Result Meta EditFault) → o ≡ Some (judged.AddToken n token)
+    → IfOk r (λ m. content m ≡ with_token n (view token.now) j) → IfOk r (λ m. IsChangedBy o j (content m))
+token_by o n token j r is x = rw is x
+
+pub unmade_by : (o : Option JudgedChange) (n : ℕ) (token : Bor TheValue) (len : ℕ) (j : Value) (r : Result Meta EditFault) → o ≡ Some (judged.AddToken n token)
+    → IfErr r (IsFaultOf (IsValueFault len (with_token n (view token.now) j))) → IfErr r (IsUnmade len j o)
+unmade_by o n token len j r is x = rw is x
