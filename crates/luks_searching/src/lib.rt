@@ -1,0 +1,16 @@
+//! What of a damaged header a passphrase finds: each search changes few bytes of what stands, and takes
+//! that by which a keyslot opens to a key that meets its digest. Nothing is written, and each
+//! derivation is counted before it is made.
+#![tactic(auto)]
+
+mod digest1;
+mod fault;
+mod fields1;
+mod searching1;
+mod tally;
+mod trial1;
+mod turning;
+
+pub use fault::SearchFault;
+pub use searching1::{Found1, search1};
+pub use tally::{Progress, Spent, Tally, Untold};
