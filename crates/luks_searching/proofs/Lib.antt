@@ -1,0 +1,3 @@
+pub mod HeadedFacts
+pub mod OptionFacts
+pub mod TallyFacts

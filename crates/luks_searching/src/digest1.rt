@@ -62,10 +62,10 @@ pub(crate) fn mended_digest<D: Device, P: Progress>(
                     change: Change1::Digest { bits: times + 1 },
                 }));
             }
-            Some(bits) if bits < left => {
+            Some(fewer) if fewer < left => {
                 mended = header;
                 times += 1;
-                left = bits;
+                left = fewer;
             }
             _ => {}
         }

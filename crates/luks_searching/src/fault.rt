@@ -5,6 +5,8 @@ use luks_area::DeviceFault;
 /// Why a search is broken off.
 #[derive(Debug, Clone, Copy, PartialEq, Eq)]
 pub enum SearchFault {
+    /// Memory was refused.
+    Memory,
     /// A device call failed.
     Device,
     /// As many derivations were made as may be, and not all was tried.

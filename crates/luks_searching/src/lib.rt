@@ -8,6 +8,7 @@ mod fault;
 mod fields1;
 mod searching1;
 mod tally;
+mod trial;
 mod trial1;
 mod turning;
 

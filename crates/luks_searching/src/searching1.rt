@@ -84,8 +84,9 @@ pub fn search1<D: Device, P: Progress>(
         given,
         passphrase,
     };
-    if let Some(found) = as_it_stands(alloc, source, &sought, tally, progress)? {
-        return Ok(Some(found));
+    let found = as_it_stands(alloc, source, &sought, tally, progress)?;
+    if found.is_some() {
+        return Ok(found);
     }
     by_fields(alloc, source, &sought, tally, progress)
 }
@@ -112,8 +113,9 @@ fn as_it_stands<D: Device, P: Progress>(
         → ⊥)) }
 {
     for n in 0..8 {
-        if let Some(found) = slot_as_it_stands(alloc, source, sought, n, tally, progress)? {
-            return Ok(Some(found));
+        let found = slot_as_it_stands(alloc, source, sought, n, tally, progress)?;
+        if found.is_some() {
+            return Ok(found);
         }
     }
     Ok(None)
@@ -186,8 +188,9 @@ fn by_fields<D: Device, P: Progress>(
         sought.now.passphrase.now n field)) }
 {
     for field in FIELDS.iter() {
-        if let Some(found) = by_field(alloc, source, sought, *field, tally, progress)? {
-            return Ok(Some(found));
+        let found = by_field(alloc, source, sought, *field, tally, progress)?;
+        if found.is_some() {
+            return Ok(found);
         }
     }
     Ok(None)
@@ -216,8 +219,9 @@ fn by_field<D: Device, P: Progress>(
         field)) }
 {
     for n in 0..8 {
-        if let Some(found) = turned_in(alloc, source, sought, field, n, tally, progress)? {
-            return Ok(Some(found));
+        let found = turned_in(alloc, source, sought, field, n, tally, progress)?;
+        if found.is_some() {
+            return Ok(found);
         }
     }
     Ok(None)
