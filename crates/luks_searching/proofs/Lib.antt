@@ -1,3 +1,4 @@
+pub mod DigestFacts
 pub mod HeadedFacts
 pub mod OptionFacts
 pub mod TallyFacts
