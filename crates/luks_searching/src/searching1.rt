@@ -143,10 +143,9 @@ fn slot_as_it_stands<D: Device, P: Progress>(
     ensures none { D.tells → IfOk result (λ found. IfNone found (OpensHeaded (D.bytes source.old)
         sought.now.header.now sought.now.given.now sought.now.passphrase.now n → ⊥)) }
 {
-    let header = *sought.header;
     match distance(alloc, source, sought, n, tally, progress)? {
         Some(0) => Ok(Some(Found1 {
-            header,
+            header: *sought.header,
             slot: n,
             change: Change1::Nothing,
         })),

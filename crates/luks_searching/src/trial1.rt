@@ -23,6 +23,7 @@ pub(crate) struct Sought<'a> {
     pub(crate) header: &'a [u8; 592],
     pub(crate) given: &'a Given,
     pub(crate) passphrase: &'a [u8],
+    ghost long: { length header.now ≡ luks1_size },
 }
 
 /// In how many bits the digest differs by which the keyslot `n` would open, of the header that is made of
@@ -36,7 +37,6 @@ pub(crate) fn distance<D: Device, P: Progress>(
     tally: &mut Tally,
     progress: &mut P,
 ) -> Result<Option<u32>, SearchFault>
-    requires long { length sought.now.header.now ≡ luks1_size }
     requires numbered { n < 8 }
     requires large { luks1_size ≤ D.size source.old }
     requires room { D.failed source.old + 1 < 2 ^ 64 }
@@ -67,7 +67,6 @@ fn distance_of<D: Device, P: Progress>(
     tally: &mut Tally,
     progress: &mut P,
 ) -> Result<Option<u32>, SearchFault>
-    requires long { length sought.now.header.now ≡ luks1_size }
     requires made { IsMade sought.now.header.now (D.size source.old) sought.now.given.now made.now }
     requires numbered { n < 8 }
     requires large { luks1_size ≤ D.size source.old }

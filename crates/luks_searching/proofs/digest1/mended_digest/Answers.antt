@@ -1,8 +1,8 @@
-use Rattle.std.proofs.Common.{◌≡◌, ◌+◌, ◌≤◌, ◌∙◌, Some, ap, subst, sym, arith}
+use Rattle.std.proofs.Common.{◌≡◌, ℕ, ◌+◌, ◌≤◌, ◌∙◌, Some, ap, subst, sym, arith}
 use Rattle.luks_area.specs.Device.{unchanged-then}
 use Rattle.luks_searching.specs.Found1.{IsTurnedTimes}
 use Rattle.luks_searching.specs.Headed.{OpensHeaded}
-use Rattle.luks_searching.proofs.DigestFacts.{turned_more, turned_once}
+use Rattle.luks_searching.proofs.DigestFacts.{positive, turned_more, turned_once}
 use Rattle.luks_searching.proofs.TallyFacts.{counts_then}
 use Rattle.luks_searching.proofs.digest1.mended_digest.Goals.{in-Some, in-Some+else-fewer-left, in-None-1}
 use Rattle.luks_searching.proofs.digest1.mended_digest.Goals as goal
@@ -15,7 +15,6 @@ returns-in-Some-eq0-clause-found g c = λ tells.
     let same = c.loop-number.invariant.unchanged.same tells in
     let opened = c.in_ok-distance.ensures.opens tells in
     let some = c.in-Some-eq0.is in
-    let zero = c.in-Some-eq0.field-0-is in
     let sum = c.loop-number.invariant.sum in
     let left = c.loop-number.invariant.some_left in
     let few = c.requires.few in
@@ -27,7 +26,7 @@ returns-in-Some-eq0-clause-found g c = λ tells.
         turned_more c.loop-number.times h c.loop-number.mended c.turned-header.result c.loop-number.invariant.turned
             (turned_once c.loop-number.mended c.turned-header.result c.loop-number.number below c.turned-header.ensures),
       );
-      opens = subst (λ v. OpensHeaded v c.turned-header.result given p c.args.n) same (opened.0 (cc (some, zero)));
+      opens = subst (λ v. OpensHeaded v c.turned-header.result given p c.args.n) same (opened.0 (cc some));
     }
 
 pub loop-number-preserved : goal.loop-number-preserved
@@ -49,7 +48,7 @@ loop-number-preserved g c =
             unchanged = unchanged;
             count = count;
             counts = counts;
-            some_left = (let h2 = w.in-Some in ?);
+            some_left = subst (λ (m : ℕ). 1 ≤ m) (sym w.left-is) (positive w.in-Some.fewer w.in-Some.fewer-test.1);
             sum = omega (arith, sum, fewer, times, left);
             turned = subst (λ m. IsTurnedTimes c.match-branch-2.times h m) (sym w.mended-is)
                 (subst (λ t. IsTurnedTimes t h c.turned-header.result) (sym w.times-is)

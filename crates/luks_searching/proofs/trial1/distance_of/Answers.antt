@@ -36,7 +36,7 @@ returns-in-Enabled-clause-opens g c = λ tells.
     low _ c.in-Enabled.is c.luks1_plan-plan.result c.luks1_plan-plan.ensures.is c.luks1_plan-plan.ensures.judged in
     let inside = there.inside in
     told_by c.try_plan.result _ _
-    (opens_headed v h c.requires.long (omega (arith, large, sized)) given d made n low c.write-written.result c.write-written.ensures.written
+    (opens_headed v h c.args.sought.now.long (omega (arith, large, sized)) given d made n low c.write-written.result c.write-written.ensures.written
     _ (sym (get_or_default d.slots n any_slot _ within)) c.in-Enabled.is c.luks1_plan-plan.result c.luks1_plan-plan.ensures.is c.luks1_plan-plan.ensures.judged
     (omega (arith, inside, sized)) c.args.sought.now.passphrase.now)
     (c.try_plan.ensures.opens tells)
@@ -55,6 +55,6 @@ returns-in-Disabled-clause-opens g c = λ tells.
     let large = c.requires.large in
     let made : IsMade h (length v) given d = subst (λ m. IsMade h m given d) (sym sized) c.requires.made in (
       (λ e. absurd (cc)),
-      (λ x. absurd (shut_headed v h given d c.requires.long (omega (arith, large, sized)) made n low
+      (λ x. absurd (shut_headed v h given d c.args.sought.now.long (omega (arith, large, sized)) made n low
           _ (sym (get_or_default d.slots n any_slot _ within)) c.in-Disabled.is c.args.sought.now.passphrase.now x)),
     )
