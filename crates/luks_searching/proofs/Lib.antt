@@ -1,4 +1,5 @@
 pub mod DigestFacts
 pub mod HeadedFacts
+pub mod MetadataFacts
 pub mod OptionFacts
 pub mod TallyFacts

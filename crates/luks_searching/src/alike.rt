@@ -33,13 +33,13 @@ fn is_alike_derivation(a: &Derivation<'_>, b: &Derivation<'_>) -> bool
                 iterations: other_iterations,
                 salt: other_salt,
             },
-        ) => *hash == *other_hash && iterations == other_iterations && **salt == **other_salt,
+        ) => *hash == *other_hash && iterations == other_iterations && *salt == *other_salt,
         (Derivation::Argon2(costs), Derivation::Argon2(others)) => {
             is_alike_kind(costs.kind, others.kind)
                 && costs.time == others.time
                 && costs.memory == others.memory
                 && costs.cpus == others.cpus
-                && *costs.salt == *others.salt
+                && costs.salt == others.salt
         }
         _ => false,
     }
@@ -66,5 +66,5 @@ fn is_alike_cipher(a: &AreaCipher<'_>, b: &AreaCipher<'_>) -> bool
 fn is_alike_digest(a: &DigestPlan<'_>, b: &DigestPlan<'_>) -> bool
     ensures { result ≡ true → IsAlikeDigest a.now b.now }
 {
-    a.hash == b.hash && a.iterations == b.iterations && *a.salt == *b.salt && *a.stored == *b.stored
+    a.hash == b.hash && a.iterations == b.iterations && a.salt == b.salt && a.stored == b.stored
 }

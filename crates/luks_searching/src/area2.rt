@@ -13,7 +13,7 @@ ghost use Rattle.luks_slot.specs.declared.allowed.Allowed.{Allowed as TheAllowed
 use crate::alike::is_alike;
 use crate::fault::SearchFault;
 use crate::tally::{Progress, Tally};
-use crate::trial2::{Trying, distance, first_opened};
+use crate::trial2::{Trying, first_opened, opens};
 use luks_area::Device;
 use luks_meta::{Meta, MetaFault};
 use luks_reading::luks2_plan;
@@ -300,7 +300,7 @@ fn opens_anew<D: Device, P: Progress>(
     if tells_as_before(standing, meta, n) {
         return Ok(false);
     }
-    Ok(distance(alloc, source, meta, n, trying, tally, progress)? == Some(0))
+    opens(alloc, source, meta, n, trying, tally, progress)
 }
 
 /// Whether what stands tells the keyslot `n` as this metadata does.

@@ -1,6 +1,7 @@
 //! Why a search is broken off.
 use crate::tally::Spent;
 use luks_area::DeviceFault;
+use std::alloc::AllocError;
 
 /// Why a search is broken off.
 #[derive(Debug, Clone, Copy, PartialEq, Eq)]
@@ -32,5 +33,16 @@ impl From<Spent> for SearchFault {
 
     fn from(_: Spent) -> SearchFault {
         SearchFault::Spent
+    }
+}
+
+impl From<AllocError> for SearchFault {
+    ghost use Rattle.std.specs.Prelude.{◌≡◌};
+    ghost use Rattle.luks_searching.specs.declared.fault.SearchFault.{SearchFault};
+
+    ghost from_gives = { λ _ fault. fault ≡ SearchFault.Memory };
+
+    fn from(_: AllocError) -> SearchFault {
+        SearchFault::Memory
     }
 }

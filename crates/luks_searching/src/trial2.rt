@@ -1,9 +1,8 @@
 //! Trying the keyslots of LUKS2 metadata.
-ghost use Rattle.std.specs.Prelude.{◌≡◌, ◌↔◌, ◌+◌, ◌^◌, ◌<◌, ℕ, List, length, Some, IfErr, IfNone, IfOk, IfSome};
+ghost use Rattle.std.specs.Prelude.{◌≡◌, ◌↔◌, ◌+◌, ◌^◌, ◌<◌, ℕ, List, length, Some, IfErr, IfNone, IfOk, IfSome, IsTrue};
 ghost use Rattle.luks_area.specs.Device.{CountsFailure, IsUnchanged};
 ghost use Rattle.luks_meta.specs.Accepted.{IsMeta};
 ghost use Rattle.luks_meta.specs.Content.{content};
-ghost use Rattle.luks_meta.specs.Objects.{IsAccepted};
 ghost use Rattle.luks_searching.specs.Faults.{is_search_failure, IsCutShort};
 ghost use Rattle.luks_searching.specs.Metadata.{OpensAt};
 ghost use Rattle.luks_searching.specs.Tallies.{Counts, CountsOne};
@@ -37,7 +36,6 @@ pub(crate) fn distance<D: Device, P: Progress>(
     tally: &mut Tally,
     progress: &mut P,
 ) -> Result<Option<u32>, SearchFault>
-    requires accepted { IsAccepted (content meta.now) }
     requires passphrase { 0 < trying.now.allowed.memory
         → length trying.now.passphrase.now < 2 ^ 32 }
     requires room { D.failed source.old + 1 < 2 ^ 64 }
@@ -68,6 +66,34 @@ pub(crate) fn distance<D: Device, P: Progress>(
     try_plan(alloc, source, &plan, passphrase, allowed, tally, progress)
 }
 
+/// Whether the keyslot `n` of this metadata opens.
+pub(crate) fn opens<D: Device, P: Progress>(
+    alloc: Global,
+    source: &mut D,
+    meta: &Meta,
+    n: u8,
+    trying: &Trying<'_>,
+    tally: &mut Tally,
+    progress: &mut P,
+) -> Result<bool, SearchFault>
+    requires passphrase { 0 < trying.now.allowed.memory
+        → length trying.now.passphrase.now < 2 ^ 32 }
+    requires room { D.failed source.old + 1 < 2 ^ 64 }
+    ensures unchanged { IsUnchanged D.tells D.size D.bytes D.unsettled source.old source.new }
+    ensures count { CountsFailure is_search_failure result
+        (D.failed source.old) (D.failed source.new) }
+    ensures counts { Counts tally.old tally.new }
+    ensures cut { IfErr result (IsCutShort tally.new) }
+    ensures opens { D.tells → (json : List ℕ) → IsMeta json (content meta.now)
+        → IfOk result (λ is. IsTrue is ↔ OpensAt trying.now.allowed
+        (D.bytes source.old) trying.now.passphrase.now json n) }
+{
+    match distance(alloc, source, meta, n, trying, tally, progress)? {
+        Some(0) => Ok(true),
+        _ => Ok(false),
+    }
+}
+
 /// The first keyslot of this metadata that opens.
 pub(crate) fn first_opened<D: Device, P: Progress>(
     alloc: Global,
@@ -77,7 +103,6 @@ pub(crate) fn first_opened<D: Device, P: Progress>(
     tally: &mut Tally,
     progress: &mut P,
 ) -> Result<Option<u8>, SearchFault>
-    requires accepted { IsAccepted (content meta.now) }
     requires passphrase { 0 < trying.now.allowed.memory
         → length trying.now.passphrase.now < 2 ^ 32 }
     requires room { D.failed source.old + 1 < 2 ^ 64 }
@@ -94,7 +119,7 @@ pub(crate) fn first_opened<D: Device, P: Progress>(
         (D.bytes source.old) trying.now.passphrase.now json n → ⊥)) }
 {
     for n in 0..32 {
-        if distance(alloc, source, meta, n, trying, tally, progress)? == Some(0) {
+        if opens(alloc, source, meta, n, trying, tally, progress)? {
             return Ok(Some(n));
         }
     }

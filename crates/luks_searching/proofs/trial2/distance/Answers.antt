@@ -14,7 +14,7 @@ try_plan-requires-clause-openable g c =
     let naming = rw c.unwrap-number.ensures at c.digest_of_keyslot.ensures.some in
     let digest = rw c.unwrap-digest.ensures at c.digest.ensures.some in
     let low : c.args.n < 32 = omega arith in
-    luks2_judged c.requires.accepted.len c.args.n (content c.args.meta.now) slot.object c.luks2_plan-plan.result c.requires.accepted.content low slot.is
+    luks2_judged c.args.meta.now.len c.args.n (content c.args.meta.now) slot.object c.luks2_plan-plan.result c.args.meta.now.held.content low slot.is
     (c.luks2_plan-plan.ensures (content c.args.meta.now) c.args.n c.unwrap-number.result slot.object digest.object slot.tells_members naming digest.is digest.tells_members)
 
 pub returns-clause-opens : goal.returns-clause-opens
