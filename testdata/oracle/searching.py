@@ -1,10 +1,7 @@
 """The last ways of rebuilding, in Python: what of a damaged header a passphrase finds. Each search changes few bytes of what stands, or puts metadata
 together of its fragments, and takes what a keyslot then opens by: a key that meets a digest that stood there, or one that differs from it in few bits."""
 import base64
-import copy
 import functools
-import hashlib
-import json
 
 import images
 import reader
@@ -39,7 +36,7 @@ def flipped(a, b):
     return (int.from_bytes(a, "big") ^ int.from_bytes(b, "big")).bit_count()
 
 
-@functools.lru_cache(maxsize=4096)
+@functools.lru_cache(maxsize=64)
 def candidate(area, cipher, cipher_key, length, stripes, hashes, salt, cost, passphrase):
     """What the stripes hold; it doesn't hang on the digest."""
     cost = dict(cost) if isinstance(cost, tuple) else cost
