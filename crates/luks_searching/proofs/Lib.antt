@@ -1,5 +1,5 @@
 pub mod DigestFacts
 pub mod HeadedFacts
-pub mod MetadataFacts
+pub mod LawFacts
 pub mod OptionFacts
 pub mod TallyFacts

@@ -1,11 +1,7 @@
-pub mod Alike
 pub mod Faults
 pub mod Fields1
 pub mod Found1
-pub mod Found2
 pub mod Headed
-pub mod Metadata
-pub mod Mixed
 pub mod Tallies
 pub mod Trials
 pub mod Turned

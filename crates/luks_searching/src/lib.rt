@@ -3,22 +3,17 @@
 //! derivation is counted before it is made.
 #![tactic(auto)]
 
-mod alike;
-mod area2;
 mod digest1;
 mod fault;
 mod fields1;
-mod mixed2;
+mod laws;
 mod searching1;
 mod tally;
 mod trial;
 mod trial1;
-mod trial2;
 mod turning;
 
-pub use area2::{Change2, Found2, search_area};
 pub use fault::SearchFault;
-pub use mixed2::search_mixed;
+pub use laws::digest_stood;
 pub use searching1::{Change1, Found1, search1};
 pub use tally::{Progress, Spent, Tally, Untold};
-pub use trial2::Trying;

@@ -52,7 +52,8 @@ pub struct Found1 {
 
 /// The first header near to that of the source by which the passphrase opens a keyslot, or None where none
 /// does: as it stands; with a digest that differs in at most 8 bits; with one bit turned, of the key's
-/// length, the digest's salt and iterations, and the entry of a keyslot. The source never changes.
+/// length, the digest's salt and iterations, and the entry of a keyslot. The source never changes. That a digest
+/// in reach is found is in no clause.
 ///
 /// `tally` counts each derivation before it is made: `Spent` comes only where as many were made as may be.
 /// `Device` comes exactly where a device call failed. A keyslot by more than 2^26 iterations, or of more than
