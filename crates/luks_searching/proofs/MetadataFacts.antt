@@ -1,5 +1,5 @@
 -- Which keyslots of metadata open, by the plan that was read of one.
-use Rattle.std.proofs.Common.{◌≡◌, ◌↔◌, ℕ, ◌+◌, ◌*◌, ◌<◌, ◌≤◌, List, Bool, Option, Some, unwrap_or, refl, sym, ap, subst, ◌∙◌, arith}
+use Rattle.std.proofs.Common.{◌≡◌, ◌↔◌, ℕ, ◌+◌, ◌*◌, ◌<◌, ◌≤◌, List, Bool, true, false, Option, Some, unwrap_or, refl, sym, ap, subst, ◌∙◌, arith}
 use Rattle.serde_json.specs.Data.{Data}
 use Rattle.luks_area.specs.declared.area.Area.{Area}
 use Rattle.luks_meta.specs.Accepted.{IsMeta}
@@ -122,7 +122,8 @@ cost_of (Argon2 c) (Argon2 f) x few =
 allowed_of : (a b : AreaCipher) → IsAlikeCipher a b → (older : Bool) → is_allowed_cipher older a ≡ is_allowed_cipher older b
 allowed_of (Apart n m) b x older = absurd x
 allowed_of (Whole t) (Apart n m) x older = absurd x
-allowed_of (Whole t) (Whole u) x older = (let text = x in simp text)
+allowed_of (Whole t) (Whole u) x false = (let text = x in simp text)
+allowed_of (Whole t) (Whole u) x true = (let text = x in simp text)
 
 sector_cipher_of : (a b : AreaCipher) → IsAlikeCipher a b → cipher_of a ≡ cipher_of b
 sector_cipher_of (Apart n m) b x = absurd x
