@@ -110,11 +110,32 @@ complete -c luks -n '__fish_seen_subcommand_from repair' -l quiet -d 'No hints o
 complete -c luks -n __fish_use_subcommand -a label -d 'Sets the label of a LUKS2 volume'
 complete -c luks -n '__fish_seen_subcommand_from label' -F
 complete -c luks -n '__fish_seen_subcommand_from label' -l random -r -F -d 'The file of the random bytes, as /dev/urandom'
+complete -c luks -n '__fish_seen_subcommand_from label' -l subsystem -x -d "LUKS2: the volume's subsystem"
 complete -c luks -n '__fish_seen_subcommand_from label' -l over -d 'Write over another use of the disk'
 complete -c luks -n '__fish_seen_subcommand_from label' -l detached -d 'The data is on another device, no segment judged'
 complete -c luks -n '__fish_seen_subcommand_from label' -l offset -x -d 'The byte of the file where the volume begins'
 complete -c luks -n '__fish_seen_subcommand_from label' -l length -x -d 'How many bytes the volume has'
 complete -c luks -n '__fish_seen_subcommand_from label' -l quiet -d 'No hints on standard error'
+
+complete -c luks -n __fish_use_subcommand -a priority -d 'Sets when a keyslot of LUKS2 is tried'
+complete -c luks -n '__fish_seen_subcommand_from priority' -F
+complete -c luks -n '__fish_seen_subcommand_from priority' -l slot -x -a '(seq 0 31)' -d 'The keyslot, 0 to 31'
+complete -c luks -n '__fish_seen_subcommand_from priority' -l random -r -F -d 'The file of the random bytes, as /dev/urandom'
+complete -c luks -n '__fish_seen_subcommand_from priority' -l over -d 'Write over another use of the disk'
+complete -c luks -n '__fish_seen_subcommand_from priority' -l detached -d 'The data is on another device, no segment judged'
+complete -c luks -n '__fish_seen_subcommand_from priority' -l offset -x -d 'The byte of the file where the volume begins'
+complete -c luks -n '__fish_seen_subcommand_from priority' -l length -x -d 'How many bytes the volume has'
+complete -c luks -n '__fish_seen_subcommand_from priority' -l quiet -d 'No hints on standard error'
+
+complete -c luks -n __fish_use_subcommand -a token -d 'Lists, exports, imports and removes tokens of LUKS2'
+complete -c luks -n '__fish_seen_subcommand_from token' -F
+complete -c luks -n '__fish_seen_subcommand_from token' -l to -x -a '(seq 0 31)' -d 'The number of the new token; else the least free'
+complete -c luks -n '__fish_seen_subcommand_from token' -l random -r -F -d 'The file of the random bytes, as /dev/urandom'
+complete -c luks -n '__fish_seen_subcommand_from token' -l over -d "Write over another use, or a FILE that isn't empty"
+complete -c luks -n '__fish_seen_subcommand_from token' -l detached -d 'The data is on another device, no segment judged'
+complete -c luks -n '__fish_seen_subcommand_from token' -l offset -x -d 'The byte of the file where the volume begins'
+complete -c luks -n '__fish_seen_subcommand_from token' -l length -x -d 'How many bytes the volume has'
+complete -c luks -n '__fish_seen_subcommand_from token' -l quiet -d 'No hints on standard error'
 
 complete -c luks -n __fish_use_subcommand -a format -d 'Makes a LUKS volume'
 complete -c luks -n '__fish_seen_subcommand_from format' -F
@@ -221,4 +242,4 @@ complete -c luks -n __fish_use_subcommand -a explain -d 'Says what a fault means
 complete -c luks -n '__fish_seen_subcommand_from explain' -a '(luks explain 2>/dev/null | cut -d" " -f1)'
 
 complete -c luks -n __fish_use_subcommand -a help -d 'Print help'
-complete -c luks -n '__fish_seen_subcommand_from help' -a 'check show open add change remove repair label format convert rebuild find backup restore compare key explain'
+complete -c luks -n '__fish_seen_subcommand_from help' -a 'check show open add change remove repair label priority token format convert rebuild find backup restore compare key explain'

@@ -65,7 +65,13 @@ static uint32_t edited(int fd, uint32_t kind, const struct given *random)
 {
     struct luks_derivation derivation = {.size = sizeof derivation, .kind = LUKS_PBKDF2, .turns = 1000};
     struct luks_edit edit = {.size = sizeof edit, .kind = kind, .slot = kind == LUKS_REMOVE ? 1 : 0, .by = 0, .to = LUKS_NO_SLOT, .iterations = 1000, .derivation = &derivation};
-    const char *text = kind == LUKS_LABEL ? "label" : "new";
+    const char *text = kind == LUKS_LABEL ? "label" : kind == LUKS_TOKEN_ADD ? "{\"type\": \"t\", \"keyslots\": [\"1\"]}" : "new";
+    if (kind == LUKS_LABEL)
+        edit.subsystem = "subsystem", edit.subsystem_bytes = strlen(edit.subsystem);
+    if (kind == LUKS_PRIORITY)
+        edit.to = LUKS_PREFER;
+    if (kind == LUKS_TOKEN_REMOVE)
+        edit.to = 0;
     uint64_t needed = 0;
     uint32_t slot, answer = luks_needed(fd, ALL, false, &edit, "one", 3, text, strlen(text), &needed);
     if (answer != LUKS_DONE)
@@ -125,6 +131,12 @@ static uint32_t called(const char *call, int fd, int other, const struct given *
         return edited(fd, LUKS_REMOVE, random);
     if (strcmp(call, "label") == 0)
         return edited(fd, LUKS_LABEL, random);
+    if (strcmp(call, "priority") == 0)
+        return edited(fd, LUKS_PRIORITY, random);
+    if (strcmp(call, "token-add") == 0)
+        return edited(fd, LUKS_TOKEN_ADD, random);
+    if (strcmp(call, "token-remove") == 0)
+        return edited(fd, LUKS_TOKEN_REMOVE, random);
     if (strcmp(call, "repair") == 0)
         return edited(fd, LUKS_REPAIR, random);
     if (strcmp(call, "format1") == 0)
@@ -194,8 +206,8 @@ static uint64_t window(uint64_t most)
 
 static int at_random(int fd, int other, const struct given *random, uint64_t seed, unsigned long count)
 {
-    static const char *const calls[] = {"check", "read", "records", "unlock", "open", "try", "meets", "signature", "find", "add", "change", "remove", "label", "repair", "format1",
-                                        "format2", "convert", "rebuild", "length", "backup", "restore", "compare"};
+    static const char *const calls[] = {"check", "read", "records", "unlock", "open", "try", "meets", "signature", "find", "add", "change", "remove", "label", "priority", "token-add",
+                                        "token-remove", "repair", "format1", "format2", "convert", "rebuild", "length", "backup", "restore", "compare"};
     unsigned long answered[256] = {0};
     state = seed;
     for (unsigned long i = 0; i < count; i++) {

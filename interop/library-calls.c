@@ -52,6 +52,12 @@ static uint32_t is_by_key(const char *allowed)
     return strstr(allowed, ",key") != NULL;
 }
 
+/* And whether the secret's file has the subsystem of a label. */
+static bool is_subsystem(const char *allowed)
+{
+    return strstr(allowed, ",subsystem") != NULL;
+}
+
 /* The keyslot is a number, or `any`; where `room` is given, the key is printed behind the answer. */
 static int opens(int fd, uint64_t offset, uint64_t length, const char *slot, const char *file, const char *allowed, const char *room)
 {
@@ -159,12 +165,13 @@ static int check_bytes(int fd, uint64_t offset, uint64_t length, bool is_detache
     }
 }
 
-/* The listing into a buffer of this room. */
-static int shows(int fd, uint64_t offset, uint64_t length, size_t room)
+/* The listing, or the token of a number, into a buffer of this room. */
+static int shows(int fd, uint64_t offset, uint64_t length, size_t room, const char *token)
 {
     char *json = malloc(room ? room : 1);
     uint64_t bytes = 0;
-    uint32_t answer = luks_read(fd, offset, length, room ? json : NULL, room, &bytes);
+    uint32_t answer = token != NULL ? luks_token(fd, offset, length, (uint32_t)strtoul(token, NULL, 10), room ? json : NULL, room, &bytes)
+                                    : luks_read(fd, offset, length, room ? json : NULL, room, &bytes);
     int status = 0;
     if (answer == LUKS_DONE)
         printf("%.*s\n", (int)bytes, json);
@@ -215,7 +222,7 @@ static struct luks_derivation derivation_of(char **words)
     return (struct luks_derivation){.size = sizeof chosen, .kind = number(words[0]), .turns = number(words[1]), .memory = number(words[2]), .lanes = number(words[3])};
 }
 
-/* An edit: KIND SLOT BY TO ITERATIONS MIB[,older][,key] SECRET TEXT RANDOM PLACE [KDF TURNS KIB LANES]; RANDOM is a file, or `system`. */
+/* An edit: KIND SLOT BY TO ITERATIONS MIB[,older][,key][,subsystem] SECRET TEXT RANDOM PLACE [KDF TURNS KIB LANES]; RANDOM is a file, or `system`. */
 static int edits(int fd, uint64_t offset, uint64_t length, char **words)
 {
     struct luks_derivation derivation = derivation_of(words + 10);
@@ -226,6 +233,10 @@ static int edits(int fd, uint64_t offset, uint64_t length, char **words)
     bool is_detached = strcmp(words[9], "detached") == 0;
     uint8_t *old = file_of(words[6], 65537, &old_bytes), *text = file_of(words[7], 65537, &text_bytes), *random = NULL;
     uint32_t slot = LUKS_NO_SLOT, answer = LUKS_DONE;
+    if (is_subsystem(words[5])) {
+        edit.subsystem = (const char *)old;
+        edit.subsystem_bytes = old_bytes;
+    }
     if (strcmp(words[8], "system") != 0) {
         uint64_t needed = 0;
         answer = luks_needed(fd, offset, length, is_detached, &edit, old, old_bytes, text, text_bytes, &needed);
@@ -261,8 +272,16 @@ static int edits_by_name(int fd, uint64_t offset, uint64_t length, char **words)
         answer = luks_remove(fd, offset, length, is_detached, slot, by, old, old_bytes, memory, older);
     else if (kind == LUKS_REPAIR)
         answer = luks_repair(fd, offset, length, is_detached);
+    else if (kind == LUKS_LABEL && is_subsystem(words[5]))
+        answer = luks_label_subsystem(fd, offset, length, is_detached, (const char *)text, text_bytes, (const char *)old, old_bytes);
     else if (kind == LUKS_LABEL)
         answer = luks_label(fd, offset, length, is_detached, (const char *)text, text_bytes);
+    else if (kind == LUKS_PRIORITY)
+        answer = luks_set_priority(fd, offset, length, is_detached, slot, number(words[3]));
+    else if (kind == LUKS_TOKEN_ADD)
+        answer = luks_token_add(fd, offset, length, is_detached, (const char *)text, text_bytes, number(words[3]));
+    else if (kind == LUKS_TOKEN_REMOVE)
+        answer = luks_token_remove(fd, offset, length, is_detached, number(words[3]));
     free(old);
     free(text);
     return done(answer, made);
@@ -600,7 +619,9 @@ int main(int count, char **words)
     else if (strcmp(words[1], "check-bytes") == 0 && count == 6)
         return check_bytes(fd, offset, length, strcmp(words[5], "detached") == 0);
     else if (strcmp(words[1], "read") == 0 && count == 6)
-        status = shows(fd, offset, length, strtoul(words[5], NULL, 10));
+        status = shows(fd, offset, length, strtoul(words[5], NULL, 10), NULL);
+    else if (strcmp(words[1], "token") == 0 && count == 7)
+        status = shows(fd, offset, length, strtoul(words[5], NULL, 10), words[6]);
     else if (strcmp(words[1], "edit") == 0 && (count == 15 || count == 19))
         status = edits(fd, offset, length, words + 5);
     else if (strcmp(words[1], "edit-by-name") == 0 && (count == 15 || count == 19))

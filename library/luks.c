@@ -433,6 +433,26 @@ uint32_t luks_read(int fd, uint64_t offset, uint64_t length, char *json, size_t 
     return answer;
 }
 
+uint32_t luks_token(int fd, uint64_t offset, uint64_t length, uint32_t number, char *text, size_t text_room, uint64_t *text_bytes)
+{
+    char nowhere = 0;
+    struct luks_read read;
+    struct held held;
+    if (text_bytes == NULL || (text == NULL && text_room > 0))
+        return LUKS_USAGE;
+    *text_bytes = 0;
+    uint32_t answer = begin(&held, fd, offset, length, HEADS);
+    if (answer == LUKS_DONE)
+        do {
+            answer = luks_token_bytes(GIVEN(&held), number, (uint8_t *)(text != NULL ? text : &nowhere), text_room, &read);
+            *text_bytes = read.json_bytes;
+            if (answer == LUKS_BEYOND)
+                answer = hold_more(&held, read.beyond);
+        } while (answer == LUKS_BEYOND);
+    end(&held);
+    return answer;
+}
+
 /* ---- what the header says as records, of the object of luks_read ---- */
 
 /* What is left of the object's text, which this library wrote: no space stands between its parts. */
@@ -992,8 +1012,8 @@ struct asked {
     struct luks_given given;
     struct luks_encryption_bytes encryption;
     uint64_t size;
-    const uint8_t *passphrase, *text, *random;
-    size_t passphrase_bytes, text_bytes, random_bytes;
+    const uint8_t *passphrase, *text, *subsystem, *random;
+    size_t passphrase_bytes, text_bytes, subsystem_bytes, random_bytes;
     struct held *source;
     struct luks_fields fields;
     const char *uuid;
@@ -1163,8 +1183,8 @@ static uint32_t plan_of(const struct held *held, const struct asked *it, struct 
                                   room->bytes_room, plan);
     if (it->kind != EDIT)
         return plan_of_source(held, it, room, plan);
-    return luks_apply_bytes(GIVEN(held), it->is_detached, &it->edit, it->passphrase, it->passphrase_bytes, it->text,
-                            it->text_bytes, it->random, it->random_bytes, room->calls, room->calls_room, room->bytes, room->bytes_room, plan);
+    return luks_apply_bytes(GIVEN(held), it->is_detached, &it->edit, it->passphrase, it->passphrase_bytes, it->text, it->text_bytes,
+                            it->subsystem, it->subsystem_bytes, it->random, it->random_bytes, room->calls, room->calls_room, room->bytes, room->bytes_room, plan);
 }
 
 /* What stands for a byte that can't be read and is only written: not 0, since zeros over zeros aren't planned. */
@@ -1265,7 +1285,7 @@ static uint32_t need(struct held *held, const struct asked *it, uint64_t *count)
     uint32_t answer;
     do {
         answer = luks_needed_bytes(GIVEN(held), it->is_detached, &it->edit, it->passphrase, it->passphrase_bytes,
-                                   it->text, it->text_bytes, &needed);
+                                   it->text, it->text_bytes, it->subsystem, it->subsystem_bytes, &needed);
         if (answer == LUKS_BEYOND)
             answer = hold_more(held, needed.beyond);
     } while (answer == LUKS_BEYOND);
@@ -1296,14 +1316,17 @@ static bool choice_of(const struct luks_derivation *derivation, struct luks_deri
     return true;
 }
 
-/* The edit's numbers, as the calls over bytes take them. */
-static bool edit_of(const struct luks_edit *edit, struct luks_edit_bytes *asked)
+/* The edit's numbers and its subsystem, as the calls over bytes take them. */
+static bool edit_of(const struct luks_edit *edit, struct asked *it)
 {
-    if (edit == NULL || !is_known(edit, edit->size, sizeof *edit))
+    if (edit == NULL || !is_known(edit, edit->size, sizeof *edit) || edit->subsystem_bytes > SIZE_MAX ||
+        !are_given(edit->subsystem, (size_t)edit->subsystem_bytes))
         return false;
-    *asked = (struct luks_edit_bytes){.kind = edit->kind, .slot = edit->slot, .by = edit->by, .to = edit->to, .iterations = edit->iterations,
-                                      .memory = edit->memory, .older = edit->older, .by_key = edit->by_key};
-    return choice_of(edit->derivation, &asked->derivation);
+    it->edit = (struct luks_edit_bytes){.kind = edit->kind, .slot = edit->slot, .by = edit->by, .to = edit->to, .iterations = edit->iterations,
+                                        .memory = edit->memory, .older = edit->older, .by_key = edit->by_key, .subsystem = edit->subsystem != NULL};
+    it->subsystem = given(edit->subsystem);
+    it->subsystem_bytes = (size_t)edit->subsystem_bytes;
+    return choice_of(edit->derivation, &it->edit.derivation);
 }
 
 uint32_t luks_needed(int fd, uint64_t offset, uint64_t length, bool is_detached, const struct luks_edit *edit, const void *secret,
@@ -1312,7 +1335,7 @@ uint32_t luks_needed(int fd, uint64_t offset, uint64_t length, bool is_detached,
     struct held held;
     struct asked it = {.is_detached = is_detached, .passphrase = given(secret), .passphrase_bytes = secret_bytes, .text = given(text),
                        .text_bytes = text_bytes};
-    if (!edit_of(edit, &it.edit) || random_bytes == NULL || !are_given(secret, secret_bytes) || !are_given(text, text_bytes))
+    if (!edit_of(edit, &it) || random_bytes == NULL || !are_given(secret, secret_bytes) || !are_given(text, text_bytes))
         return LUKS_USAGE;
     *random_bytes = 0;
     struct secrets secrets = guard_all(&it);
@@ -1330,7 +1353,7 @@ uint32_t luks_apply(int fd, uint64_t offset, uint64_t length, bool is_detached, 
     struct held held;
     struct asked it = {.is_detached = is_detached, .passphrase = given(secret), .passphrase_bytes = secret_bytes, .text = given(text),
                        .text_bytes = text_bytes, .random = random, .random_bytes = random_bytes};
-    if (!edit_of(edit, &it.edit) || !are_given(secret, secret_bytes) || !are_given(text, text_bytes) || !are_given(random, random_bytes))
+    if (!edit_of(edit, &it) || !are_given(secret, secret_bytes) || !are_given(text, text_bytes) || !are_given(random, random_bytes))
         return LUKS_USAGE;
     uint64_t count = random_bytes;
     uint32_t answer = settle(fd);
@@ -1405,8 +1428,32 @@ uint32_t luks_repair(int fd, uint64_t offset, uint64_t length, bool is_detached)
 
 uint32_t luks_label(int fd, uint64_t offset, uint64_t length, bool is_detached, const char *label, size_t label_bytes)
 {
-    struct luks_edit edit = {.size = sizeof edit, .kind = LUKS_LABEL};
+    return luks_label_subsystem(fd, offset, length, is_detached, label, label_bytes, NULL, 0);
+}
+
+uint32_t luks_label_subsystem(int fd, uint64_t offset, uint64_t length, bool is_detached, const char *label, size_t label_bytes, const char *subsystem,
+                              size_t subsystem_bytes)
+{
+    struct luks_edit edit = {.size = sizeof edit, .kind = LUKS_LABEL, .subsystem = subsystem, .subsystem_bytes = subsystem_bytes};
     return luks_apply(fd, offset, length, is_detached, &edit, NULL, 0, label, label_bytes, NULL, 0, NULL);
+}
+
+uint32_t luks_set_priority(int fd, uint64_t offset, uint64_t length, bool is_detached, uint32_t slot, uint32_t priority)
+{
+    struct luks_edit edit = {.size = sizeof edit, .kind = LUKS_PRIORITY, .slot = slot, .to = priority};
+    return luks_apply(fd, offset, length, is_detached, &edit, NULL, 0, NULL, 0, NULL, 0, NULL);
+}
+
+uint32_t luks_token_add(int fd, uint64_t offset, uint64_t length, bool is_detached, const char *text, size_t text_bytes, uint32_t to)
+{
+    struct luks_edit edit = {.size = sizeof edit, .kind = LUKS_TOKEN_ADD, .to = to};
+    return luks_apply(fd, offset, length, is_detached, &edit, NULL, 0, text, text_bytes, NULL, 0, NULL);
+}
+
+uint32_t luks_token_remove(int fd, uint64_t offset, uint64_t length, bool is_detached, uint32_t number)
+{
+    struct luks_edit edit = {.size = sizeof edit, .kind = LUKS_TOKEN_REMOVE, .to = number};
+    return luks_apply(fd, offset, length, is_detached, &edit, NULL, 0, NULL, 0, NULL, 0, NULL);
 }
 
 /* What is given of a volume that is made, or that nothing is. */

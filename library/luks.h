@@ -133,7 +133,11 @@ enum luks_fault {
     LUKS_FAULT_PAYLOAD = 55,
     LUKS_FAULT_SECTOR_SIZE = 56,
     LUKS_FAULT_UNEVEN = 57,
-    LUKS_FAULT_WRONG_KEY = 58
+    LUKS_FAULT_WRONG_KEY = 58,
+    LUKS_FAULT_NO_SUCH_TOKEN = 59,
+    LUKS_FAULT_TOKEN_TAKEN = 60,
+    LUKS_FAULT_NO_FREE_TOKEN = 61,
+    LUKS_FAULT_UNREADABLE_TOKEN = 62
 };
 /* until here */
 
@@ -168,11 +172,14 @@ struct luks_report {
     uint64_t areas;   /* how many areas it has: headers, keyslots, segments */
 };
 
+/* When a keyslot is tried where none is named: not at all, after those that are preferred, before the others. */
+enum { LUKS_IGNORE = 0, LUKS_NORMAL = 1, LUKS_PREFER = 2 };
+
 /* A keyslot as the header says it. */
 struct luks_keyslot {
     uint32_t number;
     uint32_t is_enabled;     /* 0: of LUKS1, one that isn't in use: then only the key area and the stripes are told */
-    uint32_t priority;       /* LUKS2: 2 is tried first, 0 only where it is named; else 1 */
+    uint32_t priority;       /* LUKS2: LUKS_PREFER is tried first, LUKS_IGNORE only where it is named; else LUKS_NORMAL */
     uint32_t digest;         /* LUKS2: the digest of its volume key */
     uint32_t kdf;            /* LUKS_PBKDF2, LUKS_ARGON2I or LUKS_ARGON2ID */
     uint32_t turns;          /* the iterations of PBKDF2, the passes of Argon2 */
@@ -206,7 +213,7 @@ struct luks_digest {
     char hash[32];       /* of PBKDF2, and a 0; no more than fits */
 };
 
-/* A token of a LUKS2 header, by which another program comes to a passphrase; what that keeps in it stands in the object of luks_read. */
+/* A token of a LUKS2 header, by which another program comes to a passphrase; luks_token gives all that it keeps in it. */
 struct luks_token {
     uint32_t number;
     uint32_t keyslots; /* those that the passphrase opens, as of a digest */
@@ -232,20 +239,32 @@ struct luks_derivation {
     uint32_t lanes;  /* of Argon2 */
 };
 
-/* An edit, but for its secrets and its label. The secret is the passphrase of a keyslot, or the volume key that this keyslot gives: by the key
+/* An edit, but for its secrets and its text. The secret is the passphrase of a keyslot, or the volume key that this keyslot gives: by the key
  * nothing is derived, and the key material isn't read. */
-enum { LUKS_ADD = 1, LUKS_CHANGE = 2, LUKS_REMOVE = 3, LUKS_REPAIR = 4, LUKS_LABEL = 5 };
+enum {
+    LUKS_ADD = 1,
+    LUKS_CHANGE = 2,
+    LUKS_REMOVE = 3,
+    LUKS_REPAIR = 4,
+    LUKS_LABEL = 5,
+    LUKS_PRIORITY = 6,
+    LUKS_TOKEN_ADD = 7,
+    LUKS_TOKEN_REMOVE = 8
+};
 struct luks_edit {
     uint64_t size;       /* of the struct */
     uint32_t kind;       /* which one: the numbers above */
-    uint32_t slot;       /* change, remove: the keyslot */
+    uint32_t slot;       /* change, remove, priority: the keyslot */
     uint32_t by;         /* add: the keyslot that the secret opens; remove: the same, LUKS_NO_SLOT where it is `slot` */
-    uint32_t to;         /* add: the new keyslot, LUKS_NO_SLOT for the least that is free */
+    uint32_t to;         /* add: the new keyslot, LUKS_NO_SLOT for the least that is free; a token that is added: its number, likewise; one that is removed: its
+                            number; priority: LUKS_IGNORE and so on */
     uint32_t iterations; /* add, change: of the new keyslot's derivation by PBKDF2, at least 1000, where none is chosen */
     uint32_t memory;     /* how many KiB Argon2 may take */
     uint32_t older;      /* whether the secret may open a keyslot of an older disk, as of luks_unlock; 0: no */
     uint32_t by_key;     /* add, change, remove: whether the secret is the volume key; 0: no, it is a passphrase */
     const struct luks_derivation *derivation; /* add, change: the new keyslot's; NULL as that of the keyslot that the secret opens */
+    const char *subsystem;    /* label: the subsystem, as many bytes of the same kind; NULL where it stays */
+    uint64_t subsystem_bytes; /* label: how many bytes it has; 0 where it is NULL */
 };
 
 /* The cipher of a volume that is made, of its data and its key areas. The last three are of older disks, for data that is there already. */
@@ -365,10 +384,11 @@ struct luks_encryption_bytes {
 
 struct luks_edit_bytes {
     uint32_t kind, slot, by, to, iterations, memory, older, by_key;
+    uint32_t subsystem; /* label: whether the subsystem is set too; 0: no */
     struct luks_derivation_bytes derivation;
 };
 
-/* What a header says; only of the call named _bytes. */
+/* What a header says, or the text of a token; only of the calls named _bytes. */
 struct luks_read {
     uint64_t json_bytes; /* how many bytes the text has; 0 where there is none */
     struct luks_range beyond;     /* with LUKS_BEYOND: the range that has to be given */
@@ -422,6 +442,10 @@ uint32_t luks_segments(int fd, uint64_t offset, uint64_t length, struct luks_seg
 uint32_t luks_digests(int fd, uint64_t offset, uint64_t length, struct luks_digest *digests, size_t size, size_t room, size_t *count);
 
 uint32_t luks_tokens(int fd, uint64_t offset, uint64_t length, struct luks_token *tokens, size_t size, size_t room, size_t *count);
+
+/* The text of the token `number`, as `luks token export` prints it, without a 0 or a newline behind it: a JSON object that luks_token_add takes, in which characters that steer a terminal are
+ * escaped. `text_bytes` tells how many bytes it has, also with LUKS_ROOM. LUKS_FAULT_NO_SUCH_TOKEN where there is none; else the header's first fault, as of luks_read. */
+uint32_t luks_token(int fd, uint64_t offset, uint64_t length, uint32_t number, char *text, size_t text_room, uint64_t *text_bytes);
 
 /* The first keyslot that the passphrase opens, with Argon2 taking up to `memory` KiB for each. Where `older` isn't 0 the ciphers
  * and hashes of older disks are accepted (docs/PROFILE.md): key areas in aes-cbc-essiv:sha256, aes-cbc-plain and aes-cbc-plain64,
@@ -491,11 +515,12 @@ uint32_t luks_backup_length(int fd, uint64_t offset, uint64_t length, bool is_de
  *
  * An edit may be refused by the header's first fault, by those of luks_open of the keyslot that the passphrase opens, and by
  * LUKS_FAULT_REQUIREMENTS (of the metadata, as in the midst of a reencryption), _LOCKED (the passphrase doesn't open the keyslot),
- * _SAME_SLOT, _SLOT_TAKEN, _NO_FREE_SLOT, _NO_ROOM, _LAST_SLOT, _ITERATIONS and _ARGON2 (costs of the new keyslot), _BAD_LABEL, _SEQ_EXHAUSTED,
- * _METADATA_FULL, _RANDOM_LENGTH (of random bytes that are given). Where the power fails in its midst, all that opened before opens, or what the edit makes. */
+ * _SAME_SLOT, _SLOT_TAKEN, _NO_FREE_SLOT, _NO_ROOM, _LAST_SLOT, _ITERATIONS and _ARGON2 (costs of the new keyslot), _BAD_LABEL (also of what LUKS1
+ * doesn't have: label, priority, tokens), _SEQ_EXHAUSTED, _METADATA_FULL, _RANDOM_LENGTH (of random bytes that are given). Of a priority and of tokens luks_set_priority and so on say which else. Where the power fails in its midst, all that opened before opens, or what the edit makes. */
 
 /* How many random bytes the edit takes; or its first fault, of those that are seen without opening a keyslot.
- * `secret` is the passphrase, or the volume key where the edit is by that, `text` the new passphrase, or the label. It writes nothing. */
+ * `secret` is the passphrase, or the volume key where the edit is by that, `text` the new passphrase, the label, or the text of the token that is added. It writes
+ * nothing. */
 uint32_t luks_needed(int fd, uint64_t offset, uint64_t length, bool is_detached, const struct luks_edit *edit, const void *secret,
                      size_t secret_bytes, const void *text, size_t text_bytes, uint64_t *random_bytes);
 
@@ -538,6 +563,22 @@ uint32_t luks_repair(int fd, uint64_t offset, uint64_t length, bool is_detached)
 
 /* LUKS2: sets the label, at most 47 bytes of 0x20 to 0x7E. */
 uint32_t luks_label(int fd, uint64_t offset, uint64_t length, bool is_detached, const char *label, size_t label_bytes);
+
+/* The same, and the subsystem, of as many such bytes; `subsystem` is NULL where it stays. */
+uint32_t luks_label_subsystem(int fd, uint64_t offset, uint64_t length, bool is_detached, const char *label, size_t label_bytes, const char *subsystem,
+                              size_t subsystem_bytes);
+
+/* LUKS2: sets the priority of the keyslot `slot`: LUKS_IGNORE, LUKS_NORMAL or LUKS_PREFER; another number is LUKS_USAGE. It may be refused by LUKS_FAULT_NO_SUCH_SLOT. */
+uint32_t luks_set_priority(int fd, uint64_t offset, uint64_t length, bool is_detached, uint32_t slot, uint32_t priority);
+
+/* LUKS2: adds a token, of which the text is a JSON object: a `type`, `keyslots`, which is an array of texts that name keyslots, and any other members, which are kept. It gets
+ * the number `to`, or of LUKS_NO_NUMBER the least that is free. It may be refused by LUKS_FAULT_NO_SUCH_TOKEN (31 is the last number), _TOKEN_TAKEN, _NO_FREE_TOKEN,
+ * _UNREADABLE_TOKEN (an empty type, or more than 29 levels of arrays and objects, which cryptsetup doesn't read), _BAD_JSON (not a text of JSON), and by those faults that luks_check would have of it: _SHAPE, _KIND,
+ * _NO_SUCH_NAME. luks_token tells what a token says. */
+uint32_t luks_token_add(int fd, uint64_t offset, uint64_t length, bool is_detached, const char *text, size_t text_bytes, uint32_t to);
+
+/* LUKS2: removes the token `number`, else it is LUKS_FAULT_NO_SUCH_TOKEN. */
+uint32_t luks_token_remove(int fd, uint64_t offset, uint64_t length, bool is_detached, uint32_t number);
 
 /* Makes a LUKS1 or a LUKS2 volume whose keyslot 0 opens by the passphrase, with what is `given` in the place of what is made of random bytes, or NULL.
  * LUKS_FAULT_PAYLOAD (in the header or the key areas, or past what the header can tell), _TOO_SMALL, _SECTOR_SIZE, _UNEVEN (the data's part isn't a whole number
@@ -609,6 +650,9 @@ uint32_t luks_check_bytes(const struct luks_range *ranges, size_t ranges_count, 
 
 uint32_t luks_read_bytes(const struct luks_range *ranges, size_t ranges_count, const uint8_t *held, size_t held_bytes, uint64_t total, uint8_t *json, size_t json_room, struct luks_read *read);
 
+uint32_t luks_token_bytes(const struct luks_range *ranges, size_t ranges_count, const uint8_t *held, size_t held_bytes, uint64_t total, uint32_t number, uint8_t *text, size_t text_room,
+                          struct luks_read *read);
+
 uint32_t luks_unlock_bytes(const struct luks_range *ranges, size_t ranges_count, const uint8_t *held, size_t held_bytes, uint64_t total, const uint8_t *passphrase, size_t passphrase_bytes,
                            uint32_t memory, uint32_t older, uint8_t *key, size_t key_room, struct luks_opened_bytes *opened);
 
@@ -621,7 +665,8 @@ uint32_t luks_meets_bytes(const struct luks_range *ranges, size_t ranges_count, 
                           uint32_t digest, uint32_t older, struct luks_met *met);
 
 uint32_t luks_needed_bytes(const struct luks_range *ranges, size_t ranges_count, const uint8_t *held, size_t held_bytes, uint64_t total, bool is_detached, const struct luks_edit_bytes *edit,
-                           const uint8_t *passphrase, size_t passphrase_bytes, const uint8_t *text, size_t text_bytes, struct luks_needed *needed);
+                           const uint8_t *passphrase, size_t passphrase_bytes, const uint8_t *text, size_t text_bytes, const uint8_t *subsystem,
+                           size_t subsystem_bytes, struct luks_needed *needed);
 
 uint32_t luks_signature_bytes(const struct luks_range *ranges, size_t ranges_count, const uint8_t *held, size_t held_bytes, uint64_t total, uint64_t within, struct luks_signature *signature);
 
@@ -638,8 +683,8 @@ uint32_t luks_find_bytes(const struct luks_range *ranges, size_t ranges_count, c
 /* The plans: all calls and bytes, or LUKS_ROOM and how many there are. Played over the volume they leave what the
  * call leaves; a flush comes behind each write, and no place is written that isn't given. */
 uint32_t luks_apply_bytes(const struct luks_range *ranges, size_t ranges_count, const uint8_t *held, size_t held_bytes, uint64_t total, bool is_detached, const struct luks_edit_bytes *edit,
-                          const uint8_t *passphrase, size_t passphrase_bytes, const uint8_t *text, size_t text_bytes, const uint8_t *random,
-                          size_t random_bytes, struct luks_call *calls, size_t calls_room, uint8_t *bytes, size_t bytes_room, struct luks_plan *plan);
+                          const uint8_t *passphrase, size_t passphrase_bytes, const uint8_t *text, size_t text_bytes, const uint8_t *subsystem,
+                          size_t subsystem_bytes, const uint8_t *random, size_t random_bytes, struct luks_call *calls, size_t calls_room, uint8_t *bytes, size_t bytes_room, struct luks_plan *plan);
 
 /* `sector` is LUKS_NO_SECTOR where none is given; the key is given where `is_keyed`, each text where it has a byte. A text that isn't UTF-8 is LUKS_USAGE, and
  * so is a number that is no cipher's. */

@@ -46,7 +46,7 @@ import threading
 import time
 from dataclasses import dataclass
 from types import TracebackType
-from typing import Any, Callable, Dict, Iterator, List, Optional, Tuple, Type, TypeVar, Union
+from typing import Any, Callable, Dict, Iterator, List, Mapping, Optional, Tuple, Type, TypeVar, Union
 
 from .library import (KEYSLOTS, LIBRARY, NO_NUMBER, NO_SECTOR, NO_SLOT, TO_END, Buffer, DerivationRecord, EditRecord, FieldsRecord, GivenRecord,
                       OpenedRecord, ReportRecord, Secret, VolumeRecord, text_of)
@@ -59,7 +59,8 @@ __all__ = ["CIPHERS", "Comparison", "Derivation", "Digest", "Fault", "Header", "
 VERSION = LIBRARY.luks_version().decode("ascii")
 """The version of the library."""
 
-ADD, CHANGE, REMOVE, REPAIR, LABEL = range(1, 6)
+ADD, CHANGE, REMOVE, REPAIR, LABEL, PRIORITY, TOKEN_ADD, TOKEN_REMOVE = range(1, 9)
+PRIORITIES = ("ignore", "normal", "prefer")
 HASHES = (None, "sha1", "sha256", "sha512")
 CIPHERS = ("aes-xts-plain64", "aes-xts-plain", "aes-cbc-essiv:sha256", "aes-cbc-plain64", "aes-cbc-plain")
 KINDS = (None, "pbkdf2", "argon2i", "argon2id")
@@ -77,7 +78,7 @@ OLDER = (Number.CIPHER, Number.HASH)
 
 def _slot(number: int) -> int:
     if not 0 <= number < 256:
-        raise ValueError("a keyslot's number is 0 to 255")
+        raise ValueError("the number of a keyslot or a token is 0 to 255")
     return number
 
 
@@ -341,16 +342,11 @@ class Volume:
 
     def show(self) -> Dict[str, Any]:
         """What the header says: the object that `luks show --json` prints. Areas may lie where they can't; `check` says so."""
-        bytes_ = ctypes.c_uint64(1 << 16)
-        while True:
-            room = bytes_.value
-            text = ctypes.create_string_buffer(room)
-            answer = LIBRARY.luks_read(self._fd, *self._window, text, room, ctypes.byref(bytes_))
-            if answer != Number.ROOM:
-                break
-        self._done(answer)
-        shown: Dict[str, Any] = json.loads(text.raw[: bytes_.value])
-        return shown
+        return self._object(LIBRARY.luks_read)
+
+    def token(self, number: int) -> Dict[str, Any]:
+        """LUKS2: the token of this number, with all its members, as `add_token` takes it."""
+        return self._object(LIBRARY.luks_token, _slot(number))
 
     def header(self) -> Header:
         """The same as records: its keyslots, segments, digests and tokens."""
@@ -427,9 +423,28 @@ class Volume:
         """LUKS2: writes both copies of the header anew from the one that counts. LUKS1: nothing."""
         self._edited(EditRecord(kind=REPAIR), b"", b"")
 
-    def label(self, text: str) -> None:
-        """LUKS2: sets the label, at most 47 bytes that can be printed."""
-        self._edited(EditRecord(kind=LABEL), b"", text.encode())
+    def label(self, text: str, subsystem: Optional[str] = None) -> None:
+        """LUKS2: sets the label and, where it is given, the subsystem, each at most 47 bytes that can be printed."""
+        own = None if subsystem is None else subsystem.encode()
+        self._edited(EditRecord(kind=LABEL, subsystem=own, subsystem_bytes=len(own or b"")), b"", text.encode())
+
+    def set_priority(self, slot: int, priority: str) -> None:
+        """LUKS2: sets when the keyslot is tried where none is named: `ignore`, not at all; `normal`; `prefer`, before the others."""
+        if priority not in PRIORITIES:
+            raise ValueError(f"a priority is one of {', '.join(PRIORITIES)}")
+        self._edited(EditRecord(kind=PRIORITY, slot=_slot(slot), to=PRIORITIES.index(priority)), b"", b"")
+
+    def add_token(self, token: Union[str, Mapping[str, Any]], to: Optional[int] = None) -> None:
+        """LUKS2: adds a token, a JSON object or its text, with the number `to`, or with the least that is free.
+
+        It has a `type`, `keyslots`, which are the texts of their numbers, and any other members, which are kept.
+        """
+        text = token if isinstance(token, str) else json.dumps(token)
+        self._edited(EditRecord(kind=TOKEN_ADD, to=_slot_or_none(to)), b"", text.encode())
+
+    def remove_token(self, number: int) -> None:
+        """LUKS2: removes the token of this number."""
+        self._edited(EditRecord(kind=TOKEN_REMOVE, to=_slot(number)), b"", b"")
 
     def format(self, version: int, passphrase: Buffer, hash: str = "sha256", iterations: int = 100000, force: bool = False, *,
                derivation: Optional[Derivation] = None, memory: int = 0, key: Optional[Buffer] = None, payload: Optional[int] = None,
@@ -676,6 +691,19 @@ class Volume:
         if found is None:
             raise Fault(Number.LOCKED)
         return found
+
+    def _object(self, call: Callable[..., int], *words: int) -> Dict[str, Any]:
+        """The object whose text a call puts into a buffer."""
+        bytes_ = ctypes.c_uint64(1 << 16)
+        while True:
+            room = bytes_.value
+            text = ctypes.create_string_buffer(room)
+            answer = call(self._fd, *self._window, *words, text, room, ctypes.byref(bytes_))
+            if answer != Number.ROOM:
+                break
+        self._done(answer)
+        shown: Dict[str, Any] = json.loads(text.raw[: bytes_.value])
+        return shown
 
     def _edited(self, edit: EditRecord, passphrase: Buffer, text: Buffer, memory: int = 0, older: bool = False, is_key: bool = False) -> Optional[int]:
         edit.memory, edit.older, edit.by_key = _kib(memory), bool(older), bool(is_key)

@@ -41,7 +41,7 @@ class DerivationRecord(Sized):
 
 class EditRecord(Sized):
     _fields_ = _sized(*((name, ctypes.c_uint32) for name in ("kind", "slot", "by", "to", "iterations", "memory", "older", "by_key")),
-                      ("derivation", ctypes.POINTER(DerivationRecord)))
+                      ("derivation", ctypes.POINTER(DerivationRecord)), ("subsystem", ctypes.c_char_p), ("subsystem_bytes", ctypes.c_uint64))
 
 
 class GivenRecord(Sized):
@@ -84,6 +84,7 @@ def _signatures() -> List[Tuple[str, List[Any], Any]]:
         ("luks_close_volume", [ctypes.POINTER(VolumeRecord)], None),
         ("luks_check", [*window, ctypes.c_bool, ctypes.POINTER(ReportRecord)], number),
         ("luks_read", [*window, ctypes.c_void_p, size, ctypes.POINTER(place)], number),
+        ("luks_token", [*window, number, ctypes.c_void_p, size, ctypes.POINTER(place)], number),
         ("luks_open", [*window, number, *tried, *opened], number),
         ("luks_meets", [*window, *given, number, number, ctypes.POINTER(number)], number),
         ("luks_costs", [number, number, number, number, number, ctypes.POINTER(DerivationRecord)], number),

@@ -67,6 +67,10 @@ class Number(enum.IntEnum):
     SECTOR_SIZE = 56
     UNEVEN = 57
     WRONG_KEY = 58
+    NO_SUCH_TOKEN = 59
+    TOKEN_TAKEN = 60
+    NO_FREE_TOKEN = 61
+    UNREADABLE_TOKEN = 62
     USAGE = 101
     BEYOND = 102
     MEMORY = 103

@@ -296,6 +296,9 @@ class Volume2:
             raise Fault("TokenTaken")
         if self.token_number(edit) is None:
             raise Fault("NoFreeToken")
+        token = reader.read_value(edit.text)
+        if reader.levels(token) > 29 or isinstance(token, dict) and token.get("type") == "":
+            raise Fault("UnreadableToken")
         reader.judge(self.copy, self.made(edit, None))
 
     def token_number(self, edit):
@@ -416,9 +419,10 @@ def named(volume, detached, edit, over=True):
 
 
 def find(v, edit):
-    """The keyslots that the edit names are there: the one that it opens or whose priority it sets and, of a removal, the one that goes, which is named once."""
+    """The keyslots that the edit names are there: the one that it opens or, of LUKS2, whose priority it sets and, of a removal, the one that goes, which is
+    named once."""
     wanted = {opened_by(edit)[0]} - {None} if opened_by(edit) else set()
-    if isinstance(edit, (Remove, Priority)):
+    if isinstance(edit, Remove) or (isinstance(edit, Priority) and isinstance(v, Volume2)):
         wanted.add(edit.slot)
     if not wanted <= set(v.used):
         raise Fault("NoSuchSlot")

@@ -21,7 +21,7 @@ use Rattle.luks_reading.specs.Answer.{AnswerWithin, opens}
 use Rattle.luks_reading.specs.Checked.{AreaOf, WellFormed}
 use Rattle.luks_reading.specs.Layout1.{Luks1Area}
 use Rattle.luks_edit.specs.declared.edit.Edit.{Edit}
-use Rattle.luks_edit.specs.declared.edit.Edit.TheVariants.{Add, AddByKey, Change, Remove, Repair, Label}
+use Rattle.luks_edit.specs.declared.edit.Edit.TheVariants.{Add, AddByKey, Change, Remove, Repair, Label, Amend}
 use Rattle.luks_edit.specs.declared.edit.Opener.{Opener}
 use Rattle.luks_edit.specs.declared.edit.Opener.TheVariants.{Keyslot, Key}
 use Rattle.luks_edit.specs.Asked.{allowed_of, chosen_or}
@@ -79,7 +79,8 @@ named_numbered v payload (Remove slot by_ passphrase) r free n is =
     let low = used.0 in
     omega (arith, is, low)
 named_numbered v payload Repair r free n is = absurd is
-named_numbered v payload (Label text) r free n is = absurd is
+named_numbered v payload (Label text subsystem) r free n is = absurd is
+named_numbered v payload (Amend c) r free n is = absurd is
 
 -- ---- entries
 
@@ -189,8 +190,9 @@ module _ (payload : Data) (v : List ℕ) (chosen : Chosen v luks1) (well : WellF
       let used : slot < 8 = named_numbered v payload (Remove slot by_ passphrase) r free slot refl in
       let fits = freed_fits (entry v slot) (entry w slot) x.freed in
       both_leave (λ n. n ≡ slot) slot slot w used used x.rest fits fits refl refl
-  leaves Repair r w free x = nothing_left (λ n. ⊥) w x
-  leaves (Label text) r w free x = absurd x
+  leaves Repair r w free x = nothing_left (λ n. ⊥) w x.1
+  leaves (Label text subsystem) r w free x = nothing_left (λ n. ⊥) w x.1
+  leaves (Amend c) r w free x = nothing_left (λ n. ⊥) w x.1
 
   pub keeps : (e : Edit) (r w : List ℕ) → IsUnrefused1 v payload e r → After1 v e r w → Keeps payload (NamedKeyslots1 v e) v w
   keeps e r w free x = let left = leaves e r w free x in record { size = left.others.size; well = left.well; segments = left.others.segments; slots = left.others.slots }
@@ -235,7 +237,8 @@ module _ (payload : Data) (v : List ℕ) (chosen : Chosen v luks1) (well : WellF
       slot x.fresh used x.is_free.free.0 x.rest x.made x.holds x.opened opened)
   opens_after (Remove slot by_ passphrase) r w free x = tt
   opens_after Repair r w free x = tt
-  opens_after (Label text) r w free x = tt
+  opens_after (Label text subsystem) r w free x = tt
+  opens_after (Amend c) r w free x = tt
 
   -- ---- after a device's failure
 
@@ -263,7 +266,8 @@ module _ (payload : Data) (v : List ℕ) (chosen : Chosen v luks1) (well : WellF
       )
   opens_either (Remove slot by_ passphrase) r w free x = tt
   opens_either Repair r w free x = tt
-  opens_either (Label text) r w free x = tt
+  opens_either (Label text subsystem) r w free x = tt
+  opens_either (Amend c) r w free x = tt
 
   same_opens : (e : Edit) → OpensEither1 v e v
   same_opens (Add by_ old new to iterations d) = tt
@@ -271,7 +275,8 @@ module _ (payload : Data) (v : List ℕ) (chosen : Chosen v luks1) (well : WellF
   same_opens (Change slot old new iterations d) = λ allowed key opened. inl opened
   same_opens (Remove slot by_ passphrase) = tt
   same_opens Repair = tt
-  same_opens (Label text) = tt
+  same_opens (Label text subsystem) = tt
+  same_opens (Amend c) = tt
 
   pub leftover_opens : (e : Edit) (r w : List ℕ) → Leftover1 v payload e r w → OpensEither1 v e w
   leftover_opens e r w (inl same) = subst (λ u. OpensEither1 v e u) (sym same) (same_opens e)
@@ -291,7 +296,8 @@ module _ (payload : Data) (v : List ℕ) (chosen : Chosen v luks1) (well : WellF
   torn_rest (Remove slot by_ passphrase) r w x =
       places_wider (IsEither slot slot) (λ n. n ≡ slot) v w (one_named (λ n. n ≡ slot) slot refl) x.rest
   torn_rest Repair r w x = absurd x
-  torn_rest (Label text) r w x = absurd x
+  torn_rest (Label text subsystem) r w x = absurd x
+  torn_rest (Amend c) r w x = absurd x
 
   pub leftover_rest : (e : Edit) (r w : List ℕ) → Leftover1 v payload e r w → SameBut (IsOfKeyslots v (NamedKeyslots1 v e)) v w
   leftover_rest e r w (inl same) = same_but-equal (IsOfKeyslots v (NamedKeyslots1 v e)) same
@@ -342,7 +348,8 @@ module _ (payload : Data) (v : List ℕ) (chosen : Chosen v luks1) (well : WellF
       let fits = untorn_fits w slot used (untorn slot refl) in
       (both_leave (λ n. n ≡ slot) slot slot w used used x.rest fits fits refl refl).well
   untorn_well Repair r w free x untorn = absurd x
-  untorn_well (Label text) r w free x untorn = absurd x
+  untorn_well (Label text subsystem) r w free x untorn = absurd x
+  untorn_well (Amend c) r w free x untorn = absurd x
 
   pub leftover_accepted : (e : Edit) (r w : List ℕ) → Leftover1 v payload e r w → ((n : ℕ) → NamedKeyslots1 v e n → IsUntorn v w n) → Keeps payload (NamedKeyslots1 v e) v w
   leftover_accepted e r w left untorn =
@@ -365,4 +372,5 @@ module _ (payload : Data) (v : List ℕ) (chosen : Chosen v luks1) (well : WellF
   removed_area (Change slot old new iterations d) r w n a x is has = wiped_area n w a (subst (λ k. IsWiped v k w) (sym is) x.wiped) has
   removed_area (Remove slot by_ passphrase) r w n a x is has = wiped_area n w a (subst (λ k. IsWiped v k w) (sym is) x.wiped) has
   removed_area Repair r w n a x is has = absurd is
-  removed_area (Label text) r w n a x is has = absurd is
+  removed_area (Label text subsystem) r w n a x is has = absurd is
+  removed_area (Amend c) r w n a x is has = absurd is

@@ -129,7 +129,7 @@ module _ (v : List ℕ) (payload : Data) (e : Edit) (r : List ℕ) (o : Opener) 
     need_is : (k : ℕ) → Need1 v e k → k ≡ keyslot_need v n
     need_is k needs = let x = is.need_only k needs in x.count ∙ ap (keyslot_need v) (new_once v to x.slot n x.is new.is_new)
 
-    enough_passed : IsIterated asked → Passed (IsEditFault1 v payload e r) 17
+    enough_passed : IsIterated asked → Passed (IsEditFault1 v payload e r) 22
     enough_passed x = past_label v payload e r made_passed is.not_last (λ few. both_ways _ x.turns (is.few_only few)) (λ argon2. both_ways _ x.own (is.argon2_only argon2)) is.no_label
 
     -- its iterations, its derivation or the random bytes are refused

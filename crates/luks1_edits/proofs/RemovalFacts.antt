@@ -120,7 +120,7 @@ module _ (v : List ℕ) (payload : Data) (e : Edit) (r : List ℕ) (o : Opener) 
   last_refused last = first_of_row (IsEditFault1 v payload e r) fault.LastSlot refl passed (is.last_is last)
 
   module _ (more : HasOther v slot) where
-    past_last : Passed (IsEditFault1 v payload e r) 17
+    past_last : Passed (IsEditFault1 v payload e r) 22
     past_last = past_label v payload e r passed (λ bad. more.other (is.last_only bad more.keyslot more.used)) is.many is.no_argon2 is.no_label
 
     pub random_refused : length r ≢ 0 → Refusal1 v payload e r fault.RandomLength

@@ -1,6 +1,5 @@
 -- The first refusal of an edit, row by row.
 use Rattle.std.proofs.Common.{◌≡◌, ℕ, ◌<◌, ◌≤◌, List, subst, refl, sym, arith, inl, Option, Some, None}
-use Rattle.std.specs.Borrow.{Bor}
 use Rattle.luks_area.specs.First.{NotAfter}
 use Rattle.luks_slot.specs.Allowance.{without_memory}
 use Rattle.luks_reading.specs.declared.check_fault.CheckFault.{CheckFault}
@@ -9,13 +8,14 @@ use Rattle.luks2_header.specs.Selection.{luks1, Chosen}
 use Rattle.luks_reading.specs.Checked.{IsFault}
 use Rattle.luks_edit.specs.declared.edit.Edit.{Edit}
 use Rattle.luks_edit.specs.declared.deed.Deed.TheVariants as deed
+use Rattle.luks_edit.specs.declared.deed.Rewritten.{Rewritten}
 use Rattle.luks_edit.specs.declared.edit.Opener.{Opener}
 use Rattle.luks_edit.specs.declared.edit.Opener.TheVariants.{Keyslot, Key}
 use Rattle.luks_edit.specs.declared.edit_fault.EditFault.{EditFault}
 use Rattle.luks_edit.specs.declared.edit_fault.EditFault.TheVariants as fault
 use Rattle.luks_edit.specs.Asked.{allowed_by, allowed_of, ChoosesArgon2, deed_of, HasFewIterations, MatchOpener, NamesItself, opener_in, Wants}
 use Rattle.luks_edit.specs.EditFaults.{edit_key, edit_row}
-use Rattle.luks_edit.proofs.RowFacts.{Passed, after_check, after_opening, first_of_opening, first_of_row, next, none_at_all}
+use Rattle.luks_edit.proofs.RowFacts.{Passed, after_check, after_opening, first_of_opening, first_of_row, next, none_at_all, past_tokens}
 use Rattle.luks1_edits.specs.Accepted.{AreAllThere, IsMisnamed, IsOpenedBy, IsUnopened, IsUsable}
 use Rattle.luks1_edits.specs.Edited.{IsInUse}
 use Rattle.luks1_edits.specs.Refused.{HasNoFree, IsAbsent, IsEditFault1, IsLabel, IsLast, IsMiscounted, IsTaken, IsUnopened1, IsUnopenedBy1, IsUnrefused1, Refusal1}
@@ -35,8 +35,8 @@ pub record OpensNone (e : Edit) : Type 0 where
   pub other : NamesItself e → ⊥
 
 -- one that rewrites the header doesn't
-pub opens_none : (e : Edit) (label : Option (Bor (List ℕ))) → deed_of e ≡ deed.Rewrite label → OpensNone e
-opens_none e label is = record { opens = rw is refl; wants = λ n x. rw is at x; other = λ x. rw is at x }
+pub opens_none : (e : Edit) (r : Rewritten) → deed_of e ≡ deed.Rewrite r → OpensNone e
+opens_none e r is = record { opens = rw is refl; wants = λ n x. rw is at x; other = λ x. rw is at x }
 
 -- the keyslot of an opener that can be asked is in use
 in_use_of : (v : List ℕ) (o : Opener) (m : ℕ) → IsUsable v o → MatchOpener o (λ slot secret. m ≡ slot) (λ key. ⊥) → IsInUse v m
@@ -67,16 +67,17 @@ module _ (v : List ℕ) (payload : Data) (e : Edit) (r : List ℕ) where
       next s fault.NoRoom refl (next s fault.NoFreeSlot refl (next s fault.SlotTaken refl before untaken) free) (λ bad. bad)
 
   pub past_label : Passed (IsEditFault1 v payload e r) 11 → (IsLast v e → ⊥) → (HasFewIterations e → ⊥) → (ChoosesArgon2 e → ⊥) → (IsLabel e → ⊥)
-      → Passed (IsEditFault1 v payload e r) 17
+      → Passed (IsEditFault1 v payload e r) 22
   past_label before last few argon2 label =
       let s = IsEditFault1 v payload e r in
       next s fault.MetadataFull refl
       (next s fault.SeqExhausted refl
-      (next s fault.BadLabel refl (next s fault.Argon2 refl (next s fault.Iterations refl (next s fault.LastSlot refl before last) few) argon2) label) (λ bad. bad))
+      (past_tokens s (next s fault.BadLabel refl (next s fault.Argon2 refl (next s fault.Iterations refl (next s fault.LastSlot refl before last) few) argon2) label)
+      (λ bad. bad) (λ bad. bad) (λ bad. bad) (λ bad. bad) (λ m bad. bad)) (λ bad. bad))
       (λ bad. bad)
 
   -- nothing refuses it
-  pub unrefused : Passed (IsEditFault1 v payload e r) 17 → (IsMiscounted v e r → ⊥) → IsUnrefused1 v payload e r
+  pub unrefused : Passed (IsEditFault1 v payload e r) 22 → (IsMiscounted v e r → ⊥) → IsUnrefused1 v payload e r
   unrefused before counted =
       let s = IsEditFault1 v payload e r in
       record { none = none_at_all s (next s fault.Device refl (next s fault.Memory refl (next s fault.RandomLength refl before counted) (λ bad. bad)) (λ bad. bad)) }

@@ -1,5 +1,5 @@
 -- What an edit makes of a LUKS1 volume (LUKS1 On-Disk Format 1.2.3, 4.1 to 4.4).
-use Rattle.std.specs.Prelude.{◌≡◌, ℕ, Bool, ◌-◌, ◌*◌, ◌<◌, ◌≤◌, ◌⊎◌, List, length, take, drop, replicate, Option, Some, None, IfSome, IsSomeAnd, MatchOption}
+use Rattle.std.specs.Prelude.{◌≡◌, ℕ, Bool, ◌-◌, ◌*◌, ◌<◌, ◌≤◌, ◌⊎◌, List, length, take, drop, replicate, Option, Some, None, true, IfSome, IsSomeAnd}
 use Rattle.luks_area.specs.Ranges.{part, SameBut}
 use Rattle.luks1_header.specs.Header1.{active_word, disabled_word, enabled_word, entry, entry_iterations, entry_key_material_offset, entry_salt, entry_stripes, luks1_size}
 use Rattle.luks_making.specs.declared.derivation.AskedDerivation.{AskedDerivation}
@@ -20,7 +20,7 @@ use Rattle.luks_edit.specs.declared.edit.Secret.{Secret}
 use Rattle.luks_edit.specs.declared.deed.Place.{Place}
 use Rattle.luks_edit.specs.declared.deed.Place.TheVariants.{New, Opened}
 use Rattle.luks_edit.specs.declared.deed.Sealed.{Sealed}
-use Rattle.luks_edit.specs.Asked.{allowed_of, deed_of, lost_by, MatchDeed, MatchPlace, opener_at, sealed_by}
+use Rattle.luks_edit.specs.Asked.{allowed_of, deed_of, lost_by, MatchDeed, MatchPlace, opener_at, sealed_by, sets_nothing}
 use Rattle.luks_edit.specs.Secrets.{GivesWithin, own_key}
 use Rattle.luks1_edits.specs.Kept.{IsEither}
 use Rattle.luks1_edits.specs.Places.{area_len, area_start, IsOfKeyslots}
@@ -56,7 +56,7 @@ abbrev pub NamedKeyslots1 : List ℕ → Edit → ℕ → Type 0
 NamedKeyslots1 v e n = MatchDeed (deed_of e)
     (λ s. MatchPlace s.place (λ o to. IsNewKeyslot v to n) (λ slot secret. (n ≡ slot) ⊎ IsLeastFree v n))
     (λ r. n ≡ r.slot)
-    (λ label. ⊥)
+    (λ r. ⊥)
 
 -- the iterations of a keyslot that is made: those of the PBKDF2 that is chosen, where it is; LUKS1 has no
 -- Argon2
@@ -158,14 +158,14 @@ pub record IsChanged
   pub wiped : IsWiped v slot w
 
 -- the LUKS1 volume `w` is what the edit makes of `v` with the random bytes: first the salt of a new
--- keyslot, then its stripes but the last; there is no label
+-- keyslot, then its stripes but the last; nothing else is set
 abbrev pub After1 : List ℕ → Edit → List ℕ → List ℕ → Type 0
 After1 v e random w = MatchDeed (deed_of e)
     (λ s. MatchPlace s.place
     (λ o to. IsAdded o v s.passphrase.now to (iterations_of s.derivation) random w)
     (λ slot secret. IsChanged v slot secret s.passphrase.now (iterations_of s.derivation) random w))
     (λ r. IsRemoved v r.slot w)
-    (λ label. MatchOption label (w ≡ v) (λ text. ⊥))
+    (λ r. (sets_nothing r ≡ true) × (w ≡ v))
 
 -- ---- what opens after an edit
 

@@ -76,7 +76,7 @@ IsTorn1 v e random w = MatchDeed (deed_of e)
     (λ slot secret. IsHalfMade (Keyslot slot secret) v s.passphrase.now None (iterations_of s.derivation) random w
     ⊎ IsHalfChanged v slot secret s.passphrase.now (iterations_of s.derivation) random w))
     (λ r. IsHalfRemoved v r.slot w)
-    (λ label. ⊥)
+    (λ r. ⊥)
 
 -- what a failing device call leaves: the volume as it was, or, where nothing refuses the edit, what
 -- was torn while it wrote

@@ -1,6 +1,6 @@
 -- When an edit of a LUKS1 volume is refused, and how many random bytes it takes. The order of the
 -- faults is that of every edit; some of them LUKS1 doesn't have.
-use Rattle.std.specs.Prelude.{◌≡◌, ◌≢◌, ℕ, ◌+◌, ◌-◌, ◌*◌, ◌<◌, Bool, List, length, Option, Some, None, IsSomeAnd, MatchOption, ⊤}
+use Rattle.std.specs.Prelude.{◌≡◌, ◌≢◌, ℕ, ◌+◌, ◌-◌, ◌*◌, ◌<◌, Bool, false, List, length, Option, Some, None, IsSomeAnd, MatchOption}
 use Rattle.luks_area.specs.First.{IsLeast}
 use Rattle.luks_area.specs.Ranges.{part}
 use Rattle.luks1_header.specs.Header1.{entry, entry_stripes, key_bytes_of, luks1_size}
@@ -17,7 +17,7 @@ use Rattle.luks_edit.specs.declared.edit_fault.EditFault.TheVariants as fault
 use Rattle.luks_edit.specs.declared.edit.Opener.{Opener}
 use Rattle.luks_edit.specs.declared.edit.Opener.TheVariants.{Keyslot, Key}
 use Rattle.luks_edit.specs.declared.edit.SecretKind.TheVariants as kind
-use Rattle.luks_edit.specs.Asked.{allowed_by, ChoosesArgon2, deed_of, HasFewIterations, label_by, NamesItself, opener_in, removed_by, sealed_by, Wants}
+use Rattle.luks_edit.specs.Asked.{allowed_by, ChoosesArgon2, deed_of, HasFewIterations, NamesItself, opener_in, removed_by, rewritten_by, sealed_by, sets_nothing, Wants}
 use Rattle.luks_edit.specs.Opener.{IsUnopenedKeyslot, lock_fault}
 use Rattle.luks_edit.specs.EditFaults.{edit_key}
 use Rattle.luks1_edits.specs.Edited.{GivesKey, IsFree, IsInUse, IsSealedIn, number_asked}
@@ -77,9 +77,9 @@ HasNoFree v e = IsSomeAnd (sealed_by e) (λ s. LacksFree v (number_asked s.place
 abbrev pub IsLast : List ℕ → Edit → Type 0
 IsLast v e = IsSomeAnd (removed_by e) (λ r. (n : ℕ) → IsInUse v n → n ≡ r.slot)
 
--- LUKS1 has no label
+-- the edit sets something in the header: LUKS1 has no label, subsystem or metadata
 abbrev pub IsLabel : Edit → Type 0
-IsLabel e = IsSomeAnd (label_by e) (λ text. ⊤)
+IsLabel e = IsSomeAnd (rewritten_by e) (λ r. sets_nothing r ≡ false)
 
 -- ---- random bytes
 

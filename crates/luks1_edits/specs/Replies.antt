@@ -3,7 +3,7 @@ use Rattle.std.specs.Prelude.{◌≡◌, ℕ, List, Option, Some, None, MatchOpt
 use Rattle.luks_reading.specs.declared.report.Data.{Data}
 use Rattle.luks_edit.specs.declared.edit.Done.{Done}
 use Rattle.luks_edit.specs.declared.edit.Edit.{Edit}
-use Rattle.luks_edit.specs.Asked.{label_by, sealed_by}
+use Rattle.luks_edit.specs.Asked.{sealed_by}
 use Rattle.luks_edit.specs.declared.edit_fault.EditFault.{EditFault}
 use Rattle.luks_edit.specs.Endings.{EndsBy}
 use Rattle.luks1_edits.specs.Edited.{After1, IsSealedIn}
@@ -17,9 +17,7 @@ TellsNew is_new None = ⊥
 
 -- what a completed edit tells: the keyslot that it made, if it makes one
 abbrev pub Tells1 : List ℕ → Edit → Option ℕ → Type 0
-Tells1 v e told = MatchOption (sealed_by e)
-    (MatchOption (label_by e) (told ≡ None) (λ text. ⊥))
-    (λ s. TellsNew (IsSealedIn v s) told)
+Tells1 v e told = MatchOption (sealed_by e) (told ≡ None) (λ s. TellsNew (IsSealedIn v s) told)
 
 -- the edit of the volume `v` is done, and leaves `w`
 pub record IsDone1

@@ -1,6 +1,7 @@
 //! Edits of LUKS1 volumes.
-ghost use Rattle.std.specs.Prelude.{◌≡◌, ◌≢◌, ◌+◌, ◌^◌, ◌<◌, length, IfErr, MatchOption, MatchResult, Err, None};
+ghost use Rattle.std.specs.Prelude.{◌≡◌, ◌≢◌, ◌+◌, ◌^◌, ◌<◌, length, false, true, IfErr, MatchResult, Err, None};
 ghost use Rattle.luks_area.specs.Device.{CountsFailure, IsSettled};
+ghost use Rattle.luks_edit.specs.Asked.{sets_nothing};
 ghost use Rattle.luks_edit.specs.EditFaults.{is_edit_failure};
 ghost use Rattle.luks_reading.specs.Header.{IsHeader};
 ghost use Rattle.luks_reading.specs.declared.header.Header.TheVariants.{Luks1 as OfLuks1};
@@ -10,7 +11,7 @@ use crate::accepted::judge_without_key;
 use crate::removing::remove;
 use crate::sealing::seal;
 use luks_area::Device;
-use luks_edit::{Deed, Done, Edit, EditFault};
+use luks_edit::{Deed, Done, Edit, EditFault, Rewritten};
 use luks_reading::Data;
 use std::alloc::Global;
 
@@ -45,20 +46,19 @@ pub fn apply_luks1<D: Device>(
     match edit.deed() {
         Deed::Seal(sealed) => seal(alloc, device, &header, &sealed, random),
         Deed::Remove(removed) => remove(alloc, device, &header, &removed, random),
-        Deed::Rewrite { label } => repair(label, random),
+        Deed::Rewrite(rewritten) => repair(rewritten, random),
     }
 }
 
-/// There is nothing to repair: LUKS1 has one header, and no label. Refused by `BadLabel`,
-/// `RandomLength`.
-fn repair(label: Option<&[u8]>, random: &[u8]) -> Result<Done, EditFault>
-    ensures { MatchOption label.entry
-        (MatchResult result
+/// There is nothing to repair: LUKS1 has one header, and nothing that can be set in it. Refused by
+/// `BadLabel`, `RandomLength`.
+fn repair(rewritten: Rewritten<'_>, random: &[u8]) -> Result<Done, EditFault>
+    ensures idle { sets_nothing rewritten.entry ≡ true → MatchResult result
         (λ done. (length random.now ≡ 0) × (done.slot ≡ None))
-        (λ f. (length random.now ≢ 0) × (f ≡ EditFault.RandomLength)))
-        (λ _. result ≡ Err EditFault.BadLabel) }
+        (λ f. (length random.now ≢ 0) × (f ≡ EditFault.RandomLength)) }
+    ensures refused { sets_nothing rewritten.entry ≡ false → result ≡ Err EditFault.BadLabel }
 {
-    if label.is_some() {
+    if !rewritten.sets_nothing() {
         return Err(EditFault::BadLabel);
     }
     if random.len() != 0 {

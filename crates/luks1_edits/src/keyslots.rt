@@ -47,7 +47,7 @@ pub(crate) fn judge_named(header: &Luks1, edit: &Edit<'_>) -> Result<(), EditFau
     match edit.deed() {
         Deed::Seal(sealed) => judge_opener(header, &sealed.opener()),
         Deed::Remove(removed) => judge_removal(header, removed.slot, removed.by_),
-        Deed::Rewrite { label: _ } => Ok(()),
+        Deed::Rewrite(_) => Ok(()),
     }
 }
 

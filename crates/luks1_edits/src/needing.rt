@@ -37,7 +37,7 @@ pub fn needed_luks1(
     match edit.deed() {
         Deed::Seal(sealed) => new_need(&header.fields, number_asked(sealed.place)),
         Deed::Remove(_) => Ok(0),
-        Deed::Rewrite { label: _ } => Ok(0),
+        Deed::Rewrite(_) => Ok(0),
     }
 }
 

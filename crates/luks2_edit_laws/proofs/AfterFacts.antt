@@ -2,9 +2,11 @@
 use Rattle.std.proofs.Common.{◌≡◌, ◌≢◌, ℕ, ◌+◌, ◌-◌, ◌*◌, ◌<◌, ◌≤◌, ◌^◌, List, length, replicate, codes, true, false, Option, Some, None, option_and_then, is_some, inl, inr, refl, sym, ap, subst, ◌∙◌, arith}
 use Rattle.std.specs.Prelude.{IfSome, IsSomeAnd, MatchOption}
 use Rattle.std.proofs.lemmas.Bool.{cases_eq, cases_lt, false_from_ne_true}
+use Rattle.std.proofs.lemmas.Option.{same_Some}
 use Rattle.base64.specs.GeneralPurpose.{IsBytes}
 use Rattle.serde_json.specs.Data.{Data as Value}
 use Rattle.serde_json.specs.Find.{get}
+use Rattle.serde_json.specs.View.{view}
 use Rattle.luks_area.specs.declared.area.Area.{Area}
 use Rattle.luks_area.specs.declared.area.AreaName.TheVariants as name
 use Rattle.luks_area.specs.Ranges.{part}
@@ -14,8 +16,10 @@ use Rattle.luks2_header.specs.declared.selection.Copies.TheVariants.{InStep}
 use Rattle.luks2_header.proofs.CopyFacts.{listed_at_least}
 use Rattle.luks_rules.specs.declared.table.Section.TheVariants.{Keyslots}
 use Rattle.luks_rules.specs.Faults.{object_at}
+use Rattle.luks_rules.specs.declared.fault.MetaFault.{MetaFault}
 use Rattle.luks_rules.specs.Held.{IsHeld}
 use Rattle.luks_rules.specs.Reading.{decimal_in}
+use Rattle.luks_making.specs.Amended.{with_priority, with_token, without_token}
 use Rattle.luks_making.specs.Changed.{changed_slot}
 use Rattle.luks_making.specs.Conditions.{CanSeal, FitsDerivation, FitsNew, FitsSlot, IsFree, IsRoom}
 use Rattle.luks_making.specs.Derivations.{asked_beyond, asked_few_turns, FitsAsked, FitsNewDerivation, IsPositive, IsPositiveOr}
@@ -25,7 +29,10 @@ use Rattle.luks_making.specs.Keyslots.{derivation_by, slot_value, IsDerivedOr, N
 use Rattle.luks_making.specs.Naming.{HasUniqueDigests}
 use Rattle.luks_making.specs.Unchanged.{ChangesSlot, GainsSlot, SaysMembers}
 use Rattle.luks_making.specs.Without.{without_slot}
+use Rattle.luks_making.specs.declared.amended.Change.TheVariants as changes
+use Rattle.luks_making.specs.declared.amended.Priority.{Priority}
 use Rattle.luks_making.proofs.AdditionFacts.{held_with, slot_gained}
+use Rattle.luks_making.proofs.AmendFacts.{held_prior, held_without_token, priority_set, token_added, token_lost}
 use Rattle.luks_making.proofs.FreeNumberFacts.{unnamed_free}
 use Rattle.luks_making.proofs.KdfFacts.{chosen_fits, unrefused_positive}
 use Rattle.luks_making.proofs.ChangeFacts.{held_changed, slot_renewed}
@@ -37,19 +44,20 @@ use Rattle.luks_reading.specs.Checked.{AreaOf, WellFormed}
 use Rattle.luks_reading.specs.Layout2.{slot_number}
 use Rattle.luks_edit.specs.declared.edit.Edit.{Edit}
 use Rattle.luks_edit.specs.declared.deed.Sealed.{Sealed}
-use Rattle.luks_edit.specs.declared.edit.Edit.TheVariants.{Add, AddByKey, Change, Remove, Repair, Label}
+use Rattle.luks_edit.specs.declared.edit.Edit.TheVariants.{Add, AddByKey, Change, Remove, Repair, Label, Amend}
 use Rattle.luks_edit.specs.declared.edit.Opener.{Opener}
 use Rattle.luks_edit.specs.declared.edit.Opener.TheVariants as opener
 use Rattle.luks_edit.specs.Asked.{allowed_for, chosen_or, opener_at, sealed_by}
-use Rattle.luks_edit.specs.declared.edit_fault.EditFault.TheVariants.{Argon2, Iterations, NoFreeSlot, RandomLength, SlotTaken}
+use Rattle.luks_edit.specs.declared.edit_fault.EditFault.TheVariants.{Argon2, BadToken, Iterations, NoFreeSlot, RandomLength, SlotTaken}
 use Rattle.luks_edit.specs.Kept.{Keeps}
 use Rattle.luks2_edit_laws.specs.declared.like.Like.{Like}
 use Rattle.luks2_edit_laws.specs.declared.like.Like.TheVariants.{Keyslot, Digest}
-use Rattle.luks2_edit_laws.specs.Edited.{keyslot_salt, members_of, After2, Gives2, HasAdded, HasChanged, HasRangedDerivation, HasRanges, IsEdited, IsMadeIn, IsSealedBy, IsWiped, IsWipedBy, NamedKeyslots2}
+use Rattle.luks2_edit_laws.specs.Edited.{keyslot_salt, members_of, After2, Gives2, HasAdded, HasChanged, HasNewToken, HasRangedDerivation, HasRanges, IsEdited, IsMadeIn, IsSealedBy, IsWiped, IsWipedBy, NamedKeyslots2}
 use Rattle.luks2_edit_laws.specs.Likes.{digest_by, fresh_members, ForLike, HasStripesLike, IsAddedLike, IsLike, slot_by}
 use Rattle.luks2_edit_laws.specs.Metadata.{HasMetadata, IsNewKeyslot}
 use Rattle.luks2_edit_laws.specs.Places.{key_areas_end, IsNewArea, Loses}
-use Rattle.luks2_edit_laws.specs.Refused.{HasNoNumber, IsNumberTaken, IsUnrefused2, NeedsLike}
+use Rattle.luks2_edit_laws.specs.Refused.{HasNoNumber, IsFaultyWith, IsNumberTaken, IsUnrefused2, NeedsLike}
+use Rattle.luks2_edit_laws.proofs.AmendFacts.{amended_metadata}
 use Rattle.luks2_edit_laws.proofs.CopyFacts.{both_chosen}
 use Rattle.luks2_edit_laws.proofs.KeptFacts.{all_kept, says_itself, KeepsMetadata}
 use Rattle.luks2_edit_laws.proofs.LikeFacts.{model_by_key, IsModel}
@@ -58,6 +66,7 @@ use Rattle.luks2_edit_laws.proofs.MetadataFacts.{lost_metadata, placed_metadata}
 use Rattle.luks2_edit_laws.proofs.PlaceFacts.{left_bytes}
 use Rattle.luks2_edit_laws.proofs.SealFacts.{can_seal, enough_random, fits_new, holds_stripes, in_region, none_of, opened_there, opened_plan, part_bytes, salt_length, under}
 use Rattle.luks2_edit_laws.proofs.UniqueFacts.{unique_digests}
+use Rattle.luks2_edit_laws.proofs.ValuedFacts.{valued_held}
 use Rattle.luks2_edit_laws.proofs.VolumeFacts.{areas_are, copy_of, layout_of, HasCopy, IsLayout}
 
 -- what an edit is given has the ranges of its types
@@ -71,7 +80,8 @@ lost_is_named v (AddByKey key new to iterations d) n lost = absurd lost
 lost_is_named v (Change slot old new iterations d) n lost = lost
 lost_is_named v (Remove slot by_ passphrase) n lost = lost
 lost_is_named v Repair n lost = absurd lost
-lost_is_named v (Label text) n lost = absurd lost
+lost_is_named v (Label text subsystem) n lost = absurd lost
+lost_is_named v (Amend c) n lost = absurd lost
 
 -- metadata keeps itself
 pub same_metadata : (h total : ℕ) (payload : Data) (named : ℕ → Type 0) (j k : Value) → k ≡ j → IsLayout h total payload j → KeepsMetadata h total payload named j k
@@ -85,6 +95,32 @@ without_metadata h total payload named n j k is same old =
     let without : KeepsMetadata h total payload named j (without_slot n j) =
     lost_metadata n j (without_slot n j) (slot_lost n j).rest h total payload named is (held_left (h - 4096) n j old.held) old (slot_lost n j).gone in
     subst (KeepsMetadata h total payload named j) (sym same) without
+
+-- so does metadata with a priority, without a token, and with one that leaves it without a fault
+prioritized_metadata : (h total : ℕ) (payload : Data) (named : ℕ → Type 0) (n : ℕ) (priority : Priority) (j k : Value) → named n → k ≡ with_priority n priority j
+    → IsLayout h total payload j → KeepsMetadata h total payload named j k
+prioritized_metadata h total payload named n priority j k is same old =
+    let new : Value = with_priority n priority j in
+    let kept : KeepsMetadata h total payload named j new =
+    amended_metadata (Some n) None j new (priority_set (h - 4096) n priority j old.held).rest h total payload named
+    (λ m same_. subst named (same_Some n m same_) is) (held_prior (h - 4096) n priority j old.held) old in
+    subst (KeepsMetadata h total payload named j) (sym same) kept
+
+without_token_metadata : (h total : ℕ) (payload : Data) (named : ℕ → Type 0) (n : ℕ) (j k : Value) → k ≡ without_token n j
+    → IsLayout h total payload j → KeepsMetadata h total payload named j k
+without_token_metadata h total payload named n j k same old =
+    let kept : KeepsMetadata h total payload named j (without_token n j) =
+    amended_metadata None (Some n) j (without_token n j) (token_lost n j).rest h total payload named (λ m none. absurd (cc)) (held_without_token (h - 4096) n j old.held) old in
+    subst (KeepsMetadata h total payload named j) (sym same) kept
+
+with_token_metadata : (h total : ℕ) (payload : Data) (named : ℕ → Type 0) (j k : Value) (to : Option ℕ) (token : Value) → HasNewToken to token j k
+    → ((f : MetaFault) → IsFaultyWith (h - 4096) j to token f → ⊥) → IsLayout h total payload j → KeepsMetadata h total payload named j k
+with_token_metadata h total payload named j k to token new good old =
+    let made : Value = with_token new.number token j in
+    let held : IsHeld (h - 4096) made = valued_held (h - 4096) made (λ f bad. good f (record { number = new.number; is_new = new.is_new; fault = bad })) in
+    let kept : KeepsMetadata h total payload named j made =
+    amended_metadata None (Some new.number) j made (token_added (h - 4096) new.number token j old.held).rest h total payload named (λ m none. absurd (cc)) held old in
+    subst (KeepsMetadata h total payload named j) (sym new.is) kept
 
 -- ---- what no refusal means
 
@@ -346,7 +382,8 @@ was_opened v (AddByKey key new to iterations d) random j w k sealed = (sealed.ke
 was_opened v (Change slot old new iterations d) random j w k sealed = (sealed.key, sealed.opened)
 was_opened v (Remove slot by_ passphrase) random j w k sealed = tt
 was_opened v Repair random j w k sealed = tt
-was_opened v (Label text) random j w k sealed = tt
+was_opened v (Label text subsystem) random j w k sealed = tt
+was_opened v (Amend c) random j w k sealed = tt
 
 -- so what a new keyslot is made like is there
 pub model_by : (allowed : Allowed) (v : List ℕ) (o : ℕ) (j : Value) (opener_ : Opener) (key : List ℕ) (like : Like) → HasMetadata v o j → Gives2 allowed v opener_ key → IsLike j opener_ like
@@ -385,8 +422,15 @@ edited_metadata v o payload (Remove slot by_ passphrase) random j k m before ran
     without_metadata (hdr_size (header_at v o)) (length v) payload (λ n. n ≡ slot) slot j k refl is layout
 edited_metadata v o payload Repair random j k m before ranges free sealed is layout =
     same_metadata (hdr_size (header_at v o)) (length v) payload (λ n. ⊥) j k is layout
-edited_metadata v o payload (Label text) random j k m before ranges free sealed is layout =
+edited_metadata v o payload (Label text subsystem) random j k m before ranges free sealed is layout =
     same_metadata (hdr_size (header_at v o)) (length v) payload (λ n. ⊥) j k is layout
+edited_metadata v o payload (Amend (changes.Priority slot priority)) random j k m before ranges free sealed is layout =
+    prioritized_metadata (hdr_size (header_at v o)) (length v) payload (λ n. n ≡ slot) slot priority j k refl is layout
+edited_metadata v o payload (Amend (changes.AddToken to token)) random j k m before ranges free sealed is layout =
+    with_token_metadata (hdr_size (header_at v o)) (length v) payload (λ n. ⊥) j k to (view token.now) is
+    (λ f bad. free.none (BadToken f) (record { place = o; value = j; metadata = m; is = bad })) layout
+edited_metadata v o payload (Amend (changes.RemoveToken number)) random j k m before ranges free sealed is layout =
+    without_token_metadata (hdr_size (header_at v o)) (length v) payload (λ n. ⊥) number j k is layout
 
 module _
     (v : List ℕ) (payload : Data) (e : Edit) (random w : List ℕ) (well : WellFormed v payload)
@@ -429,7 +473,8 @@ wiped_is (AddByKey key new to iterations d) j w n wiped lost = absurd lost
 wiped_is (Change slot old new iterations d) j w n wiped lost = subst (λ m. IsWiped j m w) (sym lost) wiped
 wiped_is (Remove slot by_ passphrase) j w n wiped lost = subst (λ m. IsWiped j m w) (sym lost) wiped
 wiped_is Repair j w n wiped lost = absurd lost
-wiped_is (Label text) j w n wiped lost = absurd lost
+wiped_is (Label text subsystem) j w n wiped lost = absurd lost
+wiped_is (Amend c) j w n wiped lost = absurd lost
 
 -- so it is zeros
 pub lost_zeros : (v : List ℕ) (payload : Data) (e : Edit) (random w : List ℕ) (n : ℕ) (a : Area) → WellFormed v payload

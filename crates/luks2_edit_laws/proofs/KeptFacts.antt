@@ -108,7 +108,7 @@ same_keyslot old new j k m before after says = record {
   );
 }
 
-plan_bytes : (v w json : List ℕ) (j : Value) (m h total : ℕ) (payload : Data) (plan : SlotPlan) → Json json j
+pub plan_bytes : (v w json : List ℕ) (j : Value) (m h total : ℕ) (payload : Data) (plan : SlotPlan) → Json json j
     → ((a : Area) → Luks2Area j h payload total (Slot m) a → part w a.start a.len ≡ part v a.start a.len)
     → HasLuks2Plan json m plan → part w plan.area.start plan.area.len ≡ part v plan.area.start plan.area.len
 plan_bytes v w json j m h total payload plan holds kept x =

@@ -1,5 +1,6 @@
 pub mod AfterFacts
 pub mod AlikeFacts
+pub mod AmendFacts
 mod CopyFacts
 mod GapFacts
 mod GivenFacts
@@ -22,3 +23,6 @@ pub mod TouchedFacts
 mod UniqueFacts
 pub mod VolumeFacts
 pub mod SoundCopyFacts
+pub mod AmendedFacts
+pub mod ValuedFacts
+pub mod AmendedAnswers

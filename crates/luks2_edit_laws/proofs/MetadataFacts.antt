@@ -29,7 +29,7 @@ pub some_same : {A : Type 0} (a b : A) → Some a ≡ Some b → a ≡ b
 some_same a b e = ap (λ o. unwrap_or o a) e
 
 -- segments that lie behind the region still do where both are as they were
-segments_follow : (len : ℕ) (j k : Value) → section_at k Segments ≡ section_at j Segments → section_at k Config ≡ section_at j Config
+pub segments_follow : (len : ℕ) (j k : Value) → section_at k Segments ≡ section_at j Segments → section_at k Config ≡ section_at j Config
     → SegmentsFollow len j → SegmentsFollow len k
 segments_follow len j k segments config s = record {
   each = λ n d bytes start held region offset. s.each n d bytes start

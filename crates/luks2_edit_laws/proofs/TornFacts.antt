@@ -23,7 +23,7 @@ use Rattle.luks_reading.specs.Checked.{WellFormed, WellFormedAs}
 use Rattle.luks_reading.specs.Header.{json_at}
 use Rattle.luks_edit.proofs.SecretFacts.{one_answer_to}
 use Rattle.luks_edit.specs.declared.edit.Edit.{Edit}
-use Rattle.luks_edit.specs.declared.edit.Edit.TheVariants.{Add, AddByKey, Change, Remove, Repair, Label}
+use Rattle.luks_edit.specs.declared.edit.Edit.TheVariants.{Add, AddByKey, Change, Remove, Repair, Label, Amend}
 use Rattle.luks_edit.specs.declared.edit.Opener.{Opener}
 use Rattle.luks_edit.specs.declared.edit.Opener.TheVariants as opener
 use Rattle.luks_edit.specs.Asked.{allowed_for}
@@ -61,7 +61,8 @@ sealed_behind h total payload j (AddByKey key new to iterations d) p x = new_beh
 sealed_behind h total payload j (Change slot old new iterations d) p x = new_behind h total payload j x.like p x.has
 sealed_behind h total payload j (Remove slot by_ passphrase) p x = absurd x
 sealed_behind h total payload j Repair p x = absurd x
-sealed_behind h total payload j (Label text) p x = absurd x
+sealed_behind h total payload j (Label text subsystem) p x = absurd x
+sealed_behind h total payload j (Amend c) p x = absurd x
 
 -- the other copy lies in the front
 other_first : (h o : ℕ) → o ≡ 0 → other_place h o ≡ h
@@ -235,7 +236,8 @@ opens_written v payload (Change slot old new iterations d) random w well ranges 
     inr (subst (λ x. AnswerWithin allowed w slot new.now (opens x)) key_same opened))
 opens_written v payload (Remove slot by_ passphrase) random w well ranges free long j k p b chosen a edited sealed = tt
 opens_written v payload Repair random w well ranges free long j k p b chosen a edited sealed = tt
-opens_written v payload (Label text) random w well ranges free long j k p b chosen a edited sealed = tt
+opens_written v payload (Label text subsystem) random w well ranges free long j k p b chosen a edited sealed = tt
+opens_written v payload (Amend c) random w well ranges free long j k p b chosen a edited sealed = tt
 
 sealed_or_copy : (A B : Type 0) → A ⊎ B → B ⊎ A ⊎ ⊥
 sealed_or_copy A B (inl a) = inr (inl a)
@@ -274,7 +276,8 @@ opens_before v payload (Change slot old new iterations d) random w well ranges o
     (same_json v payload e random w well ranges rest.length_same o m.copies b m.chosen chosen same) (kept.slots slot (λ x. x)) was))
 opens_before v payload (Remove slot by_ passphrase) random w well ranges o j m b chosen same rest = tt
 opens_before v payload Repair random w well ranges o j m b chosen same rest = tt
-opens_before v payload (Label text) random w well ranges o j m b chosen same rest = tt
+opens_before v payload (Label text subsystem) random w well ranges o j m b chosen same rest = tt
+opens_before v payload (Amend c) random w well ranges o j m b chosen same rest = tt
 
 -- the other copy's place
 other_at : (h o : ℕ) → (o ≡ 0) ⊎ (o ≡ h) → 16384 ≤ h → (other_place h o ≡ 0) ⊎ (other_place h o ≡ h)

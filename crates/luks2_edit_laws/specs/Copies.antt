@@ -8,7 +8,7 @@ use Rattle.luks2_header.specs.Header2.{binary_header_size, csum_alg_field, csum_
 use Rattle.luks_making.specs.WrittenArea.{IsWrittenArea}
 use Rattle.luks_reading.specs.Header.{json_at}
 use Rattle.luks_edit.specs.declared.edit.Edit.{Edit}
-use Rattle.luks_edit.specs.Asked.{label_by}
+use Rattle.luks_edit.specs.Asked.{label_by, subsystem_by}
 
 -- fields of a binary header's 4096 bytes
 abbrev pub label_field : List ℕ → List ℕ
@@ -22,13 +22,17 @@ subsystem_field b = part b 208 48
 
 -- ---- what an edit says of the copies
 
--- the label field: a new label and zeros, or the one that was there
-abbrev pub labelled : Option (Bor (List ℕ)) → List ℕ → List ℕ
-labelled None field_ = field_
-labelled (Some text) field_ = text.now ++ replicate (48 - length text.now) 0
+-- a text's field: a new text and zeros, or the one that was there
+abbrev pub field_after : Option (Bor (List ℕ)) → List ℕ → List ℕ
+field_after None field_ = field_
+field_after (Some text) field_ = text.now ++ replicate (48 - length text.now) 0
 
+-- that of the label, and that of the subsystem
 abbrev pub label_after : Edit → List ℕ → List ℕ
-label_after e field_ = labelled (label_by e) field_
+label_after e field_ = field_after (label_by e) field_
+
+abbrev pub subsystem_after : Edit → List ℕ → List ℕ
+subsystem_after e field_ = field_after (subsystem_by e) field_
 
 -- of the random bytes the first 64 are the salt of the copy at 0, the next 64 that of the other one
 abbrev pub copy_salt : List ℕ → ℕ → List ℕ
@@ -37,8 +41,8 @@ copy_salt random q = if q == 0 then take 64 random else part random 64 64
 -- ---- a copy that was written
 
 -- the copy at the place `q` of the volume `w` is sound and takes the place of the copy at `o` of `v`,
--- with the edit's label, a salt of the random bytes, and the metadata `j` in compact text; the rest of
--- its checksum's field may hold any bytes
+-- with the edit's label and subsystem, a salt of the random bytes, and the metadata `j` in compact text;
+-- the rest of its checksum's field may hold any bytes
 pub record IsRenewed (v : List ℕ) (o : ℕ) (e : Edit) (random : List ℕ) (j : Value) (w : List ℕ) (q : ℕ) : Type 0 where
   pub sound : IsSound w q
   pub size : hdr_size (header_at w q) ≡ hdr_size (header_at v o)
@@ -47,7 +51,7 @@ pub record IsRenewed (v : List ℕ) (o : ℕ) (e : Edit) (random : List ℕ) (j 
   pub csum_alg : csum_alg_field (header_at w q) ≡ codes "sha256" ++ replicate 26 0
   pub salt : salt_field (header_at w q) ≡ copy_salt random q
   pub uuid : uuid_field (header_at w q) ≡ uuid_field (header_at v o)
-  pub subsystem : subsystem_field (header_at w q) ≡ subsystem_field (header_at v o)
+  pub subsystem : subsystem_field (header_at w q) ≡ subsystem_after e (subsystem_field (header_at v o))
   pub padding : AreZeros (header_at w q) 264 csum_at
   pub tail : AreZeros (header_at w q) (csum_at + csum_size) binary_header_size
   pub json : IsWrittenArea (hdr_size (header_at v o) - binary_header_size) j (json_at w q)

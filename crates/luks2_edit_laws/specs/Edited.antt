@@ -1,12 +1,15 @@
 -- What an edit makes of a LUKS2 volume (LUKS2 On-Disk Format 1.1, 4).
-use Rattle.std.specs.Prelude.{◌≡◌, ℕ, ◌-◌, ◌*◌, ◌^◌, ◌<◌, Bool, List, length, drop, replicate, Option, None, IfSome}
+use Rattle.std.specs.Prelude.{◌≡◌, ℕ, ◌-◌, ◌*◌, ◌^◌, ◌<◌, Bool, List, length, drop, replicate, Option, None, Some, IfSome}
 use Rattle.base64.specs.GeneralPurpose.{IsBytes}
 use Rattle.serde_json.specs.Data.{Data as Value}
+use Rattle.serde_json.specs.View.{view}
 use Rattle.luks_area.specs.declared.area.Area.{Area}
 use Rattle.luks_area.specs.Ranges.{part, SameBut}
 use Rattle.luks2_header.specs.Header2.{hdr_size, header_at}
 use Rattle.luks_rules.specs.declared.table.Section.TheVariants.{Keyslots}
 use Rattle.luks_rules.specs.Accepted.{HasObject}
+use Rattle.luks_making.specs.Amended.{with_priority, with_token, without_token}
+use Rattle.luks_making.specs.declared.amended.Change.{Change}
 use Rattle.luks_making.specs.Changed.{changed_slot}
 use Rattle.luks_making.specs.Derivations.{FitsAsked}
 use Rattle.luks_making.specs.declared.derivation.AskedDerivation.{AskedDerivation}
@@ -24,12 +27,12 @@ use Rattle.luks_edit.specs.declared.edit.Opener.{Opener}
 use Rattle.luks_edit.specs.declared.edit.Opener.TheVariants as opener
 use Rattle.luks_edit.specs.declared.deed.Sealed.{Sealed}
 use Rattle.luks_edit.specs.Secrets.{AnswersTo}
-use Rattle.luks_edit.specs.Asked.{deed_of, lost_by, MatchDeed, MatchPlace, allowed_for, opener_at, sealed_by}
+use Rattle.luks_edit.specs.Asked.{AmendsSlot, deed_of, lost_by, MatchChange, MatchDeed, MatchPlace, allowed_for, opener_at, sealed_by}
 use Rattle.luks2_edit_laws.specs.declared.like.Like.{Like}
 use Rattle.luks2_edit_laws.specs.declared.like.Like.TheVariants.{Keyslot}
 use Rattle.luks2_edit_laws.specs.Copies.{IsWrittenAnew}
 use Rattle.luks2_edit_laws.specs.Likes.{ForLike, HasRefusal, IsAddedLike, IsLikeByKey}
-use Rattle.luks2_edit_laws.specs.Metadata.{HasMetadata, IsKeyArea, IsNewKeyslot}
+use Rattle.luks2_edit_laws.specs.Metadata.{HasMetadata, IsKeyArea, IsNewKeyslot, IsNewToken}
 use Rattle.luks2_edit_laws.specs.Places.{IsNewArea, IsTouched}
 
 -- ---- the keyslots that an edit names
@@ -46,7 +49,7 @@ abbrev pub IsSealedIn : List ℕ → Sealed → ℕ → Type 0
 IsSealedIn v s n = MatchPlace s.place (λ o to. IsMadeIn v to n) (λ slot secret. n ≡ slot)
 
 abbrev pub NamedKeyslots2 : List ℕ → Edit → ℕ → Type 0
-NamedKeyslots2 v e n = MatchDeed (deed_of e) (λ s. IsSealedIn v s n) (λ r. n ≡ r.slot) (λ label. ⊥)
+NamedKeyslots2 v e n = MatchDeed (deed_of e) (λ s. IsSealedIn v s n) (λ r. n ≡ r.slot) (λ r. AmendsSlot r.change n)
 
 -- ---- what a call is given
 
@@ -87,6 +90,18 @@ pub record HasChanged
   pub place : IsNewArea h total payload j (Keyslot slot) area
   pub is : new ≡ changed_slot slot (members_of asked salt area) j
 
+-- `new` is the metadata `j` with this token, by a new number
+pub record HasNewToken (to : Option ℕ) (token j new : Value) : Type 0 where
+  pub number : ℕ
+  pub is_new : IsNewToken j to number
+  pub is : new ≡ with_token number token j
+
+-- `new` is the metadata `j` with the change, if there is one
+abbrev pub IsAmended : Option Change → Value → Value → Type 0
+IsAmended None j new = new ≡ j
+IsAmended (Some c) j new = MatchChange c (λ slot priority. new ≡ with_priority slot priority j)
+    (λ to token. HasNewToken to (view token.now) j new) (λ number. new ≡ without_token number j)
+
 -- `new` is what the edit makes of the metadata `j`, with the salt for a keyslot that it seals
 abbrev pub IsEdited : ℕ → ℕ → Data → Edit → List ℕ → Value → Value → Type 0
 IsEdited h total payload e salt j k = MatchDeed (deed_of e)
@@ -94,7 +109,7 @@ IsEdited h total payload e salt j k = MatchDeed (deed_of e)
     (λ o to. ForLike j o (HasAdded h total payload to s.derivation salt j k))
     (λ slot secret. HasChanged h total payload slot s.derivation salt j k))
     (λ r. k ≡ without_slot r.slot j)
-    (λ label. k ≡ j)
+    (λ r. IsAmended r.change j k)
 
 -- of the random bytes those behind the salts of the copies: the salt of a keyslot, and its stripes
 abbrev pub keyslot_salt : List ℕ → List ℕ

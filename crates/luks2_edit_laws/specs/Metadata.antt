@@ -6,7 +6,7 @@ use Rattle.luks_area.specs.declared.area.Area.{Area}
 use Rattle.luks2_header.specs.declared.selection.Copies.{Copies}
 use Rattle.luks2_header.specs.Selection.{luks2, Chosen}
 use Rattle.luks_rules.specs.declared.table.Outer.TheVariants as outer
-use Rattle.luks_rules.specs.declared.table.Section.TheVariants.{Keyslots}
+use Rattle.luks_rules.specs.declared.table.Section.TheVariants.{Keyslots, Tokens}
 use Rattle.luks_rules.specs.Accepted.{HasObject}
 use Rattle.luks_rules.specs.Faults.{object_at}
 use Rattle.luks_rules.specs.MetaFault.{Json}
@@ -35,6 +35,23 @@ pub record IsLeastFree (j : Value) (n : ℕ) : Type 0 where
 abbrev pub IsNewKeyslot : Value → Option ℕ → ℕ → Type 0
 IsNewKeyslot j (Some t) n = n ≡ t
 IsNewKeyslot j None n = IsLeastFree j n
+
+-- ---- tokens that are there, and numbers that are free (LUKS2 On-Disk Format 1.1, 3.5)
+
+abbrev pub HasToken : Value → ℕ → Type 0
+HasToken j n = (n < 32) × (is_some (object_at j Tokens n) ≡ true)
+
+abbrev pub IsFreeToken : Value → ℕ → Type 0
+IsFreeToken j n = (n < 32) × (object_at j Tokens n ≡ None)
+
+pub record IsLeastFreeToken (j : Value) (n : ℕ) : Type 0 where
+  pub free : IsFreeToken j n
+  pub least : (m : ℕ) → IsFreeToken j m → n ≤ m
+
+-- the number of a token that is added: the one that is asked for, or else the least that is free
+abbrev pub IsNewToken : Value → Option ℕ → ℕ → Type 0
+IsNewToken j (Some t) n = n ≡ t
+IsNewToken j None n = IsLeastFreeToken j n
 
 -- ---- what a keyslot says
 

@@ -1,38 +1,47 @@
 -- When an edit of a LUKS2 volume is refused, and how many random bytes it takes. The order of the
 -- faults is that of every edit.
-use Rattle.std.specs.Prelude.{◌≡◌, ◌≢◌, ℕ, ◌+◌, ◌-◌, ◌*◌, ◌^◌, ◌<◌, ◌≤◌, ◌⊎◌, Bool, List, length, true, Option, Some, None, IsSomeAnd, MatchOption}
+use Rattle.std.specs.Prelude.{◌≡◌, ◌≢◌, ℕ, ◌+◌, ◌-◌, ◌*◌, ◌^◌, ◌<◌, ◌≤◌, ◌⊎◌, Bool, List, [], length, true, Option, Some, None, IsSomeAnd, MatchOption}
+use Rattle.std.specs.Borrow.{Bor}
 use Rattle.base64.specs.GeneralPurpose.{IsBytes}
-use Rattle.serde_json.specs.Data.{Data as Value}
+use Rattle.serde_json.specs.Data.{Data as Value, depth}
+use Rattle.serde_json.specs.View.{view}
 use Rattle.serde_json.specs.Written.{compact_text}
 use Rattle.luks_area.specs.First.{IsLeast}
 use Rattle.luks_area.specs.Text.{is_plain}
 use Rattle.luks2_header.specs.Header2.{binary_header_size, hdr_size, header_at, seqid}
+use Rattle.luks_rules.specs.declared.fault.MetaFault.{MetaFault}
+use Rattle.luks_rules.specs.declared.table.Outer.TheVariants as outer
+use Rattle.luks_rules.specs.Faults.{type_at}
+use Rattle.luks_rules.specs.Valued.{IsValueFault}
+use Rattle.luks_making.specs.Amended.{with_token}
+use Rattle.luks_making.specs.declared.amended.Change.{Change}
 use Rattle.luks_making.specs.Conditions.{IsFree}
 use Rattle.luks_making.specs.Naming.{IsDigestOf}
 use Rattle.luks_meta.specs.Requirements.{has_requirements}
 use Rattle.luks_slot.specs.declared.allowed.Allowed.{Allowed}
 use Rattle.luks_reading.specs.declared.report.Data.{Data}
 use Rattle.luks_reading.specs.Checked.{IsFault}
+use Rattle.luks_edit.specs.declared.deed.Rewritten.{Rewritten}
 use Rattle.luks_edit.specs.declared.edit.Edit.{Edit}
 use Rattle.luks_edit.specs.declared.edit_fault.EditFault.{EditFault}
 use Rattle.luks_edit.specs.declared.edit_fault.EditFault.TheVariants as fault
 use Rattle.luks_edit.specs.declared.edit.Opener.{Opener}
 use Rattle.luks_edit.specs.declared.edit.Opener.TheVariants as opener
-use Rattle.luks_edit.specs.Asked.{allowed_by, deed_of, HasFewIterations, IsBeyondMemory, label_by, MatchPlace, NamesItself, opener_at, opener_in, removed_by, sealed_by, Wants}
+use Rattle.luks_edit.specs.Asked.{allowed_by, AmendsSlot, change_by, deed_of, HasFewIterations, IsBeyondMemory, MatchChange, MatchPlace, NamesItself, opener_at, opener_in, removed_by, rewritten_by, sealed_by, Wants}
 use Rattle.luks_edit.specs.EditFaults.{edit_key}
 use Rattle.luks_edit.specs.Opener.{IsUnopenedKeyslot}
 use Rattle.luks2_edit_laws.specs.declared.like.Like.{Like}
 use Rattle.luks2_edit_laws.specs.Edited.{IsEdited}
 use Rattle.luks2_edit_laws.specs.Likes.{ForLike, HasNoDigestFor, HasRefusedLike, HasStripesLike, MayMeetUnknown, MeetsNone}
-use Rattle.luks2_edit_laws.specs.Metadata.{HasMetadata, IsInUse}
+use Rattle.luks2_edit_laws.specs.Metadata.{HasMetadata, HasToken, IsFreeToken, IsInUse, IsNewToken}
 use Rattle.luks2_edit_laws.specs.Places.{HasNoNewArea}
 
 -- ---- the keyslots that the edit wants
 
--- one of them isn't there
+-- one of them isn't there, or the one whose priority the edit sets
 pub record IsAbsent (j : Value) (e : Edit) : Type 0 where
   pub slot : ℕ
-  pub wanted : Wants e slot
+  pub wanted : Wants e slot ⊎ AmendsSlot (change_by e) slot
   pub unused : IsInUse j slot → ⊥
 
 -- ---- the keyslot that the edit makes
@@ -69,9 +78,58 @@ pub record IsOnlyOne (j : Value) (slot : ℕ) : Type 0 where
 abbrev pub IsLast : Value → Edit → Type 0
 IsLast j e = IsSomeAnd (removed_by e) (λ r. IsOnlyOne j r.slot)
 
--- the label has more than 47 bytes, or one outside 0x20 to 0x7E
+-- the text, where one is given, has more than 47 bytes, or one outside 0x20 to 0x7E
+abbrev pub IsBadText : Option (Bor (List ℕ)) → Type 0
+IsBadText given = IsSomeAnd given (λ text. (47 < length text.now) ⊎ (is_plain text.now ≡ true → ⊥))
+
+-- the label is such a one, or the subsystem
+abbrev pub HasBadText : Rewritten → Type 0
+HasBadText r = IsBadText r.label ⊎ IsBadText r.subsystem
+
 abbrev pub IsBadLabel : Edit → Type 0
-IsBadLabel e = IsSomeAnd (label_by e) (λ text. (47 < length text.now) ⊎ (is_plain text.now ≡ true → ⊥))
+IsBadLabel e = IsSomeAnd (rewritten_by e) HasBadText
+
+-- ---- the token
+
+-- the token to remove isn't there
+abbrev pub LacksToken : Value → Change → Type 0
+LacksToken j c = MatchChange c (λ slot priority. ⊥) (λ to token. ⊥) (λ number. HasToken j number → ⊥)
+
+-- the number that is asked for a token is in use
+abbrev pub IsTokenAt : Value → Option ℕ → Type 0
+IsTokenAt j (Some t) = HasToken j t
+IsTokenAt j None = ⊥
+
+-- there is none of the number that is asked for, or none is free
+abbrev pub HasNoTokenNumber : Value → Option ℕ → Type 0
+HasNoTokenNumber j (Some t) = 31 < t
+HasNoTokenNumber j None = (n : ℕ) → IsFreeToken j n → ⊥
+
+abbrev pub IsTokenTaken : Value → Change → Type 0
+IsTokenTaken j c = MatchChange c (λ slot priority. ⊥) (λ to token. IsTokenAt j to) (λ number. ⊥)
+
+abbrev pub HasNoFreeToken : Value → Change → Type 0
+HasNoFreeToken j c = MatchChange c (λ slot priority. ⊥) (λ to token. HasNoTokenNumber j to) (λ number. ⊥)
+
+-- cryptsetup 2.6.1 doesn't read metadata with the token: its type is the empty text, or arrays and objects
+-- nest in it deeper than 29 levels. It stands two levels deep in the metadata, in which a text or a number
+-- may lie within 31
+abbrev pub IsUnreadable : Value → Type 0
+IsUnreadable token = (type_at token outer.Top ≡ Some []) ⊎ (29 < depth token)
+
+abbrev pub IsUnreadableToken : Change → Type 0
+IsUnreadableToken c = MatchChange c (λ slot priority. ⊥) (λ to token. IsUnreadable (view token.now)) (λ number. ⊥)
+
+-- the metadata with the token has the fault, in a JSON area of `len` bytes
+pub record IsFaultyWith (len : ℕ) (j : Value) (to : Option ℕ) (token : Value) (f : MetaFault) : Type 0 where
+  pub number : ℕ
+  pub is_new : IsNewToken j to number
+  pub fault : IsValueFault len (with_token number token j) f
+
+abbrev pub IsBadToken : ℕ → Value → MetaFault → Change → Type 0
+IsBadToken len j f c = MatchChange c (λ slot priority. ⊥) (λ to token. IsFaultyWith len j to (view token.now) f) (λ number. ⊥)
+
+-- ---- the header
 
 -- the new metadata leaves no zero byte in the JSON area; with each salt of 32 bytes its text is as long
 pub record IsFull (h total : ℕ) (payload : Data) (j : Value) (e : Edit) : Type 0 where
@@ -145,6 +203,11 @@ IsEditFault2 v payload e random fault.LastSlot = HasSaid v (λ o j. IsLast j e)
 IsEditFault2 v payload e random fault.Iterations = HasFewIterations e
 IsEditFault2 v payload e random fault.Argon2 = IsBeyondMemory e
 IsEditFault2 v payload e random fault.BadLabel = IsBadLabel e
+IsEditFault2 v payload e random fault.NoSuchToken = HasSaid v (λ o j. IsSomeAnd (change_by e) (LacksToken j))
+IsEditFault2 v payload e random fault.TokenTaken = HasSaid v (λ o j. IsSomeAnd (change_by e) (IsTokenTaken j))
+IsEditFault2 v payload e random fault.NoFreeToken = HasSaid v (λ o j. IsSomeAnd (change_by e) (HasNoFreeToken j))
+IsEditFault2 v payload e random fault.UnreadableToken = IsSomeAnd (change_by e) IsUnreadableToken
+IsEditFault2 v payload e random (fault.BadToken f) = HasSaid v (λ o j. IsSomeAnd (change_by e) (IsBadToken (hdr_size (header_at v o) - binary_header_size) j f))
 IsEditFault2 v payload e random fault.SeqExhausted = HasSaid v (λ o j. seqid (header_at v o) + 1 ≡ 2 ^ 64)
 IsEditFault2 v payload e random fault.MetadataFull = HasSaid v (λ o j. IsFull (hdr_size (header_at v o)) (length v) payload j e)
 IsEditFault2 v payload e random fault.RandomLength = HasSaid v (λ o j. IsMiscounted j e random)

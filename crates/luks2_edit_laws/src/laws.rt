@@ -1,6 +1,6 @@
 //! Laws on the definitions of this crate. Each function does nothing; its contract is the law.
 
-ghost use Rattle.std.specs.Prelude.{◌≡◌, ◌↔◌, ◌⊎◌, ℕ, List, replicate};
+ghost use Rattle.std.specs.Prelude.{◌≡◌, ◌↔◌, ◌⊎◌, ℕ, List, Some, replicate};
 ghost use Rattle.luks_area.specs.declared.area.Area.{Area as TheArea};
 ghost use Rattle.luks_area.specs.declared.area.AreaName.TheVariants.{Slot};
 ghost use Rattle.luks_area.specs.Ranges.{part, SameBut};
@@ -10,7 +10,9 @@ ghost use Rattle.luks_reading.specs.Answer.{AnswerWithin, Opened};
 ghost use Rattle.luks_reading.specs.Checked.{AreaOf, WellFormed};
 ghost use Rattle.luks_reading.specs.declared.report.Data.{Data as Payload};
 ghost use Rattle.luks_edit.specs.declared.edit.Edit.{Edit as TheEdit};
-ghost use Rattle.luks_edit.specs.Kept.{Keeps};
+ghost use Rattle.luks_making.specs.declared.amended.Change.{Change as TheChange};
+ghost use Rattle.luks_edit.specs.Asked.{change_by};
+ghost use Rattle.luks_edit.specs.Kept.{Keeps, KeepsAnswers};
 ghost use Rattle.luks2_edit_laws.specs.Derived.{IsDerivedBy};
 ghost use Rattle.luks2_edit_laws.specs.Edited.{After2, HasRanges, NamedKeyslots2, OpensAfter2};
 ghost use Rattle.luks2_edit_laws.specs.Kept.{HasSameKeyslot};
@@ -32,7 +34,9 @@ pub fn alike_slots_answer_alike()
 
 /// After an edit of a well formed LUKS2 volume that nothing refused, the volume is well formed, and
 /// its copies are in step; the segments are as before, and so are the area, the value and the
-/// answers of each keyslot that the edit didn't name. The area that a keyslot loses is zeros.
+/// answers of each keyslot that the edit didn't name. The area that a keyslot loses is zeros. Where the
+/// metadata changes in named members, each keyslot has its area and its answers, the one too whose
+/// priority is set.
 pub fn luks2_edit_keeps_volume()
     ensures keeps { (payload : Payload) (e : TheEdit) (v random w : List ℕ) → WellFormed v payload
         → HasRanges v e random → IsUnrefused2 v payload e random → After2 v payload e random w
@@ -43,6 +47,9 @@ pub fn luks2_edit_keeps_volume()
     ensures lost { (payload : Payload) (e : TheEdit) (v random w : List ℕ) (n : ℕ) (a : TheArea)
         → WellFormed v payload → After2 v payload e random w → Loses e n
         → AreaOf v payload (Slot n) a → part w a.start a.len ≡ replicate a.len 0 }
+    ensures amended { (payload : Payload) (e : TheEdit) (v random w : List ℕ) (c : TheChange)
+        → WellFormed v payload → HasRanges v e random → IsUnrefused2 v payload e random
+        → After2 v payload e random w → change_by e ≡ Some c → (n : ℕ) → KeepsAnswers payload n v w }
 {}
 
 /// After an edit of a well formed LUKS2 volume that nothing refused, a keyslot that it made or sealed

@@ -14,3 +14,4 @@ mod NewKeyslotFacts
 mod AdditionFacts
 mod PlanFacts
 mod ChangeFacts
+mod AmendingFacts

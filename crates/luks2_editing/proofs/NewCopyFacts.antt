@@ -6,9 +6,10 @@ use Rattle.luks2_header.specs.Header2.{magic_of}
 use Rattle.luks2_header.specs.Written.{IsWrittenCopy}
 use Rattle.luks2_header.specs.declared.bin2.Bin2.{Bin2}
 use Rattle.luks_writing.specs.Copy.{HasCopy, IsCopyHeader, IsSummed}
+use Rattle.luks2_judging.specs.declared.judged.TextFields.{TextFields}
 use Rattle.luks2_editing.specs.NewCopy.{HasNewCopy, IsCopyPlace, IsNewHeader, IsNewSummed}
 
-module _ (old : Bin2) (at : ℕ) (label salt : List ℕ) (h : Bin2) (new : IsNewHeader old at label salt h) where
+module _ (old : Bin2) (at : ℕ) (texts : TextFields) (salt : List ℕ) (h : Bin2) (new : IsNewHeader old at texts salt h) where
   -- its binary header is that of a copy at its place
   header_there : IsCopyPlace old at → IsCopyHeader h
   header_there place = record {
@@ -20,7 +21,7 @@ module _ (old : Bin2) (at : ℕ) (label salt : List ℕ) (h : Bin2) (new : IsNew
   }
 
   -- the copy that was written with it takes the place of the older one
-  has_new_copy : (w json : List ℕ) → HasCopy w json h → HasNewCopy old label salt json w at
+  has_new_copy : (w json : List ℕ) → HasCopy w json h → HasNewCopy old texts salt json w at
   has_new_copy w json x = record {
     header = record h { csum = x.csum };
     fields = record {
@@ -32,7 +33,7 @@ module _ (old : Bin2) (at : ℕ) (label salt : List ℕ) (h : Bin2) (new : IsNew
       csum_alg = new.csum_alg;
       own_salt = new.own_salt;
       uuid = new.uuid;
-      subsystem = new.subsystem;
+      own_subsystem = new.own_subsystem;
       hdr_offset = new.hdr_offset;
       csum_rest = x.csum_rest;
     };
@@ -40,7 +41,7 @@ module _ (old : Bin2) (at : ℕ) (label salt : List ℕ) (h : Bin2) (new : IsNew
   }
 
 -- the same of a header that has its checksum
-module _ (old : Bin2) (at : ℕ) (label salt json : List ℕ) (s : Bin2) (new : IsNewSummed old at label salt json s) where
+module _ (old : Bin2) (at : ℕ) (texts : TextFields) (salt json : List ℕ) (s : Bin2) (new : IsNewSummed old at texts salt json s) where
   -- it has the size of the older copy, and names its place
   pub size_is : s.hdr_size ≡ old.hdr_size
   size_is = ap (λ x. x.hdr_size) new.summed.same ∙ new.fields.hdr_size
@@ -60,9 +61,9 @@ module _ (old : Bin2) (at : ℕ) (label salt json : List ℕ) (s : Bin2) (new : 
       omega (arith, within, size, place)
 
   -- the copy that was written with it takes the place of the older one
-  pub new_copy : (w : List ℕ) → IsCopyPlace old at → ((h : Bin2) → IsCopyHeader h → IsSummed h json s → HasCopy w json h) → HasNewCopy old label salt json w at
+  pub new_copy : (w : List ℕ) → IsCopyPlace old at → ((h : Bin2) → IsCopyHeader h → IsSummed h json s → HasCopy w json h) → HasNewCopy old texts salt json w at
   new_copy w place there =
-      has_new_copy old at label salt new.header new.fields w json (there new.header (header_there old at label salt new.header new.fields place) new.summed)
+      has_new_copy old at texts salt new.header new.fields w json (there new.header (header_there old at texts salt new.header new.fields place) new.summed)
 
   -- it lies at its place
   pub of_new_copy : {u v : List ℕ} → SameBut (IsAt s.hdr_offset s.hdr_size) u v → SameBut (IsAt at old.hdr_size) u v

@@ -13,7 +13,7 @@ use Rattle.luks_reading.specs.Checked.{WellFormed}
 use Rattle.luks_reading.specs.Header.{IsChosenCopy}
 use Rattle.luks_edit.specs.declared.edit.Edit.TheVariants.{Remove}
 use Rattle.luks_edit.specs.declared.edit.Secret.{Secret}
-use Rattle.luks_edit.proofs.RowFacts.{passed_from, Passed}
+use Rattle.luks_edit.proofs.RowFacts.{after_token, passed_from, Passed}
 use Rattle.luks2_edit_laws.specs.Edited.{After2}
 use Rattle.luks2_edit_laws.specs.Leftovers.{Leftover2}
 use Rattle.luks2_edit_laws.specs.Metadata.{IsKeyArea}
@@ -29,9 +29,11 @@ use Rattle.luks2_editing.proofs.RenewalFacts.{metadata_here, prepared_unrefused,
 -- ---- the keyslot's area
 
 module _ (v : List ℕ) (payload : Data) (copy : ChosenCopy) (x : IsChosenCopy v copy) (well : WellFormed v payload)
-    (slot : ℕ) (by_ : Option ℕ) (passphrase : Secret) (random : List ℕ) (before : HasNoFaultBefore 15 v payload (Remove slot by_ passphrase) random) where
-  pub removal_passed : Passed (IsEditFault2 v payload (Remove slot by_ passphrase) random) 15
-  removal_passed = passed_from (IsEditFault2 v payload (Remove slot by_ passphrase) random) 15 before.each
+    (slot : ℕ) (by_ : Option ℕ) (passphrase : Secret) (random : List ℕ) (before : HasNoFaultBefore 19 v payload (Remove slot by_ passphrase) random) where
+  pub removal_passed : Passed (IsEditFault2 v payload (Remove slot by_ passphrase) random) 20
+  removal_passed =
+      let s = IsEditFault2 v payload (Remove slot by_ passphrase) random in
+      after_token s (passed_from s 19 before.each) (λ f bad. bad.is)
 
   module _ (area : Area) (is : IsKeyArea (content copy.meta) slot area) where
     module _ (new : Value) (made : new ≡ without_slot slot (content copy.meta)) (w y : List ℕ)

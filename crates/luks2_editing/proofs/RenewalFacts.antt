@@ -27,13 +27,14 @@ use Rattle.luks_edit.specs.declared.edit.Edit.{Edit}
 use Rattle.luks_edit.specs.declared.edit_fault.EditFault.{EditFault}
 use Rattle.luks_edit.specs.declared.edit_fault.EditFault.TheVariants as fault
 use Rattle.luks_edit.proofs.RowFacts.{first_of_row, next, none_at_all, Passed}
-use Rattle.luks2_edit_laws.specs.Copies.{label_after, label_field}
+use Rattle.luks2_edit_laws.specs.Copies.{label_after, label_field, subsystem_after, subsystem_field}
 use Rattle.luks2_edit_laws.specs.Edited.{keyslot_salt, After2, IsEdited, IsSealedBy, IsWipedBy}
 use Rattle.luks2_edit_laws.specs.Leftovers.{IsTornAt}
 use Rattle.luks2_edit_laws.specs.Metadata.{HasMetadata}
 use Rattle.luks2_edit_laws.specs.Places.{IsOfCopies, IsTouched}
 use Rattle.luks2_edit_laws.specs.Refused.{IsEditFault2, HasSaid, IsFull, IsMiscounted, IsUnrefused2, Need2}
 use Rattle.luks2_edit_laws.proofs.SoundCopyFacts.{copy_sound}
+use Rattle.luks2_judging.specs.declared.judged.TextFields.{TextFields}
 use Rattle.luks2_editing.specs.Prepared.{AreCopiesWithin, IsPrepared, IsUnwritten}
 use Rattle.luks2_editing.specs.Replies.{EndsBy2}
 use Rattle.luks2_editing.specs.Rewriting.{AreWrittenAnew, IsRenewing, MayBeHalfWritten}
@@ -111,18 +112,20 @@ module _ (v : List ℕ) (payload : Data) (copy : ChosenCopy) (x : IsChosenCopy v
       }
 
   -- it may be written anew
-  pub renewing : (e : Edit) (label : List ℕ) → label ≡ label_after e (label_field (header_at v copy.header.hdr_offset)) → IsRenewing v e copy.header label (area_len copy.meta)
-  renewing e label is = record {
+  pub renewing : (e : Edit) (texts : TextFields) → texts.label ≡ label_after e (label_field (header_at v copy.header.hdr_offset))
+      → texts.subsystem ≡ subsystem_after e (subsystem_field (header_at v copy.header.hdr_offset)) → IsRenewing v e copy.header texts (area_len copy.meta)
+  renewing e texts label subsystem = record {
     header = x.header;
     listed = subst IsListed size_is sound_here.form.listed;
     second = λ more. sym size_is ∙ sound_here.form.second more;
-    label_is = is;
+    label_is = label;
+    subsystem_is = subsystem;
     len_is = len_here ∙ ap (λ n. n - 4096) size_is;
   }
 
   -- ---- an edit that makes `new` of the metadata, once the rows before that of the number were passed
 
-  module _ (e : Edit) (random : List ℕ) (new : Value) (passed : Passed (IsEditFault2 v payload e random) 15)
+  module _ (e : Edit) (random : List ℕ) (new : Value) (passed : Passed (IsEditFault2 v payload e random) 20)
       (edited : (salt : List ℕ) → IsEdited (hdr_size (header_at v copy.header.hdr_offset)) (length v) payload e salt (content copy.meta) new)
       (edited_only : (salt : List ℕ) (k : Value) → IsEdited (hdr_size (header_at v copy.header.hdr_offset)) (length v) payload e salt (content copy.meta) k → k ≡ new)
       (need : Need2 (content copy.meta) e 128) (need_only : (k : ℕ) → Need2 (content copy.meta) e k → k ≡ 128)
@@ -148,13 +151,13 @@ module _ (v : List ℕ) (payload : Data) (copy : ChosenCopy) (x : IsChosenCopy v
         let other : IsMiscounted (content copy.meta) e random = said_here (λ o j. IsMiscounted j e random) bad in
         other.other (count ∙ sym (need_only other.need other.is))
 
-    past_number : copy.header.seqid + 1 < 2 ^ 64 → Passed (IsEditFault2 v payload e random) 16
+    past_number : copy.header.seqid + 1 < 2 ^ 64 → Passed (IsEditFault2 v payload e random) 21
     past_number low = next (IsEditFault2 v payload e random) fault.SeqExhausted refl passed (numbered_of low)
 
-    past_room : copy.header.seqid + 1 < 2 ^ 64 → length (compact_text new) < area_len copy.meta → Passed (IsEditFault2 v payload e random) 17
+    past_room : copy.header.seqid + 1 < 2 ^ 64 → length (compact_text new) < area_len copy.meta → Passed (IsEditFault2 v payload e random) 22
     past_room low room = next (IsEditFault2 v payload e random) fault.MetadataFull refl (past_number low) (roomy_of room)
 
-    past_all : copy.header.seqid + 1 < 2 ^ 64 → length (compact_text new) < area_len copy.meta → length random ≡ 128 → Passed (IsEditFault2 v payload e random) 20
+    past_all : copy.header.seqid + 1 < 2 ^ 64 → length (compact_text new) < area_len copy.meta → length random ≡ 128 → Passed (IsEditFault2 v payload e random) 25
     past_all low room count =
         let s = IsEditFault2 v payload e random in
         next s fault.Device refl (next s fault.Memory refl (next s fault.RandomLength refl (past_room low room) (counted_of count)) (λ bad. bad)) (λ bad. bad)

@@ -16,12 +16,13 @@ use Rattle.luks_edit.specs.declared.edit.Edit.{Edit}
 use Rattle.luks2_edit_laws.specs.Copies.{copy_salt, other_place, IsWrittenAnew}
 use Rattle.luks2_edit_laws.specs.Places.{IsOfCopies}
 use Rattle.luks_writing.proofs.CopyFacts.{copy_stays as written_stays}
+use Rattle.luks2_judging.specs.declared.judged.TextFields.{TextFields}
 use Rattle.luks2_editing.specs.NewCopy.{HasNewCopy, IsCopyPlace}
 use Rattle.luks2_editing.specs.Rewriting.{AreWrittenAnew, IsRenewing, IsRewriting, MayBeHalfWritten}
 
 -- a copy that was made of the old one's fields is written anew
-module _ (v : List ℕ) (e : Edit) (old : Bin2) (label random : List ℕ) (j : Value) (json : List ℕ) (is : IsRewriting v e old label j json) where
-  module _ (w : List ℕ) (q : ℕ) (new : HasNewCopy old label (copy_salt random q) json w q) where
+module _ (v : List ℕ) (e : Edit) (old : Bin2) (texts : TextFields) (random : List ℕ) (j : Value) (json : List ℕ) (is : IsRewriting v e old texts j json) where
+  module _ (w : List ℕ) (q : ℕ) (new : HasNewCopy old texts (copy_salt random q) json w q) where
     rest_zeros : AreZeros (header_at w q) 480 512
     rest_zeros k low high =
         let b : List ℕ = header_at w q in
@@ -55,7 +56,7 @@ module _ (v : List ℕ) (e : Edit) (old : Bin2) (label random : List ℕ) (j : V
         csum_alg = new.written.header.fields.csum_alg ∙ new.fields.csum_alg;
         salt = new.written.header.fields.salt ∙ new.fields.own_salt;
         uuid = new.written.header.fields.uuid ∙ new.fields.uuid ∙ sym is.header.uuid;
-        subsystem = new.written.header.fields.subsystem ∙ new.fields.subsystem ∙ sym is.header.subsystem;
+        subsystem = new.written.header.fields.subsystem ∙ new.fields.own_subsystem ∙ is.subsystem_is;
         padding = new.written.header.padding;
         tail = new.written.header.tail;
         json = subst (λ n. IsWrittenArea (n - 4096) j (json_at w q)) (sym is.header.hdr_size) (subst (λ l. IsWrittenArea (old.hdr_size - 4096) j l) (sym json_there) is.area);
@@ -64,23 +65,23 @@ module _ (v : List ℕ) (e : Edit) (old : Bin2) (label random : List ℕ) (j : V
     }
 
 -- a copy stays where its bytes do
-pub copy_stays : (old : Bin2) (label salt json v w : List ℕ) (at : ℕ) → length w ≡ length v → part w at 4096 ≡ part v at 4096
-    → part w (at + 4096) (length json) ≡ part v (at + 4096) (length json) → HasNewCopy old label salt json v at → HasNewCopy old label salt json w at
-copy_stays old label salt json v w at long head area x = record {
+pub copy_stays : (old : Bin2) (texts : TextFields) (salt json v w : List ℕ) (at : ℕ) → length w ≡ length v → part w at 4096 ≡ part v at 4096
+    → part w (at + 4096) (length json) ≡ part v (at + 4096) (length json) → HasNewCopy old texts salt json v at → HasNewCopy old texts salt json w at
+copy_stays old texts salt json v w at long head area x = record {
   header = x.header;
   fields = x.fields;
   written = written_stays v w json at x.header long head area x.written;
 }
 
 -- and so beside a range that was written
-pub copy_beside : (old : Bin2) (label salt json v w : List ℕ) (at start m : ℕ) → 4096 + length json ≡ old.hdr_size → SameBut (IsAt start m) v w
-    → (at + old.hdr_size ≤ start) ⊎ (start + m ≤ at) → HasNewCopy old label salt json v at → HasNewCopy old label salt json w at
-copy_beside old label salt json v w at start m size same (inl before) x =
-    copy_stays old label salt json v w at same.length_same
+pub copy_beside : (old : Bin2) (texts : TextFields) (salt json v w : List ℕ) (at start m : ℕ) → 4096 + length json ≡ old.hdr_size → SameBut (IsAt start m) v w
+    → (at + old.hdr_size ≤ start) ⊎ (start + m ≤ at) → HasNewCopy old texts salt json v at → HasNewCopy old texts salt json w at
+copy_beside old texts salt json v w at start m size same (inl before) x =
+    copy_stays old texts salt json v w at same.length_same
     (part-same_but_at start m at 4096 same (inl (omega (arith, size, before))))
     (part-same_but_at start m (at + 4096) (length json) same (inl (omega (arith, size, before)))) x
-copy_beside old label salt json v w at start m size same (inr behind) x =
-    copy_stays old label salt json v w at same.length_same
+copy_beside old texts salt json v w at start m size same (inr behind) x =
+    copy_stays old texts salt json v w at same.length_same
     (part-same_but_at start m at 4096 same (inr behind))
     (part-same_but_at start m (at + 4096) (length json) same (inr (omega (arith, behind)))) x
 
@@ -114,9 +115,9 @@ other_inside h o total q at inside = elim (places_of h o) [
 ]
 
 -- the place of the other copy is one
-pub other_is_place : (old : Bin2) (v : List ℕ) (e : Edit) (label : List ℕ) (j : Value) (json : List ℕ) → IsRewriting v e old label j json
+pub other_is_place : (old : Bin2) (v : List ℕ) (e : Edit) (texts : TextFields) (j : Value) (json : List ℕ) → IsRewriting v e old texts j json
     → IsCopyPlace old (other_place old.hdr_size old.hdr_offset)
-other_is_place old v e label j json is = record {
+other_is_place old v e texts j json is = record {
   listed = is.listed;
   second = λ more. elim (places_of old.hdr_size old.hdr_offset) [
     | at_start zero at ↦ sym at
@@ -124,12 +125,12 @@ other_is_place old v e label j json is = record {
   ];
 }
 
-pub own_is_place : (old : Bin2) (v : List ℕ) (e : Edit) (label : List ℕ) (j : Value) (json : List ℕ) → IsRewriting v e old label j json → IsCopyPlace old old.hdr_offset
-own_is_place old v e label j json is = record { listed = is.listed; second = is.second }
+pub own_is_place : (old : Bin2) (v : List ℕ) (e : Edit) (texts : TextFields) (j : Value) (json : List ℕ) → IsRewriting v e old texts j json → IsCopyPlace old old.hdr_offset
+own_is_place old v e texts j json is = record { listed = is.listed; second = is.second }
 
 -- ---- the two writes
 
-module _ (v : List ℕ) (e : Edit) (old : Bin2) (label random : List ℕ) (j : Value) (json : List ℕ) (is : IsRewriting v e old label j json) (size : 4096 + length json ≡ old.hdr_size) where
+module _ (v : List ℕ) (e : Edit) (old : Bin2) (texts : TextFields) (random : List ℕ) (j : Value) (json : List ℕ) (is : IsRewriting v e old texts j json) (size : 4096 + length json ≡ old.hdr_size) where
   h_is : hdr_size (header_at v old.hdr_offset) ≡ old.hdr_size
   h_is = is.header.hdr_size
 
@@ -137,10 +138,10 @@ module _ (v : List ℕ) (e : Edit) (old : Bin2) (label random : List ℕ) (j : V
   pub half_begun : (u w : List ℕ) → SameBut (IsAt (other_place old.hdr_size old.hdr_offset) old.hdr_size) u w → MayBeHalfWritten v old.hdr_offset e random j u w
   half_begun u w same = inl (subst (λ n. SameBut (IsAt (other_place n old.hdr_offset) n) u w) (sym h_is) same)
 
-  module _ (u w x : List ℕ) (other : HasNewCopy old label (copy_salt random (other_place old.hdr_size old.hdr_offset)) json w (other_place old.hdr_size old.hdr_offset))
+  module _ (u w x : List ℕ) (other : HasNewCopy old texts (copy_salt random (other_place old.hdr_size old.hdr_offset)) json w (other_place old.hdr_size old.hdr_offset))
       (first : SameBut (IsAt (other_place old.hdr_size old.hdr_offset) old.hdr_size) u w) (low : old.hdr_offset ≤ old.hdr_size) (second : SameBut (IsAt old.hdr_offset old.hdr_size) w x) where
-    other_stays : HasNewCopy old label (copy_salt random (other_place old.hdr_size old.hdr_offset)) json x (other_place old.hdr_size old.hdr_offset)
-    other_stays = copy_beside old label (copy_salt random (other_place old.hdr_size old.hdr_offset)) json w x (other_place old.hdr_size old.hdr_offset) old.hdr_offset old.hdr_size size second
+    other_stays : HasNewCopy old texts (copy_salt random (other_place old.hdr_size old.hdr_offset)) json x (other_place old.hdr_size old.hdr_offset)
+    other_stays = copy_beside old texts (copy_salt random (other_place old.hdr_size old.hdr_offset)) json w x (other_place old.hdr_size old.hdr_offset) old.hdr_offset old.hdr_size size second
         (elim (places_of old.hdr_size old.hdr_offset) [
           | at_start zero at ↦ inr (omega (arith, zero, at))
           | behind_first more at ↦ inl (let same = is.second more in omega (arith, same, at))
@@ -153,16 +154,16 @@ module _ (v : List ℕ) (e : Edit) (old : Bin2) (label random : List ℕ) (j : V
     pub half_done : MayBeHalfWritten v old.hdr_offset e random j u x
     half_done = inr (record {
       other = subst (λ n. IsWrittenAnew v old.hdr_offset e random j x (other_place n old.hdr_offset)) (sym h_is)
-          (written_anew v e old label random j json is x (other_place old.hdr_size old.hdr_offset) other_stays);
+          (written_anew v e old texts random j json is x (other_place old.hdr_size old.hdr_offset) other_stays);
       rest = subst (λ n. SameBut (IsOfCopies n) u x) (sym h_is) both_rest;
     })
 
     -- after both
-    pub all_done : HasNewCopy old label (copy_salt random old.hdr_offset) json x old.hdr_offset → AreWrittenAnew v old.hdr_offset e random j x
+    pub all_done : HasNewCopy old texts (copy_salt random old.hdr_offset) json x old.hdr_offset → AreWrittenAnew v old.hdr_offset e random j x
     all_done own =
-        let mine : IsWrittenAnew v old.hdr_offset e random j x old.hdr_offset = written_anew v e old label random j json is x old.hdr_offset own in
+        let mine : IsWrittenAnew v old.hdr_offset e random j x old.hdr_offset = written_anew v e old texts random j json is x old.hdr_offset own in
         let theirs : IsWrittenAnew v old.hdr_offset e random j x (other_place old.hdr_size old.hdr_offset) =
-        written_anew v e old label random j json is x (other_place old.hdr_size old.hdr_offset) other_stays in
+        written_anew v e old texts random j json is x (other_place old.hdr_size old.hdr_offset) other_stays in
         elim (places_of old.hdr_size old.hdr_offset) [
           | at_start zero at ↦ record {
             first = subst (λ q. IsWrittenAnew v old.hdr_offset e random j x q) zero mine;
@@ -177,12 +178,13 @@ module _ (v : List ℕ) (e : Edit) (old : Bin2) (label random : List ℕ) (j : V
 -- ---- the JSON area
 
 -- a JSON area of the length that is renewed, with any metadata
-pub rewriting_of : (v : List ℕ) (e : Edit) (old : Bin2) (label : List ℕ) (j : Value) (json : List ℕ) (len : ℕ) → IsRenewing v e old label len → IsWrittenArea len j json
-    → IsRewriting v e old label j json
-rewriting_of v e old label j json len is area = record {
+pub rewriting_of : (v : List ℕ) (e : Edit) (old : Bin2) (texts : TextFields) (j : Value) (json : List ℕ) (len : ℕ) → IsRenewing v e old texts len → IsWrittenArea len j json
+    → IsRewriting v e old texts j json
+rewriting_of v e old texts j json len is area = record {
   header = is.header;
   listed = is.listed;
   second = is.second;
   label_is = is.label_is;
+  subsystem_is = is.subsystem_is;
   area = subst (λ n. IsWrittenArea n j json) is.len_is area;
 }

@@ -1,5 +1,6 @@
 -- An edit of a LUKS2 volume that seals a keyslot: its last refusals, before the first write.
-use Rattle.std.proofs.Common.{◌≡◌, ℕ, ◌+◌, ◌-◌, ◌^◌, ◌<◌, ◌≤◌, List, length, refl, sym, ap, ◌∙◌, subst, arith}
+use Rattle.std.proofs.Common.{◌≡◌, ℕ, ◌+◌, ◌-◌, ◌^◌, ◌<◌, ◌≤◌, List, length, None, refl, sym, ap, ◌∙◌, subst, arith}
+use Rattle.std.specs.Prelude.{IsSomeAnd}
 use Rattle.base64.specs.GeneralPurpose.{IsBytes}
 use Rattle.serde_json.specs.Data.{Data as Value}
 use Rattle.serde_json.specs.Written.{compact_text}
@@ -9,10 +10,14 @@ use Rattle.luks_meta.proofs.Namings.{one_digest}
 use Rattle.luks_reading.specs.declared.header.ChosenCopy.{ChosenCopy}
 use Rattle.luks_reading.specs.declared.report.Data.{Data}
 use Rattle.luks_reading.specs.Header.{json_at}
+use Rattle.luks_edit.specs.Asked.{change_by, change_in, deed_of, sealed_in}
+use Rattle.luks_edit.specs.declared.deed.Deed.{Deed}
+use Rattle.luks_edit.specs.declared.deed.Deed.TheVariants as deed
+use Rattle.luks_edit.specs.declared.deed.Sealed.{Sealed}
 use Rattle.luks_edit.specs.declared.edit.Edit.{Edit}
 use Rattle.luks_edit.specs.declared.edit_fault.EditFault.{EditFault}
 use Rattle.luks_edit.specs.declared.edit_fault.EditFault.TheVariants as fault
-use Rattle.luks_edit.proofs.RowFacts.{first_of_row, next, none_at_all, passed_from, Passed}
+use Rattle.luks_edit.proofs.RowFacts.{after_token, first_of_row, next, none_at_all, passed_from, Passed}
 use Rattle.luks2_edit_laws.specs.Edited.{members_of, IsEdited}
 use Rattle.luks2_edit_laws.specs.Refused.{IsEditFault2, HasSaid, IsFull, IsMiscounted, IsUnrefused2, Need2, NeedsLike}
 use Rattle.luks2_edit_laws.proofs.ToldFacts.{need_once}
@@ -24,6 +29,12 @@ use Rattle.luks2_editing.specs.Replies.{EndsBy2}
 use Rattle.luks2_editing.proofs.MadeMetadataFacts.{asked_need, made_edited}
 use Rattle.luks2_editing.proofs.RenewalFacts.{len_here, said, said_here}
 
+-- an edit that seals a key changes nothing else of the metadata
+unamended_in : (d : Deed) (P : Sealed → Type 0) → IsSomeAnd (sealed_in d) P → change_in d ≡ None
+unamended_in (deed.Seal s) P x = refl
+unamended_in (deed.Remove r) P x = absurd x
+unamended_in (deed.Rewrite r) P x = absurd x
+
 module _ (v : List ℕ) (payload : Data) (e : Edit) (random : List ℕ) (copy : ChosenCopy) (sealing : Sealing)
     (x : IsSealingEdit v payload e random copy sealing) where
   -- the metadata with a salt is what the edit makes with it
@@ -32,8 +43,14 @@ module _ (v : List ℕ) (payload : Data) (e : Edit) (random : List ℕ) (copy : 
   edited_by salt new made =
       made_edited (hdr_size (header_at v copy.header.hdr_offset)) (length v) payload e (content copy.meta) new sealing.keyslot sealing.derivation salt sealing.area x.asked x.place made
 
-  passed : Passed (IsEditFault2 v payload e random) 15
-  passed = passed_from (IsEditFault2 v payload e random) 15 x.before.each
+  -- it changes nothing else
+  unamended : change_by e ≡ None
+  unamended = unamended_in (deed_of e) _ x.asked
+
+  passed : Passed (IsEditFault2 v payload e random) 20
+  passed =
+      let s = IsEditFault2 v payload e random in
+      after_token s (passed_from s 19 x.before.each) (λ f bad. rw unamended at bad.is)
 
   module _ (salt : List ℕ) (bytes : IsBytes salt) (long : length salt ≡ 32) (new : Value)
       (made : IsMadeBy sealing.keyslot (members_of sealing.derivation salt sealing.area) (content copy.meta) new)
@@ -72,13 +89,13 @@ module _ (v : List ℕ) (payload : Data) (e : Edit) (random : List ℕ) (copy : 
         let other : IsMiscounted (content copy.meta) e random = said_here v payload copy x.chosen x.well (λ o j. IsMiscounted j e random) bad in
         other.other (count ∙ need_once (content copy.meta) e n other.need need other.is)
 
-    past_number : copy.header.seqid + 1 < 2 ^ 64 → Passed (IsEditFault2 v payload e random) 16
+    past_number : copy.header.seqid + 1 < 2 ^ 64 → Passed (IsEditFault2 v payload e random) 21
     past_number low = next (IsEditFault2 v payload e random) fault.SeqExhausted refl passed (numbered_of low)
 
-    past_room : copy.header.seqid + 1 < 2 ^ 64 → length (compact_text new) < area_len copy.meta → Passed (IsEditFault2 v payload e random) 17
+    past_room : copy.header.seqid + 1 < 2 ^ 64 → length (compact_text new) < area_len copy.meta → Passed (IsEditFault2 v payload e random) 22
     past_room low room = next (IsEditFault2 v payload e random) fault.MetadataFull refl (past_number low) (roomy_of room)
 
-    past_all : copy.header.seqid + 1 < 2 ^ 64 → length (compact_text new) < area_len copy.meta → length random ≡ n → Passed (IsEditFault2 v payload e random) 20
+    past_all : copy.header.seqid + 1 < 2 ^ 64 → length (compact_text new) < area_len copy.meta → length random ≡ n → Passed (IsEditFault2 v payload e random) 25
     past_all low room count =
         let s = IsEditFault2 v payload e random in
         next s fault.Device refl (next s fault.Memory refl (next s fault.RandomLength refl (past_room low room) (counted_of count)) (λ bad. bad)) (λ bad. bad)

@@ -5,3 +5,4 @@ pub mod Replies
 pub mod Sealed
 pub mod MadeMetadata
 pub mod SealedKeyslot
+pub mod Amending

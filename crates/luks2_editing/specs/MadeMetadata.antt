@@ -93,14 +93,14 @@ IsMadeBy (Renewed slot) f j k = IsSealedAgain slot f j k
 
 -- ---- the edit
 
--- the rows of the edit `e` of the volume `v` were judged up to that of the label, its keyslot was
+-- the rows of the edit `e` of the volume `v` were judged up to those of the token, its keyslot was
 -- opened, and it seals a keyslot in the area that is found for it
 pub record IsSealingEdit
     (v : List ℕ) (payload : Data) (e : Edit) (random : List ℕ) (copy : ChosenCopy) (sealing : Sealing)
     : Type 0 where
   pub chosen : IsChosenCopy v copy
   pub well : WellFormed v payload
-  pub before : HasNoFaultBefore 15 v payload e random
+  pub before : HasNoFaultBefore 19 v payload e random
   pub asked : AsksFor e (content copy.meta) sealing.keyslot sealing.derivation
   pub place : IsNewArea (hdr_size (header_at v copy.header.hdr_offset)) (length v) payload
       (content copy.meta) (like_of sealing.keyslot) sealing.area

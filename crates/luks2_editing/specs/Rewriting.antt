@@ -7,24 +7,27 @@ use Rattle.luks2_header.specs.Sizes.{IsListed}
 use Rattle.luks2_header.specs.declared.bin2.Bin2.{Bin2}
 use Rattle.luks_making.specs.WrittenArea.{IsWrittenArea}
 use Rattle.luks_edit.specs.declared.edit.Edit.{Edit}
-use Rattle.luks2_edit_laws.specs.Copies.{label_after, label_field, other_place, IsWrittenAnew}
+use Rattle.luks2_edit_laws.specs.Copies.{label_after, label_field, other_place, subsystem_after, subsystem_field, IsWrittenAnew}
 use Rattle.luks2_edit_laws.specs.Places.{IsOfCopies}
+use Rattle.luks2_judging.specs.declared.judged.TextFields.{TextFields}
 
--- `old` is the binary header of a copy of the volume `v`, `label` its label after the edit, and `json`
+-- `old` is the binary header of a copy of the volume `v`, `texts` its texts after the edit, and `json`
 -- the JSON area with the metadata `j`
-pub record IsRewriting (v : List ℕ) (e : Edit) (old : Bin2) (label : List ℕ) (j : Value) (json : List ℕ) : Type 0 where
+pub record IsRewriting (v : List ℕ) (e : Edit) (old : Bin2) (texts : TextFields) (j : Value) (json : List ℕ) : Type 0 where
   pub header : HoldsBin2 (header_at v old.hdr_offset) old
   pub listed : IsListed old.hdr_size
   pub second : old.hdr_offset ≢ 0 → old.hdr_size ≡ old.hdr_offset
-  pub label_is : label ≡ label_after e (label_field (header_at v old.hdr_offset))
+  pub label_is : texts.label ≡ label_after e (label_field (header_at v old.hdr_offset))
+  pub subsystem_is : texts.subsystem ≡ subsystem_after e (subsystem_field (header_at v old.hdr_offset))
   pub area : IsWrittenArea (old.hdr_size - binary_header_size) j json
 
 -- the same of every JSON area with `len` bytes
-pub record IsRenewing (v : List ℕ) (e : Edit) (old : Bin2) (label : List ℕ) (len : ℕ) : Type 0 where
+pub record IsRenewing (v : List ℕ) (e : Edit) (old : Bin2) (texts : TextFields) (len : ℕ) : Type 0 where
   pub header : HoldsBin2 (header_at v old.hdr_offset) old
   pub listed : IsListed old.hdr_size
   pub second : old.hdr_offset ≢ 0 → old.hdr_size ≡ old.hdr_offset
-  pub label_is : label ≡ label_after e (label_field (header_at v old.hdr_offset))
+  pub label_is : texts.label ≡ label_after e (label_field (header_at v old.hdr_offset))
+  pub subsystem_is : texts.subsystem ≡ subsystem_after e (subsystem_field (header_at v old.hdr_offset))
   pub len_is : len ≡ old.hdr_size - binary_header_size
 
 -- both copies of the volume `w` take the place of the copy at `o` of `v`

@@ -63,6 +63,8 @@ pub fn apply_luks2<D: Device>(
             }
         }
         JudgedEdit::Remove { slot, area } => remove(alloc, device, copy, slot, area, random),
-        JudgedEdit::Rewrite { label } => repair(alloc, device, &copy, label, random),
+        JudgedEdit::Rewrite { fields, change } => {
+            repair(alloc, device, copy, fields, change, random)
+        }
     }
 }

@@ -2,6 +2,7 @@
 #![tactic(auto)]
 
 mod adding;
+mod amending;
 mod applying;
 mod changing;
 mod new_copy;

@@ -3,15 +3,18 @@ ghost use Rattle.std.specs.Prelude.{◌≡◌, ◌+◌, ◌^◌, ◌<◌};
 ghost use Rattle.luks2_editing.specs.NewCopy.{IsNewHeader};
 
 use luks2_header::Bin2;
+use luks2_judging::TextFields;
 
 /// The binary header of the copy at the place `at` that takes the place of the copy of `old`, with
-/// this label and salt: its sequence number is one higher. Its checksum is made where it is written.
-pub(crate) fn new_header(old: &Bin2, at: u64, label: [u8; 48], salt: [u8; 64]) -> Bin2
+/// these texts and this salt: its sequence number is one higher. Its checksum is made where it is written.
+pub(crate) fn new_header(old: &Bin2, at: u64, texts: TextFields, salt: [u8; 64]) -> Bin2
     requires { old.now.seqid + 1 < 2 ^ 64 }
-    ensures { IsNewHeader old.now at label salt result }
+    ensures { IsNewHeader old.now at texts salt result }
 {
+    let TextFields { label, subsystem } = texts;
     Bin2 {
         label,
+        subsystem,
         ..old.renewed(at, old.seqid + 1, salt)
     }
 }

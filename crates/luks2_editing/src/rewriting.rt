@@ -15,12 +15,13 @@ use luks_area::Device;
 use luks_edit::EditFault;
 use luks_meta::Meta;
 use luks2_header::Bin2;
+use luks2_judging::TextFields;
 use std::alloc::Global;
 
 /// The random bytes that an edit takes that seals no keyslot: the salts of both copies.
 const SALTS: usize = 128;
 
-/// Writes both copies anew from the chosen one's binary header, with this label and metadata; where
+/// Writes both copies anew from the chosen one's binary header, with these texts and metadata; where
 /// the number of random bytes or the metadata's length is refused, or memory, no byte changes.
 ///
 /// Takes memory for the JSON area, before the first write.
@@ -29,7 +30,7 @@ pub(crate) fn rewrite<D: Device>(
     device: &mut D,
     header: &Bin2,
     meta: &Meta,
-    label: [u8; 48],
+    texts: TextFields,
     random: &[u8],
 ) -> Result<(), EditFault>
     requires room { D.failed device.old + 1 < 2 ^ 64 }
@@ -47,18 +48,18 @@ pub(crate) fn rewrite<D: Device>(
     ensures same { D.tells → IfErr result (λ f. f ≢ EditFault.Device
         → D.bytes device.new ≡ D.bytes device.old) }
     ensures anew { D.tells → (v : List ℕ) (e : TheEdit)
-        → IsRenewing v e header.now label (area_len meta.now) → OnOk result
+        → IsRenewing v e header.now texts (area_len meta.now) → OnOk result
         (AreWrittenAnew v header.now.hdr_offset e random.now (content meta.now)
         (D.bytes device.new)) }
     ensures torn { D.tells → (v : List ℕ) (e : TheEdit)
-        → IsRenewing v e header.now label (area_len meta.now)
+        → IsRenewing v e header.now texts (area_len meta.now)
         → MayBeHalfWritten v header.now.hdr_offset e random.now (content meta.now)
         (D.bytes device.old) (D.bytes device.new) }
     ensures rest { D.tells
         → SameBut (IsOfCopies header.now.hdr_size) (D.bytes device.old) (D.bytes device.new) }
 {
     let json = prepared(alloc, header, meta, random, SALTS, device.len())?;
-    match write_copies(device, header, label, random, json.as_slice()) {
+    match write_copies(device, header, texts, random, json.as_slice()) {
         Ok(()) => Ok(()),
         Err(_) => Err(EditFault::Device),
     }

@@ -8,6 +8,7 @@ ghost use Rattle.luks_reading.specs.declared.report.Data.{Data as Payload};
 ghost use Rattle.luks_edit.specs.EditFaults.{is_edit_failure};
 ghost use Rattle.luks_edit.specs.declared.edit.Edit.{Edit as TheEdit};
 ghost use Rattle.luks2_edit_laws.specs.Leftovers.{IsTornAt};
+ghost use Rattle.luks2_judging.specs.Texts.{texts_of};
 ghost use Rattle.luks2_editing.specs.Prepared.{AreCopiesWithin};
 ghost use Rattle.luks2_editing.specs.Rewriting.{IsRenewing};
 ghost use Rattle.luks2_editing.specs.SealedKeyslot.{IsKeyslotWritten, IsSealable};
@@ -55,12 +56,12 @@ pub(crate) fn write_keyslot<D: Device>(
     ensures same { D.tells → IfErr result (λ f. f ≢ EditFault.Device
         → D.bytes device.new ≡ D.bytes device.old) }
     ensures written { D.tells → (e : TheEdit)
-        → IsRenewing (D.bytes device.old) e chosen.now chosen.now.label (area_len made.now.meta)
+        → IsRenewing (D.bytes device.old) e chosen.now (texts_of chosen.now) (area_len made.now.meta)
         → OnOk result (IsKeyslotWritten (D.bytes device.old) chosen.now.hdr_offset e
         secrets.now.random.now (content made.now.meta) n secrets.now.passphrase.now
         secrets.now.key.now (D.bytes device.new)) }
     ensures torn { D.tells → (payload : Payload) (e : TheEdit) (j : Value)
-        → IsRenewing (D.bytes device.old) e chosen.now chosen.now.label (area_len made.now.meta)
+        → IsRenewing (D.bytes device.old) e chosen.now (texts_of chosen.now) (area_len made.now.meta)
         → IsSealing (D.bytes device.old) payload e secrets.now.random.now chosen.now.hdr_offset j
         (content made.now.meta) n secrets.now.passphrase.now secrets.now.key.now
         → IsTornAt (D.bytes device.old) payload e secrets.now.random.now chosen.now.hdr_offset j

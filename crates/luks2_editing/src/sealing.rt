@@ -9,6 +9,7 @@ ghost use Rattle.luks_slot.specs.Sealing.{IsReadyToSeal, IsSealed};
 ghost use Rattle.luks_edit.specs.EditFaults.{is_edit_failure};
 ghost use Rattle.luks_edit.specs.declared.edit.Edit.{Edit as TheEdit};
 ghost use Rattle.luks2_edit_laws.specs.Places.{IsOfCopies};
+ghost use Rattle.luks2_judging.specs.Texts.{texts_of};
 ghost use Rattle.luks2_editing.specs.Rewriting.{AreWrittenAnew, IsRewriting};
 ghost use Rattle.luks2_editing.specs.Sealed.{sealing_fault, IsOfStripes, IsPlanFault, IsReadyPlan, MayBeHalfSealed};
 
@@ -20,6 +21,7 @@ use luks_edit::EditFault;
 use luks_slot::{SlotFault, SlotPlan};
 use luks_writing::seal_area_within;
 use luks2_header::Bin2;
+use luks2_judging::TextFields;
 use std::alloc::Global;
 
 /// Seals the key in the area of the plan, which lies behind the copies, and then writes both copies
@@ -56,10 +58,10 @@ pub(crate) fn write_sealed<D: Device>(
         (IsSealed plan.now (area_bytes (D.bytes device.new) plan.now.area)
         secrets.now.passphrase.now secrets.now.key.now (drop 160 secrets.now.random.now)) }
     ensures anew { D.tells → (v : List ℕ) (e : TheEdit) (j : Value)
-        → IsRewriting v e chosen.now chosen.now.label j json.now → OnOk result
+        → IsRewriting v e chosen.now (texts_of chosen.now) j json.now → OnOk result
         (AreWrittenAnew v chosen.now.hdr_offset e secrets.now.random.now j (D.bytes device.new)) }
     ensures torn { D.tells → (v : List ℕ) (e : TheEdit) (j : Value)
-        → IsRewriting v e chosen.now chosen.now.label j json.now
+        → IsRewriting v e chosen.now (texts_of chosen.now) j json.now
         → MayBeHalfSealed v chosen.now.hdr_offset e secrets.now.random.now j plan.now
         secrets.now.passphrase.now secrets.now.key.now (drop 160 secrets.now.random.now)
         (D.bytes device.old) (D.bytes device.new) }
@@ -69,7 +71,8 @@ pub(crate) fn write_sealed<D: Device>(
 {
     let stripes = stripes_in(secrets.random);
     seal(alloc, device, plan, secrets, stripes)?;
-    match write_copies(device, chosen, chosen.label, secrets.random, json) {
+    let texts = TextFields::of(chosen);
+    match write_copies(device, chosen, texts, secrets.random, json) {
         Ok(()) => Ok(()),
         Err(_) => Err(EditFault::Device),
     }

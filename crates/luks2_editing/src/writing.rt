@@ -15,14 +15,15 @@ use crate::random::copy_salt;
 use luks_area::{Device, DeviceFault};
 use luks_writing::{with_checksums, write_summed_copy};
 use luks2_header::Bin2;
+use luks2_judging::TextFields;
 
-/// Writes both copies anew from the chosen one's binary header, each with a flush: the other one
+/// Writes both copies anew from the chosen one's binary header, with these texts, each with a flush: the other one
 /// first, then the chosen one. Both checksums are taken before the first write. Of the random bytes
 /// the first 128 are taken.
 pub(crate) fn write_copies<D: Device>(
     device: &mut D,
     chosen: &Bin2,
-    label: [u8; 48],
+    texts: TextFields,
     random: &[u8],
     json: &[u8],
 ) -> Result<(), DeviceFault>
@@ -38,17 +39,17 @@ pub(crate) fn write_copies<D: Device>(
     ensures settled { D.tells → D.failed device.new ≡ D.failed device.old
         → IsSettled D.unsettled device.new }
     ensures anew { D.tells → (v : List ℕ) (e : TheEdit) (j : Value)
-        → IsRewriting v e chosen.now label j json.now → OnOk result
+        → IsRewriting v e chosen.now texts j json.now → OnOk result
         (AreWrittenAnew v chosen.now.hdr_offset e random.now j (D.bytes device.new)) }
     ensures torn { D.tells → (v : List ℕ) (e : TheEdit) (j : Value)
-        → IsRewriting v e chosen.now label j json.now
+        → IsRewriting v e chosen.now texts j json.now
         → MayBeHalfWritten v chosen.now.hdr_offset e random.now j
         (D.bytes device.old) (D.bytes device.new) }
     ensures rest { D.tells
         → SameBut (IsOfCopies chosen.now.hdr_size) (D.bytes device.old) (D.bytes device.new) }
 {
     let other = other_place(chosen);
-    let headers = new_headers(chosen, other, label, random, json);
+    let headers = new_headers(chosen, other, texts, random, json);
     write_summed_copy(device, &headers.0, json)?;
     write_summed_copy(device, &headers.1, json)?;
     Ok(())
@@ -59,19 +60,19 @@ pub(crate) fn write_copies<D: Device>(
 fn new_headers(
     chosen: &Bin2,
     other: u64,
-    label: [u8; 48],
+    texts: TextFields,
     random: &[u8],
     json: &[u8],
 ) -> (Bin2, Bin2)
     requires number { chosen.now.seqid + 1 < 2 ^ 64 }
     requires random { 128 ≤ length random.now }
-    ensures other { IsNewSummed chosen.now other label (copy_salt random.now other) json.now result.0 }
-    ensures own { IsNewSummed chosen.now chosen.now.hdr_offset label
+    ensures other { IsNewSummed chosen.now other texts (copy_salt random.now other) json.now result.0 }
+    ensures own { IsNewSummed chosen.now chosen.now.hdr_offset texts
         (copy_salt random.now chosen.now.hdr_offset) json.now result.1 }
 {
     let place = chosen.hdr_offset;
-    let first = new_header(chosen, other, label, copy_salt(random, other));
-    let second = new_header(chosen, place, label, copy_salt(random, place));
+    let first = new_header(chosen, other, texts, copy_salt(random, other));
+    let second = new_header(chosen, place, texts, copy_salt(random, place));
     with_checksums(&first, &second, json)
 }
 

@@ -9,7 +9,7 @@ use Rattle.luks_edit.specs.declared.deed.Place.TheVariants.{New, Opened}
 use Rattle.luks_edit.specs.declared.deed.Removed.{Removed}
 use Rattle.luks_edit.specs.declared.deed.Sealed.{Sealed}
 use Rattle.luks_edit.specs.declared.edit.Edit.{Edit}
-use Rattle.luks_edit.specs.declared.edit.Edit.TheVariants.{Add, AddByKey, Change, Remove, Repair, Label}
+use Rattle.luks_edit.specs.declared.edit.Edit.TheVariants.{Add, AddByKey, Change, Remove, Repair, Label, Amend}
 use Rattle.luks_edit.specs.declared.edit.Secret.{Secret}
 use Rattle.luks_edit.specs.Asked.{allowed_by, allowed_for, allowed_in, deed_of, opener_at}
 use Rattle.luks2_judging.specs.Judging.{sealing}
@@ -38,7 +38,7 @@ edit_at (Opened slot old) s = Change slot old s.passphrase s.derivation.iteratio
 abbrev edit_of : Deed → Edit
 edit_of (deed.Seal s) = edit_at s.place s
 edit_of (deed.Remove r) = Remove r.slot r.by_ r.secret
-edit_of (deed.Rewrite label) = Repair
+edit_of (deed.Rewrite r) = Repair
 
 pub removed_is : (e : Edit) (r : Removed) → deed_of e ≡ deed.Remove r → e ≡ Remove r.slot r.by_ r.secret
 removed_is (Add by_ old new to iterations chosen) r is = absurd (cc)
@@ -46,7 +46,8 @@ removed_is (AddByKey key new to iterations chosen) r is = absurd (cc)
 removed_is (Change slot old new iterations chosen) r is = absurd (cc)
 removed_is (Remove slot by_ secret) r is = ap edit_of is
 removed_is Repair r is = absurd (cc)
-removed_is (Label text) r is = absurd (cc)
+removed_is (Label text subsystem) r is = absurd (cc)
+removed_is (Amend c) r is = absurd (cc)
 
 -- a new keyslot isn't the one that was opened
 abbrev is_new_at : Place → Bool
@@ -56,7 +57,7 @@ is_new_at (Opened slot old) = false
 abbrev is_new : Deed → Bool
 is_new (deed.Seal s) = is_new_at s.place
 is_new (deed.Remove r) = false
-is_new (deed.Rewrite label) = false
+is_new (deed.Rewrite r) = false
 
 pub changed_is : (e : Edit) (slot : ℕ) (old : Secret) (new : Bor (List ℕ)) (asked : AskedDerivation) → deed_of e ≡ deed.Seal (sealing (Opened slot old) new asked)
     → e ≡ Change slot old new asked.iterations asked.chosen
@@ -65,4 +66,5 @@ changed_is (AddByKey key passphrase to iterations chosen) slot old new asked is 
 changed_is (Change named own passphrase iterations chosen) slot old new asked is = ap edit_of is
 changed_is (Remove named by_ secret) slot old new asked is = absurd (cc)
 changed_is Repair slot old new asked is = absurd (cc)
-changed_is (Label text) slot old new asked is = absurd (cc)
+changed_is (Label text subsystem) slot old new asked is = absurd (cc)
+changed_is (Amend c) slot old new asked is = absurd (cc)

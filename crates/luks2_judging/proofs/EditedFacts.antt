@@ -16,7 +16,7 @@ use Rattle.luks_making.specs.With.{with_slot}
 use Rattle.luks_reading.specs.declared.report.Data.{Data}
 use Rattle.luks_reading.specs.Layout2.{Luks2Area}
 use Rattle.luks_edit.specs.declared.edit.Edit.{Edit}
-use Rattle.luks_edit.specs.declared.edit.Edit.TheVariants.{Add, AddByKey, Change, Remove, Repair, Label}
+use Rattle.luks_edit.specs.declared.edit.Edit.TheVariants.{Add, AddByKey, Change, Remove, Repair, Label, Amend}
 use Rattle.luks_edit.specs.declared.edit.Opener.{Opener}
 use Rattle.luks_edit.specs.declared.edit.Opener.TheVariants as opener
 use Rattle.luks_edit.specs.Asked.{chosen_or}
@@ -30,6 +30,7 @@ use Rattle.luks2_edit_laws.specs.Places.{key_areas_end, rounded_to_blocks, IsNew
 use Rattle.luks2_judging.specs.Salts.{HasOneDigest}
 use Rattle.luks2_judging.proofs.EncodedFacts.{quoted_length}
 use Rattle.luks2_judging.proofs.SaltFacts.{AsLong, changed_as_long, SaltsAsLong, SameButSalt, with_as_long}
+use Rattle.luks2_edit_laws.proofs.AmendedFacts.{amended_once}
 use Rattle.luks2_edit_laws.proofs.ToldFacts.{same_stripes_like}
 use Rattle.luks2_edit_laws.proofs.LikeFacts.{for_like}
 
@@ -186,7 +187,8 @@ module _ (h total : ℕ) (payload : Data) (j : Value) (a b : List ℕ) (salts : 
   edited_as_long (Change slot old new iterations chosen) x y one two = renewed_as_long slot (record { iterations = iterations; chosen = chosen }) x y one two
   edited_as_long (Remove slot by_ passphrase) x y one two = subst (λ v. AsLong x v) (one ∙ sym two) refl
   edited_as_long Repair x y one two = subst (λ v. AsLong x v) (one ∙ sym two) refl
-  edited_as_long (Label text) x y one two = subst (λ v. AsLong x v) (one ∙ sym two) refl
+  edited_as_long (Label text subsystem) x y one two = subst (λ v. AsLong x v) (one ∙ sym two) refl
+  edited_as_long (Amend c) x y one two = subst (λ v. AsLong x v) (amended_once (Some c) j x y one two) refl
 
 salts_long : (a b : List ℕ) → IsBytes a → IsBytes b → length a ≡ length b → SaltsAsLong a b
 salts_long a b one two same = record { same = quoted_length a b one two same }

@@ -1,5 +1,6 @@
--- An edit judged row by row, up to `BadLabel`: the first fault, and what stands where none does.
-use Rattle.std.proofs.Common.{◌≡◌, ◌↔◌, ℕ, ◌<◌, ◌≤◌, Bor, List, length, true, Option, Some, None, refl, arith}
+-- An edit judged row by row, up to `NoFreeToken`: the first fault, and what stands where none does.
+use Rattle.std.proofs.Common.{◌≡◌, ◌↔◌, ℕ, ◌<◌, ◌≤◌, Bor, List, length, true, Option, Some, None, ap, refl, arith}
+use Rattle.std.specs.Prelude.{IsSomeAnd}
 use Rattle.std.proofs.lemmas.Bool.{both_ways}
 use Rattle.serde_json.specs.Data.{Data as Value}
 use Rattle.luks2_header.specs.Header2.{hdr_size, header_at}
@@ -21,16 +22,16 @@ use Rattle.luks_edit.specs.declared.edit_fault.EditFault.{EditFault}
 use Rattle.luks_edit.specs.declared.edit_fault.EditFault.TheVariants as fault
 use Rattle.luks_making.specs.Derivations.{asked_beyond, asked_few_turns}
 use Rattle.luks_making.specs.declared.derivation.AskedDerivation.{AskedDerivation}
-use Rattle.luks_edit.specs.Asked.{allowed_by, deed_of, HasFewIterations, IsBeyondMemory, allowed_for, NamesItself, opener_at, opener_in}
+use Rattle.luks_edit.specs.Asked.{allowed_by, change_by, change_in, deed_of, HasFewIterations, IsBeyondMemory, allowed_for, NamesItself, opener_at, opener_in}
 use Rattle.luks_edit.specs.EditFaults.{edit_key, edit_row}
 use Rattle.luks_edit.proofs.OpeningFacts.{unopened_first as keyslot_first}
-use Rattle.luks_edit.proofs.RowFacts.{after_check, after_opening, first_of_check, first_of_opening, first_of_row, next, not_before, passed_from, Passed}
+use Rattle.luks_edit.proofs.RowFacts.{after_check, after_opening, first_of_check, first_of_opening, first_of_row, next, not_before, passed_from, past_token_number, Passed}
 use Rattle.luks2_edit_laws.specs.declared.like.Like.{Like}
 use Rattle.luks2_edit_laws.specs.declared.like.Like.TheVariants as made_like
 use Rattle.luks2_edit_laws.specs.Likes.{IsLike}
 use Rattle.luks2_edit_laws.specs.Metadata.{HasMetadata}
 use Rattle.luks2_edit_laws.specs.Places.{HasNoNewArea}
-use Rattle.luks2_edit_laws.specs.Refused.{HasNoFree, HasNoRoom, HasSaid, IsAbsent, IsBadLabel, IsEditFault2, IsLast, IsOnlyOne, IsTaken, IsUnkeyed2, IsUnopened2, Refusal2}
+use Rattle.luks2_edit_laws.specs.Refused.{HasNoFree, HasNoFreeToken, HasNoRoom, HasSaid, IsAbsent, IsBadLabel, IsEditFault2, IsLast, IsOnlyOne, IsTaken, IsTokenTaken, IsUnkeyed2, IsUnopened2, IsUnreadableToken, LacksToken, Refusal2}
 use Rattle.luks2_edit_laws.proofs.LikeFacts.{for_like}
 use Rattle.luks2_judging.specs.Accepted.{IsUnaccepted}
 use Rattle.luks2_judging.specs.Judged.{IsNewNumber, IsNumberFault}
@@ -187,11 +188,16 @@ module _ (v : List ℕ) (payload : Data) (e : Edit) (random : List ℕ) where
   pub past_label : IsPast 14 v payload e random → (IsBadLabel e → ⊥) → IsPast 15 v payload e random
   past_label passed not = next (IsEditFault2 v payload e random) fault.BadLabel refl passed not
 
+  -- NoSuchToken, TokenTaken, NoFreeToken, UnreadableToken: of an edit that changes nothing of the metadata none stands
+  pub past_unamended : change_by e ≡ None → IsPast 15 v payload e random → IsPast 19 v payload e random
+  past_unamended none passed =
+      past_token_number (IsEditFault2 v payload e random) passed (λ bad. rw none at bad.is) (λ bad. rw none at bad.is) (λ bad. rw none at bad.is) (λ bad. rw none at bad)
+
 -- a keyslot is sealed that is made like this one, and derives as is asked: the rows `NoRoom` to `BadLabel`
 module _ (v : List ℕ) (payload : Data) (o : ℕ) (j : Value) (m : HasMetadata v o j) (e : Edit) (like : Like) (memory : ℕ) (asked : AskedDerivation)
     (rooms : HasNoRoom (hdr_size (header_at v o)) (length v) payload j e ↔ HasNoNewArea (hdr_size (header_at v o)) (length v) payload j like)
     (few : HasFewIterations e ↔ (asked_few_turns asked ≡ true)) (large : IsBeyondMemory e ↔ (asked_beyond memory asked ≡ true)) (kept : IsLast j e → ⊥) (good : IsBadLabel e → ⊥)
-    (ten : (random : List ℕ) → IsPast 10 v payload e random) where
+    (unamended : change_by e ≡ None) (ten : (random : List ℕ) → IsPast 10 v payload e random) where
   past_area : (HasNoNewArea (hdr_size (header_at v o)) (length v) payload j like → ⊥) → (random : List ℕ) → IsPast 12 v payload e random
   past_area room random = past_last v payload o j m e random (past_room v payload o j m e random (ten random) (λ bad. room (rooms.0 bad))) kept
 
@@ -203,10 +209,11 @@ module _ (v : List ℕ) (payload : Data) (o : ℕ) (j : Value) (m : HasMetadata 
   unsealed_first f bad = absurd bad
 
   pub sealed_past : (HasNoNewArea (hdr_size (header_at v o)) (length v) payload j like → ⊥) → IsAllowed memory asked → (random : List ℕ)
-      → HasNoFaultBefore 15 v payload e random
-  sealed_past room enough random = before_of 15 v payload e random
+      → HasNoFaultBefore 19 v payload e random
+  sealed_past room enough random = before_of 19 v payload e random
+      (past_unamended v payload e random unamended
       (past_label v payload e random
-      (past_large v payload e random (past_few v payload e random (past_area room random) (λ bad. both_ways _ enough.turns (few.0 bad))) (λ bad. both_ways _ enough.within (large.0 bad))) good)
+      (past_large v payload e random (past_few v payload e random (past_area room random) (λ bad. both_ways _ enough.turns (few.0 bad))) (λ bad. both_ways _ enough.within (large.0 bad))) good))
 
 -- ---- an edit that seals a key
 
@@ -239,13 +246,13 @@ module _ (v : List ℕ) (payload : Data) (o : ℕ) (j : Value) (m : HasMetadata 
     pub unadded_first : (f : EditFault) → IsUnsealable (hdr_size (header_at v o)) (length v) payload j like (allowed_for opener_ new.now).memory asked f → IsRefusedEarly v payload e f
     unadded_first f bad =
         unsealed_first v payload o j m e like (allowed_for opener_ new.now).memory asked (sealed_rooms (hdr_size (header_at v o)) (length v) payload j e _ is like is_like)
-        (sealed_few e _ is) (sealed_large e _ is) (λ x. rw is at x) (λ x. rw is at x) ten f bad
+        (sealed_few e _ is) (sealed_large e _ is) (λ x. rw is at x) (λ x. rw is at x) (ap change_in is) ten f bad
 
     pub added_past : (HasNoNewArea (hdr_size (header_at v o)) (length v) payload j like → ⊥) → IsAllowed (allowed_for opener_ new.now).memory asked → (random : List ℕ)
-        → HasNoFaultBefore 15 v payload e random
+        → HasNoFaultBefore 19 v payload e random
     added_past =
         sealed_past v payload o j m e like (allowed_for opener_ new.now).memory asked (sealed_rooms (hdr_size (header_at v o)) (length v) payload j e _ is like is_like)
-        (sealed_few e _ is) (sealed_large e _ is) (λ x. rw is at x) (λ x. rw is at x) ten
+        (sealed_few e _ is) (sealed_large e _ is) (λ x. rw is at x) (λ x. rw is at x) (ap change_in is) ten
 
 -- in the keyslot that was opened
 module _ (v : List ℕ) (payload : Data) (o : ℕ) (j : Value) (m : HasMetadata v o j) (e : Edit) (slot : ℕ) (old : Secret) (new : Bor (List ℕ)) (asked : AskedDerivation)
@@ -257,13 +264,13 @@ module _ (v : List ℕ) (payload : Data) (o : ℕ) (j : Value) (m : HasMetadata 
       → IsRefusedEarly v payload e f
   unchanged_first f bad =
       unsealed_first v payload o j m e (made_like.Keyslot slot) (allowed_for (opener.Keyslot slot old) new.now).memory asked
-      (sealed_rooms (hdr_size (header_at v o)) (length v) payload j e _ is (made_like.Keyslot slot) refl) (sealed_few e _ is) (sealed_large e _ is) (λ x. rw is at x) (λ x. rw is at x) change_ten f bad
+      (sealed_rooms (hdr_size (header_at v o)) (length v) payload j e _ is (made_like.Keyslot slot) refl) (sealed_few e _ is) (sealed_large e _ is) (λ x. rw is at x) (λ x. rw is at x) (ap change_in is) change_ten f bad
 
   pub changed_past : (HasNoNewArea (hdr_size (header_at v o)) (length v) payload j (made_like.Keyslot slot) → ⊥) → IsAllowed (allowed_for (opener.Keyslot slot old) new.now).memory asked
-      → (random : List ℕ) → HasNoFaultBefore 15 v payload e random
+      → (random : List ℕ) → HasNoFaultBefore 19 v payload e random
   changed_past =
       sealed_past v payload o j m e (made_like.Keyslot slot) (allowed_for (opener.Keyslot slot old) new.now).memory asked
-      (sealed_rooms (hdr_size (header_at v o)) (length v) payload j e _ is (made_like.Keyslot slot) refl) (sealed_few e _ is) (sealed_large e _ is) (λ x. rw is at x) (λ x. rw is at x) change_ten
+      (sealed_rooms (hdr_size (header_at v o)) (length v) payload j e _ is (made_like.Keyslot slot) refl) (sealed_few e _ is) (sealed_large e _ is) (λ x. rw is at x) (λ x. rw is at x) (ap change_in is) change_ten
 
 -- ---- an edit that removes a keyslot
 
@@ -275,11 +282,12 @@ module _ (v : List ℕ) (payload : Data) (o : ℕ) (j : Value) (m : HasMetadata 
   pub only_first : IsOnlyOne j r.slot → IsRefusedEarly v payload e fault.LastSlot
   only_first bad = λ random. last_first v payload o j m e random (eleven random) (rw is bad)
 
-  pub removed_past : (IsOnlyOne j r.slot → ⊥) → (random : List ℕ) → HasNoFaultBefore 15 v payload e random
-  removed_past other random = before_of 15 v payload e random
+  pub removed_past : (IsOnlyOne j r.slot → ⊥) → (random : List ℕ) → HasNoFaultBefore 19 v payload e random
+  removed_past other random = before_of 19 v payload e random
+      (past_unamended v payload e random (ap change_in is)
       (past_label v payload e random
       (past_large v payload e random
-      (past_few v payload e random (past_last v payload o j m e random (eleven random) (λ x. other (rw is at x))) (λ x. rw is at x)) (λ x. rw is at x)) (λ x. rw is at x))
+      (past_few v payload e random (past_last v payload o j m e random (eleven random) (λ x. other (rw is at x))) (λ x. rw is at x)) (λ x. rw is at x)) (λ x. rw is at x)))
 
 -- an edit that names no keyslot
 module _ (v : List ℕ) (payload : Data) (o : ℕ) (j : Value) (m : HasMetadata v o j) (e : Edit) (untaken : IsTaken j e → ⊥) (free : HasNoFree j e → ⊥)
@@ -292,5 +300,40 @@ module _ (v : List ℕ) (payload : Data) (o : ℕ) (j : Value) (m : HasMetadata 
   pub label_first : IsBadLabel e → IsRefusedEarly v payload e fault.BadLabel
   label_first bad = λ random. unlabelled_first v payload e random (fourteen random) bad
 
-  pub label_past : (IsBadLabel e → ⊥) → (random : List ℕ) → HasNoFaultBefore 15 v payload e random
-  label_past good random = before_of 15 v payload e random (past_label v payload e random (fourteen random) good)
+  module _ (good : IsBadLabel e → ⊥) where
+    fifteen : (random : List ℕ) → IsPast 15 v payload e random
+    fifteen random = past_label v payload e random (fourteen random) good
+
+    pub lacking_first : IsSomeAnd (change_by e) (LacksToken j) → IsRefusedEarly v payload e fault.NoSuchToken
+    lacking_first bad = λ random. first_of_row (IsEditFault2 v payload e random) fault.NoSuchToken refl (fifteen random) (say v o j m (λ p i. IsSomeAnd (change_by e) (LacksToken i)) bad)
+
+    module _ (there : IsSomeAnd (change_by e) (LacksToken j) → ⊥) where
+      past_lacking : (random : List ℕ) → IsPast 16 v payload e random
+      past_lacking random =
+          next (IsEditFault2 v payload e random) fault.NoSuchToken refl (fifteen random) (λ bad. there (said v o j m (λ p i. IsSomeAnd (change_by e) (LacksToken i)) bad))
+
+      pub token_taken_first : IsSomeAnd (change_by e) (IsTokenTaken j) → IsRefusedEarly v payload e fault.TokenTaken
+      token_taken_first bad = λ random.
+          first_of_row (IsEditFault2 v payload e random) fault.TokenTaken refl (past_lacking random) (say v o j m (λ p i. IsSomeAnd (change_by e) (IsTokenTaken i)) bad)
+
+      module _ (fresh : IsSomeAnd (change_by e) (IsTokenTaken j) → ⊥) where
+        past_taken_token : (random : List ℕ) → IsPast 17 v payload e random
+        past_taken_token random =
+            next (IsEditFault2 v payload e random) fault.TokenTaken refl (past_lacking random) (λ bad. fresh (said v o j m (λ p i. IsSomeAnd (change_by e) (IsTokenTaken i)) bad))
+
+        pub unfree_token_first : IsSomeAnd (change_by e) (HasNoFreeToken j) → IsRefusedEarly v payload e fault.NoFreeToken
+        unfree_token_first bad = λ random.
+            first_of_row (IsEditFault2 v payload e random) fault.NoFreeToken refl (past_taken_token random) (say v o j m (λ p i. IsSomeAnd (change_by e) (HasNoFreeToken i)) bad)
+
+        module _ (numbered : IsSomeAnd (change_by e) (HasNoFreeToken j) → ⊥) where
+          past_token : (random : List ℕ) → IsPast 18 v payload e random
+          past_token random =
+              next (IsEditFault2 v payload e random) fault.NoFreeToken refl (past_taken_token random)
+              (λ bad. numbered (said v o j m (λ p i. IsSomeAnd (change_by e) (HasNoFreeToken i)) bad))
+
+          pub unread_token_first : IsSomeAnd (change_by e) IsUnreadableToken → IsRefusedEarly v payload e fault.UnreadableToken
+          unread_token_first bad = λ random. first_of_row (IsEditFault2 v payload e random) fault.UnreadableToken refl (past_token random) bad
+
+          pub amended_past : (IsSomeAnd (change_by e) IsUnreadableToken → ⊥) → (random : List ℕ) → HasNoFaultBefore 19 v payload e random
+          amended_past readable random = before_of 19 v payload e random
+              (next (IsEditFault2 v payload e random) fault.UnreadableToken refl (past_token random) readable)

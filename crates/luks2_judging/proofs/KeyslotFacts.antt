@@ -1,5 +1,5 @@
 -- Which keyslots the metadata has, number by number.
-use Rattle.std.proofs.Common.{◌≡◌, ◌⊎◌, ℕ, ◌+◌, ◌^◌, ◌<◌, ◌≤◌, List, length, Option, Some, None, below_more, refl, sym, subst, ap, ◌∙◌, arith, inl, inr, is_some, Result, Ok, Err}
+use Rattle.std.proofs.Common.{◌≡◌, ◌⊎◌, ℕ, ◌+◌, ◌^◌, ◌<◌, ◌≤◌, List, length, Option, Some, None, below_more, refl, sym, subst, ap, ◌∙◌, arith, inl, inr, is_some, IfSome, Result, Ok, Err}
 use Rattle.std.specs.Borrow.{Bor}
 use Rattle.std.proofs.lemmas.Bool.{cases_Bool, cases_lt, false≢true}
 use Rattle.std.proofs.lemmas.Option.{same_Some}
@@ -7,8 +7,11 @@ use Rattle.serde_json.specs.Data.{Data as Value}
 use Rattle.luks_rules.specs.declared.table.Section.TheVariants.{Keyslots}
 use Rattle.luks_rules.specs.Faults.{object_at}
 use Rattle.luks_making.specs.Conditions.{IsFree}
+use Rattle.luks_making.specs.declared.amended.Change.{Change}
+use Rattle.luks_making.specs.declared.amended.Change.TheVariants as changes
+use Rattle.luks_making.specs.declared.amended.Priority.{Priority}
 use Rattle.luks_edit.specs.declared.edit.Edit.{Edit}
-use Rattle.luks_edit.specs.declared.edit.Edit.TheVariants.{Add, AddByKey, Change, Remove, Repair, Label}
+use Rattle.luks_edit.specs.declared.edit.Edit.TheVariants.{Add, AddByKey, Change as ChangeKey, Remove, Repair, Label, Amend}
 use Rattle.luks_edit.specs.declared.edit.Opener.{Opener}
 use Rattle.luks_edit.specs.declared.edit.Opener.TheVariants as opener
 use Rattle.luks_edit.specs.declared.edit.Secret.{Secret}
@@ -17,6 +20,7 @@ use Rattle.luks_edit.specs.declared.edit.SecretKind.TheVariants.{Passphrase, Key
 use Rattle.luks_edit.specs.declared.edit_fault.EditFault.{EditFault}
 use Rattle.luks_edit.specs.declared.deed.Deed.TheVariants as deed
 use Rattle.luks_edit.specs.declared.deed.Removed.{Removed}
+use Rattle.luks_edit.specs.declared.deed.Rewritten.{Rewritten}
 use Rattle.luks_edit.specs.declared.deed.Sealed.{Sealed}
 use Rattle.luks_edit.specs.Asked.{AreShortIn, bytes_of, deed_of, HasShortPassphrases, MatchOpener, NamesItself, opener_at, opener_in, opener_of, remover_by, remover_of, Wants}
 use Rattle.luks2_edit_laws.specs.declared.like.Like.{Like}
@@ -25,7 +29,8 @@ use Rattle.luks2_edit_laws.specs.Likes.{IsLike}
 use Rattle.luks2_edit_laws.specs.Metadata.{IsInUse, IsLeastFree}
 use Rattle.luks2_edit_laws.specs.Refused.{IsAbsent}
 use Rattle.luks2_edit_laws.proofs.LikeFacts.{model_by_key, IsModel}
-use Rattle.luks2_judging.specs.Judged.{IsUnusable, IsUsable, Judges}
+use Rattle.luks2_judging.specs.Changes.{HasPriorityThere}
+use Rattle.luks2_judging.specs.Judged.{IsAbsentAmended, IsUnusable, IsUsable, Judges}
 use Rattle.luks2_judging.specs.Keys.{IsThereLike}
 use Rattle.luks2_judging.specs.Room.{IsSealableLike}
 
@@ -76,25 +81,27 @@ remover_other slot n (Some other) secret it same = sym (ap slot_in (same_Some (o
 pub opener_wanted : (e : Edit) (n : ℕ) (secret : Secret) → opener_in (deed_of e) ≡ Some (opener.Keyslot n secret) → Wants e n
 opener_wanted (Add by_ old new to iterations chosen) n secret asked = sym (ap slot_in (same_Some (opener.Keyslot by_ old) (opener.Keyslot n secret) asked))
 opener_wanted (AddByKey key new to iterations chosen) n secret asked = absurd (cc)
-opener_wanted (Change slot old new iterations chosen) n secret asked = sym (ap slot_in (same_Some (opener.Keyslot slot old) (opener.Keyslot n secret) asked))
+opener_wanted (ChangeKey slot old new iterations chosen) n secret asked = sym (ap slot_in (same_Some (opener.Keyslot slot old) (opener.Keyslot n secret) asked))
 opener_wanted (Remove slot by_ own) n secret asked = inl (remover_other slot n by_ own secret asked)
 opener_wanted Repair n secret asked = absurd (cc)
-opener_wanted (Label text) n secret asked = absurd (cc)
+opener_wanted (Label text subsystem) n secret asked = absurd (cc)
+opener_wanted (Amend c) n secret asked = absurd (cc)
 
 -- one that needs no key wants none
 pub none_wanted : (e : Edit) → opener_in (deed_of e) ≡ None → (n : ℕ) → Wants e n → ⊥
 none_wanted (Add by_ old new to iterations chosen) none n wanted = absurd (cc)
 none_wanted (AddByKey key new to iterations chosen) none n wanted = wanted
-none_wanted (Change slot old new iterations chosen) none n wanted = absurd (cc)
+none_wanted (ChangeKey slot old new iterations chosen) none n wanted = absurd (cc)
 none_wanted (Remove slot by_ own) none n wanted = absurd (cc)
 none_wanted Repair none n wanted = wanted
-none_wanted (Label text) none n wanted = wanted
+none_wanted (Label text subsystem) none n wanted = wanted
+none_wanted (Amend c) none n wanted = wanted
 
 -- a keyslot that isn't missed is there
 wanted_used : (j : Value) (e : Edit) (n : ℕ) → Wants e n → (IsAbsent j e → ⊥) → IsInUse j n
 wanted_used j e n wanted there = elim (in_use_or_not j n) [
   | inl used ↦ used
-  | inr unused ↦ absurd (there (record { slot = n; wanted = wanted; unused = unused }))
+  | inr unused ↦ absurd (there (record { slot = n; wanted = inl wanted; unused = unused }))
 ]
 
 pub used_of : (j : Value) (e : Edit) (n : ℕ) (secret : Secret) → opener_in (deed_of e) ≡ Some (opener.Keyslot n secret) → (IsAbsent j e → ⊥) → IsInUse j n
@@ -107,7 +114,7 @@ usable_of j e (opener.Key key) asked there = tt
 
 -- where it can't its keyslot is missed
 pub absent_of : (j : Value) (e : Edit) (o : Opener) → opener_in (deed_of e) ≡ Some o → IsUnusable j o → IsAbsent j e
-absent_of j e (opener.Keyslot slot secret) asked unused = record { slot = slot; wanted = opener_wanted e slot secret asked; unused = unused }
+absent_of j e (opener.Keyslot slot secret) asked unused = record { slot = slot; wanted = inl (opener_wanted e slot secret asked); unused = unused }
 absent_of j e (opener.Key key) asked unused = absurd unused
 
 -- what gives the key that an edit seals, and what does for one that removes a keyslot
@@ -142,8 +149,8 @@ itself_only e d is same = rw is at same
 pub sealing_apart : (e : Edit) (s : Sealed) → deed_of e ≡ deed.Seal s → NamesItself e → ⊥
 sealing_apart e s is same = rw is at same
 
-pub rewriting_apart : (e : Edit) (label : Option (Bor (List ℕ))) → deed_of e ≡ deed.Rewrite label → NamesItself e → ⊥
-rewriting_apart e label is same = rw is at same
+pub rewriting_apart : (e : Edit) (r : Rewritten) → deed_of e ≡ deed.Rewrite r → NamesItself e → ⊥
+rewriting_apart e r is same = rw is at same
 
 -- no keyslot is missed by an edit where that of its opener is there, and the one that it removes
 opener_used : (j : Value) (o : Opener) (n : ℕ) → IsUsable j o → MatchOpener o (λ slot secret. n ≡ slot) (λ key. ⊥) → IsInUse j n
@@ -158,15 +165,45 @@ remover_used j slot (Some other) secret here used = used
 module _ (j : Value) (e : Edit) where
   pub removal_there : (d : Removed) → deed_of e ≡ deed.Remove d → IsUsable j (remover_of d.slot d.by_ d.secret) → IsInUse j d.slot → IsAbsent j e → ⊥
   removal_there d is usable here absent = elim (rw is at absent.wanted) [
-    | inl opener_ ↦ absent.unused (subst (λ n. IsInUse j n) (sym opener_) (remover_used j d.slot d.by_ d.secret here usable))
-    | inr removed ↦ absent.unused (subst (λ n. IsInUse j n) (sym removed) here)
+    | inl wanted ↦ elim wanted [
+      | inl opener_ ↦ absent.unused (subst (λ n. IsInUse j n) (sym opener_) (remover_used j d.slot d.by_ d.secret here usable))
+      | inr removed ↦ absent.unused (subst (λ n. IsInUse j n) (sym removed) here)
+    ]
+    | inr amended ↦ absurd amended
   ]
 
   pub sealing_there : (s : Sealed) → deed_of e ≡ deed.Seal s → IsUsable j (opener_at s.place) → IsAbsent j e → ⊥
-  sealing_there s is usable absent = absent.unused (opener_used j (opener_at s.place) absent.slot usable (rw is at absent.wanted))
+  sealing_there s is usable absent = elim (rw is at absent.wanted) [
+    | inl wanted ↦ absent.unused (opener_used j (opener_at s.place) absent.slot usable wanted)
+    | inr amended ↦ absurd amended
+  ]
 
-pub rewriting_there : (j : Value) (e : Edit) (label : Option (Bor (List ℕ))) → deed_of e ≡ deed.Rewrite label → IsAbsent j e → ⊥
-rewriting_there j e label is absent = rw is at absent.wanted
+-- one that writes the header anew misses the keyslot whose priority it sets, or none
+pub rewriting_there : (j : Value) (e : Edit) (r : Rewritten) → deed_of e ≡ deed.Rewrite r → IsAbsent j e → IsAbsentAmended j r.change
+rewriting_there j e r is absent = elim (rw is at absent.wanted) [
+  | inl wanted ↦ absurd wanted
+  | inr amended ↦ record { slot = absent.slot; amends = amended; unused = absent.unused }
+]
+
+pub rewriting_absent : (j : Value) (e : Edit) (r : Rewritten) → deed_of e ≡ deed.Rewrite r → IsAbsentAmended j r.change → IsAbsent j e
+rewriting_absent j e r is absent = record { slot = absent.slot; wanted = inr (rw is absent.amends); unused = absent.unused }
+
+-- a keyslot that isn't missed is there
+amends_there : (j : Value) (o : Option Change) → (IsAbsentAmended j o → ⊥) → IfSome o (HasPriorityThere j)
+amends_there j None there = tt
+amends_there j (Some (changes.Priority slot priority)) there = elim (in_use_or_not j slot) [
+  | inl used ↦ used
+  | inr unused ↦ absurd (there (record { slot = slot; amends = refl; unused = unused }))
+]
+amends_there j (Some (changes.AddToken to token)) there = tt
+amends_there j (Some (changes.RemoveToken number)) there = tt
+
+pub amended_there : (j : Value) (e : Edit) (r : Rewritten) → deed_of e ≡ deed.Rewrite r → (IsAbsent j e → ⊥) → IfSome r.change (HasPriorityThere j)
+amended_there j e r is there = amends_there j r.change (λ absent. there (rewriting_absent j e r is absent))
+
+-- and one that is there isn't missed
+pub priority_there : (j : Value) (slot : ℕ) (priority : Priority) → IsInUse j slot → IsAbsentAmended j (Some (changes.Priority slot priority)) → ⊥
+priority_there j slot priority used absent = absent.unused (subst (λ n. IsInUse j n) (sym absent.amends) used)
 
 -- a row is judged alike by an equivalent fact
 pub judged_as : (A P Q : Type 0) (row : EditFault) → (P → Q) → (Q → P) → (r : Result A EditFault) → Judges P row r → Judges Q row r

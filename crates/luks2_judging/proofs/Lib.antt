@@ -18,4 +18,5 @@ mod RoomFacts
 mod SaltFacts
 mod StripeFacts
 mod TakenFacts
+mod TokenFacts
 pub mod UnkeyedFacts

@@ -19,7 +19,7 @@ use Rattle.luks_edit.specs.declared.edit_fault.EditFault.{EditFault}
 use Rattle.luks_edit.specs.declared.edit_fault.EditFault.TheVariants as fault
 use Rattle.luks_edit.specs.Asked.{allowed_by, deed_of, MatchOpener, opener_at, opener_in, sealed_in}
 use Rattle.luks_edit.specs.EditFaults.{edit_key, edit_row}
-use Rattle.luks_edit.proofs.RowFacts.{after_opening, first_of_opening, first_of_row, next, none_at_all, passed_from, Passed}
+use Rattle.luks_edit.proofs.RowFacts.{after_opening, first_of_opening, first_of_row, next, none_at_all, passed_from, past_tokens, Passed}
 use Rattle.luks_slot.specs.declared.allowed.Allowed.{Allowed}
 use Rattle.luks_reading.specs.Checked.{WellFormed}
 use Rattle.luks_reading.specs.Header.{json_at}
@@ -51,7 +51,7 @@ unkeyed_by : (v : List ℕ) (e : Edit) (d : Deed) → deed_of e ≡ d → (f : E
 unkeyed_by v e (deed.Seal s) is f bad =
     subst (λ x. IsSomeAnd x (λ o. IsUnopenedBy2 (allowed_by e) v o f)) (sym (ap opener_in is)) (unkeyed_opener (allowed_by e) v (opener_at s.place) f (rw is at bad))
 unkeyed_by v e (deed.Remove r) is f bad = absurd (rw is at bad)
-unkeyed_by v e (deed.Rewrite label) is f bad = absurd (rw is at bad)
+unkeyed_by v e (deed.Rewrite r) is f bad = absurd (rw is at bad)
 
 unkeyed_unopened : (v : List ℕ) (e : Edit) (f : EditFault) → IsUnkeyedNew v e f → IsUnopened2 v e f
 unkeyed_unopened v e f bad = unkeyed_by v e (deed_of e) refl f bad
@@ -64,7 +64,7 @@ locked_opener v (opener.Key key) bad = bad.is
 unkeyed_locked : (v : List ℕ) (e : Edit) (d : Deed) → deed_of e ≡ d → IsUnkeyedNew v e fault.Locked → ⊥
 unkeyed_locked v e (deed.Seal s) is bad = locked_opener v (opener_at s.place) (rw is at bad)
 unkeyed_locked v e (deed.Remove r) is bad = rw is at bad
-unkeyed_locked v e (deed.Rewrite label) is bad = rw is at bad
+unkeyed_locked v e (deed.Rewrite r) is bad = rw is at bad
 
 -- ---- the rows that are judged without opening a keyslot are those of the edit
 
@@ -135,7 +135,7 @@ module _ (v : List ℕ) (payload : Data) (o : ℕ) (j : Value) (m : HasMetadata 
   need_unfree untaken bad = first_of_row (IsNeedFault2 v payload e) fault.NoFreeSlot refl (past_taken untaken) (say v o j m (λ p i. HasNoFree i e) bad)
 
   -- none of the faults stands
-  past_all : (untaken : IsTaken j e → ⊥) → (HasNoFree j e → ⊥) → Passed (IsNeedFault2 v payload e) 20
+  past_all : (untaken : IsTaken j e → ⊥) → (HasNoFree j e → ⊥) → Passed (IsNeedFault2 v payload e) 25
   past_all untaken free =
       let s = IsNeedFault2 v payload e in
       let p10 : Passed s 10 = next s fault.NoFreeSlot refl (past_taken untaken) (λ bad. free (said v o j m (λ p i. HasNoFree i e) bad)) in
@@ -144,11 +144,12 @@ module _ (v : List ℕ) (payload : Data) (o : ℕ) (j : Value) (m : HasMetadata 
       let p13 : Passed s 13 = next s fault.Iterations refl p12 (λ bad. bad) in
       let p14 : Passed s 14 = next s fault.Argon2 refl p13 (λ bad. bad) in
       let p15 : Passed s 15 = next s fault.BadLabel refl p14 (λ bad. bad) in
-      let p16 : Passed s 16 = next s fault.SeqExhausted refl p15 (λ bad. bad) in
-      let p17 : Passed s 17 = next s fault.MetadataFull refl p16 (λ bad. bad) in
-      let p18 : Passed s 18 = next s fault.RandomLength refl p17 (λ bad. bad) in
-      let p19 : Passed s 19 = next s fault.Memory refl p18 (λ bad. bad) in
-      next s fault.Device refl p19 (λ bad. bad)
+      let p20 : Passed s 20 = past_tokens s p15 (λ bad. bad) (λ bad. bad) (λ bad. bad) (λ bad. bad) (λ m bad. bad) in
+      let p21 : Passed s 21 = next s fault.SeqExhausted refl p20 (λ bad. bad) in
+      let p22 : Passed s 22 = next s fault.MetadataFull refl p21 (λ bad. bad) in
+      let p23 : Passed s 23 = next s fault.RandomLength refl p22 (λ bad. bad) in
+      let p24 : Passed s 24 = next s fault.Memory refl p23 (λ bad. bad) in
+      next s fault.Device refl p24 (λ bad. bad)
 
   pub need_told : (k : ℕ) → (IsTaken j e → ⊥) → (HasNoFree j e → ⊥) → Need2 j e k → NeedsRandom v payload e k
   need_told k untaken free need = record {

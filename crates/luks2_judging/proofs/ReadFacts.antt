@@ -1,8 +1,7 @@
 -- An edit judged by the header that was read: a fault of it is the volume's first, and where none was
 -- found none stands.
 use Rattle.std.proofs.Common.{◌≡◌, ℕ, ◌+◌, ◌<◌, ◌⊎◌, Bor, List, [], length, true, Option, Result, Ok, Err, OnOk, IfErr, arith, inl, inr, refl, subst, sym}
-use Rattle.std.specs.Prelude.{IsSomeAnd}
-use Rattle.luks_area.specs.Text.{is_plain}
+use Rattle.std.specs.Prelude.{IfOk, IsSomeAnd}
 use Rattle.luks_area.specs.declared.area.Area.{Area}
 use Rattle.luks_area.specs.declared.areas.Entry.{Entry}
 use Rattle.luks2_header.specs.Header2.{hdr_size, header_at}
@@ -16,6 +15,7 @@ use Rattle.luks_edit.specs.declared.edit.Edit.{Edit}
 use Rattle.luks_edit.specs.declared.deed.Deed.TheVariants as deed
 use Rattle.luks_edit.specs.declared.deed.Place.TheVariants.{New, Opened}
 use Rattle.luks_edit.specs.declared.deed.Removed.{Removed}
+use Rattle.luks_edit.specs.declared.deed.Rewritten.{Rewritten}
 use Rattle.luks_edit.specs.declared.edit.Opener.{Opener}
 use Rattle.luks_edit.specs.declared.edit.Opener.TheVariants as opener
 use Rattle.luks_making.specs.declared.derivation.AskedDerivation.{AskedDerivation}
@@ -29,9 +29,14 @@ use Rattle.luks2_edit_laws.specs.declared.like.Like.TheVariants.{Keyslot}
 use Rattle.luks2_edit_laws.specs.Likes.{IsLike}
 use Rattle.luks2_edit_laws.specs.Metadata.{HasMetadata}
 use Rattle.luks2_edit_laws.specs.Places.{IsNewArea}
-use Rattle.luks2_edit_laws.specs.Refused.{HasSaid, IsAbsent, IsBadLabel, IsOnlyOne}
+use Rattle.luks2_edit_laws.specs.Refused.{HasBadText, HasNoFreeToken, HasSaid, IsAbsent, IsBadLabel, IsOnlyOne, IsTokenTaken, LacksToken}
+use Rattle.luks2_judging.specs.declared.judged.JudgedChange.{JudgedChange}
 use Rattle.luks2_judging.specs.declared.judged.JudgedEdit.{JudgedEdit}
-use Rattle.luks2_judging.specs.Judged.{IsNewNumber, Judges}
+use Rattle.luks2_judging.specs.declared.judged.JudgedEdit.TheVariants as judged
+use Rattle.luks2_judging.specs.declared.judged.TextFields.{TextFields}
+use Rattle.luks2_judging.specs.Changes.{IsChangeFault, IsTakenChange}
+use Rattle.luks2_judging.specs.Rewriting.{IsRewrittenAs, IsUnrewritten}
+use Rattle.luks2_judging.specs.Judged.{IsNewNumber}
 use Rattle.luks2_judging.specs.Judging.{IsJudgedTo, IsRefusedEarly, sealing}
 use Rattle.luks2_judging.specs.Opened.{IsUnlocked, IsUnopened}
 use Rattle.luks2_judging.specs.Room.{IsAllowed, IsUnsealable}
@@ -39,13 +44,10 @@ use Rattle.luks2_judging.specs.Rows.{HasNoFaultBefore}
 use Rattle.luks2_judging.specs.Sealing.{IsUnadded}
 use Rattle.luks2_judging.proofs.AreaFacts.{header_long, listed_here}
 use Rattle.luks2_judging.proofs.ChosenFacts.{metadata_of}
-use Rattle.luks2_judging.proofs.JudgedFacts.{added_past, changed_past, label_first, label_past, none_opened, number_first, only_first, passed_of, past_opened}
-use Rattle.luks2_judging.proofs.JudgedFacts.{removed_past, unadded_first, unchanged_first, unopened_first, IsPast}
+use Rattle.luks2_judging.proofs.JudgedFacts.{added_past, amended_past, changed_past, label_first, lacking_first, none_opened, number_first, only_first, passed_of, past_opened}
+use Rattle.luks2_judging.proofs.JudgedFacts.{removed_past, token_taken_first, unfree_token_first, unread_token_first, unadded_first, unchanged_first, unopened_first, IsPast}
 use Rattle.luks2_judging.proofs.RoomFacts.{area_excludes}
-
--- the label is one that can't be set
-abbrev pub IsBadIn : Option (Bor (List ℕ)) → Type 0
-IsBadIn label = IsSomeAnd label (λ text. (47 < length text.now) ⊎ (is_plain text.now ≡ true → ⊥))
+use Rattle.luks2_judging.proofs.TokenFacts.{lacks_apart, lacks_unfree, lacks_unread, no_change_fault, taken_numbered, taken_readable, taken_there, taken_unfree, taken_untaken, unread_is, unread_numbered, unread_untaken}
 
 -- a volume of `total` bytes with the areas `entries`, whose metadata `meta` is that of the copy at the
 -- place `o`; no row up to `SameSlot` refuses the edit
@@ -100,7 +102,7 @@ module _ {v : List ℕ} {payload : Data} {e : Edit} {o : ℕ} {meta : Meta} {ent
           bad.0.number bad.0.is like is_like f (said_of (λ h t. IsUnsealable h t payload (content meta) like (allowed_for opener_ new.now).memory asked f) bad.1)
 
       pub added_passed : {made : ℕ} {a : Area} → IsNewNumber (content meta) to made → IsAllowed (allowed_for opener_ new.now).memory asked
-          → IsNewArea (area_len meta + 4096) total payload (content meta) like a → (random : List ℕ) → HasNoFaultBefore 15 v payload e random
+          → IsNewArea (area_len meta + 4096) total payload (content meta) like a → (random : List ℕ) → HasNoFaultBefore 19 v payload e random
       added_passed {made} {a} number enough place random =
           added_past v payload o (content meta) r.metadata e opener_ to new asked is eight_of made number like is_like
           (λ none. area_excludes (hdr_size (header_at v o)) (length v) payload (content meta) like a (free_of place) none) enough random
@@ -114,7 +116,7 @@ module _ {v : List ℕ} {payload : Data} {e : Edit} {o : ℕ} {meta : Meta} {ent
           f (said_of (λ h t. IsUnsealable h t payload (content meta) (Keyslot slot) (allowed_for (opener.Keyslot slot old) new.now).memory asked f) bad)
 
       pub changed_passed : {a : Area} → IsAllowed (allowed_for (opener.Keyslot slot old) new.now).memory asked → IsNewArea (area_len meta + 4096) total payload (content meta) (Keyslot slot) a
-          → (random : List ℕ) → HasNoFaultBefore 15 v payload e random
+          → (random : List ℕ) → HasNoFaultBefore 19 v payload e random
       changed_passed {a} enough place random =
           changed_past v payload o (content meta) r.metadata e slot old new asked is eight_of
           (λ none. area_excludes (hdr_size (header_at v o)) (length v) payload (content meta) (Keyslot slot) a (free_of place) none) enough random
@@ -124,25 +126,67 @@ module _ {v : List ℕ} {payload : Data} {e : Edit} {o : ℕ} {meta : Meta} {ent
       pub last_refused : IsOnlyOne (content meta) d.slot → IsRefusedEarly v payload e fault.LastSlot
       last_refused bad = only_first v payload o (content meta) r.metadata e d is eight_of bad
 
-      pub removed_passed : (IsOnlyOne (content meta) d.slot → ⊥) → (random : List ℕ) → HasNoFaultBefore 15 v payload e random
+      pub removed_passed : (IsOnlyOne (content meta) d.slot → ⊥) → (random : List ℕ) → HasNoFaultBefore 19 v payload e random
       removed_passed other random = removed_past v payload o (content meta) r.metadata e d is eight_of other random
 
   -- the header is written anew
-  module _ {label : Option (Bor (List ℕ))} (is : deed_of e ≡ deed.Rewrite label) where
+  module _ {rewritten : Rewritten} (is : deed_of e ≡ deed.Rewrite rewritten) where
     eight_of_none : (random : List ℕ) → IsPast 8 v payload e random
     eight_of_none random = past_opened v payload e random (none_opened v e (rw is refl)) (r.four random)
 
-    label_refused : IsBadLabel e → IsRefusedEarly v payload e fault.BadLabel
-    label_refused bad = label_first v payload o (content meta) r.metadata e (λ x. rw is at x) (λ x. rw is at x) (λ x. rw is at x) (λ x. rw is at x) (λ x. rw is at x) (λ x. rw is at x) eight_of_none bad
+    label_refused : HasBadText rewritten → IsRefusedEarly v payload e fault.BadLabel
+    label_refused bad = label_first v payload o (content meta) r.metadata e (λ x. rw is at x) (λ x. rw is at x) (λ x. rw is at x) (λ x. rw is at x) (λ x. rw is at x) (λ x. rw is at x)
+        eight_of_none (rw is bad)
 
-    label_passed : (IsBadLabel e → ⊥) → (random : List ℕ) → HasNoFaultBefore 15 v payload e random
-    label_passed good random =
-        label_past v payload o (content meta) r.metadata e (λ x. rw is at x) (λ x. rw is at x) (λ x. rw is at x) (λ x. rw is at x) (λ x. rw is at x) (λ x. rw is at x) eight_of_none good random
+    -- the texts are good
+    module _ (good : HasBadText rewritten → ⊥) where
+      good_label : IsBadLabel e → ⊥
+      good_label bad = good (rw is at bad)
 
-    pub rewriting_judged : (it : Result JudgedEdit EditFault) → Judges (IsBadIn label) fault.BadLabel it → OnOk it ((random : List ℕ) → HasNoFaultBefore 15 v payload e random)
-    rewriting_judged (Ok it) good = label_passed (λ bad. good (rw is at bad))
-    rewriting_judged (Err f) bad = tt
+      lacking : IsSomeAnd rewritten.change (LacksToken (content meta)) → IsRefusedEarly v payload e fault.NoSuchToken
+      lacking bad = lacking_first v payload o (content meta) r.metadata e (λ x. rw is at x) (λ x. rw is at x) (λ x. rw is at x) (λ x. rw is at x) (λ x. rw is at x) (λ x. rw is at x)
+          eight_of_none good_label (rw is bad)
 
-    pub rewriting_ended : (it : Result JudgedEdit EditFault) → Judges (IsBadIn label) fault.BadLabel it → IfErr it (IsRefusedEarly v payload e)
-    rewriting_ended (Ok it) good = tt
-    rewriting_ended (Err f) bad = subst (IsRefusedEarly v payload e) (sym bad.0) (label_refused (rw is bad.1))
+      taken : IsSomeAnd rewritten.change (IsTokenTaken (content meta)) → IsRefusedEarly v payload e fault.TokenTaken
+      taken bad = token_taken_first v payload o (content meta) r.metadata e (λ x. rw is at x) (λ x. rw is at x) (λ x. rw is at x) (λ x. rw is at x) (λ x. rw is at x) (λ x. rw is at x)
+          eight_of_none good_label (λ x. lacks_apart (content meta) rewritten.change (rw is at x) bad) (rw is bad)
+
+      unfree : IsSomeAnd rewritten.change (HasNoFreeToken (content meta)) → IsRefusedEarly v payload e fault.NoFreeToken
+      unfree bad = unfree_token_first v payload o (content meta) r.metadata e (λ x. rw is at x) (λ x. rw is at x) (λ x. rw is at x) (λ x. rw is at x) (λ x. rw is at x) (λ x. rw is at x)
+          eight_of_none good_label (λ x. lacks_unfree (content meta) rewritten.change (rw is at x) bad) (λ x. taken_unfree (content meta) rewritten.change (rw is at x) bad) (rw is bad)
+
+      unread : IsSomeAnd rewritten.change (λ c. IsChangeFault (content meta) c fault.UnreadableToken) → IsRefusedEarly v payload e fault.UnreadableToken
+      unread bad = unread_token_first v payload o (content meta) r.metadata e (λ x. rw is at x) (λ x. rw is at x) (λ x. rw is at x) (λ x. rw is at x) (λ x. rw is at x) (λ x. rw is at x)
+          eight_of_none good_label (λ x. lacks_unread (content meta) rewritten.change (rw is at x) (unread_is (content meta) rewritten.change bad))
+          (λ x. unread_untaken (content meta) rewritten.change bad (rw is at x)) (λ x. unread_numbered (content meta) rewritten.change bad (rw is at x))
+          (rw is (unread_is (content meta) rewritten.change bad))
+
+      change_refused : (f : EditFault) → IsSomeAnd rewritten.change (λ c. IsChangeFault (content meta) c f) → IsRefusedEarly v payload e f
+      change_refused fault.NoSuchToken bad = lacking bad
+      change_refused fault.TokenTaken bad = taken bad
+      change_refused fault.NoFreeToken bad = unfree bad
+      change_refused fault.UnreadableToken bad = unread bad
+      change_refused f bad = absurd (no_change_fault rewritten.change bad)
+
+      rewriting_passed : (change : Option JudgedChange) → IsTakenChange (content meta) rewritten.change change → (random : List ℕ) → HasNoFaultBefore 19 v payload e random
+      rewriting_passed change takes random =
+          amended_past v payload o (content meta) r.metadata e (λ x. rw is at x) (λ x. rw is at x) (λ x. rw is at x) (λ x. rw is at x) (λ x. rw is at x) (λ x. rw is at x) eight_of_none good_label
+          (λ x. taken_there (content meta) rewritten.change change takes (rw is at x)) (λ x. taken_untaken (content meta) rewritten.change change takes (rw is at x))
+          (λ x. taken_numbered (content meta) rewritten.change change takes (rw is at x)) (λ x. taken_readable (content meta) rewritten.change change takes (rw is at x)) random
+
+    rewritten_passed : (own : TextFields) (it : JudgedEdit) → (HasBadText rewritten → ⊥) → IsRewrittenAs (content meta) own rewritten it → (random : List ℕ) → HasNoFaultBefore 19 v payload e random
+    rewritten_passed own (judged.Rewrite fields change) good x = rewriting_passed good change x.1
+    rewritten_passed own it good x = absurd x
+
+    pub rewriting_judged : (own : TextFields) (it : Result JudgedEdit EditFault) → OnOk it (HasBadText rewritten → ⊥) → IfOk it (IsRewrittenAs (content meta) own rewritten)
+        → OnOk it ((random : List ℕ) → HasNoFaultBefore 19 v payload e random)
+    rewriting_judged own (Ok it) good x = rewritten_passed own it good x
+    rewriting_judged own (Err f) good x = tt
+
+    unrewritten_refused : (f : EditFault) → IsUnrewritten (content meta) rewritten f → IsRefusedEarly v payload e f
+    unrewritten_refused fault.BadLabel bad = label_refused bad
+    unrewritten_refused f bad = change_refused bad.0 f bad.1
+
+    pub rewriting_ended : (it : Result JudgedEdit EditFault) → IfErr it (IsUnrewritten (content meta) rewritten) → IfErr it (IsRefusedEarly v payload e)
+    rewriting_ended (Ok it) x = tt
+    rewriting_ended (Err f) x = unrewritten_refused f x

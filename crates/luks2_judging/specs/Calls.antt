@@ -1,7 +1,6 @@
 -- What judging an edit by its keyslot asks of a device and promises of it: words of private contracts,
 -- over the device's ghost members.
 use Rattle.std.specs.Prelude.{◌≡◌, ℕ, ◌+◌, ◌^◌, ◌<◌, Bool, List, Result, IfErr, IfOk, OnOk}
-use Rattle.luks_area.specs.Device.{CountsFailure, IsUnchanged}
 use Rattle.luks_area.specs.declared.areas.Entry.{Entry}
 use Rattle.luks_area.specs.declared.device.Device.{Ghosts}
 use Rattle.luks2_header.specs.Header2.{hdr_size, header_at}
@@ -15,11 +14,6 @@ use Rattle.luks_edit.specs.declared.edit_fault.EditFault.{EditFault}
 use Rattle.luks2_judging.specs.declared.judged.JudgedEdit.{JudgedEdit}
 use Rattle.luks2_judging.specs.Judging.{IsAcceptedFor, IsJudgedTo, IsRefusedEarly, Seals, Takes}
 use Rattle.luks2_judging.specs.Rows.{HasNoFaultBefore}
-
--- the call reads: nothing changes, and a failure is counted exactly where the device's fault is answered
-pub record Reads {D X F : Type 0} (device : Ghosts D) (is_failure : F → Bool) (result : Result X F) (old new : D) : Type 0 where
-  pub unchanged : IsUnchanged device.tells device.size device.bytes device.unsettled old new
-  pub count : CountsFailure is_failure result (device.failed old) (device.failed new)
 
 -- an accepted copy may be judged further: one more failure can be counted, and it has the keyslots of the edit
 pub record IsReadyToJudge {D : Type 0} (device : Ghosts D) (copy : ChosenCopy) (areas : List Entry) (len : ℕ) (edit : Edit) (old : D) : Type 0 where
@@ -42,10 +36,10 @@ abbrev pub SealsOf : {D : Type 0} → Ghosts D → ChosenCopy → List Entry →
 SealsOf device copy areas edit old result = WhereJudged device copy areas edit old (λ payload.
     IfOk result (Seals (hdr_size (header_at (device.bytes old) copy.header.hdr_offset)) (device.bytes old) payload (content copy.meta) edit))
 
--- no row up to `BadLabel` refuses it
+-- no row up to `UnreadableToken` refuses it
 abbrev pub PassesOf : {D : Type 0} → Ghosts D → ChosenCopy → List Entry → Edit → D → Result JudgedEdit EditFault → Type 0
 PassesOf device copy areas edit old result = WhereJudged device copy areas edit old (λ payload.
-    OnOk result ((random : List ℕ) → HasNoFaultBefore 15 (device.bytes old) payload edit random))
+    OnOk result ((random : List ℕ) → HasNoFaultBefore 19 (device.bytes old) payload edit random))
 
 -- or one of them does
 abbrev pub RefusesOf : {D : Type 0} → Ghosts D → ChosenCopy → List Entry → Edit → D → Result JudgedEdit EditFault → Type 0

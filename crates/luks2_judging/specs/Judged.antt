@@ -2,11 +2,12 @@
 use Rattle.std.specs.Prelude.{◌≡◌, ℕ, Option, Result, Ok, Err, ⊤}
 use Rattle.serde_json.specs.Data.{Data as Value}
 use Rattle.luks_making.specs.Conditions.{IsFree}
+use Rattle.luks_making.specs.declared.amended.Change.{Change}
 use Rattle.luks_making.specs.Naming.{IsDigestOf}
 use Rattle.luks_edit.specs.declared.edit_fault.EditFault.{EditFault}
 use Rattle.luks_edit.specs.declared.edit_fault.EditFault.TheVariants as fault
 use Rattle.luks_edit.specs.declared.edit.Opener.{Opener}
-use Rattle.luks_edit.specs.Asked.{MatchOpener}
+use Rattle.luks_edit.specs.Asked.{AmendsSlot, MatchOpener}
 use Rattle.luks2_edit_laws.specs.Metadata.{IsInUse, IsNewKeyslot}
 use Rattle.luks2_edit_laws.specs.Refused.{HasNoNumber, IsNumberTaken}
 
@@ -26,6 +27,14 @@ abbrev pub IsNumberFault : Value → Option ℕ → EditFault → Type 0
 IsNumberFault j to fault.SlotTaken = IsNumberTaken j to
 IsNumberFault j to fault.NoFreeSlot = HasNoNumber j to
 IsNumberFault j to f = ⊥
+
+-- ---- the keyslot whose priority is set
+
+-- it isn't there
+pub record IsAbsentAmended (j : Value) (change : Option Change) : Type 0 where
+  pub slot : ℕ
+  pub amends : AmendsSlot change slot
+  pub unused : IsInUse j slot → ⊥
 
 -- ---- the keyslots of a digest
 

@@ -1,4 +1,4 @@
--- What judging an edit of a LUKS2 volume by the rows up to `BadLabel` gives.
+-- What judging an edit of a LUKS2 volume by the rows up to `UnreadableToken` gives.
 use Rattle.std.specs.Prelude.{◌≡◌, ℕ, List, length, Option, ⊤}
 use Rattle.std.specs.Borrow.{Bor}
 use Rattle.serde_json.specs.Data.{Data as Value}
@@ -21,6 +21,7 @@ use Rattle.luks_edit.specs.declared.deed.Deed.TheVariants as deed
 use Rattle.luks_edit.specs.declared.deed.Place.{Place}
 use Rattle.luks_edit.specs.declared.deed.Place.TheVariants.{New, Opened}
 use Rattle.luks_edit.specs.declared.deed.Removed.{Removed}
+use Rattle.luks_edit.specs.declared.deed.Rewritten.{Rewritten}
 use Rattle.luks_edit.specs.declared.deed.Sealed.{Sealed}
 use Rattle.luks_edit.specs.declared.edit.Opener.{Opener}
 use Rattle.luks_edit.specs.declared.edit.Opener.TheVariants as opener
@@ -29,21 +30,24 @@ use Rattle.luks_edit.specs.declared.edit_fault.EditFault.{EditFault}
 use Rattle.luks_edit.specs.Asked.{deed_of, allowed_for}
 use Rattle.luks_edit.specs.Endings.{EndsBy}
 use Rattle.luks2_edit_laws.specs.declared.like.Like.TheVariants.{Keyslot}
-use Rattle.luks2_edit_laws.specs.Copies.{labelled}
 use Rattle.luks2_edit_laws.specs.Likes.{IsLike}
 use Rattle.luks2_edit_laws.specs.Metadata.{IsInUse, IsKeyArea}
 use Rattle.luks2_edit_laws.specs.Places.{IsNewArea}
 use Rattle.luks2_edit_laws.specs.Refused.{IsAbsent, Refusal2}
 use Rattle.luks2_judging.specs.declared.judged.Addition.{Addition}
 use Rattle.luks2_judging.specs.declared.judged.Judged.{Judged}
+use Rattle.luks2_judging.specs.declared.judged.JudgedChange.{JudgedChange}
 use Rattle.luks2_judging.specs.declared.judged.JudgedEdit.{JudgedEdit}
 use Rattle.luks2_judging.specs.declared.judged.JudgedEdit.TheVariants as judged
 use Rattle.luks2_judging.specs.declared.judged.JudgedPlace.TheVariants as sealed_in
 use Rattle.luks2_judging.specs.declared.judged.Renewal.{Renewal}
+use Rattle.luks2_judging.specs.declared.judged.TextFields.{TextFields}
+use Rattle.luks2_judging.specs.Changes.{IsTakenChange}
 use Rattle.luks2_judging.specs.Judged.{IsNewNumber}
 use Rattle.luks2_judging.specs.Opened.{HasKeyBytesLike, IsOpenedTo, TakesMemoryToOpen}
 use Rattle.luks2_judging.specs.Room.{IsAllowed, IsPlaced}
 use Rattle.luks2_judging.specs.Rows.{HasNoFaultBefore}
+use Rattle.luks2_judging.specs.Texts.{texts_after, texts_of}
 
 -- ---- on any device: what the edit `e` takes, by the metadata `j` of a JSON area of `len` bytes in a
 -- volume of `total` bytes
@@ -94,18 +98,20 @@ pub record IsRemoval (j : Value) (total : ℕ) (e : Edit) (slot : ℕ) (area : A
   pub there : IsInUse j slot
   pub lost : IsLostArea j total slot area
 
--- it writes the header anew, whose label's field is `own`, with this field of 48 bytes for it
-pub record IsRewriting (own : List ℕ) (e : Edit) (field_ : List ℕ) : Type 0 where
-  pub label : Option (Bor (List ℕ))
-  pub asked : deed_of e ≡ deed.Rewrite label
-  pub is : field_ ≡ labelled label own
+-- it writes the header anew, whose texts have the fields `own`, with these fields for them, and with this
+-- change of the metadata `j`
+pub record IsRewriting (j : Value) (own : TextFields) (e : Edit) (fields : TextFields) (change : Option JudgedChange) : Type 0 where
+  pub rewritten : Rewritten
+  pub asked : deed_of e ≡ deed.Rewrite rewritten
+  pub is : fields ≡ texts_after rewritten own
+  pub takes : IsTakenChange j rewritten.change change
 
 -- by the copy of the header
 abbrev pub Takes : ChosenCopy → ℕ → Edit → JudgedEdit → Type 0
 Takes copy total e (judged.Seal (sealed_in.New a) key passphrase) = IsAddition (area_len copy.meta) (content copy.meta) total e a key passphrase
 Takes copy total e (judged.Seal (sealed_in.Opened r) key passphrase) = IsRenewal (area_len copy.meta) (content copy.meta) total e r key passphrase
 Takes copy total e (judged.Remove slot area) = IsRemoval (content copy.meta) total e slot area
-Takes copy total e (judged.Rewrite field_) = IsRewriting copy.header.label e field_
+Takes copy total e (judged.Rewrite fields change) = IsRewriting (content copy.meta) (texts_of copy.header) e fields change
 
 -- by the copy that was read
 pub record IsJudged (copy : ChosenCopy) (total : ℕ) (e : Edit) (it : Judged) : Type 0 where
@@ -128,11 +134,11 @@ Seals h v payload j e (judged.Seal (sealed_in.New a) key passphrase) = IsOpenedT
 Seals h v payload j e (judged.Seal (sealed_in.Opened r) key passphrase) = IsOpenedTo v e key × IsNewArea h (length v) payload j (Keyslot r.slot) r.area
 Seals h v payload j e it = ⊤
 
--- none of the rows up to `BadLabel` refuses the edit, and this is what it takes by the copy that counts
+-- none of the rows up to `UnreadableToken` refuses the edit, and this is what it takes by the copy that counts
 pub record IsUnrefusedOf (copy : ChosenCopy) (v : List ℕ) (payload : Data) (e : Edit) (it : JudgedEdit) : Type 0 where
   pub well : WellFormed v payload
   pub seals : Seals (hdr_size (header_at v copy.header.hdr_offset)) v payload (content copy.meta) e it
-  pub none : (random : List ℕ) → HasNoFaultBefore 15 v payload e random
+  pub none : (random : List ℕ) → HasNoFaultBefore 19 v payload e random
 
 abbrev pub IsUnrefusedSoFar : List ℕ → Data → Edit → Judged → Type 0
 IsUnrefusedSoFar v payload e it = IsUnrefusedOf it.copy v payload e it.edit

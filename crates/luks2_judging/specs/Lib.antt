@@ -9,3 +9,6 @@ pub mod Room
 pub mod Rows
 pub mod Salts
 pub mod Sealing
+pub mod Texts
+pub mod Changes
+pub mod Rewriting

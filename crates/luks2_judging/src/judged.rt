@@ -1,11 +1,16 @@
 //! What an edit takes once it was judged.
+ghost use Rattle.std.specs.Prelude.{◌≡◌};
+ghost use Rattle.luks2_judging.specs.Texts.{texts_of};
+
 use luks_area::Area;
-use luks_making::AskedDerivation;
+use luks_making::{AskedDerivation, Priority};
 use luks_reading::ChosenCopy;
 use luks_slot::Key;
 use luks2_edit_laws::Like;
+use luks2_header::Bin2;
+use serde_json::Value;
 
-/// An edit that none of the rows up to `BadLabel` refuses.
+/// An edit that none of the rows up to `UnreadableToken` refuses.
 #[derive(Drop)]
 pub struct Judged<'a> {
     /// The copy of the header that counts.
@@ -35,9 +40,56 @@ pub enum JudgedEdit<'a> {
     },
     /// Both copies of the header are written anew.
     Rewrite {
-        /// The label's field of both, 48 bytes: the new label and zeros, or the field as it was.
-        label: [u8; 48],
+        /// The fields of their texts.
+        fields: TextFields,
+        /// What changes of the metadata, if anything does.
+        change: Option<JudgedChange<'a>>,
     },
+}
+
+/// What a change of the metadata takes.
+#[derive(Clone, Copy)]
+pub enum JudgedChange<'a> {
+    /// A keyslot gets a priority.
+    Priority {
+        /// Its number, 0 to 31; it is there.
+        slot: u8,
+        /// The priority.
+        priority: Priority,
+    },
+    /// A token is added.
+    AddToken {
+        /// Its number, 0 to 31, which is free.
+        number: u8,
+        /// The token.
+        token: &'a Value,
+    },
+    /// A token is removed.
+    RemoveToken {
+        /// Its number, 0 to 31; it is there.
+        number: u8,
+    },
+}
+
+/// The fields of a header's texts, each of 48 bytes: a text and zeros.
+#[derive(Clone, Copy, Drop)]
+pub struct TextFields {
+    /// That of the label.
+    pub label: [u8; 48],
+    /// That of the subsystem.
+    pub subsystem: [u8; 48],
+}
+
+impl TextFields {
+    /// Those that the header has.
+    pub fn of(header: &Bin2) -> TextFields
+        ensures { result ≡ texts_of header.now }
+    {
+        TextFields {
+            label: header.label,
+            subsystem: header.subsystem,
+        }
+    }
 }
 
 /// The keyslot that a key is sealed in.

@@ -1,9 +1,9 @@
 //! Judging an edit of a LUKS2 volume by the rows that nothing has to be made for.
-ghost use Rattle.std.specs.Prelude.{◌≡◌, ◌≢◌, ◌+◌, ◌-◌, ◌^◌, ◌<◌, false, IfErr, IfOk};
+ghost use Rattle.std.specs.Prelude.{◌≡◌, ◌≢◌, ◌+◌, ◌-◌, ◌^◌, ◌<◌, false, IfErr, IfOk, IfSome, OnOk};
 ghost use Rattle.luks_area.specs.declared.area.Area.{Area as TheArea};
 ghost use Rattle.luks_area.specs.declared.area.AreaName.{AreaName};
 ghost use Rattle.luks_area.specs.Area.{IsInside};
-ghost use Rattle.luks_area.specs.Device.{CountsFailure, IsUnchanged};
+ghost use Rattle.luks_area.specs.Calls.{Reads};
 ghost use Rattle.luks_area.specs.Names.{HasArea};
 ghost use Rattle.luks_meta.specs.Content.{area_len, content};
 ghost use Rattle.luks_reading.specs.declared.report.Data.{Data as Payload};
@@ -15,22 +15,27 @@ ghost use Rattle.luks_reading.specs.Header.{IsAcceptedCopy, IsChosenCopy};
 ghost use Rattle.luks_edit.specs.Asked.{allowed_by, deed_of};
 ghost use Rattle.luks_edit.specs.declared.deed.Deed.TheVariants.{Remove as RemovesKeyslot, Seal as SealsKey};
 ghost use Rattle.luks_edit.specs.EditFaults.{is_edit_failure};
-ghost use Rattle.luks2_judging.specs.Calls.{IsReadyToJudge, PassesOf, Reads, RefusesOf, SealsOf, TakesOf};
+ghost use Rattle.luks2_judging.specs.Calls.{IsReadyToJudge, PassesOf, RefusesOf, SealsOf, TakesOf};
+ghost use Rattle.luks2_judging.specs.Changes.{HasPriorityThere};
 ghost use Rattle.luks2_judging.specs.Judged.{IsNewNumber};
+ghost use Rattle.luks2_edit_laws.specs.Refused.{HasBadText};
+ghost use Rattle.luks2_judging.specs.Rewriting.{IsRewrittenAs, IsUnrewritten};
+ghost use Rattle.luks2_judging.specs.Texts.{texts_of};
 ghost use Rattle.luks2_judging.specs.Judging.{IsJudged, IsRefusedEarly, IsUnrefusedOf, IsUnrefusedSoFar};
 ghost use Rattle.luks2_edit_laws.specs.declared.like.Like.TheVariants.{Keyslot};
 ghost use Rattle.luks2_judging.specs.Room.{IsAllowed, IsPlaced, IsSealableLike, IsUnsealable};
 ghost use Rattle.luks2_judging.specs.Sealing.{IsUnadded};
 
 use crate::accepted::judge_without_key;
-use crate::judged::{Addition, Judged, JudgedEdit, JudgedPlace, Renewal};
+use crate::judged::{Addition, Judged, JudgedEdit, JudgedPlace, Renewal, TextFields};
 use crate::keyslots::{key_area, new_number};
-use crate::labels::judge_rewriting;
+use crate::labels::judge_texts;
 use crate::room::{Room, judge_sealing};
 use crate::rows::judge_removal;
+use crate::tokens::judge_change;
 use crate::unlocking::unlock;
 use luks_area::{Areas, Device};
-use luks_edit::{AskedDerivation, Deed, Edit, EditFault, Place, Removed, Sealed};
+use luks_edit::{AskedDerivation, Deed, Edit, EditFault, Place, Removed, Rewritten, Sealed};
 use luks_reading::{ChosenCopy, Data};
 use luks2_edit_laws::Like;
 use std::alloc::Global;
@@ -59,10 +64,10 @@ impl Accepted<'_> {
     }
 }
 
-/// Judges the edit of the LUKS2 volume with this copy by the rows `NotAccepted` to `BadLabel` of
-/// the table of its faults, in their order: what the edit takes, or the first fault.
+/// Judges the edit of the LUKS2 volume with this copy by the rows `NotAccepted` to
+/// `UnreadableToken` of the table of its faults, in their order: what the edit takes, or the first fault.
 ///
-/// The rows `SeqExhausted`, `MetadataFull` and `RandomLength` are left to the edit itself. A
+/// The rows `BadToken`, `SeqExhausted`, `MetadataFull` and `RandomLength` are left to the edit itself. A
 /// keyslot is opened at most, and no byte is written. Memory is taken for Argon2 alone, where the edit
 /// allows it: `Memory` comes only of a keyslot that derives by it. `Device` comes exactly where a device
 /// call failed. The copy is given up, and given back where the edit
@@ -76,9 +81,7 @@ pub fn judge_luks2<'a, D: Device>(
 ) -> Result<Judged<'a>, EditFault>
     requires room { D.failed device.old + 1 < 2 ^ 64 }
     requires accepted { IsAcceptedCopy copy }
-    ensures unchanged { IsUnchanged D.tells D.size D.bytes D.unsettled device.old device.new }
-    ensures count { CountsFailure is_edit_failure result
-        (D.failed device.old) (D.failed device.new) }
+    ensures reads { Reads D.Device is_edit_failure result device.old device.new }
     ensures no_memory { (allowed_by edit.now).memory ≡ 0 → IfErr result (λ f. f ≢ EditFault.Memory) }
     ensures judged { IfOk result (IsJudged copy (D.size device.old) edit.now) }
     ensures unrefused { D.tells → IsChosenCopy (D.bytes device.old) copy
@@ -100,9 +103,7 @@ fn taken_by<'a, D: Device>(
 ) -> Result<JudgedEdit<'a>, EditFault>
     requires room { D.failed device.old + 1 < 2 ^ 64 }
     requires accepted { IsAcceptedCopy copy.now }
-    ensures unchanged { IsUnchanged D.tells D.size D.bytes D.unsettled device.old device.new }
-    ensures count { CountsFailure is_edit_failure result
-        (D.failed device.old) (D.failed device.new) }
+    ensures reads { Reads D.Device is_edit_failure result device.old device.new }
     ensures no_memory { (allowed_by edit.now).memory ≡ 0 → IfErr result (λ f. f ≢ EditFault.Memory) }
     ensures takes { TakesOf D.Device copy.now edit.now device.old result }
     ensures unrefused { D.tells → IsChosenCopy (D.bytes device.old) copy.now
@@ -117,7 +118,8 @@ fn taken_by<'a, D: Device>(
 }
 
 /// The rows from what gives the key on: `Locked`, `KeyLength`, `WrongKey`, `Slot`, `SlotTaken`, `NoFreeSlot`,
-/// `NoRoom`, `LastSlot`, `Iterations`, `Argon2`, `BadLabel`.
+/// `NoRoom`, `LastSlot`, `Iterations`, `Argon2`, `BadLabel`, `NoSuchToken`, `TokenTaken`, `NoFreeToken`,
+/// `UnreadableToken`.
 fn judge_with_key<'a, D: Device>(
     alloc: Global,
     device: &mut D,
@@ -139,7 +141,7 @@ fn judge_with_key<'a, D: Device>(
     match edit.deed() {
         Deed::Seal(sealed) => judge_sealing_of(alloc, device, accepted, edit, &sealed),
         Deed::Remove(removed) => judge_removal_of(alloc, device, accepted, edit, &removed),
-        Deed::Rewrite { label } => judge_rewriting(label, accepted.copy.header.label),
+        Deed::Rewrite(rewritten) => judge_rewriting(accepted, &rewritten),
     }
 }
 
@@ -222,6 +224,33 @@ fn judge_removal_of<'a, D: Device>(
     let _given = unlock(alloc, device, accepted.copy, &removed.opener(), allowed)?;
     let area = judge_removal(room.meta, slot)?;
     Ok(JudgedEdit::Remove { slot, area })
+}
+
+/// The same of an edit that writes the header anew: `BadLabel`, `NoSuchToken`, `TokenTaken`,
+/// `NoFreeToken`, `UnreadableToken`.
+fn judge_rewriting<'a>(
+    accepted: &Accepted<'_>,
+    rewritten: &Rewritten<'a>,
+) -> Result<JudgedEdit<'a>, EditFault>
+    requires there { IfSome rewritten.now.change
+        (HasPriorityThere (content accepted.now.copy.now.meta)) }
+    ensures own { IfErr result (λ f. is_edit_failure f ≡ false) }
+    ensures memory { IfErr result (λ f. f ≢ EditFault.Memory) }
+    ensures good { OnOk result (HasBadText rewritten.now → ⊥) }
+    ensures takes { IfOk result (IsRewrittenAs (content accepted.now.copy.now.meta)
+        (texts_of accepted.now.copy.now.header) rewritten.now) }
+    ensures refused { IfErr result (IsUnrewritten (content accepted.now.copy.now.meta)
+        rewritten.now) }
+{
+    let kept = TextFields::of(&accepted.copy.header);
+    let fields = match judge_texts(rewritten, &kept) {
+        Ok(fields) => fields,
+        Err(fault) => return Err(fault),
+    };
+    match judge_change(&accepted.copy.meta, rewritten.change) {
+        Ok(change) => Ok(JudgedEdit::Rewrite { fields, change }),
+        Err(fault) => Err(fault),
+    }
 }
 
 /// The keyslot that is added like this one, which is there: of the number `to`, or else of the least that

@@ -6,10 +6,10 @@ ghost use Rattle.luks_meta.specs.Content.{content};
 ghost use Rattle.luks_meta.specs.Requirements.{has_requirements};
 ghost use Rattle.luks2_edit_laws.specs.Metadata.{IsInUse, IsKeyArea, IsLeastFree};
 ghost use Rattle.luks2_edit_laws.specs.Refused.{IsAbsent};
-ghost use Rattle.luks2_judging.specs.Judged.{IsNewNumber, IsNumberFault, IsUnusable, IsUsable, Judges};
+ghost use Rattle.luks2_judging.specs.Judged.{IsAbsentAmended, IsNewNumber, IsNumberFault, IsUnusable, IsUsable, Judges};
 
 use luks_area::Area;
-use luks_edit::{Deed, Edit, EditFault, Opener};
+use luks_edit::{Change, Deed, Edit, EditFault, Opener};
 use luks_meta::Meta;
 
 /// Whether the keyslot is there.
@@ -51,15 +51,16 @@ pub(crate) fn judge_requirements(meta: &Meta) -> Result<(), EditFault>
     Ok(())
 }
 
-/// Whether the keyslots are there that the edit opens and removes. Refused by `NoSuchSlot`.
+/// Whether the keyslots are there that the edit opens and removes, and the one whose priority it sets.
+/// Refused by `NoSuchSlot`.
 pub(crate) fn judge_wanted(meta: &Meta, edit: &Edit<'_>) -> Result<(), EditFault>
     ensures { Judges (IsAbsent (content meta.now) edit.now) EditFault.NoSuchSlot result }
 {
     match edit.opener() {
-        None => Ok(()),
+        None => judge_others(meta, edit),
         Some(opener) => {
             if is_usable(meta, &opener) {
-                judge_removed(meta, edit)
+                judge_others(meta, edit)
             } else {
                 Err(EditFault::NoSuchSlot)
             }
@@ -78,9 +79,9 @@ fn is_usable(meta: &Meta, opener: &Opener<'_>) -> bool
     }
 }
 
-/// Whether the keyslot is there that the edit removes, if it removes one; that of what opens is.
-/// Refused by `NoSuchSlot`.
-fn judge_removed(meta: &Meta, edit: &Edit<'_>) -> Result<(), EditFault>
+/// Whether the keyslot is there that the edit removes or whose priority it sets, if it does; that of what
+/// opens is. Refused by `NoSuchSlot`.
+fn judge_others(meta: &Meta, edit: &Edit<'_>) -> Result<(), EditFault>
     requires { IfSome (opener_in (deed_of edit.now)) (IsUsable (content meta.now)) }
     ensures { Judges (IsAbsent (content meta.now) edit.now) EditFault.NoSuchSlot result }
 {
@@ -93,7 +94,23 @@ fn judge_removed(meta: &Meta, edit: &Edit<'_>) -> Result<(), EditFault>
             }
         }
         Deed::Seal(_) => Ok(()),
-        Deed::Rewrite { .. } => Ok(()),
+        Deed::Rewrite(rewritten) => judge_amended(meta, rewritten.change),
+    }
+}
+
+/// Whether the keyslot is there whose priority the change sets. Refused by `NoSuchSlot`.
+fn judge_amended(meta: &Meta, change: Option<Change<'_>>) -> Result<(), EditFault>
+    ensures { Judges (IsAbsentAmended (content meta.now) change.entry) EditFault.NoSuchSlot result }
+{
+    match change {
+        Some(Change::Priority { slot, priority: _ }) => {
+            if is_used(meta, slot) {
+                Ok(())
+            } else {
+                Err(EditFault::NoSuchSlot)
+            }
+        }
+        Some(Change::AddToken { .. }) | Some(Change::RemoveToken { .. }) | None => Ok(()),
     }
 }
 
@@ -104,7 +121,7 @@ pub(crate) fn judge_opener(edit: &Edit<'_>) -> Result<(), EditFault>
     match edit.deed() {
         Deed::Remove(removed) => judge_another(removed.slot, removed.by_),
         Deed::Seal(_) => Ok(()),
-        Deed::Rewrite { .. } => Ok(()),
+        Deed::Rewrite(_) => Ok(()),
     }
 }
 

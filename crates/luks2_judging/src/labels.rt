@@ -1,47 +1,60 @@
-//! Judging an edit that writes the header anew, by the label that it sets.
-ghost use Rattle.std.specs.Prelude.{◌≡◌, ◌≢◌, ◌++◌, ◌-◌, ◌<◌, ◌≤◌, ◌⊎◌, length, replicate, false, true, IfErr, IfOk, IsSomeAnd};
+//! Judging an edit that writes the header anew, by the texts that it sets.
+ghost use Rattle.std.specs.Prelude.{◌≡◌, ◌≢◌, ◌++◌, ◌-◌, ◌<◌, ◌≤◌, ◌⊎◌, length, replicate, false, true, IfErr, IfOk};
 ghost use Rattle.luks_area.specs.Text.{is_plain, is_printable};
 ghost use Rattle.luks_edit.specs.EditFaults.{is_edit_failure};
-ghost use Rattle.luks2_edit_laws.specs.Copies.{labelled};
+ghost use Rattle.luks2_edit_laws.specs.Copies.{field_after};
+ghost use Rattle.luks2_edit_laws.specs.Refused.{HasBadText, IsBadText};
 ghost use Rattle.luks2_judging.specs.Judged.{Judges};
-ghost use Rattle.luks2_judging.specs.declared.judged.JudgedEdit.TheVariants.{Rewrite as Rewrites};
+ghost use Rattle.luks2_judging.specs.Texts.{texts_after};
 
-use crate::judged::JudgedEdit;
-use luks_edit::EditFault;
+use crate::judged::TextFields;
+use luks_edit::{EditFault, Rewritten};
 
-/// The most bytes of a label; a zero byte ends it.
-const MOST_LABEL: usize = 47;
+/// The most bytes of a text; a zero byte ends it.
+const MOST_TEXT: usize = 47;
 
-/// What writing the header anew takes: by the label that is given, or else the label's field as it was,
-/// which is `kept`. Refused by `BadLabel`.
-pub(crate) fn judge_rewriting<'a>(
-    label: Option<&[u8]>,
-    kept: [u8; 48],
-) -> Result<JudgedEdit<'a>, EditFault>
+/// The fields of the header that is written anew: by the label and the subsystem that are given, or else
+/// as they were. Refused by `BadLabel`.
+pub(crate) fn judge_texts(
+    rewritten: &Rewritten<'_>,
+    kept: &TextFields,
+) -> Result<TextFields, EditFault>
     ensures own { IfErr result (λ f. is_edit_failure f ≡ false) }
     ensures memory { IfErr result (λ f. f ≢ EditFault.Memory) }
-    ensures row { Judges (IsSomeAnd label.entry
-        (λ text. (47 < length text.now) ⊎ (is_plain text.now ≡ true → ⊥))) EditFault.BadLabel result }
-    ensures field { IfOk result (λ it. it ≡ Rewrites (labelled label.entry kept)) }
+    ensures row { Judges (HasBadText rewritten.now) EditFault.BadLabel result }
+    ensures fields { IfOk result (λ it. it ≡ texts_after rewritten.now kept.now) }
 {
-    match label {
-        None => Ok(JudgedEdit::Rewrite { label: kept }),
-        Some(text) => {
-            let field = label_field(text)?;
-            Ok(JudgedEdit::Rewrite { label: field })
-        }
+    // Not by `?`: the kit makes no proof of it where no parameter holds a fault of the metadata.
+    let label = match judge_text(rewritten.label, kept.label) {
+        Ok(field) => field,
+        Err(fault) => return Err(fault),
+    };
+    match judge_text(rewritten.subsystem, kept.subsystem) {
+        Ok(subsystem) => Ok(TextFields { label, subsystem }),
+        Err(fault) => Err(fault),
     }
 }
 
-/// The label's field of the header: its text, which has at most 47 bytes, all printable, and zeros.
-/// Refused by `BadLabel`.
-fn label_field(text: &[u8]) -> Result<[u8; 48], EditFault>
+/// The field of the text that is given, or else the one that was there. Refused by `BadLabel`.
+fn judge_text(given: Option<&[u8]>, kept: [u8; 48]) -> Result<[u8; 48], EditFault>
+    ensures row { Judges (IsBadText given.entry) EditFault.BadLabel result }
+    ensures field { IfOk result (λ it. it ≡ field_after given.entry kept) }
+{
+    match given {
+        None => Ok(kept),
+        Some(text) => text_field(text),
+    }
+}
+
+/// The text, which has at most 47 bytes, all printable, and zeros to the end of the field. Refused by
+/// `BadLabel`.
+fn text_field(text: &[u8]) -> Result<[u8; 48], EditFault>
     ensures row { Judges ((47 < length text.now) ⊎ (is_plain text.now ≡ true → ⊥))
         EditFault.BadLabel result }
     ensures field { IfOk result
         (λ field. field ≡ text.now ++ replicate (48 - length text.now) 0) }
 {
-    if text.len() > MOST_LABEL || !is_plain(text) {
+    if text.len() > MOST_TEXT || !is_plain(text) {
         return Err(EditFault::BadLabel);
     }
     Ok(padded(text))

@@ -55,7 +55,7 @@ pub fn needed_luks2(
             Place::Opened { slot, secret: _ } => Ok(sealed_need(&copy.meta, Like::Keyslot(slot))),
         },
         Deed::Remove(_) => Ok(COPY_SALTS),
-        Deed::Rewrite { .. } => Ok(COPY_SALTS),
+        Deed::Rewrite(_) => Ok(COPY_SALTS),
     }
 }
 

@@ -1,7 +1,7 @@
 //! What gives the key for an edit of a LUKS2 volume: a keyslot, by its passphrase or its key, or the
 //! volume key.
 ghost use Rattle.std.specs.Prelude.{◌≡◌, ◌≢◌, ◌+◌, ◌^◌, ◌<◌, ℕ, List, Some, length, true, IfOk, IfErr, IfSome};
-ghost use Rattle.luks_area.specs.Device.{CountsFailure, IsUnchanged};
+ghost use Rattle.luks_area.specs.Calls.{Reads};
 ghost use Rattle.luks2_header.specs.Header2.{uuid_field};
 ghost use Rattle.luks_edit.specs.Asked.{allowed_by, bytes_of, deed_of, opener_in};
 ghost use Rattle.luks_edit.specs.EditFaults.{is_edit_failure};
@@ -63,9 +63,7 @@ pub(crate) fn unlock<D: Device>(
     requires accepted { IsAcceptedCopy copy.now }
     requires usable { IsUsable (content copy.now.meta) opener.now }
     requires short { 0 < allowed.memory → length (bytes_of opener.now) < 2 ^ 32 }
-    ensures unchanged { IsUnchanged D.tells D.size D.bytes D.unsettled device.old device.new }
-    ensures count { CountsFailure is_edit_failure result
-        (D.failed device.old) (D.failed device.new) }
+    ensures reads { Reads D.Device is_edit_failure result device.old device.new }
     ensures no_memory { allowed.memory ≡ 0 → IfErr result (λ f. f ≢ EditFault.Memory) }
     ensures like { IfOk result (λ g. IsLike (content copy.now.meta) opener.now g.like) }
     ensures length { IfOk result (λ g. HasKeyBytesLike (content copy.now.meta) g.like (length g.key)) }
@@ -105,9 +103,7 @@ fn unlock_keyslot<D: Device>(
     requires accepted { IsAcceptedCopy copy.now }
     requires there { IsInUse (content copy.now.meta) n }
     requires passphrase { 0 < allowed.memory → length secret.now.bytes.now < 2 ^ 32 }
-    ensures unchanged { IsUnchanged D.tells D.size D.bytes D.unsettled device.old device.new }
-    ensures count { CountsFailure is_edit_failure result
-        (D.failed device.old) (D.failed device.new) }
+    ensures reads { Reads D.Device is_edit_failure result device.old device.new }
     // Memory is refused only to a keyslot that takes it, and to none where none is allowed.
     ensures memory { D.tells → IsChosenCopy (D.bytes device.old) copy.now
         → IfErr result (λ f. f ≡ EditFault.Memory
@@ -156,9 +152,7 @@ fn given<D: Device>(
     requires accepted { IsAcceptedCopy copy.now }
     requires there { IsInUse (content copy.now.meta) n }
     requires passphrase { 0 < allowed.memory → length secret.now.bytes.now < 2 ^ 32 }
-    ensures unchanged { IsUnchanged D.tells D.size D.bytes D.unsettled device.old device.new }
-    ensures count { CountsFailure is_open_failure result
-        (D.failed device.old) (D.failed device.new) }
+    ensures reads { Reads D.Device is_open_failure result device.old device.new }
     ensures answers { IsSecretAnswer D.tells (D.bytes device.old) copy.now secret.now.kind allowed n
         secret.now.bytes.now result }
 {

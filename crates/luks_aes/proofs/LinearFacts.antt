@@ -13,7 +13,7 @@ use Rattle.luks_aes.specs.Aes.{byte_in, state_by, add_round_key, sub_bytes, inve
 use Rattle.luks_aes.proofs.TableFacts.{all_below, all_below-at}
 use Rattle.luks_aes.proofs.FieldFacts.{gmul-xor}
 use Rattle.luks_aes.proofs.StepFacts.{quad, through, product_of_products}
-use Rattle.luks_aes.specs.Planes.{IsPlane, bit_of, byte_of, block_of, turned_place}
+use Rattle.luks_aes.specs.Planes.{IsPlane, bit_of, byte_of, block_of, rotated_place}
 use Rattle.luks_aes.specs.Gates.{Gate, xor_of, outcome}
 use Rattle.luks_aes.proofs.CircuitFacts.{number-lt, computes}
 use Rattle.luks_aes.proofs.PackingFacts.{same_number}
@@ -191,8 +191,8 @@ module _ (a b c d : ℕ) (ha : a < 256) (hb : b < 256) (hc : c < 256) (hd : d < 
 -- byte k of the mixed state whose bytes are f 0, f 1, ..
 abbrev pub mixed : (ℕ → ℕ) → ℕ → ℕ
 mixed f k =
-    bit_xor (gmul 2 (bit_xor (f k) (f (turned_place 1 k))))
-    (bit_xor (f (turned_place 1 k)) (bit_xor (f (turned_place 2 k)) (f (turned_place 1 (turned_place 2 k)))))
+    bit_xor (gmul 2 (bit_xor (f k) (f (rotated_place 1 k))))
+    (bit_xor (f (rotated_place 1 k)) (bit_xor (f (rotated_place 2 k)) (f (rotated_place 1 (rotated_place 2 k)))))
 
 -- the mixed state by its bytes
 pub mixed_is : (f : ℕ → ℕ) → ((k : ℕ) → f k < 256) → map (mixed f) (range_with_len 0 16) ≡ mix_columns (map f (range_with_len 0 16))
@@ -205,15 +205,15 @@ mixed_is f h =
 
 -- a byte of the mixed state, from the steps: the byte in place a, the next one in b, the next two in c and d
 pub mixed_byte : (f : ℕ → ℕ) (next sum twice last others all : ℕ) (k : ℕ) → k < 16
-    → next ≡ f (turned_place 1 k) → sum ≡ bit_xor (f k) next → twice ≡ gmul 2 sum
-    → last ≡ bit_xor (f (turned_place 2 k)) (f (turned_place 1 (turned_place 2 k)))
+    → next ≡ f (rotated_place 1 k) → sum ≡ bit_xor (f k) next → twice ≡ gmul 2 sum
+    → last ≡ bit_xor (f (rotated_place 2 k)) (f (rotated_place 1 (rotated_place 2 k)))
     → others ≡ bit_xor next last → all ≡ bit_xor twice others → all ≡ mixed f k
 mixed_byte f next sum twice last others all k h e0 e1 e2 e3 e4 e5 =
     e5 ∙ ap₂ bit_xor (e2 ∙ ap (gmul 2) (e1 ∙ ap (bit_xor (f k)) e0)) (e4 ∙ ap₂ bit_xor e0 e3)
 
--- a turned place is one of 16
-pub turned-lt : (n k : ℕ) → k < 16 → turned_place n k < 16
-turned-lt n k h = omega arith
+-- a rotated place is one of 16
+pub rotated-lt : (n k : ℕ) → k < 16 → rotated_place n k < 16
+rotated-lt n k h = omega arith
 
 -- ---- InvMixColumns
 
@@ -302,7 +302,7 @@ module _ (x : ℕ → ℕ) (h : (k : ℕ) → x k < 256) where
 
 -- byte k of the state that is mixed in place of the one whose bytes are f 0, f 1, ..
 abbrev pub opposed : (ℕ → ℕ) → ℕ → ℕ
-opposed f k = with_opposite (f k) (f (turned_place 2 k))
+opposed f k = with_opposite (f k) (f (rotated_place 2 k))
 
 -- InvMixColumns by its bytes
 pub opposed_is : (f : ℕ → ℕ) → ((k : ℕ) → f k < 256) → mix_columns (map (opposed f) (range_with_len 0 16)) ≡ inverse_mix_columns (map f (range_with_len 0 16))

@@ -34,8 +34,8 @@ abbrev pub IsStep : ℕ → ℕ → Type 0
 IsStep n mask = (n ≡ 1) × (mask ≡ 0x55) ⊎ ((n ≡ 2) × (mask ≡ 0x33) ⊎ (n ≡ 4) × (mask ≡ 0x0F))
 
 -- the place of the byte that stands n rows below byte k of a state, in its column
-abbrev pub turned_place : ℕ → ℕ → ℕ
-turned_place n k = 4 * (k / 4) + (k + n) % 4
+abbrev pub rotated_place : ℕ → ℕ → ℕ
+rotated_place n k = 4 * (k / 4) + (k + n) % 4
 
 -- each of these is eight times the round key of a schedule, side by side
 abbrev pub AreKeyPlanes : List (List (List ℕ)) → List ℕ → Type 0

@@ -5,7 +5,7 @@ ghost use Rattle.luks_aes.specs.Aes as aes;
 ghost use Rattle.luks_aes.specs.Field.{gmul};
 ghost use Rattle.luks_aes.specs.Planes.{IsPlane};
 
-use crate::linear::{shifted, shifted_back, turned, turned_twice};
+use crate::linear::{rotate_rows, rotate_rows_twice, shifted, shifted_back};
 use crate::lookups::{inverse_sub_bytes, sub_bytes, sum};
 use std::simd::u8x16;
 
@@ -62,10 +62,10 @@ fn mixed(x: u8x16) -> u8x16
     ensures plane { IsPlane result }
     ensures value { result ≡ aes.mix_columns x }
 {
-    let next = turned(x);
+    let next = rotate_rows(x);
     let sums = sum(x, next);
     let twice = doubled(sums);
-    let last = turned_twice(sums);
+    let last = rotate_rows_twice(sums);
     let others = sum(next, last);
     sum(twice, others)
 }
@@ -77,7 +77,7 @@ fn unmixed(x: u8x16) -> u8x16
     ensures plane { IsPlane result }
     ensures value { result ≡ aes.inverse_mix_columns x }
 {
-    let opposite = turned_twice(x);
+    let opposite = rotate_rows_twice(x);
     let sums = sum(x, opposite);
     let twice = doubled(sums);
     let four_times = doubled(twice);

@@ -4,7 +4,7 @@
 ghost use Rattle.std.specs.Prelude.{◌≡◌, ℕ, ◌<◌, ◌+◌, ◌*◌, ◌/◌, ◌%◌, bit_xor, slice_index};
 ghost use Rattle.luks_aes.specs.Field.{gmul};
 ghost use Rattle.luks_aes.specs.Aes as aes;
-ghost use Rattle.luks_aes.specs.Planes.{IsPlane, ArePlanes, byte_of, block_of, turned_place};
+ghost use Rattle.luks_aes.specs.Planes.{IsPlane, ArePlanes, byte_of, block_of, rotated_place};
 
 use crate::gates::xor;
 use std::simd::u8x16;
@@ -61,20 +61,20 @@ pub(crate) fn shifted_back(x: u8x16) -> u8x16
 
 // The rows rotated up by one.
 #[inline(always)]
-pub(crate) fn turned(x: u8x16) -> u8x16
+pub(crate) fn rotate_rows(x: u8x16) -> u8x16
     requires { IsPlane x }
     ensures plane { IsPlane result }
-    ensures bytes { (k : ℕ) → k < 16 → slice_index result k ≡ slice_index x (turned_place 1 k) }
+    ensures bytes { (k : ℕ) → k < 16 → slice_index result k ≡ slice_index x (rotated_place 1 k) }
 {
     x.swizzle([1, 2, 3, 0, 5, 6, 7, 4, 9, 10, 11, 8, 13, 14, 15, 12])
 }
 
 // The rows rotated up by two.
 #[inline(always)]
-pub(crate) fn turned_twice(x: u8x16) -> u8x16
+pub(crate) fn rotate_rows_twice(x: u8x16) -> u8x16
     requires { IsPlane x }
     ensures plane { IsPlane result }
-    ensures bytes { (k : ℕ) → k < 16 → slice_index result k ≡ slice_index x (turned_place 2 k) }
+    ensures bytes { (k : ℕ) → k < 16 → slice_index result k ≡ slice_index x (rotated_place 2 k) }
 {
     x.swizzle([2, 3, 0, 1, 6, 7, 4, 5, 10, 11, 8, 9, 14, 15, 12, 13])
 }
@@ -117,37 +117,37 @@ pub(crate) fn inverse_shift_rows(x: [u8x16; 8]) -> [u8x16; 8]
 
 // All rows rotated up by one.
 #[inline(always)]
-fn all_turned(x: [u8x16; 8]) -> [u8x16; 8]
+fn rotate_all_rows(x: [u8x16; 8]) -> [u8x16; 8]
     requires planes { ArePlanes x }
     ensures planes { ArePlanes result }
-    ensures bytes { (k b : ℕ) → k < 16 → byte_of k b result ≡ byte_of (turned_place 1 k) b x }
+    ensures bytes { (k b : ℕ) → k < 16 → byte_of k b result ≡ byte_of (rotated_place 1 k) b x }
 {
-    let s0 = turned(x[0]);
-    let s1 = turned(x[1]);
-    let s2 = turned(x[2]);
-    let s3 = turned(x[3]);
-    let s4 = turned(x[4]);
-    let s5 = turned(x[5]);
-    let s6 = turned(x[6]);
-    let s7 = turned(x[7]);
+    let s0 = rotate_rows(x[0]);
+    let s1 = rotate_rows(x[1]);
+    let s2 = rotate_rows(x[2]);
+    let s3 = rotate_rows(x[3]);
+    let s4 = rotate_rows(x[4]);
+    let s5 = rotate_rows(x[5]);
+    let s6 = rotate_rows(x[6]);
+    let s7 = rotate_rows(x[7]);
     [s0, s1, s2, s3, s4, s5, s6, s7]
 }
 
 // All rows rotated up by two.
 #[inline(always)]
-fn all_turned_twice(x: [u8x16; 8]) -> [u8x16; 8]
+fn rotate_all_rows_twice(x: [u8x16; 8]) -> [u8x16; 8]
     requires planes { ArePlanes x }
     ensures planes { ArePlanes result }
-    ensures bytes { (k b : ℕ) → k < 16 → byte_of k b result ≡ byte_of (turned_place 2 k) b x }
+    ensures bytes { (k b : ℕ) → k < 16 → byte_of k b result ≡ byte_of (rotated_place 2 k) b x }
 {
-    let s0 = turned_twice(x[0]);
-    let s1 = turned_twice(x[1]);
-    let s2 = turned_twice(x[2]);
-    let s3 = turned_twice(x[3]);
-    let s4 = turned_twice(x[4]);
-    let s5 = turned_twice(x[5]);
-    let s6 = turned_twice(x[6]);
-    let s7 = turned_twice(x[7]);
+    let s0 = rotate_rows_twice(x[0]);
+    let s1 = rotate_rows_twice(x[1]);
+    let s2 = rotate_rows_twice(x[2]);
+    let s3 = rotate_rows_twice(x[3]);
+    let s4 = rotate_rows_twice(x[4]);
+    let s5 = rotate_rows_twice(x[5]);
+    let s6 = rotate_rows_twice(x[6]);
+    let s7 = rotate_rows_twice(x[7]);
     [s0, s1, s2, s3, s4, s5, s6, s7]
 }
 
@@ -158,10 +158,10 @@ pub(crate) fn mix_columns(x: [u8x16; 8]) -> [u8x16; 8]
     ensures planes { ArePlanes result }
     ensures each { (b : ℕ) → block_of b result ≡ aes.mix_columns (block_of b x) }
 {
-    let next = all_turned(x);
+    let next = rotate_all_rows(x);
     let sum = added(x, next);
     let twice = doubled(sum);
-    let last = all_turned_twice(sum);
+    let last = rotate_all_rows_twice(sum);
     let others = added(next, last);
     added(twice, others)
 }
@@ -173,7 +173,7 @@ pub(crate) fn inverse_mix_columns(x: [u8x16; 8]) -> [u8x16; 8]
     ensures planes { ArePlanes result }
     ensures each { (b : ℕ) → block_of b result ≡ aes.inverse_mix_columns (block_of b x) }
 {
-    let opposite = all_turned_twice(x);
+    let opposite = rotate_all_rows_twice(x);
     let sum = added(x, opposite);
     let twice = doubled(sum);
     let four_times = doubled(twice);

@@ -2,6 +2,7 @@ pub mod Faulty
 pub mod Files
 pub mod First
 pub mod Area
+pub mod Calls
 pub mod Device
 pub mod Memory
 pub mod Names

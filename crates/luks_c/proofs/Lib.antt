@@ -1,3 +1,4 @@
 pub mod MatchFacts
 pub mod OpenFacts
 pub mod PlanFacts
+pub mod TokenFacts

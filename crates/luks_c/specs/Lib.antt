@@ -1,5 +1,6 @@
 pub mod CheckAnswers
 pub mod EditAnswers
+pub mod ExportAnswers
 pub mod FindAnswers
 pub mod FormatAnswers
 pub mod GivenAsked

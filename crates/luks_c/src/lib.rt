@@ -7,6 +7,7 @@ mod checking;
 mod comparing;
 mod converting;
 mod editing;
+mod exporting;
 mod finding;
 mod formatting;
 mod giving;

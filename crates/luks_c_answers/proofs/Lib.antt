@@ -1,3 +1,4 @@
 pub mod BufferFacts
 pub mod NumberFacts
 pub mod PlanFacts
+pub mod AskedFacts

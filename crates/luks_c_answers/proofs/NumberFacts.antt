@@ -38,8 +38,8 @@ use Rattle.luks_keeping.specs.declared.restore_fault.RestoreFault.TheVariants as
 use Rattle.luks_reading.specs.FaultTexts.{check_fault_text}
 use Rattle.luks_c_answers.specs.Numbers.{backup_number, check_number, convert_number, edit_number, fault_number, key_number, number_printed, open_number, rebuild1_number, rebuild_number, restore_number}
 
--- that of a fault is 1 to 58
-fault_number_range : (f : Fault) → (1 ≤ fault_number f) × (fault_number f ≤ 58)
+-- that of a fault is 1 to 62
+fault_number_range : (f : Fault) → (1 ≤ fault_number f) × (fault_number f ≤ 62)
 fault_number_range fault.TooShort = (omega arith, omega arith)
 fault_number_range f = (omega arith, omega arith)
 
@@ -97,18 +97,21 @@ key_number_other f own = λ e. absurd (omega (arith, e))
 pub edit_number_range : (f : EditFault) → (1 ≤ edit_number f) × (edit_number f ≤ 103)
 edit_number_range (edit.NotAccepted f) = let r = number_printed_range (check_fault_text f) in (r.0, let high = r.1 in omega (arith, high))
 edit_number_range (edit.Slot f) = let r = number_printed_range (slot_fault_text f) in (r.0, let high = r.1 in omega (arith, high))
+edit_number_range (edit.BadToken f) = let r = number_printed_range (meta_fault_text f) in (r.0, let high = r.1 in omega (arith, high))
 edit_number_range f = (omega arith, omega arith)
 
 -- and isn't 101
 pub edit_number_usage : (f : EditFault) → edit_number f ≢ 101
 edit_number_usage (edit.NotAccepted f) = λ e. let high = (number_printed_range (check_fault_text f)).1 in absurd (omega (arith, high, e))
 edit_number_usage (edit.Slot f) = λ e. let high = (number_printed_range (slot_fault_text f)).1 in absurd (omega (arith, high, e))
+edit_number_usage (edit.BadToken f) = λ e. let high = (number_printed_range (meta_fault_text f)).1 in absurd (omega (arith, high, e))
 edit_number_usage f = λ e. absurd (omega (arith, e))
 
 -- none but the device's asks for more bytes
 pub edit_number_other : (f : EditFault) → is_edit_failure f ≡ false → edit_number f ≢ 102
 edit_number_other (edit.NotAccepted f) own = λ e. let high = (number_printed_range (check_fault_text f)).1 in absurd (omega (arith, high, e))
 edit_number_other (edit.Slot f) own = λ e. let high = (number_printed_range (slot_fault_text f)).1 in absurd (omega (arith, high, e))
+edit_number_other (edit.BadToken f) own = λ e. let high = (number_printed_range (meta_fault_text f)).1 in absurd (omega (arith, high, e))
 edit_number_other edit.Device own = absurd (true≢false own)
 edit_number_other f own = λ e. absurd (omega (arith, e))
 

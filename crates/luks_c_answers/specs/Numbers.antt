@@ -92,6 +92,10 @@ fault_number fault.Payload = 55
 fault_number fault.SectorSize = 56
 fault_number fault.Uneven = 57
 fault_number fault.WrongKey = 58
+fault_number fault.NoSuchToken = 59
+fault_number fault.TokenTaken = 60
+fault_number fault.NoFreeToken = 61
+fault_number fault.UnreadableToken = 62
 
 -- the fault of this number, if there is one
 abbrev pub fault_numbered : ℕ → Option Fault
@@ -154,6 +158,11 @@ edit_number edit.LastSlot = 35
 edit_number edit.Iterations = 10
 edit_number edit.Argon2 = 25
 edit_number edit.BadLabel = 36
+edit_number edit.NoSuchToken = 59
+edit_number edit.TokenTaken = 60
+edit_number edit.NoFreeToken = 61
+edit_number edit.UnreadableToken = 62
+edit_number (edit.BadToken f) = number_printed (meta_fault_text f)
 edit_number edit.SeqExhausted = 37
 edit_number edit.MetadataFull = 38
 edit_number edit.RandomLength = 39

@@ -1,14 +1,16 @@
 //! What a caller asks for by numbers.
 ghost use Rattle.std.specs.Prelude.{◌≡◌, ℕ, Option, MatchResult};
 ghost use Rattle.luks_edit.specs.declared.edit.Edit.{Edit as TheEdit};
+ghost use Rattle.luks_making.specs.declared.amended.Priority.{Priority as ThePriority};
 ghost use Rattle.luks_c_answers.specs.Asked.{allowed_of, payload_of};
 ghost use Rattle.luks_c_answers.specs.ChoiceAsked.{IsChoice, IsNoChoice};
-ghost use Rattle.luks_c_answers.specs.EditAsked.{IsAsked, IsMaybeSlot, IsSecret, IsSlot, kind_asked};
+ghost use Rattle.luks_c_answers.specs.EditAsked.{IsAskedAs, IsMaybeSlot, IsMaybeSubsystem, IsOtherAsked, IsSecret, IsSlot, IsUnasked, kind_asked, priority_asked};
 
 use luks_edit::{Argon2Costs, Edit, NewDerivation, Secret, SecretKind, VolumeKey};
+use luks_making::{Change, Priority};
 use luks_reading::{Allowed, Data};
 
-/// The number that names no keyslot.
+/// The number that names no keyslot, and no token.
 const NO_SLOT: u32 = 0xFFFF_FFFF;
 
 /// How the key of a keyslot that is made is to be derived.
@@ -26,19 +28,21 @@ pub struct LuksDerivation {
     pub lanes: u32,
 }
 
-/// An edit of a volume, but for its secrets and its label.
+/// An edit of a volume, but for its secrets and its texts.
 #[repr(C)]
 #[derive(Clone, Copy, Drop)]
 pub struct LuksEdit {
     /// 1 adds a keyslot, 2 changes one's passphrase, 3 removes one, 4 repairs the header, 5 sets the
-    /// label.
+    /// label, 6 a keyslot's priority, 7 adds a token, 8 removes one.
     pub kind: u32,
-    /// Of a change and a removal the keyslot.
+    /// Of a change, a removal and a priority the keyslot.
     pub slot: u32,
     /// The keyslot that the secret opens, of an addition; of a removal too, or 2^32 - 1 where it is
     /// the one that is removed. By the volume key 2^32 - 1 says of both that no keyslot is asked for.
     pub by_: u32,
-    /// Of an addition the number of the new keyslot, or 2^32 - 1 for the least that is free.
+    /// Of an addition the number of the new keyslot, and of a token's that of the token, or 2^32 - 1 for
+    /// the least that is free; of a token that is removed its number. Of a priority 0 says that the
+    /// keyslot isn't tried where none is named, 1 that it is normal, and 2 that it is preferred.
     pub to: u32,
     /// Of an addition and a change the iterations of the new keyslot's derivation by PBKDF2, at least 1000,
     /// where none is chosen.
@@ -50,6 +54,8 @@ pub struct LuksEdit {
     pub older: u32,
     /// Whether the secret is the volume key, and not a keyslot's passphrase; 0: no.
     pub by_key: u32,
+    /// Of a label whether the subsystem is set with it; 0: it stays.
+    pub subsystem: u32,
     /// Of an addition and a change the new keyslot's derivation.
     pub derivation: LuksDerivation,
 }
@@ -58,10 +64,53 @@ pub struct LuksEdit {
 #[derive(Clone, Copy)]
 pub struct Unasked;
 
-/// The edit; `text` is the new passphrase, or the label.
-pub fn edit_of<'a>(asked: &LuksEdit, secret: &'a [u8], text: &'a [u8]) -> Result<Edit<'a>, Unasked>
-    ensures { MatchResult result (IsAsked asked.now secret.now text.now)
-        (λ _. (e : TheEdit) → IsAsked asked.now secret.now text.now e → ⊥) }
+/// What is asked for.
+#[derive(Clone, Copy)]
+pub enum Asked<'a> {
+    /// An edit.
+    Edit(Edit<'a>),
+    /// To add a token, of which the text has still to be read.
+    Token {
+        /// Its number; where it isn't given, the least that is free.
+        to: Option<u8>,
+    },
+}
+
+/// What is asked for; `text` is the new passphrase, or the label.
+#[tactic(auto, using(crate::proofs::AskedFacts::unasked_other))]
+pub fn asked_of<'a>(
+    asked: &LuksEdit,
+    secret: &'a [u8],
+    text: &'a [u8],
+    subsystem: &'a [u8],
+) -> Result<Asked<'a>, Unasked>
+    ensures { MatchResult result (IsAskedAs asked.now secret.now text.now subsystem.now)
+        (λ _. IsUnasked asked.now secret.now text.now subsystem.now) }
+{
+    match asked.kind {
+        6 => Ok(Asked::Edit(Edit::Amend(Change::Priority {
+            slot: slot_of(asked.slot)?,
+            priority: priority_of(asked.to)?,
+        }))),
+        7 => Ok(Asked::Token {
+            to: maybe_slot(asked.to)?,
+        }),
+        8 => Ok(Asked::Edit(Edit::Amend(Change::RemoveToken {
+            number: slot_of(asked.to)?,
+        }))),
+        _ => Ok(Asked::Edit(edit_of(asked, secret, text, subsystem)?)),
+    }
+}
+
+/// The edit that isn't one of named members.
+fn edit_of<'a>(
+    asked: &LuksEdit,
+    secret: &'a [u8],
+    text: &'a [u8],
+    subsystem: &'a [u8],
+) -> Result<Edit<'a>, Unasked>
+    ensures { MatchResult result (IsOtherAsked asked.now secret.now text.now subsystem.now)
+        (λ _. (e : TheEdit) → IsOtherAsked asked.now secret.now text.now subsystem.now e → ⊥) }
 {
     let allowed = allowed_of(asked.memory, asked.older);
     let old = Secret {
@@ -101,7 +150,10 @@ pub fn edit_of<'a>(asked: &LuksEdit, secret: &'a [u8], text: &'a [u8]) -> Result
             secret: old,
         }),
         4 => Ok(Edit::Repair),
-        5 => Ok(Edit::Label { text }),
+        5 => Ok(Edit::Label {
+            text,
+            subsystem: subsystem_of(asked.subsystem, subsystem),
+        }),
         _ => Err(Unasked),
     }
 }
@@ -147,7 +199,27 @@ pub fn chosen_of(derivation: &LuksDerivation) -> Result<Option<NewDerivation>, U
     }
 }
 
-/// The keyslot of this number.
+/// The subsystem, where the number isn't 0.
+fn subsystem_of(is_given: u32, text: &[u8]) -> Option<&[u8]>
+    ensures { IsMaybeSubsystem is_given text.now result }
+{
+    if is_given == 0 { None } else { Some(text) }
+}
+
+/// The priority of this number.
+fn priority_of(number: u32) -> Result<Priority, Unasked>
+    ensures { MatchResult result (λ p. priority_asked p ≡ number)
+        (λ _. (p : ThePriority) → priority_asked p ≡ number → ⊥) }
+{
+    match number {
+        0 => Ok(Priority::Ignore),
+        1 => Ok(Priority::Normal),
+        2 => Ok(Priority::Prefer),
+        _ => Err(Unasked),
+    }
+}
+
+/// The keyslot, or the token, of this number.
 fn slot_of(number: u32) -> Result<u8, Unasked>
     ensures { MatchResult result (IsSlot number) (λ _. (n : ℕ) → IsSlot number n → ⊥) }
 {

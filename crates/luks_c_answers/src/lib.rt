@@ -7,10 +7,12 @@ mod buffers;
 mod numbers;
 mod plans;
 mod texts;
+mod tokens;
 mod uses;
 
 pub use asking::{
-    LuksDerivation, LuksEdit, Unasked, allowed_of, chosen_of, data_of, edit_of, number_of_slot,
+    Asked, LuksDerivation, LuksEdit, Unasked, allowed_of, asked_of, chosen_of, data_of,
+    number_of_slot,
 };
 pub use buffers::fill_front;
 pub use numbers::{
@@ -20,4 +22,5 @@ pub use numbers::{
 };
 pub use plans::{LuksPlan, give_plan, tell_either, tell_wanted};
 pub use texts::{number_name, number_text};
+pub use tokens::{NoToken, token_of};
 pub use uses::{number_shown, use_name};

@@ -117,6 +117,10 @@ fn number_of_call(fault: Fault) -> u32
         Fault::SectorSize => 56,
         Fault::Uneven => 57,
         Fault::WrongKey => 58,
+        Fault::NoSuchToken => 59,
+        Fault::TokenTaken => 60,
+        Fault::NoFreeToken => 61,
+        Fault::UnreadableToken => 62,
         _ => UNKNOWN,
     }
 }
@@ -197,6 +201,11 @@ pub fn edit_number(fault: &EditFault) -> u32
         EditFault::Iterations => number_of(Fault::Iterations),
         EditFault::Argon2 => number_of(Fault::Argon2),
         EditFault::BadLabel => number_of(Fault::BadLabel),
+        EditFault::NoSuchToken => number_of(Fault::NoSuchToken),
+        EditFault::TokenTaken => number_of(Fault::TokenTaken),
+        EditFault::NoFreeToken => number_of(Fault::NoFreeToken),
+        EditFault::UnreadableToken => number_of(Fault::UnreadableToken),
+        EditFault::BadToken(fault) => told_number(Fault::of_meta(fault)),
         EditFault::SeqExhausted => number_of(Fault::SeqExhausted),
         EditFault::MetadataFull => number_of(Fault::MetadataFull),
         EditFault::RandomLength => number_of(Fault::RandomLength),

@@ -26,14 +26,17 @@ use Rattle.luks_reading.proofs.CheckFacts.{unread_refused}
 use Rattle.luks_reading.proofs.Luks2FaultFacts.{meta_cases}
 use Rattle.luks_reading.proofs.ReadFaults.{own_head}
 use Rattle.luks_request.specs.declared.request.ShowAs.{ShowAs}
-use Rattle.luks_request.specs.declared.request.ShowAs.TheVariants.{Lines, All, Map as AsMap, Json as AsJson}
+use Rattle.luks_request.specs.declared.request.ShowAs.TheVariants.{Lines, All, Map as AsMap, Tokens as AsTokens, Token as AsToken, Json as AsJson}
 use Rattle.luks_map.specs.Map.{IsMap}
+use Rattle.luks_edit.specs.declared.edit_fault.EditFault.{EditFault}
+use Rattle.luks_edit.specs.declared.edit_fault.EditFault.TheVariants.{NoSuchToken}
+use Rattle.luks_show.specs.declared.listing.Listing.{Listing}
 use Rattle.luks_show.specs.declared.listing.Listing.TheVariants.{Luks1, Luks2}
 use Rattle.luks_commands.specs.declared.answers.Answer.{Answer}
-use Rattle.luks_commands.specs.declared.answers.Answer.TheVariants.{Accepted, Listed, ListedFully, Mapped, Json, Opens, Closed, NoneOpens, Matches, Differs, Done, Compared, Rescued, Refused, DeviceFault, NoMemory}
+use Rattle.luks_commands.specs.declared.answers.Answer.TheVariants.{Accepted, Listed, ListedFully, Mapped, Tokens, Json, Opens, Closed, NoneOpens, Matches, Differs, Done, Compared, Rescued, Refused, DeviceFault, NoMemory}
 use Rattle.luks_commands.specs.declared.answers.Refusal.TheVariants.{LongPassphrase, Check, Open, Key, Edit, Format, Convert, Rebuild, Rebuild1, Backup, Restore, SameFile, Exists, OtherUse, OtherVolume, Reencrypting}
 use Rattle.luks_commands.specs.Answer.{check_fault_answer}
-use Rattle.luks_commands.specs.ShowAnswers.{IsBeforeAreas, IsAsJson, IsAsMap, IsFirstShowFault, IsFullAnswer, IsInFull, IsJsonAnswer, IsListedAnswer, IsMapAnswer, IsShowAnswer, IsShowFault, IsShown, IsShownAs}
+use Rattle.luks_commands.specs.ShowAnswers.{IsBeforeAreas, IsAsJson, IsAsMap, IsAsToken, IsAsTokens, IsFirstShowFault, IsFullAnswer, IsInFull, IsJsonAnswer, IsListedAnswer, IsMapAnswer, IsShowAnswer, IsShowFault, IsShown, IsShownAs, IsTokenAnswer, IsTokensAnswer}
 
 -- the first fault of a check is the first that refuses a listing, unless it is one of the areas
 first_shown : (v : List ℕ) (f : CheckFault) → First v Elsewhere f → IsBeforeAreas f → IsFirstShowFault v f
@@ -121,6 +124,7 @@ json_answer tells v before after (Listed listing) (Accepted version areas) made 
 json_answer tells v before after (Listed listing) (Listed other) made is = absurd made
 json_answer tells v before after (Listed listing) (ListedFully full) made is = absurd made
 json_answer tells v before after (Listed listing) (Mapped m) made is = absurd made
+json_answer tells v before after (Listed listing) (Tokens t) made is = absurd made
 json_answer tells v before after (Listed listing) (Opens n) made is = absurd made
 json_answer tells v before after (Listed listing) (Closed n) made is = absurd made
 json_answer tells v before after (Listed listing) NoneOpens made is = absurd made
@@ -134,6 +138,7 @@ json_answer tells v before after (Listed listing) DeviceFault made is = absurd m
 json_answer tells v before after (Accepted version areas) a made is = absurd is
 json_answer tells v before after (ListedFully full) a made is = absurd is
 json_answer tells v before after (Mapped m) a made is = absurd is
+json_answer tells v before after (Tokens t) a made is = absurd is
 json_answer tells v before after (Json text) a made is = absurd is
 json_answer tells v before after (Opens n) a made is = absurd is
 json_answer tells v before after (Closed n) a made is = absurd is
@@ -170,6 +175,7 @@ full_answer tells v before after (Listed listing) a made is =
 full_answer tells v before after (Accepted version areas) a made is = absurd is
 full_answer tells v before after (ListedFully full) a made is = absurd is
 full_answer tells v before after (Mapped m) a made is = absurd is
+full_answer tells v before after (Tokens t) a made is = absurd is
 full_answer tells v before after (Json text) a made is = absurd is
 full_answer tells v before after (Opens n) a made is = absurd is
 full_answer tells v before after (Closed n) a made is = absurd is
@@ -207,6 +213,7 @@ map_answer total tells v before after (Listed listing) a long made is =
 map_answer total tells v before after (Accepted version areas) a long made is = absurd is
 map_answer total tells v before after (ListedFully full) a long made is = absurd is
 map_answer total tells v before after (Mapped m) a long made is = absurd is
+map_answer total tells v before after (Tokens t) a long made is = absurd is
 map_answer total tells v before after (Json text) a long made is = absurd is
 map_answer total tells v before after (Opens n) a long made is = absurd is
 map_answer total tells v before after (Closed n) a long made is = absurd is
@@ -235,10 +242,122 @@ map_answer total tells v before after (Refused Reencrypting) a long made is = ab
 map_answer total tells v before after DeviceFault a long made is = subst (IsMapAnswer tells v before after) (sym made) is
 map_answer total tells v before after NoMemory a long made is = subst (IsMapAnswer tells v before after) (sym made) is
 
+-- the answer by lines as that of its tokens
+tokens_answer : (tells : Type 0) (v : List ℕ) (before after : ℕ) (answer a : Answer) → IsAsTokens answer a
+    → IsListedAnswer tells v before after answer → IsTokensAnswer tells v before after a
+tokens_answer tells v before after (Listed listing) a made is =
+    subst (IsTokensAnswer tells v before after) (sym made.1.0) (is.0, λ t. subst (IsShown v) (sym made.1.1) (is.1 t))
+tokens_answer tells v before after (Accepted version areas) a made is = absurd is
+tokens_answer tells v before after (ListedFully full) a made is = absurd is
+tokens_answer tells v before after (Mapped m) a made is = absurd is
+tokens_answer tells v before after (Tokens t) a made is = absurd is
+tokens_answer tells v before after (Json text) a made is = absurd is
+tokens_answer tells v before after (Opens n) a made is = absurd is
+tokens_answer tells v before after (Closed n) a made is = absurd is
+tokens_answer tells v before after NoneOpens a made is = absurd is
+tokens_answer tells v before after Matches a made is = absurd is
+tokens_answer tells v before after Differs a made is = absurd is
+tokens_answer tells v before after (Done slot) a made is = absurd is
+tokens_answer tells v before after (Compared comparison) a made is = absurd is
+tokens_answer tells v before after (Rescued lost) a made is = absurd is
+tokens_answer tells v before after (Refused (Check f)) a made is = subst (IsTokensAnswer tells v before after) (sym made) is
+tokens_answer tells v before after (Refused LongPassphrase) a made is = absurd is
+tokens_answer tells v before after (Refused (Open f)) a made is = absurd is
+tokens_answer tells v before after (Refused (Key f)) a made is = absurd is
+tokens_answer tells v before after (Refused (Edit f)) a made is = absurd is
+tokens_answer tells v before after (Refused (Format f)) a made is = absurd is
+tokens_answer tells v before after (Refused (Convert f)) a made is = absurd is
+tokens_answer tells v before after (Refused (Rebuild f)) a made is = absurd is
+tokens_answer tells v before after (Refused (Rebuild1 f)) a made is = absurd is
+tokens_answer tells v before after (Refused (Backup f)) a made is = absurd is
+tokens_answer tells v before after (Refused (Restore f)) a made is = absurd is
+tokens_answer tells v before after (Refused SameFile) a made is = absurd is
+tokens_answer tells v before after (Refused Exists) a made is = absurd is
+tokens_answer tells v before after (Refused (OtherUse found)) a made is = absurd is
+tokens_answer tells v before after (Refused OtherVolume) a made is = absurd is
+tokens_answer tells v before after (Refused Reencrypting) a made is = absurd is
+tokens_answer tells v before after DeviceFault a made is = subst (IsTokensAnswer tells v before after) (sym made) is
+tokens_answer tells v before after NoMemory a made is = subst (IsTokensAnswer tells v before after) (sym made) is
+
+-- there is no such token
+no_such_token : (n : ℕ) (tells : Type 0) (v : List ℕ) (before after : ℕ) (listing : Listing) (f : EditFault) → IsAsToken n (Listed listing) (Refused (Edit f))
+    → IsListedAnswer tells v before after (Listed listing) → IsTokenAnswer n tells v before after (Refused (Edit f))
+no_such_token n tells v before after listing NoSuchToken made is = (is.0, λ t. record { listing = listing; shown = is.1 t; is = made })
+no_such_token n tells v before after listing f made is = absurd made
+
+-- the answer by lines as the token with the number `n`
+token_answer : (n : ℕ) (tells : Type 0) (v : List ℕ) (before after : ℕ) (answer a : Answer) → IsAsToken n answer a
+    → IsListedAnswer tells v before after answer → IsTokenAnswer n tells v before after a
+token_answer n tells v before after (Listed listing) (Json text) made is = (is.0, λ t. record { listing = listing; shown = is.1 t; is = made })
+token_answer n tells v before after (Listed listing) NoMemory made is = is.0
+token_answer n tells v before after (Listed listing) (Accepted version areas) made is = absurd made
+token_answer n tells v before after (Listed listing) (Listed other) made is = absurd made
+token_answer n tells v before after (Listed listing) (ListedFully full) made is = absurd made
+token_answer n tells v before after (Listed listing) (Mapped m) made is = absurd made
+token_answer n tells v before after (Listed listing) (Tokens t) made is = absurd made
+token_answer n tells v before after (Listed listing) (Opens k) made is = absurd made
+token_answer n tells v before after (Listed listing) (Closed k) made is = absurd made
+token_answer n tells v before after (Listed listing) NoneOpens made is = absurd made
+token_answer n tells v before after (Listed listing) Matches made is = absurd made
+token_answer n tells v before after (Listed listing) Differs made is = absurd made
+token_answer n tells v before after (Listed listing) (Done slot) made is = absurd made
+token_answer n tells v before after (Listed listing) (Compared comparison) made is = absurd made
+token_answer n tells v before after (Listed listing) (Rescued lost) made is = absurd made
+token_answer n tells v before after (Listed listing) (Refused (Edit f)) made is = no_such_token n tells v before after listing f made is
+token_answer n tells v before after (Listed listing) (Refused LongPassphrase) made is = absurd made
+token_answer n tells v before after (Listed listing) (Refused (Check f)) made is = absurd made
+token_answer n tells v before after (Listed listing) (Refused (Open f)) made is = absurd made
+token_answer n tells v before after (Listed listing) (Refused (Key f)) made is = absurd made
+token_answer n tells v before after (Listed listing) (Refused (Format f)) made is = absurd made
+token_answer n tells v before after (Listed listing) (Refused (Convert f)) made is = absurd made
+token_answer n tells v before after (Listed listing) (Refused (Rebuild f)) made is = absurd made
+token_answer n tells v before after (Listed listing) (Refused (Rebuild1 f)) made is = absurd made
+token_answer n tells v before after (Listed listing) (Refused (Backup f)) made is = absurd made
+token_answer n tells v before after (Listed listing) (Refused (Restore f)) made is = absurd made
+token_answer n tells v before after (Listed listing) (Refused SameFile) made is = absurd made
+token_answer n tells v before after (Listed listing) (Refused Exists) made is = absurd made
+token_answer n tells v before after (Listed listing) (Refused (OtherUse found)) made is = absurd made
+token_answer n tells v before after (Listed listing) (Refused OtherVolume) made is = absurd made
+token_answer n tells v before after (Listed listing) (Refused Reencrypting) made is = absurd made
+token_answer n tells v before after (Listed listing) DeviceFault made is = absurd made
+token_answer n tells v before after (Accepted version areas) a made is = absurd is
+token_answer n tells v before after (ListedFully full) a made is = absurd is
+token_answer n tells v before after (Mapped m) a made is = absurd is
+token_answer n tells v before after (Tokens t) a made is = absurd is
+token_answer n tells v before after (Json text) a made is = absurd is
+token_answer n tells v before after (Opens k) a made is = absurd is
+token_answer n tells v before after (Closed k) a made is = absurd is
+token_answer n tells v before after NoneOpens a made is = absurd is
+token_answer n tells v before after Matches a made is = absurd is
+token_answer n tells v before after Differs a made is = absurd is
+token_answer n tells v before after (Done slot) a made is = absurd is
+token_answer n tells v before after (Compared comparison) a made is = absurd is
+token_answer n tells v before after (Rescued lost) a made is = absurd is
+token_answer n tells v before after (Refused (Check f)) a made is = subst (IsTokenAnswer n tells v before after) (sym made) is
+token_answer n tells v before after (Refused LongPassphrase) a made is = absurd is
+token_answer n tells v before after (Refused (Open f)) a made is = absurd is
+token_answer n tells v before after (Refused (Key f)) a made is = absurd is
+token_answer n tells v before after (Refused (Edit f)) a made is = absurd is
+token_answer n tells v before after (Refused (Format f)) a made is = absurd is
+token_answer n tells v before after (Refused (Convert f)) a made is = absurd is
+token_answer n tells v before after (Refused (Rebuild f)) a made is = absurd is
+token_answer n tells v before after (Refused (Rebuild1 f)) a made is = absurd is
+token_answer n tells v before after (Refused (Backup f)) a made is = absurd is
+token_answer n tells v before after (Refused (Restore f)) a made is = absurd is
+token_answer n tells v before after (Refused SameFile) a made is = absurd is
+token_answer n tells v before after (Refused Exists) a made is = absurd is
+token_answer n tells v before after (Refused (OtherUse found)) a made is = absurd is
+token_answer n tells v before after (Refused OtherVolume) a made is = absurd is
+token_answer n tells v before after (Refused Reencrypting) a made is = absurd is
+token_answer n tells v before after DeviceFault a made is = subst (IsTokenAnswer n tells v before after) (sym made) is
+token_answer n tells v before after NoMemory a made is = subst (IsTokenAnswer n tells v before after) (sym made) is.0
+
 -- in each form
 pub shown_answer : (form : ShowAs) (total : ℕ) (tells : Type 0) (v : List ℕ) (before after : ℕ) (answer a : Answer) → (tells → length v ≡ total)
     → IsShownAs form total answer a → IsListedAnswer tells v before after answer → IsShowAnswer form tells v before after a
 shown_answer Lines total tells v before after answer a long made is = subst (IsListedAnswer tells v before after) (sym made) is
 shown_answer All total tells v before after answer a long made is = full_answer tells v before after answer a made is
 shown_answer AsMap total tells v before after answer a long made is = map_answer total tells v before after answer a long made is
+shown_answer AsTokens total tells v before after answer a long made is = tokens_answer tells v before after answer a made is
+shown_answer (AsToken n) total tells v before after answer a long made is = token_answer n tells v before after answer a made is
 shown_answer AsJson total tells v before after answer a long made is = json_answer tells v before after answer a made is

@@ -35,7 +35,7 @@ use Rattle.luks_keeping.specs.FaultTexts.{backup_fault_text, restore_fault_text}
 use Rattle.luks_keeping.specs.LostTexts.{rescued_text}
 use Rattle.luks_signatures.specs.UseTexts.{use_text}
 use Rattle.luks_commands.specs.declared.answers.Answer.{Answer}
-use Rattle.luks_commands.specs.declared.answers.Answer.TheVariants.{Accepted, Listed, ListedFully, Mapped, Json, Opens, Closed, NoneOpens, Matches, Differs, Done, Compared, Rescued, Refused, DeviceFault, NoMemory}
+use Rattle.luks_commands.specs.declared.answers.Answer.TheVariants.{Accepted, Listed, ListedFully, Mapped, Tokens, Json, Opens, Closed, NoneOpens, Matches, Differs, Done, Compared, Rescued, Refused, DeviceFault, NoMemory}
 use Rattle.luks_commands.specs.declared.answers.Refusal.{Refusal}
 use Rattle.luks_commands.specs.declared.answers.Refusal.TheVariants as refusal
 use Rattle.luks_commands.specs.declared.answers.Status.{Status}
@@ -44,6 +44,7 @@ use Rattle.luks_commands.specs.declared.inputs.InputFault.{InputFault}
 use Rattle.luks_commands.specs.declared.inputs.InputFault.TheVariants.{Absent, Unreadable, NoMemory as NoMemoryToRead}
 use Rattle.luks_map.specs.Map.{map_text}
 use Rattle.luks_show.specs.Listed.{full_text, listing_text}
+use Rattle.luks_show.specs.TokenText.{tokens_text}
 pub use Rattle.luks_show.specs.Texts.{copies_text, line}
 use Rattle.luks_commands.specs.Checked.{status_of}
 use Rattle.luks_commands.specs.Exit.{exit_status}
@@ -81,6 +82,7 @@ line_of (Accepted version areas) = Some (accepted_line version areas)
 line_of (Listed listing) = listing_text listing
 line_of (ListedFully listing) = full_text listing.0
 line_of (Mapped map) = Some (map_text map)
+line_of (Tokens listing) = tokens_text listing.0
 line_of (Json text) = Some (line (string_bytes text))
 line_of (Opens n) = Some (codes "slot " ++ decimal n ++ line (codes " opens"))
 line_of (Closed n) = Some (codes "slot " ++ decimal n ++ line (codes " does not open"))
@@ -107,6 +109,7 @@ answer_status (Accepted version areas) = status_of version
 answer_status (Listed listing) = status.Done
 answer_status (ListedFully listing) = status.Done
 answer_status (Mapped map) = status.Done
+answer_status (Tokens listing) = status.Done
 answer_status (Json text) = status.Done
 answer_status (Opens n) = status.Done
 answer_status (Closed n) = status.Refused

@@ -1,5 +1,5 @@
 -- What `show` may answer.
-use Rattle.std.specs.Prelude.{◌≡◌, ℕ, ◌+◌, List, length, Result, Ok, Err, ⊤, string_bytes}
+use Rattle.std.specs.Prelude.{◌≡◌, ℕ, ◌+◌, List, length, Option, Some, None, Result, Ok, Err, ⊤, string_bytes}
 use Rattle.luks_area.specs.First.{IsLeast}
 use Rattle.luks_area.specs.Ranges.{part}
 use Rattle.luks1_header.specs.Header1.{IsLuks1}
@@ -12,8 +12,9 @@ use Rattle.luks_reading.specs.Header.{IsChosenCopy, NeedsMetadata}
 use Rattle.luks_request.specs.declared.request.ShowAs.{ShowAs}
 use Rattle.luks_request.specs.declared.request.ShowAs.TheVariants as form
 use Rattle.luks_commands.specs.declared.answers.Answer.{Answer}
-use Rattle.luks_commands.specs.declared.answers.Answer.TheVariants.{Listed, ListedFully, Mapped, Json, Refused, DeviceFault, NoMemory}
-use Rattle.luks_commands.specs.declared.answers.Refusal.TheVariants.{Check}
+use Rattle.luks_commands.specs.declared.answers.Answer.TheVariants.{Listed, ListedFully, Mapped, Tokens, Json, Refused, DeviceFault, NoMemory}
+use Rattle.luks_commands.specs.declared.answers.Refusal.TheVariants.{Check, Edit}
+use Rattle.luks_edit.specs.declared.edit_fault.EditFault.TheVariants.{NoSuchToken}
 use Rattle.luks_commands.specs.declared.inputs.InputFault.{InputFault}
 use Rattle.luks_show.specs.declared.listing.FullListing.{FullListing}
 use Rattle.luks_show.specs.declared.listing.Listing.{Listing}
@@ -21,6 +22,8 @@ use Rattle.luks_show.specs.declared.listing.Listing.TheVariants.{Luks1, Luks2}
 use Rattle.luks_map.specs.declared.map.HeaderMap.{HeaderMap}
 use Rattle.luks_map.specs.Map.{IsMap}
 use Rattle.luks_show.specs.JsonText.{IsJsonText}
+use Rattle.luks_show.specs.TokenText.{IsShownToken}
+use Rattle.luks_show.specs.declared.tokens.TokenListing.{TokenListing}
 use Rattle.luks_commands.specs.Answer.{unread_answer}
 
 -- ---- what refuses it
@@ -67,6 +70,12 @@ pub record IsShownAsMap (v : List ℕ) (m : HeaderMap) : Type 0 where
   pub shown : IsShown v listing
   pub is : IsMap listing (length v) m
 
+-- nothing refuses it, and that is shown of the token with the number `n`: its text, or none
+pub record IsTokenShown (v : List ℕ) (n : ℕ) (text : Option (List ℕ)) : Type 0 where
+  pub listing : Listing
+  pub shown : IsShown v listing
+  pub is : IsShownToken listing n text
+
 -- ---- the answer
 
 -- of the volume `v`, while the device's count of failures went from `before` to `after`: `device fault`
@@ -94,6 +103,23 @@ IsMapAnswer tells v before after DeviceFault = after ≡ before + 1
 IsMapAnswer tells v before after NoMemory = (after ≡ before) × (tells → NeedsMetadata v)
 IsMapAnswer tells v before after a = ⊥
 
+-- its tokens: the same but for the form
+abbrev pub IsTokensAnswer : Type 0 → List ℕ → ℕ → ℕ → Answer → Type 0
+IsTokensAnswer tells v before after (Tokens listing) = (after ≡ before) × (tells → IsShown v listing.0)
+IsTokensAnswer tells v before after (Refused (Check f)) = (after ≡ before) × (tells → IsFirstShowFault v f)
+IsTokensAnswer tells v before after DeviceFault = after ≡ before + 1
+IsTokensAnswer tells v before after NoMemory = (after ≡ before) × (tells → NeedsMetadata v)
+IsTokensAnswer tells v before after a = ⊥
+
+-- the token with the number `n`: its text, or that there is none
+abbrev pub IsTokenAnswer : ℕ → Type 0 → List ℕ → ℕ → ℕ → Answer → Type 0
+IsTokenAnswer n tells v before after (Json text) = (after ≡ before) × (tells → IsTokenShown v n (Some (string_bytes text)))
+IsTokenAnswer n tells v before after (Refused (Edit NoSuchToken)) = (after ≡ before) × (tells → IsTokenShown v n None)
+IsTokenAnswer n tells v before after (Refused (Check f)) = (after ≡ before) × (tells → IsFirstShowFault v f)
+IsTokenAnswer n tells v before after DeviceFault = after ≡ before + 1
+IsTokenAnswer n tells v before after NoMemory = after ≡ before
+IsTokenAnswer n tells v before after a = ⊥
+
 -- as JSON: the same but for the form, and that the object takes memory of either version
 abbrev pub IsJsonAnswer : Type 0 → List ℕ → ℕ → ℕ → Answer → Type 0
 IsJsonAnswer tells v before after (Json text) = (after ≡ before) × (tells → IsShownAsJson v (string_bytes text))
@@ -119,11 +145,26 @@ abbrev pub IsAsMap : ℕ → Answer → Answer → Type 0
 IsAsMap total (Listed listing) a = (m : HeaderMap) × ((a ≡ Mapped m) × IsMap listing total m)
 IsAsMap total answer a = a ≡ answer
 
+-- what a listing becomes as that of its tokens. Another answer stays
+abbrev pub IsAsTokens : Answer → Answer → Type 0
+IsAsTokens (Listed listing) a = (tokens : TokenListing) × ((a ≡ Tokens tokens) × (tokens.0 ≡ listing))
+IsAsTokens answer a = a ≡ answer
+
+-- what a listing becomes as the token with the number `n`. Another answer stays
+abbrev pub IsAsToken : ℕ → Answer → Answer → Type 0
+IsAsToken n (Listed listing) (Json text) = IsShownToken listing n (Some (string_bytes text))
+IsAsToken n (Listed listing) (Refused (Edit NoSuchToken)) = IsShownToken listing n None
+IsAsToken n (Listed listing) NoMemory = ⊤
+IsAsToken n (Listed listing) a = ⊥
+IsAsToken n answer a = a ≡ answer
+
 -- what an answer by lines, of a volume of `total` bytes, becomes in this form
 abbrev pub IsShownAs : ShowAs → ℕ → Answer → Answer → Type 0
 IsShownAs form.Lines total answer a = a ≡ answer
 IsShownAs form.All total answer a = IsInFull answer a
 IsShownAs form.Map total answer a = IsAsMap total answer a
+IsShownAs form.Tokens total answer a = IsAsTokens answer a
+IsShownAs (form.Token n) total answer a = IsAsToken n answer a
 IsShownAs form.Json total answer a = IsAsJson answer a
 
 -- in this form
@@ -131,6 +172,8 @@ abbrev pub IsShowAnswer : ShowAs → Type 0 → List ℕ → ℕ → ℕ → Ans
 IsShowAnswer form.Lines tells v before after a = IsListedAnswer tells v before after a
 IsShowAnswer form.All tells v before after a = IsFullAnswer tells v before after a
 IsShowAnswer form.Map tells v before after a = IsMapAnswer tells v before after a
+IsShowAnswer form.Tokens tells v before after a = IsTokensAnswer tells v before after a
+IsShowAnswer (form.Token n) tells v before after a = IsTokenAnswer n tells v before after a
 IsShowAnswer form.Json tells v before after a = IsJsonAnswer tells v before after a
 
 -- the same of a volume that may not be there

@@ -14,7 +14,7 @@ use luks_keeping::{BackupFault, Comparison, LostKeyslots, RestoreFault};
 use luks_map::HeaderMap;
 use luks_reading::{CheckFault, Copies, KeyFault, OpenFault, Version};
 use luks_rebuilding::RebuildFault;
-use luks_show::{FullListing, Listing, copies_name};
+use luks_show::{FullListing, Listing, TokenListing, copies_name};
 use luks_signatures::OtherUse;
 use luks1_rebuilding::Rebuild1Fault;
 use std::fmt;
@@ -112,7 +112,9 @@ pub enum Answer {
     ListedFully(FullListing),
     /// The header's areas are shown.
     Mapped(HeaderMap),
-    /// The header is shown as this JSON object.
+    /// The header's tokens are shown, line by line.
+    Tokens(TokenListing),
+    /// The header is shown as this JSON object, or a token of it.
     Json(String),
     /// The passphrase opens the keyslot of this number.
     Opens(u8),
@@ -157,6 +159,7 @@ impl fmt::Display for Answer {
             Answer::Listed(listing) => write!(f, "{listing}"),
             Answer::ListedFully(listing) => write!(f, "{listing}"),
             Answer::Mapped(map) => write!(f, "{map}"),
+            Answer::Tokens(listing) => write!(f, "{listing}"),
             Answer::Json(text) => writeln!(f, "{text}"),
             Answer::Opens(n) => writeln!(f, "slot {n} opens"),
             Answer::Closed(n) => writeln!(f, "slot {n} does not open"),
@@ -192,7 +195,7 @@ impl Answer {
                 _ => Status::NotInStep,
             },
             Answer::Listed(_) | Answer::ListedFully(_) => Status::Done,
-            Answer::Mapped(_) | Answer::Json(_) => Status::Done,
+            Answer::Mapped(_) | Answer::Tokens(_) | Answer::Json(_) => Status::Done,
             Answer::Opens(_) | Answer::Done(_) => Status::Done,
             Answer::Matches => Status::Done,
             Answer::Compared(comparison) if comparison.is_current() => Status::Done,

@@ -4,14 +4,15 @@ ghost use Rattle.std.specs.Result.{ForOk};
 ghost use Rattle.luks_area.specs.Device.{IsUnchanged};
 ghost use Rattle.luks_commands.specs.Answer.{answer_status};
 ghost use Rattle.luks_commands.specs.Files.{KeepsVolume};
-ghost use Rattle.luks_commands.specs.ShowAnswers.{AnswersShow, IsAsJson, IsAsMap, IsInFull, IsListedAnswer, IsShownAs};
+ghost use Rattle.luks_commands.specs.ShowAnswers.{AnswersShow, IsAsJson, IsAsMap, IsAsToken, IsAsTokens, IsInFull, IsListedAnswer, IsShownAs};
 
-use crate::answers::{Answer, Status, refused, unread};
+use crate::answers::{Answer, Refusal, Status, refused, unread};
 use crate::inputs::InputFault;
+use luks_edit::EditFault;
 use luks_map::HeaderMap;
 use luks_reading::{CheckFault, Device, Header, Luks1, read_header};
 use luks_request::ShowAs;
-use luks_show::{FullListing, Listing, json_text};
+use luks_show::{FullListing, Listing, TokenListing, json_text, token_text};
 use std::alloc::Global;
 use std::io::Write;
 
@@ -51,6 +52,8 @@ fn shown_as(alloc: Global, form: ShowAs, total: u64, answer: Answer) -> Answer
         ShowAs::Lines => answer,
         ShowAs::All => in_full(answer),
         ShowAs::Map => as_map(total, answer),
+        ShowAs::Tokens => as_tokens(answer),
+        ShowAs::Token(number) => as_token(alloc, number, answer),
         ShowAs::Json => as_json(alloc, answer),
     }
 }
@@ -73,6 +76,38 @@ fn as_map(total: u64, answer: Answer) -> Answer
 {
     match answer {
         Answer::Listed(listing) => Answer::Mapped(HeaderMap::of(&listing, total)),
+        answer => answer,
+    }
+}
+
+fn as_tokens(answer: Answer) -> Answer
+    ensures answers { IsAsTokens answer result }
+    ensures kinds { answer_status answer ≢ Status.NotInStep
+        → answer_status result ≢ Status.NotInStep }
+{
+    match answer {
+        Answer::Listed(listing) => Answer::Tokens(TokenListing(listing)),
+        answer => answer,
+    }
+}
+
+/// The text of the token with this number, or that there is none.
+fn as_token(alloc: Global, number: u8, answer: Answer) -> Answer
+    ensures answers { IsAsToken number answer result }
+    ensures kinds { answer_status answer ≢ Status.NotInStep
+        → answer_status result ≢ Status.NotInStep }
+{
+    match answer {
+        Answer::Listed(listing) => {
+            if number > 31 {
+                return Answer::Refused(Refusal::Edit(EditFault::NoSuchToken));
+            }
+            match token_text(alloc, &listing, number) {
+                Ok(Some(text)) => Answer::Json(text),
+                Ok(None) => Answer::Refused(Refusal::Edit(EditFault::NoSuchToken)),
+                Err(_) => Answer::NoMemory,
+            }
+        }
         answer => answer,
     }
 }

@@ -3,6 +3,8 @@ use Rattle.std.proofs.Common.{◌≡◌, ℕ, ◌+◌, ◌<◌, ◌≤◌, [], �
 use Rattle.std.specs.Prelude.{◌==◌, if◌then◌else◌}
 use Rattle.std.proofs.lemmas.Bool.{cases_lt, false≢true}
 use Rattle.luks_area.specs.First.{NotAfter, IsLeast}
+use Rattle.luks_rules.specs.declared.fault.MetaFault.{MetaFault}
+use Rattle.luks_rules.specs.MetaFault.{meta_key}
 use Rattle.luks_slot.specs.declared.fault.SlotFault.{SlotFault}
 use Rattle.luks_reading.specs.declared.check_fault.CheckFault.{CheckFault}
 use Rattle.luks_reading.specs.Answer.{slot_row}
@@ -11,11 +13,11 @@ use Rattle.luks_edit.specs.declared.edit_fault.EditFault.{EditFault}
 use Rattle.luks_edit.specs.declared.edit_fault.EditFault.TheVariants as fault
 use Rattle.luks_edit.specs.EditFaults.{edit_key, edit_place, edit_row}
 
--- ---- what a fault is: one of the check, one of a plan, or the only one of its row
+-- ---- what a fault is: one of the check, one of a plan, one of the metadata with a token, or the only one of its row
 
 -- the row has one place
 abbrev pub is_plain : ℕ → Bool
-is_plain k = if k == 0 then false else (if k == 7 then false else true)
+is_plain k = if k == 0 then false else (if k == 7 then false else (if k == 19 then false else true))
 
 -- the fault of a row with one place
 abbrev fault_at : ℕ → EditFault
@@ -33,27 +35,32 @@ fault_at n =
     else (if n == 12 then fault.Iterations
     else (if n == 13 then fault.Argon2
     else (if n == 14 then fault.BadLabel
-    else (if n == 15 then fault.SeqExhausted
-    else (if n == 16 then fault.MetadataFull
-    else (if n == 17 then fault.RandomLength
-    else (if n == 18 then fault.Memory
-    else fault.Device))))))))))))))))
+    else (if n == 15 then fault.NoSuchToken
+    else (if n == 16 then fault.TokenTaken
+    else (if n == 17 then fault.NoFreeToken
+    else (if n == 18 then fault.UnreadableToken
+    else (if n == 20 then fault.SeqExhausted
+    else (if n == 21 then fault.MetadataFull
+    else (if n == 22 then fault.RandomLength
+    else (if n == 23 then fault.Memory
+    else fault.Device))))))))))))))))))))
 
 pub record IsOnly (f : EditFault) : Type 0 where
   pub plain : is_plain (edit_row f) ≡ true
   pub is : fault_at (edit_row f) ≡ f
   pub place : edit_place f ≡ []
   pub low : 1 ≤ edit_row f
-  pub high : edit_row f ≤ 19
+  pub high : edit_row f ≤ 24
 
 abbrev pub View : EditFault → Type 0
-View f = ((c : CheckFault) × (f ≡ fault.NotAccepted c)) ⊎ (((s : SlotFault) × (f ≡ fault.Slot s)) ⊎ IsOnly f)
+View f = ((c : CheckFault) × (f ≡ fault.NotAccepted c)) ⊎ (((s : SlotFault) × (f ≡ fault.Slot s)) ⊎ (((m : MetaFault) × (f ≡ fault.BadToken m)) ⊎ IsOnly f))
 
 -- by this no fact of a set goes by all faults
 pub view : (f : EditFault) → View f
 view (fault.NotAccepted c) = inl (c, refl)
 view (fault.Slot s) = inr (inl (s, refl))
-view f = inr (inr (record { plain = refl; is = refl; place = refl; low = omega arith; high = omega arith }))
+view (fault.BadToken m) = inr (inr (inl (m, refl)))
+view f = inr (inr (inr (record { plain = refl; is = refl; place = refl; low = omega arith; high = omega arith })))
 
 -- a row that isn't plain isn't that of an only fault
 not_plain : (k : ℕ) (f : EditFault) → edit_row f ≡ k → is_plain k ≡ false → is_plain (edit_row f) ≡ true → ⊥
@@ -65,7 +72,10 @@ only_of f plain = elim (view f) [
   | inl c ↦ absurd (not_plain 0 f (ap edit_row c.1) refl plain)
   | inr other ↦ (elim other [
     | inl s ↦ absurd (not_plain 7 f (ap edit_row s.1) refl plain)
-    | inr only ↦ only
+    | inr rest ↦ (elim rest [
+      | inl m ↦ absurd (not_plain 19 f (ap edit_row m.1) refl plain)
+      | inr only ↦ only
+    ])
   ])
 ]
 
@@ -73,12 +83,15 @@ pub only_one : (f g : EditFault) → is_plain (edit_row f) ≡ true → edit_row
 only_one f g plain same = sym (only_of g (ap is_plain same ∙ plain)).is ∙ ap fault_at same ∙ (only_of f plain).is
 
 -- each row is one of the table
-pub in_table : (f : EditFault) → edit_row f < 20
+pub in_table : (f : EditFault) → edit_row f < 25
 in_table f = elim (view f) [
   | inl c ↦ (let row : edit_row f ≡ 0 = ap edit_row c.1 in omega (arith, row))
   | inr other ↦ (elim other [
     | inl s ↦ (let row : edit_row f ≡ 7 = ap edit_row s.1 in omega (arith, row))
-    | inr only ↦ (let high = only.high in omega (arith, high))
+    | inr rest ↦ (elim rest [
+      | inl m ↦ (let row : edit_row f ≡ 19 = ap edit_row m.1 in omega (arith, row))
+      | inr only ↦ (let high = only.high in omega (arith, high))
+    ])
   ])
 ]
 
@@ -88,7 +101,23 @@ plan_of g row = elim (view g) [
   | inl c ↦ (let first : edit_row g ≡ 0 = ap edit_row c.1 in absurd (omega (arith, row, first)))
   | inr other ↦ (elim other [
     | inl s ↦ s
-    | inr only ↦ absurd (not_plain 7 g row refl only.plain)
+    | inr rest ↦ (elim rest [
+      | inl m ↦ (let token : edit_row g ≡ 19 = ap edit_row m.1 in absurd (omega (arith, row, token)))
+      | inr only ↦ absurd (not_plain 7 g row refl only.plain)
+    ])
+  ])
+]
+
+-- a fault of the row of the metadata with a token
+token_of : (g : EditFault) → edit_row g ≡ 19 → (m : MetaFault) × (g ≡ fault.BadToken m)
+token_of g row = elim (view g) [
+  | inl c ↦ (let first : edit_row g ≡ 0 = ap edit_row c.1 in absurd (omega (arith, row, first)))
+  | inr other ↦ (elim other [
+    | inl s ↦ (let plan : edit_row g ≡ 7 = ap edit_row s.1 in absurd (omega (arith, row, plan)))
+    | inr rest ↦ (elim rest [
+      | inl m ↦ m
+      | inr only ↦ absurd (not_plain 19 g row refl only.plain)
+    ])
   ])
 ]
 
@@ -106,7 +135,7 @@ module _ (faults : EditFault → Type 0) where
   passed_from k each = record { none = λ g under bad. (let over : k ≤ edit_row g = each g bad in omega (arith, under, over)) }
 
   -- there is none at all
-  pub none_at_all : Passed faults 20 → (f : EditFault) → faults f → ⊥
+  pub none_at_all : Passed faults 25 → (f : EditFault) → faults f → ⊥
   none_at_all passed f bad = passed.none f (in_table f) bad
 
   -- a fault of the row `k`, and none before it
@@ -126,12 +155,28 @@ module _ (faults : EditFault → Type 0) where
         | inl c ↦ not c.0 (subst faults c.1 bad)
         | inr other ↦ (elim other [
           | inl s ↦ (let row : edit_row g ≡ 7 = ap edit_row s.1 in omega (arith, row, under))
-          | inr only ↦ (let low = only.low in omega (arith, low, under))
+          | inr rest ↦ (elim rest [
+            | inl m ↦ (let row : edit_row g ≡ 19 = ap edit_row m.1 in omega (arith, row, under))
+            | inr only ↦ (let low = only.low in omega (arith, low, under))
+          ])
         ])
       ]
 
   pub after_plan : Passed faults 7 → ((s : SlotFault) → faults (fault.Slot s) → ⊥) → Passed faults 8
   after_plan passed not = record { none = λ g under bad. (let s = plan_of g (of_row 7 g passed under bad) in not s.0 (subst faults s.1 bad)) }
+
+  pub after_token : Passed faults 19 → ((m : MetaFault) → faults (fault.BadToken m) → ⊥) → Passed faults 20
+  after_token passed not = record { none = λ g under bad. (let m = token_of g (of_row 19 g passed under bad) in not m.0 (subst faults m.1 bad)) }
+
+  -- the rows of the token, from `NoSuchToken` on
+  pub past_token_number : Passed faults 15 → (faults fault.NoSuchToken → ⊥) → (faults fault.TokenTaken → ⊥) → (faults fault.NoFreeToken → ⊥)
+      → (faults fault.UnreadableToken → ⊥) → Passed faults 19
+  past_token_number passed there untaken free read =
+      next fault.UnreadableToken refl (next fault.NoFreeToken refl (next fault.TokenTaken refl (next fault.NoSuchToken refl passed there) untaken) free) read
+
+  pub past_tokens : Passed faults 15 → (faults fault.NoSuchToken → ⊥) → (faults fault.TokenTaken → ⊥) → (faults fault.NoFreeToken → ⊥)
+      → (faults fault.UnreadableToken → ⊥) → ((m : MetaFault) → faults (fault.BadToken m) → ⊥) → Passed faults 20
+  past_tokens passed there untaken free read good = after_token (past_token_number passed there untaken free read) good
 
   -- ---- the first fault
 
@@ -152,7 +197,10 @@ module _ (faults : EditFault → Type 0) where
         | inl c ↦ rw c.1 (omega arith, λ _. least c.0 (subst faults c.1 bad))
         | inr other ↦ (elim other [
           | inl s ↦ (let row : edit_row g ≡ 7 = ap edit_row s.1 in (omega (arith, row), λ same. absurd (omega (arith, same, row))))
-          | inr only ↦ (let low = only.low in (omega (arith, low), λ same. absurd (omega (arith, same, low))))
+          | inr rest ↦ (elim rest [
+            | inl m ↦ (let row : edit_row g ≡ 19 = ap edit_row m.1 in (omega (arith, row), λ same. absurd (omega (arith, same, row))))
+            | inr only ↦ (let low = only.low in (omega (arith, low), λ same. absurd (omega (arith, same, low))))
+          ])
         ])
       ]
 
@@ -163,6 +211,14 @@ module _ (faults : EditFault → Type 0) where
     where
       place : (g : EditFault) → faults g → 7 ≡ edit_row g → NotAfter (slot_row f ∷ []) (edit_place g)
       place g bad same = let s = plan_of g (sym same) in rw s.1 (least s.0 (subst faults s.1 bad), λ _. tt)
+
+  -- that of the metadata with a token is, where it is the first of them
+  pub first_of_token : (f : MetaFault) → Passed faults 19 → faults (fault.BadToken f) → ((g : MetaFault) → faults (fault.BadToken g) → NotAfter (meta_key f) (meta_key g))
+      → IsLeast edit_key faults (fault.BadToken f)
+  first_of_token f passed here least = (here, λ g bad. (not_before 19 g passed bad, λ same. place g bad same))
+    where
+      place : (g : EditFault) → faults g → 19 ≡ edit_row g → NotAfter (meta_key f) (edit_place g)
+      place g bad same = let m = token_of g (sym same) in rw m.1 (least m.0 (subst faults m.1 bad))
 
   -- ---- the rows of what gives the key, from `Locked` to that of a keyslot's plan
 

@@ -1,19 +1,24 @@
 -- What an edit asks for, whatever the version of the volume.
-use Rattle.std.specs.Prelude.{◌≡◌, ◌⊎◌, ℕ, ◌^◌, ◌<◌, ◌&&◌, nat_lt, if◌then◌else◌, List, [], length, true, Option, Some, None, IsSomeAnd, ⊤}
+use Rattle.std.specs.Prelude.{◌≡◌, ◌⊎◌, ℕ, ◌^◌, ◌<◌, ◌&&◌, nat_lt, if◌then◌else◌, List, [], length, Bool, true, Option, Some, None, is_none, IsSomeAnd, ⊤}
 use Rattle.std.specs.Borrow.{Bor}
+use Rattle.serde_json.specs.declared.value.Value.{Value}
 use Rattle.luks_slot.specs.declared.allowed.Allowed.{Allowed}
 use Rattle.luks_slot.specs.Allowance.{none_allowed}
 use Rattle.luks_making.specs.Derivations.{asked_beyond, asked_few_turns, takes_memory}
 use Rattle.luks_making.specs.declared.derivation.NewDerivation.{NewDerivation}
 use Rattle.luks_making.specs.declared.derivation.NewDerivation.TheVariants.{Pbkdf2}
+use Rattle.luks_making.specs.declared.amended.Change.{Change}
+use Rattle.luks_making.specs.declared.amended.Change.TheVariants as changes
+use Rattle.luks_making.specs.declared.amended.Priority.{Priority}
 use Rattle.luks_edit.specs.declared.deed.Deed.{Deed}
 use Rattle.luks_edit.specs.declared.deed.Deed.TheVariants as deed
 use Rattle.luks_edit.specs.declared.deed.Place.{Place}
 use Rattle.luks_edit.specs.declared.deed.Place.TheVariants.{New, Opened}
 use Rattle.luks_edit.specs.declared.deed.Removed.{Removed}
+use Rattle.luks_edit.specs.declared.deed.Rewritten.{Rewritten}
 use Rattle.luks_edit.specs.declared.deed.Sealed.{Sealed}
 use Rattle.luks_edit.specs.declared.edit.Edit.{Edit}
-use Rattle.luks_edit.specs.declared.edit.Edit.TheVariants.{Add, AddByKey, Change, Remove, Repair, Label}
+use Rattle.luks_edit.specs.declared.edit.Edit.TheVariants.{Add, AddByKey, Change as ChangeKey, Remove, Repair, Label, Amend}
 use Rattle.luks_edit.specs.declared.edit.Opener.{Opener}
 use Rattle.luks_edit.specs.declared.edit.Opener.TheVariants as opener
 use Rattle.luks_edit.specs.declared.edit.Secret.{Secret}
@@ -48,20 +53,21 @@ deed_of (Add by_ old new to iterations chosen) =
     deed.Seal (record { place = New (opener.Keyslot by_ old) to; passphrase = new; derivation = record { iterations = iterations; chosen = chosen } })
 deed_of (AddByKey key new to iterations chosen) =
     deed.Seal (record { place = New (opener.Key key) to; passphrase = new; derivation = record { iterations = iterations; chosen = Some (chosen_or iterations chosen) } })
-deed_of (Change slot old new iterations chosen) =
+deed_of (ChangeKey slot old new iterations chosen) =
     deed.Seal (record { place = Opened slot old; passphrase = new; derivation = record { iterations = iterations; chosen = chosen } })
 deed_of (Remove slot by_ secret) =
     deed.Remove (record { slot = slot; by_ = by_; secret = secret })
-deed_of Repair = deed.Rewrite None
-deed_of (Label text) = deed.Rewrite (Some text)
+deed_of Repair = deed.Rewrite (record { label = None; subsystem = None; change = None })
+deed_of (Label text subsystem) = deed.Rewrite (record { label = Some text; subsystem = subsystem; change = None })
+deed_of (Amend change) = deed.Rewrite (record { label = None; subsystem = None; change = Some change })
 
 -- ---- by what is done
 
--- of the key that is sealed, of the keyslot that is removed, or else of the label that is set
-abbrev pub MatchDeed : Deed → (Sealed → Type 0) → (Removed → Type 0) → (Option (Bor (List ℕ)) → Type 0) → Type 0
+-- of the key that is sealed, of the keyslot that is removed, or else of what is set
+abbrev pub MatchDeed : Deed → (Sealed → Type 0) → (Removed → Type 0) → (Rewritten → Type 0) → Type 0
 MatchDeed (deed.Seal s) S R W = S s
 MatchDeed (deed.Remove r) S R W = R r
-MatchDeed (deed.Rewrite label) S R W = W label
+MatchDeed (deed.Rewrite r) S R W = W r
 
 -- of what gives the key of a new keyslot and the number that is asked for it, or of the keyslot that is opened and
 -- its secret
@@ -84,7 +90,7 @@ opener_at (Opened slot secret) = opener.Keyslot slot secret
 abbrev pub opener_in : Deed → Option Opener
 opener_in (deed.Seal s) = Some (opener_at s.place)
 opener_in (deed.Remove r) = Some (remover_of r.slot r.by_ r.secret)
-opener_in (deed.Rewrite label) = None
+opener_in (deed.Rewrite r) = None
 
 -- its bytes, and what it allows
 abbrev pub bytes_of : Opener → List ℕ
@@ -98,17 +104,50 @@ allowed_of (opener.Key key) = key.allowed
 abbrev pub sealed_in : Deed → Option Sealed
 sealed_in (deed.Seal s) = Some s
 sealed_in (deed.Remove r) = None
-sealed_in (deed.Rewrite label) = None
+sealed_in (deed.Rewrite r) = None
 
 abbrev pub removed_in : Deed → Option Removed
 removed_in (deed.Seal s) = None
 removed_in (deed.Remove r) = Some r
-removed_in (deed.Rewrite label) = None
+removed_in (deed.Rewrite r) = None
 
+abbrev pub rewritten_in : Deed → Option Rewritten
+rewritten_in (deed.Seal s) = None
+rewritten_in (deed.Remove r) = None
+rewritten_in (deed.Rewrite r) = Some r
+
+-- the label and the subsystem that it sets
 abbrev pub label_in : Deed → Option (Bor (List ℕ))
 label_in (deed.Seal s) = None
 label_in (deed.Remove r) = None
-label_in (deed.Rewrite label) = label
+label_in (deed.Rewrite r) = r.label
+
+abbrev pub subsystem_in : Deed → Option (Bor (List ℕ))
+subsystem_in (deed.Seal s) = None
+subsystem_in (deed.Remove r) = None
+subsystem_in (deed.Rewrite r) = r.subsystem
+
+-- what it changes of the metadata
+abbrev pub change_in : Deed → Option Change
+change_in (deed.Seal s) = None
+change_in (deed.Remove r) = None
+change_in (deed.Rewrite r) = r.change
+
+-- the keyslot whose priority the change sets, the token that it adds with the number that is asked for it, and the
+-- token that it removes
+abbrev pub MatchChange : Change → (ℕ → Priority → Type 0) → (Option ℕ → Bor Value → Type 0) → (ℕ → Type 0) → Type 0
+MatchChange (changes.Priority slot priority) P A R = P slot priority
+MatchChange (changes.AddToken to token) P A R = A to token
+MatchChange (changes.RemoveToken number) P A R = R number
+
+-- the keyslot that a change names: the one whose priority it sets
+abbrev pub AmendsSlot : Option Change → ℕ → Type 0
+AmendsSlot None n = ⊥
+AmendsSlot (Some c) n = MatchChange c (λ slot priority. n ≡ slot) (λ to token. ⊥) (λ number. ⊥)
+
+-- the header says all that it said
+abbrev pub sets_nothing : Rewritten → Bool
+sets_nothing r = is_none r.label && is_none r.subsystem && is_none r.change
 
 -- the key is sealed in the keyslot that was opened
 abbrev pub again_at : Place → Sealed → Option Sealed
@@ -118,7 +157,7 @@ again_at (Opened slot secret) s = Some s
 abbrev pub again_in : Deed → Option Sealed
 again_in (deed.Seal s) = again_at s.place s
 again_in (deed.Remove r) = None
-again_in (deed.Rewrite label) = None
+again_in (deed.Rewrite r) = None
 
 -- the keyslot that is removed, or that the key is sealed in anew
 abbrev pub lost_at : Place → Option ℕ
@@ -128,12 +167,12 @@ lost_at (Opened slot secret) = Some slot
 abbrev pub lost_in : Deed → Option ℕ
 lost_in (deed.Seal s) = lost_at s.place
 lost_in (deed.Remove r) = Some r.slot
-lost_in (deed.Rewrite label) = None
+lost_in (deed.Rewrite r) = None
 
 -- ---- of an edit
 
 -- the key that it seals, the one that it seals in the keyslot that was opened, the keyslot that it
--- removes, the one that loses its area, the label that it sets
+-- removes, the one that loses its area, what it sets, and of that the label, the subsystem and the change
 abbrev pub sealed_by : Edit → Option Sealed
 sealed_by e = sealed_in (deed_of e)
 
@@ -146,13 +185,22 @@ removed_by e = removed_in (deed_of e)
 abbrev pub lost_by : Edit → Option ℕ
 lost_by e = lost_in (deed_of e)
 
+abbrev pub rewritten_by : Edit → Option Rewritten
+rewritten_by e = rewritten_in (deed_of e)
+
 abbrev pub label_by : Edit → Option (Bor (List ℕ))
 label_by e = label_in (deed_of e)
+
+abbrev pub subsystem_by : Edit → Option (Bor (List ℕ))
+subsystem_by e = subsystem_in (deed_of e)
+
+abbrev pub change_by : Edit → Option Change
+change_by e = change_in (deed_of e)
 
 -- the edit wants the keyslot `n` to be there: the one that it opens, and the one that it removes
 abbrev pub Wants : Edit → ℕ → Type 0
 Wants e n = MatchDeed (deed_of e) (λ s. MatchOpener (opener_at s.place) (λ slot secret. n ≡ slot) (λ key. ⊥))
-    (λ r. (n ≡ opener_of r.slot r.by_) ⊎ (n ≡ r.slot)) (λ label. ⊥)
+    (λ r. (n ≡ opener_of r.slot r.by_) ⊎ (n ≡ r.slot)) (λ r. ⊥)
 
 -- the edit names the keyslot that it removes as the one to open by
 abbrev pub NamesItself : Edit → Type 0
@@ -170,7 +218,7 @@ allowed_for old new = record {
 abbrev pub allowed_in : Deed → Allowed
 allowed_in (deed.Seal s) = allowed_for (opener_at s.place) s.passphrase.now
 allowed_in (deed.Remove r) = allowed_for (remover_of r.slot r.by_ r.secret) []
-allowed_in (deed.Rewrite label) = none_allowed
+allowed_in (deed.Rewrite r) = none_allowed
 
 -- on each of the edit's secrets
 abbrev pub allowed_by : Edit → Allowed
@@ -180,7 +228,7 @@ allowed_by e = allowed_in (deed_of e)
 abbrev pub AreShortIn : Deed → Type 0
 AreShortIn (deed.Seal s) = (length (bytes_of (opener_at s.place)) < 2 ^ 32) × (length s.passphrase.now < 2 ^ 32)
 AreShortIn (deed.Remove r) = length (bytes_of (remover_of r.slot r.by_ r.secret)) < 2 ^ 32
-AreShortIn (deed.Rewrite label) = ⊤
+AreShortIn (deed.Rewrite r) = ⊤
 
 abbrev pub HasShortPassphrases : Edit → Type 0
 HasShortPassphrases e = AreShortIn (deed_of e)

@@ -1,9 +1,10 @@
 -- The order of an edit's faults, and which of them is the device's.
 use Rattle.std.specs.Prelude.{ℕ, List, [], ◌∷◌, Bool, true, false}
+use Rattle.luks_rules.specs.MetaFault.{meta_key}
 use Rattle.luks_reading.specs.Answer.{slot_row}
 use Rattle.luks_reading.specs.Checked.{check_key}
 use Rattle.luks_edit.specs.declared.edit_fault.EditFault.{EditFault}
-use Rattle.luks_edit.specs.declared.edit_fault.EditFault.TheVariants.{NotAccepted, Requirements, NoSuchSlot, SameSlot, Locked, KeyLength, WrongKey, Slot, SlotTaken, NoFreeSlot, NoRoom, LastSlot, Iterations, Argon2, BadLabel, SeqExhausted, MetadataFull, RandomLength, Memory, Device}
+use Rattle.luks_edit.specs.declared.edit_fault.EditFault.TheVariants.{NotAccepted, Requirements, NoSuchSlot, SameSlot, Locked, KeyLength, WrongKey, Slot, SlotTaken, NoFreeSlot, NoRoom, LastSlot, Iterations, Argon2, BadLabel, NoSuchToken, TokenTaken, NoFreeToken, UnreadableToken, BadToken, SeqExhausted, MetadataFull, RandomLength, Memory, Device}
 
 -- the rows of the table of faults, in their order
 abbrev pub edit_row : EditFault → ℕ
@@ -22,16 +23,22 @@ edit_row LastSlot = 11
 edit_row Iterations = 12
 edit_row Argon2 = 13
 edit_row BadLabel = 14
-edit_row SeqExhausted = 15
-edit_row MetadataFull = 16
-edit_row RandomLength = 17
-edit_row Memory = 18
-edit_row Device = 19
+edit_row NoSuchToken = 15
+edit_row TokenTaken = 16
+edit_row NoFreeToken = 17
+edit_row UnreadableToken = 18
+edit_row (BadToken f) = 19
+edit_row SeqExhausted = 20
+edit_row MetadataFull = 21
+edit_row RandomLength = 22
+edit_row Memory = 23
+edit_row Device = 24
 
 -- the place of a fault among those of its row
 abbrev pub edit_place : EditFault → List ℕ
 edit_place (NotAccepted f) = check_key f
 edit_place (Slot s) = slot_row s ∷ []
+edit_place (BadToken f) = meta_key f
 edit_place f = []
 
 -- the least key is that of the first fault

@@ -1,5 +1,6 @@
 -- How the faults of an edit, and of a list of them, are written.
 use Rattle.std.specs.Prelude.{ℕ, List, codes}
+use Rattle.luks_rules.specs.MetaFault.{fault_text as meta_fault_text}
 use Rattle.luks_slot.specs.Fault.{fault_text as slot_fault_text}
 use Rattle.luks_reading.specs.FaultTexts.{check_fault_text}
 use Rattle.luks_edit.specs.declared.edit_fault.EditFault.{EditFault}
@@ -23,6 +24,11 @@ edit_fault_text edit.LastSlot = codes "LastSlot"
 edit_fault_text edit.Iterations = codes "Iterations"
 edit_fault_text edit.Argon2 = codes "Argon2"
 edit_fault_text edit.BadLabel = codes "BadLabel"
+edit_fault_text edit.NoSuchToken = codes "NoSuchToken"
+edit_fault_text edit.TokenTaken = codes "TokenTaken"
+edit_fault_text edit.NoFreeToken = codes "NoFreeToken"
+edit_fault_text edit.UnreadableToken = codes "UnreadableToken"
+edit_fault_text (edit.BadToken f) = meta_fault_text f
 edit_fault_text edit.SeqExhausted = codes "SeqExhausted"
 edit_fault_text edit.MetadataFull = codes "MetadataFull"
 edit_fault_text edit.RandomLength = codes "RandomLength"

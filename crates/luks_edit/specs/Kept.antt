@@ -45,6 +45,11 @@ pub record KeepsSlot (payload : Data) (n : ℕ) (v w : List ℕ) : Type 0 where
   pub value : (d : Value) → IsKeyslot v n d ↔ IsKeyslot w n d
   pub answers : (allowed : Allowed) (p : List ℕ) (a : Opened) → AnswerWithin allowed v n p a ↔ AnswerWithin allowed w n p a
 
+-- the keyslot `n` has its area, and its answer to every passphrase, whatever is allowed
+pub record KeepsAnswers (payload : Data) (n : ℕ) (v w : List ℕ) : Type 0 where
+  pub area : KeepsArea payload (Slot n) v w
+  pub answers : (allowed : Allowed) (p : List ℕ) (a : Opened) → AnswerWithin allowed v n p a ↔ AnswerWithin allowed w n p a
+
 -- the volume `w` is as long as `v` and well formed, the segments are as they were, and so is each
 -- keyslot that isn't named
 pub record Keeps (payload : Data) (named : ℕ → Type 0) (v w : List ℕ) : Type 0 where

@@ -1,9 +1,9 @@
 //! What an edit does of a volume: the parts by which its rules are said.
 ghost use Rattle.std.specs.Prelude.{◌≡◌};
-ghost use Rattle.luks_edit.specs.Asked.{opener_at, remover_of};
+ghost use Rattle.luks_edit.specs.Asked.{opener_at, remover_of, sets_nothing};
 
 use crate::edit::{Opener, Secret, SecretKind, VolumeKey};
-use luks_making::AskedDerivation;
+use luks_making::{AskedDerivation, Change};
 
 /// What an edit does of a volume.
 ///
@@ -15,11 +15,8 @@ pub enum Deed<'a> {
     Seal(Sealed<'a>),
     /// A keyslot is removed, and its area wiped.
     Remove(Removed<'a>),
-    /// No keyslot is named.
-    Rewrite {
-        /// The new label of the header; where it isn't given, the header says what it said.
-        label: Option<&'a [u8]>,
-    },
+    /// The header is written anew, and no keyslot is opened.
+    Rewrite(Rewritten<'a>),
 }
 
 /// A key that an edit seals.
@@ -96,5 +93,25 @@ impl<'a> Removed<'a> {
                 }),
             },
         }
+    }
+}
+
+/// What a header that is written anew says newly; where something isn't given, it says what it said.
+#[derive(Clone, Copy)]
+pub struct Rewritten<'a> {
+    /// The new label.
+    pub label: Option<&'a [u8]>,
+    /// The new subsystem.
+    pub subsystem: Option<&'a [u8]>,
+    /// What changes of the metadata.
+    pub change: Option<Change<'a>>,
+}
+
+impl Rewritten<'_> {
+    /// Whether the header says all that it said.
+    pub fn sets_nothing(&self) -> bool
+        ensures { result ≡ sets_nothing self.now }
+    {
+        self.label.is_none() && self.subsystem.is_none() && self.change.is_none()
     }
 }

@@ -1,10 +1,11 @@
 //! The edits of a volume.
 ghost use Rattle.std.specs.Prelude.{◌≡◌, ◌^◌, Some, length, nat_lt};
 ghost use Rattle.luks_edit.specs.Asked.{allowed_by, allowed_for, allowed_of, bytes_of, chosen_or, deed_of, opener_in, opener_of};
+ghost use Rattle.luks_edit.specs.declared.deed.Deed.TheVariants.{Rewrite};
 ghost use Rattle.luks_edit.specs.declared.deed.Place.TheVariants.{New};
 
-use crate::deed::{Deed, Place, Removed, Sealed};
-use luks_making::{AskedDerivation, NewDerivation};
+use crate::deed::{Deed, Place, Removed, Rewritten, Sealed};
+use luks_making::{AskedDerivation, Change, NewDerivation};
 use luks_slot::Allowed;
 
 /// A passphrase, and what may be spent on it.
@@ -49,7 +50,7 @@ pub struct VolumeKey<'a> {
     pub allowed: Allowed,
 }
 
-/// An edit of a volume's keyslots, header or label.
+/// An edit of a volume's keyslots, header, label or metadata.
 ///
 /// The keyslot that an edit names as `by_`, or else as `slot`, is the one that its secret has to open:
 /// its passphrase, or the key that it gives.
@@ -125,11 +126,16 @@ pub enum Edit<'a> {
     },
     /// LUKS2: writes both copies of the header anew from the one that counts. LUKS1: nothing.
     Repair,
-    /// LUKS2: sets the volume's label.
+    /// LUKS2: sets the volume's label and, where it is given, its subsystem.
     Label {
         /// The label, at most 47 bytes of 0x20 to 0x7E.
         text: &'a [u8],
+        /// The subsystem, of as many such bytes; where it isn't given, it stays as it was.
+        subsystem: Option<&'a [u8]>,
     },
+    /// LUKS2: changes the metadata in named members. Every key area, and what each keyslot answers,
+    /// stays as it was.
+    Amend(Change<'a>),
 }
 
 /// What gives the key for an edit.
@@ -215,8 +221,9 @@ impl<'a> Edit<'a> {
                 derivation: asked(iterations, derivation),
             }),
             Edit::Remove { slot, by_, secret } => Deed::Remove(Removed { slot, by_, secret }),
-            Edit::Repair => Deed::Rewrite { label: None },
-            Edit::Label { text } => Deed::Rewrite { label: Some(text) },
+            Edit::Repair => rewriting(None, None, None),
+            Edit::Label { text, subsystem } => rewriting(Some(text), subsystem, None),
+            Edit::Amend(change) => rewriting(None, None, Some(change)),
         }
     }
 
@@ -227,7 +234,7 @@ impl<'a> Edit<'a> {
         match self.deed() {
             Deed::Seal(sealed) => Some(sealed.opener()),
             Deed::Remove(removed) => Some(removed.opener()),
-            Deed::Rewrite { label: _ } => None,
+            Deed::Rewrite(_) => None,
         }
     }
 }
@@ -237,6 +244,25 @@ fn added_by(opener: Opener<'_>, to: Option<u8>) -> Place<'_>
     ensures { result ≡ New opener.entry to }
 {
     Place::New { opener, to }
+}
+
+/// The header is written anew with this label, this subsystem and this change, where they are given.
+fn rewriting<'a>(
+    label: Option<&'a [u8]>,
+    subsystem: Option<&'a [u8]>,
+    change: Option<Change<'a>>,
+) -> Deed<'a>
+    ensures { result ≡ Rewrite (record {
+      label = label.entry;
+      subsystem = subsystem.entry;
+      change = change.entry;
+    }) }
+{
+    Deed::Rewrite(Rewritten {
+        label,
+        subsystem,
+        change,
+    })
 }
 
 /// What is chosen, or so many iterations.
@@ -288,7 +314,7 @@ impl Edit<'_> {
         match self.deed() {
             Deed::Seal(sealed) => allowed_for(&sealed.opener(), sealed.passphrase),
             Deed::Remove(removed) => allowed_for(&removed.opener(), b""),
-            Deed::Rewrite { label: _ } => Allowed::NOTHING,
+            Deed::Rewrite(_) => Allowed::NOTHING,
         }
     }
 }
@@ -319,7 +345,7 @@ fn is_short(passphrase: &[u8]) -> bool
 /// What a completed edit made.
 #[derive(Clone, Copy, PartialEq, Eq, Drop)]
 pub struct Done {
-    /// The keyslot that was made or changed; none after a removal, a repair and a new label.
+    /// The keyslot that was made or sealed again; none after any other edit.
     pub slot: Option<u8>,
 }
 

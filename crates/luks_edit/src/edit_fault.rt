@@ -3,6 +3,7 @@ ghost use Rattle.std.specs.Prelude.{Some};
 ghost use Rattle.luks_edit.specs.FaultTexts.{edit_fault_text, run_fault_text};
 
 use luks_reading::CheckFault;
+use luks_rules::MetaFault;
 use luks_slot::SlotFault;
 use std::error::Error;
 use std::fmt;
@@ -42,8 +43,20 @@ pub enum EditFault {
     /// The Argon2 that is chosen takes more memory than is allowed, or is outside its bounds; LUKS1 has
     /// none.
     Argon2,
-    /// LUKS1 has no label; a label of LUKS2 has at most 47 bytes of 0x20 to 0x7E.
+    /// LUKS1 has no label, subsystem or metadata; a label or a subsystem of LUKS2 has at most 47 bytes of
+    /// 0x20 to 0x7E.
     BadLabel,
+    /// LUKS2: the token to remove isn't there.
+    NoSuchToken,
+    /// LUKS2: the number that is asked for a token is in use.
+    TokenTaken,
+    /// LUKS2: there is no token of that number, or none is free.
+    NoFreeToken,
+    /// LUKS2: cryptsetup doesn't read metadata with the new token: its type is the empty text, or arrays
+    /// and objects nest in it deeper than 29 levels.
+    UnreadableToken,
+    /// LUKS2: the metadata with the new token breaks a rule.
+    BadToken(MetaFault),
     /// LUKS2: there is no higher sequence number.
     SeqExhausted,
     /// LUKS2: the new metadata is longer than the JSON area holds.
@@ -76,6 +89,11 @@ impl fmt::Display for EditFault {
             EditFault::Iterations => f.write_str("Iterations"),
             EditFault::Argon2 => f.write_str("Argon2"),
             EditFault::BadLabel => f.write_str("BadLabel"),
+            EditFault::NoSuchToken => f.write_str("NoSuchToken"),
+            EditFault::TokenTaken => f.write_str("TokenTaken"),
+            EditFault::NoFreeToken => f.write_str("NoFreeToken"),
+            EditFault::UnreadableToken => f.write_str("UnreadableToken"),
+            EditFault::BadToken(fault) => write!(f, "{fault}"),
             EditFault::SeqExhausted => f.write_str("SeqExhausted"),
             EditFault::MetadataFull => f.write_str("MetadataFull"),
             EditFault::RandomLength => f.write_str("RandomLength"),

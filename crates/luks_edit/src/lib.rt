@@ -8,11 +8,13 @@ mod edit_fault;
 mod giving;
 mod laws;
 
-pub use deed::{Deed, Place, Removed, Sealed};
+pub use deed::{Deed, Place, Removed, Rewritten, Sealed};
 pub use edit::{
     Done, Edit, Opener, Passphrase, Secret, SecretKind, Step, VolumeKey, chosen_or, opener_of,
 };
 pub use edit_fault::{EditFault, RunFault};
 pub use giving::{give_within, lock_fault, own_key};
 pub use laws::secrets_answer_once;
-pub use luks_making::{Argon2Costs, AskedDerivation, LEAST_ITERATIONS, NewDerivation};
+pub use luks_making::{
+    Argon2Costs, AskedDerivation, Change, LEAST_ITERATIONS, NewDerivation, Priority,
+};

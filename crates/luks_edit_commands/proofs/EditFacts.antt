@@ -5,6 +5,9 @@ use Rattle.luks_area.specs.declared.area.AreaName.{AreaName}
 use Rattle.luks_area.specs.declared.area.AreaName.TheVariants.{Slot, Segment}
 use Rattle.luks_reading.specs.declared.report.Data.{Data}
 use Rattle.luks_reading.specs.Checked.{WellFormed}
+use Rattle.serde_json.specs.Data.{Data as Value}
+use Rattle.serde_json.specs.View.{view}
+use Rattle.luks_making.specs.declared.amended.Change.TheVariants as change
 use Rattle.luks_edit.specs.declared.edit.Done.{Done as Made}
 use Rattle.luks_edit.specs.declared.edit.Edit.{Edit}
 use Rattle.luks_edit.specs.declared.edit.Edit.TheVariants as edit
@@ -18,7 +21,7 @@ use Rattle.luks_volume.specs.Edits.{NamedSlots, Refusal, Replies}
 use Rattle.luks_volume.specs.Needed.{NeedsRandom}
 use Rattle.luks_volume.specs.Outcome.{Spares}
 use Rattle.luks_request.specs.declared.request.EditRequest.{EditRequest}
-use Rattle.luks_request.specs.declared.request.EditRequest.TheVariants.{Add, AddByKey, Change, Remove, Repair, Label}
+use Rattle.luks_request.specs.declared.request.EditRequest.TheVariants.{Add, AddByKey, Change, Remove, Repair, Label, Priority, AddToken, RemoveToken}
 use Rattle.luks_request.specs.Named.{edit_new_of, edit_passphrase_of}
 use Rattle.luks_request.specs.declared.request.Editing.{Editing}
 use Rattle.luks_request.specs.declared.request.OpenerFile.{OpenerFile}
@@ -29,7 +32,7 @@ use Rattle.luks_commands.specs.Answer.{answer_status, edit_fault_answer, IsWordl
 use Rattle.luks_edit_commands.specs.declared.edit.seen.Unseen.{Unseen}
 use Rattle.luks_edit_commands.specs.declared.edit.seen.Unseen.TheVariants.{Untold, Used}
 use Rattle.luks_edit_commands.specs.OtherUses.{unseen_answer}
-use Rattle.luks_edit_commands.specs.Editing.{Given, IsAsked, IsFirstSeen, IsMissed, IsRefused, IsRefusedAtOnce, IsRefusedLate, IsRefusedUnfound, IsReplied, IsSecret, IsUnseen}
+use Rattle.luks_edit_commands.specs.Editing.{Given, HasNoText, HasText, IsAsked, IsFirstSeen, IsMissed, IsRefused, IsRefusedAtOnce, IsRefusedLate, IsRefusedUnfound, IsReplied, IsSecret, IsUnseen}
 use Rattle.luks_edit_commands.specs.Editing.{KeepsUnnamed, Misses, NamesSlot, SaysEdit, SparesEdit, UnlessOutside, WhereFailed}
 use Rattle.luks_commands.specs.declared.inputs.InputFault.{InputFault}
 use Rattle.luks_commands.specs.Files.{AreFirstBytes, LeavesVolume}
@@ -307,6 +310,14 @@ secret_of opener memory older IsOld p s old is = record { kind_is = is.kind_is; 
 secret_somehow : (opener : OpenerFile) (memory : ℕ) (older : Bool) (IsOld : List ℕ → Type 0) (s : Secret) → IsSecret opener memory older IsOld s → IsSecret opener memory older (λ p. Unit {0}) s
 secret_somehow opener memory older IsOld s is = record { kind_is = is.kind_is; words = tt; allowed = is.allowed }
 
+-- the text of a token is that of its file
+text_of : (IsOld : List ℕ → Type 0) (p : List ℕ) (j : Value) → IsOld p → HasText (λ x. x ≡ p) j → HasText IsOld j
+text_of IsOld p j old is = record { text = is.text; words = subst IsOld (sym is.words) old; utf8 = is.utf8; reads = is.reads }
+
+-- and so where it is none
+no_text_of : (IsOld : List ℕ → Type 0) (p : List ℕ) → IsOld p → HasNoText (λ x. x ≡ p) → HasNoText IsOld
+no_text_of IsOld p old is = record { text = is.text; words = subst IsOld (sym is.words) old; bad = is.bad }
+
 -- the passphrases are those that the files have, where the edit needs them
 pub asked_of : (v : List ℕ) (request : EditRequest) (IsOld IsNew : List ℕ → Type 0) (p q : List ℕ) (e : Edit) → IfSome (edit_passphrase_of request) (λ name. IsOld p)
     → IfSome (edit_new_of request) (λ name. IsNew q) → IsAsked v request (λ x. x ≡ p) (λ x. x ≡ q) e → IsAsked v request IsOld IsNew e
@@ -318,13 +329,19 @@ asked_of v (Change slot opener memory older new iterations kdf) IsOld IsNew p q 
     (is.0, secret_of opener memory older IsOld p o old is.1, subst IsNew (sym is.2) fresh, is.3, is.4)
 asked_of v (Remove slot by_ opener memory older) IsOld IsNew p q (edit.Remove s b o) old fresh is = (is.0, is.1, secret_of opener memory older IsOld p o old is.2)
 asked_of v Repair IsOld IsNew p q edit.Repair old fresh is = is
-asked_of v (Label text) IsOld IsNew p q (edit.Label t) old fresh is = is
+asked_of v (Label text subsystem) IsOld IsNew p q (edit.Label t s) old fresh is = is
+asked_of v (Priority slot priority) IsOld IsNew p q (edit.Amend (change.Priority s r)) old fresh is = is
+asked_of v (AddToken token to) IsOld IsNew p q (edit.Amend (change.AddToken t value)) old fresh is = (is.0, text_of IsOld p (view value.now) old is.1)
+asked_of v (RemoveToken number) IsOld IsNew p q (edit.Amend (change.RemoveToken n)) old fresh is = is
 asked_of v (Add by_ opener memory older new to iterations kdf) IsOld IsNew p q e old fresh is = absurd is
 asked_of v (AddByKey key memory older new to iterations kdf) IsOld IsNew p q e old fresh is = absurd is
 asked_of v (Change slot opener memory older new iterations kdf) IsOld IsNew p q e old fresh is = absurd is
 asked_of v (Remove slot by_ opener memory older) IsOld IsNew p q e old fresh is = absurd is
 asked_of v Repair IsOld IsNew p q e old fresh is = absurd is
-asked_of v (Label text) IsOld IsNew p q e old fresh is = absurd is
+asked_of v (Label text subsystem) IsOld IsNew p q e old fresh is = absurd is
+asked_of v (Priority slot priority) IsOld IsNew p q e old fresh is = absurd is
+asked_of v (AddToken token to) IsOld IsNew p q e old fresh is = absurd is
+asked_of v (RemoveToken number) IsOld IsNew p q e old fresh is = absurd is
 
 -- what holds where there is a name, holds where there are its bytes
 pub some_as : {A B : Type 0} (f : A → B) (o : Option A) (named : Option B) (P : Type 0) → option_map f o ≡ named → IfSome o (λ x. P) → IfSome named (λ x. P)
@@ -339,13 +356,20 @@ asked_somehow v (AddByKey key memory older new to iterations kdf) IsOld IsNew (e
 asked_somehow v (Change slot opener memory older new iterations kdf) IsOld IsNew (edit.Change s o n i d) is = (is.0, secret_somehow opener memory older IsOld o is.1, tt, is.3, is.4)
 asked_somehow v (Remove slot by_ opener memory older) IsOld IsNew (edit.Remove s b o) is = (is.0, is.1, secret_somehow opener memory older IsOld o is.2)
 asked_somehow v Repair IsOld IsNew edit.Repair is = is
-asked_somehow v (Label text) IsOld IsNew (edit.Label t) is = is
+asked_somehow v (Label text subsystem) IsOld IsNew (edit.Label t s) is = is
+asked_somehow v (Priority slot priority) IsOld IsNew (edit.Amend (change.Priority s r)) is = is
+asked_somehow v (AddToken token to) IsOld IsNew (edit.Amend (change.AddToken t value)) is =
+    (is.0, record { text = is.1.text; words = tt; utf8 = is.1.utf8; reads = is.1.reads })
+asked_somehow v (RemoveToken number) IsOld IsNew (edit.Amend (change.RemoveToken n)) is = is
 asked_somehow v (Add by_ opener memory older new to iterations kdf) IsOld IsNew e is = absurd is
 asked_somehow v (AddByKey key memory older new to iterations kdf) IsOld IsNew e is = absurd is
 asked_somehow v (Change slot opener memory older new iterations kdf) IsOld IsNew e is = absurd is
 asked_somehow v (Remove slot by_ opener memory older) IsOld IsNew e is = absurd is
 asked_somehow v Repair IsOld IsNew e is = absurd is
-asked_somehow v (Label text) IsOld IsNew e is = absurd is
+asked_somehow v (Label text subsystem) IsOld IsNew e is = absurd is
+asked_somehow v (Priority slot priority) IsOld IsNew e is = absurd is
+asked_somehow v (AddToken token to) IsOld IsNew e is = absurd is
+asked_somehow v (RemoveToken number) IsOld IsNew e is = absurd is
 
 -- the edit that is asked for keeps what it doesn't name
 pub named_asked : (editing : Editing) (old new : List ℕ) (v w : List ℕ) (e : Edit) → IsAsked v editing.request (λ p. p ≡ old) (λ p. p ≡ new) e
@@ -369,7 +393,10 @@ missed_of payload v (Change (Some n) opener memory older new iterations kdf) IsO
 missed_of payload v (Remove None by_ opener memory older) IsOld p old f is = misses_of payload opener memory older IsOld p v f old is
 missed_of payload v (Remove (Some n) by_ opener memory older) IsOld p old f is = absurd is
 missed_of payload v Repair IsOld p old f is = absurd is
-missed_of payload v (Label text) IsOld p old f is = absurd is
+missed_of payload v (Label text subsystem) IsOld p old f is = absurd is
+missed_of payload v (Priority slot priority) IsOld p old f is = absurd is
+missed_of payload v (AddToken token to) IsOld p old f is = (no_text_of IsOld p old is.0, is.1)
+missed_of payload v (RemoveToken number) IsOld p old f is = absurd is
 
 -- ---- over devices
 

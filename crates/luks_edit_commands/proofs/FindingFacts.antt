@@ -14,6 +14,8 @@ use Rattle.luks_reading.specs.Failures.{is_open_failure}
 use Rattle.luks_reading.specs.Header.{json_at}
 use Rattle.luks_reading.proofs.Luks2FaultFacts.{to_luks2_fault}
 use Rattle.luks_reading.specs.Unlocking.{IsVolumeRefusal, IsVolumeRefusalAs, IsVolumeRefusedBy}
+use Rattle.serde_json.specs.declared.value.Value.{Value as TheValue}
+use Rattle.luks_making.specs.declared.amended.Change.TheVariants as change
 use Rattle.luks_edit.specs.declared.edit.Edit.{Edit}
 use Rattle.luks_edit.specs.declared.edit.Edit.TheVariants as edit
 use Rattle.luks_edit.specs.declared.edit.Secret.{Secret}
@@ -23,13 +25,13 @@ use Rattle.luks_edit.specs.EditFaults.{edit_key, is_edit_failure}
 use Rattle.luks_volume.specs.Needed.{IsNeedFault, IsNeedFaultAs, IsUntold}
 use Rattle.luks_request.specs.declared.derivation.AskedKdf.{AskedKdf}
 use Rattle.luks_request.specs.declared.request.EditRequest.{EditRequest}
-use Rattle.luks_request.specs.declared.request.EditRequest.TheVariants.{Add, AddByKey, Change, Remove, Repair, Label}
+use Rattle.luks_request.specs.declared.request.EditRequest.TheVariants.{Add, AddByKey, Change, Remove, Repair, Label, Priority, AddToken, RemoveToken}
 use Rattle.luks_request.specs.declared.request.Editing.{Editing}
 use Rattle.luks_request.specs.declared.request.OpenerFile.{OpenerFile}
 use Rattle.luks_commands.specs.Chosen.{chosen_of}
 use Rattle.luks_commands.specs.OpenAnswers.{allowed_of}
 use Rattle.luks_edit_commands.specs.declared.edit.seen.Unseen.TheVariants.{Untold}
-use Rattle.luks_edit_commands.specs.Editing.{IsAsked, IsFirstSeen, IsMissed, IsSecret, IsUnfound, IsUnseen, Misses, UnlessOutside, kind_of, unopened_fault}
+use Rattle.luks_edit_commands.specs.Editing.{IsAsked, IsFirstSeen, IsMissed, IsSecret, IsUnfound, IsUnseen, Misses, UnlessOutside, IsTokenOf, kind_of, priority_of, unopened_fault}
 
 -- what follows from a fault follows unless the device failed or memory was refused
 pub outside_as : (v : List ℕ) (P Q : EditFault → Type 0) → ((f : EditFault) → P f → Q f) → (f : EditFault) → UnlessOutside v P f → UnlessOutside v Q f
@@ -116,28 +118,36 @@ module _ (payload : Data) (v : List ℕ) (old new : Bor (List ℕ)) (f : EditFau
   abbrev IsEither : EditRequest → Type 0
   IsEither request = IsMissed payload request (λ p. p ≡ old.now) v f ⊎ ((e : Edit) × IsAsked v request (λ p. p ≡ old.now) (λ p. p ≡ new.now) e)
 
-  either_way : (request : EditRequest) → IsEither request
-  either_way (Add None opener memory older n to iterations kdf) = inl (missed_by opener memory older)
-  either_way (Add (Some by_) opener memory older n to iterations kdf) =
+  -- a token was read from the bytes of its file, or they hold none
+  added_way : (token : Bor (List ℕ)) (to : Option ℕ) (value : Option (Bor TheValue)) → IsTokenOf (AddToken token to) old.now value → IsEither (AddToken token to)
+  added_way token to (Some value) is = inr (edit.Amend (change.AddToken to value), (refl, record { text = old.now; words = refl; utf8 = is.0; reads = is.1 }))
+  added_way token to None bad = inl (record { text = old.now; words = refl; bad = bad }, inl (first edit.Repair))
+
+  either_way : (value : Option (Bor TheValue)) (request : EditRequest) → IsTokenOf request old.now value → IsEither request
+  either_way value (Add None opener memory older n to iterations kdf) read_ = inl (missed_by opener memory older)
+  either_way value (Add (Some by_) opener memory older n to iterations kdf) read_ =
       inr (edit.Add by_ (secret_for opener old memory older) new to iterations (chosen_of kdf), (refl, secret_is opener old memory older, refl, refl, refl, refl))
-  either_way (AddByKey key memory older n to iterations kdf) =
+  either_way value (AddByKey key memory older n to iterations kdf) read_ =
       inr (edit.AddByKey (record { bytes = old; allowed = allowed_of memory older }) new to iterations (chosen_of kdf), (refl, refl, refl, refl, refl, refl))
-  either_way (Change None opener memory older n iterations kdf) = inl (missed_by opener memory older)
-  either_way (Change (Some slot) opener memory older n iterations kdf) =
+  either_way value (Change None opener memory older n iterations kdf) read_ = inl (missed_by opener memory older)
+  either_way value (Change (Some slot) opener memory older n iterations kdf) read_ =
       inr (edit.Change slot (secret_for opener old memory older) new iterations (chosen_of kdf), (refl, secret_is opener old memory older, refl, refl, refl))
-  either_way (Remove None by_ opener memory older) = inl (missed_by opener memory older)
-  either_way (Remove (Some slot) by_ opener memory older) = inr (edit.Remove slot by_ (secret_for opener old memory older), (refl, refl, secret_is opener old memory older))
-  either_way Repair = inr (edit.Repair, tt)
-  either_way (Label text) = inr (edit.Label text, refl)
+  either_way value (Remove None by_ opener memory older) read_ = inl (missed_by opener memory older)
+  either_way value (Remove (Some slot) by_ opener memory older) read_ = inr (edit.Remove slot by_ (secret_for opener old memory older), (refl, refl, secret_is opener old memory older))
+  either_way value Repair read_ = inr (edit.Repair, tt)
+  either_way value (Label text subsystem) read_ = inr (edit.Label text subsystem, (refl, refl))
+  either_way value (Priority slot priority) read_ = inr (edit.Amend (change.Priority slot (priority_of priority)), (refl, refl))
+  either_way value (AddToken token to) read_ = added_way token to value read_
+  either_way value (RemoveToken number) read_ = inr (edit.Amend (change.RemoveToken number), refl)
 
 -- ---- what is seen of it
 
 -- the header isn't read
-pub header_unseen : (editing : Editing) (old new : Bor (List ℕ)) (v : List ℕ) (f : EditFault)
+pub header_unseen : (editing : Editing) (old new : Bor (List ℕ)) (value : Option (Bor TheValue)) → IsTokenOf editing.request old.now value → (v : List ℕ) (f : EditFault)
     → ((e : Edit) → IsUntold v editing.payload e f) → IsUnseen editing.payload (IsAsked v editing.request (λ p. p ≡ old.now) (λ p. p ≡ new.now)) (IsMissed editing.payload editing.request (λ p. p ≡ old.now) v) editing.over v (Untold f)
-header_unseen editing old new v fault.Memory is = is edit.Repair
-header_unseen editing old new v fault.Device is = tt
-header_unseen editing old new v f is = elim (either_way editing.payload v old new f is editing.request) [
+header_unseen editing old new value read_ v fault.Memory is = is edit.Repair
+header_unseen editing old new value read_ v fault.Device is = tt
+header_unseen editing old new value read_ v f is = elim (either_way editing.payload v old new f is value editing.request read_) [
   | inl missed ↦ inl missed
   | inr x ↦ inr (record { edit = x.0; asked = x.1; first = is x.0 })
 ]

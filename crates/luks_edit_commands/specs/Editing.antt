@@ -1,5 +1,5 @@
 -- What the commands that edit leave of their volume.
-use Rattle.std.specs.Prelude.{◌≡◌, ◌⊎◌, ℕ, List, Option, Some, None, Bool, Result, Ok, Err, ⊤}
+use Rattle.std.specs.Prelude.{◌≡◌, ◌⊎◌, ℕ, List, Option, Some, None, option_map, Bool, Result, Ok, Err, ⊤, IsUtf8}
 use Rattle.luks_area.specs.First.{IsLeast}
 use Rattle.luks_reading.specs.declared.report.Data.{Data}
 use Rattle.luks_reading.specs.Checked.{WellFormed}
@@ -7,6 +7,15 @@ use Rattle.luks_reading.specs.Header.{NeedsMetadata}
 use Rattle.luks_reading.specs.Unlocking.{Unlocks}
 use Rattle.luks_reading.specs.declared.open_fault.OpenFault.{OpenFault}
 use Rattle.luks_reading.specs.declared.open_fault.OpenFault.TheVariants as opening
+use Rattle.std.specs.Borrow.{Bor}
+use Rattle.serde_json.specs.Data.{Data as Value}
+use Rattle.serde_json.specs.declared.value.Value.{Value as TheValue}
+use Rattle.serde_json.specs.Read.{read}
+use Rattle.serde_json.specs.View.{view}
+use Rattle.luks_rules.specs.declared.fault.MetaFault.TheVariants.{BadJson}
+use Rattle.luks_making.specs.declared.amended.Change.TheVariants as change
+use Rattle.luks_making.specs.declared.amended.Priority.{Priority as Priority_}
+use Rattle.luks_making.specs.declared.amended.Priority.TheVariants as priority
 use Rattle.luks_edit.specs.declared.edit.Done.{Done}
 use Rattle.luks_edit.specs.declared.edit.Edit.{Edit}
 use Rattle.luks_edit.specs.declared.edit.Edit.TheVariants as edit
@@ -14,7 +23,7 @@ use Rattle.luks_edit.specs.declared.edit.Secret.{Secret}
 use Rattle.luks_edit.specs.declared.edit.SecretKind.{SecretKind}
 use Rattle.luks_edit.specs.declared.edit.SecretKind.TheVariants as kind
 use Rattle.luks_edit.specs.declared.edit_fault.EditFault.{EditFault}
-use Rattle.luks_edit.specs.declared.edit_fault.EditFault.TheVariants.{Locked, Memory, Device}
+use Rattle.luks_edit.specs.declared.edit_fault.EditFault.TheVariants.{Locked, BadToken, Memory, Device}
 use Rattle.luks_edit.specs.EditFaults.{edit_key}
 use Rattle.luks_edit.specs.Kept.{Keeps}
 use Rattle.luks_edit.specs.Ran.{Reply}
@@ -23,8 +32,10 @@ use Rattle.luks_volume.specs.Needed.{IsNeedFault, NeedsRandom}
 use Rattle.luks_volume.specs.Outcome.{Spares}
 use Rattle.luks_signatures.specs.declared.other_use.OtherUse.{OtherUse}
 use Rattle.luks_request.specs.declared.request.EditRequest.{EditRequest}
-use Rattle.luks_request.specs.declared.request.EditRequest.TheVariants.{Add, AddByKey, Change, Remove, Repair, Label}
+use Rattle.luks_request.specs.declared.request.EditRequest.TheVariants.{Add, AddByKey, Change, Remove, Repair, Label, Priority, AddToken, RemoveToken}
 use Rattle.luks_request.specs.declared.request.Editing.{Editing}
+use Rattle.luks_request.specs.declared.token.AskedPriority.{AskedPriority}
+use Rattle.luks_request.specs.declared.token.AskedPriority.TheVariants as asked
 use Rattle.luks_request.specs.declared.request.OpenerFile.{OpenerFile}
 use Rattle.luks_request.specs.declared.request.OpenerFile.TheVariants as file
 use Rattle.luks_commands.specs.declared.inputs.InputFault.{InputFault}
@@ -60,6 +71,24 @@ abbrev pub IsMeant : List ℕ → Option ℕ → Secret → ℕ → Type 0
 IsMeant v (Some named) secret n = n ≡ named
 IsMeant v None secret n = IsFound v secret n
 
+-- the text of the file is that of the value (RFC 8259)
+pub record HasText (IsOld : List ℕ → Type 0) (j : Value) : Type 0 where
+  pub text : List ℕ
+  pub words : IsOld text
+  pub utf8 : IsUtf8 text
+  pub reads : read text ≡ Some j
+
+-- the file holds no text of a value
+pub record HasNoText (IsOld : List ℕ → Type 0) : Type 0 where
+  pub text : List ℕ
+  pub words : IsOld text
+  pub bad : IsUtf8 text → read text ≡ None
+
+abbrev pub priority_of : AskedPriority → Priority_
+priority_of asked.Ignore = priority.Ignore
+priority_of asked.Normal = priority.Normal
+priority_of asked.Prefer = priority.Prefer
+
 -- the edit is the one that the command line asks for of the volume `v`, with what it allows and the derivation that it
 -- chooses, its passphrases, or the key and the new passphrase, being such bytes
 abbrev pub IsAsked : List ℕ → EditRequest → (List ℕ → Type 0) → (List ℕ → Type 0) → Edit → Type 0
@@ -72,7 +101,10 @@ IsAsked v (Change slot opener memory older new iterations kdf) IsOld IsNew (edit
 IsAsked v (Remove slot by_ opener memory older) IsOld IsNew (edit.Remove s b o) =
     IsMeant v slot o s × (b ≡ by_) × IsSecret opener memory older IsOld o
 IsAsked v Repair IsOld IsNew edit.Repair = ⊤
-IsAsked v (Label text) IsOld IsNew (edit.Label t) = t.now ≡ text.now
+IsAsked v (Label text subsystem) IsOld IsNew (edit.Label t s) = (t.now ≡ text.now) × (option_map (λ x. x.now) s ≡ option_map (λ x. x.now) subsystem)
+IsAsked v (Priority slot priority) IsOld IsNew (edit.Amend (change.Priority s p)) = (s ≡ slot) × (p ≡ priority_of priority)
+IsAsked v (AddToken token to) IsOld IsNew (edit.Amend (change.AddToken t value)) = (t ≡ to) × HasText IsOld (view value.now)
+IsAsked v (RemoveToken number) IsOld IsNew (edit.Amend (change.RemoveToken n)) = n ≡ number
 IsAsked v request IsOld IsNew e = ⊥
 
 -- why no keyslot is found in the volume `v`: what refuses every edit of it, as one that opens none; else that the secret
@@ -87,11 +119,17 @@ pub record Misses (payload : Data) (opener : OpenerFile) (memory : ℕ) (older :
   pub asked : IsSecret opener memory older IsOld secret
   pub why : IsUnfound payload v secret f
 
--- the command line names no keyslot, and for its edit none is found in the volume `v`
+-- why a file that holds no text adds no token to the volume `v`: what refuses every edit of it, or that
+abbrev pub IsUntokened : Data → List ℕ → EditFault → Type 0
+IsUntokened payload v f = IsLeast edit_key (IsNeedFault v payload edit.Repair) f
+    ⊎ ((f ≡ BadToken BadJson) × ((g : EditFault) → IsNeedFault v payload edit.Repair g → ⊥))
+
+-- the command line names no keyslot, and for its edit none is found in the volume `v`; or the file of a token holds none
 abbrev pub IsMissed : Data → EditRequest → (List ℕ → Type 0) → List ℕ → EditFault → Type 0
 IsMissed payload (Add None opener memory older new to iterations kdf) IsOld v f = Misses payload opener memory older IsOld v f
 IsMissed payload (Change None opener memory older new iterations kdf) IsOld v f = Misses payload opener memory older IsOld v f
 IsMissed payload (Remove None by_ opener memory older) IsOld v f = Misses payload opener memory older IsOld v f
+IsMissed payload (AddToken token to) IsOld v f = HasNoText IsOld × IsUntokened payload v f
 IsMissed payload request IsOld v f = ⊥
 
 -- the keyslot that the edit removes, or else the one that it made
@@ -267,3 +305,12 @@ abbrev pub unopened_fault : OpenFault → EditFault
 unopened_fault opening.Device = Device
 unopened_fault opening.Memory = Memory
 unopened_fault f = Locked
+
+-- what the bytes `p` of the file of a token are read as; of other edits it is nothing
+abbrev pub IsTextOf : EditRequest → List ℕ → Option TheValue → Type 0
+IsTextOf (AddToken token to) p (Some t) = IsUtf8 p × (read p ≡ Some (view t))
+IsTextOf (AddToken token to) p None = IsUtf8 p → read p ≡ None
+IsTextOf request p t = ⊤
+
+abbrev pub IsTokenOf : EditRequest → List ℕ → Option (Bor TheValue) → Type 0
+IsTokenOf request p t = IsTextOf request p (option_map (λ x. x.now) t)

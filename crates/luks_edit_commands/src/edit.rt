@@ -1,4 +1,4 @@
-//! The commands that edit a volume: `add`, `change`, `remove`, `repair` and `label`.
+//! The commands that edit a volume: `add`, `change`, `remove`, `repair`, `label`, `priority` and `token`.
 ghost use Rattle.std.specs.Prelude.{◌≡◌, ◌≢◌, ◌+◌, ◌<◌, ◌^◌, IfErr, length};
 ghost use Rattle.std.specs.Result.{ForOk};
 ghost use Rattle.luks_area.specs.Device.{IsSettled};
@@ -6,7 +6,7 @@ ghost use Rattle.luks_reading.specs.Checked.{WellFormed};
 ghost use Rattle.luks_edit.specs.Kept.{Keeps};
 ghost use Rattle.luks_commands.specs.Answer.{answer_status, edit_fault_answer};
 ghost use Rattle.luks_edit_commands.specs.EditAnswers.{AnswersEdit, IsEditAnswer};
-ghost use Rattle.luks_edit_commands.specs.Editing.{given_by, given_words, KeepsUnnamed, lacking_by, lacking_random};
+ghost use Rattle.luks_edit_commands.specs.Editing.{given_by, given_words, IsTokenOf, KeepsUnnamed, lacking_by, lacking_random};
 ghost use Rattle.luks_edit_commands.specs.Editing.{NamesSlot, SaysEdit, SparesEdit, SparesVolume, WhereFailed};
 ghost use Rattle.luks_edit_commands.specs.OtherUses.{HoldsBack, HoldsBackVolume, unseen_answer};
 ghost use Rattle.luks_commands.specs.Files.{AreFirstBytes, IsUnreadRandom, LeavesSettled, LeavesVolume};
@@ -32,9 +32,10 @@ use seen::{
     OpenerNotes, Unseen, look_at_volume, note_leaving_argon2, note_refused, note_wanting,
     note_weaker,
 };
+use serde_json::Value;
 use std::alloc::Global;
 use std::io::{Read, Write};
-use words::words;
+use words::{token_of, words};
 
 /// Edits the volume of this name. The passphrase is read first, then the new one, and the random bytes last.
 #[tactic(auto, using(luks_commands::proofs::FileFacts::settled_same, crate::proofs::EditAnswerFacts::answers_wordless))]
@@ -83,6 +84,11 @@ pub fn run<D: Device, R: Read, N: Read, E: Write>(
         Ok(words) => words,
         Err(answer) => return answer,
     };
+    let passphrase = old.as_slice();
+    let token = match token_of(alloc, request, passphrase, err) {
+        Ok(token) => token,
+        Err(answer) => return answer,
+    };
     let device = match &mut inputs.volume {
         Ok(device) => device,
         Err(fault) => return unread(*fault, name, err),
@@ -94,8 +100,9 @@ pub fn run<D: Device, R: Read, N: Read, E: Write>(
         random,
         name,
         editing,
-        old.as_slice(),
+        passphrase,
         new.as_slice(),
+        token.as_ref(),
         err,
     )
 }
@@ -110,10 +117,12 @@ fn edit_device<D: Device, N: Read, E: Write>(
     editing: &Editing<'_>,
     old: &[u8],
     new: &[u8],
+    token: Option<&Value>,
     err: &mut E,
 ) -> Answer
     requires room { D.failed device.old + 1 < 2 ^ 64 }
     requires short { length old.now < 2 ^ 32 }
+    requires token { IsTokenOf editing.now.request old.now token }
     requires settled { D.tells → IsSettled D.unsettled device.old }
     ensures settled { D.tells → D.failed device.new ≡ D.failed device.old
         → IsSettled D.unsettled device.new }
@@ -145,7 +154,7 @@ fn edit_device<D: Device, N: Read, E: Write>(
         → HoldsBack editing.now.over (D.bytes device.old) (D.bytes device.new) result }
 {
     let payload = editing.payload;
-    let seen = match look_at_volume(alloc, device, editing, old, new, err) {
+    let seen = match look_at_volume(alloc, device, editing, old, new, token, err) {
         Ok(seen) => seen,
         Err(unseen) => return not_begun(unseen, name, err),
     };

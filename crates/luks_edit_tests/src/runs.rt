@@ -3,7 +3,7 @@
 ghost use Rattle.std.specs.Prelude.{◌+◌, ◌<◌, ◌^◌};
 
 use crate::answers::line_of;
-use crate::rows::{List, Row};
+use crate::rows::Row;
 use crate::{luks1, luks2};
 use luks_area::{Device, FaultyDevice, Leave, MemDevice};
 use luks_edit::{Done, Edit, EditFault, Step};
@@ -53,9 +53,8 @@ fn are_told(alloc: Global, rows: &[Row], replies: &[Reply]) -> Result<bool, Fail
     Ok(replies.len() == rows.len())
 }
 
-/// Whether the list has its replies, and leaves the last volume.
-fn runs(alloc: Global, image: Vec<u8>, list: List<'_>) -> Result<bool, Fail> {
-    let List { rows, sums } = list;
+/// Whether the list has its replies, and leaves the last volume of those with these sums.
+fn runs(alloc: Global, image: Vec<u8>, rows: &[Row], sums: &[&str]) -> Result<bool, Fail> {
     let random = random_of(alloc, rows)?;
     let steps = steps_of(alloc, rows, &random)?;
     let mut device = MemDevice::new(image);
@@ -66,25 +65,13 @@ fn runs(alloc: Global, image: Vec<u8>, list: List<'_>) -> Result<bool, Fail> {
     Ok(ran.is_ok() && told && is_sum(device.contents(), last))
 }
 
-/// The list over the small LUKS1 volume by SHA-256.
-pub(crate) const LUKS1: List<'static> = List {
-    rows: &luks1::table::LIST,
-    sums: &luks1::table::SHA256,
-};
-
-/// That over the LUKS2 volume.
-const LUKS2: List<'static> = List {
-    rows: &luks2::table::LIST,
-    sums: &luks2::table::SHA256,
-};
-
 #[test]
 fn whole_lists(rt: HostRuntime) -> Result<(), Fail> {
     let alloc = rt.alloc();
     let old = small1(alloc, HashName::Sha256)?;
-    assert!(rt; runs(alloc, old, LUKS1)?, "LUKS1");
+    assert!(rt; runs(alloc, old, &luks1::table::LIST, &luks1::table::SHA256)?, "LUKS1");
     let new = small2(alloc, HashName::Sha256)?;
-    assert!(rt; runs(alloc, new, LUKS2)?, "LUKS2");
+    assert!(rt; runs(alloc, new, &luks2::table::LIST, &luks2::table::SHA256)?, "LUKS2");
     Ok(())
 }
 
@@ -206,7 +193,8 @@ enum End {
 
 /// The first two additions of the rows, with a device whose call of this number fails.
 fn end_of(alloc: Global, call: u64) -> Result<End, Fail> {
-    let rows = LUKS1.rows.get(1..3).ok_or("no rows")?;
+    let list = luks1::table::LIST;
+    let rows = list.get(1..3).ok_or("no rows")?;
     let random = random_of(alloc, rows)?;
     let steps = steps_of(alloc, rows, &random)?;
     let image = MemDevice::new(small1(alloc, HashName::Sha256)?);

@@ -1,8 +1,9 @@
 //! Lists of edits with refused memory.
 
 use crate::luks2;
-use crate::rows::List;
-use crate::runs::{LUKS1, Reply, random_of, steps_of};
+use crate::luks1;
+use crate::rows::Row;
+use crate::runs::{Reply, random_of, steps_of};
 use luks_area::MemDevice;
 use luks_edit::{Edit, EditFault, Step};
 use luks_kdf::HashName;
@@ -78,8 +79,7 @@ fn ends_with_little_memory(
 
 /// Whether the list over a LUKS1 volume is refused memory for its replies alone, and leaves the last
 /// volume.
-fn takes_memory_once(alloc: Global, list: List<'_>) -> Result<bool, Fail> {
-    let List { rows, sums } = list;
+fn takes_memory_once(alloc: Global, rows: &[Row], sums: &[&str]) -> Result<bool, Fail> {
     let [before, .., last] = sums else {
         return Ok(false);
     };
@@ -92,7 +92,7 @@ fn takes_memory_once(alloc: Global, list: List<'_>) -> Result<bool, Fail> {
 
 #[test]
 fn little_memory_for_luks1(rt: HostRuntime) -> Result<(), Fail> {
-    assert!(rt; takes_memory_once(rt.alloc(), LUKS1)?, "the end");
+    assert!(rt; takes_memory_once(rt.alloc(), &luks1::table::LIST, &luks1::table::SHA256)?, "the end");
     Ok(())
 }
 

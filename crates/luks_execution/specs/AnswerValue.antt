@@ -8,7 +8,7 @@ use Rattle.luks_reading.specs.declared.report.Version.TheVariants.{Luks1, Luks2}
 use Rattle.luks_show.specs.Steering.{IsSteerless, unsteering}
 use Rattle.luks_show.specs.Texts.{copies_text}
 use Rattle.luks_commands.specs.declared.answers.Answer.{Answer}
-use Rattle.luks_commands.specs.declared.answers.Answer.TheVariants.{Accepted, Listed, ListedFully, Mapped, Json, Opens, Closed, NoneOpens, Matches, Differs, Done, Compared, Rescued, Refused, DeviceFault, NoMemory}
+use Rattle.luks_commands.specs.declared.answers.Answer.TheVariants.{Accepted, Listed, ListedFully, Mapped, Tokens, Json, Opens, Closed, NoneOpens, Matches, Differs, Done, Compared, Rescued, Refused, DeviceFault, NoMemory}
 use Rattle.luks_commands.specs.Answer.{answer_status, refusal_text}
 use Rattle.luks_commands.specs.Exit.{exit_status}
 use Rattle.luks_execution.specs.Parted.{IsParted}
@@ -87,6 +87,7 @@ IsAnswerWith (Done (Some n)) hints status d = d ≡ slot_value (codes "done") n 
 IsAnswerWith (Done None) hints status d = d ≡ bare_value (codes "done") hints status
 IsAnswerWith (Listed listing) hints status d = d ≡ bare_value (codes "shown") hints status
 IsAnswerWith (ListedFully listing) hints status d = d ≡ bare_value (codes "shown") hints status
+IsAnswerWith (Tokens listing) hints status d = d ≡ bare_value (codes "shown") hints status
 IsAnswerWith (Mapped map) hints status d = d ≡ bare_value (codes "shown") hints status
 IsAnswerWith (Json text) hints status d = d ≡ bare_value (codes "shown") hints status
 IsAnswerWith (Compared comparison) hints status d = d ≡ bare_value (codes "compared") hints status

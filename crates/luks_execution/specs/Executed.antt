@@ -5,6 +5,7 @@ use Rattle.luks_reading.specs.declared.report.Data.{Data}
 use Rattle.luks_request.specs.declared.keeping.BackingUp.{BackingUp}
 use Rattle.luks_request.specs.declared.keeping.Comparing.{Comparing}
 use Rattle.luks_request.specs.declared.keeping.KeepingKey.{KeepingKey}
+use Rattle.luks_request.specs.declared.keeping.KeepingToken.{KeepingToken}
 use Rattle.luks_request.specs.declared.keeping.Restoring.{Restoring}
 use Rattle.luks_request.specs.declared.rebuilding.Rebuilding.{Rebuilding}
 use Rattle.luks_request.specs.declared.request.Command.{Command}
@@ -34,7 +35,9 @@ use Rattle.luks_header_commands.specs.Target.{HoldsBackHeader}
 use Rattle.luks_header_commands.specs.Trying.{AnswersRebuild, KeepsRebuilt}
 use Rattle.luks_keeping_commands.specs.BackingUp.{AnswersBackup, KeepsRest as KeepsBesideBackup}
 use Rattle.luks_keeping_commands.specs.Comparing.{AnswersCompare}
-use Rattle.luks_keeping_commands.specs.KeepingKey.{AnswersKeyKept, AreNotThree, IsExisting}
+use Rattle.luks_keeping_commands.specs.KeepingKey.{AnswersKeyKept, AreNotThree}
+use Rattle.luks_keeping_commands.specs.KeepingToken.{IsTokenKept}
+use Rattle.luks_keeping_commands.specs.KeptFile.{IsExisting}
 use Rattle.luks_keeping_commands.specs.Restoring.{AnswersRestore, HoldsBackRestore, KeepsRest as KeepsBesideRestored}
 use Rattle.luks_edit_commands.specs.EditAnswers.{AnswersEdit}
 use Rattle.luks_edit_commands.specs.Editing.{given_by, KeepsUnnamed, lacking_by, SaysEdit, SparesVolume, WhereFailed}
@@ -62,6 +65,7 @@ UnlessBeside (command.Backup backing_up) holds = ⊤
 UnlessBeside (command.Restore restoring) holds = ⊤
 UnlessBeside (command.Compare comparing) holds = ⊤
 UnlessBeside (command.KeepKey keeping) holds = ⊤
+UnlessBeside (command.KeepToken keeping) holds = ⊤
 UnlessBeside _ holds = holds
 
 -- ---- each command
@@ -167,6 +171,14 @@ pub record KeepsKey {D R N : Type 0} (device : Device D) (words : R → Option (
       → AnswersKeyKept device (allowed_of keeping.memory keeping.older) keeping.slot
       (IsWhole words old.passphrase) (IsLong words old.passphrase) (IsUnread old.passphrase) old.volume new.volume old.target new.target answer
 
+-- `token export` writes the file of the token alone: the answer where that is the volume, and where it is there and isn't empty, for which no call
+-- is made; else the file has exactly the line that is printed of the token, or none was made or finished
+pub record KeepsToken {D R N : Type 0} (device : Device D) (keeping : KeepingToken) (name : List ℕ) (old new : Inputs D R N) (answer : Answer) : Type 0 where
+  pub same : RefusesOneFile name keeping.target.now old new answer
+  pub exists : OfTwoFiles name keeping.target.now old (IsExisting old.target → (new ≡ old) × (answer ≡ answered.Refused Exists))
+  pub answers : OfTwoFiles name keeping.target.now old ((IsExisting old.target → ⊥)
+      → IsTokenKept device keeping.number old.volume new.volume old.target new.target answer)
+
 -- what the command promises, by its files before and after it, where its volume has this name
 abbrev pub Executes : {D R N : Type 0} → Device D → (R → Option (List ℕ)) → (N → Option (List ℕ)) → Command → List ℕ
     → Inputs D R N → Inputs D R N → Answer → Type 0
@@ -187,6 +199,7 @@ Executes device words chance (command.Backup backing_up) name old new answer = B
 Executes device words chance (command.Restore restoring) name old new answer = Restores device restoring name old new answer
 Executes device words chance (command.Compare comparing) name old new answer = Compares device comparing name old new answer
 Executes device words chance (command.KeepKey keeping) name old new answer = KeepsKey device words keeping name old new answer
+Executes device words chance (command.KeepToken keeping) name old new answer = KeepsToken device keeping name old new answer
 
 -- the command has kept that promise; a record, so that what it is said of can be told from it
 pub record IsExecuted {D R N : Type 0} (device : Device D) (words : R → Option (List ℕ)) (chance : N → Option (List ℕ)) (command_ : Command) (name : List ℕ)

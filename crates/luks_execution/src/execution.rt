@@ -11,7 +11,7 @@ use luks_commands::open::Tried;
 use luks_commands::{Answer, Inputs, Status, check, format, matching, open, show};
 use luks_edit_commands::edit;
 use luks_header_commands::{Progress, SearchProgress, convert, rebuild};
-use luks_keeping_commands::{MakesFile, backup, compare, key, restore};
+use luks_keeping_commands::{MakesFile, backup, compare, key, restore, token};
 use luks_request::{Command, Line};
 use luks_volume::Device;
 use std::alloc::Global;
@@ -21,8 +21,8 @@ use std::io::{Read, Write};
 /// couldn't be read, is said by lines to `err`; that one of these can't be written changes no answer.
 ///
 /// The passphrase is read before the volume, a new one after the old one, and the random bytes after the volume
-/// and its target. A backup that is put back or compared is the target, too. The file of a key is made by
-/// `maker` once the key is there. `progress` is told of each combination that `rebuild` tries by a passphrase,
+/// and its target. A backup that is put back or compared is the target, too. The file of a key or a
+/// token is made by `maker` once its bytes are there. `progress` is told of each combination that `rebuild` tries by a passphrase,
 /// and of its search for what checksums vouch for.
 ///
 /// The volume is the bytes of its file that `line.place` names: who calls it has taken that window of
@@ -53,7 +53,7 @@ pub fn execute<
     // No command changes its volume but those that edit, `format` and `restore`.
     ensures unchanged { UnlessWriter line.now.command
         (KeepsVolume D.tells D.size D.bytes D.unsettled inputs.old.volume inputs.new.volume) }
-    // `convert`, `rebuild`, the commands on header backups and `key` alone make calls on the target.
+    // `convert`, `rebuild`, the commands on header backups, `key` and `token export` alone make calls on the target.
     ensures target { UnlessBeside line.now.command (inputs.new.target ≡ inputs.old.target) }
     // Without its volume no command succeeds.
     ensures unread { IfErr inputs.old.volume (λ _. (answer_status result ≢ Status.Done)
@@ -94,5 +94,6 @@ pub fn execute<
         Command::Restore(restoring) => restore::run(alloc, inputs, name, &restoring, err),
         Command::Compare(comparing) => compare::run(alloc, inputs, name, &comparing, err),
         Command::KeepKey(keeping) => key::run(alloc, inputs, name, &keeping, maker, err),
+        Command::KeepToken(keeping) => token::run(alloc, inputs, name, &keeping, maker, err),
     }
 }

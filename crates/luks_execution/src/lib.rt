@@ -17,8 +17,8 @@ pub use luks_commands::{
 pub use luks_header_commands::{Progress, SearchProgress, Untold};
 pub use luks_keeping_commands::{MakesFile, Unmade};
 pub use luks_request::{
-    BackingUp, Command, Comparing, Converting, EditRequest, Editing, KeepingKey, Line, Luks1Fields,
-    Making, Meant, NewVersion, Rebuilding, Restoring, ShowAs,
+    BackingUp, Command, Comparing, Converting, EditRequest, Editing, KeepingKey, KeepingToken,
+    Line, Luks1Fields, Making, Meant, NewVersion, Rebuilding, Restoring, ShowAs,
 };
 pub use luks_signatures::OtherUse;
 pub use luks_volume::Data;

@@ -41,9 +41,11 @@ fn answer_value(alloc: Global, answer: &Answer, hints: &[&str]) -> Result<Value,
         Answer::NoneOpens => bare_value(alloc, "no slot opens", hints, status),
         Answer::Matches => bare_value(alloc, "key matches", hints, status),
         Answer::Differs => bare_value(alloc, "key does not match", hints, status),
-        Answer::Listed(_) | Answer::ListedFully(_) | Answer::Mapped(_) | Answer::Json(_) => {
-            bare_value(alloc, "shown", hints, status)
-        }
+        Answer::Listed(_)
+        | Answer::ListedFully(_)
+        | Answer::Mapped(_)
+        | Answer::Tokens(_)
+        | Answer::Json(_) => { bare_value(alloc, "shown", hints, status) }
         Answer::Compared(_) => bare_value(alloc, "compared", hints, status),
         Answer::Rescued(_) => bare_value(alloc, "rescued", hints, status),
         Answer::DeviceFault => bare_value(alloc, "device fault", hints, status),

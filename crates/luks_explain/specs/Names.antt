@@ -50,6 +50,10 @@ name_of fault.NoFreeSlot = codes "NoFreeSlot"
 name_of fault.NoRoom = codes "NoRoom"
 name_of fault.LastSlot = codes "LastSlot"
 name_of fault.BadLabel = codes "BadLabel"
+name_of fault.NoSuchToken = codes "NoSuchToken"
+name_of fault.TokenTaken = codes "TokenTaken"
+name_of fault.NoFreeToken = codes "NoFreeToken"
+name_of fault.UnreadableToken = codes "UnreadableToken"
 name_of fault.SeqExhausted = codes "SeqExhausted"
 name_of fault.MetadataFull = codes "MetadataFull"
 name_of fault.RandomLength = codes "RandomLength"
@@ -112,6 +116,10 @@ all_faults =
     ∷ fault.NoRoom
     ∷ fault.LastSlot
     ∷ fault.BadLabel
+    ∷ fault.NoSuchToken
+    ∷ fault.TokenTaken
+    ∷ fault.NoFreeToken
+    ∷ fault.UnreadableToken
     ∷ fault.SeqExhausted
     ∷ fault.MetadataFull
     ∷ fault.RandomLength
@@ -178,6 +186,10 @@ named fault.NoFreeSlot = refl
 named fault.NoRoom = refl
 named fault.LastSlot = refl
 named fault.BadLabel = refl
+named fault.NoSuchToken = refl
+named fault.TokenTaken = refl
+named fault.NoFreeToken = refl
+named fault.UnreadableToken = refl
 named fault.SeqExhausted = refl
 named fault.MetadataFull = refl
 named fault.RandomLength = refl
@@ -243,6 +255,10 @@ called fault.NoFreeSlot = refl
 called fault.NoRoom = refl
 called fault.LastSlot = refl
 called fault.BadLabel = refl
+called fault.NoSuchToken = refl
+called fault.TokenTaken = refl
+called fault.NoFreeToken = refl
+called fault.UnreadableToken = refl
 called fault.SeqExhausted = refl
 called fault.MetadataFull = refl
 called fault.RandomLength = refl

@@ -91,6 +91,14 @@ pub enum Fault {
     LastSlot,
     /// More than 47 bytes, or one that can't be printed, or LUKS1.
     BadLabel,
+    /// The token isn't there.
+    NoSuchToken,
+    /// The token of --to is there.
+    TokenTaken,
+    /// All 32 numbers of tokens are taken.
+    NoFreeToken,
+    /// cryptsetup doesn't read metadata with the token.
+    UnreadableToken,
     /// There is no higher sequence number.
     SeqExhausted,
     /// The new metadata is longer than its area.
@@ -142,7 +150,7 @@ impl Fault {
     /// Every fault: of the header, the metadata of LUKS2, the areas, the keyslot that is to be opened,
     /// then of an edit, of formatting, of converting, of rebuilding and of header backups, and at last of
     /// another use of the disk and of a reencryption.
-    pub const ALL: [Fault; 58] = [
+    pub const ALL: [Fault; 62] = [
         Fault::TooShort,
         Fault::NotLuks,
         Fault::Version,
@@ -183,6 +191,10 @@ impl Fault {
         Fault::NoRoom,
         Fault::LastSlot,
         Fault::BadLabel,
+        Fault::NoSuchToken,
+        Fault::TokenTaken,
+        Fault::NoFreeToken,
+        Fault::UnreadableToken,
         Fault::SeqExhausted,
         Fault::MetadataFull,
         Fault::RandomLength,
@@ -222,7 +234,8 @@ impl Fault {
             TooShort NotLuks Version NoSoundCopy Text Uuid SlotState KeyBytes Stripes Iterations
             JsonArea BadJson NotWhole Shape Kind NoSuchName Assigned Sizes AreaTooSmall Region
             Outside Overlap NoSuchSlot SameSlot SlotFree Argon2 Cipher Hash KeySize NoSuchDigest KeyLength
-            WrongKey Locked Passphrase Requirements SlotTaken NoFreeSlot NoRoom LastSlot BadLabel SeqExhausted MetadataFull
+            WrongKey Locked Passphrase Requirements SlotTaken NoFreeSlot NoRoom LastSlot BadLabel
+            NoSuchToken TokenTaken NoFreeToken UnreadableToken SeqExhausted MetadataFull
             RandomLength Payload TooSmall SectorSize Uneven NotLuks1 SameFile Counts NoMetadata NoHeader Exists
             NotAccepted DoesNotFit OtherVolume OtherUse Reencrypting
         )

@@ -44,6 +44,10 @@ pub(crate) fn means(fault: Fault) -> &'static str {
         Fault::NoRoom => "no gap of the key areas holds a new one; of convert: too large",
         Fault::LastSlot => "no other keyslot would give the key",
         Fault::BadLabel => "more than 47 bytes, or one that can't be printed, or LUKS1",
+        Fault::NoSuchToken => "the volume has no token of this number",
+        Fault::TokenTaken => "the volume has a token of the number of --to",
+        Fault::NoFreeToken => "the volume has 32 tokens, and no number is free",
+        Fault::UnreadableToken => { "cryptsetup doesn't read such a token: no type, or too deep" }
         Fault::SeqExhausted => "there is no higher sequence number",
         Fault::MetadataFull => "the new metadata is longer than its area",
         Fault::RandomLength => "the random file is too short, or none is given",
@@ -56,7 +60,7 @@ pub(crate) fn means(fault: Fault) -> &'static str {
         Fault::Counts => "of rebuild: a header of SOURCE counts",
         Fault::NoMetadata => "of rebuild: no metadata of SOURCE is whole",
         Fault::NoHeader => "of rebuild: SOURCE has no signs of a LUKS1 header",
-        Fault::Exists => "of backup and key: FILE is there and isn't empty",
+        Fault::Exists => { "of backup, key and token export: FILE is there and isn't empty" }
         Fault::NotAccepted => "of restore: check --detached refuses FILE",
         Fault::DoesNotFit => "of restore: check would refuse VOLUME with this header",
         Fault::OtherVolume => "another volume's header stands on what would be written over",
@@ -155,18 +159,31 @@ pub(crate) fn place(fault: Fault) -> &'static str {
         }
         Fault::Passphrase => "the file of --passphrase or --new",
         Fault::Requirements => {
-            "add, change, remove, repair and label, of LUKS2: config.requirements"
+            "add, change, remove, repair, label, priority, token import and token
+       remove, of LUKS2: config.requirements"
         }
         Fault::SlotTaken => "add: the keyslot of --to",
         Fault::NoFreeSlot => "add, and change of LUKS1: LUKS1 has 0 to 7, LUKS2 0 to 31",
         Fault::NoRoom => "add and change, of LUKS2; convert: the areas would end past 16777216",
         Fault::LastSlot => "remove: the keyslot of --slot is the last one of its volume key",
-        Fault::BadLabel => "label: TEXT; format: --label or --subsystem",
-        Fault::SeqExhausted => {
-            "add, change, remove, repair and label: seqid of the copy that counts, of
-       LUKS2"
+        Fault::BadLabel => {
+            "label: TEXT or --subsystem; format: --label or --subsystem; priority and
+       token: the volume, which is of LUKS1"
         }
-        Fault::MetadataFull => "add, change, remove, repair and label, of LUKS2",
+        Fault::NoSuchToken => "token export and token remove: N",
+        Fault::TokenTaken | Fault::NoFreeToken => "token import: --to, 0 to 31",
+        Fault::UnreadableToken => {
+            "token import: FILE, whose type is the empty text, or which nests more
+       than 29 deep"
+        }
+        Fault::SeqExhausted => {
+            "add, change, remove, repair, label, priority, token import and token
+       remove: seqid of the copy that counts, of LUKS2"
+        }
+        Fault::MetadataFull => {
+            "add, change, remove, repair, label, priority, token import and token
+       remove, of LUKS2"
+        }
         Fault::RandomLength => "the commands that write: the file of --random",
         Fault::Payload => {
             "format: --payload, before sector 4036, with --key-bytes 32 before 2050,
@@ -183,9 +200,9 @@ pub(crate) fn place(fault: Fault) -> &'static str {
         }
         Fault::NotLuks1 => "convert: SOURCE",
         Fault::SameFile => {
-            "convert and rebuild, backup, restore, compare and key: one file or
-       device, by the same words or two names, or one that has bytes of the
-       other, as a loop device of its file"
+            "convert and rebuild, backup, restore, compare, key and token export: one
+       file or device, by the same words or two names, or one that has bytes of
+       the other, as a loop device of its file"
         }
         Fault::Counts => "rebuild: SOURCE",
         Fault::NoMetadata => {
@@ -196,7 +213,7 @@ pub(crate) fn place(fault: Fault) -> &'static str {
             "rebuild: the first 592 bytes of SOURCE, where --cipher, --hash,
        --key-bytes or --payload means LUKS1"
         }
-        Fault::Exists => "backup: FILE, and key: the file --to, without --over",
+        Fault::Exists => { "backup and token export: FILE, and key: the file --to, without --over" }
         Fault::NotAccepted => {
             "NotAccepted(FAULT), of restore and compare: FILE; FAULT is what check
        --detached answers of it"
@@ -288,6 +305,10 @@ pub(crate) fn safe(fault: Fault) -> &'static str {
         | Fault::NoRoom
         | Fault::LastSlot
         | Fault::BadLabel
+        | Fault::NoSuchToken
+        | Fault::TokenTaken
+        | Fault::NoFreeToken
+        | Fault::UnreadableToken
         | Fault::SeqExhausted
         | Fault::MetadataFull
         | Fault::RandomLength
@@ -447,12 +468,17 @@ pub(crate) fn next(fault: Fault) -> &'static str {
             "add another keyslot first (luks add), or change this one (luks change)"
         }
         Fault::BadLabel => "give at most 47 bytes of 0x20 to 0x7E; LUKS1 has no label",
+        Fault::NoSuchToken | Fault::TokenTaken =>
+            "luks token VOLUME list lists those that there are",
+        Fault::NoFreeToken => "remove one that isn't needed: luks token VOLUME remove N",
+        Fault::UnreadableToken => "give it a type of at least one byte, and at most 29 levels",
         Fault::SeqExhausted => {
             "no count of edits leads there: some program wrote it so; restore a header
        backup with a lower one (luks show BACKUP prints it as seqid)"
         }
         Fault::MetadataFull => {
-            "remove a keyslot that isn't needed, or a token (cryptsetup token remove)"
+            "remove a keyslot that isn't needed, or a token (luks token VOLUME remove
+       N)"
         }
         Fault::RandomLength => "give --random /dev/urandom",
         Fault::Payload => {
@@ -471,7 +497,7 @@ pub(crate) fn next(fault: Fault) -> &'static str {
         Fault::NotLuks1 => "nothing is to be converted: luks opens it as it is",
         Fault::SameFile => {
             "give a file of its own as TARGET: truncate -s 16M TARGET makes one; for a
-       backup or a key the name of a new file"
+       backup, a key or a token the name of a new file"
         }
         Fault::Counts => {
             "luks opens it as it is, luks repair writes both copies anew; for the

@@ -2,7 +2,7 @@
 //! volumes are locked and remembered, the passphrases read whole.
 #![tactic(auto)]
 
-mod key_file;
+mod kept_file;
 mod openings;
 mod output;
 mod passphrases;
@@ -11,7 +11,7 @@ mod typing;
 mod volume;
 mod volumes;
 
-pub use key_file::KeyFile;
+pub use kept_file::KeptFile;
 pub use openings::{Opening, Openings};
 pub use passphrases::{Passphrases, reader};
 pub use target::take_away;

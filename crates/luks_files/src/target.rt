@@ -1,4 +1,4 @@
-//! What a command writes beside the volume: TARGET, and the FILE of a backup or of a key.
+//! What a command writes beside the volume: TARGET, and the FILE of a backup, a key or a token.
 ghost use Rattle.std.specs.Prelude.{◌≡◌, IfOk, true};
 ghost use Rattle.luks_guarded_files.specs.Cached.{cached_failures, device_behind};
 ghost use Rattle.luks_guarded_files.specs.Locked.{lock_of, share_for};
@@ -23,10 +23,10 @@ use std::rt::{Clock, Files};
 pub(crate) enum Shape {
     /// TARGET, which is there, and keeps its length.
     AsItIs,
-    /// FILE, which is made where it isn't there, with mode 0600. A regular file gets the length of the
-    /// backup with the first write that changes it, and is as it was till then. Where it holds something
-    /// once its lock is held, it is opened only where it may be written over.
-    Backup {
+    /// The FILE of a backup or a token, which is made where it isn't there, with mode 0600. A regular file
+    /// gets the length of what it is to hold with the first write that changes it, and is as it was till then.
+    /// Where it holds something once its lock is held, it is opened only where it may be written over.
+    Fitted {
         /// The length in bytes.
         length: u64,
         /// Whether it may be written over.
@@ -174,7 +174,7 @@ fn volume_over<R: AllocGlobal + Clock + Files<File = File>>(
     };
     let file = match shape {
         Shape::AsItIs => FittedFile::new(file),
-        Shape::Backup { length, over } => {
+        Shape::Fitted { length, over } => {
             unless_kept(FittedFile::of_backup(&mut host, file, length, over))?
         }
         Shape::Key { length, over } => {
@@ -199,7 +199,7 @@ fn unless_kept(opened: io::Result<Option<FittedFile>>) -> Result<FittedFile, Inp
     }
 }
 
-/// Takes away the file of this name that was made for a backup or a key that wasn't written, where the name is still
+/// Takes away the file of this name that was made for a backup, a key or a token that wasn't written, where the name is still
 /// that file's.
 pub fn take_away<R: Clock + Files<File = File>>(rt: &R, name: &str, made: &Found) {
     if let Ok(named) = Host::new(rt).lstat(name) {

@@ -68,8 +68,8 @@ impl Volumes {
 /// Opens the volume, and then what the command writes or reads beside it; neither where a passphrase has
 /// ended the command, and nothing beside a volume that can't be opened. Where both are one file, by
 /// whichever names, or the system tells that they have bytes in common, nothing is opened; nor where the file
-/// of a key is that of its passphrase. Each is locked as what it is opened for. The file of a key isn't opened
-/// yet: `KeyFile` makes it.
+/// of a key is that of its passphrase. Each is locked as what it is opened for. The file of a key or a token
+/// isn't opened yet: `KeptFile` makes it.
 pub fn open_volumes<R: AllocGlobal + Clock + Files<File = File>>(
     rt: &R,
     line: &Line<'_>,
@@ -176,11 +176,12 @@ fn is_of_passphrase<R: AllocGlobal + Clock + Files<File = File>>(
     }
 }
 
-/// Whether a backup or a key is to be written over something that isn't to be written over.
+/// Whether a backup, a key or a token is to be written over something that isn't to be written over.
 fn is_kept<R: Clock + Files<File = File>>(rt: &R, line: &Line<'_>) -> bool {
     let (target, over) = match line.command {
         Command::Backup(backing_up) => (backing_up.target, backing_up.over),
         Command::KeepKey(keeping) => (keeping.target, keeping.over),
+        Command::KeepToken(keeping) => (keeping.target, keeping.over),
         _ => return false,
     };
     !over && holds_something(&mut Host::new(rt), target)
@@ -216,17 +217,17 @@ fn open_beside<R: AllocGlobal + Clock + Files<File = File>>(
     }
 }
 
-/// As what the command's target is opened; that of a key isn't yet.
+/// As what the command's target is opened; that of a key or a token isn't yet.
 fn shape_of<R: AllocGlobal + Clock + Files<File = File>>(
     rt: &R,
     line: &Line<'_>,
 ) -> Result<Shape, InputFault> {
     match line.command {
-        Command::Backup(backing_up) => Ok(Shape::Backup {
+        Command::Backup(backing_up) => Ok(Shape::Fitted {
             length: length_of_backup(rt, line, &backing_up)?,
             over: backing_up.over,
         }),
-        Command::KeepKey(_) => Err(InputFault::Absent),
+        Command::KeepKey(_) | Command::KeepToken(_) => Err(InputFault::Absent),
         _ => Ok(Shape::AsItIs),
     }
 }

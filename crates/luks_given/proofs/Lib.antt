@@ -2,3 +2,4 @@ pub mod PlanFacts
 pub mod PartFacts
 mod AskingFacts
 mod PlayFacts
+mod PlannedFacts

@@ -59,9 +59,11 @@ pub struct PlannedWrites<'a, K: Given> {
 }
 
 impl<'a, K: Given> PlannedWrites<'a, K> {
-    ghost use Rattle.std.specs.Prelude.{◌↔◌, ◌⊎◌, IfOk, IfSome, IsNone, IsTrue};
-    ghost use Rattle.luks_given.specs.Planned.{lacked_memory, planned_bytes, planned_calls, planned_failures, planned_size, planned_unsettled, planned_written, wants_to_write};
-    ghost use Rattle.luks_area.specs.Device.{IsSettled};
+    ghost use Rattle.std.specs.Prelude.{◌↔◌, ◌⊎◌, IfOk, IfSome, IsNone, IsTrue, OnErr, OnOk};
+    ghost use Rattle.luks_given.specs.Planned.{lacked_memory, planned_bytes, planned_calls, planned_failures, planned_size, planned_unsettled, planned_wanted, planned_written, wants_to_write};
+    ghost use Rattle.luks_given.specs.Planned.{HasMore, HasPlanOf, LacksMemory, WantsAsBefore};
+    ghost use Rattle.luks_area.specs.Device.{CountsFailure, IsSettled, is_failure};
+    ghost use Rattle.luks_area.specs.Ranges.{IsAt};
 
     /// The volume of `total` bytes that has these in these ranges, and an empty plan, with memory for as
     /// many bytes as are held: few plans write more.
@@ -138,12 +140,58 @@ impl<'a, K: Given> PlannedWrites<'a, K> {
         }
     }
 
-    /// Whether that call was to write there, and no other has failed: then none asked what stands there.
+    /// Whether that call was to write there, and no other has failed: then none asked what stands there. Each
+    /// call of the device says what becomes of it.
     pub fn is_to_write(&self) -> bool
         ensures value { result ≡ wants_to_write self.now }
         ensures one { IsTrue result → planned_failures self.now ≡ 1 }
     {
         self.is_to_write
+    }
+
+    /// Counts a call that failed since the byte at `place` isn't given: it wants all from there to before
+    /// `end`, and it alone, to write them, where that is said.
+    fn want(&mut self, place: u64, end: u64, is_to_write: bool)
+        requires missing { HasPlace K.parts place → ⊥ }
+        requires some { place < end }
+        requires inside { end ≤ planned_size self.old }
+        requires alone { IsTrue is_to_write → planned_failures self.old ≡ 0 }
+        requires room { planned_failures self.old + 1 < 2 ^ 64 }
+        ensures plan { HasPlanOf self.old self.new }
+        ensures count { planned_failures self.new ≡ planned_failures self.old + 1 }
+        ensures memory { lacked_memory self.new ≡ lacked_memory self.old }
+        ensures begins { (planned_wanted self.new).at ≡ place }
+        ensures ends { place + (planned_wanted self.new).len ≡ end }
+        ensures to_write { wants_to_write self.new ≡ is_to_write }
+    {
+        self.missing = Part {
+            at: place,
+            len: end - place,
+        };
+        self.is_to_write = is_to_write;
+        self.failures += 1;
+    }
+
+    /// Adds a call to the plan; it fails where memory is refused for that.
+    fn plan(&mut self, at: u64, from: &[u8]) -> Result<(), DeviceFault>
+        requires within { at + length from.now ≤ planned_size self.old }
+        requires given { (p : ℕ) → IsAt at (length from.now) p → HasPlace K.parts p }
+        requires room { planned_failures self.old + 1 < 2 ^ 64 }
+        ensures count { CountsFailure is_failure result
+            (planned_failures self.old) (planned_failures self.new) }
+        ensures size { planned_size self.new ≡ planned_size self.old }
+        ensures more { OnOk result (HasMore at from.now self.old self.new) }
+        ensures kept { OnOk result (WantsAsBefore self.old self.new) }
+        ensures same { OnErr result (HasPlanOf self.old self.new) }
+        ensures lacks { OnErr result (LacksMemory self.old self.new) }
+    {
+        if !add_call(&mut self.calls, &mut self.bytes, at, from) {
+            self.is_full = true;
+            self.is_to_write = false;
+            self.failures += 1;
+            return Err(DeviceFault);
+        }
+        Ok(())
     }
 
     /// Reads what the plan leaves from the place `at` on, which is held from the byte `k` on.
@@ -269,7 +317,11 @@ fn last_sector(at: u64, len: usize) -> usize
 }
 
 impl<K: Given> Device for PlannedWrites<'_, K> {
+    ghost use Rattle.std.specs.Prelude.{OnErr, OnOk};
+    ghost use Rattle.luks_area.specs.Device.{CountsFailure, IsSettled, IsUnchanged, Touches, is_failure, no_place};
+    ghost use Rattle.luks_area.specs.Ranges.{IsAt};
     ghost use Rattle.luks_given.specs.Planned.{planned_bytes, planned_failures, planned_size, planned_unsettled};
+    ghost use Rattle.luks_given.specs.Planned.{FailsToWrite, LacksMemory, WantsAsBefore, WantsToRead};
     ghost use Rattle.luks_given.specs.PlanProps.{length-planned};
 
     ghost tells = { Unit {0} };
@@ -290,7 +342,17 @@ impl<K: Given> Device for PlannedWrites<'_, K> {
         self.failures
     }
 
-    fn read_at(&mut self, at: u64, into: &mut [u8]) -> Result<(), DeviceFault> {
+    fn read_at(&mut self, at: u64, into: &mut [u8]) -> Result<(), DeviceFault>
+        requires within { at + length into.old ≤ planned_size self.old }
+        requires room { planned_failures self.old + 1 < 2 ^ 64 }
+        ensures count { CountsFailure is_failure result
+            (planned_failures self.old) (planned_failures self.new) }
+        ensures unchanged { IsUnchanged (Unit {0}) planned_size planned_bytes planned_unsettled self.old self.new }
+        ensures read { Unit {0} → OnOk result
+            (into.new ≡ part (planned_bytes self.old) at (length into.old)) }
+        ensures kept { OnOk result (WantsAsBefore self.old self.new) }
+        ensures wants { OnErr result (WantsToRead at (length into.old) self.old self.new) }
+    {
         if into.is_empty() {
             return Ok(());
         }
@@ -301,18 +363,25 @@ impl<K: Given> Device for PlannedWrites<'_, K> {
                 Ok(())
             }
             Err(place) => {
-                self.missing = Part {
-                    at: place,
-                    len: end - place,
-                };
-                self.is_to_write = false;
-                self.failures += 1;
+                self.want(place, end, false);
                 Err(DeviceFault)
             }
         }
     }
 
-    fn write_at(&mut self, at: u64, from: &[u8]) -> Result<(), DeviceFault> {
+    fn write_at(&mut self, at: u64, from: &[u8]) -> Result<(), DeviceFault>
+        requires within { at + length from.now ≤ planned_size self.old }
+        requires room { planned_failures self.old + 1 < 2 ^ 64 }
+        ensures count { CountsFailure is_failure result
+            (planned_failures self.old) (planned_failures self.new) }
+        ensures size { planned_size self.new ≡ planned_size self.old }
+        ensures wrote { Unit {0} → OnOk result
+            (planned_bytes self.new ≡ written (planned_bytes self.old) at from.now) }
+        ensures touches { Unit {0} → Touches planned_bytes planned_unsettled (IsAt at (length from.now))
+            self.old self.new }
+        ensures kept { OnOk result (WantsAsBefore self.old self.new) }
+        ensures wants { OnErr result (FailsToWrite at (length from.now) self.old self.new) }
+    {
         if from.is_empty() {
             return Ok(());
         }
@@ -323,34 +392,28 @@ impl<K: Given> Device for PlannedWrites<'_, K> {
                 if len == 0 {
                     return Ok(());
                 }
-                if !add_call(&mut self.calls, &mut self.bytes, at, &from[..len]) {
-                    self.is_full = true;
-                    self.is_to_write = false;
-                    self.failures += 1;
-                    return Err(DeviceFault);
-                }
-                Ok(())
+                self.plan(at, &from[..len])
             }
             Err(place) => {
-                self.missing = Part {
-                    at: place,
-                    len: end - place,
-                };
-                self.is_to_write = self.failures == 0;
-                self.failures += 1;
+                let is_first = self.failures == 0;
+                self.want(place, end, is_first);
                 Err(DeviceFault)
             }
         }
     }
 
-    fn flush(&mut self) -> Result<(), DeviceFault> {
-        if !add_call(&mut self.calls, &mut self.bytes, 0, b"") {
-            self.is_full = true;
-            self.is_to_write = false;
-            self.failures += 1;
-            return Err(DeviceFault);
-        }
-        Ok(())
+    fn flush(&mut self) -> Result<(), DeviceFault>
+        requires { planned_failures self.old + 1 < 2 ^ 64 }
+        ensures count { CountsFailure is_failure result
+            (planned_failures self.old) (planned_failures self.new) }
+        ensures size { planned_size self.new ≡ planned_size self.old }
+        ensures same { Unit {0} → OnOk result (planned_bytes self.new ≡ planned_bytes self.old) }
+        ensures settled { Unit {0} → OnOk result (IsSettled planned_unsettled self.new) }
+        ensures touches { Unit {0} → Touches planned_bytes planned_unsettled no_place self.old self.new }
+        ensures kept { OnOk result (WantsAsBefore self.old self.new) }
+        ensures lacks { OnErr result (LacksMemory self.old self.new) }
+    {
+        self.plan(0, b"")
     }
 
     ghost sized = { λ d t. length-planned d.calls.items d.bytes.items d.total _ d.whole d.last d.planned };

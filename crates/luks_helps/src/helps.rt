@@ -403,6 +403,7 @@ pub const LABEL: &str = "Sets the label of a LUKS2 volume";
 pub const LABEL_MORE: &str = "\
 The label is at most 47 bytes of 0x20 to 0x7E, and may be empty. One that begins
 with a hyphen comes after --, with the volume: luks label .. -- VOLUME TEXT.
+With --subsystem the subsystem is set too; without it that stays as it is.
 
 Written are, with a flush after each, the copy of the header that doesn't count
 and the one that does. The salts are the first 128 bytes of the random file.
@@ -412,7 +413,7 @@ a file system or a partition table, stands in the place of the other, nothing
 is written but with --over.
 
 Prints one line:
-  done           the label is set, and the copies are in step
+  done           it is set, and the copies are in step
   refused FAULT  the first fault, and nothing was written: what check refuses,
                  OtherUse (as above), Requirements, BadLabel (it is too long,
                  has another character, or the volume is of LUKS1),
@@ -426,6 +427,89 @@ new one, and each keyslot opens as before. Run luks repair, and luks show.
 
 Exit status:
   0  done, or help was asked for
+  1  refused; nothing was written
+  2  the command line is wrong; the text is on standard error
+  4  device fault, no memory, or the output can't be written";
+
+/// What `priority` does, in a line.
+pub const PRIORITY: &str = "Sets when a keyslot of LUKS2 is tried";
+
+/// The help of `priority` after its words.
+pub const PRIORITY_MORE: &str = "\
+Where no keyslot is named, those of the priority prefer are tried first, then
+those of normal, each by number, and those of ignore never; so do cryptsetup and
+luks open. The metadata says 2 or 0, and of normal nothing.
+
+Written are, with a flush after each, the copy of the header that doesn't count
+and the one that does. The salts are the first 128 bytes of the random file.
+
+Where only one copy of a LUKS2 header is sound and another use of the disk, as
+a file system or a partition table, stands in the place of the other, nothing
+is written but with --over.
+
+Prints one line:
+  done           the priority is set, and the copies are in step
+  refused FAULT  the first fault, and nothing was written: what check refuses,
+                 OtherUse (as above), Requirements, NoSuchSlot, BadLabel (the
+                 volume is of LUKS1), SeqExhausted, MetadataFull or RandomLength
+                 (the random file is too short)
+  device fault   a file can't be read, or the volume read or written
+  no memory      memory was refused; nothing was written
+
+If the device fails in the midst, a copy is sound and has the old priority or
+the new one, and each keyslot opens as before. Run luks repair, and luks show.
+
+Exit status:
+  0  done, or help was asked for
+  1  refused; nothing was written
+  2  the command line is wrong; the text is on standard error
+  4  device fault, no memory, or the output can't be written";
+
+/// What `token` does, in a line.
+pub const TOKEN: &str = "Lists, exports, imports and removes tokens of LUKS2";
+
+/// The help of `token` after its words.
+pub const TOKEN_MORE: &str = "\
+VOLUME list prints a line for each token. VOLUME export N FILE writes the text
+of one to FILE, or to standard output (-): a JSON object, with no white space
+outside its texts, and a newline. FILE is made where it isn't there (mode 0600);
+where it isn't empty it is written over with --over alone. It isn't made where
+there is no such token, and VOLUME isn't written.
+
+VOLUME import FILE adds the token whose text FILE holds, at most 65536 bytes, or
+standard input (-): one JSON object of a type, an array keyslots of the numbers
+of keyslots as texts, and any other members, all of which are kept. VOLUME
+remove N takes a token away; no keyslot loses anything by it.
+
+Written are of import and remove, with a flush after each, the copy of the
+header that doesn't count and the one that does. The salts are the first 128
+bytes of the random file.
+
+Where only one copy of a LUKS2 header is sound and another use of the disk, as
+a file system or a partition table, stands in the place of the other, nothing
+is written but with --over.
+
+Prints the lines or the text, or one line:
+  done           the token is in FILE; or it is there, or gone, and the copies
+                 are in step
+  refused FAULT  the first fault, and nothing was written: SameFile (FILE of
+                 export is VOLUME), Exists (it isn't empty, without --over),
+                 what check refuses, NoSuchToken; of import and remove
+                 OtherUse (as above), Requirements, BadLabel (the volume is of
+                 LUKS1), TokenTaken, NoFreeToken, UnreadableToken
+                 (its type is empty, or it nests more than 29 deep), what
+                 check would refuse with the token, as NoSuchName(..) or
+                 Shape(tokens.N.keyslots), BadJson (FILE holds no JSON text),
+                 SeqExhausted, MetadataFull, RandomLength (the random file is
+                 too short or none is named), or Passphrase (FILE is too long)
+  device fault   a file can't be read, or the volume read or written
+  no memory      memory was refused; nothing was written
+
+If the device fails in the midst, a copy is sound and has the tokens as before
+or as after, and each keyslot opens as before. Run luks repair, and luks show.
+
+Exit status:
+  0  listed, exported or done, or help was asked for
   1  refused; nothing was written
   2  the command line is wrong; the text is on standard error
   4  device fault, no memory, or the output can't be written";

@@ -113,7 +113,7 @@ static OTHER_WORDS: [OtherWord; 59] = [
     },
     OtherWord {
         word: "config",
-        here: "luks label",
+        here: "luks label, and luks priority",
     },
     OtherWord {
         word: "luksFormat",

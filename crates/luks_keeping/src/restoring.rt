@@ -24,7 +24,7 @@ use crate::outline::outline_of;
 use crate::over::Over;
 use crate::restore_fault::RestoreFault;
 use crate::same_volume::judge_other;
-use crate::size::data_start;
+use crate::size::payload_start;
 use crate::writing_over::write_over;
 use luks_area::Device;
 use luks_reading::{Data, Header};
@@ -148,7 +148,7 @@ pub fn restore_header<B: Device, T: Device>(
         ↔ AnswerWithin allowed (T.bytes target.new) n p a) }
 {
     judge_fit(&header, payload, target.len())?;
-    let limit = data_start(&header, payload, target.len());
+    let limit = payload_start(&header, payload, target.len());
     let outline = outline_of(&header);
     drop(header);
     judge_other(alloc, &outline.identity, target, over)?;

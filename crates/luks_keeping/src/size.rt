@@ -31,7 +31,7 @@ pub(crate) fn backup_size(header: &Header, payload: Data) -> Option<u64>
 }
 
 /// Where the data begins on a device of `total` bytes with this header, or else its end.
-pub(crate) fn data_start(header: &Header, payload: Data, total: u64) -> u64
+pub(crate) fn payload_start(header: &Header, payload: Data, total: u64) -> u64
     requires fields { HasFields header.now }
     requires accepted { IsAcceptedHeader header.now }
     ensures within { result ≤ total }

@@ -1,9 +1,6 @@
--- What `key` opens, and what it leaves of its file.
-use Rattle.std.proofs.Common.{◌≡◌, ◌∙◌, ◌+◌, ℕ, arith, List, length, ◌++◌, drop, Option, Some, None, Result, Ok, Err, OnOk, refl, sym, ap, subst}
-use Rattle.std.proofs.Math.Seq.{drop-length}
-use Rattle.std.proofs.lemmas.List.{append-nil}
+-- What `key` opens.
+use Rattle.std.proofs.Common.{◌≡◌, ℕ, List, Option, Some, None, Result, Ok, Err, sym, subst}
 use Rattle.luks_area.specs.Device.{CountsFailure}
-use Rattle.luks_area.specs.Ranges.{written}
 use Rattle.luks2_header.proofs.ChoiceFacts.{choices_agree}
 use Rattle.luks_slot.specs.declared.allowed.Allowed.{Allowed}
 use Rattle.luks_reading.specs.Answer.{AnswerWithin, IsRefusedByWithin, opened_to}
@@ -45,14 +42,3 @@ pub counts_key : (r : Result (Option (ℕ × List ℕ)) OpenFault) (before after
 counts_key (Ok (Some found)) before after x = x
 counts_key (Ok None) before after x = x
 counts_key (Err f) before after x = x
-
--- bytes that are written over all of a volume are all that it has
-pub written_whole : (v key : List ℕ) → length v ≡ length key → written v 0 key ≡ key
-written_whole v key same =
-    let end : 0 + length key ≡ length v = omega (arith, same) in
-    ap (λ n. key ++ drop n v) end ∙ (ap (λ rest. key ++ rest) (drop-length v) ∙ append-nil key)
-
--- what was written stays as it is flushed
-pub flushed_key : {X F : Type 0} (r : Result X F) (last mid key : List ℕ) → OnOk r (last ≡ mid) → mid ≡ key → OnOk r (last ≡ key)
-flushed_key (Ok x) last mid key same is = same ∙ is
-flushed_key (Err f) last mid key same is = tt

@@ -2,3 +2,4 @@ pub mod BackupFacts
 pub mod RestoreFacts
 pub mod DifferenceFacts
 pub mod KeyFacts
+pub mod KeptFacts

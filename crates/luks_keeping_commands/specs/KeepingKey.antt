@@ -1,6 +1,6 @@
 -- What the command `key` leaves of its file, and what it may answer.
-use Rattle.std.specs.Prelude.{◌≡◌, ◌≢◌, ◌⊎◌, ℕ, List, length, Option, Some, None, Result, Ok, Err}
-use Rattle.luks_area.specs.Device.{CountsFailure, IsSettled}
+use Rattle.std.specs.Prelude.{◌≡◌, ◌⊎◌, ℕ, List, Option, Some, None, Result, Ok, Err}
+use Rattle.luks_area.specs.Device.{CountsFailure}
 use Rattle.luks_area.specs.declared.device.Device.{Ghosts as Device}
 use Rattle.luks_slot.specs.declared.allowed.Allowed.{Allowed}
 use Rattle.luks_reading.specs.Answer.{AnswerWithin, IsRefusedByWithin, opened_to}
@@ -9,23 +9,17 @@ use Rattle.luks_reading.specs.Unlocking.{IsVolumeRefusedBy, Unlocks}
 use Rattle.luks_reading.specs.declared.open_fault.OpenFault.{OpenFault}
 use Rattle.luks_request.specs.declared.keeping.KeepingKey.{KeepingKey}
 use Rattle.luks_commands.specs.declared.answers.Answer.{Answer}
-use Rattle.luks_commands.specs.declared.answers.Answer.TheVariants.{Closed, NoneOpens, Done, Refused, DeviceFault}
-use Rattle.luks_commands.specs.declared.answers.Refusal.TheVariants.{Exists, SameFile}
+use Rattle.luks_commands.specs.declared.answers.Answer.TheVariants.{Closed, NoneOpens}
 use Rattle.luks_commands.specs.declared.inputs.InputFault.{InputFault}
-use Rattle.luks_commands.specs.declared.inputs.InputFault.TheVariants.{Unreadable}
-use Rattle.luks_commands.specs.declared.inputs.Reason.TheVariants as reason
 use Rattle.luks_commands.specs.Answer.{IsWordless, open_fault_answer, unread_answer}
 use Rattle.luks_commands.specs.Beside.{AreOneFile}
+use Rattle.luks_keeping_commands.specs.KeptFile.{IsKept}
 
 -- ---- the files
 
 -- the key's file is the volume, or that of the passphrase
 abbrev pub AreNotThree : {D : Type 0} → List ℕ → KeepingKey → Result D InputFault → Type 0
 AreNotThree name keeping target = AreOneFile name keeping.target.now target ⊎ (keeping.passphrase.now ≡ keeping.target.now)
-
--- it was found to be there, and not empty
-abbrev pub IsExisting : {D : Type 0} → Result D InputFault → Type 0
-IsExisting {D} target = target ≡ Err (Unreadable reason.Exists)
 
 -- ---- the key
 
@@ -50,26 +44,6 @@ key_of (Err f) = Err f
 abbrev pub shut_answer : Option ℕ → Answer
 shut_answer (Some n) = Closed n
 shut_answer None = NoneOpens
-
--- where the key's file isn't made by this fault
-abbrev pub unmade_answer : InputFault → Answer
-unmade_answer (Unreadable reason.Exists) = Refused Exists
-unmade_answer (Unreadable reason.SameFile) = Refused SameFile
-unmade_answer fault = unread_answer fault
-
--- the file has exactly the key's bytes, and they stay
-pub record HoldsKey {D : Type 0} (device : Device D) (key : List ℕ) (file : D) : Type 0 where
-  pub size : device.size file ≡ length key
-  pub unfailed : device.failed file ≡ 0
-  pub kept : device.tells → device.bytes file ≡ key
-  pub settled : device.tells → IsSettled device.unsettled file
-
--- the key's file as it was made, and what is answered: a call of it failed, or it can't have as many bytes as the key and no others
-abbrev pub IsKept : {D : Type 0} → Device D → List ℕ → Result D InputFault → Answer → Type 0
-IsKept device key (Ok file) (Done None) = HoldsKey device key file
-IsKept device key (Ok file) DeviceFault = (device.failed file ≡ 1) ⊎ (device.size file ≢ length key)
-IsKept device key (Ok file) a = ⊥
-IsKept device key (Err missed) a = a ≡ unmade_answer missed
 
 -- no file is made but for a key
 abbrev pub IsKeyFileAnswer : {D : Type 0} → Device D → Option ℕ → Result (Option (List ℕ)) OpenFault → Result D InputFault → Result D InputFault → Answer → Type 0

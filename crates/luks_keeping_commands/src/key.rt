@@ -1,25 +1,25 @@
 //! The command `key`.
-ghost use Rattle.std.specs.Prelude.{◌≡◌, ◌≢◌, ◌⊎◌, ◌+◌, ◌<◌, ◌^◌, ◌↔◌, Err, IfErr, IfOk, IsTrue, OnOk, length};
+ghost use Rattle.std.specs.Prelude.{◌≡◌, ◌≢◌, ◌⊎◌, ◌+◌, ◌<◌, ◌^◌, ◌↔◌, Err, IfErr, IsTrue, length};
 ghost use Rattle.std.specs.Result.{ForOk};
-ghost use Rattle.luks_area.specs.Device.{CountsFailure, IsSettled, IsUnchanged, is_failure};
+ghost use Rattle.luks_area.specs.Device.{CountsFailure, IsUnchanged};
 ghost use Rattle.luks_reading.specs.Failures.{is_open_failure};
-ghost use Rattle.luks_commands.specs.Answer.{answer_status, open_fault_answer, unread_answer};
+ghost use Rattle.luks_commands.specs.Answer.{answer_status, open_fault_answer};
 ghost use Rattle.luks_commands.specs.Beside.{IsSameFile};
 ghost use Rattle.luks_commands.specs.Files.{IsLong, IsUnread, IsWhole, KeepsVolume};
 ghost use Rattle.luks_commands.specs.OpenAnswers.{allowed_of};
-ghost use Rattle.luks_commands.specs.declared.inputs.InputFault.TheVariants.{Unreadable};
-ghost use Rattle.luks_commands.specs.declared.inputs.Reason.TheVariants as reason;
-ghost use Rattle.luks_keeping_commands.specs.KeepingKey.{AnswersKeyKept, AreNotThree, IsExisting, IsKept};
-ghost use Rattle.luks_keeping_commands.specs.KeepingKey.{IsKeyFileAnswer, IsKeyOpened, key_of, shut_answer, unmade_answer};
+ghost use Rattle.luks_keeping_commands.specs.KeepingKey.{AnswersKeyKept, AreNotThree, IsKeyFileAnswer};
+ghost use Rattle.luks_keeping_commands.specs.KeepingKey.{IsKeyOpened, key_of, shut_answer};
+ghost use Rattle.luks_keeping_commands.specs.KeptFile.{IsExisting};
 
 use crate::backup::is_kept_from;
-use crate::key_file::MakesFile;
+use crate::kept_file::{Kept, keep_in};
+use crate::made_file::MakesFile;
 use luks_commands::open::{allowed_of, try_each, try_one};
 use luks_commands::{
-    Answer, InputFault, Inputs, PassphraseFault, Reason, Refusal, Status, are_one_file,
-    device_fault, passphrase, unread,
+    Answer, InputFault, Inputs, PassphraseFault, Refusal, Status, are_one_file, device_fault,
+    passphrase, unread,
 };
-use luks_reading::{Device, DeviceFault, Key, OpenFault, read_header};
+use luks_reading::{Device, Key, OpenFault, read_header};
 use luks_request::KeepingKey;
 use std::alloc::Global;
 use std::io::{Read, Write};
@@ -130,7 +130,7 @@ fn keep_opened<D: Device, M: MakesFile<D>, E: Write>(
         Ok(Some(key)) => {
             let bytes = key.as_bytes();
             *target = maker.make(bytes.len() as u64);
-            keep_in(target, bytes, keeping.target, err)
+            keep_in(target, bytes, keeping.target, Kept::Key, err)
         }
         Ok(None) => shut_answer(keeping.slot),
         Err(OpenFault::Device) => device_fault(name, "reading failed", err),
@@ -145,63 +145,5 @@ fn shut_answer(slot: Option<u8>) -> Answer
     match slot {
         Some(n) => Answer::Closed(n),
         None => Answer::NoneOpens,
-    }
-}
-
-/// Writes the key to its file, if that was made; standard error says what it is.
-fn keep_in<D: Device, E: Write>(
-    made: &mut Result<D, InputFault>,
-    key: &[u8],
-    file: &str,
-    err: &mut E,
-) -> Answer
-    requires { IfOk made.old (λ d. D.failed d ≡ 0) }
-    ensures { IsKept D.Device key.now made.new result }
-{
-    let device = match made {
-        Ok(device) => device,
-        Err(fault) => return unmade(*fault, file, err),
-    };
-    if device.len() != key.len() as u64 {
-        return device_fault(file, "can't have the key's bytes and no others", err);
-    }
-    match write_key(device, key) {
-        Ok(()) => {
-            note_kept(file, err);
-            Answer::Done(None)
-        }
-        Err(DeviceFault) => device_fault(file, "writing failed, the key isn't kept", err),
-    }
-}
-
-/// Writes the key over all bytes of the file, and flushes it.
-fn write_key<D: Device>(file: &mut D, key: &[u8]) -> Result<(), DeviceFault>
-    requires room { D.failed file.old + 1 < 2 ^ 64 }
-    requires size { D.size file.old ≡ length key.now }
-    ensures count { CountsFailure is_failure result (D.failed file.old) (D.failed file.new) }
-    ensures size { D.size file.new ≡ D.size file.old }
-    ensures wrote { D.tells → OnOk result (D.bytes file.new ≡ key.now) }
-    ensures settled { D.tells → OnOk result (IsSettled D.unsettled file.new) }
-{
-    file.write_at(0, key)?;
-    file.flush()
-}
-
-/// Says what the file is that the key was written to.
-fn note_kept<E: Write>(file: &str, err: &mut E) {
-    let _ = writeln!(
-        err,
-        "luks: {file}: whoever has this key reads the data, and no change of passphrases revokes it"
-    );
-}
-
-/// What is answered where the key's file isn't made by this fault.
-fn unmade<E: Write>(fault: InputFault, file: &str, err: &mut E) -> Answer
-    ensures { result ≡ unmade_answer fault }
-{
-    match fault {
-        InputFault::Unreadable(Reason::Exists) => Answer::Refused(Refusal::Exists),
-        InputFault::Unreadable(Reason::SameFile) => Answer::Refused(Refusal::SameFile),
-        fault => unread(fault, file, err),
     }
 }

@@ -32,6 +32,11 @@ module _ (v : List ℕ) (payload : Data) (answer : (m : Allowed) (n : ℕ) (p : 
   fault1_decided edit.Iterations = few_decided e
   fault1_decided edit.Argon2 = argon2_decided e
   fault1_decided edit.BadLabel = label_decided e
+  fault1_decided edit.NoSuchToken = inr (λ bad. bad)
+  fault1_decided edit.TokenTaken = inr (λ bad. bad)
+  fault1_decided edit.NoFreeToken = inr (λ bad. bad)
+  fault1_decided edit.UnreadableToken = inr (λ bad. bad)
+  fault1_decided (edit.BadToken f) = inr (λ bad. bad)
   fault1_decided edit.SeqExhausted = inr (λ bad. bad)
   fault1_decided edit.MetadataFull = inr (λ bad. bad)
   fault1_decided edit.RandomLength = miscounted_decided v e r

@@ -1,5 +1,5 @@
 -- Each fault of an edit of an accepted volume stands by LUKS2's rules, or it doesn't.
-use Rattle.std.proofs.Common.{◌≡◌, ◌⊎◌, ℕ, Bool, ◌+◌, ◌^◌, List, length, subst, inl, inr}
+use Rattle.std.proofs.Common.{◌≡◌, ◌⊎◌, ℕ, Bool, ◌+◌, ◌-◌, ◌^◌, List, length, subst, inl, inr}
 use Rattle.std.proofs.lemmas.Bool.{cases_eq}
 use Rattle.base64.specs.GeneralPurpose.{IsBytes}
 use Rattle.serde_json.specs.Data.{Data as Value}
@@ -7,13 +7,16 @@ use Rattle.serde_json.specs.Written.{compact_text}
 use Rattle.luks_area.specs.declared.area.Area.{Area}
 use Rattle.luks2_header.specs.Header2.{hdr_size, header_at, seqid}
 use Rattle.luks_making.specs.Naming.{IsDigestOf}
+use Rattle.luks_rules.specs.declared.fault.MetaFault.{MetaFault}
+use Rattle.luks_rules.specs.Faults.{Among}
+use Rattle.luks_rules.specs.MetaFault.{meta_key}
 use Rattle.luks_meta.specs.Requirements.{has_requirements}
 use Rattle.luks_slot.specs.declared.allowed.Allowed.{Allowed}
 use Rattle.luks_reading.specs.declared.check_fault.CheckFault.{CheckFault}
 use Rattle.luks_reading.specs.declared.report.Data.{Data}
 use Rattle.luks_reading.specs.Answer.{AnswerWithin, Opened}
 use Rattle.luks_reading.specs.Checked.{IsFault}
-use Rattle.luks_edit.specs.Asked.{allowed_by, deed_of, opener_in}
+use Rattle.luks_edit.specs.Asked.{allowed_by, change_by, deed_of, opener_in}
 use Rattle.luks_edit.specs.declared.edit.Edit.{Edit}
 use Rattle.luks_edit.specs.declared.edit.Opener.{Opener}
 use Rattle.luks_edit.specs.declared.edit.Opener.TheVariants.{Keyslot, Key}
@@ -26,7 +29,9 @@ use Rattle.luks2_edit_laws.specs.Places.{HasNoNewArea, IsNewArea}
 use Rattle.luks2_edit_laws.specs.Refused.{HasSaid, IsEditFault2, IsUnkeyed2, IsUnopened2, IsUnopenedBy2}
 use Rattle.luks2_judging.specs.Keys.{IsThereLike}
 use Rattle.luks_laws.proofs.AskedDecisions.{beyond_decided, few_decided, itself_decided, keyslot_decided}
+use Rattle.luks_laws.proofs.ChangeDecisions2.{known_token, some_bad_decided, some_lacks_decided, some_no_free_decided, some_taken_decided, some_unread_decided}
 use Rattle.luks_laws.proofs.DecidedFacts.{Decided, true_decided}
+use Rattle.luks_laws.proofs.HeaderDecisions2.{meta_candidates}
 use Rattle.luks_laws.proofs.FullDecisions2.{full_decided}
 use Rattle.luks_laws.proofs.RowDecisions2.{absent_decided, bad_label_decided, last_decided, miscounted_decided, no_free_decided, no_room_decided, taken_decided}
 use Rattle.luks_laws.proofs.SearchFacts.{some_decided}
@@ -88,6 +93,11 @@ module _ (v : List ℕ) (payload : Data) (answer : (m : Allowed) (n : ℕ) (p : 
   fault_of_counting c edit.Iterations = few_decided e
   fault_of_counting c edit.Argon2 = beyond_decided e
   fault_of_counting c edit.BadLabel = bad_label_decided e
+  fault_of_counting c edit.NoSuchToken = said_decided v payload c _ (some_lacks_decided c.value (change_by e))
+  fault_of_counting c edit.TokenTaken = said_decided v payload c _ (some_taken_decided c.value (change_by e))
+  fault_of_counting c edit.NoFreeToken = said_decided v payload c _ (some_no_free_decided c.value (change_by e))
+  fault_of_counting c edit.UnreadableToken = some_unread_decided (change_by e)
+  fault_of_counting c (edit.BadToken f) = said_decided v payload c _ (some_bad_decided (hdr_size (header_at v c.place) - 4096) c.value f (change_by e))
   fault_of_counting c edit.SeqExhausted = said_decided v payload c _ (cases_eq (seqid (header_at v c.place) + 1) (2 ^ 64))
   fault_of_counting c edit.MetadataFull = said_decided v payload c _ (full_decided (hdr_size (header_at v c.place)) (length v) payload c.value c.area e (c.alike e))
   fault_of_counting c edit.RandomLength = said_decided v payload c _ (miscounted_decided c.value e r)
@@ -108,6 +118,7 @@ module _ (v : List ℕ) (payload : Data) (answer : (m : Allowed) (n : ℕ) (p : 
   fault_of_none none edit.Iterations = few_decided e
   fault_of_none none edit.Argon2 = beyond_decided e
   fault_of_none none edit.BadLabel = bad_label_decided e
+  fault_of_none none edit.UnreadableToken = some_unread_decided (change_by e)
   fault_of_none none edit.Memory = inr (λ bad. bad)
   fault_of_none none edit.Device = inr (λ bad. bad)
   fault_of_none none f = inr (λ x. none x.place x.value x.metadata)
@@ -116,3 +127,10 @@ module _ (v : List ℕ) (payload : Data) (answer : (m : Allowed) (n : ℕ) (p : 
   pub fault2_decided : Counting v payload ⊎ ((p : ℕ) (i : Value) → HasMetadata v p i → ⊥) → (f : EditFault) → Decided (IsEditFault2 v payload e r f)
   fault2_decided (inl c) = fault_of_counting c
   fault2_decided (inr none) = fault_of_none none
+
+-- a fault of the metadata with a token has a candidate with the same key
+pub known_token2 : (v : List ℕ) (payload : Data) (e : Edit) (r : List ℕ) (f : MetaFault) → IsEditFault2 v payload e r (edit.BadToken f)
+    → (g : MetaFault) × Among g meta_candidates × IsEditFault2 v payload e r (edit.BadToken g) × (meta_key g ≡ meta_key f)
+known_token2 v payload e r f bad =
+    let x = known_token (hdr_size (header_at v bad.place) - 4096) bad.value f (change_by e) bad.is in
+    (x.0, x.1, record { place = bad.place; value = bad.value; metadata = bad.metadata; is = x.2 }, x.3)

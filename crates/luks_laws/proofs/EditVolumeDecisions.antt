@@ -1,10 +1,13 @@
 -- An edit of a volume has a first refusal, or it is refused by nothing, whatever counts of the volume.
-use Rattle.std.proofs.Common.{◌⊎◌, ℕ, List, length, subst, inl, inr}
+use Rattle.std.proofs.Common.{◌≡◌, ◌⊎◌, ℕ, List, length, subst, inl, inr}
 use Rattle.serde_json.specs.Data.{Data as Value}
 use Rattle.luks2_header.specs.Header2.{hdr_size, header_at}
 use Rattle.luks2_header.specs.Selection.{Choice, Chosen, luks1, luks2, nothing}
 use Rattle.luks2_header.proofs.ChoiceFacts.{choices_agree, choice_exists}
+use Rattle.luks_rules.specs.declared.fault.MetaFault.{MetaFault}
 use Rattle.luks_rules.specs.Accepted.{IsMeta}
+use Rattle.luks_rules.specs.Faults.{Among}
+use Rattle.luks_rules.specs.MetaFault.{meta_key}
 use Rattle.luks_meta.proofs.Namings.{one_digest}
 use Rattle.luks_slot.specs.declared.allowed.Allowed.{Allowed}
 use Rattle.luks_reading.specs.declared.check_fault.CheckFault.{CheckFault}
@@ -25,8 +28,9 @@ use Rattle.luks_volume.specs.Edits.{IsEditFault, IsEditFaultAs, IsUnrefused, Ref
 use Rattle.luks_laws.proofs.DecidedFacts.{alike_decided, Decided}
 use Rattle.luks_laws.proofs.EditDecisions.{first_edit_fault_or_none}
 use Rattle.luks_laws.proofs.EditDecisions1.{fault1_decided}
-use Rattle.luks_laws.proofs.EditDecisions2.{Counting, fault2_decided}
+use Rattle.luks_laws.proofs.EditDecisions2.{Counting, fault2_decided, known_token2}
 use Rattle.luks_laws.proofs.GapVolumes.{area_or_no_room}
+use Rattle.luks_laws.proofs.HeaderDecisions2.{meta_candidates}
 use Rattle.luks_laws.proofs.UnkeyedDecisions2.{unkeyed_decided}
 
 -- ---- the faults of any volume, by what counts of it
@@ -98,17 +102,30 @@ module _ (v : List ℕ) (payload : Data) where
 
     -- by the rules of LUKS1
     pub first_refusal1_or_unrefused : ((f : EditFault) × Refusal1 v payload e r f) ⊎ IsUnrefused1 v payload e r
-    first_refusal1_or_unrefused = elim (first_edit_fault_or_none v payload (IsEditFault1 v payload e r) (λ f bad. bad) (λ f bad. bad) checked sound decided1) [
+    first_refusal1_or_unrefused = elim (first_edit_fault_or_none v payload (IsEditFault1 v payload e r) (λ f bad. bad) (λ f bad. bad) (λ f bad. absurd bad) checked sound decided1) [
       | inl first ↦ inl first
       | inr none ↦ inr (record { none = none })
     ]
 
     -- by those of LUKS2
     pub first_refusal2_or_unrefused : ((f : EditFault) × Refusal2 v payload e r f) ⊎ IsUnrefused2 v payload e r
-    first_refusal2_or_unrefused = elim (first_edit_fault_or_none v payload (IsEditFault2 v payload e r) (λ f bad. bad) (λ f bad. bad) checked sound decided2) [
+    first_refusal2_or_unrefused = elim (first_edit_fault_or_none v payload (IsEditFault2 v payload e r) (λ f bad. bad) (λ f bad. bad) (known_token2 v payload e r) checked sound decided2) [
       | inl first ↦ inl first
       | inr none ↦ inr (record { none = none })
     ]
+
+    -- a fault of the metadata with a token has a candidate by what counts
+    token_as : (c : Choice) (f : MetaFault) → IsEditFaultAs v payload e r c (edit.BadToken f)
+        → (g : MetaFault) × Among g meta_candidates × IsEditFaultAs v payload e r c (edit.BadToken g) × (meta_key g ≡ meta_key f)
+    token_as luks1 f bad = absurd bad
+    token_as (luks2 o copies) f bad = known_token2 v payload e r f bad
+    token_as nothing f bad = absurd bad
+
+    token_of_volume : (f : MetaFault) → IsEditFault v payload e r (edit.BadToken f)
+        → (g : MetaFault) × Among g meta_candidates × IsEditFault v payload e r (edit.BadToken g) × (meta_key g ≡ meta_key f)
+    token_of_volume f bad =
+        let x = token_as bad.choice f bad.fault in
+        (x.0, x.1, record { choice = bad.choice; chosen = bad.chosen; fault = x.2 }, x.3)
 
     -- by those of what counts
     pub first_refusal_or_unrefused : ((f : EditFault) × Refusal v payload e r f) ⊎ IsUnrefused v payload e r
@@ -116,7 +133,7 @@ module _ (v : List ℕ) (payload : Data) where
         let c = choice_exists v in
         elim (first_edit_fault_or_none v payload (IsEditFault v payload e r)
         (λ f bad. record { choice = c.0; chosen = c.1; fault = unaccepted_as v payload e r c.0 f bad })
-        (λ f x. fault_of_volume v payload e r x.choice f x.fault) checked sound decided) [
+        (λ f x. fault_of_volume v payload e r x.choice f x.fault) token_of_volume checked sound decided) [
           | inl first ↦ inl first
           | inr none ↦ inr (record { none = none })
         ]

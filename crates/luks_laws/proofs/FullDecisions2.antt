@@ -21,11 +21,12 @@ use Rattle.luks_edit.specs.declared.edit.Opener.{Opener}
 use Rattle.luks_edit.specs.Asked.{deed_of, MatchDeed, MatchPlace}
 use Rattle.luks2_edit_laws.specs.declared.like.Like.{Like}
 use Rattle.luks2_edit_laws.specs.declared.like.Like.TheVariants.{Keyslot, Digest}
-use Rattle.luks2_edit_laws.specs.Edited.{HasAdded, HasChanged, IsEdited, members_of}
+use Rattle.luks2_edit_laws.specs.Edited.{HasAdded, HasChanged, IsAmended, IsEdited, members_of}
 use Rattle.luks2_edit_laws.specs.Likes.{ForLike, fresh_members, IsAddedLike}
 use Rattle.luks2_edit_laws.specs.Places.{HasNoNewArea, IsNewArea}
 use Rattle.luks2_edit_laws.specs.Refused.{IsFull}
 use Rattle.luks2_judging.specs.Keys.{IsThereLike}
+use Rattle.luks_laws.proofs.ChangeDecisions2.{amended_or_none}
 use Rattle.luks_laws.proofs.DecidedFacts.{at_most_decided, Decided}
 use Rattle.luks_laws.proofs.SearchFacts.{some_same, SomeOrNone}
 use Rattle.luks_laws.proofs.LikeDecisions2.{for_like_or_none}
@@ -101,7 +102,7 @@ added_like_or_none to (Digest number len) f j = inl (with_slot to number (fresh_
 abbrev EditedIn : ℕ → ℕ → Data → Deed → List ℕ → Value → Value → Type 0
 EditedIn h total payload d salt j k = MatchDeed d
     (λ s. MatchPlace s.place (λ o to. ForLike j o (HasAdded h total payload to s.derivation salt j k)) (λ slot secret. HasChanged h total payload slot s.derivation salt j k))
-    (λ r. k ≡ without_slot r.slot j) (λ label. k ≡ j)
+    (λ r. k ≡ without_slot r.slot j) (λ r. IsAmended r.change j k)
 
 module _ (h total : ℕ) (payload : Data) (j : Value)
     (area : (l : Like) → IsThereLike j l → ((a : Area) × IsNewArea h total payload j l a) ⊎ HasNoNewArea h total payload j l) where
@@ -139,7 +140,7 @@ module _ (h total : ℕ) (payload : Data) (j : Value)
   edited_in : (d : Deed) (salt : List ℕ) → SomeOrNone Value (λ k. EditedIn h total payload d salt j k)
   edited_in (deed.Seal s) salt = sealed_or_none s.place s.derivation salt
   edited_in (deed.Remove r) salt = inl (without_slot r.slot j, refl)
-  edited_in (deed.Rewrite label) salt = inl (j, refl)
+  edited_in (deed.Rewrite r) salt = amended_or_none j r.change
 
   edited_or_none : (e : Edit) (salt : List ℕ) → SomeOrNone Value (IsEdited h total payload e salt j)
   edited_or_none e = edited_in (deed_of e)
@@ -161,7 +162,7 @@ module _ (h total : ℕ) (payload : Data) (a b : List ℕ) (j x : Value) where
   salted_in : (d : Deed) → EditedIn h total payload d a j x → (y : Value) × EditedIn h total payload d b j y
   salted_in (deed.Seal s) is = sealed_anew s.place s.derivation is
   salted_in (deed.Remove r) is = (x, is)
-  salted_in (deed.Rewrite label) is = (x, is)
+  salted_in (deed.Rewrite r) is = (x, is)
 
 salted_anew : (h total : ℕ) (payload : Data) (e : Edit) (a b : List ℕ) (j x : Value) → IsEdited h total payload e a j x → (y : Value) × IsEdited h total payload e b j y
 salted_anew h total payload e a b j x = salted_in h total payload a b j x (deed_of e)

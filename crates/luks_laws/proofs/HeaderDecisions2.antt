@@ -18,6 +18,7 @@ use Rattle.luks_rules.specs.declared.fault.MetaFault.TheVariants as meta
 use Rattle.luks_rules.specs.Faults.{Among}
 use Rattle.luks_rules.specs.MetaFault.{HasDataFault, IsDataFault, IsMetaFault, meta_key}
 use Rattle.luks_rules.specs.Reading.{dynamic, Field, whole}
+use Rattle.luks_rules.specs.Valued.{IsValueFault}
 use Rattle.luks_rules.specs.Sizes.{has_other_size, has_segment_below, has_slot_outside, has_small_area}
 use Rattle.luks_reading.specs.declared.check_fault.CheckFault.{CheckFault}
 use Rattle.luks_reading.specs.declared.check_fault.CheckFault.TheVariants as check
@@ -76,7 +77,7 @@ uuid_fault_or_none text = least_or_none HeadFault head_key (IsUuidFault text) (u
 
 -- ---- a value
 
-data_fault_decided : (len : ℕ) (j : Value) (f : MetaFault) → Decided (IsDataFault len j f)
+pub data_fault_decided : (len : ℕ) (j : Value) (f : MetaFault) → Decided (IsDataFault len j f)
 data_fault_decided len j meta.JsonArea = inr (λ bad. bad)
 data_fault_decided len j meta.BadJson = inr (λ bad. bad)
 data_fault_decided len j meta.NotWhole = true_decided (has_float j)
@@ -186,7 +187,7 @@ segment_regions = each (λ n. meta.Region (Segment n)) 32
 at_names : List MetaFault
 at_names = small_areas ++ (slot_regions ++ segment_regions)
 
-meta_candidates : List MetaFault
+pub meta_candidates : List MetaFault
 meta_candidates = whole_faults ++ (at_names ++ (at_paths meta.Shape ++ (at_paths meta.Kind ++ (at_paths meta.NoSuchName ++ at_paths meta.Assigned))))
 
 among_whole : (f : MetaFault) → Among f whole_faults → Among f meta_candidates
@@ -244,6 +245,53 @@ among_segment_regions : (n : ℕ) → n < 32 → Among (meta.Region (Segment n))
 unfolding at_names
 among_segment_regions n low = among_at_names (meta.Region (Segment n)) (among_right (meta.Region (Segment n)) small_areas (slot_regions ++ segment_regions)
     (among_right (meta.Region (Segment n)) slot_regions segment_regions (among_segments n low)))
+
+-- ---- a value that is made
+
+-- of a fault of it a candidate with the same key is one
+abbrev HasValueCandidate : ℕ → Value → MetaFault → Type 0
+HasValueCandidate len j f = (g : MetaFault) × Among g meta_candidates × IsValueFault len j g × (meta_key g ≡ meta_key f)
+
+pub known_value : (len : ℕ) (j : Value) (f : MetaFault) → IsValueFault len j f → HasValueCandidate len j f
+unfolding whole_faults
+known_value len j meta.JsonArea bad = absurd bad
+known_value len j meta.BadJson bad = (meta.BadJson, among_whole _ (inr (inl refl)), bad, refl)
+known_value len j meta.NotWhole bad = (meta.NotWhole, among_whole _ (inr (inr (inl refl))), bad, refl)
+known_value len j (meta.Shape path) bad =
+    let p = bad.place in (
+      meta.Shape (array (path_of p.section p.number p.row)),
+      among_shapes _ (among_at_paths meta.Shape _ (among_places p.section p.number p.row bad.faulty.place)),
+      record { place = p; faulty = bad.faulty; is = refl },
+      ap (λ k. 4 ∷ k) (sym bad.is),
+    )
+known_value len j (meta.Kind path) bad =
+    let p = bad.place in (
+      meta.Kind (array (path_of p.section p.number p.row)),
+      among_kinds _ (among_at_paths meta.Kind _ (among_places p.section p.number p.row bad.faulty.place)),
+      record { place = p; faulty = bad.faulty; is = refl },
+      ap (λ k. 5 ∷ k) (sym bad.is),
+    )
+known_value len j (meta.NoSuchName path) bad =
+    let p = bad.place in (
+      meta.NoSuchName (array (path_of p.section p.number p.row)),
+      among_no_names _ (among_at_paths meta.NoSuchName _ (among_places p.section p.number p.row bad.faulty.place)),
+      record { place = p; faulty = bad.faulty; is = refl },
+      ap (λ k. 6 ∷ k) (sym bad.is),
+    )
+known_value len j (meta.Assigned path) bad =
+    let p = bad.place in (
+      meta.Assigned (array (path_of p.section p.number p.row)),
+      among_assigned _ (among_at_paths meta.Assigned _ (among_places p.section p.number p.row bad.faulty.place)),
+      record { place = p; faulty = bad.faulty; is = refl },
+      ap (λ k. 7 ∷ k) (sym bad.is),
+    )
+known_value len j meta.Sizes bad = (meta.Sizes, among_whole _ (inr (inr (inr (inl refl)))), bad, refl)
+known_value len j (meta.AreaTooSmall n) bad = (meta.AreaTooSmall n, among_too_small n bad.0, bad, refl)
+known_value len j (meta.Region Head1) bad = absurd bad
+known_value len j (meta.Region Head2) bad = absurd bad
+known_value len j (meta.Region (Slot n)) bad = (meta.Region (Slot n), among_slot_regions n bad.0, bad, refl)
+known_value len j (meta.Region (Segment n)) bad = absurd bad
+known_value len j meta.Memory bad = absurd bad
 
 -- ---- a JSON area
 

@@ -20,8 +20,8 @@ pub mod GapPlaces
 pub mod GapAreas
 pub mod GapNumbers
 pub mod GapVolumes
-pub mod LeastDecisions
 pub mod AskedDecisions
+mod ChangeDecisions2
 pub mod RowDecisions1
 pub mod MemberDecisions2
 pub mod KeyDecisions1

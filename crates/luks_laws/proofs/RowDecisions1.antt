@@ -1,17 +1,17 @@
 -- What refuses an edit by the entries of a LUKS1 volume: each row stands or doesn't.
 use Rattle.std.proofs.Common.{◌≡◌, ℕ, List, length, Option, Some, None, refl, ap, ◌∙◌, arith, inl, inr}
-use Rattle.std.specs.Prelude.{MatchOption, ⊤}
-use Rattle.std.specs.Borrow.{Bor}
+use Rattle.std.specs.Prelude.{MatchOption, false}
 use Rattle.std.proofs.lemmas.Bool.{cases_eq}
 use Rattle.luks1_header.specs.Header1.{active_word, disabled_word, enabled_word, entry}
 use Rattle.luks_edit.specs.declared.edit.Edit.{Edit}
 use Rattle.luks_edit.specs.declared.deed.Removed.{Removed}
+use Rattle.luks_edit.specs.declared.deed.Rewritten.{Rewritten}
 use Rattle.luks_edit.specs.declared.deed.Sealed.{Sealed}
-use Rattle.luks_edit.specs.Asked.{label_by, removed_by, sealed_by, Wants}
+use Rattle.luks_edit.specs.Asked.{removed_by, rewritten_by, sealed_by, sets_nothing, Wants}
 use Rattle.luks1_edits.specs.Edited.{IsFree, IsInUse, IsLeastFree, IsNewKeyslot, IsSealedIn, number_asked}
 use Rattle.luks1_edits.specs.Refused.{HasNoFree, IsAbsent, IsLabel, IsLast, IsMiscounted, IsTaken, IsTakenFor, keyslot_need, LacksFree, Need1, NeedsFor}
 use Rattle.luks_laws.proofs.AskedDecisions.{wanted_decided}
-use Rattle.luks_laws.proofs.DecidedFacts.{alike_decided, both_decided, Decided, less_decided, not_decided}
+use Rattle.luks_laws.proofs.DecidedFacts.{alike_decided, both_decided, Decided, false_decided, less_decided, not_decided}
 use Rattle.luks_laws.proofs.SearchFacts.{least_or_none_below, OneOrNone, other_decided, some_decided, SomeOrNone}
 
 -- ---- keyslots in use and free
@@ -78,9 +78,9 @@ no_free_decided v e = some_decided Sealed (sealed_by e) (λ s. LacksFree v (numb
 pub last_decided : (v : List ℕ) (e : Edit) → Decided (IsLast v e)
 last_decided v e = some_decided Removed (removed_by e) (λ r. (n : ℕ) → IsInUse v n → n ≡ r.slot) (λ r. only_in_use_decided v r.slot)
 
--- it sets a label, or it doesn't
+-- it sets something, or it doesn't
 pub label_decided : (e : Edit) → Decided (IsLabel e)
-label_decided e = some_decided (Bor (List ℕ)) (label_by e) (λ text. ⊤) (λ text. inl tt)
+label_decided e = some_decided Rewritten (rewritten_by e) (λ r. sets_nothing r ≡ false) (λ r. false_decided (sets_nothing r))
 
 -- ---- random bytes
 

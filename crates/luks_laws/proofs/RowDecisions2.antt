@@ -11,16 +11,18 @@ use Rattle.luks_reading.specs.declared.report.Data.{Data}
 use Rattle.luks_reading.specs.Layout2.{Luks2Area}
 use Rattle.luks_edit.specs.declared.edit.Edit.{Edit}
 use Rattle.luks_edit.specs.declared.deed.Removed.{Removed}
+use Rattle.luks_edit.specs.declared.deed.Rewritten.{Rewritten}
 use Rattle.luks_edit.specs.declared.deed.Sealed.{Sealed}
-use Rattle.luks_edit.specs.Asked.{label_by, MatchPlace, opener_at, removed_by, sealed_by, Wants}
+use Rattle.luks_edit.specs.Asked.{AmendsSlot, change_by, MatchPlace, opener_at, removed_by, rewritten_by, sealed_by, Wants}
 use Rattle.luks2_edit_laws.specs.declared.like.Like.{Like}
 use Rattle.luks2_edit_laws.specs.Gap.{IsGap}
 use Rattle.luks2_edit_laws.specs.Likes.{ForLike}
 use Rattle.luks2_edit_laws.specs.Metadata.{IsInUse}
 use Rattle.luks2_edit_laws.specs.Places.{HasNoNewArea, IsNewArea, key_areas_end, rounded_to_blocks}
-use Rattle.luks2_edit_laws.specs.Refused.{HasNoFree, HasNoNumber, HasNoRoom, IsAbsent, IsBadLabel, IsLast, IsMiscounted, IsNumberTaken, IsOnlyOne, IsTaken, Need2, NeedsLike}
+use Rattle.luks2_edit_laws.specs.Refused.{HasBadText, HasNoFree, HasNoNumber, HasNoRoom, IsAbsent, IsBadLabel, IsBadText, IsLast, IsMiscounted, IsNumberTaken, IsOnlyOne, IsTaken, Need2, NeedsLike}
 use Rattle.luks2_judging.specs.Keys.{IsThereLike}
 use Rattle.luks_laws.proofs.AskedDecisions.{wanted_decided}
+use Rattle.luks_laws.proofs.ChangeDecisions2.{amended_decided}
 use Rattle.luks_laws.proofs.DecidedFacts.{alike_decided, both_decided, Decided, less_decided, not_decided, one_decided, true_decided}
 use Rattle.luks_laws.proofs.SearchFacts.{least_or_none_below, OneOrNone, other_decided, place_decided, some_decided, some_same, SomeOrNone}
 use Rattle.luks_laws.proofs.LikeDecisions2.{for_like_decided, for_like_one, one_length_like, one_stripes_like, stripes_like_or_none, stripes_there, there_decided}
@@ -30,9 +32,14 @@ use Rattle.luks_laws.proofs.MemberDecisions2.{digest_decided, digest_or_none, in
 
 -- one of them isn't there, or all are
 pub absent_decided : (j : Value) (e : Edit) → Decided (IsAbsent j e)
-absent_decided j e = alike_decided ((n : ℕ) × Wants e n × (IsInUse j n → ⊥)) (IsAbsent j e)
-    (λ x. record { slot = x.0; wanted = x.1; unused = x.2 }) (λ x. (x.slot, x.wanted, x.unused))
-    (wanted_decided e (λ n. IsInUse j n → ⊥) (λ n. not_decided (IsInUse j n) (in_use_decided j n)))
+absent_decided j e = alike_decided (((n : ℕ) × Wants e n × (IsInUse j n → ⊥)) ⊎ ((n : ℕ) × AmendsSlot (change_by e) n × (IsInUse j n → ⊥))) (IsAbsent j e)
+    (λ x. elim x [
+      | inl wanted ↦ record { slot = wanted.0; wanted = inl wanted.1; unused = wanted.2 }
+      | inr amended ↦ record { slot = amended.0; wanted = inr amended.1; unused = amended.2 }
+    ])
+    (λ x. elim x.wanted [ inl wanted ↦ inl (x.slot, wanted, x.unused) | inr amended ↦ inr (x.slot, amended, x.unused) ])
+    (one_decided _ _ (wanted_decided e (λ n. IsInUse j n → ⊥) (λ n. not_decided (IsInUse j n) (in_use_decided j n)))
+    (amended_decided (change_by e) (λ n. IsInUse j n → ⊥) (λ n. not_decided (IsInUse j n) (in_use_decided j n))))
 
 -- ---- the keyslot that the edit makes
 
@@ -120,10 +127,14 @@ module _ (j : Value) (one : (n m k : ℕ) → IsDigestOf j n m → IsDigestOf j 
 
 -- ---- the label
 
--- its label is a bad one, or it isn't
-pub bad_label_decided : (e : Edit) → Decided (IsBadLabel e)
-bad_label_decided e = some_decided (Bor (List ℕ)) (label_by e) (λ text. (47 < length text.now) ⊎ (is_plain text.now ≡ true → ⊥))
+-- a text is a bad one, or it isn't
+bad_text_decided : (given : Option (Bor (List ℕ))) → Decided (IsBadText given)
+bad_text_decided given = some_decided (Bor (List ℕ)) given (λ text. (47 < length text.now) ⊎ (is_plain text.now ≡ true → ⊥))
     (λ text. one_decided _ _ (less_decided 47 (length text.now)) (not_decided _ (true_decided (is_plain text.now))))
+
+-- so its label is a bad one, or its subsystem, or neither is
+pub bad_label_decided : (e : Edit) → Decided (IsBadLabel e)
+bad_label_decided e = some_decided Rewritten (rewritten_by e) HasBadText (λ r. one_decided _ _ (bad_text_decided r.label) (bad_text_decided r.subsystem))
 
 -- ---- random bytes
 

@@ -9,6 +9,7 @@ use crate::program::program;
 use crate::requests::{line_of, search_of};
 use crate::search::Search;
 use crate::sized::wrong_size;
+use crate::tokens::{wrong_priority, wrong_token};
 use clap::error::ErrorKind;
 use clap::{ArgMatches, Error};
 use luks_request::Line;
@@ -117,6 +118,8 @@ fn wrong_words(name: CommandName, given: &ArgMatches<'_>) -> Option<&'static str
         CommandName::Rebuild => wrong_field(given),
         CommandName::Change => wrong_change(given).or(wrong_derivation(given)),
         CommandName::Remove => wrong_removal(given),
+        CommandName::Priority => wrong_priority(given),
+        CommandName::Token => wrong_token(given),
         CommandName::Format | CommandName::Add => wrong_derivation(given),
         _ => None,
     }

@@ -30,7 +30,7 @@ pub(crate) fn command_row(name: &str) -> Option<&'static Described> {
     commands().iter().find(|described| described.name == name)
 }
 
-static COMMANDS: [Described; 17] = [
+static COMMANDS: [Described; 19] = [
     Described {
         name: "check",
         command: CommandName::Check,
@@ -183,7 +183,45 @@ static COMMANDS: [Described; 17] = [
         operands: &[Operand::Volume, Operand::Text],
         options: &[
             LongOption::NeededRandom,
+            LongOption::Subsystem,
             LongOption::Over,
+            LongOption::Detached,
+            LongOption::Offset,
+            LongOption::Length,
+            LongOption::Quiet,
+        ],
+        choices: &[],
+    },
+    Described {
+        name: "priority",
+        command: CommandName::Priority,
+        overwrites: false,
+        operands: &[Operand::Volume, Operand::Priority],
+        options: &[
+            LongOption::PreferredSlot,
+            LongOption::NeededRandom,
+            LongOption::Over,
+            LongOption::Detached,
+            LongOption::Offset,
+            LongOption::Length,
+            LongOption::Quiet,
+        ],
+        choices: &[],
+    },
+    Described {
+        name: "token",
+        command: CommandName::Token,
+        overwrites: false,
+        operands: &[
+            Operand::Volume,
+            Operand::Action,
+            Operand::TokenWord,
+            Operand::TokenFile,
+        ],
+        options: &[
+            LongOption::ToToken,
+            LongOption::Random,
+            LongOption::OverFileToo,
             LongOption::Detached,
             LongOption::Offset,
             LongOption::Length,

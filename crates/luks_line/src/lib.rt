@@ -19,6 +19,7 @@ mod search;
 mod sized;
 mod sizes;
 mod takes;
+mod tokens;
 
 pub use command_line::{Asked, line, parse};
 pub use luks_request::{

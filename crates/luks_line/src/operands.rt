@@ -9,6 +9,10 @@ pub(crate) enum Operand {
     DamagedSource,
     RebuiltTarget,
     Text,
+    Priority,
+    Action,
+    TokenWord,
+    TokenFile,
     Fault,
     Device,
     NewBackup,
@@ -29,7 +33,7 @@ pub(crate) struct OperandRow {
 }
 
 /// In the order of `Operand`.
-static OPERANDS: [OperandRow; 10] = [
+static OPERANDS: [OperandRow; 14] = [
     OperandRow {
         name: "VOLUME",
         needed: true,
@@ -59,6 +63,26 @@ static OPERANDS: [OperandRow; 10] = [
         name: "TEXT",
         needed: true,
         help: "The label, at most 47 plain characters",
+    },
+    OperandRow {
+        name: "PRIORITY",
+        needed: true,
+        help: "ignore, normal or prefer",
+    },
+    OperandRow {
+        name: "ACTION",
+        needed: true,
+        help: "list, export, import or remove",
+    },
+    OperandRow {
+        name: "N|FILE",
+        needed: false,
+        help: "The token to export or remove; the file to import",
+    },
+    OperandRow {
+        name: "FILE",
+        needed: false,
+        help: "The file to export to: - is standard output",
     },
     OperandRow {
         name: "FAULT",

@@ -27,6 +27,7 @@ pub(crate) enum LongOption {
     Thorough,
     Uuid,
     Over,
+    OverFileToo,
     JsonAnswer,
     Quiet,
     PassphraseLine,
@@ -37,6 +38,8 @@ pub(crate) enum LongOption {
     KeyFile,
     Rescue,
     Other,
+    PreferredSlot,
+    ToToken,
     RemovedSlot,
     By,
     Size,
@@ -83,7 +86,7 @@ pub(crate) struct OptionRow {
 }
 
 /// In the order of `LongOption`.
-static OPTIONS: [OptionRow; 60] = [
+static OPTIONS: [OptionRow; 63] = [
     OptionRow {
         name: "detached",
         needed: false,
@@ -211,6 +214,12 @@ static OPTIONS: [OptionRow; 60] = [
         takes: Takes::Nothing,
     },
     OptionRow {
+        name: "over",
+        needed: false,
+        help: "Write over another use, or a FILE that isn't empty",
+        takes: Takes::Nothing,
+    },
+    OptionRow {
         name: "json",
         needed: false,
         help: "One JSON object in place of the line",
@@ -269,6 +278,18 @@ static OPTIONS: [OptionRow; 60] = [
         needed: false,
         help: "Write over the header of another volume",
         takes: Takes::Nothing,
+    },
+    OptionRow {
+        name: "slot",
+        needed: true,
+        help: "The keyslot, 0 to 31",
+        takes: Takes::Slot,
+    },
+    OptionRow {
+        name: "to",
+        needed: false,
+        help: "The number of the new token; else the least free",
+        takes: Takes::Slot,
     },
     OptionRow {
         name: "slot",

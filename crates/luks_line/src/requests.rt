@@ -7,12 +7,13 @@ use crate::fields::fields_of;
 use crate::matching::matching_of;
 use crate::search::Search;
 use crate::sized::{bytes_of, mib_of};
+use crate::tokens::{token_edit_of, token_kept_of, token_shown_of};
 use clap::ArgMatches;
 use luks_kdf::HashName;
 use luks_reading::{Data, Format};
 use luks_request::{
-    BackingUp, Command, Comparing, Converting, EditRequest, Editing, KeepingKey, Line, Making,
-    NewFields, NewVersion, OpenerFile, Place, Rebuilding, Restoring, ShowAs,
+    AskedPriority, BackingUp, Command, Comparing, Converting, EditRequest, Editing, KeepingKey,
+    Line, Making, NewFields, NewVersion, OpenerFile, Place, Rebuilding, Restoring, ShowAs,
 };
 
 /// What the command asks for, of a volume.
@@ -57,6 +58,7 @@ fn command_of<'a>(name: CommandName, given: &ArgMatches<'a>) -> Option<Command<'
         CommandName::Restore => restoring_of(given),
         CommandName::Compare => comparing_of(given),
         CommandName::Key => keeping_key_of(given),
+        CommandName::Token => token_of(given),
         _ => editing_of(name, given),
     }
 }
@@ -119,6 +121,8 @@ fn edit_of<'a>(name: CommandName, given: &ArgMatches<'a>) -> Option<EditRequest<
         CommandName::Remove => removing_of(given),
         CommandName::Repair => Some(EditRequest::Repair),
         CommandName::Label => labelling_of(given),
+        CommandName::Priority => preferring_of(given),
+        CommandName::Token => token_edit_of(given),
         _ => None,
     }
 }
@@ -181,7 +185,36 @@ fn removing_of<'a>(given: &ArgMatches<'a>) -> Option<EditRequest<'a>> {
 fn labelling_of<'a>(given: &ArgMatches<'a>) -> Option<EditRequest<'a>> {
     Some(EditRequest::Label {
         text: given.get_str("TEXT")?,
+        subsystem: given.get_str("subsystem"),
     })
+}
+
+fn preferring_of<'a>(given: &ArgMatches<'a>) -> Option<EditRequest<'a>> {
+    Some(EditRequest::Priority {
+        slot: given.get_one::<u8>("slot")?,
+        priority: priority_named(given.get_str("PRIORITY")?)?,
+    })
+}
+
+/// The priority of this name.
+pub(crate) fn priority_named(name: &str) -> Option<AskedPriority> {
+    match name {
+        "ignore" => Some(AskedPriority::Ignore),
+        "normal" => Some(AskedPriority::Normal),
+        "prefer" => Some(AskedPriority::Prefer),
+        _ => None,
+    }
+}
+
+/// What is asked of a volume's tokens: they are shown, or one is kept in a file, or they are edited.
+fn token_of<'a>(given: &ArgMatches<'a>) -> Option<Command<'a>> {
+    if let Some(form) = token_shown_of(given) {
+        return Some(Command::Show(form));
+    }
+    match token_kept_of(given) {
+        Some(keeping) => Some(Command::KeepToken(keeping)),
+        None => editing_of(CommandName::Token, given),
+    }
 }
 
 fn formatting_of<'a>(given: &ArgMatches<'a>) -> Option<Command<'a>> {

@@ -13,13 +13,14 @@ use Rattle.luks_commands.specs.declared.inputs.InputFault.TheVariants.{Unreadabl
 use Rattle.luks_commands.specs.declared.inputs.Inputs.{Inputs}
 use Rattle.luks_commands.specs.declared.inputs.Reason.TheVariants.{Exists, SameFile}
 use Rattle.luks_commands.specs.Beside.{AreOneFile}
-use Rattle.luks_keeping_commands.specs.KeepingKey.{AreNotThree, IsExisting}
+use Rattle.luks_keeping_commands.specs.KeepingKey.{AreNotThree}
+use Rattle.luks_keeping_commands.specs.KeptFile.{IsExisting}
 use Rattle.luks_request.specs.declared.keeping.KeepingKey.{KeepingKey}
 use Rattle.luks_execution.specs.Executed.{Executes, IsExecuted}
 use Rattle.luks_main.specs.Outcomes.{EndsTold, IsMade, told, refused, failed}
 use Rattle.luks_main.specs.Statuses.{EndsWith, MayEnd}
 use Rattle.luks_timing.specs.Timed.{IsTimed}
-use Rattle.luks_main.proofs.StatusFacts.{backup_ends, backup_same_file_ends, check_ends, compare_ends, compare_same_file_ends, convert_ends, converted_same_file_ends, edit_ends, format_ends, kept_existing_ends, kept_key_ends, kept_same_file_ends, key_ends, memory_ends, open_ends, own, rebuild_ends, rebuilt_same_file_ends, restore_ends, restore_same_file_ends, show_ends}
+use Rattle.luks_main.proofs.StatusFacts.{backup_ends, backup_same_file_ends, check_ends, compare_ends, compare_same_file_ends, convert_ends, converted_same_file_ends, edit_ends, format_ends, kept_existing_ends, kept_key_ends, kept_same_file_ends, key_ends, memory_ends, open_ends, own, rebuild_ends, rebuilt_same_file_ends, restore_ends, restore_same_file_ends, show_ends, kept_token_ends, token_existing_ends, token_same_file_ends}
 
 -- ---- whether both files are one
 
@@ -91,6 +92,10 @@ commands_end device words chance (command.KeepKey keeping) name old new a said =
     by_one_file (not_three name keeping old.target) (λ one. kept_same_file_ends keeping.slot a (said.same one).1)
     (λ three. by_one_file (existing old.target) (λ there. kept_existing_ends keeping.slot a (said.exists three there).1)
     (λ free. kept_key_ends device _ keeping.slot _ _ _ old.volume new.volume old.target new.target a (said.answers three free)))
+commands_end device words chance (command.KeepToken keeping) name old new a said =
+    by_one_file (one_file name keeping.target.now old.target) (λ one. token_same_file_ends a (said.same one).1)
+    (λ two. by_one_file (existing old.target) (λ there. token_existing_ends a (said.exists two there).1)
+    (λ free. kept_token_ends device keeping.number old.volume new.volume old.target new.target a (said.answers two free)))
 
 -- so of one that was run
 pub executed_ends : {D R N : Type 0} (device : Device D) (words : R → Option (List ℕ)) (chance : N → Option (List ℕ)) (c : Command) (name : List ℕ) (old new : Inputs D R N) (a : Answer)
@@ -143,3 +148,4 @@ timed_ends (command.Backup backing_up) timed status is ends = subst (λ (x : Com
 timed_ends (command.Restore restoring) timed status is ends = subst (λ (x : Command). MayEnd x status) is ends
 timed_ends (command.Compare comparing) timed status is ends = subst (λ (x : Command). MayEnd x status) is ends
 timed_ends (command.KeepKey keeping) timed status is ends = subst (λ (x : Command). MayEnd x status) is ends
+timed_ends (command.KeepToken keeping) timed status is ends = subst (λ (x : Command). MayEnd x status) is ends

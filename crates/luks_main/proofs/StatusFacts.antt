@@ -1,5 +1,5 @@
 -- Each command's answers end with the statuses of the table.
-use Rattle.std.proofs.Common.{◌≡◌, ◌⊎◌, ℕ, List, Bool, true, false, Option, Some, None, Bor, Result, Ok, Err, refl, sym, ap, subst, inl, inr}
+use Rattle.std.proofs.Common.{◌≡◌, ◌⊎◌, ℕ, List, Bool, true, false, Option, Some, None, Bor, Result, Ok, Err, refl, sym, ap, subst, inl, inr, string_bytes}
 use Rattle.luks_reading.specs.declared.report.Data.{Data}
 use Rattle.luks_reading.specs.declared.report.Version.TheVariants.{Luks1, Luks2}
 use Rattle.luks2_header.specs.declared.selection.Copies.TheVariants.{InStep, FirstNewer, SecondNewer, FirstOnly, SecondOnly}
@@ -16,7 +16,8 @@ use Rattle.luks_request.specs.declared.rebuilding.Rebuilding.{Rebuilding}
 use Rattle.luks_request.specs.declared.request.ShowAs.{ShowAs}
 use Rattle.luks_request.specs.declared.request.ShowAs.TheVariants as form
 use Rattle.luks_commands.specs.declared.answers.Answer.{Answer}
-use Rattle.luks_commands.specs.declared.answers.Answer.TheVariants.{Accepted, Listed, ListedFully, Mapped, Json, Opens, Closed, NoneOpens, Matches, Differs, Done, Compared, Rescued, Refused, DeviceFault, NoMemory}
+use Rattle.luks_edit.specs.declared.edit_fault.EditFault.TheVariants.{NoSuchToken}
+use Rattle.luks_commands.specs.declared.answers.Answer.TheVariants.{Accepted, Listed, ListedFully, Mapped, Tokens, Json, Opens, Closed, NoneOpens, Matches, Differs, Done, Compared, Rescued, Refused, DeviceFault, NoMemory}
 use Rattle.luks_commands.specs.declared.answers.Refusal.TheVariants as refusal
 use Rattle.luks_commands.specs.declared.inputs.InputFault.{InputFault}
 use Rattle.luks_commands.specs.declared.inputs.InputFault.TheVariants.{Absent, Unreadable, NoMemory as NoMemoryToRead}
@@ -39,7 +40,7 @@ use Rattle.luks_reading.specs.declared.open_fault.OpenFault.TheVariants as openi
 use Rattle.luks_area.specs.declared.device.Device.{Ghosts as Device}
 use Rattle.luks_commands.specs.FormatAnswers.{AnswersFormat, IsFormatAnswer}
 use Rattle.luks_rebuilding.specs.declared.place.Which.{Which}
-use Rattle.luks_commands.specs.ShowAnswers.{AnswersShow, IsFullAnswer, IsJsonAnswer, IsListedAnswer, IsMapAnswer, IsShowAnswer}
+use Rattle.luks_commands.specs.ShowAnswers.{AnswersShow, IsFullAnswer, IsJsonAnswer, IsListedAnswer, IsMapAnswer, IsShowAnswer, IsTokenAnswer, IsTokensAnswer}
 use Rattle.luks_header_commands.specs.Converting.{AnswersConvert, IsConvertAnswer}
 use Rattle.luks_header_commands.specs.Trying.{no_header, none_open, one_opens, trial_failed, AnswersBy, AnswersRebuild, IsTriedAnswer, TriedAnswer}
 use Rattle.luks_header_commands.specs.Rebuilding.{given_of, copies_asked, IsAnswerOf, IsLuks1Answer, IsLuks2Answer, IsRebuildAnswer}
@@ -52,12 +53,14 @@ use Rattle.luks_keeping.specs.declared.over.Over.{Over}
 use Rattle.luks_keeping.specs.declared.restore_fault.RestoreFault.TheVariants as restoring
 use Rattle.luks_keeping_commands.specs.BackingUp.{AnswersBackup, IsBackupAnswer, IsMadeAnswer, IsNotKept, IsRescueAnswer, IsWithoutFile}
 use Rattle.luks_keeping_commands.specs.Comparing.{AnswersCompare, IsCompareAnswer}
-use Rattle.luks_keeping_commands.specs.KeepingKey.{shut_answer, unmade_answer, AnswersKeyKept, IsKept, IsKeyFileAnswer}
+use Rattle.luks_keeping_commands.specs.KeepingKey.{shut_answer, AnswersKeyKept, IsKeyFileAnswer}
+use Rattle.luks_keeping_commands.specs.KeepingToken.{line_of, IsTokenFileAnswer, IsTokenKept}
+use Rattle.luks_keeping_commands.specs.KeptFile.{unmade_answer, IsKept}
 use Rattle.luks_keeping_commands.specs.Restoring.{over_of, AnswersBoth, AnswersRestore, IsRestoreAnswer, IsRestoreBar}
 use Rattle.luks_keeping_commands.specs.TwoFiles.{pair_of, Pair as TwoFiles}
 use Rattle.luks_edit_commands.specs.EditAnswers.{AnswersEdit, IsEditAnswer}
 use Rattle.luks_edit_commands.specs.Editing.{Given, Lacking}
-use Rattle.luks_main.specs.Statuses.{EndsBackup, EndsCheck, EndsCompare, EndsConvert, EndsEdit, EndsFormat, EndsKeepKey, EndsKey, EndsOpen, EndsRebuild, EndsTried, EndsUntried, EndsRestore, EndsShow, EndsWith}
+use Rattle.luks_main.specs.Statuses.{EndsBackup, EndsCheck, EndsCompare, EndsConvert, EndsEdit, EndsFormat, EndsKeepKey, EndsKeepToken, EndsKey, EndsOpen, EndsRebuild, EndsTried, EndsUntried, EndsRestore, EndsShow, EndsWith}
 
 -- an answer's own status
 abbrev pub own : Answer → ℕ
@@ -74,6 +77,8 @@ memory_ends (command.Check payload) = refl
 memory_ends (command.Show form.Lines) = refl
 memory_ends (command.Show form.All) = refl
 memory_ends (command.Show form.Map) = refl
+memory_ends (command.Show form.Tokens) = refl
+memory_ends (command.Show (form.Token n)) = refl
 memory_ends (command.Show form.Json) = refl
 memory_ends (command.Open passphrase None memory older) = refl
 memory_ends (command.Open passphrase (Some n) memory older) = refl
@@ -86,6 +91,7 @@ memory_ends (command.Backup backing_up) = refl
 memory_ends (command.Restore restoring) = refl
 memory_ends (command.Compare comparing) = refl
 memory_ends (command.KeepKey keeping) = refl
+memory_ends (command.KeepToken keeping) = refl
 
 -- a file that can't be read
 unread_ends : (Ends : Answer → ℕ → Type 0) → Ends DeviceFault 4 → Ends NoMemory 4 → (f : InputFault) (a : Answer) → a ≡ unread_answer f → Ends a (own a)
@@ -158,16 +164,35 @@ json_there tells v before after DeviceFault said = refl
 json_there tells v before after NoMemory said = refl
 json_there tells v before after a said = absurd said
 
+tokens_there : (tells : Type 0) (v : List ℕ) (before after : ℕ) (a : Answer) → IsTokensAnswer tells v before after a → EndsShow form.Tokens a (own a)
+tokens_there tells v before after (Tokens t) said = refl
+tokens_there tells v before after (Refused (refusal.Check f)) said = refl
+tokens_there tells v before after DeviceFault said = refl
+tokens_there tells v before after NoMemory said = refl
+tokens_there tells v before after a said = absurd said
+
+token_there : (n : ℕ) (tells : Type 0) (v : List ℕ) (before after : ℕ) (a : Answer) → IsTokenAnswer n tells v before after a → EndsShow (form.Token n) a (own a)
+token_there n tells v before after (Json text) said = refl
+token_there n tells v before after (Refused (refusal.Check f)) said = refl
+token_there n tells v before after (Refused (refusal.Edit NoSuchToken)) said = refl
+token_there n tells v before after DeviceFault said = refl
+token_there n tells v before after NoMemory said = refl
+token_there n tells v before after a said = absurd said
+
 show_there : (shown_as : ShowAs) (tells : Type 0) (v : List ℕ) (before after : ℕ) (a : Answer) → IsShowAnswer shown_as tells v before after a → EndsShow shown_as a (own a)
 show_there form.Lines tells v before after a said = listed_there tells v before after a said
 show_there form.All tells v before after a said = full_there tells v before after a said
 show_there form.Map tells v before after a said = map_there tells v before after a said
+show_there form.Tokens tells v before after a said = tokens_there tells v before after a said
+show_there (form.Token n) tells v before after a said = token_there n tells v before after a said
 show_there form.Json tells v before after a said = json_there tells v before after a said
 
 show_unread : (shown_as : ShowAs) (f : InputFault) (a : Answer) → a ≡ unread_answer f → EndsShow shown_as a (own a)
 show_unread form.Lines f a is = unread_ends (EndsShow form.Lines) refl refl f a is
 show_unread form.All f a is = unread_ends (EndsShow form.All) refl refl f a is
 show_unread form.Map f a is = unread_ends (EndsShow form.Map) refl refl f a is
+show_unread form.Tokens f a is = unread_ends (EndsShow form.Tokens) refl refl f a is
+show_unread (form.Token n) f a is = unread_ends (EndsShow (form.Token n)) refl refl f a is
 show_unread form.Json f a is = unread_ends (EndsShow form.Json) refl refl f a is
 
 pub show_ends : {D : Type 0} (shown_as : ShowAs) (tells : Type 0) (bytes : D → List ℕ) (failed : D → ℕ) (old new : Result D InputFault) (a : Answer)
@@ -527,3 +552,55 @@ kept_same_file_ends slot a is = subst (λ x. EndsKeepKey slot x (own x)) (sym is
 
 pub kept_existing_ends : (slot : Option ℕ) (a : Answer) → a ≡ Refused refusal.Exists → EndsKeepKey slot a (own a)
 kept_existing_ends slot a is = subst (λ x. EndsKeepKey slot x (own x)) (sym is) refl
+
+-- ---- `token export` to a file
+
+unmade_token_ends : (f : InputFault) → EndsKeepToken (unmade_answer f) (own (unmade_answer f))
+unmade_token_ends Absent = refl
+unmade_token_ends (Unreadable reason.Exists) = refl
+unmade_token_ends (Unreadable reason.SameFile) = refl
+unmade_token_ends (Unreadable r) = refl
+unmade_token_ends NoMemoryToRead = refl
+
+kept_line_ends : {D : Type 0} (device : Device D) (line : List ℕ) (new : Result D InputFault) (a : Answer) → IsKept device line new a → EndsKeepToken a (own a)
+kept_line_ends device line (Ok file) (Done None) said = (refl, refl)
+kept_line_ends device line (Ok file) DeviceFault said = refl
+kept_line_ends device line (Ok file) a said = absurd said
+kept_line_ends device line (Err missed) a said = subst (λ x. EndsKeepToken x (own x)) (sym said) (unmade_token_ends missed)
+
+token_file_ends : {D : Type 0} (device : Device D) (n : ℕ) (v : List ℕ) (before after : ℕ) (shown : Answer) (old new : Result D InputFault) (a : Answer)
+    → IsTokenAnswer n device.tells v before after shown → IsTokenFileAnswer device shown old new a → EndsKeepToken a (own a)
+token_file_ends device n v before after (Json text) old new a told (inl said) = kept_line_ends device (line_of (string_bytes text)) new a said
+token_file_ends device n v before after (Json text) old new a told (inr said) = subst (λ x. EndsKeepToken x (own x)) (sym said.1) refl
+token_file_ends device n v before after (Refused (refusal.Check f)) old new a told said = subst (λ x. EndsKeepToken x (own x)) (sym said.1) refl
+token_file_ends device n v before after (Refused (refusal.Edit NoSuchToken)) old new a told said = subst (λ x. EndsKeepToken x (own x)) (sym said.1) refl
+token_file_ends device n v before after DeviceFault old new a told said = subst (λ x. EndsKeepToken x (own x)) (sym said.1) refl
+token_file_ends device n v before after NoMemory old new a told said = subst (λ x. EndsKeepToken x (own x)) (sym said.1) refl
+token_file_ends device n v before after shown old new a told said = absurd told
+
+-- the volume can't be read, and so no token is shown
+unread_token_ends : {D : Type 0} (device : Device D) (f : InputFault) (shown : Answer) (old new : Result D InputFault) (a : Answer)
+    → shown ≡ unread_answer f → IsTokenFileAnswer device shown old new a → EndsKeepToken a (own a)
+unread_token_ends device Absent shown old new a is said =
+    subst (λ x. EndsKeepToken x (own x)) (sym (subst (λ x. IsTokenFileAnswer device x old new a) is said).1) refl
+unread_token_ends device (Unreadable r) shown old new a is said =
+    subst (λ x. EndsKeepToken x (own x)) (sym (subst (λ x. IsTokenFileAnswer device x old new a) is said).1) refl
+unread_token_ends device NoMemoryToRead shown old new a is said =
+    subst (λ x. EndsKeepToken x (own x)) (sym (subst (λ x. IsTokenFileAnswer device x old new a) is said).1) refl
+
+shown_token_ends : {D : Type 0} (device : Device D) (n : ℕ) (volume volume_new : Result D InputFault) (shown : Answer) (old new : Result D InputFault) (a : Answer)
+    → AnswersShow (form.Token n) device.tells device.bytes device.failed volume volume_new shown → IsTokenFileAnswer device shown old new a → EndsKeepToken a (own a)
+shown_token_ends device n (Ok d) (Ok d_new) shown old new a told said = token_file_ends device n (device.bytes d) (device.failed d) (device.failed d_new) shown old new a told said
+shown_token_ends device n (Ok d) (Err f) shown old new a told said = absurd told
+shown_token_ends device n (Err f) volume_new shown old new a told said = unread_token_ends device f shown old new a told said
+
+pub kept_token_ends : {D : Type 0} (device : Device D) (n : ℕ) (volume volume_new old new : Result D InputFault) (a : Answer)
+    → IsTokenKept device n volume volume_new old new a → EndsKeepToken a (own a)
+kept_token_ends device n volume volume_new old new a said = shown_token_ends device n volume volume_new said.shown old new a said.told said.is
+
+-- where the token's file is the volume, and where it is there
+pub token_same_file_ends : (a : Answer) → IsSameFile a → EndsKeepToken a (own a)
+token_same_file_ends a is = subst (λ x. EndsKeepToken x (own x)) (sym is) refl
+
+pub token_existing_ends : (a : Answer) → a ≡ Refused refusal.Exists → EndsKeepToken a (own a)
+token_existing_ends a is = subst (λ x. EndsKeepToken x (own x)) (sym is) refl

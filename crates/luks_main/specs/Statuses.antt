@@ -7,8 +7,9 @@ use Rattle.luks_request.specs.declared.request.Command.TheVariants as command
 use Rattle.luks_request.specs.declared.request.ShowAs.{ShowAs}
 use Rattle.luks_request.specs.declared.request.ShowAs.TheVariants as form
 use Rattle.luks_keeping.specs.ComparisonTexts.{is_current}
+use Rattle.luks_edit.specs.declared.edit_fault.EditFault.TheVariants.{NoSuchToken}
 use Rattle.luks_commands.specs.declared.answers.Answer.{Answer}
-use Rattle.luks_commands.specs.declared.answers.Answer.TheVariants.{Accepted, Listed, ListedFully, Mapped, Json, Opens, Closed, NoneOpens, Matches, Differs, Done, Compared, Rescued, Refused, DeviceFault, NoMemory}
+use Rattle.luks_commands.specs.declared.answers.Answer.TheVariants.{Accepted, Listed, ListedFully, Mapped, Tokens, Json, Opens, Closed, NoneOpens, Matches, Differs, Done, Compared, Rescued, Refused, DeviceFault, NoMemory}
 use Rattle.luks_commands.specs.declared.answers.Refusal.TheVariants as refusal
 
 -- of every command: a file or the device failed, or memory was refused
@@ -33,6 +34,9 @@ abbrev pub EndsShow : ShowAs → Answer → ℕ → Type 0
 EndsShow form.Lines (Listed listing) status = status ≡ 0
 EndsShow form.All (ListedFully listing) status = status ≡ 0
 EndsShow form.Map (Mapped map) status = status ≡ 0
+EndsShow form.Tokens (Tokens listing) status = status ≡ 0
+EndsShow (form.Token n) (Json text) status = status ≡ 0
+EndsShow (form.Token n) (Refused (refusal.Edit NoSuchToken)) status = status ≡ 1
 EndsShow form.Json (Json text) status = status ≡ 0
 EndsShow shown_as (Refused (refusal.Check fault)) status = status ≡ 1
 EndsShow shown_as answer status = EndsAny answer status
@@ -147,6 +151,15 @@ EndsKeepKey slot (Refused refusal.SameFile) status = status ≡ 1
 EndsKeepKey slot (Refused refusal.Exists) status = status ≡ 1
 EndsKeepKey slot answer status = EndsAny answer status
 
+-- `token export` to a file
+abbrev pub EndsKeepToken : Answer → ℕ → Type 0
+EndsKeepToken (Done slot) status = (slot ≡ None) × (status ≡ 0)
+EndsKeepToken (Refused (refusal.Check fault)) status = status ≡ 1
+EndsKeepToken (Refused (refusal.Edit NoSuchToken)) status = status ≡ 1
+EndsKeepToken (Refused refusal.SameFile) status = status ≡ 1
+EndsKeepToken (Refused refusal.Exists) status = status ≡ 1
+EndsKeepToken answer status = EndsAny answer status
+
 -- `find` tells each start by a line of its own: 0 where it told one, 1 where the disk has none
 abbrev pub EndsFind : ℕ → Type 0
 EndsFind status = (status ≡ 0) ⊎ (status ≡ 1) ⊎ (status ≡ 4)
@@ -165,6 +178,7 @@ EndsWith (command.Backup backing_up) answer status = EndsBackup answer status
 EndsWith (command.Restore restoring) answer status = EndsRestore answer status
 EndsWith (command.Compare comparing) answer status = EndsCompare answer status
 EndsWith (command.KeepKey keeping) answer status = EndsKeepKey keeping.slot answer status
+EndsWith (command.KeepToken keeping) answer status = EndsKeepToken answer status
 
 -- the status is that of an answer that the command gives
 abbrev pub MayEnd : Command → ℕ → Type 0

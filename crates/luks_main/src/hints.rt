@@ -240,7 +240,7 @@ fn tell_refused<D: Device>(
     ensures more { hashing.old.hashed ≤ hashing.new.hashed }
 {
     match &line.command {
-        Command::Check { payload: _ } | Command::Show(_) => {
+        Command::Check { payload: _ } | Command::Show(_) | Command::KeepToken(_) => {
             note_whole(alloc, volume, hashing, notes)
         }
         Command::Open { .. } | Command::KeepKey(_) => {

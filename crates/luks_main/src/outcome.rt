@@ -9,7 +9,7 @@ use crate::FAULT;
 use luks_execution::{
     Answer, Inputs, Line, Printer, Progress, SearchProgress, Unprinted, answer_json, end, execute,
 };
-use luks_files::{KeyFile, Volume};
+use luks_files::{KeptFile, Volume};
 use luks_guarded_files::LazyFile;
 use std::alloc::{AllocError, Global};
 use std::fs::File;
@@ -108,7 +108,7 @@ pub(crate) fn outcome_of<R: AllocGlobal + Clock + Files<File = File>, G: Progres
     alloc: Global,
     line: &Line<'_>,
     inputs: &mut Inputs<Volume, &[u8], LazyFile<'_, R>>,
-    key_file: &mut KeyFile<'_, R>,
+    kept_file: &mut KeptFile<'_, R>,
     progress: &mut G,
 ) -> Outcome
     requires volume { IfOk inputs.old.volume (λ device. cached_failures device ≡ 0) }
@@ -116,6 +116,6 @@ pub(crate) fn outcome_of<R: AllocGlobal + Clock + Files<File = File>, G: Progres
     ensures { IsOutcome line.now.command result }
 {
     let mut notes = Vec::new(alloc);
-    let answer = execute(alloc, line, inputs, key_file, &mut notes, progress);
+    let answer = execute(alloc, line, inputs, kept_file, &mut notes, progress);
     Outcome { answer, notes }
 }

@@ -1,16 +1,13 @@
 //! How far a search of a disk is, what it passes over, and which volumes have one uuid.
+use crate::written_over::WrittenOver;
 use luks_files::{ERROR, is_terminal};
 use luks_find_command::{Progress, SameUuid, Unread};
 use std::fs::File;
 use std::io::Write;
 use std::rt::{Clock, Files};
-use std::time::Duration;
 
 /// The shortest disk of which it is said, in bytes.
 const LONG: u64 = 1 << 30;
-
-/// How long a line stands at least, in milliseconds.
-const PAUSE: u128 = 500;
 
 /// How far a search is and how fast, in one line of standard error that is written over: where that is a
 /// terminal, and the disk has more than 1 GiB. What is passed over is said always, by a line of its own;
@@ -20,12 +17,8 @@ pub(crate) struct ProgressLine<'a, R> {
     rt: &'a R,
     /// The disk's name.
     name: &'a str,
-    /// When the search began; nothing where nothing is said of it.
-    begun: Option<Duration>,
-    /// When the line was written last, as milliseconds of the search.
-    written: u128,
-    /// Whether a line stands there.
-    stands: bool,
+    /// The line of the search.
+    over: WrittenOver<'a, R>,
     /// What is held of volumes with one uuid; nothing where that is said at once.
     held: Option<Vec<u8>>,
 }
@@ -34,18 +27,12 @@ impl<'a, R: Clock + Files<File = File> + Eprint> ProgressLine<'a, R> {
     /// The line of a search that begins now, of the disk of this name; it is never written where what is
     /// noted is to be held.
     pub(crate) fn new(rt: &'a R, name: &'a str, held: Option<Vec<u8>>) -> Self {
-        let wanted = held.is_none();
-        let begun = if wanted && is_terminal(rt, ERROR) {
-            rt.monotonic().ok()
-        } else {
-            None
-        };
+        let mut over = WrittenOver::new(rt);
+        over.begin(held.is_none() && is_terminal(rt, ERROR));
         ProgressLine {
             rt,
             name,
-            begun,
-            written: 0,
-            stands: false,
+            over,
             held,
         }
     }
@@ -56,12 +43,6 @@ impl<'a, R: Clock + Files<File = File> + Eprint> ProgressLine<'a, R> {
             Some(held) => held.as_slice(),
             None => &[],
         }
-    }
-
-    /// The milliseconds since the search began, where a line may be written.
-    fn elapsed(&self) -> Option<u128> {
-        let now = self.rt.monotonic().ok()?;
-        Some(now.saturating_sub(self.begun?).as_millis())
     }
 }
 
@@ -80,24 +61,17 @@ impl<R: Clock + Files<File = File> + Eprint> Progress for ProgressLine<'_, R> {
             self.clear();
             return;
         }
-        let Some(elapsed) = self.elapsed() else {
+        let Some(elapsed) = self.over.due() else {
             return;
         };
-        if elapsed.saturating_sub(self.written) < PAUSE {
-            return;
-        }
         let (done, all) = (at >> 20, total >> 20);
         let rate = u128::from(at) / elapsed.max(1) / 1000;
         let _ = eprint!(self.rt; "\rluks: {done} of {all} MiB, {rate} MB/s    ");
-        self.written = elapsed;
-        self.stands = true;
+        self.over.set_written(elapsed);
     }
 
     fn clear(&mut self) {
-        if self.stands {
-            let _ = eprint!(self.rt; "\r{:60}\r", "");
-            self.stands = false;
-        }
+        self.over.clear();
     }
 
     fn pass(&mut self, unread: Unread) {

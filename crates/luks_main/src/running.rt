@@ -18,7 +18,7 @@ use luks_execution::{
     CountingPrinter, InputFault, Inputs, Line, OtherUse, Printer, Progress, Reason, SearchProgress,
 };
 use luks_files::{
-    KeyFile, Openings, Passphrases, Volume, Volumes, has_changed, open_volumes, reader, take_away,
+    KeptFile, Openings, Passphrases, Volume, Volumes, has_changed, open_volumes, reader, take_away,
 };
 use luks_guarded_files::{Found, LazyFile};
 use luks_line::{Asked, Manner, parse};
@@ -210,16 +210,16 @@ fn run_read<R: AllocGlobal + Clock + Files<File = File> + Input + Print + Eprint
         is_source,
     } = volumes;
     let mut inputs = inputs_of(rt, volume, target, passphrases, openings);
-    let mut key_file = KeyFile::of(rt, line);
-    let mut outcome = outcome_told(rt, line, manner, &mut inputs, &mut key_file, &is_source);
+    let mut kept_file = KeptFile::of(rt, line);
+    let mut outcome = outcome_told(rt, line, manner, &mut inputs, &mut kept_file, &is_source);
     let is_noted = outcome.is_noted(manner.quiet);
     if is_noted {
         tell(rt, noticed.as_slice());
-        tell(rt, key_file.notes.as_slice());
+        tell(rt, kept_file.notes.as_slice());
     }
     let mut out = CountingPrinter::new(io::writer(rt));
     let printed = print_lines(rt.alloc(), line, &outcome, manner, &mut out);
-    take_unfinished(rt, line, made.or(key_file.made), outcome.is_backup());
+    take_unfinished(rt, line, made.or(kept_file.made), outcome.is_backup());
     let is_wanted = is_noted || manner.json;
     note_ended(
         rt.alloc(),
@@ -245,7 +245,7 @@ fn outcome_told<R: AllocGlobal + Clock + Files<File = File> + Eprint>(
     line: &Line<'_>,
     manner: Manner,
     inputs: &mut Inputs<Volume, &[u8], LazyFile<'_, R>>,
-    key_file: &mut KeyFile<'_, R>,
+    kept_file: &mut KeptFile<'_, R>,
     is_source: &Option<Rc<Cell<bool>>>,
 ) -> Outcome
     requires volume { IfOk inputs.old.volume (λ device. cached_failures device ≡ 0) }
@@ -253,18 +253,18 @@ fn outcome_told<R: AllocGlobal + Clock + Files<File = File> + Eprint>(
     ensures { IsOutcome line.now.command result }
 {
     let mut lines = TriedLines::new(rt, line, manner.quiet);
-    let outcome = outcome_beside(rt.alloc(), line, inputs, key_file, &mut lines, is_source);
+    let outcome = outcome_beside(rt.alloc(), line, inputs, kept_file, &mut lines, is_source);
     lines.clear();
     outcome
 }
 
-/// What the command comes to: that both its files are one, where its target, or the file of its key, has turned
-/// out to be its source.
+/// What the command comes to: that both its files are one, where its target, or the file of its key or token, has
+/// turned out to be its source.
 fn outcome_beside<R: AllocGlobal + Clock + Files<File = File>, G: Progress + SearchProgress>(
     alloc: Global,
     line: &Line<'_>,
     inputs: &mut Inputs<Volume, &[u8], LazyFile<'_, R>>,
-    key_file: &mut KeyFile<'_, R>,
+    kept_file: &mut KeptFile<'_, R>,
     progress: &mut G,
     is_source: &Option<Rc<Cell<bool>>>,
 ) -> Outcome
@@ -272,13 +272,13 @@ fn outcome_beside<R: AllocGlobal + Clock + Files<File = File>, G: Progress + Sea
     requires target { IfOk inputs.old.target (λ device. cached_failures device ≡ 0) }
     ensures { IsOutcome line.now.command result }
 {
-    let outcome = outcome_of(alloc, line, inputs, key_file, progress);
-    if !has_turned_out(is_source) && !has_turned_out(&key_file.is_source) {
+    let outcome = outcome_of(alloc, line, inputs, kept_file, progress);
+    if !has_turned_out(is_source) && !has_turned_out(&kept_file.is_source) {
         return outcome;
     }
     inputs.volume = Err(InputFault::Absent);
     inputs.target = Err(InputFault::Unreadable(Reason::SameFile));
-    outcome_of(alloc, line, inputs, key_file, progress)
+    outcome_of(alloc, line, inputs, kept_file, progress)
 }
 
 /// Whether a target has turned out to be its source.
@@ -289,7 +289,7 @@ fn has_turned_out(is_source: &Option<Rc<Cell<bool>>>) -> bool {
     }
 }
 
-/// Takes away the file that was made for a backup or a key, where that isn't there.
+/// Takes away the file that was made for a backup, a key or a token, where that isn't there.
 fn take_unfinished<R: Clock + Files<File = File>>(
     rt: &R,
     line: &Line<'_>,

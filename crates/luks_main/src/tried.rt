@@ -1,13 +1,10 @@
 //! What `rebuild` tries, and how far it is.
+use crate::written_over::WrittenOver;
 use luks_execution::{Command, Line, Progress, SearchProgress};
 use luks_files::{ERROR, is_terminal};
 use luks2_header::Luks1Common;
 use std::fs::File;
 use std::rt::{Clock, Files};
-use std::time::Duration;
-
-/// How long the line of a search stands at least, in milliseconds.
-const PAUSE: u128 = 500;
 
 /// The clock is read once for so many compositions.
 const TURN: u64 = 64;
@@ -20,16 +17,12 @@ pub(crate) struct TriedLines<'a, R> {
     rt: &'a R,
     /// Whether the lines are written.
     wanted: bool,
-    /// When the search began; nothing where nothing is said of it.
-    begun: Option<Duration>,
+    /// The line of a search.
+    over: WrittenOver<'a, R>,
     /// How many compositions it has.
     all: u64,
     /// How many of them were tried.
     tried: u64,
-    /// When its line was written last, as milliseconds of the search.
-    written: u128,
-    /// Whether the line stands there.
-    stands: bool,
 }
 
 impl<'a, R: Clock + Files<File = File> + Eprint> TriedLines<'a, R> {
@@ -38,11 +31,9 @@ impl<'a, R: Clock + Files<File = File> + Eprint> TriedLines<'a, R> {
         TriedLines {
             rt,
             wanted: !quiet && is_rebuild(line) && is_terminal(rt, ERROR),
-            begun: None,
+            over: WrittenOver::new(rt),
             all: 0,
             tried: 0,
-            written: 0,
-            stands: false,
         }
     }
 }
@@ -50,16 +41,7 @@ impl<'a, R: Clock + Files<File = File> + Eprint> TriedLines<'a, R> {
 impl<R: Clock + Eprint> TriedLines<'_, R> {
     /// Takes the line of a search away.
     pub(crate) fn clear(&mut self) {
-        if self.stands {
-            let _ = eprint!(self.rt; "\r{:60}\r", "");
-            self.stands = false;
-        }
-    }
-
-    /// The milliseconds since the search began, where a line may be written.
-    fn elapsed(&self) -> Option<u128> {
-        let now = self.rt.monotonic().ok()?;
-        Some(now.saturating_sub(self.begun?).as_millis())
+        self.over.clear();
     }
 }
 
@@ -84,18 +66,13 @@ impl<R: Clock + Eprint> Progress for TriedLines<'_, R> {
 
 impl<R: Clock + Eprint> SearchProgress for TriedLines<'_, R> {
     fn seeks(&mut self, differing: usize) {
-        self.begun = if self.wanted {
-            self.rt.monotonic().ok()
-        } else {
-            None
-        };
+        self.over.begin(self.wanted);
         self.all = if differing < 64 {
             1 << differing
         } else {
             u64::MAX
         };
         self.tried = 0;
-        self.written = 0;
     }
 
     fn tried(&mut self) {
@@ -103,16 +80,12 @@ impl<R: Clock + Eprint> SearchProgress for TriedLines<'_, R> {
         if self.tried % TURN != 0 {
             return;
         }
-        let Some(elapsed) = self.elapsed() else {
+        let Some(elapsed) = self.over.due() else {
             return;
         };
-        if elapsed.saturating_sub(self.written) < PAUSE {
-            return;
-        }
         let (tried, all) = (self.tried, self.all);
         let rate = u128::from(tried) * 1000 / elapsed.max(1);
         let _ = eprint!(self.rt; "\rluks: {tried} of {all} compositions, {rate} a second    ");
-        self.written = elapsed;
-        self.stands = true;
+        self.over.set_written(elapsed);
     }
 }

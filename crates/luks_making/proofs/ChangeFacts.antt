@@ -65,7 +65,7 @@ is_kdf outer.Area = false
 is_kdf outer.Kdf = true
 
 -- a row whose object and type are as they were is judged as it was
-judged_by : (a b : Data) (r : Row) → is_some (option_and_then as_object (outer_at a r.outer)) ≡ is_some (option_and_then as_object (outer_at b r.outer))
+pub judged_by : (a b : Data) (r : Row) → is_some (option_and_then as_object (outer_at a r.outer)) ≡ is_some (option_and_then as_object (outer_at b r.outer))
     → option_and_then (get (codes "type")) (outer_at a r.outer) ≡ option_and_then (get (codes "type")) (outer_at b r.outer) → is_judged a r ≡ is_judged b r
 judged_by a b r there kind = rw (there, kind) refl
 

@@ -10,6 +10,8 @@ pub mod AdditionFacts
 pub mod FreeNumberFacts
 pub mod RoomFacts
 pub mod ChangeFacts
+mod SlotFacts
+pub mod AmendFacts
 pub mod NewVolumeFacts
 mod MapFacts
 mod StepFacts

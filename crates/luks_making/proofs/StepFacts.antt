@@ -1,11 +1,12 @@
 -- New values that are made in several steps.
-use Rattle.std.proofs.Common.{◌≡◌, ℕ, List, [], codes, option_and_then, refl, ap, ◌∙◌}
+use Rattle.std.proofs.Common.{◌≡◌, ℕ, List, [], codes, Option, Some, option_and_then, refl, ap, ◌∙◌}
 use Rattle.std.specs.Option.{unwrap_or}
 use Rattle.serde_json.specs.Data.{Data, number, string, unsigned, put}
 use Rattle.serde_json.specs.Find.{get}
 use Rattle.luks_json.specs.Number.{number_text}
 use Rattle.luks_making.specs.Changing.{at_member, drop_member, each_member, in_object, set_member}
 use Rattle.luks_rules.specs.Reading.{text_of}
+use Rattle.luks_making.specs.Amended.{with_priority_number, with_token, without_token}
 use Rattle.luks_making.specs.Changed.{renewed_area, renewed_kdf, renewed_slot, resalted_kdf, splitter_hash}
 use Rattle.luks_making.specs.Converted.{with_region}
 use Rattle.luks_making.specs.Formatted.{VolumeMembers, formatted}
@@ -41,3 +42,14 @@ slot_steps f d a moved =
 -- a new volume loses its keyslot, and gets another region
 pub region_steps : (u : VolumeMembers) (size n : ℕ) (a b : Data) → a ≡ formatted u → b ≡ without_slot 0 a → n ≡ size → with_region n b ≡ with_region size (without_slot 0 (formatted u))
 region_steps u size n a b made bare same = ap (λ k. with_region k b) same ∙ ap (with_region size) (bare ∙ ap (without_slot 0) made)
+
+-- a keyslot gets a priority
+pub priority_steps : (o : Option ℕ) (p : ℕ) (k v : Data) → o ≡ Some p → v ≡ number (unsigned p) → in_object (put (codes "priority") v) k ≡ with_priority_number o k
+priority_steps o p k v has is = rw (has, is) refl
+
+-- a token is put in, and one is taken out
+pub token_steps : (n : ℕ) (name : List ℕ) (t own j : Data) → name ≡ number_text n → own ≡ t → at_member (codes "tokens") (in_object (put name own)) j ≡ with_token n t j
+token_steps n name t own j named same = rw (named, same) refl
+
+pub token_left : (n : ℕ) (name : List ℕ) (j : Data) → name ≡ number_text n → at_member (codes "tokens") (in_object (drop_member name)) j ≡ without_token n j
+token_left n name j named = rw named refl

@@ -4,6 +4,7 @@ pub mod Keyslots
 pub mod Derivations
 pub mod With
 pub mod Changed
+pub mod Amended
 pub mod Formatted
 pub mod Conditions
 pub mod Unchanged

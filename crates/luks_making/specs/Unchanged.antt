@@ -2,7 +2,7 @@
 use Rattle.std.specs.Prelude.{◌≡◌, ◌≢◌, ◌↔◌, ℕ, List, [], ◌∷◌, ◌++◌, not, codes, false, Option, None, Some, option_map}
 use Rattle.std.specs.List.{filter, list_any}
 use Rattle.std.specs.Str.{bytes_eq}
-use Rattle.serde_json.specs.Data.{Data}
+use Rattle.serde_json.specs.Data.{Data, number, unsigned}
 use Rattle.serde_json.specs.Find.{get}
 use Rattle.luks_json.specs.Arrays.{names, naming_count}
 use Rattle.luks_json.specs.Number.{number_text}
@@ -14,7 +14,9 @@ use Rattle.luks_rules.specs.Accepted.{HasObject}
 use Rattle.luks_rules.specs.Faults.{member_at, object_at, outer_at, section_at, type_at}
 use Rattle.luks_rules.specs.Reading.{bytes_in, decimal_in, number_in, text_of, texts_of}
 use Rattle.luks_rules.specs.Sizes.{inside_at}
+use Rattle.luks_making.specs.Amended.{priority_number}
 use Rattle.luks_making.specs.Changed.{renewed_slot}
+use Rattle.luks_making.specs.declared.amended.Priority.{Priority}
 use Rattle.luks_making.specs.declared.derivation.Argon2Costs.{Argon2Costs}
 use Rattle.luks_making.specs.declared.derivation.NewDerivation.{NewDerivation}
 use Rattle.luks_making.specs.Keyslots.{Deriving, by_pbkdf2, by_argon2i, by_argon2id, NewMembers, SlotMembers, derivation_by, kdf_value, slot_value}
@@ -160,3 +162,30 @@ pub record ChangesSlot (n : ℕ) (f : NewMembers) (old new : Data) : Type 0 wher
   -- the digest that names a keyslot is the same, of the changed keyslot too
   pub naming : (m k : ℕ) → IsDigestOf old m k ↔ IsDigestOf new m k
   pub rest : KeepsRest n old new
+
+-- ---- a value with a change of named members
+
+-- of a keyslot and a token that may be named: but for the priority of that keyslot and for that token the
+-- value is as it was, and a keyslot has the digest that it had
+pub record KeepsUnnamed (slot token : Option ℕ) (old new : Data) : Type 0 where
+  pub keyslots : (m : ℕ) → slot ≢ Some m → object_at new Keyslots m ≡ object_at old Keyslots m
+  pub named : KeepsObjects (codes "priority" ∷ []) Keyslots old new
+  pub tokens : (m : ℕ) → token ≢ Some m → object_at new Tokens m ≡ object_at old Tokens m
+  pub naming : (m k : ℕ) → IsDigestOf old m k ↔ IsDigestOf new m k
+  pub others : KeepsOthers (codes "keyslots" ∷ codes "tokens" ∷ []) old new
+
+-- the value `new` is `old` with the priority in the keyslot `n`, if that is there
+pub record SetsPriority (n : ℕ) (p : Priority) (old new : Data) : Type 0 where
+  pub says : (d : Data) → HasObject new Keyslots n d
+      → get (codes "priority") d ≡ option_map (λ k. number (unsigned k)) (priority_number p)
+  pub rest : KeepsUnnamed (Some n) None old new
+
+-- the value `new` is `old` with the token `n`
+pub record AddsToken (n : ℕ) (t old new : Data) : Type 0 where
+  pub there : object_at new Tokens n ≡ Some t
+  pub rest : KeepsUnnamed None (Some n) old new
+
+-- the value `new` is `old` without the token `n`
+pub record LosesToken (n : ℕ) (old new : Data) : Type 0 where
+  pub gone : object_at new Tokens n ≡ None
+  pub rest : KeepsUnnamed None (Some n) old new

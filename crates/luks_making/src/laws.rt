@@ -5,15 +5,17 @@ ghost use Rattle.serde_json.specs.Data.{Data};
 ghost use Rattle.serde_json.specs.Written.{compact_text};
 ghost use Rattle.luks_json.specs.Number.{number_text};
 ghost use Rattle.luks_rules.specs.Held.{IsHeld};
+ghost use Rattle.luks_making.specs.Amended.{with_priority, with_token, without_token};
 ghost use Rattle.luks_making.specs.Changed.{changed_slot, renewed_kdf, resalted_kdf};
 ghost use Rattle.luks_making.specs.Conditions.{CanFormat, CanSeal, FitsNew, FitsSlot, FitsVolume, IsFree, IsRoom};
 ghost use Rattle.luks_making.specs.Conversions.{CanConvert, FitsSource, SaysSource};
 ghost use Rattle.luks_making.specs.Converted.{SourceMembers, converted};
 ghost use Rattle.luks_making.specs.Derivations.{IsPositive, asked_beyond, asked_few_turns};
+ghost use Rattle.luks_making.specs.declared.amended.Priority.{Priority};
 ghost use Rattle.luks_making.specs.declared.derivation.AskedDerivation.{AskedDerivation};
 ghost use Rattle.luks_making.specs.Formatted.{VolumeMembers, formatted};
 ghost use Rattle.luks_making.specs.NewVolumes.{SaysVolume};
-ghost use Rattle.luks_making.specs.Unchanged.{ChangesSlot, GainsSlot, LosesSlot, SaysMembers};
+ghost use Rattle.luks_making.specs.Unchanged.{AddsToken, ChangesSlot, GainsSlot, LosesSlot, LosesToken, SaysMembers, SetsPriority};
 ghost use Rattle.luks_making.specs.Keyslots.{IsDerivedLike, IsMadeFrom, NewMembers, SlotMembers, slot_value};
 ghost use Rattle.luks_making.specs.Naming.{HasUniqueDigests};
 ghost use Rattle.luks_making.specs.With.{IsAdded, with_slot};
@@ -63,6 +65,18 @@ pub fn change_keeps_the_rest()
         → FitsNew f → IsHeld len (changed_slot n f j) }
     ensures rest { (len n : ℕ) (f : NewMembers) (j : Data) → IsHeld len j → CanSeal len j n f
         → FitsNew f → ChangesSlot n f j (changed_slot n f j) }
+{}
+
+/// Metadata with another priority of a keyslot, with a token or without one is as it was but for that, and
+/// a keyslot has the digest that it had. It meets every rule that it met; with a token it may break one.
+pub fn amendment_keeps_the_rest()
+    ensures held_prior { (len n : ℕ) (p : Priority) (j : Data) → IsHeld len j
+        → IsHeld len (with_priority n p j) }
+    ensures held_without { (len n : ℕ) (j : Data) → IsHeld len j → IsHeld len (without_token n j) }
+    ensures prior { (len n : ℕ) (p : Priority) (j : Data) → IsHeld len j
+        → SetsPriority n p j (with_priority n p j) }
+    ensures added { (len n : ℕ) (t j : Data) → IsHeld len j → AddsToken n t j (with_token n t j) }
+    ensures lost { (n : ℕ) (j : Data) → LosesToken n j (without_token n j) }
 {}
 
 /// Where no derivation is chosen, a keyslot that is sealed again derives as it did but for its salt and

@@ -1,6 +1,7 @@
 //! New values of a LUKS2 header's metadata, made of old ones or from nothing.
 #![tactic(auto)]
 
+mod amended;
 mod changed;
 mod changing;
 mod derivation;
@@ -12,15 +13,16 @@ mod source_volume;
 mod with;
 mod without;
 
+pub use amended::{Change, Priority, with_priority, with_token, without_token};
 pub use changed::changed_slot;
 pub use derivation::{
     Argon2Costs, AskedDerivation, LEAST_ITERATIONS, NewDerivation, asked_fits, chosen_fits,
 };
 pub use json_area::written_area;
 pub use laws::{
-    addition_keeps_the_rest, change_keeps_the_rest, converted_volume_is_accepted,
-    made_keyslot_has_room, names_are_apart, new_volume_is_accepted, removal_keeps_the_rest,
-    unchosen_derives_alike, unrefused_is_positive,
+    addition_keeps_the_rest, amendment_keeps_the_rest, change_keeps_the_rest,
+    converted_volume_is_accepted, made_keyslot_has_room, names_are_apart, new_volume_is_accepted,
+    removal_keeps_the_rest, unchosen_derives_alike, unrefused_is_positive,
 };
 pub use new_keyslot::{KeyslotDerivation, New, NewKeyslot, new_fits, slot_value};
 pub use new_volume::{NewVolume, formatted, volume_fits};

@@ -93,7 +93,7 @@ fn add_member(
 }
 
 /// The map with one more object.
-fn map_with_object(
+pub(crate) fn map_with_object(
     alloc: Global,
     mut map: Value,
     name: &str,
@@ -105,21 +105,22 @@ fn map_with_object(
     Ok(map)
 }
 
-/// The metadata with one more keyslot.
-fn with_object(
+/// The metadata with one more object in a section.
+pub(crate) fn with_object(
     alloc: Global,
     mut value: Value,
+    section: &str,
     name: &str,
-    keyslot: Value,
+    object: Value,
 ) -> Result<Value, AllocError>
     ensures { IfOk result (λ v. view v
-        ≡ at_member (codes "keyslots") (in_object (put name.now (view keyslot)))
+        ≡ at_member section.now (in_object (put name.now (view object)))
         (view value)) }
 {
-    match take_member(&mut value, "keyslots") {
-        Some(keyslots) => {
-            let more = map_with_object(alloc, keyslots, name, keyslot)?;
-            with_member(alloc, value, "keyslots", more)
+    match take_member(&mut value, section) {
+        Some(map) => {
+            let more = map_with_object(alloc, map, name, object)?;
+            with_member(alloc, value, section, more)
         }
         None => Ok(value),
     }
@@ -143,5 +144,5 @@ pub fn with_slot(
         → IfOk result (λ v. view v ≡ with_slot number digest s (view value)) }
 {
     let named = with_name(alloc, value, number_text(digest), number_text(number))?;
-    with_object(alloc, named, number_text(number), keyslot)
+    with_object(alloc, named, "keyslots", number_text(number), keyslot)
 }

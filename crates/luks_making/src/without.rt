@@ -85,7 +85,7 @@ fn map_without_name(alloc: Global, map: Value, name: &str) -> Result<Value, Allo
 }
 
 /// The map without the object of that name.
-fn map_without_object(map: Value, name: &str) -> Value
+pub(crate) fn map_without_object(map: Value, name: &str) -> Value
     ensures { view result ≡ in_object (drop_member name.now) (view map) }
 {
     match map {
@@ -115,7 +115,7 @@ fn take_name(
 }
 
 /// The metadata without the object of a section.
-fn take_object(
+pub(crate) fn take_object(
     alloc: Global,
     mut value: Value,
     section: &str,

@@ -4,6 +4,8 @@
 #![tactic(auto)]
 
 #[cfg(test)]
+mod amending;
+#[cfg(test)]
 mod areas;
 #[cfg(test)]
 mod converting;

@@ -24,7 +24,7 @@ use Rattle.luks_meta.specs.Objects.{IsConfig, IsMissing, IsObject}
 use Rattle.luks_new_meta.specs.Records.{GainsNumber, KeepsNumbers, KeepsRecords, LosesNumber, SameDigest, others}
 use Rattle.luks_meta.specs.Says.{TellsDigest, TellsKeyslot, TellsSegment, TellsToken}
 
-some_same : {A : Type 0} (x y : A) → Some x ≡ Some y → x ≡ y
+pub some_same : {A : Type 0} (x y : A) → Some x ≡ Some y → x ≡ y
 some_same x y e = cc
 
 -- ---- objects that are equal are told the same
@@ -32,14 +32,14 @@ some_same x y e = cc
 object_moved : {K : Type 0} (tells : Data → K → Type 0) (i j : Data) (s : Section) (n : ℕ) (k : K) → object_at j s n ≡ object_at i s n → IsObject tells i s n k → IsObject tells j s n k
 object_moved tells i j s n k same o = record { object = o.object; is = same ∙ o.is; tells_members = o.tells_members }
 
-same_object : {K : Type 0} (tells : Data → K → Type 0) (i j : Data) (s : Section) (n : ℕ) (k : K) → object_at j s n ≡ object_at i s n → IsObject tells i s n k ↔ IsObject tells j s n k
+pub same_object : {K : Type 0} (tells : Data → K → Type 0) (i j : Data) (s : Section) (n : ℕ) (k : K) → object_at j s n ≡ object_at i s n → IsObject tells i s n k ↔ IsObject tells j s n k
 same_object tells i j s n k same = (object_moved tells i j s n k same, object_moved tells j i s n k (sym same))
 
-same_missing : (i j : Data) (s : Section) (n : ℕ) → object_at j s n ≡ object_at i s n → IsMissing i s n ↔ IsMissing j s n
+pub same_missing : (i j : Data) (s : Section) (n : ℕ) → object_at j s n ≡ object_at i s n → IsMissing i s n ↔ IsMissing j s n
 same_missing i j s n same = (λ none lt. same ∙ none lt, λ none lt. sym same ∙ none lt)
 
 -- an object of an equal section
-in_section : (i j : Data) (s : Section) (n : ℕ) → section_at j s ≡ section_at i s → object_at j s n ≡ object_at i s n
+pub in_section : (i j : Data) (s : Section) (n : ℕ) → section_at j s ≡ section_at i s → object_at j s n ≡ object_at i s n
 in_section i j s n same = ap (option_and_then (get (number_text n))) same
 
 -- ---- a digest or token that differs in its keyslots alone
@@ -73,7 +73,7 @@ tokens_told old new m k l keeps a b =
     let kept = (beside_of old new Tokens m a.object b.object keeps a.is b.is).kept in
     some_same _ _ (sym b.tells_members.0 ∙ (ap text_of (kept (codes "type") refl) ∙ a.tells_members.0))
 
-config_moved : (i j : Data) (k : Config) → section_at j ConfigSection ≡ section_at i ConfigSection → IsConfig i k → IsConfig j k
+pub config_moved : (i j : Data) (k : Config) → section_at j ConfigSection ≡ section_at i ConfigSection → IsConfig i k → IsConfig j k
 config_moved i j k same o = record { object = o.object; is = same ∙ o.is; tells_members = o.tells_members }
 
 -- what every edit keeps

@@ -1,8 +1,10 @@
 -- What the readers tell of a value that an edit made, beside what they told of the old one.
-use Rattle.std.specs.Prelude.{◌≡◌, ◌≢◌, ◌↔◌, ◌==◌, ℕ, List, [], ◌∷◌, ◌++◌, not}
+use Rattle.std.specs.Prelude.{◌≡◌, ◌≢◌, ◌↔◌, ◌==◌, ℕ, List, [], ◌∷◌, ◌++◌, ◌<◌, not, Option, Some, None}
 use Rattle.std.specs.List.{filter}
 use Rattle.serde_json.specs.Data.{Data}
 use Rattle.luks_rules.specs.declared.table.Section.TheVariants.{Digests, Keyslots, Segments, Tokens}
+use Rattle.luks_making.specs.declared.amended.Priority.{Priority}
+use Rattle.luks_making.specs.Amended.{priority_number}
 use Rattle.luks_meta.specs.declared.configuration.Config.{Config}
 use Rattle.luks_meta.specs.declared.digests.Digest.{Digest}
 use Rattle.luks_meta.specs.declared.keyslots.Keyslot.{Keyslot}
@@ -62,3 +64,29 @@ pub record KeepsNumbers (old new : Data) : Type 0 where
       → IsObject TellsDigest old Digests i k ↔ IsObject TellsDigest new Digests i k
   pub tokens : (i : ℕ) (k : Token)
       → IsObject TellsToken old Tokens i k ↔ IsObject TellsToken new Tokens i k
+
+-- of a keyslot and a token that may be named: of each other keyslot and token, each digest, each segment
+-- and `config` the same is told, and the keyslot is there as it was
+pub record KeepsTold (slot token : Option ℕ) (old new : Data) : Type 0 where
+  pub keyslots : (m : ℕ) (k : Keyslot) → slot ≢ Some m
+      → IsObject TellsKeyslot old Keyslots m k ↔ IsObject TellsKeyslot new Keyslots m k
+  pub no_keyslot : (m : ℕ) → IsMissing old Keyslots m ↔ IsMissing new Keyslots m
+  pub tokens : (m : ℕ) (k : Token) → token ≢ Some m
+      → IsObject TellsToken old Tokens m k ↔ IsObject TellsToken new Tokens m k
+  pub no_token : (m : ℕ) → token ≢ Some m → IsMissing old Tokens m ↔ IsMissing new Tokens m
+  pub digests : (m : ℕ) (k : Digest)
+      → IsObject TellsDigest old Digests m k ↔ IsObject TellsDigest new Digests m k
+  pub segments : (m : ℕ) (k : Segment)
+      → IsObject TellsSegment old Segments m k ↔ IsObject TellsSegment new Segments m k
+  pub config : (k : Config) → IsConfig old k ↔ IsConfig new k
+
+-- the keyslot with another priority
+abbrev pub with_own_priority : Option ℕ → Keyslot → Keyslot
+with_own_priority p k =
+    record { key_size = k.key_size; priority = p; af = k.af; area = k.area; kdf = k.kdf }
+
+-- of the keyslot `n` the same is told but for its priority, and of all else the same
+pub record KeepsButPriority (n : ℕ) (p : Priority) (old new : Data) : Type 0 where
+  pub keyslot : (k : Keyslot) → n < 32 → IsObject TellsKeyslot old Keyslots n k
+      → IsObject TellsKeyslot new Keyslots n (with_own_priority (priority_number p) k)
+  pub rest : KeepsTold (Some n) None old new

@@ -8,9 +8,10 @@ mod metadata;
 
 pub use laws::edits_keep_records;
 pub use luks_making::{
-    Argon2Costs, AskedDerivation, New, NewDerivation, NewVolume, SourceSlot, SourceVolume,
-    area_size, area_start,
+    Argon2Costs, AskedDerivation, Change, New, NewDerivation, NewVolume, Priority, SourceSlot,
+    SourceVolume, area_size, area_start,
 };
 pub use metadata::{
-    changed_slot, converted, formatted, json_area, with_new_slot, with_slot, without_slot,
+    changed_slot, converted, formatted, json_area, with_new_slot, with_priority, with_slot,
+    with_token, without_slot, without_token,
 };

@@ -1,7 +1,13 @@
 //! New metadata, and the JSON area that metadata is written in.
 
-ghost use Rattle.std.specs.Prelude.{◌≡◌, ◌<◌, ◌≤◌, length, IfOk, IfSome, IsNone};
+ghost use Rattle.std.specs.Prelude.{◌≡◌, ◌≢◌, ◌<◌, ◌≤◌, length, IfErr, IfOk, IfSome, IsNone};
+ghost use Rattle.serde_json.specs.View.{view};
 ghost use Rattle.serde_json.specs.Written.{compact_text};
+ghost use Rattle.luks_area.specs.First.{IsLeast};
+ghost use Rattle.luks_rules.specs.Held.{IsHeld};
+ghost use Rattle.luks_rules.specs.MetaFault.{meta_key};
+ghost use Rattle.luks_rules.specs.Valued.{IsValueFault};
+ghost use Rattle.luks_making.specs.Amended.{with_priority, with_token, without_token};
 ghost use Rattle.luks_making.specs.Changed.{changed_slot};
 ghost use Rattle.luks_making.specs.Conditions.{CanFormat, CanSeal, IsFree};
 ghost use Rattle.luks_making.specs.Conversions.{CanConvert};
@@ -17,10 +23,12 @@ ghost use Rattle.luks_new_meta.specs.Made.{HasRoom};
 
 use crate::adding::added;
 use luks_making::{
-    New, NewKeyslot, NewVolume, SourceVolume, new_fits, slot_value, source_fits, volume_fits,
-    written_area,
+    New, NewKeyslot, NewVolume, Priority, SourceVolume, new_fits, slot_value, source_fits,
+    volume_fits, written_area,
 };
 use luks_meta::Meta;
+use luks_rules::{MetaFault, judge_value};
+use serde_json::Value;
 use std::alloc::{AllocError, Global};
 
 /// The length of the JSON area of a header of 16384 bytes.
@@ -153,5 +161,62 @@ pub fn changed_slot(
     new_fits(new);
     let len = meta.area_len();
     let value = luks_making::changed_slot(alloc, meta.into_value(), number, new)?;
+    Ok(Meta::of_value(value, len))
+}
+
+/// The metadata with the priority in the keyslot, or without one where it is normal. All else stays as it
+/// is. The metadata is given up: its value is edited in place.
+///
+/// Takes memory for the names of members.
+pub fn with_priority(
+    alloc: Global,
+    meta: Meta,
+    number: u8,
+    priority: Priority,
+) -> Result<Meta, AllocError>
+    requires { number < 32 }
+    ensures value { IfOk result (λ m.
+        content m ≡ with_priority number priority (content meta)) }
+    ensures length { IfOk result (λ m. area_len m ≡ area_len meta) }
+{
+    let len = meta.area_len();
+    let value = luks_making::with_priority(alloc, meta.into_value(), number, priority)?;
+    Ok(Meta::of_value(value, len))
+}
+
+/// The metadata with the token, in the place of one that has this number. All else stays as it is. The
+/// metadata is given up: its value is edited in place.
+///
+/// Refused by the first fault that the metadata with the token would have. Takes memory for a copy of the
+/// token; `Memory` is answered only where it was refused.
+pub fn with_token(alloc: Global, meta: Meta, number: u8, token: &Value) -> Result<Meta, MetaFault>
+    requires { number < 32 }
+    ensures value { IfOk result (λ m.
+        content m ≡ with_token number (view token.now) (content meta)) }
+    ensures length { IfOk result (λ m. area_len m ≡ area_len meta) }
+    ensures fault { IfErr result (λ f. f ≢ MetaFault.Memory → IsLeast meta_key (IsValueFault
+        (area_len meta) (with_token number (view token.now) (content meta))) f) }
+    ensures only { IsHeld (area_len meta) (with_token number (view token.now) (content meta))
+        → IfErr result (λ f. f ≡ MetaFault.Memory) }
+{
+    let len = meta.area_len();
+    let Ok(value) = luks_making::with_token(alloc, meta.into_value(), number, token) else {
+        return Err(MetaFault::Memory);
+    };
+    judge_value(len, &value)?;
+    Ok(Meta::of_value(value, len))
+}
+
+/// The metadata without the token. All else stays as it is. The metadata is given up: its value is edited in
+/// place.
+///
+/// Takes memory for the names of members.
+pub fn without_token(alloc: Global, meta: Meta, number: u8) -> Result<Meta, AllocError>
+    requires { number < 32 }
+    ensures value { IfOk result (λ m. content m ≡ without_token number (content meta)) }
+    ensures length { IfOk result (λ m. area_len m ≡ area_len meta) }
+{
+    let len = meta.area_len();
+    let value = luks_making::without_token(alloc, meta.into_value(), number)?;
     Ok(Meta::of_value(value, len))
 }

@@ -10,6 +10,7 @@ use crate::metadata::keyslots_of;
 use crate::older::say_older;
 use crate::seeking::{has_standing, sought, whole_of};
 use crate::told::Told;
+use crate::untried::say_untried;
 use luks_area::Device;
 use luks_rebuilding::{Copies, Effort, RebuildFault, Which};
 use std::alloc::Global;
@@ -105,8 +106,8 @@ fn second_of<D: Device, E: Write>(
         return whole_of(alloc, device, Copies::Second);
     }
     let search = sought(alloc, device, which, hashing, err)?;
-    if found.place.at == 0 {
-        search.say_untried(alloc, device, which, err)?;
+    if found.place.at == 0 && search.is_in_doubt() {
+        say_untried(alloc, device, which, err)?;
     }
     Ok(search.found)
 }
@@ -141,7 +142,9 @@ fn size_of<D: Device, E: Write>(
         effort: Effort::Brief,
     };
     let search = sought(alloc, device, which, hashing, err)?;
-    search.say_untried(alloc, device, which, err)?;
+    if search.is_in_doubt() {
+        say_untried(alloc, device, which, err)?;
+    }
     Ok(search.found)
 }
 

@@ -9,6 +9,7 @@ use crate::hashing::Hashing;
 use crate::older::say_older;
 use crate::seeking::sought;
 use crate::told::Told;
+use crate::untried::say_untried;
 use luks_area::Device;
 use luks_rebuilding::{Copies, Effort, Place, RebuildFault, Which};
 use std::alloc::Global;
@@ -53,7 +54,10 @@ fn say_whole<D: Device, E: Write>(
     };
     let search = sought(alloc, device, which, hashing, err)?;
     let Some(found) = &search.found else {
-        return search.say_untried(alloc, device, which, err);
+        if search.is_in_doubt() {
+            say_untried(alloc, device, which, err)?;
+        }
+        return Ok(());
     };
     let count = found.count();
     let keyslots = keyslots_of(count);
@@ -63,7 +67,9 @@ fn say_whole<D: Device, E: Write>(
         "luks: metadata of {count} {keyslots} is whole in the {copy} copy: luks rebuild makes a header of it"
     );
     say_vouch(found, err);
-    search.say_untried(alloc, device, which, err)?;
+    if search.is_in_doubt() {
+        say_untried(alloc, device, which, err)?;
+    }
     say_others(alloc, device, which.copies, found, hashing, err)
 }
 

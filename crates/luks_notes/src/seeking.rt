@@ -8,7 +8,7 @@ ghost use Rattle.luks_notes.specs.Hashed.{CountsSearch, IsOfCommand};
 
 use crate::hashing::Hashing;
 use crate::told::Told;
-use crate::untried::{say_unsought, say_untried};
+use crate::untried::say_unsought;
 use luks_area::Device;
 use luks_rebuilding::{Copies, RebuildFault, Untold, Which, find_candidate, find_plain};
 use luks_vouching::standing_header;
@@ -25,23 +25,10 @@ pub(crate) struct Search {
 }
 
 impl Search {
-    /// Where it was made and no checksum vouches for what was found, says of which of these copies not all was tried.
-    pub(crate) fn say_untried<D: Device, E: Write>(
-        &self,
-        alloc: Global,
-        device: &mut D,
-        which: Which,
-        err: &mut E,
-    ) -> Result<(), RebuildFault>
-        requires { D.failed device.old + 1 < 2 ^ 64 }
-        ensures unchanged { IsUnchanged D.tells D.size D.bytes D.unsettled device.old device.new }
-        ensures count { CountsFailure is_rebuild_failure result
-            (D.failed device.old) (D.failed device.new) }
-    {
-        if self.is_made && !self.is_vouched() {
-            say_untried(alloc, device, which, err)?;
-        }
-        Ok(())
+    /// Whether it was made and no checksum vouches for what was found: then it is said of which copies not all was
+    /// tried.
+    pub(crate) fn is_in_doubt(&self) -> bool {
+        self.is_made && !self.is_vouched()
     }
 
     /// Whether something was found, and a checksum vouches for it.

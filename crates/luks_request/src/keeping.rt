@@ -1,4 +1,4 @@
-//! What the commands on header backups, and on a key that is kept, are asked for.
+//! What the commands on header backups, and on a key or a token that is kept, are asked for.
 
 use luks_reading::Data;
 
@@ -52,6 +52,17 @@ pub struct KeepingKey<'a> {
     pub memory: u32,
     /// Whether ciphers and hashes of older disks are accepted.
     pub older: bool,
+    /// Whether it may write over a file that is there and isn't empty.
+    pub over: bool,
+}
+
+/// Which token is kept, and in which file.
+#[derive(Debug, Clone, Copy)]
+pub struct KeepingToken<'a> {
+    /// The file that the token's text is written to.
+    pub target: &'a str,
+    /// The token's number, 0 to 31.
+    pub number: u8,
     /// Whether it may write over a file that is there and isn't empty.
     pub over: bool,
 }

@@ -4,9 +4,10 @@ ghost use Rattle.luks_request.specs.Named.{passphrase_of, random_of, target_of};
 
 use crate::cipher::AskedCipher;
 use crate::derivation::AskedKdf;
-use crate::keeping::{BackingUp, Comparing, KeepingKey, Restoring};
+use crate::keeping::{BackingUp, Comparing, KeepingKey, KeepingToken, Restoring};
 use crate::place::Place;
 use crate::rebuilding::Rebuilding;
+use crate::token::AskedPriority;
 use luks_reading::{Data, Format};
 
 /// What a command line asks for. Its files are named as the command line names them.
@@ -61,6 +62,8 @@ pub enum Command<'a> {
     Compare(Comparing<'a>),
     /// Write the volume key that a keyslot opens to into a file.
     KeepKey(KeepingKey<'a>),
+    /// Write a token's text into a file.
+    KeepToken(KeepingToken<'a>),
 }
 
 /// Which key is judged, and by what.
@@ -81,6 +84,10 @@ pub enum ShowAs {
     Lines,
     /// Line by line, with costs, salts and encryption, and the places of LUKS1 in bytes.
     All,
+    /// Its tokens, a line each.
+    Tokens,
+    /// The text of the token with this number.
+    Token(u8),
     /// A map of its areas.
     Map,
     /// One JSON object, for scripts.
@@ -176,10 +183,31 @@ pub enum EditRequest<'a> {
     },
     /// Write both copies of the header anew.
     Repair,
-    /// Set the volume's label.
+    /// Set the volume's label and, where it is given, its subsystem.
     Label {
         /// The label.
         text: &'a str,
+        /// The subsystem.
+        subsystem: Option<&'a str>,
+    },
+    /// Set the priority of a keyslot.
+    Priority {
+        /// The keyslot.
+        slot: u8,
+        /// The priority.
+        priority: AskedPriority,
+    },
+    /// Add a token.
+    AddToken {
+        /// The file of its text, which is read as a passphrase is.
+        token: &'a str,
+        /// Its number, 0 to 31; without one the least that is free.
+        to: Option<u8>,
+    },
+    /// Remove a token.
+    RemoveToken {
+        /// Its number, 0 to 31.
+        number: u8,
     },
 }
 
@@ -204,7 +232,8 @@ impl<'a> OpenerFile<'a> {
 }
 
 impl<'a> EditRequest<'a> {
-    /// The file of the passphrase or the key that opens a keyslot, where the edit opens one.
+    /// The file of the passphrase or the key that opens a keyslot, where the edit opens one; that of a token is
+    /// read as one.
     pub fn passphrase(&self) -> Option<&'a str>
         ensures { option_map (λ name. name.now) result ≡ edit_passphrase_of self.now }
     {
@@ -213,7 +242,11 @@ impl<'a> EditRequest<'a> {
             | EditRequest::Change { opener, .. }
             | EditRequest::Remove { opener, .. } => Some(opener.name()),
             EditRequest::AddByKey { key, .. } => Some(key),
-            EditRequest::Repair | EditRequest::Label { .. } => None,
+            EditRequest::AddToken { token, .. } => Some(token),
+            EditRequest::Repair
+            | EditRequest::Label { .. }
+            | EditRequest::Priority { .. }
+            | EditRequest::RemoveToken { .. } => None,
         }
     }
 
@@ -309,7 +342,8 @@ impl<'a> Line<'a> {
             | Command::Convert(_)
             | Command::Backup(_)
             | Command::Restore(_)
-            | Command::Compare(_) => None,
+            | Command::Compare(_)
+            | Command::KeepToken(_) => None,
             Command::Rebuild(rebuilding) => rebuilding.passphrase,
             Command::Open { passphrase, .. } => Some(passphrase),
             Command::Match(matching) => Some(matching.key),
@@ -353,6 +387,7 @@ impl<'a> Line<'a> {
             Command::Rebuild(rebuilding) => Some(rebuilding.target),
             Command::Backup(backing_up) => Some(backing_up.target),
             Command::KeepKey(keeping) => Some(keeping.target),
+            Command::KeepToken(keeping) => Some(keeping.target),
             _ => None,
         }
     }

@@ -5,3 +5,4 @@ pub mod AreaFaults
 pub mod Accepting
 pub mod Refusing
 pub mod Deciding
+mod ValueFacts

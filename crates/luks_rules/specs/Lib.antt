@@ -6,4 +6,5 @@ pub mod Sizes
 pub mod Accepted
 pub mod MetaFault
 pub mod Held
+pub mod Valued
 pub mod Naming

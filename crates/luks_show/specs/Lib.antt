@@ -9,3 +9,4 @@ pub mod Steering
 pub mod Luks1Value
 pub mod Luks2Value
 pub mod JsonText
+pub mod TokenText

@@ -11,6 +11,7 @@ mod lists;
 mod luks1;
 mod luks2;
 mod objects;
+mod tokens;
 
 pub use as_json::{json_text, unsteering};
 pub use copies::copies_name;
@@ -18,3 +19,4 @@ pub use costs::{CostsLine, EncryptionLine, SaltLine};
 pub use escaped::{Escaped, before_zero};
 pub use listing::{FullListing, Listing};
 pub use luks2::SubsystemLine;
+pub use tokens::{TokenListing, token_text};

@@ -77,6 +77,9 @@ macro_rules! remove {
 #[macro_export]
 macro_rules! label {
     ($text:expr) => {
-        Edit::Label { text: $text }
+        Edit::Label {
+            text: $text,
+            subsystem: None,
+        }
     };
 }

@@ -49,27 +49,27 @@ fn opened(alloc: Global, kept: &mut Option<Kept>, trouble: &Trouble) -> Result<D
     }
 }
 
-/// Makes the file of a key of the target, whatever its length.
+/// Makes the file of a key or a token of the target, whatever its length.
 #[derive(Drop)]
-struct KeyFile<'a> {
+struct KeptFile<'a> {
     alloc: Global,
     kept: Option<Kept>,
     trouble: &'a Trouble,
 }
 
-impl MakesFile<Disk> for KeyFile<'_> {
+impl MakesFile<Disk> for KeptFile<'_> {
     fn make(&mut self, _length: u64) -> Result<Disk, InputFault> {
         opened(self.alloc, &mut self.kept, self.trouble)
     }
 }
 
-/// What is opened beside the volume: the file of a key isn't yet.
-fn beside(line: &Line<'_>, key_file: &mut KeyFile<'_>) -> Result<Disk, InputFault>
+/// What is opened beside the volume: the file of a key or a token isn't yet.
+fn beside(line: &Line<'_>, kept_file: &mut KeptFile<'_>) -> Result<Disk, InputFault>
     ensures { IfOk result (λ disk. disk.failures ≡ 0) }
 {
     match line.command {
-        Named::KeepKey(_) => Err(InputFault::Absent),
-        _ => opened(key_file.alloc, &mut key_file.kept, key_file.trouble),
+        Named::KeepKey(_) | Named::KeepToken(_) => Err(InputFault::Absent),
+        _ => opened(kept_file.alloc, &mut kept_file.kept, kept_file.trouble),
     }
 }
 
@@ -141,14 +141,14 @@ fn run_as(
     told: &mut Told,
 ) -> Asked {
     let mut err = Cursor::new(told.err.as_mut_slice());
-    let mut key_file = KeyFile {
+    let mut kept_file = KeptFile {
         alloc,
         kept: volumes.target.take(),
         trouble: &troubles.target,
     };
     let mut inputs = Inputs {
         volume: opened(alloc, &mut volumes.volume, &troubles.volume),
-        target: beside(line, &mut key_file),
+        target: beside(line, &mut kept_file),
         passphrase: reader(&files.passphrase, &troubles.passphrase),
         new_passphrase: reader(&files.new, &troubles.new),
         random: reader(&files.random, &troubles.random),
@@ -157,7 +157,7 @@ fn run_as(
         alloc,
         line,
         &mut inputs,
-        &mut key_file,
+        &mut kept_file,
         &mut err,
         &mut Untold,
     );
@@ -177,7 +177,7 @@ fn run_as(
         random,
         ..
     } = inputs;
-    let KeyFile { kept, .. } = key_file;
+    let KeptFile { kept, .. } = kept_file;
     volumes.target = kept;
     Asked {
         volume: put_back(&mut volumes.volume, volume),

@@ -89,6 +89,7 @@ fn fault_of(word: &str) -> Option<InputFault> {
         "no-volume" => Reason::NoVolume,
         "edited" => Reason::Edited,
         "same-file" => Reason::SameFile,
+        "exists" => Reason::Exists,
         "other" => Reason::Other,
         _ => return None,
     }))

@@ -1,7 +1,6 @@
 -- What an edit of a volume keeps, whatever its reply.
-use Rattle.std.proofs.Common.{◌≡◌, ◌∙◌, ℕ, List, Ok, Err, Option, Some, ap, sym, subst}
+use Rattle.std.proofs.Common.{◌≡◌, ◌∙◌, ℕ, List, Ok, Err, Some, ap, sym, subst}
 use Rattle.std.proofs.lemmas.Option.{same_Some}
-use Rattle.std.specs.Borrow.{Bor}
 use Rattle.luks2_header.specs.Selection.{Choice, luks1, luks2, nothing, Chosen}
 use Rattle.luks_reading.specs.declared.report.Data.{Data}
 use Rattle.luks_reading.specs.Checked.{WellFormed}
@@ -10,6 +9,7 @@ use Rattle.luks_edit.specs.declared.edit.Edit.{Edit}
 use Rattle.luks_edit.specs.declared.deed.Deed.{Deed}
 use Rattle.luks_edit.specs.declared.deed.Deed.TheVariants as deed
 use Rattle.luks_edit.specs.declared.deed.Removed.{Removed}
+use Rattle.luks_edit.specs.declared.deed.Rewritten.{Rewritten}
 use Rattle.luks_edit.specs.declared.deed.Sealed.{Sealed}
 use Rattle.luks_edit.specs.declared.edit.Step.{Step}
 use Rattle.luks_edit.specs.declared.edit_fault.EditFault.TheVariants as fault
@@ -57,11 +57,11 @@ edit_keeps payload v w e random (Err fault.Device) well is fine = absurd (fine t
 edit_keeps payload v w e random (Err f) well is fine = unchanged payload _ v w well is.1
 
 -- an edit that removes a keyslot names that one
-removed_named : (d : Deed) (removed : Removed) (S : Sealed → Type 0) (W : Option (Bor (List ℕ)) → Type 0) (n : ℕ)
+removed_named : (d : Deed) (removed : Removed) (S : Sealed → Type 0) (W : Rewritten → Type 0) (n : ℕ)
     → removed_in d ≡ Some removed → MatchDeed d S (λ r. n ≡ r.slot) W → n ≡ removed.slot
 removed_named (deed.Seal s) removed S W n is x = absurd (cc)
 removed_named (deed.Remove r) removed S W n is x = x ∙ ap (λ (k : Removed). k.slot) (same_Some r removed is)
-removed_named (deed.Rewrite label) removed S W n is x = absurd (cc)
+removed_named (deed.Rewrite rewritten) removed S W n is x = absurd (cc)
 
 -- the keyslot that is named to remove another one by isn't itself the one that is removed
 module _ (v : List ℕ) (payload : Data) (e : Edit) (removed : Removed) (by_ : ℕ) (is : removed_in (deed_of e) ≡ Some removed) (named : removed.by_ ≡ Some by_) where

@@ -8,7 +8,7 @@ use Rattle.luks_slot.specs.declared.allowed.Allowed.{Allowed}
 use Rattle.luks_reading.specs.declared.report.Data.{Data}
 use Rattle.luks_reading.specs.Checked.{WellFormed, WellFormedAs}
 use Rattle.luks_edit.specs.declared.edit.Edit.{Edit}
-use Rattle.luks_edit.specs.declared.edit.Edit.TheVariants.{Add, AddByKey, Change, Remove, Repair, Label}
+use Rattle.luks_edit.specs.declared.edit.Edit.TheVariants.{Add, AddByKey, Change, Remove, Repair, Label, Amend}
 use Rattle.luks_edit.specs.declared.edit.Opener.{Opener}
 use Rattle.luks_edit.specs.declared.edit.Opener.TheVariants as opener
 use Rattle.luks_edit.specs.Asked.{allowed_for}
@@ -40,7 +40,8 @@ removes (AddByKey key new to iterations d) n x = x
 removes (Change slot old new iterations d) n x = x
 removes (Remove slot by_ passphrase) n x = x
 removes Repair n x = x
-removes (Label text) n x = x
+removes (Label text subsystem) n x = x
+removes (Amend c) n x = x
 
 -- the same edit of one version
 
@@ -68,7 +69,8 @@ opens_by1 v (Change slot old new iterations d) w chosen x = λ n key made given.
     x (allowed_for o new.now) n key (makes_by v (Change slot old new iterations d) luks1 n chosen made) (gives_by (allowed_for o new.now) v o key luks1 chosen given)
 opens_by1 v (Remove slot by_ passphrase) w chosen x = tt
 opens_by1 v Repair w chosen x = tt
-opens_by1 v (Label text) w chosen x = tt
+opens_by1 v (Label text subsystem) w chosen x = tt
+opens_by1 v (Amend c) w chosen x = tt
 
 opens_by2 : (v : List ℕ) (e : Edit) (w : List ℕ) (o : ℕ) (copies : Copies) → Chosen v (luks2 o copies) → OpensAfter2 v e w → OpensMade v e w
 opens_by2 v (Add by_ old new to iterations d) w o copies chosen x = λ n key made given.
@@ -81,7 +83,8 @@ opens_by2 v (Change slot old new iterations d) w o copies chosen x = λ n key ma
     rw is (x key (gives_by (allowed_for (opener.Keyslot slot old) new.now) v (opener.Keyslot slot old) key (luks2 o copies) chosen given))
 opens_by2 v (Remove slot by_ passphrase) w o copies chosen x = tt
 opens_by2 v Repair w o copies chosen x = tt
-opens_by2 v (Label text) w o copies chosen x = tt
+opens_by2 v (Label text subsystem) w o copies chosen x = tt
+opens_by2 v (Amend c) w o copies chosen x = tt
 
 -- a completed edit
 

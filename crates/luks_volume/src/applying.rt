@@ -89,6 +89,6 @@ fn derivation_has_32_bits(edit: &Edit<'_>)
     match edit.deed() {
         Deed::Seal(sealed) => asked_fits(sealed.derivation),
         Deed::Remove(_) => {}
-        Deed::Rewrite { .. } => {}
+        Deed::Rewrite(_) => {}
     }
 }

@@ -1,9 +1,10 @@
 //! Copying an area into one that may be longer.
 ghost use Rattle.std.specs.Prelude.{◌≡◌, ◌+◌, ◌-◌, ◌++◌, ◌^◌, ◌<◌, ◌≤◌, replicate, OnOk};
 ghost use Rattle.luks_area.specs.Area.{IsInside};
-ghost use Rattle.luks_area.specs.Device.{IsSettled, IsUnchanged, is_failure};
-ghost use Rattle.luks_area.specs.Ranges.{part, IsAt, SameBut};
-ghost use Rattle.luks_writing.specs.TwoDevices.{CountsEither};
+ghost use Rattle.luks_area.specs.Calls.{IsReady, KeepsBut};
+ghost use Rattle.luks_area.specs.Device.{IsSettled, is_failure};
+ghost use Rattle.luks_area.specs.Ranges.{part, IsAt};
+ghost use Rattle.luks_writing.specs.TwoDevices.{Copies};
 
 use crate::copying::copy_range;
 use luks_area::{Area, Device, DeviceFault, fill};
@@ -20,17 +21,14 @@ pub fn copy_area<S: Device, T: Device>(
     requires within { IsInside to (T.size target.old) }
     requires large { from.len ≤ to.len }
     requires source_room { S.failed source.old + 1 < 2 ^ 64 }
-    requires target_room { T.failed target.old + 1 < 2 ^ 64 }
-    requires settled { T.tells → IsSettled T.unsettled target.old }
-    ensures count { CountsEither is_failure result (S.failed source.old) (S.failed source.new)
-        (T.failed target.old) (T.failed target.new) }
-    ensures kept { IsUnchanged S.tells S.size S.bytes S.unsettled source.old source.new }
-    ensures size { T.size target.new ≡ T.size target.old }
+    requires target { IsReady T.Device target.old }
+    ensures copies { Copies S.Device T.Device is_failure result
+        source.old source.new target.old target.new }
     ensures settled { T.tells → OnOk result (IsSettled T.unsettled target.new) }
     ensures copied { S.tells → T.tells → OnOk result
         (part (T.bytes target.new) to.start to.len
         ≡ part (S.bytes source.old) from.start from.len ++ replicate (to.len - from.len) 0) }
-    ensures rest { T.tells → SameBut (IsAt to.start to.len) (T.bytes target.old) (T.bytes target.new) }
+    ensures rest { KeepsBut T.Device (IsAt to.start to.len) target.old target.new }
 {
     copy_range(source, from.start, target, to.start, from.len)?;
     let tail = Area {

@@ -1,7 +1,7 @@
 //! Clearing the first sectors of the places of both copies.
 ghost use Rattle.std.specs.Prelude.{◌≡◌, ◌+◌, ◌^◌, ◌<◌, ◌≤◌, OnOk};
-ghost use Rattle.luks_area.specs.Device.{CountsFailure, IsSettled, is_failure};
-ghost use Rattle.luks_area.specs.Ranges.{SameBut};
+ghost use Rattle.luks_area.specs.Calls.{IsReady, KeepsBut, Settles};
+ghost use Rattle.luks_area.specs.Device.{is_failure};
 ghost use Rattle.luks_writing.specs.Cleared.{cleared_size, AreCleared, ClearsInTurn, IsOfFirstSectors};
 
 use luks_area::{Area, Device, DeviceFault, fill};
@@ -18,15 +18,10 @@ const SECTOR: u64 = 512;
 pub fn clear_places<D: Device>(device: &mut D, second: u64) -> Result<(), DeviceFault>
     requires apart { cleared_size ≤ second }
     requires within { second + cleared_size ≤ D.size device.old }
-    requires room { D.failed device.old + 1 < 2 ^ 64 }
-    requires settled { D.tells → IsSettled D.unsettled device.old }
-    ensures count { CountsFailure is_failure result (D.failed device.old) (D.failed device.new) }
-    ensures size { D.size device.new ≡ D.size device.old }
-    ensures settled { D.tells → D.failed device.new ≡ D.failed device.old
-        → IsSettled D.unsettled device.new }
+    requires device { IsReady D.Device device.old }
+    ensures settles { Settles D.Device is_failure result device.old device.new }
     ensures cleared { D.tells → OnOk result (AreCleared second (D.bytes device.new)) }
-    ensures rest { D.tells
-        → SameBut (IsOfFirstSectors second) (D.bytes device.old) (D.bytes device.new) }
+    ensures rest { KeepsBut D.Device (IsOfFirstSectors second) device.old device.new }
     ensures order { D.tells → ClearsInTurn (D.bytes device.old) (D.bytes device.new) }
 {
     let first = Area {

@@ -1,8 +1,8 @@
 //! Copying a range of one device to another.
 ghost use Rattle.std.specs.Prelude.{◌≡◌, ◌+◌, ◌^◌, ◌<◌, ◌≤◌, OnOk};
-ghost use Rattle.luks_area.specs.Device.{IsUnchanged, Touches, is_failure};
+ghost use Rattle.luks_area.specs.Device.{Touches, is_failure};
 ghost use Rattle.luks_area.specs.Ranges.{part, written, IsAt};
-ghost use Rattle.luks_writing.specs.TwoDevices.{CountsEither};
+ghost use Rattle.luks_writing.specs.TwoDevices.{Copies};
 
 use luks_area::{Device, DeviceFault};
 
@@ -22,10 +22,8 @@ pub(crate) fn copy_range<S: Device, T: Device>(
     requires within { at + len ≤ T.size target.old }
     requires source_room { S.failed source.old + 1 < 2 ^ 64 }
     requires room { T.failed target.old + 1 < 2 ^ 64 }
-    ensures count { CountsEither is_failure result (S.failed source.old) (S.failed source.new)
-        (T.failed target.old) (T.failed target.new) }
-    ensures kept { IsUnchanged S.tells S.size S.bytes S.unsettled source.old source.new }
-    ensures size { T.size target.new ≡ T.size target.old }
+    ensures copies { Copies S.Device T.Device is_failure result
+        source.old source.new target.old target.new }
     ensures copied { S.tells → T.tells → OnOk result (T.bytes target.new
         ≡ written (T.bytes target.old) at (part (S.bytes source.old) from len)) }
     ensures touches { T.tells → Touches T.bytes T.unsettled (IsAt at len) target.old target.new }
@@ -51,10 +49,8 @@ fn copy_piece<S: Device, T: Device>(
     requires piece { len ≤ 512 }
     requires source_room { S.failed source.old + 1 < 2 ^ 64 }
     requires room { T.failed target.old + 1 < 2 ^ 64 }
-    ensures count { CountsEither is_failure result (S.failed source.old) (S.failed source.new)
-        (T.failed target.old) (T.failed target.new) }
-    ensures kept { IsUnchanged S.tells S.size S.bytes S.unsettled source.old source.new }
-    ensures size { T.size target.new ≡ T.size target.old }
+    ensures copies { Copies S.Device T.Device is_failure result
+        source.old source.new target.old target.new }
     ensures copied { S.tells → T.tells → OnOk result (T.bytes target.new
         ≡ written (T.bytes target.old) at (part (S.bytes source.old) from len)) }
     ensures touches { T.tells → Touches T.bytes T.unsettled (IsAt at len) target.old target.new }

@@ -1,6 +1,7 @@
 ghost use Rattle.std.specs.Prelude.{◌≡◌, ◌+◌, ◌^◌, ◌<◌, ◌≤◌, length, OnOk};
-ghost use Rattle.luks_area.specs.Device.{CountsFailure, IsSettled, is_failure};
-ghost use Rattle.luks_area.specs.Ranges.{part, IsAt, SameBut};
+ghost use Rattle.luks_area.specs.Calls.{IsReady, KeepsBut, Settles};
+ghost use Rattle.luks_area.specs.Device.{is_failure};
+ghost use Rattle.luks_area.specs.Ranges.{part, IsAt};
 ghost use Rattle.luks2_header.specs.Header2.{binary_header_size, header_at};
 ghost use Rattle.luks2_header.specs.declared.bin2.Bin2.{Bin2 as TheHeader};
 ghost use Rattle.luks_writing.specs.Copy.{HasCopy, IsCopyHeader, IsSummed};
@@ -21,16 +22,12 @@ const BINARY_HEADER: u64 = 4096;
 pub fn write_copy<D: Device>(device: &mut D, header: &Bin2, json: &[u8]) -> Result<(), DeviceFault>
     requires json { binary_header_size + length json.now ≡ header.now.hdr_size }
     requires within { header.now.hdr_offset + header.now.hdr_size ≤ D.size device.old }
-    requires room { D.failed device.old + 1 < 2 ^ 64 }
-    requires settled { D.tells → IsSettled D.unsettled device.old }
-    ensures count { CountsFailure is_failure result (D.failed device.old) (D.failed device.new) }
-    ensures size { D.size device.new ≡ D.size device.old }
-    ensures settled { D.tells → D.failed device.new ≡ D.failed device.old
-        → IsSettled D.unsettled device.new }
+    requires device { IsReady D.Device device.old }
+    ensures settles { Settles D.Device is_failure result device.old device.new }
     ensures copy { D.tells → IsCopyHeader header.now
         → OnOk result (HasCopy (D.bytes device.new) json.now header.now) }
-    ensures rest { D.tells → SameBut (IsAt header.now.hdr_offset header.now.hdr_size)
-        (D.bytes device.old) (D.bytes device.new) }
+    ensures rest { KeepsBut D.Device
+        (IsAt header.now.hdr_offset header.now.hdr_size) device.old device.new }
 {
     write_summed_copy(device, &with_checksum(header, json), json)
 }
@@ -44,16 +41,12 @@ pub fn write_summed_copy<D: Device>(
 ) -> Result<(), DeviceFault>
     requires json { binary_header_size + length json.now ≡ header.now.hdr_size }
     requires within { header.now.hdr_offset + header.now.hdr_size ≤ D.size device.old }
-    requires room { D.failed device.old + 1 < 2 ^ 64 }
-    requires settled { D.tells → IsSettled D.unsettled device.old }
-    ensures count { CountsFailure is_failure result (D.failed device.old) (D.failed device.new) }
-    ensures size { D.size device.new ≡ D.size device.old }
-    ensures settled { D.tells → D.failed device.new ≡ D.failed device.old
-        → IsSettled D.unsettled device.new }
+    requires device { IsReady D.Device device.old }
+    ensures settles { Settles D.Device is_failure result device.old device.new }
     ensures copy { D.tells → (h : TheHeader) → IsCopyHeader h → IsSummed h json.now header.now
         → OnOk result (HasCopy (D.bytes device.new) json.now h) }
-    ensures rest { D.tells → SameBut (IsAt header.now.hdr_offset header.now.hdr_size)
-        (D.bytes device.old) (D.bytes device.new) }
+    ensures rest { KeepsBut D.Device
+        (IsAt header.now.hdr_offset header.now.hdr_size) device.old device.new }
 {
     write_both(device, header.hdr_offset, &header.write(), json)
 }
@@ -67,18 +60,13 @@ fn write_both<D: Device>(
 ) -> Result<(), DeviceFault>
     requires head { length head.now ≡ binary_header_size }
     requires within { at + (binary_header_size + length json.now) ≤ D.size device.old }
-    requires room { D.failed device.old + 1 < 2 ^ 64 }
-    requires settled { D.tells → IsSettled D.unsettled device.old }
-    ensures count { CountsFailure is_failure result (D.failed device.old) (D.failed device.new) }
-    ensures size { D.size device.new ≡ D.size device.old }
-    ensures settled { D.tells → D.failed device.new ≡ D.failed device.old
-        → IsSettled D.unsettled device.new }
+    requires device { IsReady D.Device device.old }
+    ensures settles { Settles D.Device is_failure result device.old device.new }
     ensures head { D.tells → OnOk result (header_at (D.bytes device.new) at ≡ head.now) }
     ensures area { D.tells → OnOk result
         (part (D.bytes device.new) (at + binary_header_size) (length json.now) ≡ json.now) }
-    ensures rest { D.tells
-        → SameBut (IsAt at (binary_header_size + length json.now))
-        (D.bytes device.old) (D.bytes device.new) }
+    ensures rest { KeepsBut D.Device
+        (IsAt at (binary_header_size + length json.now)) device.old device.new }
 {
     device.write_at(at, head)?;
     device.write_at(at + BINARY_HEADER, json)?;

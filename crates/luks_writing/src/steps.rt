@@ -1,7 +1,8 @@
 ghost use Rattle.std.specs.Prelude.{◌≡◌, ◌+◌, ◌-◌, ◌*◌, ◌^◌, ◌<◌, ◌≤◌, false, length, replicate, Err, Some, IfErr, OnOk};
 ghost use Rattle.luks_area.specs.Area.{IsInside};
-ghost use Rattle.luks_area.specs.Device.{CountsFailure, IsSettled, is_failure};
-ghost use Rattle.luks_area.specs.Ranges.{written, IsAt, SameBut, SameOutside};
+ghost use Rattle.luks_area.specs.Calls.{IsReady, KeepsBut, Settles};
+ghost use Rattle.luks_area.specs.Device.{is_failure};
+ghost use Rattle.luks_area.specs.Ranges.{written, IsAt, SameOutside};
 ghost use Rattle.luks_area.specs.Sectors.{rounded_to_sectors};
 ghost use Rattle.luks_slot.specs.declared.fault.SlotFault.{SlotFault as TheFault};
 ghost use Rattle.luks_slot.specs.Fault.{IsAnsweredFault, IsAnsweredWithin, is_device_fault};
@@ -16,11 +17,8 @@ use std::alloc::Global;
 /// Writes the bytes from the place `at` on, and flushes.
 pub fn write_range<D: Device>(device: &mut D, at: u64, bytes: &[u8]) -> Result<(), DeviceFault>
     requires within { at + length bytes.now ≤ D.size device.old }
-    requires room { D.failed device.old + 1 < 2 ^ 64 }
-    requires settled { D.tells → IsSettled D.unsettled device.old }
-    ensures count { CountsFailure is_failure result (D.failed device.old) (D.failed device.new) }
-    ensures size { D.size device.new ≡ D.size device.old }
-    ensures settled { D.tells → D.failed device.new ≡ D.failed device.old → IsSettled D.unsettled device.new }
+    requires device { IsReady D.Device device.old }
+    ensures settles { Settles D.Device is_failure result device.old device.new }
     ensures wrote { D.tells → OnOk result
         (D.bytes device.new ≡ written (D.bytes device.old) at bytes.now) }
     ensures outside { D.tells
@@ -34,15 +32,11 @@ pub fn write_range<D: Device>(device: &mut D, at: u64, bytes: &[u8]) -> Result<(
 /// Overwrites an area with zeros, its whole length, and flushes.
 pub fn wipe_area<D: Device>(device: &mut D, area: Area) -> Result<(), DeviceFault>
     requires within { IsInside area (D.size device.old) }
-    requires room { D.failed device.old + 1 < 2 ^ 64 }
-    requires settled { D.tells → IsSettled D.unsettled device.old }
-    ensures count { CountsFailure is_failure result (D.failed device.old) (D.failed device.new) }
-    ensures size { D.size device.new ≡ D.size device.old }
-    ensures settled { D.tells → D.failed device.new ≡ D.failed device.old → IsSettled D.unsettled device.new }
+    requires device { IsReady D.Device device.old }
+    ensures settles { Settles D.Device is_failure result device.old device.new }
     ensures wiped { D.tells → OnOk result
         (area_bytes (D.bytes device.new) area ≡ replicate area.len 0) }
-    ensures rest { D.tells
-        → SameBut (IsAt area.start area.len) (D.bytes device.old) (D.bytes device.new) }
+    ensures rest { KeepsBut D.Device (IsAt area.start area.len) device.old device.new }
 {
     wipe(device, area)?;
     device.flush()?;
@@ -59,22 +53,17 @@ pub fn seal_area<D: Device>(
     random: &[u8],
 ) -> Result<(), SlotFault>
     requires ready { IsReadyToSeal plan.now key.now random.now (D.size device.old) }
-    requires room { D.failed device.old + 1 < 2 ^ 64 }
-    requires settled { D.tells → IsSettled D.unsettled device.old }
+    requires device { IsReady D.Device device.old }
     ensures refused { (f : TheFault) → slot_refusal plan.now ≡ Some f → result ≡ Err f }
     ensures fault { IfErr result (IsAnsweredFault plan.now) }
-    ensures count { CountsFailure is_device_fault result
-        (D.failed device.old) (D.failed device.new) }
-    ensures size { D.size device.new ≡ D.size device.old }
-    ensures settled { D.tells → D.failed device.new ≡ D.failed device.old → IsSettled D.unsettled device.new }
+    ensures settles { Settles D.Device is_device_fault result device.old device.new }
     ensures same { D.tells → (f : TheFault) → slot_refusal plan.now ≡ Some f
         → D.bytes device.new ≡ D.bytes device.old }
     ensures sealed { D.tells → OnOk result
         (IsSealed plan.now (area_bytes (D.bytes device.new) plan.now.area)
         passphrase.now key.now random.now) }
-    ensures rest { D.tells
-        → SameBut (IsAt plan.now.area.start (rounded_to_sectors (stripe_bytes plan.now)))
-        (D.bytes device.old) (D.bytes device.new) }
+    ensures rest { KeepsBut D.Device
+        (IsAt plan.now.area.start (rounded_to_sectors (stripe_bytes plan.now))) device.old device.new }
 {
     seal(device, plan, passphrase, key, random)?;
     match device.flush() {
@@ -96,22 +85,17 @@ pub fn seal_area_within<D: Device>(
 ) -> Result<(), SlotFault>
     requires passphrase { 0 < allowed.memory → length passphrase.now < 2 ^ 32 }
     requires ready { IsReadyToSeal plan.now key.now random.now (D.size device.old) }
-    requires room { D.failed device.old + 1 < 2 ^ 64 }
-    requires settled { D.tells → IsSettled D.unsettled device.old }
+    requires device { IsReady D.Device device.old }
     ensures refused { (f : TheFault) → slot_refusal_within allowed plan.now ≡ Some f → result ≡ Err f }
     ensures fault { IfErr result (IsAnsweredWithin allowed plan.now) }
-    ensures count { CountsFailure is_device_fault result
-        (D.failed device.old) (D.failed device.new) }
-    ensures size { D.size device.new ≡ D.size device.old }
-    ensures settled { D.tells → D.failed device.new ≡ D.failed device.old → IsSettled D.unsettled device.new }
+    ensures settles { Settles D.Device is_device_fault result device.old device.new }
     ensures same { D.tells → IfErr result (λ f. is_device_fault f ≡ false
         → D.bytes device.new ≡ D.bytes device.old) }
     ensures sealed { D.tells → OnOk result
         (IsSealed plan.now (area_bytes (D.bytes device.new) plan.now.area)
         passphrase.now key.now random.now) }
-    ensures rest { D.tells
-        → SameBut (IsAt plan.now.area.start (rounded_to_sectors (stripe_bytes plan.now)))
-        (D.bytes device.old) (D.bytes device.new) }
+    ensures rest { KeepsBut D.Device
+        (IsAt plan.now.area.start (rounded_to_sectors (stripe_bytes plan.now))) device.old device.new }
 {
     seal_within(alloc, device, plan, passphrase, allowed, key, random)?;
     device.flush()?;

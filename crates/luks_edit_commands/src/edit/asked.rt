@@ -1,18 +1,23 @@
 //! The edit that a command line asks for of a volume.
-ghost use Rattle.std.specs.Prelude.{◌≡◌, ◌+◌, ◌<◌, ◌^◌, IfOk, IfErr, length};
+ghost use Rattle.std.specs.Prelude.{◌≡◌, ◌+◌, ◌<◌, ◌^◌, ℕ, List, IfOk, IfErr, false, length, option_map};
 ghost use Rattle.luks_area.specs.Device.{CountsFailure, IsUnchanged};
 ghost use Rattle.luks_commands.specs.Chosen.{chosen_of};
 ghost use Rattle.luks_commands.specs.OpenAnswers.{allowed_of};
 ghost use Rattle.luks_edit.specs.declared.edit.Edit.{Edit};
 ghost use Rattle.luks_edit.specs.EditFaults.{is_edit_failure};
 ghost use Rattle.luks_reading.specs.Header.{IsAcceptedHeader, IsHeader};
-ghost use Rattle.luks_edit_commands.specs.Editing.{IsAsked, IsMissed, kind_of, removed_in, told_slot, UnlessOutside};
+ghost use Rattle.luks_edit_commands.specs.Editing.{IsAsked, IsMissed, IsTokenOf, IsUntokened, kind_of, priority_of, removed_in, told_slot, UnlessOutside};
 
 use super::finding::keyslot_of;
 use luks_commands::chosen_of;
 use luks_commands::open::allowed_of;
-use luks_request::{AskedKdf, EditRequest, Editing, OpenerFile};
-use luks_volume::{Device, Edit, EditFault, Header, Secret, SecretKind, VolumeKey};
+use luks_making::{Change, Priority};
+use luks_request::{AskedKdf, AskedPriority, EditRequest, Editing, OpenerFile};
+use luks_rules::MetaFault;
+use luks_volume::{
+    Data, Device, Edit, EditFault, Header, Secret, SecretKind, VolumeKey, needed_of_header,
+};
+use serde_json::Value;
 use std::alloc::Global;
 use std::io::Write;
 
@@ -25,11 +30,13 @@ pub(super) fn edit_of<'a, D: Device, E: Write>(
     editing: &Editing<'a>,
     old: &'a [u8],
     new: &'a [u8],
+    token: Option<&'a Value>,
     err: &mut E,
 ) -> Result<Edit<'a>, EditFault>
     requires room { D.failed device.old + 1 < 2 ^ 64 }
     requires accepted { IsAcceptedHeader header.now }
     requires short { length old.now < 2 ^ 32 }
+    requires token { IsTokenOf editing.now.request old.now token }
     ensures unchanged { IsUnchanged D.tells D.size D.bytes D.unsettled device.old device.new }
     ensures count { CountsFailure is_edit_failure result
         (D.failed device.old) (D.failed device.new) }
@@ -98,9 +105,19 @@ pub(super) fn edit_of<'a, D: Device, E: Write>(
             Ok(Edit::Remove { slot, by_, secret })
         }
         EditRequest::Repair => Ok(Edit::Repair),
-        EditRequest::Label { text } => Ok(Edit::Label {
+        EditRequest::Label { text, subsystem } => Ok(Edit::Label {
             text: text.as_bytes(),
+            subsystem: bytes_in(subsystem),
         }),
+        EditRequest::Priority { slot, priority } => Ok(Edit::Amend(Change::Priority {
+            slot,
+            priority: priority_of(priority),
+        })),
+        EditRequest::AddToken { to, .. } => match token {
+            Some(token) => Ok(Edit::Amend(Change::AddToken { to, token })),
+            None => Err(no_token(header, payload, device.len())),
+        },
+        EditRequest::RemoveToken { number } => Ok(Edit::Amend(Change::RemoveToken { number })),
     }
 }
 
@@ -171,6 +188,40 @@ fn secret_of<'a>(opener: OpenerFile<'_>, bytes: &'a [u8], mib: u32, older: bool)
         kind: kind_of(opener),
         bytes,
         allowed: allowed_of(mib, older),
+    }
+}
+
+/// Why a file that holds no text adds no token: what refuses every edit of a volume of `total` bytes with this header, or
+/// that.
+fn no_token(header: &Header, payload: Data, total: u64) -> EditFault
+    requires { IsAcceptedHeader header.now }
+    ensures own { is_edit_failure result ≡ false }
+    ensures is { (v : List ℕ) → IsHeader v header.now → length v ≡ total
+        → UnlessOutside v (IsUntokened payload v) result }
+{
+    match needed_of_header(header, payload, total, &Edit::Repair) {
+        Ok(_) => EditFault::BadToken(MetaFault::BadJson),
+        Err(fault) => fault,
+    }
+}
+
+fn priority_of(asked: AskedPriority) -> Priority
+    ensures { result ≡ priority_of asked }
+{
+    match asked {
+        AskedPriority::Ignore => Priority::Ignore,
+        AskedPriority::Normal => Priority::Normal,
+        AskedPriority::Prefer => Priority::Prefer,
+    }
+}
+
+/// The bytes of the text, where one is given.
+fn bytes_in(text: Option<&str>) -> Option<&[u8]>
+    ensures { option_map (λ bytes. bytes.now) result ≡ option_map (λ t. t.now) text.entry }
+{
+    match text {
+        Some(text) => Some(text.as_bytes()),
+        None => None,
     }
 }
 

@@ -66,7 +66,8 @@ fn note_luks1<E: Write>(edit: &Edit<'_>, err: &mut E) -> io::Result<()>
         | Edit::AddByKey { .. }
         | Edit::Change { .. }
         | Edit::Remove { .. }
-        | Edit::Label { .. } => Ok(()),
+        | Edit::Label { .. }
+        | Edit::Amend(_) => Ok(()),
     }
 }
 
@@ -77,7 +78,11 @@ fn note_luks2<E: Write>(meta: &Meta, edit: &Edit<'_>, err: &mut E) -> io::Result
     match *edit {
         Edit::Change { slot, .. } => note_tokens(meta, slot, Fate::Changed, err),
         Edit::Remove { slot, .. } => note_tokens(meta, slot, Fate::Removed, err),
-        Edit::Add { .. } | Edit::AddByKey { .. } | Edit::Repair | Edit::Label { .. } => Ok(()),
+        Edit::Add { .. }
+        | Edit::AddByKey { .. }
+        | Edit::Repair
+        | Edit::Label { .. }
+        | Edit::Amend(_) => Ok(()),
     }
 }
 

@@ -4,7 +4,7 @@ ghost use Rattle.luks_area.specs.Device.{CountsFailure, IsUnchanged};
 ghost use Rattle.luks_edit.specs.EditFaults.{is_edit_failure};
 ghost use Rattle.luks_reading.specs.Header.{IsAcceptedHeader, IsHeader};
 ghost use Rattle.luks_volume.specs.Needed.{NeedsRandom, TellsNeed};
-ghost use Rattle.luks_edit_commands.specs.Editing.{IsAsked, IsMissed, IsUnseen};
+ghost use Rattle.luks_edit_commands.specs.Editing.{IsAsked, IsMissed, IsTokenOf, IsUnseen};
 ghost use Rattle.luks_edit_commands.specs.OtherUses.{is_unseen_failure, SeesBarred};
 
 use super::asked::edit_of;
@@ -18,6 +18,7 @@ use luks_volume::{
     Cost, Data, Device, DeviceFault, Edit, EditFault, Header, Luks1, edited_header,
     needed_of_header,
 };
+use serde_json::Value;
 use std::alloc::Global;
 use std::io::Write;
 
@@ -99,10 +100,12 @@ pub(super) fn look_at_volume<'a, D: Device, E: Write>(
     editing: &Editing<'a>,
     old: &'a [u8],
     new: &'a [u8],
+    token: Option<&'a Value>,
     err: &mut E,
 ) -> Result<Seen<'a>, Unseen>
     requires room { D.failed device.old + 1 < 2 ^ 64 }
     requires short { length old.now < 2 ^ 32 }
+    requires token { IsTokenOf editing.now.request old.now token }
     ensures unchanged { IsUnchanged D.tells D.size D.bytes D.unsettled device.old device.new }
     ensures count { CountsFailure is_unseen_failure result
         (D.failed device.old) (D.failed device.new) }
@@ -122,7 +125,7 @@ pub(super) fn look_at_volume<'a, D: Device, E: Write>(
     if let Some(found) = barring_use(device, &header, editing.over)? {
         return Err(Unseen::Used(found));
     }
-    let edit = edit_of(alloc, device, &header, editing, old, new, err)?;
+    let edit = edit_of(alloc, device, &header, editing, old, new, token, err)?;
     let needed = needed_told(&header, editing.payload, device.len(), &edit, err)?;
     let weaker = weaker_keyslot(&header, &edit);
     let opener = opener_notes(&header, device.len(), &edit);

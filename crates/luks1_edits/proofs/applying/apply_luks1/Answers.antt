@@ -32,7 +32,8 @@ pub returns-in-Rewrite-clause-replies : goal.returns-in-Rewrite-clause-replies
 returns-in-Rewrite-clause-replies g c = λ tells is.
     let v = g.D.Device.bytes c.args.device.now in
     let header = c.in-Ok.ensures.header v is (g.met.D.Device.sized c.args.device.now tells ∙ sym c.len.ensures) in
-    rewrite_replies v c.args.payload c.args.random.now header.faultless c.args.edit.now c.in-Rewrite.label (sym c.in-Rewrite.ensures) c.repair.result c.repair.ensures
+    rewrite_replies v c.args.payload c.args.random.now header.faultless c.args.edit.now c.in-Rewrite.rewritten (sym c.in-Rewrite.ensures) c.repair.result c.repair.ensures.idle
+    c.repair.ensures.refused
 
 pub seal-requires-clause-usable : goal.seal-requires-clause-usable
 seal-requires-clause-usable g c = λ v holds.

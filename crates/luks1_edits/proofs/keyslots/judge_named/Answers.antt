@@ -12,7 +12,7 @@ returns-in-Seal-clause-judged c = λ v holds.
     (subst (λ o. MatchResult c.judge_opener.result (λ _. IsUsable v o) (IsUnusable v o)) c.opener.ensures (c.judge_opener.ensures.judged v holds))
 
 pub returns-in-Rewrite-clause-judged : goal.returns-in-Rewrite-clause-judged
-returns-in-Rewrite-clause-judged c = λ v holds. none_wanted v c.args.edit.now (opens_none c.args.edit.now c.in-Rewrite.label (sym c.in-Rewrite.ensures))
+returns-in-Rewrite-clause-judged c = λ v holds. none_wanted v c.args.edit.now (opens_none c.args.edit.now c.in-Rewrite.field-0 (sym c.in-Rewrite.ensures))
 
 pub returns-in-Remove-clause-judged : goal.returns-in-Remove-clause-judged
 returns-in-Remove-clause-judged c = λ v holds.

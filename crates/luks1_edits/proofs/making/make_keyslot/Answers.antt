@@ -48,7 +48,7 @@ returns-in-Err-clause-torn g c = λ tells x.
 
 pub write_entry-requires-clause-within : goal.write_entry-requires-clause-within
 write_entry-requires-clause-within g c =
-    let size = c.seal_area_within.ensures.size in
+    let size = c.seal_area_within.ensures.settles.size in
     let long = header_inside c.args.header.now.bytes.now c.args.header.now.payload (g.D.Device.size c.args.device.now) c.requires.accepted.volume in
     omega (arith, size, long)
 

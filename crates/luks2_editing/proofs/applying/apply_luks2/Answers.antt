@@ -8,6 +8,7 @@ use Rattle.luks_edit.specs.Asked.{allowed_in, AreShortIn}
 use Rattle.luks2_judging.specs.declared.judged.JudgedEdit.TheVariants as judged
 use Rattle.luks2_judging.specs.Judging.{IsLostArea, Seals, Takes}
 use Rattle.luks2_judging.specs.Room.{IsAllowed}
+use Rattle.luks2_editing.proofs.AmendingFacts.{taken_numbered}
 use Rattle.luks2_editing.proofs.JudgedFacts.{judged_edit, refused_ends, replied}
 use Rattle.luks2_editing.proofs.applying.apply_luks2.Goals as goal
 
@@ -16,7 +17,7 @@ returns-in_err-judged-clause-replies g c = λ tells is.
     let p = err_from_is_err_and c.from_residual.result c.from_residual.ensures.1 in
     rw (p.1, p.2)
     (refused_ends (g.D.Device.bytes c.args.device.now) c.args.payload c.args.edit.now c.args.random.now (g.D.Device.bytes c.judge_luks2.new.device) c.in_err-judged.field-0.0
-    (c.judge_luks2.ensures.unchanged.same tells) (c.in_err-judged.ensures.refused tells is))
+    (c.judge_luks2.ensures.reads.unchanged.same tells) (c.in_err-judged.ensures.refused tells is))
 
 pub remove-requires-clause-numbered : goal.remove-requires-clause-numbered
 remove-requires-clause-numbered g c =
@@ -28,13 +29,19 @@ pub remove-requires-clause-lost : goal.remove-requires-clause-lost
 remove-requires-clause-lost g c =
     let copy = c.in_ok-judged.judged.copy in
     let takes = subst (λ t. Takes copy (g.D.Device.size c.args.device.now) c.args.edit.now t) c.in-Remove.is c.in_ok-judged.ensures.judged.takes in
-    subst (λ (n : ℕ). IsLostArea (content copy.meta) n c.in-Remove.slot c.in-Remove.area) (sym c.judge_luks2.ensures.unchanged.size) takes.lost
+    subst (λ (n : ℕ). IsLostArea (content copy.meta) n c.in-Remove.slot c.in-Remove.area) (sym c.judge_luks2.ensures.reads.unchanged.size) takes.lost
+
+pub repair-requires-clause-numbered : goal.repair-requires-clause-numbered
+repair-requires-clause-numbered g c =
+    let copy = c.in_ok-judged.judged.copy in
+    let takes = subst (λ t. Takes copy (g.D.Device.size c.args.device.now) c.args.edit.now t) c.in-Rewrite.is c.in_ok-judged.ensures.judged.takes in
+    taken_numbered (content copy.meta) takes.rewritten.change c.in-Rewrite.change takes.takes
 
 pub returns-in-Rewrite-clause-replies : goal.returns-in-Rewrite-clause-replies
 returns-in-Rewrite-clause-replies g c = λ tells is.
     let copy = c.in_ok-judged.judged.copy in
     let takes = subst (λ t. Takes copy (g.D.Device.size c.args.device.now) c.args.edit.now t) c.in-Rewrite.is c.in_ok-judged.ensures.judged.takes in
-    let same = c.judge_luks2.ensures.unchanged.same tells in
+    let same = c.judge_luks2.ensures.reads.unchanged.same tells in
     let now = judged_edit same refl c.in_ok-judged.judged c.in_ok-judged.ensures.judged.is is (c.in_ok-judged.ensures.unrefused tells is) in
     replied same refl c.args.payload c.args.random.now _ _ (c.repair.ensures.replies tells c.args.payload c.args.edit.now takes now.chosen now.well (now.none c.args.random.now))
 
@@ -42,7 +49,7 @@ pub returns-in-Remove-clause-replies : goal.returns-in-Remove-clause-replies
 returns-in-Remove-clause-replies g c = λ tells is.
     let copy = c.in_ok-judged.judged.copy in
     let takes = subst (λ t. Takes copy (g.D.Device.size c.args.device.now) c.args.edit.now t) c.in-Remove.is c.in_ok-judged.ensures.judged.takes in
-    let same = c.judge_luks2.ensures.unchanged.same tells in
+    let same = c.judge_luks2.ensures.reads.unchanged.same tells in
     let now = judged_edit same refl c.in_ok-judged.judged c.in_ok-judged.ensures.judged.is is (c.in_ok-judged.ensures.unrefused tells is) in
     replied same refl c.args.payload c.args.random.now _ _
     (c.remove.ensures.replies tells c.args.payload c.args.edit.now takes.by_ takes.passphrase takes.asked now.chosen now.well (now.none c.args.random.now))
@@ -52,7 +59,7 @@ returns-in-Opened-clause-replies g c = λ tells is.
     let copy = c.in_ok-judged.judged.copy in
     let takes = subst (λ t. Takes copy (g.D.Device.size c.args.device.now) c.args.edit.now (judged.Seal t c.in-Seal.key c.in-Seal.passphrase)) c.in-Opened.is
     (subst (λ t. Takes copy (g.D.Device.size c.args.device.now) c.args.edit.now t) c.in-Seal.is c.in_ok-judged.ensures.judged.takes) in
-    let same = c.judge_luks2.ensures.unchanged.same tells in
+    let same = c.judge_luks2.ensures.reads.unchanged.same tells in
     let now = judged_edit same refl c.in_ok-judged.judged c.in_ok-judged.ensures.judged.is is (c.in_ok-judged.ensures.unrefused tells is) in
     let v = g.D.Device.bytes c.judge_luks2.new.device in
     let seals = subst (λ t. Seals (hdr_size (header_at v copy.header.hdr_offset)) v c.args.payload (content copy.meta) c.args.edit.now (judged.Seal t c.in-Seal.key c.in-Seal.passphrase)) c.in-Opened.is
@@ -66,7 +73,7 @@ returns-in-New-clause-replies g c = λ tells is.
     let copy = c.in_ok-judged.judged.copy in
     let takes = subst (λ t. Takes copy (g.D.Device.size c.args.device.now) c.args.edit.now (judged.Seal t c.in-Seal.key c.in-Seal.passphrase)) c.in-New.is
     (subst (λ t. Takes copy (g.D.Device.size c.args.device.now) c.args.edit.now t) c.in-Seal.is c.in_ok-judged.ensures.judged.takes) in
-    let same = c.judge_luks2.ensures.unchanged.same tells in
+    let same = c.judge_luks2.ensures.reads.unchanged.same tells in
     let now = judged_edit same refl c.in_ok-judged.judged c.in_ok-judged.ensures.judged.is is (c.in_ok-judged.ensures.unrefused tells is) in
     let v = g.D.Device.bytes c.judge_luks2.new.device in
     let seals = subst (λ t. Seals (hdr_size (header_at v copy.header.hdr_offset)) v c.args.payload (content copy.meta) c.args.edit.now (judged.Seal t c.in-Seal.key c.in-Seal.passphrase)) c.in-New.is

@@ -3,6 +3,8 @@ use Rattle.std.proofs.lemmas.Result.{err_from_is_err_and}
 use Rattle.luks_edit.specs.declared.edit.Edit.TheVariants.{Remove}
 use Rattle.luks_meta.specs.Content.{area_len, content}
 use Rattle.luks2_judging.proofs.DeedFacts.{removed_is}
+use Rattle.luks2_judging.specs.Texts.{texts_of}
+use Rattle.luks2_judging.specs.declared.judged.TextFields.{TextFields}
 use Rattle.luks2_editing.specs.Prepared.{AreCopiesWithin, IsPrepared, IsUnwritten}
 use Rattle.luks2_editing.specs.Rewriting.{IsRenewing}
 use Rattle.luks2_editing.proofs.RemovalFacts.{removal_passed, removed_after, torn_lost}
@@ -21,7 +23,9 @@ returns-in_err-rewrite-clause-replies g c = λ tells payload e_ by_ pass asked x
     let new = content c.in_ok-meta.meta in
     let made = c.in_ok-meta.ensures.value in
     let len : area_len c.in_ok-meta.meta ≡ area_len copy.meta = c.in_ok-meta.ensures.length in
-    let renews = subst (λ (n : ℕ). IsRenewing v (Remove slot by_ pass) copy.header copy.header.label n) (sym len) (renewing v payload copy x well (Remove slot by_ pass) copy.header.label (sym x.header.label)) in
+    let renews = subst (λ (t : TextFields). IsRenewing v (Remove slot by_ pass) copy.header t (area_len c.in_ok-meta.meta)) (sym c.of-texts.ensures)
+    (subst (λ (n : ℕ). IsRenewing v (Remove slot by_ pass) copy.header (texts_of copy.header) n) (sym len)
+    (renewing v payload copy x well (Remove slot by_ pass) (texts_of copy.header) (sym x.header.label) (sym x.header.subsystem))) in
     let w = g.D.Device.bytes c.rewrite.new.device in
     let passed = removal_passed v payload copy x well slot by_ pass random before in
     let within : AreCopiesWithin copy.header (area_len c.in_ok-meta.meta) (g.D.Device.size c.args.device.now) =
@@ -44,7 +48,9 @@ returns-in-Ok-clause-replies g c = λ tells payload e_ by_ pass asked x well bef
     let new = content c.in_ok-meta.meta in
     let made = c.in_ok-meta.ensures.value in
     let len : area_len c.in_ok-meta.meta ≡ area_len copy.meta = c.in_ok-meta.ensures.length in
-    let renews = subst (λ (n : ℕ). IsRenewing v (Remove slot by_ pass) copy.header copy.header.label n) (sym len) (renewing v payload copy x well (Remove slot by_ pass) copy.header.label (sym x.header.label)) in
+    let renews = subst (λ (t : TextFields). IsRenewing v (Remove slot by_ pass) copy.header t (area_len c.in_ok-meta.meta)) (sym c.of-texts.ensures)
+    (subst (λ (n : ℕ). IsRenewing v (Remove slot by_ pass) copy.header (texts_of copy.header) n) (sym len)
+    (renewing v payload copy x well (Remove slot by_ pass) (texts_of copy.header) (sym x.header.label) (sym x.header.subsystem))) in
     let w = g.D.Device.bytes c.rewrite.new.device in
     let ready = subst (λ (n : ℕ). IsPrepared copy.header.seqid n new random 128) len c.in_ok-rewrite.ensures.ready in
     let y = g.D.Device.bytes c.wipe_area.new.device in
@@ -67,7 +73,9 @@ returns-clause-replies g c = λ tells payload e_ by_ pass asked x well before_.
     let new = content c.in_ok-meta.meta in
     let made = c.in_ok-meta.ensures.value in
     let len : area_len c.in_ok-meta.meta ≡ area_len copy.meta = c.in_ok-meta.ensures.length in
-    let renews = subst (λ (n : ℕ). IsRenewing v (Remove slot by_ pass) copy.header copy.header.label n) (sym len) (renewing v payload copy x well (Remove slot by_ pass) copy.header.label (sym x.header.label)) in
+    let renews = subst (λ (t : TextFields). IsRenewing v (Remove slot by_ pass) copy.header t (area_len c.in_ok-meta.meta)) (sym c.of-texts.ensures)
+    (subst (λ (n : ℕ). IsRenewing v (Remove slot by_ pass) copy.header (texts_of copy.header) n) (sym len)
+    (renewing v payload copy x well (Remove slot by_ pass) (texts_of copy.header) (sym x.header.label) (sym x.header.subsystem))) in
     let w = g.D.Device.bytes c.rewrite.new.device in
     let ready = subst (λ (n : ℕ). IsPrepared copy.header.seqid n new random 128) len c.in_ok-rewrite.ensures.ready in
     let y = g.D.Device.bytes c.wipe_area.new.device in

@@ -8,16 +8,16 @@ pub returns-in-Ok-clause-anew : goal.returns-in-Ok-clause-anew
 returns-in-Ok-clause-anew g c tells v e is =
     let area : IsWrittenArea (area_len c.args.meta.now) (content c.args.meta.now) c.as_slice.result.now =
     subst (λ (l : List ℕ). IsWrittenArea (area_len c.args.meta.now) (content c.args.meta.now) l) (sym c.as_slice.ensures.value) c.in_ok-json.ensures.area in
-    c.in-Ok.ensures.anew tells v e (content c.args.meta.now) (rewriting_of v e c.args.header.now c.args.label (content c.args.meta.now) c.as_slice.result.now (area_len c.args.meta.now) is area)
+    c.in-Ok.ensures.anew tells v e (content c.args.meta.now) (rewriting_of v e c.args.header.now c.args.texts (content c.args.meta.now) c.as_slice.result.now (area_len c.args.meta.now) is area)
 
 pub returns-in-Ok-clause-torn : goal.returns-in-Ok-clause-torn
 returns-in-Ok-clause-torn g c tells v e is =
     let area : IsWrittenArea (area_len c.args.meta.now) (content c.args.meta.now) c.as_slice.result.now =
     subst (λ (l : List ℕ). IsWrittenArea (area_len c.args.meta.now) (content c.args.meta.now) l) (sym c.as_slice.ensures.value) c.in_ok-json.ensures.area in
-    c.write_copies.ensures.torn tells v e (content c.args.meta.now) (rewriting_of v e c.args.header.now c.args.label (content c.args.meta.now) c.as_slice.result.now (area_len c.args.meta.now) is area)
+    c.write_copies.ensures.torn tells v e (content c.args.meta.now) (rewriting_of v e c.args.header.now c.args.texts (content c.args.meta.now) c.as_slice.result.now (area_len c.args.meta.now) is area)
 
 pub returns-clause-torn : goal.returns-clause-torn
 returns-clause-torn g c tells v e is =
     let area : IsWrittenArea (area_len c.args.meta.now) (content c.args.meta.now) c.as_slice.result.now =
     subst (λ (l : List ℕ). IsWrittenArea (area_len c.args.meta.now) (content c.args.meta.now) l) (sym c.as_slice.ensures.value) c.in_ok-json.ensures.area in
-    c.write_copies.ensures.torn tells v e (content c.args.meta.now) (rewriting_of v e c.args.header.now c.args.label (content c.args.meta.now) c.as_slice.result.now (area_len c.args.meta.now) is area)
+    c.write_copies.ensures.torn tells v e (content c.args.meta.now) (rewriting_of v e c.args.header.now c.args.texts (content c.args.meta.now) c.as_slice.result.now (area_len c.args.meta.now) is area)

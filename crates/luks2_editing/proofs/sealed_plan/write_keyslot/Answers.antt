@@ -3,6 +3,7 @@ use Rattle.std.proofs.lemmas.Result.{IfErr-weaker}
 use Rattle.luks_area.specs.Ranges.{IsOfEither, SameBut}
 use Rattle.luks_meta.specs.Content.{area_len, content}
 use Rattle.luks2_edit_laws.specs.Places.{IsOfCopies}
+use Rattle.luks2_judging.specs.Texts.{texts_of}
 use Rattle.luks2_editing.specs.Rewriting.{IsRewriting}
 use Rattle.luks2_editing.specs.Sealed.{IsOfStripes}
 use Rattle.luks2_editing.proofs.RewritingFacts.{rewriting_of}
@@ -68,8 +69,8 @@ returns-clause-torn g c = λ tells payload e j renews seals.
     let w = g.D.Device.bytes c.write_sealed.new.device in
     torn_keyslot h total k n c.args.secrets.now.key.now c.args.secrets.now.random.now c.requires.sealable plan p v c.args.chosen.now.hdr_offset e c.args.secrets.now.passphrase.now w payload j seals
     (c.write_sealed.ensures.torn tells v e k
-    (subst (λ (b : List ℕ). IsRewriting v e c.args.chosen.now c.args.chosen.now.label k b) (sym c.as_slice.ensures.value)
-    (rewriting_of v e c.args.chosen.now c.args.chosen.now.label k c.args.made.now.json.items (area_len c.args.made.now.meta) renews c.requires.json)))
+    (subst (λ (b : List ℕ). IsRewriting v e c.args.chosen.now (texts_of c.args.chosen.now) k b) (sym c.as_slice.ensures.value)
+    (rewriting_of v e c.args.chosen.now (texts_of c.args.chosen.now) k c.args.made.now.json.items (area_len c.args.made.now.meta) renews c.requires.json)))
 
 pub returns-clause-written : goal.returns-clause-written
 returns-clause-written g c = λ tells e renews.
@@ -95,5 +96,5 @@ returns-clause-written g c = λ tells e renews.
     keyslot_written h total k n c.args.secrets.now.key.now c.args.secrets.now.random.now c.requires.sealable plan p v c.args.chosen.now.hdr_offset e c.args.secrets.now.passphrase.now w sealed anew rest)
     (c.write_sealed.ensures.sealed tells)
     (c.write_sealed.ensures.anew tells v e k
-    (subst (λ (b : List ℕ). IsRewriting v e c.args.chosen.now c.args.chosen.now.label k b) (sym c.as_slice.ensures.value)
-    (rewriting_of v e c.args.chosen.now c.args.chosen.now.label k c.args.made.now.json.items (area_len c.args.made.now.meta) renews c.requires.json)))
+    (subst (λ (b : List ℕ). IsRewriting v e c.args.chosen.now (texts_of c.args.chosen.now) k b) (sym c.as_slice.ensures.value)
+    (rewriting_of v e c.args.chosen.now (texts_of c.args.chosen.now) k c.args.made.now.json.items (area_len c.args.made.now.meta) renews c.requires.json)))

@@ -20,7 +20,7 @@ write_summed_copy-requires-2-clause-json g c = area_fits _ _ _ _ _ _ c.new_heade
 
 pub write_summed_copy-requires-2-clause-within : goal.write_summed_copy-requires-2-clause-within
 write_summed_copy-requires-2-clause-within g c =
-    let size : g.D.Device.size c.write_summed_copy.new.device ≡ g.D.Device.size c.args.device.now = c.write_summed_copy.ensures.size in
+    let size : g.D.Device.size c.write_summed_copy.new.device ≡ g.D.Device.size c.args.device.now = c.write_summed_copy.ensures.settles.size in
     let place = c.requires.place in
     let within = c.requires.within in
     inside _ _ _ _ _ _ c.new_headers-headers.ensures.own (g.D.Device.size c.write_summed_copy.new.device) (omega (arith, size, place, within))
@@ -49,7 +49,7 @@ pub returns-in_err-write_summed_copy-clause-torn : goal.returns-in_err-write_sum
 returns-in_err-write_summed_copy-clause-torn g c tells v e j is =
     let old = c.args.chosen.now in
     let h = old.hdr_size in
-    half_begun v e old c.args.label c.args.random.now j c.args.json.now is c.requires.json (g.D.Device.bytes c.args.device.now) (g.D.Device.bytes c.write_summed_copy.new.device)
+    half_begun v e old c.args.texts c.args.random.now j c.args.json.now is c.requires.json (g.D.Device.bytes c.args.device.now) (g.D.Device.bytes c.write_summed_copy.new.device)
     (subst (λ (q : ℕ). SameBut (IsAt q h) (g.D.Device.bytes c.args.device.now) (g.D.Device.bytes c.write_summed_copy.new.device)) c.other_place-other.ensures (of_new_copy _ _ _ _ _ _ c.new_headers-headers.ensures.other (c.write_summed_copy.ensures.rest tells)))
 
 pub returns-in_err-write_summed_copy-2-clause-torn : goal.returns-in_err-write_summed_copy-2-clause-torn
@@ -58,12 +58,12 @@ returns-in_err-write_summed_copy-2-clause-torn g c tells v e j is =
     let h = old.hdr_size in
     let o = old.hdr_offset in
     let w = g.D.Device.bytes c.write_summed_copy.new.device in
-    let place : IsCopyPlace old c.other_place-other.result = subst (λ (q : ℕ). IsCopyPlace old q) (sym c.other_place-other.ensures) (other_is_place old v e c.args.label j c.args.json.now is) in
-    let made : HasNewCopy old c.args.label (copy_salt c.args.random.now c.other_place-other.result) c.args.json.now w c.other_place-other.result =
+    let place : IsCopyPlace old c.other_place-other.result = subst (λ (q : ℕ). IsCopyPlace old q) (sym c.other_place-other.ensures) (other_is_place old v e c.args.texts j c.args.json.now is) in
+    let made : HasNewCopy old c.args.texts (copy_salt c.args.random.now c.other_place-other.result) c.args.json.now w c.other_place-other.result =
     new_copy _ _ _ _ _ _ c.new_headers-headers.ensures.other w place (c.in_ok-write_summed_copy.ensures.copy tells) in
-    let other : HasNewCopy old c.args.label (copy_salt c.args.random.now (other_place h o)) c.args.json.now w (other_place h o) =
-    subst (λ (q : ℕ). HasNewCopy old c.args.label (copy_salt c.args.random.now q) c.args.json.now w q) c.other_place-other.ensures made in
-    half_done v e old c.args.label c.args.random.now j c.args.json.now is c.requires.json (g.D.Device.bytes c.args.device.now) w
+    let other : HasNewCopy old c.args.texts (copy_salt c.args.random.now (other_place h o)) c.args.json.now w (other_place h o) =
+    subst (λ (q : ℕ). HasNewCopy old c.args.texts (copy_salt c.args.random.now q) c.args.json.now w q) c.other_place-other.ensures made in
+    half_done v e old c.args.texts c.args.random.now j c.args.json.now is c.requires.json (g.D.Device.bytes c.args.device.now) w
     (g.D.Device.bytes c.write_summed_copy-2.new.device) other
     (subst (λ (q : ℕ). SameBut (IsAt q h) (g.D.Device.bytes c.args.device.now) (g.D.Device.bytes c.write_summed_copy.new.device)) c.other_place-other.ensures (of_new_copy _ _ _ _ _ _ c.new_headers-headers.ensures.other (c.write_summed_copy.ensures.rest tells))) c.requires.place (of_new_copy _ _ _ _ _ _ c.new_headers-headers.ensures.own (c.write_summed_copy-2.ensures.rest tells))
 
@@ -73,12 +73,12 @@ returns-clause-torn g c tells v e j is =
     let h = old.hdr_size in
     let o = old.hdr_offset in
     let w = g.D.Device.bytes c.write_summed_copy.new.device in
-    let place : IsCopyPlace old c.other_place-other.result = subst (λ (q : ℕ). IsCopyPlace old q) (sym c.other_place-other.ensures) (other_is_place old v e c.args.label j c.args.json.now is) in
-    let made : HasNewCopy old c.args.label (copy_salt c.args.random.now c.other_place-other.result) c.args.json.now w c.other_place-other.result =
+    let place : IsCopyPlace old c.other_place-other.result = subst (λ (q : ℕ). IsCopyPlace old q) (sym c.other_place-other.ensures) (other_is_place old v e c.args.texts j c.args.json.now is) in
+    let made : HasNewCopy old c.args.texts (copy_salt c.args.random.now c.other_place-other.result) c.args.json.now w c.other_place-other.result =
     new_copy _ _ _ _ _ _ c.new_headers-headers.ensures.other w place (c.in_ok-write_summed_copy.ensures.copy tells) in
-    let other : HasNewCopy old c.args.label (copy_salt c.args.random.now (other_place h o)) c.args.json.now w (other_place h o) =
-    subst (λ (q : ℕ). HasNewCopy old c.args.label (copy_salt c.args.random.now q) c.args.json.now w q) c.other_place-other.ensures made in
-    half_done v e old c.args.label c.args.random.now j c.args.json.now is c.requires.json (g.D.Device.bytes c.args.device.now) w
+    let other : HasNewCopy old c.args.texts (copy_salt c.args.random.now (other_place h o)) c.args.json.now w (other_place h o) =
+    subst (λ (q : ℕ). HasNewCopy old c.args.texts (copy_salt c.args.random.now q) c.args.json.now w q) c.other_place-other.ensures made in
+    half_done v e old c.args.texts c.args.random.now j c.args.json.now is c.requires.json (g.D.Device.bytes c.args.device.now) w
     (g.D.Device.bytes c.write_summed_copy-2.new.device) other
     (subst (λ (q : ℕ). SameBut (IsAt q h) (g.D.Device.bytes c.args.device.now) (g.D.Device.bytes c.write_summed_copy.new.device)) c.other_place-other.ensures (of_new_copy _ _ _ _ _ _ c.new_headers-headers.ensures.other (c.write_summed_copy.ensures.rest tells))) c.requires.place (of_new_copy _ _ _ _ _ _ c.new_headers-headers.ensures.own (c.write_summed_copy-2.ensures.rest tells))
 
@@ -88,13 +88,13 @@ returns-clause-anew g c tells v e j is =
     let h = old.hdr_size in
     let o = old.hdr_offset in
     let w = g.D.Device.bytes c.write_summed_copy.new.device in
-    let place : IsCopyPlace old c.other_place-other.result = subst (λ (q : ℕ). IsCopyPlace old q) (sym c.other_place-other.ensures) (other_is_place old v e c.args.label j c.args.json.now is) in
-    let made : HasNewCopy old c.args.label (copy_salt c.args.random.now c.other_place-other.result) c.args.json.now w c.other_place-other.result =
+    let place : IsCopyPlace old c.other_place-other.result = subst (λ (q : ℕ). IsCopyPlace old q) (sym c.other_place-other.ensures) (other_is_place old v e c.args.texts j c.args.json.now is) in
+    let made : HasNewCopy old c.args.texts (copy_salt c.args.random.now c.other_place-other.result) c.args.json.now w c.other_place-other.result =
     new_copy _ _ _ _ _ _ c.new_headers-headers.ensures.other w place (c.in_ok-write_summed_copy.ensures.copy tells) in
-    let other : HasNewCopy old c.args.label (copy_salt c.args.random.now (other_place h o)) c.args.json.now w (other_place h o) =
-    subst (λ (q : ℕ). HasNewCopy old c.args.label (copy_salt c.args.random.now q) c.args.json.now w q) c.other_place-other.ensures made in
-    all_done v e old c.args.label c.args.random.now j c.args.json.now is c.requires.json (g.D.Device.bytes c.args.device.now) w
+    let other : HasNewCopy old c.args.texts (copy_salt c.args.random.now (other_place h o)) c.args.json.now w (other_place h o) =
+    subst (λ (q : ℕ). HasNewCopy old c.args.texts (copy_salt c.args.random.now q) c.args.json.now w q) c.other_place-other.ensures made in
+    all_done v e old c.args.texts c.args.random.now j c.args.json.now is c.requires.json (g.D.Device.bytes c.args.device.now) w
     (g.D.Device.bytes c.write_summed_copy-2.new.device) other
     (subst (λ (q : ℕ). SameBut (IsAt q h) (g.D.Device.bytes c.args.device.now) (g.D.Device.bytes c.write_summed_copy.new.device)) c.other_place-other.ensures (of_new_copy _ _ _ _ _ _ c.new_headers-headers.ensures.other (c.write_summed_copy.ensures.rest tells))) c.requires.place (of_new_copy _ _ _ _ _ _ c.new_headers-headers.ensures.own (c.write_summed_copy-2.ensures.rest tells))
     (new_copy _ _ _ _ _ _ c.new_headers-headers.ensures.own (g.D.Device.bytes c.write_summed_copy-2.new.device)
-    (own_is_place old v e c.args.label j c.args.json.now is) (c.in_ok-write_summed_copy-2.ensures.copy tells))
+    (own_is_place old v e c.args.texts j c.args.json.now is) (c.in_ok-write_summed_copy-2.ensures.copy tells))

@@ -10,4 +10,4 @@ pub returns-in-Seal : goal.returns-in-Seal
 returns-in-Seal c = sealing_apart c.args.edit.now c.in-Seal.field-0 (sym c.in-Seal.ensures)
 
 pub returns-in-Rewrite : goal.returns-in-Rewrite
-returns-in-Rewrite c = rewriting_apart c.args.edit.now c.in-Rewrite.label (sym c.in-Rewrite.ensures)
+returns-in-Rewrite c = rewriting_apart c.args.edit.now c.in-Rewrite.field-0 (sym c.in-Rewrite.ensures)

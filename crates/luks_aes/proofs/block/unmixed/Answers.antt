@@ -11,4 +11,4 @@ returns-clause-value c =
     ∙ unmixed_vector c.args.x c.sum-before.result c.requires c.sum-before.ensures.plane (λ k h.
     c.sum-before.ensures.bytes k h
     ∙ ap (bit_xor (f k)) (c.doubled-four_times.ensures.bytes k h ∙ ap (gmul 2) (c.doubled-twice.ensures.bytes k h
-    ∙ ap (gmul 2) (c.sum-sums.ensures.bytes k h ∙ ap (bit_xor (f k)) (c.turned_twice-opposite.ensures.bytes k h)))))
+    ∙ ap (gmul 2) (c.sum-sums.ensures.bytes k h ∙ ap (bit_xor (f k)) (c.rotate_rows_twice-opposite.ensures.bytes k h)))))

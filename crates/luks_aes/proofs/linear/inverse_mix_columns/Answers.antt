@@ -13,5 +13,5 @@ returns-clause-each c = λ b.
     ∙ ap aes.mix_columns (same_block (λ k. byte_of k b c.added-before.result) (opposed f) (λ k h.
     c.added-before.ensures.bytes k b h
     ∙ ap (bit_xor (f k)) (c.doubled-four_times.ensures.bytes k b h ∙ ap (gmul 2) (c.doubled-twice.ensures.bytes k b h
-    ∙ ap (gmul 2) (c.added-sum.ensures.bytes k b h ∙ ap (bit_xor (f k)) (c.all_turned_twice-opposite.ensures.bytes k b h))))))
+    ∙ ap (gmul 2) (c.added-sum.ensures.bytes k b h ∙ ap (bit_xor (f k)) (c.rotate_all_rows_twice-opposite.ensures.bytes k b h))))))
     ∙ opposed_is f (λ k. byte-lt k b c.args.x)

@@ -14,14 +14,14 @@ returns-clause-left g c =
     let IsOld : List ℕ → Type 0 = IsWhole g.R.Read.remaining c.args.inputs.now.passphrase in
     let IsNew : List ℕ → Type 0 = IsWhole g.R.Read.remaining c.args.inputs.now.new_passphrase in
     let HasRandom : ℕ → List ℕ → Type 0 = λ count. AreFirstBytes count g.N.Read.remaining c.args.inputs.now.random in
-    let p = c.as_slice.result.now in
-    let q = c.as_slice-2.result.now in
+    let p = c.as_slice-passphrase.result.now in
+    let q = c.as_slice.result.now in
     let old : IfSome (edit_passphrase_of request) (λ name. IsOld p) =
     some_as (λ name. name.now) c.passphrase.result (edit_passphrase_of request) (IsOld p) c.passphrase.ensures
-    (subst (λ x. IfSome c.passphrase.result (λ name. IsOld x)) (sym c.as_slice.ensures.value) c.in-Ok.ensures.whole) in
+    (subst (λ x. IfSome c.passphrase.result (λ name. IsOld x)) (sym c.as_slice-passphrase.ensures.value) c.in-Ok.ensures.whole) in
     let fresh : IfSome (edit_new_of request) (λ name. IsNew q) =
     some_as (λ name. name.now) c.new_passphrase.result (edit_new_of request) (IsNew q) c.new_passphrase.ensures
-    (subst (λ x. IfSome c.new_passphrase.result (λ name. IsNew x)) (sym c.as_slice-2.ensures.value) c.in-Ok-words.ensures.whole) in
+    (subst (λ x. IfSome c.new_passphrase.result (λ name. IsNew x)) (sym c.as_slice.ensures.value) c.in-Ok-words.ensures.whole) in
     let v = g.D.Device.bytes c.in-Ok-volume.device in
     let asks : (e : Edit) → IsAsked v request (λ x. x ≡ p) (λ x. x ≡ q) e → IsAsked v request IsOld IsNew e =
     λ e is. asked_of v request IsOld IsNew p q e old fresh is in
@@ -43,14 +43,14 @@ returns-clause-spared g c =
     let IsOld : List ℕ → Type 0 = IsWhole g.R.Read.remaining c.args.inputs.now.passphrase in
     let IsNew : List ℕ → Type 0 = IsWhole g.R.Read.remaining c.args.inputs.now.new_passphrase in
     let HasRandom : ℕ → List ℕ → Type 0 = λ count. AreFirstBytes count g.N.Read.remaining c.args.inputs.now.random in
-    let p = c.as_slice.result.now in
-    let q = c.as_slice-2.result.now in
+    let p = c.as_slice-passphrase.result.now in
+    let q = c.as_slice.result.now in
     let old : IfSome (edit_passphrase_of request) (λ name. IsOld p) =
     some_as (λ name. name.now) c.passphrase.result (edit_passphrase_of request) (IsOld p) c.passphrase.ensures
-    (subst (λ x. IfSome c.passphrase.result (λ name. IsOld x)) (sym c.as_slice.ensures.value) c.in-Ok.ensures.whole) in
+    (subst (λ x. IfSome c.passphrase.result (λ name. IsOld x)) (sym c.as_slice-passphrase.ensures.value) c.in-Ok.ensures.whole) in
     let fresh : IfSome (edit_new_of request) (λ name. IsNew q) =
     some_as (λ name. name.now) c.new_passphrase.result (edit_new_of request) (IsNew q) c.new_passphrase.ensures
-    (subst (λ x. IfSome c.new_passphrase.result (λ name. IsNew x)) (sym c.as_slice-2.ensures.value) c.in-Ok-words.ensures.whole) in
+    (subst (λ x. IfSome c.new_passphrase.result (λ name. IsNew x)) (sym c.as_slice.ensures.value) c.in-Ok-words.ensures.whole) in
     let v = g.D.Device.bytes c.in-Ok-volume.device in
     let asks : (e : Edit) → IsAsked v request (λ x. x ≡ p) (λ x. x ≡ q) e → IsAsked v request IsOld IsNew e =
     λ e is. asked_of v request IsOld IsNew p q e old fresh is in
@@ -64,14 +64,14 @@ returns-clause-answers g c =
     let IsOld : List ℕ → Type 0 = IsWhole g.R.Read.remaining c.args.inputs.now.passphrase in
     let IsNew : List ℕ → Type 0 = IsWhole g.R.Read.remaining c.args.inputs.now.new_passphrase in
     let HasRandom : ℕ → List ℕ → Type 0 = λ count. AreFirstBytes count g.N.Read.remaining c.args.inputs.now.random in
-    let p = c.as_slice.result.now in
-    let q = c.as_slice-2.result.now in
+    let p = c.as_slice-passphrase.result.now in
+    let q = c.as_slice.result.now in
     let old : IfSome (edit_passphrase_of request) (λ name. IsOld p) =
     some_as (λ name. name.now) c.passphrase.result (edit_passphrase_of request) (IsOld p) c.passphrase.ensures
-    (subst (λ x. IfSome c.passphrase.result (λ name. IsOld x)) (sym c.as_slice.ensures.value) c.in-Ok.ensures.whole) in
+    (subst (λ x. IfSome c.passphrase.result (λ name. IsOld x)) (sym c.as_slice-passphrase.ensures.value) c.in-Ok.ensures.whole) in
     let fresh : IfSome (edit_new_of request) (λ name. IsNew q) =
     some_as (λ name. name.now) c.new_passphrase.result (edit_new_of request) (IsNew q) c.new_passphrase.ensures
-    (subst (λ x. IfSome c.new_passphrase.result (λ name. IsNew x)) (sym c.as_slice-2.ensures.value) c.in-Ok-words.ensures.whole) in
+    (subst (λ x. IfSome c.new_passphrase.result (λ name. IsNew x)) (sym c.as_slice.ensures.value) c.in-Ok-words.ensures.whole) in
     let v = g.D.Device.bytes c.in-Ok-volume.device in
     let asks : (e : Edit) → IsAsked v request (λ x. x ≡ p) (λ x. x ≡ q) e → IsAsked v request IsOld IsNew e =
     λ e is. asked_of v request IsOld IsNew p q e old fresh is in
@@ -136,3 +136,6 @@ returns-in-Err-clause-over g c =
 pub returns-in-Err-words-clause-over : goal.returns-in-Err-words-clause-over
 returns-in-Err-words-clause-over g c =
     holds_back_wordless g.D.Device.tells g.D.Device.bytes c.args.editing.now.over _ _ c.args.inputs.now.volume c.in-Err-words.answer c.in-Err-words.ensures.wordless
+
+pub returns-clause-failure : goal.returns-clause-failure
+returns-clause-failure g c = rw c.in-Ok-volume.is (λ failed. c.edit_device.ensures.failure failed)

@@ -127,3 +127,16 @@ returns-in-KeepKey-clause-executes g c = rw c.in-KeepKey.is (record {
 pub returns-in-KeepKey-clause-settled : goal.returns-in-KeepKey-clause-settled
 returns-in-KeepKey-clause-settled g c = rw c.in-KeepKey.is (settled_kept g.D.Device.tells g.D.Device.size g.D.Device.failed g.D.Device.bytes g.D.Device.unsettled _ _
     c.requires.settled c.run-in-KeepKey.ensures.unchanged)
+
+pub returns-in-KeepToken-clause-executes : goal.returns-in-KeepToken-clause-executes
+returns-in-KeepToken-clause-executes g c = rw c.in-KeepToken.is (record {
+  kept = record {
+    same = c.run-in-KeepToken.ensures.same;
+    exists = λ two there. c.run-in-KeepToken.ensures.exists two there;
+    answers = λ two free. c.run-in-KeepToken.ensures.answers two free;
+  };
+})
+
+pub returns-in-KeepToken-clause-settled : goal.returns-in-KeepToken-clause-settled
+returns-in-KeepToken-clause-settled g c = rw c.in-KeepToken.is (settled_kept g.D.Device.tells g.D.Device.size g.D.Device.failed g.D.Device.bytes g.D.Device.unsettled _ _
+    c.requires.settled c.run-in-KeepToken.ensures.unchanged)

@@ -36,6 +36,6 @@ returns-clause-copied g c = λ source tells.
     let there = second_stays c.args.places.now c.requires.lead s b w (c.copy_area-2.ensures.rest tells) (whole_copied s b first second (c.in_ok-copy_area.ensures.copied source tells)) in
     on_ok c.copy_area-2.result (λ begins.
     header_held c.args.places.now c.requires.lead s w there
-    (subst (λ (l : List ℕ). part w lead (first - lead) ≡ part l lead (first - lead)) (c.in_ok-copy_area.ensures.kept.same source)
+    (subst (λ (l : List ℕ). part w lead (first - lead) ≡ part l lead (first - lead)) (c.in_ok-copy_area.ensures.copies.kept.same source)
     (whole_copied (g.S.Device.bytes c.copy_area.new.source) w lead (first - lead) begins)))
     (c.copy_area-2.ensures.copied source tells)

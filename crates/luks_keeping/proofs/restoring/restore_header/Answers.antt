@@ -51,12 +51,12 @@ returns-clause-restored g c = λ source tells.
     let b : List ℕ = g.B.Device.bytes c.args.backup.now in
     let t : List ℕ = g.T.Device.bytes c.args.target.now in
     let is = (c.requires.of source).0 in
-    let front : IsFrontAs b c.args.payload (length t) (choice_of c.args.header) c.data_start-limit.result =
-    subst (λ (n : ℕ). IsFrontAs b c.args.payload n (choice_of c.args.header) c.data_start-limit.result)
-    (c.len-2.ensures ∙ sym (g.met.T.Device.sized c.args.target.now tells)) (c.data_start-limit.ensures.start b is) in
+    let front : IsFrontAs b c.args.payload (length t) (choice_of c.args.header) c.payload_start-limit.result =
+    subst (λ (n : ℕ). IsFrontAs b c.args.payload n (choice_of c.args.header) c.payload_start-limit.result)
+    (c.len-2.ensures ∙ sym (g.met.T.Device.sized c.args.target.now tells)) (c.payload_start-limit.ensures.start b is) in
     let w : List ℕ = g.T.Device.bytes c.write_over.new.target in
     let long : c.len.result ≡ length w = c.len.ensures ∙ sym c.in_ok-judge_other.ensures.unchanged.size ∙ sym c.write_over.ensures.size ∙ sym (g.met.T.Device.sized c.write_over.new.target tells) in
-    let over = written_over b c.args.payload c.args.header is c.outline_of-outline.result.places c.outline_of-outline.ensures.laid ((c.requires.of source).1) _ t _ w c.len.result c.data_start-limit.result front refl
+    let over = written_over b c.args.payload c.args.header is c.outline_of-outline.result.places c.outline_of-outline.ensures.laid ((c.requires.of source).1) _ t _ w c.len.result c.payload_start-limit.result front refl
     (c.in_ok-judge_other.ensures.unchanged.same tells) long (c.in_ok-judge_fit.ensures.formed b is) (c.write_over.ensures.rest tells) (c.in_ok-write_over.ensures.gone tells) (c.in_ok-write_over.ensures.copied source tells) (c.in_ok-write_over.ensures.lead tells) in
     is_restored b c.args.payload c.args.header c.outline_of-outline.result.places t w over
 
@@ -136,11 +136,11 @@ returns-clause-rest g c = λ source tells.
     let b : List ℕ = g.B.Device.bytes c.args.backup.now in
     let t : List ℕ = g.T.Device.bytes c.args.target.now in
     let is = (c.requires.of source).0 in
-    let front : IsFrontAs b c.args.payload (length t) (choice_of c.args.header) c.data_start-limit.result =
-    subst (λ (n : ℕ). IsFrontAs b c.args.payload n (choice_of c.args.header) c.data_start-limit.result)
-    (c.len-2.ensures ∙ sym (g.met.T.Device.sized c.args.target.now tells)) (c.data_start-limit.ensures.start b is) in
+    let front : IsFrontAs b c.args.payload (length t) (choice_of c.args.header) c.payload_start-limit.result =
+    subst (λ (n : ℕ). IsFrontAs b c.args.payload n (choice_of c.args.header) c.payload_start-limit.result)
+    (c.len-2.ensures ∙ sym (g.met.T.Device.sized c.args.target.now tells)) (c.payload_start-limit.ensures.start b is) in
     of_restored b c.args.payload t c.args.header is
-    (changed_rest b c.args.payload c.args.header is c.outline_of-outline.result.places c.outline_of-outline.ensures.laid t _ (g.T.Device.bytes c.write_over.new.target) c.data_start-limit.result front
+    (changed_rest b c.args.payload c.args.header is c.outline_of-outline.result.places c.outline_of-outline.ensures.laid t _ (g.T.Device.bytes c.write_over.new.target) c.payload_start-limit.result front
     (c.in_ok-judge_other.ensures.unchanged.same tells) (c.write_over.ensures.rest tells))
 
 pub returns-in_err-write_over-clause-rest : goal.returns-in_err-write_over-clause-rest
@@ -148,11 +148,11 @@ returns-in_err-write_over-clause-rest g c = λ source tells.
     let b : List ℕ = g.B.Device.bytes c.args.backup.now in
     let t : List ℕ = g.T.Device.bytes c.args.target.now in
     let is = (c.requires.of source).0 in
-    let front : IsFrontAs b c.args.payload (length t) (choice_of c.args.header) c.data_start-limit.result =
-    subst (λ (n : ℕ). IsFrontAs b c.args.payload n (choice_of c.args.header) c.data_start-limit.result)
-    (c.len-2.ensures ∙ sym (g.met.T.Device.sized c.args.target.now tells)) (c.data_start-limit.ensures.start b is) in
+    let front : IsFrontAs b c.args.payload (length t) (choice_of c.args.header) c.payload_start-limit.result =
+    subst (λ (n : ℕ). IsFrontAs b c.args.payload n (choice_of c.args.header) c.payload_start-limit.result)
+    (c.len-2.ensures ∙ sym (g.met.T.Device.sized c.args.target.now tells)) (c.payload_start-limit.ensures.start b is) in
     of_restored b c.args.payload t c.args.header is
-    (changed_rest b c.args.payload c.args.header is c.outline_of-outline.result.places c.outline_of-outline.ensures.laid t _ (g.T.Device.bytes c.write_over.new.target) c.data_start-limit.result front
+    (changed_rest b c.args.payload c.args.header is c.outline_of-outline.result.places c.outline_of-outline.ensures.laid t _ (g.T.Device.bytes c.write_over.new.target) c.payload_start-limit.result front
     (c.in_ok-judge_other.ensures.unchanged.same tells) (c.write_over.ensures.rest tells))
 
 pub returns-clause-segments : goal.returns-clause-segments
@@ -160,12 +160,12 @@ returns-clause-segments g c = λ source tells n a seg.
     let b : List ℕ = g.B.Device.bytes c.args.backup.now in
     let t : List ℕ = g.T.Device.bytes c.args.target.now in
     let is = (c.requires.of source).0 in
-    let front : IsFrontAs b c.args.payload (length t) (choice_of c.args.header) c.data_start-limit.result =
-    subst (λ (n : ℕ). IsFrontAs b c.args.payload n (choice_of c.args.header) c.data_start-limit.result)
-    (c.len-2.ensures ∙ sym (g.met.T.Device.sized c.args.target.now tells)) (c.data_start-limit.ensures.start b is) in
+    let front : IsFrontAs b c.args.payload (length t) (choice_of c.args.header) c.payload_start-limit.result =
+    subst (λ (n : ℕ). IsFrontAs b c.args.payload n (choice_of c.args.header) c.payload_start-limit.result)
+    (c.len-2.ensures ∙ sym (g.met.T.Device.sized c.args.target.now tells)) (c.payload_start-limit.ensures.start b is) in
     let size : length t ≡ g.T.Device.size c.args.target.now = g.met.T.Device.sized c.args.target.now tells in
     segment_stays b c.args.payload t c.args.header is (subst (λ (n : ℕ). IsFormedOn b c.args.payload n) (c.len.ensures ∙ sym size) (c.in_ok-judge_fit.ensures.formed b is))
-    (changed_rest b c.args.payload c.args.header is c.outline_of-outline.result.places c.outline_of-outline.ensures.laid t _ (g.T.Device.bytes c.write_over.new.target) c.data_start-limit.result front
+    (changed_rest b c.args.payload c.args.header is c.outline_of-outline.result.places c.outline_of-outline.ensures.laid t _ (g.T.Device.bytes c.write_over.new.target) c.payload_start-limit.result front
     (c.in_ok-judge_other.ensures.unchanged.same tells) (c.write_over.ensures.rest tells)) n a (subst (λ (m : ℕ). IsSegmentOn b c.args.payload m n a) (sym size) seg)
 
 pub returns-in_err-write_over-clause-segments : goal.returns-in_err-write_over-clause-segments
@@ -173,12 +173,12 @@ returns-in_err-write_over-clause-segments g c = λ source tells n a seg.
     let b : List ℕ = g.B.Device.bytes c.args.backup.now in
     let t : List ℕ = g.T.Device.bytes c.args.target.now in
     let is = (c.requires.of source).0 in
-    let front : IsFrontAs b c.args.payload (length t) (choice_of c.args.header) c.data_start-limit.result =
-    subst (λ (n : ℕ). IsFrontAs b c.args.payload n (choice_of c.args.header) c.data_start-limit.result)
-    (c.len-2.ensures ∙ sym (g.met.T.Device.sized c.args.target.now tells)) (c.data_start-limit.ensures.start b is) in
+    let front : IsFrontAs b c.args.payload (length t) (choice_of c.args.header) c.payload_start-limit.result =
+    subst (λ (n : ℕ). IsFrontAs b c.args.payload n (choice_of c.args.header) c.payload_start-limit.result)
+    (c.len-2.ensures ∙ sym (g.met.T.Device.sized c.args.target.now tells)) (c.payload_start-limit.ensures.start b is) in
     let size : length t ≡ g.T.Device.size c.args.target.now = g.met.T.Device.sized c.args.target.now tells in
     segment_stays b c.args.payload t c.args.header is (subst (λ (n : ℕ). IsFormedOn b c.args.payload n) (c.len.ensures ∙ sym size) (c.in_ok-judge_fit.ensures.formed b is))
-    (changed_rest b c.args.payload c.args.header is c.outline_of-outline.result.places c.outline_of-outline.ensures.laid t _ (g.T.Device.bytes c.write_over.new.target) c.data_start-limit.result front
+    (changed_rest b c.args.payload c.args.header is c.outline_of-outline.result.places c.outline_of-outline.ensures.laid t _ (g.T.Device.bytes c.write_over.new.target) c.payload_start-limit.result front
     (c.in_ok-judge_other.ensures.unchanged.same tells) (c.write_over.ensures.rest tells)) n a (subst (λ (m : ℕ). IsSegmentOn b c.args.payload m n a) (sym size) seg)
 
 pub returns-clause-order : goal.returns-clause-order
@@ -186,10 +186,10 @@ returns-clause-order g c = λ source tells.
     let b : List ℕ = g.B.Device.bytes c.args.backup.now in
     let t : List ℕ = g.T.Device.bytes c.args.target.now in
     let is = (c.requires.of source).0 in
-    let front : IsFrontAs b c.args.payload (length t) (choice_of c.args.header) c.data_start-limit.result =
-    subst (λ (n : ℕ). IsFrontAs b c.args.payload n (choice_of c.args.header) c.data_start-limit.result)
-    (c.len-2.ensures ∙ sym (g.met.T.Device.sized c.args.target.now tells)) (c.data_start-limit.ensures.start b is) in
-    turn_over b c.args.header is c.outline_of-outline.result.places c.outline_of-outline.ensures.laid c.args.payload _ t _ (g.T.Device.bytes c.write_over.new.target) c.data_start-limit.result front
+    let front : IsFrontAs b c.args.payload (length t) (choice_of c.args.header) c.payload_start-limit.result =
+    subst (λ (n : ℕ). IsFrontAs b c.args.payload n (choice_of c.args.header) c.payload_start-limit.result)
+    (c.len-2.ensures ∙ sym (g.met.T.Device.sized c.args.target.now tells)) (c.payload_start-limit.ensures.start b is) in
+    turn_over b c.args.header is c.outline_of-outline.result.places c.outline_of-outline.ensures.laid c.args.payload _ t _ (g.T.Device.bytes c.write_over.new.target) c.payload_start-limit.result front
     refl (c.in_ok-judge_other.ensures.unchanged.same tells) (c.write_over.ensures.order source tells)
 
 pub returns-in_err-write_over-clause-order : goal.returns-in_err-write_over-clause-order
@@ -197,10 +197,10 @@ returns-in_err-write_over-clause-order g c = λ source tells.
     let b : List ℕ = g.B.Device.bytes c.args.backup.now in
     let t : List ℕ = g.T.Device.bytes c.args.target.now in
     let is = (c.requires.of source).0 in
-    let front : IsFrontAs b c.args.payload (length t) (choice_of c.args.header) c.data_start-limit.result =
-    subst (λ (n : ℕ). IsFrontAs b c.args.payload n (choice_of c.args.header) c.data_start-limit.result)
-    (c.len-2.ensures ∙ sym (g.met.T.Device.sized c.args.target.now tells)) (c.data_start-limit.ensures.start b is) in
-    turn_over b c.args.header is c.outline_of-outline.result.places c.outline_of-outline.ensures.laid c.args.payload _ t _ (g.T.Device.bytes c.write_over.new.target) c.data_start-limit.result front
+    let front : IsFrontAs b c.args.payload (length t) (choice_of c.args.header) c.payload_start-limit.result =
+    subst (λ (n : ℕ). IsFrontAs b c.args.payload n (choice_of c.args.header) c.payload_start-limit.result)
+    (c.len-2.ensures ∙ sym (g.met.T.Device.sized c.args.target.now tells)) (c.payload_start-limit.ensures.start b is) in
+    turn_over b c.args.header is c.outline_of-outline.result.places c.outline_of-outline.ensures.laid c.args.payload _ t _ (g.T.Device.bytes c.write_over.new.target) c.payload_start-limit.result front
     refl (c.in_ok-judge_other.ensures.unchanged.same tells) (c.write_over.ensures.order source tells)
 
 pub returns-clause-well_formed : goal.returns-clause-well_formed
@@ -208,12 +208,12 @@ returns-clause-well_formed g c = λ source tells.
     let b : List ℕ = g.B.Device.bytes c.args.backup.now in
     let t : List ℕ = g.T.Device.bytes c.args.target.now in
     let is = (c.requires.of source).0 in
-    let front : IsFrontAs b c.args.payload (length t) (choice_of c.args.header) c.data_start-limit.result =
-    subst (λ (n : ℕ). IsFrontAs b c.args.payload n (choice_of c.args.header) c.data_start-limit.result)
-    (c.len-2.ensures ∙ sym (g.met.T.Device.sized c.args.target.now tells)) (c.data_start-limit.ensures.start b is) in
+    let front : IsFrontAs b c.args.payload (length t) (choice_of c.args.header) c.payload_start-limit.result =
+    subst (λ (n : ℕ). IsFrontAs b c.args.payload n (choice_of c.args.header) c.payload_start-limit.result)
+    (c.len-2.ensures ∙ sym (g.met.T.Device.sized c.args.target.now tells)) (c.payload_start-limit.ensures.start b is) in
     let w : List ℕ = g.T.Device.bytes c.write_over.new.target in
     let long : c.len.result ≡ length w = c.len.ensures ∙ sym c.in_ok-judge_other.ensures.unchanged.size ∙ sym c.write_over.ensures.size ∙ sym (g.met.T.Device.sized c.write_over.new.target tells) in
-    let over = written_over b c.args.payload c.args.header is c.outline_of-outline.result.places c.outline_of-outline.ensures.laid ((c.requires.of source).1) _ t _ w c.len.result c.data_start-limit.result front refl
+    let over = written_over b c.args.payload c.args.header is c.outline_of-outline.result.places c.outline_of-outline.ensures.laid ((c.requires.of source).1) _ t _ w c.len.result c.payload_start-limit.result front refl
     (c.in_ok-judge_other.ensures.unchanged.same tells) long (c.in_ok-judge_fit.ensures.formed b is) (c.write_over.ensures.rest tells) (c.in_ok-write_over.ensures.gone tells) (c.in_ok-write_over.ensures.copied source tells) (c.in_ok-write_over.ensures.lead tells) in
     well_formed b c.args.payload c.args.header c.outline_of-outline.result.places t w over
 
@@ -222,11 +222,11 @@ returns-clause-answers g c = λ source tells.
     let b : List ℕ = g.B.Device.bytes c.args.backup.now in
     let t : List ℕ = g.T.Device.bytes c.args.target.now in
     let is = (c.requires.of source).0 in
-    let front : IsFrontAs b c.args.payload (length t) (choice_of c.args.header) c.data_start-limit.result =
-    subst (λ (n : ℕ). IsFrontAs b c.args.payload n (choice_of c.args.header) c.data_start-limit.result)
-    (c.len-2.ensures ∙ sym (g.met.T.Device.sized c.args.target.now tells)) (c.data_start-limit.ensures.start b is) in
+    let front : IsFrontAs b c.args.payload (length t) (choice_of c.args.header) c.payload_start-limit.result =
+    subst (λ (n : ℕ). IsFrontAs b c.args.payload n (choice_of c.args.header) c.payload_start-limit.result)
+    (c.len-2.ensures ∙ sym (g.met.T.Device.sized c.args.target.now tells)) (c.payload_start-limit.ensures.start b is) in
     let w : List ℕ = g.T.Device.bytes c.write_over.new.target in
     let long : c.len.result ≡ length w = c.len.ensures ∙ sym c.in_ok-judge_other.ensures.unchanged.size ∙ sym c.write_over.ensures.size ∙ sym (g.met.T.Device.sized c.write_over.new.target tells) in
-    let over = written_over b c.args.payload c.args.header is c.outline_of-outline.result.places c.outline_of-outline.ensures.laid ((c.requires.of source).1) _ t _ w c.len.result c.data_start-limit.result front refl
+    let over = written_over b c.args.payload c.args.header is c.outline_of-outline.result.places c.outline_of-outline.ensures.laid ((c.requires.of source).1) _ t _ w c.len.result c.payload_start-limit.result front refl
     (c.in_ok-judge_other.ensures.unchanged.same tells) long (c.in_ok-judge_fit.ensures.formed b is) (c.write_over.ensures.rest tells) (c.in_ok-write_over.ensures.gone tells) (c.in_ok-write_over.ensures.copied source tells) (c.in_ok-write_over.ensures.lead tells) in
     answers_alike b c.args.payload c.args.header c.outline_of-outline.result.places t w over

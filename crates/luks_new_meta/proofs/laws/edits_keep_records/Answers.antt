@@ -1,4 +1,5 @@
 use Rattle.luks_new_meta.proofs.RecordFacts.{number_added, numbers_removed, numbers_same, records_kept}
+use Rattle.luks_new_meta.proofs.ToldFacts.{priority_told, unnamed_told}
 use Rattle.luks_new_meta.proofs.laws.edits_keep_records.Goals as goal
 
 pub returns-clause-rest : goal.returns-clause-rest
@@ -12,3 +13,9 @@ returns-clause-added c = number_added
 
 pub returns-clause-changed : goal.returns-clause-changed
 returns-clause-changed c = numbers_same
+
+pub returns-clause-amended : goal.returns-clause-amended
+returns-clause-amended c = unnamed_told
+
+pub returns-clause-prior : goal.returns-clause-prior
+returns-clause-prior c = priority_told

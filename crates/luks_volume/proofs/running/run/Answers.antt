@@ -1,7 +1,10 @@
 -- The list is run step by step.
-use Rattle.std.proofs.Common.{length, arith, refl, ◌∙◌}
+use Rattle.std.proofs.Common.{length, arith, refl, subst, ◌∙◌}
+use Rattle.luks_edit.specs.declared.edit.Step.{Step}
 use Rattle.luks_edit.specs.Ran.{IsFailure}
+use Rattle.luks_reading.specs.Checked.{WellFormed}
 use Rattle.luks_volume.specs.Edits.{Replies}
+use Rattle.luks_volume.specs.Outcome.{Spares}
 use Rattle.luks_volume.proofs.CountFacts.{counts_failure, failure_counted, no_failure_counted, replied_more, replied_none}
 use Rattle.luks_volume.proofs.RunFacts.{kept_by_run, run_ends, run_more, run_starts, run_stops}
 use Rattle.luks_volume.proofs.StoppedFacts.{so_far_more, so_far_none, spared_by_run}
@@ -23,6 +26,8 @@ loop-step-init g c = record {
 pub loop-step-preserved : goal.loop-step-preserved
 loop-step-preserved g c =
     let r = c.apply-reply.result in
+    let replied = λ (tells : g.D.Device.tells). subst (λ (s : Step). Replies c.args.payload (g.D.Device.bytes c.loop-step.device) s.edit s.random.now r (g.D.Device.bytes c.apply-reply.new.device))
+        c.step-item.is (c.apply-reply.ensures.applied tells).replies in
     let fine : IsFailure r → ⊥ = λ failed. let no = c.if-is_failure.ensures.1 failed in cc in
     let now = c.loop-step.invariant in
     record {
@@ -34,10 +39,10 @@ loop-step-preserved g c =
       replied = rw c.push_reserved.ensures.items (replied_more c.loop-step.step-index c.args.replies.now.items c.loop-step.replies.items r fine now.replied);
       run = λ tells. rw c.push_reserved.ensures.items
           (run_more (Replies c.args.payload) (g.D.Device.bytes c.args.device.now) (g.D.Device.bytes c.loop-step.device) (g.D.Device.bytes c.apply-reply.new.device)
-          c.args.steps.now c.loop-step.step-index c.args.replies.now.items c.loop-step.replies.items _ r c.loop-step-test.true (c.apply-reply.ensures.applied tells).replies fine (now.run tells));
+          c.args.steps.now c.loop-step.step-index c.args.replies.now.items c.loop-step.replies.items c.step-item.result r c.loop-step-test.true (replied tells) fine (now.run tells));
       so_far = λ tells. rw c.push_reserved.ensures.items
           (so_far_more (Replies c.args.payload) (g.D.Device.bytes c.args.device.now) (g.D.Device.bytes c.loop-step.device) (g.D.Device.bytes c.apply-reply.new.device)
-          c.args.steps.now c.loop-step.step-index c.args.replies.now.items c.loop-step.replies.items _ r c.loop-step-test.true (c.apply-reply.ensures.applied tells).replies fine (now.so_far tells));
+          c.args.steps.now c.loop-step.step-index c.args.replies.now.items c.loop-step.replies.items c.step-item.result r c.loop-step-test.true (replied tells) fine (now.so_far tells));
     }
 
 pub returns-then-is_failure-clause-count : goal.returns-then-is_failure-clause-count
@@ -53,10 +58,12 @@ returns-then-is_failure-clause-count g c =
 pub returns-then-is_failure-clause-ran : goal.returns-then-is_failure-clause-ran
 returns-then-is_failure-clause-ran g c = λ tells.
     let r = c.apply-reply.result in
+    let replied = subst (λ (s : Step). Replies c.args.payload (g.D.Device.bytes c.loop-step.device) s.edit s.random.now r (g.D.Device.bytes c.apply-reply.new.device))
+        c.step-item.is (c.apply-reply.ensures.applied tells).replies in
     let failed : IsFailure r = c.if-is_failure.ensures.0 refl in
     rw c.push_reserved.ensures.items
     (run_stops (Replies c.args.payload) (g.D.Device.bytes c.args.device.now) (g.D.Device.bytes c.loop-step.device) (g.D.Device.bytes c.apply-reply.new.device)
-    c.args.steps.now c.loop-step.step-index c.args.replies.now.items c.loop-step.replies.items _ r c.loop-step-test.true (c.apply-reply.ensures.applied tells).replies failed
+    c.args.steps.now c.loop-step.step-index c.args.replies.now.items c.loop-step.replies.items c.step-item.result r c.loop-step-test.true replied failed
     (c.loop-step.invariant.run tells))
 
 pub returns-then-is_failure-clause-keeps : goal.returns-then-is_failure-clause-keeps
@@ -67,11 +74,14 @@ returns-then-is_failure-clause-keeps g c = λ tells well.
 pub returns-then-is_failure-clause-spared : goal.returns-then-is_failure-clause-spared
 returns-then-is_failure-clause-spared g c = λ tells well apart.
     let r = c.apply-reply.result in
+    let spared = λ (met : WellFormed (g.D.Device.bytes c.loop-step.device) c.args.payload) (failed : IsFailure r).
+        subst (λ (s : Step). Spares (g.D.Device.bytes c.loop-step.device) c.args.payload s.edit s.random.now (g.D.Device.bytes c.apply-reply.new.device))
+        c.step-item.is ((c.apply-reply.ensures.applied tells).spared met failed) in
     let failed : IsFailure r = c.if-is_failure.ensures.0 refl in
     rw c.push_reserved.ensures.items
     (spared_by_run c.args.payload (g.D.Device.bytes c.args.device.now) (g.D.Device.bytes c.loop-step.device)
-    (g.D.Device.bytes c.apply-reply.new.device) c.args.steps.now c.loop-step.step-index c.args.replies.now.items c.loop-step.replies.items _ r c.loop-step-test.true
-    well failed (λ met. (c.apply-reply.ensures.applied tells).spared met failed) (c.loop-step.invariant.so_far tells))
+    (g.D.Device.bytes c.apply-reply.new.device) c.args.steps.now c.loop-step.step-index c.args.replies.now.items c.loop-step.replies.items c.step-item.result r c.loop-step-test.true
+    well failed (λ met. spared met failed) (c.loop-step.invariant.so_far tells))
 
 pub returns-clause-ran : goal.returns-clause-ran
 returns-clause-ran g c = λ tells.

@@ -5,21 +5,21 @@ use Rattle.luks_writing.proofs.areas.copy_area.Goals as goal
 
 pub returns-in_err-copy_range-clause-rest : goal.returns-in_err-copy_range-clause-rest
 returns-in_err-copy_range-clause-rest g c = λ tells.
-    touches-settled (c.requires.settled tells) (copy_touches c.args.to.start c.args.from.len c.args.to.len c.requires.large (c.copy_range.ensures.touches tells))
+    touches-settled (c.requires.target.settled tells) (copy_touches c.args.to.start c.args.from.len c.args.to.len c.requires.large (c.copy_range.ensures.touches tells))
 
 pub returns-in_err-fill-clause-rest : goal.returns-in_err-fill-clause-rest
 returns-in_err-fill-clause-rest g c = λ tells.
-    touches-settled (c.requires.settled tells)
+    touches-settled (c.requires.target.settled tells)
     (fill_touches c.args.to.start c.args.from.len c.args.to.len c.requires.large (c.copy_range.ensures.touches tells) (c.fill.ensures.touches tells))
 
 pub returns-in_err-flush-clause-rest : goal.returns-in_err-flush-clause-rest
 returns-in_err-flush-clause-rest g c = λ tells.
-    touches-settled (c.requires.settled tells)
+    touches-settled (c.requires.target.settled tells)
     (all_touches c.args.to.start c.args.from.len c.args.to.len c.requires.large (c.copy_range.ensures.touches tells) (c.fill.ensures.touches tells) (c.flush.ensures.touches tells))
 
 pub returns-clause-rest : goal.returns-clause-rest
 returns-clause-rest g c = λ tells.
-    touches-settled (c.requires.settled tells)
+    touches-settled (c.requires.target.settled tells)
     (all_touches c.args.to.start c.args.from.len c.args.to.len c.requires.large (c.copy_range.ensures.touches tells) (c.fill.ensures.touches tells) (c.flush.ensures.touches tells))
 
 pub returns-clause-copied : goal.returns-clause-copied

@@ -25,10 +25,10 @@ returns-in_err-copy_piece-clause-touches g c = λ tells.
 pub loop-done-preserved : goal.loop-done-preserved
 loop-done-preserved g c = record {
   below = omega arith;
-  kept = unchanged-then c.loop-done.invariant.kept c.in_ok-copy_piece.ensures.kept;
-  size = c.in_ok-copy_piece.ensures.size ∙ c.loop-done.invariant.size;
-  source_count = c.in_ok-copy_piece.ensures.count.0 ∙ c.loop-done.invariant.source_count;
-  count = c.in_ok-copy_piece.ensures.count.1 ∙ c.loop-done.invariant.count;
+  kept = unchanged-then c.loop-done.invariant.kept c.in_ok-copy_piece.ensures.copies.kept;
+  size = c.in_ok-copy_piece.ensures.copies.size ∙ c.loop-done.invariant.size;
+  source_count = c.in_ok-copy_piece.ensures.copies.count.0 ∙ c.loop-done.invariant.source_count;
+  count = c.in_ok-copy_piece.ensures.copies.count.1 ∙ c.loop-done.invariant.count;
   copied = λ source tells.
       let u : List ℕ = g.S.Device.bytes c.args.source.now in
       let v : List ℕ = g.T.Device.bytes c.args.target.now in

@@ -6,21 +6,21 @@ use Rattle.luks_writing.proofs.header_copy.write_both.Goals as goal
 
 pub returns-in_err-write_at-clause-rest : goal.returns-in_err-write_at-clause-rest
 returns-in_err-write_at-clause-rest g c tells =
-    touches-settled (c.requires.settled tells) (copy_begun c.args.at (length c.args.head.now) (length c.args.json.now) c.requires.head (c.write_at.ensures.touches tells))
+    touches-settled (c.requires.device.settled tells) (copy_begun c.args.at (length c.args.head.now) (length c.args.json.now) c.requires.head (c.write_at.ensures.touches tells))
 
 pub returns-in_err-write_at-2-clause-rest : goal.returns-in_err-write_at-2-clause-rest
 returns-in_err-write_at-2-clause-rest g c tells =
-    touches-settled (c.requires.settled tells)
+    touches-settled (c.requires.device.settled tells)
     (copy_rest c.args.at (length c.args.head.now) (length c.args.json.now) c.requires.head (c.write_at.ensures.touches tells) (c.write_at-2.ensures.touches tells))
 
 pub returns-in_err-flush-clause-rest : goal.returns-in_err-flush-clause-rest
 returns-in_err-flush-clause-rest g c tells =
-    touches-settled (c.requires.settled tells)
+    touches-settled (c.requires.device.settled tells)
     (touches-flush (copy_rest c.args.at (length c.args.head.now) (length c.args.json.now) c.requires.head (c.write_at.ensures.touches tells) (c.write_at-2.ensures.touches tells)) (c.flush.ensures.touches tells))
 
 pub returns-clause-rest : goal.returns-clause-rest
 returns-clause-rest g c tells =
-    touches-settled (c.requires.settled tells)
+    touches-settled (c.requires.device.settled tells)
     (touches-flush (copy_rest c.args.at (length c.args.head.now) (length c.args.json.now) c.requires.head (c.write_at.ensures.touches tells) (c.write_at-2.ensures.touches tells)) (c.flush.ensures.touches tells))
 
 pub returns-clause-head : goal.returns-clause-head

@@ -10,7 +10,7 @@ use Rattle.luks_edit_commands.proofs.edit.seen.look_at_volume.Goals as goal
 pub returns-in_err-header-clause-unseen : goal.returns-in_err-header-clause-unseen
 returns-in_err-header-clause-unseen g c = λ tells.
     let p = err_from_is_err_and c.from_residual.result c.from_residual.ensures.1 in
-    rw (p.1, p.2) (header_unseen c.args.editing.now c.args.old c.args.new _ _ (c.in_err-header.ensures.untold tells c.args.editing.now.payload))
+    rw (p.1, p.2) (header_unseen c.args.editing.now c.args.old c.args.new c.args.token c.requires.token _ _ (c.in_err-header.ensures.untold tells c.args.editing.now.payload))
 
 pub returns-in_err-header-clause-barred : goal.returns-in_err-header-clause-barred
 returns-in_err-header-clause-barred g c = λ tells.
