@@ -69,9 +69,15 @@ fn runs(alloc: Global, image: Vec<u8>, rows: &[Row], sums: &[&str]) -> Result<bo
 fn whole_lists(rt: HostRuntime) -> Result<(), Fail> {
     let alloc = rt.alloc();
     let old = small1(alloc, HashName::Sha256)?;
-    assert!(rt; runs(alloc, old, &luks1::table::LIST, &luks1::table::SHA256)?, "LUKS1");
+    assert!(rt;
+        runs(alloc, old, &luks1::table::LIST, &luks1::table::SHA256)?,
+        "LUKS1"
+    );
     let new = small2(alloc, HashName::Sha256)?;
-    assert!(rt; runs(alloc, new, &luks2::table::LIST, &luks2::table::SHA256)?, "LUKS2");
+    assert!(rt;
+        runs(alloc, new, &luks2::table::LIST, &luks2::table::SHA256)?,
+        "LUKS2"
+    );
     Ok(())
 }
 

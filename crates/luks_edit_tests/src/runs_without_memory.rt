@@ -1,9 +1,8 @@
 //! Lists of edits with refused memory.
 
-use crate::luks2;
-use crate::luks1;
 use crate::rows::Row;
 use crate::runs::{Reply, random_of, steps_of};
+use crate::{luks1, luks2};
 use luks_area::MemDevice;
 use luks_edit::{Edit, EditFault, Step};
 use luks_kdf::HashName;
@@ -92,7 +91,10 @@ fn takes_memory_once(alloc: Global, rows: &[Row], sums: &[&str]) -> Result<bool,
 
 #[test]
 fn little_memory_for_luks1(rt: HostRuntime) -> Result<(), Fail> {
-    assert!(rt; takes_memory_once(rt.alloc(), &luks1::table::LIST, &luks1::table::SHA256)?, "the end");
+    assert!(rt;
+        takes_memory_once(rt.alloc(), &luks1::table::LIST, &luks1::table::SHA256)?,
+        "the end"
+    );
     Ok(())
 }
 

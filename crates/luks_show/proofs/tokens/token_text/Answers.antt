@@ -14,11 +14,16 @@ returns c =
     let written = string_bytes c.in_ok-written.written in
     let text = string_bytes c.in_ok-unsteering.field-0 in
     let same : c.as_str.result.now ≡ written = search rules in
-    let made : text ≡ unsteering written = c.in_ok-unsteering.ensures ∙ ap unsteering same in
-    (token, (there, record {
-      written = written;
-      compact = search rules;
-      back = search rules;
-      escaped = made;
-      plain = unsteering_steerless written text (IsUtf8-string_bytes c.in_ok-unsteering.field-0) made;
-    }))
+    let made : text ≡ unsteering written = c.in_ok-unsteering.ensures ∙ ap unsteering same in (
+      token,
+      (
+        there,
+        record {
+          written = written;
+          compact = search rules;
+          back = search rules;
+          escaped = made;
+          plain = unsteering_steerless written text (IsUtf8-string_bytes c.in_ok-unsteering.field-0) made;
+        },
+      ),
+    )

@@ -27,7 +27,7 @@ pub loop-step-preserved : goal.loop-step-preserved
 loop-step-preserved g c =
     let r = c.apply-reply.result in
     let replied = λ (tells : g.D.Device.tells). subst (λ (s : Step). Replies c.args.payload (g.D.Device.bytes c.loop-step.device) s.edit s.random.now r (g.D.Device.bytes c.apply-reply.new.device))
-        c.step-item.is (c.apply-reply.ensures.applied tells).replies in
+    c.step-item.is (c.apply-reply.ensures.applied tells).replies in
     let fine : IsFailure r → ⊥ = λ failed. let no = c.if-is_failure.ensures.1 failed in cc in
     let now = c.loop-step.invariant in
     record {
@@ -59,7 +59,7 @@ pub returns-then-is_failure-clause-ran : goal.returns-then-is_failure-clause-ran
 returns-then-is_failure-clause-ran g c = λ tells.
     let r = c.apply-reply.result in
     let replied = subst (λ (s : Step). Replies c.args.payload (g.D.Device.bytes c.loop-step.device) s.edit s.random.now r (g.D.Device.bytes c.apply-reply.new.device))
-        c.step-item.is (c.apply-reply.ensures.applied tells).replies in
+    c.step-item.is (c.apply-reply.ensures.applied tells).replies in
     let failed : IsFailure r = c.if-is_failure.ensures.0 refl in
     rw c.push_reserved.ensures.items
     (run_stops (Replies c.args.payload) (g.D.Device.bytes c.args.device.now) (g.D.Device.bytes c.loop-step.device) (g.D.Device.bytes c.apply-reply.new.device)
@@ -75,8 +75,8 @@ pub returns-then-is_failure-clause-spared : goal.returns-then-is_failure-clause-
 returns-then-is_failure-clause-spared g c = λ tells well apart.
     let r = c.apply-reply.result in
     let spared = λ (met : WellFormed (g.D.Device.bytes c.loop-step.device) c.args.payload) (failed : IsFailure r).
-        subst (λ (s : Step). Spares (g.D.Device.bytes c.loop-step.device) c.args.payload s.edit s.random.now (g.D.Device.bytes c.apply-reply.new.device))
-        c.step-item.is ((c.apply-reply.ensures.applied tells).spared met failed) in
+    subst (λ (s : Step). Spares (g.D.Device.bytes c.loop-step.device) c.args.payload s.edit s.random.now (g.D.Device.bytes c.apply-reply.new.device))
+    c.step-item.is ((c.apply-reply.ensures.applied tells).spared met failed) in
     let failed : IsFailure r = c.if-is_failure.ensures.0 refl in
     rw c.push_reserved.ensures.items
     (spared_by_run c.args.payload (g.D.Device.bytes c.args.device.now) (g.D.Device.bytes c.loop-step.device)
