@@ -17,7 +17,7 @@ use Rattle.luks_edit.specs.EditFaults.{edit_key, edit_place, edit_row}
 
 -- the row has one place
 abbrev pub is_plain : ℕ → Bool
-is_plain k = if k == 0 then false else (if k == 7 then false else (if k == 19 then false else true))
+is_plain k = if k == 0 then false else (if k == 7 then false else (if k == 20 then false else true))
 
 -- the fault of a row with one place
 abbrev fault_at : ℕ → EditFault
@@ -39,18 +39,19 @@ fault_at n =
     else (if n == 16 then fault.TokenTaken
     else (if n == 17 then fault.NoFreeToken
     else (if n == 18 then fault.UnreadableToken
-    else (if n == 20 then fault.SeqExhausted
-    else (if n == 21 then fault.MetadataFull
-    else (if n == 22 then fault.RandomLength
-    else (if n == 23 then fault.Memory
-    else fault.Device))))))))))))))))))))
+    else (if n == 19 then fault.BadUuid
+    else (if n == 21 then fault.SeqExhausted
+    else (if n == 22 then fault.MetadataFull
+    else (if n == 23 then fault.RandomLength
+    else (if n == 24 then fault.Memory
+    else fault.Device)))))))))))))))))))))
 
 pub record IsOnly (f : EditFault) : Type 0 where
   pub plain : is_plain (edit_row f) ≡ true
   pub is : fault_at (edit_row f) ≡ f
   pub place : edit_place f ≡ []
   pub low : 1 ≤ edit_row f
-  pub high : edit_row f ≤ 24
+  pub high : edit_row f ≤ 25
 
 abbrev pub View : EditFault → Type 0
 View f = ((c : CheckFault) × (f ≡ fault.NotAccepted c)) ⊎ (((s : SlotFault) × (f ≡ fault.Slot s)) ⊎ (((m : MetaFault) × (f ≡ fault.BadToken m)) ⊎ IsOnly f))
@@ -73,7 +74,7 @@ only_of f plain = elim (view f) [
   | inr other ↦ (elim other [
     | inl s ↦ absurd (not_plain 7 f (ap edit_row s.1) refl plain)
     | inr rest ↦ (elim rest [
-      | inl m ↦ absurd (not_plain 19 f (ap edit_row m.1) refl plain)
+      | inl m ↦ absurd (not_plain 20 f (ap edit_row m.1) refl plain)
       | inr only ↦ only
     ])
   ])
@@ -83,13 +84,13 @@ pub only_one : (f g : EditFault) → is_plain (edit_row f) ≡ true → edit_row
 only_one f g plain same = sym (only_of g (ap is_plain same ∙ plain)).is ∙ ap fault_at same ∙ (only_of f plain).is
 
 -- each row is one of the table
-pub in_table : (f : EditFault) → edit_row f < 25
+pub in_table : (f : EditFault) → edit_row f < 26
 in_table f = elim (view f) [
   | inl c ↦ (let row : edit_row f ≡ 0 = ap edit_row c.1 in omega (arith, row))
   | inr other ↦ (elim other [
     | inl s ↦ (let row : edit_row f ≡ 7 = ap edit_row s.1 in omega (arith, row))
     | inr rest ↦ (elim rest [
-      | inl m ↦ (let row : edit_row f ≡ 19 = ap edit_row m.1 in omega (arith, row))
+      | inl m ↦ (let row : edit_row f ≡ 20 = ap edit_row m.1 in omega (arith, row))
       | inr only ↦ (let high = only.high in omega (arith, high))
     ])
   ])
@@ -102,21 +103,21 @@ plan_of g row = elim (view g) [
   | inr other ↦ (elim other [
     | inl s ↦ s
     | inr rest ↦ (elim rest [
-      | inl m ↦ (let token : edit_row g ≡ 19 = ap edit_row m.1 in absurd (omega (arith, row, token)))
+      | inl m ↦ (let token : edit_row g ≡ 20 = ap edit_row m.1 in absurd (omega (arith, row, token)))
       | inr only ↦ absurd (not_plain 7 g row refl only.plain)
     ])
   ])
 ]
 
 -- a fault of the row of the metadata with a token
-token_of : (g : EditFault) → edit_row g ≡ 19 → (m : MetaFault) × (g ≡ fault.BadToken m)
+token_of : (g : EditFault) → edit_row g ≡ 20 → (m : MetaFault) × (g ≡ fault.BadToken m)
 token_of g row = elim (view g) [
   | inl c ↦ (let first : edit_row g ≡ 0 = ap edit_row c.1 in absurd (omega (arith, row, first)))
   | inr other ↦ (elim other [
     | inl s ↦ (let plan : edit_row g ≡ 7 = ap edit_row s.1 in absurd (omega (arith, row, plan)))
     | inr rest ↦ (elim rest [
       | inl m ↦ m
-      | inr only ↦ absurd (not_plain 19 g row refl only.plain)
+      | inr only ↦ absurd (not_plain 20 g row refl only.plain)
     ])
   ])
 ]
@@ -135,7 +136,7 @@ module _ (faults : EditFault → Type 0) where
   passed_from k each = record { none = λ g under bad. (let over : k ≤ edit_row g = each g bad in omega (arith, under, over)) }
 
   -- there is none at all
-  pub none_at_all : Passed faults 25 → (f : EditFault) → faults f → ⊥
+  pub none_at_all : Passed faults 26 → (f : EditFault) → faults f → ⊥
   none_at_all passed f bad = passed.none f (in_table f) bad
 
   -- a fault of the row `k`, and none before it
@@ -156,7 +157,7 @@ module _ (faults : EditFault → Type 0) where
         | inr other ↦ (elim other [
           | inl s ↦ (let row : edit_row g ≡ 7 = ap edit_row s.1 in omega (arith, row, under))
           | inr rest ↦ (elim rest [
-            | inl m ↦ (let row : edit_row g ≡ 19 = ap edit_row m.1 in omega (arith, row, under))
+            | inl m ↦ (let row : edit_row g ≡ 20 = ap edit_row m.1 in omega (arith, row, under))
             | inr only ↦ (let low = only.low in omega (arith, low, under))
           ])
         ])
@@ -165,18 +166,18 @@ module _ (faults : EditFault → Type 0) where
   pub after_plan : Passed faults 7 → ((s : SlotFault) → faults (fault.Slot s) → ⊥) → Passed faults 8
   after_plan passed not = record { none = λ g under bad. (let s = plan_of g (of_row 7 g passed under bad) in not s.0 (subst faults s.1 bad)) }
 
-  pub after_token : Passed faults 19 → ((m : MetaFault) → faults (fault.BadToken m) → ⊥) → Passed faults 20
-  after_token passed not = record { none = λ g under bad. (let m = token_of g (of_row 19 g passed under bad) in not m.0 (subst faults m.1 bad)) }
+  pub after_token : Passed faults 20 → ((m : MetaFault) → faults (fault.BadToken m) → ⊥) → Passed faults 21
+  after_token passed not = record { none = λ g under bad. (let m = token_of g (of_row 20 g passed under bad) in not m.0 (subst faults m.1 bad)) }
 
-  -- the rows of the token, from `NoSuchToken` on
+  -- the rows of the token's number and text, and of the uuid, from `NoSuchToken` on
   pub past_token_number : Passed faults 15 → (faults fault.NoSuchToken → ⊥) → (faults fault.TokenTaken → ⊥) → (faults fault.NoFreeToken → ⊥)
-      → (faults fault.UnreadableToken → ⊥) → Passed faults 19
-  past_token_number passed there untaken free read =
-      next fault.UnreadableToken refl (next fault.NoFreeToken refl (next fault.TokenTaken refl (next fault.NoSuchToken refl passed there) untaken) free) read
+      → (faults fault.UnreadableToken → ⊥) → (faults fault.BadUuid → ⊥) → Passed faults 20
+  past_token_number passed there untaken free read good =
+      next fault.BadUuid refl (next fault.UnreadableToken refl (next fault.NoFreeToken refl (next fault.TokenTaken refl (next fault.NoSuchToken refl passed there) untaken) free) read) good
 
   pub past_tokens : Passed faults 15 → (faults fault.NoSuchToken → ⊥) → (faults fault.TokenTaken → ⊥) → (faults fault.NoFreeToken → ⊥)
-      → (faults fault.UnreadableToken → ⊥) → ((m : MetaFault) → faults (fault.BadToken m) → ⊥) → Passed faults 20
-  past_tokens passed there untaken free read good = after_token (past_token_number passed there untaken free read) good
+      → (faults fault.UnreadableToken → ⊥) → (faults fault.BadUuid → ⊥) → ((m : MetaFault) → faults (fault.BadToken m) → ⊥) → Passed faults 21
+  past_tokens passed there untaken free read good sound = after_token (past_token_number passed there untaken free read good) sound
 
   -- ---- the first fault
 
@@ -198,7 +199,7 @@ module _ (faults : EditFault → Type 0) where
         | inr other ↦ (elim other [
           | inl s ↦ (let row : edit_row g ≡ 7 = ap edit_row s.1 in (omega (arith, row), λ same. absurd (omega (arith, same, row))))
           | inr rest ↦ (elim rest [
-            | inl m ↦ (let row : edit_row g ≡ 19 = ap edit_row m.1 in (omega (arith, row), λ same. absurd (omega (arith, same, row))))
+            | inl m ↦ (let row : edit_row g ≡ 20 = ap edit_row m.1 in (omega (arith, row), λ same. absurd (omega (arith, same, row))))
             | inr only ↦ (let low = only.low in (omega (arith, low), λ same. absurd (omega (arith, same, low))))
           ])
         ])
@@ -213,11 +214,11 @@ module _ (faults : EditFault → Type 0) where
       place g bad same = let s = plan_of g (sym same) in rw s.1 (least s.0 (subst faults s.1 bad), λ _. tt)
 
   -- that of the metadata with a token is, where it is the first of them
-  pub first_of_token : (f : MetaFault) → Passed faults 19 → faults (fault.BadToken f) → ((g : MetaFault) → faults (fault.BadToken g) → NotAfter (meta_key f) (meta_key g))
+  pub first_of_token : (f : MetaFault) → Passed faults 20 → faults (fault.BadToken f) → ((g : MetaFault) → faults (fault.BadToken g) → NotAfter (meta_key f) (meta_key g))
       → IsLeast edit_key faults (fault.BadToken f)
-  first_of_token f passed here least = (here, λ g bad. (not_before 19 g passed bad, λ same. place g bad same))
+  first_of_token f passed here least = (here, λ g bad. (not_before 20 g passed bad, λ same. place g bad same))
     where
-      place : (g : EditFault) → faults g → 19 ≡ edit_row g → NotAfter (meta_key f) (edit_place g)
+      place : (g : EditFault) → faults g → 20 ≡ edit_row g → NotAfter (meta_key f) (edit_place g)
       place g bad same = let m = token_of g (sym same) in rw m.1 (least m.0 (subst faults m.1 bad))
 
   -- ---- the rows of what gives the key, from `Locked` to that of a keyslot's plan

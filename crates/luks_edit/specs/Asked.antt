@@ -18,13 +18,14 @@ use Rattle.luks_edit.specs.declared.deed.Removed.{Removed}
 use Rattle.luks_edit.specs.declared.deed.Rewritten.{Rewritten}
 use Rattle.luks_edit.specs.declared.deed.Sealed.{Sealed}
 use Rattle.luks_edit.specs.declared.edit.Edit.{Edit}
-use Rattle.luks_edit.specs.declared.edit.Edit.TheVariants.{Add, AddByKey, Change as ChangeKey, Remove, Repair, Label, Amend}
+use Rattle.luks_edit.specs.declared.edit.Edit.TheVariants.{Add, AddByKey, Change as ChangeKey, Remove, Repair, Label, Uuid, Amend}
 use Rattle.luks_edit.specs.declared.edit.Opener.{Opener}
 use Rattle.luks_edit.specs.declared.edit.Opener.TheVariants as opener
 use Rattle.luks_edit.specs.declared.edit.Secret.{Secret}
 use Rattle.luks_edit.specs.declared.edit.SecretKind.{SecretKind}
 use Rattle.luks_edit.specs.declared.edit.SecretKind.TheVariants as kind
 use Rattle.luks_edit.specs.declared.edit.VolumeKey.{VolumeKey}
+use Rattle.luks_edit.specs.declared.new_uuid.NewUuid.{NewUuid}
 
 -- ---- what an edit does: it is read here, and all else is said of its parts
 
@@ -57,9 +58,10 @@ deed_of (ChangeKey slot old new iterations chosen) =
     deed.Seal (record { place = Opened slot old; passphrase = new; derivation = record { iterations = iterations; chosen = chosen } })
 deed_of (Remove slot by_ secret) =
     deed.Remove (record { slot = slot; by_ = by_; secret = secret })
-deed_of Repair = deed.Rewrite (record { label = None; subsystem = None; change = None })
-deed_of (Label text subsystem) = deed.Rewrite (record { label = Some text; subsystem = subsystem; change = None })
-deed_of (Amend change) = deed.Rewrite (record { label = None; subsystem = None; change = Some change })
+deed_of Repair = deed.Rewrite (record { uuid = None; label = None; subsystem = None; change = None })
+deed_of (Label text subsystem) = deed.Rewrite (record { uuid = None; label = Some text; subsystem = subsystem; change = None })
+deed_of (Uuid uuid) = deed.Rewrite (record { uuid = Some uuid; label = None; subsystem = None; change = None })
+deed_of (Amend change) = deed.Rewrite (record { uuid = None; label = None; subsystem = None; change = Some change })
 
 -- ---- by what is done
 
@@ -116,7 +118,12 @@ rewritten_in (deed.Seal s) = None
 rewritten_in (deed.Remove r) = None
 rewritten_in (deed.Rewrite r) = Some r
 
--- the label and the subsystem that it sets
+-- the uuid, the label and the subsystem that it sets
+abbrev pub uuid_in : Deed → Option NewUuid
+uuid_in (deed.Seal s) = None
+uuid_in (deed.Remove r) = None
+uuid_in (deed.Rewrite r) = r.uuid
+
 abbrev pub label_in : Deed → Option (Bor (List ℕ))
 label_in (deed.Seal s) = None
 label_in (deed.Remove r) = None
@@ -145,9 +152,9 @@ abbrev pub AmendsSlot : Option Change → ℕ → Type 0
 AmendsSlot None n = ⊥
 AmendsSlot (Some c) n = MatchChange c (λ slot priority. n ≡ slot) (λ to token. ⊥) (λ number. ⊥)
 
--- the header says all that it said
-abbrev pub sets_nothing : Rewritten → Bool
-sets_nothing r = is_none r.label && is_none r.subsystem && is_none r.change
+-- the header says all that it said but for the uuid, if one is given
+abbrev pub sets_uuid_at_most : Rewritten → Bool
+sets_uuid_at_most r = is_none r.label && is_none r.subsystem && is_none r.change
 
 -- the key is sealed in the keyslot that was opened
 abbrev pub again_at : Place → Sealed → Option Sealed
@@ -172,7 +179,8 @@ lost_in (deed.Rewrite r) = None
 -- ---- of an edit
 
 -- the key that it seals, the one that it seals in the keyslot that was opened, the keyslot that it
--- removes, the one that loses its area, what it sets, and of that the label, the subsystem and the change
+-- removes, the one that loses its area, what it sets, and of that the uuid, the label, the subsystem and the
+-- change
 abbrev pub sealed_by : Edit → Option Sealed
 sealed_by e = sealed_in (deed_of e)
 
@@ -187,6 +195,9 @@ lost_by e = lost_in (deed_of e)
 
 abbrev pub rewritten_by : Edit → Option Rewritten
 rewritten_by e = rewritten_in (deed_of e)
+
+abbrev pub uuid_by : Edit → Option NewUuid
+uuid_by e = uuid_in (deed_of e)
 
 abbrev pub label_by : Edit → Option (Bor (List ℕ))
 label_by e = label_in (deed_of e)

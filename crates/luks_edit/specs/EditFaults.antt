@@ -4,7 +4,7 @@ use Rattle.luks_rules.specs.MetaFault.{meta_key}
 use Rattle.luks_reading.specs.Answer.{slot_row}
 use Rattle.luks_reading.specs.Checked.{check_key}
 use Rattle.luks_edit.specs.declared.edit_fault.EditFault.{EditFault}
-use Rattle.luks_edit.specs.declared.edit_fault.EditFault.TheVariants.{NotAccepted, Requirements, NoSuchSlot, SameSlot, Locked, KeyLength, WrongKey, Slot, SlotTaken, NoFreeSlot, NoRoom, LastSlot, Iterations, Argon2, BadLabel, NoSuchToken, TokenTaken, NoFreeToken, UnreadableToken, BadToken, SeqExhausted, MetadataFull, RandomLength, Memory, Device}
+use Rattle.luks_edit.specs.declared.edit_fault.EditFault.TheVariants.{NotAccepted, Requirements, NoSuchSlot, SameSlot, Locked, KeyLength, WrongKey, Slot, SlotTaken, NoFreeSlot, NoRoom, LastSlot, Iterations, Argon2, BadLabel, NoSuchToken, TokenTaken, NoFreeToken, UnreadableToken, BadUuid, BadToken, SeqExhausted, MetadataFull, RandomLength, Memory, Device}
 
 -- the rows of the table of faults, in their order
 abbrev pub edit_row : EditFault → ℕ
@@ -27,12 +27,13 @@ edit_row NoSuchToken = 15
 edit_row TokenTaken = 16
 edit_row NoFreeToken = 17
 edit_row UnreadableToken = 18
-edit_row (BadToken f) = 19
-edit_row SeqExhausted = 20
-edit_row MetadataFull = 21
-edit_row RandomLength = 22
-edit_row Memory = 23
-edit_row Device = 24
+edit_row BadUuid = 19
+edit_row (BadToken f) = 20
+edit_row SeqExhausted = 21
+edit_row MetadataFull = 22
+edit_row RandomLength = 23
+edit_row Memory = 24
+edit_row Device = 25
 
 -- the place of a fault among those of its row
 abbrev pub edit_place : EditFault → List ℕ

@@ -28,6 +28,7 @@ edit_fault_text edit.NoSuchToken = codes "NoSuchToken"
 edit_fault_text edit.TokenTaken = codes "TokenTaken"
 edit_fault_text edit.NoFreeToken = codes "NoFreeToken"
 edit_fault_text edit.UnreadableToken = codes "UnreadableToken"
+edit_fault_text edit.BadUuid = codes "BadUuid"
 edit_fault_text (edit.BadToken f) = meta_fault_text f
 edit_fault_text edit.SeqExhausted = codes "SeqExhausted"
 edit_fault_text edit.MetadataFull = codes "MetadataFull"

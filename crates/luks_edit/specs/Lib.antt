@@ -1,6 +1,7 @@
 pub mod EditFaults
 pub mod FaultTexts
 pub mod Asked
+pub mod NewUuids
 pub mod Kept
 pub mod Ran
 pub mod Secrets

@@ -1,8 +1,9 @@
 //! What an edit does of a volume: the parts by which its rules are said.
 ghost use Rattle.std.specs.Prelude.{◌≡◌};
-ghost use Rattle.luks_edit.specs.Asked.{opener_at, remover_of, sets_nothing};
+ghost use Rattle.luks_edit.specs.Asked.{opener_at, remover_of, sets_uuid_at_most};
 
 use crate::edit::{Opener, Secret, SecretKind, VolumeKey};
+use crate::new_uuid::NewUuid;
 use luks_making::{AskedDerivation, Change};
 
 /// What an edit does of a volume.
@@ -99,6 +100,8 @@ impl<'a> Removed<'a> {
 /// What a header that is written anew says newly; where something isn't given, it says what it said.
 #[derive(Clone, Copy)]
 pub struct Rewritten<'a> {
+    /// The new uuid.
+    pub uuid: Option<NewUuid<'a>>,
     /// The new label.
     pub label: Option<&'a [u8]>,
     /// The new subsystem.
@@ -108,9 +111,9 @@ pub struct Rewritten<'a> {
 }
 
 impl Rewritten<'_> {
-    /// Whether the header says all that it said.
-    pub fn sets_nothing(&self) -> bool
-        ensures { result ≡ sets_nothing self.now }
+    /// Whether the header says all that it said but for a uuid that is given, as a header of LUKS1 may.
+    pub fn sets_uuid_at_most(&self) -> bool
+        ensures { result ≡ sets_uuid_at_most self.now }
     {
         self.label.is_none() && self.subsystem.is_none() && self.change.is_none()
     }

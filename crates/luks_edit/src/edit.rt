@@ -5,6 +5,7 @@ ghost use Rattle.luks_edit.specs.declared.deed.Deed.TheVariants.{Rewrite};
 ghost use Rattle.luks_edit.specs.declared.deed.Place.TheVariants.{New};
 
 use crate::deed::{Deed, Place, Removed, Rewritten, Sealed};
+use crate::new_uuid::NewUuid;
 use luks_making::{AskedDerivation, Change, NewDerivation};
 use luks_slot::Allowed;
 
@@ -50,7 +51,7 @@ pub struct VolumeKey<'a> {
     pub allowed: Allowed,
 }
 
-/// An edit of a volume's keyslots, header, label or metadata.
+/// An edit of a volume's keyslots, header, uuid, label or metadata.
 ///
 /// The keyslot that an edit names as `by_`, or else as `slot`, is the one that its secret has to open:
 /// its passphrase, or the key that it gives.
@@ -133,6 +134,9 @@ pub enum Edit<'a> {
         /// The subsystem, of as many such bytes; where it isn't given, it stays as it was.
         subsystem: Option<&'a [u8]>,
     },
+    /// Sets the volume's uuid. Of the header nothing else changes that says something: no key area, and no
+    /// answer of a keyslot.
+    Uuid(NewUuid<'a>),
     /// LUKS2: changes the metadata in named members. Every key area, and what each keyslot answers,
     /// stays as it was.
     Amend(Change<'a>),
@@ -221,9 +225,10 @@ impl<'a> Edit<'a> {
                 derivation: asked(iterations, derivation),
             }),
             Edit::Remove { slot, by_, secret } => Deed::Remove(Removed { slot, by_, secret }),
-            Edit::Repair => rewriting(None, None, None),
-            Edit::Label { text, subsystem } => rewriting(Some(text), subsystem, None),
-            Edit::Amend(change) => rewriting(None, None, Some(change)),
+            Edit::Repair => rewriting(None, None, None, None),
+            Edit::Label { text, subsystem } => rewriting(None, Some(text), subsystem, None),
+            Edit::Uuid(uuid) => rewriting(Some(uuid), None, None, None),
+            Edit::Amend(change) => rewriting(None, None, None, Some(change)),
         }
     }
 
@@ -246,19 +251,23 @@ fn added_by(opener: Opener<'_>, to: Option<u8>) -> Place<'_>
     Place::New { opener, to }
 }
 
-/// The header is written anew with this label, this subsystem and this change, where they are given.
+/// The header is written anew with this uuid, this label, this subsystem and this change, where they are
+/// given.
 fn rewriting<'a>(
+    uuid: Option<NewUuid<'a>>,
     label: Option<&'a [u8]>,
     subsystem: Option<&'a [u8]>,
     change: Option<Change<'a>>,
 ) -> Deed<'a>
     ensures { result ≡ Rewrite (record {
+      uuid = uuid.entry;
       label = label.entry;
       subsystem = subsystem.entry;
       change = change.entry;
     }) }
 {
     Deed::Rewrite(Rewritten {
+        uuid,
         label,
         subsystem,
         change,

@@ -55,6 +55,8 @@ pub enum EditFault {
     /// LUKS2: cryptsetup doesn't read metadata with the new token: its type is the empty text, or arrays
     /// and objects nest in it deeper than 29 levels.
     UnreadableToken,
+    /// The uuid to set isn't 32 hexadecimal digits with hyphens at places 8, 13, 18 and 23.
+    BadUuid,
     /// LUKS2: the metadata with the new token breaks a rule.
     BadToken(MetaFault),
     /// LUKS2: there is no higher sequence number.
@@ -93,6 +95,7 @@ impl fmt::Display for EditFault {
             EditFault::TokenTaken => f.write_str("TokenTaken"),
             EditFault::NoFreeToken => f.write_str("NoFreeToken"),
             EditFault::UnreadableToken => f.write_str("UnreadableToken"),
+            EditFault::BadUuid => f.write_str("BadUuid"),
             EditFault::BadToken(fault) => write!(f, "{fault}"),
             EditFault::SeqExhausted => f.write_str("SeqExhausted"),
             EditFault::MetadataFull => f.write_str("MetadataFull"),

@@ -7,6 +7,7 @@ mod edit;
 mod edit_fault;
 mod giving;
 mod laws;
+mod new_uuid;
 
 pub use deed::{Deed, Place, Removed, Rewritten, Sealed};
 pub use edit::{
@@ -18,3 +19,4 @@ pub use laws::secrets_answer_once;
 pub use luks_making::{
     Argon2Costs, AskedDerivation, Change, LEAST_ITERATIONS, NewDerivation, Priority,
 };
+pub use new_uuid::{NewUuid, judge_uuid, uuid_field_after, uuid_need};
