@@ -226,16 +226,6 @@ fn tell_done<D: Device>(
     }
 }
 
-/// Notes of an edit that sets the uuid of the volume of this name that who names it by that has to know the new one.
-fn tell_identified(request: &EditRequest<'_>, volume: &str, notes: &mut Vec<u8>) {
-    if let EditRequest::Uuid { .. } = request {
-        let _ = writeln!(
-            notes,
-            "luks: {volume}: luks show prints its uuid; what names it by an older one, as /etc/crypttab, doesn't find it any more"
-        );
-    }
-}
-
 /// The same of one that is refused, or by which none opens.
 fn tell_refused<D: Device>(
     alloc: Global,
@@ -270,6 +260,16 @@ fn tell_refused<D: Device>(
             }
         }
         _ => {}
+    }
+}
+
+/// Notes of an edit that sets the uuid of the volume of this name that what names it by an older one doesn't find it.
+fn tell_identified(request: &EditRequest<'_>, volume: &str, notes: &mut Vec<u8>) {
+    if let EditRequest::Uuid { .. } = request {
+        let _ = writeln!(
+            notes,
+            "luks: {volume}: luks show prints its uuid; what names it by an older one, as /etc/crypttab, doesn't find it any more"
+        );
     }
 }
 
