@@ -458,8 +458,9 @@ Prints one line:
   device fault   a file can't be read, or the volume read or written
   no memory      memory was refused; nothing was written
 
-If the device fails in the midst, each keyslot opens as before, and the uuid is
-the old one, the new one or, of LUKS1, a part of each. Run it again.
+If the device fails in the midst, a copy of LUKS2 is sound and has the old uuid
+or the new one, and each keyslot opens as before: run it again. Of LUKS1 nothing
+but the uuid may be damaged, and check refuses it then: luks explain Uuid.
 
 Exit status:
   0  done, or help was asked for
