@@ -466,4 +466,3 @@ sets_text v payload e r w uuid free x is = absurd (cc)
 pub sets_uuid : (v : List ℕ) (payload : Data) (e : Edit) (r w : List ℕ) (uuid : NewUuid) → IsUnrefused1 v payload e r → After1 v e r w → uuid_by e ≡ Some uuid → HasUuid w
 sets_uuid v payload (Uuid given) r w uuid free x is = set_uuid given v r w (λ bad. free.none fault.BadUuid bad) x.1
 sets_uuid v payload e r w uuid free x is = absurd (cc)
-
