@@ -1438,6 +1438,12 @@ uint32_t luks_label_subsystem(int fd, uint64_t offset, uint64_t length, bool is_
     return luks_apply(fd, offset, length, is_detached, &edit, NULL, 0, label, label_bytes, NULL, 0, NULL);
 }
 
+uint32_t luks_set_uuid(int fd, uint64_t offset, uint64_t length, bool is_detached, const char *uuid)
+{
+    struct luks_edit edit = {.size = sizeof edit, .kind = LUKS_UUID};
+    return luks_apply(fd, offset, length, is_detached, &edit, NULL, 0, uuid, uuid == NULL ? 0 : strlen(uuid), NULL, 0, NULL);
+}
+
 uint32_t luks_set_priority(int fd, uint64_t offset, uint64_t length, bool is_detached, uint32_t slot, uint32_t priority)
 {
     struct luks_edit edit = {.size = sizeof edit, .kind = LUKS_PRIORITY, .slot = slot, .to = priority};

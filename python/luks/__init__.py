@@ -59,7 +59,7 @@ __all__ = ["CIPHERS", "Comparison", "Derivation", "Digest", "Fault", "Header", "
 VERSION = LIBRARY.luks_version().decode("ascii")
 """The version of the library."""
 
-ADD, CHANGE, REMOVE, REPAIR, LABEL, PRIORITY, TOKEN_ADD, TOKEN_REMOVE = range(1, 9)
+ADD, CHANGE, REMOVE, REPAIR, LABEL, PRIORITY, TOKEN_ADD, TOKEN_REMOVE, UUID = range(1, 10)
 PRIORITIES = ("ignore", "normal", "prefer")
 HASHES = (None, "sha1", "sha256", "sha512")
 CIPHERS = ("aes-xts-plain64", "aes-xts-plain", "aes-cbc-essiv:sha256", "aes-cbc-plain64", "aes-cbc-plain")
@@ -427,6 +427,10 @@ class Volume:
         """LUKS2: sets the label and, where it is given, the subsystem, each at most 47 bytes that can be printed."""
         own = None if subsystem is None else subsystem.encode()
         self._edited(EditRecord(kind=LABEL, subsystem=own, subsystem_bytes=len(own or b"")), b"", text.encode())
+
+    def set_uuid(self, text: Optional[str] = None) -> None:
+        """Sets the uuid: 32 hexadecimal digits with hyphens at places 8, 13, 18 and 23; where it isn't given, a new one of random bytes."""
+        self._edited(EditRecord(kind=UUID), b"", (text or "").encode())
 
     def set_priority(self, slot: int, priority: str) -> None:
         """LUKS2: sets when the keyslot is tried where none is named: `ignore`, not at all; `normal`; `prefer`, before the others."""
