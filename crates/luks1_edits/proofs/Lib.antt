@@ -2,6 +2,7 @@ pub mod AcceptedFacts
 pub mod AnswerFacts
 pub mod ChangeFacts
 pub mod EditedFacts
+pub mod ErasureFacts
 pub mod HeaderFacts
 pub mod KeptFacts
 pub mod KeyFacts
@@ -17,5 +18,6 @@ pub mod RemovalChoice
 pub mod RemovalFacts
 pub mod RowFacts
 pub mod SealingFacts
+pub mod ShutFacts
 pub mod SlotSetFacts
 pub mod StepFacts

@@ -20,7 +20,7 @@ use Rattle.luks_edit.specs.declared.edit.Secret.{Secret}
 use Rattle.luks_edit.specs.declared.deed.Place.{Place}
 use Rattle.luks_edit.specs.declared.deed.Place.TheVariants.{New, Opened}
 use Rattle.luks_edit.specs.declared.deed.Sealed.{Sealed}
-use Rattle.luks_edit.specs.Asked.{allowed_of, deed_of, lost_by, MatchDeed, MatchPlace, opener_at, sealed_by, sets_nothing}
+use Rattle.luks_edit.specs.Asked.{allowed_of, deed_of, MatchDeed, MatchPlace, opener_at, sealed_by, sets_nothing}
 use Rattle.luks_edit.specs.Secrets.{GivesWithin, own_key}
 use Rattle.luks1_edits.specs.Kept.{IsEither}
 use Rattle.luks1_edits.specs.Places.{area_len, area_start, IsOfKeyslots}
@@ -51,12 +51,13 @@ number_asked (Opened slot secret) = None
 abbrev pub IsSealedIn : List ℕ → Sealed → ℕ → Type 0
 IsSealedIn v s n = IsNewKeyslot v (number_asked s.place) n
 
--- the keyslots that an edit names: the one that it makes, and the one that it removes
+-- the keyslots that an edit names: the one that it makes, and the one that it removes, or all that it erases
 abbrev pub NamedKeyslots1 : List ℕ → Edit → ℕ → Type 0
 NamedKeyslots1 v e n = MatchDeed (deed_of e)
     (λ s. MatchPlace s.place (λ o to. IsNewKeyslot v to n) (λ slot secret. (n ≡ slot) ⊎ IsLeastFree v n))
     (λ r. n ≡ r.slot)
     (λ r. ⊥)
+    (n < 8)
 
 -- the iterations of a keyslot that is made: those of the PBKDF2 that is chosen, where it is; LUKS1 has no
 -- Argon2
@@ -129,6 +130,12 @@ pub record IsRemoved (v : List ℕ) (slot : ℕ) (w : List ℕ) : Type 0 where
   pub freed : IsFreed (entry v slot) (entry w slot)
   pub wiped : IsWiped v slot w
 
+-- the keyslots below `count` were removed, in use or not, and nothing else changed
+pub record AreRemoved (count : ℕ) (v w : List ℕ) : Type 0 where
+  pub rest : SameBut (IsOfKeyslots v (λ n. n < count)) v w
+  pub freed : (n : ℕ) → n < count → IsFreed (entry v n) (entry w n)
+  pub wiped : (n : ℕ) → n < count → IsWiped v n w
+
 -- a keyslot was made in which `new` opens the key that the opener gave, with a salt and stripes of the random
 -- bytes, and nothing else changed
 pub record IsAdded
@@ -166,6 +173,7 @@ After1 v e random w = MatchDeed (deed_of e)
     (λ slot secret. IsChanged v slot secret s.passphrase.now (iterations_of s.derivation) random w))
     (λ r. IsRemoved v r.slot w)
     (λ r. (sets_nothing r ≡ true) × (w ≡ v))
+    (AreRemoved 8 v w)
 
 -- ---- what opens after an edit
 
@@ -176,6 +184,6 @@ OpensAfter1 v e w = IfSome (sealed_by e) (λ s. (allowed : Allowed) (n : ℕ) (k
     → Gives1 allowed v (opener_at s.place) (Some key)
     → AnswerWithin allowed w n s.passphrase.now (opens key))
 
--- the keyslot that the edit removes
-abbrev pub Removes : Edit → ℕ → Type 0
-Removes e n = IsSomeAnd (lost_by e) (λ m. n ≡ m)
+-- no passphrase opens the keyslot `n`, whatever is allowed
+abbrev pub IsShut : List ℕ → ℕ → Type 0
+IsShut w n = (allowed : Allowed) (p key : List ℕ) → AnswerWithin allowed w n p (opens key) → ⊥

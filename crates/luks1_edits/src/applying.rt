@@ -8,6 +8,7 @@ ghost use Rattle.luks_reading.specs.declared.header.Header.TheVariants.{Luks1 as
 ghost use Rattle.luks1_edits.specs.Replies.{Replies1};
 
 use crate::accepted::judge_without_key;
+use crate::erasing::erase;
 use crate::removing::remove;
 use crate::sealing::seal;
 use luks_area::Device;
@@ -20,7 +21,7 @@ use std::alloc::Global;
 ///
 /// The first refusal is answered, and then no byte changes. What is written is written in this
 /// order, each range with a flush: the area of a new keyslot, its entry, the entry of a keyslot that
-/// is removed, its area. `Device` comes exactly where a device call failed. No memory is taken.
+/// is removed, its area; all that are erased by their numbers, one after the other. `Device` comes exactly where a device call failed. No memory is taken.
 pub fn apply_luks1<D: Device>(
     alloc: Global,
     device: &mut D,
@@ -47,6 +48,7 @@ pub fn apply_luks1<D: Device>(
         Deed::Seal(sealed) => seal(alloc, device, &header, &sealed, random),
         Deed::Remove(removed) => remove(alloc, device, &header, &removed, random),
         Deed::Rewrite(rewritten) => repair(rewritten, random),
+        Deed::Erase => erase(device, &header, random),
     }
 }
 

@@ -10,13 +10,16 @@ ghost use Rattle.luks_reading.specs.Checked.{AreaOf, WellFormed};
 ghost use Rattle.luks_reading.specs.declared.report.Data.{Data as Payload};
 ghost use Rattle.luks_edit.specs.declared.edit.Edit.{Edit as TheEdit};
 ghost use Rattle.luks_edit.specs.declared.edit_fault.EditFault.{EditFault as TheFault};
+ghost use Rattle.luks_edit.specs.Asked.{Loses};
 ghost use Rattle.luks_edit.specs.EditFaults.{edit_key};
 ghost use Rattle.luks_edit.specs.Kept.{Keeps};
-ghost use Rattle.luks1_edits.specs.Edited.{After1, NamedKeyslots1, OpensAfter1, Removes};
+ghost use Rattle.luks1_edits.specs.Edited.{After1, IsShut, NamedKeyslots1, OpensAfter1};
 ghost use Rattle.luks1_edits.specs.Kept.{HasSameKeyslot, KeepsOthers};
-ghost use Rattle.luks1_edits.specs.Leftovers.{IsUntorn, Leftover1, OpensEither1};
+ghost use Rattle.luks1_edits.specs.Leftovers.{AreErasedInTurn, IsUntorn, Leftover1, OpensEither1};
 ghost use Rattle.luks1_edits.specs.Places.{IsOfKeyslots};
 ghost use Rattle.luks1_edits.specs.Refused.{IsEditFault1, IsUnrefused1, Refusal1};
+
+use luks_edit::Edit;
 
 /// The answer of a keyslot of LUKS1 depends on the 208 bytes before the keyslots, its entry, its
 /// area and the volume's length alone.
@@ -40,7 +43,7 @@ pub fn luks1_edit_keeps_volume()
         → Chosen v luks1 → WellFormed v payload → IsUnrefused1 v payload e random
         → After1 v e random w → SameBut (IsOfKeyslots v (NamedKeyslots1 v e)) v w }
     ensures removed { (payload : Payload) (e : TheEdit) (v random w : List ℕ) (n : ℕ) (a : TheArea)
-        → Chosen v luks1 → WellFormed v payload → After1 v e random w → Removes e n
+        → Chosen v luks1 → WellFormed v payload → After1 v e random w → Loses e n
         → AreaOf v payload (Slot n) a → part w a.start a.len ≡ replicate a.len 0 }
 {}
 
@@ -52,11 +55,19 @@ pub fn luks1_edit_opens()
         → After1 v e random w → OpensAfter1 v e w }
 {}
 
+/// After an edit of a well formed LUKS1 volume that nothing refused, a keyslot that it removed opens by
+/// no passphrase; where it erased all, none does.
+pub fn luks1_removed_keyslot_is_shut()
+    ensures { (payload : Payload) (e : TheEdit) (v random w : List ℕ) (n : ℕ)
+        → Chosen v luks1 → WellFormed v payload → IsUnrefused1 v payload e random
+        → After1 v e random w → Loses e n → IsShut w n }
+{}
+
 /// What a failing device call leaves of a well formed LUKS1 volume has its length and its segments'
 /// bytes, and each keyslot that the edit didn't name has its answers, its entry and its area. Where
 /// no entry that it named is torn, the volume is well formed still. A keyslot that was changed opens
-/// by the old passphrase, or the new one by the new passphrase, to the same key. Where a fault
-/// refuses the edit, no byte changed.
+/// by the old passphrase, or the new one by the new passphrase, to the same key. Where all keyslots
+/// were to be erased, they were so in turn. Where a fault refuses the edit, no byte changed.
 pub fn luks1_failing_edit()
     ensures rest { (payload : Payload) (e : TheEdit) (v random w : List ℕ)
         → Chosen v luks1 → WellFormed v payload → Leftover1 v payload e random w
@@ -71,6 +82,9 @@ pub fn luks1_failing_edit()
     ensures opens { (payload : Payload) (e : TheEdit) (v random w : List ℕ)
         → Chosen v luks1 → WellFormed v payload → Leftover1 v payload e random w
         → OpensEither1 v e w }
+    ensures erased { (payload : Payload) (v random w : List ℕ)
+        → Chosen v luks1 → WellFormed v payload → Leftover1 v payload Edit.Erase random w
+        → AreErasedInTurn payload v w }
     ensures refused { (payload : Payload) (e : TheEdit) (v random w : List ℕ) (f : TheFault)
         → IsEditFault1 v payload e random f → Leftover1 v payload e random w → w ≡ v }
 {}

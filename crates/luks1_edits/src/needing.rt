@@ -38,6 +38,7 @@ pub fn needed_luks1(
         Deed::Seal(sealed) => new_need(&header.fields, number_asked(sealed.place)),
         Deed::Remove(_) => Ok(0),
         Deed::Rewrite(_) => Ok(0),
+        Deed::Erase => Ok(0),
     }
 }
 
