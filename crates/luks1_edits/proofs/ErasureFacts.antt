@@ -60,7 +60,7 @@ module _ (h : List ℕ) (payload : Data) (v : List ℕ) (of : IsHeaderOf h paylo
 
   len_still : area_len u n ≡ area_len v n
   len_still =
-      let key : number_at u 108 4 ≡ number_at v 108 4 = number_same u v 108 4 (front_moves v u still.common 108 4 (lit≤ tt)) in
+      let key : number_at u 108 4 ≡ number_at v 108 4 = number_same u v 108 4 (front_moves v u still.common.front 108 4 (lit≤ tt)) in
       ap (λ k. rounded_to_sectors (k * entry_stripes (entry u n))) key ∙ ap (λ e. rounded_to_sectors (number_at v 108 4 * entry_stripes e)) entry_still
 
   pub keyslot_still : (s : Luks1Slot) (a : Area) → IsKeyslotAt v n s a → IsKeyslotAt u n s a

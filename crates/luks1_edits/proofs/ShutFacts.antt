@@ -10,15 +10,17 @@ use Rattle.luks_reading.specs.declared.report.Data.{Data}
 use Rattle.luks_reading.specs.Answer.{IsRefusalAsWithin}
 use Rattle.luks_reading.specs.Checked.{WellFormed}
 use Rattle.luks_edit.specs.declared.edit.Edit.{Edit}
-use Rattle.luks_edit.specs.declared.edit.Edit.TheVariants.{Add, AddByKey, Change, Remove, Erase, Repair, Label, Amend}
+use Rattle.luks_edit.specs.declared.edit.Edit.TheVariants.{Add, AddByKey, Change, Remove, Erase, Repair, Label, Uuid, Amend}
 use Rattle.luks_edit.specs.Asked.{Loses}
-use Rattle.luks1_edits.specs.Edited.{After1, IsShut}
+use Rattle.luks_edit.specs.Kept.{IsShut}
+use Rattle.luks1_edits.specs.Edited.{After1}
+use Rattle.luks1_edits.specs.Kept.{AreKeyslots}
 use Rattle.luks1_edits.specs.Leftovers.{AreErasedInTurn, Leftover1}
 use Rattle.luks1_edits.specs.Places.{area_len, area_start}
 use Rattle.luks1_edits.specs.Refused.{IsUnrefused1}
 use Rattle.luks1_edits.proofs.EditedFacts.{changes_of, leaves, named_numbered, nothing_left}
-use Rattle.luks1_edits.proofs.HeaderFacts.{entry_is}
-use Rattle.luks1_edits.proofs.KeptFacts.{keeps_others, luks1_after}
+use Rattle.luks1_edits.proofs.HeaderFacts.{entry_is, volume_of}
+use Rattle.luks1_edits.proofs.KeptFacts.{keeps_others, kept_common, luks1_after}
 
 -- one that is disabled
 free_shut : (w : List ℕ) (n : ℕ) → Chosen w luks1 → n < 8 → active_word (entry w n) ≡ disabled_word → IsShut w n
@@ -46,6 +48,7 @@ module _ (payload : Data) (v : List ℕ) (chosen : Chosen v luks1) (well : WellF
       subst (λ k. IsShut w k) (sym is) (free_shut w slot (leaves payload v chosen well c r w free x).chosen (named_numbered v payload c r free slot refl) x.freed.disabled)
   removed_shut Repair r w n free x is = absurd is
   removed_shut (Label text subsystem) r w n free x is = absurd is
+  removed_shut (Uuid uuid) r w n free x is = absurd is
   removed_shut (Amend c) r w n free x is = absurd is
 
   -- where all were to be, and the device failed
@@ -60,11 +63,13 @@ module _ (payload : Data) (v : List ℕ) (chosen : Chosen v luks1) (well : WellF
   leftover_erased r w (inr both) =
       let x = both.1 in
       let last = x.numbered in
-      let c = changes_of payload v chosen well (λ n. n ≤ x.slot) w (record { numbered = λ n low. omega (arith, low, last) }) x.rest in
+      let keyslots : AreKeyslots (λ n. n ≤ x.slot) = record { numbered = λ n low. omega (arith, low, last) } in
+      let c = changes_of payload v chosen well (λ n. n ≤ x.slot) w keyslots x.rest in
+      let common = kept_common v payload (volume_of v payload chosen well).fit w (λ n. n ≤ x.slot) keyslots x.rest in
       record {
         slot = x.slot;
         shut = λ n low. free_shut w n (luks1_after payload (λ n. n ≤ x.slot) v w c) (omega (arith, low, last)) (x.freed n low).disabled;
         wiped = x.wiped;
         order = x.order;
-        above = λ n over. (keeps_others payload (λ n. n ≤ x.slot) v w c).slots n (λ low. omega (arith, low, over));
+        above = λ n over. (keeps_others payload (λ n. n ≤ x.slot) v w c common).slots n (λ low. omega (arith, low, over));
       }
