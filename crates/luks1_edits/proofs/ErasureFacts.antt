@@ -28,7 +28,7 @@ use Rattle.luks1_edits.specs.Replies.{EndsBy1, IsDone1}
 use Rattle.luks1_edits.specs.Steps.{IsKeyslotAt}
 use Rattle.luks1_edits.proofs.HeaderFacts.{front_moves, number_same, volume_of}
 use Rattle.luks1_edits.proofs.KeptFacts.{area_apart, entry_apart, same_keyslot}
-use Rattle.luks1_edits.proofs.RowFacts.{none_to_open, OpensNone, past_label, past_new, unrefused}
+use Rattle.luks1_edits.proofs.RowFacts.{none_to_open, OpensNone, past_argon2, past_label, past_new, past_uuid, unrefused}
 
 -- ---- one keyslot after the other
 
@@ -134,9 +134,11 @@ pub erasure_opens_none : (e : Edit) → deed_of e ≡ deed.Erase → OpensNone e
 erasure_opens_none e is = record { opens = rw is refl; wants = λ n x. rw is at x; other = λ x. rw is at x }
 
 module _ (v : List ℕ) (payload : Data) (r : List ℕ) (accepted : (f : CheckFault) → IsFault v payload f → ⊥) (e : Edit) (is : deed_of e ≡ deed.Erase) where
-  judged : Passed (IsEditFault1 v payload e r) 22
-  judged = past_label v payload e r (past_new v payload e r (none_to_open v payload e r accepted (erasure_opens_none e is)) (λ bad. rw is at bad) (λ bad. rw is at bad))
-      (λ bad. rw is at bad) (λ bad. rw is at bad) (λ bad. rw is at bad) (λ bad. rw is at bad)
+  judged : Passed (IsEditFault1 v payload e r) 23
+  judged =
+      let new = past_new v payload e r (none_to_open v payload e r accepted (erasure_opens_none e is)) (λ bad. rw is at bad) (λ bad. rw is at bad) in
+      let made = past_argon2 v payload e r new (λ bad. rw is at bad) (λ bad. rw is at bad) (λ bad. rw is at bad) in
+      past_uuid v payload e r (past_label v payload e r made (λ bad. rw is at bad)) (λ bad. rw is at bad)
 
   need_nothing : (k : ℕ) → Need1 v e k → k ≡ 0
   need_nothing k x = rw is at x

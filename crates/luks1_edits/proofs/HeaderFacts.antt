@@ -1,6 +1,6 @@
 -- The fields of a LUKS1 header: in the volume, in its first 592 bytes, and in another volume with
 -- the same bytes before the uuid.
-use Rattle.std.proofs.Common.{◌≡◌, ℕ, ◌+◌, ◌*◌, ◌<◌, ◌≤◌, List, length, true, inl, inr, sym, ap, subst, ◌∙◌, arith, zero-add, lit≤}
+use Rattle.std.proofs.Common.{◌≡◌, ℕ, ◌+◌, ◌*◌, ◌<◌, ◌≤◌, ◌⊎◌, List, length, inl, inr, refl, sym, ap, subst, ◌∙◌, arith, zero-add, lit≤}
 use Rattle.luks_area.specs.Ranges.{part}
 use Rattle.luks_area.proofs.RangeFacts.{part-part}
 use Rattle.luks_area.specs.Sectors.{rounded_to_sectors}
@@ -101,27 +101,42 @@ pub same_common_back : (v w : List ℕ) → HasSameCommon v w → HasSameCommon 
 same_common_back v w e = record { front = sym e.front; text = (e.text.1, e.text.0); uuid = (e.uuid.1, e.uuid.0) }
 
 -- a text before the uuid is printable in both
-plain_moves : (v w : List ℕ) → HasSameCommon v w → (o l : ℕ) → o + l ≤ 168 → HoldsText (part w 0 592) o l → HoldsText (part v 0 592) o l
-plain_moves v w e o l within x = ap is_plain (sym (text_same (part w 0 592) (part v 0 592) o l (header_moves v w e.front o l within))) ∙ x
+plain_moves : (v w : List ℕ) → part w 0 168 ≡ part v 0 168 → (o l : ℕ) → o + l ≤ 168 → HoldsText (part w 0 592) o l → HoldsText (part v 0 592) o l
+plain_moves v w e o l within x = ap is_plain (sym (text_same (part w 0 592) (part v 0 592) o l (header_moves v w e o l within))) ∙ x
 
-field_moves : (v w : List ℕ) → HasSameCommon v w → (o l : ℕ) → o + l ≤ 168 → number_at (part w 0 592) o l ≡ number_at (part v 0 592) o l
-field_moves v w e o l within = number_same (part w 0 592) (part v 0 592) o l (header_moves v w e.front o l within)
+field_moves : (v w : List ℕ) → part w 0 168 ≡ part v 0 168 → (o l : ℕ) → o + l ≤ 168 → number_at (part w 0 592) o l ≡ number_at (part v 0 592) o l
+field_moves v w e o l within = number_same (part w 0 592) (part v 0 592) o l (header_moves v w e o l within)
 
--- the faults before the keyslots are those of these bytes
-pub common_moves : (v w : List ℕ) → HasSameCommon v w → (f : HeadFault) → IsCommonFault (part v 0 592) f → IsCommonFault (part w 0 592) f
-common_moves v w e fault.NotLuks x = (tt, λ magic. x.1 (sym (header_moves v w e.front 0 6 (lit≤ tt)) ∙ magic))
-common_moves v w e fault.Version x = (tt, λ one. x.1 (sym (field_moves v w e 6 2 (lit≤ tt)) ∙ one))
-common_moves v w e (fault.Text field.CipherName) x = (tt, λ text. x.1 (plain_moves v w e 8 32 (lit≤ tt) text))
-common_moves v w e (fault.Text field.CipherMode) x = (tt, λ text. x.1 (plain_moves v w e 40 32 (lit≤ tt) text))
-common_moves v w e (fault.Text field.HashSpec) x = (tt, λ text. x.1 (plain_moves v w e 72 32 (lit≤ tt) text))
-common_moves v w e (fault.Text field.Uuid) x =
-    (tt, λ text. x.1 (ap is_plain (uuid_is v) ∙ e.text.0 (ap is_plain (sym (uuid_is w)) ∙ text)))
-common_moves v w e fault.Uuid x = (tt, λ uuid. x.1 (subst IsUuid (sym (uuid_is v)) (e.uuid.0 (subst IsUuid (uuid_is w) uuid))))
-common_moves v w e fault.KeyBytes x =
+-- the fault is of the uuid's field
+abbrev pub IsUuids : HeadFault → Type 0
+IsUuids f = (f ≡ fault.Text field.Uuid) ⊎ (f ≡ fault.Uuid)
+
+-- the faults before the keyslots are those of the same bytes before the uuid, or the uuid's
+pub moves_or_uuids : (v w : List ℕ) → part w 0 168 ≡ part v 0 168 → (f : HeadFault) → IsCommonFault (part v 0 592) f → IsCommonFault (part w 0 592) f ⊎ IsUuids f
+moves_or_uuids v w e fault.NotLuks x = inl (tt, λ magic. x.1 (sym (header_moves v w e 0 6 (lit≤ tt)) ∙ magic))
+moves_or_uuids v w e fault.Version x = inl (tt, λ one. x.1 (sym (field_moves v w e 6 2 (lit≤ tt)) ∙ one))
+moves_or_uuids v w e (fault.Text field.CipherName) x = inl (tt, λ text. x.1 (plain_moves v w e 8 32 (lit≤ tt) text))
+moves_or_uuids v w e (fault.Text field.CipherMode) x = inl (tt, λ text. x.1 (plain_moves v w e 40 32 (lit≤ tt) text))
+moves_or_uuids v w e (fault.Text field.HashSpec) x = inl (tt, λ text. x.1 (plain_moves v w e 72 32 (lit≤ tt) text))
+moves_or_uuids v w e (fault.Text field.Uuid) x = inr (inl refl)
+moves_or_uuids v w e fault.Uuid x = inr (inr refl)
+moves_or_uuids v w e fault.KeyBytes x =
     let bad : ℕ → Type 0 = λ k. 1 ≤ k → k ≤ 128 → ⊥ in
-    (tt, subst bad (sym (field_moves v w e 108 4 (lit≤ tt))) x.1)
-common_moves v w e (fault.Iterations of.Digest) x = (tt, field_moves v w e 164 4 (lit≤ tt) ∙ x.1)
-common_moves v w e f x = absurd x.0
+    inl (tt, subst bad (sym (field_moves v w e 108 4 (lit≤ tt))) x.1)
+moves_or_uuids v w e (fault.Iterations of.Digest) x = inl (tt, field_moves v w e 164 4 (lit≤ tt) ∙ x.1)
+moves_or_uuids v w e f x = absurd x.0
+
+-- where the uuid's field has the same faults, they are all the same
+pub common_moves : (v w : List ℕ) → HasSameCommon v w → (f : HeadFault) → IsCommonFault (part v 0 592) f → IsCommonFault (part w 0 592) f
+common_moves v w e f x = elim (moves_or_uuids v w e.front f x) [
+  | inl moved ↦ moved
+  | inr uuids ↦ elim uuids [
+    | inl is ↦ subst (IsCommonFault (part w 0 592)) (sym is)
+        (tt, λ text. (subst (IsCommonFault (part v 0 592)) is x).1 (ap is_plain (uuid_is v) ∙ e.text.0 (ap is_plain (sym (uuid_is w)) ∙ text)))
+    | inr is ↦ subst (IsCommonFault (part w 0 592)) (sym is)
+        (tt, λ uuid. (subst (IsCommonFault (part v 0 592)) is x).1 (subst IsUuid (sym (uuid_is v)) (e.uuid.0 (subst IsUuid (uuid_is w) uuid))))
+  ]
+]
 
 -- a well formed volume of LUKS1 is one by its header
 pub volume_of : (v : List ℕ) (payload : Data) → Chosen v luks1 → WellFormed v payload → IsLuks1Volume (part v 0 592) payload (length v)

@@ -16,8 +16,10 @@ pub mod OpenerFacts
 pub mod RefusalFacts
 pub mod RemovalChoice
 pub mod RemovalFacts
+pub mod RewritingFacts
 pub mod RowFacts
 pub mod SealingFacts
 pub mod ShutFacts
 pub mod SlotSetFacts
 pub mod StepFacts
+pub mod UuidFacts

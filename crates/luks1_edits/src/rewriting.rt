@@ -36,7 +36,10 @@ pub(crate) fn rewrite<D: Device>(
         → IsHeaderOf header.now.bytes.now header.now.payload (D.bytes device.old)
         → Replies1 header.now.payload (D.bytes device.old) e random.now result (D.bytes device.new) }
 {
-    judge_rewriting(rewritten, random)?;
+    match judge_rewriting(rewritten, random) {
+        Ok(()) => {}
+        Err(fault) => return Err(fault),
+    }
     if rewritten.uuid.is_none() {
         return Ok(Done { slot: None });
     }
@@ -58,7 +61,10 @@ fn judge_rewriting(rewritten: &Rewritten<'_>, random: &[u8]) -> Result<(), EditF
     if !rewritten.sets_uuid_at_most() {
         return Err(EditFault::BadLabel);
     }
-    judge_uuid(rewritten.uuid)?;
+    match judge_uuid(rewritten.uuid) {
+        Ok(()) => {}
+        Err(fault) => return Err(fault),
+    }
     if random.len() != uuid_need(rewritten.uuid) {
         return Err(EditFault::RandomLength);
     }
