@@ -1,5 +1,5 @@
 -- The metadata without any keyslot: what is left of the old, and that it meets every rule that the old met.
-use Rattle.std.proofs.Common.{◌≡◌, ℕ, true, false, List, [], ◌∷◌, Option, Some, None, option_map, option_and_then, is_some, codes, refl, sym, ap, ◌∙◌, inl, inr}
+use Rattle.std.proofs.Common.{◌≡◌, ℕ, true, List, [], ◌∷◌, Option, Some, None, option_map, option_and_then, codes, refl, sym, ap, ◌∙◌, inl, inr}
 use Rattle.serde_json.specs.Data.{Data, array, no_items, no_members, object}
 use Rattle.serde_json.specs.Find.{get}
 use Rattle.luks_json.specs.Arrays.{names, naming_count}
