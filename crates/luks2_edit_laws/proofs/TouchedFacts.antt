@@ -28,7 +28,14 @@ torn_rest v payload e random o j new w (inr (inr (inl t))) =
       | inl sealed ↦ inr (inl sealed)
       | inr at ↦ inl at
     ]) t.rest
-torn_rest v payload e random o j new w (inr (inr (inr t))) = t.rest
+torn_rest v payload e random o j new w (inr (inr (inr t))) =
+    same_but-wider (λ p x. elim x [
+      | inl copies ↦ inl copies
+      | inr other ↦ elim other [
+        | inl sealed ↦ inr (inl sealed)
+        | inr lost ↦ inr (inr lost.lost)
+      ]
+    ]) t.rest
 
 pub leftover_rest : (v : List ℕ) (payload : Data) (e : Edit) (random w : List ℕ) → Leftover2 v payload e random w → SameBut (IsTouchedIn v payload e) v w
 leftover_rest v payload e random w (inl same) = same_but-equal (IsTouchedIn v payload e) same

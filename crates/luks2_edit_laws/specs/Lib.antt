@@ -9,3 +9,4 @@ pub mod Refused
 pub mod Leftovers
 pub mod Likes
 pub mod Kept
+pub mod Erased
