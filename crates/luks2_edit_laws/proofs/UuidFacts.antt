@@ -1,9 +1,7 @@
 -- The uuid's field of a header after an edit.
-use Rattle.std.proofs.Common.{◌≡◌, ℕ, ◌↔◌, ◌++◌, List, replicate, take, Option, Some, None}
-use Rattle.luks1_header.specs.Bytes.{IsUuid}
+use Rattle.std.proofs.Common.{ℕ, ◌↔◌, List, take, Option, Some, None, inl, inr}
 use Rattle.luks1_header.specs.declared.fault.HeadFault.{HeadFault}
-use Rattle.luks1_header.specs.declared.fault.HeadFault.TheVariants as fault
-use Rattle.luks1_header.specs.declared.fault.TextField.TheVariants as field
+use Rattle.luks1_header.proofs.DecidableFacts.{uuid_or_not}
 use Rattle.luks2_header.specs.Header2.{IsUuidFault, IsUuidField}
 use Rattle.luks2_header.specs.NewUuid.{uuid_text}
 use Rattle.luks2_header.proofs.UuidFacts.{fills, uuid_text-is}
@@ -19,24 +17,13 @@ use Rattle.luks2_edit_laws.specs.Copies.{uuid_after, uuid_random}
 pub same_faults : (a b : List ℕ) → IsUuidField a → IsUuidField b → (f : HeadFault) → IsUuidFault a f ↔ IsUuidFault b f
 same_faults a b one other f = (λ bad. absurd ((uuid_faultless a).1 one f bad), λ bad. absurd ((uuid_faultless b).1 other f bad))
 
-module _ (text : List ℕ) (good : (IsUuid text → ⊥) → ⊥) where
-  -- the field of a text has no fault that isn't refused as that of a uuid
-  text_faultless : (f : HeadFault) → IsUuidFault (text ++ replicate 4 0) f → ⊥
-  text_faultless (fault.Text field.Uuid) bad = good (λ is. bad (fills text is).plain)
-  text_faultless fault.Uuid bad = good (λ is. bad (fills text is).uuid)
-  text_faultless (fault.Text field.CipherName) bad = bad
-  text_faultless (fault.Text field.CipherMode) bad = bad
-  text_faultless (fault.Text field.HashSpec) bad = bad
-  text_faultless _ bad = bad
-
-  -- so it is that of a uuid
-  text_fills : IsUuidField (text ++ replicate 4 0)
-  text_fills = (uuid_faultless (text ++ replicate 4 0)).0 text_faultless
-
 -- a field with the uuid that is given, or as it was
 given_fills : (given : Option NewUuid) (random field_ : List ℕ) → (IsBadUuid given → ⊥) → IsUuidField field_ → IsUuidField (uuid_field_after given random field_)
 given_fills None random field_ good was = was
-given_fills (Some (Text text)) random field_ good was = text_fills text.now good
+given_fills (Some (Text text)) random field_ good was = elim (uuid_or_not text.now) [
+  | inl is ↦ fills text.now is
+  | inr not ↦ absurd (good not)
+]
 given_fills (Some Random) random field_ good was = fills (uuid_text (take 16 random)) (uuid_text-is (take 16 random))
 
 -- the field of a uuid is one after an edit
