@@ -47,20 +47,19 @@ use Rattle.luks_edit.specs.declared.deed.Sealed.{Sealed}
 use Rattle.luks_edit.specs.declared.edit.Edit.TheVariants.{Add, AddByKey, Change, Remove, Erase, Repair, Label, Uuid, Amend}
 use Rattle.luks_edit.specs.declared.edit.Opener.{Opener}
 use Rattle.luks_edit.specs.declared.edit.Opener.TheVariants as opener
-use Rattle.luks_edit.specs.Asked.{allowed_for, chosen_or, Loses, opener_at, sealed_by}
+use Rattle.luks_edit.specs.Asked.{again_by, allowed_for, chosen_or, Loses, opener_at, sealed_by}
 use Rattle.luks_edit.specs.declared.edit_fault.EditFault.TheVariants.{Argon2, BadToken, BadUuid, Iterations, NoFreeSlot, RandomLength, SlotTaken}
-use Rattle.luks_edit.specs.Kept.{Keeps}
+use Rattle.luks_edit.specs.Kept.{IsShut, Keeps}
 use Rattle.luks2_edit_laws.specs.declared.like.Like.{Like}
 use Rattle.luks2_edit_laws.specs.declared.like.Like.TheVariants.{Keyslot, Digest}
 use Rattle.luks2_edit_laws.specs.Edited.{keyslot_salt, members_of, After2, Gives2, HasAdded, HasChanged, HasNewToken, HasRangedDerivation, HasRanges, IsEdited, IsMadeIn, IsSealedBy, NamedKeyslots2}
-use Rattle.luks2_edit_laws.specs.Erased.{OpensNone}
 use Rattle.luks2_edit_laws.specs.Likes.{digest_by, fresh_members, ForLike, HasStripesLike, IsAddedLike, IsLike, slot_by}
 use Rattle.luks2_edit_laws.specs.Metadata.{HasMetadata, IsNewKeyslot}
 use Rattle.luks2_edit_laws.specs.Places.{key_areas_end, IsNewArea}
 use Rattle.luks2_edit_laws.specs.Refused.{HasNoNumber, IsFaultyWith, IsNumberTaken, IsUnrefused2, NeedsLike}
 use Rattle.luks2_edit_laws.proofs.AmendFacts.{amended_metadata}
 use Rattle.luks2_edit_laws.proofs.CopyFacts.{both_chosen}
-use Rattle.luks2_edit_laws.proofs.ErasedFacts.{erased_metadata, none_opens}
+use Rattle.luks2_edit_laws.proofs.ErasedFacts.{erased_metadata, none_opens, removed_shut}
 use Rattle.luks2_edit_laws.proofs.KeptFacts.{all_kept, says_itself, KeepsMetadata}
 use Rattle.luks2_edit_laws.proofs.LikeFacts.{model_by_key, IsModel}
 use Rattle.luks2_edit_laws.proofs.SoundCopyFacts.{copy_sound}
@@ -485,8 +484,17 @@ lost_zeros v payload e random w n a well after_ lost is =
     (areas_are v payload after_.place (hdr_size (header_at v after_.place)) after_.value
     (copy_of v payload after_.place after_.value after_.metadata well) (name.Slot n) a is)
 
--- where all keyslots are erased, none opens
-pub erased_opens : (v : List ℕ) (payload : Data) (random w : List ℕ) → WellFormed v payload → HasRanges v Erase random → IsUnrefused2 v payload Erase random
-    → After2 v payload Erase random w → OpensNone w
-erased_opens v payload random w well ranges free a =
-    none_opens w 0 (hdr_size (header_at v a.place)) a.value a.new (after v payload Erase random w well ranges free a) a.edited
+-- a keyslot that isn't sealed again opens no more
+pub lost_shut : (v : List ℕ) (payload : Data) (e : Edit) (random w : List ℕ) (n : ℕ) → WellFormed v payload → HasRanges v e random → IsUnrefused2 v payload e random
+    → After2 v payload e random w → again_by e ≡ None → Loses e n → IsShut w n
+lost_shut v payload (Add by_ old new to iterations d) random w n well ranges free a once lost = absurd lost
+lost_shut v payload (AddByKey key new to iterations d) random w n well ranges free a once lost = absurd lost
+lost_shut v payload (Change slot old new iterations d) random w n well ranges free a once lost = absurd (cc)
+lost_shut v payload (Remove slot by_ passphrase) random w n well ranges free a once lost =
+    removed_shut w 0 (hdr_size (header_at v a.place)) a.value a.new slot (after v payload (Remove slot by_ passphrase) random w well ranges free a) a.edited n lost
+lost_shut v payload Erase random w n well ranges free a once lost =
+    none_opens w 0 (hdr_size (header_at v a.place)) a.value a.new (after v payload Erase random w well ranges free a) a.edited n
+lost_shut v payload Repair random w n well ranges free a once lost = absurd lost
+lost_shut v payload (Label text subsystem) random w n well ranges free a once lost = absurd lost
+lost_shut v payload (Uuid uuid) random w n well ranges free a once lost = absurd lost
+lost_shut v payload (Amend c) random w n well ranges free a once lost = absurd lost

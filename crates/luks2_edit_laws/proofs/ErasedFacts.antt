@@ -12,13 +12,14 @@ use Rattle.luks_rules.specs.Faults.{object_at}
 use Rattle.luks_rules.specs.Reading.{decimal_in}
 use Rattle.luks_rules.proofs.AreaFaults.{one_value}
 use Rattle.luks_making.specs.Unchanged.{LosesSlots}
-use Rattle.luks_making.specs.Without.{without_slots}
+use Rattle.luks_making.specs.Without.{without_slot, without_slots}
 use Rattle.luks_making.proofs.ErasureFacts.{held_emptied, slots_lost}
+use Rattle.luks_making.proofs.RemovalFacts.{slot_lost}
 use Rattle.luks_reading.specs.declared.report.Data.{Data}
 use Rattle.luks_reading.specs.Header.{json_at}
 use Rattle.luks_reading.specs.Layout2.{HasExtent, Luks2Area, segment_extent, segment_offset, slot_number}
 use Rattle.luks_reading.specs.Plans.{HasLuks2Plan}
-use Rattle.luks2_edit_laws.specs.Erased.{OpensNone}
+use Rattle.luks_edit.specs.Kept.{IsShut}
 use Rattle.luks2_edit_laws.proofs.KeptFacts.{KeepsMetadata}
 use Rattle.luks2_edit_laws.proofs.MetadataFacts.{segments_follow}
 use Rattle.luks2_edit_laws.proofs.VolumeFacts.{HasCopy, IsLayout}
@@ -61,11 +62,17 @@ erased_metadata h total payload named j k is same old =
 
 -- ---- what opens
 
--- a volume with such metadata opens by no keyslot
-pub none_opens : (w : List ℕ) (p h : ℕ) (j k : Value) → HasCopy w p h k → k ≡ without_slots j → OpensNone w
-none_opens w p h j k c same = λ n allowed pass key o.
+-- a keyslot that the metadata hasn't opens by no passphrase
+pub absent_shut : (w : List ℕ) (p h : ℕ) (k : Value) → HasCopy w p h k → (n : ℕ) → object_at k Keyslots n ≡ None → IsShut w n
+absent_shut w p h k c n gone = λ allowed pass key o.
     (let has : HasLuks2Plan (json_at w p) n o.plan = rw (choices_agree w o.choice (luks2 p c.copies) o.chosen c.chosen) at o.is in
-    let value : has.value ≡ without_slots j = one_value (json_at w p) has.value k has.holds c.holds ∙ same in
-    let there : object_at (without_slots j) Keyslots n ≡ Some has.object = rw value at has.there in
-    let gone : object_at (without_slots j) Keyslots n ≡ None = (slots_lost j).gone n in
+    let there : object_at k Keyslots n ≡ Some has.object = rw (one_value (json_at w p) has.value k has.holds c.holds) at has.there in
     absurd (cc))
+
+-- so does each where it has none
+pub none_opens : (w : List ℕ) (p h : ℕ) (j k : Value) → HasCopy w p h k → k ≡ without_slots j → (n : ℕ) → IsShut w n
+none_opens w p h j k c same n = absent_shut w p h k c n (rw same ((slots_lost j).gone n))
+
+-- and one that is left out
+pub removed_shut : (w : List ℕ) (p h : ℕ) (j k : Value) (slot : ℕ) → HasCopy w p h k → k ≡ without_slot slot j → (n : ℕ) → n ≡ slot → IsShut w n
+removed_shut w p h j k slot c same n is = absent_shut w p h k c n (rw (same, is) (slot_lost slot j).gone)

@@ -32,10 +32,9 @@ use Rattle.luks_edit.specs.Asked.{allowed_for, deed_of, Loses, MatchDeed}
 use Rattle.luks_edit.specs.Kept.{Keeps}
 use Rattle.luks2_edit_laws.specs.declared.like.Like.{Like}
 use Rattle.luks2_edit_laws.specs.declared.like.Like.TheVariants.{Keyslot}
-use Rattle.luks2_edit_laws.specs.Erased.{KeepsAllOrNone}
 use Rattle.luks2_edit_laws.specs.Copies.{other_place, IsRenewed}
 use Rattle.luks2_edit_laws.specs.Edited.{keyslot_salt, members_of, stripes_random, HasChanged, HasRanges, HoldsKey, IsEdited, IsSealedBy, NamedKeyslots2}
-use Rattle.luks2_edit_laws.specs.Leftovers.{CountsAsAfter, CountsAsBefore, IsAllowed, IsNotStray, IsTorn2, IsTornAt, IsTornChosen, IsTornLost, IsTornOther, Leftover2, OpensEither2}
+use Rattle.luks2_edit_laws.specs.Leftovers.{CountsAsAfter, CountsAsBefore, IsAllowed, IsNotStray, IsTorn2, IsTornAt, IsTornChosen, IsTornLost, IsTornOther, KeepsAllOrNone, Leftover2, OpensEither2}
 use Rattle.luks2_edit_laws.specs.Metadata.{HasMetadata}
 use Rattle.luks2_edit_laws.specs.Gap.{IsLeastGap}
 use Rattle.luks2_edit_laws.specs.Places.{key_areas_end, rounded_to_blocks, IsNewArea, IsOfCopies, IsOfNewKeyslot, IsOfSealed, IsTouched}

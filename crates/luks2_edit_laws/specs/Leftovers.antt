@@ -13,6 +13,7 @@ use Rattle.luks_reading.specs.Answer.{opens, AnswerWithin}
 use Rattle.luks_edit.specs.declared.edit.Edit.{Edit}
 use Rattle.luks_edit.specs.declared.edit.Opener.TheVariants.{Keyslot}
 use Rattle.luks_edit.specs.Asked.{again_by, allowed_for, Loses, MatchPlace}
+use Rattle.luks_edit.specs.Kept.{IsShut, KeepsAnswers}
 use Rattle.luks2_edit_laws.specs.Copies.{other_place, IsRenewed, IsWrittenAnew}
 use Rattle.luks2_edit_laws.specs.Edited.{Gives2, keyslot_salt, IsEdited, IsSealedBy, IsWiped}
 use Rattle.luks2_edit_laws.specs.Metadata.{HasMetadata}
@@ -115,3 +116,7 @@ OpensEither2 v e w = IfSome (again_by e) (λ s. MatchPlace s.place (λ o to. ⊤
     → Gives2 (allowed_for (Keyslot slot secret) s.passphrase.now) v (Keyslot slot secret) key
     → Gives2 (allowed_for (Keyslot slot secret) s.passphrase.now) w (Keyslot slot secret) key
     ⊎ AnswerWithin (allowed_for (Keyslot slot secret) s.passphrase.now) w slot s.passphrase.now (opens key)))
+
+-- each keyslot has its area and its answers, or none opens by any passphrase
+abbrev pub KeepsAllOrNone : Data → List ℕ → List ℕ → Type 0
+KeepsAllOrNone payload v w = ((n : ℕ) → KeepsAnswers payload n v w) ⊎ ((n : ℕ) → IsShut w n)

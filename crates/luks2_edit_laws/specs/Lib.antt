@@ -9,4 +9,3 @@ pub mod Refused
 pub mod Leftovers
 pub mod Likes
 pub mod Kept
-pub mod Erased
