@@ -219,10 +219,6 @@ module _ (payload : Data) (named : ℕ → Type 0) (v w : List ℕ) (x : Changes
       λ is. record { chosen = luks1_after; numbered = is.numbered; is = is.is ∙ sym (kept_entry v payload placed w named x.keyslots x.rest n is.numbered not) },
       λ is. record { chosen = x.chosen; numbered = is.numbered; is = is.is ∙ kept_entry v payload placed w named x.keyslots x.rest n is.numbered not },
     );
-    value = λ d. (
-      λ is. absurd (no_value v x.chosen is.place is.copies is.chosen),
-      λ is. absurd (no_value w luks1_after is.place is.copies is.chosen),
-    );
   }
 
   -- whatever the uuid's field holds
@@ -244,7 +240,10 @@ module _ (payload : Data) (named : ℕ → Type 0) (v w : List ℕ) (x : Changes
         record {
           area = entry.area;
           entry = entry.entry;
-          value = entry.value;
+          value = λ d. (
+            λ is. absurd (no_value v x.chosen is.place is.copies is.chosen),
+            λ is. absurd (no_value w luks1_after is.place is.copies is.chosen),
+          );
           answers = λ allowed p a. (answer_moves allowed n v w p a x.chosen (same_unnamed n not), answer_returns allowed n v w p a x.chosen (same_unnamed n not));
         }
 

@@ -95,7 +95,7 @@ module _ (payload : Data) (v : List ℕ) (chosen : Chosen v luks1) (well : WellF
       let long = chosen.long in
       let size = same.length_same in
       let all = length-part_inside w 0 592 (omega (arith, long, size)) in
-      omega (arith, bad, all)
+      absurd (omega (arith, bad, all))
   only_uuids head.NoSoundCopy bad = absurd bad
   only_uuids (head.SlotState n) bad = absurd (clear (head.SlotState n) (bad.0, subst HasUnknownState (entry_same n bad.0) bad.1))
   only_uuids (head.Stripes n) bad = absurd (clear (head.Stripes n) (bad.0, sym (ap entry_stripes (entry_same n bad.0)) ∙ bad.1))
