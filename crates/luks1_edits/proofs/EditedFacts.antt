@@ -41,7 +41,7 @@ use Rattle.luks1_edits.proofs.HeaderFacts.{entry_is, header_clear, len_is, start
 use Rattle.luks1_edits.proofs.KeptFacts.{either_decided, front, keeps_entries, keeps_others, kept_common, luks1_after, luks1_area_of, same_keyslot, stays_well_formed}
 use Rattle.luks1_edits.proofs.KeyFacts.{gives_once, planned_of}
 use Rattle.luks1_edits.proofs.MadeKeyslotFacts.{IsMadeFrom, IsPlanned, made_opens}
-use Rattle.luks1_edits.proofs.UuidFacts.{set_text, set_uuid, uuid_answers, uuid_chosen, uuid_entries, uuid_faults, uuid_others, uuid_well}
+use Rattle.luks1_edits.proofs.UuidFacts.{set_text, set_uuid, uuid_answers, uuid_chosen, uuid_faults, uuid_others, uuid_well}
 
 -- ---- what no refusal means
 

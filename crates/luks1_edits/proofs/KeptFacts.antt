@@ -9,12 +9,11 @@ use Rattle.luks_area.specs.Ranges.{part, IsAt, IsOfEither, SameBut}
 use Rattle.luks_area.proofs.RangeFacts.{length-part_inside, part-same_but, same_but-wider}
 use Rattle.luks_area.specs.Sectors.{rounded_to_sectors}
 use Rattle.luks1_header.specs.Bytes.{number_at}
-use Rattle.luks1_header.specs.Faults.{HasUnknownState, LacksIterations, IsCommonFault, IsLuks1Fault as IsLuks1HeadFault}
+use Rattle.luks1_header.specs.Faults.{HasUnknownState, LacksIterations, IsLuks1Fault as IsLuks1HeadFault}
 use Rattle.luks1_header.specs.Header1.{entry, entry_stripes}
 use Rattle.luks1_header.specs.declared.fault.HeadFault.{HeadFault}
 use Rattle.luks1_header.specs.declared.fault.HeadFault.TheVariants as fault
 use Rattle.luks1_header.specs.declared.fault.IterationsOf.TheVariants as of
-use Rattle.luks1_header.specs.declared.fault.TextField.TheVariants as field
 use Rattle.luks1_header.proofs.Luks1HeaderFacts.{header_found}
 use Rattle.luks2_header.specs.declared.selection.Copies.{Copies}
 use Rattle.luks2_header.specs.Selection.{luks1, luks2, Chosen}

@@ -11,11 +11,11 @@ pub returns-in-None-clause-replies : goal.returns-in-None-clause-replies
 returns-in-None-clause-replies g c = λ tells e is x.
     nothing_set (g.D.Device.bytes c.args.device.now) c.args.header.now.payload c.args.random.now x.faultless e c.args.rewritten.now is c.in-Ok.ensures.judged c.in-None.is
 
-pub uuid_field_after-requires-clause-good : goal.uuid_field_after-requires-clause-good
-uuid_field_after-requires-clause-good g c = rw c.in-Some.is at c.in-Ok.ensures.judged.good
+pub uuid_field_after-field-requires-clause-good : goal.uuid_field_after-field-requires-clause-good
+uuid_field_after-field-requires-clause-good g c = rw c.in-Some.is at c.in-Ok.ensures.judged.good
 
-pub uuid_field_after-requires-clause-counted : goal.uuid_field_after-requires-clause-counted
-uuid_field_after-requires-clause-counted g c = let counted = (rw c.in-Some.is at c.in-Ok.ensures.judged.counted) in omega (arith, counted)
+pub uuid_field_after-field-requires-clause-counted : goal.uuid_field_after-field-requires-clause-counted
+uuid_field_after-field-requires-clause-counted g c = let counted = (rw c.in-Some.is at c.in-Ok.ensures.judged.counted) in omega (arith, counted)
 
 pub write_uuid-requires-clause-within : goal.write_uuid-requires-clause-within
 write_uuid-requires-clause-within g c =
