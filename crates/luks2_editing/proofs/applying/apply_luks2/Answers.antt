@@ -9,9 +9,7 @@ use Rattle.luks_edit.specs.Asked.{allowed_in, AreShortIn}
 use Rattle.luks2_judging.specs.declared.judged.JudgedEdit.TheVariants as judged
 use Rattle.luks2_judging.specs.Judging.{IsLostArea, Seals, Takes}
 use Rattle.luks2_judging.specs.Room.{IsAllowed}
-use Rattle.luks2_judging.specs.Rows.{HasNoFaultBefore}
 use Rattle.luks2_judging.proofs.DeedFacts.{erased_is}
-use Rattle.luks2_editing.specs.Replies.{Replies2}
 use Rattle.luks2_editing.proofs.AmendingFacts.{taken_numbered}
 use Rattle.luks2_editing.proofs.JudgedFacts.{judged_edit, refused_ends, replied}
 use Rattle.luks2_editing.proofs.applying.apply_luks2.Goals as goal
@@ -134,8 +132,5 @@ returns-in-Erase-clause-replies g c = λ tells is.
     let takes = subst (λ t. Takes copy (g.D.Device.size c.args.device.now) c.args.edit.now t) c.in-Erase.is c.in_ok-judged.ensures.judged.takes in
     let erases = erased_is c.args.edit.now takes.asked in
     let same = c.judge_luks2.ensures.reads.unchanged.same tells in
-    let now = judged_edit same refl c.in_ok-judged.judged c.in_ok-judged.ensures.judged.is is (c.in_ok-judged.ensures.unrefused tells is) in
-    let v = g.D.Device.bytes c.judge_luks2.new.device in
-    replied same refl c.args.payload c.args.random.now _ _
-    (subst (λ e. Replies2 c.args.payload v e c.args.random.now c.erase.result (g.D.Device.bytes c.erase.new.device)) (sym erases)
-    (c.erase.ensures.replies tells c.args.payload now.chosen now.well (subst (λ e. HasNoFaultBefore 20 v c.args.payload e c.args.random.now) erases (now.none c.args.random.now))))
+    let now = judged_edit same erases c.in_ok-judged.judged c.in_ok-judged.ensures.judged.is is (c.in_ok-judged.ensures.unrefused tells is) in
+    replied same erases c.args.payload c.args.random.now _ _ (c.erase.ensures.replies tells c.args.payload now.chosen now.well (now.none c.args.random.now))
