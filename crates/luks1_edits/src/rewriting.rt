@@ -40,13 +40,15 @@ pub(crate) fn rewrite<D: Device>(
         Ok(()) => {}
         Err(fault) => return Err(fault),
     }
-    if rewritten.uuid.is_none() {
-        return Ok(Done { slot: None });
-    }
-    let field = uuid_field_after(rewritten.uuid, random, [0; UUID_BYTES]);
-    match write_uuid(device, &field) {
-        Ok(()) => Ok(Done { slot: None }),
-        Err(_) => Err(EditFault::Device),
+    match rewritten.uuid {
+        Some(uuid) => {
+            let field = uuid_field_after(Some(uuid), random, [0; UUID_BYTES]);
+            match write_uuid(device, &field) {
+                Ok(()) => Ok(Done { slot: None }),
+                Err(_) => Err(EditFault::Device),
+            }
+        }
+        None => Ok(Done { slot: None }),
     }
 }
 
