@@ -67,9 +67,6 @@ sole_at e p x =
     (h.0, subst (λ (a : Area). IsAt a.start a.len p) (sym h.1) x.at)
 
 module _ (es : List Entry) (k : ℕ) (d : Entry) (order : IsIncreasing es) (lt : k < length es) where
-  abbrev item : Entry
-  item = get_or es k d
-
   -- it is of the list
   item_has : (n : ℕ) → (get_or es k d).name ≡ Slot n → HasArea es (Slot n) (get_or es k d).area
   item_has n named = subst (λ m. HasArea es m (get_or es k d).area) named (has_item es k d lt)
