@@ -37,7 +37,7 @@ use Rattle.luks2_edit_laws.specs.Edited.{keyslot_salt, members_of, stripes_rando
 use Rattle.luks2_edit_laws.specs.Leftovers.{CountsAsAfter, CountsAsBefore, IsAllowed, IsNotStray, IsTorn2, IsTornAt, IsTornChosen, IsTornLost, IsTornOther, KeepsAllOrNone, Leftover2, OpensEither2}
 use Rattle.luks2_edit_laws.specs.Metadata.{HasMetadata}
 use Rattle.luks2_edit_laws.specs.Gap.{IsLeastGap}
-use Rattle.luks2_edit_laws.specs.Places.{key_areas_end, rounded_to_blocks, IsNewArea, IsOfCopies, IsOfNewKeyslot, IsOfSealed, IsTouched}
+use Rattle.luks2_edit_laws.specs.Places.{key_areas_end, rounded_to_blocks, IsNewArea, IsOfCopies, IsOfLost, IsOfNewKeyslot, IsOfSealed, IsTouched}
 use Rattle.luks2_edit_laws.specs.Refused.{IsUnrefused2}
 use Rattle.luks2_edit_laws.proofs.MetadataFacts.{some_same}
 use Rattle.luks2_edit_laws.proofs.OpenedFacts.{changed_opens}
@@ -246,9 +246,9 @@ opens_written v payload (Label text subsystem) random w well ranges free long j 
 opens_written v payload (Uuid uuid) random w well ranges free long j k p b chosen a edited sealed = tt
 opens_written v payload (Amend c) random w well ranges free long j k p b chosen a edited sealed = tt
 
-sealed_or_copy : (A B : Type 0) → A ⊎ B → B ⊎ A ⊎ ⊥
-sealed_or_copy A B (inl a) = inr (inl a)
-sealed_or_copy A B (inr b) = inl b
+sealed_or_copy : (A B C : Type 0) → A ⊎ B → B ⊎ A ⊎ C
+sealed_or_copy A B C (inl a) = inr (inl a)
+sealed_or_copy A B C (inr b) = inl b
 
 -- ---- by the step that failed
 
@@ -280,7 +280,7 @@ opens_before v payload (AddByKey key new to iterations d) random w well ranges o
 opens_before v payload (Change slot old new iterations d) random w well ranges o j m b chosen same rest = λ key was.
     (let e : Edit = Change slot old new iterations d in
     let all : SameBut (IsTouched (hdr_size (header_at v o)) (length v) payload j (Add slot old new None iterations d)) v w =
-    same_but-wider (λ p x. sealed_or_copy (IsOfSealed (hdr_size (header_at v o)) (length v) payload j e p) (IsOfCopies (hdr_size (header_at v o)) p) x) rest in
+    same_but-wider (λ p x. sealed_or_copy (IsOfSealed (hdr_size (header_at v o)) (length v) payload j e p) (IsOfCopies (hdr_size (header_at v o)) p) (IsOfLost j (Add slot old new None iterations d) p) x) rest in
     let kept : Keeps payload (λ n. ⊥) v w =
     kept_before v payload e random w well ranges rest.length_same (λ n. ⊥) (Add slot old new None iterations d) (λ n lost. lost)
     o j m b chosen same all in

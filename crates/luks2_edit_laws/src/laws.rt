@@ -42,7 +42,7 @@ pub fn alike_slots_answer_alike()
 /// After an edit of a well formed LUKS2 volume that nothing refused, the volume is well formed, and
 /// its copies are in step; the segments are as before, and so are the area, the value and the
 /// answers of each keyslot that the edit didn't name. Each area that a keyslot loses is zeros, and a
-/// keyslot that isn't sealed again opens no more by any passphrase. Where the
+/// keyslot that loses its area and isn't sealed again opens no more by any passphrase. Where the
 /// metadata changes in named members, each keyslot has its area and its answers, the one too whose
 /// priority is set.
 pub fn luks2_edit_keeps_volume()

@@ -182,7 +182,7 @@ module _ (v : List ℕ) (payload : Data) (copy : ChosenCopy) (x : IsChosenCopy v
         second = anew_kept.second;
         slot = slot;
         loses = refl;
-        wiped = λ n low same. absurd (omega (arith, low, same));
+        wiped = λ n low loses. (let same : n ≡ slot = loses in absurd (omega (arith, low, same)));
         rest = rest_touched;
       }))))
 

@@ -67,7 +67,7 @@ module _ (v : List ℕ) (o : ℕ) (e : Edit) (random : List ℕ) (j : Value) (w 
 -- ---- the keyslot's area
 
 module _ (v : List ℕ) (payload : Data) (copy : ChosenCopy) (x : IsChosenCopy v copy) (well : WellFormed v payload) (slot : ℕ) where
-  area_named : (a : Area) → IsKeyArea (content copy.meta) slot a → AreaOf v payload (Slot slot) a
+  pub area_named : (a : Area) → IsKeyArea (content copy.meta) slot a → AreaOf v payload (Slot slot) a
   area_named a is = record { choice = luks2 copy.header.hdr_offset copy.copies; chosen = x.chosen; area = record { value = content copy.meta; holds = x.metadata.json; area = is } }
 
   module _ (area : Area) (is : IsKeyArea (content copy.meta) slot area) where

@@ -13,10 +13,7 @@ use luks_writing::wipe_area;
 
 /// Overwrites the areas of the keyslots in the list with zeros, by their numbers, each with a flush. Other
 /// areas of the list stay as they are.
-pub(crate) fn wipe_keyslots<D: Device>(
-    device: &mut D,
-    areas: &[Entry],
-) -> Result<(), DeviceFault>
+pub(crate) fn wipe_keyslots<D: Device>(device: &mut D, areas: &[Entry]) -> Result<(), DeviceFault>
     requires inside { (n : ℕ) (a : TheArea) → HasArea areas.now (Slot n) a
         → IsInside a (D.size device.old) }
     requires increasing { IsIncreasing areas.now }
