@@ -1,5 +1,5 @@
 //! Setting the uuid of a LUKS1 volume.
-ghost use Rattle.std.specs.Prelude.{◌≡◌, ◌≢◌, ◌+◌, ◌^◌, ◌<◌, List, false, IfErr, MatchResult};
+ghost use Rattle.std.specs.Prelude.{◌≡◌, ◌≢◌, ◌+◌, ◌^◌, ◌<◌, false, IfErr, MatchResult};
 ghost use Rattle.luks_area.specs.Device.{CountsFailure, IsSettled};
 ghost use Rattle.luks_edit.specs.Asked.{deed_of};
 ghost use Rattle.luks_edit.specs.EditFaults.{is_edit_failure};
