@@ -271,6 +271,8 @@ static int edits_by_name(int fd, uint64_t offset, uint64_t length, char **words)
         answer = luks_change(fd, offset, length, is_detached, slot, old, old_bytes, text, text_bytes, iterations, chosen, memory, older, &made);
     else if (kind == LUKS_REMOVE)
         answer = luks_remove(fd, offset, length, is_detached, slot, by, old, old_bytes, memory, older);
+    else if (kind == LUKS_ERASE)
+        answer = luks_erase(fd, offset, length, is_detached);
     else if (kind == LUKS_REPAIR)
         answer = luks_repair(fd, offset, length, is_detached);
     else if (kind == LUKS_LABEL && is_subsystem(words[5]))

@@ -1420,6 +1420,12 @@ uint32_t luks_remove(int fd, uint64_t offset, uint64_t length, bool is_detached,
     return luks_apply(fd, offset, length, is_detached, &edit, passphrase, passphrase_bytes, NULL, 0, NULL, 0, NULL);
 }
 
+uint32_t luks_erase(int fd, uint64_t offset, uint64_t length, bool is_detached)
+{
+    struct luks_edit edit = {.size = sizeof edit, .kind = LUKS_ERASE};
+    return luks_apply(fd, offset, length, is_detached, &edit, NULL, 0, NULL, 0, NULL, 0, NULL);
+}
+
 uint32_t luks_repair(int fd, uint64_t offset, uint64_t length, bool is_detached)
 {
     struct luks_edit edit = {.size = sizeof edit, .kind = LUKS_REPAIR};

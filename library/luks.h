@@ -251,7 +251,8 @@ enum {
     LUKS_PRIORITY = 6,
     LUKS_TOKEN_ADD = 7,
     LUKS_TOKEN_REMOVE = 8,
-    LUKS_UUID = 9
+    LUKS_UUID = 9,
+    LUKS_ERASE = 10
 };
 struct luks_edit {
     uint64_t size;       /* of the struct */
@@ -559,6 +560,10 @@ uint32_t luks_add_by_key(int fd, uint64_t offset, uint64_t length, bool is_detac
 
 uint32_t luks_remove(int fd, uint64_t offset, uint64_t length, bool is_detached, uint32_t slot, uint32_t by, const void *passphrase,
                      size_t passphrase_bytes, uint32_t memory, uint32_t older);
+
+/* Removes every keyslot and wipes its area, of LUKS1 those too that aren't in use. No passphrase is asked, and none opens the volume afterwards: only a backup of the header
+ * brings the data back, or the volume key, by luks_add_by_key. */
+uint32_t luks_erase(int fd, uint64_t offset, uint64_t length, bool is_detached);
 
 /* LUKS2: writes both copies of the header anew from the one that counts. LUKS1: nothing. */
 uint32_t luks_repair(int fd, uint64_t offset, uint64_t length, bool is_detached);

@@ -59,7 +59,7 @@ __all__ = ["CIPHERS", "Comparison", "Derivation", "Digest", "Fault", "Header", "
 VERSION = LIBRARY.luks_version().decode("ascii")
 """The version of the library."""
 
-ADD, CHANGE, REMOVE, REPAIR, LABEL, PRIORITY, TOKEN_ADD, TOKEN_REMOVE, UUID = range(1, 10)
+ADD, CHANGE, REMOVE, REPAIR, LABEL, PRIORITY, TOKEN_ADD, TOKEN_REMOVE, UUID, ERASE = range(1, 11)
 PRIORITIES = ("ignore", "normal", "prefer")
 HASHES = (None, "sha1", "sha256", "sha512")
 CIPHERS = ("aes-xts-plain64", "aes-xts-plain", "aes-cbc-essiv:sha256", "aes-cbc-plain64", "aes-cbc-plain")
@@ -418,6 +418,10 @@ class Volume:
     def remove(self, slot: int, passphrase: Buffer, by: Optional[int] = None, memory: int = 0, older: bool = False, *, is_key: bool = False) -> None:
         """Removes the keyslot and wipes its area, by its own passphrase or by that of the keyslot `by`; `is_key` is as of `add`."""
         self._edited(EditRecord(kind=REMOVE, slot=_slot(slot), by=_slot_or_none(by)), passphrase, b"", memory, older, is_key)
+
+    def erase(self) -> None:
+        """Removes every keyslot and wipes its area. No passphrase opens the volume afterwards: only a backup of the header, or the volume key, brings the data back."""
+        self._edited(EditRecord(kind=ERASE), b"", b"")
 
     def repair(self) -> None:
         """LUKS2: writes both copies of the header anew from the one that counts. LUKS1: nothing."""

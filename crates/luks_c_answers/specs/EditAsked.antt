@@ -9,7 +9,7 @@ use Rattle.luks_making.specs.declared.amended.Change.TheVariants as change
 use Rattle.luks_making.specs.declared.amended.Priority.{Priority}
 use Rattle.luks_making.specs.declared.amended.Priority.TheVariants as priority
 use Rattle.luks_edit.specs.declared.edit.Edit.{Edit}
-use Rattle.luks_edit.specs.declared.edit.Edit.TheVariants.{Add, AddByKey, Change, Remove, Repair, Label, Uuid, Amend}
+use Rattle.luks_edit.specs.declared.edit.Edit.TheVariants.{Add, AddByKey, Change, Remove, Erase, Repair, Label, Uuid, Amend}
 use Rattle.luks_edit.specs.declared.edit.Secret.{Secret}
 use Rattle.luks_edit.specs.declared.edit.SecretKind.{SecretKind}
 use Rattle.luks_edit.specs.declared.edit.SecretKind.TheVariants.{Key, Passphrase}
@@ -79,6 +79,7 @@ IsOtherAsked asked words text subsystem (Change slot old new iterations derivati
     × (new.now ≡ text) × (iterations ≡ asked.iterations) × IsChoice asked.derivation derivation
 IsOtherAsked asked words text subsystem (Remove slot by_ secret) = (asked.kind ≡ 3) × IsSlot asked.slot slot × IsMaybeSlot asked.by_ by_
     × IsSecret words asked secret
+IsOtherAsked asked words text subsystem Erase = asked.kind ≡ 10
 IsOtherAsked asked words text subsystem Repair = asked.kind ≡ 4
 IsOtherAsked asked words text subsystem (Label label s) = (asked.kind ≡ 5) × (label.now ≡ text) × IsMaybeSubsystem asked.subsystem subsystem s
 IsOtherAsked asked words text subsystem (Uuid own) = (asked.kind ≡ 9) × IsUuidAsked text own

@@ -34,7 +34,8 @@ pub struct LuksDerivation {
 #[derive(Clone, Copy, Drop)]
 pub struct LuksEdit {
     /// 1 adds a keyslot, 2 changes one's passphrase, 3 removes one, 4 repairs the header, 5 sets the
-    /// label, 6 a keyslot's priority, 7 adds a token, 8 removes one, 9 sets the uuid.
+    /// label, 6 a keyslot's priority, 7 adds a token, 8 removes one, 9 sets the uuid, 10
+    /// erases all keyslots.
     pub kind: u32,
     /// Of a change, a removal and a priority the keyslot.
     pub slot: u32,
@@ -156,6 +157,7 @@ fn edit_of<'a>(
             subsystem: subsystem_of(asked.subsystem, subsystem),
         }),
         9 => Ok(Edit::Uuid(uuid_of(text)?)),
+        10 => Ok(Edit::Erase),
         _ => Err(Unasked),
     }
 }
