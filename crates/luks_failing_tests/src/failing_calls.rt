@@ -91,7 +91,8 @@ fn is_before_or_after(
 }
 
 /// Whichever call fails, it is told after that call, and is the last; the bytes that earlier calls
-/// wrote are left, what the failing one leaves, and all others as they were.
+/// wrote are left, what the failing one leaves, and all others as they were. The keyslots open that have to,
+/// but where the uuid of LUKS1 is left as nothing wrote it.
 fn fails_at_each_call(
     rt: &impl Abort,
     alloc: Global,
@@ -120,7 +121,8 @@ fn fails_at_each_call(
         assert!(rt; calls.len() == i.wrapping_add(1), "call {i}: the calls");
         assert!(rt; left.contents() == want.as_slice(), "call {i}: the bytes");
         let opened = keyslots_open(alloc, &mut left, trial);
-        assert!(rt; opened, "call {i}: the keyslots");
+        let torn = !is_luks2 && trial.sets_uuid() && len > 0 && leave == Leave::Ones;
+        assert!(rt; opened != torn, "call {i}: the keyslots");
         let known = !is_luks2 || is_before_or_after(alloc, &mut left, before, after)?;
         assert!(rt; known, "call {i}: the copy that counts");
         put(&mut want, at, new);
