@@ -11,6 +11,7 @@ _luks() {
         [remove]="--slot --by --passphrase --passphrase-line --key --random --memory --older --over --detached --offset --length --quiet --help"
         [repair]="--random --over --detached --offset --length --quiet --help"
         [label]="--random --subsystem --over --detached --offset --length --quiet --help"
+        [uuid]="--random --over --detached --offset --length --quiet --help"
         [priority]="--slot --random --over --detached --offset --length --quiet --help"
         [token]="--to --random --over --detached --offset --length --quiet --help"
         [format]="--passphrase --passphrase-line --random --version --hash --iterations --kdf --kdf-memory --passes --lanes --iter-time --memory --cipher --key-bytes --sector-size --older --key --payload --uuid --label --subsystem --over --detached --offset --length --quiet --help"

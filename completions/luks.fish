@@ -117,6 +117,15 @@ complete -c luks -n '__fish_seen_subcommand_from label' -l offset -x -d 'The byt
 complete -c luks -n '__fish_seen_subcommand_from label' -l length -x -d 'How many bytes the volume has'
 complete -c luks -n '__fish_seen_subcommand_from label' -l quiet -d 'No hints on standard error'
 
+complete -c luks -n __fish_use_subcommand -a uuid -d 'Sets the uuid of a volume'
+complete -c luks -n '__fish_seen_subcommand_from uuid' -F
+complete -c luks -n '__fish_seen_subcommand_from uuid' -l random -r -F -d 'The file of the random bytes, as /dev/urandom'
+complete -c luks -n '__fish_seen_subcommand_from uuid' -l over -d 'Write over another use of the disk'
+complete -c luks -n '__fish_seen_subcommand_from uuid' -l detached -d 'The data is on another device, no segment judged'
+complete -c luks -n '__fish_seen_subcommand_from uuid' -l offset -x -d 'The byte of the file where the volume begins'
+complete -c luks -n '__fish_seen_subcommand_from uuid' -l length -x -d 'How many bytes the volume has'
+complete -c luks -n '__fish_seen_subcommand_from uuid' -l quiet -d 'No hints on standard error'
+
 complete -c luks -n __fish_use_subcommand -a priority -d 'Sets when a keyslot of LUKS2 is tried'
 complete -c luks -n '__fish_seen_subcommand_from priority' -F
 complete -c luks -n '__fish_seen_subcommand_from priority' -l slot -x -a '(seq 0 31)' -d 'The keyslot, 0 to 31'
@@ -242,4 +251,4 @@ complete -c luks -n __fish_use_subcommand -a explain -d 'Says what a fault means
 complete -c luks -n '__fish_seen_subcommand_from explain' -a '(luks explain 2>/dev/null | cut -d" " -f1)'
 
 complete -c luks -n __fish_use_subcommand -a help -d 'Print help'
-complete -c luks -n '__fish_seen_subcommand_from help' -a 'check show open add change remove repair label priority token format convert rebuild find backup restore compare key explain'
+complete -c luks -n '__fish_seen_subcommand_from help' -a 'check show open add change remove repair label uuid priority token format convert rebuild find backup restore compare key explain'

@@ -71,6 +71,7 @@ class Number(enum.IntEnum):
     TOKEN_TAKEN = 60
     NO_FREE_TOKEN = 61
     UNREADABLE_TOKEN = 62
+    BAD_UUID = 63
     USAGE = 101
     BEYOND = 102
     MEMORY = 103

@@ -96,6 +96,7 @@ fault_number fault.NoSuchToken = 59
 fault_number fault.TokenTaken = 60
 fault_number fault.NoFreeToken = 61
 fault_number fault.UnreadableToken = 62
+fault_number fault.BadUuid = 63
 
 -- the fault of this number, if there is one
 abbrev pub fault_numbered : ℕ → Option Fault
@@ -162,6 +163,7 @@ edit_number edit.NoSuchToken = 59
 edit_number edit.TokenTaken = 60
 edit_number edit.NoFreeToken = 61
 edit_number edit.UnreadableToken = 62
+edit_number edit.BadUuid = 63
 edit_number (edit.BadToken f) = number_printed (meta_fault_text f)
 edit_number edit.SeqExhausted = 37
 edit_number edit.MetadataFull = 38

@@ -121,6 +121,7 @@ fn number_of_call(fault: Fault) -> u32
         Fault::TokenTaken => 60,
         Fault::NoFreeToken => 61,
         Fault::UnreadableToken => 62,
+        Fault::BadUuid => 63,
         _ => UNKNOWN,
     }
 }
@@ -205,6 +206,7 @@ pub fn edit_number(fault: &EditFault) -> u32
         EditFault::TokenTaken => number_of(Fault::TokenTaken),
         EditFault::NoFreeToken => number_of(Fault::NoFreeToken),
         EditFault::UnreadableToken => number_of(Fault::UnreadableToken),
+        EditFault::BadUuid => number_of(Fault::BadUuid),
         EditFault::BadToken(fault) => told_number(Fault::of_meta(fault)),
         EditFault::SeqExhausted => number_of(Fault::SeqExhausted),
         EditFault::MetadataFull => number_of(Fault::MetadataFull),

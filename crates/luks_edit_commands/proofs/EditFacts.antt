@@ -21,7 +21,7 @@ use Rattle.luks_volume.specs.Edits.{NamedSlots, Refusal, Replies}
 use Rattle.luks_volume.specs.Needed.{NeedsRandom}
 use Rattle.luks_volume.specs.Outcome.{Spares}
 use Rattle.luks_request.specs.declared.request.EditRequest.{EditRequest}
-use Rattle.luks_request.specs.declared.request.EditRequest.TheVariants.{Add, AddByKey, Change, Remove, Repair, Label, Priority, AddToken, RemoveToken}
+use Rattle.luks_request.specs.declared.request.EditRequest.TheVariants.{Add, AddByKey, Change, Remove, Repair, Label, Uuid, Priority, AddToken, RemoveToken}
 use Rattle.luks_request.specs.Named.{edit_new_of, edit_passphrase_of}
 use Rattle.luks_request.specs.declared.request.Editing.{Editing}
 use Rattle.luks_request.specs.declared.request.OpenerFile.{OpenerFile}
@@ -330,6 +330,7 @@ asked_of v (Change slot opener memory older new iterations kdf) IsOld IsNew p q 
 asked_of v (Remove slot by_ opener memory older) IsOld IsNew p q (edit.Remove s b o) old fresh is = (is.0, is.1, secret_of opener memory older IsOld p o old is.2)
 asked_of v Repair IsOld IsNew p q edit.Repair old fresh is = is
 asked_of v (Label text subsystem) IsOld IsNew p q (edit.Label t s) old fresh is = is
+asked_of v (Uuid text) IsOld IsNew p q (edit.Uuid u) old fresh is = is
 asked_of v (Priority slot priority) IsOld IsNew p q (edit.Amend (change.Priority s r)) old fresh is = is
 asked_of v (AddToken token to) IsOld IsNew p q (edit.Amend (change.AddToken t value)) old fresh is = (is.0, text_of IsOld p (view value.now) old is.1)
 asked_of v (RemoveToken number) IsOld IsNew p q (edit.Amend (change.RemoveToken n)) old fresh is = is
@@ -339,6 +340,7 @@ asked_of v (Change slot opener memory older new iterations kdf) IsOld IsNew p q 
 asked_of v (Remove slot by_ opener memory older) IsOld IsNew p q e old fresh is = absurd is
 asked_of v Repair IsOld IsNew p q e old fresh is = absurd is
 asked_of v (Label text subsystem) IsOld IsNew p q e old fresh is = absurd is
+asked_of v (Uuid text) IsOld IsNew p q e old fresh is = absurd is
 asked_of v (Priority slot priority) IsOld IsNew p q e old fresh is = absurd is
 asked_of v (AddToken token to) IsOld IsNew p q e old fresh is = absurd is
 asked_of v (RemoveToken number) IsOld IsNew p q e old fresh is = absurd is
@@ -357,6 +359,7 @@ asked_somehow v (Change slot opener memory older new iterations kdf) IsOld IsNew
 asked_somehow v (Remove slot by_ opener memory older) IsOld IsNew (edit.Remove s b o) is = (is.0, is.1, secret_somehow opener memory older IsOld o is.2)
 asked_somehow v Repair IsOld IsNew edit.Repair is = is
 asked_somehow v (Label text subsystem) IsOld IsNew (edit.Label t s) is = is
+asked_somehow v (Uuid text) IsOld IsNew (edit.Uuid u) is = is
 asked_somehow v (Priority slot priority) IsOld IsNew (edit.Amend (change.Priority s r)) is = is
 asked_somehow v (AddToken token to) IsOld IsNew (edit.Amend (change.AddToken t value)) is =
     (is.0, record { text = is.1.text; words = tt; utf8 = is.1.utf8; reads = is.1.reads })
@@ -367,6 +370,7 @@ asked_somehow v (Change slot opener memory older new iterations kdf) IsOld IsNew
 asked_somehow v (Remove slot by_ opener memory older) IsOld IsNew e is = absurd is
 asked_somehow v Repair IsOld IsNew e is = absurd is
 asked_somehow v (Label text subsystem) IsOld IsNew e is = absurd is
+asked_somehow v (Uuid text) IsOld IsNew e is = absurd is
 asked_somehow v (Priority slot priority) IsOld IsNew e is = absurd is
 asked_somehow v (AddToken token to) IsOld IsNew e is = absurd is
 asked_somehow v (RemoveToken number) IsOld IsNew e is = absurd is
@@ -394,6 +398,7 @@ missed_of payload v (Remove None by_ opener memory older) IsOld p old f is = mis
 missed_of payload v (Remove (Some n) by_ opener memory older) IsOld p old f is = absurd is
 missed_of payload v Repair IsOld p old f is = absurd is
 missed_of payload v (Label text subsystem) IsOld p old f is = absurd is
+missed_of payload v (Uuid text) IsOld p old f is = absurd is
 missed_of payload v (Priority slot priority) IsOld p old f is = absurd is
 missed_of payload v (AddToken token to) IsOld p old f is = (no_text_of IsOld p old is.0, is.1)
 missed_of payload v (RemoveToken number) IsOld p old f is = absurd is

@@ -25,13 +25,13 @@ use Rattle.luks_edit.specs.EditFaults.{edit_key, is_edit_failure}
 use Rattle.luks_volume.specs.Needed.{IsNeedFault, IsNeedFaultAs, IsUntold}
 use Rattle.luks_request.specs.declared.derivation.AskedKdf.{AskedKdf}
 use Rattle.luks_request.specs.declared.request.EditRequest.{EditRequest}
-use Rattle.luks_request.specs.declared.request.EditRequest.TheVariants.{Add, AddByKey, Change, Remove, Repair, Label, Priority, AddToken, RemoveToken}
+use Rattle.luks_request.specs.declared.request.EditRequest.TheVariants.{Add, AddByKey, Change, Remove, Repair, Label, Uuid, Priority, AddToken, RemoveToken}
 use Rattle.luks_request.specs.declared.request.Editing.{Editing}
 use Rattle.luks_request.specs.declared.request.OpenerFile.{OpenerFile}
 use Rattle.luks_commands.specs.Chosen.{chosen_of}
 use Rattle.luks_commands.specs.OpenAnswers.{allowed_of}
 use Rattle.luks_edit_commands.specs.declared.edit.seen.Unseen.TheVariants.{Untold}
-use Rattle.luks_edit_commands.specs.Editing.{IsAsked, IsFirstSeen, IsMissed, IsSecret, IsUnfound, IsUnseen, Misses, UnlessOutside, IsTokenOf, kind_of, priority_of, unopened_fault}
+use Rattle.luks_edit_commands.specs.Editing.{IsAsked, IsFirstSeen, IsMissed, IsSecret, IsUnfound, IsUnseen, Misses, UnlessOutside, IsTokenOf, kind_of, priority_of, unopened_fault, uuid_of}
 
 -- what follows from a fault follows unless the device failed or memory was refused
 pub outside_as : (v : List ℕ) (P Q : EditFault → Type 0) → ((f : EditFault) → P f → Q f) → (f : EditFault) → UnlessOutside v P f → UnlessOutside v Q f
@@ -136,6 +136,7 @@ module _ (payload : Data) (v : List ℕ) (old new : Bor (List ℕ)) (f : EditFau
   either_way value (Remove (Some slot) by_ opener memory older) read_ = inr (edit.Remove slot by_ (secret_for opener old memory older), (refl, refl, secret_is opener old memory older))
   either_way value Repair read_ = inr (edit.Repair, tt)
   either_way value (Label text subsystem) read_ = inr (edit.Label text subsystem, (refl, refl))
+  either_way value (Uuid text) read_ = inr (edit.Uuid (uuid_of text), refl)
   either_way value (Priority slot priority) read_ = inr (edit.Amend (change.Priority slot (priority_of priority)), (refl, refl))
   either_way value (AddToken token to) read_ = added_way token to value read_
   either_way value (RemoveToken number) read_ = inr (edit.Amend (change.RemoveToken number), refl)

@@ -15,7 +15,7 @@ use Rattle.luks_meta.specs.Content.{content}
 use Rattle.luks_reading.specs.declared.header.Header.{Header}
 use Rattle.luks_reading.specs.declared.header.Header.TheVariants.{Luks1, Luks2}
 use Rattle.luks_edit.specs.declared.edit.Edit.{Edit}
-use Rattle.luks_edit.specs.declared.edit.Edit.TheVariants.{Add, AddByKey, Change, Remove, Repair, Label, Amend}
+use Rattle.luks_edit.specs.declared.edit.Edit.TheVariants.{Add, AddByKey, Change, Remove, Repair, Label, Uuid, Amend}
 use Rattle.luks_show.specs.Texts.{escaped}
 use Rattle.luks_edit_commands.specs.declared.edit.noted.Fate.{Fate}
 use Rattle.luks_edit_commands.specs.declared.edit.noted.Fate.TheVariants.{Changed, Removed}
@@ -55,6 +55,7 @@ luks1_lines (Change slot old new iterations derivation) = []
 luks1_lines (Remove slot by_ passphrase) = []
 luks1_lines Repair = codes "luks: LUKS1 has one copy of its header: there is nothing to repair" ++ 10 ∷ []
 luks1_lines (Label text subsystem) = []
+luks1_lines (Uuid uuid) = []
 luks1_lines (Amend change) = []
 
 abbrev pub luks2_lines : Data → Edit → List ℕ
@@ -64,6 +65,7 @@ luks2_lines j (Change slot old new iterations derivation) = token_lines Changed 
 luks2_lines j (Remove slot by_ passphrase) = token_lines Removed slot j 32
 luks2_lines j Repair = []
 luks2_lines j (Label text subsystem) = []
+luks2_lines j (Uuid uuid) = []
 luks2_lines j (Amend change) = []
 
 abbrev pub edit_lines : Header → Edit → List ℕ

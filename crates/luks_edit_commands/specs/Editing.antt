@@ -22,6 +22,8 @@ use Rattle.luks_edit.specs.declared.edit.Edit.TheVariants as edit
 use Rattle.luks_edit.specs.declared.edit.Secret.{Secret}
 use Rattle.luks_edit.specs.declared.edit.SecretKind.{SecretKind}
 use Rattle.luks_edit.specs.declared.edit.SecretKind.TheVariants as kind
+use Rattle.luks_edit.specs.declared.new_uuid.NewUuid.{NewUuid}
+use Rattle.luks_edit.specs.declared.new_uuid.NewUuid.TheVariants as uuid
 use Rattle.luks_edit.specs.declared.edit_fault.EditFault.{EditFault}
 use Rattle.luks_edit.specs.declared.edit_fault.EditFault.TheVariants.{Locked, BadToken, Memory, Device}
 use Rattle.luks_edit.specs.EditFaults.{edit_key}
@@ -32,7 +34,7 @@ use Rattle.luks_volume.specs.Needed.{IsNeedFault, NeedsRandom}
 use Rattle.luks_volume.specs.Outcome.{Spares}
 use Rattle.luks_signatures.specs.declared.other_use.OtherUse.{OtherUse}
 use Rattle.luks_request.specs.declared.request.EditRequest.{EditRequest}
-use Rattle.luks_request.specs.declared.request.EditRequest.TheVariants.{Add, AddByKey, Change, Remove, Repair, Label, Priority, AddToken, RemoveToken}
+use Rattle.luks_request.specs.declared.request.EditRequest.TheVariants.{Add, AddByKey, Change, Remove, Repair, Label, Uuid, Priority, AddToken, RemoveToken}
 use Rattle.luks_request.specs.declared.request.Editing.{Editing}
 use Rattle.luks_request.specs.declared.token.AskedPriority.{AskedPriority}
 use Rattle.luks_request.specs.declared.token.AskedPriority.TheVariants as asked
@@ -84,6 +86,11 @@ pub record HasNoText (IsOld : List ℕ → Type 0) : Type 0 where
   pub words : IsOld text
   pub bad : IsUtf8 text → read text ≡ None
 
+-- the uuid is the text that is given, or else a new one
+abbrev pub uuid_of : Option (Bor (List ℕ)) → NewUuid
+uuid_of None = uuid.Random
+uuid_of (Some text) = uuid.Text text
+
 abbrev pub priority_of : AskedPriority → Priority_
 priority_of asked.Ignore = priority.Ignore
 priority_of asked.Normal = priority.Normal
@@ -102,6 +109,7 @@ IsAsked v (Remove slot by_ opener memory older) IsOld IsNew (edit.Remove s b o) 
     IsMeant v slot o s × (b ≡ by_) × IsSecret opener memory older IsOld o
 IsAsked v Repair IsOld IsNew edit.Repair = ⊤
 IsAsked v (Label text subsystem) IsOld IsNew (edit.Label t s) = (t.now ≡ text.now) × (option_map (λ x. x.now) s ≡ option_map (λ x. x.now) subsystem)
+IsAsked v (Uuid text) IsOld IsNew (edit.Uuid u) = u ≡ uuid_of text
 IsAsked v (Priority slot priority) IsOld IsNew (edit.Amend (change.Priority s p)) = (s ≡ slot) × (p ≡ priority_of priority)
 IsAsked v (AddToken token to) IsOld IsNew (edit.Amend (change.AddToken t value)) = (t ≡ to) × HasText IsOld (view value.now)
 IsAsked v (RemoveToken number) IsOld IsNew (edit.Amend (change.RemoveToken n)) = n ≡ number

@@ -147,6 +147,7 @@ edit_parts editing.NoSuchToken = bare (codes "NoSuchToken") refl
 edit_parts editing.TokenTaken = bare (codes "TokenTaken") refl
 edit_parts editing.NoFreeToken = bare (codes "NoFreeToken") refl
 edit_parts editing.UnreadableToken = bare (codes "UnreadableToken") refl
+edit_parts editing.BadUuid = bare (codes "BadUuid") refl
 edit_parts (editing.BadToken f) = meta_parts f
 edit_parts editing.SeqExhausted = bare (codes "SeqExhausted") refl
 edit_parts editing.MetadataFull = bare (codes "MetadataFull") refl

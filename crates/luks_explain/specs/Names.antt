@@ -54,6 +54,7 @@ name_of fault.NoSuchToken = codes "NoSuchToken"
 name_of fault.TokenTaken = codes "TokenTaken"
 name_of fault.NoFreeToken = codes "NoFreeToken"
 name_of fault.UnreadableToken = codes "UnreadableToken"
+name_of fault.BadUuid = codes "BadUuid"
 name_of fault.SeqExhausted = codes "SeqExhausted"
 name_of fault.MetadataFull = codes "MetadataFull"
 name_of fault.RandomLength = codes "RandomLength"
@@ -120,6 +121,7 @@ all_faults =
     ∷ fault.TokenTaken
     ∷ fault.NoFreeToken
     ∷ fault.UnreadableToken
+    ∷ fault.BadUuid
     ∷ fault.SeqExhausted
     ∷ fault.MetadataFull
     ∷ fault.RandomLength
@@ -190,6 +192,7 @@ named fault.NoSuchToken = refl
 named fault.TokenTaken = refl
 named fault.NoFreeToken = refl
 named fault.UnreadableToken = refl
+named fault.BadUuid = refl
 named fault.SeqExhausted = refl
 named fault.MetadataFull = refl
 named fault.RandomLength = refl
@@ -259,6 +262,7 @@ called fault.NoSuchToken = refl
 called fault.TokenTaken = refl
 called fault.NoFreeToken = refl
 called fault.UnreadableToken = refl
+called fault.BadUuid = refl
 called fault.SeqExhausted = refl
 called fault.MetadataFull = refl
 called fault.RandomLength = refl

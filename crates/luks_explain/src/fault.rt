@@ -99,6 +99,8 @@ pub enum Fault {
     NoFreeToken,
     /// cryptsetup doesn't read metadata with the token.
     UnreadableToken,
+    /// The uuid to set isn't one.
+    BadUuid,
     /// There is no higher sequence number.
     SeqExhausted,
     /// The new metadata is longer than its area.
@@ -150,7 +152,7 @@ impl Fault {
     /// Every fault: of the header, the metadata of LUKS2, the areas, the keyslot that is to be opened,
     /// then of an edit, of formatting, of converting, of rebuilding and of header backups, and at last of
     /// another use of the disk and of a reencryption.
-    pub const ALL: [Fault; 62] = [
+    pub const ALL: [Fault; 63] = [
         Fault::TooShort,
         Fault::NotLuks,
         Fault::Version,
@@ -195,6 +197,7 @@ impl Fault {
         Fault::TokenTaken,
         Fault::NoFreeToken,
         Fault::UnreadableToken,
+        Fault::BadUuid,
         Fault::SeqExhausted,
         Fault::MetadataFull,
         Fault::RandomLength,
@@ -235,7 +238,7 @@ impl Fault {
             JsonArea BadJson NotWhole Shape Kind NoSuchName Assigned Sizes AreaTooSmall Region
             Outside Overlap NoSuchSlot SameSlot SlotFree Argon2 Cipher Hash KeySize NoSuchDigest KeyLength
             WrongKey Locked Passphrase Requirements SlotTaken NoFreeSlot NoRoom LastSlot BadLabel
-            NoSuchToken TokenTaken NoFreeToken UnreadableToken SeqExhausted MetadataFull
+            NoSuchToken TokenTaken NoFreeToken UnreadableToken BadUuid SeqExhausted MetadataFull
             RandomLength Payload TooSmall SectorSize Uneven NotLuks1 SameFile Counts NoMetadata NoHeader Exists
             NotAccepted DoesNotFit OtherVolume OtherUse Reencrypting
         )

@@ -151,6 +151,7 @@ impl Fault {
             EditFault::TokenTaken => Some(Fault::TokenTaken),
             EditFault::NoFreeToken => Some(Fault::NoFreeToken),
             EditFault::UnreadableToken => Some(Fault::UnreadableToken),
+            EditFault::BadUuid => Some(Fault::BadUuid),
             EditFault::BadToken(fault) => Fault::of_meta(fault),
             EditFault::SeqExhausted => Some(Fault::SeqExhausted),
             EditFault::MetadataFull => Some(Fault::MetadataFull),

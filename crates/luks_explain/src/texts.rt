@@ -18,20 +18,20 @@ pub(crate) fn means(fault: Fault) -> &'static str {
         Fault::BadJson => "LUKS2: the metadata isn't JSON, or nests more than 127 deep",
         Fault::NotWhole => "LUKS2: a number of the metadata isn't a whole one of 64 bits",
         Fault::Shape => "LUKS2: a member is missing, or isn't what it has to be",
-        Fault::Kind => "LUKS2: a type that isn't known, as of an unfinished reencryption",
+        Fault::Kind => "LUKS2: an unknown type, as of an unfinished reencryption",
         Fault::NoSuchName => "LUKS2: a list names an object that isn't there",
-        Fault::Assigned => "LUKS2: a name twice in a list, or a keyslot not in just one digest",
+        Fault::Assigned => "LUKS2: a name twice in a list, a keyslot not in just one digest",
         Fault::Sizes => "LUKS2: json_size isn't that of the metadata's area",
         Fault::AreaTooSmall => "LUKS2: the area of keyslot N can't hold its stripes",
-        Fault::Region => "LUKS2: a key area lies outside its region, or the data within it",
+        Fault::Region => "LUKS2: a key area lies outside its region, or data within it",
         Fault::Outside => "an area ends past the volume's end",
         Fault::Overlap => "two areas share bytes, so that writing one destroys the other",
-        Fault::NoSuchSlot => "the keyslot isn't there; of an edit of LUKS1 also: it is disabled",
+        Fault::NoSuchSlot => "the keyslot isn't there; of edits of LUKS1 also: it is disabled",
         Fault::SameSlot => "of remove: the keyslot of --by is that of --slot",
         Fault::SlotFree => "LUKS1: the keyslot is disabled",
         Fault::Argon2 => "the keyslot derives by Argon2, with more memory than is allowed",
         Fault::Cipher => "the key area's cipher isn't aes-xts-plain64, nor one of --older",
-        Fault::Hash => "a hash of the keyslot isn't of sha1, sha256, sha512 or of --older",
+        Fault::Hash => "a hash of the keyslot isn't sha1, sha256, sha512 or of --older",
         Fault::KeySize => "the key of the key area's cipher hasn't a length of that cipher",
         Fault::NoSuchDigest => "the digest isn't there, or segment 0 has none",
         Fault::KeyLength => "the file of the key hasn't as many bytes as the volume's key",
@@ -48,6 +48,7 @@ pub(crate) fn means(fault: Fault) -> &'static str {
         Fault::TokenTaken => "the volume has a token of the number of --to",
         Fault::NoFreeToken => "the volume has 32 tokens, and no number is free",
         Fault::UnreadableToken => { "cryptsetup doesn't read such a token: no type, or too deep" }
+        Fault::BadUuid => "of uuid: TEXT isn't 32 hexadecimal digits with hyphens between",
         Fault::SeqExhausted => "there is no higher sequence number",
         Fault::MetadataFull => "the new metadata is longer than its area",
         Fault::RandomLength => "the random file is too short, or none is given",
@@ -159,8 +160,8 @@ pub(crate) fn place(fault: Fault) -> &'static str {
         }
         Fault::Passphrase => "the file of --passphrase or --new",
         Fault::Requirements => {
-            "add, change, remove, repair, label, priority, token import and token
-       remove, of LUKS2: config.requirements"
+            "add, change, remove, repair, label, uuid, priority, token import and
+       token remove, of LUKS2: config.requirements"
         }
         Fault::SlotTaken => "add: the keyslot of --to",
         Fault::NoFreeSlot => "add, and change of LUKS1: LUKS1 has 0 to 7, LUKS2 0 to 31",
@@ -176,13 +177,14 @@ pub(crate) fn place(fault: Fault) -> &'static str {
             "token import: FILE, whose type is the empty text, or which nests more
        than 29 deep"
         }
+        Fault::BadUuid => "uuid: TEXT",
         Fault::SeqExhausted => {
-            "add, change, remove, repair, label, priority, token import and token
-       remove: seqid of the copy that counts, of LUKS2"
+            "add, change, remove, repair, label, uuid, priority, token import and
+       token remove: seqid of the copy that counts, of LUKS2"
         }
         Fault::MetadataFull => {
-            "add, change, remove, repair, label, priority, token import and token
-       remove, of LUKS2"
+            "add, change, remove, repair, label, uuid, priority, token import and
+       token remove, of LUKS2"
         }
         Fault::RandomLength => "the commands that write: the file of --random",
         Fault::Payload => {
@@ -228,10 +230,10 @@ pub(crate) fn place(fault: Fault) -> &'static str {
        one of TARGET that has another uuid than SOURCE"
         }
         Fault::OtherUse => {
-            "OtherUse(NAME), of add, change, remove, repair and label: its signature
-       before the second copy of LUKS2, where one isn't sound; of format,
-       convert, rebuild and restore: its signature, of restore where no header
-       of the same volume counts"
+            "OtherUse(NAME), of add, change, remove, repair, label, uuid, priority,
+       token import and token remove: its signature before the second copy of
+       LUKS2, where one isn't sound; of format, convert, rebuild and restore:
+       its signature, of restore where no header of the same volume counts"
         }
         Fault::Reencrypting => {
             "LUKS1: the header begins with LUKS and the bytes DE AD, which cryptsetup
@@ -309,6 +311,7 @@ pub(crate) fn safe(fault: Fault) -> &'static str {
         | Fault::TokenTaken
         | Fault::NoFreeToken
         | Fault::UnreadableToken
+        | Fault::BadUuid
         | Fault::SeqExhausted
         | Fault::MetadataFull
         | Fault::RandomLength
@@ -472,6 +475,10 @@ pub(crate) fn next(fault: Fault) -> &'static str {
             "luks token VOLUME list lists those that there are",
         Fault::NoFreeToken => "remove one that isn't needed: luks token VOLUME remove N",
         Fault::UnreadableToken => "give it a type of at least one byte, and at most 29 levels",
+        Fault::BadUuid => {
+            "give one as uuidgen prints it, like 12345678-9abc-def0-1234-56789abcdef0;
+       without TEXT a new one is made"
+        }
         Fault::SeqExhausted => {
             "no count of edits leads there: some program wrote it so; restore a header
        backup with a lower one (luks show BACKUP prints it as seqid)"

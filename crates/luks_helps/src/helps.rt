@@ -431,6 +431,43 @@ Exit status:
   2  the command line is wrong; the text is on standard error
   4  device fault, no memory, or the output can't be written";
 
+/// What `uuid` does, in a line.
+pub const UUID: &str = "Sets the uuid of a volume";
+
+/// The help of `uuid` after its words.
+pub const UUID_MORE: &str = "\
+The uuid is TEXT, its letters as they are: 32 hexadecimal digits of either case
+with hyphens between, as 12345678-9abc-def0-1234-56789abcdef0. Without TEXT it
+is a new one of version 4, of random bytes. What names the volume by its uuid,
+as /etc/crypttab, has to name it by the new one then.
+
+Written are, with a flush after each, of LUKS2 the copy of the header that
+doesn't count and the one that does, and of LUKS1 the field of the uuid. Of the
+random file LUKS2 takes 128 bytes for salts, and a new uuid takes 16.
+
+Where only one copy of a LUKS2 header is sound and another use of the disk, as
+a file system or a partition table, stands in the place of the other, nothing
+is written but with --over.
+
+Prints one line:
+  done           it is set, and of LUKS2 the copies are in step
+  refused FAULT  the first fault, and nothing was written: what check refuses,
+                 OtherUse (as above), Requirements, BadUuid (TEXT is no uuid),
+                 SeqExhausted, MetadataFull or RandomLength (the random file is
+                 too short, or it is needed and none is named)
+  device fault   a file can't be read, or the volume read or written
+  no memory      memory was refused; nothing was written
+
+If the device fails in the midst, a copy of LUKS2 is sound and has the old uuid
+or the new one, and each keyslot opens as before: run it again. Of LUKS1 nothing
+but the uuid may be damaged, and check refuses it then: luks explain Uuid.
+
+Exit status:
+  0  done, or help was asked for
+  1  refused; nothing was written
+  2  the command line is wrong; the text is on standard error
+  4  device fault, no memory, or the output can't be written";
+
 /// What `priority` does, in a line.
 pub const PRIORITY: &str = "Sets when a keyslot of LUKS2 is tried";
 

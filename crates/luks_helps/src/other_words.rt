@@ -33,7 +33,7 @@ static OTHER_WORDS: [OtherWord; 59] = [
     },
     OtherWord {
         word: "luksUUID",
-        here: "luks show",
+        here: "luks show, and luks uuid",
     },
     OtherWord {
         word: "isLuks",

@@ -30,7 +30,7 @@ pub(crate) fn command_row(name: &str) -> Option<&'static Described> {
     commands().iter().find(|described| described.name == name)
 }
 
-static COMMANDS: [Described; 19] = [
+static COMMANDS: [Described; 20] = [
     Described {
         name: "check",
         command: CommandName::Check,
@@ -184,6 +184,21 @@ static COMMANDS: [Described; 19] = [
         options: &[
             LongOption::NeededRandom,
             LongOption::Subsystem,
+            LongOption::Over,
+            LongOption::Detached,
+            LongOption::Offset,
+            LongOption::Length,
+            LongOption::Quiet,
+        ],
+        choices: &[],
+    },
+    Described {
+        name: "uuid",
+        command: CommandName::Uuid,
+        overwrites: false,
+        operands: &[Operand::Volume, Operand::UuidText],
+        options: &[
+            LongOption::Random,
             LongOption::Over,
             LongOption::Detached,
             LongOption::Offset,

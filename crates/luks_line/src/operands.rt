@@ -9,6 +9,7 @@ pub(crate) enum Operand {
     DamagedSource,
     RebuiltTarget,
     Text,
+    UuidText,
     Priority,
     Action,
     TokenWord,
@@ -33,7 +34,7 @@ pub(crate) struct OperandRow {
 }
 
 /// In the order of `Operand`.
-static OPERANDS: [OperandRow; 14] = [
+static OPERANDS: [OperandRow; 15] = [
     OperandRow {
         name: "VOLUME",
         needed: true,
@@ -63,6 +64,11 @@ static OPERANDS: [OperandRow; 14] = [
         name: "TEXT",
         needed: true,
         help: "The label, at most 47 plain characters",
+    },
+    OperandRow {
+        name: "TEXT",
+        needed: false,
+        help: "The uuid; else a new one of random bytes",
     },
     OperandRow {
         name: "PRIORITY",

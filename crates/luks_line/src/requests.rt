@@ -121,6 +121,7 @@ fn edit_of<'a>(name: CommandName, given: &ArgMatches<'a>) -> Option<EditRequest<
         CommandName::Remove => removing_of(given),
         CommandName::Repair => Some(EditRequest::Repair),
         CommandName::Label => labelling_of(given),
+        CommandName::Uuid => Some(identifying_of(given)),
         CommandName::Priority => preferring_of(given),
         CommandName::Token => token_edit_of(given),
         _ => None,
@@ -187,6 +188,13 @@ fn labelling_of<'a>(given: &ArgMatches<'a>) -> Option<EditRequest<'a>> {
         text: given.get_str("TEXT")?,
         subsystem: given.get_str("subsystem"),
     })
+}
+
+/// The uuid that is given, or a new one.
+fn identifying_of<'a>(given: &ArgMatches<'a>) -> EditRequest<'a> {
+    EditRequest::Uuid {
+        text: given.get_str("TEXT"),
+    }
 }
 
 fn preferring_of<'a>(given: &ArgMatches<'a>) -> Option<EditRequest<'a>> {

@@ -221,6 +221,7 @@ fn tell_done<D: Device>(
         Command::Rebuild(rebuilding) => {
             tell_rebuilt(alloc, rebuilding, volume, target, hashing, notes)
         }
+        Command::Edit(editing) => tell_identified(&editing.request, line.volume, notes),
         _ => {}
     }
 }
@@ -259,6 +260,16 @@ fn tell_refused<D: Device>(
             }
         }
         _ => {}
+    }
+}
+
+/// Notes of an edit that sets the uuid of the volume of this name that what names it by an older one doesn't find it.
+fn tell_identified(request: &EditRequest<'_>, volume: &str, notes: &mut Vec<u8>) {
+    if let EditRequest::Uuid { .. } = request {
+        let _ = writeln!(
+            notes,
+            "luks: {volume}: luks show prints its uuid; what names it by an older one, as /etc/crypttab, doesn't find it any more"
+        );
     }
 }
 

@@ -45,7 +45,7 @@ pub(crate) fn list_faults<R: Print>(rt: &R) -> io::Result<u8>
 {
     for fault in Fault::ALL.iter() {
         let explanation = fault.explanation();
-        println!(rt; "{:<12}  {}", explanation.name, explanation.means)?;
+        println!(rt; "{:<15}  {}", explanation.name, explanation.means)?;
     }
     Ok(TOLD)
 }

@@ -190,6 +190,11 @@ pub enum EditRequest<'a> {
         /// The subsystem.
         subsystem: Option<&'a str>,
     },
+    /// Set the volume's uuid.
+    Uuid {
+        /// The uuid; without one it is a new one of random bytes.
+        text: Option<&'a str>,
+    },
     /// Set the priority of a keyslot.
     Priority {
         /// The keyslot.
@@ -245,6 +250,7 @@ impl<'a> EditRequest<'a> {
             EditRequest::AddToken { token, .. } => Some(token),
             EditRequest::Repair
             | EditRequest::Label { .. }
+            | EditRequest::Uuid { .. }
             | EditRequest::Priority { .. }
             | EditRequest::RemoveToken { .. } => None,
         }

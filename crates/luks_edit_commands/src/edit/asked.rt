@@ -6,11 +6,12 @@ ghost use Rattle.luks_commands.specs.OpenAnswers.{allowed_of};
 ghost use Rattle.luks_edit.specs.declared.edit.Edit.{Edit};
 ghost use Rattle.luks_edit.specs.EditFaults.{is_edit_failure};
 ghost use Rattle.luks_reading.specs.Header.{IsAcceptedHeader, IsHeader};
-ghost use Rattle.luks_edit_commands.specs.Editing.{IsAsked, IsMissed, IsTokenOf, IsUntokened, kind_of, priority_of, removed_in, told_slot, UnlessOutside};
+ghost use Rattle.luks_edit_commands.specs.Editing.{IsAsked, IsMissed, IsTokenOf, IsUntokened, kind_of, priority_of, removed_in, told_slot, UnlessOutside, uuid_of};
 
 use super::finding::keyslot_of;
 use luks_commands::chosen_of;
 use luks_commands::open::allowed_of;
+use luks_edit::NewUuid;
 use luks_making::{Change, Priority};
 use luks_request::{AskedKdf, AskedPriority, EditRequest, Editing, OpenerFile};
 use luks_rules::MetaFault;
@@ -109,6 +110,7 @@ pub(super) fn edit_of<'a, D: Device, E: Write>(
             text: text.as_bytes(),
             subsystem: bytes_in(subsystem),
         }),
+        EditRequest::Uuid { text } => Ok(Edit::Uuid(uuid_of(text))),
         EditRequest::Priority { slot, priority } => Ok(Edit::Amend(Change::Priority {
             slot,
             priority: priority_of(priority),
@@ -202,6 +204,16 @@ fn no_token(header: &Header, payload: Data, total: u64) -> EditFault
     match needed_of_header(header, payload, total, &Edit::Repair) {
         Ok(_) => EditFault::BadToken(MetaFault::BadJson),
         Err(fault) => fault,
+    }
+}
+
+/// The uuid of this text, where one is given; else a new one of random bytes.
+fn uuid_of(text: Option<&str>) -> NewUuid<'_>
+    ensures { result ≡ uuid_of text.entry }
+{
+    match text {
+        Some(text) => NewUuid::Text(text),
+        None => NewUuid::Random,
     }
 }
 

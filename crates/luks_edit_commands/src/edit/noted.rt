@@ -67,6 +67,7 @@ fn note_luks1<E: Write>(edit: &Edit<'_>, err: &mut E) -> io::Result<()>
         | Edit::Change { .. }
         | Edit::Remove { .. }
         | Edit::Label { .. }
+        | Edit::Uuid(_)
         | Edit::Amend(_) => Ok(()),
     }
 }
@@ -82,6 +83,7 @@ fn note_luks2<E: Write>(meta: &Meta, edit: &Edit<'_>, err: &mut E) -> io::Result
         | Edit::AddByKey { .. }
         | Edit::Repair
         | Edit::Label { .. }
+        | Edit::Uuid(_)
         | Edit::Amend(_) => Ok(()),
     }
 }
