@@ -57,6 +57,11 @@ class Remove:
 
 
 @dataclass(frozen=True)
+class Erase:
+    """Every keyslot is removed, and no passphrase is asked for."""
+
+
+@dataclass(frozen=True)
 class Repair:
     pass
 
@@ -206,6 +211,9 @@ class Volume1:
     def writes(self, edit, key, random):
         if isinstance(edit, Remove):
             return self.disabling(edit.slot)
+        if isinstance(edit, Erase):
+            # those that aren't in use too: their areas may hold what a removal left that broke off
+            return [write for n in range(8) for write in self.disabling(n)]
         if isinstance(edit, Uuid):
             return [(UUID_PLACE, uuid_field(edit, random))]
         if not isinstance(edit, (Add, Change)):
@@ -343,6 +351,8 @@ class Volume2:
         """The new metadata."""
         if isinstance(edit, Remove):
             return makers.without_slot(self.value, edit.slot)
+        if isinstance(edit, Erase):
+            return makers.without_slots(self.value)
         if isinstance(edit, Priority):
             return makers.with_priority(self.value, edit.slot, edit.priority)
         if isinstance(edit, RemoveToken):
@@ -381,10 +391,8 @@ class Volume2:
             kdf = makers.derivation(old, edit.iterations, salt, kdf_of(edit))
             slot_key = derived(kdf, edit, salt, old["area"]["key_size"])
             areas.append((self.gap(edit), sealed_area(old["af"]["hash"], slot_key, key, drawn.rest(), old["area"]["encryption"])))
-        wiped = []
-        if isinstance(edit, (Change, Remove)):
-            start, length = reader.slot_area2(self.keyslot(edit.slot))
-            wiped.append((start, bytes(length)))
+        lost = [edit.slot] if isinstance(edit, (Change, Remove)) else self.used if isinstance(edit, Erase) else []
+        wiped = [(start, bytes(length)) for start, length in (reader.slot_area2(self.keyslot(n)) for n in lost)]
         return areas + self.copies(edit, self.made(edit, salt), salts, drawn.rest()) + wiped
 
 
