@@ -15,7 +15,7 @@ use std::test::Fail;
 
 /// How an edit ended.
 #[derive(Clone, Copy, PartialEq, Eq)]
-enum End {
+pub(crate) enum End {
     Done,
     /// The device's fault was told.
     Told,
@@ -26,14 +26,14 @@ enum End {
 
 /// What an edit came to on a device of which one call fails.
 #[derive(Drop)]
-struct Ended {
-    end: End,
-    calls: Vec<Call>,
-    left: MemDevice,
+pub(crate) struct Ended {
+    pub(crate) end: End,
+    pub(crate) calls: Vec<Call>,
+    pub(crate) left: MemDevice,
 }
 
 /// What the edit comes to where the call of this number fails.
-fn end_of(
+pub(crate) fn end_of(
     alloc: Global,
     volume: &[u8],
     edit: &Edit<'_>,
@@ -62,7 +62,7 @@ fn end_of(
 }
 
 /// The bytes of the copy that counts; nothing where none does.
-fn copy_that_counts(device: &mut MemDevice) -> &[u8] {
+pub(crate) fn copy_that_counts(device: &mut MemDevice) -> &[u8] {
     match select(device) {
         Ok(Selected::V2 { header, .. }) => {
             let at = header.hdr_offset as usize;
@@ -131,7 +131,7 @@ fn fails_at_each_call(
     Ok(())
 }
 
-const LEAVES: [Leave; 4] = [Leave::Old, Leave::New, Leave::Ones, Leave::Half];
+pub(crate) const LEAVES: [Leave; 4] = [Leave::Old, Leave::New, Leave::Ones, Leave::Half];
 
 #[test]
 fn each_edit_of_luks1(rt: HostRuntime) -> Result<(), Fail> {

@@ -10,7 +10,7 @@ use std::alloc::Global;
 use std::process::Abort;
 use std::test::Fail;
 
-const LOSSES: [Loss; 5] = [
+pub(crate) const LOSSES: [Loss; 5] = [
     Loss::OutOfOrder,
     Loss::All,
     Loss::EvenSectors,
