@@ -5,7 +5,7 @@ use Rattle.luks_area.specs.declared.area.Area.{Area}
 use Rattle.luks_area.specs.Area.{Fit}
 use Rattle.luks_area.specs.Ranges.{part, IsAt, SameBut}
 use Rattle.luks_area.specs.Sectors.{rounded_to_sectors}
-use Rattle.luks_area.proofs.RangeFacts.{part-same_but, same_but-same, same_but-then, same_but-wider}
+use Rattle.luks_area.proofs.RangeFacts.{part-same_but, same_but-then, same_but-wider}
 use Rattle.luks1_header.specs.Bytes.{number_at}
 use Rattle.luks1_header.specs.Header1.{entry, entry_key_material_offset, entry_stripes, HoldsEntry}
 use Rattle.luks1_header.specs.declared.luks1.Luks1Slot.{Luks1Slot}
@@ -20,7 +20,7 @@ use Rattle.luks_edit.specs.Asked.{deed_of}
 use Rattle.luks_edit.proofs.RowFacts.{Passed, first_of_row}
 use Rattle.luks1_edits.specs.Accepted.{IsHeaderOf}
 use Rattle.luks1_edits.specs.Edited.{AreRemoved, IsFreed, IsRemoved, IsWiped}
-use Rattle.luks1_edits.specs.Kept.{AreKeyslots, HasSameKeyslot, IsEither}
+use Rattle.luks1_edits.specs.Kept.{HasSameKeyslot, IsEither}
 use Rattle.luks1_edits.specs.Leftovers.{IsFreedFirst, IsHalfErased, IsHalfRemoved, Leftover1}
 use Rattle.luks1_edits.specs.Places.{area_len, area_start, entry_place, IsOfKeyslot, IsOfKeyslots}
 use Rattle.luks1_edits.specs.Refused.{IsEditFault1, IsUnrefused1, Need1}
@@ -31,10 +31,6 @@ use Rattle.luks1_edits.proofs.KeptFacts.{area_apart, entry_apart, same_keyslot}
 use Rattle.luks1_edits.proofs.RowFacts.{none_to_open, OpensNone, past_argon2, past_label, past_new, past_uuid, unrefused}
 
 -- ---- one keyslot after the other
-
--- before the first
-pub none_removed : (v : List ℕ) → AreRemoved 0 v v
-none_removed v = record { rest = same_but-same (IsOfKeyslots v (λ n. n < 0)) v; freed = λ n low. absurd (omega (arith, low)); wiped = λ n low. absurd (omega (arith, low)) }
 
 -- the places of the keyslot where its entry and its area stand alike
 of_one : (u v : List ℕ) (n : ℕ) → area_start u n ≡ area_start v n → area_len u n ≡ area_len v n → (p : ℕ) → IsOfKeyslot u n p → IsOfKeyslot v n p

@@ -1,7 +1,6 @@
 use Rattle.std.proofs.Common.{◌≡◌, ◌∙◌, arith, subst, sym}
 use Rattle.luks1_edits.specs.Accepted.{IsAcceptedAt}
 use Rattle.luks1_edits.specs.Edited.{AreRemoved}
-use Rattle.luks1_edits.proofs.ErasureFacts.{none_removed}
 use Rattle.luks1_edits.proofs.erasing.free_all.Goals as goal
 
 pub loop-n-preserved : goal.loop-n-preserved
