@@ -68,7 +68,7 @@ sole_at e p x =
 
 module _ (es : List Entry) (k : ℕ) (d : Entry) (order : IsIncreasing es) (lt : k < length es) where
   -- it is of the list
-  item_has : (n : ℕ) → (get_or es k d).name ≡ Slot n → HasArea es (Slot n) (get_or es k d).area
+  pub item_has : (n : ℕ) → (get_or es k d).name ≡ Slot n → HasArea es (Slot n) (get_or es k d).area
   item_has n named = subst (λ m. HasArea es m (get_or es k d).area) named (has_item es k d lt)
 
   -- keyslots before it have lower numbers
@@ -139,18 +139,3 @@ module _ (es : List Entry) (k : ℕ) (d : Entry) (order : IsIncreasing es) (lt :
           let same : x.slot ≡ n = ap name_number (sym sole.0 ∙ named) in
           record { is = record { slot = x.slot; area = (get_or es k d).area; has = item_has x.slot sole.0; at = sole.1 }; low = omega (arith, same) })) rest);
     }
-
--- ---- the whole list
-
--- its front that is as long as it is it
-whole_front : (es : List Entry) (k : ℕ) → length es ≤ k → take k es ≡ es
-whole_front [] zero h = refl
-whole_front [] (suc k) h = refl
-whole_front (e ∷ es) zero h = absurd (omega (arith, h))
-whole_front (e ∷ es) (suc k) h = ap (λ l. e ∷ l) (whole_front es k (omega (arith, h)))
-
-pub all_wiped : (es : List Entry) (k : ℕ) (w : List ℕ) → length es ≤ k → AreWiped (take k es) w → AreWiped es w
-all_wiped es k w long zeros = subst (λ l. AreWiped l w) (whole_front es k long) zeros
-
-pub all_rest : (es : List Entry) (k : ℕ) (v w : List ℕ) → length es ≤ k → SameBut (IsOfKeyslots (take k es)) v w → SameBut (IsOfKeyslots es) v w
-all_rest es k v w long rest = subst (λ l. SameBut (IsOfKeyslots l) v w) (whole_front es k long) rest
