@@ -1,6 +1,5 @@
 -- What the verdict on a header says of the volume.
-use Rattle.std.proofs.Common.{◌≡◌, ◌≢◌, ℕ, ◌<◌, List, arith, length, subst, refl, sym, ◌∙◌, Bool, true, false, None, Result, Ok, Err, MatchResult}
-use Rattle.std.proofs.lemmas.Bool.{false≢true}
+use Rattle.std.proofs.Common.{◌≡◌, ℕ, ◌<◌, List, arith, length, subst, refl, sym}
 use Rattle.luks_area.specs.Ranges.{part}
 use Rattle.luks1_header.proofs.Luks1FaultFacts.{sound}
 use Rattle.luks2_header.specs.Selection.{luks1, Chosen}
@@ -8,22 +7,17 @@ use Rattle.luks2_header.proofs.ChoiceFacts.{choices_agree}
 use Rattle.luks_reading.specs.declared.check_fault.CheckFault.{CheckFault}
 use Rattle.luks_reading.specs.declared.check_fault.CheckFault.TheVariants as checked
 use Rattle.luks_reading.specs.declared.report.Data.{Data}
-use Rattle.luks_reading.specs.Checked.{IsFault, IsFaultAs, IsLuks1Fault, IsLuks1Volume}
+use Rattle.luks_reading.specs.Checked.{IsFaultAs, IsLuks1Fault, IsLuks1Volume}
 use Rattle.luks_reading.specs.Layout1.{Luks1Area}
 use Rattle.luks_reading.proofs.ListedAreaFacts.{no_area_fault}
-use Rattle.luks_edit.specs.declared.edit.Done.{Done}
 use Rattle.luks_edit.specs.declared.edit.Edit.{Edit}
-use Rattle.luks_edit.specs.declared.deed.Deed.TheVariants as deed
-use Rattle.luks_edit.specs.declared.deed.Rewritten.{Rewritten}
 use Rattle.luks_edit.specs.declared.edit_fault.EditFault.{EditFault}
 use Rattle.luks_edit.specs.declared.edit_fault.EditFault.TheVariants as fault
-use Rattle.luks_edit.specs.Asked.{deed_of, sets_nothing}
 use Rattle.luks_edit.specs.EditFaults.{edit_row}
-use Rattle.luks_edit.proofs.RowFacts.{Passed, first_of_check, first_of_row, next}
+use Rattle.luks_edit.proofs.RowFacts.{first_of_check}
 use Rattle.luks1_edits.specs.Accepted.{IsHeaderOf, IsUnaccepted}
-use Rattle.luks1_edits.specs.Refused.{IsEditFault1, IsLabel, Need1, Refusal1}
-use Rattle.luks1_edits.specs.Replies.{EndsBy1, Replies1}
-use Rattle.luks1_edits.proofs.RowFacts.{none_to_open, opens_none, past_label, past_new, unrefused}
+use Rattle.luks1_edits.specs.Refused.{IsEditFault1, Refusal1}
+use Rattle.luks1_edits.specs.Replies.{EndsBy1}
 
 -- ---- the verdict on the header is that on the volume
 

@@ -41,7 +41,7 @@ use Rattle.luks1_edits.proofs.HeaderFacts.{entry_is, header_clear, len_is, start
 use Rattle.luks1_edits.proofs.KeptFacts.{either_decided, front, keeps_entries, keeps_others, kept_common, luks1_after, luks1_area_of, same_keyslot, stays_well_formed}
 use Rattle.luks1_edits.proofs.KeyFacts.{gives_once, planned_of}
 use Rattle.luks1_edits.proofs.MadeKeyslotFacts.{IsMadeFrom, IsPlanned, made_opens}
-use Rattle.luks1_edits.proofs.UuidFacts.{set_text, set_uuid, uuid_answers, uuid_chosen, uuid_entries, uuid_faults, uuid_others, uuid_well}
+use Rattle.luks1_edits.proofs.UuidFacts.{set_text, set_uuid, uuid_answers, uuid_chosen, uuid_faults, uuid_others, uuid_well}
 
 -- ---- what no refusal means
 
@@ -356,7 +356,7 @@ module _ (payload : Data) (v : List ℕ) (chosen : Chosen v luks1) (well : WellF
   -- whatever the uuid's field holds
   pub leftover_entries : (e : Edit) (r w : List ℕ) → Leftover1 v payload e r w → KeepsEntries payload (NamedKeyslots1 v e) v w
   leftover_entries e r w (inl same) = let left = (nothing_left (NamedKeyslots1 v e) w same).others in
-      record { size = left.size; segments = left.segments; slots = λ n not. (let x = left.slots n not in record { area = x.area; entry = x.entry; value = x.value }) }
+      record { size = left.size; segments = left.segments; slots = λ n not. (let x = left.slots n not in record { area = x.area; entry = x.entry }) }
   leftover_entries e r w (inr x) = keeps_entries payload (NamedKeyslots1 v e) v w (torn_changes e r w x.0 x.1)
 
   -- where it holds a uuid, or wasn't written, it has the same faults
@@ -403,31 +403,31 @@ module _ (payload : Data) (v : List ℕ) (chosen : Chosen v luks1) (well : WellF
 
   -- so the volume is accepted still
   untorn_well : (e : Edit) (r w : List ℕ) → IsUnrefused1 v payload e r → IsTorn1 v e r w → ((n : ℕ) → NamedKeyslots1 v e n → IsUntorn v w n) → IsUuidUntorn e w → WellFormed w payload
-  untorn_well (Add by_ old new to iterations d) r w free x untorn new =
+  untorn_well (Add by_ old new to iterations d) r w free x untorn uuids =
       let lt : x.slot < 8 = named_numbered v payload (Add by_ old new to iterations d) r free x.slot x.is_new in
       let fits = untorn_fits w x.slot lt (untorn x.slot x.is_new) in
       (both_leave (IsNewKeyslot v to) x.slot x.slot w lt lt (half_made_rest x.order) fits fits x.is_new x.is_new).well
-  untorn_well (AddByKey key new to iterations d) r w free x untorn new =
+  untorn_well (AddByKey key new to iterations d) r w free x untorn uuids =
       let lt : x.slot < 8 = named_numbered v payload (AddByKey key new to iterations d) r free x.slot x.is_new in
       let fits = untorn_fits w x.slot lt (untorn x.slot x.is_new) in
       (both_leave (IsNewKeyslot v to) x.slot x.slot w lt lt (half_made_rest x.order) fits fits x.is_new x.is_new).well
-  untorn_well (Change slot old new iterations d) r w free (inl x) untorn new =
+  untorn_well (Change slot old new iterations d) r w free (inl x) untorn uuids =
       let lt : x.slot < 8 = x.is_new.free.0 in
       let fits = untorn_fits w x.slot lt (untorn x.slot (inr x.is_new)) in
       (both_leave (NamedKeyslots1 v (Change slot old new iterations d)) x.slot x.slot w lt lt (half_made_rest x.order) fits fits (inr x.is_new) (inr x.is_new)).well
-  untorn_well (Change slot old new iterations d) r w free (inr x) untorn new =
+  untorn_well (Change slot old new iterations d) r w free (inr x) untorn uuids =
       let used : slot < 8 = named_numbered v payload (Change slot old new iterations d) r free slot (inl refl) in
       let lt : x.fresh < 8 = x.is_free.free.0 in
       (both_leave (NamedKeyslots1 v (Change slot old new iterations d)) slot x.fresh w used lt x.rest
       (untorn_fits w slot used (untorn slot (inl refl))) (untorn_fits w x.fresh lt (untorn x.fresh (inr x.is_free))) (inl refl) (inr x.is_free)).well
-  untorn_well (Remove slot by_ passphrase) r w free x untorn new =
+  untorn_well (Remove slot by_ passphrase) r w free x untorn uuids =
       let used : slot < 8 = named_numbered v payload (Remove slot by_ passphrase) r free slot refl in
       let fits = untorn_fits w slot used (untorn slot refl) in
       (both_leave (λ n. n ≡ slot) slot slot w used used x.rest fits fits refl refl).well
-  untorn_well Repair r w free x untorn new = absurd x
-  untorn_well (Label text subsystem) r w free x untorn new = absurd x
-  untorn_well (Uuid uuid) r w free x untorn new = uuid_well payload v chosen well w x new
-  untorn_well (Amend c) r w free x untorn new = absurd x
+  untorn_well Repair r w free x untorn uuids = absurd x
+  untorn_well (Label text subsystem) r w free x untorn uuids = absurd x
+  untorn_well (Uuid uuid) r w free x untorn uuids = uuid_well payload v chosen well w x uuids
+  untorn_well (Amend c) r w free x untorn uuids = absurd x
 
   pub leftover_accepted : (e : Edit) (r w : List ℕ) → Leftover1 v payload e r w → ((n : ℕ) → NamedKeyslots1 v e n → IsUntorn v w n) → IsUuidUntorn e w
       → Keeps payload (NamedKeyslots1 v e) v w

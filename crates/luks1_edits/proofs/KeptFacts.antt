@@ -9,12 +9,11 @@ use Rattle.luks_area.specs.Ranges.{part, IsAt, IsOfEither, SameBut}
 use Rattle.luks_area.proofs.RangeFacts.{length-part_inside, part-same_but, same_but-wider}
 use Rattle.luks_area.specs.Sectors.{rounded_to_sectors}
 use Rattle.luks1_header.specs.Bytes.{number_at}
-use Rattle.luks1_header.specs.Faults.{HasUnknownState, LacksIterations, IsCommonFault, IsLuks1Fault as IsLuks1HeadFault}
+use Rattle.luks1_header.specs.Faults.{HasUnknownState, LacksIterations, IsLuks1Fault as IsLuks1HeadFault}
 use Rattle.luks1_header.specs.Header1.{entry, entry_stripes}
 use Rattle.luks1_header.specs.declared.fault.HeadFault.{HeadFault}
 use Rattle.luks1_header.specs.declared.fault.HeadFault.TheVariants as fault
 use Rattle.luks1_header.specs.declared.fault.IterationsOf.TheVariants as of
-use Rattle.luks1_header.specs.declared.fault.TextField.TheVariants as field
 use Rattle.luks1_header.proofs.Luks1HeaderFacts.{header_found}
 use Rattle.luks2_header.specs.declared.selection.Copies.{Copies}
 use Rattle.luks2_header.specs.Selection.{luks1, luks2, Chosen}
@@ -219,10 +218,6 @@ module _ (payload : Data) (named : ℕ → Type 0) (v w : List ℕ) (x : Changes
       λ is. record { chosen = luks1_after; numbered = is.numbered; is = is.is ∙ sym (kept_entry v payload placed w named x.keyslots x.rest n is.numbered not) },
       λ is. record { chosen = x.chosen; numbered = is.numbered; is = is.is ∙ kept_entry v payload placed w named x.keyslots x.rest n is.numbered not },
     );
-    value = λ d. (
-      λ is. absurd (no_value v x.chosen is.place is.copies is.chosen),
-      λ is. absurd (no_value w luks1_after is.place is.copies is.chosen),
-    );
   }
 
   -- whatever the uuid's field holds
@@ -244,7 +239,10 @@ module _ (payload : Data) (named : ℕ → Type 0) (v w : List ℕ) (x : Changes
         record {
           area = entry.area;
           entry = entry.entry;
-          value = entry.value;
+          value = λ d. (
+            λ is. absurd (no_value v x.chosen is.place is.copies is.chosen),
+            λ is. absurd (no_value w luks1_after is.place is.copies is.chosen),
+          );
           answers = λ allowed p a. (answer_moves allowed n v w p a x.chosen (same_unnamed n not), answer_returns allowed n v w p a x.chosen (same_unnamed n not));
         }
 

@@ -1,5 +1,5 @@
 -- The first refusal of an edit, row by row.
-use Rattle.std.proofs.Common.{◌≡◌, ℕ, ◌<◌, ◌≤◌, List, subst, refl, sym, arith, inl, Option, Some, None}
+use Rattle.std.proofs.Common.{◌≡◌, ℕ, ◌<◌, ◌≤◌, List, subst, refl, sym, arith, inl, Some, None}
 use Rattle.luks_area.specs.First.{NotAfter}
 use Rattle.luks_slot.specs.Allowance.{without_memory}
 use Rattle.luks_reading.specs.declared.check_fault.CheckFault.{CheckFault}

@@ -29,12 +29,12 @@ use Rattle.luks_edit.specs.declared.new_uuid.NewUuid.{NewUuid}
 use Rattle.luks_edit.specs.declared.new_uuid.NewUuid.TheVariants.{Text, Random}
 use Rattle.luks_edit.specs.NewUuids.{new_uuid_text, IsBadUuid}
 use Rattle.luks1_edits.specs.Edited.{IsUuidSet}
-use Rattle.luks1_edits.specs.Kept.{ChangesKeyslots, HasSameCommon, HasUuid, KeepsEntries, KeepsOthers}
+use Rattle.luks1_edits.specs.Kept.{ChangesKeyslots, HasSameCommon, HasUuid, KeepsOthers}
 use Rattle.luks1_edits.specs.Leftovers.{IsFaultOfUuid, IsRefusalOfUuid}
 use Rattle.luks1_edits.specs.Places.{entry_place, IsOfUuid}
 use Rattle.luks1_edits.proofs.AnswerFacts.{answer_returns, common_or_entry}
 use Rattle.luks1_edits.proofs.HeaderFacts.{entry_fault, entry_is, header_clear, IsUuids, moves_or_uuids, uuid_is, uuids_common, well_uuid}
-use Rattle.luks1_edits.proofs.KeptFacts.{fits_after, front, keeps_entries, keeps_others, luks1_after, same_unnamed, stays_well_formed}
+use Rattle.luks1_edits.proofs.KeptFacts.{fits_after, front, keeps_others, luks1_after, same_unnamed, stays_well_formed}
 
 -- ---- the uuid that is set
 
@@ -61,9 +61,6 @@ module _ (payload : Data) (v : List ℕ) (chosen : Chosen v luks1) (well : WellF
     well = well;
     rest = same_but-wider (λ p at. inr at) same;
   }
-
-  pub uuid_entries : KeepsEntries payload (λ n. ⊥) v w
-  uuid_entries = keeps_entries payload (λ n. ⊥) v w changes
 
   pub uuid_chosen : Chosen w luks1
   uuid_chosen = luks1_after payload (λ n. ⊥) v w changes
@@ -95,7 +92,7 @@ module _ (payload : Data) (v : List ℕ) (chosen : Chosen v luks1) (well : WellF
       let long = chosen.long in
       let size = same.length_same in
       let all = length-part_inside w 0 592 (omega (arith, long, size)) in
-      omega (arith, bad, all)
+      absurd (omega (arith, bad, all))
   only_uuids head.NoSoundCopy bad = absurd bad
   only_uuids (head.SlotState n) bad = absurd (clear (head.SlotState n) (bad.0, subst HasUnknownState (entry_same n bad.0) bad.1))
   only_uuids (head.Stripes n) bad = absurd (clear (head.Stripes n) (bad.0, sym (ap entry_stripes (entry_same n bad.0)) ∙ bad.1))

@@ -1,6 +1,5 @@
 -- What an edit of some keyslots, or of the uuid, of a LUKS1 volume leaves as it was.
 use Rattle.std.specs.Prelude.{◌≡◌, ℕ, ◌<◌, ◌⊎◌, ◌↔◌, List, length}
-use Rattle.serde_json.specs.Data.{Data as Value}
 use Rattle.luks_area.specs.declared.area.AreaName.TheVariants.{Segment, Slot}
 use Rattle.luks_area.specs.Ranges.{part, IsOfEither, SameBut}
 use Rattle.luks1_header.specs.Bytes.{HoldsText, IsUuid}
@@ -10,7 +9,7 @@ use Rattle.luks1_header.specs.declared.fault.TextField.TheVariants.{Uuid}
 use Rattle.luks2_header.specs.Selection.{luks1, Chosen}
 use Rattle.luks_reading.specs.declared.report.Data.{Data}
 use Rattle.luks_reading.specs.Checked.{WellFormed}
-use Rattle.luks_edit.specs.Kept.{IsEntry, IsKeyslot, KeepsArea, KeepsSlot}
+use Rattle.luks_edit.specs.Kept.{IsEntry, KeepsArea, KeepsSlot}
 use Rattle.luks1_edits.specs.Places.{area_len, area_start, IsOfKeyslots, IsOfUuid}
 
 -- the uuid's field of the LUKS1 volume holds a uuid
@@ -64,11 +63,10 @@ pub record KeepsOthers (payload : Data) (named : ℕ → Type 0) (v w : List ℕ
   pub segments : (n : ℕ) → KeepsArea payload (Segment n) v w
   pub slots : (n : ℕ) → (named n → ⊥) → KeepsSlot payload n v w
 
--- the keyslot `n` has its area, and its entry or its value, whatever it answers
+-- the keyslot `n` has its area and its entry, whatever it answers
 pub record KeepsEntry (payload : Data) (n : ℕ) (v w : List ℕ) : Type 0 where
   pub area : KeepsArea payload (Slot n) v w
   pub entry : (bytes : List ℕ) → IsEntry v n bytes ↔ IsEntry w n bytes
-  pub value : (d : Value) → IsKeyslot v n d ↔ IsKeyslot w n d
 
 -- the volume keeps its length, the segments are as they were, and each keyslot outside the set has its area and
 -- its entry

@@ -1,5 +1,5 @@
 //! Laws on the definitions of this crate. Each function does nothing; its contract is the law.
-ghost use Rattle.std.specs.Prelude.{◌≡◌, ◌↔◌, ℕ, List, length, replicate, Some};
+ghost use Rattle.std.specs.Prelude.{◌≡◌, ◌↔◌, ℕ, List, replicate, Some};
 ghost use Rattle.luks_area.specs.declared.area.Area.{Area as TheArea};
 ghost use Rattle.luks_area.specs.declared.area.AreaName.TheVariants.{Slot};
 ghost use Rattle.luks_area.specs.Ranges.{part, SameBut};

@@ -1,5 +1,5 @@
 //! Setting the uuid of a LUKS1 volume.
-ghost use Rattle.std.specs.Prelude.{◌≡◌, ◌≢◌, ◌+◌, ◌^◌, ◌<◌, List, false, IfErr, MatchResult};
+ghost use Rattle.std.specs.Prelude.{◌≡◌, ◌≢◌, ◌+◌, ◌^◌, ◌<◌, false, IfErr, MatchResult};
 ghost use Rattle.luks_area.specs.Device.{CountsFailure, IsSettled};
 ghost use Rattle.luks_edit.specs.Asked.{deed_of};
 ghost use Rattle.luks_edit.specs.EditFaults.{is_edit_failure};
@@ -40,13 +40,15 @@ pub(crate) fn rewrite<D: Device>(
         Ok(()) => {}
         Err(fault) => return Err(fault),
     }
-    if rewritten.uuid.is_none() {
-        return Ok(Done { slot: None });
-    }
-    let field = uuid_field_after(rewritten.uuid, random, [0; UUID_BYTES]);
-    match write_uuid(device, &field) {
-        Ok(()) => Ok(Done { slot: None }),
-        Err(_) => Err(EditFault::Device),
+    match rewritten.uuid {
+        Some(uuid) => {
+            let field = uuid_field_after(Some(uuid), random, [0; UUID_BYTES]);
+            match write_uuid(device, &field) {
+                Ok(()) => Ok(Done { slot: None }),
+                Err(_) => Err(EditFault::Device),
+            }
+        }
+        None => Ok(Done { slot: None }),
     }
 }
 
