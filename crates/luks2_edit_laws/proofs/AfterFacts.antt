@@ -47,7 +47,8 @@ use Rattle.luks_edit.specs.declared.deed.Sealed.{Sealed}
 use Rattle.luks_edit.specs.declared.edit.Edit.TheVariants.{Add, AddByKey, Change, Remove, Repair, Label, Uuid, Amend}
 use Rattle.luks_edit.specs.declared.edit.Opener.{Opener}
 use Rattle.luks_edit.specs.declared.edit.Opener.TheVariants as opener
-use Rattle.luks_edit.specs.Asked.{allowed_for, chosen_or, opener_at, sealed_by}
+use Rattle.luks_edit.specs.Asked.{allowed_for, chosen_or, opener_at, sealed_by, uuid_by}
+use Rattle.luks_edit.specs.NewUuids.{uuid_need}
 use Rattle.luks_edit.specs.declared.edit_fault.EditFault.TheVariants.{Argon2, BadToken, BadUuid, Iterations, NoFreeSlot, RandomLength, SlotTaken}
 use Rattle.luks_edit.specs.Kept.{Keeps}
 use Rattle.luks2_edit_laws.specs.declared.like.Like.{Like}
@@ -179,7 +180,7 @@ ready_by v o payload e random j m ranges free s seals like is model = record {
     metadata = m;
     is = record {
       need = need;
-      is = subst (λ x. MatchOption x (need ≡ 64 + 64) (λ s. ForLike j (opener_at s.place) (NeedsLike j need))) (sym seals) (record { like = like; is_like = is; has = needs });
+      is = subst (λ x. MatchOption x (need ≡ 64 + 64 + uuid_need (uuid_by e)) (λ s. ForLike j (opener_at s.place) (NeedsLike j need))) (sym seals) (record { like = like; is_like = is; has = needs });
       other = other;
     };
   });

@@ -39,7 +39,7 @@ pub(crate) fn repair<D: Device>(
     random: &[u8],
 ) -> Result<Done, EditFault>
     requires numbered { IfSome change IsNumbered }
-    requires good { IsBadUuid uuid.entry → ⊥ }
+    requires good { IsBadUuid uuid → ⊥ }
     requires room { D.failed device.old + 1 < 2 ^ 64 }
     requires settled { D.tells → IsSettled D.unsettled device.old }
     ensures size { D.size device.new ≡ D.size device.old }

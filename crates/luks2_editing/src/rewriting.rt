@@ -38,7 +38,7 @@ pub(crate) fn rewrite<D: Device>(
     texts: TextFields,
     random: &[u8],
 ) -> Result<(), EditFault>
-    requires good { IsBadUuid uuid.entry → ⊥ }
+    requires good { IsBadUuid uuid → ⊥ }
     requires room { D.failed device.old + 1 < 2 ^ 64 }
     requires settled { D.tells → IsSettled D.unsettled device.old }
     ensures size { D.size device.new ≡ D.size device.old }
@@ -78,8 +78,8 @@ pub(crate) fn rewrite<D: Device>(
 /// The texts with the uuid, if one is given: of the random bytes those behind the salts of the copies are its
 /// own.
 fn with_uuid(texts: TextFields, uuid: Option<NewUuid<'_>>, random: &[u8]) -> TextFields
-    requires good { IsBadUuid uuid.entry → ⊥ }
-    requires counted { 128 + uuid_need uuid.entry ≤ length random.now }
+    requires good { IsBadUuid uuid → ⊥ }
+    requires counted { 128 + uuid_need uuid ≤ length random.now }
     ensures { result ≡ with_uuid uuid.entry random.now texts }
 {
     TextFields {

@@ -1,6 +1,6 @@
 -- An edit judged by the header that was read: a fault of it is the volume's first, and where none was
 -- found none stands.
-use Rattle.std.proofs.Common.{◌≡◌, ℕ, ◌+◌, ◌<◌, ◌⊎◌, Bor, List, [], length, true, Option, Result, Ok, Err, OnOk, IfErr, arith, inl, inr, refl, subst, sym}
+use Rattle.std.proofs.Common.{◌≡◌, ℕ, ◌+◌, Bor, List, [], length, Option, Result, Ok, Err, OnOk, IfErr, arith, inl, inr, refl, subst}
 use Rattle.std.specs.Prelude.{IfOk, IsSomeAnd}
 use Rattle.luks_area.specs.declared.area.Area.{Area}
 use Rattle.luks_area.specs.declared.areas.Entry.{Entry}
@@ -184,7 +184,7 @@ module _ {v : List ℕ} {payload : Data} {e : Edit} {o : ℕ} {meta : Meta} {ent
             (λ x. taken_numbered (content meta) rewritten.change change takes (rw is at x)) (λ x. taken_readable (content meta) rewritten.change change takes (rw is at x)) (λ x. own (rw is at x)) random
 
     rewritten_passed : (own : TextFields) (it : JudgedEdit) → (HasBadText rewritten → ⊥) → IsRewrittenAs (content meta) own rewritten it → (random : List ℕ) → HasNoFaultBefore 20 v payload e random
-    rewritten_passed own (judged.Rewrite uuid fields change) good x = rewriting_passed good change x.2.2.1 (subst (λ u. IsBadUuid u → ⊥) x.0 x.1)
+    rewritten_passed own (judged.Rewrite uuid fields change) good x = rewriting_passed good change x.3 (subst (λ u. IsBadUuid u → ⊥) x.0 x.1)
     rewritten_passed own it good x = absurd x
 
     pub rewriting_judged : (own : TextFields) (it : Result JudgedEdit EditFault) → OnOk it (HasBadText rewritten → ⊥) → IfOk it (IsRewrittenAs (content meta) own rewritten)

@@ -1,6 +1,6 @@
 -- What judging an edit by its keyslot asks of a device and promises of it: words of private contracts,
 -- over the device's ghost members.
-use Rattle.std.specs.Prelude.{◌≡◌, ℕ, ◌+◌, ◌^◌, ◌<◌, Bool, List, Result, IfErr, IfOk, OnOk}
+use Rattle.std.specs.Prelude.{◌≡◌, ℕ, ◌+◌, ◌^◌, ◌<◌, List, Result, IfErr, IfOk, OnOk}
 use Rattle.luks_area.specs.declared.areas.Entry.{Entry}
 use Rattle.luks_area.specs.declared.device.Device.{Ghosts}
 use Rattle.luks2_header.specs.Header2.{hdr_size, header_at}
