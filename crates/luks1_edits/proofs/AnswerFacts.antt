@@ -1,5 +1,5 @@
--- The answer of a keyslot of LUKS1 depends on the fields before the keyslots, its entry, its area and
--- the volume's length alone.
+-- The answer of a keyslot of LUKS1 depends on the fields before the uuid, the faults of the uuid's field, its
+-- entry, its area and the volume's length alone.
 use Rattle.std.proofs.Common.{◌≡◌, ℕ, ◌+◌, ◌*◌, ◌<◌, ◌≤◌, ◌⊎◌, List, length, subst, sym, ap, ◌∙◌, Option, Some, None, inl, inr, lit≤, Bool}
 use Rattle.luks_area.specs.Ranges.{part}
 use Rattle.luks_area.specs.Sectors.{rounded_to_sectors}
@@ -28,19 +28,19 @@ use Rattle.luks_edit.specs.Secrets.{given_by, GivesWithin}
 use Rattle.luks_edit.proofs.SecretFacts.{same_given}
 use Rattle.luks1_edits.specs.Kept.{HasSameKeyslot}
 use Rattle.luks1_edits.specs.Places.{area_len, area_start}
-use Rattle.luks1_edits.proofs.HeaderFacts.{chosen_moves, common_moves, entry_is, front_moves, header_moves, len_is, number_same, start_is, text_same}
+use Rattle.luks1_edits.proofs.HeaderFacts.{chosen_moves, common_moves, entry_is, front_moves, header_moves, len_is, number_same, same_common_back, start_is, text_same}
 
--- the two headers have the same 208 bytes before the keyslots
+-- the two headers have the same 168 bytes before the uuid
 pub record SameFront (h g : List ℕ) : Type 0 where
-  pub parts : (o l : ℕ) → o + l ≤ 208 → part h o l ≡ part g o l
+  pub parts : (o l : ℕ) → o + l ≤ 168 → part h o l ≡ part g o l
 
-pub number_moves : (h g : List ℕ) → SameFront h g → (o l : ℕ) → o + l ≤ 208 → number_at h o l ≡ number_at g o l
+pub number_moves : (h g : List ℕ) → SameFront h g → (o l : ℕ) → o + l ≤ 168 → number_at h o l ≡ number_at g o l
 number_moves h g same o l within = number_same h g o l (same.parts o l within)
 
-pub text_moves : (h g : List ℕ) → SameFront h g → (o l : ℕ) → o + l ≤ 208 → text_at h o l ≡ text_at g o l
+pub text_moves : (h g : List ℕ) → SameFront h g → (o l : ℕ) → o + l ≤ 168 → text_at h o l ≡ text_at g o l
 text_moves h g same o l within = text_same h g o l (same.parts o l within)
 
-pub same_front : (v w : List ℕ) → part w 0 208 ≡ part v 0 208 → SameFront (part v 0 592) (part w 0 592)
+pub same_front : (v w : List ℕ) → part w 0 168 ≡ part v 0 168 → SameFront (part v 0 592) (part w 0 592)
 same_front v w e = record { parts = λ o l within. sym (header_moves v w e o l within) }
 
 -- ---- plans
@@ -121,10 +121,10 @@ entries_same n v w same lt = entry_is v n lt ∙ sym (same.entry lt) ∙ sym (en
 pub same_keyslot_back : (n : ℕ) (v w : List ℕ) → HasSameKeyslot n v w → HasSameKeyslot n w v
 same_keyslot_back n v w same = record {
   length_same = sym same.length_same;
-  common = sym same.common;
+  common = same_common_back v w same.common;
   entry = λ lt. sym (same.entry lt);
   area = λ lt.
-      let key : number_at v 108 4 ≡ number_at w 108 4 = number_same v w 108 4 (sym (front_moves v w same.common 108 4 (lit≤ tt))) in
+      let key : number_at v 108 4 ≡ number_at w 108 4 = number_same v w 108 4 (sym (front_moves v w same.common.front 108 4 (lit≤ tt))) in
       let starts : area_start v n ≡ area_start w n = ap (λ e. number_at e 40 4 * 512) (sym (same.entry lt)) in
       let lens : area_len v n ≡ area_len w n =
       ap (λ k. rounded_to_sectors (k * entry_stripes (entry v n))) key ∙ ap (λ e. rounded_to_sectors (number_at w 108 4 * entry_stripes e)) (sym (same.entry lt)) in
@@ -137,12 +137,12 @@ luks1_refusal_moves : (older : Bool) (n : ℕ) (v w : List ℕ) (f : OpenFault) 
     → IsLuks1Refusal older (part v 0 592) (length v) n f → IsLuks1Refusal older (part w 0 592) (length w) n f
 luks1_refusal_moves older n v w f same x =
     subst (λ t. IsLuks1Refusal older (part w 0 592) t n f) (sym same.length_same)
-    (refusal_moves older (part v 0 592) (part w 0 592) (length v) n f (same_front v w same.common) (common_moves v w same.common) (entries_same n v w same) x)
+    (refusal_moves older (part v 0 592) (part w 0 592) (length v) n f (same_front v w same.common.front) (common_moves v w same.common) (entries_same n v w same) x)
 
 is_refusal_moves : (allowed : Allowed) (n : ℕ) (v w : List ℕ) (f : OpenFault) → Chosen v luks1 → HasSameKeyslot n v w → IsRefusalWithin allowed v n f → IsRefusalWithin allowed w n f
 is_refusal_moves allowed n v w f chosen same x = record {
   choice = luks1;
-  chosen = chosen_moves v w same.length_same same.common chosen;
+  chosen = chosen_moves v w same.length_same same.common.front chosen;
   fault = luks1_refusal_moves allowed.older n v w f same (subst (λ c. IsRefusalAsWithin allowed v n c f) (choices_agree v x.choice luks1 x.chosen chosen) x.fault);
 }
 
@@ -161,9 +161,9 @@ opens_moves allowed n v w p found chosen same x =
     let bytes : part w x.plan.area.start x.plan.area.len ≡ part v x.plan.area.start x.plan.area.len = area_moves n v w x.plan same there in
     record {
       choice = luks1;
-      chosen = chosen_moves v w same.length_same same.common chosen;
+      chosen = chosen_moves v w same.length_same same.common.front chosen;
       plan = x.plan;
-      is = has_plan_moves (part v 0 592) (part w 0 592) n x.plan (same_front v w same.common) (entries_same n v w same) there;
+      is = has_plan_moves (part v 0 592) (part w 0 592) n x.plan (same_front v w same.common.front) (entries_same n v w same) there;
       unrefused = λ f y. x.unrefused f (subst (λ c. IsRefusalAsWithin allowed v n c f) (sym one) (luks1_refusal_moves allowed.older n w v f (same_keyslot_back n v w same) y));
       key = ap (λ b. slot_key x.plan b p) bytes ∙ x.key;
     }
@@ -172,7 +172,7 @@ opens_moves allowed n v w p found chosen same x =
 pub answer_moves : (allowed : Allowed) (n : ℕ) (v w p : List ℕ) (a : Opened) → Chosen v luks1 → HasSameKeyslot n v w → AnswerWithin allowed v n p a → AnswerWithin allowed w n p a
 answer_moves allowed n v w p (refused f) chosen same x = (
   is_refusal_moves allowed n v w f chosen same x.0,
-  λ g y. x.1 g (is_refusal_moves allowed n w v g (chosen_moves v w same.length_same same.common chosen) (same_keyslot_back n v w same) y),
+  λ g y. x.1 g (is_refusal_moves allowed n w v g (chosen_moves v w same.length_same same.common.front chosen) (same_keyslot_back n v w same) y),
 )
 answer_moves allowed n v w p (opens k) chosen same x = opens_moves allowed n v w p (Some k) chosen same x
 answer_moves allowed n v w p no_key chosen same x = opens_moves allowed n v w p None chosen same x
@@ -180,7 +180,7 @@ answer_moves allowed n v w p no_key chosen same x = opens_moves allowed n v w p 
 -- and so it does the other way round
 pub answer_returns : (allowed : Allowed) (n : ℕ) (v w p : List ℕ) (a : Opened) → Chosen v luks1 → HasSameKeyslot n v w → AnswerWithin allowed w n p a → AnswerWithin allowed v n p a
 answer_returns allowed n v w p a chosen same x =
-    answer_moves allowed n w v p a (chosen_moves v w same.length_same same.common chosen) (same_keyslot_back n v w same) x
+    answer_moves allowed n w v p a (chosen_moves v w same.length_same same.common.front chosen) (same_keyslot_back n v w same) x
 
 -- ---- one answer
 
@@ -205,9 +205,9 @@ gives_moves kind allowed n v w p found chosen same x =
     let there : HasLuks1Plan (part v 0 592) n x.plan = luks1_plan_of v n x.choice x.plan chosen x.chosen x.is in
     record {
       choice = luks1;
-      chosen = chosen_moves v w same.length_same same.common chosen;
+      chosen = chosen_moves v w same.length_same same.common.front chosen;
       plan = x.plan;
-      is = has_plan_moves (part v 0 592) (part w 0 592) n x.plan (same_front v w same.common) (entries_same n v w same) there;
+      is = has_plan_moves (part v 0 592) (part w 0 592) n x.plan (same_front v w same.common.front) (entries_same n v w same) there;
       unrefused = λ f y. x.unrefused f
           (subst (λ c. IsRefusalAsWithin allowed v n c f) (sym (choices_agree v x.choice luks1 x.chosen chosen)) (luks1_refusal_moves allowed.older n w v f (same_keyslot_back n v w same) y));
       key = given_there kind x.plan (part v x.plan.area.start x.plan.area.len) (part w x.plan.area.start x.plan.area.len) p found (area_moves n v w x.plan same there) x.key;

@@ -48,7 +48,7 @@ module _ (h : List ℕ) (payload : Data) (v : List ℕ) (of : IsHeaderOf h paylo
   same = same_keyslot v payload fit u (IsEither n n) one made.rest slot not_named
 
   key_same : number_at u 108 4 ≡ number_at v 108 4
-  key_same = number_same u v 108 4 (front_moves v u same.common 108 4 (lit≤ tt))
+  key_same = number_same u v 108 4 (front_moves v u same.common.front 108 4 (lit≤ tt))
 
   start_same : area_start u slot ≡ area_start v slot
   start_same = ap (λ e. number_at e 40 4 * 512) (same.entry slot_lt)
@@ -94,8 +94,8 @@ module _ (h : List ℕ) (payload : Data) (v : List ℕ) (of : IsHeaderOf h paylo
     entry_kept : entry w n ≡ entry u n
     entry_kept = part-same_but (entry_place n) 48 before (λ q at x. entry_apart v payload fit slot n q slot_lt n_lt other at (of_slot q x))
 
-    front_kept : part w 0 208 ≡ part u 0 208
-    front_kept = part-same_but 0 208 before (λ q at x. common_apart v payload fit slot q slot_lt (let high = at.1 in omega (arith, high)) (of_slot q x))
+    front_kept : part w 0 168 ≡ part u 0 168
+    front_kept = part-same_but 0 168 before (λ q at x. common_apart v payload fit slot q slot_lt (let high = at.1 in omega (arith, high)) (of_slot q x))
 
     still_made : IsMade (entry v n) (entry w n) iterations (take 32 random)
     still_made = subst (λ e. IsMade (entry v n) e iterations (take 32 random)) (sym entry_kept) made.made

@@ -2,14 +2,16 @@
 use Rattle.std.proofs.Common.{◌≡◌, ℕ, ◌<◌, ◌≤◌, ◌⊎◌, List, length, true, replicate, take, drop, subst, refl, sym, ap, ◌∙◌, arith, inl, inr, Option, Some, None}
 use Rattle.std.proofs.lemmas.Bool.{cases_lt, cases_eq, false_from_ne_true, ltb-false}
 use Rattle.std.proofs.lemmas.Option.{same_Some}
+use Rattle.std.specs.Prelude.{IfSome, IsSomeAnd}
 use Rattle.luks_area.specs.declared.area.Area.{Area}
 use Rattle.luks_area.specs.declared.area.AreaName.TheVariants.{Slot}
 use Rattle.luks_area.specs.Ranges.{part, SameBut}
 use Rattle.luks_area.proofs.RangeFacts.{same_but-same, same_but-equal, same_but-then, same_but-wider}
 use Rattle.luks1_header.specs.Faults.{HasUnknownState, LacksIterations}
-use Rattle.luks1_header.specs.Header1.{active_word, disabled_word, enabled_word, entry, entry_key_material_offset, entry_stripes}
+use Rattle.luks1_header.specs.Header1.{active_word, disabled_word, enabled_word, entry, entry_key_material_offset, entry_stripes, header_text}
 use Rattle.luks1_header.specs.declared.fault.HeadFault.TheVariants as head
 use Rattle.luks1_header.specs.declared.fault.IterationsOf.TheVariants as of
+use Rattle.luks1_header.specs.declared.fault.TextField.TheVariants as field
 use Rattle.luks2_header.specs.Selection.{luks1, Chosen}
 use Rattle.luks_making.specs.Derivations.{few_turns_or, takes_memory}
 use Rattle.luks_making.specs.declared.derivation.NewDerivation.{NewDerivation}
@@ -21,22 +23,25 @@ use Rattle.luks_reading.specs.Answer.{AnswerWithin, opens}
 use Rattle.luks_reading.specs.Checked.{AreaOf, WellFormed}
 use Rattle.luks_reading.specs.Layout1.{Luks1Area}
 use Rattle.luks_edit.specs.declared.edit.Edit.{Edit}
-use Rattle.luks_edit.specs.declared.edit.Edit.TheVariants.{Add, AddByKey, Change, Remove, Repair, Label, Amend}
+use Rattle.luks_edit.specs.declared.edit.Edit.TheVariants.{Add, AddByKey, Change, Remove, Repair, Label, Uuid, Amend}
 use Rattle.luks_edit.specs.declared.edit.Opener.{Opener}
 use Rattle.luks_edit.specs.declared.edit.Opener.TheVariants.{Keyslot, Key}
-use Rattle.luks_edit.specs.Asked.{allowed_of, chosen_or}
+use Rattle.luks_edit.specs.Asked.{allowed_of, chosen_or, uuid_by}
 use Rattle.luks_edit.specs.declared.edit_fault.EditFault.TheVariants as fault
 use Rattle.luks_edit.specs.Kept.{Keeps}
-use Rattle.luks1_edits.specs.Edited.{After1, Gives1, HoldsKey, IsFreed, IsInUse, IsLeastFree, IsMade, IsNewKeyslot, IsWiped, iterations_or, NamedKeyslots1, Opens1, OpensAfter1, Removes}
-use Rattle.luks1_edits.specs.Kept.{AreKeyslots, ChangesKeyslots, IsEither, IsFitFor, KeepsOthers}
-use Rattle.luks1_edits.specs.Leftovers.{IsSealedFirst, IsTorn1, IsUntorn, Leftover1, OpensEither1}
-use Rattle.luks1_edits.specs.Places.{area_len, area_start, IsOfKeyslots}
+use Rattle.luks_edit.specs.NewUuids.{new_uuid_text}
+use Rattle.luks_edit.specs.declared.new_uuid.NewUuid.{NewUuid}
+use Rattle.luks1_edits.specs.Edited.{After1, Gives1, HoldsKey, IsFreed, IsInUse, IsLeastFree, IsMade, IsNewKeyslot, IsTouched1, IsWiped, iterations_or, NamedKeyslots1, Opens1, OpensAfter1, Removes}
+use Rattle.luks1_edits.specs.Kept.{AreKeyslots, ChangesKeyslots, HasSameCommon, HasUuid, IsEither, IsFitFor, KeepsEntries, KeepsOthers}
+use Rattle.luks1_edits.specs.Leftovers.{AnswersOrUuid, FaultsUuidAlone, IsSealedFirst, IsTorn1, IsUntorn, IsUuidUntorn, Leftover1, OpensEither1}
+use Rattle.luks1_edits.specs.Places.{area_len, area_start, IsOfKeyslots, IsOfUuid}
 use Rattle.luks1_edits.specs.Refused.{IsUnrefused1}
 use Rattle.luks1_edits.proofs.AnswerFacts.{gives_moves}
-use Rattle.luks1_edits.proofs.HeaderFacts.{entry_is, header_clear, len_is, start_is, volume_of}
-use Rattle.luks1_edits.proofs.KeptFacts.{either_decided, keeps_others, kept_common, luks1_after, luks1_area_of, same_keyslot, stays_well_formed}
+use Rattle.luks1_edits.proofs.HeaderFacts.{entry_is, header_clear, len_is, start_is, uuids_common, volume_of, well_uuid}
+use Rattle.luks1_edits.proofs.KeptFacts.{either_decided, front, keeps_entries, keeps_others, kept_common, luks1_after, luks1_area_of, same_keyslot, stays_well_formed}
 use Rattle.luks1_edits.proofs.KeyFacts.{gives_once, planned_of}
 use Rattle.luks1_edits.proofs.MadeKeyslotFacts.{IsMadeFrom, IsPlanned, made_opens}
+use Rattle.luks1_edits.proofs.UuidFacts.{set_text, set_uuid, uuid_answers, uuid_chosen, uuid_faults, uuid_others, uuid_well}
 
 -- ---- what no refusal means
 
@@ -80,6 +85,7 @@ named_numbered v payload (Remove slot by_ passphrase) r free n is =
     omega (arith, is, low)
 named_numbered v payload Repair r free n is = absurd is
 named_numbered v payload (Label text subsystem) r free n is = absurd is
+named_numbered v payload (Uuid uuid) r free n is = absurd is
 named_numbered v payload (Amend c) r free n is = absurd is
 
 -- ---- entries
@@ -141,33 +147,42 @@ pub record Leaves (payload : Data) (named : ℕ → Type 0) (v w : List ℕ) : T
   pub chosen : Chosen w luks1
   pub well : WellFormed w payload
   pub others : KeepsOthers payload named v w
-  pub rest : SameBut (IsOfKeyslots v named) v w
+
+-- a place that is touched where a uuid is set is of the uuid's field
+of_uuid : (o : Option NewUuid) (p : ℕ) → IsSomeAnd o (λ uuid. IsOfUuid p) → IsOfUuid p
+of_uuid None p x = absurd x
+of_uuid (Some uuid) p x = x
+
+-- what of a volume changed in keyslots that the edit names changed in what it touches
+touched : (v : List ℕ) (e : Edit) (w : List ℕ) → SameBut (IsOfKeyslots v (NamedKeyslots1 v e)) v w → SameBut (IsTouched1 v e) v w
+touched v e w same = same_but-wider (λ p x. inl x) same
 
 module _ (payload : Data) (v : List ℕ) (chosen : Chosen v luks1) (well : WellFormed v payload) where
   changes : (a b : ℕ) (w : List ℕ) → a < 8 → b < 8 → SameBut (IsOfKeyslots v (IsEither a b)) v w → ChangesKeyslots payload (IsEither a b) v w
-  changes a b w lta ltb rest = record { keyslots = either_keyslots a b lta ltb; chosen = chosen; well = well; rest = rest }
+  changes a b w lta ltb rest = record { keyslots = either_keyslots a b lta ltb; chosen = chosen; well = well; rest = same_but-wider (λ p x. inl x) rest }
 
   both_leave : (named : ℕ → Type 0) (a b : ℕ) (w : List ℕ) → a < 8 → b < 8 → SameBut (IsOfKeyslots v (IsEither a b)) v w
       → IsFitFor (entry v a) (entry w a) → IsFitFor (entry v b) (entry w b) → named a → named b → Leaves payload named v w
   both_leave named a b w lta ltb rest fits_a fits_b is_a is_b =
       let x = changes a b w lta ltb rest in
+      let common = kept_common v payload (volume_of v payload chosen well).fit w (IsEither a b) (either_keyslots a b lta ltb) rest in
       record {
         chosen = luks1_after payload (IsEither a b) v w x;
         well = stays_well_formed payload (IsEither a b) v w x
-            (two_named (λ n. IsFitFor (entry v n) (entry w n)) a b fits_a fits_b) (either_decided a b);
-        others = keeps_wider payload (IsEither a b) named v w (two_named named a b is_a is_b) (keeps_others payload (IsEither a b) v w x);
-        rest = places_wider (IsEither a b) named v w (two_named named a b is_a is_b) rest;
+            (two_named (λ n. IsFitFor (entry v n) (entry w n)) a b fits_a fits_b) (either_decided a b) common;
+        others = keeps_wider payload (IsEither a b) named v w (two_named named a b is_a is_b) (keeps_others payload (IsEither a b) v w x common);
       }
 
   nothing_left : (named : ℕ → Type 0) (w : List ℕ) → w ≡ v → Leaves payload named v w
   nothing_left named w same =
       let none : AreKeyslots (λ n. ⊥) = record { numbered = λ n is. absurd is } in
-      let x : ChangesKeyslots payload (λ n. ⊥) v v = record { keyslots = none; chosen = chosen; well = well; rest = same_but-same (IsOfKeyslots v (λ n. ⊥)) v } in
+      let kept = same_but-same (IsOfKeyslots v (λ n. ⊥)) v in
+      let x : ChangesKeyslots payload (λ n. ⊥) v v = record { keyslots = none; chosen = chosen; well = well; rest = same_but-wider (λ p y. inl y) kept } in
       subst (λ u. Leaves payload named v u) (sym same) (record {
         chosen = chosen;
         well = well;
-        others = keeps_wider payload (λ n. ⊥) named v v (λ n is. absurd is) (keeps_others payload (λ n. ⊥) v v x);
-        rest = same_but-same (IsOfKeyslots v named) v;
+        others = keeps_wider payload (λ n. ⊥) named v v (λ n is. absurd is)
+            (keeps_others payload (λ n. ⊥) v v x (kept_common v payload (volume_of v payload chosen well).fit v (λ n. ⊥) none kept));
       })
 
   -- after an edit that is done
@@ -192,7 +207,30 @@ module _ (payload : Data) (v : List ℕ) (chosen : Chosen v luks1) (well : WellF
       both_leave (λ n. n ≡ slot) slot slot w used used x.rest fits fits refl refl
   leaves Repair r w free x = nothing_left (λ n. ⊥) w x.1
   leaves (Label text subsystem) r w free x = nothing_left (λ n. ⊥) w x.1
+  leaves (Uuid uuid) r w free x =
+      let new : HasUuid w = set_uuid uuid v r w (λ bad. free.none fault.BadUuid bad) x.1 in
+      record {
+        chosen = uuid_chosen payload v chosen well w x.1.rest;
+        well = uuid_well payload v chosen well w x.1.rest new;
+        others = uuid_others payload v chosen well w x.1.rest new;
+      }
   leaves (Amend c) r w free x = nothing_left (λ n. ⊥) w x.1
+
+  -- no byte changed but of what it touches
+  pub after_rest : (e : Edit) (r w : List ℕ) → After1 v e r w → SameBut (IsTouched1 v e) v w
+  after_rest (Add by_ old new to iterations d) r w x =
+      touched v (Add by_ old new to iterations d) w (places_wider (IsEither x.slot x.slot) (IsNewKeyslot v to) v w (one_named (IsNewKeyslot v to) x.slot x.is_new) x.rest)
+  after_rest (AddByKey key new to iterations d) r w x =
+      touched v (AddByKey key new to iterations d) w (places_wider (IsEither x.slot x.slot) (IsNewKeyslot v to) v w (one_named (IsNewKeyslot v to) x.slot x.is_new) x.rest)
+  after_rest (Change slot old new iterations d) r w x =
+      let named : ℕ → Type 0 = NamedKeyslots1 v (Change slot old new iterations d) in
+      touched v (Change slot old new iterations d) w (places_wider (IsEither slot x.fresh) named v w (two_named named slot x.fresh (inl refl) (inr x.is_free)) x.rest)
+  after_rest (Remove slot by_ passphrase) r w x =
+      touched v (Remove slot by_ passphrase) w (places_wider (IsEither slot slot) (λ n. n ≡ slot) v w (one_named (λ n. n ≡ slot) slot refl) x.rest)
+  after_rest Repair r w x = same_but-equal (IsTouched1 v Repair) x.1
+  after_rest (Label text subsystem) r w x = same_but-equal (IsTouched1 v (Label text subsystem)) x.1
+  after_rest (Uuid uuid) r w x = same_but-wider (λ p at. inr at) x.1.rest
+  after_rest (Amend c) r w x = same_but-equal (IsTouched1 v (Amend c)) x.1
 
   pub keeps : (e : Edit) (r w : List ℕ) → IsUnrefused1 v payload e r → After1 v e r w → Keeps payload (NamedKeyslots1 v e) v w
   keeps e r w free x = let left = leaves e r w free x in record { size = left.others.size; well = left.well; segments = left.others.segments; slots = left.others.slots }
@@ -238,6 +276,7 @@ module _ (payload : Data) (v : List ℕ) (chosen : Chosen v luks1) (well : WellF
   opens_after (Remove slot by_ passphrase) r w free x = tt
   opens_after Repair r w free x = tt
   opens_after (Label text subsystem) r w free x = tt
+  opens_after (Uuid uuid) r w free x = tt
   opens_after (Amend c) r w free x = tt
 
   -- ---- after a device's failure
@@ -267,6 +306,7 @@ module _ (payload : Data) (v : List ℕ) (chosen : Chosen v luks1) (well : WellF
   opens_either (Remove slot by_ passphrase) r w free x = tt
   opens_either Repair r w free x = tt
   opens_either (Label text subsystem) r w free x = tt
+  opens_either (Uuid uuid) r w free x = tt
   opens_either (Amend c) r w free x = tt
 
   same_opens : (e : Edit) → OpensEither1 v e v
@@ -276,38 +316,75 @@ module _ (payload : Data) (v : List ℕ) (chosen : Chosen v luks1) (well : WellF
   same_opens (Remove slot by_ passphrase) = tt
   same_opens Repair = tt
   same_opens (Label text subsystem) = tt
+  same_opens (Uuid uuid) = tt
   same_opens (Amend c) = tt
 
   pub leftover_opens : (e : Edit) (r w : List ℕ) → Leftover1 v payload e r w → OpensEither1 v e w
   leftover_opens e r w (inl same) = subst (λ u. OpensEither1 v e u) (sym same) (same_opens e)
   leftover_opens e r w (inr x) = opens_either e r w x.0 x.1
 
-  torn_rest : (e : Edit) (r w : List ℕ) → IsTorn1 v e r w → SameBut (IsOfKeyslots v (NamedKeyslots1 v e)) v w
+  torn_rest : (e : Edit) (r w : List ℕ) → IsTorn1 v e r w → SameBut (IsTouched1 v e) v w
   torn_rest (Add by_ old new to iterations d) r w x =
-      places_wider (IsEither x.slot x.slot) (IsNewKeyslot v to) v w (one_named (IsNewKeyslot v to) x.slot x.is_new) (half_made_rest x.order)
+      touched v (Add by_ old new to iterations d) w (places_wider (IsEither x.slot x.slot) (IsNewKeyslot v to) v w (one_named (IsNewKeyslot v to) x.slot x.is_new) (half_made_rest x.order))
   torn_rest (AddByKey key new to iterations d) r w x =
-      places_wider (IsEither x.slot x.slot) (IsNewKeyslot v to) v w (one_named (IsNewKeyslot v to) x.slot x.is_new) (half_made_rest x.order)
+      touched v (AddByKey key new to iterations d) w (places_wider (IsEither x.slot x.slot) (IsNewKeyslot v to) v w (one_named (IsNewKeyslot v to) x.slot x.is_new) (half_made_rest x.order))
   torn_rest (Change slot old new iterations d) r w (inl x) =
-      places_wider (IsEither x.slot x.slot) (NamedKeyslots1 v (Change slot old new iterations d)) v w
-      (one_named (NamedKeyslots1 v (Change slot old new iterations d)) x.slot (inr x.is_new)) (half_made_rest x.order)
+      let named : ℕ → Type 0 = NamedKeyslots1 v (Change slot old new iterations d) in
+      touched v (Change slot old new iterations d) w (places_wider (IsEither x.slot x.slot) named v w (one_named named x.slot (inr x.is_new)) (half_made_rest x.order))
   torn_rest (Change slot old new iterations d) r w (inr x) =
-      places_wider (IsEither slot x.fresh) (NamedKeyslots1 v (Change slot old new iterations d)) v w
-      (two_named (NamedKeyslots1 v (Change slot old new iterations d)) slot x.fresh (inl refl) (inr x.is_free)) x.rest
+      let named : ℕ → Type 0 = NamedKeyslots1 v (Change slot old new iterations d) in
+      touched v (Change slot old new iterations d) w (places_wider (IsEither slot x.fresh) named v w (two_named named slot x.fresh (inl refl) (inr x.is_free)) x.rest)
   torn_rest (Remove slot by_ passphrase) r w x =
-      places_wider (IsEither slot slot) (λ n. n ≡ slot) v w (one_named (λ n. n ≡ slot) slot refl) x.rest
+      touched v (Remove slot by_ passphrase) w (places_wider (IsEither slot slot) (λ n. n ≡ slot) v w (one_named (λ n. n ≡ slot) slot refl) x.rest)
   torn_rest Repair r w x = absurd x
   torn_rest (Label text subsystem) r w x = absurd x
+  torn_rest (Uuid uuid) r w x = same_but-wider (λ p at. inr at) x
   torn_rest (Amend c) r w x = absurd x
 
-  pub leftover_rest : (e : Edit) (r w : List ℕ) → Leftover1 v payload e r w → SameBut (IsOfKeyslots v (NamedKeyslots1 v e)) v w
-  leftover_rest e r w (inl same) = same_but-equal (IsOfKeyslots v (NamedKeyslots1 v e)) same
+  pub leftover_rest : (e : Edit) (r w : List ℕ) → Leftover1 v payload e r w → SameBut (IsTouched1 v e) v w
+  leftover_rest e r w (inl same) = same_but-equal (IsTouched1 v e) same
   leftover_rest e r w (inr x) = torn_rest e r w x.1
 
-  pub leftover_keeps : (e : Edit) (r w : List ℕ) → Leftover1 v payload e r w → KeepsOthers payload (NamedKeyslots1 v e) v w
-  leftover_keeps e r w (inl same) = (nothing_left (NamedKeyslots1 v e) w same).others
-  leftover_keeps e r w (inr x) =
-      keeps_others payload (NamedKeyslots1 v e) v w
-      (record { keyslots = record { numbered = named_numbered v payload e r x.0 }; chosen = chosen; well = well; rest = torn_rest e r w x.1 })
+  torn_changes : (e : Edit) (r w : List ℕ) → IsUnrefused1 v payload e r → IsTorn1 v e r w → ChangesKeyslots payload (NamedKeyslots1 v e) v w
+  torn_changes e r w free x = record {
+    keyslots = record { numbered = named_numbered v payload e r free };
+    chosen = chosen;
+    well = well;
+    rest = same_but-wider (λ p y. elim y [ inl z ↦ inl z | inr z ↦ inr (of_uuid (uuid_by e) p z) ]) (torn_rest e r w x);
+  }
+
+  -- whatever the uuid's field holds
+  pub leftover_entries : (e : Edit) (r w : List ℕ) → Leftover1 v payload e r w → KeepsEntries payload (NamedKeyslots1 v e) v w
+  leftover_entries e r w (inl same) = let left = (nothing_left (NamedKeyslots1 v e) w same).others in
+      record { size = left.size; segments = left.segments; slots = λ n not. (let x = left.slots n not in record { area = x.area; entry = x.entry }) }
+  leftover_entries e r w (inr x) = keeps_entries payload (NamedKeyslots1 v e) v w (torn_changes e r w x.0 x.1)
+
+  -- where it holds a uuid, or wasn't written, it has the same faults
+  common_by : (named : ℕ → Type 0) (o : Option NewUuid) (w : List ℕ) → ChangesKeyslots payload named v w
+      → SameBut (λ p. IsOfKeyslots v named p ⊎ IsSomeAnd o (λ uuid. IsOfUuid p)) v w → IfSome o (λ uuid. HasUuid w) → HasSameCommon v w
+  common_by named None w x rest untorn =
+      kept_common v payload (volume_of v payload chosen well).fit w named x.keyslots (same_but-wider (λ p y. elim y [ inl z ↦ z | inr z ↦ absurd z ]) rest)
+  common_by named (Some uuid) w x rest untorn = uuids_common v w (front payload named v w x) (well_uuid v payload chosen well) untorn
+
+  pub leftover_keeps : (e : Edit) (r w : List ℕ) → Leftover1 v payload e r w → IsUuidUntorn e w → KeepsOthers payload (NamedKeyslots1 v e) v w
+  leftover_keeps e r w (inl same) untorn = (nothing_left (NamedKeyslots1 v e) w same).others
+  leftover_keeps e r w (inr x) untorn =
+      let changed = torn_changes e r w x.0 x.1 in
+      keeps_others payload (NamedKeyslots1 v e) v w changed (common_by (NamedKeyslots1 v e) (uuid_by e) w changed (torn_rest e r w x.1) untorn)
+
+  -- ---- where the uuid's field was torn
+
+  left_uuid : (uuid : NewUuid) (r w : List ℕ) → Leftover1 v payload (Uuid uuid) r w → SameBut IsOfUuid v w
+  left_uuid uuid r w (inl same) = same_but-equal IsOfUuid same
+  left_uuid uuid r w (inr x) = x.1
+
+  pub leftover_faults : (e : Edit) (r w : List ℕ) → Leftover1 v payload e r w → FaultsUuidAlone payload e w
+  leftover_faults (Uuid uuid) r w left = uuid_faults payload v chosen well w (left_uuid uuid r w left)
+  leftover_faults e r w left = tt
+
+  pub leftover_answers : (e : Edit) (r w : List ℕ) → Leftover1 v payload e r w → AnswersOrUuid v e w
+  leftover_answers (Uuid uuid) r w left = uuid_answers payload v chosen well w (left_uuid uuid r w left)
+  leftover_answers e r w left = tt
 
   -- ---- where no entry was torn
 
@@ -325,36 +402,38 @@ module _ (payload : Data) (v : List ℕ) (chosen : Chosen v luks1) (well : WellF
   untorn_fits w n lt (inr fits) = fits
 
   -- so the volume is accepted still
-  untorn_well : (e : Edit) (r w : List ℕ) → IsUnrefused1 v payload e r → IsTorn1 v e r w → ((n : ℕ) → NamedKeyslots1 v e n → IsUntorn v w n) → WellFormed w payload
-  untorn_well (Add by_ old new to iterations d) r w free x untorn =
+  untorn_well : (e : Edit) (r w : List ℕ) → IsUnrefused1 v payload e r → IsTorn1 v e r w → ((n : ℕ) → NamedKeyslots1 v e n → IsUntorn v w n) → IsUuidUntorn e w → WellFormed w payload
+  untorn_well (Add by_ old new to iterations d) r w free x untorn uuids =
       let lt : x.slot < 8 = named_numbered v payload (Add by_ old new to iterations d) r free x.slot x.is_new in
       let fits = untorn_fits w x.slot lt (untorn x.slot x.is_new) in
       (both_leave (IsNewKeyslot v to) x.slot x.slot w lt lt (half_made_rest x.order) fits fits x.is_new x.is_new).well
-  untorn_well (AddByKey key new to iterations d) r w free x untorn =
+  untorn_well (AddByKey key new to iterations d) r w free x untorn uuids =
       let lt : x.slot < 8 = named_numbered v payload (AddByKey key new to iterations d) r free x.slot x.is_new in
       let fits = untorn_fits w x.slot lt (untorn x.slot x.is_new) in
       (both_leave (IsNewKeyslot v to) x.slot x.slot w lt lt (half_made_rest x.order) fits fits x.is_new x.is_new).well
-  untorn_well (Change slot old new iterations d) r w free (inl x) untorn =
+  untorn_well (Change slot old new iterations d) r w free (inl x) untorn uuids =
       let lt : x.slot < 8 = x.is_new.free.0 in
       let fits = untorn_fits w x.slot lt (untorn x.slot (inr x.is_new)) in
       (both_leave (NamedKeyslots1 v (Change slot old new iterations d)) x.slot x.slot w lt lt (half_made_rest x.order) fits fits (inr x.is_new) (inr x.is_new)).well
-  untorn_well (Change slot old new iterations d) r w free (inr x) untorn =
+  untorn_well (Change slot old new iterations d) r w free (inr x) untorn uuids =
       let used : slot < 8 = named_numbered v payload (Change slot old new iterations d) r free slot (inl refl) in
       let lt : x.fresh < 8 = x.is_free.free.0 in
       (both_leave (NamedKeyslots1 v (Change slot old new iterations d)) slot x.fresh w used lt x.rest
       (untorn_fits w slot used (untorn slot (inl refl))) (untorn_fits w x.fresh lt (untorn x.fresh (inr x.is_free))) (inl refl) (inr x.is_free)).well
-  untorn_well (Remove slot by_ passphrase) r w free x untorn =
+  untorn_well (Remove slot by_ passphrase) r w free x untorn uuids =
       let used : slot < 8 = named_numbered v payload (Remove slot by_ passphrase) r free slot refl in
       let fits = untorn_fits w slot used (untorn slot refl) in
       (both_leave (λ n. n ≡ slot) slot slot w used used x.rest fits fits refl refl).well
-  untorn_well Repair r w free x untorn = absurd x
-  untorn_well (Label text subsystem) r w free x untorn = absurd x
-  untorn_well (Amend c) r w free x untorn = absurd x
+  untorn_well Repair r w free x untorn uuids = absurd x
+  untorn_well (Label text subsystem) r w free x untorn uuids = absurd x
+  untorn_well (Uuid uuid) r w free x untorn uuids = uuid_well payload v chosen well w x uuids
+  untorn_well (Amend c) r w free x untorn uuids = absurd x
 
-  pub leftover_accepted : (e : Edit) (r w : List ℕ) → Leftover1 v payload e r w → ((n : ℕ) → NamedKeyslots1 v e n → IsUntorn v w n) → Keeps payload (NamedKeyslots1 v e) v w
-  leftover_accepted e r w left untorn =
-      let others = leftover_keeps e r w left in
-      let still : WellFormed w payload = elim left [ inl same ↦ subst (λ u. WellFormed u payload) (sym same) well | inr x ↦ untorn_well e r w x.0 x.1 untorn ] in
+  pub leftover_accepted : (e : Edit) (r w : List ℕ) → Leftover1 v payload e r w → ((n : ℕ) → NamedKeyslots1 v e n → IsUntorn v w n) → IsUuidUntorn e w
+      → Keeps payload (NamedKeyslots1 v e) v w
+  leftover_accepted e r w left untorn uuid =
+      let others = leftover_keeps e r w left uuid in
+      let still : WellFormed w payload = elim left [ inl same ↦ subst (λ u. WellFormed u payload) (sym same) well | inr x ↦ untorn_well e r w x.0 x.1 untorn uuid ] in
       record { size = others.size; well = still; segments = others.segments; slots = others.slots }
 
   -- ---- the area of a keyslot that was removed
@@ -373,4 +452,17 @@ module _ (payload : Data) (v : List ℕ) (chosen : Chosen v luks1) (well : WellF
   removed_area (Remove slot by_ passphrase) r w n a x is has = wiped_area n w a (subst (λ k. IsWiped v k w) (sym is) x.wiped) has
   removed_area Repair r w n a x is has = absurd is
   removed_area (Label text subsystem) r w n a x is has = absurd is
+  removed_area (Uuid uuid) r w n a x is has = absurd is
   removed_area (Amend c) r w n a x is has = absurd is
+
+-- ---- the uuid that was set
+
+pub sets_text : (v : List ℕ) (payload : Data) (e : Edit) (r w : List ℕ) (uuid : NewUuid) → IsUnrefused1 v payload e r → After1 v e r w → uuid_by e ≡ Some uuid
+    → header_text w field.Uuid ≡ new_uuid_text uuid r
+sets_text v payload (Uuid given) r w uuid free x is =
+    subst (λ u. header_text w field.Uuid ≡ new_uuid_text u r) (same_Some given uuid is) (set_text given v r w (λ bad. free.none fault.BadUuid bad) x.1)
+sets_text v payload e r w uuid free x is = absurd (cc)
+
+pub sets_uuid : (v : List ℕ) (payload : Data) (e : Edit) (r w : List ℕ) (uuid : NewUuid) → IsUnrefused1 v payload e r → After1 v e r w → uuid_by e ≡ Some uuid → HasUuid w
+sets_uuid v payload (Uuid given) r w uuid free x is = set_uuid given v r w (λ bad. free.none fault.BadUuid bad) x.1
+sets_uuid v payload e r w uuid free x is = absurd (cc)

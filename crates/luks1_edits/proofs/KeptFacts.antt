@@ -1,15 +1,15 @@
--- A LUKS1 volume of which only some keyslots' entries and areas were changed.
+-- A LUKS1 volume of which only some keyslots' entries and areas, and the uuid's field, were changed.
 use Rattle.std.proofs.Common.{◌≡◌, ℕ, ◌+◌, ◌-◌, ◌*◌, ◌<◌, ◌≤◌, ◌⊎◌, List, length, subst, refl, sym, ap, ◌∙◌, arith, inl, inr, lit≤}
 use Rattle.std.proofs.lemmas.Bool.{cases_eq}
 use Rattle.luks_area.specs.declared.area.Area.{Area}
 use Rattle.luks_area.specs.declared.area.AreaName.{AreaName}
 use Rattle.luks_area.specs.declared.area.AreaName.TheVariants.{Head1, Head2, Slot, Segment}
 use Rattle.luks_area.specs.Area.{Fit, name_number}
-use Rattle.luks_area.specs.Ranges.{part, IsAt, SameBut}
-use Rattle.luks_area.proofs.RangeFacts.{length-part_inside, part-same_but}
+use Rattle.luks_area.specs.Ranges.{part, IsAt, IsOfEither, SameBut}
+use Rattle.luks_area.proofs.RangeFacts.{length-part_inside, part-same_but, same_but-wider}
 use Rattle.luks_area.specs.Sectors.{rounded_to_sectors}
 use Rattle.luks1_header.specs.Bytes.{number_at}
-use Rattle.luks1_header.specs.Faults.{HasUnknownState, LacksIterations, IsCommonFault, IsLuks1Fault as IsLuks1HeadFault}
+use Rattle.luks1_header.specs.Faults.{HasUnknownState, LacksIterations, IsLuks1Fault as IsLuks1HeadFault}
 use Rattle.luks1_header.specs.Header1.{entry, entry_stripes}
 use Rattle.luks1_header.specs.declared.fault.HeadFault.{HeadFault}
 use Rattle.luks1_header.specs.declared.fault.HeadFault.TheVariants as fault
@@ -22,9 +22,9 @@ use Rattle.luks_reading.specs.declared.report.Data.{Data}
 use Rattle.luks_reading.specs.Checked.{AreaOf, HasAreaAs, IsLuks1Volume, WellFormed}
 use Rattle.luks_reading.specs.Layout1.{Luks1Area}
 use Rattle.luks_edit.specs.Kept.{KeepsArea, KeepsSlot}
-use Rattle.luks1_edits.specs.Kept.{AreKeyslots, ChangesKeyslots, HasSameKeyslot, IsEither, IsFitFor, KeepsOthers}
-use Rattle.luks1_edits.specs.Places.{area_len, area_start, entry_place, IsOfKeyslot, IsOfKeyslots}
-use Rattle.luks1_edits.proofs.HeaderFacts.{chosen_moves, common_moves, entry_is, header_clear, header_moves, len_is, number_same, start_is, volume_of}
+use Rattle.luks1_edits.specs.Kept.{AreKeyslots, ChangesKeyslots, HasSameCommon, HasSameKeyslot, IsEither, IsFitFor, KeepsEntries, KeepsEntry, KeepsOthers}
+use Rattle.luks1_edits.specs.Places.{area_len, area_start, entry_place, IsOfKeyslot, IsOfKeyslots, IsOfUuid}
+use Rattle.luks1_edits.proofs.HeaderFacts.{chosen_moves, common_moves, entry_is, header_clear, header_moves, len_is, number_same, same_common, same_common_back, start_is, volume_of}
 use Rattle.luks1_edits.proofs.AnswerFacts.{answer_moves, answer_returns}
 
 -- ---- the areas of a volume, by its header
@@ -77,6 +77,19 @@ module _ (v : List ℕ) (payload : Data) (fit : Fit (Luks1Area (part v 0 592) pa
   segment_apart m n p a lt has at (inr in_area) =
       fit.disjoint (Slot m) (Segment n) (keyslot_area v m) a (has_keyslot v payload (length v) m lt) has (λ e. cc) p in_area at
 
+  -- those of the uuid are of none, and of no segment
+  entry_not_uuid : (n p : ℕ) → IsAt (entry_place n) 48 p → IsOfUuid p → ⊥
+  entry_not_uuid n p at uuid = let low = at.0 in let high = uuid.1 in omega (arith, low, high)
+
+  area_not_uuid : (n p : ℕ) → n < 8 → IsAt (area_start v n) (area_len v n) p → IsOfUuid p → ⊥
+  area_not_uuid n p lt at uuid = let high = uuid.1 in header_apart n p lt (omega (arith, high)) at
+
+  segment_not_uuid : (n p : ℕ) (a : Area) → Luks1Area (part v 0 592) payload (length v) (Segment n) a → IsAt a.start a.len p → IsOfUuid p → ⊥
+  unfolding header_area
+  segment_not_uuid n p a has at uuid =
+      let high = uuid.1 in
+      fit.disjoint Head1 (Segment n) header_area a (has_header (part v 0 592) payload (length v)) has (λ e. cc) p (omega arith, omega (arith, high)) at
+
   -- the places of one keyslot aren't of another
   pub entry_apart : (m n p : ℕ) → m < 8 → n < 8 → (m ≡ n → ⊥) → IsAt (entry_place n) 48 p → IsOfKeyslot v m p → ⊥
   entry_apart m n p ltm ltn other at (inl in_entry) = let low = at.0 in let high = at.1 in let from = in_entry.0 in let to = in_entry.1 in omega (arith, other, low, high, from, to)
@@ -90,33 +103,53 @@ module _ (v : List ℕ) (payload : Data) (fit : Fit (Luks1Area (part v 0 592) pa
   common_apart m p lt below (inl in_entry) = let from = in_entry.0 in omega (arith, from, below)
   common_apart m p lt below (inr in_area) = header_apart m p lt (omega (arith, below)) in_area
 
-  module _ (w : List ℕ) (named : ℕ → Type 0) (keyslots : AreKeyslots named) (same : SameBut (IsOfKeyslots v named) v w) where
+  module _ (w : List ℕ) (named : ℕ → Type 0) (keyslots : AreKeyslots named) (same : SameBut (IsOfEither (IsOfKeyslots v named) IsOfUuid) v w) where
     differs : (n : ℕ) → (named n → ⊥) → (m : ℕ) → named m → m ≡ n → ⊥
     differs n not m is e = not (subst named e is)
 
-    pub kept_common : part w 0 208 ≡ part v 0 208
-    kept_common = part-same_but 0 208 same
-        (λ p at x. common_apart x.keyslot p (keyslots.numbered x.keyslot x.is_named) (let high = at.1 in omega (arith, high)) x.of)
+    kept_front : part w 0 168 ≡ part v 0 168
+    kept_front = part-same_but 0 168 same (λ p at either.
+        let high = at.1 in
+        elim either [
+          | inl x ↦ common_apart x.keyslot p (keyslots.numbered x.keyslot x.is_named) (omega (arith, high)) x.of
+          | inr uuid ↦ (let low = uuid.0 in omega (arith, low, high))
+        ])
 
     kept_entry : (n : ℕ) → n < 8 → (named n → ⊥) → entry w n ≡ entry v n
-    kept_entry n lt not = part-same_but (entry_place n) 48 same
-        (λ p at x. entry_apart x.keyslot n p (keyslots.numbered x.keyslot x.is_named) lt (differs n not x.keyslot x.is_named) at x.of)
+    kept_entry n lt not = part-same_but (entry_place n) 48 same (λ p at either. elim either [
+      | inl x ↦ entry_apart x.keyslot n p (keyslots.numbered x.keyslot x.is_named) lt (differs n not x.keyslot x.is_named) at x.of
+      | inr uuid ↦ entry_not_uuid n p at uuid
+    ])
 
     kept_area : (n : ℕ) → n < 8 → (named n → ⊥) → part w (area_start v n) (area_len v n) ≡ part v (area_start v n) (area_len v n)
-    kept_area n lt not = part-same_but (area_start v n) (area_len v n) same
-        (λ p at x. area_apart x.keyslot n p (keyslots.numbered x.keyslot x.is_named) lt (differs n not x.keyslot x.is_named) at x.of)
+    kept_area n lt not = part-same_but (area_start v n) (area_len v n) same (λ p at either. elim either [
+      | inl x ↦ area_apart x.keyslot n p (keyslots.numbered x.keyslot x.is_named) lt (differs n not x.keyslot x.is_named) at x.of
+      | inr uuid ↦ area_not_uuid n p lt at uuid
+    ])
 
     kept_segment : (n : ℕ) (a : Area) → Luks1Area (part v 0 592) payload (length v) (Segment n) a → part w a.start a.len ≡ part v a.start a.len
-    kept_segment n a has = part-same_but a.start a.len same
-        (λ p at x. segment_apart x.keyslot n p a (keyslots.numbered x.keyslot x.is_named) has at x.of)
+    kept_segment n a has = part-same_but a.start a.len same (λ p at either. elim either [
+      | inl x ↦ segment_apart x.keyslot n p a (keyslots.numbered x.keyslot x.is_named) has at x.of
+      | inr uuid ↦ segment_not_uuid n p a has at uuid
+    ])
 
-    pub same_keyslot : (n : ℕ) → (named n → ⊥) → HasSameKeyslot n v w
-    same_keyslot n not = record {
+    -- where the uuid's field has the same faults, a keyslot that isn't named has all that its answer depends on
+    same_with_uuid : HasSameCommon v w → (n : ℕ) → (named n → ⊥) → HasSameKeyslot n v w
+    same_with_uuid common n not = record {
       length_same = same.length_same;
-      common = kept_common;
+      common = common;
       entry = λ lt. kept_entry n lt not;
       area = λ lt. kept_area n lt not;
     }
+
+  -- where the uuid's field is as it was too
+  module _ (w : List ℕ) (named : ℕ → Type 0) (keyslots : AreKeyslots named) (same : SameBut (IsOfKeyslots v named) v w) where
+    pub kept_common : HasSameCommon v w
+    kept_common = same_common v w (part-same_but 0 208 same
+        (λ p at x. common_apart x.keyslot p (keyslots.numbered x.keyslot x.is_named) (let high = at.1 in omega (arith, high)) x.of))
+
+    pub same_keyslot : (n : ℕ) → (named n → ⊥) → HasSameKeyslot n v w
+    same_keyslot n not = same_with_uuid w named keyslots (same_but-wider (λ p x. inl x) same) kept_common n not
 
 -- ---- what is kept
 
@@ -131,14 +164,14 @@ module _ (payload : Data) (named : ℕ → Type 0) (v w : List ℕ) (x : Changes
   placed : Fit (Luks1Area (part v 0 592) payload (length v)) (length v)
   placed = (volume_of v payload x.chosen x.well).fit
 
-  front : part w 0 208 ≡ part v 0 208
-  front = kept_common v payload placed w named x.keyslots x.rest
+  pub front : part w 0 168 ≡ part v 0 168
+  front = kept_front v payload placed w named x.keyslots x.rest
 
   pub luks1_after : Chosen w luks1
   luks1_after = chosen_moves v w x.rest.length_same front x.chosen
 
   -- an area by the one header is there by the other, where the volume is as long and the entry the same
-  area_same : (u z : List ℕ) → length z ≡ length u → part z 0 208 ≡ part u 0 208 → (n : AreaName) (a : Area)
+  area_same : (u z : List ℕ) → length z ≡ length u → part z 0 168 ≡ part u 0 168 → (n : AreaName) (a : Area)
       → ((m : ℕ) → n ≡ Slot m → m < 8 → entry z m ≡ entry u m)
       → Luks1Area (part u 0 592) payload (length u) n a → Luks1Area (part z 0 592) payload (length z) n a
   area_same u z size same Head1 a at has = has
@@ -178,28 +211,43 @@ module _ (payload : Data) (named : ℕ → Type 0) (v w : List ℕ) (x : Changes
   no_value : (u : List ℕ) → Chosen u luks1 → (place : ℕ) (copies : Copies) → Chosen u (luks2 place copies) → ⊥
   no_value u one place copies two = let same = choices_agree u luks1 (luks2 place copies) one two in cc
 
-  keeps_slot : (n : ℕ) → (named n → ⊥) → KeepsSlot payload n v w
-  keeps_slot n not =
-      let same : HasSameKeyslot n v w = same_keyslot v payload placed w named x.keyslots x.rest n not in
-      record {
-        area = keeps_slot_area n not;
-        entry = λ bytes. (
-          λ is. record { chosen = luks1_after; numbered = is.numbered; is = is.is ∙ sym (same.entry is.numbered) },
-          λ is. record { chosen = x.chosen; numbered = is.numbered; is = is.is ∙ same.entry is.numbered },
-        );
-        value = λ d. (
-          λ is. absurd (no_value v x.chosen is.place is.copies is.chosen),
-          λ is. absurd (no_value w luks1_after is.place is.copies is.chosen),
-        );
-        answers = λ allowed p a. (answer_moves allowed n v w p a x.chosen same, answer_returns allowed n v w p a x.chosen same);
-      }
+  keeps_entry : (n : ℕ) → (named n → ⊥) → KeepsEntry payload n v w
+  keeps_entry n not = record {
+    area = keeps_slot_area n not;
+    entry = λ bytes. (
+      λ is. record { chosen = luks1_after; numbered = is.numbered; is = is.is ∙ sym (kept_entry v payload placed w named x.keyslots x.rest n is.numbered not) },
+      λ is. record { chosen = x.chosen; numbered = is.numbered; is = is.is ∙ kept_entry v payload placed w named x.keyslots x.rest n is.numbered not },
+    );
+  }
 
-  pub keeps_others : KeepsOthers payload named v w
-  keeps_others = record {
+  -- whatever the uuid's field holds
+  pub keeps_entries : KeepsEntries payload named v w
+  keeps_entries = record {
     size = x.rest.length_same;
     segments = λ n. keeps_area (Segment n) (λ m is lt. absurd (cc)) (λ a has. kept_segment v payload placed w named x.keyslots x.rest n a has);
-    slots = keeps_slot;
+    slots = keeps_entry;
   }
+
+  -- where it has the same faults
+  module _ (common : HasSameCommon v w) where
+    pub same_unnamed : (n : ℕ) → (named n → ⊥) → HasSameKeyslot n v w
+    same_unnamed n not = same_with_uuid v payload placed w named x.keyslots x.rest common n not
+
+    keeps_slot : (n : ℕ) → (named n → ⊥) → KeepsSlot payload n v w
+    keeps_slot n not =
+        let entry = keeps_entry n not in
+        record {
+          area = entry.area;
+          entry = entry.entry;
+          value = λ d. (
+            λ is. absurd (no_value v x.chosen is.place is.copies is.chosen),
+            λ is. absurd (no_value w luks1_after is.place is.copies is.chosen),
+          );
+          answers = λ allowed p a. (answer_moves allowed n v w p a x.chosen (same_unnamed n not), answer_returns allowed n v w p a x.chosen (same_unnamed n not));
+        }
+
+    pub keeps_others : KeepsOthers payload named v w
+    keeps_others = record { size = keeps_entries.size; segments = keeps_entries.segments; slots = keeps_slot }
 
 -- ---- the volume stays well formed
 
@@ -213,8 +261,8 @@ module _ (payload : Data) (named : ℕ → Type 0) (v w : List ℕ) (x : Changes
   entry_kept : (n : ℕ) → n < 8 → (named n → ⊥) → entry w n ≡ entry v n
   entry_kept n lt not = kept_entry v payload whole.fit w named x.keyslots x.rest n lt not
 
-  common_same : part w 0 208 ≡ part v 0 208
-  common_same = kept_common v payload whole.fit w named x.keyslots x.rest
+  front_same : part w 0 168 ≡ part v 0 168
+  front_same = kept_front v payload whole.fit w named x.keyslots x.rest
 
   -- each entry is fit for use in the place of the old one
   fit_entry : (n : ℕ) → n < 8 → IsFitFor (entry (part v 0 592) n) (entry (part w 0 592) n)
@@ -231,25 +279,22 @@ module _ (payload : Data) (named : ℕ → Type 0) (v w : List ℕ) (x : Changes
             }
       ]))
 
-  common_clear : (f : HeadFault) → IsCommonFault (part w 0 592) f → ⊥
-  common_clear f bad = clear f (common_moves w v (sym common_same) f bad).1
-
-  clear_after : (f : HeadFault) → IsLuks1HeadFault (part w 0 592) f → ⊥
-  clear_after fault.TooShort bad =
+  clear_after : HasSameCommon v w → (f : HeadFault) → IsLuks1HeadFault (part w 0 592) f → ⊥
+  clear_after common fault.TooShort bad =
       let long = x.chosen.long in
       let size = x.rest.length_same in
       let all = length-part_inside w 0 592 (omega (arith, long, size)) in
       omega (arith, bad, all)
-  clear_after fault.NoSoundCopy bad = bad
-  clear_after (fault.SlotState n) bad = (fit_entry n bad.0).stated bad.1
-  clear_after (fault.Stripes n) bad = clear (fault.Stripes n) (bad.0, sym (fit_entry n bad.0).stripes ∙ bad.1)
-  clear_after (fault.Iterations (of.Slot n)) bad = (fit_entry n bad.0).iterated bad.1
-  clear_after fault.Device bad = bad
-  clear_after fault.Memory bad = bad
-  clear_after f bad = common_clear f (tt, bad)
+  clear_after common fault.NoSoundCopy bad = bad
+  clear_after common (fault.SlotState n) bad = (fit_entry n bad.0).stated bad.1
+  clear_after common (fault.Stripes n) bad = clear (fault.Stripes n) (bad.0, sym (fit_entry n bad.0).stripes ∙ bad.1)
+  clear_after common (fault.Iterations (of.Slot n)) bad = (fit_entry n bad.0).iterated bad.1
+  clear_after common fault.Device bad = bad
+  clear_after common fault.Memory bad = bad
+  clear_after common f bad = clear f (common_moves w v (same_common_back v w common) f (tt, bad)).1
 
-  field_same : (o : ℕ) → o + 4 ≤ 208 → number_at (part w 0 592) o 4 ≡ number_at (part v 0 592) o 4
-  field_same o within = number_same (part w 0 592) (part v 0 592) o 4 (header_moves v w common_same o 4 within)
+  field_same : (o : ℕ) → o + 4 ≤ 168 → number_at (part w 0 592) o 4 ≡ number_at (part v 0 592) o 4
+  field_same o within = number_same (part w 0 592) (part v 0 592) o 4 (header_moves v w front_same o 4 within)
 
   area_before : (n : AreaName) (a : Area) → Luks1Area (part w 0 592) payload (length v) n a → Luks1Area (part v 0 592) payload (length v) n a
   area_before Head1 a has = has
@@ -268,12 +313,14 @@ module _ (payload : Data) (named : ℕ → Type 0) (v w : List ℕ) (x : Changes
     disjoint = λ m n a b hm hn. whole.fit.disjoint m n a b (area_before m a hm) (area_before n b hn);
   }
 
-  pub stays_well_formed : WellFormed w payload
-  stays_well_formed = record {
+  pub fits_after : Fit (Luks1Area (part w 0 592) payload (length w)) (length w)
+  fits_after = subst (λ t. Fit (Luks1Area (part w 0 592) payload t) t) (sym x.rest.length_same) fit_after
+
+  pub stays_well_formed : HasSameCommon v w → WellFormed w payload
+  stays_well_formed common = record {
     choice = luks1;
-    chosen = chosen_moves v w x.rest.length_same common_same x.chosen;
-    formed = subst (λ t. IsLuks1Volume (part w 0 592) payload t) (sym x.rest.length_same)
-        (record { header = header_found (part w 0 592) clear_after; fit = fit_after });
+    chosen = chosen_moves v w x.rest.length_same front_same x.chosen;
+    formed = record { header = header_found (part w 0 592) (clear_after common); fit = fits_after };
   }
 
 -- whether a keyslot is one of two is decided

@@ -15,7 +15,9 @@ pub mod OpenerFacts
 pub mod RefusalFacts
 pub mod RemovalChoice
 pub mod RemovalFacts
+pub mod RewritingFacts
 pub mod RowFacts
 pub mod SealingFacts
 pub mod SlotSetFacts
 pub mod StepFacts
+pub mod UuidFacts

@@ -31,9 +31,10 @@ use Rattle.luks_reading.specs.Answer.{AnswerWithin, IsLuks1Refusal, opens}
 use Rattle.luks_reading.specs.Checked.{IsLuks1Volume, WellFormed}
 use Rattle.luks_reading.specs.Plans.{HasLuks1Plan, IsLuks1Cipher, IsLuks1Derivation, IsLuks1Plan}
 use Rattle.luks1_edits.specs.Edited.{HoldsKey, IsMade}
+use Rattle.luks1_edits.specs.Kept.{HasSameCommon}
 use Rattle.luks1_edits.specs.Places.{area_len, area_start}
 use Rattle.luks1_edits.proofs.AnswerFacts.{SameFront, common_or_entry, number_moves, same_front, text_moves}
-use Rattle.luks1_edits.proofs.HeaderFacts.{chosen_moves, common_moves, entry_is, front_moves, header_clear, len_is, number_same, start_is, volume_of}
+use Rattle.luks1_edits.proofs.HeaderFacts.{chosen_moves, common_moves, entry_is, front_moves, header_clear, len_is, number_same, same_common_back, start_is, volume_of}
 use Rattle.luks1_edits.proofs.KeptFacts.{area_inside}
 
 -- what two plans share whose headers say the same before the keyslots
@@ -126,7 +127,7 @@ pub record IsMadeFrom (allowed : Allowed) (payload : Data) (v : List ℕ) (n ite
   pub chosen : Chosen v luks1
   pub well : WellFormed v payload
   pub length_same : length w ≡ length v
-  pub common : part w 0 208 ≡ part v 0 208
+  pub common : HasSameCommon v w
   pub opened : IsPlanned allowed.older v key
   pub numbered : n < 8
   pub iterated : 1 ≤ iterations
@@ -142,7 +143,7 @@ module _ (allowed : Allowed) (payload : Data) (v : List ℕ) (n iterations : ℕ
   clear = header_clear v payload x.chosen x.well
 
   front : SameFront (part v 0 592) (part w 0 592)
-  front = same_front v w x.common
+  front = same_front v w x.common.front
 
   terms : (b : SlotPlan) → HasLuks1Plan (part w 0 592) n b → SameTerms x.opened.plan b
   terms b is = same_terms (part v 0 592) (part w 0 592) (entry (part v 0 592) x.opened.slot) (entry (part w 0 592) n) x.opened.plan b front x.opened.is.is is.is
@@ -183,13 +184,13 @@ module _ (allowed : Allowed) (payload : Data) (v : List ℕ) (n iterations : ℕ
   place_kept : (area_start w n ≡ area_start v n) × (area_len w n ≡ area_len v n)
   place_kept = (
     ap (λ k. k * 512) x.made.offset,
-    ap (λ k. rounded_to_sectors (k * entry_stripes (entry w n))) (number_same w v 108 4 (front_moves v w x.common 108 4 (lit≤ tt)))
+    ap (λ k. rounded_to_sectors (k * entry_stripes (entry w n))) (number_same w v 108 4 (front_moves v w x.common.front 108 4 (lit≤ tt)))
         ∙ ap (λ s. rounded_to_sectors (number_at v 108 4 * s)) x.made.stripes,
   )
 
   unrefused : (f : OpenFault) → IsLuks1Refusal allowed.older (part w 0 592) (length w) n f → ⊥
   unrefused (Head f) y = elim (common_or_entry (part w 0 592) n f y) [
-    | inl z ↦ clear f (common_moves w v (sym x.common) f z).1
+    | inl z ↦ clear f (common_moves w v (same_common_back v w x.common) f z).1
     | inr z ↦ entry_clear f z.fault
   ]
   unrefused (Meta f) y = y
@@ -213,7 +214,7 @@ module _ (allowed : Allowed) (payload : Data) (v : List ℕ) (n iterations : ℕ
   pub made_opens : AnswerWithin allowed w n new (opens key)
   made_opens = record {
     choice = luks1;
-    chosen = chosen_moves v w x.length_same x.common x.chosen;
+    chosen = chosen_moves v w x.length_same x.common.front x.chosen;
     plan = x.holds.plan;
     is = x.holds.is;
     unrefused = unrefused;

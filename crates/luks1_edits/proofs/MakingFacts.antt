@@ -118,7 +118,7 @@ module _ (h : List ℕ) (n : ℕ) (e : List ℕ) (iterations : ℕ) (salt : List
         → SameBut (IsAt (entry_place n) 48) u w → entry w n ≡ e → IsKeyslotMade v n iterations passphrase key random w
     keyslot_made u w passphrase key random salt_is key_size random_size first sealed second written =
         let rest : SameBut (IsOfKeyslots v (IsEither n n)) v w = entry_touched u w first second in
-        let front : part w 0 208 ≡ part v 0 208 = kept_common v payload (volume_of v payload of.chosen of.well).fit w (IsEither n n) numbered rest in
+        let front : part w 0 168 ≡ part v 0 168 = (kept_common v payload (volume_of v payload of.chosen of.well).fit w (IsEither n n) numbered rest).front in
         let moved : SameFront h (part w 0 592) = record { parts = λ o l within. ap (λ b. part b o l) of.begins ∙ sym (header_moves v w front o l within) } in
         record {
           rest = rest;

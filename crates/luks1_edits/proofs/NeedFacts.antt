@@ -9,7 +9,8 @@ use Rattle.luks_edit.specs.declared.edit.Edit.{Edit}
 use Rattle.luks_edit.specs.declared.edit.Opener.{Opener}
 use Rattle.luks_edit.specs.declared.edit_fault.EditFault.{EditFault}
 use Rattle.luks_edit.specs.declared.edit_fault.EditFault.TheVariants as fault
-use Rattle.luks_edit.specs.Asked.{deed_of, sealed_in}
+use Rattle.luks_edit.specs.Asked.{deed_of, sealed_in, uuid_by}
+use Rattle.luks_edit.specs.NewUuids.{uuid_need}
 use Rattle.luks_edit.specs.EditFaults.{edit_key, edit_row}
 use Rattle.luks_edit.proofs.RowFacts.{Passed, after_check, after_opening, first_of_row, next}
 use Rattle.luks1_edits.specs.Accepted.{AreAllThere, IsNewFault, IsNewFree}
@@ -53,9 +54,9 @@ module _ (v : List ℕ) (payload : Data) (e : Edit) (accepted : (f : CheckFault)
       none fault.NoFreeSlot bad = some_free bad
       none f bad = bad
 
-  -- an edit that makes no keyslot takes no random bytes
-  pub idle_need : sealed_in (deed_of e) ≡ None → NeedsRandom v payload e 0
-  idle_need none = told 0 (λ bad. rw none at bad) (λ bad. rw none at bad) (rw none refl)
+  -- an edit that makes no keyslot takes the random bytes of the uuid that it makes, if it makes one
+  pub uuid_needs : sealed_in (deed_of e) ≡ None → (k : ℕ) → k ≡ uuid_need (uuid_by e) → NeedsRandom v payload e k
+  uuid_needs none k is = told k (λ bad. rw none at bad) (λ bad. rw none at bad) (rw none is)
 
   past_opener : Passed (IsNeedFault1 v payload e) 8
   past_opener =

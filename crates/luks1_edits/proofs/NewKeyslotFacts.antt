@@ -16,6 +16,7 @@ use Rattle.luks_edit.specs.declared.deed.Sealed.{Sealed}
 use Rattle.luks_edit.specs.declared.edit_fault.EditFault.{EditFault}
 use Rattle.luks_edit.specs.declared.edit_fault.EditFault.TheVariants as fault
 use Rattle.luks_edit.specs.Asked.{allowed_of, ChoosesArgon2, deed_of, HasFewIterations, MatchOpener, opener_at, Wants}
+use Rattle.luks_edit.specs.NewUuids.{HasBadUuid}
 use Rattle.luks_edit.proofs.RowFacts.{Passed, first_of_row, next}
 use Rattle.luks1_edits.specs.Accepted.{AreAllThere, IsHeaderOf, IsIterated, IsMisnamed, IsNewFault, IsNewFree, IsNewRefused, IsOpenedBy, IsUnopened, IsUnusable, IsUsable}
 use Rattle.luks1_edits.specs.Edited.{IsNewKeyslot, number_asked, Opens1}
@@ -27,7 +28,7 @@ use Rattle.luks1_edits.proofs.AnswerFacts.{SameFront}
 use Rattle.luks1_edits.proofs.EditedFacts.{new_once}
 use Rattle.luks1_edits.proofs.KeyFacts.{planned_of}
 use Rattle.luks1_edits.proofs.MadeKeyslotFacts.{same_refusal, same_terms}
-use Rattle.luks1_edits.proofs.RowFacts.{alone, IsOpener, opener_passed, past_label, past_new, unrefused}
+use Rattle.luks1_edits.proofs.RowFacts.{alone, IsOpener, opener_passed, past_argon2, past_label, past_new, past_uuid, unrefused}
 
 -- the edit has its key of the opener, and makes the keyslot `to`, or the least free
 pub record IsMaking (v : List ℕ) (e : Edit) (o : Opener) (to : Option ℕ) (asked : AskedDerivation) : Type 0 where
@@ -39,6 +40,7 @@ pub record IsMaking (v : List ℕ) (e : Edit) (o : Opener) (to : Option ℕ) (as
   pub free_only : HasNoFree v e → LacksFree v to
   pub not_last : IsLast v e → ⊥
   pub no_label : IsLabel e → ⊥
+  pub good_uuid : HasBadUuid e → ⊥
   pub few_is : asked_few_turns asked ≡ true → HasFewIterations e
   pub few_only : HasFewIterations e → asked_few_turns asked ≡ true
   pub argon2_is : takes_memory asked.chosen ≡ true → ChoosesArgon2 e
@@ -57,6 +59,7 @@ making v e s is = record {
   free_only = λ y. rw is at y;
   not_last = λ y. rw is at y;
   no_label = λ y. rw is at y;
+  good_uuid = λ y. rw is at y;
   few_is = λ y. rw is y;
   few_only = λ y. rw is at y;
   argon2_is = λ y. rw is y;
@@ -129,8 +132,10 @@ module _ (v : List ℕ) (payload : Data) (e : Edit) (r : List ℕ) (o : Opener) 
     need_is : (k : ℕ) → Need1 v e k → k ≡ keyslot_need v n
     need_is k needs = let x = is.need_only k needs in x.count ∙ ap (keyslot_need v) (new_once v to x.slot n x.is new.is_new)
 
-    enough_passed : IsIterated asked → Passed (IsEditFault1 v payload e r) 22
-    enough_passed x = past_label v payload e r made_passed is.not_last (λ few. both_ways _ x.turns (is.few_only few)) (λ argon2. both_ways _ x.own (is.argon2_only argon2)) is.no_label
+    enough_passed : IsIterated asked → Passed (IsEditFault1 v payload e r) 23
+    enough_passed x =
+        let iterated = past_argon2 v payload e r made_passed is.not_last (λ few. both_ways _ x.turns (is.few_only few)) (λ argon2. both_ways _ x.own (is.argon2_only argon2)) in
+        past_uuid v payload e r (past_label v payload e r iterated is.no_label) is.good_uuid
 
     -- its iterations, its derivation or the random bytes are refused
     pub new_refused : (w : List ℕ) (f : EditFault) → w ≡ v → IsNewRefused v n asked r f → EndsBy1 payload v e r f w

@@ -11,13 +11,14 @@ use Rattle.luks_edit.specs.declared.edit.Secret.{Secret}
 use Rattle.luks_edit.specs.declared.edit.SecretKind.{SecretKind}
 use Rattle.luks_edit.specs.declared.edit.SecretKind.TheVariants as kind
 use Rattle.luks_edit.specs.Asked.{allowed_by, allowed_of, ChoosesArgon2, deed_of, HasFewIterations, NamesItself, opener_in, opener_of, remover_by, remover_of, Wants}
+use Rattle.luks_edit.specs.NewUuids.{HasBadUuid}
 use Rattle.luks_edit.proofs.RowFacts.{Passed, first_of_row}
 use Rattle.luks1_edits.specs.Accepted.{AreAllThere, HasOther, IsHeaderOf, IsMisnamed, IsNamedTwice, IsOpenedBy, IsRemovable, IsUnremovable, IsUsable}
 use Rattle.luks1_edits.specs.Edited.{After1, IsInUse, IsRemoved}
 use Rattle.luks1_edits.specs.Leftovers.{IsHalfRemoved, IsTorn1, Leftover1}
 use Rattle.luks1_edits.specs.Refused.{HasNoFree, IsEditFault1, IsLabel, IsLast, IsTaken, IsUnrefused1, Need1, Refusal1}
 use Rattle.luks1_edits.specs.Replies.{IsDone1, Tells1}
-use Rattle.luks1_edits.proofs.RowFacts.{IsOpener, opener_passed, past_label, past_new, unrefused}
+use Rattle.luks1_edits.proofs.RowFacts.{IsOpener, opener_passed, past_argon2, past_label, past_new, past_uuid, unrefused}
 
 -- the edit removes the keyslot `slot`, and has a key for that of the opener
 pub record IsRemoval (v : List ℕ) (e : Edit) (o : Opener) (slot : ℕ) (by_ : Option ℕ) (r : List ℕ) : Type 0 where
@@ -35,6 +36,7 @@ pub record IsRemoval (v : List ℕ) (e : Edit) (o : Opener) (slot : ℕ) (by_ : 
   pub many : HasFewIterations e → ⊥
   pub no_argon2 : ChoosesArgon2 e → ⊥
   pub no_label : IsLabel e → ⊥
+  pub good_uuid : HasBadUuid e → ⊥
   pub need : Need1 v e 0
   pub need_only : (k : ℕ) → Need1 v e k → k ≡ 0
   pub after : (w : List ℕ) → IsRemoved v slot w → After1 v e r w
@@ -58,6 +60,7 @@ removal v e d r is = record {
   many = λ y. rw is at y;
   no_argon2 = λ y. rw is at y;
   no_label = λ y. rw is at y;
+  good_uuid = λ y. rw is at y;
   need = rw is refl;
   need_only = λ k y. rw is at y;
   after = λ w y. rw is y;
@@ -120,8 +123,8 @@ module _ (v : List ℕ) (payload : Data) (e : Edit) (r : List ℕ) (o : Opener) 
   last_refused last = first_of_row (IsEditFault1 v payload e r) fault.LastSlot refl passed (is.last_is last)
 
   module _ (more : HasOther v slot) where
-    past_last : Passed (IsEditFault1 v payload e r) 22
-    past_last = past_label v payload e r passed (λ bad. more.other (is.last_only bad more.keyslot more.used)) is.many is.no_argon2 is.no_label
+    past_last : Passed (IsEditFault1 v payload e r) 23
+    past_last = past_uuid v payload e r (past_label v payload e r (past_argon2 v payload e r passed (λ bad. more.other (is.last_only bad more.keyslot more.used)) is.many is.no_argon2) is.no_label) is.good_uuid
 
     pub random_refused : length r ≢ 0 → Refusal1 v payload e r fault.RandomLength
     random_refused some = first_of_row (IsEditFault1 v payload e r) fault.RandomLength refl past_last (record { need = 0; is = is.need; other = some })

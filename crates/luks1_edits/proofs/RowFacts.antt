@@ -1,5 +1,5 @@
 -- The first refusal of an edit, row by row.
-use Rattle.std.proofs.Common.{◌≡◌, ℕ, ◌<◌, ◌≤◌, List, subst, refl, sym, arith, inl, Option, Some, None}
+use Rattle.std.proofs.Common.{◌≡◌, ℕ, ◌<◌, ◌≤◌, List, subst, refl, sym, arith, inl, Some, None}
 use Rattle.luks_area.specs.First.{NotAfter}
 use Rattle.luks_slot.specs.Allowance.{without_memory}
 use Rattle.luks_reading.specs.declared.check_fault.CheckFault.{CheckFault}
@@ -15,7 +15,8 @@ use Rattle.luks_edit.specs.declared.edit_fault.EditFault.{EditFault}
 use Rattle.luks_edit.specs.declared.edit_fault.EditFault.TheVariants as fault
 use Rattle.luks_edit.specs.Asked.{allowed_by, allowed_of, ChoosesArgon2, deed_of, HasFewIterations, MatchOpener, NamesItself, opener_in, Wants}
 use Rattle.luks_edit.specs.EditFaults.{edit_key, edit_row}
-use Rattle.luks_edit.proofs.RowFacts.{Passed, after_check, after_opening, first_of_opening, first_of_row, next, none_at_all, past_tokens}
+use Rattle.luks_edit.specs.NewUuids.{HasBadUuid}
+use Rattle.luks_edit.proofs.RowFacts.{Passed, after_check, after_opening, after_token, first_of_opening, first_of_row, next, none_at_all}
 use Rattle.luks1_edits.specs.Accepted.{AreAllThere, IsMisnamed, IsOpenedBy, IsUnopened, IsUsable}
 use Rattle.luks1_edits.specs.Edited.{IsInUse}
 use Rattle.luks1_edits.specs.Refused.{HasNoFree, IsAbsent, IsEditFault1, IsLabel, IsLast, IsMiscounted, IsTaken, IsUnopened1, IsUnopenedBy1, IsUnrefused1, Refusal1}
@@ -66,18 +67,27 @@ module _ (v : List ℕ) (payload : Data) (e : Edit) (r : List ℕ) where
       let s = IsEditFault1 v payload e r in
       next s fault.NoRoom refl (next s fault.NoFreeSlot refl (next s fault.SlotTaken refl before untaken) free) (λ bad. bad)
 
-  pub past_label : Passed (IsEditFault1 v payload e r) 11 → (IsLast v e → ⊥) → (HasFewIterations e → ⊥) → (ChoosesArgon2 e → ⊥) → (IsLabel e → ⊥)
-      → Passed (IsEditFault1 v payload e r) 22
-  past_label before last few argon2 label =
+  pub past_argon2 : Passed (IsEditFault1 v payload e r) 11 → (IsLast v e → ⊥) → (HasFewIterations e → ⊥) → (ChoosesArgon2 e → ⊥) → Passed (IsEditFault1 v payload e r) 14
+  past_argon2 before last few argon2 =
       let s = IsEditFault1 v payload e r in
-      next s fault.MetadataFull refl
-      (next s fault.SeqExhausted refl
-      (past_tokens s (next s fault.BadLabel refl (next s fault.Argon2 refl (next s fault.Iterations refl (next s fault.LastSlot refl before last) few) argon2) label)
-      (λ bad. bad) (λ bad. bad) (λ bad. bad) (λ bad. bad) (λ m bad. bad)) (λ bad. bad))
+      next s fault.Argon2 refl (next s fault.Iterations refl (next s fault.LastSlot refl before last) few) argon2
+
+  -- LUKS1 has no tokens
+  pub past_label : Passed (IsEditFault1 v payload e r) 14 → (IsLabel e → ⊥) → Passed (IsEditFault1 v payload e r) 19
+  past_label before label =
+      let s = IsEditFault1 v payload e r in
+      next s fault.UnreadableToken refl
+      (next s fault.NoFreeToken refl
+      (next s fault.TokenTaken refl (next s fault.NoSuchToken refl (next s fault.BadLabel refl before label) (λ bad. bad)) (λ bad. bad)) (λ bad. bad))
       (λ bad. bad)
 
+  pub past_uuid : Passed (IsEditFault1 v payload e r) 19 → (HasBadUuid e → ⊥) → Passed (IsEditFault1 v payload e r) 23
+  past_uuid before good =
+      let s = IsEditFault1 v payload e r in
+      next s fault.MetadataFull refl (next s fault.SeqExhausted refl (after_token s (next s fault.BadUuid refl before good) (λ m bad. bad)) (λ bad. bad)) (λ bad. bad)
+
   -- nothing refuses it
-  pub unrefused : Passed (IsEditFault1 v payload e r) 22 → (IsMiscounted v e r → ⊥) → IsUnrefused1 v payload e r
+  pub unrefused : Passed (IsEditFault1 v payload e r) 23 → (IsMiscounted v e r → ⊥) → IsUnrefused1 v payload e r
   unrefused before counted =
       let s = IsEditFault1 v payload e r in
       record { none = none_at_all s (next s fault.Device refl (next s fault.Memory refl (next s fault.RandomLength refl before counted) (λ bad. bad)) (λ bad. bad)) }

@@ -9,7 +9,7 @@ use Rattle.luks1_header.specs.declared.luks1.SlotState.TheVariants.{Disabled}
 use Rattle.luks1_edits.specs.Edited.{IsFreed, IsRemoved}
 use Rattle.luks1_edits.specs.Kept.{IsEither}
 use Rattle.luks1_edits.specs.Leftovers.{IsHalfRemoved}
-use Rattle.luks1_edits.specs.Places.{area_len, area_start, entry_place, IsOfKeyslots}
+use Rattle.luks1_edits.specs.Places.{area_len, area_start, entry_place, IsOfKeyslots, IsOfUuid}
 use Rattle.luks1_edits.specs.Steps.{IsKeyslotAt}
 
 -- ---- an entry that is written
@@ -24,6 +24,16 @@ pub entry_written : (v u w b : List ℕ) (n : ℕ) → length b ≡ 48 → n < 8
 entry_written v u w b n size lt long wrote flushed =
     ap (λ x. entry x n) (flushed ∙ wrote) ∙ ap (λ l. part (written v (208 + 48 * n) b) (208 + 48 * n) l) (sym size)
     ∙ part-written v (208 + 48 * n) b (omega (arith, size, lt, long))
+
+-- ---- the uuid's field
+
+-- it was written, or was being written
+pub uuid_range : (v w : List ℕ) (l : ℕ) → l ≡ 40 → SameOutside v w 168 l → SameBut IsOfUuid v w
+uuid_range v w l size same = subst (λ k. SameBut (IsAt 168 k) v w) size (same_but-same_outside same)
+
+pub uuid_written : (v w b : List ℕ) → length b ≡ 40 → 592 ≤ length v → w ≡ written v 168 b → part w 168 40 ≡ b
+uuid_written v w b size long wrote =
+    ap (λ x. part x 168 40) wrote ∙ ap (λ l. part (written v 168 b) 168 l) (sym size) ∙ part-written v 168 b (omega (arith, size, long))
 
 -- ---- a keyslot that is freed: its entry is written, then its area is wiped
 

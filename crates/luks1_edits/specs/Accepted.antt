@@ -15,10 +15,12 @@ use Rattle.luks_reading.specs.Checked.{First, IsFault, IsLuks1Volume, WellFormed
 use Rattle.luks_edit.specs.declared.edit_fault.EditFault.{EditFault}
 use Rattle.luks_edit.specs.declared.edit_fault.EditFault.TheVariants as fault
 use Rattle.luks_edit.specs.declared.deed.Deed.TheVariants.{Seal}
+use Rattle.luks_edit.specs.declared.deed.Rewritten.{Rewritten}
 use Rattle.luks_edit.specs.declared.deed.Sealed.{Sealed}
 use Rattle.luks_edit.specs.declared.edit.Edit.{Edit}
 use Rattle.luks_edit.specs.declared.edit.Opener.{Opener}
-use Rattle.luks_edit.specs.Asked.{allowed_of, deed_of, MatchOpener, NamesItself, opener_at, opener_of, Wants}
+use Rattle.luks_edit.specs.Asked.{allowed_of, deed_of, MatchOpener, NamesItself, opener_at, opener_of, sets_uuid_at_most, Wants}
+use Rattle.luks_edit.specs.NewUuids.{IsBadUuid, uuid_need}
 use Rattle.luks1_edits.specs.declared.accepted.AcceptedHeader.{AcceptedHeader}
 use Rattle.luks1_edits.specs.Edited.{IsFree, IsInUse, IsNewKeyslot, IsSealedIn, iterations_of, Opens1}
 use Rattle.luks1_edits.specs.Refused.{IsAbsent, IsTakenFor, IsUnopenedBy1, IsUnrefused1, keyslot_need, LacksFree}
@@ -159,3 +161,29 @@ pub record IsSealedNew (payload : Data) (v : List ℕ) (s : Sealed) (random : Li
   pub is_new : IsSealedIn v s n
   pub made : IsKeyslotMade v n (iterations_of s.derivation) s.passphrase.now key random w
   pub unrefused : (e : Edit) → deed_of e ≡ Seal s → IsUnrefused1 v payload e random
+
+-- ---- the uuid that an edit sets
+
+-- nothing else is set, the uuid can be, and the random bytes are its own
+pub record IsSettable (r : Rewritten) (random : List ℕ) : Type 0 where
+  pub alone : sets_uuid_at_most r ≡ true
+  pub good : IsBadUuid r.uuid → ⊥
+  pub counted : length random ≡ uuid_need r.uuid
+
+-- nothing else is set, but the text is none of a uuid
+pub record IsMisspelt (r : Rewritten) : Type 0 where
+  pub alone : sets_uuid_at_most r ≡ true
+  pub bad : IsBadUuid r.uuid
+
+-- nothing else is set and the uuid can be, but the random bytes aren't its own
+pub record IsMiscountedUuid (r : Rewritten) (random : List ℕ) : Type 0 where
+  pub alone : sets_uuid_at_most r ≡ true
+  pub good : IsBadUuid r.uuid → ⊥
+  pub other : length random ≢ uuid_need r.uuid
+
+-- why it isn't set
+abbrev pub IsUnsettable : Rewritten → List ℕ → EditFault → Type 0
+IsUnsettable r random fault.BadLabel = sets_uuid_at_most r ≡ false
+IsUnsettable r random fault.BadUuid = IsMisspelt r
+IsUnsettable r random fault.RandomLength = IsMiscountedUuid r random
+IsUnsettable r random f = ⊥

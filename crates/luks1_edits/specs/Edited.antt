@@ -1,7 +1,8 @@
 -- What an edit makes of a LUKS1 volume (LUKS1 On-Disk Format 1.2.3, 4.1 to 4.4).
-use Rattle.std.specs.Prelude.{◌≡◌, ℕ, Bool, ◌-◌, ◌*◌, ◌<◌, ◌≤◌, ◌⊎◌, List, length, take, drop, replicate, Option, Some, None, true, IfSome, IsSomeAnd}
+use Rattle.std.specs.Prelude.{◌≡◌, ℕ, Bool, ◌-◌, ◌*◌, ◌<◌, ◌≤◌, ◌⊎◌, List, ◌++◌, length, take, drop, replicate, Option, Some, None, true, IfSome, IsSomeAnd}
 use Rattle.luks_area.specs.Ranges.{part, SameBut}
-use Rattle.luks1_header.specs.Header1.{active_word, disabled_word, enabled_word, entry, entry_iterations, entry_key_material_offset, entry_salt, entry_stripes, luks1_size}
+use Rattle.luks1_header.specs.Header1.{active_word, disabled_word, enabled_word, entry, entry_iterations, entry_key_material_offset, entry_salt, entry_stripes, field_at, field_len, luks1_size}
+use Rattle.luks1_header.specs.declared.fault.TextField.TheVariants.{Uuid}
 use Rattle.luks_making.specs.declared.derivation.AskedDerivation.{AskedDerivation}
 use Rattle.luks_making.specs.declared.derivation.NewDerivation.{NewDerivation}
 use Rattle.luks_making.specs.declared.derivation.NewDerivation.TheVariants.{Pbkdf2, Argon2i, Argon2id}
@@ -20,10 +21,12 @@ use Rattle.luks_edit.specs.declared.edit.Secret.{Secret}
 use Rattle.luks_edit.specs.declared.deed.Place.{Place}
 use Rattle.luks_edit.specs.declared.deed.Place.TheVariants.{New, Opened}
 use Rattle.luks_edit.specs.declared.deed.Sealed.{Sealed}
-use Rattle.luks_edit.specs.Asked.{allowed_of, deed_of, lost_by, MatchDeed, MatchPlace, opener_at, sealed_by, sets_nothing}
+use Rattle.luks_edit.specs.declared.new_uuid.NewUuid.{NewUuid}
+use Rattle.luks_edit.specs.Asked.{allowed_of, deed_of, lost_by, MatchDeed, MatchPlace, opener_at, sealed_by, sets_uuid_at_most, uuid_by}
+use Rattle.luks_edit.specs.NewUuids.{new_uuid_text}
 use Rattle.luks_edit.specs.Secrets.{GivesWithin, own_key}
 use Rattle.luks1_edits.specs.Kept.{IsEither}
-use Rattle.luks1_edits.specs.Places.{area_len, area_start, IsOfKeyslots}
+use Rattle.luks1_edits.specs.Places.{area_len, area_start, IsOfKeyslots, IsOfUuid}
 
 -- ---- keyslots in use and free
 
@@ -57,6 +60,10 @@ NamedKeyslots1 v e n = MatchDeed (deed_of e)
     (λ s. MatchPlace s.place (λ o to. IsNewKeyslot v to n) (λ slot secret. (n ≡ slot) ⊎ IsLeastFree v n))
     (λ r. n ≡ r.slot)
     (λ r. ⊥)
+
+-- the place is of a keyslot that the edit names, or of the uuid's field where it sets the uuid
+abbrev pub IsTouched1 : List ℕ → Edit → ℕ → Type 0
+IsTouched1 v e p = IsOfKeyslots v (NamedKeyslots1 v e) p ⊎ IsSomeAnd (uuid_by e) (λ uuid. IsOfUuid p)
 
 -- the iterations of a keyslot that is made: those of the PBKDF2 that is chosen, where it is; LUKS1 has no
 -- Argon2
@@ -157,15 +164,25 @@ pub record IsChanged
   pub freed : IsFreed (entry v slot) (entry w slot)
   pub wiped : IsWiped v slot w
 
+-- the uuid's field is the text that is given, or made of the random bytes, and zeros, and nothing else changed
+pub record IsUuidSet (uuid : NewUuid) (v random w : List ℕ) : Type 0 where
+  pub rest : SameBut IsOfUuid v w
+  pub field_is : part w (field_at Uuid) (field_len Uuid) ≡ new_uuid_text uuid random ++ replicate 4 0
+
+-- a uuid that is given was set, or nothing changed
+abbrev pub SetsUuid : Option NewUuid → List ℕ → List ℕ → List ℕ → Type 0
+SetsUuid None v random w = w ≡ v
+SetsUuid (Some uuid) v random w = IsUuidSet uuid v random w
+
 -- the LUKS1 volume `w` is what the edit makes of `v` with the random bytes: first the salt of a new
--- keyslot, then its stripes but the last; nothing else is set
+-- keyslot, then its stripes but the last; or those of a new uuid; nothing else is set
 abbrev pub After1 : List ℕ → Edit → List ℕ → List ℕ → Type 0
 After1 v e random w = MatchDeed (deed_of e)
     (λ s. MatchPlace s.place
     (λ o to. IsAdded o v s.passphrase.now to (iterations_of s.derivation) random w)
     (λ slot secret. IsChanged v slot secret s.passphrase.now (iterations_of s.derivation) random w))
     (λ r. IsRemoved v r.slot w)
-    (λ r. (sets_nothing r ≡ true) × (w ≡ v))
+    (λ r. (sets_uuid_at_most r ≡ true) × SetsUuid r.uuid v random w)
 
 -- ---- what opens after an edit
 

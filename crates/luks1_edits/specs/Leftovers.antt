@@ -1,20 +1,26 @@
 -- What an edit of a LUKS1 volume may leave that a failing device call ended. A failed write leaves
 -- any bytes in its range; the ranges are written in this order: the area of a new keyslot, its
--- entry, then the entry of the keyslot that is removed, its area.
-use Rattle.std.specs.Prelude.{◌≡◌, ℕ, ◌⊎◌, List, drop, take, Option, Some, None, IfSome}
+-- entry, then the entry of the keyslot that is removed, its area; or the uuid's field alone.
+use Rattle.std.specs.Prelude.{◌≡◌, ℕ, ◌⊎◌, List, drop, take, Option, Some, None, IfSome, IsSomeAnd}
 use Rattle.luks_area.specs.Ranges.{part, IsAt, SameBut}
 use Rattle.luks1_header.specs.Header1.{entry, entry_size}
+use Rattle.luks1_header.specs.declared.fault.HeadFault.TheVariants.{Text, Uuid as NoUuid}
+use Rattle.luks1_header.specs.declared.fault.TextField.TheVariants.{Uuid}
 use Rattle.luks_slot.specs.declared.allowed.Allowed.{Allowed}
 use Rattle.luks_reading.specs.declared.report.Data.{Data}
-use Rattle.luks_reading.specs.Answer.{AnswerWithin, opens}
+use Rattle.luks_reading.specs.Answer.{AnswerWithin, Opened, opens, refused}
+use Rattle.luks_reading.specs.declared.check_fault.CheckFault.{CheckFault}
+use Rattle.luks_reading.specs.declared.check_fault.CheckFault.TheVariants.{Head}
+use Rattle.luks_reading.specs.declared.open_fault.OpenFault.TheVariants.{Head as HeadRefused}
+use Rattle.luks_reading.specs.Checked.{IsFault}
 use Rattle.luks_edit.specs.declared.edit.Edit.{Edit}
 use Rattle.luks_edit.specs.declared.edit.Opener.{Opener}
 use Rattle.luks_edit.specs.declared.edit.Opener.TheVariants.{Keyslot}
 use Rattle.luks_edit.specs.declared.edit.Secret.{Secret}
-use Rattle.luks_edit.specs.Asked.{again_by, deed_of, MatchDeed, MatchPlace, opener_at}
+use Rattle.luks_edit.specs.Asked.{again_by, deed_of, MatchDeed, MatchPlace, opener_at, uuid_by}
 use Rattle.luks1_edits.specs.Edited.{Gives1, HoldsKey, IsFreed, IsLeastFree, IsMade, IsNewKeyslot, iterations_of, Opens1}
-use Rattle.luks1_edits.specs.Kept.{IsEither, IsFitFor}
-use Rattle.luks1_edits.specs.Places.{area_len, area_start, entry_place, IsOfKeyslots}
+use Rattle.luks1_edits.specs.Kept.{HasUuid, IsEither, IsFitFor}
+use Rattle.luks1_edits.specs.Places.{area_len, area_start, entry_place, IsOfKeyslots, IsOfUuid}
 use Rattle.luks1_edits.specs.Refused.{IsUnrefused1}
 use Rattle.luks1_edits.specs.Steps.{IsKeyslotMade}
 
@@ -76,7 +82,7 @@ IsTorn1 v e random w = MatchDeed (deed_of e)
     (λ slot secret. IsHalfMade (Keyslot slot secret) v s.passphrase.now None (iterations_of s.derivation) random w
     ⊎ IsHalfChanged v slot secret s.passphrase.now (iterations_of s.derivation) random w))
     (λ r. IsHalfRemoved v r.slot w)
-    (λ r. ⊥)
+    (λ r. IsSomeAnd r.uuid (λ uuid. SameBut IsOfUuid v w))
 
 -- what a failing device call leaves: the volume as it was, or, where nothing refuses the edit, what
 -- was torn while it wrote
@@ -86,6 +92,27 @@ Leftover1 v payload e random w = (w ≡ v) ⊎ (IsUnrefused1 v payload e random 
 -- the entry of the keyslot `n` isn't torn: it is as it was, or fit for use in its place
 abbrev pub IsUntorn : List ℕ → List ℕ → ℕ → Type 0
 IsUntorn v w n = (entry w n ≡ entry v n) ⊎ IsFitFor (entry v n) (entry w n)
+
+-- the uuid that the edit sets, if it sets one, isn't torn: its field holds a uuid, be it the old one or another
+abbrev pub IsUuidUntorn : Edit → List ℕ → Type 0
+IsUuidUntorn e w = IfSome (uuid_by e) (λ uuid. HasUuid w)
+
+-- the fault is of the uuid's field alone
+abbrev pub IsFaultOfUuid : CheckFault → Type 0
+IsFaultOfUuid f = (f ≡ Head (Text Uuid)) ⊎ (f ≡ Head NoUuid)
+
+-- the volume has no fault but those of the uuid's field, where the edit sets the uuid
+abbrev pub FaultsUuidAlone : Data → Edit → List ℕ → Type 0
+FaultsUuidAlone payload e w = IfSome (uuid_by e) (λ uuid. (f : CheckFault) → IsFault w payload f → IsFaultOfUuid f)
+
+-- the refusal is of the uuid's field alone
+abbrev pub IsRefusalOfUuid : Opened → Type 0
+IsRefusalOfUuid a = (a ≡ refused (HeadRefused (Text Uuid))) ⊎ (a ≡ refused (HeadRefused NoUuid))
+
+-- each keyslot answers as it did, or is refused for the uuid's field, where the edit sets the uuid
+abbrev pub AnswersOrUuid : List ℕ → Edit → List ℕ → Type 0
+AnswersOrUuid v e w = IfSome (uuid_by e) (λ uuid. (allowed : Allowed) (n : ℕ) (p : List ℕ) (a : Opened)
+    → AnswerWithin allowed w n p a → AnswerWithin allowed v n p a ⊎ IsRefusalOfUuid a)
 
 -- the keyslot that was changed gives by the old secret, or the new one opens by the new passphrase to, the
 -- key that the old one gave before, whatever is allowed

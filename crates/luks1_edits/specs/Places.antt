@@ -1,9 +1,10 @@
--- Which bytes of a LUKS1 volume belong to a keyslot: its entry in the header and its area (LUKS1
--- On-Disk Format 1.2.3, "The partition header").
+-- Which bytes of a LUKS1 volume belong to a keyslot: its entry in the header and its area; and which
+-- are the uuid's (LUKS1 On-Disk Format 1.2.3, "The partition header").
 use Rattle.std.specs.Prelude.{ℕ, ◌+◌, ◌*◌, ◌⊎◌, List}
 use Rattle.luks_area.specs.Ranges.{IsAt}
 use Rattle.luks_area.specs.Sectors.{rounded_to_sectors}
-use Rattle.luks1_header.specs.Header1.{common_size, entry, entry_key_material_offset, entry_size, entry_stripes, key_bytes_of}
+use Rattle.luks1_header.specs.Header1.{common_size, entry, entry_key_material_offset, entry_size, entry_stripes, field_at, field_len, key_bytes_of}
+use Rattle.luks1_header.specs.declared.fault.TextField.TheVariants.{Uuid}
 
 -- where the entry of the keyslot `n` stands
 abbrev pub entry_place : ℕ → ℕ
@@ -25,3 +26,7 @@ pub record IsOfKeyslots (v : List ℕ) (named : ℕ → Type 0) (p : ℕ) : Type
   pub keyslot : ℕ
   pub is_named : named keyslot
   pub of : IsOfKeyslot v keyslot p
+
+-- the place is of the 40 bytes of the uuid's field
+abbrev pub IsOfUuid : ℕ → Type 0
+IsOfUuid p = IsAt (field_at Uuid) (field_len Uuid) p

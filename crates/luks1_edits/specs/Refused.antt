@@ -17,7 +17,8 @@ use Rattle.luks_edit.specs.declared.edit_fault.EditFault.TheVariants as fault
 use Rattle.luks_edit.specs.declared.edit.Opener.{Opener}
 use Rattle.luks_edit.specs.declared.edit.Opener.TheVariants.{Keyslot, Key}
 use Rattle.luks_edit.specs.declared.edit.SecretKind.TheVariants as kind
-use Rattle.luks_edit.specs.Asked.{allowed_by, ChoosesArgon2, deed_of, HasFewIterations, NamesItself, opener_in, removed_by, rewritten_by, sealed_by, sets_nothing, Wants}
+use Rattle.luks_edit.specs.Asked.{allowed_by, ChoosesArgon2, deed_of, HasFewIterations, NamesItself, opener_in, removed_by, rewritten_by, sealed_by, sets_uuid_at_most, uuid_by, Wants}
+use Rattle.luks_edit.specs.NewUuids.{HasBadUuid, uuid_need}
 use Rattle.luks_edit.specs.Opener.{IsUnopenedKeyslot, lock_fault}
 use Rattle.luks_edit.specs.EditFaults.{edit_key}
 use Rattle.luks1_edits.specs.Edited.{GivesKey, IsFree, IsInUse, IsSealedIn, number_asked}
@@ -77,9 +78,9 @@ HasNoFree v e = IsSomeAnd (sealed_by e) (λ s. LacksFree v (number_asked s.place
 abbrev pub IsLast : List ℕ → Edit → Type 0
 IsLast v e = IsSomeAnd (removed_by e) (λ r. (n : ℕ) → IsInUse v n → n ≡ r.slot)
 
--- the edit sets something in the header: LUKS1 has no label, subsystem or metadata
+-- the edit sets something in the header beside the uuid: LUKS1 has no label, subsystem or metadata
 abbrev pub IsLabel : Edit → Type 0
-IsLabel e = IsSomeAnd (rewritten_by e) (λ r. sets_nothing r ≡ false)
+IsLabel e = IsSomeAnd (rewritten_by e) (λ r. sets_uuid_at_most r ≡ false)
 
 -- ---- random bytes
 
@@ -93,9 +94,9 @@ pub record NeedsFor (v : List ℕ) (is_new : ℕ → Type 0) (k : ℕ) : Type 0 
   pub is : is_new slot
   pub count : k ≡ keyslot_need v slot
 
--- the edit takes `k` random bytes
+-- the edit takes `k` random bytes: those of the keyslot that it makes, or else of the uuid that it makes
 abbrev pub Need1 : List ℕ → Edit → ℕ → Type 0
-Need1 v e k = MatchOption (sealed_by e) (k ≡ 0) (λ s. NeedsFor v (IsSealedIn v s) k)
+Need1 v e k = MatchOption (sealed_by e) (k ≡ uuid_need (uuid_by e)) (λ s. NeedsFor v (IsSealedIn v s) k)
 
 -- the random bytes aren't as many as the edit takes
 pub record IsMiscounted (v : List ℕ) (e : Edit) (random : List ℕ) : Type 0 where
@@ -120,6 +121,7 @@ IsEditFault1 v payload e random fault.LastSlot = IsLast v e
 IsEditFault1 v payload e random fault.Iterations = HasFewIterations e
 IsEditFault1 v payload e random fault.Argon2 = ChoosesArgon2 e
 IsEditFault1 v payload e random fault.BadLabel = IsLabel e
+IsEditFault1 v payload e random fault.BadUuid = HasBadUuid e
 IsEditFault1 v payload e random fault.RandomLength = IsMiscounted v e random
 IsEditFault1 v payload e random f = ⊥
 

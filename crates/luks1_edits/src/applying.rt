@@ -1,7 +1,6 @@
 //! Edits of LUKS1 volumes.
-ghost use Rattle.std.specs.Prelude.{◌≡◌, ◌≢◌, ◌+◌, ◌^◌, ◌<◌, length, false, true, IfErr, MatchResult, Err, None};
+ghost use Rattle.std.specs.Prelude.{◌≡◌, ◌≢◌, ◌+◌, ◌^◌, ◌<◌, IfErr};
 ghost use Rattle.luks_area.specs.Device.{CountsFailure, IsSettled};
-ghost use Rattle.luks_edit.specs.Asked.{sets_nothing};
 ghost use Rattle.luks_edit.specs.EditFaults.{is_edit_failure};
 ghost use Rattle.luks_reading.specs.Header.{IsHeader};
 ghost use Rattle.luks_reading.specs.declared.header.Header.TheVariants.{Luks1 as OfLuks1};
@@ -9,18 +8,20 @@ ghost use Rattle.luks1_edits.specs.Replies.{Replies1};
 
 use crate::accepted::judge_without_key;
 use crate::removing::remove;
+use crate::rewriting::rewrite;
 use crate::sealing::seal;
 use luks_area::Device;
-use luks_edit::{Deed, Done, Edit, EditFault, Rewritten};
+use luks_edit::{Deed, Done, Edit, EditFault};
 use luks_reading::Data;
 use std::alloc::Global;
 
 /// Applies the edit to the LUKS1 volume whose header has these 592 bytes, with as many random bytes
-/// as `needed_luks1` tells: the new keyslot's salt, then its stripes but the last.
+/// as `needed_luks1` tells: the new keyslot's salt, then its stripes but the last; or those of a new uuid.
 ///
 /// The first refusal is answered, and then no byte changes. What is written is written in this
 /// order, each range with a flush: the area of a new keyslot, its entry, the entry of a keyslot that
-/// is removed, its area. `Device` comes exactly where a device call failed. No memory is taken.
+/// is removed, its area; or the 40 bytes of the uuid's field. `Device` comes exactly where a device call
+/// failed. No memory is taken.
 pub fn apply_luks1<D: Device>(
     alloc: Global,
     device: &mut D,
@@ -46,23 +47,6 @@ pub fn apply_luks1<D: Device>(
     match edit.deed() {
         Deed::Seal(sealed) => seal(alloc, device, &header, &sealed, random),
         Deed::Remove(removed) => remove(alloc, device, &header, &removed, random),
-        Deed::Rewrite(rewritten) => repair(rewritten, random),
+        Deed::Rewrite(rewritten) => rewrite(device, &header, &rewritten, random),
     }
-}
-
-/// There is nothing to repair: LUKS1 has one header, and nothing that can be set in it. Refused by
-/// `BadLabel`, `RandomLength`.
-fn repair(rewritten: Rewritten<'_>, random: &[u8]) -> Result<Done, EditFault>
-    ensures idle { sets_nothing rewritten.entry ≡ true → MatchResult result
-        (λ done. (length random.now ≡ 0) × (done.slot ≡ None))
-        (λ f. (length random.now ≢ 0) × (f ≡ EditFault.RandomLength)) }
-    ensures refused { sets_nothing rewritten.entry ≡ false → result ≡ Err EditFault.BadLabel }
-{
-    if !rewritten.sets_nothing() {
-        return Err(EditFault::BadLabel);
-    }
-    if random.len() != 0 {
-        return Err(EditFault::RandomLength);
-    }
-    Ok(Done { slot: None })
 }

@@ -1,9 +1,9 @@
 //! Edits of LUKS1 volumes: what each takes, makes and leaves, and the laws on that.
 //!
-//! An edit here changes one or two keyslots, their 48-byte entries and their areas, so its
-//! definitions, its judging and its calls fit into one crate. An edit of LUKS2 writes the whole
-//! metadata anew, so each of the three has a crate there: `luks2_edit_laws`, `luks2_judging` and
-//! `luks2_editing`.
+//! An edit here changes one or two keyslots, their 48-byte entries and their areas, or the 40 bytes of
+//! the uuid's field, so its definitions, its judging and its calls fit into one crate. An edit of LUKS2
+//! writes the whole metadata anew, so each of the three has a crate there: `luks2_edit_laws`,
+//! `luks2_judging` and `luks2_editing`.
 #![tactic(auto)]
 
 mod accepted;
@@ -14,6 +14,7 @@ mod laws;
 mod making;
 mod needing;
 mod removing;
+mod rewriting;
 mod sealing;
 mod steps;
 mod unlocking;
@@ -21,6 +22,6 @@ mod unlocking;
 pub use applying::apply_luks1;
 pub use laws::{
     luks1_answer_is_local, luks1_edit_keeps_volume, luks1_edit_opens, luks1_edit_refused_once,
-    luks1_failing_edit,
+    luks1_edit_sets_uuid, luks1_failing_edit,
 };
 pub use needing::needed_luks1;

@@ -10,7 +10,7 @@ ghost use Rattle.luks1_edits.specs.Refused.{NeedsFor};
 
 use crate::accepted::judge_without_key;
 use crate::keyslots::{keyslot_need, new_keyslot, number_asked};
-use luks_edit::{Deed, Edit, EditFault};
+use luks_edit::{Deed, Edit, EditFault, uuid_need};
 use luks_reading::Data;
 use luks2_header::Luks1;
 
@@ -18,7 +18,8 @@ use luks2_header::Luks1;
 /// 592 bytes, or the first of `NotAccepted`, `NoSuchSlot`, `SameSlot`, `SlotTaken` and `NoFreeSlot`.
 ///
 /// An edit that makes a keyslot takes 32 for its salt, and for each of its stripes but the last as
-/// many as the volume key has; any other edit takes none. No keyslot is opened.
+/// many as the volume key has; one that makes a uuid takes 16; any other edit takes none. No keyslot is
+/// opened.
 pub fn needed_luks1(
     header: &[u8; 592],
     payload: Data,
@@ -37,7 +38,7 @@ pub fn needed_luks1(
     match edit.deed() {
         Deed::Seal(sealed) => new_need(&header.fields, number_asked(sealed.place)),
         Deed::Remove(_) => Ok(0),
-        Deed::Rewrite(_) => Ok(0),
+        Deed::Rewrite(rewritten) => Ok(uuid_need(rewritten.uuid) as u64),
     }
 }
 

@@ -44,11 +44,12 @@ use Rattle.luks_reading.specs.Checked.{AreaOf, WellFormed}
 use Rattle.luks_reading.specs.Layout2.{slot_number}
 use Rattle.luks_edit.specs.declared.edit.Edit.{Edit}
 use Rattle.luks_edit.specs.declared.deed.Sealed.{Sealed}
-use Rattle.luks_edit.specs.declared.edit.Edit.TheVariants.{Add, AddByKey, Change, Remove, Repair, Label, Amend}
+use Rattle.luks_edit.specs.declared.edit.Edit.TheVariants.{Add, AddByKey, Change, Remove, Repair, Label, Uuid, Amend}
 use Rattle.luks_edit.specs.declared.edit.Opener.{Opener}
 use Rattle.luks_edit.specs.declared.edit.Opener.TheVariants as opener
-use Rattle.luks_edit.specs.Asked.{allowed_for, chosen_or, opener_at, sealed_by}
-use Rattle.luks_edit.specs.declared.edit_fault.EditFault.TheVariants.{Argon2, BadToken, Iterations, NoFreeSlot, RandomLength, SlotTaken}
+use Rattle.luks_edit.specs.Asked.{allowed_for, chosen_or, opener_at, sealed_by, uuid_by}
+use Rattle.luks_edit.specs.NewUuids.{uuid_need}
+use Rattle.luks_edit.specs.declared.edit_fault.EditFault.TheVariants.{Argon2, BadToken, BadUuid, Iterations, NoFreeSlot, RandomLength, SlotTaken}
 use Rattle.luks_edit.specs.Kept.{Keeps}
 use Rattle.luks2_edit_laws.specs.declared.like.Like.{Like}
 use Rattle.luks2_edit_laws.specs.declared.like.Like.TheVariants.{Keyslot, Digest}
@@ -67,6 +68,7 @@ use Rattle.luks2_edit_laws.proofs.PlaceFacts.{left_bytes}
 use Rattle.luks2_edit_laws.proofs.SealFacts.{can_seal, enough_random, fits_new, holds_stripes, in_region, none_of, opened_there, opened_plan, part_bytes, salt_length, under}
 use Rattle.luks2_edit_laws.proofs.UniqueFacts.{unique_digests}
 use Rattle.luks2_edit_laws.proofs.ValuedFacts.{valued_held}
+use Rattle.luks2_edit_laws.proofs.UuidFacts.{uuid_stays}
 use Rattle.luks2_edit_laws.proofs.VolumeFacts.{areas_are, copy_of, layout_of, HasCopy, IsLayout}
 
 -- what an edit is given has the ranges of its types
@@ -81,6 +83,7 @@ lost_is_named v (Change slot old new iterations d) n lost = lost
 lost_is_named v (Remove slot by_ passphrase) n lost = lost
 lost_is_named v Repair n lost = absurd lost
 lost_is_named v (Label text subsystem) n lost = absurd lost
+lost_is_named v (Uuid uuid) n lost = absurd lost
 lost_is_named v (Amend c) n lost = absurd lost
 
 -- metadata keeps itself
@@ -177,7 +180,7 @@ ready_by v o payload e random j m ranges free s seals like is model = record {
     metadata = m;
     is = record {
       need = need;
-      is = subst (λ x. MatchOption x (need ≡ 64 + 64) (λ s. ForLike j (opener_at s.place) (NeedsLike j need))) (sym seals) (record { like = like; is_like = is; has = needs });
+      is = subst (λ x. MatchOption x (need ≡ 64 + 64 + uuid_need (uuid_by e)) (λ s. ForLike j (opener_at s.place) (NeedsLike j need))) (sym seals) (record { like = like; is_like = is; has = needs });
       other = other;
     };
   });
@@ -383,6 +386,7 @@ was_opened v (Change slot old new iterations d) random j w k sealed = (sealed.ke
 was_opened v (Remove slot by_ passphrase) random j w k sealed = tt
 was_opened v Repair random j w k sealed = tt
 was_opened v (Label text subsystem) random j w k sealed = tt
+was_opened v (Uuid uuid) random j w k sealed = tt
 was_opened v (Amend c) random j w k sealed = tt
 
 -- so what a new keyslot is made like is there
@@ -424,6 +428,8 @@ edited_metadata v o payload Repair random j k m before ranges free sealed is lay
     same_metadata (hdr_size (header_at v o)) (length v) payload (λ n. ⊥) j k is layout
 edited_metadata v o payload (Label text subsystem) random j k m before ranges free sealed is layout =
     same_metadata (hdr_size (header_at v o)) (length v) payload (λ n. ⊥) j k is layout
+edited_metadata v o payload (Uuid uuid) random j k m before ranges free sealed is layout =
+    same_metadata (hdr_size (header_at v o)) (length v) payload (λ n. ⊥) j k is layout
 edited_metadata v o payload (Amend (changes.Priority slot priority)) random j k m before ranges free sealed is layout =
     prioritized_metadata (hdr_size (header_at v o)) (length v) payload (λ n. n ≡ slot) slot priority j k refl is layout
 edited_metadata v o payload (Amend (changes.AddToken to token)) random j k m before ranges free sealed is layout =
@@ -450,7 +456,7 @@ module _
       copies = InStep;
       chosen = now_chosen;
       size = a.first.renewed.size;
-      uuid = subst IsUuidField (sym a.first.renewed.uuid) (copy_of v payload a.place a.value a.metadata well).uuid;
+      uuid = subst IsUuidField (sym a.first.renewed.uuid) (uuid_stays e random _ (free.none BadUuid) (copy_of v payload a.place a.value a.metadata well).uuid);
       holds = a.first.renewed.json.json;
     }
 
@@ -461,7 +467,7 @@ module _
     pub after_keeps : Keeps payload (NamedKeyslots2 v e) v w
     after_keeps =
         let h : ℕ = hdr_size (header_at v a.place) in
-        all_kept v w payload a.place 0 h a.value a.new (NamedKeyslots2 v e) before after a.rest.length_same a.first.renewed.uuid layout
+        all_kept v w payload a.place 0 h a.value a.new (NamedKeyslots2 v e) before after a.rest.length_same layout
         (edited_metadata v a.place payload e random a.value a.new a.metadata before ranges free (was_opened v e random a.value w a.new a.sealed) a.edited layout)
         (λ n b x. left_bytes v w h (length v) payload a.value e layout.fit a.rest (name.Segment n) b tt x)
         (λ m unnamed b x. left_bytes v w h (length v) payload a.value e layout.fit a.rest (name.Slot m) b (λ lost. unnamed (lost_is_named v e m lost)) x)
@@ -474,6 +480,7 @@ wiped_is (Change slot old new iterations d) j w n wiped lost = subst (λ m. IsWi
 wiped_is (Remove slot by_ passphrase) j w n wiped lost = subst (λ m. IsWiped j m w) (sym lost) wiped
 wiped_is Repair j w n wiped lost = absurd lost
 wiped_is (Label text subsystem) j w n wiped lost = absurd lost
+wiped_is (Uuid uuid) j w n wiped lost = absurd lost
 wiped_is (Amend c) j w n wiped lost = absurd lost
 
 -- so it is zeros

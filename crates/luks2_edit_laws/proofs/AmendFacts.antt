@@ -32,6 +32,7 @@ use Rattle.luks2_edit_laws.specs.Kept.{HasSameKeyslot, IsSameKeyslot}
 use Rattle.luks2_edit_laws.proofs.KeptAnswers.{answers_kept}
 use Rattle.luks2_edit_laws.proofs.KeptFacts.{KeepsMetadata, SaysSame, plan_bytes}
 use Rattle.luks2_edit_laws.proofs.MetadataFacts.{segments_follow}
+use Rattle.luks2_edit_laws.proofs.UuidFacts.{same_faults}
 use Rattle.luks2_edit_laws.proofs.VolumeFacts.{copy_faultless, HasCopy, IsLayout}
 
 -- what is kept one way is kept the other way
@@ -177,7 +178,6 @@ amended_metadata slot token j k rest h total payload named is held old =
 module _
     (v w : List ℕ) (payload : Data) (o p h : ℕ) (slot token : Option ℕ) (j k : Value) (rest : KeepsUnnamed slot token j k)
     (before : HasCopy v o h j) (after : HasCopy w p h k) (long : length w ≡ length v)
-    (uuid : uuid_field (header_at w p) ≡ uuid_field (header_at v o))
     (old : IsLayout h (length v) payload j) (held : IsHeld (h - 4096) k)
     (slot_bytes : (m : ℕ) (a : Area) → Luks2Area j h payload (length v) (Slot m) a → part w a.start a.len ≡ part v a.start a.len)
   where
@@ -191,7 +191,7 @@ module _
       new_copies = after.copies;
       new_chosen = after.chosen;
       long = long;
-      uuid = uuid;
+      uuid = same_faults (uuid_field (header_at v o)) (uuid_field (header_at w p)) before.uuid after.uuid;
       old_faultless = copy_faultless v o h j before old.held;
       new_faultless = copy_faultless w p h k after held;
       slot = same_plans slot token j k rest (json_at v o) (json_at w p) before.holds after.holds m;

@@ -15,7 +15,7 @@ use Rattle.luks_reading.specs.declared.report.Data.{Data}
 use Rattle.luks_reading.specs.Checked.{WellFormed}
 use Rattle.luks_reading.specs.Layout2.{Luks2Area}
 use Rattle.luks_edit.specs.declared.edit.Edit.{Edit}
-use Rattle.luks_edit.specs.declared.edit.Edit.TheVariants.{Add, AddByKey, Change as ChangeKey, Remove, Repair, Label, Amend}
+use Rattle.luks_edit.specs.declared.edit.Edit.TheVariants.{Add, AddByKey, Change as ChangeKey, Remove, Repair, Label, Uuid, Amend}
 use Rattle.luks_edit.specs.Asked.{change_by}
 use Rattle.luks_edit.specs.Kept.{KeepsAnswers, KeepsArea}
 use Rattle.luks2_edit_laws.specs.Edited.{After2, HasRanges, IsAmended}
@@ -86,7 +86,7 @@ module _ (v : List ℕ) (payload : Data) (c : Change) (random w : List ℕ) (wel
   amends_keep : (m : ℕ) → KeepsAnswers payload m v w
   amends_keep m = record {
     area = area_stays m;
-    answers = amended_answers v w payload a.place 0 h unnamed.slot unnamed.token a.value a.new unnamed.rest first second a.rest.length_same a.first.renewed.uuid old new.held bytes m;
+    answers = amended_answers v w payload a.place 0 h unnamed.slot unnamed.token a.value a.new unnamed.rest first second a.rest.length_same old new.held bytes m;
   }
 
 -- so it is of each edit that makes one
@@ -99,3 +99,4 @@ change_keeps v payload (ChangeKey slot old_ fresh iterations d) random w c well 
 change_keeps v payload (Remove slot by_ passphrase) random w c well ranges free a is = absurd (cc)
 change_keeps v payload Repair random w c well ranges free a is = absurd (cc)
 change_keeps v payload (Label text subsystem) random w c well ranges free a is = absurd (cc)
+change_keeps v payload (Uuid uuid) random w c well ranges free a is = absurd (cc)

@@ -1,6 +1,5 @@
 -- A keyslot that a change leaves as it was has the answer that it had.
 use Rattle.std.proofs.Common.{◌≡◌, ℕ, ◌↔◌, List, Option, Some, None, sym, ap, subst, ◌∙◌}
-use Rattle.luks2_header.specs.Header2.{IsUuidFault}
 use Rattle.luks2_header.specs.Selection.{Choice, luks2, Chosen}
 use Rattle.luks_slot.specs.declared.allowed.Allowed.{Allowed}
 use Rattle.luks_slot.specs.Opening.{slot_key}
@@ -19,7 +18,7 @@ kept_back v w m k = record {
   new_copies = k.old_copies;
   new_chosen = k.old_chosen;
   long = sym k.long;
-  uuid = sym k.uuid;
+  uuid = λ f. ((k.uuid f).1, (k.uuid f).0);
   old_faultless = k.new_faultless;
   new_faultless = k.old_faultless;
   slot = record { absent = (k.slot.absent.1, k.slot.absent.0); plans = λ plan. ((k.slot.plans plan).1, (k.slot.plans plan).0) };
@@ -29,7 +28,7 @@ kept_back v w m k = record {
 -- each refusal is kept
 refused_as : (allowed : Allowed) (v w : List ℕ) (m : ℕ) (k : HasSameKeyslot v w m) (f : OpenFault)
     → IsRefusalAsWithin allowed v m (luks2 k.old_place k.old_copies) f → IsRefusalAsWithin allowed w m (luks2 k.new_place k.new_copies) f
-refused_as allowed v w m k (Head g) h = subst (λ u. IsUuidFault u g) (sym k.uuid) h
+refused_as allowed v w m k (Head g) h = (k.uuid g).0 h
 refused_as allowed v w m k (Meta g) h = absurd (k.old_faultless g h)
 refused_as allowed v w m k NoSuchSlot h = k.slot.absent.0 h
 refused_as allowed v w m k SlotFree h = h

@@ -25,6 +25,7 @@ use Rattle.luks_reading.specs.Plans.{HasLuks2Plan, IsLuks2Digest, IsLuks2Plan}
 use Rattle.luks_edit.specs.Kept.{Keeps, KeepsArea, KeepsSlot, IsKeyslot}
 use Rattle.luks2_edit_laws.specs.Kept.{HasSameKeyslot, IsSameKeyslot}
 use Rattle.luks2_edit_laws.proofs.KeptAnswers.{answers_kept}
+use Rattle.luks2_edit_laws.proofs.UuidFacts.{same_faults}
 use Rattle.luks2_edit_laws.proofs.VolumeFacts.{areas_are, areas_back, copy_faultless, formed, no_luks1, one_metadata, HasCopy, IsLayout}
 
 -- both values have the same keyslot `m`, or none, and say the same of its digest
@@ -121,7 +122,6 @@ plan_bytes v w json j m h total payload plan holds kept x =
 module _
     (v w : List ℕ) (payload : Data) (o p h : ℕ) (j k : Value) (named : ℕ → Type 0)
     (before : HasCopy v o h j) (after : HasCopy w p h k) (long : length w ≡ length v)
-    (uuid : uuid_field (header_at w p) ≡ uuid_field (header_at v o))
     (old : IsLayout h (length v) payload j) (new : KeepsMetadata h (length v) payload named j k)
     (segment_bytes : (n : ℕ) (a : Area) → Luks2Area j h payload (length v) (Segment n) a → part w a.start a.len ≡ part v a.start a.len)
     (slot_bytes : (m : ℕ) → (named m → ⊥) → (a : Area) → Luks2Area j h payload (length v) (Slot m) a → part w a.start a.len ≡ part v a.start a.len)
@@ -154,7 +154,7 @@ module _
       new_copies = after.copies;
       new_chosen = after.chosen;
       long = long;
-      uuid = uuid;
+      uuid = same_faults (uuid_field (header_at v o)) (uuid_field (header_at w p)) before.uuid after.uuid;
       old_faultless = copy_faultless v o h j before old.held;
       new_faultless = copy_faultless w p h k after new.layout.held;
       slot = same_keyslot (json_at v o) (json_at w p) j k m before.holds after.holds (λ lt. new.slots m lt free);

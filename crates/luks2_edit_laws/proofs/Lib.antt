@@ -20,6 +20,7 @@ pub mod SealFacts
 pub mod ToldFacts
 pub mod TornFacts
 pub mod TouchedFacts
+pub mod UuidFacts
 mod UniqueFacts
 pub mod VolumeFacts
 pub mod SoundCopyFacts

@@ -10,7 +10,7 @@ use Rattle.luks_reading.specs.Answer.{opens, AnswerWithin}
 use Rattle.luks_reading.specs.Checked.{WellFormed}
 use Rattle.luks_edit.proofs.SecretFacts.{one_answer_to}
 use Rattle.luks_edit.specs.declared.edit.Edit.{Edit}
-use Rattle.luks_edit.specs.declared.edit.Edit.TheVariants.{Add, AddByKey, Change, Remove, Repair, Label, Amend}
+use Rattle.luks_edit.specs.declared.edit.Edit.TheVariants.{Add, AddByKey, Change, Remove, Repair, Label, Uuid, Amend}
 use Rattle.luks_edit.specs.declared.edit.Opener.{Opener}
 use Rattle.luks_edit.specs.declared.edit.Opener.TheVariants as opener
 use Rattle.luks_edit.specs.Asked.{allowed_for, chosen_or}
@@ -119,4 +119,5 @@ module _ (v : List ℕ) (payload : Data) (random w : List ℕ) (well : WellForme
   opens_after (Remove slot by_ passphrase) ranges free a = tt
   opens_after Repair ranges free a = tt
   opens_after (Label text subsystem) ranges free a = tt
+  opens_after (Uuid uuid) ranges free a = tt
   opens_after (Amend c) ranges free a = tt

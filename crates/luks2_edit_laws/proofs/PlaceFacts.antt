@@ -13,7 +13,7 @@ use Rattle.luks_area.specs.Sectors.{rounded_to_sectors}
 use Rattle.luks_reading.specs.declared.report.Data.{Data}
 use Rattle.luks_reading.specs.Layout2.{Luks2Area}
 use Rattle.luks_edit.specs.declared.edit.Edit.{Edit}
-use Rattle.luks_edit.specs.declared.edit.Edit.TheVariants.{Add, AddByKey, Change, Remove, Repair, Label, Amend}
+use Rattle.luks_edit.specs.declared.edit.Edit.TheVariants.{Add, AddByKey, Change, Remove, Repair, Label, Uuid, Amend}
 use Rattle.luks2_edit_laws.specs.declared.like.Like.{Like}
 use Rattle.luks2_edit_laws.specs.Places.{rounded_to_blocks, IsOfCopies, IsOfKeyslot, IsOfLost, IsOfNewKeyslot, IsOfSealed, IsTouched, Loses}
 
@@ -75,6 +75,7 @@ beside_sealed h total payload j (Change slot old new iterations d) fit n a left 
 beside_sealed h total payload j (Remove slot by_ passphrase) fit n a left is p at x = x
 beside_sealed h total payload j Repair fit n a left is p at x = x
 beside_sealed h total payload j (Label text subsystem) fit n a left is p at x = x
+beside_sealed h total payload j (Uuid uuid) fit n a left is p at x = x
 beside_sealed h total payload j (Amend c) fit n a left is p at x = x
 
 -- nor of what is lost
@@ -88,6 +89,7 @@ beside_losing h total payload j (Remove slot by_ passphrase) fit n a left is p a
     beside_lost h total payload j (Remove slot by_ passphrase) fit n a left is p at slot refl x
 beside_losing h total payload j Repair fit n a left is p at x = x
 beside_losing h total payload j (Label text subsystem) fit n a left is p at x = x
+beside_losing h total payload j (Uuid uuid) fit n a left is p at x = x
 beside_losing h total payload j (Amend c) fit n a left is p at x = x
 
 -- nor of anything that the edit may change

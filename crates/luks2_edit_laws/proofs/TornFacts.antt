@@ -23,9 +23,10 @@ use Rattle.luks_reading.specs.Checked.{WellFormed, WellFormedAs}
 use Rattle.luks_reading.specs.Header.{json_at}
 use Rattle.luks_edit.proofs.SecretFacts.{one_answer_to}
 use Rattle.luks_edit.specs.declared.edit.Edit.{Edit}
-use Rattle.luks_edit.specs.declared.edit.Edit.TheVariants.{Add, AddByKey, Change, Remove, Repair, Label, Amend}
+use Rattle.luks_edit.specs.declared.edit.Edit.TheVariants.{Add, AddByKey, Change, Remove, Repair, Label, Uuid, Amend}
 use Rattle.luks_edit.specs.declared.edit.Opener.{Opener}
 use Rattle.luks_edit.specs.declared.edit.Opener.TheVariants as opener
+use Rattle.luks_edit.specs.declared.edit_fault.EditFault.TheVariants.{BadUuid}
 use Rattle.luks_edit.specs.Asked.{allowed_for}
 use Rattle.luks_edit.specs.Kept.{Keeps}
 use Rattle.luks2_edit_laws.specs.declared.like.Like.{Like}
@@ -47,6 +48,7 @@ use Rattle.luks2_edit_laws.proofs.LeftoverFacts.{first_size_left, is_sound, left
 use Rattle.luks2_edit_laws.proofs.SoundCopyFacts.{copy_sound}
 use Rattle.luks2_edit_laws.proofs.PlaceFacts.{left_bytes}
 use Rattle.luks2_edit_laws.proofs.TouchedFacts.{torn_rest}
+use Rattle.luks2_edit_laws.proofs.UuidFacts.{uuid_stays}
 use Rattle.luks2_edit_laws.proofs.VolumeFacts.{copy_of, layout_of, one_metadata, one_place, HasCopy, IsLayout}
 
 -- ---- places
@@ -62,6 +64,7 @@ sealed_behind h total payload j (Change slot old new iterations d) p x = new_beh
 sealed_behind h total payload j (Remove slot by_ passphrase) p x = absurd x
 sealed_behind h total payload j Repair p x = absurd x
 sealed_behind h total payload j (Label text subsystem) p x = absurd x
+sealed_behind h total payload j (Uuid uuid) p x = absurd x
 sealed_behind h total payload j (Amend c) p x = absurd x
 
 -- the other copy lies in the front
@@ -144,7 +147,7 @@ module _
           uuid = subst (λ x. IsUuidField (uuid_field x)) (sym header) before.uuid;
           holds = subst (λ a. Json a j) (sym json) before.holds;
         } in
-        all_kept v w payload o o h j j named before after long (ap (λ x. uuid_field x) header) layout
+        all_kept v w payload o o h j j named before after long layout
         (same_metadata h (length v) payload named j j refl layout)
         (λ n a x. left_bytes v w h (length v) payload j d layout.fit rest (name.Segment n) a tt x)
         (λ n unnamed a x. left_bytes v w h (length v) payload j d layout.fit rest (name.Slot n) a (λ lost. unnamed (lost_named n lost)) x)
@@ -164,10 +167,10 @@ module _
           copies = b;
           chosen = chosen;
           size = a.renewed.size;
-          uuid = subst IsUuidField (sym a.renewed.uuid) before.uuid;
+          uuid = subst IsUuidField (sym a.renewed.uuid) (uuid_stays e random _ (free.none BadUuid) before.uuid);
           holds = a.renewed.json.json;
         } in
-        all_kept v w payload a.place p h a.value a.new (NamedKeyslots2 v e) before after long a.renewed.uuid layout
+        all_kept v w payload a.place p h a.value a.new (NamedKeyslots2 v e) before after long layout
         (edited_metadata v a.place payload e random a.value a.new a.metadata before ranges free opened a.edited layout)
         (λ n d x. left_bytes v w h (length v) payload a.value e layout.fit rest (name.Segment n) d tt x)
         (λ n unnamed d x. left_bytes v w h (length v) payload a.value e layout.fit rest (name.Slot n) d (λ lost. unnamed (lost_is_named v e n lost)) x)
@@ -212,7 +215,7 @@ opens_written v payload (Change slot old new iterations d) random w well ranges 
       copies = b;
       chosen = chosen;
       size = a.renewed.size;
-      uuid = subst IsUuidField (sym a.renewed.uuid) before.uuid;
+      uuid = subst IsUuidField (sym a.renewed.uuid) (uuid_stays e random _ (free.none BadUuid) before.uuid);
       holds = a.renewed.json.json;
     } in
     let now : IsLayout h (length w) payload a.new = subst (λ n. IsLayout h n payload a.new) (sym long)
@@ -237,6 +240,7 @@ opens_written v payload (Change slot old new iterations d) random w well ranges 
 opens_written v payload (Remove slot by_ passphrase) random w well ranges free long j k p b chosen a edited sealed = tt
 opens_written v payload Repair random w well ranges free long j k p b chosen a edited sealed = tt
 opens_written v payload (Label text subsystem) random w well ranges free long j k p b chosen a edited sealed = tt
+opens_written v payload (Uuid uuid) random w well ranges free long j k p b chosen a edited sealed = tt
 opens_written v payload (Amend c) random w well ranges free long j k p b chosen a edited sealed = tt
 
 sealed_or_copy : (A B : Type 0) → A ⊎ B → B ⊎ A ⊎ ⊥
@@ -277,6 +281,7 @@ opens_before v payload (Change slot old new iterations d) random w well ranges o
 opens_before v payload (Remove slot by_ passphrase) random w well ranges o j m b chosen same rest = tt
 opens_before v payload Repair random w well ranges o j m b chosen same rest = tt
 opens_before v payload (Label text subsystem) random w well ranges o j m b chosen same rest = tt
+opens_before v payload (Uuid uuid) random w well ranges o j m b chosen same rest = tt
 opens_before v payload (Amend c) random w well ranges o j m b chosen same rest = tt
 
 -- the other copy's place

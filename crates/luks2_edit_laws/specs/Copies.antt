@@ -1,5 +1,5 @@
 -- A copy of the LUKS2 header that takes the place of an older one (LUKS2 On-Disk Format 1.1, 2.1).
-use Rattle.std.specs.Prelude.{◌≡◌, ℕ, ◌+◌, ◌-◌, ◌==◌, List, ◌++◌, length, take, replicate, codes, if◌then◌else◌, Option, Some, None}
+use Rattle.std.specs.Prelude.{◌≡◌, ℕ, ◌+◌, ◌-◌, ◌==◌, List, ◌++◌, length, take, drop, replicate, codes, if◌then◌else◌, Option, Some, None}
 use Rattle.std.specs.Borrow.{Bor}
 use Rattle.serde_json.specs.Data.{Data as Value}
 use Rattle.luks_area.specs.Ranges.{part}
@@ -8,7 +8,8 @@ use Rattle.luks2_header.specs.Header2.{binary_header_size, csum_alg_field, csum_
 use Rattle.luks_making.specs.WrittenArea.{IsWrittenArea}
 use Rattle.luks_reading.specs.Header.{json_at}
 use Rattle.luks_edit.specs.declared.edit.Edit.{Edit}
-use Rattle.luks_edit.specs.Asked.{label_by, subsystem_by}
+use Rattle.luks_edit.specs.Asked.{label_by, subsystem_by, uuid_by}
+use Rattle.luks_edit.specs.NewUuids.{uuid_field_after}
 
 -- fields of a binary header's 4096 bytes
 abbrev pub label_field : List ℕ → List ℕ
@@ -38,10 +39,18 @@ subsystem_after e field_ = field_after (subsystem_by e) field_
 abbrev pub copy_salt : List ℕ → ℕ → List ℕ
 copy_salt random q = if q == 0 then take 64 random else part random 64 64
 
+-- those behind them are the uuid's, where it is random
+abbrev pub uuid_random : List ℕ → List ℕ
+uuid_random random = drop 128 random
+
+-- the field of the uuid: one and the same in both copies
+abbrev pub uuid_after : Edit → List ℕ → List ℕ → List ℕ
+uuid_after e random field_ = uuid_field_after (uuid_by e) (uuid_random random) field_
+
 -- ---- a copy that was written
 
 -- the copy at the place `q` of the volume `w` is sound and takes the place of the copy at `o` of `v`,
--- with the edit's label and subsystem, a salt of the random bytes, and the metadata `j` in compact text;
+-- with the edit's uuid, label and subsystem, a salt of the random bytes, and the metadata `j` in compact text;
 -- the rest of its checksum's field may hold any bytes
 pub record IsRenewed (v : List ℕ) (o : ℕ) (e : Edit) (random : List ℕ) (j : Value) (w : List ℕ) (q : ℕ) : Type 0 where
   pub sound : IsSound w q
@@ -50,7 +59,7 @@ pub record IsRenewed (v : List ℕ) (o : ℕ) (e : Edit) (random : List ℕ) (j 
   pub label : label_field (header_at w q) ≡ label_after e (label_field (header_at v o))
   pub csum_alg : csum_alg_field (header_at w q) ≡ codes "sha256" ++ replicate 26 0
   pub salt : salt_field (header_at w q) ≡ copy_salt random q
-  pub uuid : uuid_field (header_at w q) ≡ uuid_field (header_at v o)
+  pub uuid : uuid_field (header_at w q) ≡ uuid_after e random (uuid_field (header_at v o))
   pub subsystem : subsystem_field (header_at w q) ≡ subsystem_after e (subsystem_field (header_at v o))
   pub padding : AreZeros (header_at w q) 264 csum_at
   pub tail : AreZeros (header_at w q) (csum_at + csum_size) binary_header_size

@@ -97,7 +97,7 @@ pub record CountsAsBefore (v w : List ℕ) : Type 0 where
   pub new_chosen : Chosen w (luks2 place new_copies)
   pub same : copy_at w place ≡ copy_at v place
 
--- it is one that the edit writes, with its metadata, label and subsystem, and the uuid as before
+-- it is one that the edit writes, with its metadata, uuid, label and subsystem
 pub record CountsAsAfter (v : List ℕ) (payload : Data) (e : Edit) (random w : List ℕ) : Type 0 where
   pub place : ℕ
   pub copies : Copies

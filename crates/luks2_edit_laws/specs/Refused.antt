@@ -27,8 +27,9 @@ use Rattle.luks_edit.specs.declared.edit_fault.EditFault.{EditFault}
 use Rattle.luks_edit.specs.declared.edit_fault.EditFault.TheVariants as fault
 use Rattle.luks_edit.specs.declared.edit.Opener.{Opener}
 use Rattle.luks_edit.specs.declared.edit.Opener.TheVariants as opener
-use Rattle.luks_edit.specs.Asked.{allowed_by, AmendsSlot, change_by, deed_of, HasFewIterations, IsBeyondMemory, MatchChange, MatchPlace, NamesItself, opener_at, opener_in, removed_by, rewritten_by, sealed_by, Wants}
+use Rattle.luks_edit.specs.Asked.{allowed_by, AmendsSlot, change_by, deed_of, HasFewIterations, IsBeyondMemory, MatchChange, MatchPlace, NamesItself, opener_at, opener_in, removed_by, rewritten_by, sealed_by, uuid_by, Wants}
 use Rattle.luks_edit.specs.EditFaults.{edit_key}
+use Rattle.luks_edit.specs.NewUuids.{HasBadUuid, uuid_need}
 use Rattle.luks_edit.specs.Opener.{IsUnopenedKeyslot}
 use Rattle.luks2_edit_laws.specs.declared.like.Like.{Like}
 use Rattle.luks2_edit_laws.specs.Edited.{IsEdited}
@@ -150,9 +151,9 @@ pub record NeedsLike (j : Value) (k : ℕ) (like : Like) : Type 0 where
   pub slot : HasStripesLike j like key_bytes stripes
   pub count : k ≡ 64 + 64 + 32 + (stripes - 1) * key_bytes
 
--- the edit takes `k` random bytes
+-- the edit takes `k` random bytes: where it seals no keyslot, two salts and what its uuid takes
 abbrev pub Need2 : Value → Edit → ℕ → Type 0
-Need2 j e k = MatchOption (sealed_by e) (k ≡ 64 + 64) (λ s. ForLike j (opener_at s.place) (NeedsLike j k))
+Need2 j e k = MatchOption (sealed_by e) (k ≡ 64 + 64 + uuid_need (uuid_by e)) (λ s. ForLike j (opener_at s.place) (NeedsLike j k))
 
 -- the random bytes aren't as many as the edit takes
 pub record IsMiscounted (j : Value) (e : Edit) (random : List ℕ) : Type 0 where
@@ -207,6 +208,7 @@ IsEditFault2 v payload e random fault.NoSuchToken = HasSaid v (λ o j. IsSomeAnd
 IsEditFault2 v payload e random fault.TokenTaken = HasSaid v (λ o j. IsSomeAnd (change_by e) (IsTokenTaken j))
 IsEditFault2 v payload e random fault.NoFreeToken = HasSaid v (λ o j. IsSomeAnd (change_by e) (HasNoFreeToken j))
 IsEditFault2 v payload e random fault.UnreadableToken = IsSomeAnd (change_by e) IsUnreadableToken
+IsEditFault2 v payload e random fault.BadUuid = HasBadUuid e
 IsEditFault2 v payload e random (fault.BadToken f) = HasSaid v (λ o j. IsSomeAnd (change_by e) (IsBadToken (hdr_size (header_at v o) - binary_header_size) j f))
 IsEditFault2 v payload e random fault.SeqExhausted = HasSaid v (λ o j. seqid (header_at v o) + 1 ≡ 2 ^ 64)
 IsEditFault2 v payload e random fault.MetadataFull = HasSaid v (λ o j. IsFull (hdr_size (header_at v o)) (length v) payload j e)

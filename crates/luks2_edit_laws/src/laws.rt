@@ -4,6 +4,9 @@ ghost use Rattle.std.specs.Prelude.{◌≡◌, ◌↔◌, ◌⊎◌, ℕ, List, 
 ghost use Rattle.luks_area.specs.declared.area.Area.{Area as TheArea};
 ghost use Rattle.luks_area.specs.declared.area.AreaName.TheVariants.{Slot};
 ghost use Rattle.luks_area.specs.Ranges.{part, SameBut};
+ghost use Rattle.luks_area.specs.Text.{text_of};
+ghost use Rattle.luks1_header.specs.Bytes.{IsUuid};
+ghost use Rattle.luks2_header.specs.Header2.{hdr_size, header_at, uuid_field};
 ghost use Rattle.luks2_header.specs.Selection.{luks2, Chosen};
 ghost use Rattle.luks_slot.specs.declared.allowed.Allowed.{Allowed as TheAllowed};
 ghost use Rattle.luks_reading.specs.Answer.{AnswerWithin, Opened};
@@ -11,8 +14,11 @@ ghost use Rattle.luks_reading.specs.Checked.{AreaOf, WellFormed};
 ghost use Rattle.luks_reading.specs.declared.report.Data.{Data as Payload};
 ghost use Rattle.luks_edit.specs.declared.edit.Edit.{Edit as TheEdit};
 ghost use Rattle.luks_making.specs.declared.amended.Change.{Change as TheChange};
-ghost use Rattle.luks_edit.specs.Asked.{change_by};
+ghost use Rattle.luks_edit.specs.declared.new_uuid.NewUuid.{NewUuid as TheUuid};
+ghost use Rattle.luks_edit.specs.Asked.{change_by, uuid_by};
 ghost use Rattle.luks_edit.specs.Kept.{Keeps, KeepsAnswers};
+ghost use Rattle.luks_edit.specs.NewUuids.{new_uuid_text};
+ghost use Rattle.luks2_edit_laws.specs.Copies.{uuid_random};
 ghost use Rattle.luks2_edit_laws.specs.Derived.{IsDerivedBy};
 ghost use Rattle.luks2_edit_laws.specs.Edited.{After2, HasRanges, NamedKeyslots2, OpensAfter2};
 ghost use Rattle.luks2_edit_laws.specs.Kept.{HasSameKeyslot};
@@ -50,6 +56,20 @@ pub fn luks2_edit_keeps_volume()
     ensures amended { (payload : Payload) (e : TheEdit) (v random w : List ℕ) (c : TheChange)
         → WellFormed v payload → HasRanges v e random → IsUnrefused2 v payload e random
         → After2 v payload e random w → change_by e ≡ Some c → (n : ℕ) → KeepsAnswers payload n v w }
+{}
+
+/// After an edit of a LUKS2 volume that nothing refused and that sets the uuid, the uuid of both copies of the
+/// header is the text that was given, or made of the random bytes behind the salts of the copies, and it is
+/// one of a uuid.
+pub fn luks2_edit_sets_uuid()
+    ensures text { (payload : Payload) (e : TheEdit) (v random w : List ℕ) (uuid : TheUuid)
+        → IsUnrefused2 v payload e random → (a : After2 v payload e random w) → uuid_by e ≡ Some uuid
+        → (q : ℕ) → (q ≡ 0) ⊎ (q ≡ hdr_size (header_at v a.place))
+        → text_of (uuid_field (header_at w q)) ≡ new_uuid_text uuid (uuid_random random) }
+    ensures good { (payload : Payload) (e : TheEdit) (v random w : List ℕ) (uuid : TheUuid)
+        → IsUnrefused2 v payload e random → (a : After2 v payload e random w) → uuid_by e ≡ Some uuid
+        → (q : ℕ) → (q ≡ 0) ⊎ (q ≡ hdr_size (header_at v a.place))
+        → IsUuid (text_of (uuid_field (header_at w q))) }
 {}
 
 /// After an edit of a well formed LUKS2 volume that nothing refused, a keyslot that it made or sealed

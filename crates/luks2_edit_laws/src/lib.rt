@@ -8,6 +8,6 @@ mod like;
 pub use gap::least_gap;
 pub use laws::{
     alike_slots_answer_alike, luks2_edit_derives, luks2_edit_keeps_volume, luks2_edit_opens,
-    luks2_edit_refused_once, luks2_failing_edit,
+    luks2_edit_refused_once, luks2_edit_sets_uuid, luks2_failing_edit,
 };
 pub use like::Like;

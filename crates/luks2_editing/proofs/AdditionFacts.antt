@@ -28,7 +28,7 @@ use Rattle.luks_edit.specs.declared.deed.Deed.TheVariants as deed
 use Rattle.luks_edit.specs.declared.deed.Deed.TheVariants.{Seal}
 use Rattle.luks_edit.specs.declared.deed.Place.TheVariants.{New}
 use Rattle.luks_edit.specs.declared.edit.Edit.{Edit}
-use Rattle.luks_edit.specs.declared.edit.Edit.TheVariants.{Add, AddByKey, Change, Remove, Repair, Label, Amend}
+use Rattle.luks_edit.specs.declared.edit.Edit.TheVariants.{Add, AddByKey, Change, Remove, Repair, Label, Uuid, Amend}
 use Rattle.luks_edit.specs.declared.edit.Opener.{Opener}
 use Rattle.luks_edit.specs.declared.edit.Opener.TheVariants as opener
 use Rattle.luks_edit.specs.declared.edit.Secret.{Secret}
@@ -135,7 +135,7 @@ pub record IsJudgedAddition (v : List ℕ) (payload : Data) (copy : ChosenCopy) 
   pub chosen : IsChosenCopy v copy
   pub well : WellFormed v payload
   pub asked : deed_of e ≡ Seal (sealing (New o to) new addition.derivation)
-  pub before : HasNoFaultBefore 19 v payload e random
+  pub before : HasNoFaultBefore 20 v payload e random
   pub opened : Gives2 (allowed_for o new.now) v o key
   pub is_like : IsLike (content copy.meta) o addition.like
   pub is_new : IsNewKeyslot (content copy.meta) to addition.made
@@ -260,6 +260,7 @@ key_chooses (Change slot old passphrase iterations chosen) own to new asked is =
 key_chooses (Remove slot by_ secret) own to new asked is = absurd (false≢true (ap is_keyed is))
 key_chooses Repair own to new asked is = absurd (false≢true (ap is_keyed is))
 key_chooses (Label text subsystem) own to new asked is = absurd (false≢true (ap is_keyed is))
+key_chooses (Uuid uuid) own to new asked is = absurd (false≢true (ap is_keyed is))
 key_chooses (Amend c) own to new asked is = absurd (false≢true (ap is_keyed is))
 
 -- the plan of the new keyslot isn't refused

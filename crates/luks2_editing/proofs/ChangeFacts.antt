@@ -77,7 +77,7 @@ module _ (j k : Value) (slot : ℕ) (derivation : AskedDerivation) (salt : List 
 
 -- what an edit that seals it again seals, once its rows up to that of the label were judged
 pub renewal_seals : (v : List ℕ) (payload : Data) (copy : ChosenCopy) (r : Renewal) (old : Secret) (new : Bor (List ℕ)) (key random : List ℕ)
-    → IsChosenCopy v copy → WellFormed v payload → HasNoFaultBefore 19 v payload (Change r.slot old new r.derivation.iterations r.derivation.chosen) random
+    → IsChosenCopy v copy → WellFormed v payload → HasNoFaultBefore 20 v payload (Change r.slot old new r.derivation.iterations r.derivation.chosen) random
     → Gives2 (allowed_for (opener.Keyslot r.slot old) new.now) v (opener.Keyslot r.slot old) key
     → IsNewArea (hdr_size (header_at v copy.header.hdr_offset)) (length v) payload (content copy.meta) (Keyslot r.slot) r.area
     → IsSealingEdit v payload (Change r.slot old new r.derivation.iterations r.derivation.chosen) random copy (record { keyslot = Renewed r.slot; derivation = r.derivation; area = r.area })

@@ -29,7 +29,7 @@ refused_ends v payload e random w f same x = EndsBy-map
 pub record IsJudgedEdit (v : List ℕ) (payload : Data) (it : Edit) (judged : Judged) : Type 0 where
   pub chosen : IsChosenCopy v judged.copy
   pub well : WellFormed v payload
-  pub none : (random : List ℕ) → HasNoFaultBefore 19 v payload it random
+  pub none : (random : List ℕ) → HasNoFaultBefore 20 v payload it random
   pub seals : Seals (hdr_size (header_at v judged.copy.header.hdr_offset)) v payload (content judged.copy.meta) it judged.edit
 
 module _ {u v : List ℕ} {e it : Edit} (same : v ≡ u) (asked : e ≡ it) where

@@ -32,7 +32,7 @@ module _ (old : Bin2) (at : ℕ) (texts : TextFields) (salt : List ℕ) (h : Bin
       own_label = new.own_label;
       csum_alg = new.csum_alg;
       own_salt = new.own_salt;
-      uuid = new.uuid;
+      own_uuid = new.own_uuid;
       own_subsystem = new.own_subsystem;
       hdr_offset = new.hdr_offset;
       csum_rest = x.csum_rest;

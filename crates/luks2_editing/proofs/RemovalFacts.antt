@@ -29,11 +29,11 @@ use Rattle.luks2_editing.proofs.RenewalFacts.{metadata_here, prepared_unrefused,
 -- ---- the keyslot's area
 
 module _ (v : List ℕ) (payload : Data) (copy : ChosenCopy) (x : IsChosenCopy v copy) (well : WellFormed v payload)
-    (slot : ℕ) (by_ : Option ℕ) (passphrase : Secret) (random : List ℕ) (before : HasNoFaultBefore 19 v payload (Remove slot by_ passphrase) random) where
-  pub removal_passed : Passed (IsEditFault2 v payload (Remove slot by_ passphrase) random) 20
+    (slot : ℕ) (by_ : Option ℕ) (passphrase : Secret) (random : List ℕ) (before : HasNoFaultBefore 20 v payload (Remove slot by_ passphrase) random) where
+  pub removal_passed : Passed (IsEditFault2 v payload (Remove slot by_ passphrase) random) 21
   removal_passed =
       let s = IsEditFault2 v payload (Remove slot by_ passphrase) random in
-      after_token s (passed_from s 19 before.each) (λ f bad. bad.is)
+      after_token s (passed_from s 20 before.each) (λ f bad. bad.is)
 
   module _ (area : Area) (is : IsKeyArea (content copy.meta) slot area) where
     module _ (new : Value) (made : new ≡ without_slot slot (content copy.meta)) (w y : List ℕ)
@@ -54,7 +54,7 @@ module _ (v : List ℕ) (payload : Data) (copy : ChosenCopy) (x : IsChosenCopy v
       -- while it was overwritten
       pub torn_lost : Leftover2 v payload (Remove slot by_ passphrase) random y
       torn_lost = inr (
-        prepared_unrefused v payload copy x well (Remove slot by_ passphrase) random new removal_passed (λ salt. made) (λ salt k same. same ∙ sym made) refl (λ k same. same) (λ u. tt) ready,
+        prepared_unrefused v payload copy x well (Remove slot by_ passphrase) random new removal_passed (λ salt. made) (λ salt k same. same ∙ sym made) 128 refl (λ k same. same) (λ u. tt) ready,
         record {
           place = copy.header.hdr_offset;
           value = content copy.meta;
@@ -68,7 +68,7 @@ module _ (v : List ℕ) (payload : Data) (copy : ChosenCopy) (x : IsChosenCopy v
       -- once it was
       pub removed_after : part y area.start area.len ≡ replicate area.len 0 → After2 v payload (Remove slot by_ passphrase) random y
       removed_after wiped =
-          written_after v payload copy x well (Remove slot by_ passphrase) random new removal_passed (λ salt. made) (λ salt k same. same ∙ sym made) refl (λ k same. same) (λ u. tt) y
+          written_after v payload copy x well (Remove slot by_ passphrase) random new removal_passed (λ salt. made) (λ salt k same. same ∙ sym made) 128 refl (λ k same. same) (λ u. tt) y
           (λ a other.
           let begins = other.1 in
           let mine = is.1 in

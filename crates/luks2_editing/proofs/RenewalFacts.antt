@@ -10,7 +10,7 @@ use Rattle.luks_area.specs.declared.area.AreaName.TheVariants.{Head2}
 use Rattle.luks_area.specs.Ranges.{SameBut}
 use Rattle.luks_area.proofs.RangeFacts.{length-part_inside, same_but-wider}
 use Rattle.luks2_header.specs.declared.selection.Copies.{Copies}
-use Rattle.luks2_header.specs.Header2.{header_at, hdr_size, seqid, IsSound}
+use Rattle.luks2_header.specs.Header2.{header_at, hdr_size, seqid, uuid_field, IsSound}
 use Rattle.luks2_header.specs.Selection.{Choice, luks1, luks2, nothing, Chosen}
 use Rattle.luks2_header.specs.Sizes.{IsListed}
 use Rattle.luks2_header.proofs.CopyFacts.{listed_at_least}
@@ -27,7 +27,7 @@ use Rattle.luks_edit.specs.declared.edit.Edit.{Edit}
 use Rattle.luks_edit.specs.declared.edit_fault.EditFault.{EditFault}
 use Rattle.luks_edit.specs.declared.edit_fault.EditFault.TheVariants as fault
 use Rattle.luks_edit.proofs.RowFacts.{first_of_row, next, none_at_all, Passed}
-use Rattle.luks2_edit_laws.specs.Copies.{label_after, label_field, subsystem_after, subsystem_field}
+use Rattle.luks2_edit_laws.specs.Copies.{label_after, label_field, subsystem_after, subsystem_field, uuid_after}
 use Rattle.luks2_edit_laws.specs.Edited.{keyslot_salt, After2, IsEdited, IsSealedBy, IsWipedBy}
 use Rattle.luks2_edit_laws.specs.Leftovers.{IsTornAt}
 use Rattle.luks2_edit_laws.specs.Metadata.{HasMetadata}
@@ -112,12 +112,13 @@ module _ (v : List ℕ) (payload : Data) (copy : ChosenCopy) (x : IsChosenCopy v
       }
 
   -- it may be written anew
-  pub renewing : (e : Edit) (texts : TextFields) → texts.label ≡ label_after e (label_field (header_at v copy.header.hdr_offset))
-      → texts.subsystem ≡ subsystem_after e (subsystem_field (header_at v copy.header.hdr_offset)) → IsRenewing v e copy.header texts (area_len copy.meta)
-  renewing e texts label subsystem = record {
+  pub renewing : (e : Edit) (random : List ℕ) (texts : TextFields) → texts.uuid ≡ uuid_after e random (uuid_field (header_at v copy.header.hdr_offset)) → texts.label ≡ label_after e (label_field (header_at v copy.header.hdr_offset))
+      → texts.subsystem ≡ subsystem_after e (subsystem_field (header_at v copy.header.hdr_offset)) → IsRenewing v e random copy.header texts (area_len copy.meta)
+  renewing e random texts uuid label subsystem = record {
     header = x.header;
     listed = subst IsListed size_is sound_here.form.listed;
     second = λ more. sym size_is ∙ sound_here.form.second more;
+    uuid_is = uuid;
     label_is = label;
     subsystem_is = subsystem;
     len_is = len_here ∙ ap (λ n. n - 4096) size_is;
@@ -125,10 +126,10 @@ module _ (v : List ℕ) (payload : Data) (copy : ChosenCopy) (x : IsChosenCopy v
 
   -- ---- an edit that makes `new` of the metadata, once the rows before that of the number were passed
 
-  module _ (e : Edit) (random : List ℕ) (new : Value) (passed : Passed (IsEditFault2 v payload e random) 20)
+  module _ (e : Edit) (random : List ℕ) (new : Value) (passed : Passed (IsEditFault2 v payload e random) 21)
       (edited : (salt : List ℕ) → IsEdited (hdr_size (header_at v copy.header.hdr_offset)) (length v) payload e salt (content copy.meta) new)
       (edited_only : (salt : List ℕ) (k : Value) → IsEdited (hdr_size (header_at v copy.header.hdr_offset)) (length v) payload e salt (content copy.meta) k → k ≡ new)
-      (need : Need2 (content copy.meta) e 128) (need_only : (k : ℕ) → Need2 (content copy.meta) e k → k ≡ 128)
+      (n : ℕ) (need : Need2 (content copy.meta) e n) (need_only : (k : ℕ) → Need2 (content copy.meta) e k → k ≡ n)
       (sealed : (w : List ℕ) → IsSealedBy v e random (content copy.meta) w new) where
     numbered_of : copy.header.seqid + 1 < 2 ^ 64 → HasSaid v (λ o j. seqid (header_at v o) + 1 ≡ 2 ^ 64) → ⊥
     numbered_of low bad =
@@ -146,24 +147,24 @@ module _ (v : List ℕ) (payload : Data) (copy : ChosenCopy) (x : IsChosenCopy v
         let len : area_len copy.meta ≡ hdr_size (header_at v copy.header.hdr_offset) - 4096 = len_here in
         omega (arith, low, high, len)
 
-    counted_of : length random ≡ 128 → HasSaid v (λ o j. IsMiscounted j e random) → ⊥
+    counted_of : length random ≡ n → HasSaid v (λ o j. IsMiscounted j e random) → ⊥
     counted_of count bad =
         let other : IsMiscounted (content copy.meta) e random = said_here (λ o j. IsMiscounted j e random) bad in
         other.other (count ∙ sym (need_only other.need other.is))
 
-    past_number : copy.header.seqid + 1 < 2 ^ 64 → Passed (IsEditFault2 v payload e random) 21
+    past_number : copy.header.seqid + 1 < 2 ^ 64 → Passed (IsEditFault2 v payload e random) 22
     past_number low = next (IsEditFault2 v payload e random) fault.SeqExhausted refl passed (numbered_of low)
 
-    past_room : copy.header.seqid + 1 < 2 ^ 64 → length (compact_text new) < area_len copy.meta → Passed (IsEditFault2 v payload e random) 22
+    past_room : copy.header.seqid + 1 < 2 ^ 64 → length (compact_text new) < area_len copy.meta → Passed (IsEditFault2 v payload e random) 23
     past_room low room = next (IsEditFault2 v payload e random) fault.MetadataFull refl (past_number low) (roomy_of room)
 
-    past_all : copy.header.seqid + 1 < 2 ^ 64 → length (compact_text new) < area_len copy.meta → length random ≡ 128 → Passed (IsEditFault2 v payload e random) 25
+    past_all : copy.header.seqid + 1 < 2 ^ 64 → length (compact_text new) < area_len copy.meta → length random ≡ n → Passed (IsEditFault2 v payload e random) 26
     past_all low room count =
         let s = IsEditFault2 v payload e random in
         next s fault.Device refl (next s fault.Memory refl (next s fault.RandomLength refl (past_room low room) (counted_of count)) (λ bad. bad)) (λ bad. bad)
 
     -- nothing refuses it where all was prepared
-    pub prepared_unrefused : IsPrepared copy.header.seqid (area_len copy.meta) new random 128 → IsUnrefused2 v payload e random
+    pub prepared_unrefused : IsPrepared copy.header.seqid (area_len copy.meta) new random n → IsUnrefused2 v payload e random
     prepared_unrefused p = record { none = none_at_all (IsEditFault2 v payload e random) (past_all p.numbered p.room p.counted) }
 
     torn_here : (w : List ℕ) → MayBeHalfWritten v copy.header.hdr_offset e random new v w → IsTornAt v payload e random copy.header.hdr_offset (content copy.meta) new w
@@ -171,7 +172,7 @@ module _ (v : List ℕ) (payload : Data) (copy : ChosenCopy) (x : IsChosenCopy v
     torn_here w (inr half) = inr (inr (inl (record { sealed = sealed w; other = half.other; rest = same_but-wider (λ p at. inr at) half.rest })))
 
     -- what it leaves where it was ended
-    pub unwritten_ends : (w : List ℕ) (f : EditFault) → IsUnwritten copy.header.seqid (area_len copy.meta) new random 128 f → (f ≢ fault.Device → w ≡ v)
+    pub unwritten_ends : (w : List ℕ) (f : EditFault) → IsUnwritten copy.header.seqid (area_len copy.meta) new random n f → (f ≢ fault.Device → w ≡ v)
         → MayBeHalfWritten v copy.header.hdr_offset e random new v w → EndsBy2 payload v e random f w
     unwritten_ends w fault.SeqExhausted bad same half = (
       first_of_row (IsEditFault2 v payload e random) fault.SeqExhausted refl passed
@@ -192,7 +193,7 @@ module _ (v : List ℕ) (payload : Data) (copy : ChosenCopy) (x : IsChosenCopy v
     )
     unwritten_ends w fault.RandomLength bad same half = (
       first_of_row (IsEditFault2 v payload e random) fault.RandomLength refl (past_room bad.numbered bad.room)
-          (said (λ o j. IsMiscounted j e random) (record { need = 128; is = need; other = bad.other })),
+          (said (λ o j. IsMiscounted j e random) (record { need = n; is = need; other = bad.other })),
       same (λ t. cc),
     )
     unwritten_ends w fault.Memory bad same half = same (λ t. cc)

@@ -21,7 +21,7 @@ use Rattle.luks2_editing.specs.NewCopy.{HasNewCopy, IsCopyPlace}
 use Rattle.luks2_editing.specs.Rewriting.{AreWrittenAnew, IsRenewing, IsRewriting, MayBeHalfWritten}
 
 -- a copy that was made of the old one's fields is written anew
-module _ (v : List ℕ) (e : Edit) (old : Bin2) (texts : TextFields) (random : List ℕ) (j : Value) (json : List ℕ) (is : IsRewriting v e old texts j json) where
+module _ (v : List ℕ) (e : Edit) (old : Bin2) (texts : TextFields) (random : List ℕ) (j : Value) (json : List ℕ) (is : IsRewriting v e random old texts j json) where
   module _ (w : List ℕ) (q : ℕ) (new : HasNewCopy old texts (copy_salt random q) json w q) where
     rest_zeros : AreZeros (header_at w q) 480 512
     rest_zeros k low high =
@@ -55,7 +55,7 @@ module _ (v : List ℕ) (e : Edit) (old : Bin2) (texts : TextFields) (random : L
         label = new.written.header.fields.label ∙ new.fields.own_label ∙ is.label_is;
         csum_alg = new.written.header.fields.csum_alg ∙ new.fields.csum_alg;
         salt = new.written.header.fields.salt ∙ new.fields.own_salt;
-        uuid = new.written.header.fields.uuid ∙ new.fields.uuid ∙ sym is.header.uuid;
+        uuid = new.written.header.fields.uuid ∙ new.fields.own_uuid ∙ is.uuid_is;
         subsystem = new.written.header.fields.subsystem ∙ new.fields.own_subsystem ∙ is.subsystem_is;
         padding = new.written.header.padding;
         tail = new.written.header.tail;
@@ -115,9 +115,9 @@ other_inside h o total q at inside = elim (places_of h o) [
 ]
 
 -- the place of the other copy is one
-pub other_is_place : (old : Bin2) (v : List ℕ) (e : Edit) (texts : TextFields) (j : Value) (json : List ℕ) → IsRewriting v e old texts j json
+pub other_is_place : (old : Bin2) (v : List ℕ) (e : Edit) (random : List ℕ) (texts : TextFields) (j : Value) (json : List ℕ) → IsRewriting v e random old texts j json
     → IsCopyPlace old (other_place old.hdr_size old.hdr_offset)
-other_is_place old v e texts j json is = record {
+other_is_place old v e random texts j json is = record {
   listed = is.listed;
   second = λ more. elim (places_of old.hdr_size old.hdr_offset) [
     | at_start zero at ↦ sym at
@@ -125,12 +125,12 @@ other_is_place old v e texts j json is = record {
   ];
 }
 
-pub own_is_place : (old : Bin2) (v : List ℕ) (e : Edit) (texts : TextFields) (j : Value) (json : List ℕ) → IsRewriting v e old texts j json → IsCopyPlace old old.hdr_offset
-own_is_place old v e texts j json is = record { listed = is.listed; second = is.second }
+pub own_is_place : (old : Bin2) (v : List ℕ) (e : Edit) (random : List ℕ) (texts : TextFields) (j : Value) (json : List ℕ) → IsRewriting v e random old texts j json → IsCopyPlace old old.hdr_offset
+own_is_place old v e random texts j json is = record { listed = is.listed; second = is.second }
 
 -- ---- the two writes
 
-module _ (v : List ℕ) (e : Edit) (old : Bin2) (texts : TextFields) (random : List ℕ) (j : Value) (json : List ℕ) (is : IsRewriting v e old texts j json) (size : 4096 + length json ≡ old.hdr_size) where
+module _ (v : List ℕ) (e : Edit) (old : Bin2) (texts : TextFields) (random : List ℕ) (j : Value) (json : List ℕ) (is : IsRewriting v e random old texts j json) (size : 4096 + length json ≡ old.hdr_size) where
   h_is : hdr_size (header_at v old.hdr_offset) ≡ old.hdr_size
   h_is = is.header.hdr_size
 
@@ -178,12 +178,13 @@ module _ (v : List ℕ) (e : Edit) (old : Bin2) (texts : TextFields) (random : L
 -- ---- the JSON area
 
 -- a JSON area of the length that is renewed, with any metadata
-pub rewriting_of : (v : List ℕ) (e : Edit) (old : Bin2) (texts : TextFields) (j : Value) (json : List ℕ) (len : ℕ) → IsRenewing v e old texts len → IsWrittenArea len j json
-    → IsRewriting v e old texts j json
-rewriting_of v e old texts j json len is area = record {
+pub rewriting_of : (v : List ℕ) (e : Edit) (random : List ℕ) (old : Bin2) (texts : TextFields) (j : Value) (json : List ℕ) (len : ℕ) → IsRenewing v e random old texts len
+    → IsWrittenArea len j json → IsRewriting v e random old texts j json
+rewriting_of v e random old texts j json len is area = record {
   header = is.header;
   listed = is.listed;
   second = is.second;
+  uuid_is = is.uuid_is;
   label_is = is.label_is;
   subsystem_is = is.subsystem_is;
   area = subst (λ n. IsWrittenArea n j json) is.len_is area;

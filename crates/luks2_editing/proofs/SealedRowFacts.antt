@@ -47,10 +47,10 @@ module _ (v : List ℕ) (payload : Data) (e : Edit) (random : List ℕ) (copy : 
   unamended : change_by e ≡ None
   unamended = unamended_in (deed_of e) _ x.asked
 
-  passed : Passed (IsEditFault2 v payload e random) 20
+  passed : Passed (IsEditFault2 v payload e random) 21
   passed =
       let s = IsEditFault2 v payload e random in
-      after_token s (passed_from s 19 x.before.each) (λ f bad. rw unamended at bad.is)
+      after_token s (passed_from s 20 x.before.each) (λ f bad. rw unamended at bad.is)
 
   module _ (salt : List ℕ) (bytes : IsBytes salt) (long : length salt ≡ 32) (new : Value)
       (made : IsMadeBy sealing.keyslot (members_of sealing.derivation salt sealing.area) (content copy.meta) new)
@@ -89,13 +89,13 @@ module _ (v : List ℕ) (payload : Data) (e : Edit) (random : List ℕ) (copy : 
         let other : IsMiscounted (content copy.meta) e random = said_here v payload copy x.chosen x.well (λ o j. IsMiscounted j e random) bad in
         other.other (count ∙ need_once (content copy.meta) e n other.need need other.is)
 
-    past_number : copy.header.seqid + 1 < 2 ^ 64 → Passed (IsEditFault2 v payload e random) 21
+    past_number : copy.header.seqid + 1 < 2 ^ 64 → Passed (IsEditFault2 v payload e random) 22
     past_number low = next (IsEditFault2 v payload e random) fault.SeqExhausted refl passed (numbered_of low)
 
-    past_room : copy.header.seqid + 1 < 2 ^ 64 → length (compact_text new) < area_len copy.meta → Passed (IsEditFault2 v payload e random) 22
+    past_room : copy.header.seqid + 1 < 2 ^ 64 → length (compact_text new) < area_len copy.meta → Passed (IsEditFault2 v payload e random) 23
     past_room low room = next (IsEditFault2 v payload e random) fault.MetadataFull refl (past_number low) (roomy_of room)
 
-    past_all : copy.header.seqid + 1 < 2 ^ 64 → length (compact_text new) < area_len copy.meta → length random ≡ n → Passed (IsEditFault2 v payload e random) 25
+    past_all : copy.header.seqid + 1 < 2 ^ 64 → length (compact_text new) < area_len copy.meta → length random ≡ n → Passed (IsEditFault2 v payload e random) 26
     past_all low room count =
         let s = IsEditFault2 v payload e random in
         next s fault.Device refl (next s fault.Memory refl (next s fault.RandomLength refl (past_room low room) (counted_of count)) (λ bad. bad)) (λ bad. bad)

@@ -100,7 +100,7 @@ pub record IsSealingEdit
     : Type 0 where
   pub chosen : IsChosenCopy v copy
   pub well : WellFormed v payload
-  pub before : HasNoFaultBefore 19 v payload e random
+  pub before : HasNoFaultBefore 20 v payload e random
   pub asked : AsksFor e (content copy.meta) sealing.keyslot sealing.derivation
   pub place : IsNewArea (hdr_size (header_at v copy.header.hdr_offset)) (length v) payload
       (content copy.meta) (like_of sealing.keyslot) sealing.area

@@ -18,7 +18,7 @@ pub record IsNewHeader (old : Bin2) (o : ℕ) (texts : TextFields) (salt : List 
   pub own_label : new.label ≡ texts.label
   pub csum_alg : new.csum_alg ≡ codes "sha256" ++ replicate 26 0
   pub own_salt : new.salt ≡ salt
-  pub uuid : new.uuid ≡ old.uuid
+  pub own_uuid : new.uuid ≡ texts.uuid
   pub own_subsystem : new.subsystem ≡ texts.subsystem
   pub hdr_offset : new.hdr_offset ≡ o
   pub csum_rest : drop sha256_size new.csum ≡ replicate sha256_size 0

@@ -1,31 +1,39 @@
 -- Writing both copies of a LUKS2 header anew, from the one that counts.
-use Rattle.std.specs.Prelude.{◌≡◌, ◌≢◌, ℕ, ◌-◌, ◌⊎◌, List}
+use Rattle.std.specs.Prelude.{◌≡◌, ◌≢◌, ℕ, ◌-◌, ◌⊎◌, List, Option}
 use Rattle.serde_json.specs.Data.{Data as Value}
 use Rattle.luks_area.specs.Ranges.{IsAt, SameBut}
-use Rattle.luks2_header.specs.Header2.{binary_header_size, hdr_size, header_at, HoldsBin2}
+use Rattle.luks2_header.specs.Header2.{binary_header_size, hdr_size, header_at, uuid_field, HoldsBin2}
 use Rattle.luks2_header.specs.Sizes.{IsListed}
 use Rattle.luks2_header.specs.declared.bin2.Bin2.{Bin2}
 use Rattle.luks_making.specs.WrittenArea.{IsWrittenArea}
 use Rattle.luks_edit.specs.declared.edit.Edit.{Edit}
-use Rattle.luks2_edit_laws.specs.Copies.{label_after, label_field, other_place, subsystem_after, subsystem_field, IsWrittenAnew}
+use Rattle.luks_edit.specs.declared.new_uuid.NewUuid.{NewUuid}
+use Rattle.luks_edit.specs.NewUuids.{uuid_field_after}
+use Rattle.luks2_edit_laws.specs.Copies.{label_after, label_field, other_place, subsystem_after, subsystem_field, uuid_after, uuid_random, IsWrittenAnew}
 use Rattle.luks2_edit_laws.specs.Places.{IsOfCopies}
 use Rattle.luks2_judging.specs.declared.judged.TextFields.{TextFields}
 
+-- the texts with the uuid that is given, if one is, by the random bytes of the edit
+abbrev pub with_uuid : Option NewUuid → List ℕ → TextFields → TextFields
+with_uuid given random t = record { uuid = uuid_field_after given (uuid_random random) t.uuid; label = t.label; subsystem = t.subsystem }
+
 -- `old` is the binary header of a copy of the volume `v`, `texts` its texts after the edit, and `json`
 -- the JSON area with the metadata `j`
-pub record IsRewriting (v : List ℕ) (e : Edit) (old : Bin2) (texts : TextFields) (j : Value) (json : List ℕ) : Type 0 where
+pub record IsRewriting (v : List ℕ) (e : Edit) (random : List ℕ) (old : Bin2) (texts : TextFields) (j : Value) (json : List ℕ) : Type 0 where
   pub header : HoldsBin2 (header_at v old.hdr_offset) old
   pub listed : IsListed old.hdr_size
   pub second : old.hdr_offset ≢ 0 → old.hdr_size ≡ old.hdr_offset
+  pub uuid_is : texts.uuid ≡ uuid_after e random (uuid_field (header_at v old.hdr_offset))
   pub label_is : texts.label ≡ label_after e (label_field (header_at v old.hdr_offset))
   pub subsystem_is : texts.subsystem ≡ subsystem_after e (subsystem_field (header_at v old.hdr_offset))
   pub area : IsWrittenArea (old.hdr_size - binary_header_size) j json
 
 -- the same of every JSON area with `len` bytes
-pub record IsRenewing (v : List ℕ) (e : Edit) (old : Bin2) (texts : TextFields) (len : ℕ) : Type 0 where
+pub record IsRenewing (v : List ℕ) (e : Edit) (random : List ℕ) (old : Bin2) (texts : TextFields) (len : ℕ) : Type 0 where
   pub header : HoldsBin2 (header_at v old.hdr_offset) old
   pub listed : IsListed old.hdr_size
   pub second : old.hdr_offset ≢ 0 → old.hdr_size ≡ old.hdr_offset
+  pub uuid_is : texts.uuid ≡ uuid_after e random (uuid_field (header_at v old.hdr_offset))
   pub label_is : texts.label ≡ label_after e (label_field (header_at v old.hdr_offset))
   pub subsystem_is : texts.subsystem ≡ subsystem_after e (subsystem_field (header_at v old.hdr_offset))
   pub len_is : len ≡ old.hdr_size - binary_header_size

@@ -62,7 +62,7 @@ pub(crate) fn add<D: Device>(
     ensures replies { D.tells → (payload : Payload) (e : Edit) (o : Opener) (to : Option ℕ)
         → deed_of e ≡ Seal (sealing (New o to) secrets.now.passphrase addition.now.derivation)
         → IsChosenCopy (D.bytes device.old) copy → WellFormed (D.bytes device.old) payload
-        → HasNoFaultBefore 19 (D.bytes device.old) payload e secrets.now.random.now
+        → HasNoFaultBefore 20 (D.bytes device.old) payload e secrets.now.random.now
         → allowed_for o secrets.now.passphrase.now ≡ secrets.now.allowed
         → Gives2 (allowed_for o secrets.now.passphrase.now) (D.bytes device.old) o secrets.now.key.now
         → IsLike (content copy.meta) o addition.now.like

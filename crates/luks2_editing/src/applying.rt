@@ -17,8 +17,8 @@ use luks2_judging::{JudgedEdit, JudgedPlace, judge_luks2};
 use std::alloc::Global;
 
 /// Applies the edit to the LUKS2 volume with this copy, with as many random bytes as
-/// `needed_luks2` tells: the salts of both copies of the header, 64 bytes each, and for a keyslot
-/// that is sealed its salt, 32 bytes, and its stripes but the last.
+/// `needed_luks2` tells: the salts of both copies of the header, 64 bytes each, for a keyslot that is
+/// sealed its salt, 32 bytes, and its stripes but the last, and for a random uuid 16 bytes.
 ///
 /// The first refusal is answered, or `Memory`, and then no byte changes: all memory is taken before
 /// the first write, that of Argon2 too. The copy is given up, so that the old metadata doesn't live beside the new. What
@@ -63,8 +63,10 @@ pub fn apply_luks2<D: Device>(
             }
         }
         JudgedEdit::Remove { slot, area } => remove(alloc, device, copy, slot, area, random),
-        JudgedEdit::Rewrite { fields, change } => {
-            repair(alloc, device, copy, fields, change, random)
-        }
+        JudgedEdit::Rewrite {
+            uuid,
+            fields,
+            change,
+        } => repair(alloc, device, copy, uuid, fields, change, random),
     }
 }

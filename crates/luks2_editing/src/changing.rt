@@ -66,7 +66,7 @@ pub(crate) fn change<D: Device>(
         → deed_of e ≡ Seal (sealing (Opened renewal.now.slot old) secrets.now.passphrase
         renewal.now.derivation)
         → IsChosenCopy (D.bytes device.old) copy → WellFormed (D.bytes device.old) payload
-        → HasNoFaultBefore 19 (D.bytes device.old) payload e secrets.now.random.now
+        → HasNoFaultBefore 20 (D.bytes device.old) payload e secrets.now.random.now
         → allowed_for (ByKeyslot renewal.now.slot old) secrets.now.passphrase.now ≡ secrets.now.allowed
         → Gives2 (allowed_for (ByKeyslot renewal.now.slot old) secrets.now.passphrase.now)
         (D.bytes device.old) (ByKeyslot renewal.now.slot old) secrets.now.key.now

@@ -11,10 +11,10 @@ pub(crate) fn new_header(old: &Bin2, at: u64, texts: TextFields, salt: [u8; 64])
     requires { old.now.seqid + 1 < 2 ^ 64 }
     ensures { IsNewHeader old.now at texts salt result }
 {
-    let TextFields { label, subsystem } = texts;
     Bin2 {
-        label,
-        subsystem,
+        uuid: texts.uuid,
+        label: texts.label,
+        subsystem: texts.subsystem,
         ..old.renewed(at, old.seqid + 1, salt)
     }
 }

@@ -1,7 +1,7 @@
 //! The random bytes of an edit, by their places.
 ghost use Rattle.std.specs.Prelude.{◌≡◌, ◌+◌, ◌≤◌, drop, length};
 ghost use Rattle.luks_area.specs.Ranges.{part};
-ghost use Rattle.luks2_edit_laws.specs.Copies.{copy_salt};
+ghost use Rattle.luks2_edit_laws.specs.Copies.{copy_salt, uuid_random};
 ghost use Rattle.luks2_edit_laws.specs.Edited.{keyslot_salt};
 
 /// The `N` bytes at the place `at`.
@@ -25,6 +25,14 @@ pub(crate) fn copy_salt(random: &[u8], at: u64) -> [u8; 64]
     } else {
         taken_array(random, 64)
     }
+}
+
+/// The bytes of a uuid: those behind the salts of the copies.
+pub(crate) fn uuid_random(random: &[u8]) -> &[u8]
+    requires { 128 ≤ length random.now }
+    ensures { result.now ≡ uuid_random random.now }
+{
+    &random[128..]
 }
 
 /// The salt of a keyslot that is sealed: the 32 bytes behind the salts of the copies, or zeros where

@@ -26,7 +26,7 @@ use std::alloc::Global;
 
 /// Removes the keyslot from the metadata, writes both copies of the header anew, the other copy first,
 /// and then overwrites the keyslot's area, which is `area`, with zeros; each with a flush. The rows of
-/// the faults up to `UnreadableToken` were judged. The old metadata is given up for the new.
+/// the faults up to `BadUuid` were judged. The old metadata is given up for the new.
 ///
 /// Refused by `SeqExhausted`, `MetadataFull` or `RandomLength`; 128 random bytes are needed, the salts
 /// of the copies. Takes memory for the maps of tokens and digests and for the JSON area, before the
@@ -51,13 +51,13 @@ pub(crate) fn remove<D: Device>(
     ensures replies { D.tells → (payload : Payload) (e : Edit) (by_ : Option ℕ)
         (passphrase : Secret) → deed_of e ≡ Remove (removing slot by_ passphrase)
         → IsChosenCopy (D.bytes device.old) copy → WellFormed (D.bytes device.old) payload
-        → HasNoFaultBefore 19 (D.bytes device.old) payload e random.now
+        → HasNoFaultBefore 20 (D.bytes device.old) payload e random.now
         → Replies2 payload (D.bytes device.old) e random.now result (D.bytes device.new) }
 {
     let header = copy.header;
     let meta = without_slot(alloc, copy.meta, slot)?;
     let texts = TextFields::of(&header);
-    rewrite(alloc, device, &header, &meta, texts, random)?;
+    rewrite(alloc, device, &header, &meta, None, texts, random)?;
     match wipe_area(device, area) {
         Ok(()) => Ok(Done { slot: None }),
         Err(_) => Err(EditFault::Device),

@@ -56,12 +56,14 @@ pub(crate) fn write_keyslot<D: Device>(
     ensures same { D.tells → IfErr result (λ f. f ≢ EditFault.Device
         → D.bytes device.new ≡ D.bytes device.old) }
     ensures written { D.tells → (e : TheEdit)
-        → IsRenewing (D.bytes device.old) e chosen.now (texts_of chosen.now) (area_len made.now.meta)
+        → IsRenewing (D.bytes device.old) e secrets.now.random.now chosen.now (texts_of chosen.now)
+        (area_len made.now.meta)
         → OnOk result (IsKeyslotWritten (D.bytes device.old) chosen.now.hdr_offset e
         secrets.now.random.now (content made.now.meta) n secrets.now.passphrase.now
         secrets.now.key.now (D.bytes device.new)) }
     ensures torn { D.tells → (payload : Payload) (e : TheEdit) (j : Value)
-        → IsRenewing (D.bytes device.old) e chosen.now (texts_of chosen.now) (area_len made.now.meta)
+        → IsRenewing (D.bytes device.old) e secrets.now.random.now chosen.now (texts_of chosen.now)
+        (area_len made.now.meta)
         → IsSealing (D.bytes device.old) payload e secrets.now.random.now chosen.now.hdr_offset j
         (content made.now.meta) n secrets.now.passphrase.now secrets.now.key.now
         → IsTornAt (D.bytes device.old) payload e secrets.now.random.now chosen.now.hdr_offset j

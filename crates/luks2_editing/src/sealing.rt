@@ -58,10 +58,10 @@ pub(crate) fn write_sealed<D: Device>(
         (IsSealed plan.now (area_bytes (D.bytes device.new) plan.now.area)
         secrets.now.passphrase.now secrets.now.key.now (drop 160 secrets.now.random.now)) }
     ensures anew { D.tells → (v : List ℕ) (e : TheEdit) (j : Value)
-        → IsRewriting v e chosen.now (texts_of chosen.now) j json.now → OnOk result
+        → IsRewriting v e secrets.now.random.now chosen.now (texts_of chosen.now) j json.now → OnOk result
         (AreWrittenAnew v chosen.now.hdr_offset e secrets.now.random.now j (D.bytes device.new)) }
     ensures torn { D.tells → (v : List ℕ) (e : TheEdit) (j : Value)
-        → IsRewriting v e chosen.now (texts_of chosen.now) j json.now
+        → IsRewriting v e secrets.now.random.now chosen.now (texts_of chosen.now) j json.now
         → MayBeHalfSealed v chosen.now.hdr_offset e secrets.now.random.now j plan.now
         secrets.now.passphrase.now secrets.now.key.now (drop 160 secrets.now.random.now)
         (D.bytes device.old) (D.bytes device.new) }

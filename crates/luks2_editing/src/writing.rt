@@ -39,10 +39,10 @@ pub(crate) fn write_copies<D: Device>(
     ensures settled { D.tells → D.failed device.new ≡ D.failed device.old
         → IsSettled D.unsettled device.new }
     ensures anew { D.tells → (v : List ℕ) (e : TheEdit) (j : Value)
-        → IsRewriting v e chosen.now texts j json.now → OnOk result
+        → IsRewriting v e random.now chosen.now texts j json.now → OnOk result
         (AreWrittenAnew v chosen.now.hdr_offset e random.now j (D.bytes device.new)) }
     ensures torn { D.tells → (v : List ℕ) (e : TheEdit) (j : Value)
-        → IsRewriting v e chosen.now texts j json.now
+        → IsRewriting v e random.now chosen.now texts j json.now
         → MayBeHalfWritten v chosen.now.hdr_offset e random.now j
         (D.bytes device.old) (D.bytes device.new) }
     ensures rest { D.tells

@@ -9,7 +9,7 @@ use Rattle.luks_edit.specs.declared.deed.Place.TheVariants.{New, Opened}
 use Rattle.luks_edit.specs.declared.deed.Removed.{Removed}
 use Rattle.luks_edit.specs.declared.deed.Sealed.{Sealed}
 use Rattle.luks_edit.specs.declared.edit.Edit.{Edit}
-use Rattle.luks_edit.specs.declared.edit.Edit.TheVariants.{Add, AddByKey, Change, Remove, Repair, Label, Amend}
+use Rattle.luks_edit.specs.declared.edit.Edit.TheVariants.{Add, AddByKey, Change, Remove, Repair, Label, Uuid, Amend}
 use Rattle.luks_edit.specs.declared.edit.Secret.{Secret}
 use Rattle.luks_edit.specs.Asked.{allowed_by, allowed_for, allowed_in, deed_of, opener_at}
 use Rattle.luks2_judging.specs.Judging.{sealing}
@@ -47,6 +47,7 @@ removed_is (Change slot old new iterations chosen) r is = absurd (cc)
 removed_is (Remove slot by_ secret) r is = ap edit_of is
 removed_is Repair r is = absurd (cc)
 removed_is (Label text subsystem) r is = absurd (cc)
+removed_is (Uuid uuid) r is = absurd (cc)
 removed_is (Amend c) r is = absurd (cc)
 
 -- a new keyslot isn't the one that was opened
@@ -67,4 +68,5 @@ changed_is (Change named own passphrase iterations chosen) slot old new asked is
 changed_is (Remove named by_ secret) slot old new asked is = absurd (cc)
 changed_is Repair slot old new asked is = absurd (cc)
 changed_is (Label text subsystem) slot old new asked is = absurd (cc)
+changed_is (Uuid uuid) slot old new asked is = absurd (cc)
 changed_is (Amend c) slot old new asked is = absurd (cc)

@@ -1,4 +1,4 @@
--- An edit judged row by row, up to `NoFreeToken`: the first fault, and what stands where none does.
+-- An edit judged row by row, up to `BadUuid`: the first fault, and what stands where none does.
 use Rattle.std.proofs.Common.{◌≡◌, ◌↔◌, ℕ, ◌<◌, ◌≤◌, Bor, List, length, true, Option, Some, None, ap, refl, arith}
 use Rattle.std.specs.Prelude.{IsSomeAnd}
 use Rattle.std.proofs.lemmas.Bool.{both_ways}
@@ -24,6 +24,7 @@ use Rattle.luks_making.specs.Derivations.{asked_beyond, asked_few_turns}
 use Rattle.luks_making.specs.declared.derivation.AskedDerivation.{AskedDerivation}
 use Rattle.luks_edit.specs.Asked.{allowed_by, change_by, change_in, deed_of, HasFewIterations, IsBeyondMemory, allowed_for, NamesItself, opener_at, opener_in}
 use Rattle.luks_edit.specs.EditFaults.{edit_key, edit_row}
+use Rattle.luks_edit.specs.NewUuids.{HasBadUuid}
 use Rattle.luks_edit.proofs.OpeningFacts.{unopened_first as keyslot_first}
 use Rattle.luks_edit.proofs.RowFacts.{after_check, after_opening, first_of_check, first_of_opening, first_of_row, next, not_before, passed_from, past_token_number, Passed}
 use Rattle.luks2_edit_laws.specs.declared.like.Like.{Like}
@@ -188,16 +189,17 @@ module _ (v : List ℕ) (payload : Data) (e : Edit) (random : List ℕ) where
   pub past_label : IsPast 14 v payload e random → (IsBadLabel e → ⊥) → IsPast 15 v payload e random
   past_label passed not = next (IsEditFault2 v payload e random) fault.BadLabel refl passed not
 
-  -- NoSuchToken, TokenTaken, NoFreeToken, UnreadableToken: of an edit that changes nothing of the metadata none stands
-  pub past_unamended : change_by e ≡ None → IsPast 15 v payload e random → IsPast 19 v payload e random
-  past_unamended none passed =
-      past_token_number (IsEditFault2 v payload e random) passed (λ bad. rw none at bad.is) (λ bad. rw none at bad.is) (λ bad. rw none at bad.is) (λ bad. rw none at bad)
+  -- NoSuchToken, TokenTaken, NoFreeToken, UnreadableToken, BadUuid: of an edit that changes nothing of the metadata
+  -- and sets no uuid none stands
+  pub past_unamended : change_by e ≡ None → (HasBadUuid e → ⊥) → IsPast 15 v payload e random → IsPast 20 v payload e random
+  past_unamended none good passed =
+      past_token_number (IsEditFault2 v payload e random) passed (λ bad. rw none at bad.is) (λ bad. rw none at bad.is) (λ bad. rw none at bad.is) (λ bad. rw none at bad) good
 
 -- a keyslot is sealed that is made like this one, and derives as is asked: the rows `NoRoom` to `BadLabel`
 module _ (v : List ℕ) (payload : Data) (o : ℕ) (j : Value) (m : HasMetadata v o j) (e : Edit) (like : Like) (memory : ℕ) (asked : AskedDerivation)
     (rooms : HasNoRoom (hdr_size (header_at v o)) (length v) payload j e ↔ HasNoNewArea (hdr_size (header_at v o)) (length v) payload j like)
     (few : HasFewIterations e ↔ (asked_few_turns asked ≡ true)) (large : IsBeyondMemory e ↔ (asked_beyond memory asked ≡ true)) (kept : IsLast j e → ⊥) (good : IsBadLabel e → ⊥)
-    (unamended : change_by e ≡ None) (ten : (random : List ℕ) → IsPast 10 v payload e random) where
+    (unamended : change_by e ≡ None) (own : HasBadUuid e → ⊥) (ten : (random : List ℕ) → IsPast 10 v payload e random) where
   past_area : (HasNoNewArea (hdr_size (header_at v o)) (length v) payload j like → ⊥) → (random : List ℕ) → IsPast 12 v payload e random
   past_area room random = past_last v payload o j m e random (past_room v payload o j m e random (ten random) (λ bad. room (rooms.0 bad))) kept
 
@@ -209,9 +211,9 @@ module _ (v : List ℕ) (payload : Data) (o : ℕ) (j : Value) (m : HasMetadata 
   unsealed_first f bad = absurd bad
 
   pub sealed_past : (HasNoNewArea (hdr_size (header_at v o)) (length v) payload j like → ⊥) → IsAllowed memory asked → (random : List ℕ)
-      → HasNoFaultBefore 19 v payload e random
-  sealed_past room enough random = before_of 19 v payload e random
-      (past_unamended v payload e random unamended
+      → HasNoFaultBefore 20 v payload e random
+  sealed_past room enough random = before_of 20 v payload e random
+      (past_unamended v payload e random unamended own
       (past_label v payload e random
       (past_large v payload e random (past_few v payload e random (past_area room random) (λ bad. both_ways _ enough.turns (few.0 bad))) (λ bad. both_ways _ enough.within (large.0 bad))) good))
 
@@ -246,13 +248,13 @@ module _ (v : List ℕ) (payload : Data) (o : ℕ) (j : Value) (m : HasMetadata 
     pub unadded_first : (f : EditFault) → IsUnsealable (hdr_size (header_at v o)) (length v) payload j like (allowed_for opener_ new.now).memory asked f → IsRefusedEarly v payload e f
     unadded_first f bad =
         unsealed_first v payload o j m e like (allowed_for opener_ new.now).memory asked (sealed_rooms (hdr_size (header_at v o)) (length v) payload j e _ is like is_like)
-        (sealed_few e _ is) (sealed_large e _ is) (λ x. rw is at x) (λ x. rw is at x) (ap change_in is) ten f bad
+        (sealed_few e _ is) (sealed_large e _ is) (λ x. rw is at x) (λ x. rw is at x) (ap change_in is) (λ x. rw is at x) ten f bad
 
     pub added_past : (HasNoNewArea (hdr_size (header_at v o)) (length v) payload j like → ⊥) → IsAllowed (allowed_for opener_ new.now).memory asked → (random : List ℕ)
-        → HasNoFaultBefore 19 v payload e random
+        → HasNoFaultBefore 20 v payload e random
     added_past =
         sealed_past v payload o j m e like (allowed_for opener_ new.now).memory asked (sealed_rooms (hdr_size (header_at v o)) (length v) payload j e _ is like is_like)
-        (sealed_few e _ is) (sealed_large e _ is) (λ x. rw is at x) (λ x. rw is at x) (ap change_in is) ten
+        (sealed_few e _ is) (sealed_large e _ is) (λ x. rw is at x) (λ x. rw is at x) (ap change_in is) (λ x. rw is at x) ten
 
 -- in the keyslot that was opened
 module _ (v : List ℕ) (payload : Data) (o : ℕ) (j : Value) (m : HasMetadata v o j) (e : Edit) (slot : ℕ) (old : Secret) (new : Bor (List ℕ)) (asked : AskedDerivation)
@@ -264,13 +266,13 @@ module _ (v : List ℕ) (payload : Data) (o : ℕ) (j : Value) (m : HasMetadata 
       → IsRefusedEarly v payload e f
   unchanged_first f bad =
       unsealed_first v payload o j m e (made_like.Keyslot slot) (allowed_for (opener.Keyslot slot old) new.now).memory asked
-      (sealed_rooms (hdr_size (header_at v o)) (length v) payload j e _ is (made_like.Keyslot slot) refl) (sealed_few e _ is) (sealed_large e _ is) (λ x. rw is at x) (λ x. rw is at x) (ap change_in is) change_ten f bad
+      (sealed_rooms (hdr_size (header_at v o)) (length v) payload j e _ is (made_like.Keyslot slot) refl) (sealed_few e _ is) (sealed_large e _ is) (λ x. rw is at x) (λ x. rw is at x) (ap change_in is) (λ x. rw is at x) change_ten f bad
 
   pub changed_past : (HasNoNewArea (hdr_size (header_at v o)) (length v) payload j (made_like.Keyslot slot) → ⊥) → IsAllowed (allowed_for (opener.Keyslot slot old) new.now).memory asked
-      → (random : List ℕ) → HasNoFaultBefore 19 v payload e random
+      → (random : List ℕ) → HasNoFaultBefore 20 v payload e random
   changed_past =
       sealed_past v payload o j m e (made_like.Keyslot slot) (allowed_for (opener.Keyslot slot old) new.now).memory asked
-      (sealed_rooms (hdr_size (header_at v o)) (length v) payload j e _ is (made_like.Keyslot slot) refl) (sealed_few e _ is) (sealed_large e _ is) (λ x. rw is at x) (λ x. rw is at x) (ap change_in is) change_ten
+      (sealed_rooms (hdr_size (header_at v o)) (length v) payload j e _ is (made_like.Keyslot slot) refl) (sealed_few e _ is) (sealed_large e _ is) (λ x. rw is at x) (λ x. rw is at x) (ap change_in is) (λ x. rw is at x) change_ten
 
 -- ---- an edit that removes a keyslot
 
@@ -282,9 +284,9 @@ module _ (v : List ℕ) (payload : Data) (o : ℕ) (j : Value) (m : HasMetadata 
   pub only_first : IsOnlyOne j r.slot → IsRefusedEarly v payload e fault.LastSlot
   only_first bad = λ random. last_first v payload o j m e random (eleven random) (rw is bad)
 
-  pub removed_past : (IsOnlyOne j r.slot → ⊥) → (random : List ℕ) → HasNoFaultBefore 19 v payload e random
-  removed_past other random = before_of 19 v payload e random
-      (past_unamended v payload e random (ap change_in is)
+  pub removed_past : (IsOnlyOne j r.slot → ⊥) → (random : List ℕ) → HasNoFaultBefore 20 v payload e random
+  removed_past other random = before_of 20 v payload e random
+      (past_unamended v payload e random (ap change_in is) (λ x. rw is at x)
       (past_label v payload e random
       (past_large v payload e random
       (past_few v payload e random (past_last v payload o j m e random (eleven random) (λ x. other (rw is at x))) (λ x. rw is at x)) (λ x. rw is at x)) (λ x. rw is at x)))
@@ -334,6 +336,12 @@ module _ (v : List ℕ) (payload : Data) (o : ℕ) (j : Value) (m : HasMetadata 
           pub unread_token_first : IsSomeAnd (change_by e) IsUnreadableToken → IsRefusedEarly v payload e fault.UnreadableToken
           unread_token_first bad = λ random. first_of_row (IsEditFault2 v payload e random) fault.UnreadableToken refl (past_token random) bad
 
-          pub amended_past : (IsSomeAnd (change_by e) IsUnreadableToken → ⊥) → (random : List ℕ) → HasNoFaultBefore 19 v payload e random
-          amended_past readable random = before_of 19 v payload e random
-              (next (IsEditFault2 v payload e random) fault.UnreadableToken refl (past_token random) readable)
+          module _ (readable : IsSomeAnd (change_by e) IsUnreadableToken → ⊥) where
+            past_unread : (random : List ℕ) → IsPast 19 v payload e random
+            past_unread random = next (IsEditFault2 v payload e random) fault.UnreadableToken refl (past_token random) readable
+
+            pub bad_uuid_first : HasBadUuid e → IsRefusedEarly v payload e fault.BadUuid
+            bad_uuid_first bad = λ random. first_of_row (IsEditFault2 v payload e random) fault.BadUuid refl (past_unread random) bad
+
+            pub amended_past : (HasBadUuid e → ⊥) → (random : List ℕ) → HasNoFaultBefore 20 v payload e random
+            amended_past own random = before_of 20 v payload e random (next (IsEditFault2 v payload e random) fault.BadUuid refl (past_unread random) own)

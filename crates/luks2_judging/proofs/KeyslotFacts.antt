@@ -1,6 +1,5 @@
 -- Which keyslots the metadata has, number by number.
-use Rattle.std.proofs.Common.{◌≡◌, ◌⊎◌, ℕ, ◌+◌, ◌^◌, ◌<◌, ◌≤◌, List, length, Option, Some, None, below_more, refl, sym, subst, ap, ◌∙◌, arith, inl, inr, is_some, IfSome, Result, Ok, Err}
-use Rattle.std.specs.Borrow.{Bor}
+use Rattle.std.proofs.Common.{◌≡◌, ◌⊎◌, ℕ, ◌+◌, ◌^◌, ◌<◌, ◌≤◌, length, Option, Some, None, below_more, refl, sym, subst, ap, ◌∙◌, arith, inl, inr, is_some, IfSome, Result, Ok, Err}
 use Rattle.std.proofs.lemmas.Bool.{cases_Bool, cases_lt, false≢true}
 use Rattle.std.proofs.lemmas.Option.{same_Some}
 use Rattle.serde_json.specs.Data.{Data as Value}
@@ -11,7 +10,7 @@ use Rattle.luks_making.specs.declared.amended.Change.{Change}
 use Rattle.luks_making.specs.declared.amended.Change.TheVariants as changes
 use Rattle.luks_making.specs.declared.amended.Priority.{Priority}
 use Rattle.luks_edit.specs.declared.edit.Edit.{Edit}
-use Rattle.luks_edit.specs.declared.edit.Edit.TheVariants.{Add, AddByKey, Change as ChangeKey, Remove, Repair, Label, Amend}
+use Rattle.luks_edit.specs.declared.edit.Edit.TheVariants.{Add, AddByKey, Change as ChangeKey, Remove, Repair, Label, Uuid, Amend}
 use Rattle.luks_edit.specs.declared.edit.Opener.{Opener}
 use Rattle.luks_edit.specs.declared.edit.Opener.TheVariants as opener
 use Rattle.luks_edit.specs.declared.edit.Secret.{Secret}
@@ -85,6 +84,7 @@ opener_wanted (ChangeKey slot old new iterations chosen) n secret asked = sym (a
 opener_wanted (Remove slot by_ own) n secret asked = inl (remover_other slot n by_ own secret asked)
 opener_wanted Repair n secret asked = absurd (cc)
 opener_wanted (Label text subsystem) n secret asked = absurd (cc)
+opener_wanted (Uuid uuid) n secret asked = absurd (cc)
 opener_wanted (Amend c) n secret asked = absurd (cc)
 
 -- one that needs no key wants none
@@ -95,6 +95,7 @@ none_wanted (ChangeKey slot old new iterations chosen) none n wanted = absurd (c
 none_wanted (Remove slot by_ own) none n wanted = absurd (cc)
 none_wanted Repair none n wanted = wanted
 none_wanted (Label text subsystem) none n wanted = wanted
+none_wanted (Uuid uuid) none n wanted = wanted
 none_wanted (Amend c) none n wanted = wanted
 
 -- a keyslot that isn't missed is there

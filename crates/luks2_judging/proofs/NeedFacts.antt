@@ -1,5 +1,5 @@
 -- How many random bytes an edit takes, and the first of the faults that are seen without a key.
-use Rattle.std.proofs.Common.{Bor, Option, None, refl, ◌≡◌, ℕ, ◌<◌, ◌≤◌, List, [], ap, arith, subst, sym}
+use Rattle.std.proofs.Common.{Bor, Option, None, refl, ◌≡◌, ℕ, ◌+◌, ◌<◌, ◌≤◌, List, [], ap, arith, subst, sym}
 use Rattle.std.specs.Prelude.{IsSomeAnd}
 use Rattle.serde_json.specs.Data.{Data as Value}
 use Rattle.luks_area.specs.First.{IsLeast}
@@ -12,13 +12,16 @@ use Rattle.luks_edit.specs.declared.edit.Edit.{Edit}
 use Rattle.luks_edit.specs.declared.deed.Deed.{Deed}
 use Rattle.luks_edit.specs.declared.deed.Deed.TheVariants as deed
 use Rattle.luks_edit.specs.declared.deed.Place.TheVariants.{New, Opened}
+use Rattle.luks_edit.specs.declared.deed.Removed.{Removed}
+use Rattle.luks_edit.specs.declared.deed.Rewritten.{Rewritten}
 use Rattle.luks_edit.specs.declared.edit.Opener.{Opener}
 use Rattle.luks_edit.specs.declared.edit.Opener.TheVariants as opener
 use Rattle.luks_edit.specs.declared.edit.Secret.{Secret}
 use Rattle.luks_edit.specs.declared.edit_fault.EditFault.{EditFault}
 use Rattle.luks_edit.specs.declared.edit_fault.EditFault.TheVariants as fault
-use Rattle.luks_edit.specs.Asked.{allowed_by, deed_of, MatchOpener, opener_at, opener_in, sealed_in}
+use Rattle.luks_edit.specs.Asked.{allowed_by, deed_of, MatchOpener, opener_at, opener_in, sealed_in, uuid_by, uuid_in}
 use Rattle.luks_edit.specs.EditFaults.{edit_key, edit_row}
+use Rattle.luks_edit.specs.NewUuids.{uuid_need}
 use Rattle.luks_edit.proofs.RowFacts.{after_opening, first_of_opening, first_of_row, next, none_at_all, passed_from, past_tokens, Passed}
 use Rattle.luks_slot.specs.declared.allowed.Allowed.{Allowed}
 use Rattle.luks_reading.specs.Checked.{WellFormed}
@@ -135,7 +138,7 @@ module _ (v : List ℕ) (payload : Data) (o : ℕ) (j : Value) (m : HasMetadata 
   need_unfree untaken bad = first_of_row (IsNeedFault2 v payload e) fault.NoFreeSlot refl (past_taken untaken) (say v o j m (λ p i. HasNoFree i e) bad)
 
   -- none of the faults stands
-  past_all : (untaken : IsTaken j e → ⊥) → (HasNoFree j e → ⊥) → Passed (IsNeedFault2 v payload e) 25
+  past_all : (untaken : IsTaken j e → ⊥) → (HasNoFree j e → ⊥) → Passed (IsNeedFault2 v payload e) 26
   past_all untaken free =
       let s = IsNeedFault2 v payload e in
       let p10 : Passed s 10 = next s fault.NoFreeSlot refl (past_taken untaken) (λ bad. free (said v o j m (λ p i. HasNoFree i e) bad)) in
@@ -144,12 +147,12 @@ module _ (v : List ℕ) (payload : Data) (o : ℕ) (j : Value) (m : HasMetadata 
       let p13 : Passed s 13 = next s fault.Iterations refl p12 (λ bad. bad) in
       let p14 : Passed s 14 = next s fault.Argon2 refl p13 (λ bad. bad) in
       let p15 : Passed s 15 = next s fault.BadLabel refl p14 (λ bad. bad) in
-      let p20 : Passed s 20 = past_tokens s p15 (λ bad. bad) (λ bad. bad) (λ bad. bad) (λ bad. bad) (λ m bad. bad) in
-      let p21 : Passed s 21 = next s fault.SeqExhausted refl p20 (λ bad. bad) in
-      let p22 : Passed s 22 = next s fault.MetadataFull refl p21 (λ bad. bad) in
-      let p23 : Passed s 23 = next s fault.RandomLength refl p22 (λ bad. bad) in
-      let p24 : Passed s 24 = next s fault.Memory refl p23 (λ bad. bad) in
-      next s fault.Device refl p24 (λ bad. bad)
+      let p21 : Passed s 21 = past_tokens s p15 (λ bad. bad) (λ bad. bad) (λ bad. bad) (λ bad. bad) (λ bad. bad) (λ m bad. bad) in
+      let p22 : Passed s 22 = next s fault.SeqExhausted refl p21 (λ bad. bad) in
+      let p23 : Passed s 23 = next s fault.MetadataFull refl p22 (λ bad. bad) in
+      let p24 : Passed s 24 = next s fault.RandomLength refl p23 (λ bad. bad) in
+      let p25 : Passed s 25 = next s fault.Memory refl p24 (λ bad. bad) in
+      next s fault.Device refl p25 (λ bad. bad)
 
   pub need_told : (k : ℕ) → (IsTaken j e → ⊥) → (HasNoFree j e → ⊥) → Need2 j e k → NeedsRandom v payload e k
   need_told k untaken free need = record {
@@ -209,8 +212,16 @@ module _ {v : List ℕ} {payload : Data} {copy : ChosenCopy} {areas : List Entry
   pub four_here : Passed (IsNeedFault2 v payload e) 4
   four_here = need_passed v payload e judged.passed
 
-  -- one that seals no key takes the salts of the copies
-  pub idle_need : sealed_in (deed_of e) ≡ None → NeedsRandom v payload e 128
+  -- one that seals no key takes the salts of the copies, and what its uuid takes
+  idle_need : sealed_in (deed_of e) ≡ None → NeedsRandom v payload e (128 + uuid_need (uuid_by e))
   idle_need none =
       need_told v payload copy.header.hdr_offset (content copy.meta) (metadata_of v copy judged.chosen) e
-      (need_keyed v payload e four_here (λ f bad. rw none at bad)) 128 (λ x. rw none at x) (λ x. rw none at x) (rw none refl)
+      (need_keyed v payload e four_here (λ f bad. rw none at bad)) (128 + uuid_need (uuid_by e)) (λ x. rw none at x) (λ x. rw none at x) (rw none refl)
+
+  -- one that removes a keyslot sets no uuid
+  pub removed_need : {d : Removed} → deed_of e ≡ deed.Remove d → NeedsRandom v payload e 128
+  removed_need is = subst (λ d. NeedsRandom v payload e (128 + uuid_need (uuid_in d))) is (idle_need (ap sealed_in is))
+
+  -- one that writes the header anew may
+  pub rewritten_need : {r : Rewritten} → deed_of e ≡ deed.Rewrite r → NeedsRandom v payload e (128 + uuid_need r.uuid)
+  rewritten_need is = subst (λ d. NeedsRandom v payload e (128 + uuid_need (uuid_in d))) is (idle_need (ap sealed_in is))

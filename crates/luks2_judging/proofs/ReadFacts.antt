@@ -1,6 +1,6 @@
 -- An edit judged by the header that was read: a fault of it is the volume's first, and where none was
 -- found none stands.
-use Rattle.std.proofs.Common.{◌≡◌, ℕ, ◌+◌, ◌<◌, ◌⊎◌, Bor, List, [], length, true, Option, Result, Ok, Err, OnOk, IfErr, arith, inl, inr, refl, subst, sym}
+use Rattle.std.proofs.Common.{◌≡◌, ℕ, ◌+◌, Bor, List, [], length, Option, Result, Ok, Err, OnOk, IfErr, arith, inl, inr, refl, subst}
 use Rattle.std.specs.Prelude.{IfOk, IsSomeAnd}
 use Rattle.luks_area.specs.declared.area.Area.{Area}
 use Rattle.luks_area.specs.declared.areas.Entry.{Entry}
@@ -23,6 +23,7 @@ use Rattle.luks_edit.specs.declared.edit.Secret.{Secret}
 use Rattle.luks_edit.specs.declared.edit_fault.EditFault.{EditFault}
 use Rattle.luks_edit.specs.declared.edit_fault.EditFault.TheVariants as fault
 use Rattle.luks_edit.specs.Asked.{allowed_for, deed_of}
+use Rattle.luks_edit.specs.NewUuids.{IsBadUuid}
 use Rattle.luks_reading.specs.Checked.{WellFormed}
 use Rattle.luks2_edit_laws.specs.declared.like.Like.{Like}
 use Rattle.luks2_edit_laws.specs.declared.like.Like.TheVariants.{Keyslot}
@@ -44,7 +45,7 @@ use Rattle.luks2_judging.specs.Rows.{HasNoFaultBefore}
 use Rattle.luks2_judging.specs.Sealing.{IsUnadded}
 use Rattle.luks2_judging.proofs.AreaFacts.{header_long, listed_here}
 use Rattle.luks2_judging.proofs.ChosenFacts.{metadata_of}
-use Rattle.luks2_judging.proofs.JudgedFacts.{added_past, amended_past, changed_past, label_first, lacking_first, none_opened, number_first, only_first, passed_of, past_opened}
+use Rattle.luks2_judging.proofs.JudgedFacts.{added_past, amended_past, bad_uuid_first, changed_past, label_first, lacking_first, none_opened, number_first, only_first, passed_of, past_opened}
 use Rattle.luks2_judging.proofs.JudgedFacts.{removed_past, token_taken_first, unfree_token_first, unread_token_first, unadded_first, unchanged_first, unopened_first, IsPast}
 use Rattle.luks2_judging.proofs.RoomFacts.{area_excludes}
 use Rattle.luks2_judging.proofs.TokenFacts.{lacks_apart, lacks_unfree, lacks_unread, no_change_fault, taken_numbered, taken_readable, taken_there, taken_unfree, taken_untaken, unread_is, unread_numbered, unread_untaken}
@@ -102,7 +103,7 @@ module _ {v : List ℕ} {payload : Data} {e : Edit} {o : ℕ} {meta : Meta} {ent
           bad.0.number bad.0.is like is_like f (said_of (λ h t. IsUnsealable h t payload (content meta) like (allowed_for opener_ new.now).memory asked f) bad.1)
 
       pub added_passed : {made : ℕ} {a : Area} → IsNewNumber (content meta) to made → IsAllowed (allowed_for opener_ new.now).memory asked
-          → IsNewArea (area_len meta + 4096) total payload (content meta) like a → (random : List ℕ) → HasNoFaultBefore 19 v payload e random
+          → IsNewArea (area_len meta + 4096) total payload (content meta) like a → (random : List ℕ) → HasNoFaultBefore 20 v payload e random
       added_passed {made} {a} number enough place random =
           added_past v payload o (content meta) r.metadata e opener_ to new asked is eight_of made number like is_like
           (λ none. area_excludes (hdr_size (header_at v o)) (length v) payload (content meta) like a (free_of place) none) enough random
@@ -116,7 +117,7 @@ module _ {v : List ℕ} {payload : Data} {e : Edit} {o : ℕ} {meta : Meta} {ent
           f (said_of (λ h t. IsUnsealable h t payload (content meta) (Keyslot slot) (allowed_for (opener.Keyslot slot old) new.now).memory asked f) bad)
 
       pub changed_passed : {a : Area} → IsAllowed (allowed_for (opener.Keyslot slot old) new.now).memory asked → IsNewArea (area_len meta + 4096) total payload (content meta) (Keyslot slot) a
-          → (random : List ℕ) → HasNoFaultBefore 19 v payload e random
+          → (random : List ℕ) → HasNoFaultBefore 20 v payload e random
       changed_passed {a} enough place random =
           changed_past v payload o (content meta) r.metadata e slot old new asked is eight_of
           (λ none. area_excludes (hdr_size (header_at v o)) (length v) payload (content meta) (Keyslot slot) a (free_of place) none) enough random
@@ -126,7 +127,7 @@ module _ {v : List ℕ} {payload : Data} {e : Edit} {o : ℕ} {meta : Meta} {ent
       pub last_refused : IsOnlyOne (content meta) d.slot → IsRefusedEarly v payload e fault.LastSlot
       last_refused bad = only_first v payload o (content meta) r.metadata e d is eight_of bad
 
-      pub removed_passed : (IsOnlyOne (content meta) d.slot → ⊥) → (random : List ℕ) → HasNoFaultBefore 19 v payload e random
+      pub removed_passed : (IsOnlyOne (content meta) d.slot → ⊥) → (random : List ℕ) → HasNoFaultBefore 20 v payload e random
       removed_passed other random = removed_past v payload o (content meta) r.metadata e d is eight_of other random
 
   -- the header is written anew
@@ -168,23 +169,32 @@ module _ {v : List ℕ} {payload : Data} {e : Edit} {o : ℕ} {meta : Meta} {ent
       change_refused fault.UnreadableToken bad = unread bad
       change_refused f bad = absurd (no_change_fault rewritten.change bad)
 
-      rewriting_passed : (change : Option JudgedChange) → IsTakenChange (content meta) rewritten.change change → (random : List ℕ) → HasNoFaultBefore 19 v payload e random
-      rewriting_passed change takes random =
-          amended_past v payload o (content meta) r.metadata e (λ x. rw is at x) (λ x. rw is at x) (λ x. rw is at x) (λ x. rw is at x) (λ x. rw is at x) (λ x. rw is at x) eight_of_none good_label
-          (λ x. taken_there (content meta) rewritten.change change takes (rw is at x)) (λ x. taken_untaken (content meta) rewritten.change change takes (rw is at x))
-          (λ x. taken_numbered (content meta) rewritten.change change takes (rw is at x)) (λ x. taken_readable (content meta) rewritten.change change takes (rw is at x)) random
+      -- the change takes something
+      module _ (change : Option JudgedChange) (takes : IsTakenChange (content meta) rewritten.change change) where
+        bad_uuid : IsBadUuid rewritten.uuid → IsRefusedEarly v payload e fault.BadUuid
+        bad_uuid bad =
+            bad_uuid_first v payload o (content meta) r.metadata e (λ x. rw is at x) (λ x. rw is at x) (λ x. rw is at x) (λ x. rw is at x) (λ x. rw is at x) (λ x. rw is at x) eight_of_none good_label
+            (λ x. taken_there (content meta) rewritten.change change takes (rw is at x)) (λ x. taken_untaken (content meta) rewritten.change change takes (rw is at x))
+            (λ x. taken_numbered (content meta) rewritten.change change takes (rw is at x)) (λ x. taken_readable (content meta) rewritten.change change takes (rw is at x)) (rw is bad)
 
-    rewritten_passed : (own : TextFields) (it : JudgedEdit) → (HasBadText rewritten → ⊥) → IsRewrittenAs (content meta) own rewritten it → (random : List ℕ) → HasNoFaultBefore 19 v payload e random
-    rewritten_passed own (judged.Rewrite fields change) good x = rewriting_passed good change x.1
+        rewriting_passed : (IsBadUuid rewritten.uuid → ⊥) → (random : List ℕ) → HasNoFaultBefore 20 v payload e random
+        rewriting_passed own random =
+            amended_past v payload o (content meta) r.metadata e (λ x. rw is at x) (λ x. rw is at x) (λ x. rw is at x) (λ x. rw is at x) (λ x. rw is at x) (λ x. rw is at x) eight_of_none good_label
+            (λ x. taken_there (content meta) rewritten.change change takes (rw is at x)) (λ x. taken_untaken (content meta) rewritten.change change takes (rw is at x))
+            (λ x. taken_numbered (content meta) rewritten.change change takes (rw is at x)) (λ x. taken_readable (content meta) rewritten.change change takes (rw is at x)) (λ x. own (rw is at x)) random
+
+    rewritten_passed : (own : TextFields) (it : JudgedEdit) → (HasBadText rewritten → ⊥) → IsRewrittenAs (content meta) own rewritten it → (random : List ℕ) → HasNoFaultBefore 20 v payload e random
+    rewritten_passed own (judged.Rewrite uuid fields change) good x = rewriting_passed good change x.3 (subst (λ u. IsBadUuid u → ⊥) x.0 x.1)
     rewritten_passed own it good x = absurd x
 
     pub rewriting_judged : (own : TextFields) (it : Result JudgedEdit EditFault) → OnOk it (HasBadText rewritten → ⊥) → IfOk it (IsRewrittenAs (content meta) own rewritten)
-        → OnOk it ((random : List ℕ) → HasNoFaultBefore 19 v payload e random)
+        → OnOk it ((random : List ℕ) → HasNoFaultBefore 20 v payload e random)
     rewriting_judged own (Ok it) good x = rewritten_passed own it good x
     rewriting_judged own (Err f) good x = tt
 
     unrewritten_refused : (f : EditFault) → IsUnrewritten (content meta) rewritten f → IsRefusedEarly v payload e f
     unrewritten_refused fault.BadLabel bad = label_refused bad
+    unrewritten_refused fault.BadUuid bad = bad_uuid bad.good bad.change bad.takes bad.bad
     unrewritten_refused f bad = change_refused bad.0 f bad.1
 
     pub rewriting_ended : (it : Result JudgedEdit EditFault) → IfErr it (IsUnrewritten (content meta) rewritten) → IfErr it (IsRefusedEarly v payload e)

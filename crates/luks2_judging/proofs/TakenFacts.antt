@@ -14,7 +14,7 @@ use Rattle.luks2_judging.specs.Rows.{HasNoFaultBefore}
 
 -- by what each of the calls says of it
 pub unrefused : (copy : ChosenCopy) (v : List ℕ) (payload : Data) (e : Edit) (r : Result JudgedEdit EditFault) → WellFormed v payload
-    → IfOk r (Seals (hdr_size (header_at v copy.header.hdr_offset)) v payload (content copy.meta) e) → OnOk r ((random : List ℕ) → HasNoFaultBefore 19 v payload e random)
+    → IfOk r (Seals (hdr_size (header_at v copy.header.hdr_offset)) v payload (content copy.meta) e) → OnOk r ((random : List ℕ) → HasNoFaultBefore 20 v payload e random)
     → IfOk r (IsUnrefusedOf copy v payload e)
 unrefused copy v payload e (Ok it) well seals none = record { well = well; seals = seals; none = none }
 unrefused copy v payload e (Err f) well seals none = tt

@@ -1,6 +1,6 @@
 -- What judging an edit by its keyslot asks of a device and promises of it: words of private contracts,
 -- over the device's ghost members.
-use Rattle.std.specs.Prelude.{◌≡◌, ℕ, ◌+◌, ◌^◌, ◌<◌, Bool, List, Result, IfErr, IfOk, OnOk}
+use Rattle.std.specs.Prelude.{◌≡◌, ℕ, ◌+◌, ◌^◌, ◌<◌, List, Result, IfErr, IfOk, OnOk}
 use Rattle.luks_area.specs.declared.areas.Entry.{Entry}
 use Rattle.luks_area.specs.declared.device.Device.{Ghosts}
 use Rattle.luks2_header.specs.Header2.{hdr_size, header_at}
@@ -36,10 +36,10 @@ abbrev pub SealsOf : {D : Type 0} → Ghosts D → ChosenCopy → List Entry →
 SealsOf device copy areas edit old result = WhereJudged device copy areas edit old (λ payload.
     IfOk result (Seals (hdr_size (header_at (device.bytes old) copy.header.hdr_offset)) (device.bytes old) payload (content copy.meta) edit))
 
--- no row up to `UnreadableToken` refuses it
+-- no row up to `BadUuid` refuses it
 abbrev pub PassesOf : {D : Type 0} → Ghosts D → ChosenCopy → List Entry → Edit → D → Result JudgedEdit EditFault → Type 0
 PassesOf device copy areas edit old result = WhereJudged device copy areas edit old (λ payload.
-    OnOk result ((random : List ℕ) → HasNoFaultBefore 19 (device.bytes old) payload edit random))
+    OnOk result ((random : List ℕ) → HasNoFaultBefore 20 (device.bytes old) payload edit random))
 
 -- or one of them does
 abbrev pub RefusesOf : {D : Type 0} → Ghosts D → ChosenCopy → List Entry → Edit → D → Result JudgedEdit EditFault → Type 0

@@ -1,5 +1,5 @@
 -- How a change of the metadata `j` is judged by the tokens that are there, and what it takes.
-use Rattle.std.specs.Prelude.{◌≡◌, ℕ, ◌<◌, Option, Some, None, ⊤}
+use Rattle.std.specs.Prelude.{◌≡◌, ℕ, Option, Some, None, ⊤}
 use Rattle.serde_json.specs.Data.{Data as Value}
 use Rattle.serde_json.specs.View.{view}
 use Rattle.luks_making.specs.declared.amended.Change.{Change}

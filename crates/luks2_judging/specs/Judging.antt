@@ -1,4 +1,4 @@
--- What judging an edit of a LUKS2 volume by the rows up to `UnreadableToken` gives.
+-- What judging an edit of a LUKS2 volume by the rows up to `BadUuid` gives.
 use Rattle.std.specs.Prelude.{◌≡◌, ℕ, List, length, Option, ⊤}
 use Rattle.std.specs.Borrow.{Bor}
 use Rattle.serde_json.specs.Data.{Data as Value}
@@ -27,8 +27,10 @@ use Rattle.luks_edit.specs.declared.edit.Opener.{Opener}
 use Rattle.luks_edit.specs.declared.edit.Opener.TheVariants as opener
 use Rattle.luks_edit.specs.declared.edit.Secret.{Secret}
 use Rattle.luks_edit.specs.declared.edit_fault.EditFault.{EditFault}
+use Rattle.luks_edit.specs.declared.new_uuid.NewUuid.{NewUuid}
 use Rattle.luks_edit.specs.Asked.{deed_of, allowed_for}
 use Rattle.luks_edit.specs.Endings.{EndsBy}
+use Rattle.luks_edit.specs.NewUuids.{IsBadUuid}
 use Rattle.luks2_edit_laws.specs.declared.like.Like.TheVariants.{Keyslot}
 use Rattle.luks2_edit_laws.specs.Likes.{IsLike}
 use Rattle.luks2_edit_laws.specs.Metadata.{IsInUse, IsKeyArea}
@@ -98,11 +100,13 @@ pub record IsRemoval (j : Value) (total : ℕ) (e : Edit) (slot : ℕ) (area : A
   pub there : IsInUse j slot
   pub lost : IsLostArea j total slot area
 
--- it writes the header anew, whose texts have the fields `own`, with these fields for them, and with this
--- change of the metadata `j`
-pub record IsRewriting (j : Value) (own : TextFields) (e : Edit) (fields : TextFields) (change : Option JudgedChange) : Type 0 where
+-- it writes the header anew, whose texts have the fields `own`, with this uuid, which isn't bad, with these
+-- fields for the texts, and with this change of the metadata `j`
+pub record IsRewriting (j : Value) (own : TextFields) (e : Edit) (uuid : Option NewUuid) (fields : TextFields) (change : Option JudgedChange) : Type 0 where
   pub rewritten : Rewritten
   pub asked : deed_of e ≡ deed.Rewrite rewritten
+  pub uuid_is : uuid ≡ rewritten.uuid
+  pub good : IsBadUuid uuid → ⊥
   pub is : fields ≡ texts_after rewritten own
   pub takes : IsTakenChange j rewritten.change change
 
@@ -111,7 +115,7 @@ abbrev pub Takes : ChosenCopy → ℕ → Edit → JudgedEdit → Type 0
 Takes copy total e (judged.Seal (sealed_in.New a) key passphrase) = IsAddition (area_len copy.meta) (content copy.meta) total e a key passphrase
 Takes copy total e (judged.Seal (sealed_in.Opened r) key passphrase) = IsRenewal (area_len copy.meta) (content copy.meta) total e r key passphrase
 Takes copy total e (judged.Remove slot area) = IsRemoval (content copy.meta) total e slot area
-Takes copy total e (judged.Rewrite fields change) = IsRewriting (content copy.meta) (texts_of copy.header) e fields change
+Takes copy total e (judged.Rewrite uuid fields change) = IsRewriting (content copy.meta) (texts_of copy.header) e uuid fields change
 
 -- by the copy that was read
 pub record IsJudged (copy : ChosenCopy) (total : ℕ) (e : Edit) (it : Judged) : Type 0 where
@@ -134,11 +138,11 @@ Seals h v payload j e (judged.Seal (sealed_in.New a) key passphrase) = IsOpenedT
 Seals h v payload j e (judged.Seal (sealed_in.Opened r) key passphrase) = IsOpenedTo v e key × IsNewArea h (length v) payload j (Keyslot r.slot) r.area
 Seals h v payload j e it = ⊤
 
--- none of the rows up to `UnreadableToken` refuses the edit, and this is what it takes by the copy that counts
+-- none of the rows up to `BadUuid` refuses the edit, and this is what it takes by the copy that counts
 pub record IsUnrefusedOf (copy : ChosenCopy) (v : List ℕ) (payload : Data) (e : Edit) (it : JudgedEdit) : Type 0 where
   pub well : WellFormed v payload
   pub seals : Seals (hdr_size (header_at v copy.header.hdr_offset)) v payload (content copy.meta) e it
-  pub none : (random : List ℕ) → HasNoFaultBefore 19 v payload e random
+  pub none : (random : List ℕ) → HasNoFaultBefore 20 v payload e random
 
 abbrev pub IsUnrefusedSoFar : List ℕ → Data → Edit → Judged → Type 0
 IsUnrefusedSoFar v payload e it = IsUnrefusedOf it.copy v payload e it.edit

@@ -3,6 +3,7 @@ ghost use Rattle.std.specs.Prelude.{◌≡◌};
 ghost use Rattle.luks2_judging.specs.Texts.{texts_of};
 
 use luks_area::Area;
+use luks_edit::NewUuid;
 use luks_making::{AskedDerivation, Priority};
 use luks_reading::ChosenCopy;
 use luks_slot::Key;
@@ -10,7 +11,7 @@ use luks2_edit_laws::Like;
 use luks2_header::Bin2;
 use serde_json::Value;
 
-/// An edit that none of the rows up to `UnreadableToken` refuses.
+/// An edit that none of the rows up to `BadUuid` refuses.
 #[derive(Drop)]
 pub struct Judged<'a> {
     /// The copy of the header that counts.
@@ -40,7 +41,10 @@ pub enum JudgedEdit<'a> {
     },
     /// Both copies of the header are written anew.
     Rewrite {
-        /// The fields of their texts.
+        /// The uuid that they get, if one is given.
+        uuid: Option<NewUuid<'a>>,
+        /// The fields of their texts. That of the uuid is the one that was there: a new one is made of
+        /// random bytes.
         fields: TextFields,
         /// What changes of the metadata, if anything does.
         change: Option<JudgedChange<'a>>,
@@ -71,9 +75,11 @@ pub enum JudgedChange<'a> {
     },
 }
 
-/// The fields of a header's texts, each of 48 bytes: a text and zeros.
+/// The fields of a header's texts, each a text and zeros.
 #[derive(Clone, Copy, Drop)]
 pub struct TextFields {
+    /// That of the uuid.
+    pub uuid: [u8; 40],
     /// That of the label.
     pub label: [u8; 48],
     /// That of the subsystem.
@@ -86,6 +92,7 @@ impl TextFields {
         ensures { result ≡ texts_of header.now }
     {
         TextFields {
+            uuid: header.uuid,
             label: header.label,
             subsystem: header.subsystem,
         }

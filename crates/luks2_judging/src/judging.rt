@@ -35,7 +35,9 @@ use crate::rows::judge_removal;
 use crate::tokens::judge_change;
 use crate::unlocking::unlock;
 use luks_area::{Areas, Device};
-use luks_edit::{AskedDerivation, Deed, Edit, EditFault, Place, Removed, Rewritten, Sealed};
+use luks_edit::{
+    AskedDerivation, Deed, Edit, EditFault, Place, Removed, Rewritten, Sealed, judge_uuid,
+};
 use luks_reading::{ChosenCopy, Data};
 use luks2_edit_laws::Like;
 use std::alloc::Global;
@@ -65,7 +67,7 @@ impl Accepted<'_> {
 }
 
 /// Judges the edit of the LUKS2 volume with this copy by the rows `NotAccepted` to
-/// `UnreadableToken` of the table of its faults, in their order: what the edit takes, or the first fault.
+/// `BadUuid` of the table of its faults, in their order: what the edit takes, or the first fault.
 ///
 /// The rows `BadToken`, `SeqExhausted`, `MetadataFull` and `RandomLength` are left to the edit itself. A
 /// keyslot is opened at most, and no byte is written. Memory is taken for Argon2 alone, where the edit
@@ -119,7 +121,7 @@ fn taken_by<'a, D: Device>(
 
 /// The rows from what gives the key on: `Locked`, `KeyLength`, `WrongKey`, `Slot`, `SlotTaken`, `NoFreeSlot`,
 /// `NoRoom`, `LastSlot`, `Iterations`, `Argon2`, `BadLabel`, `NoSuchToken`, `TokenTaken`, `NoFreeToken`,
-/// `UnreadableToken`.
+/// `UnreadableToken`, `BadUuid`.
 fn judge_with_key<'a, D: Device>(
     alloc: Global,
     device: &mut D,
@@ -227,7 +229,7 @@ fn judge_removal_of<'a, D: Device>(
 }
 
 /// The same of an edit that writes the header anew: `BadLabel`, `NoSuchToken`, `TokenTaken`,
-/// `NoFreeToken`, `UnreadableToken`.
+/// `NoFreeToken`, `UnreadableToken`, `BadUuid`.
 fn judge_rewriting<'a>(
     accepted: &Accepted<'_>,
     rewritten: &Rewritten<'a>,
@@ -247,8 +249,17 @@ fn judge_rewriting<'a>(
         Ok(fields) => fields,
         Err(fault) => return Err(fault),
     };
-    match judge_change(&accepted.copy.meta, rewritten.change) {
-        Ok(change) => Ok(JudgedEdit::Rewrite { fields, change }),
+    let change = match judge_change(&accepted.copy.meta, rewritten.change) {
+        Ok(change) => change,
+        Err(fault) => return Err(fault),
+    };
+    let uuid = rewritten.uuid;
+    match judge_uuid(uuid) {
+        Ok(()) => Ok(JudgedEdit::Rewrite {
+            uuid,
+            fields,
+            change,
+        }),
         Err(fault) => Err(fault),
     }
 }

@@ -14,7 +14,7 @@ use luks_edit::{EditFault, Rewritten};
 const MOST_TEXT: usize = 47;
 
 /// The fields of the header that is written anew: by the label and the subsystem that are given, or else
-/// as they were. Refused by `BadLabel`.
+/// as they were, as that of the uuid is. Refused by `BadLabel`.
 pub(crate) fn judge_texts(
     rewritten: &Rewritten<'_>,
     kept: &TextFields,
@@ -30,7 +30,11 @@ pub(crate) fn judge_texts(
         Err(fault) => return Err(fault),
     };
     match judge_text(rewritten.subsystem, kept.subsystem) {
-        Ok(subsystem) => Ok(TextFields { label, subsystem }),
+        Ok(subsystem) => Ok(TextFields {
+            uuid: kept.uuid,
+            label,
+            subsystem,
+        }),
         Err(fault) => Err(fault),
     }
 }

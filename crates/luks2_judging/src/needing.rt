@@ -5,6 +5,7 @@ ghost use Rattle.luks_meta.specs.Content.{content};
 ghost use Rattle.luks_meta.specs.Objects.{IsAccepted};
 ghost use Rattle.luks_reading.specs.Header.{IsAcceptedCopy, IsChosenCopy};
 ghost use Rattle.luks_edit.specs.Asked.{MatchOpener};
+ghost use Rattle.luks_edit.specs.NewUuids.{uuid_need};
 ghost use Rattle.luks2_edit_laws.specs.Likes.{IsLike};
 ghost use Rattle.luks2_edit_laws.specs.Refused.{IsUnkeyed2, NeedsLike};
 ghost use Rattle.luks2_judging.specs.Keys.{IsAcceptedLike, IsThereLike};
@@ -14,7 +15,7 @@ use crate::accepted::judge_without_key;
 use crate::keys::own_volume_key;
 use crate::keyslots::new_number;
 use crate::room::FRESH_STRIPES;
-use luks_edit::{Deed, Edit, EditFault, Opener, Place};
+use luks_edit::{Deed, Edit, EditFault, NewUuid, Opener, Place, uuid_need};
 use luks_meta::Meta;
 use luks_reading::{ChosenCopy, Data};
 use luks2_edit_laws::Like;
@@ -30,8 +31,8 @@ const KEYSLOT_SALT: u64 = 32;
 /// before these last two of an addition by the volume key `KeyLength`, `WrongKey` and `Slot`.
 ///
 /// Each edit takes 64 for the salt of each copy of the header; one that seals a keyslot takes 32
-/// more for its salt, and for each of its stripes but the last as many as the volume key has. No
-/// keyslot is opened, and no memory is taken.
+/// more for its salt, and for each of its stripes but the last as many as the volume key has; one that
+/// makes a random uuid takes 16 more. No keyslot is opened, and no memory is taken.
 pub fn needed_luks2(
     copy: &ChosenCopy,
     payload: Data,
@@ -55,7 +56,7 @@ pub fn needed_luks2(
             Place::Opened { slot, secret: _ } => Ok(sealed_need(&copy.meta, Like::Keyslot(slot))),
         },
         Deed::Remove(_) => Ok(COPY_SALTS),
-        Deed::Rewrite(_) => Ok(COPY_SALTS),
+        Deed::Rewrite(rewritten) => Ok(rewritten_need(rewritten.uuid)),
     }
 }
 
@@ -74,6 +75,13 @@ fn like_by(meta: &Meta, opener: &Opener<'_>) -> Result<Like, EditFault>
         Opener::Keyslot { slot, secret: _ } => Ok(Like::Keyslot(*slot)),
         Opener::Key(key) => Ok(own_volume_key(meta, key)?.like),
     }
+}
+
+/// How many random bytes an edit takes that writes the header anew with this uuid, if one is given.
+fn rewritten_need(uuid: Option<NewUuid<'_>>) -> u64
+    ensures { result ≡ 64 + 64 + uuid_need uuid.entry }
+{
+    COPY_SALTS + uuid_need(uuid) as u64
 }
 
 /// How many random bytes an edit takes that seals a keyslot like this one, which is there.

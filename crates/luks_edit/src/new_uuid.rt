@@ -50,8 +50,8 @@ pub fn uuid_need(given: Option<NewUuid<'_>>) -> usize
 /// The uuid's field of a header, by the random bytes that are the uuid's own: the text that is given or made,
 /// and zeros to the end of its 40 bytes; or the field that was there.
 pub fn uuid_field_after(given: Option<NewUuid<'_>>, random: &[u8], kept: [u8; 40]) -> [u8; 40]
-    requires good { IsBadUuid given.entry → ⊥ }
-    requires counted { uuid_need given.entry ≤ length random.now }
+    requires good { IsBadUuid given → ⊥ }
+    requires counted { uuid_need given ≤ length random.now }
     ensures { result ≡ uuid_field_after given.entry random.now kept }
 {
     match given {

@@ -1,6 +1,8 @@
 -- What an edit asks for: its iterations are enough or too few, the Argon2 that it chooses may be made or not, and the answer of a keyslot tells why it gives no key.
 use Rattle.std.proofs.Common.{◌≡◌, ◌⊎◌, ℕ, List, [], ◌∷◌, true, Option, Some, None, get_or, refl, sym, ap, subst, ◌∙◌, arith, inl, inr}
 use Rattle.std.proofs.lemmas.Bool.{cases_eq, false≢true}
+use Rattle.luks1_header.specs.Bytes.{IsUuid}
+use Rattle.luks1_header.proofs.DecidableFacts.{uuid_or_not}
 use Rattle.luks1_header.specs.declared.fault.HeadFault.{HeadFault}
 use Rattle.luks1_header.specs.declared.fault.HeadFault.TheVariants as head
 use Rattle.luks1_header.specs.declared.fault.IterationsOf.TheVariants as of
@@ -20,16 +22,19 @@ use Rattle.luks_edit.specs.declared.edit.SecretKind.{SecretKind}
 use Rattle.luks_edit.specs.declared.edit.SecretKind.TheVariants.{Key, Passphrase}
 use Rattle.luks_edit.specs.declared.edit_fault.EditFault.{EditFault}
 use Rattle.luks_edit.specs.declared.edit_fault.EditFault.TheVariants as fault
+use Rattle.luks_edit.specs.declared.new_uuid.NewUuid.{NewUuid}
+use Rattle.luks_edit.specs.declared.new_uuid.NewUuid.TheVariants.{Text, Random}
 use Rattle.luks_edit.specs.Secrets.{AnswersTo, GivesWithin, own_key}
 use Rattle.luks_edit.specs.declared.deed.Deed.{Deed}
 use Rattle.luks_edit.specs.declared.deed.Deed.TheVariants as deed
 use Rattle.luks_edit.specs.declared.deed.Removed.{Removed}
 use Rattle.luks_edit.specs.declared.deed.Sealed.{Sealed}
-use Rattle.luks_edit.specs.Asked.{ChoosesArgon2, deed_of, HasFewIterations, IsBeyondMemory, MatchDeed, MatchOpener, allowed_for, NamesItself, opener_at, opener_of, removed_by, sealed_by, Wants}
+use Rattle.luks_edit.specs.Asked.{ChoosesArgon2, deed_of, HasFewIterations, IsBeyondMemory, MatchDeed, MatchOpener, allowed_for, NamesItself, opener_at, opener_of, removed_by, sealed_by, uuid_by, Wants}
+use Rattle.luks_edit.specs.NewUuids.{HasBadUuid, IsBadUuid}
 use Rattle.luks_edit.specs.Opener.{IsUnmet, IsUnopenedKeyslot, lock_fault}
 use Rattle.luks_edit.proofs.OpeningFacts.{is_lock, lock_is, unmet_once}
 use Rattle.luks_edit.proofs.SecretFacts.{one_answer_to, opens_answer}
-use Rattle.luks_laws.proofs.DecidedFacts.{alike_decided, Decided, one_decided, true_decided}
+use Rattle.luks_laws.proofs.DecidedFacts.{alike_decided, Decided, not_decided, one_decided, true_decided}
 use Rattle.luks_laws.proofs.SearchFacts.{number_decided, some_decided}
 
 -- ---- the derivation
@@ -46,6 +51,18 @@ beyond_decided e = some_decided Sealed (sealed_by e) (λ s. asked_beyond (allowe
 -- it chooses Argon2, or it doesn't
 pub argon2_decided : (e : Edit) → Decided (ChoosesArgon2 e)
 argon2_decided e = some_decided Sealed (sealed_by e) (λ s. takes_memory s.derivation.chosen ≡ true) (λ s. true_decided (takes_memory s.derivation.chosen))
+
+-- ---- the uuid
+
+-- a uuid that is given is a bad one, or it isn't
+bad_given_decided : (given : Option NewUuid) → Decided (IsBadUuid given)
+bad_given_decided None = inr (λ bad. bad)
+bad_given_decided (Some (Text text)) = not_decided (IsUuid text.now) (uuid_or_not text.now)
+bad_given_decided (Some Random) = inr (λ bad. bad)
+
+-- the same of an edit
+pub bad_uuid_decided : (e : Edit) → Decided (HasBadUuid e)
+bad_uuid_decided e = bad_given_decided (uuid_by e)
 
 -- ---- the keyslots that it wants
 

@@ -19,7 +19,7 @@ use Rattle.luks_laws.proofs.HeaderDecisions2.{meta_candidates}
 edit_candidates : List EditFault
 edit_candidates =
     edit.Requirements ∷ edit.NoSuchSlot ∷ edit.SameSlot ∷ edit.Locked ∷ edit.KeyLength ∷ edit.WrongKey ∷ edit.SlotTaken ∷ edit.NoFreeSlot ∷ edit.NoRoom ∷ edit.LastSlot ∷ edit.Iterations ∷ edit.Argon2 ∷ edit.BadLabel
-    ∷ edit.NoSuchToken ∷ edit.TokenTaken ∷ edit.NoFreeToken ∷ edit.UnreadableToken ∷ edit.SeqExhausted ∷ edit.MetadataFull ∷ edit.RandomLength ∷ edit.Slot slot.Argon2 ∷ edit.Slot slot.Cipher ∷ edit.Slot slot.Hash ∷ edit.Slot slot.KeySize
+    ∷ edit.NoSuchToken ∷ edit.TokenTaken ∷ edit.NoFreeToken ∷ edit.UnreadableToken ∷ edit.BadUuid ∷ edit.SeqExhausted ∷ edit.MetadataFull ∷ edit.RandomLength ∷ edit.Slot slot.Argon2 ∷ edit.Slot slot.Cipher ∷ edit.Slot slot.Hash ∷ edit.Slot slot.KeySize
     ∷ edit.Slot slot.Device ∷ edit.Slot slot.Memory ∷ edit.Memory ∷ edit.Device ∷ []
 
 -- and those of the metadata with a token, by their keys
@@ -71,25 +71,26 @@ module _ (v : List ℕ) (payload : Data) (faults : EditFault → Type 0) (of_vol
     among_edits edit.TokenTaken plain bad = among_at edit.Device edit_candidates 14 (omega arith)
     among_edits edit.NoFreeToken plain bad = among_at edit.Device edit_candidates 15 (omega arith)
     among_edits edit.UnreadableToken plain bad = among_at edit.Device edit_candidates 16 (omega arith)
+    among_edits edit.BadUuid plain bad = among_at edit.Device edit_candidates 17 (omega arith)
     among_edits (edit.BadToken f) plain bad = absurd (true≢false plain)
-    among_edits edit.SeqExhausted plain bad = among_at edit.Device edit_candidates 17 (omega arith)
-    among_edits edit.MetadataFull plain bad = among_at edit.Device edit_candidates 18 (omega arith)
-    among_edits edit.RandomLength plain bad = among_at edit.Device edit_candidates 19 (omega arith)
-    among_edits (edit.Slot slot.Argon2) plain bad = among_at edit.Device edit_candidates 20 (omega arith)
-    among_edits (edit.Slot slot.Cipher) plain bad = among_at edit.Device edit_candidates 21 (omega arith)
-    among_edits (edit.Slot slot.Hash) plain bad = among_at edit.Device edit_candidates 22 (omega arith)
-    among_edits (edit.Slot slot.KeySize) plain bad = among_at edit.Device edit_candidates 23 (omega arith)
-    among_edits (edit.Slot slot.Device) plain bad = among_at edit.Device edit_candidates 24 (omega arith)
-    among_edits (edit.Slot slot.Memory) plain bad = among_at edit.Device edit_candidates 25 (omega arith)
-    among_edits edit.Memory plain bad = among_at edit.Device edit_candidates 26 (omega arith)
-    among_edits edit.Device plain bad = among_at edit.Device edit_candidates 27 (omega arith)
+    among_edits edit.SeqExhausted plain bad = among_at edit.Device edit_candidates 18 (omega arith)
+    among_edits edit.MetadataFull plain bad = among_at edit.Device edit_candidates 19 (omega arith)
+    among_edits edit.RandomLength plain bad = among_at edit.Device edit_candidates 20 (omega arith)
+    among_edits (edit.Slot slot.Argon2) plain bad = among_at edit.Device edit_candidates 21 (omega arith)
+    among_edits (edit.Slot slot.Cipher) plain bad = among_at edit.Device edit_candidates 22 (omega arith)
+    among_edits (edit.Slot slot.Hash) plain bad = among_at edit.Device edit_candidates 23 (omega arith)
+    among_edits (edit.Slot slot.KeySize) plain bad = among_at edit.Device edit_candidates 24 (omega arith)
+    among_edits (edit.Slot slot.Device) plain bad = among_at edit.Device edit_candidates 25 (omega arith)
+    among_edits (edit.Slot slot.Memory) plain bad = among_at edit.Device edit_candidates 26 (omega arith)
+    among_edits edit.Memory plain bad = among_at edit.Device edit_candidates 27 (omega arith)
+    among_edits edit.Device plain bad = among_at edit.Device edit_candidates 28 (omega arith)
 
     -- so a candidate stands with the same key
     known_edits : (f : EditFault) → faults f → (g : EditFault) × Among g all_candidates × faults g × (edit_key g ≡ edit_key f)
     unfolding all_candidates
     known_edits (edit.BadToken f) bad =
         let x = tokens f bad in
-        (edit.BadToken x.0, among_right (edit.BadToken x.0) edit_candidates _ (among_map edit.BadToken x.0 meta_candidates x.1), x.2, ap (λ k. 19 ∷ k) x.3)
+        (edit.BadToken x.0, among_right (edit.BadToken x.0) edit_candidates _ (among_map edit.BadToken x.0 meta_candidates x.1), x.2, ap (λ k. 20 ∷ k) x.3)
     known_edits f bad = (f, among_left f edit_candidates _ (among_edits f refl bad), bad, refl)
 
   -- ---- any volume

@@ -9,7 +9,7 @@ use Rattle.luks_edit.specs.declared.edit.Edit.{Edit}
 use Rattle.luks_edit.specs.declared.edit_fault.EditFault.{EditFault}
 use Rattle.luks_edit.specs.declared.edit_fault.EditFault.TheVariants as edit
 use Rattle.luks1_edits.specs.Refused.{IsEditFault1}
-use Rattle.luks_laws.proofs.AskedDecisions.{argon2_decided, few_decided, itself_decided}
+use Rattle.luks_laws.proofs.AskedDecisions.{argon2_decided, bad_uuid_decided, few_decided, itself_decided}
 use Rattle.luks_laws.proofs.DecidedFacts.{Decided}
 use Rattle.luks_laws.proofs.KeyDecisions1.{unopened1_decided}
 use Rattle.luks_laws.proofs.RowDecisions1.{absent_decided, label_decided, last_decided, miscounted_decided, no_free_decided, taken_decided}
@@ -36,6 +36,7 @@ module _ (v : List ℕ) (payload : Data) (answer : (m : Allowed) (n : ℕ) (p : 
   fault1_decided edit.TokenTaken = inr (λ bad. bad)
   fault1_decided edit.NoFreeToken = inr (λ bad. bad)
   fault1_decided edit.UnreadableToken = inr (λ bad. bad)
+  fault1_decided edit.BadUuid = bad_uuid_decided e
   fault1_decided (edit.BadToken f) = inr (λ bad. bad)
   fault1_decided edit.SeqExhausted = inr (λ bad. bad)
   fault1_decided edit.MetadataFull = inr (λ bad. bad)

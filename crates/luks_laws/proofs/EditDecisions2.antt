@@ -28,7 +28,7 @@ use Rattle.luks2_edit_laws.specs.Metadata.{HasMetadata}
 use Rattle.luks2_edit_laws.specs.Places.{HasNoNewArea, IsNewArea}
 use Rattle.luks2_edit_laws.specs.Refused.{HasSaid, IsEditFault2, IsUnkeyed2, IsUnopened2, IsUnopenedBy2}
 use Rattle.luks2_judging.specs.Keys.{IsThereLike}
-use Rattle.luks_laws.proofs.AskedDecisions.{beyond_decided, few_decided, itself_decided, keyslot_decided}
+use Rattle.luks_laws.proofs.AskedDecisions.{bad_uuid_decided, beyond_decided, few_decided, itself_decided, keyslot_decided}
 use Rattle.luks_laws.proofs.ChangeDecisions2.{known_token, some_bad_decided, some_lacks_decided, some_no_free_decided, some_taken_decided, some_unread_decided}
 use Rattle.luks_laws.proofs.DecidedFacts.{Decided, true_decided}
 use Rattle.luks_laws.proofs.HeaderDecisions2.{meta_candidates}
@@ -97,6 +97,7 @@ module _ (v : List ℕ) (payload : Data) (answer : (m : Allowed) (n : ℕ) (p : 
   fault_of_counting c edit.TokenTaken = said_decided v payload c _ (some_taken_decided c.value (change_by e))
   fault_of_counting c edit.NoFreeToken = said_decided v payload c _ (some_no_free_decided c.value (change_by e))
   fault_of_counting c edit.UnreadableToken = some_unread_decided (change_by e)
+  fault_of_counting c edit.BadUuid = bad_uuid_decided e
   fault_of_counting c (edit.BadToken f) = said_decided v payload c _ (some_bad_decided (hdr_size (header_at v c.place) - 4096) c.value f (change_by e))
   fault_of_counting c edit.SeqExhausted = said_decided v payload c _ (cases_eq (seqid (header_at v c.place) + 1) (2 ^ 64))
   fault_of_counting c edit.MetadataFull = said_decided v payload c _ (full_decided (hdr_size (header_at v c.place)) (length v) payload c.value c.area e (c.alike e))
@@ -119,6 +120,7 @@ module _ (v : List ℕ) (payload : Data) (answer : (m : Allowed) (n : ℕ) (p : 
   fault_of_none none edit.Argon2 = beyond_decided e
   fault_of_none none edit.BadLabel = bad_label_decided e
   fault_of_none none edit.UnreadableToken = some_unread_decided (change_by e)
+  fault_of_none none edit.BadUuid = bad_uuid_decided e
   fault_of_none none edit.Memory = inr (λ bad. bad)
   fault_of_none none edit.Device = inr (λ bad. bad)
   fault_of_none none f = inr (λ x. none x.place x.value x.metadata)

@@ -7,7 +7,8 @@ use Rattle.luks_edit.specs.declared.edit.Edit.{Edit}
 use Rattle.luks_edit.specs.declared.deed.Removed.{Removed}
 use Rattle.luks_edit.specs.declared.deed.Rewritten.{Rewritten}
 use Rattle.luks_edit.specs.declared.deed.Sealed.{Sealed}
-use Rattle.luks_edit.specs.Asked.{removed_by, rewritten_by, sealed_by, sets_nothing, Wants}
+use Rattle.luks_edit.specs.Asked.{removed_by, rewritten_by, sealed_by, sets_uuid_at_most, uuid_by, Wants}
+use Rattle.luks_edit.specs.NewUuids.{uuid_need}
 use Rattle.luks1_edits.specs.Edited.{IsFree, IsInUse, IsLeastFree, IsNewKeyslot, IsSealedIn, number_asked}
 use Rattle.luks1_edits.specs.Refused.{HasNoFree, IsAbsent, IsLabel, IsLast, IsMiscounted, IsTaken, IsTakenFor, keyslot_need, LacksFree, Need1, NeedsFor}
 use Rattle.luks_laws.proofs.AskedDecisions.{wanted_decided}
@@ -78,9 +79,9 @@ no_free_decided v e = some_decided Sealed (sealed_by e) (λ s. LacksFree v (numb
 pub last_decided : (v : List ℕ) (e : Edit) → Decided (IsLast v e)
 last_decided v e = some_decided Removed (removed_by e) (λ r. (n : ℕ) → IsInUse v n → n ≡ r.slot) (λ r. only_in_use_decided v r.slot)
 
--- it sets something, or it doesn't
+-- it sets something beside the uuid, or it doesn't
 pub label_decided : (e : Edit) → Decided (IsLabel e)
-label_decided e = some_decided Rewritten (rewritten_by e) (λ r. sets_nothing r ≡ false) (λ r. false_decided (sets_nothing r))
+label_decided e = some_decided Rewritten (rewritten_by e) (λ r. sets_uuid_at_most r ≡ false) (λ r. false_decided (sets_uuid_at_most r))
 
 -- ---- random bytes
 
@@ -101,17 +102,17 @@ need_of_new : (v : List ℕ) (to : Option ℕ) → OneOrNone (NeedsFor v (IsNewK
 need_of_new v (Some t) = need_like v (IsNewKeyslot v (Some t)) t refl (λ m x. x)
 need_of_new v None = need_of_free v
 
--- an edit that seals nothing takes none
-no_need : OneOrNone (λ k. k ≡ 0)
-no_need = inl (0, refl, λ m x. x)
+-- an edit that seals nothing takes those of its uuid
+no_need : (n : ℕ) → OneOrNone (λ k. k ≡ n)
+no_need n = inl (n, refl, λ m x. x)
 
 -- an edit takes so many random bytes, or lacks a free keyslot
-need_in : (v : List ℕ) (o : Option Sealed) → OneOrNone (λ k. MatchOption o (k ≡ 0) (λ s. NeedsFor v (IsSealedIn v s) k))
-need_in v None = no_need
-need_in v (Some s) = need_of_new v (number_asked s.place)
+need_in : (v : List ℕ) (n : ℕ) (o : Option Sealed) → OneOrNone (λ k. MatchOption o (k ≡ n) (λ s. NeedsFor v (IsSealedIn v s) k))
+need_in v n None = no_need n
+need_in v n (Some s) = need_of_new v (number_asked s.place)
 
 one_need : (v : List ℕ) (e : Edit) → OneOrNone (Need1 v e)
-one_need v e = need_in v (sealed_by e)
+one_need v e = need_in v (uuid_need (uuid_by e)) (sealed_by e)
 
 -- the random bytes aren't as many, or they are
 pub miscounted_decided : (v : List ℕ) (e : Edit) (r : List ℕ) → Decided (IsMiscounted v e r)

@@ -13,7 +13,8 @@ use Rattle.luks_edit.specs.declared.edit.Edit.{Edit}
 use Rattle.luks_edit.specs.declared.deed.Removed.{Removed}
 use Rattle.luks_edit.specs.declared.deed.Rewritten.{Rewritten}
 use Rattle.luks_edit.specs.declared.deed.Sealed.{Sealed}
-use Rattle.luks_edit.specs.Asked.{AmendsSlot, change_by, MatchPlace, opener_at, removed_by, rewritten_by, sealed_by, Wants}
+use Rattle.luks_edit.specs.Asked.{AmendsSlot, change_by, MatchPlace, opener_at, removed_by, rewritten_by, sealed_by, uuid_by, Wants}
+use Rattle.luks_edit.specs.NewUuids.{uuid_need}
 use Rattle.luks2_edit_laws.specs.declared.like.Like.{Like}
 use Rattle.luks2_edit_laws.specs.Gap.{IsGap}
 use Rattle.luks2_edit_laws.specs.Likes.{ForLike}
@@ -150,17 +151,17 @@ need_like j l = elim (stripes_like_or_none j l) [
   | inr none ↦ inr (λ k y. none (y.key_bytes, y.stripes) y.slot)
 ]
 
--- the salts of both copies
-need_of_copies : OneOrNone (λ k. k ≡ 64 + 64)
-need_of_copies = inl (64 + 64, refl, λ m x. x)
+-- the salts of both copies, and so many of the uuid
+need_of_copies : (n : ℕ) → OneOrNone (λ k. k ≡ 64 + 64 + n)
+need_of_copies n = inl (64 + 64 + n, refl, λ m x. x)
 
 -- the same of an edit
-need_in : (j : Value) (o : Option Sealed) → OneOrNone (λ k. MatchOption o (k ≡ 64 + 64) (λ s. ForLike j (opener_at s.place) (NeedsLike j k)))
-need_in j None = need_of_copies
-need_in j (Some s) = for_like_one j (opener_at s.place) (NeedsLike j) (need_like j)
+need_in : (j : Value) (n : ℕ) (o : Option Sealed) → OneOrNone (λ k. MatchOption o (k ≡ 64 + 64 + n) (λ s. ForLike j (opener_at s.place) (NeedsLike j k)))
+need_in j n None = need_of_copies n
+need_in j n (Some s) = for_like_one j (opener_at s.place) (NeedsLike j) (need_like j)
 
 one_need : (j : Value) (e : Edit) → OneOrNone (Need2 j e)
-one_need j e = need_in j (sealed_by e)
+one_need j e = need_in j (uuid_need (uuid_by e)) (sealed_by e)
 
 -- the random bytes aren't as many, or they are
 pub miscounted_decided : (j : Value) (e : Edit) (r : List ℕ) → Decided (IsMiscounted j e r)

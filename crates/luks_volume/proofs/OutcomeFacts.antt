@@ -8,7 +8,7 @@ use Rattle.luks_slot.specs.declared.allowed.Allowed.{Allowed}
 use Rattle.luks_reading.specs.declared.report.Data.{Data}
 use Rattle.luks_reading.specs.Checked.{WellFormed, WellFormedAs}
 use Rattle.luks_edit.specs.declared.edit.Edit.{Edit}
-use Rattle.luks_edit.specs.declared.edit.Edit.TheVariants.{Add, AddByKey, Change, Remove, Repair, Label, Amend}
+use Rattle.luks_edit.specs.declared.edit.Edit.TheVariants.{Add, AddByKey, Change, Remove, Repair, Label, Uuid, Amend}
 use Rattle.luks_edit.specs.declared.edit.Opener.{Opener}
 use Rattle.luks_edit.specs.declared.edit.Opener.TheVariants as opener
 use Rattle.luks_edit.specs.Asked.{allowed_for}
@@ -22,7 +22,7 @@ use Rattle.luks2_edit_laws.specs.Places.{Loses}
 use Rattle.luks2_edit_laws.specs.Refused.{IsUnrefused2}
 use Rattle.luks_volume.specs.Edits.{AfterAs, IsEditFault, IsUnrefused, LeftoverAs, Leftover, Makes, MakesAs, Replies}
 use Rattle.luks_volume.specs.Outcome.{Gives, GivesAs, IsApplied, OpensMade, Spares, SparesAs, WipesLost}
-use Rattle.luks1_edits.proofs.EditedFacts.{leftover_keeps, leftover_opens, leftover_rest as leftover_rest1, opens_after as opens_after1, removed_area}
+use Rattle.luks1_edits.proofs.EditedFacts.{leftover_answers, leftover_entries, leftover_faults, leftover_keeps, leftover_opens, leftover_rest as leftover_rest1, opens_after as opens_after1, removed_area}
 use Rattle.luks1_edits.proofs.RefusalFacts.{leftover_refused as leftover_refused1}
 use Rattle.luks2_edit_laws.proofs.AfterFacts.{lost_zeros}
 use Rattle.luks2_edit_laws.proofs.OpensFacts.{opens_after as opens_after2}
@@ -41,6 +41,7 @@ removes (Change slot old new iterations d) n x = x
 removes (Remove slot by_ passphrase) n x = x
 removes Repair n x = x
 removes (Label text subsystem) n x = x
+removes (Uuid uuid) n x = x
 removes (Amend c) n x = x
 
 -- the same edit of one version
@@ -70,6 +71,7 @@ opens_by1 v (Change slot old new iterations d) w chosen x = λ n key made given.
 opens_by1 v (Remove slot by_ passphrase) w chosen x = tt
 opens_by1 v Repair w chosen x = tt
 opens_by1 v (Label text subsystem) w chosen x = tt
+opens_by1 v (Uuid uuid) w chosen x = tt
 opens_by1 v (Amend c) w chosen x = tt
 
 opens_by2 : (v : List ℕ) (e : Edit) (w : List ℕ) (o : ℕ) (copies : Copies) → Chosen v (luks2 o copies) → OpensAfter2 v e w → OpensMade v e w
@@ -84,6 +86,7 @@ opens_by2 v (Change slot old new iterations d) w o copies chosen x = λ n key ma
 opens_by2 v (Remove slot by_ passphrase) w o copies chosen x = tt
 opens_by2 v Repair w o copies chosen x = tt
 opens_by2 v (Label text subsystem) w o copies chosen x = tt
+opens_by2 v (Uuid uuid) w o copies chosen x = tt
 opens_by2 v (Amend c) w o copies chosen x = tt
 
 -- a completed edit
@@ -136,7 +139,10 @@ spares_as : (payload : Data) (e : Edit) (v random w : List ℕ) (c : Choice) →
     → LeftoverAs v payload e random c w → SparesAs v payload e random c w
 spares_as payload e v random w luks1 chosen well ranges left = record {
   rest = leftover_rest1 payload v chosen well e random w left;
+  entries = leftover_entries payload v chosen well e random w left;
   keeps = leftover_keeps payload v chosen well e random w left;
+  faults = leftover_faults payload v chosen well e random w left;
+  answers = leftover_answers payload v chosen well e random w left;
   opens_either = leftover_opens payload v chosen well e random w left;
 }
 spares_as payload e v random w (luks2 o copies) chosen well ranges left = record {

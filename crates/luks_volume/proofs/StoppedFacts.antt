@@ -63,13 +63,15 @@ module _ (R : Replying) where
 -- the segments, and each keyslot that the failing edit doesn't name
 spared_others : (v : List ℕ) (payload : Data) (e : Edit) (random w : List ℕ) (c : Choice) → Chosen v c → SparesAs v payload e random c w
     → IsUnstray v payload e random w → KeepsOthers payload (NamedSlots v e) v w
-spared_others v payload e random w luks1 chosen x unstray = record {
-  size = x.keeps.size;
-  segments = x.keeps.segments;
-  slots = λ n not. x.keeps.slots n (λ is. not (record { choice = luks1; chosen = chosen; named = is }));
-}
+spared_others v payload e random w luks1 chosen x unstray =
+    let kept = x.keeps (unstray.uuid chosen) in
+    record {
+      size = kept.size;
+      segments = kept.segments;
+      slots = λ n not. kept.slots n (λ is. not (record { choice = luks1; chosen = chosen; named = is }));
+    }
 spared_others v payload e random w (luks2 o copies) chosen x unstray =
-    let kept = (x.whole (unstray o copies chosen)).keeps in
+    let kept = (x.whole (unstray.header o copies chosen)).keeps in
     record {
       size = kept.size;
       segments = kept.segments;

@@ -18,10 +18,9 @@ use Rattle.luks_edit.specs.declared.edit_fault.EditFault.{EditFault}
 use Rattle.luks_edit.specs.Kept.{Keeps}
 use Rattle.luks_edit.specs.Ran.{IsCompleted, IsFailure, Reply}
 use Rattle.luks_reading.specs.Checked.{WellFormed}
-use Rattle.luks1_edits.specs.Edited.{Gives1, NamedKeyslots1}
-use Rattle.luks1_edits.specs.Kept.{KeepsOthers}
-use Rattle.luks1_edits.specs.Leftovers.{OpensEither1}
-use Rattle.luks1_edits.specs.Places.{IsOfKeyslots}
+use Rattle.luks1_edits.specs.Edited.{Gives1, IsTouched1, NamedKeyslots1}
+use Rattle.luks1_edits.specs.Kept.{KeepsEntries, KeepsOthers}
+use Rattle.luks1_edits.specs.Leftovers.{AnswersOrUuid, FaultsUuidAlone, IsUuidUntorn, OpensEither1}
 use Rattle.luks2_edit_laws.specs.Edited.{Gives2, NamedKeyslots2}
 use Rattle.luks2_edit_laws.specs.Leftovers.{CountsAsAfter, CountsAsBefore, IsNotStray, OpensEither2}
 use Rattle.luks2_edit_laws.specs.Places.{IsTouchedIn, Loses}
@@ -53,11 +52,16 @@ pub record WipesLost (v : List ℕ) (payload : Data) (e : Edit) (w : List ℕ) :
 -- ---- a failing device call
 
 -- of a LUKS1 volume: no byte changed outside the entries and the areas of the keyslots that the edit
--- names, the segments and the other keyslots are as they were, and a changed keyslot opens by the
--- old passphrase, or the new one by the new passphrase
+-- names, and outside the uuid's field where it sets the uuid; the segments and the other keyslots' entries
+-- and areas are as they were, and their answers too, unless the uuid is torn: then they, and the volume, are
+-- refused for the uuid alone; and a changed keyslot opens by the old passphrase, or the new one by the new
+-- passphrase
 pub record Spares1 (v : List ℕ) (payload : Data) (e : Edit) (w : List ℕ) : Type 0 where
-  pub rest : SameBut (IsOfKeyslots v (NamedKeyslots1 v e)) v w
-  pub keeps : KeepsOthers payload (NamedKeyslots1 v e) v w
+  pub rest : SameBut (IsTouched1 v e) v w
+  pub entries : KeepsEntries payload (NamedKeyslots1 v e) v w
+  pub keeps : IsUuidUntorn e w → KeepsOthers payload (NamedKeyslots1 v e) v w
+  pub faults : FaultsUuidAlone payload e w
+  pub answers : AnswersOrUuid v e w
   pub opens_either : OpensEither1 v e w
 
 -- of a LUKS2 volume of which no bytes of a torn write are taken for a header: it is well formed, the
@@ -95,10 +99,11 @@ pub record Spares
   pub refused : (f : EditFault) → IsEditFault v payload e random f → w ≡ v
   pub spared : SparesAs v payload e random choice w
 
--- where the volume `v` is one of LUKS2, no bytes of a torn write are taken for a header in `w`
-abbrev pub IsUnstray : List ℕ → Data → Edit → List ℕ → List ℕ → Type 0
-IsUnstray v payload e random w = (o : ℕ) (copies : Copies) → Chosen v (luks2 o copies)
-    → IsNotStray v payload e random w
+-- where the volume `v` is one of LUKS2, no bytes of a torn write are taken for a header in `w`; where it is
+-- one of LUKS1, no uuid is torn
+pub record IsUnstray (v : List ℕ) (payload : Data) (e : Edit) (random w : List ℕ) : Type 0 where
+  pub header : (o : ℕ) (copies : Copies) → Chosen v (luks2 o copies) → IsNotStray v payload e random w
+  pub uuid : Chosen v luks1 → IsUuidUntorn e w
 
 -- ---- an edit as a whole
 

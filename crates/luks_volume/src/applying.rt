@@ -21,7 +21,7 @@ use std::alloc::Global;
 /// before the first write: for its metadata, and for Argon2 as much as the edit allows, once to open
 /// a keyslot and once to seal one. `Device` comes exactly where a device call failed; no byte has changed
 /// then but those that the edit writes. Of LUKS1 it leaves each keyslot that the edit doesn't name
-/// as it was, and of LUKS2 it leaves one of the two copies of the header.
+/// as it was, unless the uuid is torn, and of LUKS2 it leaves one of the two copies of the header.
 #[tactic(auto, using(luks_area::proofs::DeviceFacts::settled_unchanged))]
 pub fn apply<D: Device>(
     alloc: Global,

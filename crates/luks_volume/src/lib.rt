@@ -27,6 +27,7 @@ pub use luks_edit::Edit;
 pub use luks_edit::EditFault;
 pub use luks_edit::LEAST_ITERATIONS;
 pub use luks_edit::NewDerivation;
+pub use luks_edit::NewUuid;
 pub use luks_edit::Passphrase;
 pub use luks_edit::RunFault;
 pub use luks_edit::Secret;

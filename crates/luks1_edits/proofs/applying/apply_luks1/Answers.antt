@@ -1,7 +1,7 @@
 use Rattle.std.proofs.Common.{[], subst, sym, ◌∙◌}
 use Rattle.luks1_edits.specs.Accepted.{IsHeaderOf}
 use Rattle.luks1_edits.specs.Replies.{Replies1}
-use Rattle.luks1_edits.proofs.AcceptedFacts.{early_ends, rewrite_replies}
+use Rattle.luks1_edits.proofs.AcceptedFacts.{early_ends}
 use Rattle.luks1_edits.proofs.NewKeyslotFacts.{making, making_usable}
 use Rattle.luks1_edits.proofs.RemovalFacts.{removable_of, removal}
 use Rattle.luks1_edits.proofs.applying.apply_luks1.Goals as goal
@@ -32,8 +32,9 @@ pub returns-in-Rewrite-clause-replies : goal.returns-in-Rewrite-clause-replies
 returns-in-Rewrite-clause-replies g c = λ tells is.
     let v = g.D.Device.bytes c.args.device.now in
     let header = c.in-Ok.ensures.header v is (g.met.D.Device.sized c.args.device.now tells ∙ sym c.len.ensures) in
-    rewrite_replies v c.args.payload c.args.random.now header.faultless c.args.edit.now c.in-Rewrite.rewritten (sym c.in-Rewrite.ensures) c.repair.result c.repair.ensures.idle
-    c.repair.ensures.refused
+    let w = g.D.Device.bytes c.rewrite.new.device in
+    subst (λ q. Replies1 q v c.args.edit.now c.args.random.now c.rewrite.result w) c.in-Ok.ensures.payload
+    (c.rewrite.ensures.replies tells c.args.edit.now (sym c.in-Rewrite.ensures) (subst (λ q. IsHeaderOf c.in-Ok.header.bytes.now q v) (sym c.in-Ok.ensures.payload) header))
 
 pub seal-requires-clause-usable : goal.seal-requires-clause-usable
 seal-requires-clause-usable g c = λ v holds.

@@ -1,10 +1,11 @@
-use Rattle.std.proofs.Common.{[], ap, subst, sym, MatchResult}
-use Rattle.luks_edit.specs.Asked.{opener_at, sealed_in}
+use Rattle.std.proofs.Common.{[], ap, subst, sym, ◌∙◌, MatchResult}
+use Rattle.luks_edit.specs.Asked.{opener_at, sealed_in, uuid_in}
+use Rattle.luks_edit.specs.NewUuids.{uuid_need}
 use Rattle.luks1_edits.specs.Accepted.{IsNewFault, IsNewFree}
 use Rattle.luks1_edits.specs.Edited.{number_asked}
 use Rattle.luks1_edits.specs.Refused.{NeedsFor}
 use Rattle.luks1_edits.proofs.KeyslotPlaces.{key_bytes_in}
-use Rattle.luks1_edits.proofs.NeedFacts.{idle_need, need_first, new_need_tells}
+use Rattle.luks1_edits.proofs.NeedFacts.{need_first, new_need_tells, uuid_needs}
 use Rattle.luks1_edits.proofs.NewKeyslotFacts.{making}
 use Rattle.luks1_edits.proofs.OpenerFacts.{slots_in}
 use Rattle.luks1_edits.proofs.needing.needed_luks1.Goals as goal
@@ -28,11 +29,12 @@ returns-in-Remove-clause-tells c = λ v is size.
     let a = c.in-Ok.header in
     let header = c.in-Ok.ensures.header v is size in
     let slots = slots_in a.bytes.now c.args.payload v a.fields.slots header c.in-Ok.ensures.accepted.fields.slots in
-    idle_need v c.args.payload c.args.edit.now header.faultless (c.in-Ok.ensures.there v slots) (ap sealed_in (sym c.in-Remove.ensures))
+    uuid_needs v c.args.payload c.args.edit.now header.faultless (c.in-Ok.ensures.there v slots) (ap sealed_in (sym c.in-Remove.ensures)) 0 (ap (λ d. uuid_need (uuid_in d)) c.in-Remove.ensures)
 
 pub returns-in-Rewrite-clause-tells : goal.returns-in-Rewrite-clause-tells
 returns-in-Rewrite-clause-tells c = λ v is size.
     let a = c.in-Ok.header in
     let header = c.in-Ok.ensures.header v is size in
     let slots = slots_in a.bytes.now c.args.payload v a.fields.slots header c.in-Ok.ensures.accepted.fields.slots in
-    idle_need v c.args.payload c.args.edit.now header.faultless (c.in-Ok.ensures.there v slots) (ap sealed_in (sym c.in-Rewrite.ensures))
+    uuid_needs v c.args.payload c.args.edit.now header.faultless (c.in-Ok.ensures.there v slots) (ap sealed_in (sym c.in-Rewrite.ensures)) c.uuid_need.result
+    (c.uuid_need.ensures ∙ ap (λ d. uuid_need (uuid_in d)) c.in-Rewrite.ensures)

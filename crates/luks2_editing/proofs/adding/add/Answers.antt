@@ -60,7 +60,7 @@ returns-in_err-write_keyslot-clause-replies g c = λ tells payload e o to asked 
     record { chosen = chosen; well = well; asked = asked; before = before; opened = opened; is_like = is_like; is_new = is_new; place = place } in
     let seals = addition_seals v payload copy addition e o new to key random x in
     let k = content c.in_ok-made.made.meta in
-    let renews = subst (λ (n : ℕ). IsRenewing v e copy.header (texts_of copy.header) n) (sym c.in_ok-made.ensures.length) (renewing v payload copy chosen well e (texts_of copy.header) (rw asked (sym chosen.header.label)) (rw asked (sym chosen.header.subsystem))) in
+    let renews = subst (λ (n : ℕ). IsRenewing v e random copy.header (texts_of copy.header) n) (sym c.in_ok-made.ensures.length) (renewing v payload copy chosen well e random (texts_of copy.header) (rw asked (sym chosen.header.uuid)) (rw asked (sym chosen.header.label)) (rw asked (sym chosen.header.subsystem))) in
     let p = err_from_is_err_and c.from_residual-in_err-write_keyslot.result c.from_residual-in_err-write_keyslot.ensures.1 in
     rw (p.1, p.2)
     (unsealed_ends v payload copy chosen well e random k (c.in_ok-made.ensures.unrefused v payload e seals total) (c.in_ok-made.ensures.edited v payload e seals total)
@@ -84,7 +84,7 @@ returns-clause-replies g c = λ tells payload e o to asked chosen well before sa
     record { chosen = chosen; well = well; asked = asked; before = before; opened = opened; is_like = is_like; is_new = is_new; place = place } in
     let seals = addition_seals v payload copy addition e o new to key random x in
     let k = content c.in_ok-made.made.meta in
-    let renews = subst (λ (n : ℕ). IsRenewing v e copy.header (texts_of copy.header) n) (sym c.in_ok-made.ensures.length) (renewing v payload copy chosen well e (texts_of copy.header) (rw asked (sym chosen.header.label)) (rw asked (sym chosen.header.subsystem))) in
+    let renews = subst (λ (n : ℕ). IsRenewing v e random copy.header (texts_of copy.header) n) (sym c.in_ok-made.ensures.length) (renewing v payload copy chosen well e random (texts_of copy.header) (rw asked (sym chosen.header.uuid)) (rw asked (sym chosen.header.label)) (rw asked (sym chosen.header.subsystem))) in
     let unrefused = c.in_ok-made.ensures.unrefused v payload e seals total in
     let edited = c.in_ok-made.ensures.edited v payload e seals total in
     let w = g.D.Device.bytes c.write_keyslot.new.device in

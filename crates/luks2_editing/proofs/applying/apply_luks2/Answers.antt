@@ -37,6 +37,12 @@ repair-requires-clause-numbered g c =
     let takes = subst (λ t. Takes copy (g.D.Device.size c.args.device.now) c.args.edit.now t) c.in-Rewrite.is c.in_ok-judged.ensures.judged.takes in
     taken_numbered (content copy.meta) takes.rewritten.change c.in-Rewrite.change takes.takes
 
+pub repair-requires-clause-good : goal.repair-requires-clause-good
+repair-requires-clause-good g c =
+    let copy = c.in_ok-judged.judged.copy in
+    let takes = subst (λ t. Takes copy (g.D.Device.size c.args.device.now) c.args.edit.now t) c.in-Rewrite.is c.in_ok-judged.ensures.judged.takes in
+    takes.good
+
 pub returns-in-Rewrite-clause-replies : goal.returns-in-Rewrite-clause-replies
 returns-in-Rewrite-clause-replies g c = λ tells is.
     let copy = c.in_ok-judged.judged.copy in

@@ -68,7 +68,7 @@ returns-in_err-write_keyslot-clause-replies g c = λ tells payload e_ old asked 
     let k = content c.in_ok-made.made.meta in
     let free = made.unrefused v payload e seals total in
     let edited = made.edited v payload e seals total in
-    let renews = subst (λ (n : ℕ). IsRenewing v e copy.header (texts_of copy.header) n) (sym made.length) (renewing v payload copy x well e (texts_of copy.header) (sym x.header.label) (sym x.header.subsystem)) in
+    let renews = subst (λ (n : ℕ). IsRenewing v e random copy.header (texts_of copy.header) n) (sym made.length) (renewing v payload copy x well e random (texts_of copy.header) (sym x.header.uuid) (sym x.header.label) (sym x.header.subsystem)) in
     let p = err_from_is_err_and c.from_residual-in_err-write_keyslot.result c.from_residual-in_err-write_keyslot.ensures.1 in
     rw (p.1, p.2, is)
     (unsealed_ends v payload copy x well e random k free edited (g.D.Device.bytes c.write_keyslot.new.device)
@@ -96,7 +96,7 @@ returns-in-Ok-clause-replies g c = λ tells payload e_ old asked x well before s
     let k = content c.in_ok-made.made.meta in
     let free = made.unrefused v payload e seals total in
     let edited = made.edited v payload e seals total in
-    let renews = subst (λ (n : ℕ). IsRenewing v e copy.header (texts_of copy.header) n) (sym made.length) (renewing v payload copy x well e (texts_of copy.header) (sym x.header.label) (sym x.header.subsystem)) in
+    let renews = subst (λ (n : ℕ). IsRenewing v e random copy.header (texts_of copy.header) n) (sym made.length) (renewing v payload copy x well e random (texts_of copy.header) (sym x.header.uuid) (sym x.header.label) (sym x.header.subsystem)) in
     let w = g.D.Device.bytes c.write_keyslot.new.device in
     let y = g.D.Device.bytes c.wipe_area.new.device in
     let written = c.in_ok-write_keyslot.ensures.written tells e renews in
@@ -123,7 +123,7 @@ returns-clause-replies g c = λ tells payload e_ old asked x well before same op
     let k = content c.in_ok-made.made.meta in
     let free = made.unrefused v payload e seals total in
     let edited = made.edited v payload e seals total in
-    let renews = subst (λ (n : ℕ). IsRenewing v e copy.header (texts_of copy.header) n) (sym made.length) (renewing v payload copy x well e (texts_of copy.header) (sym x.header.label) (sym x.header.subsystem)) in
+    let renews = subst (λ (n : ℕ). IsRenewing v e random copy.header (texts_of copy.header) n) (sym made.length) (renewing v payload copy x well e random (texts_of copy.header) (sym x.header.uuid) (sym x.header.label) (sym x.header.subsystem)) in
     let w = g.D.Device.bytes c.write_keyslot.new.device in
     let y = g.D.Device.bytes c.wipe_area.new.device in
     let written = c.in_ok-write_keyslot.ensures.written tells e renews in

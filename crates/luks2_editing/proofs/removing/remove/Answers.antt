@@ -1,4 +1,4 @@
-use Rattle.std.proofs.Common.{◌≡◌, ℕ, length, refl, sym, ◌∙◌, subst}
+use Rattle.std.proofs.Common.{◌≡◌, ℕ, length, None, refl, sym, ◌∙◌, subst}
 use Rattle.std.proofs.lemmas.Result.{err_from_is_err_and}
 use Rattle.luks_edit.specs.declared.edit.Edit.TheVariants.{Remove}
 use Rattle.luks_meta.specs.Content.{area_len, content}
@@ -6,7 +6,7 @@ use Rattle.luks2_judging.proofs.DeedFacts.{removed_is}
 use Rattle.luks2_judging.specs.Texts.{texts_of}
 use Rattle.luks2_judging.specs.declared.judged.TextFields.{TextFields}
 use Rattle.luks2_editing.specs.Prepared.{AreCopiesWithin, IsPrepared, IsUnwritten}
-use Rattle.luks2_editing.specs.Rewriting.{IsRenewing}
+use Rattle.luks2_editing.specs.Rewriting.{with_uuid, IsRenewing}
 use Rattle.luks2_editing.proofs.RemovalFacts.{removal_passed, removed_after, torn_lost}
 use Rattle.luks2_editing.proofs.RenewalFacts.{copy_within, prepared_unrefused, renewing, unwritten_ends}
 use Rattle.luks2_editing.proofs.removing.remove.Goals as goal
@@ -23,9 +23,9 @@ returns-in_err-rewrite-clause-replies g c = λ tells payload e_ by_ pass asked x
     let new = content c.in_ok-meta.meta in
     let made = c.in_ok-meta.ensures.value in
     let len : area_len c.in_ok-meta.meta ≡ area_len copy.meta = c.in_ok-meta.ensures.length in
-    let renews = subst (λ (t : TextFields). IsRenewing v (Remove slot by_ pass) copy.header t (area_len c.in_ok-meta.meta)) (sym c.of-texts.ensures)
-    (subst (λ (n : ℕ). IsRenewing v (Remove slot by_ pass) copy.header (texts_of copy.header) n) (sym len)
-    (renewing v payload copy x well (Remove slot by_ pass) (texts_of copy.header) (sym x.header.label) (sym x.header.subsystem))) in
+    let renews = subst (λ (t : TextFields). IsRenewing v (Remove slot by_ pass) random copy.header (with_uuid None random t) (area_len c.in_ok-meta.meta)) (sym c.of-texts.ensures)
+    (subst (λ (n : ℕ). IsRenewing v (Remove slot by_ pass) random copy.header (texts_of copy.header) n) (sym len)
+    (renewing v payload copy x well (Remove slot by_ pass) random (texts_of copy.header) (sym x.header.uuid) (sym x.header.label) (sym x.header.subsystem))) in
     let w = g.D.Device.bytes c.rewrite.new.device in
     let passed = removal_passed v payload copy x well slot by_ pass random before in
     let within : AreCopiesWithin copy.header (area_len c.in_ok-meta.meta) (g.D.Device.size c.args.device.now) =
@@ -33,7 +33,7 @@ returns-in_err-rewrite-clause-replies g c = λ tells payload e_ by_ pass asked x
     (subst (λ (n : ℕ). AreCopiesWithin copy.header (area_len copy.meta) n) size (copy_within v payload copy x well)) in
     let p = err_from_is_err_and c.from_residual-in_err-rewrite.result c.from_residual-in_err-rewrite.ensures.1 in
     rw (p.1, p.2, is)
-    (unwritten_ends v payload copy x well (Remove slot by_ pass) random new passed (λ salt. made) (λ salt k same. same ∙ sym made) refl (λ k same. same) (λ u. tt)
+    (unwritten_ends v payload copy x well (Remove slot by_ pass) random new passed (λ salt. made) (λ salt k same. same ∙ sym made) 128 refl (λ k same. same) (λ u. tt)
     w c.in_err-rewrite.field-0.0 (subst (λ (n : ℕ). IsUnwritten copy.header.seqid n new random 128 c.in_err-rewrite.field-0.0) len (c.in_err-rewrite.ensures.refused within))
     (c.in_err-rewrite.ensures.same tells) (c.rewrite.ensures.torn tells v (Remove slot by_ pass) renews))
 
@@ -48,15 +48,15 @@ returns-in-Ok-clause-replies g c = λ tells payload e_ by_ pass asked x well bef
     let new = content c.in_ok-meta.meta in
     let made = c.in_ok-meta.ensures.value in
     let len : area_len c.in_ok-meta.meta ≡ area_len copy.meta = c.in_ok-meta.ensures.length in
-    let renews = subst (λ (t : TextFields). IsRenewing v (Remove slot by_ pass) copy.header t (area_len c.in_ok-meta.meta)) (sym c.of-texts.ensures)
-    (subst (λ (n : ℕ). IsRenewing v (Remove slot by_ pass) copy.header (texts_of copy.header) n) (sym len)
-    (renewing v payload copy x well (Remove slot by_ pass) (texts_of copy.header) (sym x.header.label) (sym x.header.subsystem))) in
+    let renews = subst (λ (t : TextFields). IsRenewing v (Remove slot by_ pass) random copy.header (with_uuid None random t) (area_len c.in_ok-meta.meta)) (sym c.of-texts.ensures)
+    (subst (λ (n : ℕ). IsRenewing v (Remove slot by_ pass) random copy.header (texts_of copy.header) n) (sym len)
+    (renewing v payload copy x well (Remove slot by_ pass) random (texts_of copy.header) (sym x.header.uuid) (sym x.header.label) (sym x.header.subsystem))) in
     let w = g.D.Device.bytes c.rewrite.new.device in
     let ready = subst (λ (n : ℕ). IsPrepared copy.header.seqid n new random 128) len c.in_ok-rewrite.ensures.ready in
     let y = g.D.Device.bytes c.wipe_area.new.device in
     rw is (record {
       unrefused = prepared_unrefused v payload copy x well (Remove slot by_ pass) random new (removal_passed v payload copy x well slot by_ pass random before)
-          (λ salt. made) (λ salt k same. same ∙ sym made) refl (λ k same. same) (λ u. tt) ready;
+          (λ salt. made) (λ salt k same. same ∙ sym made) 128 refl (λ k same. same) (λ u. tt) ready;
       after = removed_after v payload copy x well slot by_ pass random before c.args.area c.requires.lost.is new made w y ready
           (c.in_ok-rewrite.ensures.anew tells v (Remove slot by_ pass) renews) (c.rewrite.ensures.rest tells) (c.wipe_area.ensures.rest tells) (c.in-Ok.ensures.wiped tells);
       told = refl;
@@ -73,9 +73,9 @@ returns-clause-replies g c = λ tells payload e_ by_ pass asked x well before_.
     let new = content c.in_ok-meta.meta in
     let made = c.in_ok-meta.ensures.value in
     let len : area_len c.in_ok-meta.meta ≡ area_len copy.meta = c.in_ok-meta.ensures.length in
-    let renews = subst (λ (t : TextFields). IsRenewing v (Remove slot by_ pass) copy.header t (area_len c.in_ok-meta.meta)) (sym c.of-texts.ensures)
-    (subst (λ (n : ℕ). IsRenewing v (Remove slot by_ pass) copy.header (texts_of copy.header) n) (sym len)
-    (renewing v payload copy x well (Remove slot by_ pass) (texts_of copy.header) (sym x.header.label) (sym x.header.subsystem))) in
+    let renews = subst (λ (t : TextFields). IsRenewing v (Remove slot by_ pass) random copy.header (with_uuid None random t) (area_len c.in_ok-meta.meta)) (sym c.of-texts.ensures)
+    (subst (λ (n : ℕ). IsRenewing v (Remove slot by_ pass) random copy.header (texts_of copy.header) n) (sym len)
+    (renewing v payload copy x well (Remove slot by_ pass) random (texts_of copy.header) (sym x.header.uuid) (sym x.header.label) (sym x.header.subsystem))) in
     let w = g.D.Device.bytes c.rewrite.new.device in
     let ready = subst (λ (n : ℕ). IsPrepared copy.header.seqid n new random 128) len c.in_ok-rewrite.ensures.ready in
     let y = g.D.Device.bytes c.wipe_area.new.device in

@@ -69,8 +69,8 @@ returns-clause-torn g c = λ tells payload e j renews seals.
     let w = g.D.Device.bytes c.write_sealed.new.device in
     torn_keyslot h total k n c.args.secrets.now.key.now c.args.secrets.now.random.now c.requires.sealable plan p v c.args.chosen.now.hdr_offset e c.args.secrets.now.passphrase.now w payload j seals
     (c.write_sealed.ensures.torn tells v e k
-    (subst (λ (b : List ℕ). IsRewriting v e c.args.chosen.now (texts_of c.args.chosen.now) k b) (sym c.as_slice.ensures.value)
-    (rewriting_of v e c.args.chosen.now (texts_of c.args.chosen.now) k c.args.made.now.json.items (area_len c.args.made.now.meta) renews c.requires.json)))
+    (subst (λ (b : List ℕ). IsRewriting v e c.args.secrets.now.random.now c.args.chosen.now (texts_of c.args.chosen.now) k b) (sym c.as_slice.ensures.value)
+    (rewriting_of v e c.args.secrets.now.random.now c.args.chosen.now (texts_of c.args.chosen.now) k c.args.made.now.json.items (area_len c.args.made.now.meta) renews c.requires.json)))
 
 pub returns-clause-written : goal.returns-clause-written
 returns-clause-written g c = λ tells e renews.
@@ -96,5 +96,5 @@ returns-clause-written g c = λ tells e renews.
     keyslot_written h total k n c.args.secrets.now.key.now c.args.secrets.now.random.now c.requires.sealable plan p v c.args.chosen.now.hdr_offset e c.args.secrets.now.passphrase.now w sealed anew rest)
     (c.write_sealed.ensures.sealed tells)
     (c.write_sealed.ensures.anew tells v e k
-    (subst (λ (b : List ℕ). IsRewriting v e c.args.chosen.now (texts_of c.args.chosen.now) k b) (sym c.as_slice.ensures.value)
-    (rewriting_of v e c.args.chosen.now (texts_of c.args.chosen.now) k c.args.made.now.json.items (area_len c.args.made.now.meta) renews c.requires.json)))
+    (subst (λ (b : List ℕ). IsRewriting v e c.args.secrets.now.random.now c.args.chosen.now (texts_of c.args.chosen.now) k b) (sym c.as_slice.ensures.value)
+    (rewriting_of v e c.args.secrets.now.random.now c.args.chosen.now (texts_of c.args.chosen.now) k c.args.made.now.json.items (area_len c.args.made.now.meta) renews c.requires.json)))

@@ -12,12 +12,12 @@ use Rattle.luks2_editing.proofs.SealingFacts.{area_behind, half_sealed}
 use Rattle.luks2_editing.proofs.sealing.write_sealed.Goals as goal
 
 -- the texts that are written are those of the header
-with_texts : (chosen : Bin2) (texts : TextFields) → texts ≡ texts_of chosen → (v : List ℕ) (e : Edit) (j : Value) (json : List ℕ)
-    → IsRewriting v e chosen (texts_of chosen) j json → IsRewriting v e chosen texts j json
-with_texts chosen texts same v e j json is = subst (λ (t : TextFields). IsRewriting v e chosen t j json) (sym same) is
+with_texts : (chosen : Bin2) (texts : TextFields) → texts ≡ texts_of chosen → (v : List ℕ) (e : Edit) (random : List ℕ) (j : Value) (json : List ℕ)
+    → IsRewriting v e random chosen (texts_of chosen) j json → IsRewriting v e random chosen texts j json
+with_texts chosen texts same v e random j json is = subst (λ (t : TextFields). IsRewriting v e random chosen t j json) (sym same) is
 
 pub returns-in-Ok-clause-anew : goal.returns-in-Ok-clause-anew
-returns-in-Ok-clause-anew g c tells v e j is = c.in-Ok.ensures.anew tells v e j (with_texts c.args.chosen.now c.of-texts.result c.of-texts.ensures v e j c.args.json.now is)
+returns-in-Ok-clause-anew g c tells v e j is = c.in-Ok.ensures.anew tells v e j (with_texts c.args.chosen.now c.of-texts.result c.of-texts.ensures v e c.args.secrets.now.random.now j c.args.json.now is)
 
 pub returns-in-Ok-clause-sealed : goal.returns-in-Ok-clause-sealed
 returns-in-Ok-clause-sealed g c tells =
@@ -42,7 +42,7 @@ returns-in-Ok-clause-torn g c tells v e j is =
     subst (λ (l : List ℕ). IsSealed plan l c.args.secrets.now.passphrase.now c.args.secrets.now.key.now (drop 160 c.args.secrets.now.random.now)) (sym stays)
     (subst (λ (r : List ℕ). IsSealed plan (area_bytes mid plan.area) c.args.secrets.now.passphrase.now c.args.secrets.now.key.now r) c.stripes_in-stripes.ensures (c.in_ok-seal.ensures.sealed tells)) in
     half_sealed v c.args.chosen.now.hdr_offset e c.args.secrets.now.random.now j plan c.args.secrets.now.passphrase.now c.args.secrets.now.key.now (drop 160 c.args.secrets.now.random.now) u mid w (c.seal.ensures.rest tells) sealed
-    (c.write_copies.ensures.torn tells v e j (with_texts c.args.chosen.now c.of-texts.result c.of-texts.ensures v e j c.args.json.now is))
+    (c.write_copies.ensures.torn tells v e j (with_texts c.args.chosen.now c.of-texts.result c.of-texts.ensures v e c.args.secrets.now.random.now j c.args.json.now is))
 
 pub returns-in-Ok-clause-rest : goal.returns-in-Ok-clause-rest
 returns-in-Ok-clause-rest g c tells = same_but-either (c.seal.ensures.rest tells) (c.write_copies.ensures.rest tells)
@@ -58,7 +58,7 @@ returns-in-Err-clause-torn g c tells v e j is =
     subst (λ (l : List ℕ). IsSealed plan l c.args.secrets.now.passphrase.now c.args.secrets.now.key.now (drop 160 c.args.secrets.now.random.now)) (sym stays)
     (subst (λ (r : List ℕ). IsSealed plan (area_bytes mid plan.area) c.args.secrets.now.passphrase.now c.args.secrets.now.key.now r) c.stripes_in-stripes.ensures (c.in_ok-seal.ensures.sealed tells)) in
     half_sealed v c.args.chosen.now.hdr_offset e c.args.secrets.now.random.now j plan c.args.secrets.now.passphrase.now c.args.secrets.now.key.now (drop 160 c.args.secrets.now.random.now) u mid w (c.seal.ensures.rest tells) sealed
-    (c.write_copies.ensures.torn tells v e j (with_texts c.args.chosen.now c.of-texts.result c.of-texts.ensures v e j c.args.json.now is))
+    (c.write_copies.ensures.torn tells v e j (with_texts c.args.chosen.now c.of-texts.result c.of-texts.ensures v e c.args.secrets.now.random.now j c.args.json.now is))
 
 pub returns-in-Err-clause-rest : goal.returns-in-Err-clause-rest
 returns-in-Err-clause-rest g c tells = same_but-either (c.seal.ensures.rest tells) (c.write_copies.ensures.rest tells)

@@ -58,7 +58,7 @@ returns-in_err-write_summed_copy-2-clause-torn g c tells v e j is =
     let h = old.hdr_size in
     let o = old.hdr_offset in
     let w = g.D.Device.bytes c.write_summed_copy.new.device in
-    let place : IsCopyPlace old c.other_place-other.result = subst (λ (q : ℕ). IsCopyPlace old q) (sym c.other_place-other.ensures) (other_is_place old v e c.args.texts j c.args.json.now is) in
+    let place : IsCopyPlace old c.other_place-other.result = subst (λ (q : ℕ). IsCopyPlace old q) (sym c.other_place-other.ensures) (other_is_place old v e c.args.random.now c.args.texts j c.args.json.now is) in
     let made : HasNewCopy old c.args.texts (copy_salt c.args.random.now c.other_place-other.result) c.args.json.now w c.other_place-other.result =
     new_copy _ _ _ _ _ _ c.new_headers-headers.ensures.other w place (c.in_ok-write_summed_copy.ensures.copy tells) in
     let other : HasNewCopy old c.args.texts (copy_salt c.args.random.now (other_place h o)) c.args.json.now w (other_place h o) =
@@ -73,7 +73,7 @@ returns-clause-torn g c tells v e j is =
     let h = old.hdr_size in
     let o = old.hdr_offset in
     let w = g.D.Device.bytes c.write_summed_copy.new.device in
-    let place : IsCopyPlace old c.other_place-other.result = subst (λ (q : ℕ). IsCopyPlace old q) (sym c.other_place-other.ensures) (other_is_place old v e c.args.texts j c.args.json.now is) in
+    let place : IsCopyPlace old c.other_place-other.result = subst (λ (q : ℕ). IsCopyPlace old q) (sym c.other_place-other.ensures) (other_is_place old v e c.args.random.now c.args.texts j c.args.json.now is) in
     let made : HasNewCopy old c.args.texts (copy_salt c.args.random.now c.other_place-other.result) c.args.json.now w c.other_place-other.result =
     new_copy _ _ _ _ _ _ c.new_headers-headers.ensures.other w place (c.in_ok-write_summed_copy.ensures.copy tells) in
     let other : HasNewCopy old c.args.texts (copy_salt c.args.random.now (other_place h o)) c.args.json.now w (other_place h o) =
@@ -88,7 +88,7 @@ returns-clause-anew g c tells v e j is =
     let h = old.hdr_size in
     let o = old.hdr_offset in
     let w = g.D.Device.bytes c.write_summed_copy.new.device in
-    let place : IsCopyPlace old c.other_place-other.result = subst (λ (q : ℕ). IsCopyPlace old q) (sym c.other_place-other.ensures) (other_is_place old v e c.args.texts j c.args.json.now is) in
+    let place : IsCopyPlace old c.other_place-other.result = subst (λ (q : ℕ). IsCopyPlace old q) (sym c.other_place-other.ensures) (other_is_place old v e c.args.random.now c.args.texts j c.args.json.now is) in
     let made : HasNewCopy old c.args.texts (copy_salt c.args.random.now c.other_place-other.result) c.args.json.now w c.other_place-other.result =
     new_copy _ _ _ _ _ _ c.new_headers-headers.ensures.other w place (c.in_ok-write_summed_copy.ensures.copy tells) in
     let other : HasNewCopy old c.args.texts (copy_salt c.args.random.now (other_place h o)) c.args.json.now w (other_place h o) =
@@ -97,4 +97,4 @@ returns-clause-anew g c tells v e j is =
     (g.D.Device.bytes c.write_summed_copy-2.new.device) other
     (subst (λ (q : ℕ). SameBut (IsAt q h) (g.D.Device.bytes c.args.device.now) (g.D.Device.bytes c.write_summed_copy.new.device)) c.other_place-other.ensures (of_new_copy _ _ _ _ _ _ c.new_headers-headers.ensures.other (c.write_summed_copy.ensures.rest tells))) c.requires.place (of_new_copy _ _ _ _ _ _ c.new_headers-headers.ensures.own (c.write_summed_copy-2.ensures.rest tells))
     (new_copy _ _ _ _ _ _ c.new_headers-headers.ensures.own (g.D.Device.bytes c.write_summed_copy-2.new.device)
-    (own_is_place old v e c.args.texts j c.args.json.now is) (c.in_ok-write_summed_copy-2.ensures.copy tells))
+    (own_is_place old v e c.args.random.now c.args.texts j c.args.json.now is) (c.in_ok-write_summed_copy-2.ensures.copy tells))

@@ -1,4 +1,4 @@
-use Rattle.std.proofs.Common.{◌≡◌, ℕ, refl, sym, ◌∙◌, subst}
+use Rattle.std.proofs.Common.{◌≡◌, ℕ, refl, sym, ◌∙◌}
 use Rattle.std.proofs.lemmas.Result.{IfOk-weaker}
 use Rattle.luks_meta.specs.Content.{content}
 use Rattle.luks_reading.specs.declared.header.ChosenCopy.{ChosenCopy}
@@ -17,7 +17,7 @@ use Rattle.luks2_judging.proofs.judging.judge_with_key.Goals as goal
 
 -- what is taken is what the edit takes
 takes_of : (copy : ChosenCopy) (total : ℕ) (e : Edit) (r : Rewritten) (it : JudgedEdit) → deed_of e ≡ Rewrite r → IsRewrittenAs (content copy.meta) (texts_of copy.header) r it → Takes copy total e it
-takes_of copy total e r (judged.Rewrite fields change) asked x = record { rewritten = r; asked = asked; is = x.0; takes = x.1 }
+takes_of copy total e r (judged.Rewrite uuid fields change) asked x = record { rewritten = r; asked = asked; uuid_is = x.0; good = x.1; is = x.2; takes = x.3 }
 takes_of copy total e r it asked x = absurd x
 
 pub returns-in-Rewrite-clause-takes : goal.returns-in-Rewrite-clause-takes

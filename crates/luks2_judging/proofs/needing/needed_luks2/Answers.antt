@@ -2,11 +2,10 @@ use Rattle.std.proofs.Common.{[], Some, ap, refl, sym, ◌∙◌}
 use Rattle.std.proofs.lemmas.Result.{err_from_is_err_and}
 use Rattle.luks_meta.specs.Content.{content}
 use Rattle.luks_edit.specs.declared.deed.Place.TheVariants.{New, Opened}
-use Rattle.luks_edit.specs.Asked.{sealed_in}
 use Rattle.luks2_judging.proofs.ChosenFacts.{metadata_of}
 use Rattle.luks2_judging.proofs.DeedFacts.{opener_is, sealed_as}
 use Rattle.luks2_judging.proofs.KeyslotFacts.{sealable_of, sealed_opens, there_of, usable_of, used_of}
-use Rattle.luks2_judging.proofs.NeedFacts.{four_here, idle_need, need_added, need_again, need_first, need_unnumbered, new_keyed, new_unkeyed}
+use Rattle.luks2_judging.proofs.NeedFacts.{four_here, need_added, need_again, need_first, need_unnumbered, new_keyed, new_unkeyed, removed_need, rewritten_need}
 use Rattle.luks2_judging.proofs.needing.needed_luks2.Goals as goal
 
 pub returns-in_err-judge_without_key-clause-tells : goal.returns-in_err-judge_without_key-clause-tells
@@ -75,8 +74,8 @@ returns-in-Opened-clause-tells c = λ v is size.
 
 pub returns-in-Remove-clause-tells : goal.returns-in-Remove-clause-tells
 returns-in-Remove-clause-tells c = λ v is size.
-    idle_need (c.in_ok-judge_without_key.ensures.passed v [] is size) (ap sealed_in (sym c.in-Remove.ensures))
+    removed_need (c.in_ok-judge_without_key.ensures.passed v [] is size) (sym c.in-Remove.ensures)
 
 pub returns-in-Rewrite-clause-tells : goal.returns-in-Rewrite-clause-tells
 returns-in-Rewrite-clause-tells c = λ v is size.
-    idle_need (c.in_ok-judge_without_key.ensures.passed v [] is size) (ap sealed_in (sym c.in-Rewrite.ensures))
+    rw c.rewritten_need.ensures (rewritten_need (c.in_ok-judge_without_key.ensures.passed v [] is size) (sym c.in-Rewrite.ensures))
