@@ -51,7 +51,7 @@ token_lines fate n j (suc m) = token_lines fate n j m ++ token_line fate n m (ob
 
 -- what brings the data back where no keyslot is left
 abbrev pub erasure_line : List ℕ
-erasure_line = codes "luks: every keyslot is removed: only a backup of the header, or the volume key, brings the data back" ++ 10 ∷ []
+erasure_line = codes "luks: once every keyslot is removed, only a backup of the header or the volume key brings the data back" ++ 10 ∷ []
 
 -- which tokens of the metadata `j` name the keyslots that have the first numbers, so many
 unfoldable pub slot_lines : Data → ℕ → List ℕ

@@ -97,7 +97,7 @@ fn note_loss<E: Write>(err: &mut E) -> io::Result<()>
 {
     writeln!(
         err,
-        "luks: every keyslot is removed: only a backup of the header, or the volume key, brings the data back"
+        "luks: once every keyslot is removed, only a backup of the header or the volume key brings the data back"
     )
 }
 
