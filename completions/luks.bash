@@ -9,6 +9,7 @@ _luks() {
         [add]="--slot --passphrase --passphrase-line --key --new --new-line --random --to --iterations --kdf --kdf-memory --passes --lanes --iter-time --memory --older --over --detached --offset --length --quiet --help"
         [change]="--slot --passphrase --passphrase-line --key --new --new-line --random --iterations --kdf --kdf-memory --passes --lanes --iter-time --memory --older --over --detached --offset --length --quiet --help"
         [remove]="--slot --by --passphrase --passphrase-line --key --random --memory --older --over --detached --offset --length --quiet --help"
+        [erase]="--all --random --over --detached --offset --length --quiet --help"
         [repair]="--random --over --detached --offset --length --quiet --help"
         [label]="--random --subsystem --over --detached --offset --length --quiet --help"
         [uuid]="--random --over --detached --offset --length --quiet --help"

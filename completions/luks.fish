@@ -98,6 +98,16 @@ complete -c luks -n '__fish_seen_subcommand_from remove' -l offset -x -d 'The by
 complete -c luks -n '__fish_seen_subcommand_from remove' -l length -x -d 'How many bytes the volume has'
 complete -c luks -n '__fish_seen_subcommand_from remove' -l quiet -d 'No hints on standard error'
 
+complete -c luks -n __fish_use_subcommand -a erase -d 'Removes every keyslot of a volume'
+complete -c luks -n '__fish_seen_subcommand_from erase' -F
+complete -c luks -n '__fish_seen_subcommand_from erase' -l all -d 'Every keyslot; needed, since nothing is asked'
+complete -c luks -n '__fish_seen_subcommand_from erase' -l random -r -F -d 'The file of the random bytes, as /dev/urandom'
+complete -c luks -n '__fish_seen_subcommand_from erase' -l over -d 'Write over another use of the disk'
+complete -c luks -n '__fish_seen_subcommand_from erase' -l detached -d 'The data is on another device, no segment judged'
+complete -c luks -n '__fish_seen_subcommand_from erase' -l offset -x -d 'The byte of the file where the volume begins'
+complete -c luks -n '__fish_seen_subcommand_from erase' -l length -x -d 'How many bytes the volume has'
+complete -c luks -n '__fish_seen_subcommand_from erase' -l quiet -d 'No hints on standard error'
+
 complete -c luks -n __fish_use_subcommand -a repair -d 'Writes both copies of a LUKS2 header anew'
 complete -c luks -n '__fish_seen_subcommand_from repair' -F
 complete -c luks -n '__fish_seen_subcommand_from repair' -l random -r -F -d 'The file of the random bytes, as /dev/urandom'
@@ -251,4 +261,4 @@ complete -c luks -n __fish_use_subcommand -a explain -d 'Says what a fault means
 complete -c luks -n '__fish_seen_subcommand_from explain' -a '(luks explain 2>/dev/null | cut -d" " -f1)'
 
 complete -c luks -n __fish_use_subcommand -a help -d 'Print help'
-complete -c luks -n '__fish_seen_subcommand_from help' -a 'check show open add change remove repair label uuid priority token format convert rebuild find backup restore compare key explain'
+complete -c luks -n '__fish_seen_subcommand_from help' -a 'check show open add change remove erase repair label uuid priority token format convert rebuild find backup restore compare key explain'

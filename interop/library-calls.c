@@ -262,6 +262,7 @@ static int edits_by_name(int fd, uint64_t offset, uint64_t length, char **words)
     uint8_t *old = file_of(words[6], 65537, &old_bytes), *text = file_of(words[7], 65537, &text_bytes);
     struct luks_derivation derivation = derivation_of(words + 10), *chosen = words[10] != NULL ? &derivation : NULL;
     uint32_t made = LUKS_NO_SLOT, answer = LUKS_USAGE;
+    char uuid[65] = "";
     if (kind == LUKS_ADD && is_by_key(words[5]))
         answer = luks_add_by_key(fd, offset, length, is_detached, by, old, old_bytes, text, text_bytes, number(words[3]), iterations, chosen, memory, older, &made);
     else if (kind == LUKS_ADD)
@@ -270,12 +271,16 @@ static int edits_by_name(int fd, uint64_t offset, uint64_t length, char **words)
         answer = luks_change(fd, offset, length, is_detached, slot, old, old_bytes, text, text_bytes, iterations, chosen, memory, older, &made);
     else if (kind == LUKS_REMOVE)
         answer = luks_remove(fd, offset, length, is_detached, slot, by, old, old_bytes, memory, older);
+    else if (kind == LUKS_ERASE)
+        answer = luks_erase(fd, offset, length, is_detached);
     else if (kind == LUKS_REPAIR)
         answer = luks_repair(fd, offset, length, is_detached);
     else if (kind == LUKS_LABEL && is_subsystem(words[5]))
         answer = luks_label_subsystem(fd, offset, length, is_detached, (const char *)text, text_bytes, (const char *)old, old_bytes);
     else if (kind == LUKS_LABEL)
         answer = luks_label(fd, offset, length, is_detached, (const char *)text, text_bytes);
+    else if (kind == LUKS_UUID && text_bytes < sizeof uuid)
+        answer = luks_set_uuid(fd, offset, length, is_detached, memcpy(uuid, text, text_bytes));
     else if (kind == LUKS_PRIORITY)
         answer = luks_set_priority(fd, offset, length, is_detached, slot, number(words[3]));
     else if (kind == LUKS_TOKEN_ADD)

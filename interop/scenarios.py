@@ -26,6 +26,9 @@ EDITS = {
     "remove-by": ({"two"}, set(), set(), {"one"}),
     "repair": ({"one", "two"}, set(), set(), set()),
     "label": ({"one", "two"}, set(), set(), set()),
+    "erase": (set(), set(), set(), {"one", "two"}),
+    "uuid": ({"one", "two"}, set(), set(), set()),
+    "uuid-new": ({"one", "two"}, set(), set(), set()),
     "priority": ({"one", "two"}, set(), set(), set()),
     "token": ({"one", "two"}, set(), set(), set()),
 }
@@ -36,6 +39,8 @@ THEIRS = {
     "remove": "cryptsetup luksKillSlot -q --key-file two V 0",
     "repair": "cryptsetup repair -q V",
     "label": "cryptsetup config -q --label disk V",
+    "erase": "cryptsetup luksErase -q V",
+    "uuid": "cryptsetup luksUUID -q --uuid 0a1b2c3d-4e5f-1071-8293-a4b5c6d7e8f9 V",
     "priority": "cryptsetup config -q --priority prefer --key-slot 1 V",
     "token": "cryptsetup token import -q --json-file token V",
 }
@@ -47,22 +52,28 @@ OURS = {
     "remove-by": "LUKS remove V --slot 0 --by 1 --passphrase two --random random",
     "repair": "LUKS repair V --random random",
     "label": "LUKS label V disk --random random",
+    "erase": "LUKS erase V --all --random random",
+    "uuid": "LUKS uuid V 0a1b2c3d-4e5f-1071-8293-a4b5c6d7e8f9 --random random",
+    "uuid-new": "LUKS uuid V --random random",
     "priority": "LUKS priority V prefer --slot 1 --random random",
     "token": "LUKS token V import token --random random",
 }
-# How often the program syncs the volume in each edit: once before it begins, and then after each step. A copy of LUKS2's header that is
+# How often the program syncs the volume in each edit: once before it begins, and then after each step; an erasure of LUKS1 has 16 of them, an entry and an area
+# of each keyslot. A copy of LUKS2's header that is
 # damaged or older is written first, so that a repair has as many steps whichever it is.
 SYNCS = {
-    "luks1": {"add": 3, "add-by-key": 3, "change": 5, "remove": 3, "remove-by": 3},
-    "luks2": {"add": 4, "add-by-key": 4, "change": 5, "remove": 4, "remove-by": 4, "repair": 3, "label": 3, "priority": 3, "token": 3},
+    "luks1": {"add": 3, "add-by-key": 3, "change": 5, "remove": 3, "remove-by": 3, "erase": 17, "uuid": 2, "uuid-new": 2},
+    "luks2": {"add": 4, "add-by-key": 4, "change": 5, "remove": 4, "remove-by": 4, "erase": 5, "repair": 3, "label": 3, "uuid": 3, "uuid-new": 3, "priority": 3, "token": 3},
 }
+# the commands that a program of before hasn't
+LATER = ("erase", "uuid", "priority", "token")
 # what LUKS1 hasn't
 OF_LUKS2 = ("label", "repair", "priority", "token")
 
 
 def ours(program):
     """The program's edits, but for the commands that it hasn't."""
-    return {edit: line for edit, line in OURS.items() if edit not in ("priority", "token") or status([program, edit, "--help"], None) == 0}
+    return {edit: line for edit, line in OURS.items() if line.split()[1] not in LATER or status([program, line.split()[1], "--help"], None) == 0}
 
 
 def payload():

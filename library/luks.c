@@ -1420,6 +1420,12 @@ uint32_t luks_remove(int fd, uint64_t offset, uint64_t length, bool is_detached,
     return luks_apply(fd, offset, length, is_detached, &edit, passphrase, passphrase_bytes, NULL, 0, NULL, 0, NULL);
 }
 
+uint32_t luks_erase(int fd, uint64_t offset, uint64_t length, bool is_detached)
+{
+    struct luks_edit edit = {.size = sizeof edit, .kind = LUKS_ERASE};
+    return luks_apply(fd, offset, length, is_detached, &edit, NULL, 0, NULL, 0, NULL, 0, NULL);
+}
+
 uint32_t luks_repair(int fd, uint64_t offset, uint64_t length, bool is_detached)
 {
     struct luks_edit edit = {.size = sizeof edit, .kind = LUKS_REPAIR};
@@ -1436,6 +1442,12 @@ uint32_t luks_label_subsystem(int fd, uint64_t offset, uint64_t length, bool is_
 {
     struct luks_edit edit = {.size = sizeof edit, .kind = LUKS_LABEL, .subsystem = subsystem, .subsystem_bytes = subsystem_bytes};
     return luks_apply(fd, offset, length, is_detached, &edit, NULL, 0, label, label_bytes, NULL, 0, NULL);
+}
+
+uint32_t luks_set_uuid(int fd, uint64_t offset, uint64_t length, bool is_detached, const char *uuid)
+{
+    struct luks_edit edit = {.size = sizeof edit, .kind = LUKS_UUID};
+    return luks_apply(fd, offset, length, is_detached, &edit, NULL, 0, uuid, uuid == NULL ? 0 : strlen(uuid), NULL, 0, NULL);
 }
 
 uint32_t luks_set_priority(int fd, uint64_t offset, uint64_t length, bool is_detached, uint32_t slot, uint32_t priority)

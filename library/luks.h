@@ -250,7 +250,9 @@ enum {
     LUKS_LABEL = 5,
     LUKS_PRIORITY = 6,
     LUKS_TOKEN_ADD = 7,
-    LUKS_TOKEN_REMOVE = 8
+    LUKS_TOKEN_REMOVE = 8,
+    LUKS_UUID = 9,
+    LUKS_ERASE = 10
 };
 struct luks_edit {
     uint64_t size;       /* of the struct */
@@ -517,11 +519,11 @@ uint32_t luks_backup_length(int fd, uint64_t offset, uint64_t length, bool is_de
  * An edit may be refused by the header's first fault, by those of luks_open of the keyslot that the passphrase opens, and by
  * LUKS_FAULT_REQUIREMENTS (of the metadata, as in the midst of a reencryption), _LOCKED (the passphrase doesn't open the keyslot),
  * _SAME_SLOT, _SLOT_TAKEN, _NO_FREE_SLOT, _NO_ROOM, _LAST_SLOT, _ITERATIONS and _ARGON2 (costs of the new keyslot), _BAD_LABEL (also of what LUKS1
- * doesn't have: label, priority, tokens), _SEQ_EXHAUSTED, _METADATA_FULL, _RANDOM_LENGTH (of random bytes that are given). Of a priority and of tokens luks_set_priority and so on say which else. Where the power fails in its midst, all that opened before opens, or what the edit makes. */
+ * doesn't have: label, priority, tokens), _SEQ_EXHAUSTED, _METADATA_FULL, _RANDOM_LENGTH (of random bytes that are given). Of a priority, of tokens and of a uuid luks_set_priority and so on say which else. Where the power fails in its midst, all that opened before opens, or what the edit makes. */
 
 /* How many random bytes the edit takes; or its first fault, of those that are seen without opening a keyslot.
- * `secret` is the passphrase, or the volume key where the edit is by that, `text` the new passphrase, the label, or the text of the token that is added. It writes
- * nothing. */
+ * `secret` is the passphrase, or the volume key where the edit is by that, `text` the new passphrase, the label, the uuid (no byte: a new one), or the text of the token that is added. It
+ * writes nothing. */
 uint32_t luks_needed(int fd, uint64_t offset, uint64_t length, bool is_detached, const struct luks_edit *edit, const void *secret,
                      size_t secret_bytes, const void *text, size_t text_bytes, uint64_t *random_bytes);
 
@@ -559,6 +561,10 @@ uint32_t luks_add_by_key(int fd, uint64_t offset, uint64_t length, bool is_detac
 uint32_t luks_remove(int fd, uint64_t offset, uint64_t length, bool is_detached, uint32_t slot, uint32_t by, const void *passphrase,
                      size_t passphrase_bytes, uint32_t memory, uint32_t older);
 
+/* Removes every keyslot and wipes its area, of LUKS1 those too that aren't in use. No passphrase is asked, and none opens the volume afterwards: only a backup of the header
+ * brings the data back, or the volume key, by luks_add_by_key. */
+uint32_t luks_erase(int fd, uint64_t offset, uint64_t length, bool is_detached);
+
 /* LUKS2: writes both copies of the header anew from the one that counts. LUKS1: nothing. */
 uint32_t luks_repair(int fd, uint64_t offset, uint64_t length, bool is_detached);
 
@@ -568,6 +574,10 @@ uint32_t luks_label(int fd, uint64_t offset, uint64_t length, bool is_detached, 
 /* The same, and the subsystem, of as many such bytes; `subsystem` is NULL where it stays. */
 uint32_t luks_label_subsystem(int fd, uint64_t offset, uint64_t length, bool is_detached, const char *label, size_t label_bytes, const char *subsystem,
                               size_t subsystem_bytes);
+
+/* Sets the volume's uuid: `uuid` ends with a 0 and has 32 hexadecimal digits with hyphens at places 8, 13, 18 and 23, else it is LUKS_FAULT_BAD_UUID; NULL, or one without a byte,
+ * asks for a new one, of random bytes. All else stays, what each keyslot opens to too. */
+uint32_t luks_set_uuid(int fd, uint64_t offset, uint64_t length, bool is_detached, const char *uuid);
 
 /* LUKS2: sets the priority of the keyslot `slot`: LUKS_IGNORE, LUKS_NORMAL or LUKS_PREFER; another number is LUKS_USAGE. It may be refused by LUKS_FAULT_NO_SUCH_SLOT. */
 uint32_t luks_set_priority(int fd, uint64_t offset, uint64_t length, bool is_detached, uint32_t slot, uint32_t priority);

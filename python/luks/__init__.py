@@ -59,7 +59,7 @@ __all__ = ["CIPHERS", "Comparison", "Derivation", "Digest", "Fault", "Header", "
 VERSION = LIBRARY.luks_version().decode("ascii")
 """The version of the library."""
 
-ADD, CHANGE, REMOVE, REPAIR, LABEL, PRIORITY, TOKEN_ADD, TOKEN_REMOVE = range(1, 9)
+ADD, CHANGE, REMOVE, REPAIR, LABEL, PRIORITY, TOKEN_ADD, TOKEN_REMOVE, UUID, ERASE = range(1, 11)
 PRIORITIES = ("ignore", "normal", "prefer")
 HASHES = (None, "sha1", "sha256", "sha512")
 CIPHERS = ("aes-xts-plain64", "aes-xts-plain", "aes-cbc-essiv:sha256", "aes-cbc-plain64", "aes-cbc-plain")
@@ -419,6 +419,10 @@ class Volume:
         """Removes the keyslot and wipes its area, by its own passphrase or by that of the keyslot `by`; `is_key` is as of `add`."""
         self._edited(EditRecord(kind=REMOVE, slot=_slot(slot), by=_slot_or_none(by)), passphrase, b"", memory, older, is_key)
 
+    def erase(self) -> None:
+        """Removes every keyslot and wipes its area. No passphrase opens the volume afterwards: only a backup of the header, or the volume key, brings the data back."""
+        self._edited(EditRecord(kind=ERASE), b"", b"")
+
     def repair(self) -> None:
         """LUKS2: writes both copies of the header anew from the one that counts. LUKS1: nothing."""
         self._edited(EditRecord(kind=REPAIR), b"", b"")
@@ -427,6 +431,10 @@ class Volume:
         """LUKS2: sets the label and, where it is given, the subsystem, each at most 47 bytes that can be printed."""
         own = None if subsystem is None else subsystem.encode()
         self._edited(EditRecord(kind=LABEL, subsystem=own, subsystem_bytes=len(own or b"")), b"", text.encode())
+
+    def set_uuid(self, text: Optional[str] = None) -> None:
+        """Sets the uuid: 32 hexadecimal digits with hyphens at places 8, 13, 18 and 23; where it isn't given, a new one of random bytes."""
+        self._edited(EditRecord(kind=UUID), b"", (text or "").encode())
 
     def set_priority(self, slot: int, priority: str) -> None:
         """LUKS2: sets when the keyslot is tried where none is named: `ignore`, not at all; `normal`; `prefer`, before the others."""

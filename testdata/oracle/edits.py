@@ -11,7 +11,7 @@ import makers
 import reader
 import uses
 from equations import argon2, pbkdf2, sealed_area
-from formatting import Drawn
+from formatting import UUID, Drawn, uuid_text
 from images import DISABLED, ENABLED, Entry
 from reader import Fault
 
@@ -57,6 +57,11 @@ class Remove:
 
 
 @dataclass(frozen=True)
+class Erase:
+    """Every keyslot is removed, and no passphrase is asked for."""
+
+
+@dataclass(frozen=True)
 class Repair:
     pass
 
@@ -66,6 +71,12 @@ class Label:
     """The label, and the subsystem where it is given."""
     text: bytes
     subsystem: bytes = None
+
+
+@dataclass(frozen=True)
+class Uuid:
+    """The uuid's text; where there is none, one of version 4 is made of random bytes."""
+    text: bytes = None
 
 
 @dataclass(frozen=True)
@@ -87,8 +98,10 @@ class RemoveToken:
     number: int
 
 
-# the edits that change the header alone
+# the edits that change the header alone, and that LUKS1 hasn't
 REWRITES = (Label, Priority, AddToken, RemoveToken)
+# where the uuid stands in a header, in 40 bytes; and how many random bytes a new one is made of
+UUID_PLACE, UUID_RANDOM = 168, 16
 
 
 def opened_by(edit):
@@ -108,6 +121,22 @@ def by_passphrase(edit):
     if opened_by(edit) is None or isinstance(opened_by(edit)[1], Key) or opened_by(edit)[0] is not None:
         return None
     return "by" if isinstance(edit, Add) else "slot"
+
+
+def uuid_need(edit):
+    """How many random bytes are the uuid's own, behind those of the copies' salts."""
+    return UUID_RANDOM if edit == Uuid() else 0
+
+
+def uuid_field(edit, random):
+    """The 40 bytes of the uuid that the edit sets."""
+    return (uuid_text(random) if edit.text is None else edit.text).ljust(40, b"\0")
+
+
+def refuse_uuid(edit):
+    """The text of a uuid: hexadecimal digits in either letter case, in the groups of RFC 9562, 4."""
+    if isinstance(edit, Uuid) and edit.text is not None and not UUID.fullmatch(edit.text):
+        raise Fault("BadUuid")
 
 
 def kdf_of(edit):
@@ -138,7 +167,7 @@ class Volume1:
 
     def need(self, edit):
         if not isinstance(edit, (Add, Change)):
-            return 0
+            return uuid_need(edit)
         return 32 + (self.entries[place_of(self, edit)].stripes - 1) * self.d["key_bytes"]
 
     def has_room(self, edit):
@@ -148,9 +177,10 @@ class Volume1:
         return self.used == [n]
 
     def refuse_rewrite(self, edit):
-        """LUKS1 has nothing of these."""
+        """LUKS1 has nothing of these but for the uuid."""
         if isinstance(edit, REWRITES):
             raise Fault("BadLabel")
+        refuse_uuid(edit)
 
     def refuse_header(self, edit):
         pass
@@ -181,6 +211,11 @@ class Volume1:
     def writes(self, edit, key, random):
         if isinstance(edit, Remove):
             return self.disabling(edit.slot)
+        if isinstance(edit, Erase):
+            # those that aren't in use too: their areas may hold what a removal left that broke off
+            return [write for n in range(8) for write in self.disabling(n)]
+        if isinstance(edit, Uuid):
+            return [(UUID_PLACE, uuid_field(edit, random))]
         if not isinstance(edit, (Add, Change)):
             return []
         to, drawn, name = place_of(self, edit), Drawn(random), self.d["hash"].decode()
@@ -254,7 +289,7 @@ class Volume2:
 
     def need(self, edit):
         if not isinstance(edit, (Add, Change)):
-            return 128
+            return 128 + uuid_need(edit)
         slot, _ = self.like(edit)
         return 128 + 32 + (slot["af"]["stripes"] - 1) * slot["key_size"]
 
@@ -287,6 +322,7 @@ class Volume2:
         """The texts of a label, and the rules of tokens: of a new one those of the metadata that it would be part of."""
         if isinstance(edit, Label) and not all(takes_text(text) for text in (edit.text, edit.subsystem or b"")):
             raise Fault("BadLabel")
+        refuse_uuid(edit)
         tokens = self.value["tokens"]
         if isinstance(edit, RemoveToken) and str(edit.number) not in tokens:
             raise Fault("NoSuchToken")
@@ -315,6 +351,8 @@ class Volume2:
         """The new metadata."""
         if isinstance(edit, Remove):
             return makers.without_slot(self.value, edit.slot)
+        if isinstance(edit, Erase):
+            return makers.without_slots(self.value)
         if isinstance(edit, Priority):
             return makers.with_priority(self.value, edit.slot, edit.priority)
         if isinstance(edit, RemoveToken):
@@ -332,12 +370,14 @@ class Volume2:
         kdf = edit.kdf or {}
         return "memory" in kdf and not 8 * kdf["cpus"] <= kdf["memory"] <= edit.memory
 
-    def copies(self, edit, value, salts):
-        """Both copies of the new header, the one that wasn't chosen first."""
+    def copies(self, edit, value, salts, random):
+        """Both copies of the new header, the one that wasn't chosen first; the random bytes are a new uuid's."""
         at, size = self.copy["at"], self.copy["size"]
         label, uuid, subsystem = (self.volume[at + place:at + place + length] for place, length in ((24, 48), (168, 40), (208, 48)))
         if isinstance(edit, Label):
             label, subsystem = edit.text, subsystem if edit.subsystem is None else edit.subsystem
+        if isinstance(edit, Uuid):
+            uuid = uuid_field(edit, random)
         fields = {"seqid": self.copy["seqid"] + 1, "label": label, "uuid": uuid, "subsystem": subsystem}
         written = {place: images.copy(makers.compact(value), place, size, salt=salt, **fields) for place, salt in zip((0, size), salts)}
         return [(place, written[place]) for place in sorted(written, key=lambda place: place == at)]
@@ -351,11 +391,9 @@ class Volume2:
             kdf = makers.derivation(old, edit.iterations, salt, kdf_of(edit))
             slot_key = derived(kdf, edit, salt, old["area"]["key_size"])
             areas.append((self.gap(edit), sealed_area(old["af"]["hash"], slot_key, key, drawn.rest(), old["area"]["encryption"])))
-        wiped = []
-        if isinstance(edit, (Change, Remove)):
-            start, length = reader.slot_area2(self.keyslot(edit.slot))
-            wiped.append((start, bytes(length)))
-        return areas + self.copies(edit, self.made(edit, salt), salts) + wiped
+        lost = [edit.slot] if isinstance(edit, (Change, Remove)) else self.used if isinstance(edit, Erase) else []
+        wiped = [(start, bytes(length)) for start, length in (reader.slot_area2(self.keyslot(n)) for n in lost)]
+        return areas + self.copies(edit, self.made(edit, salt), salts, drawn.rest()) + wiped
 
 
 def takes_text(text):

@@ -91,6 +91,10 @@ def words(edit, detached):
         return f"luks remove v --slot={edit.slot}{by} {secret(edit)} --random=r{memory}{end}"
     if name == "label":
         return f"luks label v {edit.text.decode()} --random=r{end}" if edit.text.decode().isprintable() else None
+    if name == "erase":
+        return f"luks erase v --all --random=r{end}"
+    if name == "uuid":
+        return "luks uuid v" + (f" {edit.text.decode()}" if edit.text is not None else "") + f" --random=r{end}"
     return f"luks repair v --random=r{end}"
 
 

@@ -83,6 +83,15 @@ def without_slot(value, n):
     return value
 
 
+def without_slots(value):
+    """Without a keyslot: digests and tokens name none."""
+    value = copy.deepcopy(value)
+    value["keyslots"] = {}
+    for holder in [*value["digests"].values(), *value["tokens"].values()]:
+        holder["keyslots"] = []
+    return value
+
+
 PRIORITIES = {"ignore": 0, "normal": None, "prefer": 2}
 
 

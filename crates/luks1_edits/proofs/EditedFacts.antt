@@ -23,17 +23,17 @@ use Rattle.luks_reading.specs.Answer.{AnswerWithin, opens}
 use Rattle.luks_reading.specs.Checked.{AreaOf, WellFormed}
 use Rattle.luks_reading.specs.Layout1.{Luks1Area}
 use Rattle.luks_edit.specs.declared.edit.Edit.{Edit}
-use Rattle.luks_edit.specs.declared.edit.Edit.TheVariants.{Add, AddByKey, Change, Remove, Repair, Label, Uuid, Amend}
+use Rattle.luks_edit.specs.declared.edit.Edit.TheVariants.{Add, AddByKey, Change, Remove, Erase, Repair, Label, Uuid, Amend}
 use Rattle.luks_edit.specs.declared.edit.Opener.{Opener}
 use Rattle.luks_edit.specs.declared.edit.Opener.TheVariants.{Keyslot, Key}
-use Rattle.luks_edit.specs.Asked.{allowed_of, chosen_or, uuid_by}
+use Rattle.luks_edit.specs.Asked.{allowed_of, chosen_or, Loses, uuid_by}
 use Rattle.luks_edit.specs.declared.edit_fault.EditFault.TheVariants as fault
 use Rattle.luks_edit.specs.Kept.{Keeps}
 use Rattle.luks_edit.specs.NewUuids.{new_uuid_text}
 use Rattle.luks_edit.specs.declared.new_uuid.NewUuid.{NewUuid}
-use Rattle.luks1_edits.specs.Edited.{After1, Gives1, HoldsKey, IsFreed, IsInUse, IsLeastFree, IsMade, IsNewKeyslot, IsTouched1, IsWiped, iterations_or, NamedKeyslots1, Opens1, OpensAfter1, Removes}
+use Rattle.luks1_edits.specs.Edited.{After1, AreRemoved, Gives1, HoldsKey, IsFreed, IsInUse, IsLeastFree, IsMade, IsNewKeyslot, IsTouched1, IsWiped, iterations_or, NamedKeyslots1, Opens1, OpensAfter1}
 use Rattle.luks1_edits.specs.Kept.{AreKeyslots, ChangesKeyslots, HasSameCommon, HasUuid, IsEither, IsFitFor, KeepsEntries, KeepsOthers}
-use Rattle.luks1_edits.specs.Leftovers.{AnswersOrUuid, FaultsUuidAlone, IsSealedFirst, IsTorn1, IsUntorn, IsUuidUntorn, Leftover1, OpensEither1}
+use Rattle.luks1_edits.specs.Leftovers.{AnswersOrUuid, FaultsUuidAlone, IsHalfErased, IsSealedFirst, IsTorn1, IsUntorn, IsUuidUntorn, Leftover1, OpensEither1}
 use Rattle.luks1_edits.specs.Places.{area_len, area_start, IsOfKeyslots, IsOfUuid}
 use Rattle.luks1_edits.specs.Refused.{IsUnrefused1}
 use Rattle.luks1_edits.proofs.AnswerFacts.{gives_moves}
@@ -68,7 +68,7 @@ enough n (Some (Argon2i costs)) few argon2 = absurd (argon2 refl)
 enough n (Some (Argon2id costs)) few argon2 = absurd (argon2 refl)
 
 -- the keyslots that an edit names are LUKS1's
-named_numbered : (v : List ℕ) (payload : Data) (e : Edit) (r : List ℕ) → IsUnrefused1 v payload e r → (n : ℕ) → NamedKeyslots1 v e n → n < 8
+pub named_numbered : (v : List ℕ) (payload : Data) (e : Edit) (r : List ℕ) → IsUnrefused1 v payload e r → (n : ℕ) → NamedKeyslots1 v e n → n < 8
 named_numbered v payload (Add by_ old new (Some t) iterations d) r free n is =
     let low = at_most_seven t (λ over. free.none fault.NoFreeSlot over) in omega (arith, is, low)
 named_numbered v payload (AddByKey key new (Some t) iterations d) r free n is =
@@ -79,6 +79,7 @@ named_numbered v payload (Change slot old new iterations d) r free n is =
     let used = in_use v slot (λ not. free.none fault.NoSuchSlot (record { slot = slot; wanted = refl; unused = not })) in
     let low = used.0 in
     elim is [ inl same ↦ omega (arith, same, low) | inr least ↦ least.free.0 ]
+named_numbered v payload Erase r free n is = is
 named_numbered v payload (Remove slot by_ passphrase) r free n is =
     let used = in_use v slot (λ not. free.none fault.NoSuchSlot (record { slot = slot; wanted = inr refl; unused = not })) in
     let low = used.0 in
@@ -108,6 +109,13 @@ made_fits old new iterations salt many x = record {
 
 either_keyslots : (a b : ℕ) → a < 8 → b < 8 → AreKeyslots (IsEither a b)
 either_keyslots a b lta ltb = record { numbered = λ n is. elim is [ inl x ↦ omega (arith, x, lta) | inr x ↦ omega (arith, x, ltb) ] }
+
+-- all are
+all_keyslots : AreKeyslots (λ n. n < 8)
+all_keyslots = record { numbered = λ n is. is }
+
+all_decided : (n : ℕ) → n < 8 ⊎ (n < 8 → ⊥)
+all_decided n = elim (cases_lt n 8) [ inl lt ↦ inl lt | inr past ↦ inr (λ lt. omega (arith, lt, past)) ]
 
 -- ---- sets of keyslots
 
@@ -173,7 +181,21 @@ module _ (payload : Data) (v : List ℕ) (chosen : Chosen v luks1) (well : WellF
         others = keeps_wider payload (IsEither a b) named v w (two_named named a b is_a is_b) (keeps_others payload (IsEither a b) v w x common);
       }
 
-  nothing_left : (named : ℕ → Type 0) (w : List ℕ) → w ≡ v → Leaves payload named v w
+  pub changes_of : (named : ℕ → Type 0) (w : List ℕ) → AreKeyslots named → SameBut (IsOfKeyslots v named) v w → ChangesKeyslots payload named v w
+  changes_of named w keyslots rest = record { keyslots = keyslots; chosen = chosen; well = well; rest = same_but-wider (λ p x. inl x) rest }
+
+  -- where all of them were removed
+  all_leave : (w : List ℕ) → AreRemoved 8 v w → Leaves payload (λ n. n < 8) v w
+  all_leave w x =
+      let c = changes_of (λ n. n < 8) w all_keyslots x.rest in
+      let common = kept_common v payload (volume_of v payload chosen well).fit w (λ n. n < 8) all_keyslots x.rest in
+      record {
+        chosen = luks1_after payload (λ n. n < 8) v w c;
+        well = stays_well_formed payload (λ n. n < 8) v w c (λ n is. freed_fits (entry v n) (entry w n) (x.freed n is)) all_decided common;
+        others = keeps_others payload (λ n. n < 8) v w c common;
+      }
+
+  pub nothing_left : (named : ℕ → Type 0) (w : List ℕ) → w ≡ v → Leaves payload named v w
   nothing_left named w same =
       let none : AreKeyslots (λ n. ⊥) = record { numbered = λ n is. absurd is } in
       let kept = same_but-same (IsOfKeyslots v (λ n. ⊥)) v in
@@ -201,6 +223,7 @@ module _ (payload : Data) (v : List ℕ) (chosen : Chosen v luks1) (well : WellF
       (freed_fits (entry v slot) (entry w slot) x.freed)
       (made_fits (entry v x.fresh) (entry w x.fresh) (iterations_or iterations d) (take 32 r) (enough iterations d (λ few. free.none fault.Iterations few) (λ argon2. free.none fault.Argon2 argon2)) x.made)
       (inl refl) (inr x.is_free)
+  leaves Erase r w free x = all_leave w x
   leaves (Remove slot by_ passphrase) r w free x =
       let used : slot < 8 = named_numbered v payload (Remove slot by_ passphrase) r free slot refl in
       let fits = freed_fits (entry v slot) (entry w slot) x.freed in
@@ -225,6 +248,7 @@ module _ (payload : Data) (v : List ℕ) (chosen : Chosen v luks1) (well : WellF
   after_rest (Change slot old new iterations d) r w x =
       let named : ℕ → Type 0 = NamedKeyslots1 v (Change slot old new iterations d) in
       touched v (Change slot old new iterations d) w (places_wider (IsEither slot x.fresh) named v w (two_named named slot x.fresh (inl refl) (inr x.is_free)) x.rest)
+  after_rest Erase r w x = touched v Erase w x.rest
   after_rest (Remove slot by_ passphrase) r w x =
       touched v (Remove slot by_ passphrase) w (places_wider (IsEither slot slot) (λ n. n ≡ slot) v w (one_named (λ n. n ≡ slot) slot refl) x.rest)
   after_rest Repair r w x = same_but-equal (IsTouched1 v Repair) x.1
@@ -273,6 +297,7 @@ module _ (payload : Data) (v : List ℕ) (chosen : Chosen v luks1) (well : WellF
       subst (λ k. AnswerWithin allowed w k new.now (opens key)) (least_free_once v x.fresh n x.is_free is)
       (made_to (Keyslot slot old) allowed x.fresh (iterations_or iterations d) (take 32 r) new.now x.key key (drop 32 r) w x.is_free.free.0 (enough iterations d (λ few. free.none fault.Iterations few) (λ argon2. free.none fault.Argon2 argon2))
       slot x.fresh used x.is_free.free.0 x.rest x.made x.holds x.opened opened)
+  opens_after Erase r w free x = tt
   opens_after (Remove slot by_ passphrase) r w free x = tt
   opens_after Repair r w free x = tt
   opens_after (Label text subsystem) r w free x = tt
@@ -303,6 +328,7 @@ module _ (payload : Data) (v : List ℕ) (chosen : Chosen v luks1) (well : WellF
               slot x.fresh used x.is_free.free.0 x.rest x.made x.holds x.opened opened,
         ),
       )
+  opens_either Erase r w free x = tt
   opens_either (Remove slot by_ passphrase) r w free x = tt
   opens_either Repair r w free x = tt
   opens_either (Label text subsystem) r w free x = tt
@@ -313,6 +339,7 @@ module _ (payload : Data) (v : List ℕ) (chosen : Chosen v luks1) (well : WellF
   same_opens (Add by_ old new to iterations d) = tt
   same_opens (AddByKey key new to iterations d) = tt
   same_opens (Change slot old new iterations d) = λ allowed key opened. inl opened
+  same_opens Erase = tt
   same_opens (Remove slot by_ passphrase) = tt
   same_opens Repair = tt
   same_opens (Label text subsystem) = tt
@@ -322,6 +349,10 @@ module _ (payload : Data) (v : List ℕ) (chosen : Chosen v luks1) (well : WellF
   pub leftover_opens : (e : Edit) (r w : List ℕ) → Leftover1 v payload e r w → OpensEither1 v e w
   leftover_opens e r w (inl same) = subst (λ u. OpensEither1 v e u) (sym same) (same_opens e)
   leftover_opens e r w (inr x) = opens_either e r w x.0 x.1
+
+  -- while all of them were removed
+  all_torn : (w : List ℕ) → IsHalfErased v w → SameBut (IsOfKeyslots v (λ n. n < 8)) v w
+  all_torn w x = let lt = x.numbered in places_wider (λ n. n ≤ x.slot) (λ n. n < 8) v w (λ n le. omega (arith, le, lt)) x.rest
 
   torn_rest : (e : Edit) (r w : List ℕ) → IsTorn1 v e r w → SameBut (IsTouched1 v e) v w
   torn_rest (Add by_ old new to iterations d) r w x =
@@ -334,6 +365,7 @@ module _ (payload : Data) (v : List ℕ) (chosen : Chosen v luks1) (well : WellF
   torn_rest (Change slot old new iterations d) r w (inr x) =
       let named : ℕ → Type 0 = NamedKeyslots1 v (Change slot old new iterations d) in
       touched v (Change slot old new iterations d) w (places_wider (IsEither slot x.fresh) named v w (two_named named slot x.fresh (inl refl) (inr x.is_free)) x.rest)
+  torn_rest Erase r w x = touched v Erase w (all_torn w x)
   torn_rest (Remove slot by_ passphrase) r w x =
       touched v (Remove slot by_ passphrase) w (places_wider (IsEither slot slot) (λ n. n ≡ slot) v w (one_named (λ n. n ≡ slot) slot refl) x.rest)
   torn_rest Repair r w x = absurd x
@@ -420,6 +452,10 @@ module _ (payload : Data) (v : List ℕ) (chosen : Chosen v luks1) (well : WellF
       let lt : x.fresh < 8 = x.is_free.free.0 in
       (both_leave (NamedKeyslots1 v (Change slot old new iterations d)) slot x.fresh w used lt x.rest
       (untorn_fits w slot used (untorn slot (inl refl))) (untorn_fits w x.fresh lt (untorn x.fresh (inr x.is_free))) (inl refl) (inr x.is_free)).well
+  untorn_well Erase r w free x untorn uuids =
+      let rest = all_torn w x in
+      stays_well_formed payload (λ n. n < 8) v w (changes_of (λ n. n < 8) w all_keyslots rest) (λ n lt. untorn_fits w n lt (untorn n lt)) all_decided
+      (kept_common v payload (volume_of v payload chosen well).fit w (λ n. n < 8) all_keyslots rest)
   untorn_well (Remove slot by_ passphrase) r w free x untorn uuids =
       let used : slot < 8 = named_numbered v payload (Remove slot by_ passphrase) r free slot refl in
       let fits = untorn_fits w slot used (untorn slot refl) in
@@ -445,10 +481,11 @@ module _ (payload : Data) (v : List ℕ) (chosen : Chosen v luks1) (well : WellF
       let len : a.len ≡ area_len v n = is.2 ∙ len_is v n is.0 in
       subst (λ s. part w s a.len ≡ replicate a.len 0) (sym start) (subst (λ l. part w (area_start v n) l ≡ replicate l 0) (sym len) zeros)
 
-  pub removed_area : (e : Edit) (r w : List ℕ) (n : ℕ) (a : Area) → After1 v e r w → Removes e n → AreaOf v payload (Slot n) a → part w a.start a.len ≡ replicate a.len 0
+  pub removed_area : (e : Edit) (r w : List ℕ) (n : ℕ) (a : Area) → After1 v e r w → Loses e n → AreaOf v payload (Slot n) a → part w a.start a.len ≡ replicate a.len 0
   removed_area (Add by_ old new to iterations d) r w n a x is has = absurd is
   removed_area (AddByKey key new to iterations d) r w n a x is has = absurd is
   removed_area (Change slot old new iterations d) r w n a x is has = wiped_area n w a (subst (λ k. IsWiped v k w) (sym is) x.wiped) has
+  removed_area Erase r w n a x is has = wiped_area n w a (x.wiped n (luks1_area_of v payload (Slot n) a chosen has).0) has
   removed_area (Remove slot by_ passphrase) r w n a x is has = wiped_area n w a (subst (λ k. IsWiped v k w) (sym is) x.wiped) has
   removed_area Repair r w n a x is has = absurd is
   removed_area (Label text subsystem) r w n a x is has = absurd is

@@ -2,6 +2,7 @@ pub mod AcceptedFacts
 pub mod AnswerFacts
 pub mod ChangeFacts
 pub mod EditedFacts
+pub mod ErasureFacts
 pub mod HeaderFacts
 pub mod KeptFacts
 pub mod KeyFacts
@@ -18,6 +19,7 @@ pub mod RemovalFacts
 pub mod RewritingFacts
 pub mod RowFacts
 pub mod SealingFacts
+pub mod ShutFacts
 pub mod SlotSetFacts
 pub mod StepFacts
 pub mod UuidFacts

@@ -22,7 +22,7 @@ use Rattle.luks_edit.specs.declared.deed.Place.{Place}
 use Rattle.luks_edit.specs.declared.deed.Place.TheVariants.{New, Opened}
 use Rattle.luks_edit.specs.declared.deed.Sealed.{Sealed}
 use Rattle.luks_edit.specs.declared.new_uuid.NewUuid.{NewUuid}
-use Rattle.luks_edit.specs.Asked.{allowed_of, deed_of, lost_by, MatchDeed, MatchPlace, opener_at, sealed_by, sets_uuid_at_most, uuid_by}
+use Rattle.luks_edit.specs.Asked.{allowed_of, deed_of, MatchDeed, MatchPlace, opener_at, sealed_by, sets_uuid_at_most, uuid_by}
 use Rattle.luks_edit.specs.NewUuids.{new_uuid_text}
 use Rattle.luks_edit.specs.Secrets.{GivesWithin, own_key}
 use Rattle.luks1_edits.specs.Kept.{IsEither}
@@ -54,12 +54,13 @@ number_asked (Opened slot secret) = None
 abbrev pub IsSealedIn : List ℕ → Sealed → ℕ → Type 0
 IsSealedIn v s n = IsNewKeyslot v (number_asked s.place) n
 
--- the keyslots that an edit names: the one that it makes, and the one that it removes
+-- the keyslots that an edit names: the one that it makes, and the one that it removes, or all that it erases
 abbrev pub NamedKeyslots1 : List ℕ → Edit → ℕ → Type 0
 NamedKeyslots1 v e n = MatchDeed (deed_of e)
     (λ s. MatchPlace s.place (λ o to. IsNewKeyslot v to n) (λ slot secret. (n ≡ slot) ⊎ IsLeastFree v n))
     (λ r. n ≡ r.slot)
     (λ r. ⊥)
+    (n < 8)
 
 -- the place is of a keyslot that the edit names, or of the uuid's field where it sets the uuid
 abbrev pub IsTouched1 : List ℕ → Edit → ℕ → Type 0
@@ -136,6 +137,12 @@ pub record IsRemoved (v : List ℕ) (slot : ℕ) (w : List ℕ) : Type 0 where
   pub freed : IsFreed (entry v slot) (entry w slot)
   pub wiped : IsWiped v slot w
 
+-- the keyslots below `count` were removed, in use or not, and nothing else changed
+pub record AreRemoved (count : ℕ) (v w : List ℕ) : Type 0 where
+  pub rest : SameBut (IsOfKeyslots v (λ n. n < count)) v w
+  pub freed : (n : ℕ) → n < count → IsFreed (entry v n) (entry w n)
+  pub wiped : (n : ℕ) → n < count → IsWiped v n w
+
 -- a keyslot was made in which `new` opens the key that the opener gave, with a salt and stripes of the random
 -- bytes, and nothing else changed
 pub record IsAdded
@@ -183,6 +190,7 @@ After1 v e random w = MatchDeed (deed_of e)
     (λ slot secret. IsChanged v slot secret s.passphrase.now (iterations_of s.derivation) random w))
     (λ r. IsRemoved v r.slot w)
     (λ r. (sets_uuid_at_most r ≡ true) × SetsUuid r.uuid v random w)
+    (AreRemoved 8 v w)
 
 -- ---- what opens after an edit
 
@@ -192,7 +200,3 @@ abbrev pub OpensAfter1 : List ℕ → Edit → List ℕ → Type 0
 OpensAfter1 v e w = IfSome (sealed_by e) (λ s. (allowed : Allowed) (n : ℕ) (key : List ℕ) → IsSealedIn v s n
     → Gives1 allowed v (opener_at s.place) (Some key)
     → AnswerWithin allowed w n s.passphrase.now (opens key))
-
--- the keyslot that the edit removes
-abbrev pub Removes : Edit → ℕ → Type 0
-Removes e n = IsSomeAnd (lost_by e) (λ m. n ≡ m)

@@ -1,7 +1,8 @@
 -- What an edit of a LUKS1 volume may leave that a failing device call ended. A failed write leaves
 -- any bytes in its range; the ranges are written in this order: the area of a new keyslot, its
--- entry, then the entry of the keyslot that is removed, its area; or the uuid's field alone.
-use Rattle.std.specs.Prelude.{◌≡◌, ℕ, ◌⊎◌, List, drop, take, Option, Some, None, IfSome, IsSomeAnd}
+-- entry, then the entry of the keyslot that is removed, its area, or so of all
+-- keyslots, one after the other; or the uuid's field alone.
+use Rattle.std.specs.Prelude.{◌≡◌, ℕ, ◌<◌, ◌≤◌, ◌⊎◌, List, drop, take, Option, Some, None, IfSome, IsSomeAnd}
 use Rattle.luks_area.specs.Ranges.{part, IsAt, SameBut}
 use Rattle.luks1_header.specs.Header1.{entry, entry_size}
 use Rattle.luks1_header.specs.declared.fault.HeadFault.TheVariants.{Text, Uuid as NoUuid}
@@ -17,8 +18,9 @@ use Rattle.luks_edit.specs.declared.edit.Edit.{Edit}
 use Rattle.luks_edit.specs.declared.edit.Opener.{Opener}
 use Rattle.luks_edit.specs.declared.edit.Opener.TheVariants.{Keyslot}
 use Rattle.luks_edit.specs.declared.edit.Secret.{Secret}
+use Rattle.luks_edit.specs.Kept.{IsShut, KeepsSlot}
 use Rattle.luks_edit.specs.Asked.{again_by, deed_of, MatchDeed, MatchPlace, opener_at, uuid_by}
-use Rattle.luks1_edits.specs.Edited.{Gives1, HoldsKey, IsFreed, IsLeastFree, IsMade, IsNewKeyslot, iterations_of, Opens1}
+use Rattle.luks1_edits.specs.Edited.{Gives1, HoldsKey, IsFreed, IsLeastFree, IsMade, IsNewKeyslot, IsWiped, iterations_of, Opens1}
 use Rattle.luks1_edits.specs.Kept.{HasUuid, IsEither, IsFitFor}
 use Rattle.luks1_edits.specs.Places.{area_len, area_start, entry_place, IsOfKeyslots, IsOfUuid}
 use Rattle.luks1_edits.specs.Refused.{IsUnrefused1}
@@ -74,6 +76,16 @@ pub record IsHalfChanged
   pub holds : HoldsKey w fresh new key (drop 32 random)
   pub order : IsFreedFirst v slot w
 
+-- while all keyslots were removed, one after the other: those below `slot` are, that one is half removed, and nothing
+-- else changed
+pub record IsHalfErased (v w : List ℕ) : Type 0 where
+  pub slot : ℕ
+  pub numbered : slot < 8
+  pub rest : SameBut (IsOfKeyslots v (λ n. n ≤ slot)) v w
+  pub freed : (n : ℕ) → n < slot → IsFreed (entry v n) (entry w n)
+  pub wiped : (n : ℕ) → n < slot → IsWiped v n w
+  pub order : IsFreedFirst v slot w
+
 -- the edit was ended while it wrote
 abbrev pub IsTorn1 : List ℕ → Edit → List ℕ → List ℕ → Type 0
 IsTorn1 v e random w = MatchDeed (deed_of e)
@@ -83,6 +95,7 @@ IsTorn1 v e random w = MatchDeed (deed_of e)
     ⊎ IsHalfChanged v slot secret s.passphrase.now (iterations_of s.derivation) random w))
     (λ r. IsHalfRemoved v r.slot w)
     (λ r. IsSomeAnd r.uuid (λ uuid. SameBut IsOfUuid v w))
+    (IsHalfErased v w)
 
 -- what a failing device call leaves: the volume as it was, or, where nothing refuses the edit, what
 -- was torn while it wrote
@@ -121,3 +134,12 @@ OpensEither1 v e w = IfSome (again_by e) (λ s. (allowed : Allowed) (key : List 
     → Gives1 allowed v (opener_at s.place) (Some key)
     → Gives1 allowed w (opener_at s.place) (Some key)
     ⊎ ((n : ℕ) × (IsLeastFree v n × AnswerWithin allowed w n s.passphrase.now (opens key))))
+
+-- where all keyslots were to be removed, those below one don't open and have areas of zeros, that one has its area or
+-- is disabled, and those above it are as they were
+pub record AreErasedInTurn (payload : Data) (v w : List ℕ) : Type 0 where
+  pub slot : ℕ
+  pub shut : (n : ℕ) → n < slot → IsShut w n
+  pub wiped : (n : ℕ) → n < slot → IsWiped v n w
+  pub order : IsFreedFirst v slot w
+  pub above : (n : ℕ) → slot < n → KeepsSlot payload n v w

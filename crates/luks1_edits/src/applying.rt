@@ -7,6 +7,7 @@ ghost use Rattle.luks_reading.specs.declared.header.Header.TheVariants.{Luks1 as
 ghost use Rattle.luks1_edits.specs.Replies.{Replies1};
 
 use crate::accepted::judge_without_key;
+use crate::erasing::erase;
 use crate::removing::remove;
 use crate::rewriting::rewrite;
 use crate::sealing::seal;
@@ -20,8 +21,8 @@ use std::alloc::Global;
 ///
 /// The first refusal is answered, and then no byte changes. What is written is written in this
 /// order, each range with a flush: the area of a new keyslot, its entry, the entry of a keyslot that
-/// is removed, its area; or the 40 bytes of the uuid's field. `Device` comes exactly where a device call
-/// failed. No memory is taken.
+/// is removed, its area, or so of all keyslots, one after the other; or the 40 bytes of the uuid's field.
+/// `Device` comes exactly where a device call failed. No memory is taken.
 pub fn apply_luks1<D: Device>(
     alloc: Global,
     device: &mut D,
@@ -48,5 +49,6 @@ pub fn apply_luks1<D: Device>(
         Deed::Seal(sealed) => seal(alloc, device, &header, &sealed, random),
         Deed::Remove(removed) => remove(alloc, device, &header, &removed, random),
         Deed::Rewrite(rewritten) => rewrite(device, &header, &rewritten, random),
+        Deed::Erase => erase(device, &header, random),
     }
 }

@@ -48,6 +48,7 @@ pub(crate) fn judge_named(header: &Luks1, edit: &Edit<'_>) -> Result<(), EditFau
         Deed::Seal(sealed) => judge_opener(header, &sealed.opener()),
         Deed::Remove(removed) => judge_removal(header, removed.slot, removed.by_),
         Deed::Rewrite(_) => Ok(()),
+        Deed::Erase => Ok(()),
     }
 }
 

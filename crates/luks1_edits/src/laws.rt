@@ -14,14 +14,16 @@ ghost use Rattle.luks_reading.specs.declared.report.Data.{Data as Payload};
 ghost use Rattle.luks_edit.specs.declared.edit.Edit.{Edit as TheEdit};
 ghost use Rattle.luks_edit.specs.declared.edit_fault.EditFault.{EditFault as TheFault};
 ghost use Rattle.luks_edit.specs.declared.new_uuid.NewUuid.{NewUuid as TheUuid};
-ghost use Rattle.luks_edit.specs.Asked.{uuid_by};
+ghost use Rattle.luks_edit.specs.Asked.{Loses, uuid_by};
 ghost use Rattle.luks_edit.specs.EditFaults.{edit_key};
-ghost use Rattle.luks_edit.specs.Kept.{Keeps};
+ghost use Rattle.luks_edit.specs.Kept.{IsShut, Keeps};
 ghost use Rattle.luks_edit.specs.NewUuids.{new_uuid_text};
-ghost use Rattle.luks1_edits.specs.Edited.{After1, IsTouched1, NamedKeyslots1, OpensAfter1, Removes};
+ghost use Rattle.luks1_edits.specs.Edited.{After1, IsTouched1, NamedKeyslots1, OpensAfter1};
 ghost use Rattle.luks1_edits.specs.Kept.{HasSameKeyslot, KeepsEntries, KeepsOthers};
-ghost use Rattle.luks1_edits.specs.Leftovers.{AnswersOrUuid, FaultsUuidAlone, IsUntorn, IsUuidUntorn, Leftover1, OpensEither1};
+ghost use Rattle.luks1_edits.specs.Leftovers.{AnswersOrUuid, AreErasedInTurn, FaultsUuidAlone, IsUntorn, IsUuidUntorn, Leftover1, OpensEither1};
 ghost use Rattle.luks1_edits.specs.Refused.{IsEditFault1, IsUnrefused1, Refusal1};
+
+use luks_edit::Edit;
 
 /// The answer of a keyslot of LUKS1 depends on the 168 bytes before the uuid, on the faults of the uuid's
 /// field, on its entry, its area and the volume's length alone.
@@ -46,7 +48,7 @@ pub fn luks1_edit_keeps_volume()
         → Chosen v luks1 → WellFormed v payload → IsUnrefused1 v payload e random
         → After1 v e random w → SameBut (IsTouched1 v e) v w }
     ensures removed { (payload : Payload) (e : TheEdit) (v random w : List ℕ) (n : ℕ) (a : TheArea)
-        → Chosen v luks1 → WellFormed v payload → After1 v e random w → Removes e n
+        → Chosen v luks1 → WellFormed v payload → After1 v e random w → Loses e n
         → AreaOf v payload (Slot n) a → part w a.start a.len ≡ replicate a.len 0 }
 {}
 
@@ -56,6 +58,14 @@ pub fn luks1_edit_opens()
     ensures { (payload : Payload) (e : TheEdit) (v random w : List ℕ)
         → Chosen v luks1 → WellFormed v payload → IsUnrefused1 v payload e random
         → After1 v e random w → OpensAfter1 v e w }
+{}
+
+/// After an edit of a well formed LUKS1 volume that nothing refused, a keyslot that it removed opens by
+/// no passphrase; where it erased all, none does.
+pub fn luks1_removed_keyslot_is_shut()
+    ensures { (payload : Payload) (e : TheEdit) (v random w : List ℕ) (n : ℕ)
+        → Chosen v luks1 → WellFormed v payload → IsUnrefused1 v payload e random
+        → After1 v e random w → Loses e n → IsShut w n }
 {}
 
 /// After an edit of a well formed LUKS1 volume that nothing refused and that sets the uuid, the header's
@@ -73,7 +83,8 @@ pub fn luks1_edit_sets_uuid()
 /// bytes, and each keyslot that the edit didn't name has its entry and its area, and its answers too
 /// where no uuid is torn. Where no entry that it named is torn either, the volume is well formed still. A
 /// keyslot that was changed opens by the old passphrase, or the new one by the new passphrase, to the same
-/// key. Where a fault refuses the edit, no byte changed.
+/// key. Where all keyslots were to be erased, they were so in turn. Where a fault refuses the edit, no byte
+/// changed.
 ///
 /// Where the edit sets the uuid, the volume has no fault but that the uuid's field holds none, and each
 /// keyslot answers as before, or is refused for that fault.
@@ -100,6 +111,9 @@ pub fn luks1_failing_edit()
     ensures opens { (payload : Payload) (e : TheEdit) (v random w : List ℕ)
         → Chosen v luks1 → WellFormed v payload → Leftover1 v payload e random w
         → OpensEither1 v e w }
+    ensures erased { (payload : Payload) (v random w : List ℕ)
+        → Chosen v luks1 → WellFormed v payload → Leftover1 v payload Edit.Erase random w
+        → AreErasedInTurn payload v w }
     ensures refused { (payload : Payload) (e : TheEdit) (v random w : List ℕ) (f : TheFault)
         → IsEditFault1 v payload e random f → Leftover1 v payload e random w → w ≡ v }
 {}

@@ -39,6 +39,7 @@ pub fn needed_luks1(
         Deed::Seal(sealed) => new_need(&header.fields, number_asked(sealed.place)),
         Deed::Remove(_) => Ok(0),
         Deed::Rewrite(rewritten) => Ok(uuid_need(rewritten.uuid) as u64),
+        Deed::Erase => Ok(0),
     }
 }
 

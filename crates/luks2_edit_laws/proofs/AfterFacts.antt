@@ -1,6 +1,6 @@
 -- What an edit that was completed keeps of a LUKS2 volume.
 use Rattle.std.proofs.Common.{◌≡◌, ◌≢◌, ℕ, ◌+◌, ◌-◌, ◌*◌, ◌<◌, ◌≤◌, ◌^◌, List, length, replicate, codes, true, false, Option, Some, None, option_and_then, is_some, inl, inr, refl, sym, ap, subst, ◌∙◌, arith}
-use Rattle.std.specs.Prelude.{IfSome, IsSomeAnd, MatchOption}
+use Rattle.std.specs.Prelude.{IfSome, IsSomeAnd, MatchOption, ⊤}
 use Rattle.std.proofs.lemmas.Bool.{cases_eq, cases_lt, false_from_ne_true}
 use Rattle.std.proofs.lemmas.Option.{same_Some}
 use Rattle.base64.specs.GeneralPurpose.{IsBytes}
@@ -44,22 +44,23 @@ use Rattle.luks_reading.specs.Checked.{AreaOf, WellFormed}
 use Rattle.luks_reading.specs.Layout2.{slot_number}
 use Rattle.luks_edit.specs.declared.edit.Edit.{Edit}
 use Rattle.luks_edit.specs.declared.deed.Sealed.{Sealed}
-use Rattle.luks_edit.specs.declared.edit.Edit.TheVariants.{Add, AddByKey, Change, Remove, Repair, Label, Uuid, Amend}
+use Rattle.luks_edit.specs.declared.edit.Edit.TheVariants.{Add, AddByKey, Change, Remove, Erase, Repair, Label, Uuid, Amend}
 use Rattle.luks_edit.specs.declared.edit.Opener.{Opener}
 use Rattle.luks_edit.specs.declared.edit.Opener.TheVariants as opener
-use Rattle.luks_edit.specs.Asked.{allowed_for, chosen_or, opener_at, sealed_by, uuid_by}
+use Rattle.luks_edit.specs.Asked.{again_by, allowed_for, chosen_or, Loses, opener_at, sealed_by, uuid_by}
 use Rattle.luks_edit.specs.NewUuids.{uuid_need}
 use Rattle.luks_edit.specs.declared.edit_fault.EditFault.TheVariants.{Argon2, BadToken, BadUuid, Iterations, NoFreeSlot, RandomLength, SlotTaken}
-use Rattle.luks_edit.specs.Kept.{Keeps}
+use Rattle.luks_edit.specs.Kept.{IsShut, Keeps}
 use Rattle.luks2_edit_laws.specs.declared.like.Like.{Like}
 use Rattle.luks2_edit_laws.specs.declared.like.Like.TheVariants.{Keyslot, Digest}
-use Rattle.luks2_edit_laws.specs.Edited.{keyslot_salt, members_of, After2, Gives2, HasAdded, HasChanged, HasNewToken, HasRangedDerivation, HasRanges, IsEdited, IsMadeIn, IsSealedBy, IsWiped, IsWipedBy, NamedKeyslots2}
+use Rattle.luks2_edit_laws.specs.Edited.{keyslot_salt, members_of, After2, Gives2, HasAdded, HasChanged, HasNewToken, HasRangedDerivation, HasRanges, IsEdited, IsMadeIn, IsSealedBy, NamedKeyslots2}
 use Rattle.luks2_edit_laws.specs.Likes.{digest_by, fresh_members, ForLike, HasStripesLike, IsAddedLike, IsLike, slot_by}
 use Rattle.luks2_edit_laws.specs.Metadata.{HasMetadata, IsNewKeyslot}
-use Rattle.luks2_edit_laws.specs.Places.{key_areas_end, IsNewArea, Loses}
+use Rattle.luks2_edit_laws.specs.Places.{key_areas_end, IsNewArea}
 use Rattle.luks2_edit_laws.specs.Refused.{HasNoNumber, IsFaultyWith, IsNumberTaken, IsUnrefused2, NeedsLike}
 use Rattle.luks2_edit_laws.proofs.AmendFacts.{amended_metadata}
 use Rattle.luks2_edit_laws.proofs.CopyFacts.{both_chosen}
+use Rattle.luks2_edit_laws.proofs.ErasedFacts.{erased_metadata, none_opens, removed_shut}
 use Rattle.luks2_edit_laws.proofs.KeptFacts.{all_kept, says_itself, KeepsMetadata}
 use Rattle.luks2_edit_laws.proofs.LikeFacts.{model_by_key, IsModel}
 use Rattle.luks2_edit_laws.proofs.SoundCopyFacts.{copy_sound}
@@ -81,6 +82,7 @@ lost_is_named v (Add by_ old new to iterations d) n lost = absurd lost
 lost_is_named v (AddByKey key new to iterations d) n lost = absurd lost
 lost_is_named v (Change slot old new iterations d) n lost = lost
 lost_is_named v (Remove slot by_ passphrase) n lost = lost
+lost_is_named v Erase n lost = tt
 lost_is_named v Repair n lost = absurd lost
 lost_is_named v (Label text subsystem) n lost = absurd lost
 lost_is_named v (Uuid uuid) n lost = absurd lost
@@ -384,6 +386,7 @@ was_opened v (Add by_ old new to iterations d) random j w k sealed = (sealed.key
 was_opened v (AddByKey key new to iterations d) random j w k sealed = (sealed.key, sealed.opened)
 was_opened v (Change slot old new iterations d) random j w k sealed = (sealed.key, sealed.opened)
 was_opened v (Remove slot by_ passphrase) random j w k sealed = tt
+was_opened v Erase random j w k sealed = tt
 was_opened v Repair random j w k sealed = tt
 was_opened v (Label text subsystem) random j w k sealed = tt
 was_opened v (Uuid uuid) random j w k sealed = tt
@@ -424,6 +427,8 @@ edited_metadata v o payload (Change slot old new iterations d) random j k m befo
     (ready_by v o payload (Change slot old new iterations d) random j m ranges free _ refl (Keyslot slot) refl model) (λ n. n ≡ slot) is refl
 edited_metadata v o payload (Remove slot by_ passphrase) random j k m before ranges free sealed is layout =
     without_metadata (hdr_size (header_at v o)) (length v) payload (λ n. n ≡ slot) slot j k refl is layout
+edited_metadata v o payload Erase random j k m before ranges free sealed is layout =
+    erased_metadata (hdr_size (header_at v o)) (length v) payload (λ n. ⊤) j k (λ n. tt) is layout
 edited_metadata v o payload Repair random j k m before ranges free sealed is layout =
     same_metadata (hdr_size (header_at v o)) (length v) payload (λ n. ⊥) j k is layout
 edited_metadata v o payload (Label text subsystem) random j k m before ranges free sealed is layout =
@@ -472,21 +477,25 @@ module _
         (λ n b x. left_bytes v w h (length v) payload a.value e layout.fit a.rest (name.Segment n) b tt x)
         (λ m unnamed b x. left_bytes v w h (length v) payload a.value e layout.fit a.rest (name.Slot m) b (λ lost. unnamed (lost_is_named v e m lost)) x)
 
--- the area that a keyslot loses is wiped
-wiped_is : (e : Edit) (j : Value) (w : List ℕ) (n : ℕ) → IsWipedBy e j w → Loses e n → IsWiped j n w
-wiped_is (Add by_ old new to iterations d) j w n wiped lost = absurd lost
-wiped_is (AddByKey key new to iterations d) j w n wiped lost = absurd lost
-wiped_is (Change slot old new iterations d) j w n wiped lost = subst (λ m. IsWiped j m w) (sym lost) wiped
-wiped_is (Remove slot by_ passphrase) j w n wiped lost = subst (λ m. IsWiped j m w) (sym lost) wiped
-wiped_is Repair j w n wiped lost = absurd lost
-wiped_is (Label text subsystem) j w n wiped lost = absurd lost
-wiped_is (Uuid uuid) j w n wiped lost = absurd lost
-wiped_is (Amend c) j w n wiped lost = absurd lost
-
--- so it is zeros
+-- the area that a keyslot loses is zeros
 pub lost_zeros : (v : List ℕ) (payload : Data) (e : Edit) (random w : List ℕ) (n : ℕ) (a : Area) → WellFormed v payload
     → After2 v payload e random w → Loses e n → AreaOf v payload (name.Slot n) a → part w a.start a.len ≡ replicate a.len 0
 lost_zeros v payload e random w n a well after_ lost is =
-    wiped_is e after_.value w n after_.wiped lost a
+    after_.wiped n lost a
     (areas_are v payload after_.place (hdr_size (header_at v after_.place)) after_.value
     (copy_of v payload after_.place after_.value after_.metadata well) (name.Slot n) a is)
+
+-- a keyslot that isn't sealed again opens no more
+pub lost_shut : (v : List ℕ) (payload : Data) (e : Edit) (random w : List ℕ) (n : ℕ) → WellFormed v payload → HasRanges v e random → IsUnrefused2 v payload e random
+    → After2 v payload e random w → again_by e ≡ None → Loses e n → IsShut w n
+lost_shut v payload (Add by_ old new to iterations d) random w n well ranges free a once lost = absurd lost
+lost_shut v payload (AddByKey key new to iterations d) random w n well ranges free a once lost = absurd lost
+lost_shut v payload (Change slot old new iterations d) random w n well ranges free a once lost = absurd (cc)
+lost_shut v payload (Remove slot by_ passphrase) random w n well ranges free a once lost =
+    removed_shut w 0 (hdr_size (header_at v a.place)) a.value a.new slot (after v payload (Remove slot by_ passphrase) random w well ranges free a) a.edited n lost
+lost_shut v payload Erase random w n well ranges free a once lost =
+    none_opens w 0 (hdr_size (header_at v a.place)) a.value a.new (after v payload Erase random w well ranges free a) a.edited n
+lost_shut v payload Repair random w n well ranges free a once lost = absurd lost
+lost_shut v payload (Label text subsystem) random w n well ranges free a once lost = absurd lost
+lost_shut v payload (Uuid uuid) random w n well ranges free a once lost = absurd lost
+lost_shut v payload (Amend c) random w n well ranges free a once lost = absurd lost

@@ -15,7 +15,7 @@ use Rattle.luks_reading.specs.declared.report.Data.{Data}
 use Rattle.luks_reading.specs.Checked.{WellFormed}
 use Rattle.luks_reading.specs.Layout2.{Luks2Area}
 use Rattle.luks_edit.specs.declared.edit.Edit.{Edit}
-use Rattle.luks_edit.specs.declared.edit.Edit.TheVariants.{Add, AddByKey, Change as ChangeKey, Remove, Repair, Label, Uuid, Amend}
+use Rattle.luks_edit.specs.declared.edit.Edit.TheVariants.{Add, AddByKey, Change as ChangeKey, Remove, Erase, Repair, Label, Uuid, Amend}
 use Rattle.luks_edit.specs.Asked.{change_by}
 use Rattle.luks_edit.specs.Kept.{KeepsAnswers, KeepsArea}
 use Rattle.luks2_edit_laws.specs.Edited.{After2, HasRanges, IsAmended}
@@ -97,6 +97,7 @@ change_keeps v payload (Add by_ old_ fresh to iterations d) random w c well rang
 change_keeps v payload (AddByKey key fresh to iterations d) random w c well ranges free a is = absurd (cc)
 change_keeps v payload (ChangeKey slot old_ fresh iterations d) random w c well ranges free a is = absurd (cc)
 change_keeps v payload (Remove slot by_ passphrase) random w c well ranges free a is = absurd (cc)
+change_keeps v payload Erase random w c well ranges free a is = absurd (cc)
 change_keeps v payload Repair random w c well ranges free a is = absurd (cc)
 change_keeps v payload (Label text subsystem) random w c well ranges free a is = absurd (cc)
 change_keeps v payload (Uuid uuid) random w c well ranges free a is = absurd (cc)

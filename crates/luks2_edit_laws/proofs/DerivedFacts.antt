@@ -15,7 +15,7 @@ use Rattle.luks_reading.specs.declared.report.Data.{Data}
 use Rattle.luks_reading.specs.Checked.{WellFormed}
 use Rattle.luks_edit.specs.declared.deed.Place.TheVariants.{New, Opened}
 use Rattle.luks_edit.specs.declared.edit.Edit.{Edit}
-use Rattle.luks_edit.specs.declared.edit.Edit.TheVariants.{Add, AddByKey, Change, Remove, Repair, Label, Uuid, Amend}
+use Rattle.luks_edit.specs.declared.edit.Edit.TheVariants.{Add, AddByKey, Change, Remove, Erase, Repair, Label, Uuid, Amend}
 use Rattle.luks_edit.specs.declared.edit.Opener.{Opener}
 use Rattle.luks_edit.specs.declared.edit.Opener.TheVariants as opener
 use Rattle.luks_edit.specs.declared.edit.Secret.{Secret}
@@ -128,6 +128,7 @@ module _ (v : List ℕ) (payload : Data) (random w : List ℕ) (well : WellForme
       (subst (λ x. DerivesAs (Opened slot old) iterations d (keyslot_salt random) x (renewed_slot f c.was)) opened
       (changed_as slot old f d c.was (renewed_slot f c.was) c.says.derivation))
   derives (Remove slot by_ passphrase) ranges free a = tt
+  derives Erase ranges free a = tt
   derives Repair ranges free a = tt
   derives (Label text subsystem) ranges free a = tt
   derives (Uuid uuid) ranges free a = tt

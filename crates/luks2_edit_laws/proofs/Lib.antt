@@ -2,6 +2,7 @@ pub mod AfterFacts
 pub mod AlikeFacts
 pub mod AmendFacts
 mod CopyFacts
+mod ErasedFacts
 mod GapFacts
 mod GivenFacts
 mod KeptAnswers

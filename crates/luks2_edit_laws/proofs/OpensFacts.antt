@@ -10,7 +10,7 @@ use Rattle.luks_reading.specs.Answer.{opens, AnswerWithin}
 use Rattle.luks_reading.specs.Checked.{WellFormed}
 use Rattle.luks_edit.proofs.SecretFacts.{one_answer_to}
 use Rattle.luks_edit.specs.declared.edit.Edit.{Edit}
-use Rattle.luks_edit.specs.declared.edit.Edit.TheVariants.{Add, AddByKey, Change, Remove, Repair, Label, Uuid, Amend}
+use Rattle.luks_edit.specs.declared.edit.Edit.TheVariants.{Add, AddByKey, Change, Remove, Erase, Repair, Label, Uuid, Amend}
 use Rattle.luks_edit.specs.declared.edit.Opener.{Opener}
 use Rattle.luks_edit.specs.declared.edit.Opener.TheVariants as opener
 use Rattle.luks_edit.specs.Asked.{allowed_for, chosen_or}
@@ -117,6 +117,7 @@ module _ (v : List ℕ) (payload : Data) (random w : List ℕ) (well : WellForme
       (let key_same : a.sealed.key ≡ key = one_answer_to old.kind allowed v slot old.bytes.now (opens a.sealed.key) (opens key) a.sealed.opened by_key in
       subst (λ k. AnswerWithin allowed w slot new.now (opens k)) key_same opened)
   opens_after (Remove slot by_ passphrase) ranges free a = tt
+  opens_after Erase ranges free a = tt
   opens_after Repair ranges free a = tt
   opens_after (Label text subsystem) ranges free a = tt
   opens_after (Uuid uuid) ranges free a = tt

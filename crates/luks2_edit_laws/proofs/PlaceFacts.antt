@@ -13,9 +13,10 @@ use Rattle.luks_area.specs.Sectors.{rounded_to_sectors}
 use Rattle.luks_reading.specs.declared.report.Data.{Data}
 use Rattle.luks_reading.specs.Layout2.{Luks2Area}
 use Rattle.luks_edit.specs.declared.edit.Edit.{Edit}
-use Rattle.luks_edit.specs.declared.edit.Edit.TheVariants.{Add, AddByKey, Change, Remove, Repair, Label, Uuid, Amend}
+use Rattle.luks_edit.specs.declared.edit.Edit.TheVariants.{Add, AddByKey, Change, Remove, Erase, Repair, Label, Uuid, Amend}
+use Rattle.luks_edit.specs.Asked.{Loses}
 use Rattle.luks2_edit_laws.specs.declared.like.Like.{Like}
-use Rattle.luks2_edit_laws.specs.Places.{rounded_to_blocks, IsOfCopies, IsOfKeyslot, IsOfLost, IsOfNewKeyslot, IsOfSealed, IsTouched, Loses}
+use Rattle.luks2_edit_laws.specs.Places.{rounded_to_blocks, IsOfCopies, IsOfKeyslot, IsOfLost, IsOfNewKeyslot, IsOfSealed, IsTouched}
 
 -- the sectors of the stripes lie in their blocks
 pub sectors_in_blocks : (bytes : ℕ) → rounded_to_sectors bytes ≤ rounded_to_blocks bytes
@@ -73,6 +74,7 @@ beside_sealed h total payload j (AddByKey key new to iterations d) fit n a left 
 beside_sealed h total payload j (Change slot old new iterations d) fit n a left is p at x =
     beside_new h total payload j (Change slot old new iterations d) fit n a left is p at x.like x.has
 beside_sealed h total payload j (Remove slot by_ passphrase) fit n a left is p at x = x
+beside_sealed h total payload j Erase fit n a left is p at x = x
 beside_sealed h total payload j Repair fit n a left is p at x = x
 beside_sealed h total payload j (Label text subsystem) fit n a left is p at x = x
 beside_sealed h total payload j (Uuid uuid) fit n a left is p at x = x
@@ -81,16 +83,7 @@ beside_sealed h total payload j (Amend c) fit n a left is p at x = x
 -- nor of what is lost
 beside_losing : (h total : ℕ) (payload : Data) (j : Value) (e : Edit) (fit : Fit (Luks2Area j h payload total) total) (n : AreaName) (a : Area)
     → IsLeft e n → Luks2Area j h payload total n a → (p : ℕ) → IsAt a.start a.len p → IsOfLost j e p → ⊥
-beside_losing h total payload j (Add by_ old new to iterations d) fit n a left is p at x = x
-beside_losing h total payload j (AddByKey key new to iterations d) fit n a left is p at x = x
-beside_losing h total payload j (Change slot old new iterations d) fit n a left is p at x =
-    beside_lost h total payload j (Change slot old new iterations d) fit n a left is p at slot refl x
-beside_losing h total payload j (Remove slot by_ passphrase) fit n a left is p at x =
-    beside_lost h total payload j (Remove slot by_ passphrase) fit n a left is p at slot refl x
-beside_losing h total payload j Repair fit n a left is p at x = x
-beside_losing h total payload j (Label text subsystem) fit n a left is p at x = x
-beside_losing h total payload j (Uuid uuid) fit n a left is p at x = x
-beside_losing h total payload j (Amend c) fit n a left is p at x = x
+beside_losing h total payload j e fit n a left is p at x = beside_lost h total payload j e fit n a left is p at x.slot x.loses x.is
 
 -- nor of anything that the edit may change
 beside_touched : (h total : ℕ) (payload : Data) (j : Value) (e : Edit) (fit : Fit (Luks2Area j h payload total) total) (n : AreaName) (a : Area)

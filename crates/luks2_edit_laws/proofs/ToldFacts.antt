@@ -10,7 +10,7 @@ use Rattle.luks_rules.specs.Reading.{number_of as whole_of}
 use Rattle.luks_rules.specs.Sizes.{inside_at}
 use Rattle.luks_making.specs.Conditions.{Between}
 use Rattle.luks_edit.specs.declared.edit.Edit.{Edit}
-use Rattle.luks_edit.specs.declared.edit.Edit.TheVariants.{Add, AddByKey, Change, Remove, Repair, Label, Uuid, Amend}
+use Rattle.luks_edit.specs.declared.edit.Edit.TheVariants.{Add, AddByKey, Change, Remove, Erase, Repair, Label, Uuid, Amend}
 use Rattle.luks_edit.specs.declared.edit.Opener.{Opener}
 use Rattle.luks_edit.specs.declared.edit.Opener.TheVariants as opener
 use Rattle.luks2_edit_laws.specs.declared.like.Like.{Like}
@@ -51,6 +51,7 @@ need_once j (Add by_ old new to iterations d) a b x y = needed_once j (opener.Ke
 need_once j (AddByKey key new to iterations d) a b x y = needed_once j (opener.Key key) a b x y
 need_once j (Change slot old new iterations d) a b x y = needed_once j (opener.Keyslot slot old) a b x y
 need_once j (Remove slot by_ passphrase) a b x y = x ∙ sym y
+need_once j Erase a b x y = x ∙ sym y
 need_once j Repair a b x y = x ∙ sym y
 need_once j (Label text subsystem) a b x y = x ∙ sym y
 need_once j (Uuid uuid) a b x y = x ∙ sym y

@@ -1,5 +1,6 @@
 -- What a LUKS2 volume keeps that a failing device call left.
 use Rattle.std.proofs.Common.{◌≡◌, ℕ, ◌+◌, ◌-◌, ◌*◌, ◌<◌, ◌≤◌, ◌⊎◌, ◌==◌, Bool, true, false, List, length, None, Some, inl, inr, refl, sym, ap, subst, ◌∙◌, arith}
+use Rattle.std.specs.Prelude.{⊤}
 use Rattle.std.proofs.lemmas.Bool.{eqb-true}
 use Rattle.serde_json.specs.Data.{Data as Value}
 use Rattle.luks_area.specs.declared.area.AreaName.TheVariants as name
@@ -23,25 +24,26 @@ use Rattle.luks_reading.specs.Checked.{WellFormed, WellFormedAs}
 use Rattle.luks_reading.specs.Header.{json_at}
 use Rattle.luks_edit.proofs.SecretFacts.{one_answer_to}
 use Rattle.luks_edit.specs.declared.edit.Edit.{Edit}
-use Rattle.luks_edit.specs.declared.edit.Edit.TheVariants.{Add, AddByKey, Change, Remove, Repair, Label, Uuid, Amend}
+use Rattle.luks_edit.specs.declared.edit.Edit.TheVariants.{Add, AddByKey, Change, Remove, Erase, Repair, Label, Uuid, Amend}
 use Rattle.luks_edit.specs.declared.edit.Opener.{Opener}
 use Rattle.luks_edit.specs.declared.edit.Opener.TheVariants as opener
 use Rattle.luks_edit.specs.declared.edit_fault.EditFault.TheVariants.{BadUuid}
-use Rattle.luks_edit.specs.Asked.{allowed_for}
+use Rattle.luks_edit.specs.Asked.{allowed_for, deed_of, Loses, MatchDeed}
 use Rattle.luks_edit.specs.Kept.{Keeps}
 use Rattle.luks2_edit_laws.specs.declared.like.Like.{Like}
 use Rattle.luks2_edit_laws.specs.declared.like.Like.TheVariants.{Keyslot}
 use Rattle.luks2_edit_laws.specs.Copies.{other_place, IsRenewed}
 use Rattle.luks2_edit_laws.specs.Edited.{keyslot_salt, members_of, stripes_random, HasChanged, HasRanges, HoldsKey, IsEdited, IsSealedBy, NamedKeyslots2}
-use Rattle.luks2_edit_laws.specs.Leftovers.{CountsAsAfter, CountsAsBefore, IsAllowed, IsNotStray, IsTorn2, IsTornAt, IsTornChosen, IsTornLost, IsTornOther, Leftover2, OpensEither2}
+use Rattle.luks2_edit_laws.specs.Leftovers.{CountsAsAfter, CountsAsBefore, IsAllowed, IsNotStray, IsTorn2, IsTornAt, IsTornChosen, IsTornLost, IsTornOther, KeepsAllOrNone, Leftover2, OpensEither2}
 use Rattle.luks2_edit_laws.specs.Metadata.{HasMetadata}
 use Rattle.luks2_edit_laws.specs.Gap.{IsLeastGap}
-use Rattle.luks2_edit_laws.specs.Places.{key_areas_end, rounded_to_blocks, IsNewArea, IsOfCopies, IsOfNewKeyslot, IsOfSealed, IsTouched, Loses}
+use Rattle.luks2_edit_laws.specs.Places.{key_areas_end, rounded_to_blocks, IsNewArea, IsOfCopies, IsOfLost, IsOfNewKeyslot, IsOfSealed, IsTouched}
 use Rattle.luks2_edit_laws.specs.Refused.{IsUnrefused2}
 use Rattle.luks2_edit_laws.proofs.MetadataFacts.{some_same}
 use Rattle.luks2_edit_laws.proofs.OpenedFacts.{changed_opens}
 use Rattle.luks2_edit_laws.proofs.ToldFacts.{same_stripes_like}
 use Rattle.luks2_edit_laws.proofs.AfterFacts.{asking, changed_changes, edited_metadata, lost_is_named, model_by, ready_by, same_metadata, was_opened, WasOpened, long_salt}
+use Rattle.luks2_edit_laws.proofs.ErasedFacts.{none_opens}
 use Rattle.luks2_edit_laws.proofs.GivenFacts.{gives_kept}
 use Rattle.luks2_edit_laws.proofs.KeptFacts.{all_kept}
 use Rattle.luks2_edit_laws.proofs.LeftoverFacts.{first_size_left, is_sound, left_of, not_other, place_is, same_header, Left}
@@ -62,6 +64,7 @@ sealed_behind h total payload j (Add by_ old new to iterations d) p x = new_behi
 sealed_behind h total payload j (AddByKey key new to iterations d) p x = new_behind h total payload j x.like p x.has
 sealed_behind h total payload j (Change slot old new iterations d) p x = new_behind h total payload j x.like p x.has
 sealed_behind h total payload j (Remove slot by_ passphrase) p x = absurd x
+sealed_behind h total payload j Erase p x = absurd x
 sealed_behind h total payload j Repair p x = absurd x
 sealed_behind h total payload j (Label text subsystem) p x = absurd x
 sealed_behind h total payload j (Uuid uuid) p x = absurd x
@@ -116,6 +119,17 @@ json_of_copy v q long = part-part v q (hdr_size (header_at v q)) 4096 (hdr_size 
     joined : {n : ℕ} → 4096 ≤ n → 4096 + (n - 4096) ≤ n
     joined least = omega (arith, least)
 
+-- the copy that the edit writes, where it counts
+written_copy : (v : List ℕ) (payload : Data) (e : Edit) (random w : List ℕ) → WellFormed v payload → IsUnrefused2 v payload e random
+    → (p : ℕ) (b : Copies) → Chosen w (luks2 p b) → (a : IsAllowed v payload e random w p) → HasCopy w p (hdr_size (header_at v a.place)) a.new
+written_copy v payload e random w well free p b chosen a = record {
+  copies = b;
+  chosen = chosen;
+  size = a.renewed.size;
+  uuid = subst IsUuidField (sym a.renewed.uuid) (uuid_stays e random _ (free.none BadUuid) (copy_of v payload a.place a.value a.metadata well).uuid);
+  holds = a.renewed.json.json;
+}
+
 module _
     (v : List ℕ) (payload : Data) (e : Edit) (random w : List ℕ) (well : WellFormed v payload)
     (ranges : HasRanges v e random) (long : length w ≡ length v)
@@ -163,13 +177,7 @@ module _
         let h : ℕ = hdr_size (header_at v a.place) in
         let before : HasCopy v a.place h a.value = copy_of v payload a.place a.value a.metadata well in
         let layout : IsLayout h (length v) payload a.value = layout_of v payload a.place a.value a.metadata well in
-        let after : HasCopy w p h a.new = record {
-          copies = b;
-          chosen = chosen;
-          size = a.renewed.size;
-          uuid = subst IsUuidField (sym a.renewed.uuid) (uuid_stays e random _ (free.none BadUuid) before.uuid);
-          holds = a.renewed.json.json;
-        } in
+        let after : HasCopy w p h a.new = written_copy v payload e random w well free p b chosen a in
         all_kept v w payload a.place p h a.value a.new (NamedKeyslots2 v e) before after long layout
         (edited_metadata v a.place payload e random a.value a.new a.metadata before ranges free opened a.edited layout)
         (λ n d x. left_bytes v w h (length v) payload a.value e layout.fit rest (name.Segment n) d tt x)
@@ -211,13 +219,7 @@ opens_written v payload (Change slot old new iterations d) random w well ranges 
     let h : ℕ = hdr_size (header_at v a.place) in
     let before : HasCopy v a.place h a.value = copy_of v payload a.place a.value a.metadata well in
     let layout : IsLayout h (length v) payload a.value = layout_of v payload a.place a.value a.metadata well in
-    let after : HasCopy w p h a.new = record {
-      copies = b;
-      chosen = chosen;
-      size = a.renewed.size;
-      uuid = subst IsUuidField (sym a.renewed.uuid) (uuid_stays e random _ (free.none BadUuid) before.uuid);
-      holds = a.renewed.json.json;
-    } in
+    let after : HasCopy w p h a.new = written_copy v payload e random w well free p b chosen a in
     let now : IsLayout h (length w) payload a.new = subst (λ n. IsLayout h n payload a.new) (sym long)
     (edited_metadata v a.place payload e random a.value a.new a.metadata before ranges free (sealed.key, sealed.opened) a.edited layout).layout in
     let opener_ : Opener = opener.Keyslot slot old in
@@ -238,14 +240,15 @@ opens_written v payload (Change slot old new iterations d) random w well ranges 
     (let key_same : sealed.key ≡ key = one_answer_to old.kind allowed v slot old.bytes.now (opens sealed.key) (opens key) sealed.opened was in
     inr (subst (λ x. AnswerWithin allowed w slot new.now (opens x)) key_same opened))
 opens_written v payload (Remove slot by_ passphrase) random w well ranges free long j k p b chosen a edited sealed = tt
+opens_written v payload Erase random w well ranges free long j k p b chosen a edited sealed = tt
 opens_written v payload Repair random w well ranges free long j k p b chosen a edited sealed = tt
 opens_written v payload (Label text subsystem) random w well ranges free long j k p b chosen a edited sealed = tt
 opens_written v payload (Uuid uuid) random w well ranges free long j k p b chosen a edited sealed = tt
 opens_written v payload (Amend c) random w well ranges free long j k p b chosen a edited sealed = tt
 
-sealed_or_copy : (A B : Type 0) → A ⊎ B → B ⊎ A ⊎ ⊥
-sealed_or_copy A B (inl a) = inr (inl a)
-sealed_or_copy A B (inr b) = inl b
+sealed_or_copy : (A B C : Type 0) → A ⊎ B → B ⊎ A ⊎ C
+sealed_or_copy A B C (inl a) = inr (inl a)
+sealed_or_copy A B C (inr b) = inl b
 
 -- ---- by the step that failed
 
@@ -257,11 +260,16 @@ chosen_at p o h room (inr ph) (inr oh) = inl (ph ∙ sym oh)
 chosen_at p o h room (inr ph) (inl o0) = inr (inl (o0, ph, λ p0. not_both p0 ph room))
 chosen_at p o h room (inl p0) (inr oh) = inr (inr (oh, p0, λ o0. not_both o0 oh room))
 
+-- where an edit erases all keyslots: all have their answers, or none opens
+abbrev pub ErasesAll : Data → List ℕ → Edit → List ℕ → Type 0
+ErasesAll payload v e w = MatchDeed (deed_of e) (λ s. ⊤) (λ r. ⊤) (λ r. ⊤) (KeepsAllOrNone payload v w)
+
 -- what counts, what is kept, and what opens
 pub record Outcome (v : List ℕ) (payload : Data) (e : Edit) (random w : List ℕ) : Type 0 where
   pub whole : CountsAsBefore v w ⊎ CountsAsAfter v payload e random w
   pub keeps : Keeps payload (NamedKeyslots2 v e) v w
   pub opens_either : OpensEither2 v e w
+  pub erases_all : ErasesAll payload v e w
 
 -- while neither the copy that counted nor the keyslot's own area was touched, it gives by the old secret what it gave
 opens_before : (v : List ℕ) (payload : Data) (e : Edit) (random w : List ℕ) → WellFormed v payload
@@ -272,17 +280,50 @@ opens_before v payload (AddByKey key new to iterations d) random w well ranges o
 opens_before v payload (Change slot old new iterations d) random w well ranges o j m b chosen same rest = λ key was.
     (let e : Edit = Change slot old new iterations d in
     let all : SameBut (IsTouched (hdr_size (header_at v o)) (length v) payload j (Add slot old new None iterations d)) v w =
-    same_but-wider (λ p x. sealed_or_copy (IsOfSealed (hdr_size (header_at v o)) (length v) payload j e p) (IsOfCopies (hdr_size (header_at v o)) p) x) rest in
+    same_but-wider (λ p x. sealed_or_copy (IsOfSealed (hdr_size (header_at v o)) (length v) payload j e p) (IsOfCopies (hdr_size (header_at v o)) p) (IsOfLost j (Add slot old new None iterations d) p) x) rest in
     let kept : Keeps payload (λ n. ⊥) v w =
     kept_before v payload e random w well ranges rest.length_same (λ n. ⊥) (Add slot old new None iterations d) (λ n lost. lost)
     o j m b chosen same all in
     inl (gives_kept old.kind (allowed_for (opener.Keyslot slot old) new.now) payload v w slot old.bytes.now (Some key) o m.copies b m.chosen chosen
     (same_json v payload e random w well ranges rest.length_same o m.copies b m.chosen chosen same) (kept.slots slot (λ x. x)) was))
 opens_before v payload (Remove slot by_ passphrase) random w well ranges o j m b chosen same rest = tt
+opens_before v payload Erase random w well ranges o j m b chosen same rest = tt
 opens_before v payload Repair random w well ranges o j m b chosen same rest = tt
 opens_before v payload (Label text subsystem) random w well ranges o j m b chosen same rest = tt
 opens_before v payload (Uuid uuid) random w well ranges o j m b chosen same rest = tt
 opens_before v payload (Amend c) random w well ranges o j m b chosen same rest = tt
+
+-- all keyslots have their areas and answers while neither the copy that counted nor a key area was touched
+all_before : (v : List ℕ) (payload : Data) (e : Edit) (random w : List ℕ) → WellFormed v payload
+    → HasRanges v e random → (o : ℕ) (j : Value) (m : HasMetadata v o j) (b : Copies) → Chosen w (luks2 o b) → copy_at w o ≡ copy_at v o
+    → SameBut (IsOfEither (IsOfSealed (hdr_size (header_at v o)) (length v) payload j e) (IsOfCopies (hdr_size (header_at v o)))) v w → ErasesAll payload v e w
+all_before v payload (Add by_ old new to iterations d) random w well ranges o j m b chosen same rest = tt
+all_before v payload (AddByKey key new to iterations d) random w well ranges o j m b chosen same rest = tt
+all_before v payload (Change slot old new iterations d) random w well ranges o j m b chosen same rest = tt
+all_before v payload (Remove slot by_ passphrase) random w well ranges o j m b chosen same rest = tt
+all_before v payload Erase random w well ranges o j m b chosen same rest =
+    let copies : SameBut (IsTouched (hdr_size (header_at v o)) (length v) payload j Repair) v w =
+    same_but-wider (λ p x. elim x [ inl sealed ↦ absurd sealed | inr at ↦ inl at ]) rest in
+    let kept : Keeps payload (λ n. ⊥) v w = kept_before v payload Erase random w well ranges rest.length_same (λ n. ⊥) Repair (λ n lost. lost) o j m b chosen same copies in
+    inl (λ n. (let slot = kept.slots n (λ x. x) in record { area = slot.area; answers = slot.answers }))
+all_before v payload Repair random w well ranges o j m b chosen same rest = tt
+all_before v payload (Label text subsystem) random w well ranges o j m b chosen same rest = tt
+all_before v payload (Uuid uuid) random w well ranges o j m b chosen same rest = tt
+all_before v payload (Amend c) random w well ranges o j m b chosen same rest = tt
+
+-- none opens where one copy counts that the edit writes
+none_written : (v : List ℕ) (payload : Data) (e : Edit) (random w : List ℕ) → WellFormed v payload → IsUnrefused2 v payload e random
+    → (p : ℕ) (b : Copies) → Chosen w (luks2 p b) → IsAllowed v payload e random w p → ErasesAll payload v e w
+none_written v payload (Add by_ old new to iterations d) random w well free p b chosen a = tt
+none_written v payload (AddByKey key new to iterations d) random w well free p b chosen a = tt
+none_written v payload (Change slot old new iterations d) random w well free p b chosen a = tt
+none_written v payload (Remove slot by_ passphrase) random w well free p b chosen a = tt
+none_written v payload Erase random w well free p b chosen a =
+    inr (none_opens w p (hdr_size (header_at v a.place)) a.value a.new (written_copy v payload Erase random w well free p b chosen a) a.edited)
+none_written v payload Repair random w well free p b chosen a = tt
+none_written v payload (Label text subsystem) random w well free p b chosen a = tt
+none_written v payload (Uuid uuid) random w well free p b chosen a = tt
+none_written v payload (Amend c) random w well free p b chosen a = tt
 
 -- the other copy's place
 other_at : (h o : ℕ) → (o ≡ 0) ⊎ (o ≡ h) → 16384 ≤ h → (other_place h o ≡ 0) ⊎ (other_place h o ≡ h)
@@ -341,6 +382,7 @@ module _
       opens_either = opens_before v payload e random w well ranges o j m b chosen same unlost;
       whole = inl (record { place = o; old_copies = stray.copies; old_chosen = stray.chosen; new_copies = b; new_chosen = chosen; same = same });
       keeps = keeps_before v payload e random w well ranges rest.length_same o j m b chosen same rest;
+      erases_all = all_before v payload e random w well ranges o j m b chosen same unlost;
     }
 
     after_outcome : IsSealedBy v e random j w new → (p : ℕ) (b : Copies) → Chosen w (luks2 p b) → IsAllowed v payload e random w p → SameBut Touched v w → Outcome v payload e random w
@@ -358,6 +400,7 @@ module _
               (subst (λ i. IsEdited (hdr_size (header_at v a.place)) (length v) payload e (keyslot_salt random) i new) (sym value)
               (subst (λ q. IsEdited (hdr_size (header_at v q)) (length v) payload e (keyslot_salt random) j new) (sym place) edited)) sealed;
           keeps = keeps_after v payload e random w well ranges rest.length_same free opened p b chosen a all;
+          erases_all = none_written v payload e random w well free p b chosen a;
         }
 
     -- the places of a copy aren't sealed
@@ -459,7 +502,7 @@ module _
     torn_lost t =
         let l : Left w h =
         left_of v payload e random w t.rest.length_same stray 0 (inl refl) t.first.renewed.sound (choice_exists w).0 (choice_exists w).1 in
-        after_outcome t.sealed l.place l.copies l.chosen (written_by t l.place l.at) t.rest
+        after_outcome t.sealed l.place l.copies l.chosen (written_by t l.place l.at) (torn_rest v payload e random o j new w (inr (inr (inr t))))
 
     pub torn_outcome : IsTornAt v payload e random o j new w → Outcome v payload e random w
     torn_outcome (inl t) = torn_area t
@@ -481,6 +524,8 @@ same_outcome v payload e random w well ranges stray same j o m =
           (same_but-equal (IsOfEither (IsOfSealed (hdr_size (header_at v o)) (length v) payload j e) (IsOfCopies (hdr_size (header_at v o)))) same);
       keeps = keeps_before v payload e random w well ranges (ap length same) o j m m.copies chosen copy
           (same_but-equal (IsTouched (hdr_size (header_at v o)) (length v) payload j e) same);
+      erases_all = all_before v payload e random w well ranges o j m m.copies chosen copy
+          (same_but-equal (IsOfEither (IsOfSealed (hdr_size (header_at v o)) (length v) payload j e) (IsOfCopies (hdr_size (header_at v o)))) same);
     }
 
 -- what was torn, at the place that counted

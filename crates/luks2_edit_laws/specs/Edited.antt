@@ -1,5 +1,5 @@
 -- What an edit makes of a LUKS2 volume (LUKS2 On-Disk Format 1.1, 4).
-use Rattle.std.specs.Prelude.{◌≡◌, ℕ, ◌-◌, ◌*◌, ◌^◌, ◌<◌, Bool, List, length, drop, replicate, Option, None, Some, IfSome}
+use Rattle.std.specs.Prelude.{◌≡◌, ℕ, ◌-◌, ◌*◌, ◌^◌, ◌<◌, Bool, List, length, drop, replicate, Option, None, Some, IfSome, ⊤}
 use Rattle.base64.specs.GeneralPurpose.{IsBytes}
 use Rattle.serde_json.specs.Data.{Data as Value}
 use Rattle.serde_json.specs.View.{view}
@@ -14,7 +14,7 @@ use Rattle.luks_making.specs.Changed.{changed_slot}
 use Rattle.luks_making.specs.Derivations.{FitsAsked}
 use Rattle.luks_making.specs.declared.derivation.AskedDerivation.{AskedDerivation}
 use Rattle.luks_making.specs.Keyslots.{NewMembers}
-use Rattle.luks_making.specs.Without.{without_slot}
+use Rattle.luks_making.specs.Without.{without_slot, without_slots}
 use Rattle.luks_slot.specs.declared.allowed.Allowed.{Allowed}
 use Rattle.luks_slot.specs.declared.plan.SlotPlan.{SlotPlan}
 use Rattle.luks_slot.specs.Opening.{area_bytes}
@@ -27,7 +27,7 @@ use Rattle.luks_edit.specs.declared.edit.Opener.{Opener}
 use Rattle.luks_edit.specs.declared.edit.Opener.TheVariants as opener
 use Rattle.luks_edit.specs.declared.deed.Sealed.{Sealed}
 use Rattle.luks_edit.specs.Secrets.{AnswersTo}
-use Rattle.luks_edit.specs.Asked.{AmendsSlot, deed_of, lost_by, MatchChange, MatchDeed, MatchPlace, allowed_for, opener_at, sealed_by}
+use Rattle.luks_edit.specs.Asked.{AmendsSlot, deed_of, Loses, MatchChange, MatchDeed, MatchPlace, allowed_for, opener_at, sealed_by}
 use Rattle.luks2_edit_laws.specs.declared.like.Like.{Like}
 use Rattle.luks2_edit_laws.specs.declared.like.Like.TheVariants.{Keyslot}
 use Rattle.luks2_edit_laws.specs.Copies.{IsWrittenAnew}
@@ -49,7 +49,7 @@ abbrev pub IsSealedIn : List ℕ → Sealed → ℕ → Type 0
 IsSealedIn v s n = MatchPlace s.place (λ o to. IsMadeIn v to n) (λ slot secret. n ≡ slot)
 
 abbrev pub NamedKeyslots2 : List ℕ → Edit → ℕ → Type 0
-NamedKeyslots2 v e n = MatchDeed (deed_of e) (λ s. IsSealedIn v s n) (λ r. n ≡ r.slot) (λ r. AmendsSlot r.change n)
+NamedKeyslots2 v e n = MatchDeed (deed_of e) (λ s. IsSealedIn v s n) (λ r. n ≡ r.slot) (λ r. AmendsSlot r.change n) ⊤
 
 -- ---- what a call is given
 
@@ -110,6 +110,7 @@ IsEdited h total payload e salt j k = MatchDeed (deed_of e)
     (λ slot secret. HasChanged h total payload slot s.derivation salt j k))
     (λ r. k ≡ without_slot r.slot j)
     (λ r. IsAmended r.change j k)
+    (k ≡ without_slots j)
 
 -- of the random bytes those behind the salts of the copies: the salt of a keyslot, and its stripes
 abbrev pub keyslot_salt : List ℕ → List ℕ
@@ -170,14 +171,14 @@ IsSealedBy v e random j w k = IfSome (sealed_by e) (λ s.
 abbrev pub IsWiped : Value → ℕ → List ℕ → Type 0
 IsWiped j n w = (a : Area) → IsKeyArea j n a → part w a.start a.len ≡ replicate a.len 0
 
--- the area that a keyslot loses by the edit is zeros
+-- each area that a keyslot loses by the edit is zeros
 abbrev pub IsWipedBy : Edit → Value → List ℕ → Type 0
-IsWipedBy e j w = IfSome (lost_by e) (λ n. IsWiped j n w)
+IsWipedBy e j w = (n : ℕ) → Loses e n → IsWiped j n w
 
 -- ---- the volume after an edit
 
 -- the LUKS2 volume `w` is what the edit makes of `v` with the random bytes: both copies are written
--- anew with the metadata `new`, a new keyslot's area holds the key, a lost one is zeros, and each other
+-- anew with the metadata `new`, a new keyslot's area holds the key, lost ones are zeros, and each other
 -- byte is as it was
 pub record After2 (v : List ℕ) (payload : Data) (e : Edit) (random w : List ℕ) : Type 0 where
   pub place : ℕ

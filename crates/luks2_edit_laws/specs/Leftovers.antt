@@ -1,7 +1,7 @@
 -- What an edit of a LUKS2 volume may leave that a failing device call ended. A failed write leaves any
 -- bytes in its range; the ranges are written in this order: a new key area, the copy that doesn't
--- count, the copy that counts, the area that is lost.
-use Rattle.std.specs.Prelude.{◌≡◌, ℕ, ◌≤◌, ◌⊎◌, List, length, IfSome, ⊤}
+-- count, the copy that counts, the areas that are lost by the numbers of their keyslots.
+use Rattle.std.specs.Prelude.{◌≡◌, ℕ, ◌<◌, ◌≤◌, ◌⊎◌, List, length, IfSome, ⊤}
 use Rattle.serde_json.specs.Data.{Data as Value}
 use Rattle.luks_area.specs.Ranges.{IsAt, IsOfEither, SameBut}
 use Rattle.luks2_header.specs.Header2.{copy_at, hdr_size, header_at, IsSound}
@@ -12,11 +12,12 @@ use Rattle.luks_reading.specs.declared.report.Data.{Data}
 use Rattle.luks_reading.specs.Answer.{opens, AnswerWithin}
 use Rattle.luks_edit.specs.declared.edit.Edit.{Edit}
 use Rattle.luks_edit.specs.declared.edit.Opener.TheVariants.{Keyslot}
-use Rattle.luks_edit.specs.Asked.{again_by, allowed_for, MatchPlace}
+use Rattle.luks_edit.specs.Asked.{again_by, allowed_for, Loses, MatchPlace}
+use Rattle.luks_edit.specs.Kept.{IsShut, KeepsAnswers}
 use Rattle.luks2_edit_laws.specs.Copies.{other_place, IsRenewed, IsWrittenAnew}
-use Rattle.luks2_edit_laws.specs.Edited.{Gives2, keyslot_salt, IsEdited, IsSealedBy}
+use Rattle.luks2_edit_laws.specs.Edited.{Gives2, keyslot_salt, IsEdited, IsSealedBy, IsWiped}
 use Rattle.luks2_edit_laws.specs.Metadata.{HasMetadata}
-use Rattle.luks2_edit_laws.specs.Places.{IsOfCopies, IsOfSealed, IsTouched}
+use Rattle.luks2_edit_laws.specs.Places.{IsOfCopies, IsOfSealed, IsTouchedUpTo}
 use Rattle.luks2_edit_laws.specs.Refused.{IsUnrefused2}
 
 -- ---- by the step that failed, of an edit that makes `new` of the metadata `j` at the place `o`
@@ -34,12 +35,16 @@ pub record IsTornChosen (v : List ℕ) (payload : Data) (e : Edit) (random : Lis
   pub rest : SameBut (IsOfEither (IsOfSealed (hdr_size (header_at v o)) (length v) payload j e)
       (IsOfCopies (hdr_size (header_at v o)))) v w
 
--- while the lost area was overwritten
+-- while the area that the keyslot `slot` loses was overwritten: those of lower numbers are zeros, those of
+-- higher numbers are as they were
 pub record IsTornLost (v : List ℕ) (payload : Data) (e : Edit) (random : List ℕ) (o : ℕ) (j new : Value) (w : List ℕ) : Type 0 where
   pub sealed : IsSealedBy v e random j w new
   pub first : IsWrittenAnew v o e random new w 0
   pub second : IsWrittenAnew v o e random new w (hdr_size (header_at v o))
-  pub rest : SameBut (IsTouched (hdr_size (header_at v o)) (length v) payload j e) v w
+  pub slot : ℕ
+  pub loses : Loses e slot
+  pub wiped : (n : ℕ) → n < slot → Loses e n → IsWiped j n w
+  pub rest : SameBut (IsTouchedUpTo slot (hdr_size (header_at v o)) (length v) payload j e) v w
 
 -- while the new area was sealed, or later
 abbrev pub IsTornAt : List ℕ → Data → Edit → List ℕ → ℕ → Value → Value → List ℕ → Type 0
@@ -111,3 +116,7 @@ OpensEither2 v e w = IfSome (again_by e) (λ s. MatchPlace s.place (λ o to. ⊤
     → Gives2 (allowed_for (Keyslot slot secret) s.passphrase.now) v (Keyslot slot secret) key
     → Gives2 (allowed_for (Keyslot slot secret) s.passphrase.now) w (Keyslot slot secret) key
     ⊎ AnswerWithin (allowed_for (Keyslot slot secret) s.passphrase.now) w slot s.passphrase.now (opens key)))
+
+-- each keyslot has its area and its answers, or none opens by any passphrase
+abbrev pub KeepsAllOrNone : Data → List ℕ → List ℕ → Type 0
+KeepsAllOrNone payload v w = ((n : ℕ) → KeepsAnswers payload n v w) ⊎ ((n : ℕ) → IsShut w n)

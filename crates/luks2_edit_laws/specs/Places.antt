@@ -1,6 +1,6 @@
 -- Where a new keyslot's area goes, and which bytes of a LUKS2 volume an edit may change. In a volume
 -- of `total` bytes both copies have `h` bytes each, and the metadata that counts is `j`.
-use Rattle.std.specs.Prelude.{◌≡◌, ℕ, ◌+◌, ◌*◌, ◌/◌, ◌<◌, ◌⊎◌, List, length, Some, IsSomeAnd, min}
+use Rattle.std.specs.Prelude.{◌≡◌, ℕ, ◌+◌, ◌*◌, ◌/◌, ◌<◌, ◌≤◌, ◌⊎◌, List, length, Some, IsSomeAnd, min}
 use Rattle.serde_json.specs.Data.{Data as Value}
 use Rattle.luks_area.specs.declared.area.Area.{Area}
 use Rattle.luks_area.specs.Ranges.{IsAt}
@@ -10,7 +10,7 @@ use Rattle.luks_rules.specs.Sizes.{keyslots_size}
 use Rattle.luks_reading.specs.declared.report.Data.{Data}
 use Rattle.luks_reading.specs.Layout2.{Luks2Area}
 use Rattle.luks_edit.specs.declared.edit.Edit.{Edit}
-use Rattle.luks_edit.specs.Asked.{lost_by, opener_at, sealed_by}
+use Rattle.luks_edit.specs.Asked.{Loses, opener_at, sealed_by}
 use Rattle.luks2_edit_laws.specs.declared.like.Like.{Like}
 use Rattle.luks2_edit_laws.specs.Gap.{HasNoGap, IsLeastGap}
 use Rattle.luks2_edit_laws.specs.Likes.{ForLike, HasStripesLike}
@@ -67,17 +67,24 @@ pub record IsOfNewKeyslot (h total : ℕ) (payload : Data) (j : Value) (p : ℕ)
 abbrev pub IsOfSealed : ℕ → ℕ → Data → Value → Edit → ℕ → Type 0
 IsOfSealed h total payload j e p = IsSomeAnd (sealed_by e) (λ s. ForLike j (opener_at s.place) (IsOfNewKeyslot h total payload j p))
 
--- the keyslot loses its area by the edit
-abbrev pub Loses : Edit → ℕ → Type 0
-Loses e n = IsSomeAnd (lost_by e) (λ m. n ≡ m)
-
 -- it is of the area that a keyslot loses by the edit
-abbrev pub IsOfLost : Value → Edit → ℕ → Type 0
-IsOfLost j e p = IsSomeAnd (lost_by e) (λ n. IsOfKeyslot j n p)
+pub record IsOfLost (j : Value) (e : Edit) (p : ℕ) : Type 0 where
+  pub slot : ℕ
+  pub loses : Loses e slot
+  pub is : IsOfKeyslot j slot p
 
 -- the edit may change the byte at the place
 abbrev pub IsTouched : ℕ → ℕ → Data → Value → Edit → ℕ → Type 0
 IsTouched h total payload j e p = IsOfCopies h p ⊎ IsOfSealed h total payload j e p ⊎ IsOfLost j e p
+
+-- it is of one that is lost of a number up to `last`
+pub record IsOfLostUpTo (last : ℕ) (j : Value) (e : Edit) (p : ℕ) : Type 0 where
+  pub lost : IsOfLost j e p
+  pub low : lost.slot ≤ last
+
+-- the edit may change the byte at the place, before the areas of higher numbers than `last` that are lost
+abbrev pub IsTouchedUpTo : ℕ → ℕ → ℕ → Data → Value → Edit → ℕ → Type 0
+IsTouchedUpTo last h total payload j e p = IsOfCopies h p ⊎ IsOfSealed h total payload j e p ⊎ IsOfLostUpTo last j e p
 
 -- the edit may change the byte at the place of the LUKS2 volume `v`: by the metadata that counts it is
 -- of one of the copies, of the sectors of a keyslot that the edit makes or seals again, or of the area

@@ -1,6 +1,6 @@
 //! Laws on the definitions of this crate. Each function does nothing; its contract is the law.
 
-ghost use Rattle.std.specs.Prelude.{◌≡◌, ◌↔◌, ◌⊎◌, ℕ, List, Some, replicate};
+ghost use Rattle.std.specs.Prelude.{◌≡◌, ◌↔◌, ◌⊎◌, ℕ, List, None, Some, replicate};
 ghost use Rattle.luks_area.specs.declared.area.Area.{Area as TheArea};
 ghost use Rattle.luks_area.specs.declared.area.AreaName.TheVariants.{Slot};
 ghost use Rattle.luks_area.specs.Ranges.{part, SameBut};
@@ -13,17 +13,18 @@ ghost use Rattle.luks_reading.specs.Answer.{AnswerWithin, Opened};
 ghost use Rattle.luks_reading.specs.Checked.{AreaOf, WellFormed};
 ghost use Rattle.luks_reading.specs.declared.report.Data.{Data as Payload};
 ghost use Rattle.luks_edit.specs.declared.edit.Edit.{Edit as TheEdit};
+ghost use Rattle.luks_edit.specs.declared.edit.Edit.TheVariants.{Erase};
 ghost use Rattle.luks_making.specs.declared.amended.Change.{Change as TheChange};
 ghost use Rattle.luks_edit.specs.declared.new_uuid.NewUuid.{NewUuid as TheUuid};
-ghost use Rattle.luks_edit.specs.Asked.{change_by, uuid_by};
-ghost use Rattle.luks_edit.specs.Kept.{Keeps, KeepsAnswers};
+ghost use Rattle.luks_edit.specs.Asked.{again_by, change_by, uuid_by, Loses};
+ghost use Rattle.luks_edit.specs.Kept.{IsShut, Keeps, KeepsAnswers};
 ghost use Rattle.luks_edit.specs.NewUuids.{new_uuid_text};
 ghost use Rattle.luks2_edit_laws.specs.Copies.{uuid_random};
 ghost use Rattle.luks2_edit_laws.specs.Derived.{IsDerivedBy};
 ghost use Rattle.luks2_edit_laws.specs.Edited.{After2, HasRanges, NamedKeyslots2, OpensAfter2};
 ghost use Rattle.luks2_edit_laws.specs.Kept.{HasSameKeyslot};
-ghost use Rattle.luks2_edit_laws.specs.Leftovers.{CountsAsAfter, CountsAsBefore, IsNotStray, Leftover2, OpensEither2};
-ghost use Rattle.luks2_edit_laws.specs.Places.{IsTouchedIn, Loses};
+ghost use Rattle.luks2_edit_laws.specs.Leftovers.{CountsAsAfter, CountsAsBefore, IsNotStray, KeepsAllOrNone, Leftover2, OpensEither2};
+ghost use Rattle.luks2_edit_laws.specs.Places.{IsTouchedIn};
 ghost use Rattle.luks2_edit_laws.specs.Refused.{IsEditFault2, IsUnrefused2, Refusal2};
 ghost use Rattle.luks_edit.specs.EditFaults.{edit_key};
 ghost use Rattle.luks_edit.specs.declared.edit_fault.EditFault.{EditFault as TheFault};
@@ -40,7 +41,8 @@ pub fn alike_slots_answer_alike()
 
 /// After an edit of a well formed LUKS2 volume that nothing refused, the volume is well formed, and
 /// its copies are in step; the segments are as before, and so are the area, the value and the
-/// answers of each keyslot that the edit didn't name. The area that a keyslot loses is zeros. Where the
+/// answers of each keyslot that the edit didn't name. Each area that a keyslot loses is zeros, and a
+/// keyslot that loses its area and isn't sealed again opens no more by any passphrase. Where the
 /// metadata changes in named members, each keyslot has its area and its answers, the one too whose
 /// priority is set.
 pub fn luks2_edit_keeps_volume()
@@ -53,6 +55,9 @@ pub fn luks2_edit_keeps_volume()
     ensures lost { (payload : Payload) (e : TheEdit) (v random w : List ℕ) (n : ℕ) (a : TheArea)
         → WellFormed v payload → After2 v payload e random w → Loses e n
         → AreaOf v payload (Slot n) a → part w a.start a.len ≡ replicate a.len 0 }
+    ensures shut { (payload : Payload) (e : TheEdit) (v random w : List ℕ) (n : ℕ)
+        → WellFormed v payload → HasRanges v e random → IsUnrefused2 v payload e random
+        → After2 v payload e random w → again_by e ≡ None → Loses e n → IsShut w n }
     ensures amended { (payload : Payload) (e : TheEdit) (v random w : List ℕ) (c : TheChange)
         → WellFormed v payload → HasRanges v e random → IsUnrefused2 v payload e random
         → After2 v payload e random w → change_by e ≡ Some c → (n : ℕ) → KeepsAnswers payload n v w }
@@ -93,10 +98,11 @@ pub fn luks2_edit_derives()
 /// the torn write are taken for a header; the segments are as before, and so is each keyslot that
 /// the edit doesn't name; and what counts is the copy that counted before, or one that the edit
 /// writes: its metadata, its uuid, its label and its subsystem. A keyslot that was to be sealed again
-/// opens by the old passphrase or by the new one, to the same key.
+/// opens by the old passphrase or by the new one, to the same key. Where all keyslots were to be erased,
+/// each of them has its area and its answers, or none opens.
 ///
 /// Whatever it leaves of any LUKS2 volume, no byte changed beside the copies, the keyslot's sectors
-/// that the edit seals and the area that a keyslot loses by it; and none where a fault refuses the
+/// that the edit seals and the areas that keyslots lose by it; and none where a fault refuses the
 /// edit.
 pub fn luks2_failing_edit()
     ensures rest { (payload : Payload) (e : TheEdit) (v random w : List ℕ)
@@ -112,6 +118,9 @@ pub fn luks2_failing_edit()
     ensures opens { (payload : Payload) (e : TheEdit) (v random w : List ℕ) → WellFormed v payload
         → HasRanges v e random → Leftover2 v payload e random w → IsNotStray v payload e random w
         → OpensEither2 v e w }
+    ensures erased { (payload : Payload) (v random w : List ℕ) → WellFormed v payload
+        → HasRanges v Erase random → Leftover2 v payload Erase random w
+        → IsNotStray v payload Erase random w → KeepsAllOrNone payload v w }
 {}
 
 /// An edit has one refusal at most.

@@ -223,7 +223,7 @@ module _ (v : List ℕ) (payload : Data) (copy : ChosenCopy) (addition : Additio
         first = written.anew.first;
         second = written.anew.second;
         sealed = sealed_in w written.holds;
-        wiped = rw x.asked tt;
+        wiped = λ n lost. absurd (rw x.asked at lost);
         rest = same_but-wider touched written.rest;
       }
 

@@ -1,5 +1,5 @@
 -- The metadata that a change makes is what the edit makes, and its faults are those of the edit.
-use Rattle.std.proofs.Common.{◌≡◌, ◌≢◌, ℕ, ◌<◌, Option, Some, None, IfErr, IfOk, IfSome, Result, sym, subst, ◌∙◌, ap}
+use Rattle.std.proofs.Common.{◌≡◌, ◌≢◌, ℕ, Option, Some, None, IfErr, IfOk, IfSome, Result, sym, subst, ◌∙◌, ap}
 use Rattle.std.specs.Prelude.{IsSomeAnd}
 use Rattle.std.specs.Borrow.{Bor}
 use Rattle.serde_json.specs.Data.{Data as Value}

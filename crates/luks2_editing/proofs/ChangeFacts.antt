@@ -1,5 +1,5 @@
 -- A keyslot of a LUKS2 volume that is sealed again: its new area, and what the edit leaves.
-use Rattle.std.proofs.Common.{◌≡◌, ℕ, ◌≤◌, Bor, List, length, replicate, codes, false, option_and_then, inl, inr, refl, sym, ap, ◌∙◌, subst, arith}
+use Rattle.std.proofs.Common.{◌≡◌, ℕ, ◌<◌, ◌≤◌, Bor, List, length, replicate, codes, false, option_and_then, inl, inr, refl, sym, ap, ◌∙◌, subst, arith}
 use Rattle.std.proofs.lemmas.Option.{same_Some}
 use Rattle.serde_json.specs.Data.{Data as Value}
 use Rattle.serde_json.specs.Find.{get}
@@ -30,10 +30,11 @@ use Rattle.luks_edit.specs.declared.edit.Secret.{Secret}
 use Rattle.luks2_edit_laws.specs.Edited.{keyslot_salt, members_of, stripes_random, After2, Gives2, HoldsKey, IsEdited}
 use Rattle.luks2_edit_laws.specs.Leftovers.{Leftover2}
 use Rattle.luks2_edit_laws.specs.Metadata.{HasStripes, IsKeyArea}
-use Rattle.luks2_edit_laws.specs.Places.{IsNewArea, IsOfCopies, IsTouched}
+use Rattle.luks2_edit_laws.specs.Places.{IsNewArea, IsOfCopies, IsTouchedUpTo}
 use Rattle.luks2_edit_laws.specs.Refused.{IsUnrefused2}
 use Rattle.luks2_edit_laws.proofs.AlikeFacts.{SaysLike}
 use Rattle.luks2_edit_laws.proofs.SealFacts.{opened_plan, IsOpened}
+use Rattle.luks2_edit_laws.proofs.TouchedFacts.{all_touched}
 use Rattle.luks2_judging.specs.Rows.{HasNoFaultBefore}
 use Rattle.luks2_judging.specs.declared.judged.Renewal.{Renewal}
 use Rattle.luks2_editing.specs.declared.sealed_metadata.SealedSlot.TheVariants.{Renewed}
@@ -160,16 +161,16 @@ module _ (v : List ℕ) (payload : Data) (copy : ChosenCopy) (x : IsChosenCopy v
       anew_kept =
           let size : 16384 ≤ hdr_size (header_at v copy.header.hdr_offset) =
           listed_at_least (hdr_size (header_at v copy.header.hdr_offset)) (sound_here v payload copy x well).form.listed in
-          both_beside v copy.header.hdr_offset (Change slot old new derivation.iterations derivation.chosen) random k w y lost.start lost.len (omega (arith, size)) wiping
+          both_beside v copy.header.hdr_offset (Change slot old new derivation.iterations derivation.chosen) random k w y (IsAt lost.start lost.len) (omega (arith, size)) wiping
           (beside_first v payload copy x well slot lost is) (beside_second v payload copy x well slot lost is) written.anew
 
-      rest_touched : SameBut (IsTouched (hdr_size (header_at v copy.header.hdr_offset)) (length v) payload (content copy.meta) (Change slot old new derivation.iterations derivation.chosen)) v y
+      rest_touched : SameBut (IsTouchedUpTo slot (hdr_size (header_at v copy.header.hdr_offset)) (length v) payload (content copy.meta) (Change slot old new derivation.iterations derivation.chosen)) v y
       rest_touched = same_but-then
           (same_but-wider (λ p at. of_written p at) written.rest)
-          (same_but-wider (λ p at. inr (inr (record { area = lost; is = is; at = at }))) wiping)
+          (same_but-wider (λ p at. inr (inr (record { lost = record { slot = slot; loses = refl; is = record { area = lost; is = is; at = at } }; low = omega arith }))) wiping)
         where
           of_written : (p : ℕ) → IsOfEither (IsOfStripesOf k slot) (IsOfCopies (hdr_size (header_at v copy.header.hdr_offset))) p
-              → IsTouched (hdr_size (header_at v copy.header.hdr_offset)) (length v) payload (content copy.meta) (Change slot old new derivation.iterations derivation.chosen) p
+              → IsTouchedUpTo slot (hdr_size (header_at v copy.header.hdr_offset)) (length v) payload (content copy.meta) (Change slot old new derivation.iterations derivation.chosen) p
           of_written p (inl at) = inr (inl (change_sealing.place p at))
           of_written p (inr at) = inl at
 
@@ -179,6 +180,9 @@ module _ (v : List ℕ) (payload : Data) (copy : ChosenCopy) (x : IsChosenCopy v
         sealed = change_sealing.sealed y holds_kept;
         first = anew_kept.first;
         second = anew_kept.second;
+        slot = slot;
+        loses = refl;
+        wiped = λ n low loses. (let same : n ≡ slot = loses in absurd (omega (arith, low, same)));
         rest = rest_touched;
       }))))
 
@@ -193,9 +197,10 @@ module _ (v : List ℕ) (payload : Data) (copy : ChosenCopy) (x : IsChosenCopy v
         first = anew_kept.first;
         second = anew_kept.second;
         sealed = change_sealing.sealed y holds_kept;
-        wiped = λ a other.
-            (let starts : a.start ≡ lost.start = same_start (content copy.meta) slot a lost other is in
+        wiped = λ n same a there.
+            (let other : IsKeyArea (content copy.meta) slot a = subst (λ m. IsKeyArea (content copy.meta) m a) same there in
+            let starts : a.start ≡ lost.start = same_start (content copy.meta) slot a lost other is in
             let lens : a.len ≡ lost.len = same_len (content copy.meta) slot a lost other is in
             rw (starts, lens) wiped);
-        rest = rest_touched;
+        rest = all_touched slot (hdr_size (header_at v copy.header.hdr_offset)) (length v) payload (content copy.meta) (Change slot old new derivation.iterations derivation.chosen) v y rest_touched;
       }

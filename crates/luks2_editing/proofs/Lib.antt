@@ -15,3 +15,5 @@ mod AdditionFacts
 mod PlanFacts
 mod ChangeFacts
 mod AmendingFacts
+mod WipingFacts
+mod ErasureFacts

@@ -21,11 +21,11 @@ use Rattle.luks2_edit_laws.specs.Copies.{label_field, salt_field, subsystem_fiel
 use Rattle.luks2_edit_laws.specs.Metadata.{IsKeyArea}
 use Rattle.luks2_editing.specs.Rewriting.{AreWrittenAnew}
 
--- ---- a copy beside a range that was written
+-- ---- a copy beside places that were written
 
-module _ (v : List ℕ) (o : ℕ) (e : Edit) (random : List ℕ) (j : Value) (w x : List ℕ) (start m : ℕ) (least : 4096 ≤ hdr_size (header_at v o))
-    (same : SameBut (IsAt start m) w x) where
-  module _ (q : ℕ) (apart : (p : ℕ) → IsAt q (hdr_size (header_at v o)) p → IsAt start m p → ⊥) (a : IsWrittenAnew v o e random j w q) where
+module _ (v : List ℕ) (o : ℕ) (e : Edit) (random : List ℕ) (j : Value) (w x : List ℕ) (touched : ℕ → Type 0) (least : 4096 ≤ hdr_size (header_at v o))
+    (same : SameBut touched w x) where
+  module _ (q : ℕ) (apart : (p : ℕ) → IsAt q (hdr_size (header_at v o)) p → touched p → ⊥) (a : IsWrittenAnew v o e random j w q) where
     head_same : header_at x q ≡ header_at w q
     head_same = part-same_but q 4096 same (λ p here there. apart p (here.0, let high = here.1 in omega (arith, high, least)) there)
 
@@ -55,9 +55,9 @@ module _ (v : List ℕ) (o : ℕ) (e : Edit) (random : List ℕ) (j : Value) (w 
       csum_rest = subst (λ b. AreZeros b 480 512) (sym head_same) a.csum_rest;
     }
 
-  -- both copies stand beside the range
-  pub both_beside : ((p : ℕ) → IsAt 0 (hdr_size (header_at v o)) p → IsAt start m p → ⊥)
-      → ((p : ℕ) → IsAt (hdr_size (header_at v o)) (hdr_size (header_at v o)) p → IsAt start m p → ⊥)
+  -- both copies stand beside the places
+  pub both_beside : ((p : ℕ) → IsAt 0 (hdr_size (header_at v o)) p → touched p → ⊥)
+      → ((p : ℕ) → IsAt (hdr_size (header_at v o)) (hdr_size (header_at v o)) p → touched p → ⊥)
       → AreWrittenAnew v o e random j w → AreWrittenAnew v o e random j x
   both_beside first second a = record {
     first = anew_beside 0 first a.first;
@@ -67,7 +67,7 @@ module _ (v : List ℕ) (o : ℕ) (e : Edit) (random : List ℕ) (j : Value) (w 
 -- ---- the keyslot's area
 
 module _ (v : List ℕ) (payload : Data) (copy : ChosenCopy) (x : IsChosenCopy v copy) (well : WellFormed v payload) (slot : ℕ) where
-  area_named : (a : Area) → IsKeyArea (content copy.meta) slot a → AreaOf v payload (Slot slot) a
+  pub area_named : (a : Area) → IsKeyArea (content copy.meta) slot a → AreaOf v payload (Slot slot) a
   area_named a is = record { choice = luks2 copy.header.hdr_offset copy.copies; chosen = x.chosen; area = record { value = content copy.meta; holds = x.metadata.json; area = is } }
 
   module _ (area : Area) (is : IsKeyArea (content copy.meta) slot area) where

@@ -1,5 +1,5 @@
 -- A keyslot that is removed of a LUKS2 volume: its area, and the copies beside it.
-use Rattle.std.proofs.Common.{◌≡◌, ℕ, ◌≤◌, List, Option, length, replicate, inl, inr, refl, sym, ◌∙◌, subst, arith}
+use Rattle.std.proofs.Common.{◌≡◌, ℕ, ◌<◌, ◌≤◌, List, Option, length, replicate, inl, inr, refl, sym, ◌∙◌, subst, arith}
 use Rattle.serde_json.specs.Data.{Data as Value}
 use Rattle.luks_area.specs.declared.area.Area.{Area}
 use Rattle.luks_area.specs.Ranges.{part, IsAt, SameBut}
@@ -17,8 +17,9 @@ use Rattle.luks_edit.proofs.RowFacts.{after_token, passed_from, Passed}
 use Rattle.luks2_edit_laws.specs.Edited.{After2}
 use Rattle.luks2_edit_laws.specs.Leftovers.{Leftover2}
 use Rattle.luks2_edit_laws.specs.Metadata.{IsKeyArea}
-use Rattle.luks2_edit_laws.specs.Places.{IsOfCopies, IsTouched}
+use Rattle.luks2_edit_laws.specs.Places.{IsOfCopies, IsTouchedUpTo}
 use Rattle.luks2_edit_laws.specs.Refused.{IsEditFault2}
+use Rattle.luks2_edit_laws.proofs.TouchedFacts.{all_touched}
 use Rattle.luks2_judging.specs.Rows.{HasNoFaultBefore}
 use Rattle.luks2_editing.specs.Prepared.{IsPrepared}
 use Rattle.luks2_editing.specs.Rewriting.{AreWrittenAnew}
@@ -43,13 +44,13 @@ module _ (v : List ℕ) (payload : Data) (copy : ChosenCopy) (x : IsChosenCopy v
       anew_kept : AreWrittenAnew v copy.header.hdr_offset (Remove slot by_ passphrase) random new y
       anew_kept =
           let size : 16384 ≤ hdr_size (header_at v copy.header.hdr_offset) = listed_at_least (hdr_size (header_at v copy.header.hdr_offset)) (sound_here v payload copy x well).form.listed in
-          both_beside v copy.header.hdr_offset (Remove slot by_ passphrase) random new w y area.start area.len (omega (arith, size)) lost
+          both_beside v copy.header.hdr_offset (Remove slot by_ passphrase) random new w y (IsAt area.start area.len) (omega (arith, size)) lost
           (beside_first v payload copy x well slot area is) (beside_second v payload copy x well slot area is) anew
 
-      rest_touched : SameBut (IsTouched (hdr_size (header_at v copy.header.hdr_offset)) (length v) payload (content copy.meta) (Remove slot by_ passphrase)) v y
+      rest_touched : SameBut (IsTouchedUpTo slot (hdr_size (header_at v copy.header.hdr_offset)) (length v) payload (content copy.meta) (Remove slot by_ passphrase)) v y
       rest_touched = same_but-then
           (same_but-wider (λ p at. inl at) (subst (λ n. SameBut (IsOfCopies n) v w) (sym (size_is v payload copy x well)) copies))
-          (same_but-wider (λ p at. inr (inr (record { area = area; is = is; at = at }))) lost)
+          (same_but-wider (λ p at. inr (inr (record { lost = record { slot = slot; loses = refl; is = record { area = area; is = is; at = at } }; low = omega arith }))) lost)
 
       -- while it was overwritten
       pub torn_lost : Leftover2 v payload (Remove slot by_ passphrase) random y
@@ -61,7 +62,15 @@ module _ (v : List ℕ) (payload : Data) (copy : ChosenCopy) (x : IsChosenCopy v
           metadata = metadata_here v payload copy x well;
           new = new;
           edited = made;
-          torn = inr (inr (inr (record { sealed = tt; first = anew_kept.first; second = anew_kept.second; rest = rest_touched })));
+          torn = inr (inr (inr (record {
+            sealed = tt;
+            first = anew_kept.first;
+            second = anew_kept.second;
+            slot = slot;
+            loses = refl;
+            wiped = λ n low loses. (let same : n ≡ slot = loses in absurd (omega (arith, low, same)));
+            rest = rest_touched;
+          })));
         },
       )
 
@@ -69,7 +78,8 @@ module _ (v : List ℕ) (payload : Data) (copy : ChosenCopy) (x : IsChosenCopy v
       pub removed_after : part y area.start area.len ≡ replicate area.len 0 → After2 v payload (Remove slot by_ passphrase) random y
       removed_after wiped =
           written_after v payload copy x well (Remove slot by_ passphrase) random new removal_passed (λ salt. made) (λ salt k same. same ∙ sym made) 128 refl (λ k same. same) (λ u. tt) y
-          (λ a other.
+          (λ n same a there.
+          let other : IsKeyArea (content copy.meta) slot a = subst (λ m. IsKeyArea (content copy.meta) m a) same there in
           let begins = other.1 in
           let mine = is.1 in
           let long = other.2 in
@@ -77,4 +87,4 @@ module _ (v : List ℕ) (payload : Data) (copy : ChosenCopy) (x : IsChosenCopy v
           let starts : a.start ≡ area.start = cc (begins, mine) in
           let lens : a.len ≡ area.len = cc (long, my_long) in
           rw (starts, lens) wiped)
-          anew_kept rest_touched
+          anew_kept (all_touched slot (hdr_size (header_at v copy.header.hdr_offset)) (length v) payload (content copy.meta) (Remove slot by_ passphrase) v y rest_touched)

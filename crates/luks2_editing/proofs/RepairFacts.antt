@@ -101,7 +101,7 @@ module _ (v : List ℕ) (payload : Data) (copy : ChosenCopy) (x : IsChosenCopy v
             (128 + uuid_need uuid) takes takes_only (λ u. rw is.asked tt) ready;
         after = written_after v payload copy x well e random new passed
             (λ salt. rw is.asked amends) (λ salt k other. amended_once is.rewritten.change (content copy.meta) k new (rw is.asked at other) amends)
-            (128 + uuid_need uuid) takes takes_only (λ u. rw is.asked tt) w (rw is.asked tt) anew
+            (128 + uuid_need uuid) takes takes_only (λ u. rw is.asked tt) w (λ n lost. absurd (rw is.asked at lost)) anew
             (copies_touched v payload copy x well e random new passed
             (λ salt. rw is.asked amends) (λ salt k other. amended_once is.rewritten.change (content copy.meta) k new (rw is.asked at other) amends)
             (128 + uuid_need uuid) takes takes_only (λ u. rw is.asked tt) w rest);

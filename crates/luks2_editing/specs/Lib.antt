@@ -6,3 +6,4 @@ pub mod Sealed
 pub mod MadeMetadata
 pub mod SealedKeyslot
 pub mod Amending
+pub mod Wiping

@@ -7,6 +7,7 @@ ghost use Rattle.luks2_editing.specs.Replies.{Replies2};
 
 use crate::adding::add;
 use crate::changing::change;
+use crate::erasing::erase;
 use crate::removing::remove;
 use crate::repairing::repair;
 use crate::secrets::Secrets;
@@ -21,12 +22,12 @@ use std::alloc::Global;
 /// sealed its salt, 32 bytes, and its stripes but the last, and for a random uuid 16 bytes.
 ///
 /// The first refusal is answered, or `Memory`, and then no byte changes: all memory is taken before
-/// the first write, that of Argon2 too. The copy is given up, so that the old metadata doesn't live beside the new. What
-/// is written is written in this order, each range with a flush: the area of the keyslot that is made
-/// or sealed again, the copy of the header that didn't count, the one that did, and zeros over the
-/// area that a keyslot lost. `Device` comes exactly where a device call failed; what that leaves, the
-/// volume as it was or one torn in that range, keeps every other keyslot, unless bytes of a torn write
-/// are taken for a header.
+/// the first write, that of Argon2 too. The copy is given up, so that the old metadata doesn't live
+/// beside the new. What is written is written in this order, each range with a flush: the area of the
+/// keyslot that is made or sealed again, the copy of the header that didn't count, the one that did, and
+/// zeros over each area that a keyslot lost, by the keyslots' numbers. `Device` comes exactly where a
+/// device call failed; what that leaves, the volume as it was or one torn in that range, keeps every
+/// other keyslot, unless bytes of a torn write are taken for a header.
 #[tactic(auto, using(luks_area::proofs::DeviceFacts::settled_unchanged))]
 pub fn apply_luks2<D: Device>(
     alloc: Global,
@@ -63,6 +64,7 @@ pub fn apply_luks2<D: Device>(
             }
         }
         JudgedEdit::Remove { slot, area } => remove(alloc, device, copy, slot, area, random),
+        JudgedEdit::Erase => erase(alloc, device, copy, random),
         JudgedEdit::Rewrite {
             uuid,
             fields,

@@ -5,6 +5,7 @@ mod adding;
 mod amending;
 mod applying;
 mod changing;
+mod erasing;
 mod new_copy;
 mod preparing;
 mod random;
@@ -15,6 +16,7 @@ mod sealed_metadata;
 mod sealed_plan;
 mod sealing;
 mod secrets;
+mod wiping;
 mod writing;
 
 pub use applying::apply_luks2;

@@ -11,10 +11,13 @@ pub(crate) fn new_header(old: &Bin2, at: u64, texts: TextFields, salt: [u8; 64])
     requires { old.now.seqid + 1 < 2 ^ 64 }
     ensures { IsNewHeader old.now at texts salt result }
 {
+    let uuid = texts.uuid;
+    let label = texts.label;
+    let subsystem = texts.subsystem;
     Bin2 {
-        uuid: texts.uuid,
-        label: texts.label,
-        subsystem: texts.subsystem,
+        uuid,
+        label,
+        subsystem,
         ..old.renewed(at, old.seqid + 1, salt)
     }
 }

@@ -82,8 +82,6 @@ fn with_uuid(texts: TextFields, uuid: Option<NewUuid<'_>>, random: &[u8]) -> Tex
     requires counted { 128 + uuid_need uuid ≤ length random.now }
     ensures { result ≡ with_uuid uuid.entry random.now texts }
 {
-    TextFields {
-        uuid: uuid_field_after(uuid, uuid_random(random), texts.uuid),
-        ..texts
-    }
+    let uuid = uuid_field_after(uuid, uuid_random(random), texts.uuid);
+    TextFields { uuid, ..texts }
 }

@@ -16,7 +16,7 @@ use Rattle.luks_making.specs.With.{with_slot}
 use Rattle.luks_reading.specs.declared.report.Data.{Data}
 use Rattle.luks_reading.specs.Layout2.{Luks2Area}
 use Rattle.luks_edit.specs.declared.edit.Edit.{Edit}
-use Rattle.luks_edit.specs.declared.edit.Edit.TheVariants.{Add, AddByKey, Change, Remove, Repair, Label, Uuid, Amend}
+use Rattle.luks_edit.specs.declared.edit.Edit.TheVariants.{Add, AddByKey, Change, Remove, Erase, Repair, Label, Uuid, Amend}
 use Rattle.luks_edit.specs.declared.edit.Opener.{Opener}
 use Rattle.luks_edit.specs.declared.edit.Opener.TheVariants as opener
 use Rattle.luks_edit.specs.Asked.{chosen_or}
@@ -186,6 +186,7 @@ module _ (h total : ℕ) (payload : Data) (j : Value) (a b : List ℕ) (salts : 
       added_as_long (opener.Key key) to (record { iterations = iterations; chosen = Some (chosen_or iterations chosen) }) x y one two
   edited_as_long (Change slot old new iterations chosen) x y one two = renewed_as_long slot (record { iterations = iterations; chosen = chosen }) x y one two
   edited_as_long (Remove slot by_ passphrase) x y one two = subst (λ v. AsLong x v) (one ∙ sym two) refl
+  edited_as_long Erase x y one two = subst (λ v. AsLong x v) (one ∙ sym two) refl
   edited_as_long Repair x y one two = subst (λ v. AsLong x v) (one ∙ sym two) refl
   edited_as_long (Label text subsystem) x y one two = subst (λ v. AsLong x v) (one ∙ sym two) refl
   edited_as_long (Uuid uuid) x y one two = subst (λ v. AsLong x v) (one ∙ sym two) refl

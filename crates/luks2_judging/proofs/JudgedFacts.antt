@@ -345,3 +345,13 @@ module _ (v : List ℕ) (payload : Data) (o : ℕ) (j : Value) (m : HasMetadata 
 
             pub amended_past : (HasBadUuid e → ⊥) → (random : List ℕ) → HasNoFaultBefore 20 v payload e random
             amended_past own random = before_of 20 v payload e random (next (IsEditFault2 v payload e random) fault.BadUuid refl (past_unread random) own)
+
+-- ---- an edit that erases all keyslots
+
+pub erased_past : (v : List ℕ) (payload : Data) (o : ℕ) (j : Value) → HasMetadata v o j → (e : Edit) → deed_of e ≡ deed.Erase → ((random : List ℕ) → IsPast 8 v payload e random)
+    → (random : List ℕ) → HasNoFaultBefore 20 v payload e random
+erased_past v payload o j m e is past random =
+    before_of 20 v payload e random
+    (past_unamended v payload e random (ap change_in is) (λ x. rw is at x)
+    (past_label v payload e random
+    (fourteen v payload o j m e (λ x. rw is at x) (λ x. rw is at x) (λ x. rw is at x) (λ x. rw is at x) (λ x. rw is at x) (λ x. rw is at x) past random) (λ x. rw is at x)))

@@ -10,7 +10,7 @@ use Rattle.luks_making.specs.declared.amended.Change.{Change}
 use Rattle.luks_making.specs.declared.amended.Change.TheVariants as changes
 use Rattle.luks_making.specs.declared.amended.Priority.{Priority}
 use Rattle.luks_edit.specs.declared.edit.Edit.{Edit}
-use Rattle.luks_edit.specs.declared.edit.Edit.TheVariants.{Add, AddByKey, Change as ChangeKey, Remove, Repair, Label, Uuid, Amend}
+use Rattle.luks_edit.specs.declared.edit.Edit.TheVariants.{Add, AddByKey, Change as ChangeKey, Remove, Erase, Repair, Label, Uuid, Amend}
 use Rattle.luks_edit.specs.declared.edit.Opener.{Opener}
 use Rattle.luks_edit.specs.declared.edit.Opener.TheVariants as opener
 use Rattle.luks_edit.specs.declared.edit.Secret.{Secret}
@@ -82,6 +82,7 @@ opener_wanted (Add by_ old new to iterations chosen) n secret asked = sym (ap sl
 opener_wanted (AddByKey key new to iterations chosen) n secret asked = absurd (cc)
 opener_wanted (ChangeKey slot old new iterations chosen) n secret asked = sym (ap slot_in (same_Some (opener.Keyslot slot old) (opener.Keyslot n secret) asked))
 opener_wanted (Remove slot by_ own) n secret asked = inl (remover_other slot n by_ own secret asked)
+opener_wanted Erase n secret asked = absurd (cc)
 opener_wanted Repair n secret asked = absurd (cc)
 opener_wanted (Label text subsystem) n secret asked = absurd (cc)
 opener_wanted (Uuid uuid) n secret asked = absurd (cc)
@@ -93,6 +94,7 @@ none_wanted (Add by_ old new to iterations chosen) none n wanted = absurd (cc)
 none_wanted (AddByKey key new to iterations chosen) none n wanted = wanted
 none_wanted (ChangeKey slot old new iterations chosen) none n wanted = absurd (cc)
 none_wanted (Remove slot by_ own) none n wanted = absurd (cc)
+none_wanted Erase none n wanted = wanted
 none_wanted Repair none n wanted = wanted
 none_wanted (Label text subsystem) none n wanted = wanted
 none_wanted (Uuid uuid) none n wanted = wanted
@@ -153,6 +155,9 @@ sealing_apart e s is same = rw is at same
 pub rewriting_apart : (e : Edit) (r : Rewritten) → deed_of e ≡ deed.Rewrite r → NamesItself e → ⊥
 rewriting_apart e r is same = rw is at same
 
+pub erasing_apart : (e : Edit) → deed_of e ≡ deed.Erase → NamesItself e → ⊥
+erasing_apart e is same = rw is at same
+
 -- no keyslot is missed by an edit where that of its opener is there, and the one that it removes
 opener_used : (j : Value) (o : Opener) (n : ℕ) → IsUsable j o → MatchOpener o (λ slot secret. n ≡ slot) (λ key. ⊥) → IsInUse j n
 opener_used j (opener.Keyslot slot secret) n used same = subst (λ m. IsInUse j m) (sym same) used
@@ -178,6 +183,10 @@ module _ (j : Value) (e : Edit) where
     | inl wanted ↦ absent.unused (opener_used j (opener_at s.place) absent.slot usable wanted)
     | inr amended ↦ absurd amended
   ]
+
+  -- nor by one that erases all
+  pub erasing_there : deed_of e ≡ deed.Erase → IsAbsent j e → ⊥
+  erasing_there is absent = elim (rw is at absent.wanted) [ inl wanted ↦ absurd wanted | inr amended ↦ absurd amended ]
 
 -- one that writes the header anew misses the keyslot whose priority it sets, or none
 pub rewriting_there : (j : Value) (e : Edit) (r : Rewritten) → deed_of e ≡ deed.Rewrite r → IsAbsent j e → IsAbsentAmended j r.change

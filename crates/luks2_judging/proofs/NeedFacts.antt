@@ -55,6 +55,7 @@ unkeyed_by v e (deed.Seal s) is f bad =
     subst (λ x. IsSomeAnd x (λ o. IsUnopenedBy2 (allowed_by e) v o f)) (sym (ap opener_in is)) (unkeyed_opener (allowed_by e) v (opener_at s.place) f (rw is at bad))
 unkeyed_by v e (deed.Remove r) is f bad = absurd (rw is at bad)
 unkeyed_by v e (deed.Rewrite r) is f bad = absurd (rw is at bad)
+unkeyed_by v e deed.Erase is f bad = absurd (rw is at bad)
 
 unkeyed_unopened : (v : List ℕ) (e : Edit) (f : EditFault) → IsUnkeyedNew v e f → IsUnopened2 v e f
 unkeyed_unopened v e f bad = unkeyed_by v e (deed_of e) refl f bad
@@ -68,6 +69,7 @@ unkeyed_locked : (v : List ℕ) (e : Edit) (d : Deed) → deed_of e ≡ d → Is
 unkeyed_locked v e (deed.Seal s) is bad = locked_opener v (opener_at s.place) (rw is at bad)
 unkeyed_locked v e (deed.Remove r) is bad = rw is at bad
 unkeyed_locked v e (deed.Rewrite r) is bad = rw is at bad
+unkeyed_locked v e deed.Erase is bad = rw is at bad
 
 -- ---- the rows that are judged without opening a keyslot are those of the edit
 
@@ -221,6 +223,10 @@ module _ {v : List ℕ} {payload : Data} {copy : ChosenCopy} {areas : List Entry
   -- one that removes a keyslot sets no uuid
   pub removed_need : {d : Removed} → deed_of e ≡ deed.Remove d → NeedsRandom v payload e 128
   removed_need is = subst (λ d. NeedsRandom v payload e (128 + uuid_need (uuid_in d))) is (idle_need (ap sealed_in is))
+
+  -- nor does one that erases all keyslots
+  pub erased_need : deed_of e ≡ deed.Erase → NeedsRandom v payload e 128
+  erased_need is = subst (λ d. NeedsRandom v payload e (128 + uuid_need (uuid_in d))) is (idle_need (ap sealed_in is))
 
   -- one that writes the header anew may
   pub rewritten_need : {r : Rewritten} → deed_of e ≡ deed.Rewrite r → NeedsRandom v payload e (128 + uuid_need r.uuid)

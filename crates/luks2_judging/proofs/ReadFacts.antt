@@ -45,7 +45,7 @@ use Rattle.luks2_judging.specs.Rows.{HasNoFaultBefore}
 use Rattle.luks2_judging.specs.Sealing.{IsUnadded}
 use Rattle.luks2_judging.proofs.AreaFacts.{header_long, listed_here}
 use Rattle.luks2_judging.proofs.ChosenFacts.{metadata_of}
-use Rattle.luks2_judging.proofs.JudgedFacts.{added_past, amended_past, bad_uuid_first, changed_past, label_first, lacking_first, none_opened, number_first, only_first, passed_of, past_opened}
+use Rattle.luks2_judging.proofs.JudgedFacts.{added_past, amended_past, bad_uuid_first, changed_past, erased_past, label_first, lacking_first, none_opened, number_first, only_first, passed_of, past_opened}
 use Rattle.luks2_judging.proofs.JudgedFacts.{removed_past, token_taken_first, unfree_token_first, unread_token_first, unadded_first, unchanged_first, unopened_first, IsPast}
 use Rattle.luks2_judging.proofs.RoomFacts.{area_excludes}
 use Rattle.luks2_judging.proofs.TokenFacts.{lacks_apart, lacks_unfree, lacks_unread, no_change_fault, taken_numbered, taken_readable, taken_there, taken_unfree, taken_untaken, unread_is, unread_numbered, unread_untaken}
@@ -129,6 +129,11 @@ module _ {v : List ℕ} {payload : Data} {e : Edit} {o : ℕ} {meta : Meta} {ent
 
       pub removed_passed : (IsOnlyOne (content meta) d.slot → ⊥) → (random : List ℕ) → HasNoFaultBefore 20 v payload e random
       removed_passed other random = removed_past v payload o (content meta) r.metadata e d is eight_of other random
+
+  -- all are erased
+  pub erased_passed : deed_of e ≡ deed.Erase → (random : List ℕ) → HasNoFaultBefore 20 v payload e random
+  erased_passed is random =
+      erased_past v payload o (content meta) r.metadata e is (λ any. past_opened v payload e any (none_opened v e (rw is refl)) (r.four any)) random
 
   -- the header is written anew
   module _ {rewritten : Rewritten} (is : deed_of e ≡ deed.Rewrite rewritten) where

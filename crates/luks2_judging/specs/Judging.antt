@@ -100,6 +100,11 @@ pub record IsRemoval (j : Value) (total : ℕ) (e : Edit) (slot : ℕ) (area : A
   pub there : IsInUse j slot
   pub lost : IsLostArea j total slot area
 
+-- it removes every keyslot; their areas lie inside
+pub record IsErasure (j : Value) (total : ℕ) (e : Edit) : Type 0 where
+  pub asked : deed_of e ≡ deed.Erase
+  pub inside : (n : ℕ) (a : Area) → IsKeyArea j n a → IsInside a total
+
 -- it writes the header anew, whose texts have the fields `own`, with this uuid, which isn't bad, with these
 -- fields for the texts, and with this change of the metadata `j`
 pub record IsRewriting (j : Value) (own : TextFields) (e : Edit) (uuid : Option NewUuid) (fields : TextFields) (change : Option JudgedChange) : Type 0 where
@@ -115,6 +120,7 @@ abbrev pub Takes : ChosenCopy → ℕ → Edit → JudgedEdit → Type 0
 Takes copy total e (judged.Seal (sealed_in.New a) key passphrase) = IsAddition (area_len copy.meta) (content copy.meta) total e a key passphrase
 Takes copy total e (judged.Seal (sealed_in.Opened r) key passphrase) = IsRenewal (area_len copy.meta) (content copy.meta) total e r key passphrase
 Takes copy total e (judged.Remove slot area) = IsRemoval (content copy.meta) total e slot area
+Takes copy total e judged.Erase = IsErasure (content copy.meta) total e
 Takes copy total e (judged.Rewrite uuid fields change) = IsRewriting (content copy.meta) (texts_of copy.header) e uuid fields change
 
 -- by the copy that was read

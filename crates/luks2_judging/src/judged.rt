@@ -39,6 +39,8 @@ pub enum JudgedEdit<'a> {
         /// Its area.
         area: Area,
     },
+    /// Every keyslot is removed.
+    Erase,
     /// Both copies of the header are written anew.
     Rewrite {
         /// The uuid that they get, if one is given.

@@ -121,7 +121,7 @@ fn taken_by<'a, D: Device>(
 
 /// The rows from what gives the key on: `Locked`, `KeyLength`, `WrongKey`, `Slot`, `SlotTaken`, `NoFreeSlot`,
 /// `NoRoom`, `LastSlot`, `Iterations`, `Argon2`, `BadLabel`, `NoSuchToken`, `TokenTaken`, `NoFreeToken`,
-/// `UnreadableToken`, `BadUuid`.
+/// `UnreadableToken`, `BadUuid`. Where all keyslots are erased, none of them refuses it.
 fn judge_with_key<'a, D: Device>(
     alloc: Global,
     device: &mut D,
@@ -144,6 +144,7 @@ fn judge_with_key<'a, D: Device>(
         Deed::Seal(sealed) => judge_sealing_of(alloc, device, accepted, edit, &sealed),
         Deed::Remove(removed) => judge_removal_of(alloc, device, accepted, edit, &removed),
         Deed::Rewrite(rewritten) => judge_rewriting(accepted, &rewritten),
+        Deed::Erase => Ok(JudgedEdit::Erase),
     }
 }
 

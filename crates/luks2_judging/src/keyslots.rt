@@ -95,6 +95,7 @@ fn judge_others(meta: &Meta, edit: &Edit<'_>) -> Result<(), EditFault>
         }
         Deed::Seal(_) => Ok(()),
         Deed::Rewrite(rewritten) => judge_amended(meta, rewritten.change),
+        Deed::Erase => Ok(()),
     }
 }
 
@@ -122,6 +123,7 @@ pub(crate) fn judge_opener(edit: &Edit<'_>) -> Result<(), EditFault>
         Deed::Remove(removed) => judge_another(removed.slot, removed.by_),
         Deed::Seal(_) => Ok(()),
         Deed::Rewrite(_) => Ok(()),
+        Deed::Erase => Ok(()),
     }
 }
 

@@ -57,6 +57,7 @@ pub fn needed_luks2(
         },
         Deed::Remove(_) => Ok(COPY_SALTS),
         Deed::Rewrite(rewritten) => Ok(rewritten_need(rewritten.uuid)),
+        Deed::Erase => Ok(COPY_SALTS),
     }
 }
 

@@ -1,7 +1,7 @@
 -- Facts on what is asked for by numbers.
 use Rattle.std.proofs.Common.{◌≢◌, ◌⊎◌, inl, inr, ℕ, List}
 use Rattle.luks_edit.specs.declared.edit.Edit.{Edit}
-use Rattle.luks_edit.specs.declared.edit.Edit.TheVariants.{Add, AddByKey, Change, Remove, Repair, Label, Amend}
+use Rattle.luks_edit.specs.declared.edit.Edit.TheVariants.{Add, AddByKey, Change, Remove, Erase, Repair, Label, Uuid, Amend}
 use Rattle.luks_making.specs.declared.amended.Change.{Change as TheChange}
 use Rattle.luks_making.specs.declared.amended.Change.TheVariants as change
 use Rattle.luks_c_answers.specs.EditAsked.{IsAsked, IsChangeAsked, IsOtherAsked, IsUnasked}
@@ -14,8 +14,10 @@ asked_cases asked words text subsystem (Add by_ old new to iterations derivation
 asked_cases asked words text subsystem (AddByKey key new to iterations derivation) is = inl is
 asked_cases asked words text subsystem (Change slot old new iterations derivation) is = inl is
 asked_cases asked words text subsystem (Remove slot by_ secret) is = inl is
+asked_cases asked words text subsystem Erase is = inl is
 asked_cases asked words text subsystem Repair is = inl is
 asked_cases asked words text subsystem (Label label s) is = inl is
+asked_cases asked words text subsystem (Uuid own) is = inl is
 asked_cases asked words text subsystem (Amend c) is = inr (c, is)
 
 -- no change has another kind

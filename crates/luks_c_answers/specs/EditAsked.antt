@@ -1,5 +1,5 @@
 -- The edit that a caller asks for by numbers.
-use Rattle.std.specs.Prelude.{◌≡◌, ◌≢◌, ◌==◌, ℕ, ◌<◌, List, if◌then◌else◌, Option, Some, None, IsUtf8}
+use Rattle.std.specs.Prelude.{◌≡◌, ◌≢◌, ◌==◌, ℕ, ◌<◌, List, [], if◌then◌else◌, Option, Some, None, IsUtf8}
 use Rattle.std.specs.Borrow.{Bor}
 use Rattle.serde_json.specs.declared.value.Value.{Value}
 use Rattle.serde_json.specs.Read.{read}
@@ -9,10 +9,12 @@ use Rattle.luks_making.specs.declared.amended.Change.TheVariants as change
 use Rattle.luks_making.specs.declared.amended.Priority.{Priority}
 use Rattle.luks_making.specs.declared.amended.Priority.TheVariants as priority
 use Rattle.luks_edit.specs.declared.edit.Edit.{Edit}
-use Rattle.luks_edit.specs.declared.edit.Edit.TheVariants.{Add, AddByKey, Change, Remove, Repair, Label, Amend}
+use Rattle.luks_edit.specs.declared.edit.Edit.TheVariants.{Add, AddByKey, Change, Remove, Erase, Repair, Label, Uuid, Amend}
 use Rattle.luks_edit.specs.declared.edit.Secret.{Secret}
 use Rattle.luks_edit.specs.declared.edit.SecretKind.{SecretKind}
 use Rattle.luks_edit.specs.declared.edit.SecretKind.TheVariants.{Key, Passphrase}
+use Rattle.luks_edit.specs.declared.new_uuid.NewUuid.{NewUuid}
+use Rattle.luks_edit.specs.declared.new_uuid.NewUuid.TheVariants as uuid
 use Rattle.luks_c_answers.specs.Asked.{allowed_of}
 use Rattle.luks_c_answers.specs.ChoiceAsked.{IsChoice}
 use Rattle.luks_c_answers.specs.declared.asking.Asked.{Asked}
@@ -41,6 +43,11 @@ abbrev pub IsMaybeSubsystem : ℕ → List ℕ → Option (Bor (List ℕ)) → T
 IsMaybeSubsystem number text None = number ≡ 0
 IsMaybeSubsystem number text (Some s) = (number ≢ 0) × (s.now ≡ text)
 
+-- the uuid of this text, which is UTF-8, or a new one where the text has no byte
+abbrev pub IsUuidAsked : List ℕ → NewUuid → Type 0
+IsUuidAsked text (uuid.Text own) = (own.now ≡ text) × (text ≢ []) × IsUtf8 text
+IsUuidAsked text uuid.Random = text ≡ []
+
 -- the number that asks for a priority, as the records of keyslots tell it
 abbrev pub priority_asked : Priority → ℕ
 priority_asked priority.Ignore = 0
@@ -60,8 +67,8 @@ pub record HasToken (text : List ℕ) (token : Value) : Type 0 where
 abbrev pub HasNoToken : List ℕ → Type 0
 HasNoToken text = IsUtf8 text → read text ≡ None
 
--- an edit that changes no named members is asked for, with these bytes as its secret, and those as the new passphrase or as
--- the label, and as the subsystem
+-- an edit that changes no named members is asked for, with these bytes as its secret, and those as the new passphrase, as
+-- the label or as the uuid, and as the subsystem
 abbrev pub IsOtherAsked : LuksEdit → List ℕ → List ℕ → List ℕ → Edit → Type 0
 IsOtherAsked asked words text subsystem (Add by_ old new to iterations derivation) = (asked.kind ≡ 1) × IsSlot asked.by_ by_ × IsSecret words asked old
     × (new.now ≡ text) × IsMaybeSlot asked.to to × (iterations ≡ asked.iterations) × IsChoice asked.derivation derivation
@@ -72,8 +79,10 @@ IsOtherAsked asked words text subsystem (Change slot old new iterations derivati
     × (new.now ≡ text) × (iterations ≡ asked.iterations) × IsChoice asked.derivation derivation
 IsOtherAsked asked words text subsystem (Remove slot by_ secret) = (asked.kind ≡ 3) × IsSlot asked.slot slot × IsMaybeSlot asked.by_ by_
     × IsSecret words asked secret
+IsOtherAsked asked words text subsystem Erase = asked.kind ≡ 10
 IsOtherAsked asked words text subsystem Repair = asked.kind ≡ 4
 IsOtherAsked asked words text subsystem (Label label s) = (asked.kind ≡ 5) × (label.now ≡ text) × IsMaybeSubsystem asked.subsystem subsystem s
+IsOtherAsked asked words text subsystem (Uuid own) = (asked.kind ≡ 9) × IsUuidAsked text own
 IsOtherAsked asked words text subsystem (Amend change) = ⊥
 
 -- a change of named members is: a priority, a token of this text, or the removal of a token

@@ -1,12 +1,13 @@
 //! What a caller asks for by numbers.
 ghost use Rattle.std.specs.Prelude.{◌≡◌, ℕ, Option, MatchResult};
 ghost use Rattle.luks_edit.specs.declared.edit.Edit.{Edit as TheEdit};
+ghost use Rattle.luks_edit.specs.declared.new_uuid.NewUuid.{NewUuid as TheUuid};
 ghost use Rattle.luks_making.specs.declared.amended.Priority.{Priority as ThePriority};
 ghost use Rattle.luks_c_answers.specs.Asked.{allowed_of, payload_of};
 ghost use Rattle.luks_c_answers.specs.ChoiceAsked.{IsChoice, IsNoChoice};
-ghost use Rattle.luks_c_answers.specs.EditAsked.{IsAskedAs, IsMaybeSlot, IsMaybeSubsystem, IsOtherAsked, IsSecret, IsSlot, IsUnasked, kind_asked, priority_asked};
+ghost use Rattle.luks_c_answers.specs.EditAsked.{IsAskedAs, IsMaybeSlot, IsMaybeSubsystem, IsOtherAsked, IsSecret, IsSlot, IsUnasked, IsUuidAsked, kind_asked, priority_asked};
 
-use luks_edit::{Argon2Costs, Edit, NewDerivation, Secret, SecretKind, VolumeKey};
+use luks_edit::{Argon2Costs, Edit, NewDerivation, NewUuid, Secret, SecretKind, VolumeKey};
 use luks_making::{Change, Priority};
 use luks_reading::{Allowed, Data};
 
@@ -33,7 +34,8 @@ pub struct LuksDerivation {
 #[derive(Clone, Copy, Drop)]
 pub struct LuksEdit {
     /// 1 adds a keyslot, 2 changes one's passphrase, 3 removes one, 4 repairs the header, 5 sets the
-    /// label, 6 a keyslot's priority, 7 adds a token, 8 removes one.
+    /// label, 6 a keyslot's priority, 7 adds a token, 8 removes one, 9 sets the uuid, 10
+    /// erases all keyslots.
     pub kind: u32,
     /// Of a change, a removal and a priority the keyslot.
     pub slot: u32,
@@ -76,7 +78,7 @@ pub enum Asked<'a> {
     },
 }
 
-/// What is asked for; `text` is the new passphrase, or the label.
+/// What is asked for; `text` is the new passphrase, the label, or the uuid, of which no byte asks for a new one.
 #[tactic(auto, using(crate::proofs::AskedFacts::unasked_other))]
 pub fn asked_of<'a>(
     asked: &LuksEdit,
@@ -154,6 +156,8 @@ fn edit_of<'a>(
             text,
             subsystem: subsystem_of(asked.subsystem, subsystem),
         }),
+        9 => Ok(Edit::Uuid(uuid_of(text)?)),
+        10 => Ok(Edit::Erase),
         _ => Err(Unasked),
     }
 }
@@ -204,6 +208,20 @@ fn subsystem_of(is_given: u32, text: &[u8]) -> Option<&[u8]>
     ensures { IsMaybeSubsystem is_given text.now result }
 {
     if is_given == 0 { None } else { Some(text) }
+}
+
+/// The uuid of this text, or a new one where it has no byte.
+fn uuid_of(text: &[u8]) -> Result<NewUuid<'_>, Unasked>
+    ensures { MatchResult result (IsUuidAsked text.now)
+        (λ _. (u : TheUuid) → IsUuidAsked text.now u → ⊥) }
+{
+    if text.is_empty() {
+        return Ok(NewUuid::Random);
+    }
+    match str::from_utf8(text) {
+        Ok(own) => Ok(NewUuid::Text(own)),
+        Err(_) => Err(Unasked),
+    }
 }
 
 /// The priority of this number.

@@ -32,6 +32,7 @@ short_in : (d : Deed) → 0 < (allowed_in d).memory → AreShortIn d
 short_in (deed.Seal s) some = both_short (opener_at s.place) s.passphrase.now some
 short_in (deed.Remove r) some = (both_short (remover_of r.slot r.by_ r.secret) [] some).0
 short_in (deed.Rewrite r) some = tt
+short_in deed.Erase some = tt
 
 pub short_where_allowed : (e : Edit) → 0 < (allowed_by e).memory → HasShortPassphrases e
 short_where_allowed e some = short_in (deed_of e) some

@@ -18,7 +18,7 @@ use Rattle.luks_edit.specs.declared.deed.Removed.{Removed}
 use Rattle.luks_edit.specs.declared.deed.Rewritten.{Rewritten}
 use Rattle.luks_edit.specs.declared.deed.Sealed.{Sealed}
 use Rattle.luks_edit.specs.declared.edit.Edit.{Edit}
-use Rattle.luks_edit.specs.declared.edit.Edit.TheVariants.{Add, AddByKey, Change as ChangeKey, Remove, Repair, Label, Uuid, Amend}
+use Rattle.luks_edit.specs.declared.edit.Edit.TheVariants.{Add, AddByKey, Change as ChangeKey, Remove, Erase, Repair, Label, Uuid, Amend}
 use Rattle.luks_edit.specs.declared.edit.Opener.{Opener}
 use Rattle.luks_edit.specs.declared.edit.Opener.TheVariants as opener
 use Rattle.luks_edit.specs.declared.edit.Secret.{Secret}
@@ -58,6 +58,7 @@ deed_of (ChangeKey slot old new iterations chosen) =
     deed.Seal (record { place = Opened slot old; passphrase = new; derivation = record { iterations = iterations; chosen = chosen } })
 deed_of (Remove slot by_ secret) =
     deed.Remove (record { slot = slot; by_ = by_; secret = secret })
+deed_of Erase = deed.Erase
 deed_of Repair = deed.Rewrite (record { uuid = None; label = None; subsystem = None; change = None })
 deed_of (Label text subsystem) = deed.Rewrite (record { uuid = None; label = Some text; subsystem = subsystem; change = None })
 deed_of (Uuid uuid) = deed.Rewrite (record { uuid = Some uuid; label = None; subsystem = None; change = None })
@@ -65,11 +66,12 @@ deed_of (Amend change) = deed.Rewrite (record { uuid = None; label = None; subsy
 
 -- ---- by what is done
 
--- of the key that is sealed, of the keyslot that is removed, or else of what is set
-abbrev pub MatchDeed : Deed → (Sealed → Type 0) → (Removed → Type 0) → (Rewritten → Type 0) → Type 0
-MatchDeed (deed.Seal s) S R W = S s
-MatchDeed (deed.Remove r) S R W = R r
-MatchDeed (deed.Rewrite r) S R W = W r
+-- of the key that is sealed, of the keyslot that is removed, of what is set, or else where all keyslots are erased
+abbrev pub MatchDeed : Deed → (Sealed → Type 0) → (Removed → Type 0) → (Rewritten → Type 0) → Type 0 → Type 0
+MatchDeed (deed.Seal s) S R W E = S s
+MatchDeed (deed.Remove r) S R W E = R r
+MatchDeed (deed.Rewrite r) S R W E = W r
+MatchDeed deed.Erase S R W E = E
 
 -- of what gives the key of a new keyslot and the number that is asked for it, or of the keyslot that is opened and
 -- its secret
@@ -93,6 +95,7 @@ abbrev pub opener_in : Deed → Option Opener
 opener_in (deed.Seal s) = Some (opener_at s.place)
 opener_in (deed.Remove r) = Some (remover_of r.slot r.by_ r.secret)
 opener_in (deed.Rewrite r) = None
+opener_in deed.Erase = None
 
 -- its bytes, and what it allows
 abbrev pub bytes_of : Opener → List ℕ
@@ -107,38 +110,45 @@ abbrev pub sealed_in : Deed → Option Sealed
 sealed_in (deed.Seal s) = Some s
 sealed_in (deed.Remove r) = None
 sealed_in (deed.Rewrite r) = None
+sealed_in deed.Erase = None
 
 abbrev pub removed_in : Deed → Option Removed
 removed_in (deed.Seal s) = None
 removed_in (deed.Remove r) = Some r
 removed_in (deed.Rewrite r) = None
+removed_in deed.Erase = None
 
 abbrev pub rewritten_in : Deed → Option Rewritten
 rewritten_in (deed.Seal s) = None
 rewritten_in (deed.Remove r) = None
 rewritten_in (deed.Rewrite r) = Some r
+rewritten_in deed.Erase = None
 
 -- the uuid, the label and the subsystem that it sets
 abbrev pub uuid_in : Deed → Option NewUuid
 uuid_in (deed.Seal s) = None
 uuid_in (deed.Remove r) = None
 uuid_in (deed.Rewrite r) = r.uuid
+uuid_in deed.Erase = None
 
 abbrev pub label_in : Deed → Option (Bor (List ℕ))
 label_in (deed.Seal s) = None
 label_in (deed.Remove r) = None
 label_in (deed.Rewrite r) = r.label
+label_in deed.Erase = None
 
 abbrev pub subsystem_in : Deed → Option (Bor (List ℕ))
 subsystem_in (deed.Seal s) = None
 subsystem_in (deed.Remove r) = None
 subsystem_in (deed.Rewrite r) = r.subsystem
+subsystem_in deed.Erase = None
 
 -- what it changes of the metadata
 abbrev pub change_in : Deed → Option Change
 change_in (deed.Seal s) = None
 change_in (deed.Remove r) = None
 change_in (deed.Rewrite r) = r.change
+change_in deed.Erase = None
 
 -- the keyslot whose priority the change sets, the token that it adds with the number that is asked for it, and the
 -- token that it removes
@@ -165,22 +175,24 @@ abbrev pub again_in : Deed → Option Sealed
 again_in (deed.Seal s) = again_at s.place s
 again_in (deed.Remove r) = None
 again_in (deed.Rewrite r) = None
+again_in deed.Erase = None
 
--- the keyslot that is removed, or that the key is sealed in anew
-abbrev pub lost_at : Place → Option ℕ
-lost_at (New o to) = None
-lost_at (Opened slot secret) = Some slot
+-- the keyslot `n` loses its area: the one that is removed, or that the key is sealed in anew, or where all are
+-- erased any
+abbrev pub LosesAt : Place → ℕ → Type 0
+LosesAt (New o to) n = ⊥
+LosesAt (Opened slot secret) n = n ≡ slot
 
-abbrev pub lost_in : Deed → Option ℕ
-lost_in (deed.Seal s) = lost_at s.place
-lost_in (deed.Remove r) = Some r.slot
-lost_in (deed.Rewrite r) = None
+abbrev pub LosesIn : Deed → ℕ → Type 0
+LosesIn (deed.Seal s) n = LosesAt s.place n
+LosesIn (deed.Remove r) n = n ≡ r.slot
+LosesIn (deed.Rewrite r) n = ⊥
+LosesIn deed.Erase n = ⊤
 
 -- ---- of an edit
 
 -- the key that it seals, the one that it seals in the keyslot that was opened, the keyslot that it
--- removes, the one that loses its area, what it sets, and of that the uuid, the label, the subsystem and the
--- change
+-- removes, what it sets, and of that the uuid, the label, the subsystem and the change
 abbrev pub sealed_by : Edit → Option Sealed
 sealed_by e = sealed_in (deed_of e)
 
@@ -189,9 +201,6 @@ again_by e = again_in (deed_of e)
 
 abbrev pub removed_by : Edit → Option Removed
 removed_by e = removed_in (deed_of e)
-
-abbrev pub lost_by : Edit → Option ℕ
-lost_by e = lost_in (deed_of e)
 
 abbrev pub rewritten_by : Edit → Option Rewritten
 rewritten_by e = rewritten_in (deed_of e)
@@ -208,10 +217,14 @@ subsystem_by e = subsystem_in (deed_of e)
 abbrev pub change_by : Edit → Option Change
 change_by e = change_in (deed_of e)
 
+-- the keyslot `n` loses its area by the edit
+abbrev pub Loses : Edit → ℕ → Type 0
+Loses e n = LosesIn (deed_of e) n
+
 -- the edit wants the keyslot `n` to be there: the one that it opens, and the one that it removes
 abbrev pub Wants : Edit → ℕ → Type 0
 Wants e n = MatchDeed (deed_of e) (λ s. MatchOpener (opener_at s.place) (λ slot secret. n ≡ slot) (λ key. ⊥))
-    (λ r. (n ≡ opener_of r.slot r.by_) ⊎ (n ≡ r.slot)) (λ r. ⊥)
+    (λ r. (n ≡ opener_of r.slot r.by_) ⊎ (n ≡ r.slot)) (λ r. ⊥) ⊥
 
 -- the edit names the keyslot that it removes as the one to open by
 abbrev pub NamesItself : Edit → Type 0
@@ -230,6 +243,7 @@ abbrev pub allowed_in : Deed → Allowed
 allowed_in (deed.Seal s) = allowed_for (opener_at s.place) s.passphrase.now
 allowed_in (deed.Remove r) = allowed_for (remover_of r.slot r.by_ r.secret) []
 allowed_in (deed.Rewrite r) = none_allowed
+allowed_in deed.Erase = none_allowed
 
 -- on each of the edit's secrets
 abbrev pub allowed_by : Edit → Allowed
@@ -240,6 +254,7 @@ abbrev pub AreShortIn : Deed → Type 0
 AreShortIn (deed.Seal s) = (length (bytes_of (opener_at s.place)) < 2 ^ 32) × (length s.passphrase.now < 2 ^ 32)
 AreShortIn (deed.Remove r) = length (bytes_of (remover_of r.slot r.by_ r.secret)) < 2 ^ 32
 AreShortIn (deed.Rewrite r) = ⊤
+AreShortIn deed.Erase = ⊤
 
 abbrev pub HasShortPassphrases : Edit → Type 0
 HasShortPassphrases e = AreShortIn (deed_of e)

@@ -1,4 +1,4 @@
--- What edits keep of a volume.
+-- What edits keep of a volume, and which keyslots open no more.
 use Rattle.std.specs.Prelude.{◌≡◌, ℕ, ◌<◌, List, length, ◌↔◌}
 use Rattle.serde_json.specs.Data.{Data as Value}
 use Rattle.luks_area.specs.declared.area.Area.{Area}
@@ -16,6 +16,7 @@ use Rattle.luks_reading.specs.declared.report.Data.{Data}
 use Rattle.luks_reading.specs.Answer.{AnswerWithin, Opened}
 use Rattle.luks_reading.specs.Checked.{AreaOf, WellFormed}
 use Rattle.luks_reading.specs.Header.{json_at}
+use Rattle.luks_reading.specs.Unlocking.{DoesNotOpen}
 
 -- the area named `n` is the same one in both volumes, and its bytes are equal
 pub record KeepsArea (payload : Data) (n : AreaName) (v w : List ℕ) : Type 0 where
@@ -57,3 +58,7 @@ pub record Keeps (payload : Data) (named : ℕ → Type 0) (v w : List ℕ) : Ty
   pub well : WellFormed w payload
   pub segments : (n : ℕ) → KeepsArea payload (Segment n) v w
   pub slots : (n : ℕ) → (named n → ⊥) → KeepsSlot payload n v w
+
+-- no passphrase opens the keyslot `n`, whatever is allowed
+abbrev pub IsShut : List ℕ → ℕ → Type 0
+IsShut v n = (allowed : Allowed) (p : List ℕ) → DoesNotOpen allowed v p n

@@ -18,6 +18,8 @@ pub enum Deed<'a> {
     Remove(Removed<'a>),
     /// The header is written anew, and no keyslot is opened.
     Rewrite(Rewritten<'a>),
+    /// Every keyslot is removed, and its area wiped; none is opened.
+    Erase,
 }
 
 /// A key that an edit seals.

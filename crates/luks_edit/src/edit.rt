@@ -125,6 +125,11 @@ pub enum Edit<'a> {
         /// The passphrase, or the key.
         secret: Secret<'a>,
     },
+    /// Removes every keyslot, and wipes its area: no passphrase is asked, and none opens the volume
+    /// afterwards. Whoever has the volume key or a backup of the header can still open it.
+    ///
+    /// LUKS1 wipes the areas of the keyslots that aren't in use too.
+    Erase,
     /// LUKS2: writes both copies of the header anew from the one that counts. LUKS1: nothing.
     Repair,
     /// LUKS2: sets the volume's label and, where it is given, its subsystem.
@@ -225,6 +230,7 @@ impl<'a> Edit<'a> {
                 derivation: asked(iterations, derivation),
             }),
             Edit::Remove { slot, by_, secret } => Deed::Remove(Removed { slot, by_, secret }),
+            Edit::Erase => Deed::Erase,
             Edit::Repair => rewriting(None, None, None, None),
             Edit::Label { text, subsystem } => rewriting(None, Some(text), subsystem, None),
             Edit::Uuid(uuid) => rewriting(Some(uuid), None, None, None),
@@ -240,6 +246,7 @@ impl<'a> Edit<'a> {
             Deed::Seal(sealed) => Some(sealed.opener()),
             Deed::Remove(removed) => Some(removed.opener()),
             Deed::Rewrite(_) => None,
+            Deed::Erase => None,
         }
     }
 }
@@ -324,6 +331,7 @@ impl Edit<'_> {
             Deed::Seal(sealed) => allowed_for(&sealed.opener(), sealed.passphrase),
             Deed::Remove(removed) => allowed_for(&removed.opener(), b""),
             Deed::Rewrite(_) => Allowed::NOTHING,
+            Deed::Erase => Allowed::NOTHING,
         }
     }
 }

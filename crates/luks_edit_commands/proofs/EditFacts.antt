@@ -21,7 +21,7 @@ use Rattle.luks_volume.specs.Edits.{NamedSlots, Refusal, Replies}
 use Rattle.luks_volume.specs.Needed.{NeedsRandom}
 use Rattle.luks_volume.specs.Outcome.{Spares}
 use Rattle.luks_request.specs.declared.request.EditRequest.{EditRequest}
-use Rattle.luks_request.specs.declared.request.EditRequest.TheVariants.{Add, AddByKey, Change, Remove, Repair, Label, Uuid, Priority, AddToken, RemoveToken}
+use Rattle.luks_request.specs.declared.request.EditRequest.TheVariants.{Add, AddByKey, Change, Remove, Erase, Repair, Label, Uuid, Priority, AddToken, RemoveToken}
 use Rattle.luks_request.specs.Named.{edit_new_of, edit_passphrase_of}
 use Rattle.luks_request.specs.declared.request.Editing.{Editing}
 use Rattle.luks_request.specs.declared.request.OpenerFile.{OpenerFile}
@@ -328,6 +328,7 @@ asked_of v (AddByKey key memory older new to iterations kdf) IsOld IsNew p q (ed
 asked_of v (Change slot opener memory older new iterations kdf) IsOld IsNew p q (edit.Change s o n i d) old fresh is =
     (is.0, secret_of opener memory older IsOld p o old is.1, subst IsNew (sym is.2) fresh, is.3, is.4)
 asked_of v (Remove slot by_ opener memory older) IsOld IsNew p q (edit.Remove s b o) old fresh is = (is.0, is.1, secret_of opener memory older IsOld p o old is.2)
+asked_of v Erase IsOld IsNew p q edit.Erase old fresh is = is
 asked_of v Repair IsOld IsNew p q edit.Repair old fresh is = is
 asked_of v (Label text subsystem) IsOld IsNew p q (edit.Label t s) old fresh is = is
 asked_of v (Uuid text) IsOld IsNew p q (edit.Uuid u) old fresh is = is
@@ -338,6 +339,7 @@ asked_of v (Add by_ opener memory older new to iterations kdf) IsOld IsNew p q e
 asked_of v (AddByKey key memory older new to iterations kdf) IsOld IsNew p q e old fresh is = absurd is
 asked_of v (Change slot opener memory older new iterations kdf) IsOld IsNew p q e old fresh is = absurd is
 asked_of v (Remove slot by_ opener memory older) IsOld IsNew p q e old fresh is = absurd is
+asked_of v Erase IsOld IsNew p q e old fresh is = absurd is
 asked_of v Repair IsOld IsNew p q e old fresh is = absurd is
 asked_of v (Label text subsystem) IsOld IsNew p q e old fresh is = absurd is
 asked_of v (Uuid text) IsOld IsNew p q e old fresh is = absurd is
@@ -357,6 +359,7 @@ asked_somehow v (Add by_ opener memory older new to iterations kdf) IsOld IsNew 
 asked_somehow v (AddByKey key memory older new to iterations kdf) IsOld IsNew (edit.AddByKey k n t i d) is = (tt, is.1, tt, is.3, is.4, is.5)
 asked_somehow v (Change slot opener memory older new iterations kdf) IsOld IsNew (edit.Change s o n i d) is = (is.0, secret_somehow opener memory older IsOld o is.1, tt, is.3, is.4)
 asked_somehow v (Remove slot by_ opener memory older) IsOld IsNew (edit.Remove s b o) is = (is.0, is.1, secret_somehow opener memory older IsOld o is.2)
+asked_somehow v Erase IsOld IsNew edit.Erase is = is
 asked_somehow v Repair IsOld IsNew edit.Repair is = is
 asked_somehow v (Label text subsystem) IsOld IsNew (edit.Label t s) is = is
 asked_somehow v (Uuid text) IsOld IsNew (edit.Uuid u) is = is
@@ -368,6 +371,7 @@ asked_somehow v (Add by_ opener memory older new to iterations kdf) IsOld IsNew 
 asked_somehow v (AddByKey key memory older new to iterations kdf) IsOld IsNew e is = absurd is
 asked_somehow v (Change slot opener memory older new iterations kdf) IsOld IsNew e is = absurd is
 asked_somehow v (Remove slot by_ opener memory older) IsOld IsNew e is = absurd is
+asked_somehow v Erase IsOld IsNew e is = absurd is
 asked_somehow v Repair IsOld IsNew e is = absurd is
 asked_somehow v (Label text subsystem) IsOld IsNew e is = absurd is
 asked_somehow v (Uuid text) IsOld IsNew e is = absurd is
@@ -396,6 +400,7 @@ missed_of payload v (Change None opener memory older new iterations kdf) IsOld p
 missed_of payload v (Change (Some n) opener memory older new iterations kdf) IsOld p old f is = absurd is
 missed_of payload v (Remove None by_ opener memory older) IsOld p old f is = misses_of payload opener memory older IsOld p v f old is
 missed_of payload v (Remove (Some n) by_ opener memory older) IsOld p old f is = absurd is
+missed_of payload v Erase IsOld p old f is = absurd is
 missed_of payload v Repair IsOld p old f is = absurd is
 missed_of payload v (Label text subsystem) IsOld p old f is = absurd is
 missed_of payload v (Uuid text) IsOld p old f is = absurd is

@@ -10,7 +10,8 @@ use Rattle.luks_rules.specs.Faults.{object_at}
 use Rattle.luks_meta.specs.Says.{TellsToken}
 use Rattle.luks_meta.specs.declared.tokens.Token.{Token}
 use Rattle.luks_edit_commands.specs.declared.edit.noted.Fate.{Fate}
-use Rattle.luks_edit_commands.specs.EditNotes.{kind_of, named_line, slots_of, token_line, token_lines}
+use Rattle.luks_edit_commands.specs.declared.edit.noted.Fate.TheVariants.{Removed}
+use Rattle.luks_edit_commands.specs.EditNotes.{erased_lines, erasure_line, kind_of, named_line, slot_lines, slots_of, token_line, token_lines}
 
 -- the text before it, piece by piece
 pub joined_naming : (m k n : List ℕ) → codes "token " ++ (m ++ (codes " (" ++ (k ++ (codes ") names keyslot " ++ (n ++ codes ": ")))))
@@ -28,6 +29,24 @@ pub next_token : (fate : Fate) (n : ℕ) (j : Data) (m : ℕ) (a b c : Option (L
 unfolding token_lines
 next_token fate n j m a b c so_far more =
     subst (λ (k : ℕ). Appends a c (token_lines fate n j k)) (sym (add-one m)) (Appends-trans a b c _ _ so_far more)
+
+-- of an erasure no keyslot is told of at first
+pub no_slot : (j : Data) (a : Option (List ℕ)) → Appends a a (slot_lines j 0)
+unfolding slot_lines
+no_slot j a = Appends-nil a
+
+-- one keyslot more
+pub next_slot : (j : Data) (n : ℕ) (a b c : Option (List ℕ)) → Appends a b (slot_lines j n) → Appends b c (token_lines Removed n j 32)
+    → Appends a c (slot_lines j (n + 1))
+unfolding slot_lines
+next_slot j n a b c so_far more =
+    subst (λ (k : ℕ). Appends a c (slot_lines j k)) (sym (add-one n)) (Appends-trans a b c _ _ so_far more)
+
+-- and at last all of them, behind what brings the data back
+pub every_slot : (j : Data) (n : ℕ) (a b c : Option (List ℕ)) → n ≡ 32 → Appends a b erasure_line → Appends b c (slot_lines j n)
+    → Appends a c (erased_lines j)
+every_slot j n a b c whole before so_far =
+    Appends-trans a b c _ _ before (subst (λ (k : ℕ). Appends b c (slot_lines j k)) whole so_far)
 
 chosen : (b : Bool) (x y : List ℕ) → b ≡ true → (if b then x else y) ≡ x
 chosen true x y is = refl

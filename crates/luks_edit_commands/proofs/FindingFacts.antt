@@ -25,7 +25,7 @@ use Rattle.luks_edit.specs.EditFaults.{edit_key, is_edit_failure}
 use Rattle.luks_volume.specs.Needed.{IsNeedFault, IsNeedFaultAs, IsUntold}
 use Rattle.luks_request.specs.declared.derivation.AskedKdf.{AskedKdf}
 use Rattle.luks_request.specs.declared.request.EditRequest.{EditRequest}
-use Rattle.luks_request.specs.declared.request.EditRequest.TheVariants.{Add, AddByKey, Change, Remove, Repair, Label, Uuid, Priority, AddToken, RemoveToken}
+use Rattle.luks_request.specs.declared.request.EditRequest.TheVariants.{Add, AddByKey, Change, Remove, Erase, Repair, Label, Uuid, Priority, AddToken, RemoveToken}
 use Rattle.luks_request.specs.declared.request.Editing.{Editing}
 use Rattle.luks_request.specs.declared.request.OpenerFile.{OpenerFile}
 use Rattle.luks_commands.specs.Chosen.{chosen_of}
@@ -134,6 +134,7 @@ module _ (payload : Data) (v : List ℕ) (old new : Bor (List ℕ)) (f : EditFau
       inr (edit.Change slot (secret_for opener old memory older) new iterations (chosen_of kdf), (refl, secret_is opener old memory older, refl, refl, refl))
   either_way value (Remove None by_ opener memory older) read_ = inl (missed_by opener memory older)
   either_way value (Remove (Some slot) by_ opener memory older) read_ = inr (edit.Remove slot by_ (secret_for opener old memory older), (refl, refl, secret_is opener old memory older))
+  either_way value Erase read_ = inr (edit.Erase, tt)
   either_way value Repair read_ = inr (edit.Repair, tt)
   either_way value (Label text subsystem) read_ = inr (edit.Label text subsystem, (refl, refl))
   either_way value (Uuid text) read_ = inr (edit.Uuid (uuid_of text), refl)

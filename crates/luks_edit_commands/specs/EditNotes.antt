@@ -1,5 +1,6 @@
--- What is said of an edit before it is run, by the header that it is run over: which tokens name the keyslot that it changes or
--- removes (LUKS2 On-Disk Format 1.1, 3.6), and that LUKS1, which has one copy of its header, has nothing to repair.
+-- What is said of an edit before it is run, by the header that it is run over: which tokens name the keyslots that it changes or
+-- removes (LUKS2 On-Disk Format 1.1, 3.6), what brings the data back once all are erased, and that LUKS1, which has one copy of its
+-- header, has nothing to repair.
 use Rattle.std.specs.Prelude.{ℕ, zero, suc, ◌==◌, List, [], ◌∷◌, ◌++◌, codes, Option, Some, None, if◌then◌else◌}
 use Rattle.std.specs.Option.{unwrap_or}
 use Rattle.std.specs.List.{list_any}
@@ -15,7 +16,7 @@ use Rattle.luks_meta.specs.Content.{content}
 use Rattle.luks_reading.specs.declared.header.Header.{Header}
 use Rattle.luks_reading.specs.declared.header.Header.TheVariants.{Luks1, Luks2}
 use Rattle.luks_edit.specs.declared.edit.Edit.{Edit}
-use Rattle.luks_edit.specs.declared.edit.Edit.TheVariants.{Add, AddByKey, Change, Remove, Repair, Label, Uuid, Amend}
+use Rattle.luks_edit.specs.declared.edit.Edit.TheVariants.{Add, AddByKey, Change, Remove, Erase, Repair, Label, Uuid, Amend}
 use Rattle.luks_show.specs.Texts.{escaped}
 use Rattle.luks_edit_commands.specs.declared.edit.noted.Fate.{Fate}
 use Rattle.luks_edit_commands.specs.declared.edit.noted.Fate.TheVariants.{Changed, Removed}
@@ -48,11 +49,25 @@ unfoldable pub token_lines : Fate → ℕ → Data → ℕ → List ℕ
 token_lines fate n j zero = []
 token_lines fate n j (suc m) = token_lines fate n j m ++ token_line fate n m (object_at j Tokens m)
 
+-- what brings the data back where no keyslot is left
+abbrev pub erasure_line : List ℕ
+erasure_line = codes "luks: every keyslot is removed: only a backup of the header, or the volume key, brings the data back" ++ 10 ∷ []
+
+-- which tokens of the metadata `j` name the keyslots that have the first numbers, so many
+unfoldable pub slot_lines : Data → ℕ → List ℕ
+slot_lines j zero = []
+slot_lines j (suc n) = slot_lines j n ++ token_lines Removed n j 32
+
+-- both, of LUKS2
+abbrev pub erased_lines : Data → List ℕ
+erased_lines j = erasure_line ++ slot_lines j 32
+
 abbrev pub luks1_lines : Edit → List ℕ
 luks1_lines (Add by_ old new to iterations derivation) = []
 luks1_lines (AddByKey key new to iterations derivation) = []
 luks1_lines (Change slot old new iterations derivation) = []
 luks1_lines (Remove slot by_ passphrase) = []
+luks1_lines Erase = erasure_line
 luks1_lines Repair = codes "luks: LUKS1 has one copy of its header: there is nothing to repair" ++ 10 ∷ []
 luks1_lines (Label text subsystem) = []
 luks1_lines (Uuid uuid) = []
@@ -63,6 +78,7 @@ luks2_lines j (Add by_ old new to iterations derivation) = []
 luks2_lines j (AddByKey key new to iterations derivation) = []
 luks2_lines j (Change slot old new iterations derivation) = token_lines Changed slot j 32
 luks2_lines j (Remove slot by_ passphrase) = token_lines Removed slot j 32
+luks2_lines j Erase = erased_lines j
 luks2_lines j Repair = []
 luks2_lines j (Label text subsystem) = []
 luks2_lines j (Uuid uuid) = []

@@ -34,7 +34,7 @@ use Rattle.luks_volume.specs.Needed.{IsNeedFault, NeedsRandom}
 use Rattle.luks_volume.specs.Outcome.{Spares}
 use Rattle.luks_signatures.specs.declared.other_use.OtherUse.{OtherUse}
 use Rattle.luks_request.specs.declared.request.EditRequest.{EditRequest}
-use Rattle.luks_request.specs.declared.request.EditRequest.TheVariants.{Add, AddByKey, Change, Remove, Repair, Label, Uuid, Priority, AddToken, RemoveToken}
+use Rattle.luks_request.specs.declared.request.EditRequest.TheVariants.{Add, AddByKey, Change, Remove, Erase, Repair, Label, Uuid, Priority, AddToken, RemoveToken}
 use Rattle.luks_request.specs.declared.request.Editing.{Editing}
 use Rattle.luks_request.specs.declared.token.AskedPriority.{AskedPriority}
 use Rattle.luks_request.specs.declared.token.AskedPriority.TheVariants as asked
@@ -107,6 +107,7 @@ IsAsked v (Change slot opener memory older new iterations kdf) IsOld IsNew (edit
     IsMeant v slot o s × IsSecret opener memory older IsOld o × IsNew n.now × (i ≡ iterations) × (d ≡ chosen_of kdf)
 IsAsked v (Remove slot by_ opener memory older) IsOld IsNew (edit.Remove s b o) =
     IsMeant v slot o s × (b ≡ by_) × IsSecret opener memory older IsOld o
+IsAsked v Erase IsOld IsNew edit.Erase = ⊤
 IsAsked v Repair IsOld IsNew edit.Repair = ⊤
 IsAsked v (Label text subsystem) IsOld IsNew (edit.Label t s) = (t.now ≡ text.now) × (option_map (λ x. x.now) s ≡ option_map (λ x. x.now) subsystem)
 IsAsked v (Uuid text) IsOld IsNew (edit.Uuid u) = u ≡ uuid_of text

@@ -1,5 +1,5 @@
-//! The commands that edit a volume: `add`, `change`, `remove`, `repair`, `label`, `uuid`, `priority` and
-//! `token`.
+//! The commands that edit a volume: `add`, `change`, `remove`, `erase`, `repair`, `label`, `uuid`, `priority`
+//! and `token`.
 ghost use Rattle.std.specs.Prelude.{◌≡◌, ◌≢◌, ◌+◌, ◌<◌, ◌^◌, IfErr, length};
 ghost use Rattle.std.specs.Result.{ForOk};
 ghost use Rattle.luks_area.specs.Device.{IsSettled};

@@ -160,8 +160,8 @@ pub(crate) fn place(fault: Fault) -> &'static str {
         }
         Fault::Passphrase => "the file of --passphrase or --new",
         Fault::Requirements => {
-            "add, change, remove, repair, label, uuid, priority, token import and
-       token remove, of LUKS2: config.requirements"
+            "add, change, remove, erase, repair, label, uuid, priority, token import
+       and token remove, of LUKS2: config.requirements"
         }
         Fault::SlotTaken => "add: the keyslot of --to",
         Fault::NoFreeSlot => "add, and change of LUKS1: LUKS1 has 0 to 7, LUKS2 0 to 31",
@@ -179,12 +179,12 @@ pub(crate) fn place(fault: Fault) -> &'static str {
         }
         Fault::BadUuid => "uuid: TEXT",
         Fault::SeqExhausted => {
-            "add, change, remove, repair, label, uuid, priority, token import and
-       token remove: seqid of the copy that counts, of LUKS2"
+            "add, change, remove, erase, repair, label, uuid, priority, token import
+       and token remove: seqid of the copy that counts, of LUKS2"
         }
         Fault::MetadataFull => {
-            "add, change, remove, repair, label, uuid, priority, token import and
-       token remove, of LUKS2"
+            "add, change, remove, erase, repair, label, uuid, priority, token import
+       and token remove, of LUKS2"
         }
         Fault::RandomLength => "the commands that write: the file of --random",
         Fault::Payload => {
@@ -230,10 +230,11 @@ pub(crate) fn place(fault: Fault) -> &'static str {
        one of TARGET that has another uuid than SOURCE"
         }
         Fault::OtherUse => {
-            "OtherUse(NAME), of add, change, remove, repair, label, uuid, priority,
-       token import and token remove: its signature before the second copy of
-       LUKS2, where one isn't sound; of format, convert, rebuild and restore:
-       its signature, of restore where no header of the same volume counts"
+            "OtherUse(NAME), of add, change, remove, erase, repair, label, uuid,
+       priority, token import and token remove: its signature before the second
+       copy of LUKS2, where one isn't sound; of format, convert, rebuild and
+       restore: its signature, of restore where no header of the same volume
+       counts"
         }
         Fault::Reencrypting => {
             "LUKS1: the header begins with LUKS and the bytes DE AD, which cryptsetup

@@ -15,7 +15,7 @@ use std::test::Fail;
 
 /// How an edit ended.
 #[derive(Clone, Copy, PartialEq, Eq)]
-enum End {
+pub(crate) enum End {
     Done,
     /// The device's fault was told.
     Told,
@@ -26,14 +26,14 @@ enum End {
 
 /// What an edit came to on a device of which one call fails.
 #[derive(Drop)]
-struct Ended {
-    end: End,
-    calls: Vec<Call>,
-    left: MemDevice,
+pub(crate) struct Ended {
+    pub(crate) end: End,
+    pub(crate) calls: Vec<Call>,
+    pub(crate) left: MemDevice,
 }
 
 /// What the edit comes to where the call of this number fails.
-fn end_of(
+pub(crate) fn end_of(
     alloc: Global,
     volume: &[u8],
     edit: &Edit<'_>,
@@ -62,7 +62,7 @@ fn end_of(
 }
 
 /// The bytes of the copy that counts; nothing where none does.
-fn copy_that_counts(device: &mut MemDevice) -> &[u8] {
+pub(crate) fn copy_that_counts(device: &mut MemDevice) -> &[u8] {
     match select(device) {
         Ok(Selected::V2 { header, .. }) => {
             let at = header.hdr_offset as usize;
@@ -91,7 +91,8 @@ fn is_before_or_after(
 }
 
 /// Whichever call fails, it is told after that call, and is the last; the bytes that earlier calls
-/// wrote are left, what the failing one leaves, and all others as they were.
+/// wrote are left, what the failing one leaves, and all others as they were. The keyslots open that have to,
+/// but where the uuid of LUKS1 is left as nothing wrote it.
 fn fails_at_each_call(
     rt: &impl Abort,
     alloc: Global,
@@ -120,7 +121,8 @@ fn fails_at_each_call(
         assert!(rt; calls.len() == i.wrapping_add(1), "call {i}: the calls");
         assert!(rt; left.contents() == want.as_slice(), "call {i}: the bytes");
         let opened = keyslots_open(alloc, &mut left, trial);
-        assert!(rt; opened, "call {i}: the keyslots");
+        let torn = !is_luks2 && trial.sets_uuid() && len > 0 && leave == Leave::Ones;
+        assert!(rt; opened != torn, "call {i}: the keyslots");
         let known = !is_luks2 || is_before_or_after(alloc, &mut left, before, after)?;
         assert!(rt; known, "call {i}: the copy that counts");
         put(&mut want, at, new);
@@ -129,7 +131,7 @@ fn fails_at_each_call(
     Ok(())
 }
 
-const LEAVES: [Leave; 4] = [Leave::Old, Leave::New, Leave::Ones, Leave::Half];
+pub(crate) const LEAVES: [Leave; 4] = [Leave::Old, Leave::New, Leave::Ones, Leave::Half];
 
 #[test]
 fn each_edit_of_luks1(rt: HostRuntime) -> Result<(), Fail> {

@@ -3,6 +3,8 @@
 #![tactic(auto)]
 
 #[cfg(test)]
+mod erasing;
+#[cfg(test)]
 mod failing_calls;
 #[cfg(test)]
 mod losing_edits;

@@ -10,7 +10,7 @@ use std::alloc::Global;
 use std::process::Abort;
 use std::test::Fail;
 
-const LOSSES: [Loss; 5] = [
+pub(crate) const LOSSES: [Loss; 5] = [
     Loss::OutOfOrder,
     Loss::All,
     Loss::EvenSectors,
@@ -23,7 +23,8 @@ const LOSSES: [Loss; 5] = [
 enum End {
     /// It is done, and all that it wrote is flushed.
     Done,
-    /// The device's fault was told, and each keyslot opens that has to; whether the volume is accepted.
+    /// The device's fault was told, and each keyslot opens that has to, or the uuid is torn; whether the volume
+    /// is accepted.
     Told { accepted: bool },
     Other,
 }
@@ -42,16 +43,18 @@ fn end_of(
     let mut left = MemDevice::new(device.contents().to_vec(alloc)?);
     let accepted = check(alloc, &mut left, Data::Here).is_ok();
     let opened = keyslots_open(alloc, &mut left, trial);
+    let torn = trial.sets_uuid() && loss == Loss::Ones && !accepted;
     let is_flushed = device.contents() == device.settled();
     Ok(match (answer, device.failures()) {
         (Ok(_), 0) if is_flushed && accepted && opened => End::Done,
-        (Err(EditFault::Device), 1) if opened => End::Told { accepted },
+        (Err(EditFault::Device), 1) if opened || torn => End::Told { accepted },
         _ => End::Other,
     })
 }
 
 /// Whichever call is the last before the power is cut, the keyslots open that have to. The volume is
-/// accepted, but one of LUKS1 may be refused where bytes are left that nothing wrote.
+/// accepted, but one of LUKS1 may be refused where bytes are left that nothing wrote; none opens of one that is
+/// refused for its uuid.
 fn loses_at_each_call(
     rt: &impl Abort,
     alloc: Global,

@@ -1,12 +1,13 @@
 //! Edits of LUKS2 volumes with refused memory.
 
-use crate::trials::{LUKS2, Trial};
+use crate::trials::LUKS2;
 use luks_area::MemDevice;
 use luks_edit::{Edit, EditFault};
 use luks_reading::Data;
 use luks_test_devices::{BLOCKS, TakenMemory, counted, two_keyslots};
 use luks_volume::{apply, needed};
 use std::alloc::Global;
+use std::process::Abort;
 use std::test::Fail;
 
 /// How a call ended.
@@ -54,10 +55,9 @@ struct Ended {
 
 // With all memory taken, and given back in blocks, the calls are refused memory at one place after
 // another. Nothing else is answered until they are done.
-fn ends_with_little_memory(alloc: Global, trial: &Trial) -> Result<Ended, Fail> {
-    let edit = &trial.edit;
+fn ends_with_little_memory(alloc: Global, edit: &Edit<'_>, random: usize) -> Result<Ended, Fail> {
     let before = two_keyslots(alloc)?;
-    let random = counted(alloc, 7, trial.random)?;
+    let random = counted(alloc, 7, random)?;
     let mut device = MemDevice::new(before.to_vec(alloc)?);
     let mut taken = TakenMemory::take(alloc)?;
     let mut need = End::Memory;
@@ -85,17 +85,28 @@ fn ends_with_little_memory(alloc: Global, trial: &Trial) -> Result<Ended, Fail> 
     })
 }
 
+/// The edit is done once there is enough memory, and its need is told before.
+fn tells(rt: &impl Abort, alloc: Global, edit: &Edit<'_>, random: usize) -> Result<(), Fail> {
+    let ended = ends_with_little_memory(alloc, edit, random)?;
+    assert!(rt; ended.need == End::Done, "{random} random bytes: the need");
+    assert!(rt; ended.end == End::Done, "{random} random bytes");
+    let (first, last) = (ended.for_need, ended.given);
+    assert!(rt;
+        1 < first && first <= last,
+        "{random} random bytes: {first} and {last} blocks"
+    );
+    Ok(())
+}
+
 #[test]
 fn tell_refused_memory(rt: HostRuntime) -> Result<(), Fail> {
-    for (i, trial) in LUKS2.iter().enumerate() {
-        let ended = ends_with_little_memory(rt.alloc(), trial)?;
-        assert!(&rt; ended.need == End::Done, "edit {i}: the need");
-        assert!(&rt; ended.end == End::Done, "edit {i}");
-        let (first, last) = (ended.for_need, ended.given);
-        assert!(&rt;
-            1 < first && first <= last,
-            "edit {i}: {first} and {last} blocks"
-        );
+    for trial in LUKS2.iter() {
+        tells(&rt, rt.alloc(), &trial.edit, trial.random)?;
     }
     Ok(())
+}
+
+#[test]
+fn erasing_tells_refused_memory(rt: HostRuntime) -> Result<(), Fail> {
+    tells(&rt, rt.alloc(), &Edit::Erase, 128)
 }

@@ -1,7 +1,7 @@
 //! Edits of volumes with two keyslots or three.
 
 use luks_area::MemDevice;
-use luks_edit::Edit;
+use luks_edit::{Edit, NewUuid};
 use luks_kdf::HashName;
 use luks_reading::{Allowed, Data, open_slot};
 use luks_samples::{ARGON2I_1, ARGON2ID_0, STRIPE_BY_ARGON2I, roomy_luks2, roomy_text};
@@ -29,8 +29,19 @@ pub(crate) struct Trial {
     pub(crate) other: Opening,
 }
 
+impl Trial {
+    /// Whether it sets the uuid. In the header of LUKS1 that stands in one place, and each keyslot's answer
+    /// depends on it: where bytes are left there that nothing wrote, none opens.
+    pub(crate) fn sets_uuid(&self) -> bool {
+        matches!(self.edit, Edit::Uuid(_))
+    }
+}
+
+/// The uuid that is set.
+const UUID: Edit<'static> = Edit::Uuid(NewUuid::Text("0A1b2c3D-4e5F-1071-8293-a4B5c6D7e8F9"));
+
 /// Edits of the LUKS1 volume.
-pub(crate) const LUKS1: [Trial; 4] = [
+pub(crate) const LUKS1: [Trial; 6] = [
     Trial {
         edit: add!(0, b"one", b"three", None),
         random: 2528,
@@ -59,10 +70,24 @@ pub(crate) const LUKS1: [Trial; 4] = [
         either: [(1, b"two"), (1, b"two")],
         other: (1, b"two"),
     },
+    Trial {
+        edit: UUID,
+        random: 0,
+        writes: 1,
+        either: [(0, b"one"), (0, b"one")],
+        other: (1, b"two"),
+    },
+    Trial {
+        edit: Edit::Uuid(NewUuid::Random),
+        random: 16,
+        writes: 1,
+        either: [(0, b"one"), (0, b"one")],
+        other: (1, b"two"),
+    },
 ];
 
 /// Edits of the LUKS2 volume.
-pub(crate) const LUKS2: [Trial; 6] = [
+pub(crate) const LUKS2: [Trial; 8] = [
     Trial {
         edit: Edit::Repair,
         random: 128,
@@ -73,6 +98,20 @@ pub(crate) const LUKS2: [Trial; 6] = [
     Trial {
         edit: label!(b"disk"),
         random: 128,
+        writes: 4,
+        either: [(0, b"one"), (0, b"one")],
+        other: (1, b"two"),
+    },
+    Trial {
+        edit: UUID,
+        random: 128,
+        writes: 4,
+        either: [(0, b"one"), (0, b"one")],
+        other: (1, b"two"),
+    },
+    Trial {
+        edit: Edit::Uuid(NewUuid::Random),
+        random: 144,
         writes: 4,
         either: [(0, b"one"), (0, b"one")],
         other: (1, b"two"),

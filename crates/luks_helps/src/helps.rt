@@ -13,9 +13,9 @@ A volume is a device, an image, or the detached header of one; with --offset and
 --length it is the bytes of a disk or an image where it lies, and no other byte
 of that changes. The commands check, show, open, find and compare write nothing,
 convert, rebuild, backup and key only to another file; the others write to the
-header and to the areas of the keyslots that they name, restore to all of them,
-and format to those of a new volume. Only find reads the data, in which a volume
-may stand. explain says what a fault means.
+header and to the areas of the keyslots that they name, erase and restore to all
+of them, and format to those of a new volume. Only find reads the data, in which
+a volume may stand. explain says what a fault means.
 
 Behind a number of bytes or of MiB may stand K, M, G or T, for 1024 bytes, 1024
 of these and so on: --offset 1M is 1048576, --memory 1G is 1024 MiB.
@@ -353,6 +353,46 @@ If the device fails in the midst, each other keyslot opens as before; this one
 may be there, or be gone with its area not wiped. Run luks repair (LUKS2), and
 luks show; if it is there, remove it again. Of LUKS1 its entry may be damaged:
 luks check tells, and refuses.
+
+Exit status:
+  0  done, or help was asked for
+  1  refused; nothing was written
+  2  the command line is wrong; the text is on standard error
+  4  device fault, no memory, or the output can't be written";
+
+/// What `erase` does, in a line.
+pub const ERASE: &str = "Removes every keyslot of a volume";
+
+/// The help of `erase` after its words.
+pub const ERASE_MORE: &str = "\
+Every keyslot is removed, and its area gets zeros, of LUKS1 that of a keyslot
+that isn't in use too. No passphrase is asked for, so that --all has to be
+typed. No passphrase opens the volume then: only a backup of the header, or who
+has the volume key, brings the data back (luks restore, and luks add --key). So
+a backup that is kept opens it still, by the passphrases that it had.
+
+Of LUKS2 the digests and tokens stay, and name no keyslot. Written are, with a
+flush after each: of LUKS1 each keyslot's entry and the zeros over its area, one
+keyslot after the other; of LUKS2 the copy of the header that doesn't count and
+the one that does, then the zeros. Of LUKS2 the salts are the first 128 bytes of
+the random file; LUKS1 takes none.
+
+Where only one copy of a LUKS2 header is sound and another use of the disk, as
+a file system or a partition table, stands in the place of the other, nothing
+is written but with --over.
+
+Prints one line:
+  done           no keyslot is left
+  refused FAULT  the first fault, and nothing was written: what check refuses,
+                 OtherUse (as above), Requirements, SeqExhausted, MetadataFull
+                 or RandomLength (of LUKS2, the random file is too short or none
+                 is named)
+  device fault   a file can't be read, or the volume read or written
+  no memory      memory was refused; nothing was written
+
+If the device fails in the midst, each keyslot may be there, or be gone with its
+area not wiped. Run it again; of LUKS2 that wipes no area of a keyslot that is
+gone. Of LUKS1 an entry may be damaged: luks check tells, and refuses.
 
 Exit status:
   0  done, or help was asked for

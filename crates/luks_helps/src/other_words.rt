@@ -14,7 +14,7 @@ pub fn other_words() -> &'static [OtherWord] {
     &OTHER_WORDS
 }
 
-static OTHER_WORDS: [OtherWord; 59] = [
+static OTHER_WORDS: [OtherWord; 58] = [
     OtherWord {
         word: "luksDump",
         here: "luks show",
@@ -97,11 +97,7 @@ static OTHER_WORDS: [OtherWord; 59] = [
     },
     OtherWord {
         word: "luksErase",
-        here: "luks remove, a keyslot at a time",
-    },
-    OtherWord {
-        word: "erase",
-        here: "luks remove, a keyslot at a time",
+        here: "luks erase VOLUME --all",
     },
     OtherWord {
         word: "delete",

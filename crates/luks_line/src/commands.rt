@@ -30,7 +30,7 @@ pub(crate) fn command_row(name: &str) -> Option<&'static Described> {
     commands().iter().find(|described| described.name == name)
 }
 
-static COMMANDS: [Described; 20] = [
+static COMMANDS: [Described; 21] = [
     Described {
         name: "check",
         command: CommandName::Check,
@@ -160,6 +160,22 @@ static COMMANDS: [Described; 20] = [
             LongOption::Quiet,
         ],
         choices: &[Choice::Opener],
+    },
+    Described {
+        name: "erase",
+        command: CommandName::Erase,
+        overwrites: true,
+        operands: &[Operand::Volume],
+        options: &[
+            LongOption::EveryKeyslot,
+            LongOption::Random,
+            LongOption::Over,
+            LongOption::Detached,
+            LongOption::Offset,
+            LongOption::Length,
+            LongOption::Quiet,
+        ],
+        choices: &[],
     },
     Described {
         name: "repair",

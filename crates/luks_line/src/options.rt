@@ -42,6 +42,7 @@ pub(crate) enum LongOption {
     ToToken,
     RemovedSlot,
     By,
+    EveryKeyslot,
     Size,
     Cipher,
     GivenHash,
@@ -86,7 +87,7 @@ pub(crate) struct OptionRow {
 }
 
 /// In the order of `LongOption`.
-static OPTIONS: [OptionRow; 63] = [
+static OPTIONS: [OptionRow; 64] = [
     OptionRow {
         name: "detached",
         needed: false,
@@ -302,6 +303,12 @@ static OPTIONS: [OptionRow; 63] = [
         needed: false,
         help: "The one that the passphrase opens; else --slot",
         takes: Takes::Slot,
+    },
+    OptionRow {
+        name: "all",
+        needed: true,
+        help: "Every keyslot; needed, since nothing is asked",
+        takes: Takes::Nothing,
     },
     OptionRow {
         name: "size",

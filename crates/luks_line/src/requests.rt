@@ -119,6 +119,7 @@ fn edit_of<'a>(name: CommandName, given: &ArgMatches<'a>) -> Option<EditRequest<
         CommandName::Add => adding_of(given),
         CommandName::Change => changing_of(given),
         CommandName::Remove => removing_of(given),
+        CommandName::Erase => erasing_of(given),
         CommandName::Repair => Some(EditRequest::Repair),
         CommandName::Label => labelling_of(given),
         CommandName::Uuid => Some(identifying_of(given)),
@@ -181,6 +182,15 @@ fn removing_of<'a>(given: &ArgMatches<'a>) -> Option<EditRequest<'a>> {
         memory: mib_of(given, "memory")?,
         older: given.get_flag("older"),
     })
+}
+
+/// The erasure, where the words say that every keyslot is meant.
+fn erasing_of<'a>(given: &ArgMatches<'a>) -> Option<EditRequest<'a>> {
+    if given.get_flag("all") {
+        Some(EditRequest::Erase)
+    } else {
+        None
+    }
 }
 
 fn labelling_of<'a>(given: &ArgMatches<'a>) -> Option<EditRequest<'a>> {

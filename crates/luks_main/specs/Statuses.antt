@@ -59,7 +59,7 @@ EndsKey (Refused (refusal.Key fault)) status = status ≡ 1
 EndsKey (Refused refusal.LongPassphrase) status = status ≡ 1
 EndsKey answer status = EndsAny answer status
 
--- `add`, `change`, `remove`, `repair` and `label`
+-- `add`, `change`, `remove`, `erase`, `repair`, `label`, `uuid`, `priority` and `token`
 abbrev pub EndsEdit : Answer → ℕ → Type 0
 EndsEdit (Done slot) status = status ≡ 0
 EndsEdit (Refused (refusal.Edit fault)) status = status ≡ 1

@@ -115,7 +115,7 @@ in_fine n f h (object ms) x =
     record { whole = after.0; nests = (let deep : suc (members_depth (f ms)) ≤ suc n = omega (arith, less) in deep) }
 in_fine n f h d x = x
 
--- with a changed member, with each changed, with one less, with one more
+-- with a changed member, with each changed, with one less, with none, with one more
 pub fine_at : (n : ℕ) (k : List ℕ) (f : Data → Data) → KeepsFine n f → KeepsFine (suc n) (at_member k f)
 fine_at n k f h = in_fine n (change_member k f) (each_changed (Fine n) k f (λ l d x. h d x))
 
@@ -128,10 +128,13 @@ fine_all n f h = in_fine n (each_member f) (each_each (Fine n) f (λ l d x. h d 
 pub fine_left : (n : ℕ) (k : List ℕ) → KeepsFine (suc n) (in_object (drop_member k))
 fine_left n k = in_fine n (drop_member k) (each_left (Fine n) k)
 
+pub fine_emptied : (n : ℕ) → KeepsFine (suc n) (in_object (λ _. no_members))
+fine_emptied n = in_fine n (λ _. no_members) (λ ms e. tt)
+
 pub fine_put : (n : ℕ) (k : List ℕ) (v : Data) → IsFine n v → KeepsFine (suc n) (in_object (put k v))
 fine_put n k v h = in_fine n (put k v) (each_put (Fine n) k v h (λ l d x. h))
 
--- of an array with a text less, and with one more
+-- of an array with a text less, with none, and with one more
 abbrev FineItems : ℕ → Items → Type 0
 FineItems n ds = (items_have_float ds ≡ false) × (items_depth ds ≤ n)
 
@@ -165,6 +168,9 @@ items_added n t (item d ds) h =
 
 pub fine_dropped : (n : ℕ) (t : List ℕ) → KeepsFine (suc n) (in_array (drop_text t))
 fine_dropped n t = array_fine n (drop_text t) (items_dropped n t)
+
+pub fine_unnamed : (n : ℕ) → KeepsFine (suc n) (in_array (λ _. no_items))
+fine_unnamed n = array_fine n (λ _. no_items) (λ ds h. (refl, omega arith))
 
 pub fine_added : (n : ℕ) (t : List ℕ) → KeepsFine (suc n) (in_array (add_text t))
 fine_added n t = array_fine n (add_text t) (items_added n t)

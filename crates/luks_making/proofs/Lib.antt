@@ -5,6 +5,7 @@ mod RowFacts
 mod EditFacts
 pub mod KdfFacts
 pub mod RemovalFacts
+pub mod ErasureFacts
 pub mod ReadingFacts
 pub mod AdditionFacts
 pub mod FreeNumberFacts

@@ -1,7 +1,7 @@
 -- New values that are made in several steps.
 use Rattle.std.proofs.Common.{◌≡◌, ℕ, List, [], codes, Option, Some, option_and_then, refl, ap, ◌∙◌}
 use Rattle.std.specs.Option.{unwrap_or}
-use Rattle.serde_json.specs.Data.{Data, number, string, unsigned, put}
+use Rattle.serde_json.specs.Data.{Data, no_members, number, string, unsigned, put}
 use Rattle.serde_json.specs.Find.{get}
 use Rattle.luks_json.specs.Number.{number_text}
 use Rattle.luks_making.specs.Changing.{at_member, drop_member, each_member, in_object, set_member}
@@ -12,7 +12,7 @@ use Rattle.luks_making.specs.Converted.{with_region}
 use Rattle.luks_making.specs.Formatted.{VolumeMembers, formatted}
 use Rattle.luks_making.specs.Keyslots.{NewMembers, SlotMembers, base64_text, slot_value}
 use Rattle.luks_making.specs.With.{with_name, with_slot}
-use Rattle.luks_making.specs.Without.{without_name, without_slot}
+use Rattle.luks_making.specs.Without.{without_name, without_names, without_slot, without_slots}
 use Rattle.luks_making.proofs.MemberFacts.{get_kept}
 
 -- a keyslot is taken out
@@ -21,6 +21,12 @@ pub without_steps : (n : ℕ) (t : List ℕ) (j a b : Data) → t ≡ number_tex
     → b ≡ at_member (codes "digests") (in_object (each_member (without_name t))) a
     → at_member (codes "keyslots") (in_object (drop_member t)) b ≡ without_slot n j
 without_steps n t j a b named first second = rw (second, first, named) refl
+
+-- all are
+pub emptied_steps : (j a b : Data) → a ≡ at_member (codes "tokens") (in_object (each_member without_names)) j
+    → b ≡ at_member (codes "digests") (in_object (each_member without_names)) a
+    → at_member (codes "keyslots") (in_object (λ _. no_members)) b ≡ without_slots j
+emptied_steps j a b first second = rw (second, first) refl
 
 -- a keyslot is put in
 pub with_steps : (n m : ℕ) (s : SlotMembers) (tm tn tk : List ℕ) (j a made : Data) → tm ≡ number_text m → tn ≡ number_text n → tk ≡ number_text n → made ≡ slot_value s

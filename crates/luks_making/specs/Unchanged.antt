@@ -22,7 +22,7 @@ use Rattle.luks_making.specs.declared.derivation.NewDerivation.{NewDerivation}
 use Rattle.luks_making.specs.Keyslots.{Deriving, by_pbkdf2, by_argon2i, by_argon2id, NewMembers, SlotMembers, derivation_by, kdf_value, slot_value}
 use Rattle.luks_making.specs.Naming.{IsDigestOf}
 use Rattle.luks_making.specs.With.{with_name}
-use Rattle.luks_making.specs.Without.{without_name}
+use Rattle.luks_making.specs.Without.{without_name, without_names}
 
 -- the members of the value are as they were, but for those of the names
 abbrev pub KeepsOthers : List (List ℕ) → Data → Data → Type 0
@@ -69,6 +69,25 @@ pub record LosesSlot (n : ℕ) (old new : Data) : Type 0 where
   pub digests : LosesName Digests n old new
   pub tokens : LosesName Tokens n old new
   pub rest : KeepsRest n old new
+
+-- ---- a value without any keyslot
+
+-- each object of the section has no name in its array of keyslots, and its other members are as they
+-- were
+pub record LosesNames (s : Section) (old new : Data) : Type 0 where
+  pub changed : (m : ℕ) → object_at new s m ≡ option_map without_names (object_at old s m)
+  pub none : (m : ℕ) (d : Data) (names : List (List ℕ)) → object_at new s m ≡ Some d
+      → texts_of (get (codes "keyslots") d) ≡ Some names → names ≡ []
+  pub rest : KeepsObjects (codes "keyslots" ∷ []) s old new
+
+-- the value `new` is `old` without keyslots and their names
+pub record LosesSlots (old new : Data) : Type 0 where
+  pub gone : (n : ℕ) → object_at new Keyslots n ≡ None
+  pub digests : LosesNames Digests old new
+  pub tokens : LosesNames Tokens old new
+  pub segments : section_at new Segments ≡ section_at old Segments
+  pub config : section_at new Config ≡ section_at old Config
+  pub others : KeepsOthers (codes "digests" ∷ codes "keyslots" ∷ codes "tokens" ∷ []) old new
 
 -- ---- a value with one more keyslot
 

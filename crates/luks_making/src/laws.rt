@@ -15,11 +15,11 @@ ghost use Rattle.luks_making.specs.declared.amended.Priority.{Priority};
 ghost use Rattle.luks_making.specs.declared.derivation.AskedDerivation.{AskedDerivation};
 ghost use Rattle.luks_making.specs.Formatted.{VolumeMembers, formatted};
 ghost use Rattle.luks_making.specs.NewVolumes.{SaysVolume};
-ghost use Rattle.luks_making.specs.Unchanged.{AddsToken, ChangesSlot, GainsSlot, LosesSlot, LosesToken, SaysMembers, SetsPriority};
+ghost use Rattle.luks_making.specs.Unchanged.{AddsToken, ChangesSlot, GainsSlot, LosesSlot, LosesSlots, LosesToken, SaysMembers, SetsPriority};
 ghost use Rattle.luks_making.specs.Keyslots.{IsDerivedLike, IsMadeFrom, NewMembers, SlotMembers, slot_value};
 ghost use Rattle.luks_making.specs.Naming.{HasUniqueDigests};
 ghost use Rattle.luks_making.specs.With.{IsAdded, with_slot};
-ghost use Rattle.luks_making.specs.Without.{without_slot};
+ghost use Rattle.luks_making.specs.Without.{without_slot, without_slots};
 
 /// A name is that of one number alone.
 pub fn names_are_apart()
@@ -31,6 +31,13 @@ pub fn names_are_apart()
 pub fn removal_keeps_the_rest()
     ensures held { (len n : ℕ) (j : Data) → IsHeld len j → IsHeld len (without_slot n j) }
     ensures rest { (n : ℕ) (j : Data) → LosesSlot n j (without_slot n j) }
+{}
+
+/// Metadata without any keyslot meets every rule that it met, and all else is as it was but for the
+/// names of keyslots, of which digests and tokens have none.
+pub fn erasure_keeps_the_rest()
+    ensures held { (len : ℕ) (j : Data) → IsHeld len j → IsHeld len (without_slots j) }
+    ensures rest { (j : Data) → LosesSlots j (without_slots j) }
 {}
 
 /// Metadata with one more keyslot meets every rule that it met, where there is room for the

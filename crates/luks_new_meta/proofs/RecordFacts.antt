@@ -16,12 +16,12 @@ use Rattle.luks_rules.specs.Reading.{bytes_in, number_in, text_of, texts_of}
 use Rattle.luks_json.proofs.NameLists.{reads_names}
 use Rattle.luks_making.proofs.NameFacts.{same_number}
 use Rattle.luks_making.specs.Keyslots.{NewMembers, SlotMembers}
-use Rattle.luks_making.specs.Unchanged.{ChangesSlot, GainsSlot, KeepsObjects, KeepsOthers, KeepsRest, LosesSlot}
+use Rattle.luks_making.specs.Unchanged.{ChangesSlot, GainsSlot, KeepsObjects, KeepsOthers, KeepsRest, LosesSlot, LosesSlots}
 use Rattle.luks_meta.specs.declared.configuration.Config.{Config}
 use Rattle.luks_meta.specs.declared.digests.Digest.{Digest}
 use Rattle.luks_meta.specs.declared.tokens.Token.{Token}
 use Rattle.luks_meta.specs.Objects.{IsConfig, IsMissing, IsObject}
-use Rattle.luks_new_meta.specs.Records.{GainsNumber, KeepsNumbers, KeepsRecords, LosesNumber, SameDigest, others}
+use Rattle.luks_new_meta.specs.Records.{GainsNumber, KeepsNumbers, KeepsRecords, LosesNumber, LosesNumbers, SameDigest, others}
 use Rattle.luks_meta.specs.Says.{TellsDigest, TellsKeyslot, TellsSegment, TellsToken}
 
 pub some_same : {A : Type 0} (x y : A) → Some x ≡ Some y → x ≡ y
@@ -144,6 +144,10 @@ numbers_gained n v w ks ls a b e =
     = sym new ∙ (e ∙ ap (option_map (λ ts. ts ++ number_text n ∷ [])) old) in
     same_numbers ls (ks ++ n ∷ []) (some_same _ _ both ∙ last_named n ks)
 
+-- those of an array without names
+no_numbers : (w : Option Data) (ls : List ℕ) → numbers_of_array w ≡ Some ls → ((names : List (List ℕ)) → texts_of w ≡ Some names → names ≡ []) → ls ≡ []
+no_numbers w ls b none = same_numbers ls [] (none (map number_text ls) (reads_names w ls b))
+
 -- ---- each edit
 
 pub numbers_removed : (n : ℕ) (old new : Data) → LosesSlot n old new → LosesNumber n old new
@@ -152,6 +156,22 @@ numbers_removed n old new r = record {
       (r.digests.texts m a.object b.object a.is b.is);
   tokens = λ m k l a b. numbers_lost n (get (codes "keyslots") a.object) (get (codes "keyslots") b.object) k.keyslots.items l.keyslots.items a.tells_members.1 b.tells_members.1
       (r.tokens.texts m a.object b.object a.is b.is);
+}
+
+pub numbers_gone : (old new : Data) → LosesSlots old new → LosesNumbers old new
+numbers_gone old new r = record {
+  keyslots = λ n low. r.gone n;
+  digests = λ m k l a b. (
+    digests_told old new m k l r.digests.rest a b,
+    no_numbers (get (codes "keyslots") b.object) l.keyslots.items b.tells_members.5 (λ names texts. r.digests.none m b.object names b.is texts),
+  );
+  tokens = λ m k l a b. (
+    tokens_told old new m k l r.tokens.rest a b,
+    no_numbers (get (codes "keyslots") b.object) l.keyslots.items b.tells_members.1 (λ names texts. r.tokens.none m b.object names b.is texts),
+  );
+  segments = λ m k. same_object TellsSegment old new Segments m k (in_section old new Segments m r.segments);
+  no_segment = λ m. same_missing old new Segments m (in_section old new Segments m r.segments);
+  config = λ k. (config_moved old new k r.config, config_moved new old k (sym r.config));
 }
 
 pub number_added : (n m : ℕ) (s : SlotMembers) (old new : Data) → GainsSlot n m s old new → GainsNumber n m old new

@@ -48,6 +48,19 @@ pub record LosesNumber (n : ℕ) (old new : Data) : Type 0 where
   pub tokens : (m : ℕ) (k l : Token) → IsObject TellsToken old Tokens m k
       → IsObject TellsToken new Tokens m l → l.keyslots.items ≡ others n k.keyslots.items
 
+-- no keyslot is told, and none that a digest or token names; of each segment and `config` the same is
+-- told, and of each digest and token the same but for its keyslots
+pub record LosesNumbers (old new : Data) : Type 0 where
+  pub keyslots : (n : ℕ) → IsMissing new Keyslots n
+  pub digests : (m : ℕ) (k l : Digest) → IsObject TellsDigest old Digests m k
+      → IsObject TellsDigest new Digests m l → SameDigest k l × (l.keyslots.items ≡ [])
+  pub tokens : (m : ℕ) (k l : Token) → IsObject TellsToken old Tokens m k
+      → IsObject TellsToken new Tokens m l → (l.kind.now ≡ k.kind.now) × (l.keyslots.items ≡ [])
+  pub segments : (m : ℕ) (k : Segment)
+      → IsObject TellsSegment old Segments m k ↔ IsObject TellsSegment new Segments m k
+  pub no_segment : (m : ℕ) → IsMissing old Segments m ↔ IsMissing new Segments m
+  pub config : (k : Config) → IsConfig old k ↔ IsConfig new k
+
 -- the digest `m` names the keyslot `n` last, and of each other digest and each token the same is
 -- told
 pub record GainsNumber (n m : ℕ) (old new : Data) : Type 0 where

@@ -13,5 +13,5 @@ pub use luks_making::{
 };
 pub use metadata::{
     changed_slot, converted, formatted, json_area, with_new_slot, with_priority, with_slot,
-    with_token, without_slot, without_token,
+    with_token, without_slot, without_slots, without_token,
 };

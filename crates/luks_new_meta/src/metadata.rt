@@ -16,7 +16,7 @@ ghost use Rattle.luks_making.specs.Formatted.{formatted, volume_members};
 ghost use Rattle.luks_making.specs.Keyslots.{new_members, slot_members};
 ghost use Rattle.luks_making.specs.Naming.{HasUniqueDigests};
 ghost use Rattle.luks_making.specs.With.{IsAdded, with_slot};
-ghost use Rattle.luks_making.specs.Without.{without_slot};
+ghost use Rattle.luks_making.specs.Without.{without_slot, without_slots};
 ghost use Rattle.luks_making.specs.WrittenArea.{IsWrittenArea};
 ghost use Rattle.luks_meta.specs.Content.{area_len, content};
 ghost use Rattle.luks_new_meta.specs.Made.{HasRoom};
@@ -88,6 +88,19 @@ pub fn without_slot(alloc: Global, meta: Meta, number: u8) -> Result<Meta, Alloc
 {
     let len = meta.area_len();
     let value = luks_making::without_slot(alloc, meta.into_value(), number)?;
+    Ok(Meta::of_value(value, len))
+}
+
+/// The metadata without any keyslot, and with none named in the arrays of digests and tokens. All else
+/// stays as it is. The metadata is given up: its value is edited in place.
+///
+/// Takes memory for the maps of tokens and digests.
+pub fn without_slots(alloc: Global, meta: Meta) -> Result<Meta, AllocError>
+    ensures value { IfOk result (λ m. content m ≡ without_slots (content meta)) }
+    ensures length { IfOk result (λ m. area_len m ≡ area_len meta) }
+{
+    let len = meta.area_len();
+    let value = luks_making::without_slots(alloc, meta.into_value())?;
     Ok(Meta::of_value(value, len))
 }
 

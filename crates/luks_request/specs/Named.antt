@@ -3,7 +3,7 @@ use Rattle.std.specs.Prelude.{ℕ, List, Option, None, Some, option_map, Bool, t
 use Rattle.luks_request.specs.declared.request.Command.{Command}
 use Rattle.luks_request.specs.declared.request.Command.TheVariants.{Check, Show, Open, Match, Edit, Format, Convert, Rebuild, Backup, Restore, Compare, KeepKey, KeepToken}
 use Rattle.luks_request.specs.declared.request.EditRequest.{EditRequest}
-use Rattle.luks_request.specs.declared.request.EditRequest.TheVariants.{Add, AddByKey, Change, Remove, Repair, Label, Uuid, Priority, AddToken, RemoveToken}
+use Rattle.luks_request.specs.declared.request.EditRequest.TheVariants.{Add, AddByKey, Change, Remove, Erase, Repair, Label, Uuid, Priority, AddToken, RemoveToken}
 use Rattle.luks_request.specs.declared.request.OpenerFile.{OpenerFile}
 use Rattle.luks_request.specs.declared.request.OpenerFile.TheVariants.{Passphrase, Key}
 
@@ -18,6 +18,7 @@ edit_passphrase_of (Add by_ opener memory older new to iterations kdf) = Some (f
 edit_passphrase_of (AddByKey key memory older new to iterations kdf) = Some key.now
 edit_passphrase_of (Change slot opener memory older new iterations kdf) = Some (file_of opener)
 edit_passphrase_of (Remove slot by_ opener memory older) = Some (file_of opener)
+edit_passphrase_of Erase = None
 edit_passphrase_of Repair = None
 edit_passphrase_of (Label text subsystem) = None
 edit_passphrase_of (Uuid text) = None
@@ -31,6 +32,7 @@ edit_new_of (Add by_ opener memory older new to iterations kdf) = Some new.now
 edit_new_of (AddByKey key memory older new to iterations kdf) = Some new.now
 edit_new_of (Change slot opener memory older new iterations kdf) = Some new.now
 edit_new_of (Remove slot by_ opener memory older) = None
+edit_new_of Erase = None
 edit_new_of Repair = None
 edit_new_of (Label text subsystem) = None
 edit_new_of (Uuid text) = None

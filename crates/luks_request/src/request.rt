@@ -181,6 +181,8 @@ pub enum EditRequest<'a> {
         /// Whether ciphers and hashes of older disks are accepted.
         older: bool,
     },
+    /// Remove every keyslot, by no passphrase.
+    Erase,
     /// Write both copies of the header anew.
     Repair,
     /// Set the volume's label and, where it is given, its subsystem.
@@ -248,7 +250,8 @@ impl<'a> EditRequest<'a> {
             | EditRequest::Remove { opener, .. } => Some(opener.name()),
             EditRequest::AddByKey { key, .. } => Some(key),
             EditRequest::AddToken { token, .. } => Some(token),
-            EditRequest::Repair
+            EditRequest::Erase
+            | EditRequest::Repair
             | EditRequest::Label { .. }
             | EditRequest::Uuid { .. }
             | EditRequest::Priority { .. }

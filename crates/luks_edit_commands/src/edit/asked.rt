@@ -105,6 +105,7 @@ pub(super) fn edit_of<'a, D: Device, E: Write>(
             let slot = keyslot_of(alloc, device, header, payload, slot, &secret, err)?;
             Ok(Edit::Remove { slot, by_, secret })
         }
+        EditRequest::Erase => Ok(Edit::Erase),
         EditRequest::Repair => Ok(Edit::Repair),
         EditRequest::Label { text, subsystem } => Ok(Edit::Label {
             text: text.as_bytes(),

@@ -1,11 +1,12 @@
-//! What is said of an edit before it is run, by the header that it is run over: which tokens name the keyslot that
-//! it changes or removes, and that LUKS1 has nothing to repair.
+//! What is said of an edit before it is run, by the header that it is run over: which tokens name the keyslots that
+//! it changes or removes, what brings the data back once all are erased, and that LUKS1 has nothing to repair.
 ghost use Rattle.std.specs.Prelude.{◌≡◌, ◌==◌, ◌<◌, OnOk};
 ghost use Rattle.std.specs.List.{list_any};
 ghost use Rattle.std.specs.Io.KnownBytes.{Appends};
 ghost use Rattle.luks_rules.specs.Faults.{object_at};
 ghost use Rattle.luks_meta.specs.Content.{content};
 ghost use Rattle.luks_edit_commands.specs.EditNotes.{edit_lines, luks1_lines, luks2_lines};
+ghost use Rattle.luks_edit_commands.specs.EditNotes.{erased_lines, erasure_line};
 ghost use Rattle.luks_edit_commands.specs.EditNotes.{named_line, token_line, token_lines};
 
 use luks_meta::{Meta, Token};
@@ -58,6 +59,7 @@ fn note_luks1<E: Write>(edit: &Edit<'_>, err: &mut E) -> io::Result<()>
         (Appends (E.contents err.old) (E.contents err.new) (luks1_lines edit.now)) }
 {
     match *edit {
+        Edit::Erase => note_loss(err),
         Edit::Repair => writeln!(
             err,
             "luks: LUKS1 has one copy of its header: there is nothing to repair"
@@ -79,6 +81,7 @@ fn note_luks2<E: Write>(meta: &Meta, edit: &Edit<'_>, err: &mut E) -> io::Result
     match *edit {
         Edit::Change { slot, .. } => note_tokens(meta, slot, Fate::Changed, err),
         Edit::Remove { slot, .. } => note_tokens(meta, slot, Fate::Removed, err),
+        Edit::Erase => note_erasure(meta, err),
         Edit::Add { .. }
         | Edit::AddByKey { .. }
         | Edit::Repair
@@ -86,6 +89,28 @@ fn note_luks2<E: Write>(meta: &Meta, edit: &Edit<'_>, err: &mut E) -> io::Result
         | Edit::Uuid(_)
         | Edit::Amend(_) => Ok(()),
     }
+}
+
+/// Says what brings the data back of a volume whose keyslots are all gone.
+fn note_loss<E: Write>(err: &mut E) -> io::Result<()>
+    ensures { OnOk result (Appends (E.contents err.old) (E.contents err.new) erasure_line) }
+{
+    writeln!(
+        err,
+        "luks: every keyslot is removed: only a backup of the header, or the volume key, brings the data back"
+    )
+}
+
+/// Says so, and then of each keyslot which tokens name it.
+fn note_erasure<E: Write>(meta: &Meta, err: &mut E) -> io::Result<()>
+    ensures { OnOk result (Appends (E.contents err.old) (E.contents err.new)
+        (erased_lines (content meta.now))) }
+{
+    note_loss(err)?;
+    for slot in 0..32 {
+        note_tokens(meta, slot, Fate::Removed, err)?;
+    }
+    Ok(())
 }
 
 /// Says which tokens name the keyslot, the lowest number first.

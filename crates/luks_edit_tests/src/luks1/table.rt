@@ -1,7 +1,7 @@
 //! A list of edits of the small LUKS1 volume by SHA-256, and what it leaves: printed by `testdata/oracle/edit_values edits1`.
 
 use crate::rows::Row;
-use luks_edit::Edit;
+use luks_edit::{Edit, NewUuid};
 use luks_test_devices::{add, change, label, remove};
 
 /// A passphrase of 80 bytes.
@@ -14,7 +14,7 @@ const LONG: &[u8] = &[
 ];
 
 /// The list.
-pub(crate) const LIST: [Row; 26] = [
+pub(crate) const LIST: [Row; 29] = [
     (remove!(0, b"one"), Some(0), "refused LastSlot"),
     (add!(0, b"one", b"two", None), Some(2528), "done slot 1"),
     (
@@ -49,10 +49,21 @@ pub(crate) const LIST: [Row; 26] = [
     (remove!(4, b""), Some(0), "done"),
     (change!(5, b"one", b"three"), Some(2528), "done slot 4"),
     (remove!(5, b"one"), None, "refused NoSuchSlot"),
+    (
+        Edit::Uuid(NewUuid::Text("0A1b2c3D-4e5F-1071-8293-a4B5c6D7e8F9")),
+        Some(0),
+        "done",
+    ),
+    (
+        Edit::Uuid(NewUuid::Text("0A1b2c3D-4e5F-1071-8293-a4B5c6D7e8F")),
+        Some(0),
+        "refused BadUuid",
+    ),
+    (Edit::Uuid(NewUuid::Random), Some(16), "done"),
 ];
 
 /// SHA-256 of the volume before the list, and of the whole volume after each edit, by sha256.
-pub(crate) const SHA256: [&str; 27] = [
+pub(crate) const SHA256: [&str; 30] = [
     "49c146b90a6cc8d0a840a2e39f93b73d79540be7401a1278b50ecc5c931b70ce",
     "49c146b90a6cc8d0a840a2e39f93b73d79540be7401a1278b50ecc5c931b70ce",
     "659d971cfcf59ae3dba03f3bb35285b2d3108464eb67efdfd7dc91578768301c",
@@ -80,4 +91,7 @@ pub(crate) const SHA256: [&str; 27] = [
     "72ec349f14c534720dec81391672b4398a10a52cb97c8b99079348d8b5ce5f0c",
     "1a09cc11ab1352ad0ec5efc960a80f61a5be8b070b43f09b794007206ada3ffc",
     "1a09cc11ab1352ad0ec5efc960a80f61a5be8b070b43f09b794007206ada3ffc",
+    "6c48f3de37db15d650678bd2ac056415b47429636f8c54353835e3f867cf7061",
+    "6c48f3de37db15d650678bd2ac056415b47429636f8c54353835e3f867cf7061",
+    "ea8e7430e3fbf00b3d48832520d90fc32dc9e2592a5cce27f2b6c003956c6013",
 ];

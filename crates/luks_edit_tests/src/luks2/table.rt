@@ -1,7 +1,7 @@
 //! A list of edits of the small LUKS2 volume by SHA-256, and what it leaves: printed by `testdata/oracle/edit_values edits2`.
 
 use crate::rows::Row;
-use luks_edit::Edit;
+use luks_edit::{Edit, NewUuid};
 use luks_test_devices::{add, change, label, remove};
 
 /// A passphrase of 80 bytes.
@@ -14,7 +14,7 @@ const LONG: &[u8] = &[
 ];
 
 /// The list.
-pub(crate) const LIST: [Row; 29] = [
+pub(crate) const LIST: [Row; 32] = [
     (remove!(0, b"one"), Some(128), "refused LastSlot"),
     (add!(0, b"one", b"two", None), Some(2656), "done slot 1"),
     (
@@ -56,10 +56,21 @@ pub(crate) const LIST: [Row; 29] = [
     (remove!(31, b"one"), Some(128), "done"),
     (change!(4, b"", b"two"), Some(2656), "done slot 4"),
     (Edit::Repair, Some(128), "done"),
+    (
+        Edit::Uuid(NewUuid::Text("0A1b2c3D-4e5F-1071-8293-a4B5c6D7e8F9")),
+        Some(128),
+        "done",
+    ),
+    (
+        Edit::Uuid(NewUuid::Text("0A1b2c3D-4e5F-1071-8293-a4B5c6D7e8F")),
+        Some(128),
+        "refused BadUuid",
+    ),
+    (Edit::Uuid(NewUuid::Random), Some(144), "done"),
 ];
 
 /// SHA-256 of the volume before the list, and of the whole volume after each edit, by sha256.
-pub(crate) const SHA256: [&str; 30] = [
+pub(crate) const SHA256: [&str; 33] = [
     "af156ffb590a89e9ff381ebbdd10221ff67a34f693270d682256e37f9b25a274",
     "af156ffb590a89e9ff381ebbdd10221ff67a34f693270d682256e37f9b25a274",
     "ea8c2c2cf6f5a5719f1a2f14825458693778615ea196135cf1f47e8a0f5ae135",
@@ -90,4 +101,7 @@ pub(crate) const SHA256: [&str; 30] = [
     "034a330d19be69171bbbf5efe0bf15a1d5e32db7083fa71480dba13ffc8b6762",
     "ceb362b0781c89c77b092ee288d4b07abc3bc89145ff4f7d942fcefbf1cb3969",
     "2b5e195d8fb1856b9ed8616c068caa630da21b555b02dfd7718be9454744fc28",
+    "7bd7dca026895417dd7f44a9bb79541d77bfedd13af5689ec00428ad744d4d11",
+    "7bd7dca026895417dd7f44a9bb79541d77bfedd13af5689ec00428ad744d4d11",
+    "b633b7fcebfb92fcf134a75fff9edc57b642cc86d54a9d13f65cea1b9442d9c7",
 ];

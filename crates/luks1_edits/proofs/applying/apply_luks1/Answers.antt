@@ -36,6 +36,14 @@ returns-in-Rewrite-clause-replies g c = λ tells is.
     subst (λ q. Replies1 q v c.args.edit.now c.args.random.now c.rewrite.result w) c.in-Ok.ensures.payload
     (c.rewrite.ensures.replies tells c.args.edit.now (sym c.in-Rewrite.ensures) (subst (λ q. IsHeaderOf c.in-Ok.header.bytes.now q v) (sym c.in-Ok.ensures.payload) header))
 
+pub returns-in-Erase-clause-replies : goal.returns-in-Erase-clause-replies
+returns-in-Erase-clause-replies g c = λ tells is.
+    let v = g.D.Device.bytes c.args.device.now in
+    let header = c.in-Ok.ensures.header v is (g.met.D.Device.sized c.args.device.now tells ∙ sym c.len.ensures) in
+    let w = g.D.Device.bytes c.erase.new.device in
+    subst (λ q. Replies1 q v c.args.edit.now c.args.random.now c.erase.result w) c.in-Ok.ensures.payload
+    (c.erase.ensures.replies tells c.args.edit.now (sym c.in-Erase.ensures) (subst (λ q. IsHeaderOf c.in-Ok.header.bytes.now q v) (sym c.in-Ok.ensures.payload) header))
+
 pub seal-requires-clause-usable : goal.seal-requires-clause-usable
 seal-requires-clause-usable g c = λ v holds.
     making_usable _ (making v c.args.edit.now c.in-Seal.sealed (sym c.in-Seal.ensures)) (c.in-Ok.ensures.there v holds)

@@ -38,3 +38,10 @@ returns-in-Rewrite-clause-tells c = λ v is size.
     let slots = slots_in a.bytes.now c.args.payload v a.fields.slots header c.in-Ok.ensures.accepted.fields.slots in
     uuid_needs v c.args.payload c.args.edit.now header.faultless (c.in-Ok.ensures.there v slots) (ap sealed_in (sym c.in-Rewrite.ensures)) c.uuid_need.result
     (c.uuid_need.ensures ∙ ap (λ d. uuid_need (uuid_in d)) c.in-Rewrite.ensures)
+
+pub returns-in-Erase-clause-tells : goal.returns-in-Erase-clause-tells
+returns-in-Erase-clause-tells c = λ v is size.
+    let a = c.in-Ok.header in
+    let header = c.in-Ok.ensures.header v is size in
+    let slots = slots_in a.bytes.now c.args.payload v a.fields.slots header c.in-Ok.ensures.accepted.fields.slots in
+    uuid_needs v c.args.payload c.args.edit.now header.faultless (c.in-Ok.ensures.there v slots) (ap sealed_in (sym c.in-Erase.ensures)) 0 (ap (λ d. uuid_need (uuid_in d)) c.in-Erase.ensures)

@@ -1,5 +1,6 @@
 use Rattle.std.proofs.Common.{ℕ, ◌∙◌, ◌<◌, ap, refl, subst, sym}
 use Rattle.std.proofs.lemmas.Result.{err_from_is_err_and}
+use Rattle.luks_area.specs.Area.{IsInside}
 use Rattle.luks2_header.specs.Header2.{hdr_size, header_at}
 use Rattle.luks_meta.specs.Content.{content}
 use Rattle.luks_slot.specs.declared.allowed.Allowed.{Allowed}
@@ -8,6 +9,7 @@ use Rattle.luks_edit.specs.Asked.{allowed_in, AreShortIn}
 use Rattle.luks2_judging.specs.declared.judged.JudgedEdit.TheVariants as judged
 use Rattle.luks2_judging.specs.Judging.{IsLostArea, Seals, Takes}
 use Rattle.luks2_judging.specs.Room.{IsAllowed}
+use Rattle.luks2_judging.proofs.DeedFacts.{erased_is}
 use Rattle.luks2_editing.proofs.AmendingFacts.{taken_numbered}
 use Rattle.luks2_editing.proofs.JudgedFacts.{judged_edit, refused_ends, replied}
 use Rattle.luks2_editing.proofs.applying.apply_luks2.Goals as goal
@@ -117,3 +119,18 @@ change-requires-clause-allowed g c =
     let takes = subst (λ t. Takes copy (g.D.Device.size c.args.device.now) c.args.edit.now (judged.Seal t c.in-Seal.key c.in-Seal.passphrase)) c.in-Opened.is
     (subst (λ t. Takes copy (g.D.Device.size c.args.device.now) c.args.edit.now t) c.in-Seal.is c.in_ok-judged.ensures.judged.takes) in
     rw c.new-secrets.ensures (subst (λ (m : Allowed). IsAllowed m.memory c.in-Opened.renewal.derivation) (sym (c.allowed-allowed.ensures ∙ ap allowed_in takes.asked)) takes.allowed)
+
+pub erase-requires-clause-inside : goal.erase-requires-clause-inside
+erase-requires-clause-inside g c = λ n a is.
+    let copy = c.in_ok-judged.judged.copy in
+    let takes = subst (λ t. Takes copy (g.D.Device.size c.args.device.now) c.args.edit.now t) c.in-Erase.is c.in_ok-judged.ensures.judged.takes in
+    subst (λ (m : ℕ). IsInside a m) (sym c.judge_luks2.ensures.reads.unchanged.size) (takes.inside n a is)
+
+pub returns-in-Erase-clause-replies : goal.returns-in-Erase-clause-replies
+returns-in-Erase-clause-replies g c = λ tells is.
+    let copy = c.in_ok-judged.judged.copy in
+    let takes = subst (λ t. Takes copy (g.D.Device.size c.args.device.now) c.args.edit.now t) c.in-Erase.is c.in_ok-judged.ensures.judged.takes in
+    let erases = erased_is c.args.edit.now takes.asked in
+    let same = c.judge_luks2.ensures.reads.unchanged.same tells in
+    let now = judged_edit same erases c.in_ok-judged.judged c.in_ok-judged.ensures.judged.is is (c.in_ok-judged.ensures.unrefused tells is) in
+    replied same erases c.args.payload c.args.random.now _ _ (c.erase.ensures.replies tells c.args.payload now.chosen now.well (now.none c.args.random.now))

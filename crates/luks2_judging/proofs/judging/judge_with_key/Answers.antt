@@ -1,5 +1,6 @@
-use Rattle.std.proofs.Common.{◌≡◌, ℕ, refl, sym, ◌∙◌}
+use Rattle.std.proofs.Common.{◌≡◌, ℕ, refl, sym, subst, ◌∙◌}
 use Rattle.std.proofs.lemmas.Result.{IfOk-weaker}
+use Rattle.luks_area.specs.Area.{IsInside}
 use Rattle.luks_meta.specs.Content.{content}
 use Rattle.luks_reading.specs.declared.header.ChosenCopy.{ChosenCopy}
 use Rattle.luks_edit.specs.declared.edit.Edit.{Edit}
@@ -12,7 +13,7 @@ use Rattle.luks2_judging.specs.Judging.{Takes}
 use Rattle.luks2_judging.specs.Rewriting.{IsRewrittenAs}
 use Rattle.luks2_judging.specs.Texts.{texts_of}
 use Rattle.luks2_judging.proofs.KeyslotFacts.{amended_there}
-use Rattle.luks2_judging.proofs.ReadFacts.{read_as, rewriting_ended, rewriting_judged}
+use Rattle.luks2_judging.proofs.ReadFacts.{erased_passed, read_as, rewriting_ended, rewriting_judged}
 use Rattle.luks2_judging.proofs.judging.judge_with_key.Goals as goal
 
 -- what is taken is what the edit takes
@@ -46,3 +47,13 @@ judge_sealing_of-requires-clause-asked g c = sym c.in-Seal.ensures
 
 pub judge_removal_of-requires-clause-asked : goal.judge_removal_of-requires-clause-asked
 judge_removal_of-requires-clause-asked g c = sym c.in-Remove.ensures
+
+pub returns-in-Erase-clause-takes : goal.returns-in-Erase-clause-takes
+returns-in-Erase-clause-takes g c = record {
+  asked = sym c.in-Erase.ensures;
+  inside = λ n a is. subst (λ t. IsInside a t) c.requires.ready.total (c.requires.ready.own.key_areas n a is);
+}
+
+pub returns-in-Erase-clause-passed : goal.returns-in-Erase-clause-passed
+returns-in-Erase-clause-passed g c = λ tells is payload judged_.
+    erased_passed (read_as refl refl (g.met.D.Device.sized c.args.device.now tells ∙ sym c.requires.ready.total) judged_) (sym c.in-Erase.ensures)

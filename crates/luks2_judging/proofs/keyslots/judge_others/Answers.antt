@@ -3,7 +3,7 @@ use Rattle.luks_meta.specs.Content.{content}
 use Rattle.luks_edit.specs.declared.edit_fault.EditFault.TheVariants.{NoSuchSlot}
 use Rattle.luks2_edit_laws.specs.Refused.{IsAbsent}
 use Rattle.luks2_judging.specs.Judged.{IsAbsentAmended, IsUsable}
-use Rattle.luks2_judging.proofs.KeyslotFacts.{judged_as, removal_there, removed_opens, removed_wanted, rewriting_absent, rewriting_there, sealed_opens, sealing_there}
+use Rattle.luks2_judging.proofs.KeyslotFacts.{erasing_there, judged_as, removal_there, removed_opens, removed_wanted, rewriting_absent, rewriting_there, sealed_opens, sealing_there}
 use Rattle.luks2_judging.proofs.keyslots.judge_others.Goals as goal
 
 pub returns-then-is_used : goal.returns-then-is_used
@@ -39,3 +39,6 @@ returns-in-Rewrite c =
     let r = c.in-Rewrite.rewritten in
     let is = sym c.in-Rewrite.ensures in
     judged_as _ (IsAbsentAmended j r.change) (IsAbsent j e) NoSuchSlot (rewriting_absent j e r is) (rewriting_there j e r is) c.judge_amended.result c.judge_amended.ensures
+
+pub returns-in-Erase : goal.returns-in-Erase
+returns-in-Erase c = erasing_there (content c.args.meta.now) c.args.edit.now (sym c.in-Erase.ensures)

@@ -5,7 +5,7 @@ use Rattle.luks_edit.specs.declared.deed.Place.TheVariants.{New, Opened}
 use Rattle.luks2_judging.proofs.ChosenFacts.{metadata_of}
 use Rattle.luks2_judging.proofs.DeedFacts.{opener_is, sealed_as}
 use Rattle.luks2_judging.proofs.KeyslotFacts.{sealable_of, sealed_opens, there_of, usable_of, used_of}
-use Rattle.luks2_judging.proofs.NeedFacts.{four_here, need_added, need_again, need_first, need_unnumbered, new_keyed, new_unkeyed, removed_need, rewritten_need}
+use Rattle.luks2_judging.proofs.NeedFacts.{erased_need, four_here, need_added, need_again, need_first, need_unnumbered, new_keyed, new_unkeyed, removed_need, rewritten_need}
 use Rattle.luks2_judging.proofs.needing.needed_luks2.Goals as goal
 
 pub returns-in_err-judge_without_key-clause-tells : goal.returns-in_err-judge_without_key-clause-tells
@@ -79,3 +79,6 @@ returns-in-Remove-clause-tells c = λ v is size.
 pub returns-in-Rewrite-clause-tells : goal.returns-in-Rewrite-clause-tells
 returns-in-Rewrite-clause-tells c = λ v is size.
     rw c.rewritten_need.ensures (rewritten_need (c.in_ok-judge_without_key.ensures.passed v [] is size) (sym c.in-Rewrite.ensures))
+
+pub returns-in-Erase-clause-tells : goal.returns-in-Erase-clause-tells
+returns-in-Erase-clause-tells c = λ v is size. erased_need (c.in_ok-judge_without_key.ensures.passed v [] is size) (sym c.in-Erase.ensures)
