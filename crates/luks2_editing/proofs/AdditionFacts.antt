@@ -28,7 +28,7 @@ use Rattle.luks_edit.specs.declared.deed.Deed.TheVariants as deed
 use Rattle.luks_edit.specs.declared.deed.Deed.TheVariants.{Seal}
 use Rattle.luks_edit.specs.declared.deed.Place.TheVariants.{New}
 use Rattle.luks_edit.specs.declared.edit.Edit.{Edit}
-use Rattle.luks_edit.specs.declared.edit.Edit.TheVariants.{Add, AddByKey, Change, Remove, Repair, Label, Uuid, Amend}
+use Rattle.luks_edit.specs.declared.edit.Edit.TheVariants.{Add, AddByKey, Change, Remove, Erase, Repair, Label, Uuid, Amend}
 use Rattle.luks_edit.specs.declared.edit.Opener.{Opener}
 use Rattle.luks_edit.specs.declared.edit.Opener.TheVariants as opener
 use Rattle.luks_edit.specs.declared.edit.Secret.{Secret}
@@ -245,11 +245,13 @@ abbrev is_keyed : Deed → Bool
 is_keyed (Seal s) = is_key (opener_at s.place)
 is_keyed (deed.Remove r) = false
 is_keyed (deed.Rewrite r) = false
+is_keyed deed.Erase = false
 
 abbrev chosen_in : Deed → Option NewDerivation
 chosen_in (Seal s) = s.derivation.chosen
 chosen_in (deed.Remove r) = None
 chosen_in (deed.Rewrite r) = None
+chosen_in deed.Erase = None
 
 -- an edit by the volume key chooses a derivation
 key_chooses : (e : Edit) (own : VolumeKey) (to : Option ℕ) (new : Bor (List ℕ)) (asked : AskedDerivation) → deed_of e ≡ Seal (sealing (New (opener.Key own) to) new asked)
@@ -258,6 +260,7 @@ key_chooses (Add by_ old passphrase at iterations chosen) own to new asked is = 
 key_chooses (AddByKey key passphrase at iterations chosen) own to new asked is = (chosen_or iterations chosen, sym (ap chosen_in is))
 key_chooses (Change slot old passphrase iterations chosen) own to new asked is = absurd (false≢true (ap is_keyed is))
 key_chooses (Remove slot by_ secret) own to new asked is = absurd (false≢true (ap is_keyed is))
+key_chooses Erase own to new asked is = absurd (false≢true (ap is_keyed is))
 key_chooses Repair own to new asked is = absurd (false≢true (ap is_keyed is))
 key_chooses (Label text subsystem) own to new asked is = absurd (false≢true (ap is_keyed is))
 key_chooses (Uuid uuid) own to new asked is = absurd (false≢true (ap is_keyed is))

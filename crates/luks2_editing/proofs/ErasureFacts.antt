@@ -15,6 +15,8 @@ use Rattle.luks_reading.specs.declared.header.ChosenCopy.{ChosenCopy}
 use Rattle.luks_reading.specs.declared.report.Data.{Data}
 use Rattle.luks_reading.specs.Checked.{WellFormed}
 use Rattle.luks_reading.specs.Header.{IsChosenCopy}
+use Rattle.luks_reading.specs.Layout2.{Luks2Area}
+use Rattle.luks_reading.specs.Listing.{Lists}
 use Rattle.luks_reading.proofs.VolumeLaws.{well_formed_fits}
 use Rattle.luks_edit.specs.declared.edit.Edit.TheVariants.{Erase}
 use Rattle.luks_edit.proofs.RowFacts.{after_token, passed_from, Passed}
@@ -32,12 +34,24 @@ use Rattle.luks2_editing.proofs.RenewalFacts.{metadata_here, prepared_unrefused,
 
 -- ---- the areas of a copy's keyslots
 
+-- a list has those of the metadata `j`, and of keyslots no others
+pub record ListsKeyslots (j : Value) (areas : List Entry) : Type 0 where
+  pub only : (n : ℕ) (a : Area) → HasArea areas (Slot n) a → IsKeyArea j n a
+  pub all : (n : ℕ) (a : Area) → IsKeyArea j n a → HasArea areas (Slot n) a
+
+-- so has one with all areas
+pub keyslots_listed : (j : Value) (h total : ℕ) (payload : Data) (entries areas : List Entry) → areas ≡ entries → Lists entries (Luks2Area j h payload total) → ListsKeyslots j areas
+keyslots_listed j h total payload entries areas same lists = rw same (record {
+  only = λ n a has. lists.only (Slot n) a has;
+  all = λ n a is. lists.all (Slot n) a is;
+})
+
 module _ (v : List ℕ) (payload : Data) (copy : ChosenCopy) (x : IsChosenCopy v copy) (well : WellFormed v payload) (areas : List Entry)
-    (only : (n : ℕ) (a : Area) → HasArea areas (Slot n) a → IsKeyArea (content copy.meta) n a) (all : (n : ℕ) (a : Area) → IsKeyArea (content copy.meta) n a → HasArea areas (Slot n) a) where
+    (lists : ListsKeyslots (content copy.meta) areas) where
   -- no two of them share a byte
   pub areas_apart : AreApart areas
   areas_apart m n a b one two other =
-      (well_formed_fits v payload well).fit.disjoint (Slot m) (Slot n) a b (area_named v payload copy x well m a (only m a one)) (area_named v payload copy x well n b (only n b two))
+      (well_formed_fits v payload well).fit.disjoint (Slot m) (Slot n) a b (area_named v payload copy x well m a (lists.only m a one)) (area_named v payload copy x well n b (lists.only n b two))
       (λ same. other (ap_number same))
     where
       ap_number : {m n : ℕ} → Slot m ≡ Slot n → m ≡ n
@@ -57,8 +71,8 @@ module _ (v : List ℕ) (payload : Data) (copy : ChosenCopy) (x : IsChosenCopy v
       anew_kept =
           let size : 16384 ≤ hdr_size (header_at v copy.header.hdr_offset) = listed_at_least (hdr_size (header_at v copy.header.hdr_offset)) (sound_here v payload copy x well).form.listed in
           both_beside v copy.header.hdr_offset Erase random new w y (IsOfKeyslots areas) (omega (arith, size)) wiping
-          (λ p here is. beside_first v payload copy x well is.slot is.area (only is.slot is.area is.has) p here is.at)
-          (λ p here is. beside_second v payload copy x well is.slot is.area (only is.slot is.area is.has) p here is.at) anew
+          (λ p here is. beside_first v payload copy x well is.slot is.area (lists.only is.slot is.area is.has) p here is.at)
+          (λ p here is. beside_second v payload copy x well is.slot is.area (lists.only is.slot is.area is.has) p here is.at) anew
 
       copies_here : SameBut (IsOfCopies (hdr_size (header_at v copy.header.hdr_offset))) v w
       copies_here = subst (λ n. SameBut (IsOfCopies n) v w) (sym (size_is v payload copy x well)) copies
@@ -66,7 +80,7 @@ module _ (v : List ℕ) (payload : Data) (copy : ChosenCopy) (x : IsChosenCopy v
       rest_touched : SameBut (IsTouched (hdr_size (header_at v copy.header.hdr_offset)) (length v) payload (content copy.meta) Erase) v y
       rest_touched = same_but-then
           (same_but-wider (λ p at. inl at) copies_here)
-          (same_but-wider (λ p is. inr (inr (record { slot = is.slot; loses = tt; is = record { area = is.area; is = only is.slot is.area is.has; at = is.at } }))) wiping)
+          (same_but-wider (λ p is. inr (inr (record { slot = is.slot; loses = tt; is = record { area = is.area; is = lists.only is.slot is.area is.has; at = is.at } }))) wiping)
 
       -- while one was overwritten
       pub torn_areas : AreWipedInPart areas w y → Leftover2 v payload Erase random y
@@ -84,11 +98,11 @@ module _ (v : List ℕ) (payload : Data) (copy : ChosenCopy) (x : IsChosenCopy v
             second = anew_kept.second;
             slot = part_.slot;
             loses = tt;
-            wiped = λ n low loses a is. part_.wiped n a low (all n a is);
+            wiped = λ n low loses a is. part_.wiped n a low (lists.all n a is);
             rest = same_but-then
                 (same_but-wider (λ p at. inl at) copies_here)
                 (same_but-wider (λ p to. inr (inr (record {
-                  lost = record { slot = to.is.slot; loses = tt; is = record { area = to.is.area; is = only to.is.slot to.is.area to.is.has; at = to.is.at } };
+                  lost = record { slot = to.is.slot; loses = tt; is = record { area = to.is.area; is = lists.only to.is.slot to.is.area to.is.has; at = to.is.at } };
                   low = to.low;
                 }))) part_.rest);
           })));
@@ -99,4 +113,4 @@ module _ (v : List ℕ) (payload : Data) (copy : ChosenCopy) (x : IsChosenCopy v
       pub erased_after : AreWiped areas y → After2 v payload Erase random y
       erased_after wiped =
           written_after v payload copy x well Erase random new erasure_passed (λ salt. made) (λ salt k same. same ∙ sym made) 128 refl (λ k same. same) (λ u. tt) y
-          (λ n loses a is. wiped n a (all n a is)) anew_kept rest_touched
+          (λ n loses a is. wiped n a (lists.all n a is)) anew_kept rest_touched

@@ -117,6 +117,7 @@ asks_sealed e j keyslot derivation asked = asks_by (deed_of e) refl
     asks_by (deed.Seal s) is = (s, (is, rw is at asked))
     asks_by (deed.Remove r) is = absurd (rw is at asked)
     asks_by (deed.Rewrite r) is = absurd (rw is at asked)
+    asks_by deed.Erase is = absurd (rw is at asked)
 
 pub made_edited : (h total : ℕ) (payload : Data) (e : Edit) (j k : Value) (keyslot : SealedSlot) (derivation : AskedDerivation) (salt : List ℕ) (area : Area)
     → AsksFor e j keyslot derivation → IsNewArea h total payload j (like_of keyslot) area → IsMadeBy keyslot (members_of derivation salt area) j k

@@ -34,6 +34,7 @@ unamended_in : (d : Deed) (P : Sealed → Type 0) → IsSomeAnd (sealed_in d) P 
 unamended_in (deed.Seal s) P x = refl
 unamended_in (deed.Remove r) P x = absurd x
 unamended_in (deed.Rewrite r) P x = absurd x
+unamended_in deed.Erase P x = absurd x
 
 module _ (v : List ℕ) (payload : Data) (e : Edit) (random : List ℕ) (copy : ChosenCopy) (sealing : Sealing)
     (x : IsSealingEdit v payload e random copy sealing) where

@@ -1,16 +1,16 @@
 -- The areas of keyslots in a list, overwritten one after another.
-use Rattle.std.proofs.Common.{◌≡◌, ◌≢◌, ℕ, zero, suc, ◌+◌, ◌<◌, ◌≤◌, ◌⊎◌, List, [], ◌∷◌, ◌++◌, length, get_or, take, replicate, inl, inr, refl, sym, ap, subst, ◌∙◌, arith}
+use Rattle.std.proofs.Common.{◌≡◌, ℕ, zero, suc, ◌+◌, ◌<◌, ◌≤◌, List, [], ◌∷◌, ◌++◌, length, get_or, take, inl, inr, refl, sym, ap, subst, ◌∙◌, arith}
 use Rattle.std.proofs.lemmas.List.{take_more}
 use Rattle.luks_area.specs.declared.area.Area.{Area}
 use Rattle.luks_area.specs.declared.area.AreaName.{AreaName}
 use Rattle.luks_area.specs.declared.area.AreaName.TheVariants.{Slot}
 use Rattle.luks_area.specs.declared.areas.Entry.{Entry}
-use Rattle.luks_area.specs.Area.{name_kind, name_number, AreDisjoint, IsBefore}
+use Rattle.luks_area.specs.Area.{name_kind, name_number, IsBefore}
 use Rattle.luks_area.specs.Names.{HasArea, IsIncreasing}
-use Rattle.luks_area.specs.Ranges.{part, IsAt, SameBut}
+use Rattle.luks_area.specs.Ranges.{IsAt, SameBut}
 use Rattle.luks_area.proofs.Increasing.{has-append_one}
 use Rattle.luks_area.proofs.RangeFacts.{part-same_but, same_but-then, same_but-wider}
-use Rattle.luks2_editing.specs.Wiping.{AreApart, AreWiped, AreWipedInPart, IsOfKeyslots, IsOfKeyslotsUpTo}
+use Rattle.luks2_editing.specs.Wiping.{AreApart, AreWiped, AreWipedInPart, IsOfKeyslots}
 
 -- ---- lists
 

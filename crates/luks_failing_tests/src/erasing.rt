@@ -75,8 +75,8 @@ fn fails_at_each_call(
         assert!(rt; end == End::Told, "call {i}: the answer");
         assert!(rt; calls.len() == i.wrapping_add(1), "call {i}: the calls");
         assert!(rt; left.contents() == want.as_slice(), "call {i}: the bytes");
-        let owed = owed(before, &mut left);
-        let same = opened(alloc, &mut left) == owed;
+        let wanted = owed(before, &mut left);
+        let same = opened(alloc, &mut left) == wanted;
         assert!(rt; same, "call {i}: the keyslots");
         let accepted = check(alloc, &mut left, Data::Here).is_ok();
         assert!(rt;
@@ -123,9 +123,10 @@ fn ends(
     let accepted = check(alloc, &mut left, Data::Here).is_ok();
     let [first, second] = opened(alloc, &mut left);
     let in_turn = first == second || second && random.is_empty();
+    let torn = random.is_empty() && loss == Loss::Ones;
     Ok(match (answer, device.failures()) {
         (Ok(_), 0) if is_flushed && accepted && !first && !second => Some(true),
-        (Err(EditFault::Device), 1) if in_turn && (accepted || loss == Loss::Ones) => Some(false),
+        (Err(EditFault::Device), 1) if in_turn && (accepted || torn) => Some(false),
         _ => None,
     })
 }
@@ -142,11 +143,11 @@ fn loses_at_each_call(
         let mut end = Some(false);
         for call in 0..256 {
             end = ends(alloc, volume, &random, call, loss)?;
-            if end != Some(false) {
+            if !matches!(end, Some(false)) {
                 break;
             }
         }
-        assert!(rt; end == Some(true), "the end");
+        assert!(rt; matches!(end, Some(true)), "the end");
     }
     Ok(())
 }

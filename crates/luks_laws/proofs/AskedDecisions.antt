@@ -77,13 +77,14 @@ opened_decided (opener.Key key) P decide = inr (λ x. x.1)
 
 -- what is decided of each keyslot is decided of those that the edit wants
 wanted_in : (d : Deed) (P : ℕ → Type 0) → ((n : ℕ) → Decided (P n))
-    → Decided ((n : ℕ) × MatchDeed d (λ s. MatchOpener (opener_at s.place) (λ slot secret. n ≡ slot) (λ key. ⊥)) (λ r. (n ≡ opener_of r.slot r.by_) ⊎ (n ≡ r.slot)) (λ r. ⊥) × P n)
+    → Decided ((n : ℕ) × MatchDeed d (λ s. MatchOpener (opener_at s.place) (λ slot secret. n ≡ slot) (λ key. ⊥)) (λ r. (n ≡ opener_of r.slot r.by_) ⊎ (n ≡ r.slot)) (λ r. ⊥) ⊥ × P n)
 wanted_in (deed.Seal s) P decide = opened_decided (opener_at s.place) P decide
 wanted_in (deed.Remove r) P decide = alike_decided _ _
     (λ x. elim x [ inl own ↦ (own.0, inl own.1, own.2) | inr removed ↦ (removed.0, inr removed.1, removed.2) ])
     (λ x. elim x.1 [ inl own ↦ inl (x.0, own, x.2) | inr removed ↦ inr (x.0, removed, x.2) ])
     (one_decided _ _ (of_one_decided P decide (opener_of r.slot r.by_)) (of_one_decided P decide r.slot))
 wanted_in (deed.Rewrite rewritten) P decide = inr (λ x. x.1)
+wanted_in deed.Erase P decide = inr (λ x. x.1)
 
 pub wanted_decided : (e : Edit) (P : ℕ → Type 0) → ((n : ℕ) → Decided (P n)) → Decided ((n : ℕ) × Wants e n × P n)
 wanted_decided e = wanted_in (deed_of e)

@@ -1,7 +1,6 @@
 -- What refuses a change of the metadata of a LUKS2 volume, and what it makes: each stands or doesn't.
-use Rattle.std.proofs.Common.{◌≡◌, ◌⊎◌, ℕ, ◌<◌, true, List, [], Option, Some, None, is_some, refl, ap, subst, inl, inr}
+use Rattle.std.proofs.Common.{◌≡◌, ℕ, List, [], Option, Some, None, is_some, refl, ap, subst, inl, inr}
 use Rattle.std.specs.Prelude.{IsSomeAnd}
-use Rattle.std.specs.Borrow.{Bor}
 use Rattle.serde_json.specs.Data.{Data as Value, depth}
 use Rattle.serde_json.specs.Read.{max_depth}
 use Rattle.serde_json.specs.View.{view}

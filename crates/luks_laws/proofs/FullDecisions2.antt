@@ -10,7 +10,7 @@ use Rattle.luks_making.specs.Changed.{changed_slot}
 use Rattle.luks_making.specs.declared.derivation.AskedDerivation.{AskedDerivation}
 use Rattle.luks_making.specs.Keyslots.{IsDerivedOr, IsMadeFrom, NewMembers}
 use Rattle.luks_making.specs.With.{IsAdded, with_slot}
-use Rattle.luks_making.specs.Without.{without_slot}
+use Rattle.luks_making.specs.Without.{without_slot, without_slots}
 use Rattle.luks_reading.specs.declared.report.Data.{Data}
 use Rattle.luks_edit.specs.declared.deed.Deed.{Deed}
 use Rattle.luks_edit.specs.declared.deed.Deed.TheVariants as deed
@@ -102,7 +102,7 @@ added_like_or_none to (Digest number len) f j = inl (with_slot to number (fresh_
 abbrev EditedIn : ℕ → ℕ → Data → Deed → List ℕ → Value → Value → Type 0
 EditedIn h total payload d salt j k = MatchDeed d
     (λ s. MatchPlace s.place (λ o to. ForLike j o (HasAdded h total payload to s.derivation salt j k)) (λ slot secret. HasChanged h total payload slot s.derivation salt j k))
-    (λ r. k ≡ without_slot r.slot j) (λ r. IsAmended r.change j k)
+    (λ r. k ≡ without_slot r.slot j) (λ r. IsAmended r.change j k) (k ≡ without_slots j)
 
 module _ (h total : ℕ) (payload : Data) (j : Value)
     (area : (l : Like) → IsThereLike j l → ((a : Area) × IsNewArea h total payload j l a) ⊎ HasNoNewArea h total payload j l) where
@@ -141,6 +141,7 @@ module _ (h total : ℕ) (payload : Data) (j : Value)
   edited_in (deed.Seal s) salt = sealed_or_none s.place s.derivation salt
   edited_in (deed.Remove r) salt = inl (without_slot r.slot j, refl)
   edited_in (deed.Rewrite r) salt = amended_or_none j r.change
+  edited_in deed.Erase salt = inl (without_slots j, refl)
 
   edited_or_none : (e : Edit) (salt : List ℕ) → SomeOrNone Value (IsEdited h total payload e salt j)
   edited_or_none e = edited_in (deed_of e)
@@ -163,6 +164,7 @@ module _ (h total : ℕ) (payload : Data) (a b : List ℕ) (j x : Value) where
   salted_in (deed.Seal s) is = sealed_anew s.place s.derivation is
   salted_in (deed.Remove r) is = (x, is)
   salted_in (deed.Rewrite r) is = (x, is)
+  salted_in deed.Erase is = (x, is)
 
 salted_anew : (h total : ℕ) (payload : Data) (e : Edit) (a b : List ℕ) (j x : Value) → IsEdited h total payload e a j x → (y : Value) × IsEdited h total payload e b j y
 salted_anew h total payload e a b j x = salted_in h total payload a b j x (deed_of e)

@@ -47,21 +47,27 @@ completed payload e v random w (luks2 o copies) chosen well ranges fine after =
     (after_keeps v payload e random w well ranges (record { none = λ f is. fine.none f (record { choice = luks2 o copies; chosen = chosen; fault = is }) }) after)
 completed payload e v random w nothing chosen well ranges fine after = absurd after
 
+-- so the reply that it is completed tells
+pub done_keeps : (payload : Data) (v w : List ℕ) (e : Edit) (random : List ℕ) (done : Done) → WellFormed v payload → Replies payload v e random (Ok done) w
+    → Keeps payload (NamedSlots v e) v w
+done_keeps payload v w e random done well is = completed payload e v random w is.3.choice is.3.chosen well is.0 is.1 is.3.after
+
 -- an edit in which the device didn't fail keeps what it doesn't name, and all where it isn't completed
 pub edit_keeps : (payload : Data) (v w : List ℕ) (e : Edit) (random : List ℕ) (r : Reply) → WellFormed v payload → Replies payload v e random r w
     → (IsFailure r → ⊥) → Keeps payload (λ n. IsCompleted r × NamedSlots v e n) v w
 edit_keeps payload v w e random (Ok done) well is fine =
     keeps_fewer payload (NamedSlots v e) (λ n. IsCompleted (Ok done) × NamedSlots v e n) v w (λ n named. (tt, named))
-    (completed payload e v random w is.3.choice is.3.chosen well is.0 is.1 is.3.after)
+    (done_keeps payload v w e random done well is)
 edit_keeps payload v w e random (Err fault.Device) well is fine = absurd (fine tt)
 edit_keeps payload v w e random (Err f) well is fine = unchanged payload _ v w well is.1
 
 -- an edit that removes a keyslot names that one
-removed_named : (d : Deed) (removed : Removed) (S : Sealed → Type 0) (W : Rewritten → Type 0) (n : ℕ)
-    → removed_in d ≡ Some removed → MatchDeed d S (λ r. n ≡ r.slot) W → n ≡ removed.slot
-removed_named (deed.Seal s) removed S W n is x = absurd (cc)
-removed_named (deed.Remove r) removed S W n is x = x ∙ ap (λ (k : Removed). k.slot) (same_Some r removed is)
-removed_named (deed.Rewrite rewritten) removed S W n is x = absurd (cc)
+removed_named : (d : Deed) (removed : Removed) (S : Sealed → Type 0) (W : Rewritten → Type 0) (E : Type 0) (n : ℕ)
+    → removed_in d ≡ Some removed → MatchDeed d S (λ r. n ≡ r.slot) W E → n ≡ removed.slot
+removed_named (deed.Seal s) removed S W E n is x = absurd (cc)
+removed_named (deed.Remove r) removed S W E n is x = x ∙ ap (λ (k : Removed). k.slot) (same_Some r removed is)
+removed_named (deed.Rewrite rewritten) removed S W E n is x = absurd (cc)
+removed_named deed.Erase removed S W E n is x = absurd (cc)
 
 -- the keyslot that is named to remove another one by isn't itself the one that is removed
 module _ (v : List ℕ) (payload : Data) (e : Edit) (removed : Removed) (by_ : ℕ) (is : removed_in (deed_of e) ≡ Some removed) (named : removed.by_ ≡ Some by_) where
@@ -69,8 +75,8 @@ module _ (v : List ℕ) (payload : Data) (e : Edit) (removed : Removed) (by_ : �
   itself same = rw is (named ∙ ap Some same)
 
   names_itself : (random : List ℕ) (c : Choice) → NamesAs v e c by_ → IsEditFaultAs v payload e random c fault.SameSlot
-  names_itself random luks1 same = itself (removed_named (deed_of e) removed _ _ by_ is same)
-  names_itself random (luks2 o copies) same = itself (removed_named (deed_of e) removed _ _ by_ is same)
+  names_itself random luks1 same = itself (removed_named (deed_of e) removed _ _ _ by_ is same)
+  names_itself random (luks2 o copies) same = itself (removed_named (deed_of e) removed _ _ _ by_ is same)
   names_itself random nothing same = same
 
   -- so the one that opened is as it was

@@ -12,7 +12,7 @@ use Rattle.luks_reading.specs.declared.report.Data.{Data}
 use Rattle.luks_reading.specs.Checked.{First, IsFault}
 use Rattle.luks_reading.specs.Header.{IsChosenCopy, IsReadFaultAs, NeedsMetadata, TakesNoMemory}
 use Rattle.luks_edit.specs.declared.edit.Edit.{Edit}
-use Rattle.luks_edit.specs.declared.edit.Edit.TheVariants.{Add, AddByKey, Change, Remove, Repair, Label, Uuid, Amend}
+use Rattle.luks_edit.specs.declared.edit.Edit.TheVariants.{Add, AddByKey, Change, Remove, Erase, Repair, Label, Uuid, Amend}
 use Rattle.luks_edit.specs.declared.edit_fault.EditFault.{EditFault}
 use Rattle.luks_edit.specs.declared.edit_fault.EditFault.TheVariants as fault
 use Rattle.luks_edit.specs.EditFaults.{edit_key}
@@ -66,6 +66,7 @@ tells_slot1 v (AddByKey key new to iterations d) None chosen x = absurd x
 tells_slot1 v (Change slot old new iterations d) (Some n) chosen x = record { choice = luks1; chosen = chosen; makes = x }
 tells_slot1 v (Change slot old new iterations d) None chosen x = absurd x
 tells_slot1 v (Remove slot by_ passphrase) told chosen x = subst (λ t. TellsSlot v (Remove slot by_ passphrase) t) (sym x) (λ n made. made.makes)
+tells_slot1 v Erase told chosen x = subst (λ t. TellsSlot v Erase t) (sym x) (λ n made. made.makes)
 tells_slot1 v Repair told chosen x = subst (λ t. TellsSlot v Repair t) (sym x) (λ n made. made.makes)
 tells_slot1 v (Label text subsystem) told chosen x = subst (λ t. TellsSlot v (Label text subsystem) t) (sym x) (λ n made. made.makes)
 tells_slot1 v (Uuid uuid) told chosen x = subst (λ t. TellsSlot v (Uuid uuid) t) (sym x) (λ n made. made.makes)
@@ -79,6 +80,7 @@ tells_slot2 v (AddByKey key new to iterations d) None o copies chosen x = absurd
 tells_slot2 v (Change slot old new iterations d) told o copies chosen x =
     subst (λ t. TellsSlot v (Change slot old new iterations d) t) (sym x) (record { choice = luks2 o copies; chosen = chosen; makes = refl })
 tells_slot2 v (Remove slot by_ passphrase) told o copies chosen x = subst (λ t. TellsSlot v (Remove slot by_ passphrase) t) (sym x) (λ n made. made.makes)
+tells_slot2 v Erase told o copies chosen x = subst (λ t. TellsSlot v Erase t) (sym x) (λ n made. made.makes)
 tells_slot2 v Repair told o copies chosen x = subst (λ t. TellsSlot v Repair t) (sym x) (λ n made. made.makes)
 tells_slot2 v (Label text subsystem) told o copies chosen x = subst (λ t. TellsSlot v (Label text subsystem) t) (sym x) (λ n made. made.makes)
 tells_slot2 v (Uuid uuid) told o copies chosen x = subst (λ t. TellsSlot v (Uuid uuid) t) (sym x) (λ n made. made.makes)

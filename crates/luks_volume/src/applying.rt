@@ -21,7 +21,9 @@ use std::alloc::Global;
 /// before the first write: for its metadata, and for Argon2 as much as the edit allows, once to open
 /// a keyslot and once to seal one. `Device` comes exactly where a device call failed; no byte has changed
 /// then but those that the edit writes. Of LUKS1 it leaves each keyslot that the edit doesn't name
-/// as it was, unless the uuid is torn, and of LUKS2 it leaves one of the two copies of the header.
+/// as it was, unless the uuid is torn, and of LUKS2 it leaves one of the two copies of the header. Of an
+/// erasure it leaves in LUKS1 the keyslots before the one that it met erased and those behind it as they
+/// were, and in LUKS2 all that open as they did, or none.
 #[tactic(auto, using(luks_area::proofs::DeviceFacts::settled_unchanged))]
 pub fn apply<D: Device>(
     alloc: Global,
@@ -90,5 +92,6 @@ fn derivation_has_32_bits(edit: &Edit<'_>)
         Deed::Seal(sealed) => asked_fits(sealed.derivation),
         Deed::Remove(_) => {}
         Deed::Rewrite(_) => {}
+        Deed::Erase => {}
     }
 }

@@ -1,13 +1,17 @@
 //! Laws on the definitions of this crate. Each function does nothing; its contract is the law.
-ghost use Rattle.std.specs.Prelude.{◌≡◌, ◌+◌, ◌<◌, ◌≤◌, ◌++◌, ◌∷◌, [], ℕ, List, Ok, Some, get_or, length};
+ghost use Rattle.std.specs.Prelude.{◌≡◌, ◌+◌, ◌<◌, ◌≤◌, ◌++◌, ◌∷◌, [], ℕ, List, Ok, Some, get_or, length, replicate};
+ghost use Rattle.luks_area.specs.declared.area.Area.{Area as TheArea};
+ghost use Rattle.luks_area.specs.declared.area.AreaName.TheVariants.{Slot};
+ghost use Rattle.luks_area.specs.Ranges.{part};
 ghost use Rattle.luks_edit.specs.declared.edit.Done.{Done as TheDone};
 ghost use Rattle.luks_edit.specs.declared.edit.Edit.{Edit as TheEdit};
+ghost use Rattle.luks_edit.specs.declared.edit.Edit.TheVariants.{Erase};
 ghost use Rattle.luks_edit.specs.Asked.{removed_by};
 ghost use Rattle.luks_edit.specs.declared.deed.Removed.{Removed as TheRemoved};
 ghost use Rattle.luks_edit.specs.declared.edit.Step.{Step as TheStep};
-ghost use Rattle.luks_edit.specs.Kept.{Keeps, KeepsSlot};
+ghost use Rattle.luks_edit.specs.Kept.{IsShut, Keeps, KeepsSlot};
 ghost use Rattle.luks_edit.specs.Ran.{AreRun, HasNoFailure, IsFailure, IsNamedIn, Ran, Reply};
-ghost use Rattle.luks_reading.specs.Checked.{WellFormed};
+ghost use Rattle.luks_reading.specs.Checked.{AreaOf, WellFormed};
 ghost use Rattle.luks_reading.specs.declared.report.Data.{Data as Payload};
 ghost use Rattle.luks_volume.specs.Edits.{NamedSlots, Replies};
 ghost use Rattle.luks_volume.specs.Running.{IsUnderWay};
@@ -29,6 +33,21 @@ pub fn removal_keeps_opener()
         (random : List ℕ) (done : TheDone) → removed_by e ≡ Some removed → removed.by_ ≡ Some by_
         → WellFormed v payload → Replies payload v e random (Ok done) w
         → KeepsSlot payload by_ v w }
+{}
+
+/// A completed erasure of a well formed volume leaves a well formed one with its length and its segments'
+/// bytes, of which no passphrase opens any keyslot, whatever is allowed; and each area that a keyslot had is
+/// zeros.
+pub fn erasure_shuts_volume()
+    ensures keeps { (payload : Payload) (v random w : List ℕ) (done : TheDone)
+        → WellFormed v payload → Replies payload v Erase random (Ok done) w
+        → Keeps payload (NamedSlots v Erase) v w }
+    ensures shut { (payload : Payload) (v random w : List ℕ) (done : TheDone)
+        → WellFormed v payload → Replies payload v Erase random (Ok done) w
+        → (n : ℕ) → IsShut w n }
+    ensures wiped { (payload : Payload) (v random w : List ℕ) (done : TheDone) (n : ℕ) (a : TheArea)
+        → WellFormed v payload → Replies payload v Erase random (Ok done) w
+        → AreaOf v payload (Slot n) a → part w a.start a.len ≡ replicate a.len 0 }
 {}
 
 /// A list of edits is run step by step: a step that the device doesn't fail in is followed by the

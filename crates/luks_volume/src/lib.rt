@@ -12,6 +12,7 @@ pub use applying::apply;
 pub use applying::apply_of_header;
 pub use header::edited_header;
 pub use laws::edits_keep_volume;
+pub use laws::erasure_shuts_volume;
 pub use laws::list_runs_by_steps;
 pub use laws::removal_keeps_opener;
 pub use luks_area::FileDevice;

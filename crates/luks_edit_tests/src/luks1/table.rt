@@ -14,7 +14,7 @@ const LONG: &[u8] = &[
 ];
 
 /// The list.
-pub(crate) const LIST: [Row; 29] = [
+pub(crate) const LIST: [Row; 32] = [
     (remove!(0, b"one"), Some(0), "refused LastSlot"),
     (add!(0, b"one", b"two", None), Some(2528), "done slot 1"),
     (
@@ -60,10 +60,13 @@ pub(crate) const LIST: [Row; 29] = [
         "refused BadUuid",
     ),
     (Edit::Uuid(NewUuid::Random), Some(16), "done"),
+    (Edit::Erase, Some(0), "done"),
+    (add!(5, b"one", b"two", None), None, "refused NoSuchSlot"),
+    (Edit::Erase, Some(0), "done"),
 ];
 
 /// SHA-256 of the volume before the list, and of the whole volume after each edit, by sha256.
-pub(crate) const SHA256: [&str; 30] = [
+pub(crate) const SHA256: [&str; 33] = [
     "49c146b90a6cc8d0a840a2e39f93b73d79540be7401a1278b50ecc5c931b70ce",
     "49c146b90a6cc8d0a840a2e39f93b73d79540be7401a1278b50ecc5c931b70ce",
     "659d971cfcf59ae3dba03f3bb35285b2d3108464eb67efdfd7dc91578768301c",
@@ -94,4 +97,7 @@ pub(crate) const SHA256: [&str; 30] = [
     "6c48f3de37db15d650678bd2ac056415b47429636f8c54353835e3f867cf7061",
     "6c48f3de37db15d650678bd2ac056415b47429636f8c54353835e3f867cf7061",
     "ea8e7430e3fbf00b3d48832520d90fc32dc9e2592a5cce27f2b6c003956c6013",
+    "a330956095bfebae573c074f95625b1f2349b63276fd2a687ad571b22bd9b314",
+    "a330956095bfebae573c074f95625b1f2349b63276fd2a687ad571b22bd9b314",
+    "a330956095bfebae573c074f95625b1f2349b63276fd2a687ad571b22bd9b314",
 ];

@@ -14,7 +14,7 @@ const LONG: &[u8] = &[
 ];
 
 /// The list.
-pub(crate) const LIST: [Row; 32] = [
+pub(crate) const LIST: [Row; 35] = [
     (remove!(0, b"one"), Some(128), "refused LastSlot"),
     (add!(0, b"one", b"two", None), Some(2656), "done slot 1"),
     (
@@ -67,10 +67,13 @@ pub(crate) const LIST: [Row; 32] = [
         "refused BadUuid",
     ),
     (Edit::Uuid(NewUuid::Random), Some(144), "done"),
+    (Edit::Erase, Some(128), "done"),
+    (add!(5, b"one", b"two", None), None, "refused NoSuchSlot"),
+    (Edit::Erase, Some(128), "done"),
 ];
 
 /// SHA-256 of the volume before the list, and of the whole volume after each edit, by sha256.
-pub(crate) const SHA256: [&str; 33] = [
+pub(crate) const SHA256: [&str; 36] = [
     "af156ffb590a89e9ff381ebbdd10221ff67a34f693270d682256e37f9b25a274",
     "af156ffb590a89e9ff381ebbdd10221ff67a34f693270d682256e37f9b25a274",
     "ea8c2c2cf6f5a5719f1a2f14825458693778615ea196135cf1f47e8a0f5ae135",
@@ -104,4 +107,7 @@ pub(crate) const SHA256: [&str; 33] = [
     "7bd7dca026895417dd7f44a9bb79541d77bfedd13af5689ec00428ad744d4d11",
     "7bd7dca026895417dd7f44a9bb79541d77bfedd13af5689ec00428ad744d4d11",
     "b633b7fcebfb92fcf134a75fff9edc57b642cc86d54a9d13f65cea1b9442d9c7",
+    "c16a545277655f4924dde6099f0c9b607ffc0c4ed8961b1b947838f6177b526a",
+    "c16a545277655f4924dde6099f0c9b607ffc0c4ed8961b1b947838f6177b526a",
+    "2e874a034df97513d18c02d21e414990f06e37f451b8a192aad91affa5e9a515",
 ];

@@ -1,13 +1,14 @@
-use Rattle.std.proofs.Common.{◌≡◌, ℕ, List, length, None, refl, sym, ◌∙◌, subst}
+use Rattle.std.proofs.Common.{◌≡◌, ℕ, length, None, refl, sym, ◌∙◌, subst}
 use Rattle.std.proofs.lemmas.Result.{err_from_is_err_and}
-use Rattle.luks_area.specs.declared.area.AreaName.TheVariants.{Slot}
+use Rattle.luks_area.specs.Area.{IsInside}
+use Rattle.luks_reading.specs.declared.report.Data.TheVariants.{Elsewhere}
 use Rattle.luks_edit.specs.declared.edit.Edit.TheVariants.{Erase}
 use Rattle.luks_meta.specs.Content.{area_len, content}
 use Rattle.luks2_judging.specs.Texts.{texts_of}
 use Rattle.luks2_judging.specs.declared.judged.TextFields.{TextFields}
 use Rattle.luks2_editing.specs.Prepared.{AreCopiesWithin, IsPrepared, IsUnwritten}
 use Rattle.luks2_editing.specs.Rewriting.{with_uuid, IsRenewing}
-use Rattle.luks2_editing.proofs.ErasureFacts.{areas_apart, erased_after, erasure_passed, torn_areas}
+use Rattle.luks2_editing.proofs.ErasureFacts.{areas_apart, erased_after, erasure_passed, keyslots_listed, torn_areas}
 use Rattle.luks2_editing.proofs.RenewalFacts.{copy_within, prepared_unrefused, renewing, unwritten_ends}
 use Rattle.luks2_editing.proofs.erasing.erase.Goals as goal
 
@@ -16,9 +17,8 @@ returns-in_err-rewrite-clause-replies g c = λ tells payload x well before.
     let v = g.D.Device.bytes c.args.device.now in
     let copy = c.args.copy in
     let random = c.args.random.now in
-    let areas = c.luks2_areas-areas.result in
-    let only = λ n a has. c.luks2_areas-areas.ensures.only (Slot n) a has in
-    let all = λ n a is. c.luks2_areas-areas.ensures.all (Slot n) a is in
+    let entries = c.luks2_areas-areas.result in
+    let lists = keyslots_listed (content copy.meta) copy.header.hdr_size c.len.result Elsewhere entries entries refl c.luks2_areas-areas.ensures in
     let size : length v ≡ g.D.Device.size c.args.device.now = g.met.D.Device.sized c.args.device.now tells in
     let new = content c.in_ok-meta.meta in
     let made = c.in_ok-meta.ensures.value in
@@ -27,7 +27,7 @@ returns-in_err-rewrite-clause-replies g c = λ tells payload x well before.
     (subst (λ (n : ℕ). IsRenewing v Erase random copy.header (texts_of copy.header) n) (sym len)
     (renewing v payload copy x well Erase random (texts_of copy.header) (sym x.header.uuid) (sym x.header.label) (sym x.header.subsystem))) in
     let w = g.D.Device.bytes c.rewrite.new.device in
-    let passed = erasure_passed v payload copy x well areas only all random before in
+    let passed = erasure_passed v payload copy x well entries lists random before in
     let within : AreCopiesWithin copy.header (area_len c.in_ok-meta.meta) (g.D.Device.size c.args.device.now) =
     subst (λ (n : ℕ). AreCopiesWithin copy.header n (g.D.Device.size c.args.device.now)) (sym len)
     (subst (λ (n : ℕ). AreCopiesWithin copy.header (area_len copy.meta) n) size (copy_within v payload copy x well)) in
@@ -42,9 +42,8 @@ returns-in-Ok-clause-replies g c = λ tells payload x well before.
     let v = g.D.Device.bytes c.args.device.now in
     let copy = c.args.copy in
     let random = c.args.random.now in
-    let areas = c.luks2_areas-areas.result in
-    let only = λ n a has. c.luks2_areas-areas.ensures.only (Slot n) a has in
-    let all = λ n a is. c.luks2_areas-areas.ensures.all (Slot n) a is in
+    let areas = c.as_slice.result.now in
+    let lists = keyslots_listed (content copy.meta) copy.header.hdr_size c.len.result Elsewhere c.luks2_areas-areas.result areas c.as_slice.ensures.entries c.luks2_areas-areas.ensures in
     let new = content c.in_ok-meta.meta in
     let made = c.in_ok-meta.ensures.value in
     let len : area_len c.in_ok-meta.meta ≡ area_len copy.meta = c.in_ok-meta.ensures.length in
@@ -55,11 +54,11 @@ returns-in-Ok-clause-replies g c = λ tells payload x well before.
     let ready = subst (λ (n : ℕ). IsPrepared copy.header.seqid n new random 128) len c.in_ok-rewrite.ensures.ready in
     let y = g.D.Device.bytes c.wipe_keyslots.new.device in
     record {
-      unrefused = prepared_unrefused v payload copy x well Erase random new (erasure_passed v payload copy x well areas only all random before)
+      unrefused = prepared_unrefused v payload copy x well Erase random new (erasure_passed v payload copy x well areas lists random before)
           (λ salt. made) (λ salt k same. same ∙ sym made) 128 refl (λ k same. same) (λ u. tt) ready;
-      after = erased_after v payload copy x well areas only all random before new made w y ready
+      after = erased_after v payload copy x well areas lists random before new made w y ready
           (c.in_ok-rewrite.ensures.anew tells v Erase renews) (c.rewrite.ensures.rest tells) (c.wipe_keyslots.ensures.rest tells)
-          (c.in-Ok.ensures.wiped tells (areas_apart v payload copy x well areas only all));
+          (c.in-Ok.ensures.wiped tells (areas_apart v payload copy x well areas lists));
       told = refl;
     }
 
@@ -68,9 +67,8 @@ returns-clause-replies g c = λ tells payload x well before.
     let v = g.D.Device.bytes c.args.device.now in
     let copy = c.args.copy in
     let random = c.args.random.now in
-    let areas = c.luks2_areas-areas.result in
-    let only = λ n a has. c.luks2_areas-areas.ensures.only (Slot n) a has in
-    let all = λ n a is. c.luks2_areas-areas.ensures.all (Slot n) a is in
+    let areas = c.as_slice.result.now in
+    let lists = keyslots_listed (content copy.meta) copy.header.hdr_size c.len.result Elsewhere c.luks2_areas-areas.result areas c.as_slice.ensures.entries c.luks2_areas-areas.ensures in
     let new = content c.in_ok-meta.meta in
     let made = c.in_ok-meta.ensures.value in
     let len : area_len c.in_ok-meta.meta ≡ area_len copy.meta = c.in_ok-meta.ensures.length in
@@ -80,6 +78,12 @@ returns-clause-replies g c = λ tells payload x well before.
     let w = g.D.Device.bytes c.rewrite.new.device in
     let ready = subst (λ (n : ℕ). IsPrepared copy.header.seqid n new random 128) len c.in_ok-rewrite.ensures.ready in
     let y = g.D.Device.bytes c.wipe_keyslots.new.device in
-    torn_areas v payload copy x well areas only all random before new made w y ready
+    torn_areas v payload copy x well areas lists random before new made w y ready
     (c.in_ok-rewrite.ensures.anew tells v Erase renews) (c.rewrite.ensures.rest tells) (c.wipe_keyslots.ensures.rest tells)
-    (c.wipe_keyslots.ensures.torn tells (areas_apart v payload copy x well areas only all))
+    (c.in-Err.ensures.torn tells (areas_apart v payload copy x well areas lists))
+
+pub wipe_keyslots-requires-clause-inside : goal.wipe_keyslots-requires-clause-inside
+wipe_keyslots-requires-clause-inside g c = λ n a has.
+    let copy = c.args.copy in
+    let lists = keyslots_listed (content copy.meta) copy.header.hdr_size c.len.result Elsewhere c.luks2_areas-areas.result c.as_slice.result.now c.as_slice.ensures.entries c.luks2_areas-areas.ensures in
+    subst (λ (m : ℕ). IsInside a m) (sym c.rewrite.ensures.size) (c.requires.inside n a (lists.only n a has))

@@ -1,4 +1,4 @@
-use Rattle.std.proofs.Common.{◌≡◌, ℕ, get_or, sym, subst, ◌∙◌}
+use Rattle.std.proofs.Common.{ℕ, get_or, sym, subst, ◌∙◌}
 use Rattle.std.proofs.lemmas.Result.{err_from_is_err_and}
 use Rattle.luks_area.specs.declared.area.AreaName.TheVariants.{Head1}
 use Rattle.luks_area.specs.declared.areas.Entry.{Entry}

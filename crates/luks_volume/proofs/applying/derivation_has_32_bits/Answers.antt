@@ -12,3 +12,6 @@ returns-in-Remove c = subst (λ d. IfSome (sealed_in d) (λ s. FitsAsked s.deriv
 
 pub returns-in-Rewrite : goal.returns-in-Rewrite
 returns-in-Rewrite c = subst (λ d. IfSome (sealed_in d) (λ s. FitsAsked s.derivation)) c.in-Rewrite.ensures tt
+
+pub returns-in-Erase : goal.returns-in-Erase
+returns-in-Erase c = subst (λ d. IfSome (sealed_in d) (λ s. FitsAsked s.derivation)) c.in-Erase.ensures tt
