@@ -280,7 +280,7 @@ static int edits_by_name(int fd, uint64_t offset, uint64_t length, char **words)
     else if (kind == LUKS_LABEL)
         answer = luks_label(fd, offset, length, is_detached, (const char *)text, text_bytes);
     else if (kind == LUKS_UUID && text_bytes < sizeof uuid)
-        answer = luks_set_uuid(fd, offset, length, is_detached, memcpy(uuid, text, text_bytes));
+        answer = luks_set_uuid(fd, offset, length, is_detached, text_bytes == 0 ? NULL : memcpy(uuid, text, text_bytes));
     else if (kind == LUKS_PRIORITY)
         answer = luks_set_priority(fd, offset, length, is_detached, slot, number(words[3]));
     else if (kind == LUKS_TOKEN_ADD)
