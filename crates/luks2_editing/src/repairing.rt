@@ -22,13 +22,14 @@ use luks_reading::ChosenCopy;
 use luks2_judging::{JudgedChange, TextFields};
 use std::alloc::Global;
 
-/// Writes both copies of the header anew from the one that counts, with the uuid, if one is given, with these
-/// fields for its texts and with the change of its metadata, if there is one: the other copy first, each with
-/// a flush. The rows of
-/// the faults up to `BadUuid` were judged. The old metadata is given up for the new.
+/// Writes both copies of the header anew from the one that counts, with the uuid, if one is given, with
+/// these fields for its texts and with the change of its metadata, if there is one: the other copy first,
+/// each with a flush. The rows of the faults up to `BadUuid` were judged. The old metadata is given up for
+/// the new.
 ///
 /// Refused by `BadToken`, `SeqExhausted`, `MetadataFull` or `RandomLength`; 128 random bytes are needed,
-/// the salts of the copies, and 16 more for a random uuid. Takes memory for the change and for the JSON area, before the first write.
+/// the salts of the copies, and 16 more for a random uuid. Takes memory for the change and for the JSON
+/// area, before the first write.
 pub(crate) fn repair<D: Device>(
     alloc: Global,
     device: &mut D,
