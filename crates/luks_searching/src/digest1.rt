@@ -1,0 +1,74 @@
+//! A digest of LUKS1 of which few bits are wrong.
+ghost use Rattle.std.specs.Prelude.{◌+◌, ◌^◌, ◌<◌, ◌≤◌, IfErr, IfOk, IfSome};
+ghost use Rattle.luks_area.specs.Device.{CountsFailure, IsUnchanged};
+ghost use Rattle.luks1_header.specs.Header1.{luks1_size};
+ghost use Rattle.luks_searching.specs.Faults.{is_search_failure, IsCutShort};
+ghost use Rattle.luks_searching.specs.Found1.{few_bits, IsFoundOf};
+ghost use Rattle.luks_searching.specs.Tallies.{Counts};
+
+use crate::fault::SearchFault;
+use crate::searching1::{Change1, Found1};
+use crate::tally::{Progress, Tally};
+use crate::trial1::{Sought, distance};
+use crate::turning::turned;
+use luks_area::Device;
+use std::alloc::Global;
+
+/// Where the digest stands, in bytes from the header's start.
+const DIGEST: usize = 112;
+
+/// The bits of the digest.
+const BITS: usize = 160;
+
+/// The header with the digest that the key of the keyslot `n` meets, where it differs from the one that
+/// stands in `bits` bits: each bit is turned that lessens this distance.
+pub(crate) fn mended_digest<D: Device, P: Progress>(
+    alloc: Global,
+    source: &mut D,
+    sought: &Sought<'_>,
+    n: u8,
+    bits: u32,
+    tally: &mut Tally,
+    progress: &mut P,
+) -> Result<Option<Found1>, SearchFault>
+    requires numbered { n < 8 }
+    requires some_bits { 1 ≤ bits }
+    requires few { bits ≤ few_bits }
+    requires large { luks1_size ≤ D.size source.old }
+    requires room { D.failed source.old + 1 < 2 ^ 64 }
+    ensures unchanged { IsUnchanged D.tells D.size D.bytes D.unsettled source.old source.new }
+    ensures count { CountsFailure is_search_failure result
+        (D.failed source.old) (D.failed source.new) }
+    ensures counts { Counts tally.old tally.new }
+    ensures cut { IfErr result (IsCutShort tally.new) }
+    ensures found { D.tells → IfOk result (λ found. IfSome found (IsFoundOf (D.bytes source.old)
+        sought.now.header.now sought.now.given.now sought.now.passphrase.now)) }
+{
+    let mut mended = *sought.header;
+    let mut times = 0;
+    let mut left = bits;
+    for number in 0..BITS {
+        let header = turned(&mended, DIGEST + number / 8, (number % 8) as u8);
+        let changed = Sought {
+            header: &header,
+            given: sought.given,
+            passphrase: sought.passphrase,
+        };
+        match distance(alloc, source, &changed, n, tally, progress)? {
+            Some(0) => {
+                return Ok(Some(Found1 {
+                    header,
+                    slot: n,
+                    change: Change1::Digest { bits: times + 1 },
+                }));
+            }
+            Some(fewer) if fewer < left => {
+                mended = header;
+                times += 1;
+                left = fewer;
+            }
+            _ => {}
+        }
+    }
+    Ok(None)
+}
