@@ -1,5 +1,6 @@
 //! The fields of a LUKS1 header that are given to the command that rebuilds.
 
+use crate::derivation::is_given;
 use clap::ArgMatches;
 use luks_request::Luks1Fields;
 
@@ -19,6 +20,22 @@ pub(crate) fn wrong_field(given: &ArgMatches<'_>) -> Option<&'static str> {
     if let Some(text) = given.get_str("hash") {
         if !is_name(text) {
             return Some("invalid value for '--hash <NAME>': a name of 1 to 31 bytes");
+        }
+    }
+    wrong_search(given)
+}
+
+/// That nothing of a LUKS1 header is sought longer but by a passphrase.
+fn wrong_search(given: &ArgMatches<'_>) -> Option<&'static str> {
+    let has_passphrase = is_given(given, "passphrase") || is_given(given, "passphrase-line");
+    if !given.get_flag("thorough") || has_passphrase {
+        return None;
+    }
+    for name in ["cipher", "hash", "key-bytes", "payload"] {
+        if is_given(given, name) {
+            return Some(
+                "the argument '--thorough' cannot be used with '--cipher', '--hash', '--key-bytes' or '--payload' but beside '--passphrase <FILE>'",
+            );
         }
     }
     None
