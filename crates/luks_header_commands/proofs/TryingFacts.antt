@@ -1,5 +1,5 @@
 -- What `rebuild` answers with a passphrase, by what it met.
-use Rattle.std.proofs.Common.{◌≡◌, List, ℕ, Bool, Option, Some, None, IfSome, IfNone, Result, Ok, Err, refl, sym, subst, inl, inr}
+use Rattle.std.proofs.Common.{◌≡◌, List, ℕ, Bool, true, false, Option, Some, None, IfSome, IfNone, Result, Ok, Err, refl, sym, subst, inl, inr}
 use Rattle.luks_area.specs.Device.{count_after}
 use Rattle.luks1_mending.specs.declared.given.Given.{Given}
 use Rattle.luks1_rebuilding.specs.RebuildFaults.{is_rebuild_failure}
@@ -15,7 +15,7 @@ use Rattle.luks_commands.specs.Answer.{IsWordless, rebuild1_fault_answer}
 use Rattle.luks_header_commands.specs.Rebuilding.{IsGiven, IsLuks1Answer, IsRebuildAnswer, KeepsRest, KeepsRest1}
 use Rattle.luks_commands.specs.Beside.{LeavesTarget}
 use Rattle.luks_header_commands.specs.Target.{AnswersHeader, HoldsBackHeader, IsLater, IsOtherTarget, Pair}
-use Rattle.luks_header_commands.specs.Trying.{no_header, none_open, one_opens, trial_failed, AnswersBy, IsTriedRest, IsWithPassphrase, IsTriedAnswer, KeepsBy, KeepsTried, TriedAnswer}
+use Rattle.luks_header_commands.specs.Trying.{no_header, none_open, one_opens, trial_failed, AnswersBy, IsSoughtRest, IsTriedRest, IsWithPassphrase, IsTriedAnswer, KeepsBy, KeepsOpened, KeepsSought, KeepsTried, TriedAnswer}
 use Rattle.luks_header_commands.proofs.RebuildFacts.{luks1_later}
 use Rattle.luks_header_commands.proofs.TargetFacts.{header_holds, none_later, one_later, same_later}
 use Rattle.luks_commands.proofs.StandingFacts.{wordless_answers}
@@ -59,24 +59,40 @@ pub opened_rest : (g : Given) (p v v' old new : List ℕ) (o : Opening) → v' �
 opened_rest g p v v' old new o same first keeps =
     inr (record { words = p; has = refl; opening = o; first = first; keeps = subst (λ (x : List ℕ). KeepsRest1 o.given x old new) same keeps })
 
-pub given_rest : (r : Rebuilding) (g : Given) (p v old new : List ℕ) → IsGiven r g → IsTriedRest g p v old new → KeepsTried r (λ words. words ≡ p) v old new
+pub given_rest : (r : Rebuilding) (g : Given) (p v old new : List ℕ) → IsGiven r g → IsSoughtRest r.thorough g p v old new → KeepsTried r (λ words. words ≡ p) v old new
 given_rest r g p v old new is (inl same) = inl same
 given_rest r g p v old new is (inr kept) = inr (record { given = g; is = is; keeps = kept })
 
 -- these words are those of the passphrase's file
+opened_words : (HasWords : List ℕ → Type 0) (p : List ℕ) → HasWords p → (g : Given) (v old new : List ℕ)
+    → KeepsOpened (λ words. words ≡ p) g v old new → KeepsOpened HasWords g v old new
+opened_words HasWords p has g v old new kept = record {
+  words = kept.words;
+  has = subst HasWords (sym kept.has) has;
+  opening = kept.opening;
+  first = kept.first;
+  keeps = kept.keeps;
+}
+
+sought_words : (thorough : Bool) (HasWords : List ℕ → Type 0) (p : List ℕ) → HasWords p → (g : Given) (v old new : List ℕ)
+    → KeepsSought thorough (λ words. words ≡ p) g v old new → KeepsSought thorough HasWords g v old new
+sought_words false HasWords p has g v old new kept = opened_words HasWords p has g v old new kept
+sought_words true HasWords p has g v old new (inl kept) = inl (opened_words HasWords p has g v old new kept)
+sought_words true HasWords p has g v old new (inr kept) = inr (record {
+  words = kept.words;
+  has = subst HasWords (sym kept.has) has;
+  found = kept.found;
+  near = kept.near;
+  keeps = kept.keeps;
+})
+
 pub keeps_words : (r : Rebuilding) (HasWords : List ℕ → Type 0) (p : List ℕ) → HasWords p → (v old new : List ℕ)
     → KeepsTried r (λ words. words ≡ p) v old new → KeepsTried r HasWords v old new
 keeps_words r HasWords p has v old new (inl same) = inl same
 keeps_words r HasWords p has v old new (inr kept) = inr (record {
   given = kept.given;
   is = kept.is;
-  keeps = record {
-    words = kept.keeps.words;
-    has = subst HasWords (sym kept.keeps.has) has;
-    opening = kept.keeps.opening;
-    first = kept.keeps.first;
-    keeps = kept.keeps.keeps;
-  };
+  keeps = sought_words r.thorough HasWords p has kept.given v old new kept.keeps;
 })
 
 -- what is said of the target's bytes is said in other words

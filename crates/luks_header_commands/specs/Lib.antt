@@ -2,4 +2,5 @@ pub mod Target
 pub mod Converting
 pub mod Rebuilding
 pub mod Turned
+pub mod Found
 pub mod Trying

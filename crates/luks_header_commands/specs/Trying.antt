@@ -1,6 +1,6 @@
 -- What `rebuild` leaves of its target and may answer, with a passphrase or without one. With one the combinations of what isn't
--- given are tried until a keyslot of a LUKS1 header opens.
-use Rattle.std.specs.Prelude.{◌≡◌, ◌⊎◌, ℕ, List, Option, None, Some, Result, false}
+-- given are tried until a keyslot of a LUKS1 header opens; and where more is sought and none does, what is near to what stands.
+use Rattle.std.specs.Prelude.{◌≡◌, ◌≢◌, ◌⊎◌, ℕ, List, Bool, true, false, Option, None, Some, Result}
 use Rattle.luks_writing.specs.TwoDevices.{IsOneFailure}
 use Rattle.luks1_mending.specs.declared.given.Given.{Given}
 use Rattle.luks1_rebuilding.specs.RebuildFaults.{is_rebuild_failure}
@@ -8,12 +8,15 @@ use Rattle.luks1_rebuilding.specs.declared.rebuild_fault.Rebuild1Fault.{Rebuild1
 use Rattle.luks1_rebuilding.specs.TrialFaults.{IsAnsweredTrialFault, IsTrialFault}
 use Rattle.luks1_rebuilding.specs.Openings.{IsFirstOpening, OpensNoneBelow}
 use Rattle.luks1_rebuilding.specs.declared.trial.opening.Opening.{Opening}
+use Rattle.luks_searching.specs.Found1.{HasNone1, IsFound1}
+use Rattle.luks_searching.specs.declared.searching1.Found1.{Found1}
 use Rattle.luks_request.specs.declared.rebuilding.Rebuilding.{Rebuilding}
 use Rattle.luks_commands.specs.declared.answers.Answer.{Answer}
-use Rattle.luks_commands.specs.declared.answers.Answer.TheVariants.{NoneOpens, Refused, DeviceFault}
+use Rattle.luks_commands.specs.declared.answers.Answer.TheVariants.{NoneOpens, Refused, DeviceFault, NoMemory}
 use Rattle.luks_commands.specs.declared.answers.Refusal.TheVariants.{Rebuild1}
 use Rattle.luks_commands.specs.declared.inputs.InputFault.{InputFault}
 use Rattle.luks_commands.specs.Answer.{IsWordless}
+use Rattle.luks_header_commands.specs.Found.{IsHeadedAnswer, KeepsHeaded, OpensWhereDone}
 use Rattle.luks_header_commands.specs.Rebuilding.{IsGiven, IsLuks1Answer, IsRebuildAnswer, KeepsRest, KeepsRest1}
 use Rattle.luks_header_commands.specs.Target.{AnswersHeader, NoneFailed, Pair}
 
@@ -30,11 +33,28 @@ pub data TriedAnswer (tells : Type 0) (g : Given) (p : List ℕ) (d : Pair) (a :
   trial_failed : IsOneFailure d.volume_before d.volume_after d.before d.after → (tells → d.new ≡ d.old) → a ≡ DeviceFault → TriedAnswer tells g p d a
   one_opens : (o : Opening) → (tells → IsFirstOpening d.volume g p o) → IsLuks1Answer tells o.given d a → TriedAnswer tells g p d a
 
+-- So it is, where more is sought, unless no keyslot opens. Then no header near to what stands opens one, and nothing is written;
+-- or a call of the search failed, or memory was refused, and nothing is written. Else LUKS1 answers with the header that was found:
+-- where it is made, the keyslot opens by it.
+pub data SearchedAnswer (tells : Type 0) (g : Given) (p : List ℕ) (d : Pair) (a : Answer) : Type 0 where
+  by_combinations : TriedAnswer tells g p d a → a ≢ NoneOpens → SearchedAnswer tells g p d a
+  none_near : NoneFailed d → (tells → d.new ≡ d.old) → (tells → OpensNoneBelow d.volume g p 64) → (tells → HasNone1 d.volume g p)
+      → a ≡ NoneOpens → SearchedAnswer tells g p d a
+  search_failed : IsOneFailure d.volume_before d.volume_after d.before d.after → (tells → d.new ≡ d.old) → a ≡ DeviceFault → SearchedAnswer tells g p d a
+  no_memory : NoneFailed d → (tells → d.new ≡ d.old) → a ≡ NoMemory → SearchedAnswer tells g p d a
+  found_near : (found : Found1) → (tells → OpensNoneBelow d.volume g p 64) → (tells → IsFound1 d.volume g p found) → IsHeadedAnswer tells found.header g d a
+      → (tells → OpensWhereDone a d.new p found.slot) → SearchedAnswer tells g p d a
+
+-- by whether more is sought
+abbrev pub TriedBy : Bool → Type 0 → Given → List ℕ → Pair → Answer → Type 0
+TriedBy false tells g p d a = TriedAnswer tells g p d a
+TriedBy true tells g p d a = SearchedAnswer tells g p d a
+
 -- as the command line gives it
 pub record IsTriedAnswer (tells : Type 0) (r : Rebuilding) (p : List ℕ) (d : Pair) (a : Answer) : Type 0 where
   pub given : Given
   pub is : IsGiven r given
-  pub says : TriedAnswer tells given p d a
+  pub says : TriedBy r.thorough tells given p d a
 
 -- the passphrase can't be read, or is too long, and nothing was done
 pub record IsWithoutWords {D : Type 0} (is_long : Type 0) (wordless : InputFault → Type 0) (volume volume_new old new : Result D InputFault) (a : Answer) : Type 0 where
@@ -85,14 +105,29 @@ pub record KeepsOpened (HasWords : List ℕ → Type 0) (g : Given) (volume old 
   pub first : IsFirstOpening volume g words opening
   pub keeps : KeepsRest1 opening.given volume old new
 
+-- or those of the header that is made of one that was found near to what stands
+pub record KeepsFound (HasWords : List ℕ → Type 0) (g : Given) (volume old new : List ℕ) : Type 0 where
+  pub words : List ℕ
+  pub has : HasWords words
+  pub found : Found1
+  pub near : IsFound1 volume g words found
+  pub keeps : KeepsHeaded found.header g volume old new
+
+abbrev pub KeepsSought : Bool → (List ℕ → Type 0) → Given → List ℕ → List ℕ → List ℕ → Type 0
+KeepsSought false HasWords g volume old new = KeepsOpened HasWords g volume old new
+KeepsSought true HasWords g volume old new = KeepsOpened HasWords g volume old new ⊎ KeepsFound HasWords g volume old new
+
 pub record KeepsGivenOpened (r : Rebuilding) (HasWords : List ℕ → Type 0) (volume old new : List ℕ) : Type 0 where
   pub given : Given
   pub is : IsGiven r given
-  pub keeps : KeepsOpened HasWords given volume old new
+  pub keeps : KeepsSought r.thorough HasWords given volume old new
 
 -- nothing of the target has changed, or what may have
 abbrev pub IsTriedRest : Given → List ℕ → List ℕ → List ℕ → List ℕ → Type 0
 IsTriedRest g p volume old new = (new ≡ old) ⊎ KeepsOpened (λ words. words ≡ p) g volume old new
+
+abbrev pub IsSoughtRest : Bool → Given → List ℕ → List ℕ → List ℕ → List ℕ → Type 0
+IsSoughtRest thorough g p volume old new = (new ≡ old) ⊎ KeepsSought thorough (λ words. words ≡ p) g volume old new
 
 abbrev pub KeepsTried : Rebuilding → (List ℕ → Type 0) → List ℕ → List ℕ → List ℕ → Type 0
 KeepsTried r HasWords volume old new = (new ≡ old) ⊎ KeepsGivenOpened r HasWords volume old new

@@ -73,7 +73,7 @@ impl HeaderWork for Conversion<'_> {
 
     ghost may_answer = { λ work tells random d a. IsConvertAnswer tells work.payload random d a };
 
-    fn run<D: Device, E: Write, G: Progress + SearchProgress>(
+    fn run<D: Device, E: Write, G: Progress + SearchProgress + DerivationProgress>(
         &self,
         alloc: Global,
         volume: &mut D,
