@@ -22,6 +22,6 @@ pub use laws::{one_candidate, rebuilt_header_opens_alike, search_is_bounded};
 pub use luks_vouching::{SearchProgress, Untold};
 pub use place::{Copies, Effort, Place, Which};
 pub use rebuild_fault::RebuildFault;
-pub use rebuilding::{REBUILD_RANDOM, rebuild};
+pub use rebuilding::{REBUILD_RANDOM, rebuild, rebuild_from};
 pub use untried::find_untried;
 pub use voucher::find_voucher;
