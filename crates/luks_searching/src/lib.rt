@@ -3,7 +3,6 @@
 //! derivation is counted before it is made.
 #![tactic(auto)]
 
-mod alike;
 mod digest1;
 mod fault;
 mod fields1;
@@ -12,11 +11,10 @@ mod searching1;
 mod tally;
 mod trial;
 mod trial1;
-mod trial2;
 mod turning;
 
 pub use fault::SearchFault;
 pub use laws::digest_stood;
 pub use searching1::{Change1, Found1, search1};
 pub use tally::{Progress, Spent, Tally, Untold};
-pub use trial2::Trying;
+pub use trial::try_plan;

@@ -4,15 +4,13 @@ ghost use Rattle.luks_area.specs.Device.{CountsFailure, IsUnchanged};
 ghost use Rattle.luks_meta.specs.Accepted.{IsMeta};
 ghost use Rattle.luks_meta.specs.Content.{content};
 ghost use Rattle.luks_searching.specs.Faults.{is_search_failure, IsCutShort};
-ghost use Rattle.luks_searching.specs.Metadata.{OpensAt};
 ghost use Rattle.luks_searching.specs.Tallies.{Counts, CountsOne};
+ghost use Rattle.luks2_searching.specs.Metadata.{OpensAt};
 
-use crate::fault::SearchFault;
-use crate::tally::{Progress, Tally};
-use crate::trial::try_plan;
 use luks_area::Device;
 use luks_meta::Meta;
 use luks_reading::luks2_plan;
+use luks_searching::{Progress, SearchFault, Tally, try_plan};
 use luks_slot::Allowed;
 use std::alloc::Global;
 

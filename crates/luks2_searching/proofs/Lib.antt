@@ -1,0 +1,2 @@
+pub mod MetadataFacts
+pub mod TrialFacts
