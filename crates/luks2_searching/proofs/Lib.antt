@@ -1,2 +1,0 @@
-pub mod MetadataFacts
-pub mod TrialFacts

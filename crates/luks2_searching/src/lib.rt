@@ -3,11 +3,14 @@
 //! derivation is counted before it is made.
 #![tactic(auto)]
 
-mod alike;
+mod bits;
+mod copies;
+mod digest;
 mod found;
+mod mixed;
+mod replacing;
 mod searching;
-mod trial;
+mod standing;
 
 pub use found::{Change2, Found2};
 pub use searching::search2;
-pub use trial::Trying;

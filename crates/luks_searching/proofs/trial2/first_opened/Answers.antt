@@ -1,8 +1,8 @@
 use Rattle.std.proofs.Common.{◌∙◌, ℕ, ◌<◌, ◌↔◌, IfSome, IfNone, List, IsTrue, subst, sym, arith, rules, below_more}
 use Rattle.luks_area.specs.Device.{unchanged-then}
-use Rattle.luks2_searching.specs.Metadata.{OpensAt}
+use Rattle.luks_searching.specs.Metadata.{OpensAt}
 use Rattle.luks_searching.proofs.TallyFacts.{counts_then}
-use Rattle.luks2_searching.proofs.trial.first_opened.Goals as goal
+use Rattle.luks_searching.proofs.trial2.first_opened.Goals as goal
 
 pub returns-then-branch-clause-opens : goal.returns-then-branch-clause-opens
 returns-then-branch-clause-opens g c = λ tells json meta.

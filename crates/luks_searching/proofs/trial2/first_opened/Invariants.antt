@@ -2,9 +2,9 @@ use Rattle.std.proofs.Common.{◌≡◌, ℕ, ◌<◌, List}
 use Rattle.luks_area.specs.Device.{IsUnchanged}
 use Rattle.luks_meta.specs.Accepted.{IsMeta}
 use Rattle.luks_meta.specs.Content.{content}
-use Rattle.luks2_searching.specs.Metadata.{OpensAt}
+use Rattle.luks_searching.specs.Metadata.{OpensAt}
 use Rattle.luks_searching.specs.Tallies.{Counts}
-use Rattle.luks2_searching.proofs.trial.first_opened.Given as goal
+use Rattle.luks_searching.proofs.trial2.first_opened.Given as goal
 
 -- no keyslot before this one opens
 abbrev pub invariant-loop-n : goal.invariant-loop-n
