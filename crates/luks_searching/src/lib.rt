@@ -4,10 +4,12 @@
 #![tactic(auto)]
 
 mod alike;
+mod anew;
 mod digest1;
 mod fault;
 mod fields1;
 mod laws;
+mod metadata;
 mod searching1;
 mod tally;
 mod trial;
@@ -15,8 +17,11 @@ mod trial1;
 mod trial2;
 mod turning;
 
+pub use anew::first_anew;
 pub use fault::SearchFault;
 pub use laws::digest_stood;
+pub use metadata::meta_of;
 pub use searching1::{Change1, Found1, search1};
 pub use tally::{Progress, Spent, Tally, Untold};
-pub use trial2::Trying;
+pub use trial::try_plan;
+pub use trial2::{Trying, distance, first_opened, opens};

@@ -20,7 +20,7 @@ const MOST_STRIPES: u32 = 1 << 16;
 
 /// In how many bits the digest differs by which a keyslot of this plan would open: 0 where it opens, None
 /// where it is refused or would take too long. It is counted before it is tried.
-pub(crate) fn try_plan<D: Device, P: Progress>(
+pub fn try_plan<D: Device, P: Progress>(
     alloc: Global,
     source: &mut D,
     plan: &SlotPlan<'_>,

@@ -4,8 +4,8 @@ ghost use Rattle.luks_area.specs.Device.{CountsFailure, IsUnchanged};
 ghost use Rattle.luks_meta.specs.Accepted.{IsMeta};
 ghost use Rattle.luks_meta.specs.Content.{content};
 ghost use Rattle.luks_searching.specs.Faults.{is_search_failure, IsCutShort};
-ghost use Rattle.luks_searching.specs.Metadata.{OpensAt};
 ghost use Rattle.luks_searching.specs.Tallies.{Counts, CountsOne};
+ghost use Rattle.luks_searching.specs.Metadata.{OpensAt};
 
 use crate::fault::SearchFault;
 use crate::tally::{Progress, Tally};
@@ -27,7 +27,7 @@ pub struct Trying<'a> {
 
 /// In how many bits the digest differs by which the keyslot `n` of this metadata would open: 0 where it opens,
 /// None where it isn't there, lies outside, is refused, or would take too long. It is counted before it is tried.
-pub(crate) fn distance<D: Device, P: Progress>(
+pub fn distance<D: Device, P: Progress>(
     alloc: Global,
     source: &mut D,
     meta: &Meta,
@@ -67,7 +67,7 @@ pub(crate) fn distance<D: Device, P: Progress>(
 }
 
 /// Whether the keyslot `n` of this metadata opens.
-pub(crate) fn opens<D: Device, P: Progress>(
+pub fn opens<D: Device, P: Progress>(
     alloc: Global,
     source: &mut D,
     meta: &Meta,
@@ -95,7 +95,7 @@ pub(crate) fn opens<D: Device, P: Progress>(
 }
 
 /// The first keyslot of this metadata that opens.
-pub(crate) fn first_opened<D: Device, P: Progress>(
+pub fn first_opened<D: Device, P: Progress>(
     alloc: Global,
     source: &mut D,
     meta: &Meta,

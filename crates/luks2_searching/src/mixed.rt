@@ -1,0 +1,103 @@
+//! The search in compositions of the bytes of both copies' JSON areas.
+ghost use Rattle.std.specs.Prelude.{◌≡◌, ◌+◌, ◌^◌, ◌<◌, ◌≤◌, ℕ, List, length, IfErr, IfNone, IfOk, IfSome};
+ghost use Rattle.luks_area.specs.Device.{CountsFailure, IsUnchanged};
+ghost use Rattle.luks_searching.specs.Faults.{is_search_failure, IsCutShort};
+ghost use Rattle.luks_searching.specs.Tallies.{Counts};
+ghost use Rattle.luks2_searching.specs.Found.{IsFoundMixed, IsOfBoth};
+ghost use Rattle.luks_searching.specs.Metadata.{AddsNone};
+ghost use Rattle.luks2_searching.specs.Mixed.{few_bytes, mixed, AreAllOf, AreInside, DifferAt};
+
+use crate::found::{Change2, Found2};
+use arrayvec::ArrayVec;
+use luks_area::Device;
+use luks_rebuilding::Place;
+use luks_searching::{Progress, SearchFault, Tally, Trying, first_anew, meta_of};
+use std::alloc::Global;
+
+/// The first composition of the bytes of two JSON areas by which a keyslot opens that doesn't by the first one: none
+/// where they differ in more than 16 bytes. `place` is that of the first copy.
+pub(crate) fn by_mixing<D: Device, P: Progress>(
+    alloc: Global,
+    source: &mut D,
+    place: Place,
+    first: &[u8],
+    second: &[u8],
+    trying: &Trying<'_>,
+    tally: &mut Tally,
+    progress: &mut P,
+) -> Result<Option<Found2>, SearchFault>
+    requires long { length second.now ≡ length first.now }
+    requires passphrase { 0 < trying.now.allowed.memory
+        → length trying.now.passphrase.now < 2 ^ 32 }
+    requires room { D.failed source.old + 1 < 2 ^ 64 }
+    ensures unchanged { IsUnchanged D.tells D.size D.bytes D.unsettled source.old source.new }
+    ensures count { CountsFailure is_search_failure result
+        (D.failed source.old) (D.failed source.new) }
+    ensures counts { Counts tally.old tally.new }
+    ensures cut { IfErr result (IsCutShort tally.new) }
+    ensures found { D.tells → IfOk result (λ found. IfSome found (IsFoundMixed trying.now.allowed
+        (D.bytes source.old) trying.now.passphrase.now place first.now second.now)) }
+    ensures none { D.tells → IfOk result (λ found. IfNone found ((new : List ℕ)
+        → IsOfBoth first.now second.now new → AddsNone trying.now.allowed
+        (D.bytes source.old) trying.now.passphrase.now first.now new)) }
+{
+    let Some(places) = differing(first, second) else {
+        return Ok(None);
+    };
+    let standing = meta_of(alloc, first)?;
+    let mut json = first.to_vec(alloc)?;
+    for number in 0..1u32 << places.len() {
+        mix(&mut json, first, second, places.as_slice(), number);
+        let meta = meta_of(alloc, &json)?;
+        let slot = first_anew(alloc, source, &standing, &meta, trying, tally, progress)?;
+        if let Some(slot) = slot {
+            let change = Change2::Mixed;
+            return Ok(Some(Found2 {
+                json,
+                place,
+                slot,
+                change,
+            }));
+        }
+    }
+    Ok(None)
+}
+
+/// The places of the bytes in which the areas differ, where they are at most 16.
+fn differing(first: &[u8], second: &[u8]) -> Option<ArrayVec<usize, 16>>
+    requires { length second.now ≡ length first.now }
+    ensures few { IfSome result (λ _. DifferAt first.now second.now few_bytes) }
+    ensures inside { IfSome result (λ places. AreInside (length first.now) places.items) }
+    ensures all { IfSome result (λ places. AreAllOf first.now second.now (length first.now) places.items) }
+    ensures none { IfNone result (DifferAt first.now second.now few_bytes → ⊥) }
+{
+    let mut places = ArrayVec::new();
+    for place in 0..first.len() {
+        if first[place] != second[place] {
+            if places.is_full() {
+                return None;
+            }
+            places.push(place);
+        }
+    }
+    Some(places)
+}
+
+/// Puts at each of these places the second area's byte where the number's digit is 1, the lowest first, else the first's.
+fn mix(json: &mut [u8], first: &[u8], second: &[u8], places: &[usize], number: u32)
+    requires inside { AreInside (length json.old) places.now }
+    requires first_long { length first.now ≡ length json.old }
+    requires second_long { length second.now ≡ length json.old }
+    ensures long { length json.new ≡ length json.old }
+    ensures { json.new ≡ mixed first.now second.now places.now number json.old }
+{
+    let mut left = number;
+    for place in places {
+        json[*place] = if left % 2 == 1 {
+            second[*place]
+        } else {
+            first[*place]
+        };
+        left /= 2;
+    }
+}
