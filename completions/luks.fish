@@ -206,6 +206,7 @@ complete -c luks -n '__fish_seen_subcommand_from rebuild' -l key-bytes -x -a '16
 complete -c luks -n '__fish_seen_subcommand_from rebuild' -l payload -x -d 'LUKS1: where the data begins, in sectors of 512'
 complete -c luks -n '__fish_seen_subcommand_from rebuild' -l passphrase -r -F -d "Try what isn't given of LUKS1 till this opens it"
 complete -c luks -n '__fish_seen_subcommand_from rebuild' -l passphrase-line -r -F -d 'Instead, a file whose first line is taken'
+complete -c luks -n '__fish_seen_subcommand_from rebuild' -l memory -x -d 'The MiB that Argon2 may take'
 complete -c luks -n '__fish_seen_subcommand_from rebuild' -l uuid -x -d "The header's uuid; else SOURCE's, or a new one"
 complete -c luks -n '__fish_seen_subcommand_from rebuild' -l over -d 'Write over another volume or another use of it'
 complete -c luks -n '__fish_seen_subcommand_from rebuild' -l offset -x -d 'The byte of the file where the volume begins'

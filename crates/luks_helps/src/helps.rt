@@ -747,7 +747,8 @@ up to 16; each bit of the text; and keyslots, digests and segments that stand
 whole in what is left. LUKS1 is meant where one of its fields is given, or where
 SOURCE has its version, else LUKS2. Standard error says how many derivations it
 may take and how long before, and what was found behind. Ctrl-C ends it, and
-nothing is written before the passphrase has opened a keyslot.
+nothing is written before the passphrase has opened a keyslot. Memory is taken
+for Argon2 by --memory alone: without it no such keyslot is tried.
 
 Written are, with a flush after each: zeros over the first 512 bytes of both
 copies' places, of LUKS1 0 and 16384; the area of each keyslot, at its place;

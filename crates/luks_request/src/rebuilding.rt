@@ -12,6 +12,8 @@ pub struct Rebuilding<'a> {
     /// The file of a passphrase that has to open a keyslot: what of a LUKS1 header's cipher, hash and length of the
     /// key isn't given is tried until one does; with `thorough` what is damaged of a header of either version, too.
     pub passphrase: Option<&'a str>,
+    /// How many MiB of memory Argon2 may take for a keyslot of which something is sought.
+    pub memory: u32,
     /// Whether the metadata of a second copy of a LUKS2 header is asked for.
     pub second: bool,
     /// How many bytes the copy of a LUKS2 header has whose metadata is asked for; without it any.
