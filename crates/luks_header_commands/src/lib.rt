@@ -11,6 +11,8 @@ mod of_metadata;
 mod progress;
 pub mod rebuild;
 mod searching;
+mod searching1;
+mod searching2;
 mod trying;
 
 pub use of_metadata::copies_asked;

@@ -1,47 +1,35 @@
-//! A LUKS1 header that a passphrase opens, sought near to what stands where no combination does.
-ghost use Rattle.std.specs.Prelude.{◌≡◌, ◌≢◌, ◌+◌, ◌<◌, ◌^◌, ⊥};
-ghost use Rattle.luks_area.specs.Device.{IsSettled, IsUnchanged};
+//! A header that is sought by a passphrase where what stands is damaged, of the version that is meant.
+ghost use Rattle.std.specs.Prelude.{◌≡◌, ◌≢◌, ◌↔◌, ◌+◌, ◌<◌, ◌^◌, IfOk, IsTrue};
+ghost use Rattle.luks_area.specs.Device.{CountsFailure, IsSettled, IsUnchanged, is_failure};
 ghost use Rattle.luks_commands.specs.Answer.{answer_status};
-ghost use Rattle.luks1_rebuilding.specs.Openings.{OpensNoneBelow};
-ghost use Rattle.luks1_rebuilding.specs.TrialFaults.{IsTrialFault};
-ghost use Rattle.luks1_rebuilding.specs.declared.rebuild_fault.Rebuild1Fault.{Rebuild1Fault as TheFault};
-ghost use Rattle.luks_header_commands.specs.Found.{search_fault_answer};
+ghost use Rattle.luks_header_commands.specs.Searching.{search_fault_answer, IsSearchedRest, SearchedAnswer, SeeksLuks1};
 ghost use Rattle.luks_header_commands.specs.Target.{pair_of};
-ghost use Rattle.luks_header_commands.specs.Trying.{IsSoughtRest, SearchedAnswer};
+ghost use Rattle.luks_request.specs.declared.rebuilding.Meant.TheVariants.{Either};
 
 use crate::header_work::READING_FAILED;
-use crate::of_fields::not_of_fields;
-use crate::of_found::make_of_header;
 use crate::progress::{DerivationProgress, Progress};
-use crate::trying::{Trying, make_opened};
-use luks_commands::{Answer, Status, device_fault};
-use luks_reading::Device;
-use luks_searching::{Change1, Found1, SearchFault, Tally, search1};
+use crate::searching1::make_searched1;
+use crate::searching2::make_searched2;
+use crate::trying::Trying;
+use luks_commands::{Answer, Refusal, Status, device_fault};
+use luks_reading::{Device, DeviceFault};
+use luks_rebuilding::RebuildFault;
+use luks_request::Meant;
+use luks_searching::{SearchFault, Tally};
 use luks1_header::fields::u16_at;
-use luks1_rebuilding::{Given, first_bytes};
+use luks1_header::luks1_places::{SIZE, VERSION};
+use luks1_rebuilding::Given;
 use std::alloc::Global;
 use std::io::Write;
 
-/// A keyslot that is in use is derived at most so often: as it stands, with each bit turned of the digest, of the
-/// fields before the keyslots that are searched, and of its entry.
-const EACH: u32 = 1 + 160 + 320 + 384;
-
-/// Where the entries of the keyslots begin, and how long each is, in bytes.
-const ENTRIES: usize = 208;
-
-const ENTRY: usize = 48;
-
-/// The word of a keyslot that is in use.
-const ENABLED: u32 = 0x00ac71f3;
-
-/// Makes a header on the target with the first combination that opens a keyslot; where none does, of one that is
-/// near to what stands and opens one.
+/// Seeks a header by which the passphrase opens a keyslot, and makes it on the target.
 pub(crate) fn make_searched<D: Device, E: Write, G: Progress + DerivationProgress>(
     alloc: Global,
     volume: &mut D,
     target: &mut D,
     trying: &Trying<'_>,
     given: &Given,
+    random: &[u8],
     err: &mut E,
     progress: &mut G,
 ) -> Answer
@@ -50,133 +38,73 @@ pub(crate) fn make_searched<D: Device, E: Write, G: Progress + DerivationProgres
     requires settled { D.tells → IsSettled D.unsettled target.old }
     ensures unchanged { IsUnchanged D.tells D.size D.bytes D.unsettled volume.old volume.new }
     ensures size { D.size target.new ≡ D.size target.old }
-    ensures rest { D.tells → IsSoughtRest true given.now trying.now.passphrase.now
+    ensures rest { D.tells → IsSearchedRest trying.now.rebuilding given.now trying.now.passphrase.now
         (D.bytes volume.old) (D.bytes target.old) (D.bytes target.new) }
     ensures settled { D.tells → D.failed volume.new ≡ D.failed volume.old
         → D.failed target.new ≡ D.failed target.old → IsSettled D.unsettled target.new }
     ensures kinds { answer_status result ≢ Status.NotInStep }
-    ensures answers { SearchedAnswer D.tells given.now trying.now.passphrase.now (pair_of D.size
-        D.bytes D.failed volume.old volume.new target.old target.new) result }
+    ensures answers { SearchedAnswer D.tells trying.now.rebuilding given.now
+        trying.now.passphrase.now random.now (pair_of D.size D.bytes
+        D.failed volume.old volume.new target.old target.new) result }
 {
-    match make_opened(alloc, volume, target, trying, given, err, progress) {
-        Answer::NoneOpens => make_near(alloc, volume, target, trying, given, err, progress),
-        answer => answer,
+    let meant = trying.rebuilding.meant();
+    match seeks_luks1(meant, volume) {
+        Ok(true) => make_searched1(alloc, volume, target, trying, given, err, progress),
+        Ok(false) => make_searched2(alloc, volume, target, trying, random, err, progress),
+        Err(DeviceFault) => device_fault(trying.files.volume, READING_FAILED, err),
     }
 }
 
-/// Makes a header on the target of one that is near to what stands, where no combination opens a keyslot.
-fn make_near<D: Device, E: Write, G: DerivationProgress>(
-    alloc: Global,
-    volume: &mut D,
-    target: &mut D,
-    trying: &Trying<'_>,
-    given: &Given,
-    err: &mut E,
-    progress: &mut G,
-) -> Answer
-    requires volume_room { D.failed volume.old + 1 < 2 ^ 64 }
-    requires target_room { D.failed target.old + 1 < 2 ^ 64 }
-    requires settled { D.tells → IsSettled D.unsettled target.old }
-    requires faultless { D.tells → (f : TheFault)
-        → IsTrialFault (D.bytes volume.old) given.now f → ⊥ }
-    requires shut { D.tells
-        → OpensNoneBelow (D.bytes volume.old) given.now trying.now.passphrase.now 64 }
+/// Whether a LUKS1 header is sought, by what is meant and, where either may be, by the volume's version.
+fn seeks_luks1<D: Device>(meant: Meant, volume: &mut D) -> Result<bool, DeviceFault>
+    requires { D.failed volume.old + 1 < 2 ^ 64 }
     ensures unchanged { IsUnchanged D.tells D.size D.bytes D.unsettled volume.old volume.new }
-    ensures size { D.size target.new ≡ D.size target.old }
-    ensures rest { D.tells → IsSoughtRest true given.now trying.now.passphrase.now
-        (D.bytes volume.old) (D.bytes target.old) (D.bytes target.new) }
-    ensures settled { D.tells → D.failed volume.new ≡ D.failed volume.old
-        → D.failed target.new ≡ D.failed target.old → IsSettled D.unsettled target.new }
-    ensures kinds { answer_status result ≢ Status.NotInStep }
-    ensures answers { SearchedAnswer D.tells given.now trying.now.passphrase.now (pair_of D.size
-        D.bytes D.failed volume.old volume.new target.old target.new) result }
+    ensures count { CountsFailure is_failure result (D.failed volume.old) (D.failed volume.new) }
+    ensures seeks { D.tells → IfOk result
+        (λ is. IsTrue is ↔ SeeksLuks1 meant (D.bytes volume.old)) }
 {
-    let files = trying.files;
-    let header = match first_bytes(volume) {
-        Ok(header) => header,
-        Err(fault) => return not_of_fields(fault, files.volume, READING_FAILED, files, err),
-    };
-    let mut tally = Tally::new(most_derivations(&header));
-    let searched = search1(
-        alloc,
-        volume,
-        given,
-        trying.passphrase,
-        &mut tally,
-        progress,
-    );
-    note_derivations(&tally, err);
-    match searched {
-        Ok(Some(found)) => {
-            note_found(&found, err);
-            make_of_header(volume, target, files, &found.header, given, err)
-        }
-        Ok(None) => Answer::NoneOpens,
-        Err(fault) => not_searched(fault, files.volume, err),
+    match meant {
+        Meant::Luks1 => Ok(true),
+        Meant::Luks2 => Ok(false),
+        Meant::Either => has_version1(volume),
     }
 }
 
-/// How many derivations the search makes at most, by the states of the keyslots: those of each that is in use, and one
-/// of each that a turned bit brings into use.
-fn most_derivations(header: &[u8; 592]) -> u32 {
-    let mut most: u32 = 0;
-    for n in 0..8 {
-        most = most.saturating_add(derivations_of(state_of(header, n)));
-    }
-    most
-}
-
-/// Those of a keyslot in this state.
-fn derivations_of(state: u32) -> u32 {
-    match (state ^ ENABLED).count_ones() {
-        0 => EACH,
-        1 => 1,
-        _ => 0,
-    }
-}
-
-/// The word that says whether the keyslot `n` is in use.
-fn state_of(header: &[u8; 592], n: usize) -> u32
-    requires { n < 8 }
+/// Whether the volume has room for a LUKS1 header, and its version.
+fn has_version1<D: Device>(volume: &mut D) -> Result<bool, DeviceFault>
+    requires { D.failed volume.old + 1 < 2 ^ 64 }
+    ensures unchanged { IsUnchanged D.tells D.size D.bytes D.unsettled volume.old volume.new }
+    ensures count { CountsFailure is_failure result (D.failed volume.old) (D.failed volume.new) }
+    ensures version { D.tells → IfOk result
+        (λ is. IsTrue is ↔ SeeksLuks1 Either (D.bytes volume.old)) }
 {
-    let at = ENTRIES + ENTRY * n;
-    let (high, low) = (u16_at(header, at), u16_at(header, at + 2));
-    u32::from(high) << 16 | u32::from(low)
+    if volume.len() < SIZE as u64 {
+        return Ok(false);
+    }
+    let mut head = [0; 592];
+    volume.read_at(0, &mut head)?;
+    Ok(u16_at(head.as_slice(), VERSION) == 1)
 }
 
-/// What is answered where this fault ended the search. That as many derivations were made as may be can't come, since all
-/// that there is to try takes no more.
-fn not_searched<E: Write>(fault: SearchFault, volume: &str, err: &mut E) -> Answer
+/// What is answered where this fault ended a search.
+pub(crate) fn not_searched<E: Write>(fault: SearchFault, volume: &str, err: &mut E) -> Answer
     ensures { result ≡ search_fault_answer fault }
 {
     match fault {
         SearchFault::Device => device_fault(volume, READING_FAILED, err),
-        SearchFault::Memory | SearchFault::Spent => Answer::NoMemory,
+        SearchFault::Memory => Answer::NoMemory,
+        SearchFault::Spent => {
+            let _ = writeln!(
+                err,
+                "luks: as many derivations were made as may be: not all was tried"
+            );
+            Answer::Refused(Refusal::Rebuild(RebuildFault::NoMetadata))
+        }
     }
 }
 
-/// Says how many derivations the search has made.
-fn note_derivations<E: Write>(tally: &Tally, err: &mut E) {
+/// Says how many derivations a search has made.
+pub(crate) fn note_derivations<E: Write>(tally: &Tally, err: &mut E) {
     let (done, most) = (tally.done(), tally.most());
     let _ = writeln!(err, "luks: {done} derivations were made, of at most {most}");
-}
-
-/// Says by which change which keyslot opens.
-fn note_found<E: Write>(found: &Found1, err: &mut E) {
-    let slot = found.slot;
-    let _ = match found.change {
-        Change1::Nothing => writeln!(err, "luks: keyslot {slot} opens by what stands"),
-        Change1::Bit { place, bit } => {
-            writeln!(
-                err,
-                "luks: keyslot {slot} opens with bit {bit} of byte {place} turned"
-            )
-        }
-        Change1::Digest { bits } => {
-            writeln!(
-                err,
-                "luks: keyslot {slot} opens with {bits} bits of the digest turned"
-            )
-        }
-    };
 }

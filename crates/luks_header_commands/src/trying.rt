@@ -1,5 +1,5 @@
 //! A LUKS1 header that a passphrase opens: what isn't given of its fields is tried until a keyslot does.
-ghost use Rattle.std.specs.Prelude.{◌≡◌, ◌≢◌, ◌+◌, ◌<◌, ◌^◌, IfErr, refl};
+ghost use Rattle.std.specs.Prelude.{◌≡◌, ◌≢◌, ◌+◌, ◌<◌, ◌≤◌, ◌^◌, length, IfErr, refl};
 ghost use Rattle.std.proofs.Common.{inl};
 ghost use Rattle.std.specs.Result.{ForOk};
 ghost use Rattle.luks_area.specs.Device.{IsSettled, IsUnchanged};
@@ -7,8 +7,9 @@ ghost use Rattle.luks_commands.specs.Answer.{answer_status};
 ghost use Rattle.luks_commands.specs.Files.{AreFirstBytes, IsLong, IsUnread, IsUnreadRandom, IsWhole, KeepsVolume};
 ghost use Rattle.luks_commands.specs.Beside.{AreOneFile, IsSameFile, LeavesTarget, SettlesTarget};
 ghost use Rattle.luks_header_commands.specs.Target.{pair_of};
-ghost use Rattle.luks_header_commands.specs.Trying.{IsSoughtRest, IsTriedAnswer, IsTriedRest, IsWithPassphrase};
-ghost use Rattle.luks_header_commands.specs.Trying.{KeepsTried, TriedAnswer, TriedBy};
+ghost use Rattle.luks_header_commands.specs.Tried.{IsTriedRest, TriedAnswer};
+ghost use Rattle.luks_header_commands.specs.Trying.{IsRestBy, IsTriedAnswer, IsWithPassphrase};
+ghost use Rattle.luks_header_commands.specs.Trying.{KeepsTried, TriedBy};
 
 use crate::header_work::{HeaderFiles, HeaderWork, READING_FAILED, make_header};
 use crate::of_fields::{make_of_fields, not_of_fields};
@@ -98,24 +99,25 @@ pub(crate) struct Trying<'a> {
     pub(crate) rebuilding: Rebuilding<'a>,
     /// The passphrase.
     pub(crate) passphrase: &'a [u8],
+    ghost short: { length passphrase.now ≤ 65536 },
 }
 
 impl HeaderWork for Trying<'_> {
     ghost keeps_rest = { λ work. KeepsTried work.rebuilding (λ words. words ≡ work.passphrase.now) };
 
-    ghost may_answer = { λ work tells random d a. IsTriedAnswer tells work.rebuilding work.passphrase.now d a };
+    ghost may_answer = { λ work tells random d a. IsTriedAnswer tells work.rebuilding work.passphrase.now random d a };
 
     fn run<D: Device, E: Write, G: Progress + SearchProgress + DerivationProgress>(
         &self,
         alloc: Global,
         volume: &mut D,
         target: &mut D,
-        _random: &[u8],
+        random: &[u8],
         err: &mut E,
         progress: &mut G,
     ) -> Answer {
         let given = given_of(&self.rebuilding);
-        let answer = make_sought(alloc, volume, target, self, &given, err, progress);
+        let answer = make_by(alloc, volume, target, self, &given, random, err, progress);
         note_unopened(&answer, self.passphrase, err);
         answer
     }
@@ -123,13 +125,14 @@ impl HeaderWork for Trying<'_> {
     ghost rest_of_same = { λ work volume target. inl refl };
 }
 
-/// Makes a header on the target by the combinations, or also by what is near to what stands.
-fn make_sought<D: Device, E: Write, G: Progress + DerivationProgress>(
+/// Makes a header on the target by the combinations, or where what is damaged is sought by that, too.
+fn make_by<D: Device, E: Write, G: Progress + DerivationProgress>(
     alloc: Global,
     volume: &mut D,
     target: &mut D,
     trying: &Trying<'_>,
     given: &Given,
+    random: &[u8],
     err: &mut E,
     progress: &mut G,
 ) -> Answer
@@ -138,17 +141,17 @@ fn make_sought<D: Device, E: Write, G: Progress + DerivationProgress>(
     requires settled { D.tells → IsSettled D.unsettled target.old }
     ensures unchanged { IsUnchanged D.tells D.size D.bytes D.unsettled volume.old volume.new }
     ensures size { D.size target.new ≡ D.size target.old }
-    ensures rest { D.tells → IsSoughtRest trying.now.rebuilding.thorough given.now
+    ensures rest { D.tells → IsRestBy trying.now.rebuilding.thorough trying.now.rebuilding given.now
         trying.now.passphrase.now (D.bytes volume.old) (D.bytes target.old) (D.bytes target.new) }
     ensures settled { D.tells → D.failed volume.new ≡ D.failed volume.old
         → D.failed target.new ≡ D.failed target.old → IsSettled D.unsettled target.new }
     ensures kinds { answer_status result ≢ Status.NotInStep }
-    ensures answers { TriedBy trying.now.rebuilding.thorough D.tells given.now
-        trying.now.passphrase.now (pair_of D.size D.bytes
+    ensures answers { TriedBy trying.now.rebuilding.thorough D.tells trying.now.rebuilding given.now
+        trying.now.passphrase.now random.now (pair_of D.size D.bytes
         D.failed volume.old volume.new target.old target.new) result }
 {
     if trying.rebuilding.thorough {
-        make_searched(alloc, volume, target, trying, given, err, progress)
+        make_searched(alloc, volume, target, trying, given, random, err, progress)
     } else {
         make_opened(alloc, volume, target, trying, given, err, progress)
     }

@@ -1,6 +1,6 @@
 use Rattle.std.proofs.Common.{refl, sym, subst}
 use Rattle.luks1_rebuilding.specs.RebuildFaults.{is_rebuild_failure}
-use Rattle.luks_header_commands.specs.Found.{IsHeadedAnswer}
+use Rattle.luks_header_commands.specs.FoundHeader.{IsHeadedAnswer}
 use Rattle.luks_header_commands.proofs.SearchingFacts.{answers_making}
 use Rattle.luks_commands.proofs.BesideFacts.{settled_by}
 use Rattle.luks_header_commands.proofs.of_found.make_of_header.Goals as goal

@@ -11,10 +11,8 @@ use Rattle.luks1_rebuilding.specs.KeyAreas.{HasKeptArea}
 use Rattle.luks1_rebuilding.specs.Outcome.{IsAnsweredMaking, IsMakeable}
 use Rattle.luks1_rebuilding.specs.Rebuilt.{IsOfRebuilt}
 use Rattle.luks1_rebuilding.specs.declared.rebuild_fault.Rebuild1Fault.TheVariants as fault1
-use Rattle.luks_searching.specs.declared.fault.SearchFault.{SearchFault}
-use Rattle.luks_searching.specs.declared.fault.SearchFault.TheVariants as search
 use Rattle.luks_commands.specs.declared.answers.Answer.{Answer}
-use Rattle.luks_commands.specs.declared.answers.Answer.TheVariants.{Done, Refused, DeviceFault, NoMemory}
+use Rattle.luks_commands.specs.declared.answers.Answer.TheVariants.{Done, Refused, DeviceFault}
 use Rattle.luks_commands.specs.declared.answers.Refusal.TheVariants.{Rebuild1}
 use Rattle.luks_header_commands.specs.Rebuilding.{IsNewHeader1}
 use Rattle.luks_header_commands.specs.Target.{NoneFailed, Pair}
@@ -52,9 +50,3 @@ pub record OpensMade (new p : List ℕ) (n : ℕ) : Type 0 where
 abbrev pub OpensWhereDone : Answer → List ℕ → List ℕ → ℕ → Type 0
 OpensWhereDone (Done slot) new p n = OpensMade new p n
 OpensWhereDone a new p n = ⊤
-
--- what is answered where a search is broken off
-abbrev pub search_fault_answer : SearchFault → Answer
-search_fault_answer search.Device = DeviceFault
-search_fault_answer search.Memory = NoMemory
-search_fault_answer search.Spent = NoMemory
