@@ -10,6 +10,7 @@ ghost use Rattle.luks_searching.specs.Metadata.{AddsNone, IsMetaOf};
 
 use crate::copies::text_end;
 use crate::found::{Change2, Found2};
+use crate::turning::turned;
 use luks_area::Device;
 use luks_meta::Meta;
 use luks_rebuilding::Place;
@@ -92,13 +93,11 @@ fn by_bits_at<D: Device, P: Progress>(
         json.old (turned json.old at bit))) }
 {
     for bit in 0..8 {
-        let turned = turned_meta(alloc, json, at, bit)?;
-        let slot = first_anew(alloc, source, standing, &turned, trying, tally, progress)?;
+        let meta = turned_meta(alloc, json, at, bit)?;
+        let slot = first_anew(alloc, source, standing, &meta, trying, tally, progress)?;
         if let Some(slot) = slot {
-            let mut found = json.to_vec(alloc)?;
-            found[at] ^= 1 << bit;
             return Ok(Some(Found2 {
-                json: found,
+                json: turned(alloc, json, at, bit)?,
                 place,
                 slot,
                 change: Change2::Bit { place: at, bit },
@@ -124,7 +123,7 @@ fn turned_meta(
 {
     let byte = json[at];
     json[at] = byte ^ (1 << bit);
-    let turned = meta_of(alloc, json);
+    let meta = meta_of(alloc, json);
     json[at] = byte;
-    turned
+    meta
 }

@@ -6,11 +6,12 @@ ghost use Rattle.luks_meta.specs.Content.{content};
 ghost use Rattle.luks_reading.specs.PlanAnswers.{IsOpenable};
 ghost use Rattle.luks_searching.specs.Faults.{is_search_failure, IsCutShort};
 ghost use Rattle.luks_searching.specs.Tallies.{Counts};
-ghost use Rattle.luks2_searching.specs.Digests.{few_bits, AreTurned, IsNear};
+ghost use Rattle.luks2_searching.specs.Digests.{few_bits, AreTurned, IsNear, IsNearer};
 ghost use Rattle.luks2_searching.specs.Found.{IsFoundIn};
 
 use crate::found::Found2;
 use crate::replacing::with_digest;
+use crate::turning::turned;
 use luks_area::Device;
 use luks_meta::Meta;
 use luks_reading::luks2_plan;
@@ -140,23 +141,43 @@ fn turned_digest<D: Device, P: Progress>(
     ensures turned { IfOk result (λ found. IfSome found
         (λ it. AreTurned it.1 plan.now.digest.stored.now it.0.items)) }
 {
-    let mut mended = plan.digest.stored.to_vec(alloc)?;
-    let mut times = 0;
-    let mut left = bits;
-    for number in 0..8 * mended.len() {
-        let mut changed = mended.to_vec(alloc)?;
-        changed[number / 8] ^= 1 << (number % 8);
-        match distance_with(alloc, source, plan, &changed, trying, tally, progress)? {
-            Some(0) => return Ok(Some((changed, times + 1))),
-            Some(fewer) if fewer < left => {
-                mended = changed;
-                times += 1;
-                left = fewer;
-            }
-            _ => {}
+    let mut mended = Mended {
+        digest: plan.digest.stored.to_vec(alloc)?,
+        times: 0,
+        left: bits,
+    };
+    for number in 0..8 * plan.digest.stored.len() {
+        let changed = turned(alloc, &mended.digest, number / 8, (number % 8) as u8)?;
+        let distance = distance_with(alloc, source, plan, &changed, trying, tally, progress)?;
+        if distance == Some(0) {
+            return Ok(Some((changed, mended.times + 1)));
         }
+        mended = nearer(mended, changed, distance);
     }
     Ok(None)
+}
+
+/// A digest on the way to that which the key gives.
+#[derive(Drop)]
+pub(crate) struct Mended {
+    digest: Vec<u8>,
+    times: u32,
+    left: u32,
+}
+
+/// The digest that differs in so many bits, if these are fewer, else the one before.
+fn nearer(before: Mended, digest: Vec<u8>, distance: Option<u32>) -> Mended
+    requires { before.times + before.left ≤ few_bits }
+    ensures { IsNearer before digest.items distance result }
+{
+    match distance {
+        Some(left) if left < before.left => Mended {
+            digest,
+            times: before.times + 1,
+            left,
+        },
+        _ => before,
+    }
 }
 
 /// In how many bits the digest differs by which a keyslot of this plan would open, if these were the digest's bytes.

@@ -12,7 +12,6 @@ ghost use Rattle.luks_searching.specs.Metadata.{OpensAt};
 
 use crate::digest::NearDigest;
 use crate::found::{Change2, Found2};
-use base64::engine::Engine;
 use base64::engine::general_purpose::STANDARD;
 use luks_area::Device;
 use luks_meta::Meta;
@@ -48,7 +47,7 @@ pub(crate) fn with_digest<D: Device, P: Progress>(
     let old = base64_text(alloc, &near.stood)?;
     let new = base64_text(alloc, &near.digest)?;
     for at in 0..json.len() {
-        if let Some(changed) = replaced(alloc, json, at, old.as_bytes(), new.as_bytes())? {
+        if let Some(changed) = replaced(alloc, json, at, old.as_slice(), new.as_slice())? {
             let digest = near.digest.as_slice();
             if opens_with(alloc, source, &changed, n, digest, trying, tally, progress)? {
                 return Ok(Some(Found2 {
@@ -98,7 +97,7 @@ fn stands_at(json: &[u8], at: usize, text: &[u8]) -> bool
     ensures stands { result ≡ true → part json.now at (length text.now) ≡ text.now }
 {
     let rest = &json[at..];
-    text.len() <= rest.len() && rest[..text.len()] == *text
+    text.len() <= rest.len() && &rest[..text.len()] == text
 }
 
 /// Whether the keyslot `n` opens by the area, and its digest is this one.

@@ -6,6 +6,7 @@ ghost use Rattle.luks_meta.specs.Content.{content};
 ghost use Rattle.luks_slot.specs.declared.allowed.Allowed.{Allowed as TheAllowed};
 ghost use Rattle.luks_searching.specs.Faults.{is_search_failure, IsCutShort};
 ghost use Rattle.luks_searching.specs.Tallies.{Counts};
+ghost use Rattle.luks_searching.specs.Trials.{IsOpenedPlan};
 ghost use Rattle.luks_searching.specs.Metadata.{AddsNone, IsMetaOf, OpensAt};
 
 use crate::alike::is_alike;
@@ -15,6 +16,7 @@ use crate::trial2::{Trying, opens};
 use luks_area::Device;
 use luks_meta::Meta;
 use luks_reading::luks2_plan;
+use luks_slot::SlotPlan;
 use std::alloc::Global;
 
 /// The first keyslot that opens by this metadata, if there is some, of those that it tells otherwise than what stands.
@@ -107,17 +109,27 @@ fn tells_alike(standing: &Meta, meta: &Meta, n: u8) -> bool
         → IsMeta old (content standing.now) → IsMeta new (content meta.now)
         → OpensAt allowed v p new n → OpensAt allowed v p old n }
 {
-    let Some(old) = standing.keyslot(n) else {
+    let Some(keyslot) = meta.keyslot(n) else {
         return false;
     };
-    let Some(new) = meta.keyslot(n) else {
+    let number = meta.digest_of_keyslot(n).unwrap();
+    let digest = meta.digest(number).unwrap();
+    let plan = luks2_plan(&keyslot, &digest);
+    tells_plan(standing, &plan, n)
+}
+
+/// Whether it tells of the keyslot `n` what this plan says.
+fn tells_plan(standing: &Meta, plan: &SlotPlan<'_>, n: u8) -> bool
+    requires { n < 32 }
+    ensures { result ≡ true → (allowed : TheAllowed) (v p old : List ℕ)
+        → IsMeta old (content standing.now) → IsOpenedPlan allowed plan.now v p
+        → OpensAt allowed v p old n }
+{
+    let Some(keyslot) = standing.keyslot(n) else {
         return false;
     };
-    let old_number = standing.digest_of_keyslot(n).unwrap();
-    let old_digest = standing.digest(old_number).unwrap();
-    let new_number = meta.digest_of_keyslot(n).unwrap();
-    let new_digest = meta.digest(new_number).unwrap();
-    let old_plan = luks2_plan(&old, &old_digest);
-    let new_plan = luks2_plan(&new, &new_digest);
-    is_alike(&old_plan, &new_plan)
+    let number = standing.digest_of_keyslot(n).unwrap();
+    let digest = standing.digest(number).unwrap();
+    let standing_plan = luks2_plan(&keyslot, &digest);
+    is_alike(&standing_plan, plan)
 }
