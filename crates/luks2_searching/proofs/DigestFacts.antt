@@ -2,7 +2,7 @@
 use Rattle.std.proofs.Common.{◌≡◌, ℕ, ◌+◌, ◌<◌, ◌≤◌, List, length, Option, Some, add-one, inl, inr, ap, sym, subst, ◌∙◌, arith}
 use Rattle.std.proofs.lemmas.Bool.{cases_eq}
 use Rattle.std.proofs.lemmas.List.{length-set}
-use Rattle.luks_searching.specs.Turned.{turned}
+use Rattle.luks_trials.specs.Turned.{turned}
 use Rattle.luks2_searching.specs.Digests.{AreTurned, IsNearer, IsTurnedOnce, IsUnderWay}
 use Rattle.luks2_searching.specs.declared.digest.Mended.{Mended}
 

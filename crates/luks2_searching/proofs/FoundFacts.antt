@@ -1,13 +1,14 @@
 -- What is found in one area is found in the volume.
-use Rattle.std.proofs.Common.{◌≡◌, ◌⊎◌, ℕ, ◌-◌, List, length, inl, inr, refl, sym, ap, subst, ◌∙◌}
+use Rattle.std.proofs.Common.{◌≡◌, ◌⊎◌, ℕ, ◌+◌, ◌-◌, List, length, inl, inr, sym, ap, subst, ◌∙◌, arith}
 use Rattle.luks2_header.specs.Sizes.{IsListed}
+use Rattle.luks2_header.proofs.CopyFacts.{listed_at_least}
 use Rattle.luks_rebuilding.specs.Candidates.{IsBegun, IsPlace}
 use Rattle.luks_rebuilding.specs.Found.{place_of}
 use Rattle.luks_rebuilding.specs.declared.place.Half.TheVariants.{First, Second}
 use Rattle.luks_rebuilding.specs.declared.place.Place.{Place}
 use Rattle.luks_slot.specs.declared.allowed.Allowed.{Allowed}
-use Rattle.luks_searching.specs.Metadata.{OpensAt}
-use Rattle.luks2_searching.specs.Found.{area_of, HasNone2, HasNoneBy, HasNoneTurned, IsChanged2, IsFound2, IsFoundIn, IsFoundMixed, IsNear2, IsOfBoth}
+use Rattle.luks_trials.specs.Metadata.{OpensAt}
+use Rattle.luks2_searching.specs.Found.{area_of, HasNone2, HasNoneBy, HasNoneTurned, IsChanged2, IsFound2, IsFoundIn, IsFoundMixed, IsNear2, IsOfBoth, IsThere}
 use Rattle.luks2_searching.specs.declared.found.Change2.{Change2}
 use Rattle.luks2_searching.specs.declared.found.Change2.TheVariants as change
 use Rattle.luks2_searching.specs.declared.found.Found2.{Found2}
@@ -20,27 +21,38 @@ near_changed v place n (change.Digest bits) new x = x
 near_changed v place n change.Mixed new x = absurd x
 near_changed v place n (change.Fragments keyslot digest segment) new x = absurd x
 
+-- what stands at its place is as long as its area
+pub there_in : (total : ℕ) (place : Place) (json : List ℕ) (f : Found2) → IsPlace total place → length json ≡ place.size - 4096 → IsThere place json f
+    → IsPlace total f.place × (4096 + length f.json.items ≡ f.place.size)
+there_in total place json f inside long x =
+    let own : f.place.size ≡ place.size = ap (λ (q : Place). q.size) x.at in
+    let same = x.long in
+    let large = listed_at_least place.size inside.listed in
+    (subst (λ q. IsPlace total q) (sym x.at) inside, omega (arith, own, same, long, large))
+
 pub found_in : (allowed : Allowed) (v p : List ℕ) (place : Place) (json : List ℕ) (f : Found2) → IsPlace (length v) place → length json ≡ place.size - 4096
-    → json ≡ area_of v place → IsFoundIn allowed v p place json f → IsFound2 allowed v p f
-found_in allowed v p place json f inside long read x = record {
-  place = subst (λ q. IsPlace (length v) q) (sym x.there) inside;
-  long = x.long ∙ long ∙ ap (λ (q : Place). q.size - 4096) (sym x.there);
-  changed = near_changed v f.place f.slot f.change f.json.items
-      (subst (λ j. IsNear2 j f.slot f.change f.json.items) (read ∙ ap (area_of v) (sym x.there)) x.changed);
-  opens = x.opens;
-}
+    → json ≡ area_of v place → IsThere place json f → IsFoundIn allowed v p json f → IsFound2 allowed v p f
+found_in allowed v p place json f inside long read there x =
+    let both = there_in (length v) place json f inside long there in
+    record {
+      place = both.0;
+      long = both.1;
+      changed = near_changed v f.place f.slot f.change f.json.items (subst (λ j. IsNear2 j f.slot f.change f.json.items) (read ∙ ap (area_of v) (sym there.at)) x.changed);
+      opens = x.opens;
+    }
 
 pub found_mixed : (allowed : Allowed) (v p : List ℕ) (size : ℕ) (first second : List ℕ) (f : Found2) → IsPlace (length v) (place_of First size)
     → IsPlace (length v) (place_of Second size) → length first ≡ size - 4096 → first ≡ area_of v (place_of First size) → second ≡ area_of v (place_of Second size)
-    → IsFoundMixed allowed v p (place_of First size) first second f → IsFound2 allowed v p f
-found_mixed allowed v p size first second f here there long one two x =
-    let own : f.place.size ≡ size = ap (λ (q : Place). q.size) x.there in
+    → IsThere (place_of First size) first f → IsFoundMixed allowed v p first second f → IsFound2 allowed v p f
+found_mixed allowed v p size first second f here behind long one two there x =
+    let own : f.place.size ≡ size = ap (λ (q : Place). q.size) there.at in
+    let both = there_in (length v) (place_of First size) first f here long there in
     record {
-      place = subst (λ q. IsPlace (length v) q) (sym x.there) here;
-      long = x.long ∙ long ∙ ap (λ (n : ℕ). n - 4096) (sym own);
+      place = both.0;
+      long = both.1;
       changed = subst (λ c. IsChanged2 v f.place f.slot c f.json.items) (sym x.changed) (record {
-        first = x.there ∙ ap (place_of First) (sym own);
-        second = subst (λ n. IsPlace (length v) (place_of Second n)) (sym own) there;
+        first = there.at ∙ ap (place_of First) (sym own);
+        second = subst (λ n. IsPlace (length v) (place_of Second n)) (sym own) behind;
         composed = subst (λ n. IsOfBoth (area_of v (place_of First n)) (area_of v (place_of Second n)) f.json.items) (sym own)
             (subst (λ j. IsOfBoth j (area_of v (place_of Second size)) f.json.items) one (subst (λ j. IsOfBoth first j f.json.items) two x.composed));
       });

@@ -12,7 +12,7 @@ use Rattle.luks_meta.specs.Says.{member_at}
 use Rattle.luks_rules.specs.declared.table.Member.TheVariants as name
 use Rattle.luks_rules.specs.declared.table.Outer.TheVariants as outer
 use Rattle.luks_rules.specs.declared.table.Section.TheVariants.{Digests}
-use Rattle.luks_searching.specs.Turned.{turned}
+use Rattle.luks_trials.specs.Turned.{turned}
 use Rattle.luks2_searching.specs.declared.digest.Mended.{Mended}
 use Rattle.luks2_searching.specs.declared.digest.NearDigest.{NearDigest}
 

@@ -4,10 +4,10 @@ ghost use Rattle.luks_area.specs.Device.{CountsFailure, IsUnchanged};
 ghost use Rattle.luks_meta.specs.Accepted.{IsMeta};
 ghost use Rattle.luks_meta.specs.Content.{content};
 ghost use Rattle.luks_reading.specs.PlanAnswers.{IsOpenable};
-ghost use Rattle.luks_searching.specs.Faults.{is_search_failure, IsCutShort};
-ghost use Rattle.luks_searching.specs.Tallies.{Counts};
+ghost use Rattle.luks_trials.specs.Faults.{is_search_failure, IsCutShort};
+ghost use Rattle.luks_trials.specs.Tallies.{Counts};
 ghost use Rattle.luks2_searching.specs.Digests.{few_bits, AreTurned, IsNear, IsNearer};
-ghost use Rattle.luks2_searching.specs.Found.{IsFoundIn};
+ghost use Rattle.luks2_searching.specs.Found.{IsFoundIn, IsThere};
 
 use crate::found::Found2;
 use crate::replacing::with_digest;
@@ -16,8 +16,8 @@ use luks_area::Device;
 use luks_meta::Meta;
 use luks_reading::luks2_plan;
 use luks_rebuilding::Place;
-use luks_searching::{Progress, SearchFault, Tally, Trying, try_plan};
 use luks_slot::{DigestPlan, SlotPlan};
+use luks_trials::{Progress, SearchFault, Tally, Trying, try_plan};
 use std::alloc::Global;
 
 /// The area with the digest that the key of the keyslot `n` gives, where it differs from the one that stands in `bits`
@@ -45,8 +45,9 @@ pub(crate) fn mended_digest<D: Device, P: Progress>(
         (D.failed source.old) (D.failed source.new) }
     ensures counts { Counts tally.old tally.new }
     ensures cut { IfErr result (IsCutShort tally.new) }
+    ensures there { IfOk result (λ found. IfSome found (IsThere place json.now)) }
     ensures found { D.tells → IfOk result (λ found. IfSome found (IsFoundIn trying.now.allowed
-        (D.bytes source.old) trying.now.passphrase.now place json.now)) }
+        (D.bytes source.old) trying.now.passphrase.now json.now)) }
 {
     match near_digest(alloc, source, meta, n, bits, trying, tally, progress)? {
         Some(near) => with_digest(

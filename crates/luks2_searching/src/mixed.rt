@@ -1,17 +1,17 @@
 //! The search in compositions of the bytes of both copies' JSON areas.
 ghost use Rattle.std.specs.Prelude.{◌≡◌, ◌+◌, ◌^◌, ◌<◌, ◌≤◌, ℕ, List, length, slice_index, slice_set, IfErr, IfNone, IfOk, IfSome};
 ghost use Rattle.luks_area.specs.Device.{CountsFailure, IsUnchanged};
-ghost use Rattle.luks_searching.specs.Faults.{is_search_failure, IsCutShort};
-ghost use Rattle.luks_searching.specs.Tallies.{Counts};
-ghost use Rattle.luks2_searching.specs.Found.{IsFoundMixed, IsOfBoth};
-ghost use Rattle.luks_searching.specs.Metadata.{AddsNone};
+ghost use Rattle.luks_trials.specs.Faults.{is_search_failure, IsCutShort};
+ghost use Rattle.luks_trials.specs.Tallies.{Counts};
+ghost use Rattle.luks2_searching.specs.Found.{IsFoundMixed, IsOfBoth, IsThere};
+ghost use Rattle.luks_trials.specs.Metadata.{AddsNone};
 ghost use Rattle.luks2_searching.specs.Mixed.{few_bytes, mixed, AreAllOf, AreInside, DifferAt};
 
 use crate::found::{Change2, Found2};
 use arrayvec::ArrayVec;
 use luks_area::Device;
 use luks_rebuilding::Place;
-use luks_searching::{Progress, SearchFault, Tally, Trying, first_anew, meta_of};
+use luks_trials::{Progress, SearchFault, Tally, Trying, first_anew, meta_of};
 use std::alloc::{AllocError, Global};
 
 /// The first composition of the bytes of two JSON areas by which a keyslot opens that doesn't by the first one: none
@@ -35,8 +35,9 @@ pub(crate) fn by_mixing<D: Device, P: Progress>(
         (D.failed source.old) (D.failed source.new) }
     ensures counts { Counts tally.old tally.new }
     ensures cut { IfErr result (IsCutShort tally.new) }
+    ensures there { IfOk result (λ found. IfSome found (IsThere place first.now)) }
     ensures found { D.tells → IfOk result (λ found. IfSome found (IsFoundMixed trying.now.allowed
-        (D.bytes source.old) trying.now.passphrase.now place first.now second.now)) }
+        (D.bytes source.old) trying.now.passphrase.now first.now second.now)) }
     ensures none { D.tells → IfOk result (λ found. IfNone found ((new : List ℕ)
         → IsOfBoth first.now second.now new → AddsNone trying.now.allowed
         (D.bytes source.old) trying.now.passphrase.now first.now new)) }

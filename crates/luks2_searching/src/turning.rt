@@ -1,6 +1,6 @@
 //! Bytes of which one bit is turned.
 ghost use Rattle.std.specs.Prelude.{◌≡◌, ◌<◌, length, IfOk};
-ghost use Rattle.luks_searching.specs.Turned.{turned};
+ghost use Rattle.luks_trials.specs.Turned.{turned};
 
 use std::alloc::{AllocError, Global};
 

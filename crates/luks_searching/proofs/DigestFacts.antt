@@ -2,7 +2,7 @@
 use Rattle.std.proofs.Common.{◌≡◌, ℕ, suc, ◌+◌, ◌/◌, ◌%◌, ◌<◌, ◌≤◌, List, Option, Some, add-one, inl, inr, ap, sym, subst, ◌∙◌, arith}
 use Rattle.std.proofs.lemmas.Bool.{cases_eq}
 use Rattle.luks_searching.specs.Found1.{IsNearer, IsTurnedOnce, IsTurnedTimes, IsUnderWay}
-use Rattle.luks_searching.specs.Turned.{turned}
+use Rattle.luks_trials.specs.Turned.{turned}
 use Rattle.luks_searching.specs.declared.digest1.Mended.{Mended}
 
 pub turned_once : (mid new : List ℕ) (number : ℕ) → number < 160 → new ≡ turned mid (112 + number / 8) (number % 8) → IsTurnedOnce mid new

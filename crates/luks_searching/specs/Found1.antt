@@ -5,7 +5,7 @@ use Rattle.luks1_mending.specs.declared.given.Given.{Given}
 use Rattle.luks1_rebuilding.specs.KeyAreas.{header_of}
 use Rattle.luks_searching.specs.Fields1.{IsOfField, IsSearched}
 use Rattle.luks_searching.specs.Headed.{OpensHeaded}
-use Rattle.luks_searching.specs.Turned.{turned}
+use Rattle.luks_trials.specs.Turned.{turned}
 use Rattle.luks_searching.specs.declared.digest1.Mended.{Mended}
 use Rattle.luks_searching.specs.declared.fields1.Field.{Field}
 use Rattle.luks_searching.specs.declared.searching1.Change1.{Change1}

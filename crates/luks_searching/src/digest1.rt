@@ -2,16 +2,15 @@
 ghost use Rattle.std.specs.Prelude.{◌+◌, ◌^◌, ◌<◌, ◌≤◌, IfErr, IfOk, IfSome};
 ghost use Rattle.luks_area.specs.Device.{CountsFailure, IsUnchanged};
 ghost use Rattle.luks1_header.specs.Header1.{luks1_size};
-ghost use Rattle.luks_searching.specs.Faults.{is_search_failure, IsCutShort};
+ghost use Rattle.luks_trials.specs.Faults.{is_search_failure, IsCutShort};
 ghost use Rattle.luks_searching.specs.Found1.{few_bits, IsFoundOf, IsNearer};
-ghost use Rattle.luks_searching.specs.Tallies.{Counts};
+ghost use Rattle.luks_trials.specs.Tallies.{Counts};
 
-use crate::fault::SearchFault;
 use crate::searching1::{Change1, Found1};
-use crate::tally::{Progress, Tally};
 use crate::trial1::{Sought, distance};
 use crate::turning::turned;
 use luks_area::Device;
+use luks_trials::{Progress, SearchFault, Tally};
 use std::alloc::Global;
 
 /// Where the digest stands, in bytes from the header's start.

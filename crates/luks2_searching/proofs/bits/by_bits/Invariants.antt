@@ -1,8 +1,8 @@
 use Rattle.std.proofs.Common.{◌≡◌, ℕ, ◌<◌}
 use Rattle.luks_area.specs.Device.{IsUnchanged}
-use Rattle.luks_searching.specs.Metadata.{AddsNone}
-use Rattle.luks_searching.specs.Tallies.{Counts}
-use Rattle.luks_searching.specs.Turned.{turned}
+use Rattle.luks_trials.specs.Metadata.{AddsNone}
+use Rattle.luks_trials.specs.Tallies.{Counts}
+use Rattle.luks_trials.specs.Turned.{turned}
 use Rattle.luks2_searching.proofs.bits.by_bits.Given as goal
 
 -- no bit of a byte before this one, turned, opens a keyslot anew

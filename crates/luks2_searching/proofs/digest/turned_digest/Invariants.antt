@@ -1,6 +1,6 @@
 use Rattle.std.proofs.Common.{◌≡◌}
 use Rattle.luks_area.specs.Device.{IsUnchanged}
-use Rattle.luks_searching.specs.Tallies.{Counts}
+use Rattle.luks_trials.specs.Tallies.{Counts}
 use Rattle.luks2_searching.specs.Digests.{IsUnderWay}
 use Rattle.luks2_searching.proofs.digest.turned_digest.Given as goal
 

@@ -1,7 +1,7 @@
 use Rattle.std.proofs.Common.{◌≡◌, ℕ, ◌<◌}
 use Rattle.luks_area.specs.Device.{IsUnchanged}
-use Rattle.luks_searching.specs.Metadata.{AddsNone}
-use Rattle.luks_searching.specs.Tallies.{Counts}
+use Rattle.luks_trials.specs.Metadata.{AddsNone}
+use Rattle.luks_trials.specs.Tallies.{Counts}
 use Rattle.luks2_searching.specs.Mixed.{mixed}
 use Rattle.luks2_searching.proofs.mixed.by_mixing.Given as goal
 

@@ -1,6 +1,6 @@
 use Rattle.std.proofs.Common.{◌≡◌, ℕ, ◌<◌, slice_index}
 use Rattle.luks_area.specs.Device.{IsUnchanged}
-use Rattle.luks_searching.specs.Tallies.{Counts}
+use Rattle.luks_trials.specs.Tallies.{Counts}
 use Rattle.luks2_searching.specs.Found.{HasNoneBy}
 use Rattle.luks2_searching.specs.declared.searching.TheConstants.{SIZES}
 use Rattle.luks2_searching.proofs.searching.by_step.Given as goal

@@ -1,7 +1,7 @@
 use Rattle.std.proofs.Common.{◌≡◌, ℕ, ◌<◌}
 use Rattle.luks_area.specs.Device.{IsUnchanged}
-use Rattle.luks_searching.specs.Metadata.{OpensAt}
-use Rattle.luks_searching.specs.Tallies.{Counts}
+use Rattle.luks_trials.specs.Metadata.{OpensAt}
+use Rattle.luks_trials.specs.Tallies.{Counts}
 use Rattle.luks2_searching.proofs.standing.as_it_stands.Given as goal
 
 -- no keyslot before this one opens

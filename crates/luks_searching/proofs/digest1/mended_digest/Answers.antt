@@ -2,7 +2,7 @@ use Rattle.std.proofs.Common.{◌≡◌, ◌+◌, ◌≤◌, ◌∙◌, Some, su
 use Rattle.luks_area.specs.Device.{unchanged-then}
 use Rattle.luks_searching.specs.Headed.{OpensHeaded}
 use Rattle.luks_searching.proofs.DigestFacts.{nearer_way, turned_more, turned_once}
-use Rattle.luks_searching.proofs.TallyFacts.{counts_then}
+use Rattle.luks_trials.proofs.TallyFacts.{counts_then}
 use Rattle.luks_searching.proofs.digest1.mended_digest.Goals as goal
 
 pub returns-then-distance-eq-clause-found : goal.returns-then-distance-eq-clause-found

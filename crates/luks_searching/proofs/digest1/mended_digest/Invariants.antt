@@ -1,7 +1,7 @@
 use Rattle.std.proofs.Common.{◌≡◌}
 use Rattle.luks_area.specs.Device.{IsUnchanged}
 use Rattle.luks_searching.specs.Found1.{IsUnderWay}
-use Rattle.luks_searching.specs.Tallies.{Counts}
+use Rattle.luks_trials.specs.Tallies.{Counts}
 use Rattle.luks_searching.proofs.digest1.mended_digest.Given as goal
 
 -- each bit that was turned has lessened the distance

@@ -16,7 +16,7 @@ pub enum SearchFault {
 
 impl From<DeviceFault> for SearchFault {
     ghost use Rattle.std.specs.Prelude.{◌≡◌};
-    ghost use Rattle.luks_searching.specs.declared.fault.SearchFault.{SearchFault};
+    ghost use Rattle.luks_trials.specs.declared.fault.SearchFault.{SearchFault};
 
     ghost from_gives = { λ _ fault. fault ≡ SearchFault.Device };
 
@@ -27,7 +27,7 @@ impl From<DeviceFault> for SearchFault {
 
 impl From<Spent> for SearchFault {
     ghost use Rattle.std.specs.Prelude.{◌≡◌};
-    ghost use Rattle.luks_searching.specs.declared.fault.SearchFault.{SearchFault};
+    ghost use Rattle.luks_trials.specs.declared.fault.SearchFault.{SearchFault};
 
     ghost from_gives = { λ _ fault. fault ≡ SearchFault.Spent };
 
@@ -38,7 +38,7 @@ impl From<Spent> for SearchFault {
 
 impl From<AllocError> for SearchFault {
     ghost use Rattle.std.specs.Prelude.{◌≡◌};
-    ghost use Rattle.luks_searching.specs.declared.fault.SearchFault.{SearchFault};
+    ghost use Rattle.luks_trials.specs.declared.fault.SearchFault.{SearchFault};
 
     ghost from_gives = { λ _ fault. fault ≡ SearchFault.Memory };
 

@@ -1,6 +1,6 @@
 -- How many derivations are counted.
 use Rattle.std.specs.Prelude.{◌≡◌, ◌≤◌, ℕ, ◌+◌, Option, Some, None}
-use Rattle.luks_searching.specs.declared.tally.Tally.{Tally}
+use Rattle.luks_trials.specs.declared.tally.Tally.{Tally}
 
 -- those that were made, and those that may be
 abbrev pub done_of : Tally → ℕ

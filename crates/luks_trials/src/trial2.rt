@@ -1,11 +1,11 @@
 //! Trying the keyslots of LUKS2 metadata.
-ghost use Rattle.std.specs.Prelude.{◌≡◌, ◌↔◌, ◌+◌, ◌^◌, ◌<◌, ℕ, List, length, Some, IfErr, IfNone, IfOk, IfSome, IsTrue};
+ghost use Rattle.std.specs.Prelude.{◌≡◌, ◌↔◌, ◌+◌, ◌^◌, ◌<◌, ℕ, List, length, Some, IfErr, IfOk, IsTrue};
 ghost use Rattle.luks_area.specs.Device.{CountsFailure, IsUnchanged};
 ghost use Rattle.luks_meta.specs.Accepted.{IsMeta};
 ghost use Rattle.luks_meta.specs.Content.{content};
-ghost use Rattle.luks_searching.specs.Faults.{is_search_failure, IsCutShort};
-ghost use Rattle.luks_searching.specs.Tallies.{Counts, CountsOne};
-ghost use Rattle.luks_searching.specs.Metadata.{OpensAt};
+ghost use Rattle.luks_trials.specs.Faults.{is_search_failure, IsCutShort};
+ghost use Rattle.luks_trials.specs.Tallies.{Counts, CountsOne};
+ghost use Rattle.luks_trials.specs.Metadata.{OpensAt};
 
 use crate::fault::SearchFault;
 use crate::tally::{Progress, Tally};
@@ -92,36 +92,4 @@ pub fn opens<D: Device, P: Progress>(
         Some(0) => Ok(true),
         _ => Ok(false),
     }
-}
-
-/// The first keyslot of this metadata that opens.
-pub fn first_opened<D: Device, P: Progress>(
-    alloc: Global,
-    source: &mut D,
-    meta: &Meta,
-    trying: &Trying<'_>,
-    tally: &mut Tally,
-    progress: &mut P,
-) -> Result<Option<u8>, SearchFault>
-    requires passphrase { 0 < trying.now.allowed.memory
-        → length trying.now.passphrase.now < 2 ^ 32 }
-    requires room { D.failed source.old + 1 < 2 ^ 64 }
-    ensures unchanged { IsUnchanged D.tells D.size D.bytes D.unsettled source.old source.new }
-    ensures count { CountsFailure is_search_failure result
-        (D.failed source.old) (D.failed source.new) }
-    ensures counts { Counts tally.old tally.new }
-    ensures cut { IfErr result (IsCutShort tally.new) }
-    ensures opens { D.tells → (json : List ℕ) → IsMeta json (content meta.now)
-        → IfOk result (λ found. IfSome found (OpensAt trying.now.allowed
-        (D.bytes source.old) trying.now.passphrase.now json)) }
-    ensures none { D.tells → (json : List ℕ) → IsMeta json (content meta.now)
-        → IfOk result (λ found. IfNone found ((n : ℕ) → OpensAt trying.now.allowed
-        (D.bytes source.old) trying.now.passphrase.now json n → ⊥)) }
-{
-    for n in 0..32 {
-        if opens(alloc, source, meta, n, trying, tally, progress)? {
-            return Ok(Some(n));
-        }
-    }
-    Ok(None)
 }

@@ -3,8 +3,8 @@ use Rattle.luks_rules.proofs.AreaFaults.{one_value}
 use Rattle.luks_meta.specs.Content.{content}
 use Rattle.luks_reading.specs.Plans.{HasLuks2Plan}
 use Rattle.luks_reading.proofs.Luks2Plans.{IsOnly}
-use Rattle.luks_searching.proofs.MetadataFacts.{opens_at}
-use Rattle.luks_searching.proofs.anew.tells_alike.Goals as goal
+use Rattle.luks_trials.proofs.MetadataFacts.{opens_at}
+use Rattle.luks_trials.proofs.anew.tells_alike.Goals as goal
 
 pub returns : goal.returns
 returns c = λ yes allowed v p old new is_old is x.

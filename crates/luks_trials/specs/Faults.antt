@@ -1,9 +1,9 @@
 -- Which faults of a search are a device's, and when it is cut short.
 use Rattle.std.specs.Prelude.{◌≡◌, ⊤, Bool, true, false}
-use Rattle.luks_searching.specs.Tallies.{done_of, most_of}
-use Rattle.luks_searching.specs.declared.fault.SearchFault.{SearchFault}
-use Rattle.luks_searching.specs.declared.fault.SearchFault.TheVariants.{Device, Memory, Spent}
-use Rattle.luks_searching.specs.declared.tally.Tally.{Tally}
+use Rattle.luks_trials.specs.Tallies.{done_of, most_of}
+use Rattle.luks_trials.specs.declared.fault.SearchFault.{SearchFault}
+use Rattle.luks_trials.specs.declared.fault.SearchFault.TheVariants.{Device, Memory, Spent}
+use Rattle.luks_trials.specs.declared.tally.Tally.{Tally}
 
 -- the fault is a device's
 abbrev pub is_search_failure : SearchFault → Bool

@@ -6,9 +6,9 @@ use Rattle.luks_rules.specs.declared.table.Section.TheVariants.{Keyslots}
 use Rattle.luks_reading.specs.Plans.{HasLuks2Plan}
 use Rattle.luks_reading.proofs.Luks2PlanNumbers.{luks2_judged}
 use Rattle.luks_reading.proofs.Luks2Plans.{IsOnly}
-use Rattle.luks_searching.proofs.HeadedFacts.{told_by}
-use Rattle.luks_searching.proofs.MetadataFacts.{opens_at}
-use Rattle.luks_searching.proofs.trial2.distance.Goals as goal
+use Rattle.luks_trials.proofs.OptionFacts.{told_by}
+use Rattle.luks_trials.proofs.MetadataFacts.{opens_at}
+use Rattle.luks_trials.proofs.trial2.distance.Goals as goal
 
 pub try_plan-requires-clause-openable : goal.try_plan-requires-clause-openable
 try_plan-requires-clause-openable g c =

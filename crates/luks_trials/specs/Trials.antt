@@ -9,8 +9,8 @@ use Rattle.luks_slot.specs.declared.plan.Derivation.{Derivation}
 use Rattle.luks_slot.specs.declared.plan.Derivation.TheVariants.{Pbkdf2, Argon2}
 use Rattle.luks_slot.specs.declared.plan.SlotPlan.{SlotPlan}
 use Rattle.luks_reading.specs.PlanAnswers.{PlanOpens}
-use Rattle.luks_searching.specs.declared.fault.SearchFault.{SearchFault}
-use Rattle.luks_searching.specs.declared.fault.SearchFault.TheVariants as search
+use Rattle.luks_trials.specs.declared.fault.SearchFault.{SearchFault}
+use Rattle.luks_trials.specs.declared.fault.SearchFault.TheVariants as search
 
 -- what a derivation may take that is tried: a number of which a high bit was turned may be any, and would hold the
 -- program for hours

@@ -23,9 +23,9 @@ use Rattle.luks_reading.proofs.Luks2Plans.{one_luks2_plan, IsOnly}
 use Rattle.luks_reading.proofs.PlanFacts.{no_pbkdf2}
 use Rattle.luks_reading.proofs.SamePlans.{same_answer, same_refusal_within, SameFields}
 use Rattle.luks_reading.specs.Plans.{HasLuks2Plan, IsLuks2Derivation, IsLuks2Plan}
-use Rattle.luks_searching.specs.Alike.{IsAlike, IsAlikeCipher, IsAlikeDerivation}
-use Rattle.luks_searching.specs.Metadata.{OpensAt}
-use Rattle.luks_searching.specs.Trials.{most_stripes, most_turns, IsCheapDerivation, IsCheapPlan, IsOpenedPlan}
+use Rattle.luks_trials.specs.Alike.{IsAlike, IsAlikeCipher, IsAlikeDerivation}
+use Rattle.luks_trials.specs.Metadata.{OpensAt}
+use Rattle.luks_trials.specs.Trials.{most_stripes, most_turns, IsCheapDerivation, IsCheapPlan, IsOpenedPlan}
 
 -- ---- plans that say the same open alike
 

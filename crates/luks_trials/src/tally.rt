@@ -15,7 +15,7 @@ pub struct Tally {
 }
 
 impl Tally {
-    ghost use Rattle.luks_searching.specs.Tallies.{done_of, most_of};
+    ghost use Rattle.luks_trials.specs.Tallies.{done_of, most_of};
 
     /// None is made yet of so many.
     pub fn new(most: u32) -> Tally

@@ -2,9 +2,9 @@
 ghost use Rattle.std.specs.Prelude.{◌≡◌, ◌↔◌, ◌+◌, ◌^◌, ◌<◌, ◌≤◌, length, Some, IfErr, IfOk, IsTrue};
 ghost use Rattle.luks_area.specs.Device.{CountsFailure, IsUnchanged};
 ghost use Rattle.luks_reading.specs.PlanAnswers.{IsOpenable};
-ghost use Rattle.luks_searching.specs.Faults.{is_search_failure, IsCutShort};
-ghost use Rattle.luks_searching.specs.Tallies.{Counts, CountsOne};
-ghost use Rattle.luks_searching.specs.Trials.{IsCheapDerivation, IsCheapPlan, IsDistance, IsOpenedPlan};
+ghost use Rattle.luks_trials.specs.Faults.{is_search_failure, IsCutShort};
+ghost use Rattle.luks_trials.specs.Tallies.{Counts, CountsOne};
+ghost use Rattle.luks_trials.specs.Trials.{IsCheapDerivation, IsCheapPlan, IsDistance, IsOpenedPlan};
 
 use crate::fault::SearchFault;
 use crate::tally::{Progress, Tally};

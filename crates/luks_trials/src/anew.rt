@@ -4,10 +4,10 @@ ghost use Rattle.luks_area.specs.Device.{CountsFailure, IsUnchanged};
 ghost use Rattle.luks_meta.specs.Accepted.{IsMeta};
 ghost use Rattle.luks_meta.specs.Content.{content};
 ghost use Rattle.luks_slot.specs.declared.allowed.Allowed.{Allowed as TheAllowed};
-ghost use Rattle.luks_searching.specs.Faults.{is_search_failure, IsCutShort};
-ghost use Rattle.luks_searching.specs.Tallies.{Counts};
-ghost use Rattle.luks_searching.specs.Trials.{IsOpenedPlan};
-ghost use Rattle.luks_searching.specs.Metadata.{AddsNone, IsMetaOf, OpensAt};
+ghost use Rattle.luks_trials.specs.Faults.{is_search_failure, IsCutShort};
+ghost use Rattle.luks_trials.specs.Tallies.{Counts};
+ghost use Rattle.luks_trials.specs.Trials.{IsOpenedPlan};
+ghost use Rattle.luks_trials.specs.Metadata.{AddsNone, IsMetaOf, OpensAt};
 
 use crate::alike::is_alike;
 use crate::fault::SearchFault;

@@ -1,6 +1,6 @@
 //! Whether two plans say the same.
 ghost use Rattle.std.specs.Prelude.{◌≡◌, true};
-ghost use Rattle.luks_searching.specs.Alike.{IsAlike, IsAlikeCipher, IsAlikeDerivation, IsAlikeDigest};
+ghost use Rattle.luks_trials.specs.Alike.{IsAlike, IsAlikeCipher, IsAlikeDerivation, IsAlikeDigest};
 
 use luks_slot::{AreaCipher, Argon2Kind, Derivation, DigestPlan, SlotPlan};
 

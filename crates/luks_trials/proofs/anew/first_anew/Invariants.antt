@@ -2,9 +2,9 @@ use Rattle.std.proofs.Common.{◌≡◌, ℕ, ◌<◌, List}
 use Rattle.luks_area.specs.Device.{IsUnchanged}
 use Rattle.luks_meta.specs.Accepted.{IsMeta}
 use Rattle.luks_meta.specs.Content.{content}
-use Rattle.luks_searching.specs.Metadata.{IsMetaOf, OpensAt}
-use Rattle.luks_searching.specs.Tallies.{Counts}
-use Rattle.luks_searching.proofs.anew.first_anew.Given as goal
+use Rattle.luks_trials.specs.Metadata.{IsMetaOf, OpensAt}
+use Rattle.luks_trials.specs.Tallies.{Counts}
+use Rattle.luks_trials.proofs.anew.first_anew.Given as goal
 
 -- a keyslot before this one that opens by the new metadata opens by the old
 abbrev pub invariant-loop-n : goal.invariant-loop-n

@@ -1,6 +1,6 @@
 //! The metadata of a JSON area, if it has none of its faults.
 ghost use Rattle.std.specs.Prelude.{◌≡◌, IfErr, IfOk};
-ghost use Rattle.luks_searching.specs.Metadata.{IsMetaOf};
+ghost use Rattle.luks_trials.specs.Metadata.{IsMetaOf};
 
 use crate::fault::SearchFault;
 use luks_meta::{Meta, MetaFault};

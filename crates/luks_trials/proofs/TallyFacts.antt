@@ -1,7 +1,7 @@
 -- What calls in turn leave of a tally.
 use Rattle.std.proofs.Common.{◌≡◌, ◌∙◌, refl, arith}
-use Rattle.luks_searching.specs.Tallies.{Counts}
-use Rattle.luks_searching.specs.declared.tally.Tally.{Tally}
+use Rattle.luks_trials.specs.Tallies.{Counts}
+use Rattle.luks_trials.specs.declared.tally.Tally.{Tally}
 
 pub counts_then : {first mid last : Tally} → Counts first mid → Counts mid last → Counts first last
 counts_then before after = record {

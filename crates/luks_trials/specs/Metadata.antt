@@ -8,7 +8,7 @@ use Rattle.luks_rules.specs.declared.fault.MetaFault.{MetaFault}
 use Rattle.luks_slot.specs.declared.allowed.Allowed.{Allowed}
 use Rattle.luks_slot.specs.declared.plan.SlotPlan.{SlotPlan}
 use Rattle.luks_reading.specs.Plans.{HasLuks2Plan}
-use Rattle.luks_searching.specs.Trials.{IsOpenedPlan}
+use Rattle.luks_trials.specs.Trials.{IsOpenedPlan}
 
 -- the JSON area has none of the faults of metadata, and by it the keyslot `n` opens by the passphrase `p`: the key that
 -- its area in `v` gives meets the digest that the metadata has of it
