@@ -1,0 +1,2 @@
+pub mod AppendFacts
+pub mod ObjectFacts
