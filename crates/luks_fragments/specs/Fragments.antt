@@ -10,7 +10,7 @@ use Rattle.luks_fragments.specs.declared.kinds.Kind.{Kind}
 -- ---- the number before an object: `"0":`
 
 abbrev pub quoted : ℕ → List ℕ
-quoted n = 0x22 ∷ number_text n ++ 0x22 ∷ 0x3A ∷ []
+quoted n = 0x22 ∷ (number_text n ++ 0x22 ∷ 0x3A ∷ [])
 
 -- the name of the object that begins at `start` is the number, which stands right before it
 pub record IsNamedAt (area : List ℕ) (start n : ℕ) : Type 0 where
