@@ -154,8 +154,8 @@ pub fn rebuild1_from<S: Device, T: Device>(
         → Gives allowed.older (headed (S.bytes source.old) header.now) given.now n p a
         ↔ AnswerWithin allowed (T.bytes target.new) n p a) }
 {
-    let made = judged_header(header.as_slice(), source.len(), given, target.len())?;
-    write_rebuilt(source, target, &made)?;
+    let judged = judged_header(header.as_slice(), source.len(), given, target.len())?;
+    write_rebuilt(source, target, &judged)?;
     Ok(())
 }
 

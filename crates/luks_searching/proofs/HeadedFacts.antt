@@ -1,8 +1,5 @@
--- A volume with another header: its other bytes, and which of its keyslots open.
-use Rattle.std.proofs.Common.{◌≡◌, ◌↔◌, ℕ, ◌+◌, ◌*◌, ◌<◌, ◌≤◌, List, ◌++◌, length, take, drop, Option, Some, None, Result, Ok, Err, IfOk, IsTrue, true, false, refl, sym, ap, subst, ◌∙◌, arith}
-use Rattle.std.proofs.Math.Seq.{take-append_seam}
-use Rattle.std.proofs.lemmas.Slice.{drop-append-drop}
-use Rattle.std.proofs.lemmas.List.{length-append, length-drop}
+-- Which keyslots open of a volume with another header.
+use Rattle.std.proofs.Common.{◌≡◌, ◌↔◌, ℕ, ◌+◌, ◌*◌, ◌<◌, ◌≤◌, List, length, Option, Some, None, Result, Ok, Err, IfOk, IsTrue, true, false, refl, sym, ap, subst, ◌∙◌, arith}
 use Rattle.luks_area.specs.Ranges.{part}
 use Rattle.luks1_header.specs.Header1.{active_word, enabled_word, entry, entry_iterations, entry_stripes, mk_digest_iterations_of, IsCommon, IsEntry, IsLuks1}
 use Rattle.luks1_header.specs.Written.{WritesLuks1}
@@ -27,30 +24,16 @@ use Rattle.luks_reading.specs.declared.open_fault.OpenFault.TheVariants as fault
 use Rattle.luks_reading.proofs.Luks1Plans.{one_luks1_plan}
 use Rattle.luks_reading.proofs.SamePlans.{same_answer, SameFields}
 use Rattle.luks1_rebuilding.specs.Gives.{IsKeptPlan}
-use Rattle.luks1_rebuilding.specs.KeyAreas.{header_of}
 use Rattle.luks1_rebuilding.specs.Openings.{OpensBy}
 use Rattle.luks1_rebuilding.specs.Tried.{IsMadeOf}
 use Rattle.luks1_rebuilding.specs.Used.{any_slot, slot_at}
+use Rattle.luks1_rebuilding.proofs.HeadedFacts.{area_is, header_is, made_headed}
 use Rattle.luks1_rebuilding.proofs.MadeFacts.{behind}
 use Rattle.luks1_rebuilding.proofs.OpeningFacts.{kept_entry_of, says_of, tells_opening, tells_shut}
 use Rattle.luks1_rebuilding.proofs.PlanFacts.{plan_here, plan_there, SaysKept}
-use Rattle.luks1_rebuilding.proofs.RebuiltFacts.{moved}
-use Rattle.luks_searching.specs.Headed.{headed, IsCheap, OpensHeaded}
+use Rattle.luks1_rebuilding.specs.Headed.{headed}
+use Rattle.luks_searching.specs.Headed.{IsCheap, OpensHeaded}
 use Rattle.luks_searching.specs.Trials.{most_stripes, most_turns, IsCheapDerivation, IsCheapPlan, IsOpenedPlan}
-
-pub header_is : (v h : List ℕ) → length h ≡ 592 → header_of (headed v h) ≡ h
-header_is v h long = let P : ℕ → Type 0 = λ n. take n (h ++ drop 592 v) ≡ h in subst P long (take-append_seam h (drop 592 v))
-
-pub length_is : (v h : List ℕ) → length h ≡ 592 → 592 ≤ length v → length (headed v h) ≡ length v
-length_is v h long room = omega (arith, length-append h (drop 592 v), length-drop 592 v)
-
-pub area_is : (v h : List ℕ) → length h ≡ 592 → (start len : ℕ) → 592 ≤ start → part (headed v h) start len ≡ part v start len
-area_is v h long start len behind = ap (take len) (drop-append-drop 592 v h start behind long)
-
--- what is made of the header is made of the volume that has it
-pub made_headed : (v h : List ℕ) (g : Given) (d : Luks1) → length h ≡ 592 → 592 ≤ length v → IsMade h (length v) g d → IsMadeOf (headed v h) g d
-made_headed v h g d long room made =
-    moved (λ i n. IsMade i n g d) h (header_of (headed v h)) (length v) (length (headed v h)) (sym (header_is v h long)) (sym (length_is v h long room)) made
 
 -- ---- an enabled keyslot of it
 

@@ -1,13 +1,10 @@
--- A volume with another LUKS1 header in place of its first 592 bytes, and its keyslots that are tried.
-use Rattle.std.specs.Prelude.{ℕ, ◌≤◌, List, ◌++◌, drop}
-use Rattle.luks1_header.specs.Header1.{entry, entry_iterations, entry_stripes, luks1_size, mk_digest_iterations_of}
+-- The keyslots that are tried of a volume with another LUKS1 header in place of its first 592 bytes.
+use Rattle.std.specs.Prelude.{ℕ, ◌≤◌, List}
+use Rattle.luks1_header.specs.Header1.{entry, entry_iterations, entry_stripes, mk_digest_iterations_of}
 use Rattle.luks1_mending.specs.declared.given.Given.{Given}
+use Rattle.luks1_rebuilding.specs.Headed.{headed}
 use Rattle.luks1_rebuilding.specs.Openings.{OpensBy}
 use Rattle.luks_searching.specs.Trials.{most_stripes, most_turns}
-
--- the volume `v` with the header `h`
-abbrev pub headed : List ℕ → List ℕ → List ℕ
-headed v h = h ++ drop luks1_size v
 
 -- the keyslot `n` is tried: neither it nor the digest has more iterations, nor it more stripes
 pub record IsCheap (h : List ℕ) (n : ℕ) : Type 0 where
