@@ -1,0 +1,4 @@
+pub mod DigestFacts
+pub mod FoundFacts
+pub mod MixedFacts
+pub mod SizeFacts

@@ -1,5 +1,5 @@
 -- Metadata in which the digest of a keyslot has few other bits.
-use Rattle.std.specs.Prelude.{◌≡◌, ℕ, zero, suc, ◌<◌, ◌≤◌, List, length, Some, true}
+use Rattle.std.specs.Prelude.{◌≡◌, ◌⊎◌, ℕ, zero, suc, ◌+◌, ◌<◌, ◌≤◌, List, length, Option, Some, true}
 use Rattle.base64.specs.Rfc4648.{encode}
 use Rattle.serde_json.specs.Data.{Data}
 use Rattle.luks_area.specs.Ranges.{part, written}
@@ -12,7 +12,8 @@ use Rattle.luks_meta.specs.Says.{member_at}
 use Rattle.luks_rules.specs.declared.table.Member.TheVariants as name
 use Rattle.luks_rules.specs.declared.table.Outer.TheVariants as outer
 use Rattle.luks_rules.specs.declared.table.Section.TheVariants.{Digests}
-use Rattle.luks_searching.specs.Turned.{turned}
+use Rattle.luks_trials.specs.Turned.{turned}
+use Rattle.luks2_searching.specs.declared.digest.Mended.{Mended}
 use Rattle.luks2_searching.specs.declared.digest.NearDigest.{NearDigest}
 
 -- one bit more of the bytes is turned
@@ -27,6 +28,18 @@ pub record IsTurnedOnce (old new : List ℕ) : Type 0 where
 abbrev pub AreTurned : ℕ → List ℕ → List ℕ → Type 0
 AreTurned zero old new = new ≡ old
 AreTurned (suc count) old new = (before : List ℕ) × (AreTurned count old before × IsTurnedOnce before new)
+
+-- on the way to the digest that the key gives: one bit more was turned, where that left fewer bits to turn
+abbrev pub IsNearer : Mended → List ℕ → Option ℕ → Mended → Type 0
+IsNearer before digest distance after =
+    (after ≡ before) ⊎ ((after.digest.items ≡ digest) × (after.times ≡ before.times + 1) × (after.left < before.left) × (distance ≡ Some after.left))
+
+-- of `bits` bits so many were turned that at most the others are left
+pub record IsUnderWay (stood : List ℕ) (bits : ℕ) (m : Mended) : Type 0 where
+  pub long : length m.digest.items ≡ length stood
+  pub some : 1 ≤ m.left
+  pub sum : m.times + m.left ≤ bits
+  pub turned : AreTurned m.times stood m.digest.items
 
 -- by the metadata of the JSON area the key of the keyslot `n` is told by these bytes: those of the digest that names it
 -- (LUKS2 On-Disk Format 1.1, 3.4)

@@ -1,14 +1,14 @@
 -- Metadata of LUKS2 that was found in the volume `v`, near to that of a copy, by which the passphrase `p` opens a keyslot.
-use Rattle.std.specs.Prelude.{◌≡◌, ℕ, ◌-◌, ◌<◌, ◌≤◌, ◌^◌, List, length}
+use Rattle.std.specs.Prelude.{◌≡◌, ℕ, ◌+◌, ◌<◌, ◌≤◌, ◌^◌, List, length}
 use Rattle.luks_rebuilding.specs.Candidates.{json_of, IsBegun, IsPlace}
 use Rattle.luks_rebuilding.specs.Found.{place_of}
 use Rattle.luks_rebuilding.specs.declared.place.Half.TheVariants.{First, Second}
 use Rattle.luks_rebuilding.specs.declared.place.Place.{Place}
 use Rattle.luks_slot.specs.declared.allowed.Allowed.{Allowed}
 use Rattle.luks_vouching.specs.Cut.{cut, text_end}
-use Rattle.luks_searching.specs.Turned.{turned}
+use Rattle.luks_trials.specs.Turned.{turned}
 use Rattle.luks2_searching.specs.Digests.{IsDigestTurned}
-use Rattle.luks_searching.specs.Metadata.{AddsNone, OpensAt, OpensNone}
+use Rattle.luks_trials.specs.Metadata.{AddsNone, OpensAt, OpensNone}
 use Rattle.luks2_searching.specs.Mixed.{few_bytes, DifferAt, IsMixed}
 use Rattle.luks2_searching.specs.declared.found.Change2.{Change2}
 use Rattle.luks2_searching.specs.declared.found.Change2.TheVariants as change
@@ -48,7 +48,7 @@ IsChanged2 v place n (change.Fragments keyslot digest segment) new = ⊥
 -- metadata that was found: it is near to that of the copy, and by it the keyslot opens
 pub record IsFound2 (allowed : Allowed) (v p : List ℕ) (f : Found2) : Type 0 where
   pub place : IsPlace (length v) f.place
-  pub long : length f.json.items ≡ f.place.size - 4096
+  pub long : 4096 + length f.json.items ≡ f.place.size
   pub changed : IsChanged2 v f.place f.slot f.change f.json.items
   pub opens : OpensAt allowed v p f.json.items f.slot
 
@@ -77,16 +77,17 @@ IsNear2 json n (change.Digest bits) new = IsDigestTurned json n bits new
 IsNear2 json n change.Mixed new = ⊥
 IsNear2 json n (change.Fragments keyslot digest segment) new = ⊥
 
-pub record IsFoundIn (allowed : Allowed) (v p : List ℕ) (place : Place) (json : List ℕ) (f : Found2) : Type 0 where
-  pub there : f.place ≡ place
+-- it was found at this place, and is as long as the area there
+pub record IsThere (place : Place) (json : List ℕ) (f : Found2) : Type 0 where
+  pub at : f.place ≡ place
   pub long : length f.json.items ≡ length json
+
+pub record IsFoundIn (allowed : Allowed) (v p json : List ℕ) (f : Found2) : Type 0 where
   pub changed : IsNear2 json f.slot f.change f.json.items
   pub opens : OpensAt allowed v p f.json.items f.slot
 
 -- it is composed of two areas
-pub record IsFoundMixed (allowed : Allowed) (v p : List ℕ) (place : Place) (first second : List ℕ) (f : Found2) : Type 0 where
-  pub there : f.place ≡ place
-  pub long : length f.json.items ≡ length first
+pub record IsFoundMixed (allowed : Allowed) (v p first second : List ℕ) (f : Found2) : Type 0 where
   pub changed : f.change ≡ change.Mixed
   pub composed : IsOfBoth first second f.json.items
   pub opens : OpensAt allowed v p f.json.items f.slot

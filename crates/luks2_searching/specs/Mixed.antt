@@ -1,5 +1,5 @@
 -- Metadata composed of the bytes of two JSON areas that differ in few.
-use Rattle.std.specs.Prelude.{◌≡◌, ◌⊎◌, ℕ, zero, suc, ◌+◌, ◌/◌, ◌%◌, ◌<◌, ◌≤◌, ◌==◌, List, [], ◌∷◌, length, slice_index, slice_set, if◌then◌else◌, ⊤}
+use Rattle.std.specs.Prelude.{◌≡◌, ◌⊎◌, ℕ, zero, suc, ◌+◌, ◌/◌, ◌%◌, ◌<◌, ◌≤◌, ◌==◌, List, [], ◌∷◌, All, length, slice_index, slice_set, if◌then◌else◌}
 
 -- each byte is that of one of both areas at its place
 pub record IsMixed (first second new : List ℕ) : Type 0 where
@@ -22,8 +22,7 @@ few_bytes = 16
 
 -- each place is below this one
 abbrev pub AreInside : ℕ → List ℕ → Type 0
-AreInside total [] = ⊤
-AreInside total (place ∷ rest) = (place < total) × AreInside total rest
+AreInside total places = All (λ place. place < total) places
 
 -- the place is one of these
 abbrev pub IsOf : ℕ → List ℕ → Type 0
@@ -34,8 +33,7 @@ IsOf p (place ∷ rest) = (p ≡ place) ⊎ IsOf p rest
 abbrev pub AreAllOf : List ℕ → List ℕ → ℕ → List ℕ → Type 0
 AreAllOf first second count places = (p : ℕ) → p < count → (slice_index first p ≡ slice_index second p) ⊎ IsOf p places
 
--- at each of the places the second area's byte where the number's digit is 1, the lowest first, else the first's
-abbrev pub mixed : List ℕ → List ℕ → List ℕ → ℕ → List ℕ → List ℕ
-mixed first second [] n json = json
-mixed first second (place ∷ rest) n json =
-    mixed first second rest (n / 2) (slice_set json place (if n % 2 == 1 then slice_index second place else slice_index first place))
+-- `json` with the second area's bytes at those places that this number names by its binary digits, the lowest first
+abbrev pub mixed : List ℕ → List ℕ → ℕ → List ℕ → List ℕ
+mixed second [] n json = json
+mixed second (place ∷ rest) n json = mixed second rest (n / 2) (if n % 2 == 1 then slice_set json place (slice_index second place) else json)

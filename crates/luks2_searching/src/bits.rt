@@ -2,18 +2,19 @@
 ghost use Rattle.std.specs.Prelude.{◌≡◌, ◌+◌, ◌^◌, ◌<◌, ◌≤◌, ℕ, length, IfErr, IfNone, IfOk, IfSome};
 ghost use Rattle.luks_area.specs.Device.{CountsFailure, IsUnchanged};
 ghost use Rattle.luks_vouching.specs.Cut.{text_end};
-ghost use Rattle.luks_searching.specs.Faults.{is_search_failure, IsCutShort};
-ghost use Rattle.luks_searching.specs.Tallies.{Counts};
-ghost use Rattle.luks_searching.specs.Turned.{turned};
-ghost use Rattle.luks2_searching.specs.Found.{most_text, IsFoundIn};
-ghost use Rattle.luks_searching.specs.Metadata.{AddsNone, IsMetaOf};
+ghost use Rattle.luks_trials.specs.Faults.{is_search_failure, IsCutShort};
+ghost use Rattle.luks_trials.specs.Tallies.{Counts};
+ghost use Rattle.luks_trials.specs.Turned.{turned};
+ghost use Rattle.luks2_searching.specs.Found.{most_text, IsFoundIn, IsThere};
+ghost use Rattle.luks_trials.specs.Metadata.{AddsNone, IsMetaOf};
 
 use crate::copies::text_end;
 use crate::found::{Change2, Found2};
+use crate::turning::turned;
 use luks_area::Device;
 use luks_meta::Meta;
 use luks_rebuilding::Place;
-use luks_searching::{Progress, SearchFault, Tally, Trying, first_anew, meta_of};
+use luks_trials::{Progress, SearchFault, Tally, Trying, first_anew, meta_of};
 use std::alloc::Global;
 
 /// A longer text isn't searched bit by bit: each of its texts is read as metadata, and that would take hours.
@@ -39,8 +40,9 @@ pub(crate) fn by_bits<D: Device, P: Progress>(
     ensures counts { Counts tally.old tally.new }
     ensures cut { IfErr result (IsCutShort tally.new) }
     ensures same { json.new ≡ json.old }
+    ensures there { IfOk result (λ found. IfSome found (IsThere place json.old)) }
     ensures found { D.tells → IfOk result (λ found. IfSome found (IsFoundIn trying.now.allowed
-        (D.bytes source.old) trying.now.passphrase.now place json.old)) }
+        (D.bytes source.old) trying.now.passphrase.now json.old)) }
     ensures none { D.tells → IfOk result (λ found. IfNone found (text_end json.old ≤ most_text
         → (at bit : ℕ) → at < text_end json.old → bit < 8 → AddsNone trying.now.allowed
         (D.bytes source.old) trying.now.passphrase.now json.old (turned json.old at bit))) }
@@ -85,20 +87,19 @@ fn by_bits_at<D: Device, P: Progress>(
     ensures counts { Counts tally.old tally.new }
     ensures cut { IfErr result (IsCutShort tally.new) }
     ensures same { json.new ≡ json.old }
+    ensures there { IfOk result (λ found. IfSome found (IsThere place json.old)) }
     ensures found { D.tells → IfOk result (λ found. IfSome found (IsFoundIn trying.now.allowed
-        (D.bytes source.old) trying.now.passphrase.now place json.old)) }
+        (D.bytes source.old) trying.now.passphrase.now json.old)) }
     ensures none { D.tells → IfOk result (λ found. IfNone found ((bit : ℕ) → bit < 8
         → AddsNone trying.now.allowed (D.bytes source.old) trying.now.passphrase.now
         json.old (turned json.old at bit))) }
 {
     for bit in 0..8 {
-        let turned = turned_meta(alloc, json, at, bit)?;
-        let slot = first_anew(alloc, source, standing, &turned, trying, tally, progress)?;
+        let meta = turned_meta(alloc, json, at, bit)?;
+        let slot = first_anew(alloc, source, standing, &meta, trying, tally, progress)?;
         if let Some(slot) = slot {
-            let mut found = json.to_vec(alloc)?;
-            found[at] ^= 1 << bit;
             return Ok(Some(Found2 {
-                json: found,
+                json: turned(alloc, json, at, bit)?,
                 place,
                 slot,
                 change: Change2::Bit { place: at, bit },
@@ -124,7 +125,7 @@ fn turned_meta(
 {
     let byte = json[at];
     json[at] = byte ^ (1 << bit);
-    let turned = meta_of(alloc, json);
+    let meta = meta_of(alloc, json);
     json[at] = byte;
-    turned
+    meta
 }

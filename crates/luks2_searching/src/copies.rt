@@ -4,12 +4,12 @@ ghost use Rattle.luks_area.specs.Device.{CountsFailure, IsUnchanged};
 ghost use Rattle.luks2_header.specs.Sizes.{IsListed};
 ghost use Rattle.luks_rebuilding.specs.Candidates.{IsBegun, IsPlace};
 ghost use Rattle.luks_vouching.specs.Cut.{cut, text_end};
-ghost use Rattle.luks_searching.specs.Faults.{is_search_failure};
+ghost use Rattle.luks_trials.specs.Faults.{is_search_failure};
 ghost use Rattle.luks2_searching.specs.Found.{area_of};
 
 use luks_area::Device;
 use luks_rebuilding::Place;
-use luks_searching::SearchFault;
+use luks_trials::SearchFault;
 use std::alloc::Global;
 
 /// The bytes of the binary header with which a copy begins; its JSON area follows.

@@ -4,19 +4,20 @@ ghost use Rattle.luks_area.specs.Device.{CountsFailure, IsUnchanged};
 ghost use Rattle.luks_meta.specs.Accepted.{IsMeta};
 ghost use Rattle.luks_meta.specs.Content.{content};
 ghost use Rattle.luks_reading.specs.PlanAnswers.{IsOpenable};
-ghost use Rattle.luks_searching.specs.Faults.{is_search_failure, IsCutShort};
-ghost use Rattle.luks_searching.specs.Tallies.{Counts};
-ghost use Rattle.luks2_searching.specs.Digests.{few_bits, AreTurned, IsNear};
-ghost use Rattle.luks2_searching.specs.Found.{IsFoundIn};
+ghost use Rattle.luks_trials.specs.Faults.{is_search_failure, IsCutShort};
+ghost use Rattle.luks_trials.specs.Tallies.{Counts};
+ghost use Rattle.luks2_searching.specs.Digests.{few_bits, AreTurned, IsNear, IsNearer};
+ghost use Rattle.luks2_searching.specs.Found.{IsFoundIn, IsThere};
 
 use crate::found::Found2;
 use crate::replacing::with_digest;
+use crate::turning::turned;
 use luks_area::Device;
 use luks_meta::Meta;
 use luks_reading::luks2_plan;
 use luks_rebuilding::Place;
-use luks_searching::{Progress, SearchFault, Tally, Trying, try_plan};
 use luks_slot::{DigestPlan, SlotPlan};
+use luks_trials::{Progress, SearchFault, Tally, Trying, try_plan};
 use std::alloc::Global;
 
 /// The area with the digest that the key of the keyslot `n` gives, where it differs from the one that stands in `bits`
@@ -44,8 +45,9 @@ pub(crate) fn mended_digest<D: Device, P: Progress>(
         (D.failed source.old) (D.failed source.new) }
     ensures counts { Counts tally.old tally.new }
     ensures cut { IfErr result (IsCutShort tally.new) }
+    ensures there { IfOk result (λ found. IfSome found (IsThere place json.now)) }
     ensures found { D.tells → IfOk result (λ found. IfSome found (IsFoundIn trying.now.allowed
-        (D.bytes source.old) trying.now.passphrase.now place json.now)) }
+        (D.bytes source.old) trying.now.passphrase.now json.now)) }
 {
     match near_digest(alloc, source, meta, n, bits, trying, tally, progress)? {
         Some(near) => with_digest(
@@ -140,23 +142,43 @@ fn turned_digest<D: Device, P: Progress>(
     ensures turned { IfOk result (λ found. IfSome found
         (λ it. AreTurned it.1 plan.now.digest.stored.now it.0.items)) }
 {
-    let mut mended = plan.digest.stored.to_vec(alloc)?;
-    let mut times = 0;
-    let mut left = bits;
-    for number in 0..8 * mended.len() {
-        let mut changed = mended.to_vec(alloc)?;
-        changed[number / 8] ^= 1 << (number % 8);
-        match distance_with(alloc, source, plan, &changed, trying, tally, progress)? {
-            Some(0) => return Ok(Some((changed, times + 1))),
-            Some(fewer) if fewer < left => {
-                mended = changed;
-                times += 1;
-                left = fewer;
-            }
-            _ => {}
+    let mut mended = Mended {
+        digest: plan.digest.stored.to_vec(alloc)?,
+        times: 0,
+        left: bits,
+    };
+    for number in 0..8 * plan.digest.stored.len() {
+        let changed = turned(alloc, &mended.digest, number / 8, (number % 8) as u8)?;
+        let distance = distance_with(alloc, source, plan, &changed, trying, tally, progress)?;
+        if distance == Some(0) {
+            return Ok(Some((changed, mended.times + 1)));
         }
+        mended = nearer(mended, changed, distance);
     }
     Ok(None)
+}
+
+/// A digest on the way to that which the key gives.
+#[derive(Drop)]
+pub(crate) struct Mended {
+    digest: Vec<u8>,
+    times: u32,
+    left: u32,
+}
+
+/// The digest that differs in so many bits, if these are fewer, else the one before.
+fn nearer(before: Mended, digest: Vec<u8>, distance: Option<u32>) -> Mended
+    requires { before.times + before.left ≤ few_bits }
+    ensures { IsNearer before digest.items distance result }
+{
+    match distance {
+        Some(left) if left < before.left => Mended {
+            digest,
+            times: before.times + 1,
+            left,
+        },
+        _ => before,
+    }
 }
 
 /// In how many bits the digest differs by which a keyslot of this plan would open, if these were the digest's bytes.

@@ -11,6 +11,7 @@ mod mixed;
 mod replacing;
 mod searching;
 mod standing;
+mod turning;
 
 pub use found::{Change2, Found2};
 pub use searching::search2;

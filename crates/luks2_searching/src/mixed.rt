@@ -1,18 +1,18 @@
 //! The search in compositions of the bytes of both copies' JSON areas.
-ghost use Rattle.std.specs.Prelude.{◌≡◌, ◌+◌, ◌^◌, ◌<◌, ◌≤◌, ℕ, List, length, IfErr, IfNone, IfOk, IfSome};
+ghost use Rattle.std.specs.Prelude.{◌≡◌, ◌+◌, ◌^◌, ◌<◌, ◌≤◌, ℕ, List, length, slice_index, slice_set, IfErr, IfNone, IfOk, IfSome};
 ghost use Rattle.luks_area.specs.Device.{CountsFailure, IsUnchanged};
-ghost use Rattle.luks_searching.specs.Faults.{is_search_failure, IsCutShort};
-ghost use Rattle.luks_searching.specs.Tallies.{Counts};
-ghost use Rattle.luks2_searching.specs.Found.{IsFoundMixed, IsOfBoth};
-ghost use Rattle.luks_searching.specs.Metadata.{AddsNone};
+ghost use Rattle.luks_trials.specs.Faults.{is_search_failure, IsCutShort};
+ghost use Rattle.luks_trials.specs.Tallies.{Counts};
+ghost use Rattle.luks2_searching.specs.Found.{IsFoundMixed, IsOfBoth, IsThere};
+ghost use Rattle.luks_trials.specs.Metadata.{AddsNone};
 ghost use Rattle.luks2_searching.specs.Mixed.{few_bytes, mixed, AreAllOf, AreInside, DifferAt};
 
 use crate::found::{Change2, Found2};
 use arrayvec::ArrayVec;
 use luks_area::Device;
 use luks_rebuilding::Place;
-use luks_searching::{Progress, SearchFault, Tally, Trying, first_anew, meta_of};
-use std::alloc::Global;
+use luks_trials::{Progress, SearchFault, Tally, Trying, first_anew, meta_of};
+use std::alloc::{AllocError, Global};
 
 /// The first composition of the bytes of two JSON areas by which a keyslot opens that doesn't by the first one: none
 /// where they differ in more than 16 bytes. `place` is that of the first copy.
@@ -35,8 +35,9 @@ pub(crate) fn by_mixing<D: Device, P: Progress>(
         (D.failed source.old) (D.failed source.new) }
     ensures counts { Counts tally.old tally.new }
     ensures cut { IfErr result (IsCutShort tally.new) }
+    ensures there { IfOk result (λ found. IfSome found (IsThere place first.now)) }
     ensures found { D.tells → IfOk result (λ found. IfSome found (IsFoundMixed trying.now.allowed
-        (D.bytes source.old) trying.now.passphrase.now place first.now second.now)) }
+        (D.bytes source.old) trying.now.passphrase.now first.now second.now)) }
     ensures none { D.tells → IfOk result (λ found. IfNone found ((new : List ℕ)
         → IsOfBoth first.now second.now new → AddsNone trying.now.allowed
         (D.bytes source.old) trying.now.passphrase.now first.now new)) }
@@ -45,9 +46,8 @@ pub(crate) fn by_mixing<D: Device, P: Progress>(
         return Ok(None);
     };
     let standing = meta_of(alloc, first)?;
-    let mut json = first.to_vec(alloc)?;
-    for number in 0..1u32 << places.len() {
-        mix(&mut json, first, second, places.as_slice(), number);
+    for number in 0..1 << places.len() {
+        let json = numbered(alloc, first, second, &places, number)?;
         let meta = meta_of(alloc, &json)?;
         let slot = first_anew(alloc, source, &standing, &meta, trying, tally, progress)?;
         if let Some(slot) = slot {
@@ -83,21 +83,45 @@ fn differing(first: &[u8], second: &[u8]) -> Option<ArrayVec<usize, 16>>
     Some(places)
 }
 
-/// Puts at each of these places the second area's byte where the number's digit is 1, the lowest first, else the first's.
-fn mix(json: &mut [u8], first: &[u8], second: &[u8], places: &[usize], number: u32)
-    requires inside { AreInside (length json.old) places.now }
-    requires first_long { length first.now ≡ length json.old }
-    requires second_long { length second.now ≡ length json.old }
-    ensures long { length json.new ≡ length json.old }
-    ensures { json.new ≡ mixed first.now second.now places.now number json.old }
+/// The first area with the second one's bytes at those of these places that the number names by its binary digits.
+fn numbered(
+    alloc: Global,
+    first: &[u8],
+    second: &[u8],
+    places: &[usize],
+    number: usize,
+) -> Result<Vec<u8>, AllocError>
+    requires long { length second.now ≡ length first.now }
+    requires inside { AreInside (length first.now) places.now }
+    ensures { IfOk result (λ json. json.items ≡ mixed second.now places.now number first.now) }
 {
-    let mut left = number;
-    for place in places {
-        json[*place] = if left % 2 == 1 {
-            second[*place]
-        } else {
-            first[*place]
-        };
-        left /= 2;
+    let mut json = first.to_vec(alloc)?;
+    put_numbered(&mut json, second, places, number);
+    Ok(json)
+}
+
+/// Puts those bytes of the other area there that this number names.
+fn put_numbered(json: &mut [u8], other: &[u8], places: &[usize], n: usize)
+    requires long { length json.old ≡ length other.now }
+    requires inside { AreInside (length other.now) places.now }
+    ensures { json.new ≡ mixed other.now places.now n json.old }
+{
+    let mut number = n;
+    let mut left = places;
+    while let [place, later @ ..] = left {
+        if number % 2 == 1 {
+            put_byte(json, other, *place);
+        }
+        number /= 2;
+        left = later;
     }
+}
+
+/// Puts the byte of the other area there.
+fn put_byte(json: &mut [u8], other: &[u8], place: usize)
+    requires inside { place < length other.now }
+    requires long { length json.old ≡ length other.now }
+    ensures { json.new ≡ slice_set json.old place (slice_index other.now place) }
+{
+    json[place] = other[place];
 }

@@ -4,20 +4,19 @@ ghost use Rattle.luks_area.specs.Device.{CountsFailure, IsUnchanged};
 ghost use Rattle.luks_area.specs.Ranges.{part, written};
 ghost use Rattle.luks_meta.specs.Accepted.{IsMeta};
 ghost use Rattle.luks_meta.specs.Content.{content};
-ghost use Rattle.luks_searching.specs.Faults.{is_search_failure, IsCutShort};
-ghost use Rattle.luks_searching.specs.Tallies.{Counts};
+ghost use Rattle.luks_trials.specs.Faults.{is_search_failure, IsCutShort};
+ghost use Rattle.luks_trials.specs.Tallies.{Counts};
 ghost use Rattle.luks2_searching.specs.Digests.{base64_text, HasDigest, IsNear};
-ghost use Rattle.luks2_searching.specs.Found.{IsFoundIn};
-ghost use Rattle.luks_searching.specs.Metadata.{OpensAt};
+ghost use Rattle.luks2_searching.specs.Found.{IsFoundIn, IsThere};
+ghost use Rattle.luks_trials.specs.Metadata.{OpensAt};
 
 use crate::digest::NearDigest;
 use crate::found::{Change2, Found2};
-use base64::engine::Engine;
 use base64::engine::general_purpose::STANDARD;
 use luks_area::Device;
 use luks_meta::Meta;
 use luks_rebuilding::Place;
-use luks_searching::{Progress, SearchFault, Tally, Trying, meta_of, opens};
+use luks_trials::{Progress, SearchFault, Tally, Trying, meta_of, opens};
 use std::alloc::{AllocError, Global};
 
 /// The area with the other digest at the first place where the text of the one that stands is that of the keyslot `n`,
@@ -42,13 +41,14 @@ pub(crate) fn with_digest<D: Device, P: Progress>(
         (D.failed source.old) (D.failed source.new) }
     ensures counts { Counts tally.old tally.new }
     ensures cut { IfErr result (IsCutShort tally.new) }
+    ensures there { IfOk result (λ found. IfSome found (IsThere place json.now)) }
     ensures found { D.tells → IfOk result (λ found. IfSome found (IsFoundIn trying.now.allowed
-        (D.bytes source.old) trying.now.passphrase.now place json.now)) }
+        (D.bytes source.old) trying.now.passphrase.now json.now)) }
 {
     let old = base64_text(alloc, &near.stood)?;
     let new = base64_text(alloc, &near.digest)?;
     for at in 0..json.len() {
-        if let Some(changed) = replaced(alloc, json, at, old.as_bytes(), new.as_bytes())? {
+        if let Some(changed) = replaced(alloc, json, at, old.as_slice(), new.as_slice())? {
             let digest = near.digest.as_slice();
             if opens_with(alloc, source, &changed, n, digest, trying, tally, progress)? {
                 return Ok(Some(Found2 {
@@ -98,7 +98,7 @@ fn stands_at(json: &[u8], at: usize, text: &[u8]) -> bool
     ensures stands { result ≡ true → part json.now at (length text.now) ≡ text.now }
 {
     let rest = &json[at..];
-    text.len() <= rest.len() && rest[..text.len()] == *text
+    text.len() <= rest.len() && &rest[..text.len()] == text
 }
 
 /// Whether the keyslot `n` opens by the area, and its digest is this one.

@@ -2,8 +2,9 @@
 ghost use Rattle.std.specs.Prelude.{◌≡◌, ◌+◌, ◌^◌, ◌<◌, ◌⊎◌, ℕ, length, IfErr, IfNone, IfOk, IfSome};
 ghost use Rattle.luks_area.specs.Device.{CountsFailure, IsUnchanged};
 ghost use Rattle.luks2_header.specs.Sizes.{IsListed};
-ghost use Rattle.luks_searching.specs.Faults.{is_search_failure, IsCutShort};
-ghost use Rattle.luks_searching.specs.Tallies.{Counts};
+ghost use Rattle.luks_rebuilding.specs.Candidates.{IsPlace};
+ghost use Rattle.luks_trials.specs.Faults.{is_search_failure, IsCutShort};
+ghost use Rattle.luks_trials.specs.Tallies.{Counts};
 ghost use Rattle.luks2_searching.specs.Found.{HasNone2, HasNoneBy, HasNoneStanding, HasNoneTurned, IsFound2};
 
 use crate::bits::by_bits;
@@ -13,7 +14,7 @@ use crate::mixed::by_mixing;
 use crate::standing::as_it_stands;
 use luks_area::Device;
 use luks_rebuilding::Place;
-use luks_searching::{Progress, SearchFault, Tally, Trying};
+use luks_trials::{Progress, SearchFault, Tally, Trying};
 use std::alloc::Global;
 
 /// The sizes that a copy may have, in bytes.
@@ -57,6 +58,8 @@ pub fn search2<D: Device, P: Progress>(
         (D.failed source.old) (D.failed source.new) }
     ensures counts { Counts tally.old tally.new }
     ensures cut { IfErr result (IsCutShort tally.new) }
+    ensures there { IfOk result (λ found. IfSome found (λ f.
+        IsPlace (D.size source.old) f.place × (4096 + length f.json.items ≡ f.place.size))) }
     ensures found { D.tells → IfOk result (λ found. IfSome found
         (IsFound2 trying.now.allowed (D.bytes source.old) trying.now.passphrase.now)) }
     ensures none { D.tells → IfOk result (λ found. IfNone found
@@ -90,6 +93,8 @@ fn by_step<D: Device, P: Progress>(
         (D.failed source.old) (D.failed source.new) }
     ensures counts { Counts tally.old tally.new }
     ensures cut { IfErr result (IsCutShort tally.new) }
+    ensures there { IfOk result (λ found. IfSome found (λ f.
+        IsPlace (D.size source.old) f.place × (4096 + length f.json.items ≡ f.place.size))) }
     ensures found { D.tells → IfOk result (λ found. IfSome found
         (IsFound2 trying.now.allowed (D.bytes source.old) trying.now.passphrase.now)) }
     ensures none { D.tells → IfOk result (λ found. IfNone found ((size : ℕ) → IsListed size
@@ -123,6 +128,8 @@ fn by_size<D: Device, P: Progress>(
         (D.failed source.old) (D.failed source.new) }
     ensures counts { Counts tally.old tally.new }
     ensures cut { IfErr result (IsCutShort tally.new) }
+    ensures there { IfOk result (λ found. IfSome found (λ f.
+        IsPlace (D.size source.old) f.place × (4096 + length f.json.items ≡ f.place.size))) }
     ensures found { D.tells → IfOk result (λ found. IfSome found
         (IsFound2 trying.now.allowed (D.bytes source.old) trying.now.passphrase.now)) }
     ensures none { D.tells → IfOk result (λ found. IfNone found (HasNoneBy trying.now.allowed
@@ -153,6 +160,8 @@ fn standing_by_size<D: Device, P: Progress>(
         (D.failed source.old) (D.failed source.new) }
     ensures counts { Counts tally.old tally.new }
     ensures cut { IfErr result (IsCutShort tally.new) }
+    ensures there { IfOk result (λ found. IfSome found (λ f.
+        IsPlace (D.size source.old) f.place × (4096 + length f.json.items ≡ f.place.size))) }
     ensures found { D.tells → IfOk result (λ found. IfSome found
         (IsFound2 trying.now.allowed (D.bytes source.old) trying.now.passphrase.now)) }
     ensures none { D.tells → IfOk result (λ found. IfNone found (HasNoneBy trying.now.allowed
@@ -186,6 +195,8 @@ fn standing_in<D: Device, P: Progress>(
         (D.failed source.old) (D.failed source.new) }
     ensures counts { Counts tally.old tally.new }
     ensures cut { IfErr result (IsCutShort tally.new) }
+    ensures there { IfOk result (λ found. IfSome found (λ f.
+        IsPlace (D.size source.old) f.place × (4096 + length f.json.items ≡ f.place.size))) }
     ensures found { D.tells → IfOk result (λ found. IfSome found
         (IsFound2 trying.now.allowed (D.bytes source.old) trying.now.passphrase.now)) }
     ensures none { D.tells → IfOk result (λ found. IfNone found (HasNoneStanding trying.now.allowed
@@ -215,6 +226,8 @@ fn bits_by_size<D: Device, P: Progress>(
         (D.failed source.old) (D.failed source.new) }
     ensures counts { Counts tally.old tally.new }
     ensures cut { IfErr result (IsCutShort tally.new) }
+    ensures there { IfOk result (λ found. IfSome found (λ f.
+        IsPlace (D.size source.old) f.place × (4096 + length f.json.items ≡ f.place.size))) }
     ensures found { D.tells → IfOk result (λ found. IfSome found
         (IsFound2 trying.now.allowed (D.bytes source.old) trying.now.passphrase.now)) }
     ensures none { D.tells → IfOk result (λ found. IfNone found (HasNoneBy trying.now.allowed
@@ -248,6 +261,8 @@ fn bits_in<D: Device, P: Progress>(
         (D.failed source.old) (D.failed source.new) }
     ensures counts { Counts tally.old tally.new }
     ensures cut { IfErr result (IsCutShort tally.new) }
+    ensures there { IfOk result (λ found. IfSome found (λ f.
+        IsPlace (D.size source.old) f.place × (4096 + length f.json.items ≡ f.place.size))) }
     ensures found { D.tells → IfOk result (λ found. IfSome found
         (IsFound2 trying.now.allowed (D.bytes source.old) trying.now.passphrase.now)) }
     ensures none { D.tells → IfOk result (λ found. IfNone found (HasNoneTurned trying.now.allowed
@@ -277,6 +292,8 @@ fn mixed_by_size<D: Device, P: Progress>(
         (D.failed source.old) (D.failed source.new) }
     ensures counts { Counts tally.old tally.new }
     ensures cut { IfErr result (IsCutShort tally.new) }
+    ensures there { IfOk result (λ found. IfSome found (λ f.
+        IsPlace (D.size source.old) f.place × (4096 + length f.json.items ≡ f.place.size))) }
     ensures found { D.tells → IfOk result (λ found. IfSome found
         (IsFound2 trying.now.allowed (D.bytes source.old) trying.now.passphrase.now)) }
     ensures none { D.tells → IfOk result (λ found. IfNone found (HasNoneBy trying.now.allowed

@@ -3,17 +3,17 @@ ghost use Rattle.std.specs.Prelude.{◌+◌, ◌^◌, ◌<◌, length, IfErr, If
 ghost use Rattle.luks_area.specs.Device.{CountsFailure, IsUnchanged};
 ghost use Rattle.luks_meta.specs.Accepted.{IsMeta};
 ghost use Rattle.luks_meta.specs.Content.{content};
-ghost use Rattle.luks_searching.specs.Faults.{is_search_failure, IsCutShort};
-ghost use Rattle.luks_searching.specs.Tallies.{Counts};
-ghost use Rattle.luks2_searching.specs.Found.{IsFoundIn};
-ghost use Rattle.luks_searching.specs.Metadata.{OpensAt, OpensNone};
+ghost use Rattle.luks_trials.specs.Faults.{is_search_failure, IsCutShort};
+ghost use Rattle.luks_trials.specs.Tallies.{Counts};
+ghost use Rattle.luks2_searching.specs.Found.{IsFoundIn, IsThere};
+ghost use Rattle.luks_trials.specs.Metadata.{OpensAt, OpensNone};
 
 use crate::digest::mended_digest;
 use crate::found::{Change2, Found2};
 use luks_area::Device;
 use luks_meta::Meta;
 use luks_rebuilding::Place;
-use luks_searching::{Progress, SearchFault, Tally, Trying, distance, meta_of};
+use luks_trials::{Progress, SearchFault, Tally, Trying, distance, meta_of};
 use std::alloc::Global;
 
 /// A digest is taken for the key's where it differs in no more bits.
@@ -38,8 +38,9 @@ pub(crate) fn as_it_stands<D: Device, P: Progress>(
         (D.failed source.old) (D.failed source.new) }
     ensures counts { Counts tally.old tally.new }
     ensures cut { IfErr result (IsCutShort tally.new) }
+    ensures there { IfOk result (λ found. IfSome found (IsThere place json.now)) }
     ensures found { D.tells → IfOk result (λ found. IfSome found (IsFoundIn trying.now.allowed
-        (D.bytes source.old) trying.now.passphrase.now place json.now)) }
+        (D.bytes source.old) trying.now.passphrase.now json.now)) }
     ensures none { D.tells → IfOk result (λ found. IfNone found (OpensNone trying.now.allowed
         (D.bytes source.old) trying.now.passphrase.now json.now)) }
 {
@@ -78,8 +79,9 @@ fn slot_as_it_stands<D: Device, P: Progress>(
         (D.failed source.old) (D.failed source.new) }
     ensures counts { Counts tally.old tally.new }
     ensures cut { IfErr result (IsCutShort tally.new) }
+    ensures there { IfOk result (λ found. IfSome found (IsThere place json.now)) }
     ensures found { D.tells → IfOk result (λ found. IfSome found (IsFoundIn trying.now.allowed
-        (D.bytes source.old) trying.now.passphrase.now place json.now)) }
+        (D.bytes source.old) trying.now.passphrase.now json.now)) }
     ensures none { D.tells → IfOk result (λ found. IfNone found (OpensAt trying.now.allowed
         (D.bytes source.old) trying.now.passphrase.now json.now n → ⊥)) }
 {

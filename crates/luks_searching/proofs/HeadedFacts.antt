@@ -33,7 +33,7 @@ use Rattle.luks1_rebuilding.proofs.OpeningFacts.{kept_entry_of, says_of, tells_o
 use Rattle.luks1_rebuilding.proofs.PlanFacts.{plan_here, plan_there, SaysKept}
 use Rattle.luks1_rebuilding.specs.Headed.{headed}
 use Rattle.luks_searching.specs.Headed.{IsCheap, OpensHeaded}
-use Rattle.luks_searching.specs.Trials.{most_stripes, most_turns, IsCheapDerivation, IsCheapPlan, IsOpenedPlan}
+use Rattle.luks_trials.specs.Trials.{most_stripes, most_turns, IsCheapDerivation, IsCheapPlan, IsOpenedPlan}
 
 -- ---- an enabled keyslot of it
 

@@ -4,7 +4,7 @@ use Rattle.luks1_header.specs.Header1.{entry, entry_iterations, entry_stripes, m
 use Rattle.luks1_mending.specs.declared.given.Given.{Given}
 use Rattle.luks1_rebuilding.specs.Headed.{headed}
 use Rattle.luks1_rebuilding.specs.Openings.{OpensBy}
-use Rattle.luks_searching.specs.Trials.{most_stripes, most_turns}
+use Rattle.luks_trials.specs.Trials.{most_stripes, most_turns}
 
 -- the keyslot `n` is tried: neither it nor the digest has more iterations, nor it more stripes
 pub record IsCheap (h : List ℕ) (n : ℕ) : Type 0 where

@@ -1,0 +1,48 @@
+//! A fragment is read again where it was seen.
+ghost use Rattle.std.specs.Prelude.{◌≡◌, ◌+◌, ◌^◌, ◌<◌, ◌≤◌, length, IfErr, IfOk, IfSome};
+ghost use Rattle.luks_area.specs.Device.{CountsFailure, IsUnchanged};
+ghost use Rattle.luks_trials.specs.Faults.{is_search_failure, IsCutShort};
+ghost use Rattle.luks_trials.specs.declared.tally.Tally.{Tally as TheTally};
+ghost use Rattle.luks_piecing.specs.Pieced.{IsTextAt};
+
+use crate::spots::Spot;
+use luks_area::{Area, Device};
+use luks_fragments::{Kind, kind_of, object_len};
+use luks_trials::SearchFault;
+use std::alloc::Global;
+
+/// An object has no more bytes.
+const LONGEST: usize = 4096;
+
+/// The bytes of the fragment that was seen at the spot, if it is there, and of this kind.
+///
+/// Takes memory for it, and for an area of 12288 bytes and its value.
+pub(crate) fn read_fragment<D: Device>(
+    alloc: Global,
+    source: &mut D,
+    spot: Spot,
+    kind: Kind,
+) -> Result<Option<Vec<u8>>, SearchFault>
+    requires room { D.failed source.old + 1 < 2 ^ 64 }
+    ensures unchanged { IsUnchanged D.tells D.size D.bytes D.unsettled source.old source.new }
+    ensures count { CountsFailure is_search_failure result
+        (D.failed source.old) (D.failed source.new) }
+    ensures cut { (tally : TheTally) → IfErr result (IsCutShort tally) }
+    ensures some { IfOk result (λ found. IfSome found (λ text. 1 ≤ length text.items)) }
+    ensures there { D.tells → IfOk result (λ found. IfSome found (λ text.
+        IsTextAt (D.bytes source.old) spot.at kind text.items)) }
+{
+    let area = Area { start: spot.at, len: spot.len as u64 };
+    if spot.len > LONGEST || !area.is_inside(source.len()) {
+        return Ok(None);
+    }
+    let mut text = vec![in alloc; 0u8; spot.len]?;
+    source.read_at(spot.at, &mut text)?;
+    if object_len(&text, 0) != Some(text.len()) {
+        return Ok(None);
+    }
+    if kind_of(alloc, &text)? != Some(kind) {
+        return Ok(None);
+    }
+    Ok(Some(text))
+}
