@@ -17,10 +17,10 @@ use Rattle.luks1_rebuilding.specs.Openings.{OpensNoneBelow}
 use Rattle.luks1_rebuilding.specs.TrialFaults.{IsTrialFault}
 use Rattle.luks1_rebuilding.specs.declared.rebuild_fault.Rebuild1Fault.{Rebuild1Fault}
 use Rattle.luks1_rebuilding.specs.declared.rebuild_fault.Rebuild1Fault.TheVariants as fault1
-use Rattle.luks_searching.specs.Faults.{is_search_failure}
+use Rattle.luks_trials.specs.Faults.{is_search_failure}
 use Rattle.luks_searching.specs.Found1.{IsFound1, HasNone1}
-use Rattle.luks_searching.specs.declared.fault.SearchFault.{SearchFault}
-use Rattle.luks_searching.specs.declared.fault.SearchFault.TheVariants as search_fault
+use Rattle.luks_trials.specs.declared.fault.SearchFault.{SearchFault}
+use Rattle.luks_trials.specs.declared.fault.SearchFault.TheVariants as search_fault
 use Rattle.luks_searching.specs.declared.searching1.Found1.{Found1}
 use Rattle.luks2_searching.specs.Found.{HasNone2, IsFound2}
 use Rattle.luks2_searching.specs.declared.found.Found2.{Found2}

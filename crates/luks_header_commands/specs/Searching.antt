@@ -9,8 +9,8 @@ use Rattle.luks1_mending.specs.declared.given.Given.{Given}
 use Rattle.luks1_rebuilding.specs.KeyAreas.{header_of}
 use Rattle.luks1_rebuilding.specs.Openings.{OpensNoneBelow}
 use Rattle.luks_searching.specs.Found1.{HasNone1, IsFound1}
-use Rattle.luks_searching.specs.declared.fault.SearchFault.{SearchFault}
-use Rattle.luks_searching.specs.declared.fault.SearchFault.TheVariants as search
+use Rattle.luks_trials.specs.declared.fault.SearchFault.{SearchFault}
+use Rattle.luks_trials.specs.declared.fault.SearchFault.TheVariants as search
 use Rattle.luks_searching.specs.declared.searching1.Found1.{Found1}
 use Rattle.luks2_searching.specs.Found.{HasNone2, IsFound2}
 use Rattle.luks2_searching.specs.declared.found.Found2.{Found2}

@@ -9,7 +9,7 @@ ghost use Rattle.luks_commands.specs.Beside.{AreOneFile, IsSameFile, LeavesTarge
 ghost use Rattle.luks_commands.specs.Beside.{SettlesTarget};
 
 use crate::header_work::{HeaderFiles, HeaderWork, READING_FAILED, TARGET_FAILED, make_header};
-use crate::progress::{Progress, SearchProgress, Untold};
+use crate::progress::{DerivationProgress, Progress, SearchProgress, Untold};
 use luks_commands::{Answer, Inputs, RandomBytes, Refusal, Status, device_fault, few_random_bytes};
 use luks_converting::{CONVERT_RANDOM, ConvertFault, convert};
 use luks_reading::{Data, Device};

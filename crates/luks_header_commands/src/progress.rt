@@ -1,6 +1,6 @@
 //! How far a command is that makes a header.
 pub use luks_rebuilding::SearchProgress;
-pub use luks_searching::{Progress as DerivationProgress, Tally};
+pub use luks_trials::{Progress as DerivationProgress, Tally};
 use luks1_header::Luks1Common;
 pub use luks1_rebuilding::trial::Progress;
 

@@ -15,7 +15,7 @@ use luks_commands::{Answer, Refusal, Status, device_fault};
 use luks_reading::{Device, DeviceFault};
 use luks_rebuilding::RebuildFault;
 use luks_request::Meant;
-use luks_searching::{SearchFault, Tally};
+use luks_trials::{SearchFault, Tally};
 use luks1_header::fields::u16_at;
 use luks1_header::luks1_places::{SIZE, VERSION};
 use luks1_rebuilding::Given;

@@ -14,7 +14,7 @@ use crate::trying::Trying;
 use luks_commands::open::allowed_of;
 use luks_commands::{Answer, Status};
 use luks_reading::Device;
-use luks_searching::{Tally, Trying as Passphrase};
+use luks_trials::{Tally, Trying as Passphrase};
 use luks2_searching::{Change2, Found2, search2};
 use std::alloc::Global;
 use std::io::Write;
