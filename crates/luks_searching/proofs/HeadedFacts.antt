@@ -36,7 +36,7 @@ use Rattle.luks1_rebuilding.proofs.OpeningFacts.{kept_entry_of, says_of, tells_o
 use Rattle.luks1_rebuilding.proofs.PlanFacts.{plan_here, plan_there, SaysKept}
 use Rattle.luks1_rebuilding.proofs.RebuiltFacts.{moved}
 use Rattle.luks_searching.specs.Headed.{headed, IsCheap, OpensHeaded}
-use Rattle.luks_searching.specs.Trials.{most_stripes, most_turns, IsCheapDerivation, IsCheapPlan, IsOpenedPlan}
+use Rattle.luks_trials.specs.Trials.{most_stripes, most_turns, IsCheapDerivation, IsCheapPlan, IsOpenedPlan}
 
 pub header_is : (v h : List ℕ) → length h ≡ 592 → header_of (headed v h) ≡ h
 header_is v h long = let P : ℕ → Type 0 = λ n. take n (h ++ drop 592 v) ≡ h in subst P long (take-append_seam h (drop 592 v))

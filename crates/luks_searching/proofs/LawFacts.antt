@@ -7,7 +7,7 @@ use Rattle.luks_area.proofs.RangeFacts.{part-same_but_at, same_but-equal, same_b
 use Rattle.luks1_header.specs.Header1.{mk_digest_of}
 use Rattle.luks_searching.specs.Fields1.{IsOfField}
 use Rattle.luks_searching.specs.Found1.{IsBitTurned, IsTurnedOnce, IsTurnedTimes}
-use Rattle.luks_searching.specs.Turned.{turned}
+use Rattle.luks_trials.specs.Turned.{turned}
 use Rattle.luks_searching.specs.declared.fields1.Field.{Field}
 use Rattle.luks_searching.specs.declared.fields1.Field.TheVariants.{KeyBytes, DigestSalt, State, SaltAndArea, DigestIterations, Iterations}
 

@@ -1,11 +1,12 @@
 -- A LUKS1 header near to that of the volume `v`, by which a passphrase opens a keyslot.
-use Rattle.std.specs.Prelude.{◌≡◌, ℕ, zero, suc, ◌<◌, ◌≤◌, List}
+use Rattle.std.specs.Prelude.{◌≡◌, ◌⊎◌, ℕ, zero, suc, ◌+◌, ◌<◌, ◌≤◌, List, Option, Some}
 use Rattle.luks_area.specs.Ranges.{IsAt}
 use Rattle.luks1_mending.specs.declared.given.Given.{Given}
 use Rattle.luks1_rebuilding.specs.KeyAreas.{header_of}
 use Rattle.luks_searching.specs.Fields1.{IsOfField, IsSearched}
 use Rattle.luks_searching.specs.Headed.{OpensHeaded}
-use Rattle.luks_searching.specs.Turned.{turned}
+use Rattle.luks_trials.specs.Turned.{turned}
+use Rattle.luks_searching.specs.declared.digest1.Mended.{Mended}
 use Rattle.luks_searching.specs.declared.fields1.Field.{Field}
 use Rattle.luks_searching.specs.declared.searching1.Change1.{Change1}
 use Rattle.luks_searching.specs.declared.searching1.Change1.TheVariants.{Nothing, Bit, Digest}
@@ -23,6 +24,17 @@ pub record IsTurnedOnce (old new : List ℕ) : Type 0 where
 abbrev pub IsTurnedTimes : ℕ → List ℕ → List ℕ → Type 0
 IsTurnedTimes zero old new = new ≡ old
 IsTurnedTimes (suc count) old new = (before : List ℕ) × (IsTurnedTimes count old before × IsTurnedOnce before new)
+
+-- on the way to the digest that the key meets: one bit more was turned, where that left fewer bits to turn
+abbrev pub IsNearer : Mended → List ℕ → Option ℕ → Mended → Type 0
+IsNearer before h distance after =
+    (after ≡ before) ⊎ ((after.header ≡ h) × (after.times ≡ before.times + 1) × (after.left < before.left) × (distance ≡ Some after.left))
+
+-- of `bits` bits so many were turned that at most the others are left
+pub record IsUnderWay (h : List ℕ) (bits : ℕ) (m : Mended) : Type 0 where
+  pub some : 1 ≤ m.left
+  pub sum : m.times + m.left ≤ bits
+  pub turned : IsTurnedTimes m.times h m.header
 
 -- a bit of a field that the keyslot `n` opens by is turned
 pub record IsBitTurned (h : List ℕ) (n place bit : ℕ) (new : List ℕ) : Type 0 where

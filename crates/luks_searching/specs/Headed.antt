@@ -3,7 +3,7 @@ use Rattle.std.specs.Prelude.{ℕ, ◌≤◌, List, ◌++◌, drop}
 use Rattle.luks1_header.specs.Header1.{entry, entry_iterations, entry_stripes, luks1_size, mk_digest_iterations_of}
 use Rattle.luks1_mending.specs.declared.given.Given.{Given}
 use Rattle.luks1_rebuilding.specs.Openings.{OpensBy}
-use Rattle.luks_searching.specs.Trials.{most_stripes, most_turns}
+use Rattle.luks_trials.specs.Trials.{most_stripes, most_turns}
 
 -- the volume `v` with the header `h`
 abbrev pub headed : List ℕ → List ℕ → List ℕ

@@ -1,9 +1,3 @@
-pub mod Alike
-pub mod Faults
 pub mod Fields1
 pub mod Found1
 pub mod Headed
-pub mod Metadata
-pub mod Tallies
-pub mod Trials
-pub mod Turned

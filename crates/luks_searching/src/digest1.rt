@@ -2,16 +2,15 @@
 ghost use Rattle.std.specs.Prelude.{◌+◌, ◌^◌, ◌<◌, ◌≤◌, IfErr, IfOk, IfSome};
 ghost use Rattle.luks_area.specs.Device.{CountsFailure, IsUnchanged};
 ghost use Rattle.luks1_header.specs.Header1.{luks1_size};
-ghost use Rattle.luks_searching.specs.Faults.{is_search_failure, IsCutShort};
-ghost use Rattle.luks_searching.specs.Found1.{few_bits, IsFoundOf};
-ghost use Rattle.luks_searching.specs.Tallies.{Counts};
+ghost use Rattle.luks_trials.specs.Faults.{is_search_failure, IsCutShort};
+ghost use Rattle.luks_searching.specs.Found1.{few_bits, IsFoundOf, IsNearer};
+ghost use Rattle.luks_trials.specs.Tallies.{Counts};
 
-use crate::fault::SearchFault;
 use crate::searching1::{Change1, Found1};
-use crate::tally::{Progress, Tally};
 use crate::trial1::{Sought, distance};
 use crate::turning::turned;
 use luks_area::Device;
+use luks_trials::{Progress, SearchFault, Tally};
 use std::alloc::Global;
 
 /// Where the digest stands, in bytes from the header's start.
@@ -44,31 +43,52 @@ pub(crate) fn mended_digest<D: Device, P: Progress>(
     ensures found { D.tells → IfOk result (λ found. IfSome found (IsFoundOf (D.bytes source.old)
         sought.now.header.now sought.now.given.now sought.now.passphrase.now)) }
 {
-    let mut mended = *sought.header;
-    let mut times = 0;
-    let mut left = bits;
+    let mut mended = Mended {
+        header: *sought.header,
+        times: 0,
+        left: bits,
+    };
     for number in 0..BITS {
-        let header = turned(&mended, DIGEST + number / 8, (number % 8) as u8);
+        let header = turned(&mended.header, DIGEST + number / 8, (number % 8) as u8);
         let changed = Sought {
             header: &header,
             given: sought.given,
             passphrase: sought.passphrase,
         };
-        match distance(alloc, source, &changed, n, tally, progress)? {
-            Some(0) => {
-                return Ok(Some(Found1 {
-                    header,
-                    slot: n,
-                    change: Change1::Digest { bits: times + 1 },
-                }));
-            }
-            Some(fewer) if fewer < left => {
-                mended = header;
-                times += 1;
-                left = fewer;
-            }
-            _ => {}
+        let distance = distance(alloc, source, &changed, n, tally, progress)?;
+        if distance == Some(0) {
+            return Ok(Some(Found1 {
+                header,
+                slot: n,
+                change: Change1::Digest {
+                    bits: mended.times + 1,
+                },
+            }));
         }
+        mended = nearer(mended, header, distance);
     }
     Ok(None)
+}
+
+/// A header on the way to the digest that the key meets.
+#[derive(Clone, Copy)]
+pub(crate) struct Mended {
+    header: [u8; 592],
+    times: u32,
+    left: u32,
+}
+
+/// The header by which the digest differs in so many bits, if these are fewer, else the one before.
+fn nearer(before: Mended, header: [u8; 592], distance: Option<u32>) -> Mended
+    requires { before.times + before.left ≤ few_bits }
+    ensures { IsNearer before header distance result }
+{
+    match distance {
+        Some(left) if left < before.left => Mended {
+            header,
+            times: before.times + 1,
+            left,
+        },
+        _ => before,
+    }
 }

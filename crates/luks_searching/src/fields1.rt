@@ -2,19 +2,18 @@
 ghost use Rattle.std.specs.Prelude.{◌≡◌, ◌↔◌, ◌+◌, ◌^◌, ◌<◌, ◌≤◌, ℕ, IfErr, IfNone, IfOk, IfSome, IsTrue};
 ghost use Rattle.luks_area.specs.Device.{CountsFailure, IsUnchanged};
 ghost use Rattle.luks1_header.specs.Header1.{luks1_size};
-ghost use Rattle.luks_searching.specs.Faults.{is_search_failure, IsCutShort};
+ghost use Rattle.luks_trials.specs.Faults.{is_search_failure, IsCutShort};
 ghost use Rattle.luks_searching.specs.Fields1.{len_of, start_of};
 ghost use Rattle.luks_searching.specs.Found1.{IsFoundOf, OpensNoneIn};
 ghost use Rattle.luks_searching.specs.Headed.{OpensHeaded};
-ghost use Rattle.luks_searching.specs.Tallies.{Counts};
-ghost use Rattle.luks_searching.specs.Turned.{turned};
+ghost use Rattle.luks_trials.specs.Tallies.{Counts};
+ghost use Rattle.luks_trials.specs.Turned.{turned};
 
-use crate::fault::SearchFault;
 use crate::searching1::{Change1, Found1};
-use crate::tally::{Progress, Tally};
 use crate::trial1::{Sought, distance};
 use crate::turning::turned;
 use luks_area::Device;
+use luks_trials::{Progress, SearchFault, Tally};
 use std::alloc::Global;
 
 /// A field by which a keyslot opens.

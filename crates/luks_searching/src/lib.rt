@@ -1,22 +1,15 @@
-//! What of a damaged header a passphrase finds: each search changes few bytes of what stands, and takes
+//! What of a damaged LUKS1 header a passphrase finds: the search changes few bytes of what stands, and takes
 //! that by which a keyslot opens to a key that meets its digest. Nothing is written, and each
 //! derivation is counted before it is made.
 #![tactic(auto)]
 
-mod alike;
 mod digest1;
-mod fault;
 mod fields1;
 mod laws;
 mod searching1;
-mod tally;
-mod trial;
 mod trial1;
-mod trial2;
 mod turning;
 
-pub use fault::SearchFault;
 pub use laws::digest_stood;
+pub use luks_trials::{Progress, SearchFault, Spent, Tally, Trying, Untold};
 pub use searching1::{Change1, Found1, search1};
-pub use tally::{Progress, Spent, Tally, Untold};
-pub use trial2::Trying;

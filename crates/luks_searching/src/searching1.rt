@@ -2,18 +2,17 @@
 ghost use Rattle.std.specs.Prelude.{◌≡◌, ◌+◌, ◌^◌, ◌<◌, ◌≤◌, ℕ, IfErr, IfNone, IfOk, IfSome};
 ghost use Rattle.luks_area.specs.Device.{CountsFailure, IsUnchanged};
 ghost use Rattle.luks1_header.specs.Header1.{luks1_size};
-ghost use Rattle.luks_searching.specs.Faults.{is_search_failure, IsCutShort};
+ghost use Rattle.luks_trials.specs.Faults.{is_search_failure, IsCutShort};
 ghost use Rattle.luks_searching.specs.Found1.{few_bits, HasNone1, IsFound1, IsFoundOf, OpensNoneIn};
 ghost use Rattle.luks_searching.specs.Headed.{OpensHeaded};
-ghost use Rattle.luks_searching.specs.Tallies.{Counts};
+ghost use Rattle.luks_trials.specs.Tallies.{Counts};
 ghost use Rattle.luks_searching.specs.declared.fields1.Field.{Field as TheField};
 
 use crate::digest1::mended_digest;
-use crate::fault::SearchFault;
 use crate::fields1::{Field, turned_in};
-use crate::tally::{Progress, Tally};
 use crate::trial1::{Sought, distance};
 use luks_area::Device;
+use luks_trials::{Progress, SearchFault, Tally};
 use luks1_mending::Given;
 use std::alloc::Global;
 

@@ -3,16 +3,14 @@ ghost use Rattle.std.specs.Prelude.{◌≡◌, ◌↔◌, ◌+◌, ◌^◌, ◌<
 ghost use Rattle.luks_area.specs.Device.{CountsFailure, IsUnchanged};
 ghost use Rattle.luks1_header.specs.Header1.{luks1_size};
 ghost use Rattle.luks1_mending.specs.Made.{IsMade};
-ghost use Rattle.luks_searching.specs.Faults.{is_search_failure, IsCutShort};
+ghost use Rattle.luks_trials.specs.Faults.{is_search_failure, IsCutShort};
 ghost use Rattle.luks_searching.specs.Headed.{OpensHeaded};
-ghost use Rattle.luks_searching.specs.Tallies.{Counts, CountsOne};
+ghost use Rattle.luks_trials.specs.Tallies.{Counts, CountsOne};
 
-use crate::fault::SearchFault;
-use crate::tally::{Progress, Tally};
-use crate::trial::try_plan;
 use luks_area::Device;
 use luks_reading::luks1_plan;
 use luks_slot::Allowed;
+use luks_trials::{Progress, SearchFault, Tally, try_plan};
 use luks1_mending::{Given, mended_header};
 use luks2_header::{Luks1, SlotState};
 use std::alloc::Global;

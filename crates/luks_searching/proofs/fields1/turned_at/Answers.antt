@@ -1,8 +1,8 @@
 use Rattle.std.proofs.Common.{◌∙◌, subst, sym, arith, rules, below_more}
 use Rattle.luks_area.specs.Device.{unchanged-then}
 use Rattle.luks_searching.specs.Headed.{OpensHeaded}
-use Rattle.luks_searching.specs.Turned.{turned}
-use Rattle.luks_searching.proofs.TallyFacts.{counts_then}
+use Rattle.luks_trials.specs.Turned.{turned}
+use Rattle.luks_trials.proofs.TallyFacts.{counts_then}
 use Rattle.luks_searching.proofs.fields1.turned_at.Goals as goal
 
 pub returns-then-branch-clause-opens : goal.returns-then-branch-clause-opens

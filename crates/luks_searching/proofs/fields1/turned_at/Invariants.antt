@@ -1,8 +1,8 @@
 use Rattle.std.proofs.Common.{◌≡◌, ℕ, ◌<◌}
 use Rattle.luks_area.specs.Device.{IsUnchanged}
 use Rattle.luks_searching.specs.Headed.{OpensHeaded}
-use Rattle.luks_searching.specs.Tallies.{Counts}
-use Rattle.luks_searching.specs.Turned.{turned}
+use Rattle.luks_trials.specs.Tallies.{Counts}
+use Rattle.luks_trials.specs.Turned.{turned}
 use Rattle.luks_searching.proofs.fields1.turned_at.Given as goal
 
 -- no bit before this one opens the keyslot

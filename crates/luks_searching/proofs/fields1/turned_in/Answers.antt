@@ -2,9 +2,9 @@ use Rattle.std.proofs.Common.{◌≡◌, ℕ, ◌+◌, ◌-◌, ◌<◌, ◌≤�
 use Rattle.std.proofs.lemmas.Bool.{cases_eq}
 use Rattle.luks_area.specs.Device.{unchanged-then}
 use Rattle.luks_searching.specs.Headed.{OpensHeaded}
-use Rattle.luks_searching.specs.Turned.{turned}
-use Rattle.luks_searching.proofs.OptionFacts.{none_of}
-use Rattle.luks_searching.proofs.TallyFacts.{counts_then}
+use Rattle.luks_trials.specs.Turned.{turned}
+use Rattle.luks_trials.proofs.OptionFacts.{none_of}
+use Rattle.luks_trials.proofs.TallyFacts.{counts_then}
 use Rattle.luks_searching.proofs.fields1.turned_in.Goals as goal
 
 pub loop-behind-preserved : goal.loop-behind-preserved

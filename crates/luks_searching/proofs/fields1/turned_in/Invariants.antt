@@ -2,8 +2,8 @@ use Rattle.std.proofs.Common.{◌≡◌, ℕ, ◌+◌, ◌<◌, ◌≤◌}
 use Rattle.luks_area.specs.Device.{IsUnchanged}
 use Rattle.luks_searching.specs.Fields1.{len_of, start_of}
 use Rattle.luks_searching.specs.Headed.{OpensHeaded}
-use Rattle.luks_searching.specs.Tallies.{Counts}
-use Rattle.luks_searching.specs.Turned.{turned}
+use Rattle.luks_trials.specs.Tallies.{Counts}
+use Rattle.luks_trials.specs.Turned.{turned}
 use Rattle.luks_searching.proofs.fields1.turned_in.Given as goal
 
 -- no bit of the last bytes opens the keyslot

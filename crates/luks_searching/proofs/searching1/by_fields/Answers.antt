@@ -4,8 +4,8 @@ use Rattle.luks_searching.specs.Found1.{OpensNoneIn}
 use Rattle.luks_searching.specs.declared.fields1.Field.{Field}
 use Rattle.luks_searching.specs.declared.fields1.Field.TheVariants.{KeyBytes, DigestSalt, State, SaltAndArea, DigestIterations, Iterations}
 use Rattle.luks_searching.specs.declared.searching1.TheConstants.{FIELDS}
-use Rattle.luks_searching.proofs.OptionFacts.{none_where}
-use Rattle.luks_searching.proofs.TallyFacts.{counts_then}
+use Rattle.luks_trials.proofs.OptionFacts.{none_where}
+use Rattle.luks_trials.proofs.TallyFacts.{counts_then}
 use Rattle.luks_searching.proofs.searching1.by_fields.Goals as goal
 
 -- each field stands in the list

@@ -1,7 +1,7 @@
 use Rattle.std.proofs.Common.{◌≡◌, ℕ, ◌<◌, slice_index_or}
 use Rattle.luks_area.specs.Device.{IsUnchanged}
 use Rattle.luks_searching.specs.Found1.{OpensNoneIn}
-use Rattle.luks_searching.specs.Tallies.{Counts}
+use Rattle.luks_trials.specs.Tallies.{Counts}
 use Rattle.luks_searching.specs.declared.fields1.Field.TheVariants.{KeyBytes}
 use Rattle.luks_searching.specs.declared.searching1.TheConstants.{FIELDS}
 use Rattle.luks_searching.proofs.searching1.by_fields.Given as goal
