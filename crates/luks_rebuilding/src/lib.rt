@@ -1,5 +1,5 @@
 //! A detached LUKS2 header made out of metadata that is still whole in a volume of which no header
-//! counts, or that the checksum of a copy vouches for. The volume stays as it is.
+//! counts, that the checksum of a copy vouches for, or that was found for it. The volume stays as it is.
 #![tactic(auto)]
 
 mod candidate;

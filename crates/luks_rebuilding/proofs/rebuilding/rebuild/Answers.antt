@@ -1,7 +1,6 @@
 use Rattle.std.proofs.Common.{◌≡◌, ◌↔◌, ℕ, List, length, option_map, false, IfErr, OnOk, sym, subst}
 use Rattle.std.proofs.lemmas.Result.{err_from_is_err_and}
 use Rattle.luks_area.specs.First.{IsLeast}
-use Rattle.luks_area.specs.Ranges.{SameBut}
 use Rattle.luks_slot.specs.declared.allowed.Allowed.{Allowed}
 use Rattle.luks_reading.specs.Answer.{AnswerWithin, Opened}
 use Rattle.luks_rebuilding.specs.Found.{source_of, IsWhole}
@@ -9,9 +8,8 @@ use Rattle.luks_rebuilding.specs.Gives.{Gives}
 use Rattle.luks_rebuilding.specs.Making.{IsMakeable, IsMakingFault, MakesFirstLast}
 use Rattle.luks_rebuilding.specs.Outcome.{IsAnsweredFault, IsRebuildable}
 use Rattle.luks_rebuilding.specs.RebuildFaults.{is_rebuild_failure, rebuild_key}
-use Rattle.luks_rebuilding.specs.Rebuilt.{IsMade, IsOfHeader, IsRebuilt}
+use Rattle.luks_rebuilding.specs.Rebuilt.{IsMade, IsRebuilt}
 use Rattle.luks_rebuilding.specs.Candidates.{OfTaken, Source}
-use Rattle.luks_rebuilding.specs.declared.rebuild_fault.RebuildFault.{RebuildFault}
 use Rattle.luks_rebuilding.proofs.FaultFacts.{err_so, not_found_first, ok_so, own_answered, own_fault, own_rebuildable}
 use Rattle.luks_rebuilding.proofs.RebuildFacts.{first_written_last, of_rebuilt, taken_so}
 use Rattle.luks_rebuilding.proofs.rebuilding.rebuild.Goals as goal
