@@ -1,10 +1,13 @@
 -- A digest of which one bit more is turned.
-use Rattle.std.proofs.Common.{◌≡◌, ℕ, ◌+◌, ◌<◌, ◌≤◌, List, length, Option, Some, add-one, inl, inr, ap, sym, subst, ◌∙◌, arith}
+use Rattle.std.proofs.Common.{◌≡◌, ℕ, ◌+◌, ◌*◌, ◌/◌, ◌%◌, ◌<◌, ◌≤◌, List, length, Option, Some, add-one, inl, inr, ap, sym, subst, ◌∙◌, arith}
 use Rattle.std.proofs.lemmas.Bool.{cases_eq}
 use Rattle.std.proofs.lemmas.List.{length-set}
 use Rattle.luks_trials.specs.Turned.{turned}
 use Rattle.luks2_searching.specs.Digests.{AreTurned, IsNearer, IsTurnedOnce, IsUnderWay}
 use Rattle.luks2_searching.specs.declared.digest.Mended.{Mended}
+
+pub turned_once : (stood mid new : List ℕ) (number : ℕ) → number < 8 * length stood → length mid ≡ length stood → new ≡ turned mid (number / 8) (number % 8) → IsTurnedOnce mid new
+turned_once stood mid new number below long is = record { place = number / 8; bit = number % 8; inside = omega (arith, below, long); low = omega arith; is = is }
 
 pub turned_more : (count : ℕ) (old mid new : List ℕ) → AreTurned count old mid → IsTurnedOnce mid new → AreTurned (count + 1) old new
 turned_more count old mid new x once = subst (λ (m : ℕ). AreTurned m old new) (sym (add-one count)) (mid, (x, once))

@@ -3,12 +3,10 @@ use Rattle.std.proofs.Common.{◌≡◌, ◌⊎◌, ℕ, ◌+◌, ◌-◌, List,
 use Rattle.luks2_header.specs.Sizes.{IsListed}
 use Rattle.luks2_header.proofs.CopyFacts.{listed_at_least}
 use Rattle.luks_rebuilding.specs.Candidates.{IsBegun, IsPlace}
-use Rattle.luks_rebuilding.specs.Found.{place_of}
-use Rattle.luks_rebuilding.specs.declared.place.Half.TheVariants.{First, Second}
 use Rattle.luks_rebuilding.specs.declared.place.Place.{Place}
 use Rattle.luks_slot.specs.declared.allowed.Allowed.{Allowed}
 use Rattle.luks_trials.specs.Metadata.{OpensAt}
-use Rattle.luks2_searching.specs.Found.{area_of, HasNone2, HasNoneBy, HasNoneTurned, IsChanged2, IsFound2, IsFoundIn, IsFoundMixed, IsNear2, IsOfBoth, IsThere}
+use Rattle.luks2_searching.specs.Found.{area_of, first_place, second_place, HasNone2, HasNoneBy, HasNoneTurned, IsChanged2, IsFound2, IsFoundIn, IsFoundMixed, IsNear2, IsOfBoth, IsThere}
 use Rattle.luks2_searching.specs.declared.found.Change2.{Change2}
 use Rattle.luks2_searching.specs.declared.found.Change2.TheVariants as change
 use Rattle.luks2_searching.specs.declared.found.Found2.{Found2}
@@ -41,27 +39,27 @@ found_in allowed v p place json f inside long read there x =
       opens = x.opens;
     }
 
-pub found_mixed : (allowed : Allowed) (v p : List ℕ) (size : ℕ) (first second : List ℕ) (f : Found2) → IsPlace (length v) (place_of First size)
-    → IsPlace (length v) (place_of Second size) → length first ≡ size - 4096 → first ≡ area_of v (place_of First size) → second ≡ area_of v (place_of Second size)
-    → IsThere (place_of First size) first f → IsFoundMixed allowed v p first second f → IsFound2 allowed v p f
+pub found_mixed : (allowed : Allowed) (v p : List ℕ) (size : ℕ) (first second : List ℕ) (f : Found2) → IsPlace (length v) (first_place size)
+    → IsPlace (length v) (second_place size) → length first ≡ size - 4096 → first ≡ area_of v (first_place size) → second ≡ area_of v (second_place size)
+    → IsThere (first_place size) first f → IsFoundMixed allowed v p first second f → IsFound2 allowed v p f
 found_mixed allowed v p size first second f here behind long one two there x =
     let own : f.place.size ≡ size = ap (λ (q : Place). q.size) there.at in
-    let both = there_in (length v) (place_of First size) first f here long there in
+    let both = there_in (length v) (first_place size) first f here long there in
     record {
       place = both.0;
       long = both.1;
       changed = subst (λ c. IsChanged2 v f.place f.slot c f.json.items) (sym x.changed) (record {
-        first = there.at ∙ ap (place_of First) (sym own);
-        second = subst (λ n. IsPlace (length v) (place_of Second n)) (sym own) behind;
-        composed = subst (λ n. IsOfBoth (area_of v (place_of First n)) (area_of v (place_of Second n)) f.json.items) (sym own)
-            (subst (λ j. IsOfBoth j (area_of v (place_of Second size)) f.json.items) one (subst (λ j. IsOfBoth first j f.json.items) two x.composed));
+        first = there.at ∙ ap first_place (sym own);
+        second = subst (λ n. IsPlace (length v) (second_place n)) (sym own) behind;
+        composed = subst (λ n. IsOfBoth (area_of v (first_place n)) (area_of v (second_place n)) f.json.items) (sym own)
+            (subst (λ j. IsOfBoth j (area_of v (second_place size)) f.json.items) one (subst (λ j. IsOfBoth first j f.json.items) two x.composed));
       });
       opens = x.opens;
     }
 
 -- a place is that of a first or of a second copy
-place_cases : (P : Place → Type 0) (total : ℕ) (place : Place) → IsPlace total place → (IsListed place.size → P (place_of First place.size))
-    → (IsListed place.size → P (place_of Second place.size)) → P place
+place_cases : (P : Place → Type 0) (total : ℕ) (place : Place) → IsPlace total place → (IsListed place.size → P (first_place place.size))
+    → (IsListed place.size → P (second_place place.size)) → P place
 place_cases P total place is first second = elim is.first_or_second [
   | inl zero ↦ subst (λ (a : ℕ). P (record { size = place.size; at = a })) (sym zero) (first is.listed)
   | inr own ↦ subst (λ (a : ℕ). P (record { size = place.size; at = a })) (sym own) (second is.listed)
@@ -78,5 +76,5 @@ none_of_steps allowed v p standing mixed bits =
       turned = λ place at bit begun few below low n x. stands place begun n (
           place_cases (λ q. HasNoneTurned allowed v p q) (length v) place begun.is_place (λ listed. (bits place.size listed).0) (λ listed. (bits place.size listed).1)
           begun few at bit below low n x);
-      mixed = λ size new one two both n x. stands (place_of First size) one n (mixed size one.is_place.listed one two new both n x);
+      mixed = λ size new one two both n x. stands (first_place size) one n (mixed size one.is_place.listed one two new both n x);
     }

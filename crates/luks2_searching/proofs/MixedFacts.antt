@@ -1,11 +1,11 @@
 -- Each area composed of the bytes of two has a number.
-use Rattle.std.proofs.Common.{◌≡◌, ℕ, zero, suc, ◌+◌, ◌*◌, ◌/◌, ◌%◌, ◌^◌, ◌<◌, ◌≤◌, ◌⊎◌, ◌==◌, List, [], ◌∷◌, ◌++◌, if◌then◌else◌, true, inl, inr, length, get_or, set, refl, sym, ap, ◌∙◌, subst, arith, add-one}
+use Rattle.std.proofs.Common.{◌≡◌, ℕ, zero, suc, ◌+◌, ◌-◌, ◌*◌, ◌/◌, ◌%◌, ◌^◌, ◌<◌, ◌≤◌, ◌⊎◌, ◌==◌, List, [], ◌∷◌, ◌++◌, if◌then◌else◌, true, inl, inr, length, get_or, set, refl, sym, ap, ◌∙◌, subst, arith, add-one}
 use Rattle.std.specs.List.{All}
-use Rattle.std.proofs.lemmas.Bool.{cases_Bool, cases_eq, eq-eqb, eqb-true}
+use Rattle.std.proofs.lemmas.Bool.{cases_Bool, cases_eq, eq-eqb, ne_eqb}
 use Rattle.std.proofs.lemmas.Grind.{get_or-set_at, same_number_lists}
-use Rattle.std.proofs.lemmas.List.{get_or-set_other, length-set}
+use Rattle.std.proofs.lemmas.List.{get_or-set_other, length-append, length-set}
 use Rattle.std.proofs.Math.Nat.{pow-suc}
-use Rattle.luks2_searching.specs.Mixed.{differing, mixed, AreAllOf, AreInside, IsMixed, IsOf}
+use Rattle.luks2_searching.specs.Mixed.{differing, few_bytes, mixed, AreAllOf, AreDiffering, AreInside, DifferAt, GrowsBy, IsMixed, IsOf}
 
 -- ---- the places
 
@@ -39,10 +39,8 @@ inside_more total place (x ∷ xs) inside here (suc k) d lt = inside_more total 
 
 -- how many differ, one byte on
 pub differing_more : (first second : List ℕ) (n : ℕ) → (get_or first n 0 ≡ get_or second n 0 → ⊥) → differing first second (n + 1) ≡ differing first second n + 1
-differing_more first second n other = elim (cases_Bool (get_or first n 0 == get_or second n 0)) [
-  | inl same ↦ absurd (other (eqb-true (get_or first n 0) (get_or second n 0) same))
-  | inr no ↦ ap (differing first second) (add-one n) ∙ ap (λ b. differing first second n + (if b then 0 else 1)) no
-]
+differing_more first second n other =
+    ap (differing first second) (add-one n) ∙ ap (λ b. differing first second n + (if b then 0 else 1)) (ne_eqb (get_or first n 0) (get_or second n 0) other)
 
 pub differing_same : (first second : List ℕ) (n : ℕ) → get_or first n 0 ≡ get_or second n 0 → differing first second (n + 1) ≡ differing first second n
 differing_same first second n same =
@@ -57,6 +55,43 @@ differing_grows first second n (suc more) =
     let step : differing first second (n + more) ≤ differing first second (suc (n + more)) = omega arith in
     let same : suc (n + more) ≡ n + suc more = omega arith in
     subst (λ (m : ℕ). differing first second n ≤ differing first second m) same (omega (arith, before, step))
+
+pub none_differ : (first second : List ℕ) → AreDiffering first second 0 []
+none_differ first second = record { many = refl; few = omega arith; inside = λ k d lt. absurd (omega (arith, lt)); all = λ p lt. absurd (omega (arith, lt)) }
+
+-- so it goes on
+pub grown_more : (first second : List ℕ) (place : ℕ) (old new : List ℕ) → place < length first → AreDiffering first second place old → GrowsBy first second place old new
+    → AreDiffering first second (place + 1) new
+grown_more first second place old new inside x grows = elim grows [
+  | inl same ↦ subst (λ xs. AreDiffering first second (place + 1) xs) (sym same.1) (record {
+    many = x.many ∙ sym (differing_same first second place same.0);
+    few = x.few;
+    inside = x.inside;
+    all = all_same first second old place same.0 x.all;
+  })
+  | inr other ↦
+      let one : length (old ++ place ∷ []) ≡ length old + 1 = length-append old (place ∷ []) in
+      let many = x.many in
+      let next = differing_more first second place other.0 in
+      let room = other.1 in
+      subst (λ xs. AreDiffering first second (place + 1) xs) (sym other.2) (record {
+        many = omega (arith, one, many, next);
+        few = omega (arith, one, room);
+        inside = inside_more (length first) place old x.inside inside;
+        all = all_more first second old place x.all;
+      })
+]
+
+-- where there is no room for one more they differ in more
+pub not_few : (first second : List ℕ) (place : ℕ) (places : List ℕ) → place < length first → AreDiffering first second place places
+    → (get_or first place 0 ≡ get_or second place 0 → ⊥) → few_bytes ≤ length places → DifferAt first second few_bytes → ⊥
+not_few first second place places inside x other full few =
+    let many = x.many in
+    let next = differing_more first second place other in
+    let rest : (place + 1) + (length first - (place + 1)) ≡ length first = omega (arith, inside) in
+    let grows : differing first second (place + 1) ≤ differing first second (length first) =
+    subst (λ (n : ℕ). differing first second (place + 1) ≤ differing first second n) rest (differing_grows first second (place + 1) (length first - (place + 1))) in
+    omega (arith, many, next, grows, full, few)
 
 -- ---- what is composed
 

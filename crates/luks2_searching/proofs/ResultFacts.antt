@@ -1,5 +1,5 @@
 -- What is said of what is found, and of where nothing is.
-use Rattle.std.proofs.Common.{◌≡◌, Option, Some, None, Result, Ok, Err, IfNone, IfOk, IfSome, subst}
+use Rattle.std.proofs.Common.{◌≡◌, ◌↔◌, Bool, true, Option, Some, None, Result, Ok, Err, IfNone, IfOk, IfSome, IsTrue, subst}
 
 pub some_of : {A : Type 0} (o : Option A) (x : A) (P : A → Type 0) → o ≡ Some x → IfSome o P → P x
 some_of {A} o x P is p = subst (λ (q : Option A). IfSome q P) is p
@@ -22,3 +22,12 @@ pub none_so : {A F : Type 0} (r : Result (Option A) F) (X Y : Type 0) → (X →
 none_so (Ok (Some x)) X Y so p = tt
 none_so (Ok None) X Y so p = so p
 none_so (Err f) X Y so p = tt
+
+-- of an answer that is yes
+pub yes_so : {F : Type 0} (r : Result Bool F) (X : Type 0) → IfOk r (λ is. IsTrue is ↔ X) → IfOk r (λ is. is ≡ true → X)
+yes_so (Ok b) X same = λ yes. same.0 yes
+yes_so (Err f) X same = tt
+
+pub yes_all : {F : Type 0} (r : Result Bool F) (X : Type 0) → X → IfOk r (λ is. is ≡ true → X)
+yes_all (Ok b) X x = λ yes. x
+yes_all (Err f) X x = tt

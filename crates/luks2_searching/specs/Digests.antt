@@ -60,6 +60,12 @@ base64_text bytes = encode alphabet 61 true bytes
 abbrev pub few_bits : ℕ
 few_bits = 8
 
+-- the text of the one digest stands at the place, and that of the other is put there
+pub record IsReplaced (json stood digest : List ℕ) (place : ℕ) (new : List ℕ) : Type 0 where
+  pub long : length new ≡ length json
+  pub before : part json place (length (base64_text stood)) ≡ base64_text stood
+  pub put : new ≡ written json place (base64_text digest)
+
 -- so many bits of the keyslot's digest are turned, and its text stands where that of the one before stood
 pub record IsDigestTurned (json : List ℕ) (n bits : ℕ) (new : List ℕ) : Type 0 where
   pub few : bits ≤ few_bits
@@ -69,8 +75,7 @@ pub record IsDigestTurned (json : List ℕ) (n bits : ℕ) (new : List ℕ) : Ty
   pub is : HasDigest new n digest
   pub turned : AreTurned bits stood digest
   pub place : ℕ
-  pub before : part json place (length (base64_text stood)) ≡ base64_text stood
-  pub written : new ≡ written json place (base64_text digest)
+  pub replaced : IsReplaced json stood digest place new
 
 -- what the key of the keyslot `n` gives in place of the digest that stands
 pub record IsNear (json : List ℕ) (n : ℕ) (near : NearDigest) : Type 0 where

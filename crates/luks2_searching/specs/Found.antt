@@ -1,8 +1,6 @@
 -- Metadata of LUKS2 that was found in the volume `v`, near to that of a copy, by which the passphrase `p` opens a keyslot.
 use Rattle.std.specs.Prelude.{◌≡◌, ℕ, ◌+◌, ◌<◌, ◌≤◌, ◌^◌, List, length}
 use Rattle.luks_rebuilding.specs.Candidates.{json_of, IsBegun, IsPlace}
-use Rattle.luks_rebuilding.specs.Found.{place_of}
-use Rattle.luks_rebuilding.specs.declared.place.Half.TheVariants.{First, Second}
 use Rattle.luks_rebuilding.specs.declared.place.Place.{Place}
 use Rattle.luks_slot.specs.declared.allowed.Allowed.{Allowed}
 use Rattle.luks_vouching.specs.Cut.{cut, text_end}
@@ -15,6 +13,13 @@ use Rattle.luks2_searching.specs.declared.found.Change2.TheVariants as change
 use Rattle.luks2_searching.specs.declared.found.Found2.{Found2}
 use Rattle.luks2_searching.specs.declared.searching.Step.{Step}
 use Rattle.luks2_searching.specs.declared.searching.Step.TheVariants as step
+
+-- the places of the first and of the second copy of a header of `size` bytes
+abbrev pub first_place : ℕ → Place
+first_place size = record { size = size; at = 0 }
+
+abbrev pub second_place : ℕ → Place
+second_place size = record { size = size; at = size }
 
 -- the JSON area of the copy at the place, cut where its text ends
 abbrev pub area_of : List ℕ → Place → List ℕ
@@ -33,9 +38,9 @@ pub record IsOfBoth (first second new : List ℕ) : Type 0 where
 
 -- the place is that of the first copy, the second lies inside, and the area is composed of both
 pub record IsOfCopies (v : List ℕ) (place : Place) (new : List ℕ) : Type 0 where
-  pub first : place ≡ place_of First place.size
-  pub second : IsPlace (length v) (place_of Second place.size)
-  pub composed : IsOfBoth (area_of v (place_of First place.size)) (area_of v (place_of Second place.size)) new
+  pub first : place ≡ first_place place.size
+  pub second : IsPlace (length v) (second_place place.size)
+  pub composed : IsOfBoth (area_of v (first_place place.size)) (area_of v (second_place place.size)) new
 
 -- the area is that of the copy at the place but for the change, for the keyslot `n`
 abbrev pub IsChanged2 : List ℕ → Place → ℕ → Change2 → List ℕ → Type 0
@@ -64,8 +69,8 @@ pub record HasNone2 (allowed : Allowed) (v p : List ℕ) : Type 0 where
   pub standing : (place : Place) → IsBegun v place → OpensNone allowed v p (area_of v place)
   pub turned : (place : Place) (at bit : ℕ) → IsBegun v place → text_end (area_of v place) ≤ most_text → at < text_end (area_of v place) → bit < 8
       → OpensNone allowed v p (turned (area_of v place) at bit)
-  pub mixed : (size : ℕ) (new : List ℕ) → IsBegun v (place_of First size) → IsBegun v (place_of Second size)
-      → IsOfBoth (area_of v (place_of First size)) (area_of v (place_of Second size)) new → OpensNone allowed v p new
+  pub mixed : (size : ℕ) (new : List ℕ) → IsBegun v (first_place size) → IsBegun v (second_place size)
+      → IsOfBoth (area_of v (first_place size)) (area_of v (second_place size)) new → OpensNone allowed v p new
 
 -- ---- of one area, by its copy's place, and of one step of the search: words of private contracts
 
@@ -92,21 +97,25 @@ pub record IsFoundMixed (allowed : Allowed) (v p first second : List ℕ) (f : F
   pub composed : IsOfBoth first second f.json.items
   pub opens : OpensAt allowed v p f.json.items f.slot
 
--- no keyslot opens by the copy as it stands; none opens anew with a bit turned; none opens anew by the bytes of both copies
+-- no keyslot opens by the copy as it stands
 abbrev pub HasNoneStanding : Allowed → List ℕ → List ℕ → Place → Type 0
 HasNoneStanding allowed v p place = IsBegun v place → OpensNone allowed v p (area_of v place)
 
+-- none opens anew by the area with a bit turned, or by what is composed of both
+abbrev pub HasNoneOfBits : Allowed → List ℕ → List ℕ → List ℕ → Type 0
+HasNoneOfBits allowed v p json = text_end json ≤ most_text → (at bit : ℕ) → at < text_end json → bit < 8 → AddsNone allowed v p json (turned json at bit)
+
+abbrev pub HasNoneOfBoth : Allowed → List ℕ → List ℕ → List ℕ → List ℕ → Type 0
+HasNoneOfBoth allowed v p first second = (new : List ℕ) → IsOfBoth first second new → AddsNone allowed v p first new
+
 abbrev pub HasNoneTurned : Allowed → List ℕ → List ℕ → Place → Type 0
-HasNoneTurned allowed v p place = IsBegun v place → text_end (area_of v place) ≤ most_text → (at bit : ℕ) → at < text_end (area_of v place) → bit < 8
-    → AddsNone allowed v p (area_of v place) (turned (area_of v place) at bit)
+HasNoneTurned allowed v p place = IsBegun v place → HasNoneOfBits allowed v p (area_of v place)
 
 abbrev pub HasNoneMixed : Allowed → List ℕ → List ℕ → ℕ → Type 0
-HasNoneMixed allowed v p size = IsBegun v (place_of First size) → IsBegun v (place_of Second size)
-    → (new : List ℕ) → IsOfBoth (area_of v (place_of First size)) (area_of v (place_of Second size)) new
-    → AddsNone allowed v p (area_of v (place_of First size)) new
+HasNoneMixed allowed v p size = IsBegun v (first_place size) → IsBegun v (second_place size) → HasNoneOfBoth allowed v p (area_of v (first_place size)) (area_of v (second_place size))
 
 -- the step finds nothing in the copies of this size
 abbrev pub HasNoneBy : Allowed → List ℕ → List ℕ → Step → ℕ → Type 0
-HasNoneBy allowed v p step.Standing size = HasNoneStanding allowed v p (place_of First size) × HasNoneStanding allowed v p (place_of Second size)
-HasNoneBy allowed v p step.Bits size = HasNoneTurned allowed v p (place_of First size) × HasNoneTurned allowed v p (place_of Second size)
+HasNoneBy allowed v p step.Standing size = HasNoneStanding allowed v p (first_place size) × HasNoneStanding allowed v p (second_place size)
+HasNoneBy allowed v p step.Bits size = HasNoneTurned allowed v p (first_place size) × HasNoneTurned allowed v p (second_place size)
 HasNoneBy allowed v p step.Mixed size = HasNoneMixed allowed v p size

@@ -1,5 +1,5 @@
 -- Metadata composed of the bytes of two JSON areas that differ in few.
-use Rattle.std.specs.Prelude.{◌≡◌, ◌⊎◌, ℕ, zero, suc, ◌+◌, ◌/◌, ◌%◌, ◌<◌, ◌≤◌, ◌==◌, List, [], ◌∷◌, All, length, slice_index, slice_set, if◌then◌else◌}
+use Rattle.std.specs.Prelude.{◌≡◌, ◌⊎◌, ℕ, zero, suc, ◌+◌, ◌/◌, ◌%◌, ◌<◌, ◌≤◌, ◌==◌, List, [], ◌∷◌, ◌++◌, All, length, slice_index, slice_set, if◌then◌else◌}
 
 -- each byte is that of one of both areas at its place
 pub record IsMixed (first second new : List ℕ) : Type 0 where
@@ -32,6 +32,18 @@ IsOf p (place ∷ rest) = (p ≡ place) ⊎ IsOf p rest
 -- each of the first bytes that differs stands at one of the places
 abbrev pub AreAllOf : List ℕ → List ℕ → ℕ → List ℕ → Type 0
 AreAllOf first second count places = (p : ℕ) → p < count → (slice_index first p ≡ slice_index second p) ⊎ IsOf p places
+
+-- the places of all of the first bytes that differ
+pub record AreDiffering (first second : List ℕ) (count : ℕ) (places : List ℕ) : Type 0 where
+  pub many : length places ≡ differing first second count
+  pub few : length places ≤ few_bytes
+  pub inside : AreInside (length first) places
+  pub all : AreAllOf first second count places
+
+-- this place is added to them where the areas differ there
+abbrev pub GrowsBy : List ℕ → List ℕ → ℕ → List ℕ → List ℕ → Type 0
+GrowsBy first second place old new = ((slice_index first place ≡ slice_index second place) × (new ≡ old))
+    ⊎ ((slice_index first place ≡ slice_index second place → ⊥) × (length old < few_bytes) × (new ≡ old ++ place ∷ []))
 
 -- `json` with the second area's bytes at those places that this number names by its binary digits, the lowest first
 abbrev pub mixed : List ℕ → List ℕ → ℕ → List ℕ → List ℕ

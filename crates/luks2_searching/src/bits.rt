@@ -5,7 +5,7 @@ ghost use Rattle.luks_vouching.specs.Cut.{text_end};
 ghost use Rattle.luks_trials.specs.Faults.{is_search_failure, IsCutShort};
 ghost use Rattle.luks_trials.specs.Tallies.{Counts};
 ghost use Rattle.luks_trials.specs.Turned.{turned};
-ghost use Rattle.luks2_searching.specs.Found.{most_text, IsFoundIn, IsThere};
+ghost use Rattle.luks2_searching.specs.Found.{HasNoneOfBits, IsFoundIn, IsThere};
 ghost use Rattle.luks_trials.specs.Metadata.{AddsNone, IsMetaOf};
 
 use crate::copies::text_end;
@@ -43,9 +43,8 @@ pub(crate) fn by_bits<D: Device, P: Progress>(
     ensures there { IfOk result (λ found. IfSome found (IsThere place json.old)) }
     ensures found { D.tells → IfOk result (λ found. IfSome found (IsFoundIn trying.now.allowed
         (D.bytes source.old) trying.now.passphrase.now json.old)) }
-    ensures none { D.tells → IfOk result (λ found. IfNone found (text_end json.old ≤ most_text
-        → (at bit : ℕ) → at < text_end json.old → bit < 8 → AddsNone trying.now.allowed
-        (D.bytes source.old) trying.now.passphrase.now json.old (turned json.old at bit))) }
+    ensures none { D.tells → IfOk result (λ found. IfNone found (HasNoneOfBits trying.now.allowed
+        (D.bytes source.old) trying.now.passphrase.now json.old)) }
 {
     let end = text_end(json);
     if end > MOST_TEXT {
@@ -124,7 +123,7 @@ fn turned_meta(
     ensures memory { IfErr result (λ f. f ≡ SearchFault.Memory) }
 {
     let byte = json[at];
-    json[at] = byte ^ (1 << bit);
+    json[at] ^= 1 << bit;
     let meta = meta_of(alloc, json);
     json[at] = byte;
     meta

@@ -1,5 +1,5 @@
 //! A digest of LUKS2 of which few bits are wrong: which bytes the key gives.
-ghost use Rattle.std.specs.Prelude.{◌≡◌, ◌+◌, ◌^◌, ◌<◌, ◌≤◌, ℕ, List, length, IfErr, IfOk, IfSome};
+ghost use Rattle.std.specs.Prelude.{◌≡◌, ◌↔◌, ◌+◌, ◌^◌, ◌<◌, ◌≤◌, ℕ, List, length, Some, IfErr, IfOk, IfSome, IsTrue};
 ghost use Rattle.luks_area.specs.Device.{CountsFailure, IsUnchanged};
 ghost use Rattle.luks_meta.specs.Accepted.{IsMeta};
 ghost use Rattle.luks_meta.specs.Content.{content};
@@ -150,7 +150,7 @@ fn turned_digest<D: Device, P: Progress>(
     for number in 0..8 * plan.digest.stored.len() {
         let changed = turned(alloc, &mended.digest, number / 8, (number % 8) as u8)?;
         let distance = distance_with(alloc, source, plan, &changed, trying, tally, progress)?;
-        if distance == Some(0) {
+        if is_met(distance) {
             return Ok(Some((changed, mended.times + 1)));
         }
         mended = nearer(mended, changed, distance);
@@ -178,6 +178,16 @@ fn nearer(before: Mended, digest: Vec<u8>, distance: Option<u32>) -> Mended
             left,
         },
         _ => before,
+    }
+}
+
+/// Whether the keyslot opens: nothing differs.
+fn is_met(distance: Option<u32>) -> bool
+    ensures { IsTrue result ↔ (distance ≡ Some 0) }
+{
+    match distance {
+        Some(0) => true,
+        _ => false,
     }
 }
 

@@ -1,11 +1,10 @@
 //! The search in compositions of the bytes of both copies' JSON areas.
-ghost use Rattle.std.specs.Prelude.{◌≡◌, ◌+◌, ◌^◌, ◌<◌, ◌≤◌, ℕ, List, length, slice_index, slice_set, IfErr, IfNone, IfOk, IfSome};
+ghost use Rattle.std.specs.Prelude.{◌≡◌, ◌+◌, ◌^◌, ◌<◌, ◌≤◌, ℕ, List, length, slice_index, slice_set, true, false, IfErr, IfNone, IfOk, IfSome};
 ghost use Rattle.luks_area.specs.Device.{CountsFailure, IsUnchanged};
 ghost use Rattle.luks_trials.specs.Faults.{is_search_failure, IsCutShort};
 ghost use Rattle.luks_trials.specs.Tallies.{Counts};
-ghost use Rattle.luks2_searching.specs.Found.{IsFoundMixed, IsOfBoth, IsThere};
-ghost use Rattle.luks_trials.specs.Metadata.{AddsNone};
-ghost use Rattle.luks2_searching.specs.Mixed.{few_bytes, mixed, AreAllOf, AreInside, DifferAt};
+ghost use Rattle.luks2_searching.specs.Found.{HasNoneOfBoth, IsFoundMixed, IsThere};
+ghost use Rattle.luks2_searching.specs.Mixed.{few_bytes, mixed, AreAllOf, AreInside, DifferAt, GrowsBy};
 
 use crate::found::{Change2, Found2};
 use arrayvec::ArrayVec;
@@ -38,9 +37,8 @@ pub(crate) fn by_mixing<D: Device, P: Progress>(
     ensures there { IfOk result (λ found. IfSome found (IsThere place first.now)) }
     ensures found { D.tells → IfOk result (λ found. IfSome found (IsFoundMixed trying.now.allowed
         (D.bytes source.old) trying.now.passphrase.now first.now second.now)) }
-    ensures none { D.tells → IfOk result (λ found. IfNone found ((new : List ℕ)
-        → IsOfBoth first.now second.now new → AddsNone trying.now.allowed
-        (D.bytes source.old) trying.now.passphrase.now first.now new)) }
+    ensures none { D.tells → IfOk result (λ found. IfNone found (HasNoneOfBoth trying.now.allowed
+        (D.bytes source.old) trying.now.passphrase.now first.now second.now)) }
 {
     let Some(places) = differing(first, second) else {
         return Ok(None);
@@ -73,14 +71,35 @@ fn differing(first: &[u8], second: &[u8]) -> Option<ArrayVec<usize, 16>>
 {
     let mut places = ArrayVec::new();
     for place in 0..first.len() {
-        if first[place] != second[place] {
-            if places.is_full() {
-                return None;
-            }
-            places.push(place);
+        if !add_differing(first, second, place, &mut places) {
+            return None;
         }
     }
     Some(places)
+}
+
+/// Adds the place if the areas differ there; false where there is no room for it.
+fn add_differing(
+    first: &[u8],
+    second: &[u8],
+    place: usize,
+    places: &mut ArrayVec<usize, 16>,
+) -> bool
+    requires inside { place < length first.now }
+    requires long { length second.now ≡ length first.now }
+    ensures grown { result ≡ true
+        → GrowsBy first.now second.now place places.old.items places.new.items }
+    ensures differs { result ≡ false → slice_index first.now place ≡ slice_index second.now place → ⊥ }
+    ensures full { result ≡ false → few_bytes ≤ length places.old.items }
+{
+    if first[place] == second[place] {
+        return true;
+    }
+    if places.is_full() {
+        return false;
+    }
+    places.push(place);
+    true
 }
 
 /// The first area with the second one's bytes at those of these places that the number names by its binary digits.

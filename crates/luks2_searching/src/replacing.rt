@@ -1,12 +1,12 @@
 //! A digest of LUKS2 that is put in place of the one that stands.
 ghost use Rattle.std.specs.Prelude.{◌≡◌, ◌+◌, ◌^◌, ◌<◌, ◌≤◌, ℕ, List, length, true, IfErr, IfOk, IfSome};
 ghost use Rattle.luks_area.specs.Device.{CountsFailure, IsUnchanged};
-ghost use Rattle.luks_area.specs.Ranges.{part, written};
+ghost use Rattle.luks_area.specs.Ranges.{part};
 ghost use Rattle.luks_meta.specs.Accepted.{IsMeta};
 ghost use Rattle.luks_meta.specs.Content.{content};
 ghost use Rattle.luks_trials.specs.Faults.{is_search_failure, IsCutShort};
 ghost use Rattle.luks_trials.specs.Tallies.{Counts};
-ghost use Rattle.luks2_searching.specs.Digests.{base64_text, HasDigest, IsNear};
+ghost use Rattle.luks2_searching.specs.Digests.{base64_text, HasDigest, IsNear, IsReplaced};
 ghost use Rattle.luks2_searching.specs.Found.{IsFoundIn, IsThere};
 ghost use Rattle.luks_trials.specs.Metadata.{OpensAt};
 
@@ -45,22 +45,58 @@ pub(crate) fn with_digest<D: Device, P: Progress>(
     ensures found { D.tells → IfOk result (λ found. IfSome found (IsFoundIn trying.now.allowed
         (D.bytes source.old) trying.now.passphrase.now json.now)) }
 {
-    let old = base64_text(alloc, &near.stood)?;
-    let new = base64_text(alloc, &near.digest)?;
     for at in 0..json.len() {
-        if let Some(changed) = replaced(alloc, json, at, old.as_slice(), new.as_slice())? {
-            let digest = near.digest.as_slice();
-            if opens_with(alloc, source, &changed, n, digest, trying, tally, progress)? {
-                return Ok(Some(Found2 {
-                    json: changed,
-                    place,
-                    slot: n,
-                    change: Change2::Digest { bits: near.bits },
-                }));
-            }
+        let found = with_digest_at(
+            alloc, source, place, json, n, near, at, trying, tally, progress,
+        )?;
+        if found.is_some() {
+            return Ok(found);
         }
     }
     Ok(None)
+}
+
+/// The same at this place of the area.
+fn with_digest_at<D: Device, P: Progress>(
+    alloc: Global,
+    source: &mut D,
+    place: Place,
+    json: &[u8],
+    n: u8,
+    near: &NearDigest,
+    at: usize,
+    trying: &Trying<'_>,
+    tally: &mut Tally,
+    progress: &mut P,
+) -> Result<Option<Found2>, SearchFault>
+    requires near { IsNear json.now n near.now }
+    requires there { at ≤ length json.now }
+    requires passphrase { 0 < trying.now.allowed.memory
+        → length trying.now.passphrase.now < 2 ^ 32 }
+    requires room { D.failed source.old + 1 < 2 ^ 64 }
+    ensures unchanged { IsUnchanged D.tells D.size D.bytes D.unsettled source.old source.new }
+    ensures count { CountsFailure is_search_failure result
+        (D.failed source.old) (D.failed source.new) }
+    ensures counts { Counts tally.old tally.new }
+    ensures cut { IfErr result (IsCutShort tally.new) }
+    ensures there { IfOk result (λ found. IfSome found (IsThere place json.now)) }
+    ensures found { D.tells → IfOk result (λ found. IfSome found (IsFoundIn trying.now.allowed
+        (D.bytes source.old) trying.now.passphrase.now json.now)) }
+{
+    let Some(changed) = replaced(alloc, json, at, &near.stood, &near.digest)? else {
+        return Ok(None);
+    };
+    let digest = near.digest.as_slice();
+    let opened = opens_with(alloc, source, &changed, n, digest, trying, tally, progress)?;
+    if !opened {
+        return Ok(None);
+    }
+    Ok(Some(Found2 {
+        json: changed,
+        place,
+        slot: n,
+        change: Change2::Digest { bits: near.bits },
+    }))
 }
 
 /// The bytes in base64, padded (RFC 4648, section 4).
@@ -70,24 +106,26 @@ fn base64_text(alloc: Global, bytes: &[u8]) -> Result<Vec<u8>, AllocError>
     Ok(STANDARD.encode(alloc, bytes)?.into_bytes())
 }
 
-/// The area with the new text in place of the old one, where that stands at the place and is as long.
+/// The area with the text of the other digest in place of that of the one that stands, where this is at the place and
+/// both texts are as long.
 fn replaced(
     alloc: Global,
     json: &[u8],
     at: usize,
-    old: &[u8],
-    new: &[u8],
+    stood: &[u8],
+    digest: &[u8],
 ) -> Result<Option<Vec<u8>>, AllocError>
     requires { at ≤ length json.now }
-    ensures stood { IfOk result (λ found. IfSome found (λ _. part json.now at (length old.now) ≡ old.now)) }
-    ensures long { IfOk result (λ found. IfSome found (λ changed. length changed.items ≡ length json.now)) }
-    ensures written { IfOk result (λ found. IfSome found (λ changed. changed.items ≡ written json.now at new.now)) }
+    ensures { IfOk result (λ found. IfSome found
+        (λ changed. IsReplaced json.now stood.now digest.now at changed.items)) }
 {
-    if old.len() != new.len() || !stands_at(json, at, old) {
+    let old = base64_text(alloc, stood)?;
+    let new = base64_text(alloc, digest)?;
+    if old.len() != new.len() || !stands_at(json, at, &old) {
         return Ok(None);
     }
     let mut changed = json.to_vec(alloc)?;
-    changed[at..at + new.len()].copy_from_slice(new);
+    changed[at..at + new.len()].copy_from_slice(&new);
     Ok(Some(changed))
 }
 
@@ -98,7 +136,11 @@ fn stands_at(json: &[u8], at: usize, text: &[u8]) -> bool
     ensures stands { result ≡ true → part json.now at (length text.now) ≡ text.now }
 {
     let rest = &json[at..];
-    text.len() <= rest.len() && &rest[..text.len()] == text
+    if text.len() > rest.len() {
+        return false;
+    }
+    let there = &rest[..text.len()];
+    there == text
 }
 
 /// Whether the keyslot `n` opens by the area, and its digest is this one.

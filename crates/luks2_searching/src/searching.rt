@@ -1,11 +1,11 @@
 //! The search in LUKS2 metadata: as it stands, then in bytes of both copies, then each bit of its text.
-ghost use Rattle.std.specs.Prelude.{◌≡◌, ◌+◌, ◌^◌, ◌<◌, ◌⊎◌, ℕ, length, IfErr, IfNone, IfOk, IfSome};
+ghost use Rattle.std.specs.Prelude.{◌≡◌, ◌+◌, ◌-◌, ◌^◌, ◌<◌, ◌⊎◌, ℕ, length, IfErr, IfNone, IfOk, IfSome};
 ghost use Rattle.luks_area.specs.Device.{CountsFailure, IsUnchanged};
 ghost use Rattle.luks2_header.specs.Sizes.{IsListed};
-ghost use Rattle.luks_rebuilding.specs.Candidates.{IsPlace};
+ghost use Rattle.luks_rebuilding.specs.Candidates.{IsBegun, IsPlace};
 ghost use Rattle.luks_trials.specs.Faults.{is_search_failure, IsCutShort};
 ghost use Rattle.luks_trials.specs.Tallies.{Counts};
-ghost use Rattle.luks2_searching.specs.Found.{HasNone2, HasNoneBy, HasNoneStanding, HasNoneTurned, IsFound2};
+ghost use Rattle.luks2_searching.specs.Found.{area_of, first_place, second_place, HasNone2, HasNoneBy, HasNoneOfBoth, HasNoneStanding, HasNoneTurned, IsFound2};
 
 use crate::bits::by_bits;
 use crate::copies::begun_area;
@@ -65,13 +65,13 @@ pub fn search2<D: Device, P: Progress>(
     ensures none { D.tells → IfOk result (λ found. IfNone found
         (HasNone2 trying.now.allowed (D.bytes source.old) trying.now.passphrase.now)) }
 {
-    let found = by_step(alloc, source, Step::Standing, trying, tally, progress)?;
-    if found.is_some() {
-        return Ok(found);
+    let standing = by_step(alloc, source, Step::Standing, trying, tally, progress)?;
+    if standing.is_some() {
+        return Ok(standing);
     }
-    let found = by_step(alloc, source, Step::Mixed, trying, tally, progress)?;
-    if found.is_some() {
-        return Ok(found);
+    let mixed = by_step(alloc, source, Step::Mixed, trying, tally, progress)?;
+    if mixed.is_some() {
+        return Ok(mixed);
     }
     by_step(alloc, source, Step::Bits, trying, tally, progress)
 }
@@ -299,14 +299,50 @@ fn mixed_by_size<D: Device, P: Progress>(
     ensures none { D.tells → IfOk result (λ found. IfNone found (HasNoneBy trying.now.allowed
         (D.bytes source.old) trying.now.passphrase.now Step.Mixed size)) }
 {
-    let place = Place { size, at: 0 };
-    let Some(first) = begun_area(alloc, source, place)? else {
-        return Ok(None);
-    };
-    let Some(second) = begun_area(alloc, source, Place { size, at: size })? else {
-        return Ok(None);
-    };
-    by_mixing(
-        alloc, source, place, &first, &second, trying, tally, progress,
-    )
+    match begun_area(alloc, source, Place { size, at: 0 })? {
+        Some(first) => mixed_with(alloc, source, size, &first, trying, tally, progress),
+        None => Ok(None),
+    }
+}
+
+/// The same with this area of the first copy.
+fn mixed_with<D: Device, P: Progress>(
+    alloc: Global,
+    source: &mut D,
+    size: u64,
+    first: &[u8],
+    trying: &Trying<'_>,
+    tally: &mut Tally,
+    progress: &mut P,
+) -> Result<Option<Found2>, SearchFault>
+    requires listed { IsListed size }
+    requires place { IsPlace (D.size source.old) (first_place size) }
+    requires long { length first.now ≡ size - 4096 }
+    requires read { D.tells → first.now ≡ area_of (D.bytes source.old) (first_place size) }
+    requires passphrase { 0 < trying.now.allowed.memory
+        → length trying.now.passphrase.now < 2 ^ 32 }
+    requires room { D.failed source.old + 1 < 2 ^ 64 }
+    ensures unchanged { IsUnchanged D.tells D.size D.bytes D.unsettled source.old source.new }
+    ensures count { CountsFailure is_search_failure result
+        (D.failed source.old) (D.failed source.new) }
+    ensures counts { Counts tally.old tally.new }
+    ensures cut { IfErr result (IsCutShort tally.new) }
+    ensures there { IfOk result (λ found. IfSome found (λ f.
+        IsPlace (D.size source.old) f.place × (4096 + length f.json.items ≡ f.place.size))) }
+    ensures found { D.tells → IfOk result (λ found. IfSome found
+        (IsFound2 trying.now.allowed (D.bytes source.old) trying.now.passphrase.now)) }
+    ensures none { D.tells → IfOk result (λ found. IfNone found
+        (IsBegun (D.bytes source.old) (second_place size) → HasNoneOfBoth trying.now.allowed
+        (D.bytes source.old) trying.now.passphrase.now first.now
+        (area_of (D.bytes source.old) (second_place size)))) }
+{
+    match begun_area(alloc, source, Place { size, at: size })? {
+        Some(second) => {
+            let place = Place { size, at: 0 };
+            by_mixing(
+                alloc, source, place, first, &second, trying, tally, progress,
+            )
+        }
+        None => Ok(None),
+    }
 }

@@ -1,5 +1,5 @@
 //! A digest of LUKS1 of which few bits are wrong.
-ghost use Rattle.std.specs.Prelude.{◌+◌, ◌^◌, ◌<◌, ◌≤◌, IfErr, IfOk, IfSome};
+ghost use Rattle.std.specs.Prelude.{◌≡◌, ◌↔◌, ◌+◌, ◌^◌, ◌<◌, ◌≤◌, Some, IfErr, IfOk, IfSome, IsTrue};
 ghost use Rattle.luks_area.specs.Device.{CountsFailure, IsUnchanged};
 ghost use Rattle.luks1_header.specs.Header1.{luks1_size};
 ghost use Rattle.luks_trials.specs.Faults.{is_search_failure, IsCutShort};
@@ -56,7 +56,7 @@ pub(crate) fn mended_digest<D: Device, P: Progress>(
             passphrase: sought.passphrase,
         };
         let distance = distance(alloc, source, &changed, n, tally, progress)?;
-        if distance == Some(0) {
+        if is_met(distance) {
             return Ok(Some(Found1 {
                 header,
                 slot: n,
@@ -90,5 +90,15 @@ fn nearer(before: Mended, header: [u8; 592], distance: Option<u32>) -> Mended
             left,
         },
         _ => before,
+    }
+}
+
+/// Whether the keyslot opens: nothing differs.
+fn is_met(distance: Option<u32>) -> bool
+    ensures { IsTrue result ↔ (distance ≡ Some 0) }
+{
+    match distance {
+        Some(0) => true,
+        _ => false,
     }
 }

@@ -23,3 +23,9 @@ loop-at-preserved g c = record {
       (λ b few. subst (λ j. AddsNone allowed v p j (turned j c.loop-at.at b)) c.loop-at.invariant.same
       (subst (λ w. AddsNone allowed w p c.loop-at.json (turned c.loop-at.json c.loop-at.at b)) same (none b few))) at below bit low;
 }
+
+pub returns-clause-none : goal.returns-clause-none
+returns-clause-none g c = λ tells few at bit below low.
+    let ended = c.loop-at-test.false in
+    let end = c.text_end-end.ensures.end in
+    c.loop-at.invariant.shut tells at bit (omega (arith, below, ended, end)) low

@@ -24,3 +24,6 @@ loop-bit-preserved g c = record {
       below_more (λ m. AddsNone allowed v p json (turned json at m)) c.loop-bit.bit (c.loop-bit.invariant.shut tells)
       (subst (λ w. AddsNone allowed w p json (turned json at c.loop-bit.bit)) same none);
 }
+
+pub returns-clause-none : goal.returns-clause-none
+returns-clause-none g c = λ tells bit low. c.loop-bit.invariant.shut tells bit (let ended = c.loop-bit-test.false in omega (arith, low, ended))
