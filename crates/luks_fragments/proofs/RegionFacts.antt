@@ -1,5 +1,5 @@
 -- The region that a keyslot needs is one.
-use Rattle.std.proofs.Common.{◌≡◌, ℕ, List, Option, Some, None, IfNone, subst, tt}
+use Rattle.std.proofs.Common.{ℕ, List, Option, Some, None, IfNone, subst}
 use Rattle.serde_json.specs.Data.{Data}
 use Rattle.luks_rules.proofs.AreaFaults.{one_value}
 use Rattle.luks_rules.specs.Accepted.{IsMeta}

@@ -1,5 +1,5 @@
 -- When an object is a keyslot, a digest or a segment.
-use Rattle.std.specs.Prelude.{◌≡◌, ℕ, ◌+◌, ◌*◌, ◌<◌, ◌≤◌, List, codes, length, Some, true}
+use Rattle.std.specs.Prelude.{◌≡◌, ℕ, ◌+◌, ◌*◌, ◌≤◌, List, codes, length, Some, true}
 use Rattle.serde_json.specs.Data.{Data}
 use Rattle.luks_area.specs.Text.{is_plain}
 use Rattle.luks_rules.specs.Accepted.{IsMeta}

@@ -2,7 +2,9 @@
 ghost use Rattle.std.specs.Prelude.{◌≡◌, ◌↔◌, ◌≤◌, length, IfNone, IfOk, IfSome, IsTrue};
 ghost use Rattle.luks_area.specs.Text.{is_plain, is_printable};
 ghost use Rattle.luks_fragments.specs.Kinds.{framed, some_digest, some_keyslot, some_segment, widest, HasKind, IsAcceptedAs, IsLikely};
-ghost use Rattle.luks_fragments.specs.Made.{made_text};
+ghost use Rattle.luks_meta.specs.Accepted.{IsMeta};
+ghost use Rattle.luks_meta.specs.Content.{content};
+ghost use Rattle.luks_fragments.specs.Made.{area_of, made_text};
 ghost use Rattle.luks_fragments.specs.declared.kinds.Kind.{Kind as TheKind};
 
 use crate::made::{Parts, area_of, made_text};
@@ -72,17 +74,30 @@ fn is_accepted_as(alloc: Global, kind: Kind, object: &[u8]) -> Result<bool, Allo
     requires { 1 ≤ length object.now }
     ensures { IfOk result (λ is. IsTrue is ↔ IsAcceptedAs kind object.now) }
 {
+    match accepted(alloc, kind, object)? {
+        Some(_) => Ok(true),
+        None => Ok(false),
+    }
+}
+
+/// The metadata of the frame with the object in that place, if it is accepted.
+pub(crate) fn accepted(alloc: Global, kind: Kind, object: &[u8]) -> Result<Option<Meta>, AllocError>
+    requires { 1 ≤ length object.now }
+    ensures some { IfOk result (λ found. IfSome found (λ meta.
+        IsMeta (area_of (framed kind object.now)) (content meta))) }
+    ensures none { IfOk result (λ found. IfNone found (IsAcceptedAs kind object.now → ⊥)) }
+{
     let text = framed(alloc, kind, object)?;
     let area = area_of(text)?;
     match Meta::read(alloc, &area) {
-        Ok(_) => Ok(true),
+        Ok(meta) => Ok(Some(meta)),
         Err(MetaFault::Memory) => Err(AllocError),
-        Err(_) => Ok(false),
+        Err(_) => Ok(None),
     }
 }
 
 /// The text of the frame with the object in that place.
-pub(crate) fn framed(alloc: Global, kind: Kind, object: &[u8]) -> Result<Vec<u8>, AllocError>
+fn framed(alloc: Global, kind: Kind, object: &[u8]) -> Result<Vec<u8>, AllocError>
     requires { 1 ≤ length object.now }
     ensures { IfOk result (λ text. text.items ≡ framed kind object.now) }
 {

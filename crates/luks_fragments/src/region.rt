@@ -3,9 +3,8 @@ ghost use Rattle.std.specs.Prelude.{◌+◌, ◌*◌, ◌^◌, ◌<◌, ◌≤�
 ghost use Rattle.luks_fragments.specs.Kinds.{HasRegion, NeedsRegion};
 ghost use Rattle.luks_meta.specs.Content.{content};
 
-use crate::kinds::{Kind, framed};
-use crate::made::area_of;
-use luks_meta::{Meta, MetaFault};
+use crate::kinds::{Kind, accepted};
+use luks_meta::Meta;
 use std::alloc::{AllocError, Global};
 
 /// Where the region begins: behind both copies of a header of 16384 bytes.
@@ -24,13 +23,10 @@ pub fn needed_region(alloc: Global, keyslot: &[u8]) -> Result<Option<u64>, Alloc
     ensures none { IfOk result (λ bytes. IfNone bytes ((n : ℕ) → NeedsRegion keyslot.now n
         → 2 ^ 63 < 32768 + n)) }
 {
-    let text = framed(alloc, Kind::Keyslot, keyslot)?;
-    let area = area_of(text)?;
-    match Meta::read(alloc, &area) {
-        Ok(meta) => Ok(region_of(&meta)),
-        Err(MetaFault::Memory) => Err(AllocError),
-        Err(_) => Ok(None),
-    }
+    let Some(meta) = accepted(alloc, Kind::Keyslot, keyslot)? else {
+        return Ok(None);
+    };
+    Ok(region_of(&meta))
 }
 
 /// The same of keyslot 0 of this metadata.

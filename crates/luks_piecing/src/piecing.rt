@@ -90,7 +90,11 @@ fn by_keyslot<D: Device, P: Progress>(
     let Some(region) = needed_region(alloc, &text)? else {
         return Ok(None);
     };
-    let seen = Seen { spot, text: &text, region };
+    let seen = Seen {
+        spot,
+        text: &text,
+        region,
+    };
     by_seen(alloc, source, &seen, spots, trying, tally, progress)
 }
 
@@ -120,7 +124,9 @@ fn by_seen<D: Device, P: Progress>(
 {
     for digest in spots.digests.iter() {
         let segment = chosen_segment(&spots.segments, digest.segment);
-        let found = by_digest(alloc, source, keyslot, *digest, segment, trying, tally, progress)?;
+        let found = by_digest(
+            alloc, source, keyslot, *digest, segment, trying, tally, progress,
+        )?;
         if found.is_some() {
             return Ok(found);
         }

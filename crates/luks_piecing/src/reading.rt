@@ -1,6 +1,7 @@
 //! A fragment is read again where it was seen.
-ghost use Rattle.std.specs.Prelude.{◌≡◌, ◌+◌, ◌^◌, ◌<◌, ◌≤◌, length, IfErr, IfOk, IfSome};
+ghost use Rattle.std.specs.Prelude.{◌≡◌, ◌+◌, ◌^◌, ◌<◌, ◌≤◌, ◌↔◌, length, IfErr, IfOk, IfSome, IsTrue};
 ghost use Rattle.luks_area.specs.Device.{CountsFailure, IsUnchanged};
+ghost use Rattle.luks_fragments.specs.Objects.{IsObjectAt};
 ghost use Rattle.luks_trials.specs.Faults.{is_search_failure, IsCutShort};
 ghost use Rattle.luks_trials.specs.declared.tally.Tally.{Tally as TheTally};
 ghost use Rattle.luks_piecing.specs.Pieced.{IsTextAt};
@@ -32,17 +33,33 @@ pub(crate) fn read_fragment<D: Device>(
     ensures there { D.tells → IfOk result (λ found. IfSome found (λ text.
         IsTextAt (D.bytes source.old) spot.at kind text.items)) }
 {
-    let area = Area { start: spot.at, len: spot.len as u64 };
+    let area = Area {
+        start: spot.at,
+        len: spot.len as u64,
+    };
     if spot.len > LONGEST || !area.is_inside(source.len()) {
         return Ok(None);
     }
     let mut text = vec![in alloc; 0u8; spot.len]?;
     source.read_at(spot.at, &mut text)?;
-    if object_len(&text, 0) != Some(text.len()) {
+    if !is_whole(&text) {
         return Ok(None);
     }
-    if kind_of(alloc, &text)? != Some(kind) {
+    let Some(found) = kind_of(alloc, &text)? else {
+        return Ok(None);
+    };
+    if found != kind {
         return Ok(None);
     }
     Ok(Some(text))
+}
+
+/// Whether the text is one object.
+fn is_whole(text: &[u8]) -> bool
+    ensures { IsTrue result ↔ IsObjectAt text.now 0 (length text.now) }
+{
+    match object_len(text, 0) {
+        Some(len) => len == text.len(),
+        None => false,
+    }
 }

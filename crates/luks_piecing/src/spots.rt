@@ -119,14 +119,24 @@ fn add_fragments(
             return Ok(());
         }
         from = fragment.start + fragment.len;
-        add(spots, at + fragment.start as u64, &fragment, &bytes[fragment.start..from]);
+        add(
+            spots,
+            at + fragment.start as u64,
+            &fragment,
+            &bytes[fragment.start..from],
+        );
     }
     Ok(())
 }
 
 /// Adds the fragment that stands at `at`, if there is room for it.
 fn add(spots: &mut Spots, at: u64, fragment: &Fragment, text: &[u8]) {
-    let mut spot = Spot { at, len: fragment.len, number: fragment.number, segment: None };
+    let mut spot = Spot {
+        at,
+        len: fragment.len,
+        number: fragment.number,
+        segment: None,
+    };
     match fragment.kind {
         Kind::Keyslot => keep(&mut spots.keyslots, spot),
         Kind::Digest => {

@@ -1,4 +1,4 @@
-use Rattle.std.proofs.Common.{◌≡◌, ◌+◌, ◌-◌, ◌∙◌, arith, subst, take, drop}
+use Rattle.std.proofs.Common.{◌≡◌, ◌+◌, ◌-◌, arith, subst, take, drop}
 use Rattle.luks_fragments.specs.Kinds.{HasKind}
 use Rattle.luks_fragments.proofs.ObjectFacts.{one_length}
 use Rattle.luks_fragments.proofs.fragment.fragment_at.Goals as goal

@@ -1,4 +1,4 @@
-use Rattle.std.proofs.Common.{◌≡◌, ◌<◌, ◌≤◌, ℕ, arith, inl, inr, subst, sym}
+use Rattle.std.proofs.Common.{◌≡◌, arith, inl, inr, subst}
 use Rattle.std.proofs.lemmas.Bool.{cases_lt}
 use Rattle.luks_fragments.specs.Fragments.{HasFragmentAt}
 use Rattle.luks_fragments.proofs.fragment.next_fragment.Goals as goal

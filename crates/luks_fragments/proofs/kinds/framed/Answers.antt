@@ -1,4 +1,4 @@
-use Rattle.std.proofs.Common.{◌≡◌, ◌∙◌, ap, sym}
+use Rattle.std.proofs.Common.{◌∙◌, ap, sym}
 use Rattle.std.proofs.lemmas.Result.{IfOk-weaker}
 use Rattle.luks_fragments.specs.Kinds.{framed, some_keyslot, widest}
 use Rattle.luks_fragments.specs.Made.{made_text}

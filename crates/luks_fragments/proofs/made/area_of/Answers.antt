@@ -1,4 +1,4 @@
-use Rattle.std.proofs.Common.{◌≡◌, ◌-◌, ℕ, ap, sym, ◌∙◌, arith, List, ◌++◌, length, replicate, take, vec_len}
+use Rattle.std.proofs.Common.{◌≡◌, ◌-◌, ap, sym, ◌∙◌, arith, ◌++◌, length, replicate, take, vec_len}
 use Rattle.std.proofs.lemmas.List.{append-nil, take_all}
 use Rattle.luks_fragments.specs.Made.{area_length}
 use Rattle.luks_fragments.proofs.made.area_of.Goals as goal
