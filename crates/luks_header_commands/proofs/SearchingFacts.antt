@@ -1,5 +1,5 @@
 -- What `rebuild` answers where what is damaged is sought by a passphrase, by what it met.
-use Rattle.std.proofs.Common.{◌≡◌, ◌≢◌, ◌↔◌, ◌⊎◌, List, ℕ, ◌+◌, Bool, true, false, Option, Some, None, IfSome, IfNone, IsTrue, refl, sym, subst, inl, inr, length, ◌∙◌}
+use Rattle.std.proofs.Common.{◌≡◌, ◌≢◌, ◌↔◌, ◌⊎◌, List, ℕ, ◌+◌, ◌<◌, Bool, true, false, Option, Some, None, IfSome, IfNone, IsTrue, refl, sym, subst, inl, inr, length, ◌∙◌}
 use Rattle.luks_area.specs.Device.{count_after}
 use Rattle.luks_writing.specs.TwoDevices.{CountsAfter, IsOneFailure}
 use Rattle.luks_slot.specs.declared.allowed.Allowed.{Allowed}
@@ -11,6 +11,7 @@ use Rattle.luks_rebuilding.specs.declared.rebuild_fault.RebuildFault.{RebuildFau
 use Rattle.luks_rebuilding.specs.declared.rebuild_fault.RebuildFault.TheVariants as fault2
 use Rattle.luks1_mending.specs.declared.given.Given.{Given}
 use Rattle.luks1_rebuilding.specs.Headed.{headed}
+use Rattle.luks1_rebuilding.specs.Judged.{IsShort}
 use Rattle.luks1_rebuilding.specs.RebuildFaults.{is_rebuild_failure}
 use Rattle.luks1_rebuilding.specs.Outcome.{IsAnsweredMaking, IsMakeable}
 use Rattle.luks1_rebuilding.specs.Openings.{OpensNoneBelow}
@@ -156,6 +157,18 @@ none_tried tells g p d a is (none_open none same faultless shut answered) = reco
 none_tried tells g p d a is (no_header f own none same first answered) = let e : answer.NoneOpens ≡ answer.Refused (refusal.Rebuild1 f) = sym is ∙ answered in absurd cc
 none_tried tells g p d a is (trial_failed one same answered) = let e : answer.NoneOpens ≡ answer.DeviceFault = sym is ∙ answered in absurd cc
 none_tried tells g p d a is (one_opens o first said) = absurd (luks1_opens tells o.given d a is said)
+
+-- the first bytes weren't read: the device failed, since there is room for them where the combinations have no fault
+pub short_answers : (tells : Type 0) (size : ℕ) (g : Given) (p : List ℕ) (d : Pair) (f : Rebuild1Fault) → (tells → length d.volume ≡ size) → IsShort size f
+    → d.volume_after ≡ count_after (is_rebuild_failure f) d.volume_before → d.after ≡ d.before → d.new ≡ d.old
+    → (tells → (f : Rebuild1Fault) → IsTrialFault d.volume g f → ⊥) → SearchedAnswer1 tells g p d (rebuild1_fault_answer f)
+short_answers tells size g p d f sized (inl short) count same kept faultless =
+    subst (λ (x : Rebuild1Fault). d.volume_after ≡ count_after (is_rebuild_failure x) d.volume_before → SearchedAnswer1 tells g p d (rebuild1_fault_answer x)) (sym short.0)
+    (λ counted. by_combinations (no_header fault1.NoHeader refl (counted, same) (λ told. kept)
+    (λ told. absurd (faultless told fault1.NoHeader (inl (subst (λ (n : ℕ). n < 592) (sym (sized told)) short.1)))) refl) (λ e. cc)) count
+short_answers tells size g p d f sized (inr short) count same kept faultless =
+    subst (λ (x : Rebuild1Fault). d.volume_after ≡ count_after (is_rebuild_failure x) d.volume_before → SearchedAnswer1 tells g p d (rebuild1_fault_answer x)) (sym short)
+    (λ counted. by_combinations (trial_failed (inl (counted, same)) (λ told. kept) refl) (λ e. cc)) count
 
 -- ---- what is answered later of the same
 
