@@ -286,7 +286,7 @@ def standing_2(source, size, text, passphrase, allowed, tally):
             # another text may stand there
             changed = text[:at] + new + text[at + len(old):]
             made = value_of(size, changed)
-            if n in numbers(made) and opens(source, made, n, passphrase, allowed, tally) and digest_of(made, n)["digest"].encode() == new:
+            if n in numbers(made) and digest_of(made, n)["digest"].encode() == new and opens(source, made, n, passphrase, allowed, tally):
                 return changed, n, by_digest(bits)
             at = text.find(old, at + 1)
     return None
