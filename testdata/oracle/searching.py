@@ -171,10 +171,11 @@ def search1(source, given, passphrase, tally=None):
     return None
 
 
-def used_1(source, given):
-    """How many keyslots are kept and in use."""
-    d, kept = rebuilding1.fields(source, given)
-    return sum(d["slots"][n][0] == ENABLED for n in kept)
+def most_1(source):
+    """How many derivations are made at most: of a keyslot in use one as it stands, and one for each bit of the digest and of the fields that are searched; of one
+    whose word is a bit from that one."""
+    off = [(int.from_bytes(source[208 + 48 * n:212 + 48 * n], "big") ^ ENABLED).bit_count() for n in range(8)]
+    return 865 * off.count(0) + off.count(1)
 
 
 def rebuilt1(source, given, passphrase, target, tally=None):
@@ -286,7 +287,7 @@ def standing_2(source, size, text, passphrase, allowed, tally):
             # another text may stand there
             changed = text[:at] + new + text[at + len(old):]
             made = value_of(size, changed)
-            if n in numbers(made) and opens(source, made, n, passphrase, allowed, tally) and digest_of(made, n)["digest"].encode() == new:
+            if n in numbers(made) and digest_of(made, n)["digest"].encode() == new and opens(source, made, n, passphrase, allowed, tally):
                 return changed, n, by_digest(bits)
             at = text.find(old, at + 1)
     return None
