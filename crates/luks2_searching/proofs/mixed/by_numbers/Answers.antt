@@ -1,4 +1,5 @@
-use Rattle.std.proofs.Common.{◌∙◌, ℕ, refl, subst, sym, below_more}
+use Rattle.std.proofs.Common.{◌≡◌, ◌∙◌, ◌^◌, ◌≤◌, ℕ, length, refl, ap, subst, sym, arith, below_more}
+use Rattle.std.proofs.Math.Pow.{pow_mono}
 use Rattle.luks_area.specs.Device.{unchanged-then}
 use Rattle.luks_trials.specs.Metadata.{AddsNone, IsMetaOf, OpensAt}
 use Rattle.luks_trials.proofs.OptionFacts.{none_of}
@@ -43,3 +44,16 @@ returns-in-Some-clause-found g c = λ tells.
       };
       opens = subst (λ w. OpensAt allowed w p c.in_ok-json.json.items c.in-Some.slot) (c.loop-number.invariant.unchanged.same tells) opens;
     }
+
+pub returns-in-Some-clause-there : goal.returns-in-Some-clause-there
+returns-in-Some-clause-there g c =
+    let first = c.args.first.now in
+    let second = c.args.second.now in
+    record { at = refl; long = ap length c.in_ok-json.ensures ∙ (mixed_is first second c.args.places.now first c.loop-number.number (mixed_first first second)).long }
+
+pub returns-clause-none : goal.returns-clause-none
+returns-clause-none g c = λ tells n below.
+    let most : 2 ^ length c.args.places.now ≤ 2 ^ 16 = pow_mono c.requires.short in
+    let end : 2 ^ c.len-number-end.result ≡ 2 ^ length c.args.places.now = ap (λ (k : ℕ). 2 ^ k) c.len-number-end.ensures in
+    let ended = c.loop-number-test.false in
+    c.loop-number.invariant.shut tells n (omega (arith, most, end, ended, below))
