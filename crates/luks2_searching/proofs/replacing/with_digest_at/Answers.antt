@@ -5,14 +5,14 @@ use Rattle.luks2_searching.proofs.replacing.with_digest_at.Goals as goal
 
 pub returns-clause-there : goal.returns-clause-there
 returns-clause-there g c =
-    let put = some_of c.in_ok-replaced.field-0 c.in-Some.changed
-    (λ it. IsReplaced c.args.json.now c.args.near.now.stood.items c.args.near.now.digest.items c.args.at it.items) c.in-Some.is c.in_ok-replaced.ensures in
+    let put = some_of c.in_ok-changed.field-0 c.in-Some.changed
+    (λ it. IsReplaced c.args.json.now c.args.near.now.stood.items c.args.near.now.digest.items c.args.at it.items) c.in-Some.is c.in_ok-changed.ensures in
     record { at = refl; long = put.long }
 
 pub returns-clause-found : goal.returns-clause-found
 returns-clause-found g c = λ tells.
-    let put = some_of c.in_ok-replaced.field-0 c.in-Some.changed
-    (λ it. IsReplaced c.args.json.now c.args.near.now.stood.items c.args.near.now.digest.items c.args.at it.items) c.in-Some.is c.in_ok-replaced.ensures in
+    let put = some_of c.in_ok-changed.field-0 c.in-Some.changed
+    (λ it. IsReplaced c.args.json.now c.args.near.now.stood.items c.args.near.now.digest.items c.args.at it.items) c.in-Some.is c.in_ok-changed.ensures in
     record {
       changed = record {
         few = c.requires.near.few;

@@ -11,8 +11,8 @@ returns-in-Some-clause-there g c =
     let total = g.D.Device.size c.args.source.now in
     found_so c.as_it_stands.result _ _
     (λ f x. there_in total c.args.place c.in-Some.json.items f
-    (some_of c.in_ok-begun_area.field-0 c.in-Some.json (λ j. IsPlace (g.D.Device.size c.args.source.now) c.args.place) c.in-Some.is c.in_ok-begun_area.ensures.place)
-    (some_of c.in_ok-begun_area.field-0 c.in-Some.json (λ j. length j.items ≡ c.args.place.size - 4096) c.in-Some.is c.in_ok-begun_area.ensures.long) x)
+    (some_of c.in_ok-json.field-0 c.in-Some.json (λ j. IsPlace (g.D.Device.size c.args.source.now) c.args.place) c.in-Some.is c.in_ok-json.ensures.place)
+    (some_of c.in_ok-json.field-0 c.in-Some.json (λ j. length j.items ≡ c.args.place.size - 4096) c.in-Some.is c.in_ok-json.ensures.long) x)
     c.as_it_stands.ensures.there
 
 pub returns-in-Some-clause-found : goal.returns-in-Some-clause-found
@@ -25,9 +25,9 @@ returns-in-Some-clause-found g c = λ tells.
     found_both c.as_it_stands.result _ _ _
     (λ f there x. found_in allowed v p c.args.place json f
     (subst (λ n. IsPlace n c.args.place) (sym (g.met.D.Device.sized c.args.source.now tells))
-    (some_of c.in_ok-begun_area.field-0 c.in-Some.json (λ j. IsPlace (g.D.Device.size c.args.source.now) c.args.place) c.in-Some.is c.in_ok-begun_area.ensures.place))
-    (some_of c.in_ok-begun_area.field-0 c.in-Some.json (λ j. length j.items ≡ c.args.place.size - 4096) c.in-Some.is c.in_ok-begun_area.ensures.long)
-    (some_of c.in_ok-begun_area.field-0 c.in-Some.json (λ j. j.items ≡ area_of v c.args.place) c.in-Some.is (c.in_ok-begun_area.ensures.read tells))
+    (some_of c.in_ok-json.field-0 c.in-Some.json (λ j. IsPlace (g.D.Device.size c.args.source.now) c.args.place) c.in-Some.is c.in_ok-json.ensures.place))
+    (some_of c.in_ok-json.field-0 c.in-Some.json (λ j. length j.items ≡ c.args.place.size - 4096) c.in-Some.is c.in_ok-json.ensures.long)
+    (some_of c.in_ok-json.field-0 c.in-Some.json (λ j. j.items ≡ area_of v c.args.place) c.in-Some.is (c.in_ok-json.ensures.read tells))
     there (subst (λ w. IsFoundIn allowed w p json f) same x))
     c.as_it_stands.ensures.there (c.as_it_stands.ensures.found tells)
 
@@ -38,6 +38,6 @@ returns-in-Some-clause-none g c = λ tells.
     let p = c.args.trying.now.passphrase.now in
     let json = c.in-Some.json.items in
     let same = c.begun_area.ensures.unchanged.same tells in
-    let read = some_of c.in_ok-begun_area.field-0 c.in-Some.json (λ j. j.items ≡ area_of v c.args.place) c.in-Some.is (c.in_ok-begun_area.ensures.read tells) in
+    let read = some_of c.in_ok-json.field-0 c.in-Some.json (λ j. j.items ≡ area_of v c.args.place) c.in-Some.is (c.in_ok-json.ensures.read tells) in
     none_so c.as_it_stands.result _ _ (λ none begun. subst (λ j. OpensNone allowed v p j) read (subst (λ w. OpensNone allowed w p json) same none))
     (c.as_it_stands.ensures.none tells)
