@@ -86,7 +86,7 @@ fn with_digest_at<D: Device, P: Progress>(
     let Some(changed) = replaced(alloc, json, at, &near.stood, &near.digest)? else {
         return Ok(None);
     };
-    let digest = near.digest.as_slice();
+    let digest = &near.digest;
     let opened = opens_with(alloc, source, &changed, n, digest, trying, tally, progress)?;
     if !opened {
         return Ok(None);

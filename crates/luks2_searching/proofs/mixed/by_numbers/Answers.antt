@@ -54,6 +54,5 @@ returns-in-Some-clause-there g c =
 pub returns-clause-none : goal.returns-clause-none
 returns-clause-none g c = λ tells n below.
     let most : 2 ^ length c.args.places.now ≤ 2 ^ 16 = pow_mono c.requires.short in
-    let end : 2 ^ c.len-number-end.result ≡ 2 ^ length c.args.places.now = ap (λ (k : ℕ). 2 ^ k) c.len-number-end.ensures in
     let ended = c.loop-number-test.false in
-    c.loop-number.invariant.shut tells n (omega (arith, most, end, ended, below))
+    c.loop-number.invariant.shut tells n (omega (arith, most, ended, below))
