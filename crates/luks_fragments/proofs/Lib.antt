@@ -1,3 +1,0 @@
-pub mod AppendFacts
-pub mod ObjectFacts
-pub mod RegionFacts

@@ -1,2 +1,0 @@
-pub mod PartFacts
-pub mod WrittenFacts
