@@ -97,9 +97,7 @@ fn told2(alloc: Global, found: &Found2, done: u32) -> Result<String, Malformed> 
     let at = found.place.at;
     let change = change2(alloc, found.change)?;
     let sum = hex::encode(alloc, Sha256::digest(&found.json))?;
-    Ok(
-        format!(in alloc; "keyslot {slot} {change}, {done} derivations, {size} at {at}, {sum}")?,
-    )
+    Ok(format!(in alloc; "keyslot {slot} {change}, {done} derivations, {size} at {at}, {sum}")?)
 }
 
 /// By which change.
