@@ -82,3 +82,9 @@ pub record IsNear (json : List ℕ) (n : ℕ) (near : NearDigest) : Type 0 where
   pub stands : HasDigest json n near.stood.items
   pub few : near.bits ≤ few_bits
   pub turned : AreTurned near.bits near.stood.items near.digest.items
+
+-- what a key gives in place of the digest `stood`
+pub record IsNearTo (stood : List ℕ) (near : NearDigest) : Type 0 where
+  pub is : near.stood.items ≡ stood
+  pub few : near.bits ≤ few_bits
+  pub turned : AreTurned near.bits stood near.digest.items

@@ -10,7 +10,7 @@ ghost use Rattle.luks_trials.specs.Metadata.{AddsNone, IsMetaOf};
 
 use crate::copies::text_end;
 use crate::found::{Change2, Found2};
-use crate::turning::turned;
+use crate::turning::{turn, turned};
 use luks_area::Device;
 use luks_meta::Meta;
 use luks_rebuilding::Place;
@@ -51,9 +51,45 @@ pub(crate) fn by_bits<D: Device, P: Progress>(
         return Ok(None);
     }
     let standing = meta_of(alloc, json)?;
+    by_bits_to(
+        alloc, source, place, json, end, &standing, trying, tally, progress,
+    )
+}
+
+/// The same of the bytes of the text, which ends there.
+fn by_bits_to<D: Device, P: Progress>(
+    alloc: Global,
+    source: &mut D,
+    place: Place,
+    json: &mut [u8],
+    end: usize,
+    standing: &Option<Meta>,
+    trying: &Trying<'_>,
+    tally: &mut Tally,
+    progress: &mut P,
+) -> Result<Option<Found2>, SearchFault>
+    requires end { end ≡ text_end json.old }
+    requires there { end ≤ length json.old }
+    requires standing { IsMetaOf json.old standing.now }
+    requires passphrase { 0 < trying.now.allowed.memory
+        → length trying.now.passphrase.now < 2 ^ 32 }
+    requires room { D.failed source.old + 1 < 2 ^ 64 }
+    ensures unchanged { IsUnchanged D.tells D.size D.bytes D.unsettled source.old source.new }
+    ensures count { CountsFailure is_search_failure result
+        (D.failed source.old) (D.failed source.new) }
+    ensures counts { Counts tally.old tally.new }
+    ensures cut { IfErr result (IsCutShort tally.new) }
+    ensures same { json.new ≡ json.old }
+    ensures there { IfOk result (λ found. IfSome found (IsThere place json.old)) }
+    ensures found { D.tells → IfOk result (λ found. IfSome found (IsFoundIn trying.now.allowed
+        (D.bytes source.old) trying.now.passphrase.now json.old)) }
+    ensures none { D.tells → IfOk result (λ found. IfNone found ((at bit : ℕ)
+        → at < text_end json.old → bit < 8 → AddsNone trying.now.allowed
+        (D.bytes source.old) trying.now.passphrase.now json.old (turned json.old at bit))) }
+{
     for at in 0..end {
         let found = by_bits_at(
-            alloc, source, place, json, at, &standing, trying, tally, progress,
+            alloc, source, place, json, at, standing, trying, tally, progress,
         )?;
         if found.is_some() {
             return Ok(found);
@@ -123,7 +159,7 @@ fn turned_meta(
     ensures memory { IfErr result (λ f. f ≡ SearchFault.Memory) }
 {
     let byte = json[at];
-    json[at] ^= 1 << bit;
+    turn(json, at, bit);
     let meta = meta_of(alloc, json);
     json[at] = byte;
     meta

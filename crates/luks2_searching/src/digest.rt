@@ -6,7 +6,7 @@ ghost use Rattle.luks_meta.specs.Content.{content};
 ghost use Rattle.luks_reading.specs.PlanAnswers.{IsOpenable};
 ghost use Rattle.luks_trials.specs.Faults.{is_search_failure, IsCutShort};
 ghost use Rattle.luks_trials.specs.Tallies.{Counts};
-ghost use Rattle.luks2_searching.specs.Digests.{few_bits, AreTurned, IsNear, IsNearer};
+ghost use Rattle.luks2_searching.specs.Digests.{few_bits, IsNear, IsNearer, IsNearTo};
 ghost use Rattle.luks2_searching.specs.Found.{IsFoundIn, IsThere};
 
 use crate::found::Found2;
@@ -18,7 +18,7 @@ use luks_reading::luks2_plan;
 use luks_rebuilding::Place;
 use luks_slot::{DigestPlan, SlotPlan};
 use luks_trials::{Progress, SearchFault, Tally, Trying, try_plan};
-use std::alloc::Global;
+use std::alloc::{AllocError, Global};
 
 /// The area with the digest that the key of the keyslot `n` gives, where it differs from the one that stands in `bits`
 /// bits. `place` is that of the copy.
@@ -104,19 +104,10 @@ fn near_digest<D: Device, P: Progress>(
     if !plan.area.is_inside(source.len()) {
         return Ok(None);
     }
-    let stood = digest.digest.to_vec(alloc)?;
-    match turned_digest(alloc, source, &plan, bits, trying, tally, progress)? {
-        Some((digest, bits)) => Ok(Some(NearDigest {
-            stood,
-            digest,
-            bits,
-        })),
-        None => Ok(None),
-    }
+    turned_digest(alloc, source, &plan, bits, trying, tally, progress)
 }
 
-/// The digest by which a keyslot of this plan opens, and in how many bits it differs from the plan's: each bit is turned
-/// that lessens the distance.
+/// The digest by which a keyslot of this plan opens, beside the plan's: each bit is turned that lessens the distance.
 fn turned_digest<D: Device, P: Progress>(
     alloc: Global,
     source: &mut D,
@@ -125,7 +116,7 @@ fn turned_digest<D: Device, P: Progress>(
     trying: &Trying<'_>,
     tally: &mut Tally,
     progress: &mut P,
-) -> Result<Option<(Vec<u8>, u32)>, SearchFault>
+) -> Result<Option<NearDigest>, SearchFault>
     requires openable { IsOpenable plan.now }
     requires inside { plan.now.area.start + plan.now.area.len ≤ D.size source.old }
     requires some_bits { 1 ≤ bits }
@@ -138,9 +129,7 @@ fn turned_digest<D: Device, P: Progress>(
         (D.failed source.old) (D.failed source.new) }
     ensures counts { Counts tally.old tally.new }
     ensures cut { IfErr result (IsCutShort tally.new) }
-    ensures few { IfOk result (λ found. IfSome found (λ it. it.1 ≤ few_bits)) }
-    ensures turned { IfOk result (λ found. IfSome found
-        (λ it. AreTurned it.1 plan.now.digest.stored.now it.0.items)) }
+    ensures near { IfOk result (λ found. IfSome found (IsNearTo plan.now.digest.stored.now)) }
 {
     let mut mended = Mended {
         digest: plan.digest.stored.to_vec(alloc)?,
@@ -151,11 +140,23 @@ fn turned_digest<D: Device, P: Progress>(
         let changed = turned(alloc, &mended.digest, number / 8, (number % 8) as u8)?;
         let distance = distance_with(alloc, source, plan, &changed, trying, tally, progress)?;
         if is_met(distance) {
-            return Ok(Some((changed, mended.times + 1)));
+            let stood = copied(alloc, plan.digest.stored)?;
+            let bits = mended.times + 1;
+            return Ok(Some(NearDigest {
+                stood,
+                digest: changed,
+                bits,
+            }));
         }
         mended = nearer(mended, changed, distance);
     }
     Ok(None)
+}
+
+fn copied(alloc: Global, bytes: &[u8]) -> Result<Vec<u8>, AllocError>
+    ensures { IfOk result (λ copy. copy.items ≡ bytes.now) }
+{
+    bytes.to_vec(alloc)
 }
 
 /// A digest on the way to that which the key gives.

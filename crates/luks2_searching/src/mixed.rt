@@ -2,6 +2,7 @@
 ghost use Rattle.std.specs.Prelude.{◌≡◌, ◌+◌, ◌^◌, ◌<◌, ◌≤◌, ℕ, List, length, slice_index, slice_set, true, false, IfErr, IfNone, IfOk, IfSome};
 ghost use Rattle.luks_area.specs.Device.{CountsFailure, IsUnchanged};
 ghost use Rattle.luks_trials.specs.Faults.{is_search_failure, IsCutShort};
+ghost use Rattle.luks_trials.specs.Metadata.{AddsNone, IsMetaOf};
 ghost use Rattle.luks_trials.specs.Tallies.{Counts};
 ghost use Rattle.luks2_searching.specs.Found.{HasNoneOfBoth, IsFoundMixed, IsThere};
 ghost use Rattle.luks2_searching.specs.Mixed.{few_bytes, mixed, AreAllOf, AreInside, DifferAt, GrowsBy};
@@ -9,6 +10,7 @@ ghost use Rattle.luks2_searching.specs.Mixed.{few_bytes, mixed, AreAllOf, AreIns
 use crate::found::{Change2, Found2};
 use arrayvec::ArrayVec;
 use luks_area::Device;
+use luks_meta::Meta;
 use luks_rebuilding::Place;
 use luks_trials::{Progress, SearchFault, Tally, Trying, first_anew, meta_of};
 use std::alloc::{AllocError, Global};
@@ -44,10 +46,49 @@ pub(crate) fn by_mixing<D: Device, P: Progress>(
         return Ok(None);
     };
     let standing = meta_of(alloc, first)?;
+    by_numbers(
+        alloc, source, place, first, second, &places, &standing, trying, tally, progress,
+    )
+}
+
+/// The same of these places, in which the areas differ.
+fn by_numbers<D: Device, P: Progress>(
+    alloc: Global,
+    source: &mut D,
+    place: Place,
+    first: &[u8],
+    second: &[u8],
+    places: &[usize],
+    standing: &Option<Meta>,
+    trying: &Trying<'_>,
+    tally: &mut Tally,
+    progress: &mut P,
+) -> Result<Option<Found2>, SearchFault>
+    requires long { length second.now ≡ length first.now }
+    requires inside { AreInside (length first.now) places.now }
+    requires short { length places.now ≤ few_bytes }
+    requires few { DifferAt first.now second.now few_bytes }
+    requires standing { IsMetaOf first.now standing.now }
+    requires passphrase { 0 < trying.now.allowed.memory
+        → length trying.now.passphrase.now < 2 ^ 32 }
+    requires room { D.failed source.old + 1 < 2 ^ 64 }
+    ensures unchanged { IsUnchanged D.tells D.size D.bytes D.unsettled source.old source.new }
+    ensures count { CountsFailure is_search_failure result
+        (D.failed source.old) (D.failed source.new) }
+    ensures counts { Counts tally.old tally.new }
+    ensures cut { IfErr result (IsCutShort tally.new) }
+    ensures there { IfOk result (λ found. IfSome found (IsThere place first.now)) }
+    ensures found { D.tells → IfOk result (λ found. IfSome found (IsFoundMixed trying.now.allowed
+        (D.bytes source.old) trying.now.passphrase.now first.now second.now)) }
+    ensures none { D.tells → IfOk result (λ found. IfNone found ((n : ℕ)
+        → n < 2 ^ length places.now → AddsNone trying.now.allowed
+        (D.bytes source.old) trying.now.passphrase.now first.now
+        (mixed second.now places.now n first.now))) }
+{
     for number in 0..1 << places.len() {
-        let json = numbered(alloc, first, second, &places, number)?;
+        let json = numbered(alloc, first, second, places, number)?;
         let meta = meta_of(alloc, &json)?;
-        let slot = first_anew(alloc, source, &standing, &meta, trying, tally, progress)?;
+        let slot = first_anew(alloc, source, standing, &meta, trying, tally, progress)?;
         if let Some(slot) = slot {
             let change = Change2::Mixed;
             return Ok(Some(Found2 {
@@ -65,6 +106,7 @@ pub(crate) fn by_mixing<D: Device, P: Progress>(
 fn differing(first: &[u8], second: &[u8]) -> Option<ArrayVec<usize, 16>>
     requires { length second.now ≡ length first.now }
     ensures few { IfSome result (λ _. DifferAt first.now second.now few_bytes) }
+    ensures short { IfSome result (λ places. length places.items ≤ few_bytes) }
     ensures inside { IfSome result (λ places. AreInside (length first.now) places.items) }
     ensures all { IfSome result (λ places. AreAllOf first.now second.now (length first.now) places.items) }
     ensures none { IfNone result (DifferAt first.now second.now few_bytes → ⊥) }

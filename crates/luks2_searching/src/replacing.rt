@@ -86,7 +86,7 @@ fn with_digest_at<D: Device, P: Progress>(
     let Some(changed) = replaced(alloc, json, at, &near.stood, &near.digest)? else {
         return Ok(None);
     };
-    let digest = near.digest.as_slice();
+    let digest = &near.digest;
     let opened = opens_with(alloc, source, &changed, n, digest, trying, tally, progress)?;
     if !opened {
         return Ok(None);
@@ -139,8 +139,13 @@ fn stands_at(json: &[u8], at: usize, text: &[u8]) -> bool
     if text.len() > rest.len() {
         return false;
     }
-    let there = &rest[..text.len()];
-    there == text
+    is_same(&rest[..text.len()], text)
+}
+
+fn is_same(a: &[u8], b: &[u8]) -> bool
+    ensures { result ≡ true → a.now ≡ b.now }
+{
+    a == b
 }
 
 /// Whether the keyslot `n` opens by the area, and its digest is this one.

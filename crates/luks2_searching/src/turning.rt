@@ -16,6 +16,15 @@ pub(crate) fn turned(
     ensures { IfOk result (λ new. new.items ≡ turned bytes.now place bit) }
 {
     let mut new = bytes.to_vec(alloc)?;
-    new[place] ^= 1 << bit;
+    turn(&mut new, place, bit);
     Ok(new)
+}
+
+/// Turns the bit of this number, 0 to 7, of the byte at the place.
+pub(crate) fn turn(bytes: &mut [u8], place: usize, bit: u8)
+    requires there { place < length bytes.old }
+    requires low { bit < 8 }
+    ensures { bytes.new ≡ turned bytes.old place bit }
+{
+    bytes[place] ^= 1 << bit;
 }

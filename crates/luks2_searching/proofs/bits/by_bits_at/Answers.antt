@@ -1,9 +1,10 @@
-use Rattle.std.proofs.Common.{◌∙◌, ℕ, ◌<◌, subst, sym, arith, below_more}
+use Rattle.std.proofs.Common.{◌∙◌, ℕ, ◌<◌, ap, subst, sym, arith, below_more}
 use Rattle.luks_area.specs.Device.{unchanged-then}
-use Rattle.luks_trials.specs.Metadata.{AddsNone, IsMetaOf}
+use Rattle.luks_trials.specs.Metadata.{AddsNone, IsMetaOf, OpensAt}
 use Rattle.luks_trials.specs.Turned.{turned}
 use Rattle.luks_trials.proofs.OptionFacts.{none_of}
 use Rattle.luks_trials.proofs.TallyFacts.{counts_then}
+use Rattle.luks2_searching.proofs.ResultFacts.{some_of}
 use Rattle.luks2_searching.proofs.bits.by_bits_at.Goals as goal
 
 pub loop-bit-preserved : goal.loop-bit-preserved
@@ -27,3 +28,19 @@ loop-bit-preserved g c = record {
 
 pub returns-clause-none : goal.returns-clause-none
 returns-clause-none g c = λ tells bit low. c.loop-bit.invariant.shut tells bit (let ended = c.loop-bit-test.false in omega (arith, low, ended))
+
+pub returns-in-Some-clause-found : goal.returns-in-Some-clause-found
+returns-in-Some-clause-found g c = λ tells.
+    let allowed = c.args.trying.now.allowed in
+    let p = c.args.trying.now.passphrase.now in
+    let json = c.args.json.now in
+    let at = c.args.at in
+    let is = c.in_ok-turned.ensures ∙ ap (λ j. turned j c.args.at c.loop-bit.bit) (c.turned_meta.ensures.same ∙ c.loop-bit.invariant.same) in
+    let meta = subst (λ j. IsMetaOf (turned j at c.loop-bit.bit) c.in_ok-meta.meta) c.loop-bit.invariant.same c.in_ok-meta.ensures.meta in
+    let opens = some_of c.in_ok-slot.slot c.in-Some.slot (OpensAt allowed (g.D.Device.bytes c.loop-bit.source) p (turned json at c.loop-bit.bit)) c.in-Some.is
+    (c.in_ok-slot.ensures.opens tells (turned json at c.loop-bit.bit) meta) in
+    record {
+      changed = record { inside = c.requires.inside; low = c.loop-bit-test.true; is = is };
+      opens = subst (λ j. OpensAt allowed (g.D.Device.bytes c.args.source.now) p j c.in-Some.slot) (sym is)
+          (subst (λ w. OpensAt allowed w p (turned json at c.loop-bit.bit) c.in-Some.slot) (c.loop-bit.invariant.unchanged.same tells) opens);
+    }

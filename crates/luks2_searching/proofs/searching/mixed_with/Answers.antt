@@ -7,7 +7,8 @@ use Rattle.luks2_searching.proofs.searching.mixed_with.Goals as goal
 
 pub by_mixing-requires-clause-long : goal.by_mixing-requires-clause-long
 by_mixing-requires-clause-long g c =
-    some_of c.in_ok-begun_area.field-0 c.in-Some.second (λ j. length j.items ≡ c.args.size - 4096) c.in-Some.is c.in_ok-begun_area.ensures.long ∙ sym c.requires.long
+    subst (λ l. length l ≡ c.args.size - 4096) (sym c.deref.ensures.value)
+    (some_of c.in_ok-second.field-0 c.in-Some.second (λ j. length j.items ≡ c.args.size - 4096) c.in-Some.is c.in_ok-second.ensures.long) ∙ sym c.requires.long
 
 pub returns-in-Some-clause-there : goal.returns-in-Some-clause-there
 returns-in-Some-clause-there g c =
@@ -22,13 +23,13 @@ returns-in-Some-clause-found g c = λ tells.
     let same = c.begun_area.ensures.unchanged.same tells in
     let sized = sym (g.met.D.Device.sized c.args.source.now tells) in
     found_both c.by_mixing.result _ _ _
-    (λ f there x. found_mixed allowed v p c.args.size c.args.first.now c.in-Some.second.items f
+    (λ f there x. found_mixed allowed v p c.args.size c.args.first.now c.deref.result.now f
     (subst (λ n. IsPlace n (first_place c.args.size)) sized c.requires.place)
     (subst (λ n. IsPlace n (second_place c.args.size)) sized
-    (some_of c.in_ok-begun_area.field-0 c.in-Some.second (λ j. IsPlace (g.D.Device.size c.args.source.now) (second_place c.args.size)) c.in-Some.is c.in_ok-begun_area.ensures.place))
+    (some_of c.in_ok-second.field-0 c.in-Some.second (λ j. IsPlace (g.D.Device.size c.args.source.now) (second_place c.args.size)) c.in-Some.is c.in_ok-second.ensures.place))
     c.requires.long (c.requires.read tells)
-    (some_of c.in_ok-begun_area.field-0 c.in-Some.second (λ j. j.items ≡ area_of v (second_place c.args.size)) c.in-Some.is (c.in_ok-begun_area.ensures.read tells))
-    there (subst (λ w. IsFoundMixed allowed w p c.args.first.now c.in-Some.second.items f) same x))
+    (c.deref.ensures.value ∙ some_of c.in_ok-second.field-0 c.in-Some.second (λ j. j.items ≡ area_of v (second_place c.args.size)) c.in-Some.is (c.in_ok-second.ensures.read tells))
+    there (subst (λ w. IsFoundMixed allowed w p c.args.first.now c.deref.result.now f) same x))
     c.by_mixing.ensures.there (c.by_mixing.ensures.found tells)
 
 pub returns-in-Some-clause-none : goal.returns-in-Some-clause-none
@@ -37,8 +38,8 @@ returns-in-Some-clause-none g c = λ tells.
     let allowed = c.args.trying.now.allowed in
     let p = c.args.trying.now.passphrase.now in
     let same = c.begun_area.ensures.unchanged.same tells in
-    let read = some_of c.in_ok-begun_area.field-0 c.in-Some.second (λ j. j.items ≡ area_of v (second_place c.args.size)) c.in-Some.is (c.in_ok-begun_area.ensures.read tells) in
+    let read = c.deref.ensures.value ∙ some_of c.in_ok-second.field-0 c.in-Some.second (λ j. j.items ≡ area_of v (second_place c.args.size)) c.in-Some.is (c.in_ok-second.ensures.read tells) in
     none_so c.by_mixing.result _ _
     (λ none begun. subst (λ j. HasNoneOfBoth allowed v p c.args.first.now j) read
-    (subst (λ w. HasNoneOfBoth allowed w p c.args.first.now c.in-Some.second.items) same none))
+    (subst (λ w. HasNoneOfBoth allowed w p c.args.first.now c.deref.result.now) same none))
     (c.by_mixing.ensures.none tells)

@@ -1,10 +1,10 @@
 use Rattle.std.proofs.Common.{◌∙◌, ℕ, ◌<◌, subst, sym, arith, below_more}
 use Rattle.luks_area.specs.Device.{unchanged-then}
-use Rattle.luks_trials.specs.Metadata.{AddsNone}
+use Rattle.luks_trials.specs.Metadata.{AddsNone, IsMetaOf}
 use Rattle.luks_trials.specs.Turned.{turned}
 use Rattle.luks_trials.proofs.OptionFacts.{none_where}
 use Rattle.luks_trials.proofs.TallyFacts.{counts_then}
-use Rattle.luks2_searching.proofs.bits.by_bits.Goals as goal
+use Rattle.luks2_searching.proofs.bits.by_bits_to.Goals as goal
 
 pub loop-at-preserved : goal.loop-at-preserved
 loop-at-preserved g c = record {
@@ -25,7 +25,10 @@ loop-at-preserved g c = record {
 }
 
 pub returns-clause-none : goal.returns-clause-none
-returns-clause-none g c = λ tells few at bit below low.
+returns-clause-none g c = λ tells at bit below low.
     let ended = c.loop-at-test.false in
-    let end = c.text_end-end.ensures.end in
+    let end = c.requires.end in
     c.loop-at.invariant.shut tells at bit (omega (arith, below, ended, end)) low
+
+pub by_bits_at-requires-clause-standing : goal.by_bits_at-requires-clause-standing
+by_bits_at-requires-clause-standing g c = subst (λ j. IsMetaOf j c.args.standing.now) (sym c.loop-at.invariant.same) c.requires.standing

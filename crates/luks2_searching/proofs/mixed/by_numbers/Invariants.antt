@@ -3,7 +3,7 @@ use Rattle.luks_area.specs.Device.{IsUnchanged}
 use Rattle.luks_trials.specs.Metadata.{AddsNone}
 use Rattle.luks_trials.specs.Tallies.{Counts}
 use Rattle.luks2_searching.specs.Mixed.{mixed}
-use Rattle.luks2_searching.proofs.mixed.by_mixing.Given as goal
+use Rattle.luks2_searching.proofs.mixed.by_numbers.Given as goal
 
 -- no composition of a lesser number opens a keyslot anew
 abbrev pub invariant-loop-number : goal.invariant-loop-number
@@ -12,5 +12,5 @@ invariant-loop-number g l = record {
   count : g.D.Device.failed l.source ≡ g.D.Device.failed l.initial.source;
   counts : Counts l.initial.tally l.tally;
   shut : g.D.Device.tells → (n : ℕ) → n < l.number
-      → AddsNone l.trying.allowed (g.D.Device.bytes l.initial.source) l.trying.passphrase.now l.first (mixed l.second l.places.items n l.first);
+      → AddsNone l.trying.allowed (g.D.Device.bytes l.initial.source) l.trying.passphrase.now l.first (mixed l.second l.places n l.first);
 }

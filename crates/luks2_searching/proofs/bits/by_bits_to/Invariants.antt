@@ -3,7 +3,7 @@ use Rattle.luks_area.specs.Device.{IsUnchanged}
 use Rattle.luks_trials.specs.Metadata.{AddsNone}
 use Rattle.luks_trials.specs.Tallies.{Counts}
 use Rattle.luks_trials.specs.Turned.{turned}
-use Rattle.luks2_searching.proofs.bits.by_bits.Given as goal
+use Rattle.luks2_searching.proofs.bits.by_bits_to.Given as goal
 
 -- no bit of a byte before this one, turned, opens a keyslot anew
 abbrev pub invariant-loop-at : goal.invariant-loop-at
