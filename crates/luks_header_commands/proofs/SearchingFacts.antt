@@ -1,6 +1,6 @@
 -- What `rebuild` answers where what is damaged is sought by a passphrase, by what it met.
-use Rattle.std.proofs.Common.{◌≡◌, ◌≢◌, ◌↔◌, ◌⊎◌, List, ℕ, ◌+◌, ◌<◌, Bool, true, false, Option, Some, None, IfSome, IfNone, IsTrue, refl, sym, subst, inl, inr, length, ◌∙◌}
-use Rattle.luks_area.specs.Device.{count_after}
+use Rattle.std.proofs.Common.{◌≡◌, ◌≢◌, ◌↔◌, ◌⊎◌, List, ℕ, ◌+◌, ◌<◌, Bool, true, false, Option, Some, None, IfSome, IfNone, Result, Ok, IfOk, IsTrue, refl, sym, subst, inl, inr, length, ◌∙◌}
+use Rattle.luks_area.specs.Device.{count_after, CountsFailure}
 use Rattle.luks_writing.specs.TwoDevices.{CountsAfter, IsOneFailure}
 use Rattle.luks_slot.specs.declared.allowed.Allowed.{Allowed}
 use Rattle.luks_reading.specs.Answer.{opens}
@@ -40,6 +40,24 @@ use Rattle.luks_header_commands.specs.Tried.{no_header, none_open, one_opens, tr
 use Rattle.luks_header_commands.specs.Trying.{TriedBy}
 use Rattle.luks_header_commands.proofs.TargetFacts.{bytes_later, none_later, one_later, said_later, same_later}
 use Rattle.luks_header_commands.proofs.TryingFacts.{tried_later}
+
+-- ---- what a search has answered
+
+pub ok_some : {A E : Type 0} (says : A → Type 0) (r : Result (Option A) E) (o : Option A) (found : A) → r ≡ Ok o → o ≡ Some found
+    → IfOk r (λ x. IfSome x says) → says found
+ok_some {A} {E} says r o found is some told = subst (λ (x : Option A). IfSome x says) some (subst (λ (x : Result (Option A) E). IfOk x (λ y. IfSome y says)) is told)
+
+-- the search in a LUKS1 header, of the same volume
+pub near_of : (v v' p : List ℕ) (g : Given) (o : Option Found1) (found : Found1) → v' ≡ v → o ≡ Some found → IfSome o (IsFound1 v' g p) → IsFound1 v g p found
+near_of v v' p g o found same some said =
+    subst (λ (x : List ℕ). IsFound1 x g p found) same (subst (λ (x : Option Found1). IfSome x (IsFound1 v' g p)) some said)
+
+pub none_of : (v v' p : List ℕ) (g : Given) (o : Option Found1) → v' ≡ v → o ≡ None → IfNone o (HasNone1 v' g p) → HasNone1 v g p
+none_of v v' p g o same none said =
+    subst (λ (x : List ℕ). HasNone1 x g p) same (subst (λ (x : Option Found1). IfNone x (HasNone1 v' g p)) none said)
+
+pub ok_count : {A E : Type 0} (is_failure : E → Bool) (r : Result A E) (x : A) (s t : ℕ) → r ≡ Ok x → CountsFailure is_failure r s t → t ≡ s
+ok_count {A} {E} is_failure r x s t is count = subst (λ (y : Result A E). CountsFailure is_failure y s t) is count
 
 -- ---- a header in the place of the volume's
 
@@ -215,6 +233,10 @@ by_later true tells r g p random d e a later said = searched_later tells r g p r
 pub tried_rest : (g : Given) (p v old new : List ℕ) → IsTriedRest g p v old new → IsRest1 g p v old new
 tried_rest g p v old new (inl same) = inl same
 tried_rest g p v old new (inr kept) = inr (inl kept)
+
+-- of what was answered otherwise than that none opens
+pub combined : (tells : Type 0) (g : Given) (p : List ℕ) (d : Pair) (a : Answer) → (a ≡ answer.NoneOpens → ⊥) → TriedAnswer tells g p d a → SearchedAnswer1 tells g p d a
+combined tells g p d a other said = by_combinations said other
 
 -- by a header that was found
 pub found_rest : (g : Given) (p v v' old new : List ℕ) (found : Found1) → v' ≡ v → IsFound1 v g p found → KeepsHeaded found.header g v' old new → IsRest1 g p v old new

@@ -98,21 +98,22 @@ fn make_near<D: Device, E: Write, G: DerivationProgress>(
         Err(fault) => return not_of_fields(fault, files.volume, READING_FAILED, files, err),
     };
     let mut tally = Tally::new(most_derivations(&header));
-    let searched = search1(
+    match search1(
         alloc,
         volume,
         given,
         trying.passphrase,
         &mut tally,
         progress,
-    );
-    note_derivations(&tally, err);
-    match searched {
+    ) {
         Ok(Some(found)) => {
-            note_found(&found, err);
+            note_found(&found, &tally, err);
             make_of_header(volume, target, files, &found.header, given, err)
         }
-        Ok(None) => Answer::NoneOpens,
+        Ok(None) => {
+            note_derivations(&tally, err);
+            Answer::NoneOpens
+        }
         Err(fault) => not_searched(fault, files.volume, err),
     }
 }
@@ -145,8 +146,9 @@ fn state_of(header: &[u8; 592], n: usize) -> u32
     u32::from(high) << 16 | u32::from(low)
 }
 
-/// Says by which change which keyslot opens.
-fn note_found<E: Write>(found: &Found1, err: &mut E) {
+/// Says by which change which keyslot opens, and how many derivations were made for it.
+fn note_found<E: Write>(found: &Found1, tally: &Tally, err: &mut E) {
+    note_derivations(tally, err);
     let slot = found.slot;
     let _ = match found.change {
         Change1::Nothing => writeln!(err, "luks: keyslot {slot} opens by what stands"),

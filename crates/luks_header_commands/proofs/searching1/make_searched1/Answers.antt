@@ -2,9 +2,8 @@ use Rattle.std.proofs.Common.{◌≡◌, ℕ, ◌+◌, ◌<◌, ◌^◌, List, r
 use Rattle.luks1_rebuilding.specs.Openings.{OpensNoneBelow}
 use Rattle.luks1_rebuilding.specs.TrialFaults.{IsTrialFault}
 use Rattle.luks1_rebuilding.specs.declared.rebuild_fault.Rebuild1Fault.{Rebuild1Fault}
-use Rattle.luks_header_commands.specs.Searching.{by_combinations}
 use Rattle.luks_header_commands.specs.Target.{pair_of, Pair}
-use Rattle.luks_header_commands.proofs.SearchingFacts.{none_tried, rest1_of, searched1_later, tried_rest, NoneTried}
+use Rattle.luks_header_commands.proofs.SearchingFacts.{combined, none_tried, rest1_of, searched1_later, tried_rest}
 use Rattle.luks_header_commands.proofs.searching1.make_searched1.Goals as goal
 
 pub make_near-requires-clause-volume_room : goal.make_near-requires-clause-volume_room
@@ -56,3 +55,14 @@ returns-in-NoneOpens-clause-rest g c = λ told.
     rest1_of c.args.given.now c.args.trying.now.passphrase.now (g.D.Device.bytes c.args.volume.now) (g.D.Device.bytes c.make_opened.new.volume)
     (g.D.Device.bytes c.args.target.now) (g.D.Device.bytes c.make_opened.new.target) (g.D.Device.bytes c.make_near.new.target)
     (c.make_opened.ensures.unchanged.same told) (tried.same told) (c.make_near.ensures.rest told)
+
+pub returns-in_default-clause-answers : goal.returns-in_default-clause-answers
+returns-in_default-clause-answers g c =
+    combined g.D.Device.tells c.args.given.now c.args.trying.now.passphrase.now
+    (pair_of g.D.Device.size g.D.Device.bytes g.D.Device.failed c.args.volume.now c.make_opened.new.volume c.args.target.now c.make_opened.new.target)
+    c.make_opened.result c.in_default.not-NoneOpens c.make_opened.ensures.answers
+
+pub returns-in_default-clause-rest : goal.returns-in_default-clause-rest
+returns-in_default-clause-rest g c = λ told.
+    tried_rest c.args.given.now c.args.trying.now.passphrase.now (g.D.Device.bytes c.args.volume.now) (g.D.Device.bytes c.args.target.now) (g.D.Device.bytes c.make_opened.new.target)
+    (c.make_opened.ensures.rest told)
