@@ -112,7 +112,7 @@ def mending(stored, digest, tally):
 
 
 def by_digest(bits):
-    return f"with {bits} bit{'' if bits == 1 else 's'} of the digest turned"
+    return f"with {bits} bits of the digest turned"
 
 
 # ---- LUKS1

@@ -84,9 +84,6 @@ fn change1(alloc: Global, change: Change1) -> Result<String, Malformed> {
 
 /// By so many bits of the digest.
 fn of_digest(alloc: Global, bits: u32) -> Result<String, Malformed> {
-    if bits == 1 {
-        return Ok(String::from_str(alloc, "with 1 bit of the digest turned")?);
-    }
     Ok(format!(in alloc; "with {bits} bits of the digest turned")?)
 }
 
