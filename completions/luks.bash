@@ -17,7 +17,7 @@ _luks() {
         [token]="--to --random --over --detached --offset --length --quiet --help"
         [format]="--passphrase --passphrase-line --random --version --hash --iterations --kdf --kdf-memory --passes --lanes --iter-time --memory --cipher --key-bytes --sector-size --older --key --payload --uuid --label --subsystem --over --detached --offset --length --quiet --help"
         [convert]="--random --over --detached --offset --length --quiet --help"
-        [rebuild]="--random --second --size --thorough --cipher --hash --key-bytes --payload --passphrase --passphrase-line --uuid --over --offset --length --quiet --help"
+        [rebuild]="--random --second --size --thorough --cipher --hash --key-bytes --payload --passphrase --passphrase-line --memory --uuid --over --offset --length --quiet --help"
         [find]="--offset --length --quiet --help"
         [backup]="--over --rescue --detached --offset --length --quiet --help"
         [restore]="--other --over --over-reencryption --detached --offset --length --quiet --help"

@@ -199,13 +199,14 @@ complete -c luks -n '__fish_seen_subcommand_from rebuild' -F
 complete -c luks -n '__fish_seen_subcommand_from rebuild' -l random -r -F -d 'The file of the random bytes, as /dev/urandom'
 complete -c luks -n '__fish_seen_subcommand_from rebuild' -l second -d 'LUKS2: take the metadata of a second copy'
 complete -c luks -n '__fish_seen_subcommand_from rebuild' -l size -x -a '16384 32768 65536 131072 262144 524288 1048576 2097152 4194304' -d 'LUKS2: take that of a copy of so many bytes'
-complete -c luks -n '__fish_seen_subcommand_from rebuild' -l thorough -d 'LUKS2: seek longer what a checksum vouches for'
+complete -c luks -n '__fish_seen_subcommand_from rebuild' -l thorough -d 'Seek longer; by --passphrase seek wrong bits'
 complete -c luks -n '__fish_seen_subcommand_from rebuild' -l cipher -x -a 'aes-xts-plain64 aes-cbc-essiv:sha256' -d 'LUKS1: the cipher, as aes-xts-plain64'
 complete -c luks -n '__fish_seen_subcommand_from rebuild' -l hash -x -a 'sha1 sha256 sha512' -d 'LUKS1: the hash, as sha256'
 complete -c luks -n '__fish_seen_subcommand_from rebuild' -l key-bytes -x -a '16 32 64' -d 'LUKS1: how long the volume key is, 1 to 128'
 complete -c luks -n '__fish_seen_subcommand_from rebuild' -l payload -x -d 'LUKS1: where the data begins, in sectors of 512'
-complete -c luks -n '__fish_seen_subcommand_from rebuild' -l passphrase -r -F -d "LUKS1: try what isn't given till this opens it"
+complete -c luks -n '__fish_seen_subcommand_from rebuild' -l passphrase -r -F -d "Try what isn't given of LUKS1 till this opens it"
 complete -c luks -n '__fish_seen_subcommand_from rebuild' -l passphrase-line -r -F -d 'Instead, a file whose first line is taken'
+complete -c luks -n '__fish_seen_subcommand_from rebuild' -l memory -x -d 'The MiB that Argon2 may take'
 complete -c luks -n '__fish_seen_subcommand_from rebuild' -l uuid -x -d "The header's uuid; else SOURCE's, or a new one"
 complete -c luks -n '__fish_seen_subcommand_from rebuild' -l over -d 'Write over another volume or another use of it'
 complete -c luks -n '__fish_seen_subcommand_from rebuild' -l offset -x -d 'The byte of the file where the volume begins'

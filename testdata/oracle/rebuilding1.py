@@ -35,6 +35,11 @@ def made(source, given, total):
         raise Fault("Counts")
     for fault in faults(source, given):
         raise Fault(fault)
+    return laid(source, given, total)
+
+
+def laid(source, given, total):
+    """The same, where nothing speaks against it before the header is made."""
     d, kept = fields(source, given)
     used = [reader.slot_area1(d, n) for n in kept if d["slots"][n][0] == ENABLED]
     d["slots"] = [d["slots"][n] if n in kept else mended(d, kept, n, len(source)) for n in range(8)]
@@ -63,6 +68,11 @@ def faults(source, given):
         return ["Reencrypting"]
     if len(source) < 592 or not has_signs(source):
         return ["NoHeader"]
+    return field_faults(source, given)
+
+
+def field_faults(source, given):
+    """Those of them that the fields before the keyslots have."""
     d = taken(source, given)
     texts = [f"Text({name})" for field, name in TEXTS if not usable(field, d[field])]
     return texts + ["KeyBytes"] * (not 1 <= d["key_bytes"] <= 128) + ["Iterations(Digest)"] * (d["iterations"] == 0)

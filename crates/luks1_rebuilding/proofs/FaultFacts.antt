@@ -25,7 +25,7 @@ use Rattle.luks_reading.specs.declared.check_fault.CheckFault.TheVariants as che
 use Rattle.luks_reading.specs.declared.report.Data.TheVariants.{Elsewhere}
 use Rattle.luks1_rebuilding.proofs.OneMade.{fault_same}
 use Rattle.luks1_rebuilding.specs.Judged.{target_fault, IsJudged, IsShort, IsUnfit}
-use Rattle.luks1_rebuilding.specs.Outcome.{EndsOutside, IsAnsweredFault, IsFaultless, IsFaultOf, IsRebuildFault, IsReencrypted, IsWhole, LacksHeader, OfMade}
+use Rattle.luks1_rebuilding.specs.Outcome.{EndsOutside, HasNoMakingFault, IsAnsweredFault, IsAnsweredMaking, IsFaultless, IsFaultOf, IsMakingFault, IsMakingFaultIn, IsReencrypted, IsWhole, LacksHeader, OfMade}
 use Rattle.luks1_rebuilding.specs.KeyAreas.{header_of}
 use Rattle.luks1_rebuilding.specs.RebuildFaults.{field_fault, is_rebuild_failure, rebuild_key}
 use Rattle.luks1_rebuilding.specs.declared.judging.MadeHeader.{MadeHeader}
@@ -34,13 +34,13 @@ use Rattle.luks1_rebuilding.specs.declared.rebuild_fault.Rebuild1Fault.TheVarian
 
 module _ (h : List ℕ) (source : ℕ) (g : Given) (total : ℕ) where
   abbrev Faults : Rebuild1Fault → Type 0
-  Faults f = IsFaultOf h source g total f
+  Faults f = IsMakingFault h source g total f
 
-  pub counts_first : IsWhole h source g → IsLeast rebuild_key Faults Counts
-  counts_first x = (x, after)
+  pub reencrypting_first : IsReencrypted h source → IsLeast rebuild_key Faults Reencrypting
+  reencrypting_first x = (x, after)
     where
-      after : (f : Rebuild1Fault) → Faults f → NotAfter (rebuild_key Counts) (rebuild_key f)
-      after Counts bad = (omega arith, λ same. tt)
+      after : (f : Rebuild1Fault) → Faults f → NotAfter (rebuild_key Reencrypting) (rebuild_key f)
+      after Counts bad = absurd bad
       after Reencrypting bad = (omega arith, λ same. tt)
       after NoHeader bad = (omega arith, λ same. tt)
       after (Text t) bad = (omega arith, λ same. tt)
@@ -50,27 +50,12 @@ module _ (h : List ℕ) (source : ℕ) (g : Given) (total : ℕ) where
       after (Area f) bad = (omega arith, λ same. tt)
       after Device bad = absurd bad
 
-  module _ (broken : IsWhole h source g → ⊥) where
-    pub reencrypting_first : IsReencrypted h source → IsLeast rebuild_key Faults Reencrypting
-    reencrypting_first x = (x, after)
-      where
-        after : (f : Rebuild1Fault) → Faults f → NotAfter (rebuild_key Reencrypting) (rebuild_key f)
-        after Counts bad = absurd (broken bad)
-        after Reencrypting bad = (omega arith, λ same. tt)
-        after NoHeader bad = (omega arith, λ same. tt)
-        after (Text t) bad = (omega arith, λ same. tt)
-        after KeyBytes bad = (omega arith, λ same. tt)
-        after Iterations bad = (omega arith, λ same. tt)
-        after TooSmall bad = (omega arith, λ same. tt)
-        after (Area f) bad = (omega arith, λ same. tt)
-        after Device bad = absurd bad
-
-  module _ (broken : IsWhole h source g → ⊥) (still : IsReencrypted h source → ⊥) where
+  module _ (still : IsReencrypted h source → ⊥) where
     pub no_header_first : LacksHeader h source → IsLeast rebuild_key Faults NoHeader
     no_header_first x = (x, after)
       where
         after : (f : Rebuild1Fault) → Faults f → NotAfter (rebuild_key NoHeader) (rebuild_key f)
-        after Counts bad = absurd (broken bad)
+        after Counts bad = absurd bad
         after Reencrypting bad = absurd (still bad)
         after NoHeader bad = (omega arith, λ same. tt)
         after (Text t) bad = (omega arith, λ same. tt)
@@ -85,7 +70,7 @@ module _ (h : List ℕ) (source : ℕ) (g : Given) (total : ℕ) where
       text_first t least = (least.0, after)
         where
           after : (f : Rebuild1Fault) → Faults f → NotAfter (rebuild_key (Text t)) (rebuild_key f)
-          after Counts bad = absurd (broken bad)
+          after Counts bad = absurd bad
           after Reencrypting bad = absurd (still bad)
           after NoHeader bad = absurd (headed bad)
           after (Text s) bad = (omega arith, λ same. (least.1 (head.Text s) bad).1 refl)
@@ -99,7 +84,7 @@ module _ (h : List ℕ) (source : ℕ) (g : Given) (total : ℕ) where
       key_first least = (least.0, after)
         where
           after : (f : Rebuild1Fault) → Faults f → NotAfter (rebuild_key KeyBytes) (rebuild_key f)
-          after Counts bad = absurd (broken bad)
+          after Counts bad = absurd bad
           after Reencrypting bad = absurd (still bad)
           after NoHeader bad = absurd (headed bad)
           after (Text s) bad = absurd (let low = (least.1 (head.Text s) bad).0 in omega (arith, low))
@@ -113,7 +98,7 @@ module _ (h : List ℕ) (source : ℕ) (g : Given) (total : ℕ) where
       iterations_first least = (least.0, after)
         where
           after : (f : Rebuild1Fault) → Faults f → NotAfter (rebuild_key Iterations) (rebuild_key f)
-          after Counts bad = absurd (broken bad)
+          after Counts bad = absurd bad
           after Reencrypting bad = absurd (still bad)
           after NoHeader bad = absurd (headed bad)
           after (Text s) bad = absurd (let low = (least.1 (head.Text s) bad).0 in omega (arith, low))
@@ -143,7 +128,7 @@ module _ (h : List ℕ) (source : ℕ) (g : Given) (total : ℕ) where
         small_first x = (x, after)
           where
             after : (f : Rebuild1Fault) → Faults f → NotAfter (rebuild_key TooSmall) (rebuild_key f)
-            after Counts bad = absurd (broken bad)
+            after Counts bad = absurd bad
             after Reencrypting bad = absurd (still bad)
             after NoHeader bad = absurd (headed bad)
             after (Text s) bad = absurd (fields (head.Text s) bad)
@@ -171,7 +156,7 @@ module _ (h : List ℕ) (source : ℕ) (g : Given) (total : ℕ) where
           overlap_first f large x inside first = (of_this (λ bytes. IsAreaFault (Luks1Area bytes Elsewhere total) total f) x, after)
             where
               after : (e : Rebuild1Fault) → Faults e → NotAfter (rebuild_key (Area f)) (rebuild_key e)
-              after Counts bad = absurd (broken bad)
+              after Counts bad = absurd bad
               after Reencrypting bad = absurd (still bad)
               after NoHeader bad = absurd (headed bad)
               after (Text s) bad = absurd (fields (head.Text s) bad)
@@ -193,11 +178,11 @@ module _ (h : List ℕ) (source : ℕ) (g : Given) (total : ℕ) where
           target_first check.Device large least = absurd least.0
           target_first check.Memory large least = absurd least.0
 
-          pub faultless : 16896 ≤ total → IsLuks1Volume b Elsewhere total → IsFaultless h source g total
+          pub faultless : 16896 ≤ total → IsLuks1Volume b Elsewhere total → HasNoMakingFault h source g total
           faultless large formed = record { none = none }
             where
               none : (f : Rebuild1Fault) → Faults f → ⊥
-              none Counts bad = broken bad
+              none Counts bad = bad
               none Reencrypting bad = still bad
               none NoHeader bad = headed bad
               none (Text s) bad = fields (head.Text s) bad
@@ -223,32 +208,97 @@ pub err_so : {A F : Type 0} (r : Result A F) (P Q : F → Type 0) → ((f : F) �
 err_so (Ok x) P Q so is = tt
 err_so (Err f) P Q so is = so f is
 
-module _ (h : List ℕ) (source : ℕ) (g : Given) (total : ℕ) (broken : IsWhole h source g → ⊥) (still : IsReencrypted h source → ⊥)
+pub ok_so : {A F : Type 0} (r : Result A F) (P Q : Type 0) → (P → Q) → OnOk r P → OnOk r Q
+ok_so (Ok x) P Q so is = so is
+ok_so (Err f) P Q so is = tt
+
+module _ (h : List ℕ) (source : ℕ) (g : Given) (total : ℕ) (still : IsReencrypted h source → ⊥)
     (headed : LacksHeader h source → ⊥)
     (fields : (f : HeadFault) → IsFieldFault h g f → ⊥) (d : Luks1) (made : IsMade h source g d) where
-  of_fields : (m : MadeHeader) → m.fields ≡ d → WritesLuks1 m.bytes m.fields → IsLuks1Volume m.bytes Elsewhere total → 16896 ≤ total → IsFaultless h source g total
+  of_fields : (m : MadeHeader) → m.fields ≡ d → WritesLuks1 m.bytes m.fields → IsLuks1Volume m.bytes Elsewhere total → 16896 ≤ total → HasNoMakingFault h source g total
   of_fields m is put formed large =
-      faultless h source g total broken still headed fields d made m.bytes (subst (WritesLuks1 m.bytes) is put) large formed
+      faultless h source g total still headed fields d made m.bytes (subst (WritesLuks1 m.bytes) is put) large formed
 
   pub fitting_faultless : (r : Result MadeHeader Rebuild1Fault) → IfOk r (λ m. m.fields ≡ d) → IfOk r (λ m. WritesLuks1 m.bytes m.fields)
-      → IfOk r (λ m. IsLuks1Volume m.bytes Elsewhere total) → OnOk r (16896 ≤ total) → OnOk r (IsFaultless h source g total)
+      → IfOk r (λ m. IsLuks1Volume m.bytes Elsewhere total) → OnOk r (16896 ≤ total) → OnOk r (HasNoMakingFault h source g total)
   fitting_faultless (Ok m) is put formed large = of_fields m is put formed large
   fitting_faultless (Err f) is put formed large = tt
 
+-- ---- of a volume that may count
+
+module _ (h : List ℕ) (source : ℕ) (g : Given) (total : ℕ) where
+  -- the volume itself is the first fault where it counts
+  pub counts_first : IsWhole h source g → IsLeast rebuild_key (IsFaultOf h source g total) Counts
+  counts_first x = (x, after)
+    where
+      after : (f : Rebuild1Fault) → IsFaultOf h source g total f → NotAfter (rebuild_key Counts) (rebuild_key f)
+      after Counts bad = (omega arith, λ same. tt)
+      after Reencrypting bad = (omega arith, λ same. tt)
+      after NoHeader bad = (omega arith, λ same. tt)
+      after (Text t) bad = (omega arith, λ same. tt)
+      after KeyBytes bad = (omega arith, λ same. tt)
+      after Iterations bad = (omega arith, λ same. tt)
+      after TooSmall bad = (omega arith, λ same. tt)
+      after (Area f) bad = (omega arith, λ same. tt)
+      after Device bad = absurd bad
+
+  -- each other fault is one of making a header of it
+  pub other_there : (f : Rebuild1Fault) → IsMakingFault h source g total f → IsFaultOf h source g total f
+  other_there Counts bad = absurd bad
+  other_there Reencrypting bad = bad
+  other_there NoHeader bad = bad
+  other_there (Text t) bad = bad
+  other_there KeyBytes bad = bad
+  other_there Iterations bad = bad
+  other_there TooSmall bad = bad
+  other_there (Area f) bad = bad
+  other_there Device bad = absurd bad
+
+  module _ (broken : IsWhole h source g → ⊥) where
+    pub other_here : (f : Rebuild1Fault) → IsFaultOf h source g total f → IsMakingFault h source g total f
+    other_here Counts bad = broken bad
+    other_here Reencrypting bad = bad
+    other_here NoHeader bad = bad
+    other_here (Text t) bad = bad
+    other_here KeyBytes bad = bad
+    other_here Iterations bad = bad
+    other_here TooSmall bad = bad
+    other_here (Area f) bad = bad
+    other_here Device bad = absurd bad
+
+    -- where it doesn't count the first of these is the first
+    pub unwhole_first : (f : Rebuild1Fault) → IsLeast rebuild_key (IsMakingFault h source g total) f → IsLeast rebuild_key (IsFaultOf h source g total) f
+    unwhole_first f least = (other_there f least.0, λ e bad. least.1 e (other_here e bad))
+
+    pub unwhole_faultless : HasNoMakingFault h source g total → IsFaultless h source g total
+    unwhole_faultless x = record { none = λ f bad. x.none f (other_here f bad) }
+
 -- ---- what is answered
 
+-- what is answered of a header that is the volume's own is answered of the volume
+pub answered_own : (v : List ℕ) (g : Given) (total : ℕ) → (IsWhole (header_of v) (length v) g → ⊥) → (f : Rebuild1Fault) → IsAnsweredMaking v g total f → IsAnsweredFault v g total f
+answered_own v g total broken Device x = tt
+answered_own v g total broken Counts x = absurd x.0
+answered_own v g total broken Reencrypting x = unwhole_first (header_of v) (length v) g total broken Reencrypting x
+answered_own v g total broken NoHeader x = unwhole_first (header_of v) (length v) g total broken NoHeader x
+answered_own v g total broken (Text t) x = unwhole_first (header_of v) (length v) g total broken (Text t) x
+answered_own v g total broken KeyBytes x = unwhole_first (header_of v) (length v) g total broken KeyBytes x
+answered_own v g total broken Iterations x = unwhole_first (header_of v) (length v) g total broken Iterations x
+answered_own v g total broken TooSmall x = unwhole_first (header_of v) (length v) g total broken TooSmall x
+answered_own v g total broken (Area f) x = unwhole_first (header_of v) (length v) g total broken (Area f) x
+
 -- a fault that isn't a device's is the first
-pub answered : (v : List ℕ) (g : Given) (total : ℕ) (f : Rebuild1Fault) → is_rebuild_failure f ≡ false
-    → IsLeast rebuild_key (IsRebuildFault v g total) f → IsAnsweredFault v g total f
-answered v g total Device own least = tt
-answered v g total Counts own least = least
-answered v g total Reencrypting own least = least
-answered v g total NoHeader own least = least
-answered v g total (Text t) own least = least
-answered v g total KeyBytes own least = least
-answered v g total Iterations own least = least
-answered v g total TooSmall own least = least
-answered v g total (Area f) own least = least
+pub answered_making : (v : List ℕ) (g : Given) (total : ℕ) (f : Rebuild1Fault) → is_rebuild_failure f ≡ false
+    → IsLeast rebuild_key (IsMakingFaultIn v g total) f → IsAnsweredMaking v g total f
+answered_making v g total Device own least = tt
+answered_making v g total Counts own least = least
+answered_making v g total Reencrypting own least = least
+answered_making v g total NoHeader own least = least
+answered_making v g total (Text t) own least = least
+answered_making v g total KeyBytes own least = least
+answered_making v g total Iterations own least = least
+answered_making v g total TooSmall own least = least
+answered_making v g total (Area f) own least = least
 
 -- of a volume that is too short nothing is accepted
 short_broken : (v : List ℕ) (g : Given) → length v < 592 → IsWhole (header_of v) (length v) g → ⊥
@@ -257,6 +307,6 @@ short_broken v g short x = (let long = x.accepted.header.1.long in let is = leng
 pub short_answered : (v : List ℕ) (g : Given) (total size : ℕ) (f : Rebuild1Fault) → length v ≡ size → IsShort size f → IsAnsweredFault v g total f
 short_answered v g total size f is (inl x) =
     let short : length v < 592 = (let less = x.1 in omega (arith, is, less)) in
-    subst (IsAnsweredFault v g total) (sym x.0) (no_header_first (header_of v) (length v) g total (short_broken v g short)
-    (λ still. (let long = still.0 in omega (arith, long, short))) (inl short))
+    subst (IsAnsweredFault v g total) (sym x.0) (unwhole_first (header_of v) (length v) g total (short_broken v g short) NoHeader
+    (no_header_first (header_of v) (length v) g total (λ still. (let long = still.0 in omega (arith, long, short))) (inl short)))
 short_answered v g total size f is (inr x) = subst (IsAnsweredFault v g total) (sym x) tt

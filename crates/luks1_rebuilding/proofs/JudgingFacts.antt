@@ -13,7 +13,7 @@ use Rattle.luks1_header.specs.declared.fault.TextField.TheVariants.{CipherMode, 
 use Rattle.luks1_mending.specs.Taken.{given_text, IsFieldFault, IsName}
 use Rattle.luks1_mending.specs.declared.given.Given.{Given}
 use Rattle.luks1_rebuilding.proofs.FaultFacts.{field_first, no_header_first, reencrypting_first}
-use Rattle.luks1_rebuilding.specs.Outcome.{IsFaultOf, IsReencrypted, IsWhole, LacksHeader}
+use Rattle.luks1_rebuilding.specs.Outcome.{IsMakingFault, IsReencrypted, LacksHeader}
 use Rattle.luks1_rebuilding.specs.RebuildFaults.{field_fault, is_rebuild_failure, rebuild_key}
 use Rattle.luks1_rebuilding.specs.declared.rebuild_fault.Rebuild1Fault.{Rebuild1Fault}
 use Rattle.luks1_rebuilding.specs.declared.rebuild_fault.Rebuild1Fault.TheVariants.{Counts, Reencrypting, NoHeader, Text, KeyBytes, Iterations, TooSmall, Area, Device}
@@ -45,7 +45,7 @@ module _ (h : List ℕ) (source total : ℕ) (g u : Given) (x : IsUsable g u) wh
   All f = IsFaultOfAll h source g f
 
   abbrev Own : Rebuild1Fault → Type 0
-  Own f = IsFaultOf h source u total f
+  Own f = IsMakingFault h source u total f
 
   text_all : (t : TextField) → IsFieldFault h u (head.Text t) → LacksText h g t
   text_all CipherName bad =
@@ -107,19 +107,16 @@ module _ (h : List ℕ) (source total : ℕ) (g u : Given) (x : IsUsable g u) wh
   own (Area f) bad = absurd bad
   own Device bad = absurd bad
 
-  some_given : IsWhole h source u → ⊥
-  some_given whole = (let none = ap (option_map (λ (t : ArrayString 32). t.bytes)) whole.nothing.cipher_name in let some = x.cipher_name in cc)
-
   pub reencrypting : IsReencrypted h source → IsLeast rebuild_key All Reencrypting
-  reencrypting still = (let least = reencrypting_first h source u total some_given still in (still, λ e bad. least.1 e (own e bad)))
+  reencrypting still = (let least = reencrypting_first h source u total still in (still, λ e bad. least.1 e (own e bad)))
 
   pub no_header : (IsReencrypted h source → ⊥) → LacksHeader h source → IsLeast rebuild_key All NoHeader
-  no_header still lacks = (let least = no_header_first h source u total some_given still lacks in (lacks, λ e bad. least.1 e (own e bad)))
+  no_header still lacks = (let least = no_header_first h source u total still lacks in (lacks, λ e bad. least.1 e (own e bad)))
 
   module _ (still : IsReencrypted h source → ⊥) (headed : LacksHeader h source → ⊥) where
     pub first : (f : HeadFault) → IsLeast head_key (IsFieldFault h u) f → IsLeast rebuild_key All (field_fault f)
     first f least =
-        let of_own = field_first h source u total some_given still headed f least in
+        let of_own = field_first h source u total still headed f least in
         (field_all f least.0, λ e bad. of_own.1 e (own e bad))
 
     pub none : ((f : HeadFault) → IsFieldFault h u f → ⊥) → (f : Rebuild1Fault) → All f → ⊥

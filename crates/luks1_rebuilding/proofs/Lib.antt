@@ -1,6 +1,7 @@
 pub mod MadeFacts
 pub mod UsedFacts
 pub mod RebuiltFacts
+pub mod HeadedFacts
 pub mod OneMade
 pub mod FaultFacts
 pub mod PlanFacts

@@ -13,7 +13,7 @@ use Rattle.luks1_rebuilding.specs.Rebuilt.{ClearsFirst1, IsOfRebuilt, IsRebuilt}
 use Rattle.luks1_rebuilding.specs.Used.{HasUsedAreas, IsOfWritten, IsUsedArea, IsWritten, WritesFirst1}
 
 module _ (v : List ℕ) (g : Given) (d : Luks1) (made : IsMade (header_of v) (length v) g d) where
-  kept_here : (n : ℕ) (a : Area) → HasKeptArea v g n a → IsUsedArea d n a
+  pub kept_here : (n : ℕ) (a : Area) → HasKeptArea v g n a → IsUsedArea d n a
   kept_here n a x = kept_used (header_of v) (length v) g d made n a (record { kept = x.in_use.kept; enabled = x.in_use.enabled; is = x.is })
 
   used_here : (n : ℕ) (a : Area) → IsUsedArea d n a → HasKeptArea v g n a

@@ -1,5 +1,6 @@
 pub mod RebuildFaults
 pub mod FaultTexts
+pub mod Headed
 pub mod KeyAreas
 pub mod Outcome
 pub mod Rebuilt

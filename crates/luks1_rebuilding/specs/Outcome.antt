@@ -79,3 +79,26 @@ pub record IsFaultless (h : List ℕ) (source : ℕ) (g : Given) (total : ℕ) :
 
 abbrev pub IsRebuildable : List ℕ → Given → ℕ → Type 0
 IsRebuildable v g total = IsFaultless (header_of v) (length v) g total
+
+-- ---- of a header that was found, of which it is no matter whether it counts
+
+-- the faults of making a header of it
+abbrev pub IsMakingFault : List ℕ → ℕ → Given → ℕ → Rebuild1Fault → Type 0
+IsMakingFault h source g total Counts = ⊥
+IsMakingFault h source g total f = IsFaultOf h source g total f
+
+-- those of the volume `v`
+abbrev pub IsMakingFaultIn : List ℕ → Given → ℕ → Rebuild1Fault → Type 0
+IsMakingFaultIn v g total f = IsMakingFault (header_of v) (length v) g total f
+
+-- the answer is the first of these; or a device failed
+abbrev pub IsAnsweredMaking : List ℕ → Given → ℕ → Rebuild1Fault → Type 0
+IsAnsweredMaking v g total Device = ⊤
+IsAnsweredMaking v g total f = IsLeast rebuild_key (IsMakingFaultIn v g total) f
+
+-- none of these stands
+pub record HasNoMakingFault (h : List ℕ) (source : ℕ) (g : Given) (total : ℕ) : Type 0 where
+  pub none : (f : Rebuild1Fault) → IsMakingFault h source g total f → ⊥
+
+abbrev pub IsMakeable : List ℕ → Given → ℕ → Type 0
+IsMakeable v g total = HasNoMakingFault (header_of v) (length v) g total

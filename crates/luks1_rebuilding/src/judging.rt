@@ -8,7 +8,7 @@ ghost use Rattle.luks1_mending.specs.Made.{IsMade};
 ghost use Rattle.luks_reading.specs.Checked.{IsLuks1Volume};
 ghost use Rattle.luks_reading.specs.declared.report.Data.TheVariants.{Elsewhere};
 ghost use Rattle.luks1_rebuilding.specs.KeyAreas.{header_of};
-ghost use Rattle.luks1_rebuilding.specs.Outcome.{least_target, IsFaultOf, IsFaultless, IsWhole};
+ghost use Rattle.luks1_rebuilding.specs.Outcome.{least_target, HasNoMakingFault, IsMakingFault, IsWhole};
 ghost use Rattle.luks1_rebuilding.specs.RebuildFaults.{is_rebuild_failure, rebuild_key};
 ghost use Rattle.luks1_rebuilding.specs.Judged.{target_fault, IsShort, IsUnfit};
 
@@ -52,8 +52,8 @@ pub fn first_bytes<D: Device>(source: &mut D) -> Result<[u8; 592], Rebuild1Fault
     Ok(bytes)
 }
 
-/// The header that is made of the first 592 bytes of a volume of `source` bytes and of what is given, to be
-/// written to a target of `total` bytes.
+/// The header that is made of these 592 bytes in place of the first ones of a volume of `source` bytes, and of what
+/// is given, to be written to a target of `total` bytes.
 pub(crate) fn judged_header(
     header: &[u8],
     source: u64,
@@ -68,12 +68,9 @@ pub(crate) fn judged_header(
     ensures large { OnOk result (least_target ≤ total) }
     ensures own { IfErr result (λ f. is_rebuild_failure f ≡ false) }
     ensures fault { IfErr result
-        (IsLeast rebuild_key (IsFaultOf header.now source given.now total)) }
-    ensures faultless { OnOk result (IsFaultless header.now source given.now total) }
+        (IsLeast rebuild_key (IsMakingFault header.now source given.now total)) }
+    ensures faultless { OnOk result (HasNoMakingFault header.now source given.now total) }
 {
-    if is_whole(header, source, given) {
-        return Err(Rebuild1Fault::Counts);
-    }
     if is_reencrypting(header) {
         return Err(Rebuild1Fault::Reencrypting);
     }
@@ -87,7 +84,7 @@ pub(crate) fn judged_header(
 }
 
 /// Whether the source is accepted, with its payload elsewhere, and nothing is given.
-fn is_whole(header: &[u8], source: u64, given: &Given) -> bool
+pub(crate) fn is_whole(header: &[u8], source: u64, given: &Given) -> bool
     requires { length header.now ≡ luks1_size }
     ensures { IsTrue result ↔ IsWhole header.now source given.now }
 {

@@ -14,4 +14,4 @@ pub use judging::first_bytes;
 pub use laws::rebuilt1_opens_alike;
 pub use luks1_mending::Given;
 pub use rebuild_fault::Rebuild1Fault;
-pub use rebuilding::rebuild1;
+pub use rebuilding::{rebuild1, rebuild1_from};

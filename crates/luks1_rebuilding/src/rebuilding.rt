@@ -1,7 +1,9 @@
 //! Making the header of what stands, on the target.
 ghost use Rattle.std.specs.Prelude.{◌≡◌, ◌↔◌, ◌+◌, ◌^◌, ◌<◌, ◌≤◌, ℕ, List, false, length, IfErr, OnOk};
 ghost use Rattle.luks_area.specs.Device.{IsSettled, IsUnchanged, is_failure};
-ghost use Rattle.luks_area.specs.Ranges.{SameBut};
+ghost use Rattle.luks_area.specs.Ranges.{part, SameBut};
+ghost use Rattle.luks_area.specs.declared.area.Area.{Area as TheArea};
+ghost use Rattle.luks1_header.specs.Header1.{luks1_size};
 ghost use Rattle.luks_writing.specs.TwoDevices.{CountsEither};
 ghost use Rattle.luks1_header.specs.Written.{WritesLuks1};
 ghost use Rattle.luks_slot.specs.declared.allowed.Allowed.{Allowed as TheAllowed};
@@ -9,14 +11,15 @@ ghost use Rattle.luks_reading.specs.Answer.{AnswerWithin, Opened};
 ghost use Rattle.luks_reading.specs.Checked.{WellFormed};
 ghost use Rattle.luks_reading.specs.declared.report.Data.TheVariants.{Elsewhere};
 ghost use Rattle.luks1_rebuilding.specs.Gives.{Gives};
-ghost use Rattle.luks1_rebuilding.specs.KeyAreas.{IsKeptInUse};
-ghost use Rattle.luks1_rebuilding.specs.Outcome.{least_target, IsAnsweredFault, IsRebuildable, IsRebuildFault};
+ghost use Rattle.luks1_rebuilding.specs.Headed.{headed};
+ghost use Rattle.luks1_rebuilding.specs.KeyAreas.{HasKeptArea, IsKeptInUse};
+ghost use Rattle.luks1_rebuilding.specs.Outcome.{least_target, IsAnsweredFault, IsAnsweredMaking, IsMakeable, IsMakingFaultIn, IsRebuildable, IsRebuildFault};
 ghost use Rattle.luks1_rebuilding.specs.RebuildFaults.{is_rebuild_failure};
 ghost use Rattle.luks1_rebuilding.specs.Rebuilt.{ClearsFirst1, IsOfRebuilt, IsRebuilt};
 ghost use Rattle.luks1_rebuilding.specs.Used.{AreApart, AreInside, IsOfWritten, IsWritten, WritesFirst1, WritesInTurn1};
 ghost use Rattle.luks1_rebuilding.specs.declared.rebuild_fault.Rebuild1Fault.{Rebuild1Fault as TheFault};
 
-use crate::judging::{MadeHeader, first_bytes, judged_header};
+use crate::judging::{MadeHeader, first_bytes, is_whole, judged_header};
 use crate::key_areas::copy_areas;
 use crate::rebuild_fault::Rebuild1Fault;
 use luks_area::{Device, DeviceFault};
@@ -87,8 +90,72 @@ pub fn rebuild1<S: Device, T: Device>(
         ↔ AnswerWithin allowed (T.bytes target.new) n p a) }
 {
     let bytes = first_bytes(source)?;
-    let header = judged_header(bytes.as_slice(), source.len(), given, target.len())?;
-    write_rebuilt(source, target, &header)?;
+    if is_whole(bytes.as_slice(), source.len(), given) {
+        return Err(Rebuild1Fault::Counts);
+    }
+    rebuild1_from(source, target, &bytes, given)
+}
+
+/// The same of a header that was found near to the source's: it is made of these 592 bytes in place of the source's
+/// first ones, and of what is given. Whether the source's own header, or this one, is accepted as it stands is no matter:
+/// `Counts` never comes. The key areas have the source's bytes. The source never changes.
+pub fn rebuild1_from<S: Device, T: Device>(
+    source: &mut S,
+    target: &mut T,
+    header: &[u8; 592],
+    given: &Given,
+) -> Result<(), Rebuild1Fault>
+    requires large { luks1_size ≤ S.size source.old }
+    requires source_room { S.failed source.old + 1 < 2 ^ 64 }
+    requires target_room { T.failed target.old + 1 < 2 ^ 64 }
+    requires settled { T.tells → IsSettled T.unsettled target.old }
+
+    // The devices: `Device` exactly where a call of one of the two failed.
+    ensures count { CountsEither is_rebuild_failure result (S.failed source.old)
+        (S.failed source.new) (T.failed target.old) (T.failed target.new) }
+    ensures kept { IsUnchanged S.tells S.size S.bytes S.unsettled source.old source.new }
+    ensures size { T.size target.new ≡ T.size target.old }
+    ensures settled { T.tells → OnOk result (IsSettled T.unsettled target.new) }
+
+    // The first fault that stands of the volume with this header, and then nothing of the target changed.
+    ensures fault { S.tells → IfErr result
+        (IsAnsweredMaking (headed (S.bytes source.old) header.now) given.now
+        (T.size target.old)) }
+    ensures faultless { S.tells → OnOk result
+        (IsMakeable (headed (S.bytes source.old) header.now) given.now (T.size target.old)) }
+    ensures refused { IfErr result (λ f. is_rebuild_failure f ≡ false
+        → IsUnchanged T.tells T.size T.bytes T.unsettled target.old target.new) }
+    ensures same { S.tells → T.tells → (f : TheFault)
+        → IsMakingFaultIn (headed (S.bytes source.old) header.now) given.now (T.size target.old) f
+        → T.bytes target.new ≡ T.bytes target.old }
+
+    // Which bytes may have changed, also where a device failed.
+    ensures rest { S.tells → T.tells
+        → SameBut (IsOfRebuilt (headed (S.bytes source.old) header.now) given.now)
+        (T.bytes target.old) (T.bytes target.new) }
+
+    // In the order of `rebuild1`.
+    ensures order { S.tells → T.tells
+        → ClearsFirst1 (headed (S.bytes source.old) header.now) given.now
+        (T.bytes target.old) (T.bytes target.new) }
+
+    // The header that was made, which is accepted; each key area is the source's; and each kept keyslot that is in
+    // use gives by each passphrase what the equations give for this header and the source's key areas.
+    ensures rebuilt { S.tells → T.tells
+        → OnOk result (IsRebuilt (headed (S.bytes source.old) header.now) given.now
+        (T.bytes target.old) (T.bytes target.new)) }
+    ensures areas { S.tells → T.tells → OnOk result ((n : ℕ) (a : TheArea)
+        → HasKeptArea (headed (S.bytes source.old) header.now) given.now n a
+        → part (T.bytes target.new) a.start a.len ≡ part (S.bytes source.old) a.start a.len) }
+    ensures well_formed { S.tells → T.tells
+        → OnOk result (WellFormed (T.bytes target.new) Elsewhere) }
+    ensures opens { S.tells → T.tells → OnOk result ((allowed : TheAllowed) (n : ℕ) (p : List ℕ) (a : Opened)
+        → IsKeptInUse (headed (S.bytes source.old) header.now) given.now n
+        → Gives allowed.older (headed (S.bytes source.old) header.now) given.now n p a
+        ↔ AnswerWithin allowed (T.bytes target.new) n p a) }
+{
+    let judged = judged_header(header.as_slice(), source.len(), given, target.len())?;
+    write_rebuilt(source, target, &judged)?;
     Ok(())
 }
 

@@ -1,5 +1,6 @@
 //! A volume in memory that may be damaged further, and what is made of it.
 use crate::given::give_all;
+use crate::near::Sought;
 use luks_area::MemDevice;
 use luks_reading::{Allowed, open_slot};
 use luks_test_devices::old_bytes;
@@ -96,6 +97,13 @@ impl DamagedLuks1 {
             Err(fault) => Ok(format!(in alloc; "{fault}")?),
         }
     }
+
+    /// `thorough PASSPHRASE MOST [AT BIT]`: what is found near to what stands, by so many derivations at most.
+    fn thorough(&self, alloc: Global, words: &mut Words<'_>) -> Result<String, Malformed> {
+        let sought = Sought::read(alloc, words)?;
+        let mut source = self.turned(alloc, words)?;
+        sought.luks1(alloc, &mut source, &self.given)
+    }
 }
 
 /// Whether this keyslot opens.
@@ -132,6 +140,7 @@ impl Functions for DamagedLuks1 {
             "rebuild" => return Ok(Some(self.rebuild(alloc, words)?)),
             "open" => return Ok(Some(self.open(alloc, words)?)),
             "try" => return Ok(Some(self.try_all(alloc, words)?)),
+            "thorough" => return Ok(Some(self.thorough(alloc, words)?)),
             _ => return Err(Malformed::Function),
         }
         Ok(None)

@@ -1,4 +1,5 @@
 //! A small volume that lines damage, and the header that is made of it.
+use crate::near::Sought;
 use luks_area::MemDevice;
 use luks_notes::{Hashing, note_taken};
 use luks_reading::{Data, check};
@@ -145,6 +146,14 @@ impl DamagedLuks2 {
         let said = str::from_utf8(said.as_slice()).unwrap_or("no text");
         Ok(String::from_str(alloc, said.trim_end())?)
     }
+
+    /// `thorough SOURCE PASSPHRASE MOST`: what is found near to what stands in so many bytes of the volume, by so many
+    /// derivations at most.
+    fn thorough(&self, alloc: Global, words: &mut Words<'_>) -> Result<String, Malformed> {
+        let mut source = MemDevice::new(self.front(words)?.to_vec(alloc)?);
+        let sought = Sought::read(alloc, words)?;
+        sought.luks2(alloc, &mut source)
+    }
 }
 
 impl Functions for DamagedLuks2 {
@@ -160,6 +169,7 @@ impl Functions for DamagedLuks2 {
             "put" => self.put(alloc, words)?,
             "rebuild" => return Ok(Some(self.rebuild(alloc, words)?)),
             "note" => return Ok(Some(self.note(alloc, words)?)),
+            "thorough" => return Ok(Some(self.thorough(alloc, words)?)),
             _ => return Err(Malformed::Function),
         }
         Ok(None)

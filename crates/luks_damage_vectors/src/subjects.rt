@@ -35,11 +35,11 @@ impl Subjects {
     }
 
     /// `on SUBJECT`: the next lines are of this one. `faulty` is the disk, too: lines on what of it can't be
-    /// read.
+    /// read; and `near1` and `near2` are the volumes: lines on what is found near to what stands.
     fn pick(&mut self, words: &mut Words<'_>) -> Result<(), Malformed> {
         self.now = match words.word()? {
-            "luks2" => Subject::Luks2,
-            "luks1" => Subject::Luks1,
+            "luks2" | "near2" => Subject::Luks2,
+            "luks1" | "near1" => Subject::Luks1,
             "disk" | "faulty" => Subject::Disk,
             _ => return Err(Malformed::Name),
         };

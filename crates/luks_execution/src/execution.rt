@@ -10,7 +10,7 @@ ghost use Rattle.luks_execution.specs.Executed.{IsExecuted, UnlessBeside, Unless
 use luks_commands::open::Tried;
 use luks_commands::{Answer, Inputs, Status, check, format, matching, open, show};
 use luks_edit_commands::edit;
-use luks_header_commands::{Progress, SearchProgress, convert, rebuild};
+use luks_header_commands::{DerivationProgress, Progress, SearchProgress, convert, rebuild};
 use luks_keeping_commands::{MakesFile, backup, compare, key, restore, token};
 use luks_request::{Command, Line};
 use luks_volume::Device;
@@ -23,7 +23,7 @@ use std::io::{Read, Write};
 /// The passphrase is read before the volume, a new one after the old one, and the random bytes after the volume
 /// and its target. A backup that is put back or compared is the target, too. The file of a key or a
 /// token is made by `maker` once its bytes are there. `progress` is told of each combination that `rebuild` tries by a passphrase,
-/// and of its search for what checksums vouch for.
+/// of each derivation of its search by one, and of its search for what checksums vouch for.
 ///
 /// The volume is the bytes of its file that `line.place` names: who calls it has taken that window of
 /// the file (`luks_window`), and gives it as the device. So all that is said here of the volume is said
@@ -35,7 +35,7 @@ pub fn execute<
     N: Read,
     M: MakesFile<D>,
     E: Write,
-    G: Progress + SearchProgress,
+    G: Progress + SearchProgress + DerivationProgress,
 >(
     alloc: Global,
     line: &Line<'_>,

@@ -14,7 +14,7 @@ pub use luks_commands::{
     Answer, CountingPrinter, InputFault, Inputs, Printer, Reason, Refusal, Status, Unprinted, end,
     first_bytes, first_line,
 };
-pub use luks_header_commands::{Progress, SearchProgress, Untold};
+pub use luks_header_commands::{DerivationProgress, Progress, SearchProgress, Tally, Untold};
 pub use luks_keeping_commands::{MakesFile, Unmade};
 pub use luks_request::{
     BackingUp, Command, Comparing, Converting, EditRequest, Editing, KeepingKey, KeepingToken,

@@ -2,3 +2,4 @@ pub mod TargetFacts
 pub mod ConvertFacts
 pub mod RebuildFacts
 pub mod TryingFacts
+pub mod SearchingFacts

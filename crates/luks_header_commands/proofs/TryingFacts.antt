@@ -1,5 +1,5 @@
 -- What `rebuild` answers with a passphrase, by what it met.
-use Rattle.std.proofs.Common.{◌≡◌, List, ℕ, Bool, Option, Some, None, IfSome, IfNone, Result, Ok, Err, refl, sym, subst, inl, inr}
+use Rattle.std.proofs.Common.{◌≡◌, List, ℕ, Bool, true, false, Option, Some, None, IfSome, IfNone, Result, Ok, Err, refl, sym, subst, inl, inr}
 use Rattle.luks_area.specs.Device.{count_after}
 use Rattle.luks1_mending.specs.declared.given.Given.{Given}
 use Rattle.luks1_rebuilding.specs.RebuildFaults.{is_rebuild_failure}
@@ -15,7 +15,9 @@ use Rattle.luks_commands.specs.Answer.{IsWordless, rebuild1_fault_answer}
 use Rattle.luks_header_commands.specs.Rebuilding.{IsGiven, IsLuks1Answer, IsRebuildAnswer, KeepsRest, KeepsRest1}
 use Rattle.luks_commands.specs.Beside.{LeavesTarget}
 use Rattle.luks_header_commands.specs.Target.{AnswersHeader, HoldsBackHeader, IsLater, IsOtherTarget, Pair}
-use Rattle.luks_header_commands.specs.Trying.{no_header, none_open, one_opens, trial_failed, AnswersBy, IsTriedRest, IsWithPassphrase, IsTriedAnswer, KeepsBy, KeepsTried, TriedAnswer}
+use Rattle.luks_header_commands.specs.Searching.{kept_luks1, kept_luks2, KeepsSought}
+use Rattle.luks_header_commands.specs.Tried.{no_header, none_open, one_opens, trial_failed, IsTriedRest, KeepsOpened, TriedAnswer}
+use Rattle.luks_header_commands.specs.Trying.{AnswersBy, IsRestBy, IsTriedAnswer, IsWithPassphrase, KeepsBy, KeepsTried, KeepsTriedBy}
 use Rattle.luks_header_commands.proofs.RebuildFacts.{luks1_later}
 use Rattle.luks_header_commands.proofs.TargetFacts.{header_holds, none_later, one_later, same_later}
 use Rattle.luks_commands.proofs.StandingFacts.{wordless_answers}
@@ -59,24 +61,51 @@ pub opened_rest : (g : Given) (p v v' old new : List ℕ) (o : Opening) → v' �
 opened_rest g p v v' old new o same first keeps =
     inr (record { words = p; has = refl; opening = o; first = first; keeps = subst (λ (x : List ℕ). KeepsRest1 o.given x old new) same keeps })
 
-pub given_rest : (r : Rebuilding) (g : Given) (p v old new : List ℕ) → IsGiven r g → IsTriedRest g p v old new → KeepsTried r (λ words. words ≡ p) v old new
+pub given_rest : (r : Rebuilding) (g : Given) (p v old new : List ℕ) → IsGiven r g → IsRestBy r.thorough r g p v old new → KeepsTried r (λ words. words ≡ p) v old new
 given_rest r g p v old new is (inl same) = inl same
 given_rest r g p v old new is (inr kept) = inr (record { given = g; is = is; keeps = kept })
 
 -- these words are those of the passphrase's file
+opened_words : (HasWords : List ℕ → Type 0) (p : List ℕ) → HasWords p → (g : Given) (v old new : List ℕ)
+    → KeepsOpened (λ words. words ≡ p) g v old new → KeepsOpened HasWords g v old new
+opened_words HasWords p has g v old new kept = record {
+  words = kept.words;
+  has = subst HasWords (sym kept.has) has;
+  opening = kept.opening;
+  first = kept.first;
+  keeps = kept.keeps;
+}
+
+sought_words : (r : Rebuilding) (HasWords : List ℕ → Type 0) (p : List ℕ) → HasWords p → (g : Given) (v old new : List ℕ)
+    → KeepsSought r (λ words. words ≡ p) g v old new → KeepsSought r HasWords g v old new
+sought_words r HasWords p has g v old new (kept_luks1 seeks (inl kept)) = kept_luks1 seeks (inl (opened_words HasWords p has g v old new kept))
+sought_words r HasWords p has g v old new (kept_luks1 seeks (inr kept)) = kept_luks1 seeks (inr (record {
+  words = kept.words;
+  has = subst HasWords (sym kept.has) has;
+  found = kept.found;
+  near = kept.near;
+  keeps = kept.keeps;
+}))
+sought_words r HasWords p has g v old new (kept_luks2 seeks kept) = kept_luks2 seeks (record {
+  words = kept.words;
+  has = subst HasWords (sym kept.has) has;
+  found = kept.found;
+  near = kept.near;
+  keeps = kept.keeps;
+})
+
+words_by : (thorough : Bool) (r : Rebuilding) (HasWords : List ℕ → Type 0) (p : List ℕ) → HasWords p → (g : Given) (v old new : List ℕ)
+    → KeepsTriedBy thorough r (λ words. words ≡ p) g v old new → KeepsTriedBy thorough r HasWords g v old new
+words_by false r HasWords p has g v old new kept = opened_words HasWords p has g v old new kept
+words_by true r HasWords p has g v old new kept = sought_words r HasWords p has g v old new kept
+
 pub keeps_words : (r : Rebuilding) (HasWords : List ℕ → Type 0) (p : List ℕ) → HasWords p → (v old new : List ℕ)
     → KeepsTried r (λ words. words ≡ p) v old new → KeepsTried r HasWords v old new
 keeps_words r HasWords p has v old new (inl same) = inl same
 keeps_words r HasWords p has v old new (inr kept) = inr (record {
   given = kept.given;
   is = kept.is;
-  keeps = record {
-    words = kept.keeps.words;
-    has = subst HasWords (sym kept.keeps.has) has;
-    opening = kept.keeps.opening;
-    first = kept.keeps.first;
-    keeps = kept.keeps.keeps;
-  };
+  keeps = words_by r.thorough r HasWords p has kept.given v old new kept.keeps;
 })
 
 -- what is said of the target's bytes is said in other words
@@ -137,4 +166,4 @@ rebuild_holds {A} {D} (Some file) tells size bytes failed r HasWords is_long wor
     subst (λ (n : Result D InputFault). HoldsBackHeader tells bytes r.over volume old n a) (sym said.target_same)
     (unworded_holds tells bytes r.over is_long wordless volume old a said.is)
 rebuild_holds {A} {D} (Some file) tells size bytes failed r HasWords is_long wordless unread HasRandom volume volume_new old new a (inr said) =
-    header_holds tells size bytes failed r.over (λ random. IsTriedAnswer tells r said.words) unread HasRandom volume volume_new old new a said.is
+    header_holds tells size bytes failed r.over (IsTriedAnswer tells r said.words) unread HasRandom volume volume_new old new a said.is

@@ -2,4 +2,8 @@ pub mod Target
 pub mod Converting
 pub mod Rebuilding
 pub mod Turned
+pub mod Tried
+pub mod FoundHeader
+pub mod FoundMetadata
+pub mod Searching
 pub mod Trying

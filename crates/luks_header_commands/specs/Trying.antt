@@ -1,40 +1,28 @@
 -- What `rebuild` leaves of its target and may answer, with a passphrase or without one. With one the combinations of what isn't
--- given are tried until a keyslot of a LUKS1 header opens.
-use Rattle.std.specs.Prelude.{◌≡◌, ◌⊎◌, ℕ, List, Option, None, Some, Result, false}
-use Rattle.luks_writing.specs.TwoDevices.{IsOneFailure}
+-- given are tried until a keyslot of a LUKS1 header opens; or what is damaged of a header of either version is sought, too.
+use Rattle.std.specs.Prelude.{◌≡◌, ◌⊎◌, ℕ, List, Bool, true, false, Option, None, Some, Result}
 use Rattle.luks1_mending.specs.declared.given.Given.{Given}
-use Rattle.luks1_rebuilding.specs.RebuildFaults.{is_rebuild_failure}
-use Rattle.luks1_rebuilding.specs.declared.rebuild_fault.Rebuild1Fault.{Rebuild1Fault}
-use Rattle.luks1_rebuilding.specs.TrialFaults.{IsAnsweredTrialFault, IsTrialFault}
-use Rattle.luks1_rebuilding.specs.Openings.{IsFirstOpening, OpensNoneBelow}
-use Rattle.luks1_rebuilding.specs.declared.trial.opening.Opening.{Opening}
 use Rattle.luks_request.specs.declared.rebuilding.Rebuilding.{Rebuilding}
 use Rattle.luks_commands.specs.declared.answers.Answer.{Answer}
-use Rattle.luks_commands.specs.declared.answers.Answer.TheVariants.{NoneOpens, Refused, DeviceFault}
-use Rattle.luks_commands.specs.declared.answers.Refusal.TheVariants.{Rebuild1}
 use Rattle.luks_commands.specs.declared.inputs.InputFault.{InputFault}
 use Rattle.luks_commands.specs.Answer.{IsWordless}
-use Rattle.luks_header_commands.specs.Rebuilding.{IsGiven, IsLuks1Answer, IsRebuildAnswer, KeepsRest, KeepsRest1}
-use Rattle.luks_header_commands.specs.Target.{AnswersHeader, NoneFailed, Pair}
+use Rattle.luks_header_commands.specs.Rebuilding.{IsGiven, IsRebuildAnswer, KeepsRest}
+use Rattle.luks_header_commands.specs.Searching.{KeepsSought, SearchedAnswer}
+use Rattle.luks_header_commands.specs.Target.{AnswersHeader, Pair}
+use Rattle.luks_header_commands.specs.Tried.{KeepsOpened, TriedAnswer}
 
 -- ---- what is answered
 
--- With what is given and the passphrase `p`: a header can be made, and by none of the 64 combinations a keyslot opens. Or none
--- can be made by any, by the first fault that stands with each. Or a call of the trial failed. In these nothing is written.
--- Else LUKS1 answers with what the first combination gives that opens a keyslot.
-pub data TriedAnswer (tells : Type 0) (g : Given) (p : List ℕ) (d : Pair) (a : Answer) : Type 0 where
-  none_open : NoneFailed d → (tells → d.new ≡ d.old) → (tells → (f : Rebuild1Fault) → IsTrialFault d.volume g f → ⊥)
-      → (tells → OpensNoneBelow d.volume g p 64) → a ≡ NoneOpens → TriedAnswer tells g p d a
-  no_header : (f : Rebuild1Fault) → is_rebuild_failure f ≡ false → NoneFailed d → (tells → d.new ≡ d.old)
-      → (tells → IsAnsweredTrialFault d.volume g f) → a ≡ Refused (Rebuild1 f) → TriedAnswer tells g p d a
-  trial_failed : IsOneFailure d.volume_before d.volume_after d.before d.after → (tells → d.new ≡ d.old) → a ≡ DeviceFault → TriedAnswer tells g p d a
-  one_opens : (o : Opening) → (tells → IsFirstOpening d.volume g p o) → IsLuks1Answer tells o.given d a → TriedAnswer tells g p d a
+-- by whether what is damaged is sought, too
+abbrev pub TriedBy : Bool → Type 0 → Rebuilding → Given → List ℕ → List ℕ → Pair → Answer → Type 0
+TriedBy false tells r g p random d a = TriedAnswer tells g p d a
+TriedBy true tells r g p random d a = SearchedAnswer tells r g p random d a
 
--- as the command line gives it
-pub record IsTriedAnswer (tells : Type 0) (r : Rebuilding) (p : List ℕ) (d : Pair) (a : Answer) : Type 0 where
+-- as the command line gives it, with these random bytes
+pub record IsTriedAnswer (tells : Type 0) (r : Rebuilding) (p random : List ℕ) (d : Pair) (a : Answer) : Type 0 where
   pub given : Given
   pub is : IsGiven r given
-  pub says : TriedAnswer tells given p d a
+  pub says : TriedBy r.thorough tells r given p random d a
 
 -- the passphrase can't be read, or is too long, and nothing was done
 pub record IsWithoutWords {D : Type 0} (is_long : Type 0) (wordless : InputFault → Type 0) (volume volume_new old new : Result D InputFault) (a : Answer) : Type 0 where
@@ -52,7 +40,7 @@ pub record IsWithWords (HasWords : List ℕ → Type 0) (says : List ℕ → Ans
 abbrev pub AnswersTried : {D : Type 0} → Type 0 → (D → ℕ) → (D → List ℕ) → (D → ℕ) → Rebuilding → (InputFault → Type 0) → (List ℕ → Type 0)
     → Result D InputFault → Result D InputFault → Result D InputFault → Result D InputFault → List ℕ → Answer → Type 0
 AnswersTried tells size bytes failed r unread HasRandom volume volume_new old new p a =
-    AnswersHeader tells size bytes failed r.over (λ random. IsTriedAnswer tells r p) unread HasRandom volume volume_new old new a
+    AnswersHeader tells size bytes failed r.over (IsTriedAnswer tells r p) unread HasRandom volume volume_new old new a
 
 -- the passphrase is read before the volume
 abbrev pub IsWithPassphrase : {D : Type 0} → Type 0 → (D → ℕ) → (D → List ℕ) → (D → ℕ) → Rebuilding → (List ℕ → Type 0) → Type 0 → (InputFault → Type 0)
@@ -76,23 +64,19 @@ AnswersRebuild tells size bytes failed r HasWords is_long wordless unread HasRan
 
 -- ---- what is left
 
--- which bytes may have changed with the passphrase: those of the header that is made with what the first combination gives that
--- opens a keyslot
-pub record KeepsOpened (HasWords : List ℕ → Type 0) (g : Given) (volume old new : List ℕ) : Type 0 where
-  pub words : List ℕ
-  pub has : HasWords words
-  pub opening : Opening
-  pub first : IsFirstOpening volume g words opening
-  pub keeps : KeepsRest1 opening.given volume old new
+-- which bytes may have changed with the passphrase, by whether what is damaged is sought, too
+abbrev pub KeepsTriedBy : Bool → Rebuilding → (List ℕ → Type 0) → Given → List ℕ → List ℕ → List ℕ → Type 0
+KeepsTriedBy false r HasWords g volume old new = KeepsOpened HasWords g volume old new
+KeepsTriedBy true r HasWords g volume old new = KeepsSought r HasWords g volume old new
 
 pub record KeepsGivenOpened (r : Rebuilding) (HasWords : List ℕ → Type 0) (volume old new : List ℕ) : Type 0 where
   pub given : Given
   pub is : IsGiven r given
-  pub keeps : KeepsOpened HasWords given volume old new
+  pub keeps : KeepsTriedBy r.thorough r HasWords given volume old new
 
 -- nothing of the target has changed, or what may have
-abbrev pub IsTriedRest : Given → List ℕ → List ℕ → List ℕ → List ℕ → Type 0
-IsTriedRest g p volume old new = (new ≡ old) ⊎ KeepsOpened (λ words. words ≡ p) g volume old new
+abbrev pub IsRestBy : Bool → Rebuilding → Given → List ℕ → List ℕ → List ℕ → List ℕ → Type 0
+IsRestBy thorough r g p volume old new = (new ≡ old) ⊎ KeepsTriedBy thorough r (λ words. words ≡ p) g volume old new
 
 abbrev pub KeepsTried : Rebuilding → (List ℕ → Type 0) → List ℕ → List ℕ → List ℕ → Type 0
 KeepsTried r HasWords volume old new = (new ≡ old) ⊎ KeepsGivenOpened r HasWords volume old new

@@ -9,7 +9,7 @@ ghost use Rattle.luks_commands.specs.Beside.{AreOneFile, IsSameFile, LeavesTarge
 ghost use Rattle.luks_commands.specs.Beside.{SettlesTarget};
 
 use crate::header_work::{HeaderFiles, HeaderWork, READING_FAILED, TARGET_FAILED, make_header};
-use crate::progress::{Progress, SearchProgress, Untold};
+use crate::progress::{DerivationProgress, Progress, SearchProgress, Untold};
 use luks_commands::{Answer, Inputs, RandomBytes, Refusal, Status, device_fault, few_random_bytes};
 use luks_converting::{CONVERT_RANDOM, ConvertFault, convert};
 use luks_reading::{Data, Device};
@@ -73,7 +73,7 @@ impl HeaderWork for Conversion<'_> {
 
     ghost may_answer = { λ work tells random d a. IsConvertAnswer tells work.payload random d a };
 
-    fn run<D: Device, E: Write, G: Progress + SearchProgress>(
+    fn run<D: Device, E: Write, G: Progress + SearchProgress + DerivationProgress>(
         &self,
         alloc: Global,
         volume: &mut D,

@@ -12,7 +12,7 @@ ghost use Rattle.luks_header_commands.specs.Target.{AnswersHeader, IsLater, IsOt
 ghost use Rattle.luks_commands.specs.Beside.{IsSameFile, LeavesTarget, SettlesTarget};
 ghost use Rattle.luks_header_commands.specs.Target.{Pair, pair_of};
 
-use crate::progress::{Progress, SearchProgress};
+use crate::progress::{DerivationProgress, Progress, SearchProgress};
 use luks_commands::{
     Answer, Bar, Inputs, Refusal, Status, are_one_file, held_back, judge_standing, random_bytes,
     unread, uuid_of,
@@ -65,7 +65,7 @@ pub(crate) trait HeaderWork {
     /// What is answered of two devices with these random bytes, where they tell their bytes.
     ghost may_answer: { Self → Type 0 → List ℕ → Pair → TheAnswer → Type 0 };
 
-    fn run<D: Device, E: Write, G: Progress + SearchProgress>(
+    fn run<D: Device, E: Write, G: Progress + SearchProgress + DerivationProgress>(
         &self,
         alloc: Global,
         volume: &mut D,
@@ -103,7 +103,7 @@ pub(crate) fn make_header<
     R: Read,
     N: Read,
     E: Write,
-    G: Progress + SearchProgress,
+    G: Progress + SearchProgress + DerivationProgress,
 >(
     alloc: Global,
     inputs: &mut Inputs<D, R, N>,

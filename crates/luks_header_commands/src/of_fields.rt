@@ -67,7 +67,7 @@ pub(crate) fn not_of_fields<E: Write>(
 }
 
 /// Says what became of the keyslots, and how the payload is opened by the header.
-fn note_fields<E: Write>(files: &HeaderFiles<'_>, err: &mut E) {
+pub(crate) fn note_fields<E: Write>(files: &HeaderFiles<'_>, err: &mut E) {
     let target = files.target;
     let _ = writeln!(
         err,

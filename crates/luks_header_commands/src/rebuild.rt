@@ -17,7 +17,7 @@ use crate::header_work::{HeaderFiles, HeaderWork, make_header};
 use crate::of_either::make_of_either;
 use crate::of_fields::make_of_fields;
 use crate::of_metadata::make_of_metadata;
-use crate::progress::{Progress, SearchProgress};
+use crate::progress::{DerivationProgress, Progress, SearchProgress};
 use crate::trying::make_tried;
 use arrayvec::ArrayString;
 use luks_commands::{Answer, Inputs, Status};
@@ -35,10 +35,18 @@ use std::io::{Read, Write};
 /// volume doesn't begin as a LUKS2 header, or where a LUKS1 header counts, accepted or not; but where the
 /// volume has no signs of one, LUKS2's answer stays.
 ///
-/// With a passphrase, which means LUKS1, and is read before the volume: what of the cipher, the hash and the
-/// length of the key isn't given is tried (`try_combinations`), and the header is made with the first
-/// combination by which a keyslot opens; `progress` is told of each, and of a search for what checksums vouch for.
-pub fn run<D: Device, R: Read, N: Read, E: Write, G: Progress + SearchProgress>(
+/// With a passphrase, which is read before the volume: what of a LUKS1 header's cipher, hash and length of the key
+/// isn't given is tried (`try_combinations`), and the header is made with the first combination by which a keyslot
+/// opens. Where what is damaged is sought, too, and none does, it is made of a header that is near to what stands and
+/// by which a keyslot opens (`search1`). Nothing is written before one has. `progress` is told of each combination and
+/// of each derivation, and of a search for what checksums vouch for.
+pub fn run<
+    D: Device,
+    R: Read,
+    N: Read,
+    E: Write,
+    G: Progress + SearchProgress + DerivationProgress,
+>(
     alloc: Global,
     inputs: &mut Inputs<D, R, N>,
     name: &str,
@@ -102,7 +110,7 @@ impl HeaderWork for Making<'_> {
 
     ghost may_answer = { λ work tells random d a. IsRebuildAnswer tells work.rebuilding random d a };
 
-    fn run<D: Device, E: Write, G: Progress + SearchProgress>(
+    fn run<D: Device, E: Write, G: Progress + SearchProgress + DerivationProgress>(
         &self,
         alloc: Global,
         volume: &mut D,

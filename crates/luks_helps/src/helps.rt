@@ -733,10 +733,22 @@ stands; and without them where no metadata is whole, or where SOURCE begins with
 a LUKS1 header, if that has signs of one. A keyslot that breaks its rules is
 disabled there.
 
---passphrase means LUKS1 too: what isn't given of the cipher, the hash and the
+--passphrase alone means LUKS1: what isn't given of the cipher, the hash and the
 length of the key is tried until it opens a keyslot, and the header is made with
 that. What stands comes first, then aes; xts-plain64; sha256, sha1, sha512; 64,
 32, 16 bytes. Each of at most 64 ways costs an opening of each keyslot.
+
+--thorough with --passphrase seeks what is wrong in the header of either version
+until the passphrase opens a keyslot. Of LUKS1, where none of these ways opens
+one: up to 8 bits of the digest; then each bit of the key's length, the digest's
+salt and iterations, and of each keyslot's entry. Of LUKS2, of each place where
+metadata begins: up to 8 bits of a digest; bytes in which both copies differ,
+up to 16; each bit of the text; and keyslots, digests and segments that stand
+whole in what is left. LUKS1 is meant where one of its fields is given, or where
+SOURCE has its version, else LUKS2. Standard error says how many derivations it
+may take and how long before, and what was found behind. Ctrl-C ends it, and
+nothing is written before the passphrase has opened a keyslot. Memory is taken
+for Argon2 by --memory alone: without it no such keyslot is tried.
 
 Written are, with a flush after each: zeros over the first 512 bytes of both
 copies' places, of LUKS1 0 and 16384; the area of each keyslot, at its place;
@@ -762,7 +774,8 @@ Prints one line:
                  (nothing usable stands there, or was given), Iterations(Digest)
                  (they are lost), TooSmall and Overlap (the new areas in
                  TARGET); Passphrase (its file is too long)
-  no slot opens  by no way that was tried; nothing was written
+  no slot opens  by no way that was tried, and by nothing that was sought;
+                 nothing was written
   device fault   a file can't be read, SOURCE read, or TARGET read or written
   no memory      memory was refused; nothing was written
 

@@ -326,6 +326,7 @@ static COMMANDS: [Described; 21] = [
             LongOption::Payload,
             LongOption::TriedPassphrase,
             LongOption::TriedPassphraseLine,
+            LongOption::Memory,
             LongOption::Uuid,
             LongOption::OverAny,
             LongOption::Offset,

@@ -1,5 +1,6 @@
 //! The fields of a LUKS1 header that are given to the command that rebuilds.
 
+use crate::derivation::is_given;
 use clap::ArgMatches;
 use luks_request::Luks1Fields;
 
@@ -21,7 +22,33 @@ pub(crate) fn wrong_field(given: &ArgMatches<'_>) -> Option<&'static str> {
             return Some("invalid value for '--hash <NAME>': a name of 1 to 31 bytes");
         }
     }
+    wrong_search(given)
+}
+
+/// That nothing of a LUKS1 header is sought longer but by a passphrase, and that memory is for that alone.
+fn wrong_search(given: &ArgMatches<'_>) -> Option<&'static str> {
+    let has_passphrase = is_given(given, "passphrase") || is_given(given, "passphrase-line");
+    let is_thorough = given.get_flag("thorough");
+    if is_thorough && has_passphrase {
+        return None;
+    }
+    if is_given(given, "memory") {
+        return Some("the argument '--memory <MIB>' needs '--thorough' and '--passphrase <FILE>'");
+    }
+    if is_thorough && names_field(given) {
+        return Some(
+            "the argument '--thorough' cannot be used with '--cipher', '--hash', '--key-bytes' or '--payload' but beside '--passphrase <FILE>'",
+        );
+    }
     None
+}
+
+/// Whether a field is given that a LUKS1 header alone has.
+fn names_field(given: &ArgMatches<'_>) -> bool {
+    is_given(given, "cipher")
+        || is_given(given, "hash")
+        || is_given(given, "key-bytes")
+        || is_given(given, "payload")
 }
 
 /// Whether it is a name and a mode, by the first hyphen.

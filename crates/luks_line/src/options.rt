@@ -199,8 +199,8 @@ static OPTIONS: [OptionRow; 64] = [
     OptionRow {
         name: "thorough",
         needed: false,
-        help: "LUKS2: seek longer what a checksum vouches for",
-        takes: Takes::OfLuks2,
+        help: "Seek longer; by --passphrase seek wrong bits",
+        takes: Takes::Nothing,
     },
     OptionRow {
         name: "uuid",
@@ -343,7 +343,7 @@ static OPTIONS: [OptionRow; 64] = [
     OptionRow {
         name: "passphrase",
         needed: false,
-        help: "LUKS1: try what isn't given till this opens it",
+        help: "Try what isn't given of LUKS1 till this opens it",
         takes: Takes::OnePassphrase,
     },
     OptionRow {

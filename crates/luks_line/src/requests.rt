@@ -289,6 +289,7 @@ fn rebuilding_of<'a>(given: &ArgMatches<'a>) -> Option<Command<'a>> {
         target: given.get_str("TARGET")?,
         random: given.get_str("random")?,
         passphrase: passphrase_of(given),
+        memory: mib_of(given, "memory")?,
         second: given.get_flag("second"),
         size: bytes_of(given, "size"),
         thorough: given.get_flag("thorough"),

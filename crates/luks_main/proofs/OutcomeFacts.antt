@@ -77,7 +77,7 @@ commands_end device words chance (command.Convert converting) name old new a sai
     by_one_file (one_file name converting.target.now old.target) (λ one. converted_same_file_ends a (said.same one).1)
     (λ two. convert_ends _ _ _ _ converting _ _ _ _ _ _ a (said.answers two))
 commands_end device words chance (command.Rebuild rebuilding) name old new a said =
-    by_one_file (one_file name rebuilding.target.now old.target) (λ one. rebuilt_same_file_ends rebuilding.passphrase a (said.same one).1)
+    by_one_file (one_file name rebuilding.target.now old.target) (λ one. rebuilt_same_file_ends rebuilding.passphrase rebuilding.thorough a (said.same one).1)
     (λ two. rebuild_ends _ _ _ _ rebuilding _ _ _ _ _ _ _ _ _ a (said.answers two))
 commands_end device words chance (command.Backup backing_up) name old new a said =
     by_one_file (one_file name backing_up.target.now old.target) (λ one. backup_same_file_ends a (said.same one).1)

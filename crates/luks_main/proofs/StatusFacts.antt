@@ -39,10 +39,15 @@ use Rattle.luks_reading.specs.declared.open_fault.OpenFault.{OpenFault}
 use Rattle.luks_reading.specs.declared.open_fault.OpenFault.TheVariants as opening
 use Rattle.luks_area.specs.declared.device.Device.{Ghosts as Device}
 use Rattle.luks_commands.specs.FormatAnswers.{AnswersFormat, IsFormatAnswer}
+use Rattle.luks_rebuilding.specs.declared.place.Place.{Place}
 use Rattle.luks_rebuilding.specs.declared.place.Which.{Which}
 use Rattle.luks_commands.specs.ShowAnswers.{AnswersShow, IsFullAnswer, IsJsonAnswer, IsListedAnswer, IsMapAnswer, IsShowAnswer, IsTokenAnswer, IsTokensAnswer}
 use Rattle.luks_header_commands.specs.Converting.{AnswersConvert, IsConvertAnswer}
-use Rattle.luks_header_commands.specs.Trying.{no_header, none_open, one_opens, trial_failed, AnswersBy, AnswersRebuild, IsTriedAnswer, TriedAnswer}
+use Rattle.luks_header_commands.specs.FoundHeader.{IsHeadedAnswer}
+use Rattle.luks_header_commands.specs.FoundMetadata.{IsMadeAnswer2}
+use Rattle.luks_header_commands.specs.Searching.{allowed_by, broken_off, broken_off2, by_combinations, cut_short, found_near, found_near2, no_memory, none_near, none_near2, search_failed, searched_luks1, searched_luks2, version_unread, BrokenOff, SearchedAnswer, SearchedAnswer1, SearchedAnswer2}
+use Rattle.luks_header_commands.specs.Tried.{no_header, none_open, one_opens, trial_failed, TriedAnswer}
+use Rattle.luks_header_commands.specs.Trying.{AnswersBy, AnswersRebuild, IsTriedAnswer, TriedBy}
 use Rattle.luks_header_commands.specs.Rebuilding.{given_of, copies_asked, IsAnswerOf, IsLuks1Answer, IsLuks2Answer, IsRebuildAnswer}
 use Rattle.luks_commands.specs.Beside.{IsSameFile}
 use Rattle.luks_header_commands.specs.Target.{AnswersHeader, IsOtherTarget, IsWithoutRandom, IsWithRandom, Pair, pair_of as header_pair}
@@ -60,16 +65,17 @@ use Rattle.luks_keeping_commands.specs.Restoring.{over_of, AnswersBoth, AnswersR
 use Rattle.luks_keeping_commands.specs.TwoFiles.{pair_of, Pair as TwoFiles}
 use Rattle.luks_edit_commands.specs.EditAnswers.{AnswersEdit, IsEditAnswer}
 use Rattle.luks_edit_commands.specs.Editing.{Given, Lacking}
-use Rattle.luks_main.specs.Statuses.{EndsBackup, EndsCheck, EndsCompare, EndsConvert, EndsEdit, EndsFormat, EndsKeepKey, EndsKeepToken, EndsKey, EndsOpen, EndsRebuild, EndsTried, EndsUntried, EndsRestore, EndsShow, EndsWith}
+use Rattle.luks_main.specs.Statuses.{EndsBackup, EndsCheck, EndsCompare, EndsConvert, EndsEdit, EndsFormat, EndsKeepKey, EndsKeepToken, EndsKey, EndsOpen, EndsRebuild, EndsSought, EndsTried, EndsTriedBy, EndsUntried, EndsRestore, EndsShow, EndsWith}
 
 -- an answer's own status
 abbrev pub own : Answer → ℕ
 own answer = exit_status (answer_status answer)
 
 -- `rebuild` may be refused memory, with a passphrase and without one
-rebuild_memory_ends : {A : Type 0} (passphrase : Option A) → EndsRebuild passphrase NoMemory 4
-rebuild_memory_ends None = refl
-rebuild_memory_ends (Some file) = refl
+rebuild_memory_ends : {A : Type 0} (passphrase : Option A) (thorough : Bool) → EndsRebuild passphrase thorough NoMemory 4
+rebuild_memory_ends None thorough = refl
+rebuild_memory_ends (Some file) false = refl
+rebuild_memory_ends (Some file) true = refl
 
 -- of every command: memory may be refused
 pub memory_ends : (c : Command) → EndsWith c NoMemory 4
@@ -86,7 +92,7 @@ memory_ends (command.Match matching) = refl
 memory_ends (command.Edit editing) = refl
 memory_ends (command.Format making) = refl
 memory_ends (command.Convert converting) = refl
-memory_ends (command.Rebuild rebuilding) = rebuild_memory_ends rebuilding.passphrase
+memory_ends (command.Rebuild rebuilding) = rebuild_memory_ends rebuilding.passphrase rebuilding.thorough
 memory_ends (command.Backup backing_up) = refl
 memory_ends (command.Restore restoring) = refl
 memory_ends (command.Compare comparing) = refl
@@ -377,20 +383,89 @@ tried_there tells given p d a (no_header f unfailed none same first is) = subst 
 tried_there tells given p d a (trial_failed one same is) = subst (λ x. EndsTried x (own x)) (sym is) refl
 tried_there tells given p d a (one_opens o first said) = tried_luks1_there tells o.given d a said
 
+-- what is damaged is sought, too
+headed_there : (tells : Type 0) (h : List ℕ) (given : GivenFields) (d : Pair) (a : Answer) → IsHeadedAnswer tells h given d a → EndsSought a (own a)
+headed_there tells h given d (Done slot) said = (said.1, refl)
+headed_there tells h given d (Refused (refusal.Rebuild1 f)) said = refl
+headed_there tells h given d DeviceFault said = refl
+headed_there tells h given d a said = absurd said
+
+made2_there : (tells : Type 0) (json : List ℕ) (place : Place) (given : Option (List ℕ)) (random : List ℕ) (d : Pair) (a : Answer)
+    → IsMadeAnswer2 tells json place given random d a → EndsSought a (own a)
+made2_there tells json place given random d (Done slot) said = (said.1, refl)
+made2_there tells json place given random d (Refused (refusal.Rebuild f)) said = refl
+made2_there tells json place given random d DeviceFault said = refl
+made2_there tells json place given random d NoMemory said = refl
+made2_there tells json place given random d a said = absurd said
+
+broken_there : (tells : Type 0) (d : Pair) (a : Answer) → BrokenOff tells d a → EndsSought a (own a)
+broken_there tells d a (search_failed one same is) = subst (λ x. EndsSought x (own x)) (sym is) refl
+broken_there tells d a (no_memory none same is) = subst (λ x. EndsSought x (own x)) (sym is) refl
+broken_there tells d a (cut_short none same is) = subst (λ x. EndsSought x (own x)) (sym is) refl
+
+sought_luks1_there : (tells : Type 0) (given : GivenFields) (d : Pair) (a : Answer) → IsLuks1Answer tells given d a → EndsSought a (own a)
+sought_luks1_there tells given d (Done slot) said = (said.1, refl)
+sought_luks1_there tells given d (Refused (refusal.Rebuild1 f)) said = refl
+sought_luks1_there tells given d DeviceFault said = refl
+sought_luks1_there tells given d a said = absurd said
+
+combined_there : (tells : Type 0) (given : GivenFields) (p : List ℕ) (d : Pair) (a : Answer) → TriedAnswer tells given p d a → EndsSought a (own a)
+combined_there tells given p d a (none_open none same faultless shut is) = subst (λ x. EndsSought x (own x)) (sym is) refl
+combined_there tells given p d a (no_header f unfailed none same first is) = subst (λ x. EndsSought x (own x)) (sym is) refl
+combined_there tells given p d a (trial_failed one same is) = subst (λ x. EndsSought x (own x)) (sym is) refl
+combined_there tells given p d a (one_opens o first said) = sought_luks1_there tells o.given d a said
+
+searched1_there : (tells : Type 0) (given : GivenFields) (p : List ℕ) (d : Pair) (a : Answer) → SearchedAnswer1 tells given p d a → EndsSought a (own a)
+searched1_there tells given p d a (by_combinations said other) = combined_there tells given p d a said
+searched1_there tells given p d a (none_near none same shut far is) = subst (λ x. EndsSought x (own x)) (sym is) refl
+searched1_there tells given p d a (broken_off said) = broken_there tells d a said
+searched1_there tells given p d a (found_near found shut near said opens_) = headed_there tells found.header given d a said
+
+searched2_there : (tells : Type 0) (allowed : Allowed) (given : Option (List ℕ)) (p random : List ℕ) (d : Pair) (a : Answer)
+    → SearchedAnswer2 tells allowed given p random d a → EndsSought a (own a)
+searched2_there tells allowed given p random d a (none_near2 none same far is) = subst (λ x. EndsSought x (own x)) (sym is) refl
+searched2_there tells allowed given p random d a (broken_off2 said) = broken_there tells d a said
+searched2_there tells allowed given p random d a (found_near2 found near said) = made2_there tells found.json.items found.place given random d a said
+
+searched_there : (tells : Type 0) (r : Rebuilding) (given : GivenFields) (p random : List ℕ) (d : Pair) (a : Answer)
+    → SearchedAnswer tells r given p random d a → EndsSought a (own a)
+searched_there tells r given p random d a (version_unread one same is) = subst (λ x. EndsSought x (own x)) (sym is) refl
+searched_there tells r given p random d a (searched_luks1 seeks said) = searched1_there tells given p d a said
+searched_there tells r given p random d a (searched_luks2 seeks said) = searched2_there tells (allowed_by r) (given_of r) p random d a said
+
+-- by whether it is
+by_there : (thorough : Bool) (tells : Type 0) (r : Rebuilding) (given : GivenFields) (p random : List ℕ) (d : Pair) (a : Answer)
+    → TriedBy thorough tells r given p random d a → EndsTriedBy thorough a (own a)
+by_there false tells r given p random d a said = tried_there tells given p d a said
+by_there true tells r given p random d a said = searched_there tells r given p random d a said
+
+by_wordless : (thorough : Bool) (is_long : Type 0) (unread : InputFault → Type 0) (a : Answer) → IsWordless is_long unread a → EndsTriedBy thorough a (own a)
+by_wordless false is_long unread a said = wordless_ends EndsTried refl refl refl is_long unread a said
+by_wordless true is_long unread a said = wordless_ends EndsSought refl refl refl is_long unread a said
+
+by_header : {D : Type 0} (thorough : Bool) (tells : Type 0) (size : D → ℕ) (bytes : D → List ℕ) (failed : D → ℕ) (over : Bool)
+    (says : List ℕ → Pair → Answer → Type 0) → ((random : List ℕ) (d : Pair) (a : Answer) → says random d a → EndsTriedBy thorough a (own a))
+    → (unread : InputFault → Type 0) (HasRandom : List ℕ → Type 0) (volume volume_new old new : Result D InputFault) (a : Answer)
+    → AnswersHeader tells size bytes failed over says unread HasRandom volume volume_new old new a → EndsTriedBy thorough a (own a)
+by_header {D} false tells size bytes failed over says each unread HasRandom volume volume_new old new a said =
+    header_ends EndsTried (λ found. refl) refl refl refl refl tells size bytes failed over says each unread HasRandom volume volume_new old new a said
+by_header {D} true tells size bytes failed over says each unread HasRandom volume volume_new old new a said =
+    header_ends EndsSought (λ found. refl) refl refl refl refl tells size bytes failed over says each unread HasRandom volume volume_new old new a said
+
 by_passphrase_ends : {A D : Type 0} (passphrase : Option A) (tells : Type 0) (size : D → ℕ) (bytes : D → List ℕ) (failed : D → ℕ) (r : Rebuilding) (HasWords : List ℕ → Type 0) (is_long : Type 0)
     (wordless unread_ : InputFault → Type 0) (HasRandom : List ℕ → Type 0) (volume volume_new old new : Result D InputFault) (a : Answer)
-    → AnswersBy passphrase tells size bytes failed r HasWords is_long wordless unread_ HasRandom volume volume_new old new a → EndsRebuild passphrase a (own a)
+    → AnswersBy passphrase tells size bytes failed r HasWords is_long wordless unread_ HasRandom volume volume_new old new a → EndsRebuild passphrase r.thorough a (own a)
 by_passphrase_ends None tells size bytes failed r HasWords is_long wordless unread_ HasRandom volume volume_new old new a said =
     header_ends EndsUntried (λ found. refl) refl refl refl refl tells size bytes failed r.over (IsRebuildAnswer tells r) (rebuild_there tells r) unread_ HasRandom volume volume_new old new a said
 by_passphrase_ends (Some file) tells size bytes failed r HasWords is_long wordless unread_ HasRandom volume volume_new old new a (inl said) =
-    wordless_ends EndsTried refl refl refl is_long wordless a said.is
+    by_wordless r.thorough is_long wordless a said.is
 by_passphrase_ends (Some file) tells size bytes failed r HasWords is_long wordless unread_ HasRandom volume volume_new old new a (inr said) =
-    header_ends EndsTried (λ found. refl) refl refl refl refl tells size bytes failed r.over (λ random. IsTriedAnswer tells r said.words) (λ random d b it. tried_there tells it.given said.words d b it.says)
+    by_header r.thorough tells size bytes failed r.over (IsTriedAnswer tells r said.words) (λ random d b it. by_there r.thorough tells r it.given said.words random d b it.says)
     unread_ HasRandom volume volume_new old new a said.is
 
 pub rebuild_ends : {D : Type 0} (tells : Type 0) (size : D → ℕ) (bytes : D → List ℕ) (failed : D → ℕ) (r : Rebuilding) (HasWords : List ℕ → Type 0) (is_long : Type 0)
     (wordless unread_ : InputFault → Type 0) (HasRandom : List ℕ → Type 0) (volume volume_new old new : Result D InputFault) (a : Answer)
-    → AnswersRebuild tells size bytes failed r HasWords is_long wordless unread_ HasRandom volume volume_new old new a → EndsRebuild r.passphrase a (own a)
+    → AnswersRebuild tells size bytes failed r HasWords is_long wordless unread_ HasRandom volume volume_new old new a → EndsRebuild r.passphrase r.thorough a (own a)
 rebuild_ends tells size bytes failed r HasWords is_long wordless unread_ HasRandom volume volume_new old new a said =
     by_passphrase_ends r.passphrase tells size bytes failed r HasWords is_long wordless unread_ HasRandom volume volume_new old new a said
 
@@ -398,9 +473,10 @@ rebuild_ends tells size bytes failed r HasWords is_long wordless unread_ HasRand
 pub converted_same_file_ends : (a : Answer) → IsSameFile a → EndsConvert a (own a)
 converted_same_file_ends a is = subst (λ x. EndsConvert x (own x)) (sym is) refl
 
-pub rebuilt_same_file_ends : {A : Type 0} (passphrase : Option A) (a : Answer) → IsSameFile a → EndsRebuild passphrase a (own a)
-rebuilt_same_file_ends None a is = subst (λ x. EndsUntried x (own x)) (sym is) refl
-rebuilt_same_file_ends (Some file) a is = subst (λ x. EndsTried x (own x)) (sym is) refl
+pub rebuilt_same_file_ends : {A : Type 0} (passphrase : Option A) (thorough : Bool) (a : Answer) → IsSameFile a → EndsRebuild passphrase thorough a (own a)
+rebuilt_same_file_ends None thorough a is = subst (λ x. EndsUntried x (own x)) (sym is) refl
+rebuilt_same_file_ends (Some file) false a is = subst (λ x. EndsTried x (own x)) (sym is) refl
+rebuilt_same_file_ends (Some file) true a is = subst (λ x. EndsSought x (own x)) (sym is) refl
 
 -- ---- the commands on header backups
 

@@ -1,5 +1,5 @@
 -- Which answer of which command the program ends with which exit status. Of no command any other answer comes.
-use Rattle.std.specs.Prelude.{◌≡◌, ◌⊎◌, ℕ, Option, None, Some, true, false}
+use Rattle.std.specs.Prelude.{◌≡◌, ◌⊎◌, ℕ, Bool, Option, None, Some, true, false}
 use Rattle.luks2_header.specs.declared.selection.Copies.TheVariants.{InStep, FirstNewer, SecondNewer, FirstOnly, SecondOnly}
 use Rattle.luks_reading.specs.declared.report.Version.TheVariants.{Luks1, Luks2}
 use Rattle.luks_request.specs.declared.request.Command.{Command}
@@ -110,9 +110,19 @@ EndsTried (Refused refusal.Reencrypting) status = status ≡ 1
 EndsTried (Refused refusal.LongPassphrase) status = status ≡ 1
 EndsTried answer status = EndsAny answer status
 
-abbrev pub EndsRebuild : {A : Type 0} → Option A → Answer → ℕ → Type 0
-EndsRebuild None answer status = EndsUntried answer status
-EndsRebuild (Some file) answer status = EndsTried answer status
+-- where what is damaged of a header of either version is sought, too
+abbrev pub EndsSought : Answer → ℕ → Type 0
+EndsSought (Refused (refusal.Rebuild fault)) status = status ≡ 1
+EndsSought answer status = EndsTried answer status
+
+-- by whether it is
+abbrev pub EndsTriedBy : Bool → Answer → ℕ → Type 0
+EndsTriedBy false answer status = EndsTried answer status
+EndsTriedBy true answer status = EndsSought answer status
+
+abbrev pub EndsRebuild : {A : Type 0} → Option A → Bool → Answer → ℕ → Type 0
+EndsRebuild None thorough answer status = EndsUntried answer status
+EndsRebuild (Some file) thorough answer status = EndsTriedBy thorough answer status
 
 -- `backup`
 abbrev pub EndsBackup : Answer → ℕ → Type 0
@@ -173,7 +183,7 @@ EndsWith (command.Match matching) answer status = EndsKey answer status
 EndsWith (command.Edit editing) answer status = EndsEdit answer status
 EndsWith (command.Format making) answer status = EndsFormat answer status
 EndsWith (command.Convert converting) answer status = EndsConvert answer status
-EndsWith (command.Rebuild rebuilding) answer status = EndsRebuild rebuilding.passphrase answer status
+EndsWith (command.Rebuild rebuilding) answer status = EndsRebuild rebuilding.passphrase rebuilding.thorough answer status
 EndsWith (command.Backup backing_up) answer status = EndsBackup answer status
 EndsWith (command.Restore restoring) answer status = EndsRestore answer status
 EndsWith (command.Compare comparing) answer status = EndsCompare answer status

@@ -250,7 +250,7 @@ fn tell_refused<D: Device>(
             }
         }
         Command::Rebuild(rebuilding) => {
-            if matches!(ended.fault(), Some(Fault::NoMetadata)) {
+            if !rebuilding.searches() && matches!(ended.fault(), Some(Fault::NoMetadata)) {
                 note_untried(alloc, volume, copies_asked(rebuilding), notes);
             }
         }
@@ -291,8 +291,8 @@ fn tell_unopened<D: Device>(alloc: Global, volume: &mut D, name: &str, notes: &m
     }
 }
 
-/// Notes of which metadata of the volume the header on the target was made, of the copies that were asked for,
-/// which keyslots are lost in it where it is of LUKS1, and what is left there.
+/// Notes of which metadata of the volume the header on the target was made, of the copies that were asked for, unless
+/// it was sought by a passphrase; which keyslots are lost in it where it is of LUKS1; and what is left there.
 fn tell_rebuilt<D: Device>(
     alloc: Global,
     rebuilding: &Rebuilding<'_>,
@@ -307,7 +307,7 @@ fn tell_rebuilt<D: Device>(
     ensures more { hashing.old.hashed ≤ hashing.new.hashed }
 {
     let meant = rebuilding.meant();
-    if meant != Meant::Luks1 {
+    if meant != Meant::Luks1 && !rebuilding.searches() {
         tell_taken(alloc, rebuilding, volume, target, hashing, notes);
     }
     if meant != Meant::Luks2 {

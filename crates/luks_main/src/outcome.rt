@@ -7,7 +7,8 @@ ghost use Rattle.luks_main.specs.Outcomes.{EndsTold, IsLinesOf, IsMade, IsNoted,
 
 use crate::FAULT;
 use luks_execution::{
-    Answer, Inputs, Line, Printer, Progress, SearchProgress, Unprinted, answer_json, end, execute,
+    Answer, DerivationProgress, Inputs, Line, Printer, Progress, SearchProgress, Unprinted,
+    answer_json, end, execute,
 };
 use luks_files::{KeptFile, Volume};
 use luks_guarded_files::LazyFile;
@@ -104,7 +105,10 @@ fn object(
 /// Runs the command, of which nothing is printed yet but what `progress` is told. It isn't inlined, so that it
 /// takes nothing of the stack where the answer is told.
 #[inline(never)]
-pub(crate) fn outcome_of<R: AllocGlobal + Clock + Files<File = File>, G: Progress + SearchProgress>(
+pub(crate) fn outcome_of<
+    R: AllocGlobal + Clock + Files<File = File>,
+    G: Progress + SearchProgress + DerivationProgress,
+>(
     alloc: Global,
     line: &Line<'_>,
     inputs: &mut Inputs<Volume, &[u8], LazyFile<'_, R>>,

@@ -15,7 +15,8 @@ use crate::told::{device_fault, explain, list_faults, no_memory, tell_untimed, t
 use crate::tried::TriedLines;
 use crate::{FAULT, USAGE};
 use luks_execution::{
-    CountingPrinter, InputFault, Inputs, Line, OtherUse, Printer, Progress, Reason, SearchProgress,
+    CountingPrinter, DerivationProgress, InputFault, Inputs, Line, OtherUse, Printer, Progress,
+    Reason, SearchProgress,
 };
 use luks_files::{
     KeptFile, Openings, Passphrases, Volume, Volumes, has_changed, open_volumes, reader, take_away,
@@ -260,7 +261,10 @@ fn outcome_told<R: AllocGlobal + Clock + Files<File = File> + Eprint>(
 
 /// What the command comes to: that both its files are one, where its target, or the file of its key or token, has
 /// turned out to be its source.
-fn outcome_beside<R: AllocGlobal + Clock + Files<File = File>, G: Progress + SearchProgress>(
+fn outcome_beside<
+    R: AllocGlobal + Clock + Files<File = File>,
+    G: Progress + SearchProgress + DerivationProgress,
+>(
     alloc: Global,
     line: &Line<'_>,
     inputs: &mut Inputs<Volume, &[u8], LazyFile<'_, R>>,

@@ -38,10 +38,15 @@ impl<'a, R: Clock + Eprint> WrittenOver<'a, R> {
         self.written = 0;
     }
 
-    /// The milliseconds since the search began, where its line is to be written now.
-    pub(crate) fn due(&self) -> Option<u128> {
+    /// The milliseconds since the search began, where something is said of it.
+    pub(crate) fn elapsed(&self) -> Option<u128> {
         let now = self.rt.monotonic().ok()?;
-        let elapsed = now.saturating_sub(self.begun?).as_millis();
+        Some(now.saturating_sub(self.begun?).as_millis())
+    }
+
+    /// The same, where its line is to be written now.
+    pub(crate) fn due(&self) -> Option<u128> {
+        let elapsed = self.elapsed()?;
         if elapsed.saturating_sub(self.written) < PAUSE {
             return None;
         }

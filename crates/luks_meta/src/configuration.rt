@@ -20,7 +20,7 @@ pub struct Config {
 }
 
 /// The members of `config`; none where one breaks its rule.
-pub(crate) fn read_config(object: &Value) -> Option<Config>
+pub fn read_config(object: &Value) -> Option<Config>
     ensures tells { IfSome result (λ k. TellsConfig (view object.now) k) }
     ensures there { IsRead config_rows (view object.now) → IsSome result }
 {

@@ -31,7 +31,7 @@ pub struct Digest<'a> {
 }
 
 /// The members of a digest; none where one breaks its rule.
-pub(crate) fn read_digest(object: &Value) -> Option<Digest<'_>>
+pub fn read_digest(object: &Value) -> Option<Digest<'_>>
     ensures tells { IfSome result (λ k. TellsDigest (view object.now) k) }
     ensures there { IsRead digest_rows (view object.now)
         → IsNameList (member_at (view object.now) Outer.Top Member.Keyslots)

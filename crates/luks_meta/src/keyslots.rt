@@ -91,7 +91,7 @@ pub struct Keyslot<'a> {
 }
 
 /// The members of a keyslot; none where one breaks its rule.
-pub(crate) fn read_keyslot(object: &Value) -> Option<Keyslot<'_>>
+pub fn read_keyslot(object: &Value) -> Option<Keyslot<'_>>
     ensures tells { IfSome result (λ k. TellsKeyslot (view object.now) k) }
     ensures there { IsRead keyslot_rows (view object.now) → IsSome result }
 {

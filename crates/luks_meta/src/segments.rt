@@ -42,7 +42,7 @@ pub struct Segment<'a> {
 }
 
 /// The members of a segment; none where one breaks its rule.
-pub(crate) fn read_segment(object: &Value) -> Option<Segment<'_>>
+pub fn read_segment(object: &Value) -> Option<Segment<'_>>
     ensures tells { IfSome result (λ k. TellsSegment (view object.now) k) }
     ensures there { IsRead segment_rows (view object.now) → IsSome result }
 {

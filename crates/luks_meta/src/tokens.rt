@@ -23,7 +23,7 @@ pub struct Token<'a> {
 }
 
 /// The members of a token; none where one breaks its rule.
-pub(crate) fn read_token(object: &Value) -> Option<Token<'_>>
+pub fn read_token(object: &Value) -> Option<Token<'_>>
     ensures tells { IfSome result (λ k. TellsToken (view object.now) k) }
     ensures there { IsRead token_rows (view object.now)
         → IsNameList (member_at (view object.now) Outer.Top Member.Keyslots) → IsSome result }

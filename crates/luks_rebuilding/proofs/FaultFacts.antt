@@ -1,5 +1,5 @@
 -- The first fault of rebuilding among the faults that stand, row by row of the table.
-use Rattle.std.proofs.Common.{◌≡◌, ◌≢◌, ℕ, ◌+◌, ◌*◌, ◌<◌, ◌≤◌, List, codes, length, false, Option, Some, None, option_and_then, unwrap_or, refl, sym, ap, subst, ◌∙◌, arith, inl, inr}
+use Rattle.std.proofs.Common.{◌≡◌, ◌≢◌, ℕ, ◌+◌, ◌*◌, ◌<◌, ◌≤◌, List, codes, length, false, Result, Ok, Err, IfErr, OnOk, Option, Some, None, option_and_then, unwrap_or, refl, sym, ap, subst, ◌∙◌, arith, inl, inr}
 use Rattle.serde_json.specs.Data.{Data as Value}
 use Rattle.serde_json.specs.Find.{get}
 use Rattle.luks_area.specs.Area.{area_key, Fit, IsAreaFault}
@@ -9,7 +9,7 @@ use Rattle.luks_area.specs.declared.area.AreaFault.{AreaFault}
 use Rattle.luks_area.specs.declared.area.AreaFault.TheVariants.{Outside, Overlap}
 use Rattle.luks_area.specs.declared.area.AreaName.{AreaName}
 use Rattle.luks1_header.specs.Bytes.{IsUuid}
-use Rattle.luks_rules.proofs.AreaFaults.{one_value}
+use Rattle.luks_rules.proofs.AreaFaults.{accepted_none, one_value}
 use Rattle.luks_meta.specs.Content.{content}
 use Rattle.luks_meta.specs.Objects.{IsConfig}
 use Rattle.luks_meta.specs.MetaFault.{Json}
@@ -21,8 +21,9 @@ use Rattle.luks_reading.specs.Layout2.{Luks2Area}
 use Rattle.luks_reading.specs.declared.report.Data.TheVariants.{Elsewhere}
 use Rattle.luks_rebuilding.proofs.SourceFacts.{no_source, one_source}
 use Rattle.luks_rebuilding.specs.Candidates.{IsVouchedOf, OfTaken, Source}
-use Rattle.luks_rebuilding.specs.Found.{source_of, IsFoundIn, IsNotPlain, IsWhole}
+use Rattle.luks_rebuilding.specs.Found.{source_of, IsFoundIn, IsNoMeta, IsNotPlain, IsWhole}
 use Rattle.luks_rebuilding.specs.KeyAreas.{EndsBeforeRegion, HasHeaderArea}
+use Rattle.luks_rebuilding.specs.Making.{IsAnsweredMaking, IsMakeable, IsMakingFault}
 use Rattle.luks_rebuilding.specs.Outcome.{AnswersCounts, IsAnsweredFault, IsNoUuid, IsNotFound, IsRebuildable, IsRebuildFault, PassesCounts}
 use Rattle.luks_rebuilding.specs.RebuildFaults.{is_rebuild_failure, rebuild_key}
 use Rattle.luks_rebuilding.specs.declared.candidate.Candidate.{Candidate}
@@ -44,24 +45,12 @@ given_good : (given : Option (List ℕ)) → ((text : List ℕ) → given ≡ So
 given_good None good bad = bad
 given_good (Some t) good bad = bad (good t refl)
 
--- where nothing counts, or may, none that counts is a fault
-counts_not : (v : List ℕ) (which : Which) → PassesCounts v which → AnswersCounts v which → ⊥
-counts_not v which (inl nothing_counts) bad = bad.0 nothing_counts
-counts_not v which (inr may) bad = bad.1 may
-
 -- ---- of a candidate
 
 module _
-    (v : List ℕ) (which : Which) (given : Option (List ℕ)) (total : ℕ) (random : List ℕ) (c : Candidate)
-    (found : IsFoundIn v which c) (whole : IsWhole (length v) c)
+    (v : List ℕ) (given : Option (List ℕ)) (total : ℕ) (random : List ℕ) (c : Candidate)
+    (whole : IsWhole (length v) c)
   where
-    -- what is said of the first candidate is said of this one
-    of_this : (says : Source → Type 0) → OfTaken v which says → says (source_of c)
-    of_this says x = subst says (one_source v which x.source (source_of c) x.taken found.taken) x.holds
-
-    to_this : (says : Source → Type 0) → says (source_of c) → OfTaken v which says
-    to_this says x = record { source = source_of c; taken = found.taken; holds = x }
-
     pub its_json : Json c.json.items (content c.meta)
     its_json = whole.meta.json
 
@@ -87,33 +76,30 @@ module _
     fault_here (Overlap m n) h = (h.0, (h.1.0, (area_of m h.0 h.1.1.0, area_of n h.1.0 h.1.1.1, h.1.1.2, h.1.1.3)))
 
     abbrev Faults : RebuildFault → Type 0
-    Faults f = IsRebuildFault v which given total random f
+    Faults f = IsMakingFault v (source_of c) given total random f
 
-    -- the faults that are looked for before it is found
-    none_counts : Faults Counts → ⊥
-    none_counts bad = counts_not v which found.passes bad
-
+    -- its metadata is accepted
     none_missing : Faults NoMetadata → ⊥
-    none_missing bad = bad (source_of c) found.taken.0
+    none_missing bad = accepted_none c.json.items (content c.meta) whole.meta bad.0 bad.1
 
     fits_so : Fit Areas (length v) → (f : AreaFault) → Faults (Area f) → ⊥
-    fits_so fit f bad = no_area_fault Areas (length v) f fit (fault_here f (of_this (λ source. IsAreaFault (HasHeaderArea v source) (length v) f) bad))
+    fits_so fit f bad = no_area_fault Areas (length v) f fit (fault_here f bad)
 
     large_so : (bytes : ℕ) → keyslots_size (content c.meta) ≡ Some bytes → 2 * c.place.size + bytes ≤ total → Faults TooSmall → ⊥
     large_so bytes says large bad =
-        let x : EndsBeforeRegion total (source_of c) = of_this (EndsBeforeRegion total) bad in
+        let x : EndsBeforeRegion total (source_of c) = bad in
         let one : keyslots_size (content c.meta) ≡ Some x.bytes = subst (λ (j : Value). keyslots_size j ≡ Some x.bytes) (its_value x.value x.holds) x.says in
         let same : x.bytes ≡ bytes = same_some x.bytes bytes (sym one ∙ says) in
         let short = x.short in
         omega (arith, same, short, large)
 
     pub area_first : (f : AreaFault) → IsLeast area_key (IsAreaFault Areas (length v)) f → IsLeast rebuild_key Faults (Area f)
-    area_first f least = (to_this (λ source. IsAreaFault (HasHeaderArea v source) (length v) f) (fault_there f least.0), after)
+    area_first f least = (fault_there f least.0, after)
       where
         after : (g : RebuildFault) → Faults g → NotAfter (rebuild_key (Area f)) (rebuild_key g)
-        after Counts bad = absurd (none_counts bad)
+        after Counts bad = absurd bad
         after NoMetadata bad = absurd (none_missing bad)
-        after (Area g) bad = (omega arith, λ same. least.1 g (fault_here g (of_this (λ source. IsAreaFault (HasHeaderArea v source) (length v) g) bad)))
+        after (Area g) bad = (omega arith, λ same. least.1 g (fault_here g bad))
         after TooSmall bad = (omega arith, λ same. absurd (omega (arith, same)))
         after Uuid bad = (omega arith, λ same. absurd (omega (arith, same)))
         after RandomLength bad = (omega arith, λ same. absurd (omega (arith, same)))
@@ -122,10 +108,10 @@ module _
 
     module _ (fit : Fit Areas (length v)) (bytes : ℕ) (says : keyslots_size (content c.meta) ≡ Some bytes) where
       pub small_first : total < 2 * c.place.size + bytes → IsLeast rebuild_key Faults TooSmall
-      small_first short = (to_this (EndsBeforeRegion total) (record { value = content c.meta; holds = its_json; bytes = bytes; says = says; short = short }), after)
+      small_first short = (record { value = content c.meta; holds = its_json; bytes = bytes; says = says; short = short }, after)
         where
           after : (g : RebuildFault) → Faults g → NotAfter (rebuild_key TooSmall) (rebuild_key g)
-          after Counts bad = absurd (none_counts bad)
+          after Counts bad = absurd bad
           after NoMetadata bad = absurd (none_missing bad)
           after (Area g) bad = absurd (fits_so fit g bad)
           after TooSmall bad = (omega arith, λ same. tt)
@@ -139,7 +125,7 @@ module _
         uuid_first other = (other, after)
           where
             after : (g : RebuildFault) → Faults g → NotAfter (rebuild_key Uuid) (rebuild_key g)
-            after Counts bad = absurd (none_counts bad)
+            after Counts bad = absurd bad
             after NoMetadata bad = absurd (none_missing bad)
             after (Area g) bad = absurd (fits_so fit g bad)
             after TooSmall bad = absurd (large_so bytes says large bad)
@@ -156,7 +142,7 @@ module _
           random_first other = (other, after)
             where
               after : (g : RebuildFault) → Faults g → NotAfter (rebuild_key RandomLength) (rebuild_key g)
-              after Counts bad = absurd (none_counts bad)
+              after Counts bad = absurd bad
               after NoMetadata bad = absurd (none_missing bad)
               after (Area g) bad = absurd (fits_so fit g bad)
               after TooSmall bad = absurd (large_so bytes says large bad)
@@ -165,11 +151,11 @@ module _
               after Memory bad = absurd bad
               after Device bad = absurd bad
 
-          pub rebuildable : length random ≡ 144 → IsRebuildable v which given total random
-          rebuildable counted = record { none = none }
+          pub makeable : length random ≡ 144 → IsMakeable v (source_of c) given total random
+          makeable counted = record { none = none }
             where
               none : (f : RebuildFault) → Faults f → ⊥
-              none Counts bad = none_counts bad
+              none Counts bad = bad
               none NoMetadata bad = none_missing bad
               none (Area g) bad = fits_so fit g bad
               none TooSmall bad = large_so bytes says large bad
@@ -177,6 +163,62 @@ module _
               none RandomLength bad = bad counted
               none Memory bad = bad
               none Device bad = bad
+
+-- ---- of the first candidate of a volume
+
+-- where nothing counts, or may, none that counts is a fault
+counts_not : (v : List ℕ) (which : Which) → PassesCounts v which → AnswersCounts v which → ⊥
+counts_not v which (inl nothing_counts) bad = bad.0 nothing_counts
+counts_not v which (inr may) bad = bad.1 may
+
+module _
+    (v : List ℕ) (which : Which) (given : Option (List ℕ)) (total : ℕ) (random : List ℕ) (c : Candidate)
+    (found : IsFoundIn v which c) (whole : IsWhole (length v) c)
+  where
+    -- what is said of the first candidate is said of this one
+    of_this : (says : Source → Type 0) → OfTaken v which says → says (source_of c)
+    of_this says x = subst says (one_source v which x.source (source_of c) x.taken found.taken) x.holds
+
+    to_this : (says : Source → Type 0) → says (source_of c) → OfTaken v which says
+    to_this says x = record { source = source_of c; taken = found.taken; holds = x }
+
+    -- the faults of the volume are those of making a header of it
+    pub own_fault : (f : RebuildFault) → IsRebuildFault v which given total random f → IsMakingFault v (source_of c) given total random f
+    own_fault Counts bad = counts_not v which found.passes bad
+    own_fault NoMetadata bad = absurd (bad (source_of c) found.taken.0)
+    own_fault (Area f) bad = of_this (λ source. IsAreaFault (HasHeaderArea v source) (length v) f) bad
+    own_fault TooSmall bad = of_this (EndsBeforeRegion total) bad
+    own_fault Uuid bad = bad
+    own_fault RandomLength bad = bad
+    own_fault Memory bad = bad
+    own_fault Device bad = bad
+
+    volume_fault : (f : RebuildFault) → IsMakingFault v (source_of c) given total random f → IsRebuildFault v which given total random f
+    volume_fault Counts bad = absurd bad
+    volume_fault NoMetadata bad = absurd (none_missing v given total random c whole bad)
+    volume_fault (Area f) bad = to_this (λ source. IsAreaFault (HasHeaderArea v source) (length v) f) bad
+    volume_fault TooSmall bad = to_this (EndsBeforeRegion total) bad
+    volume_fault Uuid bad = bad
+    volume_fault RandomLength bad = bad
+    volume_fault Memory bad = bad
+    volume_fault Device bad = bad
+
+    first_of_volume : (f : RebuildFault) → IsLeast rebuild_key (IsMakingFault v (source_of c) given total random) f → IsLeast rebuild_key (IsRebuildFault v which given total random) f
+    first_of_volume f least = (volume_fault f least.0, λ e bad. least.1 e (own_fault e bad))
+
+    -- what is answered of it is answered of the volume
+    pub own_answered : (f : RebuildFault) → (is_rebuild_failure f ≡ false → IsLeast rebuild_key (IsMakingFault v (source_of c) given total random) f) → IsAnsweredFault v which given total random f
+    own_answered Counts least = first_of_volume Counts (least refl)
+    own_answered NoMetadata least = first_of_volume NoMetadata (least refl)
+    own_answered (Area f) least = first_of_volume (Area f) (least refl)
+    own_answered TooSmall least = first_of_volume TooSmall (least refl)
+    own_answered Uuid least = first_of_volume Uuid (least refl)
+    own_answered RandomLength least = first_of_volume RandomLength (least refl)
+    own_answered Memory least = absurd (least refl).0
+    own_answered Device least = tt
+
+    pub own_rebuildable : IsMakeable v (source_of c) given total random → IsRebuildable v which given total random
+    own_rebuildable x = record { none = λ f bad. x.none f (own_fault f bad) }
 
 -- ---- what is answered
 
@@ -223,14 +265,45 @@ not_found_first v which given total random RandomLength x = absurd x
 not_found_first v which given total random Memory x = x
 not_found_first v which given total random Device x = tt
 
--- a fault that is the first, and neither want of memory nor a device's
-pub answered_first : (v : List ℕ) (which : Which) (given : Option (List ℕ)) (total : ℕ) (random : List ℕ) (f : RebuildFault) → f ≢ Memory → is_rebuild_failure f ≡ false
-    → IsLeast rebuild_key (IsRebuildFault v which given total random) f → IsAnsweredFault v which given total random f
-answered_first v which given total random Counts memory own x = x
-answered_first v which given total random NoMetadata memory own x = x
-answered_first v which given total random (Area f) memory own x = x
-answered_first v which given total random TooSmall memory own x = x
-answered_first v which given total random Uuid memory own x = x
-answered_first v which given total random RandomLength memory own x = x
-answered_first v which given total random Memory memory own x = absurd (memory refl)
-answered_first v which given total random Device memory own x = tt
+-- what is answered of metadata that was found, and of which a header was to be made
+pub making_answered : (v : List ℕ) (source : Source) (given : Option (List ℕ)) (total : ℕ) (random : List ℕ) (f : RebuildFault)
+    → (is_rebuild_failure f ≡ false → IsLeast rebuild_key (IsMakingFault v source given total random) f) → IsAnsweredMaking v source given total random f
+making_answered v source given total random Counts least = least refl
+making_answered v source given total random NoMetadata least = least refl
+making_answered v source given total random (Area f) least = least refl
+making_answered v source given total random TooSmall least = least refl
+making_answered v source given total random Uuid least = least refl
+making_answered v source given total random RandomLength least = least refl
+making_answered v source given total random Memory least = absurd (least refl).0
+making_answered v source given total random Device least = tt
+
+-- where no metadata is read, that is answered
+pub no_meta_answered : (v : List ℕ) (source : Source) (given : Option (List ℕ)) (total : ℕ) (random : List ℕ) (f : RebuildFault)
+    → IsNoMeta source.json f → IsAnsweredMaking v source given total random f
+no_meta_answered v source given total random NoMetadata x = (x, after)
+  where
+    after : (g : RebuildFault) → IsMakingFault v source given total random g → NotAfter (rebuild_key NoMetadata) (rebuild_key g)
+    after Counts bad = absurd bad
+    after NoMetadata bad = (omega arith, λ same. tt)
+    after (Area g) bad = (omega arith, λ same. tt)
+    after TooSmall bad = (omega arith, λ same. tt)
+    after Uuid bad = (omega arith, λ same. tt)
+    after RandomLength bad = (omega arith, λ same. tt)
+    after Memory bad = absurd bad
+    after Device bad = absurd bad
+no_meta_answered v source given total random Memory x = x
+no_meta_answered v source given total random Counts x = absurd x
+no_meta_answered v source given total random (Area f) x = absurd x
+no_meta_answered v source given total random TooSmall x = absurd x
+no_meta_answered v source given total random Uuid x = absurd x
+no_meta_answered v source given total random RandomLength x = absurd x
+no_meta_answered v source given total random Device x = absurd x
+
+-- what each of them says of an outcome
+pub err_so : {A F : Type 0} (r : Result A F) (P Q : F → Type 0) → ((f : F) → P f → Q f) → IfErr r P → IfErr r Q
+err_so (Ok x) P Q so is = tt
+err_so (Err f) P Q so is = so f is
+
+pub ok_so : {A F : Type 0} (r : Result A F) (P Q : Type 0) → (P → Q) → OnOk r P → OnOk r Q
+ok_so (Ok x) P Q so is = so is
+ok_so (Err f) P Q so is = tt

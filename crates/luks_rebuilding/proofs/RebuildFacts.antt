@@ -7,11 +7,12 @@ use Rattle.luks_area.proofs.RangeFacts.{same_but-wider}
 use Rattle.luks_area.specs.declared.area.Area.{Area}
 use Rattle.luks_area.specs.declared.area.AreaName.TheVariants as name
 use Rattle.luks_rules.proofs.AreaFaults.{one_value}
-use Rattle.luks_meta.specs.Accepted.{IsMeta}
 use Rattle.luks_meta.specs.Content.{content}
 use Rattle.luks_rebuilding.specs.Found.{source_of, AreSlotsApart, HasSlots, HasSlotsInside, IsFoundIn, IsOfWhole, IsReady, IsWhole, IsWholeWritten, WritesWholeLast}
+use Rattle.luks_rebuilding.specs.Candidates.{OfTaken, Source}
 use Rattle.luks_rebuilding.specs.KeyAreas.{HasKeyArea, HasKeyAreas, IsSlotArea}
-use Rattle.luks_rebuilding.specs.Rebuilt.{FirstIsLast, IsMade, IsOfHeader, IsOfRebuilt, IsRebuilt, IsUuidOf, WritesFirstLast}
+use Rattle.luks_rebuilding.specs.Making.{MakesFirstLast}
+use Rattle.luks_rebuilding.specs.Rebuilt.{FirstIsLast, IsMade, IsOfHeader, IsOfRebuilt, IsUuidOf, WritesFirstLast}
 use Rattle.luks_rebuilding.specs.declared.candidate.Candidate.{Candidate}
 use Rattle.luks_rebuilding.specs.declared.place.Which.{Which}
 
@@ -29,61 +30,61 @@ module _ (c : Candidate) (source_total total : ℕ) (given : Option (List ℕ)) 
 
 -- ---- what was written
 
-module _
-    (v : List ℕ) (which : Which) (c : Candidate) (found : IsFoundIn v which c) (whole : IsWhole (length v) c)
-  where
-    pub its_meta : IsMeta c.json.items (content c.meta)
-    its_meta = whole.meta
+module _ (v : List ℕ) (c : Candidate) (whole : IsWhole (length v) c) where
+  slot_here : (n : ℕ) (a : Area) → HasKeyArea (source_of c) n a → IsSlotArea (content c.meta) n a
+  slot_here n a x = subst (λ (j : Value). IsSlotArea j n a) (one_value c.json.items x.value (content c.meta) x.holds whole.meta.json) x.area
 
-    slot_here : (n : ℕ) (a : Area) → HasKeyArea (source_of c) n a → IsSlotArea (content c.meta) n a
-    slot_here n a x = subst (λ (j : Value). IsSlotArea j n a) (one_value c.json.items x.value (content c.meta) x.holds its_meta.json) x.area
+  key_areas : (w : List ℕ) → HasSlots c v w → HasKeyAreas v (source_of c) w
+  key_areas w areas n a x = areas n a (slot_here n a x)
 
-    key_areas : (w : List ℕ) → HasSlots c v w → HasKeyAreas v (source_of c) w
-    key_areas w areas n a x = areas n a (slot_here n a x)
+  pub of_header : {u w : List ℕ} → SameBut (IsOfWhole c) u w → SameBut (IsOfHeader (source_of c)) u w
+  of_header same = same_but-wider (λ p is. wider p is) same
+    where
+      wider : (p : ℕ) → IsOfWhole c p → IsOfHeader (source_of c) p
+      wider p (inl at) = inl at
+      wider p (inr is) = inr (record {
+        number = is.number;
+        area = is.of_slot.area;
+        has = record { value = content c.meta; holds = whole.meta.json; area = is.of_slot.is };
+        at = is.of_slot.at;
+      })
 
-    of_header : {u w : List ℕ} → SameBut (IsOfWhole c) u w → SameBut (IsOfHeader (source_of c)) u w
-    of_header same = same_but-wider (λ p is. wider p is) same
-      where
-        wider : (p : ℕ) → IsOfWhole c p → IsOfHeader (source_of c) p
-        wider p (inl at) = inl at
-        wider p (inr is) = inr (record {
-          number = is.number;
-          area = is.of_slot.area;
-          has = record { value = content c.meta; holds = its_meta.json; area = is.of_slot.is };
-          at = is.of_slot.at;
-        })
+  module _ (given : Option (List ℕ)) (random uuid old w : List ℕ) (own : IsUuidOf v c.place.size c.place.at given random uuid) where
+    pub is_made : IsWholeWritten c v uuid random w → SameBut (IsOfWhole c) old w → IsMade v given random old w (source_of c)
+    is_made x same = record {
+      uuid = uuid;
+      own_uuid = own;
+      first = x.first;
+      second = x.others.second;
+      areas = key_areas w x.others.areas;
+      rest = of_header same;
+    }
 
-    of_taken : (p : ℕ) → IsOfHeader (source_of c) p → IsOfRebuilt v which p
-    of_taken p is = record { source = source_of c; taken = found.taken; holds = is }
+    first_last : WritesWholeLast c v uuid random old w → FirstIsLast v given random old w (source_of c)
+    first_last (inl same) = inl same
+    first_last (inr (inl (waits, inl clearing))) = inr (inl (waits, inl clearing))
+    first_last (inr (inl (waits, inr (inl cleared)))) = inr (inl (waits, inr (inl cleared)))
+    first_last (inr (inl (waits, inr (inr there)))) = inr (inl (waits, inr (inr (key_areas w there))))
+    first_last (inr (inr x)) = inr (inr (record {
+      uuid = uuid;
+      own_uuid = own;
+      second = x.second;
+      areas = key_areas w x.areas;
+    }))
 
-    pub of_rebuilt : {u w : List ℕ} → SameBut (IsOfWhole c) u w → SameBut (IsOfRebuilt v which) u w
-    of_rebuilt same = same_but-wider of_taken (of_header same)
+    pub order_kept : WritesWholeLast c v uuid random old w → MakesFirstLast v given random old w (source_of c)
+    order_kept x = inr (first_last x)
 
-    module _ (given : Option (List ℕ)) (random uuid old w : List ℕ) (own : IsUuidOf v c.place.size c.place.at given random uuid) where
-      pub is_made : IsWholeWritten c v uuid random w → SameBut (IsOfWhole c) old w → IsMade v given random old w (source_of c)
-      is_made x same = record {
-        uuid = uuid;
-        own_uuid = own;
-        first = x.first;
-        second = x.others.second;
-        areas = key_areas w x.others.areas;
-        rest = of_header same;
-      }
+-- ---- of the first candidate of a volume
 
-      pub is_rebuilt : IsWholeWritten c v uuid random w → SameBut (IsOfWhole c) old w → IsRebuilt v which given random old w
-      is_rebuilt x same = record { source = source_of c; taken = found.taken; holds = is_made x same }
+module _ (v : List ℕ) (which : Which) (c : Candidate) (found : IsFoundIn v which c) where
+  -- what is said of it is said of what is taken
+  pub taken_so : (says : Source → Type 0) → says (source_of c) → OfTaken v which says
+  taken_so says x = record { source = source_of c; taken = found.taken; holds = x }
 
-      first_last : WritesWholeLast c v uuid random old w → FirstIsLast v given random old w (source_of c)
-      first_last (inl same) = inl same
-      first_last (inr (inl (waits, inl clearing))) = inr (inl (waits, inl clearing))
-      first_last (inr (inl (waits, inr (inl cleared)))) = inr (inl (waits, inr (inl cleared)))
-      first_last (inr (inl (waits, inr (inr there)))) = inr (inl (waits, inr (inr (key_areas w there))))
-      first_last (inr (inr x)) = inr (inr (record {
-        uuid = uuid;
-        own_uuid = own;
-        second = x.second;
-        areas = key_areas w x.areas;
-      }))
+  pub of_rebuilt : {u w : List ℕ} → SameBut (IsOfHeader (source_of c)) u w → SameBut (IsOfRebuilt v which) u w
+  of_rebuilt same = same_but-wider (λ p is. taken_so (λ source. IsOfHeader source p) is) same
 
-      pub order_kept : WritesWholeLast c v uuid random old w → WritesFirstLast v which given random old w
-      order_kept x = inr (record { source = source_of c; taken = found.taken; holds = first_last x })
+  pub first_written_last : (given : Option (List ℕ)) (random old w : List ℕ) → MakesFirstLast v given random old w (source_of c) → WritesFirstLast v which given random old w
+  first_written_last given random old w (inl same) = inl same
+  first_written_last given random old w (inr x) = inr (taken_so (FirstIsLast v given random old w) x)

@@ -12,6 +12,7 @@ use Rattle.luks2_header.specs.Header2.{header_at, seqid, uuid_field, IsUuidField
 use Rattle.luks2_header.specs.Selection.{nothing, Chosen}
 use Rattle.luks2_header.specs.declared.bin2.Bin2.{Bin2}
 use Rattle.luks2_header.specs.Sizes.{IsListed}
+use Rattle.luks_json.specs.AreaText.{JsonText}
 use Rattle.luks_meta.specs.Accepted.{IsMeta}
 use Rattle.luks_meta.specs.Content.{content}
 use Rattle.luks_meta.specs.MetaFault.{IsMetaFault}
@@ -20,6 +21,7 @@ use Rattle.luks_reading.specs.Layout2.{Luks2Area}
 use Rattle.luks_reading.specs.declared.report.Data.TheVariants.{Elsewhere}
 use Rattle.luks_rebuilding.specs.Candidates.{json_of, next_seqid, place_key, place_of_source, source_key, HasToBeRead, HasToBeTried, IsBegun, IsCandidate, IsPlace, IsVouchedOf, Source, Taken}
 use Rattle.luks_rebuilding.specs.KeyAreas.{IsSlotArea}
+use Rattle.luks_rebuilding.specs.Making.{HasMetaFault}
 use Rattle.luks_rebuilding.specs.Outcome.{AnswersCounts, PassesCounts}
 use Rattle.luks_rebuilding.specs.Rebuilt.{first_copy_salt, random_size, second_copy_salt, HasRebuiltCopy, IsUuidOf, LacksUuid}
 use Rattle.luks_rebuilding.specs.declared.candidate.Candidate.{Candidate}
@@ -212,6 +214,17 @@ BreaksHalf v half = IsMemoryWhere ((size : ℕ) × IsBegunOf v half size)
 
 abbrev pub BreaksFirst : List ℕ → Copies → RebuildFault → Type 0
 BreaksFirst v which = IsMemoryWhere ((place : Place) × HasToBeRead v which place)
+
+-- no metadata was read of a JSON area: it isn't accepted, or memory was refused where a text stands in it
+abbrev pub IsNoMeta : List ℕ → RebuildFault → Type 0
+IsNoMeta json fault.NoMetadata = HasMetaFault json
+IsNoMeta json fault.Memory = (text : List ℕ) × JsonText json text
+IsNoMeta json fault.Counts = ⊥
+IsNoMeta json (fault.Area f) = ⊥
+IsNoMeta json fault.TooSmall = ⊥
+IsNoMeta json fault.Uuid = ⊥
+IsNoMeta json fault.RandomLength = ⊥
+IsNoMeta json fault.Device = ⊥
 
 -- a header of the volume counts, unless the device failed
 abbrev pub IsCounted : List ℕ → RebuildFault → Type 0

@@ -5,6 +5,7 @@ pub mod RebuildFaults
 pub mod FaultTexts
 pub mod Rebuilt
 pub mod Outcome
+pub mod Making
 pub mod Gives
 pub mod Found
 pub mod Untried

@@ -1,11 +1,11 @@
 //! The faults of rebuilding that are judged by the candidate, before anything is made.
-ghost use Rattle.std.specs.Prelude.{◌≡◌, ◌≢◌, ℕ, List, IfErr, OnOk, false, length, option_map, IsTrue, Some, true, ◌↔◌, ◌+◌, ◌*◌, ◌≤◌};
+ghost use Rattle.std.specs.Prelude.{◌≡◌, ℕ, List, IfErr, OnOk, false, length, option_map, IsTrue, Some, true, ◌↔◌, ◌+◌, ◌*◌, ◌≤◌};
 ghost use Rattle.luks_area.specs.First.{IsLeast};
 ghost use Rattle.luks1_header.specs.Bytes.{IsUuid};
-ghost use Rattle.luks_rebuilding.specs.Found.{IsFoundIn, IsReady, IsWhole};
-ghost use Rattle.luks_rebuilding.specs.Outcome.{IsNoUuid, IsRebuildable, IsRebuildFault};
+ghost use Rattle.luks_rebuilding.specs.Found.{source_of, IsReady, IsWhole};
+ghost use Rattle.luks_rebuilding.specs.Making.{IsMakeable, IsMakingFault};
+ghost use Rattle.luks_rebuilding.specs.Outcome.{IsNoUuid};
 ghost use Rattle.luks_rebuilding.specs.RebuildFaults.{is_rebuild_failure, rebuild_key};
-ghost use Rattle.luks_rebuilding.specs.declared.place.Which.{Which as TheWhich};
 
 use crate::candidate::Candidate;
 use crate::rebuild_fault::RebuildFault;
@@ -27,15 +27,12 @@ pub(crate) fn judge(
     random: &[u8],
 ) -> Result<(), RebuildFault>
     requires { IsWhole source_total found.now }
-    ensures fault { (v : List ℕ) (which : TheWhich) → IsFoundIn v which found.now
-        → length v ≡ source_total → IfErr result
-        (IsLeast rebuild_key
-        (IsRebuildFault v which (option_map (λ t. t.now) uuid.entry) total random.now)) }
+    ensures fault { (v : List ℕ) → length v ≡ source_total → IfErr result
+        (IsLeast rebuild_key (IsMakingFault v (source_of found.now)
+        (option_map (λ t. t.now) uuid.entry) total random.now)) }
     ensures own { IfErr result (λ f. is_rebuild_failure f ≡ false) }
-    ensures memory { IfErr result (λ f. f ≢ RebuildFault.Memory) }
-    ensures faultless { (v : List ℕ) (which : TheWhich) → IsFoundIn v which found.now
-        → length v ≡ source_total → OnOk result
-        (IsRebuildable v which (option_map (λ t. t.now) uuid.entry) total random.now) }
+    ensures faultless { (v : List ℕ) → length v ≡ source_total → OnOk result
+        (IsMakeable v (source_of found.now) (option_map (λ t. t.now) uuid.entry) total random.now) }
     ensures ready { OnOk result
         (IsReady found.now source_total total (option_map (λ t. t.now) uuid.entry) random.now) }
 {

@@ -1,5 +1,5 @@
 //! A detached LUKS2 header made out of metadata that is still whole in a volume of which no header
-//! counts, or that the checksum of a copy vouches for. The volume stays as it is.
+//! counts, that the checksum of a copy vouches for, or that was found for it. The volume stays as it is.
 #![tactic(auto)]
 
 mod candidate;
@@ -22,6 +22,6 @@ pub use laws::{one_candidate, rebuilt_header_opens_alike, search_is_bounded};
 pub use luks_vouching::{SearchProgress, Untold};
 pub use place::{Copies, Effort, Place, Which};
 pub use rebuild_fault::RebuildFault;
-pub use rebuilding::{REBUILD_RANDOM, rebuild};
+pub use rebuilding::{REBUILD_RANDOM, rebuild, rebuild_from};
 pub use untried::find_untried;
 pub use voucher::find_voucher;

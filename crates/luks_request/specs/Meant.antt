@@ -1,5 +1,5 @@
 -- Of which version the header is that a command line asks to rebuild.
-use Rattle.std.specs.Prelude.{Bool, ◌||◌, is_some, if◌then◌else◌}
+use Rattle.std.specs.Prelude.{Bool, ◌||◌, ◌&&◌, not, is_some, if◌then◌else◌}
 use Rattle.luks_request.specs.declared.rebuilding.Luks1Fields.{Luks1Fields}
 use Rattle.luks_request.specs.declared.rebuilding.Meant.{Meant}
 use Rattle.luks_request.specs.declared.rebuilding.Meant.TheVariants.{Luks1, Luks2, Either}
@@ -14,7 +14,12 @@ names_field given =
 abbrev pub names_place : Rebuilding → Bool
 names_place rebuilding = rebuilding.second || is_some rebuilding.size
 
--- such a field means LUKS1, and so does a passphrase; else such a place LUKS2; else it may be either
+-- what is damaged of a header is sought by a passphrase
+abbrev pub searches : Rebuilding → Bool
+searches rebuilding = is_some rebuilding.passphrase && rebuilding.thorough
+
+-- such a field means LUKS1, and so does a passphrase by which nothing is sought; else such a place LUKS2; else it may be either
 abbrev pub meant_by : Rebuilding → Meant
 meant_by rebuilding =
-    if names_field rebuilding.luks1 || is_some rebuilding.passphrase then Luks1 else if names_place rebuilding then Luks2 else Either
+    if names_field rebuilding.luks1 || (is_some rebuilding.passphrase && not rebuilding.thorough) then Luks1
+    else if names_place rebuilding then Luks2 else Either

@@ -1,6 +1,6 @@
 //! What the command that rebuilds is asked for.
 ghost use Rattle.std.specs.Prelude.{◌≡◌, ◌↔◌, IsTrue, true};
-ghost use Rattle.luks_request.specs.Meant.{meant_by, names_field, names_place};
+ghost use Rattle.luks_request.specs.Meant.{meant_by, names_field, names_place, searches};
 
 /// What is made by rebuilding, and of which files.
 #[derive(Debug, Clone, Copy)]
@@ -9,14 +9,17 @@ pub struct Rebuilding<'a> {
     pub target: &'a str,
     /// The file of the random bytes.
     pub random: &'a str,
-    /// The file of a passphrase that a keyslot of a LUKS1 header has to open: what of the cipher, the hash
-    /// and the length of the key isn't given is tried until one does.
+    /// The file of a passphrase that has to open a keyslot: what of a LUKS1 header's cipher, hash and length of the
+    /// key isn't given is tried until one does; with `thorough` what is damaged of a header of either version, too.
     pub passphrase: Option<&'a str>,
+    /// How many MiB of memory Argon2 may take for a keyslot of which something is sought.
+    pub memory: u32,
     /// Whether the metadata of a second copy of a LUKS2 header is asked for.
     pub second: bool,
     /// How many bytes the copy of a LUKS2 header has whose metadata is asked for; without it any.
     pub size: Option<u64>,
-    /// Whether what the checksums of a LUKS2 header's copies vouch for is sought longer.
+    /// Whether what the checksums of a LUKS2 header's copies vouch for is sought longer; with a passphrase what is
+    /// damaged of a header is sought by that.
     pub thorough: bool,
     /// The uuid of the new header; without one it is the volume's, or a new one.
     pub uuid: Option<&'a str>,
@@ -44,11 +47,11 @@ pub struct Luks1Fields<'a> {
 /// Of which version the header is that is meant.
 #[derive(Debug, Clone, Copy)]
 pub enum Meant {
-    /// LUKS1: a field that it alone has is given, or a passphrase, which is tried on it alone.
+    /// LUKS1: a field that it alone has is given, or a passphrase without a search, which is tried on it alone.
     Luks1,
     /// LUKS2: a copy is named by its place or its size.
     Luks2,
-    /// Either.
+    /// Either: what stands says which.
     Either,
 }
 
@@ -57,13 +60,21 @@ impl Rebuilding<'_> {
     pub fn meant(&self) -> Meant
         ensures { result ≡ meant_by self.now }
     {
-        if names_field(&self.luks1) || self.passphrase.is_some() {
+        let tries_alone = self.passphrase.is_some() && !self.thorough;
+        if names_field(&self.luks1) || tries_alone {
             Meant::Luks1
         } else if self.second || self.size.is_some() {
             Meant::Luks2
         } else {
             Meant::Either
         }
+    }
+
+    /// Whether what is damaged of a header is sought by a passphrase.
+    pub fn searches(&self) -> bool
+        ensures { result ≡ searches self.now }
+    {
+        self.passphrase.is_some() && self.thorough
     }
 }
 

@@ -28,7 +28,7 @@ use Rattle.luks_json.specs.Arrays.{all_there, has_repeat}
 
 -- ---- tests
 
-not_false : (b : Bool) → not b ≡ false → b ≡ true
+pub not_false : (b : Bool) → not b ≡ false → b ≡ true
 not_false true e = refl
 not_false false e = absurd (cc)
 
@@ -100,25 +100,25 @@ row_read rows d shape kind r m judged =
     let none : is_hidden_by covers rows d r ≡ false = none_any _ rows (λ q k. both_false (covers q.outer r.outer) _ (no_foreign rows d kind q k)) in
     middle _ _ _ (shape r m) judged none
 
-all_read : (rows : List Row) (d : Data) → is_some (as_object d) ≡ true → ((r : Row) → Among r rows → breaks_rule rows d r ≡ false)
+pub all_read : (rows : List Row) (d : Data) → is_some (as_object d) ≡ true → ((r : Row) → Among r rows → breaks_rule rows d r ≡ false)
     → ((r : Row) → Among r rows → has_unlisted_type rows d r ≡ false) → IsRead rows d
 all_read rows d is shape kind = record { is_object = is; each = λ i r e judged. row_read rows d shape kind r (among_at rows i r e) judged }
 
 -- ---- what single tests say
 
-names_found : (j : Data) (target : Section) (list : Items) (r : Rule) (v : Option Data) → r ≡ rule.Names target → option_and_then as_array v ≡ Some list
+pub names_found : (j : Data) (target : Section) (list : Items) (r : Rule) (v : Option Data) → r ≡ rule.Names target → option_and_then as_array v ≡ Some list
     → names_absent_object j r v ≡ false → all_there (section_at j target) list ≡ true
 names_found j target list r v speaks is off = not_false _ (rw (speaks, is) at off)
 
-names_once : (target : Section) (list : Items) (r : Rule) (v : Option Data) → r ≡ rule.Names target → option_and_then as_array v ≡ Some list
+pub names_once : (target : Section) (list : Items) (r : Rule) (v : Option Data) → r ≡ rule.Names target → option_and_then as_array v ≡ Some list
     → repeats_name r v ≡ false → has_repeat list ≡ false
 names_once target list r v speaks is off = rw (speaks, is) at off
 
-size_is : (o : Option ℕ) (len : ℕ) → option_map_or (λ n. not (n == len)) o true ≡ false → o ≡ Some len
+pub size_is : (o : Option ℕ) (len : ℕ) → option_map_or (λ n. not (n == len)) o true ≡ false → o ≡ Some len
 size_is None len e = absurd (cc)
 size_is (Some n) len e = ap Some (eqb-true n len (not_false _ e))
 
-neither : (a b : Bool) → (a || b) ≡ false → (a ≡ false) × (b ≡ false)
+pub neither : (a b : Bool) → (a || b) ≡ false → (a ≡ false) × (b ≡ false)
 neither true b e = absurd (cc)
 neither false b e = (refl, e)
 

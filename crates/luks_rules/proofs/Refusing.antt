@@ -39,7 +39,7 @@ unless true true c h = refl
 unless true false c h = absurd (let e : false ≡ true = h refl in cc)
 unless false b c h = refl
 
-and_off : (a b : Bool) → a ≡ false → (a && b) ≡ false
+pub and_off : (a b : Bool) → a ≡ false → (a && b) ≡ false
 and_off true b e = absurd (cc)
 and_off false b e = refl
 
@@ -48,7 +48,7 @@ and_unless true true h = refl
 and_unless true false h = absurd (let e : false ≡ true = h refl in cc)
 and_unless false b h = refl
 
-or_off : (a b : Bool) → a ≡ false → b ≡ false → (a || b) ≡ false
+pub or_off : (a b : Bool) → a ≡ false → b ≡ false → (a || b) ≡ false
 or_off true b e g = absurd (cc)
 or_off false b e g = g
 
@@ -87,7 +87,7 @@ types_always Keyslots = refl
 types_always Segments = refl
 types_always Tokens = refl
 
-all_among : (f : Row → Bool) (rows : List Row) → list_all f rows ≡ true → (r : Row) → Among r rows → f r ≡ true
+pub all_among : (f : Row → Bool) (rows : List Row) → list_all f rows ≡ true → (r : Row) → Among r rows → f r ≡ true
 all_among f [] h r m = elim m [ ]
 all_among f (x ∷ xs) h r m = let p = and_parts _ _ h in elim m [ inl e ↦ rw e p.0 | inr k ↦ all_among f xs p.1 r k ]
 
@@ -105,7 +105,7 @@ foreign_off u w o k t a h = refl
 
 -- ---- arrays
 
-abbrev Speaks : Rule → Option Data → (Section → Items → Type 0) → Type 0
+abbrev pub Speaks : Rule → Option Data → (Section → Items → Type 0) → Type 0
 Speaks u v P = (target : Section) (list : Items) → u ≡ rule.Names target → option_and_then as_array v ≡ Some list → P target list
 
 dangling_off : (j : Data) (u : Rule) (v : Option Data) → Speaks u v (λ target list. all_there (section_at j target) list ≡ true) → names_absent_object j u v ≡ false
@@ -116,19 +116,19 @@ double_off : (u : Rule) (v : Option Data) → Speaks u v (λ target list. has_re
 double_off (rule.Names target) v h = by_option (option_and_then as_array v) _ (λ list e. h target list refl e)
 double_off u v h = refl
 
-abbrev is_names : Rule → Bool
+abbrev pub is_names : Rule → Bool
 is_names (rule.Names target) = true
 is_names u = false
 
-config_arrays : list_all (λ r. not (is_names r.rule)) config_rows ≡ true
+pub config_arrays : list_all (λ r. not (is_names r.rule)) config_rows ≡ true
 config_arrays = refl
 
-no_names : (u : Rule) (target : Section) → not (is_names u) ≡ true → u ≡ rule.Names target → ⊥
+pub no_names : (u : Rule) (target : Section) → not (is_names u) ≡ true → u ≡ rule.Names target → ⊥
 no_names u target h e = let f : not (is_names u) ≡ false = rw e refl in cc
 
 -- ---- a row
 
-row_off : (s : Section) (j d : Data) → IsRead (rows_of s) d → (r : Row) → Among r (rows_of s)
+pub row_off : (s : Section) (j d : Data) → IsRead (rows_of s) d → (r : Row) → Among r (rows_of s)
     → Speaks r.rule (value_at d r) (λ target list. all_there (section_at j target) list ≡ true)
     → Speaks r.rule (value_at d r) (λ target list. has_repeat list ≡ false)
     → (t : Test) → row_fault t (rows_of s) j d r ≡ false

@@ -20,10 +20,14 @@ pub(crate) struct Place {
 
 /// What may be wrong at a place.
 #[derive(Clone, Copy)]
-pub(crate) enum Test {
+pub enum Test {
+    /// A member is missing or breaks its rule.
     Shape,
+    /// A type is a text that isn't listed.
     Kind,
+    /// An array names an object that isn't there.
     NoSuchName,
+    /// An array repeats a name, or an object isn't named by exactly one digest.
     Assigned,
 }
 

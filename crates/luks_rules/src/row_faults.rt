@@ -105,7 +105,7 @@ fn repeats_name(rule: Rule, list: Option<&Value>) -> bool
 }
 
 /// The row of the object has a fault.
-pub(crate) fn row_fault(test: Test, rows: &[Row], value: &Value, object: &Value, row: &Row) -> bool
+pub fn row_fault(test: Test, rows: &[Row], value: &Value, object: &Value, row: &Row) -> bool
     ensures { result ≡ row_fault test rows.now (view value.now) (view object.now) row.now }
 {
     match test {
@@ -161,7 +161,7 @@ fn is_section(section: Section, value: Option<&Value>) -> bool
 }
 
 /// The section has a fault of its own.
-pub(crate) fn section_fault(test: Test, value: &Value, section: Section) -> bool
+pub fn section_fault(test: Test, value: &Value, section: Section) -> bool
     ensures { result ≡ section_fault test (view value.now) section }
 {
     match test {

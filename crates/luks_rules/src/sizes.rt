@@ -13,7 +13,7 @@ use luks_json::{decimal_in, number_in};
 use serde_json::Value;
 
 /// What `config` tells of the JSON area's length in bytes.
-fn json_size(value: &Value) -> Option<u64>
+pub fn json_size(value: &Value) -> Option<u64>
     ensures { result ≡ json_size (view value.now) }
 {
     decimal_in(section_at(value, Section::Config)?.get("json_size"))
@@ -99,7 +99,8 @@ fn is_below(len: usize, region: Option<u64>, object: &Value) -> bool
     }
 }
 
-fn has_small_area(value: &Value, number: u8) -> bool
+/// The area of the keyslot with the number has fewer bytes than the sectors of its stripes.
+pub fn has_small_area(value: &Value, number: u8) -> bool
     requires { number < 32 }
     ensures { result ≡ has_small_area (view value.now) number }
 {
@@ -109,7 +110,9 @@ fn has_small_area(value: &Value, number: u8) -> bool
     }
 }
 
-fn has_slot_outside(len: usize, value: &Value, number: u8) -> bool
+/// The area of the keyslot with the number isn't within the region, where `len` is the JSON area's
+/// length in bytes.
+pub fn has_slot_outside(len: usize, value: &Value, number: u8) -> bool
     requires { number < 32 }
     ensures { result ≡ has_slot_outside len (view value.now) number }
 {

@@ -1,6 +1,6 @@
 use Rattle.std.proofs.Common.{refl, sym, subst}
 use Rattle.luks_header_commands.specs.Target.{pair_of, Pair}
-use Rattle.luks_header_commands.specs.Trying.{none_open, TriedAnswer}
+use Rattle.luks_header_commands.specs.Tried.{none_open, TriedAnswer}
 use Rattle.luks_header_commands.proofs.TryingFacts.{first_of, none_of, opened_later, opened_rest, tried_fault}
 use Rattle.luks_header_commands.proofs.trying.make_opened.Goals as goal
 

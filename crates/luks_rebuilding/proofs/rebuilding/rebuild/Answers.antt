@@ -1,14 +1,17 @@
-use Rattle.std.proofs.Common.{◌≡◌, ℕ, ◌+◌, ◌≤◌, List, length, option_map, sym, subst, ◌∙◌}
+use Rattle.std.proofs.Common.{◌≡◌, ◌↔◌, ℕ, List, length, option_map, false, IfErr, OnOk, sym, subst}
 use Rattle.std.proofs.lemmas.Result.{err_from_is_err_and}
-use Rattle.luks_area.specs.Area.{Fit}
-use Rattle.luks_meta.specs.Content.{content}
-use Rattle.luks_reading.specs.Layout2.{Luks2Area}
-use Rattle.luks_reading.specs.declared.report.Data.TheVariants.{Elsewhere}
-use Rattle.luks_rebuilding.specs.Found.{source_of, HasRegionInside, HasSlotsInside, IsOwnField, IsWhole, IsWholeWritten, WritesWholeLast}
+use Rattle.luks_area.specs.First.{IsLeast}
+use Rattle.luks_slot.specs.declared.allowed.Allowed.{Allowed}
+use Rattle.luks_reading.specs.Answer.{AnswerWithin, Opened}
+use Rattle.luks_rebuilding.specs.Found.{source_of, IsWhole}
+use Rattle.luks_rebuilding.specs.Gives.{Gives}
+use Rattle.luks_rebuilding.specs.Making.{IsMakeable, IsMakingFault, MakesFirstLast}
 use Rattle.luks_rebuilding.specs.Outcome.{IsAnsweredFault, IsRebuildable}
-use Rattle.luks_rebuilding.proofs.FaultFacts.{answered_first, not_found_first}
-use Rattle.luks_rebuilding.proofs.GivesFacts.{gives_here, gives_there, well_formed}
-use Rattle.luks_rebuilding.proofs.RebuildFacts.{both_inside, is_made, is_rebuilt, its_meta, of_rebuilt, order_kept, slots_apart, slots_there}
+use Rattle.luks_rebuilding.specs.RebuildFaults.{is_rebuild_failure, rebuild_key}
+use Rattle.luks_rebuilding.specs.Rebuilt.{IsMade, IsRebuilt}
+use Rattle.luks_rebuilding.specs.Candidates.{OfTaken, Source}
+use Rattle.luks_rebuilding.proofs.FaultFacts.{err_so, not_found_first, ok_so, own_answered, own_fault, own_rebuildable}
+use Rattle.luks_rebuilding.proofs.RebuildFacts.{first_written_last, of_rebuilt, taken_so}
 use Rattle.luks_rebuilding.proofs.rebuilding.rebuild.Goals as goal
 
 pub returns-in_err-found-clause-fault : goal.returns-in_err-found-clause-fault
@@ -16,167 +19,83 @@ returns-in_err-found-clause-fault g c = λ source.
     let p = err_from_is_err_and c.from_residual.result c.from_residual.ensures.1 in
     rw (p.1, p.2) (not_found_first (g.S.Device.bytes c.args.source.now) c.args.which (option_map (λ t. t.now) c.args.uuid) (g.T.Device.size c.args.target.now) c.args.random.now c.in_err-found.field-0.0 (c.in_err-found.ensures.refused source))
 
-pub returns-in_err-judge-clause-fault : goal.returns-in_err-judge-clause-fault
-returns-in_err-judge-clause-fault g c = λ source.
+pub returns-clause-fault : goal.returns-clause-fault
+returns-clause-fault g c = λ source.
     let v : List ℕ = g.S.Device.bytes c.args.source.now in
+    let x = c.in_ok-found.found in
     let found = c.in_ok-found.ensures.found source in
+    let same : g.S.Device.bytes c.find_candidate.new.source ≡ v = c.in_ok-found.ensures.unchanged.same source in
     let sized : length v ≡ g.S.Device.size c.args.source.now = g.met.S.Device.sized c.args.source.now source in
-    let long : length v ≡ c.len.result = sized ∙ sym (c.len.ensures ∙ c.in_ok-found.ensures.unchanged.size) in
-    let p = err_from_is_err_and c.from_residual-in_err-judge.result c.from_residual-in_err-judge.ensures.1 in
-    let first = answered_first v c.args.which (option_map (λ t. t.now) c.args.uuid) c.len-2.result c.args.random.now c.in_err-judge.field-0.0 c.in_err-judge.ensures.memory c.in_err-judge.ensures.own
-    (c.in_err-judge.ensures.fault v c.args.which found long) in
-    rw (p.1, p.2) (subst (λ (t : ℕ). IsAnsweredFault v c.args.which (option_map (λ t. t.now) c.args.uuid) t c.args.random.now c.in_err-judge.field-0.0) c.len-2.ensures first)
-
-pub own_field-requires-clause-other : goal.own_field-requires-clause-other
-own_field-requires-clause-other g c =
-    subst (λ (n : ℕ). c.in_ok-found.found.place.size + c.in_ok-found.found.place.size ≤ n) c.len.ensures (both_inside c.in_ok-found.found c.len.result c.len-2.result (option_map (λ t. t.now) c.args.uuid) c.args.random.now c.in_ok-judge.ensures.ready)
-
-pub write_rebuilt-requires-clause-apart : goal.write_rebuilt-requires-clause-apart
-write_rebuilt-requires-clause-apart g c = slots_apart c.in_ok-found.found c.len.result c.len-2.result (option_map (λ t. t.now) c.args.uuid) c.args.random.now c.in_ok-judge.ensures.ready
-
-pub write_rebuilt-requires-clause-there : goal.write_rebuilt-requires-clause-there
-write_rebuilt-requires-clause-there g c =
-    subst (HasSlotsInside (content c.in_ok-found.found.meta)) (c.len.ensures ∙ sym c.in_ok-field.ensures.unchanged.size) (slots_there c.in_ok-found.found c.len.result c.len-2.result (option_map (λ t. t.now) c.args.uuid) c.args.random.now c.in_ok-judge.ensures.ready)
-
-pub returns-in_err-write_rebuilt-clause-same : goal.returns-in_err-write_rebuilt-clause-same
-returns-in_err-write_rebuilt-clause-same g c = λ source tells f bad.
-    let v : List ℕ = g.S.Device.bytes c.args.source.now in
-    let found = c.in_ok-found.ensures.found source in
-    let sized : length v ≡ g.S.Device.size c.args.source.now = g.met.S.Device.sized c.args.source.now source in
-    let long : length v ≡ c.len.result = sized ∙ sym (c.len.ensures ∙ c.in_ok-found.ensures.unchanged.size) in
-    let able : IsRebuildable v c.args.which (option_map (λ t. t.now) c.args.uuid) (g.T.Device.size c.args.target.now) c.args.random.now =
-    subst (λ (t : ℕ). IsRebuildable v c.args.which (option_map (λ t. t.now) c.args.uuid) t c.args.random.now) c.len-2.ensures (c.in_ok-judge.ensures.faultless v c.args.which found long) in
-    absurd (able.none f bad)
-
-pub returns-clause-same : goal.returns-clause-same
-returns-clause-same g c = λ source tells f bad.
-    let v : List ℕ = g.S.Device.bytes c.args.source.now in
-    let found = c.in_ok-found.ensures.found source in
-    let sized : length v ≡ g.S.Device.size c.args.source.now = g.met.S.Device.sized c.args.source.now source in
-    let long : length v ≡ c.len.result = sized ∙ sym (c.len.ensures ∙ c.in_ok-found.ensures.unchanged.size) in
-    let able : IsRebuildable v c.args.which (option_map (λ t. t.now) c.args.uuid) (g.T.Device.size c.args.target.now) c.args.random.now =
-    subst (λ (t : ℕ). IsRebuildable v c.args.which (option_map (λ t. t.now) c.args.uuid) t c.args.random.now) c.len-2.ensures (c.in_ok-judge.ensures.faultless v c.args.which found long) in
-    absurd (able.none f bad)
+    let whole : IsWhole (length v) x = subst (λ (n : ℕ). IsWhole n x) (sym sized) c.in_ok-found.ensures.whole in
+    let total = g.T.Device.size c.args.target.now in
+    err_so c.make_of.result (λ f. is_rebuild_failure f ≡ false → IsLeast rebuild_key (IsMakingFault v (source_of x) (option_map (λ t. t.now) c.args.uuid) total c.args.random.now) f)
+    (IsAnsweredFault v c.args.which (option_map (λ t. t.now) c.args.uuid) total c.args.random.now) (own_answered v c.args.which (option_map (λ t. t.now) c.args.uuid) total c.args.random.now x found whole)
+    (subst (λ (l : List ℕ). IfErr c.make_of.result (λ f. is_rebuild_failure f ≡ false → IsLeast rebuild_key (IsMakingFault l (source_of x) (option_map (λ t. t.now) c.args.uuid) total c.args.random.now) f)) same (c.make_of.ensures.fault source))
 
 pub returns-clause-faultless : goal.returns-clause-faultless
 returns-clause-faultless g c = λ source.
     let v : List ℕ = g.S.Device.bytes c.args.source.now in
+    let x = c.in_ok-found.found in
     let found = c.in_ok-found.ensures.found source in
+    let same : g.S.Device.bytes c.find_candidate.new.source ≡ v = c.in_ok-found.ensures.unchanged.same source in
     let sized : length v ≡ g.S.Device.size c.args.source.now = g.met.S.Device.sized c.args.source.now source in
-    let long : length v ≡ c.len.result = sized ∙ sym (c.len.ensures ∙ c.in_ok-found.ensures.unchanged.size) in
-    subst (λ (t : ℕ). IsRebuildable v c.args.which (option_map (λ t. t.now) c.args.uuid) t c.args.random.now) c.len-2.ensures (c.in_ok-judge.ensures.faultless v c.args.which found long)
+    let whole : IsWhole (length v) x = subst (λ (n : ℕ). IsWhole n x) (sym sized) c.in_ok-found.ensures.whole in
+    let total = g.T.Device.size c.args.target.now in
+    ok_so c.make_of.result (IsMakeable v (source_of x) (option_map (λ t. t.now) c.args.uuid) total c.args.random.now) (IsRebuildable v c.args.which (option_map (λ t. t.now) c.args.uuid) total c.args.random.now)
+    (own_rebuildable v c.args.which (option_map (λ t. t.now) c.args.uuid) total c.args.random.now x found whole)
+    (subst (λ (l : List ℕ). OnOk c.make_of.result (IsMakeable l (source_of x) (option_map (λ t. t.now) c.args.uuid) total c.args.random.now)) same (c.make_of.ensures.faultless source))
 
-pub returns-in_err-write_rebuilt-clause-rest : goal.returns-in_err-write_rebuilt-clause-rest
-returns-in_err-write_rebuilt-clause-rest g c = λ source tells.
+pub returns-clause-same : goal.returns-clause-same
+returns-clause-same g c = λ source tells f bad.
     let v : List ℕ = g.S.Device.bytes c.args.source.now in
+    let x = c.in_ok-found.found in
     let found = c.in_ok-found.ensures.found source in
+    let same : g.S.Device.bytes c.find_candidate.new.source ≡ v = c.in_ok-found.ensures.unchanged.same source in
     let sized : length v ≡ g.S.Device.size c.args.source.now = g.met.S.Device.sized c.args.source.now source in
-    let whole : IsWhole (length v) c.in_ok-found.found = subst (λ (n : ℕ). IsWhole n c.in_ok-found.found) (sym sized) c.in_ok-found.ensures.whole in
-    of_rebuilt v c.args.which c.in_ok-found.found found whole (c.write_rebuilt.ensures.rest tells)
+    let whole : IsWhole (length v) x = subst (λ (n : ℕ). IsWhole n x) (sym sized) c.in_ok-found.ensures.whole in
+    let total = g.T.Device.size c.args.target.now in
+    c.make_of.ensures.same source tells f
+    (subst (λ (l : List ℕ). IsMakingFault l (source_of x) (option_map (λ t. t.now) c.args.uuid) total c.args.random.now f) (sym same) (own_fault v c.args.which (option_map (λ t. t.now) c.args.uuid) total c.args.random.now x found whole f bad))
 
 pub returns-clause-rest : goal.returns-clause-rest
 returns-clause-rest g c = λ source tells.
     let v : List ℕ = g.S.Device.bytes c.args.source.now in
+    let x = c.in_ok-found.found in
     let found = c.in_ok-found.ensures.found source in
-    let sized : length v ≡ g.S.Device.size c.args.source.now = g.met.S.Device.sized c.args.source.now source in
-    let whole : IsWhole (length v) c.in_ok-found.found = subst (λ (n : ℕ). IsWhole n c.in_ok-found.found) (sym sized) c.in_ok-found.ensures.whole in
-    of_rebuilt v c.args.which c.in_ok-found.found found whole (c.write_rebuilt.ensures.rest tells)
-
-pub returns-in_err-write_rebuilt-clause-order : goal.returns-in_err-write_rebuilt-clause-order
-returns-in_err-write_rebuilt-clause-order g c = λ source tells.
-    let v : List ℕ = g.S.Device.bytes c.args.source.now in
-    let old : List ℕ = g.T.Device.bytes c.args.target.now in
-    let w : List ℕ = g.T.Device.bytes c.write_rebuilt.new.target in
-    let found = c.in_ok-found.ensures.found source in
-    let sized : length v ≡ g.S.Device.size c.args.source.now = g.met.S.Device.sized c.args.source.now source in
-    let whole : IsWhole (length v) c.in_ok-found.found = subst (λ (n : ℕ). IsWhole n c.in_ok-found.found) (sym sized) c.in_ok-found.ensures.whole in
-    let first = c.in_ok-found.ensures.unchanged.same source in
-    let own : IsOwnField v c.in_ok-found.found.place.size c.in_ok-found.found.place.at (option_map (λ t. t.now) c.args.uuid) c.args.random.now c.in_ok-field.field =
-    subst (λ (l : List ℕ). IsOwnField l c.in_ok-found.found.place.size c.in_ok-found.found.place.at (option_map (λ t. t.now) c.args.uuid) c.args.random.now c.in_ok-field.field) first (c.in_ok-field.ensures.own source) in
-    let same : g.S.Device.bytes c.own_field.new.source ≡ v = c.in_ok-field.ensures.unchanged.same source ∙ first in
-    order_kept v c.args.which c.in_ok-found.found found whole (option_map (λ t. t.now) c.args.uuid) c.args.random.now own.uuid old w own.own
-    (subst (λ (l : List ℕ). WritesWholeLast c.in_ok-found.found l own.uuid c.args.random.now old w) same (c.write_rebuilt.ensures.order source tells own.uuid own.fills))
+    let same : g.S.Device.bytes c.find_candidate.new.source ≡ v = c.in_ok-found.ensures.unchanged.same source in
+    of_rebuilt v c.args.which x found (c.make_of.ensures.rest source tells)
 
 pub returns-clause-order : goal.returns-clause-order
 returns-clause-order g c = λ source tells.
     let v : List ℕ = g.S.Device.bytes c.args.source.now in
-    let old : List ℕ = g.T.Device.bytes c.args.target.now in
-    let w : List ℕ = g.T.Device.bytes c.write_rebuilt.new.target in
+    let x = c.in_ok-found.found in
     let found = c.in_ok-found.ensures.found source in
-    let sized : length v ≡ g.S.Device.size c.args.source.now = g.met.S.Device.sized c.args.source.now source in
-    let whole : IsWhole (length v) c.in_ok-found.found = subst (λ (n : ℕ). IsWhole n c.in_ok-found.found) (sym sized) c.in_ok-found.ensures.whole in
-    let first = c.in_ok-found.ensures.unchanged.same source in
-    let own : IsOwnField v c.in_ok-found.found.place.size c.in_ok-found.found.place.at (option_map (λ t. t.now) c.args.uuid) c.args.random.now c.in_ok-field.field =
-    subst (λ (l : List ℕ). IsOwnField l c.in_ok-found.found.place.size c.in_ok-found.found.place.at (option_map (λ t. t.now) c.args.uuid) c.args.random.now c.in_ok-field.field) first (c.in_ok-field.ensures.own source) in
-    let same : g.S.Device.bytes c.own_field.new.source ≡ v = c.in_ok-field.ensures.unchanged.same source ∙ first in
-    order_kept v c.args.which c.in_ok-found.found found whole (option_map (λ t. t.now) c.args.uuid) c.args.random.now own.uuid old w own.own
-    (subst (λ (l : List ℕ). WritesWholeLast c.in_ok-found.found l own.uuid c.args.random.now old w) same (c.write_rebuilt.ensures.order source tells own.uuid own.fills))
+    let same : g.S.Device.bytes c.find_candidate.new.source ≡ v = c.in_ok-found.ensures.unchanged.same source in
+    let old : List ℕ = g.T.Device.bytes c.args.target.now in
+    let w : List ℕ = g.T.Device.bytes c.make_of.new.target in
+    first_written_last v c.args.which x found (option_map (λ t. t.now) c.args.uuid) c.args.random.now old w
+    (subst (λ (l : List ℕ). MakesFirstLast l (option_map (λ t. t.now) c.args.uuid) c.args.random.now old w (source_of x)) same (c.make_of.ensures.order source tells))
 
 pub returns-clause-rebuilt : goal.returns-clause-rebuilt
 returns-clause-rebuilt g c = λ source tells.
     let v : List ℕ = g.S.Device.bytes c.args.source.now in
-    let old : List ℕ = g.T.Device.bytes c.args.target.now in
-    let w : List ℕ = g.T.Device.bytes c.write_rebuilt.new.target in
+    let x = c.in_ok-found.found in
     let found = c.in_ok-found.ensures.found source in
-    let sized : length v ≡ g.S.Device.size c.args.source.now = g.met.S.Device.sized c.args.source.now source in
-    let whole : IsWhole (length v) c.in_ok-found.found = subst (λ (n : ℕ). IsWhole n c.in_ok-found.found) (sym sized) c.in_ok-found.ensures.whole in
-    let first = c.in_ok-found.ensures.unchanged.same source in
-    let own : IsOwnField v c.in_ok-found.found.place.size c.in_ok-found.found.place.at (option_map (λ t. t.now) c.args.uuid) c.args.random.now c.in_ok-field.field =
-    subst (λ (l : List ℕ). IsOwnField l c.in_ok-found.found.place.size c.in_ok-found.found.place.at (option_map (λ t. t.now) c.args.uuid) c.args.random.now c.in_ok-field.field) first (c.in_ok-field.ensures.own source) in
-    let same : g.S.Device.bytes c.own_field.new.source ≡ v = c.in_ok-field.ensures.unchanged.same source ∙ first in
-    let written : IsWholeWritten c.in_ok-found.found v own.uuid c.args.random.now w =
-    subst (λ (l : List ℕ). IsWholeWritten c.in_ok-found.found l own.uuid c.args.random.now w) same (c.in_ok-write_rebuilt.ensures.written source tells own.uuid own.fills) in
-    is_rebuilt v c.args.which c.in_ok-found.found found whole (option_map (λ t. t.now) c.args.uuid) c.args.random.now own.uuid old w own.own written (c.write_rebuilt.ensures.rest tells)
-
-pub returns-clause-well_formed : goal.returns-clause-well_formed
-returns-clause-well_formed g c = λ source tells.
-    let v : List ℕ = g.S.Device.bytes c.args.source.now in
+    let same : g.S.Device.bytes c.find_candidate.new.source ≡ v = c.in_ok-found.ensures.unchanged.same source in
     let old : List ℕ = g.T.Device.bytes c.args.target.now in
-    let w : List ℕ = g.T.Device.bytes c.write_rebuilt.new.target in
-    let found = c.in_ok-found.ensures.found source in
-    let sized : length v ≡ g.S.Device.size c.args.source.now = g.met.S.Device.sized c.args.source.now source in
-    let whole : IsWhole (length v) c.in_ok-found.found = subst (λ (n : ℕ). IsWhole n c.in_ok-found.found) (sym sized) c.in_ok-found.ensures.whole in
-    let long : length v ≡ c.len.result = sized ∙ sym (c.len.ensures ∙ c.in_ok-found.ensures.unchanged.size) in
-    let first = c.in_ok-found.ensures.unchanged.same source in
-    let own : IsOwnField v c.in_ok-found.found.place.size c.in_ok-found.found.place.at (option_map (λ t. t.now) c.args.uuid) c.args.random.now c.in_ok-field.field =
-    subst (λ (l : List ℕ). IsOwnField l c.in_ok-found.found.place.size c.in_ok-found.found.place.at (option_map (λ t. t.now) c.args.uuid) c.args.random.now c.in_ok-field.field) first (c.in_ok-field.ensures.own source) in
-    let same : g.S.Device.bytes c.own_field.new.source ≡ v = c.in_ok-field.ensures.unchanged.same source ∙ first in
-    let written : IsWholeWritten c.in_ok-found.found v own.uuid c.args.random.now w =
-    subst (λ (l : List ℕ). IsWholeWritten c.in_ok-found.found l own.uuid c.args.random.now w) same (c.in_ok-write_rebuilt.ensures.written source tells own.uuid own.fills) in
-    let ready = c.in_ok-judge.ensures.ready in
-    let fit = subst (λ (n : ℕ). Fit (Luks2Area (content c.in_ok-found.found.meta) c.in_ok-found.found.place.size Elsewhere n) n) (sym long) ready.fit in
-    let end_ : c.len-2.result ≡ length w = c.len-2.ensures ∙ sym c.write_rebuilt.ensures.size ∙ sym (g.met.T.Device.sized c.write_rebuilt.new.target tells) in
-    let region = subst (HasRegionInside (content c.in_ok-found.found.meta) c.in_ok-found.found.place.size) end_ ready.region in
-    let made = is_made v c.args.which c.in_ok-found.found found whole (option_map (λ t. t.now) c.args.uuid) c.args.random.now own.uuid old w own.own written (c.write_rebuilt.ensures.rest tells) in
-    let meta = its_meta v c.args.which c.in_ok-found.found found whole in
-    well_formed v c.args.random.now old w (option_map (λ t. t.now) c.args.uuid) (source_of c.in_ok-found.found) (content c.in_ok-found.found.meta) meta made ready.uuid fit region
+    let w : List ℕ = g.T.Device.bytes c.make_of.new.target in
+    ok_so c.make_of.result (IsMade v (option_map (λ t. t.now) c.args.uuid) c.args.random.now old w (source_of x)) (IsRebuilt v c.args.which (option_map (λ t. t.now) c.args.uuid) c.args.random.now old w)
+    (taken_so v c.args.which x found (IsMade v (option_map (λ t. t.now) c.args.uuid) c.args.random.now old w))
+    (subst (λ (l : List ℕ). OnOk c.make_of.result (IsMade l (option_map (λ t. t.now) c.args.uuid) c.args.random.now old w (source_of x))) same (c.make_of.ensures.rebuilt source tells))
 
 pub returns-clause-opens : goal.returns-clause-opens
 returns-clause-opens g c = λ source tells.
     let v : List ℕ = g.S.Device.bytes c.args.source.now in
-    let old : List ℕ = g.T.Device.bytes c.args.target.now in
-    let w : List ℕ = g.T.Device.bytes c.write_rebuilt.new.target in
+    let x = c.in_ok-found.found in
     let found = c.in_ok-found.ensures.found source in
-    let sized : length v ≡ g.S.Device.size c.args.source.now = g.met.S.Device.sized c.args.source.now source in
-    let whole : IsWhole (length v) c.in_ok-found.found = subst (λ (n : ℕ). IsWhole n c.in_ok-found.found) (sym sized) c.in_ok-found.ensures.whole in
-    let long : length v ≡ c.len.result = sized ∙ sym (c.len.ensures ∙ c.in_ok-found.ensures.unchanged.size) in
-    let first = c.in_ok-found.ensures.unchanged.same source in
-    let own : IsOwnField v c.in_ok-found.found.place.size c.in_ok-found.found.place.at (option_map (λ t. t.now) c.args.uuid) c.args.random.now c.in_ok-field.field =
-    subst (λ (l : List ℕ). IsOwnField l c.in_ok-found.found.place.size c.in_ok-found.found.place.at (option_map (λ t. t.now) c.args.uuid) c.args.random.now c.in_ok-field.field) first (c.in_ok-field.ensures.own source) in
-    let same : g.S.Device.bytes c.own_field.new.source ≡ v = c.in_ok-field.ensures.unchanged.same source ∙ first in
-    let written : IsWholeWritten c.in_ok-found.found v own.uuid c.args.random.now w =
-    subst (λ (l : List ℕ). IsWholeWritten c.in_ok-found.found l own.uuid c.args.random.now w) same (c.in_ok-write_rebuilt.ensures.written source tells own.uuid own.fills) in
-    let ready = c.in_ok-judge.ensures.ready in
-    let fit = subst (λ (n : ℕ). Fit (Luks2Area (content c.in_ok-found.found.meta) c.in_ok-found.found.place.size Elsewhere n) n) (sym long) ready.fit in
-    let end_ : c.len-2.result ≡ length w = c.len-2.ensures ∙ sym c.write_rebuilt.ensures.size ∙ sym (g.met.T.Device.sized c.write_rebuilt.new.target tells) in
-    let region = subst (HasRegionInside (content c.in_ok-found.found.meta) c.in_ok-found.found.place.size) end_ ready.region in
-    let made = is_made v c.args.which c.in_ok-found.found found whole (option_map (λ t. t.now) c.args.uuid) c.args.random.now own.uuid old w own.own written (c.write_rebuilt.ensures.rest tells) in
-    let meta = its_meta v c.args.which c.in_ok-found.found found whole in
-    record {
-      source = source_of c.in_ok-found.found;
-      taken = found.taken;
-      holds = λ allowed n p a. (
-        gives_there v c.args.random.now old w (option_map (λ t. t.now) c.args.uuid) (source_of c.in_ok-found.found) (content c.in_ok-found.found.meta) meta made ready.uuid fit region allowed n p a,
-        gives_here v c.args.random.now old w (option_map (λ t. t.now) c.args.uuid) (source_of c.in_ok-found.found) (content c.in_ok-found.found.meta) meta made ready.uuid fit region allowed n p a,
-      );
-    }
+    let same : g.S.Device.bytes c.find_candidate.new.source ≡ v = c.in_ok-found.ensures.unchanged.same source in
+    let old : List ℕ = g.T.Device.bytes c.args.target.now in
+    let w : List ℕ = g.T.Device.bytes c.make_of.new.target in
+    let says : Source → Type 0 = λ taken. (allowed : Allowed) (n : ℕ) (p : List ℕ) (a : Opened) → Gives allowed taken.json v n p a ↔ AnswerWithin allowed w n p a in
+    ok_so c.make_of.result (says (source_of x)) (OfTaken v c.args.which says) (taken_so v c.args.which x found says)
+    (subst (λ (l : List ℕ). OnOk c.make_of.result ((allowed : Allowed) (n : ℕ) (p : List ℕ) (a : Opened) → Gives allowed x.json.items l n p a ↔ AnswerWithin allowed w n p a)) same (c.make_of.ensures.opens source tells))

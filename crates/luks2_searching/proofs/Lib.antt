@@ -1,0 +1,5 @@
+pub mod DigestFacts
+pub mod FoundFacts
+pub mod MixedFacts
+pub mod ResultFacts
+pub mod SizeFacts

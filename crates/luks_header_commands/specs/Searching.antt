@@ -1,0 +1,113 @@
+-- What is answered, and left of the target, where what is damaged of a header is sought by a passphrase: of which version the header is
+-- that is sought, and what comes of the search.
+use Rattle.std.specs.Prelude.{◌≡◌, ◌≢◌, ◌⊎◌, ℕ, ◌≤◌, List, length, Option, true, ⊤}
+use Rattle.luks_writing.specs.TwoDevices.{IsOneFailure}
+use Rattle.luks_slot.specs.declared.allowed.Allowed.{Allowed}
+use Rattle.luks1_header.specs.Header1.{luks1_size, version_of}
+use Rattle.luks_rebuilding.specs.declared.rebuild_fault.RebuildFault.TheVariants.{NoMetadata}
+use Rattle.luks1_mending.specs.declared.given.Given.{Given}
+use Rattle.luks1_rebuilding.specs.KeyAreas.{header_of}
+use Rattle.luks1_rebuilding.specs.Openings.{OpensNoneBelow}
+use Rattle.luks_searching.specs.Found1.{HasNone1, IsFound1}
+use Rattle.luks_trials.specs.declared.fault.SearchFault.{SearchFault}
+use Rattle.luks_trials.specs.declared.fault.SearchFault.TheVariants as search
+use Rattle.luks_searching.specs.declared.searching1.Found1.{Found1}
+use Rattle.luks2_searching.specs.Found.{HasNone2, IsFound2}
+use Rattle.luks2_searching.specs.declared.found.Found2.{Found2}
+use Rattle.luks_request.specs.Meant.{meant_by}
+use Rattle.luks_request.specs.declared.rebuilding.Meant.{Meant}
+use Rattle.luks_request.specs.declared.rebuilding.Meant.TheVariants.{Luks1, Luks2, Either}
+use Rattle.luks_request.specs.declared.rebuilding.Rebuilding.{Rebuilding}
+use Rattle.luks_commands.specs.OpenAnswers.{allowed_of}
+use Rattle.luks_commands.specs.declared.answers.Answer.{Answer}
+use Rattle.luks_commands.specs.declared.answers.Answer.TheVariants.{NoneOpens, Refused, DeviceFault, NoMemory}
+use Rattle.luks_commands.specs.declared.answers.Refusal.TheVariants.{Rebuild}
+use Rattle.luks_header_commands.specs.FoundHeader.{IsHeadedAnswer, KeepsHeaded, OpensWhereDone}
+use Rattle.luks_header_commands.specs.FoundMetadata.{IsMadeAnswer2, KeepsMade2}
+use Rattle.luks_header_commands.specs.Rebuilding.{given_of}
+use Rattle.luks_header_commands.specs.Target.{NoneFailed, Pair}
+use Rattle.luks_header_commands.specs.Tried.{KeepsOpened, TriedAnswer}
+
+-- ---- the version
+
+-- a LUKS1 header is sought: it is meant, or may be, and the volume has room for one and its version where that stands
+abbrev pub SeeksLuks1 : Meant → List ℕ → Type 0
+SeeksLuks1 Luks1 v = ⊤
+SeeksLuks1 Luks2 v = ⊥
+SeeksLuks1 Either v = (luks1_size ≤ length v) × (version_of (header_of v) ≡ 1)
+
+-- what is allowed to a keyslot of LUKS2: the memory that is asked for, and ciphers and hashes of older disks
+abbrev pub allowed_by : Rebuilding → Allowed
+allowed_by r = allowed_of r.memory true
+
+-- ---- what is answered
+
+-- where a search is broken off; where as many derivations were made as may be no metadata was found, but not all was tried
+abbrev pub search_fault_answer : SearchFault → Answer
+search_fault_answer search.Device = DeviceFault
+search_fault_answer search.Memory = NoMemory
+search_fault_answer search.Spent = Refused (Rebuild NoMetadata)
+
+-- it is, and nothing is written
+pub data BrokenOff (tells : Type 0) (d : Pair) (a : Answer) : Type 0 where
+  search_failed : IsOneFailure d.volume_before d.volume_after d.before d.after → (tells → d.new ≡ d.old) → a ≡ DeviceFault → BrokenOff tells d a
+  no_memory : NoneFailed d → (tells → d.new ≡ d.old) → a ≡ NoMemory → BrokenOff tells d a
+  cut_short : NoneFailed d → (tells → d.new ≡ d.old) → a ≡ Refused (Rebuild NoMetadata) → BrokenOff tells d a
+
+-- Of LUKS1: as by the combinations, unless no keyslot opens. Then no header near to what stands opens one, and nothing is written; or
+-- the search is broken off. Else LUKS1 answers with the header that was found: where it is made, the keyslot opens by it.
+pub data SearchedAnswer1 (tells : Type 0) (g : Given) (p : List ℕ) (d : Pair) (a : Answer) : Type 0 where
+  by_combinations : TriedAnswer tells g p d a → a ≢ NoneOpens → SearchedAnswer1 tells g p d a
+  none_near : NoneFailed d → (tells → d.new ≡ d.old) → (tells → OpensNoneBelow d.volume g p 64) → (tells → HasNone1 d.volume g p)
+      → a ≡ NoneOpens → SearchedAnswer1 tells g p d a
+  broken_off : BrokenOff tells d a → SearchedAnswer1 tells g p d a
+  found_near : (found : Found1) → (tells → OpensNoneBelow d.volume g p 64) → (tells → IsFound1 d.volume g p found) → IsHeadedAnswer tells found.header g d a
+      → (tells → OpensWhereDone a d.new p found.slot) → SearchedAnswer1 tells g p d a
+
+-- Of LUKS2, where so much is allowed: no metadata near to that of a copy opens a keyslot, and nothing is written; or the search is
+-- broken off. Else LUKS2 answers with the metadata that was found.
+pub data SearchedAnswer2 (tells : Type 0) (allowed : Allowed) (given : Option (List ℕ)) (p random : List ℕ) (d : Pair) (a : Answer) : Type 0 where
+  none_near2 : NoneFailed d → (tells → d.new ≡ d.old) → (tells → HasNone2 allowed d.volume p) → a ≡ NoneOpens → SearchedAnswer2 tells allowed given p random d a
+  broken_off2 : BrokenOff tells d a → SearchedAnswer2 tells allowed given p random d a
+  found_near2 : (found : Found2) → (tells → IsFound2 allowed d.volume p found) → IsMadeAnswer2 tells found.json.items found.place given random d a
+      → SearchedAnswer2 tells allowed given p random d a
+
+-- by the version; the volume's first bytes are read where either may be meant
+pub data SearchedAnswer (tells : Type 0) (r : Rebuilding) (g : Given) (p random : List ℕ) (d : Pair) (a : Answer) : Type 0 where
+  version_unread : IsOneFailure d.volume_before d.volume_after d.before d.after → (tells → d.new ≡ d.old) → a ≡ DeviceFault → SearchedAnswer tells r g p random d a
+  searched_luks1 : (tells → SeeksLuks1 (meant_by r) d.volume) → SearchedAnswer1 tells g p d a → SearchedAnswer tells r g p random d a
+  searched_luks2 : (tells → SeeksLuks1 (meant_by r) d.volume → ⊥) → SearchedAnswer2 tells (allowed_by r) (given_of r) p random d a
+      → SearchedAnswer tells r g p random d a
+
+-- ---- what is left
+
+-- the bytes that may have changed are those of the header that is made of a LUKS1 header that was found
+pub record KeepsFound1 (HasWords : List ℕ → Type 0) (g : Given) (volume old new : List ℕ) : Type 0 where
+  pub words : List ℕ
+  pub has : HasWords words
+  pub found : Found1
+  pub near : IsFound1 volume g words found
+  pub keeps : KeepsHeaded found.header g volume old new
+
+-- or of metadata that was found
+pub record KeepsFound2 (HasWords : List ℕ → Type 0) (allowed : Allowed) (volume old new : List ℕ) : Type 0 where
+  pub words : List ℕ
+  pub has : HasWords words
+  pub found : Found2
+  pub near : IsFound2 allowed volume words found
+  pub keeps : KeepsMade2 found.json.items found.place old new
+
+pub data KeepsSought (r : Rebuilding) (HasWords : List ℕ → Type 0) (g : Given) (volume old new : List ℕ) : Type 0 where
+  kept_luks1 : SeeksLuks1 (meant_by r) volume → KeepsOpened HasWords g volume old new ⊎ KeepsFound1 HasWords g volume old new
+      → KeepsSought r HasWords g volume old new
+  kept_luks2 : (SeeksLuks1 (meant_by r) volume → ⊥) → KeepsFound2 HasWords (allowed_by r) volume old new → KeepsSought r HasWords g volume old new
+
+-- nothing of the target has changed, or what may have; of LUKS1 and of LUKS2 alone, and of either
+abbrev pub IsRest1 : Given → List ℕ → List ℕ → List ℕ → List ℕ → Type 0
+IsRest1 g p volume old new = (new ≡ old) ⊎ (KeepsOpened (λ words. words ≡ p) g volume old new ⊎ KeepsFound1 (λ words. words ≡ p) g volume old new)
+
+abbrev pub IsRest2 : Allowed → List ℕ → List ℕ → List ℕ → List ℕ → Type 0
+IsRest2 allowed p volume old new = (new ≡ old) ⊎ KeepsFound2 (λ words. words ≡ p) allowed volume old new
+
+abbrev pub IsSearchedRest : Rebuilding → Given → List ℕ → List ℕ → List ℕ → List ℕ → Type 0
+IsSearchedRest r g p volume old new = (new ≡ old) ⊎ KeepsSought r (λ words. words ≡ p) g volume old new

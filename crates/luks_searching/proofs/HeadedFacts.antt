@@ -1,0 +1,146 @@
+-- Which keyslots open of a volume with another header.
+use Rattle.std.proofs.Common.{◌≡◌, ◌↔◌, ℕ, ◌+◌, ◌*◌, ◌<◌, ◌≤◌, List, length, Option, Some, None, Result, Ok, Err, IfOk, IsTrue, true, false, refl, sym, ap, subst, ◌∙◌, arith}
+use Rattle.luks_area.specs.Ranges.{part}
+use Rattle.luks1_header.specs.Header1.{active_word, enabled_word, entry, entry_iterations, entry_stripes, mk_digest_iterations_of, IsCommon, IsEntry, IsLuks1}
+use Rattle.luks1_header.specs.Written.{WritesLuks1}
+use Rattle.luks1_header.specs.declared.luks1.Luks1.{Luks1}
+use Rattle.luks1_header.specs.declared.luks1.Luks1Slot.{Luks1Slot}
+use Rattle.luks1_header.specs.declared.luks1.SlotState.TheVariants.{Disabled, Enabled}
+use Rattle.luks1_mending.specs.Made.{IsMade}
+use Rattle.luks1_mending.specs.Taken.{IsFieldFault}
+use Rattle.luks1_mending.specs.declared.given.Given.{Given}
+use Rattle.luks1_mending.proofs.HeaderFacts.{made_header}
+use Rattle.luks_slot.specs.Allowance.{none_allowed}
+use Rattle.luks_slot.specs.Opening.{slot_key}
+use Rattle.luks_slot.specs.Refusal.{slot_refusal}
+use Rattle.luks_slot.proofs.RefusalFacts.{refusal_at_none}
+use Rattle.luks_slot.specs.declared.fault.SlotFault.{SlotFault}
+use Rattle.luks_slot.specs.declared.plan.Derivation.{Derivation}
+use Rattle.luks_slot.specs.declared.plan.Derivation.TheVariants.{Argon2, Pbkdf2}
+use Rattle.luks_slot.specs.declared.plan.SlotPlan.{SlotPlan}
+use Rattle.luks_reading.specs.PlanAnswers.{IsOpenable}
+use Rattle.luks_reading.specs.Plans.{HasLuks1Plan, IsLuks1Derivation, IsLuks1Plan}
+use Rattle.luks_reading.specs.declared.open_fault.OpenFault.TheVariants as fault
+use Rattle.luks_reading.proofs.Luks1Plans.{one_luks1_plan}
+use Rattle.luks_reading.proofs.SamePlans.{same_answer, SameFields}
+use Rattle.luks1_rebuilding.specs.Gives.{IsKeptPlan}
+use Rattle.luks1_rebuilding.specs.Openings.{OpensBy}
+use Rattle.luks1_rebuilding.specs.Tried.{IsMadeOf}
+use Rattle.luks1_rebuilding.specs.Used.{any_slot, slot_at}
+use Rattle.luks1_rebuilding.proofs.HeadedFacts.{area_is, header_is, made_headed}
+use Rattle.luks1_rebuilding.proofs.MadeFacts.{behind}
+use Rattle.luks1_rebuilding.proofs.OpeningFacts.{kept_entry_of, says_of, tells_opening, tells_shut}
+use Rattle.luks1_rebuilding.proofs.PlanFacts.{plan_here, plan_there, SaysKept}
+use Rattle.luks1_rebuilding.specs.Headed.{headed}
+use Rattle.luks_searching.specs.Headed.{IsCheap, OpensHeaded}
+use Rattle.luks_trials.specs.Trials.{most_stripes, most_turns, IsCheapDerivation, IsCheapPlan, IsOpenedPlan}
+
+-- ---- an enabled keyslot of it
+
+module _ (v h : List ℕ) (long : length h ≡ 592) (room : 592 ≤ length v) (g : Given) (d : Luks1) (made : IsMade h (length v) g d)
+    (n : ℕ) (lt : n < 8) (b : List ℕ) (put : WritesLuks1 b d) (s : Luks1Slot) (here : s ≡ slot_at d n) (on : s.state ≡ Enabled) (plan : SlotPlan)
+    (is : (i e : List ℕ) → IsCommon i d.common → IsEntry e s → IsLuks1Plan i e plan)
+    (judged : (i e : List ℕ) → IsCommon i d.common → IsEntry e s → active_word e ≡ enabled_word → IsOpenable plan)
+    (inside : plan.area.start + plan.area.len ≤ length v) where
+  on_there : (slot_at d n).state ≡ Enabled
+  on_there = ap (λ (q : Luks1Slot). q.state) (sym here) ∙ on
+
+  header : IsLuks1 b d
+  header = made_header h (length v) g d made b put
+
+  entry_there : IsEntry (entry b n) s
+  entry_there = subst (IsEntry (entry b n)) (sym here) (header.slots.each n any_slot lt)
+
+  has_plan : HasLuks1Plan b n plan
+  has_plan = record { numbered = lt; is = is b (entry b n) header.common entry_there }
+
+  entry_here : IsEntry (entry h n) (slot_at d n)
+  entry_here = (kept_entry_of h (length v) g d made n lt on_there).says
+
+  of_volume : IsMadeOf (headed v h) g d
+  of_volume = made_headed v h g d long room made
+
+  says : SaysKept (headed v h) g n b
+  says = says_of (headed v h) g d of_volume b put n lt (subst (λ i. IsEntry (entry i n) (slot_at d n)) (sym (header_is v h long)) entry_here)
+
+  -- its area lies behind the header
+  area_behind : 592 ≤ plan.area.start
+  area_behind =
+      let start = has_plan.is.start in
+      let sector = (put.slots n any_slot lt).fields.key_material_offset in
+      let first = behind h (length v) g d made n _ (record { numbered = lt; enabled = on_there; is = refl }) in
+      omega (arith, start, sector, first)
+
+  same_area : part (headed v h) plan.area.start plan.area.len ≡ part v plan.area.start plan.area.len
+  same_area = area_is v h long plan.area.start plan.area.len area_behind
+
+  -- the numbers by which it is cheap
+  iterations_are : (q : Derivation) → IsLuks1Derivation b (entry b n) q → IsCheapDerivation q ↔ (entry_iterations (entry h n) ≤ most_turns)
+  iterations_are (Pbkdf2 hash iterations salt) z =
+      let one = z.1 in
+      let two = (put.slots n any_slot lt).fields.iterations in
+      let three = entry_here.fields.iterations in
+      ((λ few. omega (arith, one, two, three, few)), (λ few. omega (arith, one, two, three, few)))
+  iterations_are (Argon2 costs) z = absurd z
+
+  stripes_are : plan.stripes ≡ entry_stripes (entry h n)
+  stripes_are = has_plan.is.stripes ∙ (put.slots n any_slot lt).fields.stripes ∙ sym entry_here.fields.stripes
+
+  turns_are : plan.digest.iterations ≡ mk_digest_iterations_of h
+  turns_are = has_plan.is.digest.iterations ∙ says.digest_iterations ∙ ap mk_digest_iterations_of (header_is v h long)
+
+  cheap_here : IsCheapPlan plan → IsCheap h n
+  cheap_here x = record {
+    digest = subst (λ (m : ℕ). m ≤ most_turns) turns_are x.digest;
+    iterations = (iterations_are plan.derivation has_plan.is.derivation).0 x.derivation;
+    stripes = subst (λ (m : ℕ). m ≤ most_stripes) stripes_are x.stripes;
+  }
+
+  cheap_there : IsCheap h n → IsCheapPlan plan
+  cheap_there x = record {
+    derivation = (iterations_are plan.derivation has_plan.is.derivation).1 x.iterations;
+    digest = subst (λ (m : ℕ). m ≤ most_turns) (sym turns_are) x.digest;
+    stripes = subst (λ (m : ℕ). m ≤ most_stripes) (sym stripes_are) x.stripes;
+  }
+
+  module _ (p : List ℕ) where
+    opened_here : IsOpenedPlan none_allowed plan v p → OpensHeaded v h g p n
+    opened_here x = record {
+      cheap = cheap_here x.cheap;
+      opens = (tells_opening d n lt b put s here on plan is judged (headed v h) g of_volume p (Ok (Some x.key)) (Ok true) tt (sym (refusal_at_none plan) ∙ x.opens.accepted)
+          (x.opens.is ∙ ap (λ a. slot_key plan a p) (sym same_area)) refl).0 refl;
+    }
+
+    by_refusal : (o : Option SlotFault) → slot_refusal plan ≡ o → OpensHeaded v h g p n → IsOpenedPlan none_allowed plan v p
+    by_refusal (Some f) refused x =
+        absurd ((x.opens.gives false).unrefused (fault.Slot f) (record { plan = plan; is = plan_here says plan has_plan; refused = refusal_at_none plan ∙ refused }))
+    by_refusal None accepted x =
+        let gives = x.opens.gives false in
+        let alike = same_answer plan gives.plan (headed v h) p (one_luks1_plan b n plan gives.plan has_plan (plan_there says gives.plan gives.is)) in
+        record {
+          cheap = cheap_there x.cheap;
+          key = x.opens.key;
+          opens = record {
+            inside = inside;
+            accepted = refusal_at_none plan ∙ accepted;
+            is = sym (ap (λ a. slot_key plan a p) (sym same_area) ∙ alike ∙ gives.key);
+          };
+        }
+
+    pub opens_headed : IsOpenedPlan none_allowed plan v p ↔ OpensHeaded v h g p n
+    opens_headed = (opened_here, by_refusal (slot_refusal plan) refl)
+
+-- a keyslot of it that isn't enabled opens by none
+pub shut_headed : (v h : List ℕ) (g : Given) (d : Luks1) → length h ≡ 592 → 592 ≤ length v → IsMade h (length v) g d → (n : ℕ) → n < 8
+    → (s : Luks1Slot) → s ≡ slot_at d n → s.state ≡ Disabled → (p : List ℕ) → OpensHeaded v h g p n → ⊥
+shut_headed v h g d long room made n lt s here off p x =
+    let t : IsTrue false = (tells_shut (headed v h) g d (made_headed v h g d long room made) n lt s here off p).1 x.opens in cc
+
+-- nor does one of a header that isn't made
+pub unmade_headed : (v h : List ℕ) (g : Given) → length h ≡ 592 → (n : ℕ) (p : List ℕ) → OpensHeaded v h g p n → (f : _) → IsFieldFault h g f → ⊥
+unmade_headed v h g long n p x f bad = x.opens.made f (subst (λ i. IsFieldFault i g f) (sym (header_is v h long)) bad)
+
+-- what is told of a keyslot by its plan is told of it by the header
+pub told_by : {F : Type 0} (r : Result (Option ℕ) F) (A B : Type 0) → A ↔ B → IfOk r (λ bits. (bits ≡ Some 0) ↔ A) → IfOk r (λ bits. (bits ≡ Some 0) ↔ B)
+told_by (Ok bits) A B same told = ((λ e. same.0 (told.0 e)), (λ x. told.1 (same.1 x)))
+told_by (Err f) A B same told = tt

@@ -1,0 +1,3 @@
+pub mod DigestFacts
+pub mod HeadedFacts
+pub mod LawFacts

@@ -1,0 +1,3 @@
+pub mod MetadataFacts
+pub mod OptionFacts
+pub mod TallyFacts
