@@ -58,16 +58,38 @@ pub(crate) fn collected<D: Device>(alloc: Global, source: &mut D) -> Result<Spot
         (D.failed source.old) (D.failed source.new) }
     ensures cut { (tally : TheTally) → IfErr result (IsCutShort tally) }
 {
-    let mut spots = Spots {
+    let mut bytes = vec![in alloc; 0u8; PIECE]?;
+    let mut spots = no_spots();
+    add_pieces(alloc, source, &mut bytes, &mut spots)?;
+    Ok(spots)
+}
+
+fn no_spots() -> Spots {
+    Spots {
         keyslots: ArrayVec::new(),
         digests: ArrayVec::new(),
         segments: ArrayVec::new(),
-    };
-    let mut bytes = vec![in alloc; 0u8; PIECE]?;
-    for piece in 0..PIECES {
-        add_piece(alloc, source, piece, &mut bytes, &mut spots)?;
     }
-    Ok(spots)
+}
+
+/// Adds the fragments that begin in the pieces of the source, one after the other.
+fn add_pieces<D: Device>(
+    alloc: Global,
+    source: &mut D,
+    bytes: &mut [u8],
+    spots: &mut Spots,
+) -> Result<(), SearchFault>
+    requires long { length bytes.old ≡ 1048576 }
+    requires room { D.failed source.old + 1 < 2 ^ 64 }
+    ensures unchanged { IsUnchanged D.tells D.size D.bytes D.unsettled source.old source.new }
+    ensures count { CountsFailure is_search_failure result
+        (D.failed source.old) (D.failed source.new) }
+    ensures cut { (tally : TheTally) → IfErr result (IsCutShort tally) }
+{
+    for piece in 0..PIECES {
+        add_piece(alloc, source, piece, bytes, spots)?;
+    }
+    Ok(())
 }
 
 /// Adds the fragments that begin in this piece of the source.
