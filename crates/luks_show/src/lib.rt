@@ -14,8 +14,9 @@ mod objects;
 mod tokens;
 
 pub use as_json::{
-    Objects, Texts, digest_value, json_text, keyslot_value, put_encryption, put_extent, put_integrity, put_number,
-    put_objects, put_text, read_texts, sizes_value, token_value, unsteering,
+    Objects, Texts, digest_value, json_text, keyslot_value, put_encryption, put_extent,
+    put_integrity, put_number, put_objects, put_text, read_texts, sizes_value, token_value,
+    unsteering,
 };
 pub use copies::copies_name;
 pub use costs::{CostsLine, EncryptionLine, SaltLine};
