@@ -1,0 +1,5 @@
+mod Counting
+mod KeyslotFacts
+mod ReencryptFacts
+mod SegmentFacts
+mod ObjectFacts

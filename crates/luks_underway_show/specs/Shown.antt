@@ -58,7 +58,7 @@ digest_shown v = option_map_or decimal v (codes "-")
 -- ---- by number
 
 -- the least number below `n` of which the test holds
-abbrev pub least_below : (ℕ → Bool) → ℕ → Option ℕ
+unfoldable pub least_below : (ℕ → Bool) → ℕ → Option ℕ
 least_below test zero = None
 least_below test (suc n) = option_map_or (λ m. Some m) (least_below test n) (if test n then Some n else None)
 
@@ -67,7 +67,7 @@ abbrev pub keyslot_digest : Data → ℕ → Option ℕ
 keyslot_digest j n = least_below (is_named j (codes "keyslots") n) 32
 
 -- what is listed of the numbers below `n`, the lowest first
-abbrev pub listed_below : (ℕ → List ℕ) → ℕ → List ℕ
+unfoldable pub listed_below : (ℕ → List ℕ) → ℕ → List ℕ
 listed_below listed zero = []
 listed_below listed (suc n) = listed_below listed n ++ listed n
 
