@@ -1,0 +1,100 @@
+//! Trying the keyslots of a volume in whose metadata something is under way, in their order.
+ghost use Rattle.std.specs.Prelude.{◌≡◌, ◌+◌, ◌^◌, ◌<◌, length, IfOk, IfErr};
+ghost use Rattle.luks_area.specs.Device.{CountsFailure, IsUnchanged};
+ghost use Rattle.luks_reading.specs.Failures.{is_open_failure};
+ghost use Rattle.luks_wider.specs.Underways.{content};
+ghost use Rattle.luks_wide_reading.specs.Headers.{IsAcceptedUnderway};
+ghost use Rattle.luks_wide_reading.specs.Trying.{is_of_rank, rank_order, IsUnderwayTrial, IsUnderwayUnlocking};
+
+use crate::copy::UnderwayCopy;
+use crate::open_fault::WideOpenFault;
+use crate::opening::try_underway_slot;
+use luks_reading::{Allowed, Device, Key, Nearest, OpenFault};
+use luks_underway::WideKeyslot;
+use std::alloc::Global;
+
+/// When a keyslot is tried.
+#[derive(Clone, Copy)]
+pub(crate) enum Rank {
+    /// Of priority 2: before all others.
+    Preferred,
+    /// Of priority 1 or none: after those.
+    Normal,
+}
+
+/// Tries the keyslots of a volume with this copy in their order, but for those that hold no key: the first
+/// that opens by the passphrase, and its volume key, or None where none does.
+///
+/// A keyslot with a refusal of its own is passed over. `Device` comes exactly where a device call failed;
+/// memory is taken for Argon2 alone. How near the passphrase came is noted in `nearest`. No clause speaks of
+/// `nearest`.
+pub fn try_underway<D: Device>(
+    alloc: Global,
+    device: &mut D,
+    copy: &UnderwayCopy,
+    passphrase: &[u8],
+    allowed: Allowed,
+    nearest: &mut Option<Nearest>,
+) -> Result<Option<(u8, Key)>, OpenFault>
+    requires room { D.failed device.old + 1 < 2 ^ 64 }
+    requires accepted { IsAcceptedUnderway copy.now }
+    requires passphrase { 0 < allowed.memory → length passphrase.now < 2 ^ 32 }
+    ensures unchanged { IsUnchanged D.tells D.size D.bytes D.unsettled device.old device.new }
+    ensures count { CountsFailure is_open_failure result
+        (D.failed device.old) (D.failed device.new) }
+    ensures answers { IsUnderwayUnlocking D.tells (D.size device.old) (D.bytes device.old)
+        (content copy.now.meta) allowed passphrase.now result }
+{
+    match try_rank(
+        alloc,
+        device,
+        copy,
+        Rank::Preferred,
+        passphrase,
+        allowed,
+        nearest,
+    ) {
+        Ok(Some(found)) => Ok(Some(found)),
+        Ok(None) => try_rank(
+            alloc,
+            device,
+            copy,
+            Rank::Normal,
+            passphrase,
+            allowed,
+            nearest,
+        ),
+        Err(fault) => Err(fault),
+    }
+}
+
+/// Tries the keyslots of the rank by number.
+fn try_rank<D: Device>(
+    alloc: Global,
+    device: &mut D,
+    copy: &UnderwayCopy,
+    rank: Rank,
+    passphrase: &[u8],
+    allowed: Allowed,
+    nearest: &mut Option<Nearest>,
+) -> Result<Option<(u8, Key)>, OpenFault>
+    requires room { D.failed device.old + 1 < 2 ^ 64 }
+    requires accepted { IsAcceptedUnderway copy.now }
+    requires passphrase { 0 < allowed.memory → length passphrase.now < 2 ^ 32 }
+    ensures unchanged { IsUnchanged D.tells D.size D.bytes D.unsettled device.old device.new }
+    ensures count { CountsFailure is_open_failure result
+        (D.failed device.old) (D.failed device.new) }
+    ensures answers { IsUnderwayTrial D.tells (D.size device.old) (D.bytes device.old)
+        (content copy.now.meta) allowed passphrase.now (rank_order rank (content copy.now.meta)) result }
+{
+    for n in 0..32 {
+        if is_of_rank(copy, rank, n) {
+            match try_one(alloc, device, copy, n, passphrase, allowed, nearest) {
+                Ok(Some(key)) => return Ok(Some((n, key))),
+                Ok(None) => {}
+                Err(fault) => return Err(fault),
+            }
+        }
+    }
+    Ok(None)
+}
