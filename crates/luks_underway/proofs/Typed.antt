@@ -27,14 +27,14 @@ not_reencrypt d is read =
     unlisted (type_at d outer.Top) (codes "luks2" ∷ []) (rw kind refl, tt) (at_top keyslot_rows d name.Kind _ read refl refl refl)
 
 -- `dynamic` is no decimal text: its first byte is no digit
-no_decimal : (n : ℕ) → decimal_of (codes "dynamic") ≡ Some n → ⊥
+pub no_decimal : (n : ℕ) → decimal_of (codes "dynamic") ≡ Some n → ⊥
 no_decimal n e =
     let d : IsDecimal (codes "dynamic") n = decimal_says (codes "dynamic") n e in
     let numeral : IsNumeral 10 (codes "dynamic") = subst (IsNumeral 10) (sym d.digits) (decimal_is_IsNumeral n d.fits).0 in
     let range : IsInRange 48 57 100 = (tells_digits.parts 100 (codes "ynamic") numeral.1).0 in
     absurd (omega (arith, range.1))
 
-positive : (m : Option ℕ) (n : ℕ) → option_and_then (kept (λ k. nat_lt 0 k)) m ≡ Some n → m ≡ Some n
+pub positive : (m : Option ℕ) (n : ℕ) → option_and_then (kept (λ k. nat_lt 0 k)) m ≡ Some n → m ≡ Some n
 positive None n e = e
 positive (Some m) n e = elim (cases_Bool (nat_lt 0 m)) [
   | inl above ↦ rw above at e
@@ -42,7 +42,7 @@ positive (Some m) n e = elim (cases_Bool (nat_lt 0 m)) [
 ]
 
 -- the extent of a text that is a decimal one
-extent_text : (t : List ℕ) (n : ℕ) → decimal_of t ≡ Some n → extent_of t ≡ Some (whole n)
+pub extent_text : (t : List ℕ) (n : ℕ) → decimal_of t ≡ Some n → extent_of t ≡ Some (whole n)
 extent_text t n e = elim (cases_Bool (bytes_eq t (codes "dynamic"))) [
   | inl same ↦
       let is : t ≡ codes "dynamic" = (bytes_eq-Decides t (codes "dynamic")).0 same in

@@ -4,8 +4,6 @@ pub mod WideRowFaults
 pub mod WideAccepting
 pub mod WideRefusing
 pub mod WideAreaFaults
-pub mod UnderWayFacts
 pub mod WideListed
-pub mod Counted
 pub mod Finding
 pub mod WiderFacts

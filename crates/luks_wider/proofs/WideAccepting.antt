@@ -33,7 +33,7 @@ use Rattle.luks_underway.specs.Segments.{are_flags, flags_at, HasEncryption, Has
 use Rattle.luks_underway.specs.Slots.{IsWideKeyslot, plain as plain_slot, reencrypt}
 use Rattle.luks_underway.proofs.Typed.{not_reencrypt}
 use Rattle.luks_wider.specs.Accepted.{IsWideAccepted, IsWideRules, WideResolves}
-use Rattle.luks_wider.specs.Counts.{digests_of}
+use Rattle.luks_contradictions.specs.Counts.{digests_of}
 use Rattle.luks_wider.specs.Places.{wide_object_fault, wide_row_fault}
 use Rattle.luks_wider.specs.Rows.{area_type, area_types, are_requirements_of, breaks_new, checksum_types, has_area, has_judged_area, is_foreign, is_known_segment, is_none_of, is_of, opal_rows, reencrypt_rows, rows_for, segment_types, shift_types, with_flags}
 use Rattle.luks_wider.specs.WideFaults.{IsWideFaultless, IsWideHeld}

@@ -27,7 +27,7 @@ use Rattle.luks_underway.specs.Segments.{HasPlace, IsOpalKind, IsWideSegment, ha
 use Rattle.luks_underway.specs.Slots.{IsWideKeyslot, plain as plain_slot, reencrypt}
 use Rattle.luks_underway.proofs.Typed.{not_opal, not_reencrypt}
 use Rattle.luks_wider.specs.Accepted.{IsWideRules}
-use Rattle.luks_wider.specs.Counts.{digests_of}
+use Rattle.luks_contradictions.specs.Counts.{digests_of}
 use Rattle.luks_wider.specs.Places.{HasWidePlace, is_unassigned, wide_fault_at, wide_object_fault, wide_row_fault}
 use Rattle.luks_wider.specs.Rows.{area_type, breaks_new, checksum_types, has_area, is_foreign, is_known_segment, is_of, opal_rows, reencrypt_rows, rows_for, shift_types, with_flags}
 use Rattle.luks_wider.specs.WideFaults.{has_small_key_area, IsWideFaultless}

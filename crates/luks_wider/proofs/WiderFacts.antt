@@ -11,7 +11,7 @@ use Rattle.luks_rules.proofs.AreaFaults.{one_value}
 use Rattle.luks_underway.specs.Kinds.{IsUnderWay}
 use Rattle.luks_wider.specs.Wide.{HasUnderWay, IsWiderFault, under_way, narrow}
 use Rattle.luks_wider.specs.WideFaults.{IsWideMetaFault}
-use Rattle.luks_wider.proofs.UnderWayFacts.{not_under_way}
+use Rattle.luks_contradictions.proofs.UnderWayFacts.{not_under_way}
 
 -- nothing is under way in an area that is accepted
 pub none_of_accepted : (area : List ℕ) (j : Data) → IsMeta area j → HasUnderWay area → ⊥

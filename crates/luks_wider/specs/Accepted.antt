@@ -13,8 +13,8 @@ use Rattle.luks_rules.specs.MetaFault.{Json}
 use Rattle.luks_rules.specs.Reading.{number_in, decimal_in}
 use Rattle.luks_rules.specs.Sizes.{inside_at, json_size, keyslots_size, region_start}
 use Rattle.luks_rules.specs.Table.{config_rows, digest_rows, keyslot_rows, token_rows}
-use Rattle.luks_wider.specs.Consistent.{IsConsistent}
-use Rattle.luks_wider.specs.Counts.{digests_of}
+use Rattle.luks_contradictions.specs.Consistent.{IsConsistent}
+use Rattle.luks_contradictions.specs.Counts.{digests_of}
 use Rattle.luks_underway.specs.Kinds.{is_hot, is_reencrypt, IsUnderWay, needs_digest}
 use Rattle.luks_underway.specs.Requirements.{are_requirements}
 use Rattle.luks_underway.specs.Segments.{IsWideSegment}
@@ -65,10 +65,16 @@ pub record IsWideAccepted (j : Data) : Type 0 where
   pub len : ℕ
   pub rules : IsWideRules len j
 
--- something is under way in it, which doesn't contradict itself, and it meets the rules of that
+-- something is under way in it, it meets the rules of that, and what is under way doesn't contradict itself
 pub record IsWideContent (len : ℕ) (j : Data) : Type 0 where
   pub under_way : IsUnderWay j
   pub rules : IsWideRules len j
+  pub consistent : IsConsistent j
+
+-- the area holds a value that meets the rules of what is under way, and doesn't contradict itself
+pub record IsUnderWayArea (area : List ℕ) (j : Data) : Type 0 where
+  pub json : Json area j
+  pub rules : IsWideRules (length area) j
   pub consistent : IsConsistent j
 
 -- the metadata of the area is accepted by the wider reading, with the value

@@ -1,10 +1,8 @@
 pub mod Rows
-pub mod Counts
 pub mod Places
 pub mod WideWalk
 pub mod WideFaults
-pub mod Consistent
-pub mod Contradictions
 pub mod Accepted
 pub mod Underways
+pub mod Reencrypting
 pub mod Wide

@@ -11,7 +11,7 @@ use Rattle.luks_rules.specs.declared.table.Section.TheVariants.{Config, Digests,
 use Rattle.luks_rules.specs.Faults.{after_point, Among, is_numbered, object_at, row_fault, section_at, section_fault}
 use Rattle.luks_rules.specs.Table.{rows_of, section_name}
 use Rattle.luks_underway.specs.Kinds.{is_hot, is_reencrypt, needs_digest}
-use Rattle.luks_wider.specs.Counts.{digests_of}
+use Rattle.luks_contradictions.specs.Counts.{digests_of}
 use Rattle.luks_wider.specs.Rows.{breaks_new, is_foreign, rows_for, wide_path}
 use Rattle.luks_wider.specs.declared.place.WidePlace.{WidePlace}
 use Rattle.luks_wider.specs.declared.rows.WideRow.{WideRow}

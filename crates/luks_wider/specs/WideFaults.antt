@@ -12,6 +12,7 @@ use Rattle.luks_json.specs.AreaText.{IsBadJson, Json, JsonText}
 use Rattle.luks_rules.specs.MetaFault.{fault_text, meta_key}
 use Rattle.luks_rules.specs.Sizes.{has_other_size, has_slot_outside, has_small_area}
 use Rattle.luks_underway.specs.Kinds.{has_reencrypt}
+use Rattle.luks_contradictions.specs.Contradicted.{ContradictsAt}
 use Rattle.luks_wider.specs.Places.{has_wide_fault, HasWidePath, IsWidePlace}
 use Rattle.luks_wider.specs.declared.fault.WideFault.{WideFault}
 use Rattle.luks_wider.specs.declared.fault.WideFault.TheVariants.{Meta, UnderWay}
@@ -69,6 +70,21 @@ pub record IsWideFaultless (len : ℕ) (j : Data) : Type 0 where
 pub record IsWideHeld (len : ℕ) (j : Data) : Type 0 where
   pub nests : depth j ≤ max_depth
   pub faultless : IsWideFaultless len j
+
+-- what is under way in the value that the area holds contradicts itself at the path
+pub record HasContradiction (area path : List ℕ) : Type 0 where
+  pub value : Data
+  pub json : Json area value
+  pub at : ContradictsAt value path
+
+-- the faults of an area in which something is under way
+abbrev pub IsUnderWayFault : List ℕ → WideFault → Type 0
+IsUnderWayFault area (Meta f) = IsWideMetaFault area f
+IsUnderWayFault area (UnderWay path) = HasContradiction area path.bytes
+
+-- what is answered where memory was refused
+abbrev pub no_memory : WideFault
+no_memory = Meta fault.Memory
 
 -- the order of the faults: those of `MetaFault` by theirs, then what contradicts itself
 abbrev pub wide_key : WideFault → List ℕ

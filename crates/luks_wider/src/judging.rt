@@ -7,7 +7,6 @@ ghost use Rattle.luks_area.specs.First.{IsLeast, JudgesRow};
 ghost use Rattle.luks_rules.specs.declared.fault.MetaFault.{MetaFault};
 ghost use Rattle.luks_rules.specs.MetaFault.{fault_of, meta_key, meta_place, meta_row, test_row};
 ghost use Rattle.luks_rules.specs.Sizes.{has_other_size, has_slot_outside, IsFirst};
-ghost use Rattle.luks_underway.specs.Kinds.{has_reencrypt};
 ghost use Rattle.luks_wider.specs.declared.place.WidePlace.{WidePlace};
 ghost use Rattle.luks_wider.specs.Places.{has_wide_fault, IsWidePlace};
 ghost use Rattle.luks_wider.specs.WideFaults.{has_small_key_area, IsWideDataFault, IsWideFaultless};
@@ -16,11 +15,9 @@ use crate::place::wide_place_path;
 use crate::walk::first_wide_fault;
 use arrayvec::ArrayString;
 use luks_area::AreaName;
+use luks_contradictions::has_reencrypt;
 use luks_json::holds_float;
-use luks_rules::{
-    MetaFault, Outer, Section, Test, has_slot_outside, has_small_area, json_size, object_at,
-};
-use luks_underway::has_type;
+use luks_rules::{MetaFault, Test, has_slot_outside, has_small_area, json_size};
 use serde_json::Value;
 
 /// A value, and the length in bytes of the JSON area that it stands in.
@@ -128,17 +125,6 @@ fn has_small_key_area(value: &Value, number: u8) -> bool
     ensures { result ≡ has_small_key_area (view value.now) number }
 {
     has_small_area(value, number) && !has_reencrypt(value, number)
-}
-
-/// The keyslot with the number is of the type `reencrypt`.
-pub(crate) fn has_reencrypt(value: &Value, number: u8) -> bool
-    requires { number < 32 }
-    ensures { result ≡ has_reencrypt (view value.now) number }
-{
-    match object_at(value, Section::Keyslots, number) {
-        Some(object) => has_type(object, Outer::Top, "reencrypt"),
-        None => false,
-    }
 }
 
 fn judge_region(content: Content) -> Result<(), MetaFault>

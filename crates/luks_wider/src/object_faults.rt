@@ -2,7 +2,7 @@
 
 ghost use Rattle.std.specs.Prelude.{◌≡◌, ◌<◌, ◌&&◌, ◌==◌, codes, not};
 ghost use Rattle.serde_json.specs.View.{view};
-ghost use Rattle.luks_wider.specs.Counts.{digests_of};
+ghost use Rattle.luks_contradictions.specs.Counts.{digests_of};
 ghost use Rattle.luks_wider.specs.Places.{is_unassigned, wide_object_fault};
 ghost use Rattle.luks_underway.specs.Kinds.{is_hot, needs_digest};
 

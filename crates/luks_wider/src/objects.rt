@@ -14,7 +14,7 @@ use luks_rules::{Section, object_at, section_at};
 use luks_underway::{WideKeyslot, WideSegment, read_wide_keyslot, read_wide_segment};
 use serde_json::Value;
 
-fn numbered(value: &Value, section: Section, number: u8) -> Option<&Value>
+pub(crate) fn numbered(value: &Value, section: Section, number: u8) -> Option<&Value>
     ensures some { IfSome result (λ d. (number < 32) × (object_at (view value.now) section number ≡ Some (view d.now))) }
     ensures none { IsNone result → IsMissing (view value.now) section number }
 {

@@ -1,0 +1,4 @@
+pub mod Counted
+pub mod UnderWayFacts
+pub mod Ordered
+pub mod Consistency

@@ -1,0 +1,4 @@
+pub mod Counts
+pub mod Consistent
+pub mod Contradictions
+pub mod Contradicted

@@ -1,0 +1,36 @@
+//! The keyslot that says what is under way.
+
+ghost use Rattle.std.specs.Prelude.{◌≡◌, ◌<◌, ℕ, false, MatchOption};
+ghost use Rattle.serde_json.specs.View.{view};
+ghost use Rattle.luks_underway.specs.Kinds.{has_reencrypt};
+ghost use Rattle.luks_contradictions.specs.Contradicted.{contradicts};
+ghost use Rattle.luks_wider.specs.Accepted.{IsWideAccepted};
+ghost use Rattle.luks_wider.specs.Reencrypting.{IsReencryptSlot};
+
+use luks_contradictions::{Contradiction, first_reencryption};
+use luks_rules::{Section, object_at};
+use luks_underway::{Reencryption, read_reencryption};
+use serde_json::Value;
+
+/// The keyslot of the type `reencrypt`.
+#[derive(Clone, Copy)]
+pub struct ReencryptSlot<'a> {
+    /// Its number.
+    pub number: u8,
+    /// What its members say.
+    pub members: Reencryption<'a>,
+}
+
+/// The keyslot of the type `reencrypt`, if there is one.
+pub(crate) fn reencrypt_slot(value: &Value) -> Option<ReencryptSlot<'_>>
+    requires rules { IsWideAccepted (view value.now) }
+    requires consistent { (p : Contradiction) → contradicts (view value.now) p ≡ false }
+    ensures { MatchOption result
+        ((n : ℕ) → n < 32 → has_reencrypt (view value.now) n ≡ false)
+        (IsReencryptSlot (view value.now)) }
+{
+    let number = first_reencryption(value)?;
+    let object = object_at(value, Section::Keyslots, number).unwrap();
+    let members = read_reencryption(object).unwrap();
+    Some(ReencryptSlot { number, members })
+}
