@@ -7,10 +7,9 @@ use Rattle.luks2_header.specs.Header2.{IsUuidFault}
 use Rattle.luks_rules.specs.declared.fault.MetaFault.{MetaFault}
 use Rattle.luks_reading.specs.declared.read_fault.ReadFault.TheVariants as reading
 use Rattle.luks_wider.specs.Wide.{HasUnderWay}
-use Rattle.luks_wider.specs.WideFaults.{wide_key}
+use Rattle.luks_wider.specs.WideFaults.{wide_key, IsUnderWayFault}
 use Rattle.luks_wide_reading.specs.declared.read_fault.WideReadFault.{WideReadFault}
 use Rattle.luks_wide_reading.specs.declared.read_fault.WideReadFault.TheVariants.{Read, Underway}
-use Rattle.luks_wide_reading.specs.Headers.{IsUnderwayFault}
 
 -- its JSON area is refused, unless memory was: by that fault where nothing is under way
 abbrev pub AreaRefused : List ℕ → MetaFault → WideReadFault → Type 0
@@ -18,7 +17,7 @@ AreaRefused area known (Read (reading.Head f)) = ⊥
 AreaRefused area known (Read (reading.Meta f)) = (f ≡ known) × (HasUnderWay area → ⊥)
 AreaRefused area known (Read reading.Device) = ⊥
 AreaRefused area known (Read reading.Memory) = ⊤
-AreaRefused area known (Underway f) = HasUnderWay area × IsLeast wide_key (IsUnderwayFault area) f
+AreaRefused area known (Underway f) = HasUnderWay area × IsLeast wide_key (IsUnderWayFault area) f
 
 -- the copy is refused by its uuid or by its JSON area, unless the device failed or memory was refused
 abbrev pub CopyRefused : List ℕ → List ℕ → MetaFault → WideReadFault → Type 0

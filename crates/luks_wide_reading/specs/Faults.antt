@@ -1,11 +1,8 @@
 -- The faults of the wider reading: what they become, and how they are written.
 use Rattle.std.specs.Prelude.{ℕ, List, [], ◌∷◌, codes, Bool, false, true}
-use Rattle.luks_rules.specs.declared.fault.MetaFault.{MetaFault}
 use Rattle.luks_rules.specs.declared.fault.MetaFault.TheVariants as meta
-use Rattle.luks_reading.specs.declared.open_fault.OpenFault.{OpenFault}
 use Rattle.luks_reading.specs.declared.read_fault.ReadFault.TheVariants as reading
 use Rattle.luks_reading.specs.Answer.{open_key}
-use Rattle.luks_reading.specs.Conversions.{meta_unread}
 use Rattle.luks_reading.specs.Failures.{is_open_failure, is_own, is_read_failure}
 use Rattle.luks_reading.specs.FaultTexts.{open_fault_text, read_fault_text}
 use Rattle.luks_wider.specs.WideFaults.{wide_fault_text}
@@ -18,10 +15,7 @@ use Rattle.luks_wide_reading.specs.declared.read_fault.WideReadFault.TheVariants
 
 -- ---- reading
 
--- a fault of the narrow reading, and one of the wider: want of memory stands for itself
-abbrev pub meta_unread_widely : MetaFault → WideReadFault
-meta_unread_widely f = Read (meta_unread f)
-
+-- the fault of metadata in which something is under way: want of memory stands for itself
 abbrev pub underway_unread : WideFault → WideReadFault
 underway_unread (wide.Meta meta.Memory) = Read reading.Memory
 underway_unread f = Underway f

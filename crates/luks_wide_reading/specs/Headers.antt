@@ -13,12 +13,10 @@ use Rattle.luks_reading.specs.declared.header.Header.{Header}
 use Rattle.luks_reading.specs.declared.header.Header.TheVariants as header
 use Rattle.luks_reading.specs.declared.read_fault.ReadFault.TheVariants as reading
 use Rattle.luks_reading.specs.Header.{json_at, IsAcceptedHeader, IsHeader, IsUnread}
-use Rattle.luks_wider.specs.Accepted.{IsWideAccepted}
-use Rattle.luks_wider.specs.Underways.{area_len, content}
+use Rattle.luks_wider.specs.Underways.{area_len}
 use Rattle.luks_wider.specs.Wide.{HasUnderWay, IsWiderOf}
-use Rattle.luks_wider.specs.WideFaults.{wide_key, IsWideMetaFault}
+use Rattle.luks_wider.specs.WideFaults.{wide_key, IsUnderWayFault}
 use Rattle.luks_wider.specs.declared.fault.WideFault.{WideFault}
-use Rattle.luks_wider.specs.declared.fault.WideFault.TheVariants as wide
 use Rattle.luks_wider.specs.declared.wider.Wider.TheVariants as wider
 use Rattle.luks_wide_reading.specs.declared.copy.UnderwayCopy.{UnderwayCopy}
 use Rattle.luks_wide_reading.specs.declared.header.WideHeader.{WideHeader}
@@ -70,11 +68,6 @@ IsSameHeader (header.Luks2 copy) (Underway c) = ⊥
 
 -- ---- the faults
 
--- the faults of a JSON area in which something is under way
-abbrev pub IsUnderwayFault : List ℕ → WideFault → Type 0
-IsUnderwayFault area (wide.Meta f) = IsWideMetaFault area f
-IsUnderwayFault area (wide.UnderWay path) = ⊥
-
 -- something is under way in the copy that counts, whose first fault this is
 pub record IsUnderwayUnread (v : List ℕ) (f : WideFault) : Type 0 where
   pub place : ℕ
@@ -82,7 +75,7 @@ pub record IsUnderwayUnread (v : List ℕ) (f : WideFault) : Type 0 where
   pub chosen : Chosen v (luks2 place copies)
   pub uuid : (g : HeadFault) → IsUuidFault (uuid_field (header_at v place)) g → ⊥
   pub is : HasUnderWay (json_at v place)
-  pub least : IsLeast wide_key (IsUnderwayFault (json_at v place)) f
+  pub least : IsLeast wide_key (IsUnderWayFault (json_at v place)) f
 
 -- the header isn't read by its first fault, unless the device failed or memory was refused: a fault of the metadata is that of the
 -- narrow reading where nothing is under way, else that of the wider one
@@ -100,11 +93,7 @@ IsFromOutside (unread.Underway f) = ⊥
 
 -- ---- on any device
 
--- what was read of a LUKS2 copy is accepted by the rules of what is under way
-pub record IsAcceptedUnderway (c : UnderwayCopy) : Type 0 where
-  pub uuid : IsUuidField c.header.uuid
-  pub metadata : IsWideAccepted (content c.meta)
-
+-- what was read is accepted; metadata in which something is under way keeps that itself
 abbrev pub IsAcceptedWide : WideHeader → Type 0
 IsAcceptedWide (Narrow h) = IsAcceptedHeader h
-IsAcceptedWide (Underway c) = IsAcceptedUnderway c
+IsAcceptedWide (Underway c) = IsUuidField c.header.uuid

@@ -1,12 +1,15 @@
 -- What trying the keyslots in their order gives where something is under way in the metadata `j`.
-use Rattle.std.specs.Prelude.{◌≡◌, ◌≢◌, ℕ, List, length, filter, ◌&&◌, not, Bool, Option, Some, None, Result, IfOk, IfErr, IfSome}
+use Rattle.std.specs.Prelude.{◌≡◌, ◌≢◌, ℕ, List, length, ◌++◌, filter, ◌&&◌, not, Bool, Option, Some, None, Result, Ok, Err, IfOk, IfErr, IfSome}
 use Rattle.serde_json.specs.Data.{Data}
 use Rattle.luks_slot.specs.declared.allowed.Allowed.{Allowed}
 use Rattle.luks_reading.specs.declared.open_fault.OpenFault.{OpenFault}
-use Rattle.luks_reading.specs.declared.open_fault.OpenFault.TheVariants.{Memory}
+use Rattle.luks_reading.specs.declared.open_fault.OpenFault.TheVariants.{Device, Memory}
 use Rattle.luks_reading.specs.PlanAnswers.{IsOfDevice}
 use Rattle.luks_reading.specs.Plans.{HasLuks2KeyBytes}
-use Rattle.luks_reading.specs.Unlocking.{is_normal, is_preferred, luks2_order, numbers_below, priority_of, GivesFirst}
+use Rattle.luks_reading.specs.Unlocking.{is_normal, is_preferred, numbers_below, priority_of, GivesFirst}
+use Rattle.luks_underway.specs.Kinds.{has_reencrypt}
+use Rattle.luks_wide_reading.specs.declared.open_fault.WideOpenFault.{WideOpenFault}
+use Rattle.luks_wide_reading.specs.declared.open_fault.WideOpenFault.TheVariants.{Open}
 use Rattle.luks_wide_reading.specs.declared.trying.Rank.{Rank}
 use Rattle.luks_wide_reading.specs.declared.trying.Rank.TheVariants.{Preferred, Normal}
 use Rattle.luks_wide_reading.specs.Opening.{UnderwayOpens, UnderwayTakesMemory}
@@ -26,10 +29,25 @@ UnderwayTried allowed j v n p (Some k) = UnderwayOpens allowed j v n p (Some k)
 abbrev pub UnderwayTries : Allowed → Data → List ℕ → List ℕ → List ℕ → Option (ℕ × List ℕ) → Type 0
 UnderwayTries allowed j v p order found = GivesFirst (UnderwayStaysShut allowed j v p) (λ n k. UnderwayOpens allowed j v n p (Some k)) order found
 
--- the keyslot is tried in this rank
+-- what trying a keyslot that is refused gives: a fault of its own is passed over
+abbrev pub passed_over : WideOpenFault → Result (Option (List ℕ)) OpenFault
+passed_over (Open Device) = Err Device
+passed_over (Open Memory) = Err Memory
+passed_over f = Ok None
+
+-- the result of trying the keyslot `n`, of a device that has the bytes `v` where it `tells` them: a fault is the device's, or memory was
+-- refused that it takes
+pub record IsUnderwayTrialOfOne (tells : Type 0) (total : ℕ) (v : List ℕ) (j : Data) (allowed : Allowed) (n : ℕ) (p : List ℕ) (result : Result (Option (List ℕ)) OpenFault) : Type 0 where
+  pub tried : tells → IfOk result (UnderwayTried allowed j v n p)
+  pub key_bytes : IfOk result (λ found. IfSome found (λ key. HasLuks2KeyBytes j n (length key)))
+  pub kinds : IfErr result IsOfDevice
+  pub memory : IfErr result (λ f. f ≡ Memory → UnderwayTakesMemory allowed j total n)
+  pub no_memory : allowed.memory ≡ 0 → IfErr result (λ f. f ≢ Memory)
+
+-- the keyslot holds a key, and is tried in this rank
 abbrev pub is_of_rank : Rank → Data → ℕ → Bool
-is_of_rank Preferred j n = is_preferred (priority_of j n)
-is_of_rank Normal j n = is_normal (priority_of j n)
+is_of_rank Preferred j n = not (has_reencrypt j n) && is_preferred (priority_of j n)
+is_of_rank Normal j n = not (has_reencrypt j n) && is_normal (priority_of j n)
 
 -- the keyslots of a rank, by number
 abbrev pub rank_order : Rank → Data → List ℕ
@@ -44,6 +62,9 @@ pub record IsUnderwayTrial (tells : Type 0) (total : ℕ) (v : List ℕ) (j : Da
   pub memory : IfErr result (λ f. f ≡ Memory → (n : ℕ) × UnderwayTakesMemory allowed j total n)
   pub no_memory : allowed.memory ≡ 0 → IfErr result (λ f. f ≢ Memory)
 
--- those of priority 2 by number, then those of priority 1 or none by number
+-- the keyslots that hold a key: those of priority 2 by number, then those of priority 1 or none by number
+abbrev pub underway_order : Data → List ℕ
+underway_order j = rank_order Preferred j ++ rank_order Normal j
+
 abbrev pub IsUnderwayUnlocking : Type 0 → ℕ → List ℕ → Data → Allowed → List ℕ → Result (Option (ℕ × List ℕ)) OpenFault → Type 0
-IsUnderwayUnlocking tells total v j allowed p result = IsUnderwayTrial tells total v j allowed p (luks2_order j) result
+IsUnderwayUnlocking tells total v j allowed p result = IsUnderwayTrial tells total v j allowed p (underway_order j) result

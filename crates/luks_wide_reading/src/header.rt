@@ -7,8 +7,7 @@ ghost use Rattle.luks_reading.specs.declared.read_fault.ReadFault.TheVariants.{M
 ghost use Rattle.luks_reading.specs.ChosenCopies.{json_of};
 ghost use Rattle.luks_reading.specs.Header.{IsHeader, IsUnread, TakesNoMemory};
 ghost use Rattle.luks_wider.specs.declared.wider.Wider.TheVariants.{Underway as OfUnderway};
-ghost use Rattle.luks_wider.specs.Accepted.{IsWideAccepted};
-ghost use Rattle.luks_wider.specs.Underways.{area_len, content};
+ghost use Rattle.luks_wider.specs.Underways.{area_len};
 ghost use Rattle.luks_wider.specs.Wide.{IsWiderOf};
 ghost use Rattle.luks_wide_reading.specs.Beside.{AreaRefused, CopyRefused};
 ghost use Rattle.luks_wide_reading.specs.Faults.{is_wide_read_failure};
@@ -17,7 +16,7 @@ ghost use Rattle.luks_wide_reading.specs.Headers.{IsAcceptedWide, IsFromOutside,
 use crate::copy::UnderwayCopy;
 use crate::read_fault::WideReadFault;
 use luks_reading::{Bin2, Device, Header, MetaFault, ReadFault, Selected, read_header};
-use luks_wider::{Underway, WideFault, has_under_way};
+use luks_wider::{Underway, has_under_way};
 use luks2_header::{KEPT_JSON, select_with_json};
 use std::alloc::Global;
 
@@ -112,7 +111,6 @@ fn read_metadata<D: Device>(
     ensures count { CountsFailure is_wide_read_failure result
         (D.failed device.old) (D.failed device.new) }
     ensures uuid { IfOk result (λ _. IsUuidField header.now.uuid) }
-    ensures accepted { IfOk result (λ m. IsWideAccepted (content m)) }
     ensures read { D.tells → IfOk result (λ m.
         IsWiderOf (json_of (D.bytes device.old) header.now) (OfUnderway m)) }
     ensures length { D.tells → IfOk result (λ m.
@@ -130,7 +128,6 @@ fn read_metadata<D: Device>(
 
 /// The metadata of a JSON area that the narrow reading refuses by this fault.
 fn read_area(alloc: Global, area: &[u8], fault: MetaFault) -> Result<Underway, WideReadFault>
-    ensures accepted { IfOk result (λ m. IsWideAccepted (content m)) }
     ensures read { IfOk result (λ m. IsWiderOf area.now (OfUnderway m)) }
     ensures length { IfOk result (λ m. area_len m ≡ length area.now) }
     ensures refused { IfErr result (AreaRefused area.now fault) }
@@ -139,10 +136,7 @@ fn read_area(alloc: Global, area: &[u8], fault: MetaFault) -> Result<Underway, W
     if !has_under_way(alloc, area)? {
         return Err(WideReadFault::Read(ReadFault::Meta(fault)));
     }
-    match Underway::read(alloc, area) {
-        Ok(meta) => Ok(meta),
-        Err(fault) => Err(WideReadFault::from(WideFault::Meta(fault))),
-    }
+    Ok(Underway::read(alloc, area)?)
 }
 
 /// The JSON area of the copy with this binary header.

@@ -6,10 +6,8 @@ ghost use Rattle.luks_meta.specs.Objects.{IsObject};
 ghost use Rattle.luks_meta.specs.Says.{TellsKeyslot};
 ghost use Rattle.luks_reading.specs.Failures.{is_open_failure};
 ghost use Rattle.luks_reading.specs.PlanAnswers.{IsOpenable, PlanOpens, PlanRefused};
-ghost use Rattle.luks_wider.specs.Accepted.{IsWideAccepted};
 ghost use Rattle.luks_wider.specs.Underways.{content};
 ghost use Rattle.luks_wide_reading.specs.Faults.{is_wide_open_failure};
-ghost use Rattle.luks_wide_reading.specs.Headers.{IsAcceptedUnderway};
 ghost use Rattle.luks_wide_reading.specs.Opening.{IsUnderwayOpening};
 
 use crate::copy::UnderwayCopy;
@@ -39,7 +37,6 @@ pub fn try_underway_slot<D: Device>(
     nearest: &mut Option<Nearest>,
 ) -> Result<Option<Key>, WideOpenFault>
     requires room { D.failed device.old + 1 < 2 ^ 64 }
-    requires accepted { IsAcceptedUnderway copy.now }
     requires passphrase { 0 < allowed.memory → length passphrase.now < 2 ^ 32 }
     ensures unchanged { IsUnchanged D.tells D.size D.bytes D.unsettled device.old device.new }
     ensures count { CountsFailure is_wide_open_failure result
@@ -68,7 +65,6 @@ pub(crate) fn open_keyslot<D: Device>(
     nearest: &mut Option<Nearest>,
 ) -> Result<Option<Key>, WideOpenFault>
     requires room { D.failed device.old + 1 < 2 ^ 64 }
-    requires accepted { IsWideAccepted (content meta.now) }
     requires keyslot { IsObject TellsKeyslot (content meta.now) Keyslots n keyslot.now }
     requires numbered { n < 32 }
     requires passphrase { 0 < allowed.memory → length passphrase.now < 2 ^ 32 }
@@ -78,6 +74,7 @@ pub(crate) fn open_keyslot<D: Device>(
     ensures answers { IsUnderwayOpening D.tells (D.size device.old) (D.bytes device.old)
         (content meta.now) allowed n passphrase.now result }
 {
+    meta.meets_the_rules();
     let number = meta.digest_of_keyslot(n).unwrap();
     let digest = meta.digest(number).unwrap();
     let plan = luks2_plan(keyslot, &digest);

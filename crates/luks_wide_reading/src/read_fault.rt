@@ -3,7 +3,7 @@
 ghost use Rattle.std.specs.Prelude.{◌≡◌, Some};
 ghost use Rattle.luks_reading.specs.Conversions.{head_unread};
 ghost use Rattle.luks_wide_reading.specs.declared.read_fault.WideReadFault.{WideReadFault};
-ghost use Rattle.luks_wide_reading.specs.Faults.{meta_unread_widely, underway_unread, wide_read_text};
+ghost use Rattle.luks_wide_reading.specs.Faults.{underway_unread, wide_read_text};
 
 use luks_reading::{DeviceFault, HeadFault, MetaFault, ReadFault};
 use luks_wider::WideFault;
@@ -46,14 +46,6 @@ impl From<HeadFault> for WideReadFault {
     ghost from_gives = { λ fault outer. outer ≡ WideReadFault.Read (head_unread fault) };
 
     fn from(fault: HeadFault) -> WideReadFault {
-        WideReadFault::Read(ReadFault::from(fault))
-    }
-}
-
-impl From<MetaFault> for WideReadFault {
-    ghost from_gives = { λ fault outer. outer ≡ meta_unread_widely fault };
-
-    fn from(fault: MetaFault) -> WideReadFault {
         WideReadFault::Read(ReadFault::from(fault))
     }
 }

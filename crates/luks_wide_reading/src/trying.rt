@@ -3,8 +3,7 @@ ghost use Rattle.std.specs.Prelude.{◌≡◌, ◌+◌, ◌^◌, ◌<◌, length
 ghost use Rattle.luks_area.specs.Device.{CountsFailure, IsUnchanged};
 ghost use Rattle.luks_reading.specs.Failures.{is_open_failure};
 ghost use Rattle.luks_wider.specs.Underways.{content};
-ghost use Rattle.luks_wide_reading.specs.Headers.{IsAcceptedUnderway};
-ghost use Rattle.luks_wide_reading.specs.Trying.{is_of_rank, rank_order, IsUnderwayTrial, IsUnderwayUnlocking};
+ghost use Rattle.luks_wide_reading.specs.Trying.{is_of_rank, passed_over, rank_order, IsUnderwayTrial, IsUnderwayTrialOfOne, IsUnderwayUnlocking};
 
 use crate::copy::UnderwayCopy;
 use crate::open_fault::WideOpenFault;
@@ -37,7 +36,6 @@ pub fn try_underway<D: Device>(
     nearest: &mut Option<Nearest>,
 ) -> Result<Option<(u8, Key)>, OpenFault>
     requires room { D.failed device.old + 1 < 2 ^ 64 }
-    requires accepted { IsAcceptedUnderway copy.now }
     requires passphrase { 0 < allowed.memory → length passphrase.now < 2 ^ 32 }
     ensures unchanged { IsUnchanged D.tells D.size D.bytes D.unsettled device.old device.new }
     ensures count { CountsFailure is_open_failure result
@@ -79,7 +77,6 @@ fn try_rank<D: Device>(
     nearest: &mut Option<Nearest>,
 ) -> Result<Option<(u8, Key)>, OpenFault>
     requires room { D.failed device.old + 1 < 2 ^ 64 }
-    requires accepted { IsAcceptedUnderway copy.now }
     requires passphrase { 0 < allowed.memory → length passphrase.now < 2 ^ 32 }
     ensures unchanged { IsUnchanged D.tells D.size D.bytes D.unsettled device.old device.new }
     ensures count { CountsFailure is_open_failure result
@@ -97,4 +94,55 @@ fn try_rank<D: Device>(
         }
     }
     Ok(None)
+}
+
+/// Whether the keyslot holds a key, and is tried in the rank.
+fn is_of_rank(copy: &UnderwayCopy, rank: Rank, n: u8) -> bool
+    requires { n < 32 }
+    ensures { result ≡ is_of_rank rank (content copy.now.meta) n }
+{
+    match copy.meta.keyslot(n) {
+        Some(WideKeyslot::Luks2(keyslot)) => match (rank, keyslot.priority) {
+            (Rank::Preferred, Some(2)) => true,
+            (Rank::Normal, None | Some(1)) => true,
+            _ => false,
+        },
+        Some(WideKeyslot::Reencrypt(_)) => false,
+        None => false,
+    }
+}
+
+/// Tries the keyslot: a refusal of its own is passed over.
+fn try_one<D: Device>(
+    alloc: Global,
+    device: &mut D,
+    copy: &UnderwayCopy,
+    n: u8,
+    passphrase: &[u8],
+    allowed: Allowed,
+    nearest: &mut Option<Nearest>,
+) -> Result<Option<Key>, OpenFault>
+    requires room { D.failed device.old + 1 < 2 ^ 64 }
+    requires passphrase { 0 < allowed.memory → length passphrase.now < 2 ^ 32 }
+    ensures unchanged { IsUnchanged D.tells D.size D.bytes D.unsettled device.old device.new }
+    ensures count { CountsFailure is_open_failure result
+        (D.failed device.old) (D.failed device.new) }
+    ensures answers { IsUnderwayTrialOfOne D.tells (D.size device.old) (D.bytes device.old)
+        (content copy.now.meta) allowed n passphrase.now result }
+{
+    match try_underway_slot(alloc, device, copy, n, passphrase, allowed, nearest) {
+        Ok(found) => Ok(found),
+        Err(fault) => passed_over(fault),
+    }
+}
+
+/// What trying a keyslot that is refused gives: a fault of its own is passed over.
+fn passed_over(fault: WideOpenFault) -> Result<Option<Key>, OpenFault>
+    ensures { result ≡ passed_over fault }
+{
+    match fault {
+        WideOpenFault::Open(OpenFault::Device) => Err(OpenFault::Device),
+        WideOpenFault::Open(OpenFault::Memory) => Err(OpenFault::Memory),
+        _ => Ok(None),
+    }
 }
