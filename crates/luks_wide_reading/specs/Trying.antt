@@ -1,11 +1,9 @@
--- What trying the keyslots in their order gives where something is under way in the metadata `j`.
-use Rattle.std.specs.Prelude.{◌≡◌, ◌≢◌, ℕ, List, length, ◌++◌, filter, ◌&&◌, not, Bool, Option, Some, None, Result, Ok, Err, IfOk, IfErr, IfSome}
+-- What trying the keyslots in their order gives where something is under way in the metadata of the JSON area `json`.
+use Rattle.std.specs.Prelude.{◌≡◌, ℕ, List, ◌++◌, filter, ◌&&◌, not, Bool, Option, Some, None, Result, Ok, Err, IfOk, IfErr}
 use Rattle.serde_json.specs.Data.{Data}
 use Rattle.luks_slot.specs.declared.allowed.Allowed.{Allowed}
 use Rattle.luks_reading.specs.declared.open_fault.OpenFault.{OpenFault}
 use Rattle.luks_reading.specs.declared.open_fault.OpenFault.TheVariants.{Device, Memory}
-use Rattle.luks_reading.specs.PlanAnswers.{IsOfDevice}
-use Rattle.luks_reading.specs.Plans.{HasLuks2KeyBytes}
 use Rattle.luks_reading.specs.Unlocking.{is_normal, is_preferred, numbers_below, priority_of, GivesFirst}
 use Rattle.luks_underway.specs.Kinds.{has_reencrypt}
 use Rattle.luks_wide_reading.specs.declared.open_fault.WideOpenFault.{WideOpenFault}
@@ -14,20 +12,7 @@ use Rattle.luks_wide_reading.specs.declared.trying.Rank.{Rank}
 use Rattle.luks_wide_reading.specs.declared.trying.Rank.TheVariants.{Preferred, Normal}
 use Rattle.luks_wide_reading.specs.Opening.{UnderwayOpens, UnderwayTakesMemory}
 
--- In these, so much is `allowed`, and the volume has the bytes `v`:
-
--- the keyslot `n` doesn't open by the passphrase `p`, refused or not
-abbrev pub UnderwayStaysShut : Allowed → Data → List ℕ → List ℕ → ℕ → Type 0
-UnderwayStaysShut allowed j v p n = (k : List ℕ) → UnderwayOpens allowed j v n p (Some k) → ⊥
-
--- it has been tried
-abbrev pub UnderwayTried : Allowed → Data → List ℕ → ℕ → List ℕ → Option (List ℕ) → Type 0
-UnderwayTried allowed j v n p None = UnderwayStaysShut allowed j v p n
-UnderwayTried allowed j v n p (Some k) = UnderwayOpens allowed j v n p (Some k)
-
--- the keyslots of the list have been tried in its order: the first that opens, with its key, or none
-abbrev pub UnderwayTries : Allowed → Data → List ℕ → List ℕ → List ℕ → Option (ℕ × List ℕ) → Type 0
-UnderwayTries allowed j v p order found = GivesFirst (UnderwayStaysShut allowed j v p) (λ n k. UnderwayOpens allowed j v n p (Some k)) order found
+-- ---- one keyslot, where so much is allowed and the volume has the bytes `v`
 
 -- what trying a keyslot that is refused gives: a fault of its own is passed over
 abbrev pub passed_over : WideOpenFault → Result (Option (List ℕ)) OpenFault
@@ -35,16 +20,27 @@ passed_over (Open Device) = Err Device
 passed_over (Open Memory) = Err Memory
 passed_over f = Ok None
 
--- the result of trying the keyslot `n`, of a device that has the bytes `v` where it `tells` them: a fault is the device's, or memory was
--- refused that it takes
-pub record IsUnderwayTrialOfOne (tells : Type 0) (total : ℕ) (v : List ℕ) (j : Data) (allowed : Allowed) (n : ℕ) (p : List ℕ) (result : Result (Option (List ℕ)) OpenFault) : Type 0 where
-  pub tried : tells → IfOk result (UnderwayTried allowed j v n p)
-  pub key_bytes : IfOk result (λ found. IfSome found (λ key. HasLuks2KeyBytes j n (length key)))
-  pub kinds : IfErr result IsOfDevice
-  pub memory : IfErr result (λ f. f ≡ Memory → UnderwayTakesMemory allowed j total n)
-  pub no_memory : allowed.memory ≡ 0 → IfErr result (λ f. f ≢ Memory)
+-- the keyslot `n` doesn't open by the passphrase `p`, refused or not
+abbrev pub UnderwayStaysShut : Allowed → List ℕ → List ℕ → List ℕ → ℕ → Type 0
+UnderwayStaysShut allowed json v p n = (k : List ℕ) → UnderwayOpens allowed json v n p (Some k) → ⊥
 
--- the keyslot holds a key, and is tried in this rank
+-- it has been tried
+abbrev pub UnderwayTried : Allowed → List ℕ → List ℕ → ℕ → List ℕ → Option (List ℕ) → Type 0
+UnderwayTried allowed json v n p None = UnderwayStaysShut allowed json v p n
+UnderwayTried allowed json v n p (Some k) = UnderwayOpens allowed json v n p (Some k)
+
+-- the result of that, of a device that has the bytes `v` where it `tells` them
+pub record IsUnderwayTrial (tells : Type 0) (total : ℕ) (v json : List ℕ) (allowed : Allowed) (n : ℕ) (p : List ℕ) (result : Result (Option (List ℕ)) OpenFault) : Type 0 where
+  pub tried : tells → IfOk result (UnderwayTried allowed json v n p)
+  pub memory : IfErr result (λ f. f ≡ Memory → UnderwayTakesMemory allowed json total n)
+
+-- ---- the keyslots in their order
+
+-- the keyslots of the list have been tried in its order: the first that opens, with its key, or none
+abbrev pub UnderwayTries : Allowed → List ℕ → List ℕ → List ℕ → List ℕ → Option (ℕ × List ℕ) → Type 0
+UnderwayTries allowed json v p order found = GivesFirst (UnderwayStaysShut allowed json v p) (λ n k. UnderwayOpens allowed json v n p (Some k)) order found
+
+-- the keyslot of the value `j` holds a key, and is tried in this rank
 abbrev pub is_of_rank : Rank → Data → ℕ → Bool
 is_of_rank Preferred j n = not (has_reencrypt j n) && is_preferred (priority_of j n)
 is_of_rank Normal j n = not (has_reencrypt j n) && is_normal (priority_of j n)
@@ -53,18 +49,12 @@ is_of_rank Normal j n = not (has_reencrypt j n) && is_normal (priority_of j n)
 abbrev pub rank_order : Rank → Data → List ℕ
 rank_order rank j = filter (λ n. is_of_rank rank j n) (numbers_below 32)
 
--- the result of trying the keyslots of the list in its order, of a device that has the bytes `v` where it `tells` them: a fault is the
--- device's, or memory was refused to a keyslot that takes it
-pub record IsUnderwayTrial (tells : Type 0) (total : ℕ) (v : List ℕ) (j : Data) (allowed : Allowed) (p order : List ℕ) (result : Result (Option (ℕ × List ℕ)) OpenFault) : Type 0 where
-  pub tries : tells → IfOk result (UnderwayTries allowed j v p order)
-  pub key_bytes : IfOk result (λ found. IfSome found (λ opened. HasLuks2KeyBytes j opened.0 (length opened.1)))
-  pub kinds : IfErr result IsOfDevice
-  pub memory : IfErr result (λ f. f ≡ Memory → (n : ℕ) × UnderwayTakesMemory allowed j total n)
-  pub no_memory : allowed.memory ≡ 0 → IfErr result (λ f. f ≢ Memory)
-
 -- the keyslots that hold a key: those of priority 2 by number, then those of priority 1 or none by number
 abbrev pub underway_order : Data → List ℕ
 underway_order j = rank_order Preferred j ++ rank_order Normal j
 
-abbrev pub IsUnderwayUnlocking : Type 0 → ℕ → List ℕ → Data → Allowed → List ℕ → Result (Option (ℕ × List ℕ)) OpenFault → Type 0
-IsUnderwayUnlocking tells total v j allowed p result = IsUnderwayTrial tells total v j allowed p (underway_order j) result
+-- the result of trying the keyslots of the list in its order, of a device that has the bytes `v` where it `tells` them: memory is refused to
+-- a keyslot that takes it
+pub record IsUnderwayUnlocking (tells : Type 0) (total : ℕ) (v json : List ℕ) (allowed : Allowed) (p order : List ℕ) (result : Result (Option (ℕ × List ℕ)) OpenFault) : Type 0 where
+  pub tries : tells → IfOk result (UnderwayTries allowed json v p order)
+  pub memory : IfErr result (λ f. f ≡ Memory → (n : ℕ) × UnderwayTakesMemory allowed json total n)

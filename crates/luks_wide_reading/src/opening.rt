@@ -1,10 +1,13 @@
 //! Opening one keyslot of a volume in whose metadata something is under way.
-ghost use Rattle.std.specs.Prelude.{◌≡◌, ◌≢◌, ◌+◌, ◌^◌, ◌<◌, length, IfOk, IfErr, IfSome};
+ghost use Rattle.std.specs.Prelude.{◌≡◌, ◌≢◌, ◌+◌, ◌^◌, ◌<◌, ℕ, List, length, IfOk, IfErr, IfSome};
 ghost use Rattle.luks_area.specs.Device.{CountsFailure, IsUnchanged};
+ghost use Rattle.luks_json.specs.AreaText.{Json};
 ghost use Rattle.luks_rules.specs.declared.table.Section.TheVariants.{Keyslots};
 ghost use Rattle.luks_meta.specs.Objects.{IsObject};
 ghost use Rattle.luks_meta.specs.Says.{TellsKeyslot};
 ghost use Rattle.luks_reading.specs.Failures.{is_open_failure};
+ghost use Rattle.luks_reading.specs.declared.open_fault.OpenFault.TheVariants.{Memory as NoMemory};
+ghost use Rattle.luks_reading.specs.Plans.{HasLuks2KeyBytes};
 ghost use Rattle.luks_reading.specs.PlanAnswers.{IsOpenable, PlanOpens, PlanRefused};
 ghost use Rattle.luks_wider.specs.Underways.{content};
 ghost use Rattle.luks_wide_reading.specs.Faults.{is_wide_open_failure};
@@ -41,8 +44,12 @@ pub fn try_underway_slot<D: Device>(
     ensures unchanged { IsUnchanged D.tells D.size D.bytes D.unsettled device.old device.new }
     ensures count { CountsFailure is_wide_open_failure result
         (D.failed device.old) (D.failed device.new) }
-    ensures answers { IsUnderwayOpening D.tells (D.size device.old) (D.bytes device.old)
-        (content copy.now.meta) allowed n passphrase.now result }
+    ensures answers { (json : List ℕ) → Json json (content copy.now.meta)
+        → IsUnderwayOpening D.tells (D.size device.old) (D.bytes device.old) json
+        allowed n passphrase.now result }
+    ensures key_bytes { IfOk result
+        (λ found. IfSome found (λ key. HasLuks2KeyBytes (content copy.now.meta) n (length key))) }
+    ensures no_memory { allowed.memory ≡ 0 → IfErr result (λ f. f ≢ WideOpenFault.Open NoMemory) }
 {
     match copy.meta.keyslot(n) {
         None => Err(WideOpenFault::Open(OpenFault::NoSuchSlot)),
@@ -71,8 +78,12 @@ pub(crate) fn open_keyslot<D: Device>(
     ensures unchanged { IsUnchanged D.tells D.size D.bytes D.unsettled device.old device.new }
     ensures count { CountsFailure is_wide_open_failure result
         (D.failed device.old) (D.failed device.new) }
-    ensures answers { IsUnderwayOpening D.tells (D.size device.old) (D.bytes device.old)
-        (content meta.now) allowed n passphrase.now result }
+    ensures answers { (json : List ℕ) → Json json (content meta.now)
+        → IsUnderwayOpening D.tells (D.size device.old) (D.bytes device.old) json
+        allowed n passphrase.now result }
+    ensures key_bytes { IfOk result
+        (λ found. IfSome found (λ key. HasLuks2KeyBytes (content meta.now) n (length key))) }
+    ensures no_memory { allowed.memory ≡ 0 → IfErr result (λ f. f ≢ WideOpenFault.Open NoMemory) }
 {
     meta.meets_the_rules();
     let number = meta.digest_of_keyslot(n).unwrap();

@@ -1,9 +1,12 @@
 //! Trying the keyslots of a volume in whose metadata something is under way, in their order.
-ghost use Rattle.std.specs.Prelude.{◌≡◌, ◌+◌, ◌^◌, ◌<◌, length, IfOk, IfErr};
+ghost use Rattle.std.specs.Prelude.{◌≡◌, ◌≢◌, ◌+◌, ◌^◌, ◌<◌, ℕ, List, length, IfOk, IfErr, IfSome};
 ghost use Rattle.luks_area.specs.Device.{CountsFailure, IsUnchanged};
+ghost use Rattle.luks_json.specs.AreaText.{Json};
 ghost use Rattle.luks_reading.specs.Failures.{is_open_failure};
+ghost use Rattle.luks_reading.specs.PlanAnswers.{IsOfDevice};
+ghost use Rattle.luks_reading.specs.Plans.{HasLuks2KeyBytes};
 ghost use Rattle.luks_wider.specs.Underways.{content};
-ghost use Rattle.luks_wide_reading.specs.Trying.{is_of_rank, passed_over, rank_order, IsUnderwayTrial, IsUnderwayTrialOfOne, IsUnderwayUnlocking};
+ghost use Rattle.luks_wide_reading.specs.Trying.{is_of_rank, passed_over, rank_order, underway_order, IsUnderwayTrial, IsUnderwayUnlocking};
 
 use crate::copy::UnderwayCopy;
 use crate::open_fault::WideOpenFault;
@@ -40,8 +43,13 @@ pub fn try_underway<D: Device>(
     ensures unchanged { IsUnchanged D.tells D.size D.bytes D.unsettled device.old device.new }
     ensures count { CountsFailure is_open_failure result
         (D.failed device.old) (D.failed device.new) }
-    ensures answers { IsUnderwayUnlocking D.tells (D.size device.old) (D.bytes device.old)
-        (content copy.now.meta) allowed passphrase.now result }
+    ensures answers { (json : List ℕ) → Json json (content copy.now.meta)
+        → IsUnderwayUnlocking D.tells (D.size device.old) (D.bytes device.old) json
+        allowed passphrase.now (underway_order (content copy.now.meta)) result }
+    ensures key_bytes { IfOk result (λ found.
+        IfSome found (λ opened. HasLuks2KeyBytes (content copy.now.meta) opened.0 (length opened.1))) }
+    ensures kinds { IfErr result IsOfDevice }
+    ensures no_memory { allowed.memory ≡ 0 → IfErr result (λ f. f ≢ OpenFault.Memory) }
 {
     match try_rank(
         alloc,
@@ -81,8 +89,13 @@ fn try_rank<D: Device>(
     ensures unchanged { IsUnchanged D.tells D.size D.bytes D.unsettled device.old device.new }
     ensures count { CountsFailure is_open_failure result
         (D.failed device.old) (D.failed device.new) }
-    ensures answers { IsUnderwayTrial D.tells (D.size device.old) (D.bytes device.old)
-        (content copy.now.meta) allowed passphrase.now (rank_order rank (content copy.now.meta)) result }
+    ensures answers { (json : List ℕ) → Json json (content copy.now.meta)
+        → IsUnderwayUnlocking D.tells (D.size device.old) (D.bytes device.old) json
+        allowed passphrase.now (rank_order rank (content copy.now.meta)) result }
+    ensures key_bytes { IfOk result (λ found.
+        IfSome found (λ opened. HasLuks2KeyBytes (content copy.now.meta) opened.0 (length opened.1))) }
+    ensures kinds { IfErr result IsOfDevice }
+    ensures no_memory { allowed.memory ≡ 0 → IfErr result (λ f. f ≢ OpenFault.Memory) }
 {
     for n in 0..32 {
         if is_of_rank(copy, rank, n) {
@@ -127,8 +140,13 @@ fn try_one<D: Device>(
     ensures unchanged { IsUnchanged D.tells D.size D.bytes D.unsettled device.old device.new }
     ensures count { CountsFailure is_open_failure result
         (D.failed device.old) (D.failed device.new) }
-    ensures answers { IsUnderwayTrialOfOne D.tells (D.size device.old) (D.bytes device.old)
-        (content copy.now.meta) allowed n passphrase.now result }
+    ensures answers { (json : List ℕ) → Json json (content copy.now.meta)
+        → IsUnderwayTrial D.tells (D.size device.old) (D.bytes device.old) json
+        allowed n passphrase.now result }
+    ensures key_bytes { IfOk result
+        (λ found. IfSome found (λ key. HasLuks2KeyBytes (content copy.now.meta) n (length key))) }
+    ensures kinds { IfErr result IsOfDevice }
+    ensures no_memory { allowed.memory ≡ 0 → IfErr result (λ f. f ≢ OpenFault.Memory) }
 {
     match try_underway_slot(alloc, device, copy, n, passphrase, allowed, nearest) {
         Ok(found) => Ok(found),
