@@ -1,0 +1,2 @@
+pub mod WideUnread
+pub mod UnderwayPlans

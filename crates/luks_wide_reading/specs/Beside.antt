@@ -17,7 +17,7 @@ AreaRefused area known (Read (reading.Head f)) = ⊥
 AreaRefused area known (Read (reading.Meta f)) = (f ≡ known) × (HasUnderWay area → ⊥)
 AreaRefused area known (Read reading.Device) = ⊥
 AreaRefused area known (Read reading.Memory) = ⊤
-AreaRefused area known (Underway f) = HasUnderWay area × IsLeast wide_key (IsUnderWayFault area) f
+AreaRefused area known (Underway f narrow) = (narrow ≡ known) × HasUnderWay area × IsLeast wide_key (IsUnderWayFault area) f
 
 -- the copy is refused by its uuid or by its JSON area, unless the device failed or memory was refused
 abbrev pub CopyRefused : List ℕ → List ℕ → MetaFault → WideReadFault → Type 0
@@ -25,4 +25,4 @@ CopyRefused uuid json known (Read (reading.Head f)) = IsLeast head_key (IsUuidFa
 CopyRefused uuid json known (Read (reading.Meta f)) = ((g : HeadFault) → IsUuidFault uuid g → ⊥) × AreaRefused json known (Read (reading.Meta f))
 CopyRefused uuid json known (Read reading.Device) = ⊤
 CopyRefused uuid json known (Read reading.Memory) = (g : HeadFault) → IsUuidFault uuid g → ⊥
-CopyRefused uuid json known (Underway f) = ((g : HeadFault) → IsUuidFault uuid g → ⊥) × AreaRefused json known (Underway f)
+CopyRefused uuid json known (Underway f narrow) = ((g : HeadFault) → IsUuidFault uuid g → ⊥) × AreaRefused json known (Underway f narrow)

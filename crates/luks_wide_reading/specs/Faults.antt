@@ -1,5 +1,6 @@
 -- The faults of the wider reading: what they become, and how they are written.
 use Rattle.std.specs.Prelude.{ℕ, List, [], ◌∷◌, codes, Bool, false, true}
+use Rattle.luks_rules.specs.declared.fault.MetaFault.{MetaFault}
 use Rattle.luks_rules.specs.declared.fault.MetaFault.TheVariants as meta
 use Rattle.luks_reading.specs.declared.read_fault.ReadFault.TheVariants as reading
 use Rattle.luks_reading.specs.Answer.{open_key}
@@ -16,18 +17,18 @@ use Rattle.luks_wide_reading.specs.declared.read_fault.WideReadFault.TheVariants
 -- ---- reading
 
 -- the fault of metadata in which something is under way: want of memory stands for itself
-abbrev pub underway_unread : WideFault → WideReadFault
-underway_unread (wide.Meta meta.Memory) = Read reading.Memory
-underway_unread f = Underway f
+abbrev pub underway_unread : WideFault → MetaFault → WideReadFault
+underway_unread (wide.Meta meta.Memory) narrow = Read reading.Memory
+underway_unread f narrow = Underway f narrow
 
 -- the device failed
 abbrev pub is_wide_read_failure : WideReadFault → Bool
 is_wide_read_failure (Read f) = is_read_failure f
-is_wide_read_failure (Underway f) = false
+is_wide_read_failure (Underway f narrow) = false
 
 abbrev pub wide_read_text : WideReadFault → List ℕ
 wide_read_text (Read f) = read_fault_text f
-wide_read_text (Underway f) = wide_fault_text f
+wide_read_text (Underway f narrow) = wide_fault_text f
 
 -- ---- opening
 

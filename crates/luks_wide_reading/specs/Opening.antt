@@ -61,4 +61,5 @@ UnderwayRefused allowed json total n f =
 -- the result of opening the keyslot `n` by the passphrase `p`, of a device that has the bytes `v` where it `tells` them
 pub record IsUnderwayOpening (tells : Type 0) (total : ℕ) (v json : List ℕ) (allowed : Allowed) (n : ℕ) (p : List ℕ) (result : Result (Option (List ℕ)) WideOpenFault) : Type 0 where
   pub opens : tells → IfOk result (UnderwayOpens allowed json v n p)
+  pub one : tells → IfOk result (λ found. (other : Option (List ℕ)) → UnderwayOpens allowed json v n p other → other ≡ found)
   pub refused : IfErr result (UnderwayRefused allowed json total n)

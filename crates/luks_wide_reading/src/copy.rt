@@ -1,6 +1,6 @@
 //! The copy that counts of a volume in whose metadata something is under way.
 
-use luks_reading::{Bin2, Copies};
+use luks_reading::{Bin2, Copies, MetaFault};
 use luks_wider::Underway;
 
 /// The LUKS2 copy that counts, where something is under way in its metadata.
@@ -12,4 +12,6 @@ pub struct UnderwayCopy {
     pub copies: Copies,
     /// Its metadata.
     pub meta: Underway,
+    /// The fault by which `read_header` refuses it.
+    pub narrow_fault: MetaFault,
 }

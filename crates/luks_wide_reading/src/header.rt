@@ -10,13 +10,13 @@ ghost use Rattle.luks_wider.specs.declared.wider.Wider.TheVariants.{Underway as 
 ghost use Rattle.luks_wider.specs.Underways.{area_len};
 ghost use Rattle.luks_wider.specs.Wide.{IsWiderOf};
 ghost use Rattle.luks_wide_reading.specs.Beside.{AreaRefused, CopyRefused};
-ghost use Rattle.luks_wide_reading.specs.Faults.{is_wide_read_failure};
+ghost use Rattle.luks_wide_reading.specs.Faults.{is_wide_read_failure, underway_unread};
 ghost use Rattle.luks_wide_reading.specs.Headers.{IsAcceptedWide, IsFromOutside, IsSameHeader, IsWideHeader, IsWideUnread};
 
 use crate::copy::UnderwayCopy;
 use crate::read_fault::WideReadFault;
 use luks_reading::{Bin2, Device, Header, MetaFault, ReadFault, Selected, read_header};
-use luks_wider::{Underway, has_under_way};
+use luks_wider::{Underway, WideFault, has_under_way};
 use luks2_header::{KEPT_JSON, select_with_json};
 use std::alloc::Global;
 
@@ -69,26 +69,28 @@ pub fn read_wide_header<D: Device>(
 fn read_beside<D: Device>(
     alloc: Global,
     device: &mut D,
-    fault: MetaFault,
+    narrow_fault: MetaFault,
 ) -> Result<WideHeader, WideReadFault>
     requires { D.failed device.old + 1 < 2 ^ 64 }
     ensures unchanged { IsUnchanged D.tells D.size D.bytes D.unsettled device.old device.new }
     ensures count { CountsFailure is_wide_read_failure result
         (D.failed device.old) (D.failed device.new) }
     ensures accepted { IfOk result IsAcceptedWide }
-    ensures read { D.tells → IfOk result (IsWideHeader (D.bytes device.old)) }
-    ensures refused { D.tells → IsUnread (D.bytes device.old) (OfMeta fault)
+    ensures read { D.tells → IsUnread (D.bytes device.old) (OfMeta narrow_fault)
+        → IfOk result (IsWideHeader (D.bytes device.old)) }
+    ensures refused { D.tells → IsUnread (D.bytes device.old) (OfMeta narrow_fault)
         → IfErr result (IsWideUnread (D.bytes device.old)) }
 {
     let mut json = [0; KEPT_JSON];
     match select_with_json(device, &mut json)? {
-        Selected::V1(_) => Err(WideReadFault::Read(ReadFault::Meta(fault))),
+        Selected::V1(_) => Err(WideReadFault::Read(ReadFault::Meta(narrow_fault))),
         Selected::V2 { header, copies } => {
-            let meta = read_metadata(alloc, device, &header, &json, fault)?;
+            let meta = read_metadata(alloc, device, &header, &json, narrow_fault)?;
             Ok(WideHeader::Underway(UnderwayCopy {
                 header,
                 copies,
                 meta,
+                narrow_fault,
             }))
         }
     }
@@ -101,7 +103,7 @@ fn read_metadata<D: Device>(
     device: &mut D,
     header: &Bin2,
     kept: &[u8],
-    fault: MetaFault,
+    narrow_fault: MetaFault,
 ) -> Result<Underway, WideReadFault>
     requires room { D.failed device.old + 1 < 2 ^ 64 }
     requires within { IsCopyWithin (D.size device.old) header.now }
@@ -116,27 +118,48 @@ fn read_metadata<D: Device>(
     ensures length { D.tells → IfOk result (λ m.
         area_len m ≡ length (json_of (D.bytes device.old) header.now)) }
     ensures refused { D.tells → IfErr result
-        (CopyRefused header.now.uuid (json_of (D.bytes device.old) header.now) fault) }
+        (CopyRefused header.now.uuid (json_of (D.bytes device.old) header.now) narrow_fault) }
 {
     header.uuid()?;
     if header.hdr_size == LEAST_HEADER {
-        return read_area(alloc, kept, fault);
+        return read_area(alloc, kept, narrow_fault);
     }
     let json = json_area(alloc, device, header)?;
-    read_area(alloc, &json, fault)
+    read_area(alloc, &json, narrow_fault)
 }
 
 /// The metadata of a JSON area that the narrow reading refuses by this fault.
-fn read_area(alloc: Global, area: &[u8], fault: MetaFault) -> Result<Underway, WideReadFault>
+fn read_area(
+    alloc: Global,
+    area: &[u8],
+    narrow_fault: MetaFault,
+) -> Result<Underway, WideReadFault>
     ensures read { IfOk result (λ m. IsWiderOf area.now (OfUnderway m)) }
     ensures length { IfOk result (λ m. area_len m ≡ length area.now) }
-    ensures refused { IfErr result (AreaRefused area.now fault) }
+    ensures refused { IfErr result (AreaRefused area.now narrow_fault) }
     ensures no_failure { IfErr result (λ f. is_wide_read_failure f ≡ false) }
 {
-    if !has_under_way(alloc, area)? {
-        return Err(WideReadFault::Read(ReadFault::Meta(fault)));
+    match has_under_way(alloc, area) {
+        Ok(true) => match Underway::read(alloc, area) {
+            Ok(meta) => Ok(meta),
+            Err(fault) => Err(underway_unread(fault, narrow_fault)),
+        },
+        Ok(false) => Err(WideReadFault::Read(ReadFault::Meta(narrow_fault))),
+        Err(_) => Err(WideReadFault::Read(ReadFault::Memory)),
     }
-    Ok(Underway::read(alloc, area)?)
+}
+
+/// Why metadata isn't read in which something is under way: want of memory stands for itself.
+fn underway_unread(fault: WideFault, narrow_fault: MetaFault) -> WideReadFault
+    ensures { result ≡ underway_unread fault narrow_fault }
+{
+    match fault {
+        WideFault::Meta(MetaFault::Memory) => WideReadFault::Read(ReadFault::Memory),
+        fault => WideReadFault::Underway {
+            fault,
+            narrow_fault,
+        },
+    }
 }
 
 /// The JSON area of the copy with this binary header.

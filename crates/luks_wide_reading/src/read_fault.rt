@@ -3,7 +3,7 @@
 ghost use Rattle.std.specs.Prelude.{◌≡◌, Some};
 ghost use Rattle.luks_reading.specs.Conversions.{head_unread};
 ghost use Rattle.luks_wide_reading.specs.declared.read_fault.WideReadFault.{WideReadFault};
-ghost use Rattle.luks_wide_reading.specs.Faults.{underway_unread, wide_read_text};
+ghost use Rattle.luks_wide_reading.specs.Faults.{wide_read_text};
 
 use luks_reading::{DeviceFault, HeadFault, MetaFault, ReadFault};
 use luks_wider::WideFault;
@@ -16,9 +16,13 @@ use std::fmt;
 pub enum WideReadFault {
     /// What `read_header` answers: nothing is under way, or the metadata wasn't read.
     Read(ReadFault),
-    /// Something is under way in the metadata of the chosen copy, and it breaks a rule of that. It is never
-    /// want of memory.
-    Underway(WideFault),
+    /// Something is under way in the metadata of the chosen copy, and it breaks a rule of that.
+    Underway {
+        /// The first fault by the rules of what is under way. It is never want of memory.
+        fault: WideFault,
+        /// The fault by which `read_header` refuses it.
+        narrow_fault: MetaFault,
+    },
 }
 
 impl fmt::Display for WideReadFault {
@@ -27,7 +31,7 @@ impl fmt::Display for WideReadFault {
     fn fmt<W: fmt::Write>(&self, f: &mut fmt::Formatter<W>) -> fmt::Result {
         match self {
             WideReadFault::Read(fault) => write!(f, "{fault}"),
-            WideReadFault::Underway(fault) => write!(f, "{fault}"),
+            WideReadFault::Underway { fault, .. } => write!(f, "{fault}"),
         }
     }
 }
@@ -47,17 +51,6 @@ impl From<HeadFault> for WideReadFault {
 
     fn from(fault: HeadFault) -> WideReadFault {
         WideReadFault::Read(ReadFault::from(fault))
-    }
-}
-
-impl From<WideFault> for WideReadFault {
-    ghost from_gives = { λ fault outer. outer ≡ underway_unread fault };
-
-    fn from(fault: WideFault) -> WideReadFault {
-        match fault {
-            WideFault::Meta(MetaFault::Memory) => WideReadFault::Read(ReadFault::Memory),
-            other => WideReadFault::Underway(other),
-        }
     }
 }
 
