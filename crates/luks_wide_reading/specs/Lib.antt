@@ -3,3 +3,4 @@ pub mod Headers
 pub mod Beside
 pub mod Opening
 pub mod Trying
+pub mod Volume

@@ -129,11 +129,7 @@ fn read_metadata<D: Device>(
 }
 
 /// The metadata of a JSON area that the narrow reading refuses by this fault.
-fn read_area(
-    alloc: Global,
-    area: &[u8],
-    narrow_fault: MetaFault,
-) -> Result<Underway, WideReadFault>
+fn read_area(alloc: Global, area: &[u8], narrow_fault: MetaFault) -> Result<Underway, WideReadFault>
     ensures read { IfOk result (λ m. IsWiderOf area.now (OfUnderway m)) }
     ensures length { IfOk result (λ m. area_len m ≡ length area.now) }
     ensures refused { IfErr result (AreaRefused area.now narrow_fault) }
