@@ -12,7 +12,7 @@ use Rattle.luks_underway.specs.Kinds.{has_opal, has_reencrypt, is_opal, is_reenc
 use Rattle.luks_underway.proofs.Typed.{not_opal, not_reencrypt}
 
 -- the object of which the test holds
-held_by : (test : Data → Bool) (o : Option Data) → option_map_or test o false ≡ true → (d : Data) × (o ≡ Some d) × (test d ≡ true)
+pub held_by : (test : Data → Bool) (o : Option Data) → option_map_or test o false ≡ true → (d : Data) × (o ≡ Some d) × (test d ≡ true)
 held_by test None h = absurd (false≢true h)
 held_by test (Some d) h = (d, refl, h)
 

@@ -7,3 +7,6 @@ pub mod WideAreaFaults
 pub mod WideListed
 pub mod Finding
 pub mod WiderFacts
+pub mod UnderWayFaults
+pub mod WideNamings
+pub mod Reencrypting
