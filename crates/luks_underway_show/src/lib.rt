@@ -3,7 +3,6 @@
 #![tactic(auto)]
 
 mod as_json;
-mod copy;
 mod header;
 mod hotzone;
 mod keyslots;
@@ -16,7 +15,6 @@ mod shown;
 mod tokens;
 
 pub use as_json::underway_json;
-pub use copy::UnderwayCopy;
 pub use hotzone::{Hotzone, hotzone};
 pub use lines::Lines;
 pub use listing::UnderwayListing;

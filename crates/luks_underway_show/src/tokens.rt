@@ -8,7 +8,6 @@ ghost use Rattle.luks_underway_show.specs.Shown.{object_listed, section_listed};
 ghost use Rattle.luks_underway_show.specs.Tokens.{IsTokenShown};
 ghost use Rattle.luks_underway_show.specs.UnderwayLines.{digest_listed, token_listed};
 
-use crate::copy::UnderwayCopy;
 use luks_rules::{Section, object_at};
 use luks_show::{DigestLine, TokenLine, unsteering};
 use luks_wider::Underway;
@@ -55,17 +54,17 @@ fn list_digest<W: fmt::Write>(meta: &Underway, n: u8, f: &mut fmt::Formatter<W>)
     }
 }
 
-/// The copy whose tokens are shown; it prints as their lines.
+/// The metadata whose tokens are shown; it prints as their lines.
 #[derive(Drop)]
-pub struct UnderwayTokens(pub UnderwayCopy);
+pub struct UnderwayTokens(pub Underway);
 
 impl fmt::Display for UnderwayTokens {
     ghost use Rattle.std.specs.Prelude.{Some};
 
-    ghost output = { λ shown. Some (section_listed token_listed (content shown.0.meta) section.Tokens) };
+    ghost output = { λ shown. Some (section_listed token_listed (content shown.0) section.Tokens) };
 
     fn fmt<W: fmt::Write>(&self, f: &mut fmt::Formatter<W>) -> fmt::Result {
-        list_tokens(&self.0.meta, f)
+        list_tokens(&self.0, f)
     }
 }
 

@@ -9,7 +9,7 @@ ghost use Rattle.luks_underway_show.specs.UnderwayValue.{AreUnderwayObjects, cop
 use crate::as_json::keyslots::keyslots_value;
 use crate::as_json::segments::segments_value;
 use crate::as_json::under_way::under_way_value;
-use crate::copy::UnderwayCopy;
+use crate::listing::UnderwayListing;
 use luks_reading::{Bin2, Copies};
 use luks_show::{
     Objects, Texts, copies_name, digest_value, put_objects, read_texts, sizes_value, token_value,
@@ -19,7 +19,7 @@ use serde_json::{Map, Value, put};
 use std::alloc::{AllocError, Global};
 
 /// The object of the copy, which the metadata's value is moved into: it is never there twice.
-pub(crate) fn underway_value(alloc: Global, copy: UnderwayCopy) -> Result<Value, AllocError>
+pub(crate) fn underway_value(alloc: Global, copy: UnderwayListing) -> Result<Value, AllocError>
     ensures { IfOk result (λ v. IsUnderwayValue copy.header copy.copies (content copy.meta) (view v)) }
 {
     let config = copy.meta.config();
