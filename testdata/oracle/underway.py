@@ -3,6 +3,8 @@
 `wider` answers the value that is read, or raises the first fault. What is listed, opened and told of it stands behind. Metadata in which nothing is under way
 is read by `reader.py` alone, so that nothing of it changes.
 """
+import base64
+
 import reader
 from equations import round_up
 from reader import NAME, SMALL, Fault, by_number, is_decimal, is_names, is_number
@@ -251,31 +253,134 @@ def show(volume):
     return reader.answer(lambda: shown(volume))
 
 
-def shown(volume):
+def show_all(volume):
+    """Like `show`, with the subsystem, the costs and salts of keyslots, and how segments are encrypted."""
+    return reader.answer(lambda: shown(volume, True))
+
+
+def shown(volume, whole=False):
     chosen = reader.select(volume)
     if chosen == 1:
-        return reader.shown(volume)
+        return reader.shown(volume, whole)
     copy, state = chosen
     uuid = reader.checked_uuid(copy["uuid"])
     value = wider(copy)
     if not is_under_way(value):
-        return reader.shown(volume)
+        return reader.shown(volume, whole)
     text, names = reader.shown_text, reader.shown_list
-    lines = ["luks2", f"uuid {text(uuid)}", f"label {text(copy['label'])}", f"copies {state} seqid {copy['seqid']}",
-             f"header-size {copy['size']} keyslots-size {value['config']['keyslots_size']}", f"requirements {names([text(it) for it in requirements(value)])}"]
+    lines = ["luks2", f"uuid {text(uuid)}", f"label {text(copy['label'])}", *([f"subsystem {text(copy['subsystem'])}"] if whole else []),
+             f"copies {state} seqid {copy['seqid']}", f"header-size {copy['size']} keyslots-size {value['config']['keyslots_size']}",
+             f"requirements {names([text(it) for it in requirements(value)])}"]
     for n, slot in by_number(value["keyslots"]):
         digest, area = (naming(value, "keyslots", str(n)) or ["-"])[0], slot["area"]
         if slot["type"] == "reencrypt":
             lines.append(f"keyslot {n} reencrypt {slot['mode']} {slot['direction']} area {area['offset']} {area['size']} {text(resilience(area))} digest {digest}")
-        else:
-            lines.append(f"keyslot {n} key-bytes {slot['key_size']} kdf {slot['kdf']['type']} area {area['offset']} {area['size']} {text(area['encryption'])} digest {digest}")
+            continue
+        lines.append(f"keyslot {n} key-bytes {slot['key_size']} kdf {slot['kdf']['type']} area {area['offset']} {area['size']} {text(area['encryption'])} digest {digest}")
+        if whole:
+            lines += [reader.costs_line(n, slot["kdf"]), f"salt {n} {base64.b64decode(slot['kdf']['salt']).hex()}"]
     for n, token in by_number(value["tokens"]):
         lines.append(f"token {n} {text(token['type'])} keyslots {names(token['keyslots'])}")
     for n, it in by_number(value["segments"]):
         lines.append(f"segment {n} {it['type']} {it['offset']} {it['size']}" + (f" flags {names([text(flag) for flag in flags(it)])}" if flags(it) else ""))
+        if whole and it["type"] in ("crypt", "hw-opal-crypt"):
+            lines.append(f"encryption {n} {text(it['encryption'])} sector-size {it['sector_size']} iv-tweak {it['iv_tweak']}")
+        if whole and it["type"] in OPAL:
+            lines.append(f"opal {n} range {it['opal_segment_number']} key-bytes {it['opal_key_size']} size {it['opal_segment_size']}")
     for n, digest in by_number(value["digests"]):
         lines.append(f"digest {n} {text(digest['hash'])} keyslots {names(digest['keyslots'])} segments {names(digest['segments'])}")
     return 0, "\n".join(lines) + "\n"
+
+
+def show_map(volume):
+    """The areas, as `reader.show_map` draws them, and the backups, which fill no gap and meet nothing."""
+    return reader.answer(lambda: (0, "".join(line + "\n" for line in map_lines(shown_map(volume), len(volume)))))
+
+
+def shown_map(volume):
+    copy, _ = reader.select(volume)
+    value, total = wider(copy), len(volume)
+    rows = [(total, 1, None, "end of the volume", "-"), (reader.region(copy, value)[1], 0, None, "end of the key areas", "-"),
+            (0, 2, copy["size"], "header, copy 1", "#"), (copy["size"], 3, copy["size"], "header, copy 2", "#")]
+    rows += [(start, 4 + n, length, f"keyslot {n}", "#") for n, slot in by_number(value["keyslots"]) for start, length in [reader.slot_area2(slot)]]
+    for n, it in by_number(value["segments"]):
+        start, end = extent(it)
+        what = " backup" if is_backup(it) else " in hand" if HOT in flags(it) else ""
+        rows.append((start, 260 + n, max(0, total - start) if end is None else end - start, f"segment {n}{what}", "=" if is_backup(it) else "#"))
+    return sorted(rows, key=lambda row: row[:2])
+
+
+def map_lines(rows, total):
+    reached = 0
+    for place, _, length, name, sign in rows:
+        outside = lambda end: "  outside" if end > total else ""
+        if place > reached:
+            yield f"{reached:20} . {place - reached:20}  gap{outside(place)}"
+        if sign == "-":
+            yield f"{place:20} - {'':20}  {name}{outside(place)}"
+        elif sign == "=":
+            yield f"{place:20} = {length:20}  {name}{outside(place + length)}"
+        else:
+            marks = ["outside"] * (place + length > total) + ["overlap"] * (length > 0 and place < reached)
+            yield f"{place:20} # {length:20}  {name}{'  ' if marks else ''}{' '.join(marks)}"
+        reached = max(reached, place + (length or 0) if sign == "#" else place)
+
+
+def show_json(volume):
+    return reader.answer(lambda: (0, reader.json_text(shown_json(volume)) + "\n"))
+
+
+def shown_json(volume):
+    chosen = reader.select(volume)
+    if chosen == 1:
+        return reader.shown_json(volume)
+    copy, state = chosen
+    uuid = reader.checked_uuid(copy["uuid"])
+    value = wider(copy)
+    if not is_under_way(value):
+        return reader.shown_json(volume)
+    config, numbers = value["config"], reader.numbers
+    return {"version": 2, "uuid": uuid.decode(), "label": reader.text_or_bytes(copy["label"]), "subsystem": reader.text_or_bytes(copy["subsystem"]), "copies": state,
+            "seqid": copy["seqid"], "sizes": {"header": copy["size"], "json": int(config["json_size"]), "keyslots": int(config["keyslots_size"])},
+            "flags": config.get("flags"), "requirements": config.get("requirements"), "keyslots": [json_slot(value, n, it) for n, it in by_number(value["keyslots"])],
+            "tokens": [{"number": n, "type": it["type"], "keyslots": numbers(it["keyslots"])} for n, it in by_number(value["tokens"])],
+            "segments": [json_segment(n, it) for n, it in by_number(value["segments"])],
+            "digests": [{"number": n, "type": it["type"], "hash": it["hash"], "iterations": it["iterations"], "salt": it["salt"], "value": it["digest"],
+                         "keyslots": numbers(it["keyslots"]), "segments": numbers(it["segments"])} for n, it in by_number(value["digests"])],
+            "metadata": value, "under_way": json_under_way(value)}
+
+
+def json_slot(value, n, slot):
+    if slot["type"] != "reencrypt":
+        return reader.json_slot2(value, n, slot)
+    area = slot["area"]
+    kept = {"type": area["type"]}
+    if area["type"] in CHECKSUMS:
+        kept |= {"hash": area["hash"], "sector_size": area["sector_size"]}
+    if area["type"] in SHIFTS:
+        kept["shift_size"] = int(area["shift_size"])
+    return {"number": n, "state": "reencrypt", "digest": (naming(value, "keyslots", str(n)) or [None])[0], "mode": slot["mode"], "direction": slot["direction"],
+            "area": {"offset": int(area["offset"]), "size": int(area["size"])}, "resilience": kept}
+
+
+def json_segment(n, it):
+    shown = reader.json_segment(n, it) | {"flags": flags(it)}
+    if it["type"] in OPAL:
+        shown["opal"] = {"number": it["opal_segment_number"], "key_bytes": it["opal_key_size"], "size": int(it["opal_segment_size"])}
+    if it["type"] == "hw-opal-crypt":
+        shown |= {"cipher": it["encryption"], "sector_size": it["sector_size"], "iv_tweak": int(it["iv_tweak"])}
+    return shown
+
+
+def json_under_way(value):
+    flagged = [[str(n) for n, it in by_number(value["segments"]) if flag in flags(it)][:1] for flag in BACKUPS[:2]]
+    old, new = ((naming(value, "segments", names[0]) or [None])[0] if names else None for names in flagged)
+    hot = [(n, it) for n, it in by_number(value["segments"]) if HOT in flags(it) and not is_backup(it)]
+    zone = None
+    if hot:
+        n, it = hot[0]
+        zone = {"segment": n, "offset": int(it["offset"]), "size": it["size"] if it["size"] == "dynamic" else int(it["size"])}
+    return {"old_digest": old, "new_digest": new, "hotzone": zone}
 
 
 def said(value):

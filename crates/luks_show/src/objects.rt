@@ -55,11 +55,12 @@ impl fmt::Display for KeyslotLine<'_> {
 
     fn fmt<W: fmt::Write>(&self, f: &mut fmt::Formatter<W>) -> fmt::Result {
         let n = self.0;
-        let key_bytes = self.1.key_size;
-        let kdf = kdf_name(&self.1.kdf.cost);
-        let offset = self.1.area.offset;
-        let size = self.1.area.size;
-        let encryption = Escaped(self.1.area.encryption.as_bytes());
+        let keyslot = self.1;
+        let key_bytes = keyslot.key_size;
+        let kdf = kdf_name(&keyslot.kdf.cost);
+        let offset = keyslot.area.offset;
+        let size = keyslot.area.size;
+        let encryption = Escaped(keyslot.area.encryption.as_bytes());
         let digest = OfDigest(self.2);
         writeln!(
             f,
@@ -111,8 +112,9 @@ impl fmt::Display for TokenLine<'_> {
 
     fn fmt<W: fmt::Write>(&self, f: &mut fmt::Formatter<W>) -> fmt::Result {
         let n = self.0;
-        let kind = Escaped(self.1.kind.as_bytes());
-        let keyslots = Numbers(self.1.keyslots.as_slice());
+        let token = self.1;
+        let kind = Escaped(token.kind.as_bytes());
+        let keyslots = Numbers(token.keyslots.as_slice());
         writeln!(f, "token {n} {kind} keyslots {keyslots}")
     }
 }
@@ -179,9 +181,10 @@ impl fmt::Display for DigestLine<'_> {
 
     fn fmt<W: fmt::Write>(&self, f: &mut fmt::Formatter<W>) -> fmt::Result {
         let n = self.0;
-        let hash = Escaped(self.1.hash.as_bytes());
-        let keyslots = Numbers(self.1.keyslots.as_slice());
-        let segments = Numbers(self.1.segments.as_slice());
+        let digest = self.1;
+        let hash = Escaped(digest.hash.as_bytes());
+        let keyslots = Numbers(digest.keyslots.as_slice());
+        let segments = Numbers(digest.segments.as_slice());
         writeln!(
             f,
             "digest {n} {hash} keyslots {keyslots} segments {segments}"
