@@ -1,5 +1,6 @@
 mod Counting
-mod KeyslotFacts
+mod ItemFacts
 mod ReencryptFacts
+mod KeyslotFacts
 mod SegmentFacts
 mod ObjectFacts

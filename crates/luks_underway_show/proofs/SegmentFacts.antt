@@ -1,60 +1,48 @@
 -- The lines of a segment, by its record.
-use Rattle.std.proofs.Common.{◌≡◌, ℕ, List, [], ◌∷◌, ◌++◌, codes, Option, Some, None, option_and_then, refl, append_assoc, append-nil}
-use Rattle.std.specs.Fmt.{decimal}
+use Rattle.std.proofs.Common.{◌≡◌, ℕ, List, [], ◌++◌, codes, Option, Some, refl, ap₂, append-nil}
 use Rattle.serde_json.specs.Data.{Data}
-use Rattle.luks_rules.specs.declared.table.Member.TheVariants as name
 use Rattle.luks_rules.specs.declared.table.Outer.TheVariants as outer
-use Rattle.luks_rules.specs.Faults.{member_at, type_at}
-use Rattle.luks_rules.specs.Reading.{decimal_in, dynamic, extent_of, text_of, whole}
-use Rattle.luks_meta.specs.declared.segments.Encryption.{Encryption}
-use Rattle.luks_show.specs.AllLines.{encryption_line}
-use Rattle.luks_show.specs.Texts.{line}
-use Rattle.luks_underway.specs.declared.opal.Opal.{Opal}
+use Rattle.luks_rules.specs.Faults.{type_at}
+use Rattle.luks_meta.specs.declared.member.Extent.{Extent}
+use Rattle.luks_meta.specs.declared.member.Extent.TheVariants.{Fixed, Dynamic}
+use Rattle.luks_meta.specs.Says.{extent_field}
 use Rattle.luks_underway.specs.declared.segments.WideKind.{WideKind}
 use Rattle.luks_underway.specs.declared.segments.WideKind.TheVariants as wide
-use Rattle.luks_underway.specs.Segments.{flags_at, TellsWideKind}
-use Rattle.luks_underway_show.specs.declared.lines.Lines.TheVariants.{All}
-use Rattle.luks_underway_show.specs.SegmentLines.{flags_shown, further_segment_lines, opal_line, segment_line}
+use Rattle.luks_underway.specs.declared.segments.WideSegment.{WideSegment}
+use Rattle.luks_underway.specs.Segments.{flags_at, TellsWideKind, TellsWideSegment}
+use Rattle.luks_underway_show.specs.declared.lines.Lines.{Lines}
+use Rattle.luks_underway_show.specs.declared.lines.Lines.TheVariants.{Few, All}
+use Rattle.luks_underway_show.specs.RecordLines.{encryption_text, extent_text, further_segment_text, kind_text, members_text, segment_text}
+use Rattle.luks_underway_show.specs.SegmentLines.{further_segment_lines, segment_line, segment_lines}
+use Rattle.luks_underway_show.specs.Shown.{extent_shown}
 
-abbrev offset_at : Data → Option ℕ
-offset_at d = decimal_in (member_at d outer.Top name.Offset)
+kind_told : (d : Data) (k : WideKind) → TellsWideKind d k → type_at d outer.Top ≡ Some (kind_text k)
+kind_told d (wide.Crypt e) tells = tells.0
+kind_told d wide.Linear tells = tells
+kind_told d (wide.HwOpal o) tells = tells.0
+kind_told d (wide.HwOpalCrypt o e) tells = tells.0
 
-regrouped : (n k o s t : List ℕ) →
-    codes "segment " ++ (n ++ (codes " " ++ (k ++ (codes " " ++ (o ++ (codes " " ++ (s ++ (t ++ 10 ∷ []))))))))
-    ≡ codes "segment " ++ n ++ codes " " ++ k ++ codes " " ++ o ++ codes " " ++ s ++ line t
-regrouped n k o s t = simp append_assoc refl
+extent_told : (e : Extent) → extent_text e ≡ extent_shown (Some (extent_field e))
+extent_told (Fixed n) = refl
+extent_told Dynamic = refl
 
-regrouped_dynamic : (n k o t : List ℕ) →
-    codes "segment " ++ (n ++ (codes " " ++ (k ++ (codes " " ++ (o ++ (codes " dynamic" ++ (t ++ 10 ∷ [])))))))
-    ≡ codes "segment " ++ n ++ codes " " ++ k ++ codes " " ++ o ++ codes " " ++ codes "dynamic" ++ line t
-regrouped_dynamic n k o t = simp append_assoc refl
+members_told : (n : ℕ) (d : Data) (s : WideSegment) (flags : Option Data) → TellsWideSegment d s → flags_at d ≡ flags → members_text n s flags ≡ segment_line n d
+members_told n d s flags tells has = rw (has, kind_told d s.kind tells.kind, tells.offset, tells.size, ← extent_told s.size) refl
 
-pub fixed_told : (n : ℕ) (d : Data) (offset size : ℕ) (kind : List ℕ) (flags : Option Data) → offset_at d ≡ Some offset
-    → option_and_then extent_of (text_of (member_at d outer.Top name.Size)) ≡ Some (whole size) → type_at d outer.Top ≡ Some kind → flags_at d ≡ flags
-    → codes "segment " ++ (decimal n ++ (codes " " ++ (kind ++ (codes " " ++ (decimal offset ++ (codes " " ++ (decimal size ++ (flags_shown flags ++ 10 ∷ []))))))))
-    ≡ segment_line n d
-fixed_told n d offset size kind flags begins sized typed has =
-    rw (typed, begins, sized, has) (regrouped (decimal n) kind (decimal offset) (decimal size) (flags_shown flags))
-
-pub dynamic_told : (n : ℕ) (d : Data) (offset : ℕ) (kind : List ℕ) (flags : Option Data) → offset_at d ≡ Some offset
-    → option_and_then extent_of (text_of (member_at d outer.Top name.Size)) ≡ Some dynamic → type_at d outer.Top ≡ Some kind → flags_at d ≡ flags
-    → codes "segment " ++ (decimal n ++ (codes " " ++ (kind ++ (codes " " ++ (decimal offset ++ (codes " dynamic" ++ (flags_shown flags ++ 10 ∷ [])))))))
-    ≡ segment_line n d
-dynamic_told n d offset kind flags begins sized typed has =
-    rw (typed, begins, sized, has) (regrouped_dynamic (decimal n) kind (decimal offset) (flags_shown flags))
-
-pub crypt_told : (n : ℕ) (d : Data) (e : Encryption) → TellsWideKind d (wide.Crypt e) → encryption_line n e ≡ further_segment_lines All n d
-crypt_told n d e tells = rw (tells.0, tells.1, tells.2, tells.3) (simp append-nil refl)
-
-pub linear_told : (n : ℕ) (d : Data) → TellsWideKind d wide.Linear → [] ≡ further_segment_lines All n d
-linear_told n d tells = rw tells refl
-
-pub opal_told : (n : ℕ) (d : Data) (o : Opal) → TellsWideKind d (wide.HwOpal o) → opal_line n o ≡ further_segment_lines All n d
-opal_told n d o tells = let range = tells.1 in rw (tells.0, range.0, range.1, range.2) refl
-
-pub opal_crypt_told : (n : ℕ) (d : Data) (o : Opal) (e : Encryption) → TellsWideKind d (wide.HwOpalCrypt o e)
-    → encryption_line n e ++ opal_line n o ≡ further_segment_lines All n d
-opal_crypt_told n d o e tells =
+encryption_told : (n : ℕ) (d : Data) (k : WideKind) → TellsWideKind d k → encryption_text n k ≡ further_segment_lines All n d
+encryption_told n d (wide.Crypt e) tells = rw (tells.0, tells.1, tells.2, tells.3) (simp append-nil refl)
+encryption_told n d wide.Linear tells = rw tells refl
+encryption_told n d (wide.HwOpal o) tells = let range = tells.1 in rw (tells.0, range.0, range.1, range.2) refl
+encryption_told n d (wide.HwOpalCrypt o e) tells =
     let range = tells.1 in
     let by = tells.2 in
     rw (tells.0, range.0, range.1, range.2, by.0, by.1, by.2) refl
+
+further_told : (lines : Lines) (n : ℕ) (d : Data) (k : WideKind) → TellsWideKind d k → further_segment_text lines n k ≡ further_segment_lines lines n d
+further_told Few n d k tells = refl
+further_told All n d k tells = encryption_told n d k tells
+
+pub segment_told : (lines : Lines) (n : ℕ) (d : Data) (s : WideSegment) (flags : Option Data) → TellsWideSegment d s → flags_at d ≡ flags
+    → segment_text lines n s flags ≡ segment_lines lines n d
+segment_told lines n d s flags tells has =
+    ap₂ (λ xs ys. xs ++ ys) (members_told n d s flags tells has) (further_told lines n d s.kind tells.kind)

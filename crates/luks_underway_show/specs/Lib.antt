@@ -1,6 +1,7 @@
 pub mod Shown
 pub mod KeyslotLines
 pub mod SegmentLines
+pub mod RecordLines
 pub mod UnderwayLines
 pub mod KeyslotValues
 pub mod WideSegmentValues

@@ -1,5 +1,5 @@
 -- What standard error says of a volume in which something is under way (docs/PROFILE.md, 11).
-use Rattle.std.specs.Prelude.{◌≡◌, ℕ, ◌<◌, List, [], ◌∷◌, ◌++◌, codes, Bool, true, false, ◌&&◌, if◌then◌else◌, not, nat_lt, Option, Some, None}
+use Rattle.std.specs.Prelude.{◌≡◌, ℕ, ◌<◌, List, [], ◌∷◌, ◌++◌, codes, Bool, true, false, ◌&&◌, not, nat_lt, Option, Some, None}
 use Rattle.std.specs.Fmt.{decimal}
 use Rattle.std.specs.List.{list_any}
 use Rattle.serde_json.specs.Data.{Data}
@@ -80,7 +80,10 @@ abbrev pub missing_line : List ℕ → List ℕ
 missing_line which =
     codes "luks: no keyslot that opens gives the " ++ which ++ line (codes " key: cryptsetup reencrypt --resume-only asks for both by one passphrase, and fails")
 
+abbrev pub missing_as : Bool → List ℕ → List ℕ
+missing_as true which = missing_line which
+missing_as false which = []
+
 -- what is said where a passphrase has opened these keyslots
 abbrev pub missing_text : Data → List ℕ → Option ℕ → Option ℕ → List ℕ
-missing_text j opened old new =
-    (if is_missing j opened old then missing_line (codes "old") else []) ++ (if is_missing j opened new then missing_line (codes "new") else [])
+missing_text j opened old new = missing_as (is_missing j opened old) (codes "old") ++ missing_as (is_missing j opened new) (codes "new")

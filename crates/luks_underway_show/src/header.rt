@@ -2,7 +2,7 @@
 
 ghost use Rattle.std.specs.Fmt.{WritesOnOk};
 ghost use Rattle.luks_wider.specs.Underways.{content};
-ghost use Rattle.luks_underway_show.specs.UnderwayLines.{copy_lines, header_lines, metadata_lines, name_lines};
+ghost use Rattle.luks_underway_show.specs.UnderwayLines.{copy_lines, header_lines, metadata_lines, name_lines, subsystem_listed};
 
 use crate::lines::Lines;
 use crate::shown::Texts;
@@ -23,9 +23,7 @@ pub(crate) fn list_header<W: fmt::Write>(
     ensures { WritesOnOk W.write_str_gives f.old result (header_lines lines header.now copies (content meta.now)) f.new }
 {
     list_names(header, f)?;
-    if let Lines::All = lines {
-        f.write(SubsystemLine(header))?;
-    }
+    list_subsystem(header, lines, f)?;
     list_copy(header, copies, f)?;
     list_metadata(header, meta, f)
 }
@@ -36,6 +34,19 @@ fn list_names<W: fmt::Write>(header: &Bin2, f: &mut fmt::Formatter<W>) -> fmt::R
     let uuid = Escaped(before_zero(&header.uuid));
     let label = Escaped(before_zero(&header.label));
     write!(f, "luks2\nuuid {uuid}\nlabel {label}\n")
+}
+
+fn list_subsystem<W: fmt::Write>(
+    header: &Bin2,
+    lines: Lines,
+    f: &mut fmt::Formatter<W>,
+) -> fmt::Result
+    ensures { WritesOnOk W.write_str_gives f.old result (subsystem_listed lines header.now) f.new }
+{
+    match lines {
+        Lines::Few => Ok(()),
+        Lines::All => f.write(SubsystemLine(header)),
+    }
 }
 
 fn list_copy<W: fmt::Write>(header: &Bin2, copies: Copies, f: &mut fmt::Formatter<W>) -> fmt::Result

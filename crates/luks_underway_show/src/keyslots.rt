@@ -1,17 +1,17 @@
 //! The lines of keyslots.
 
-ghost use Rattle.std.specs.Prelude.{◌≡◌, ◌<◌, ◌++◌, Some};
+ghost use Rattle.std.specs.Prelude.{◌≡◌, ◌<◌, Some};
 ghost use Rattle.std.specs.Fmt.{WritesOnOk};
 ghost use Rattle.serde_json.specs.Data.{Data};
 ghost use Rattle.luks_rules.specs.declared.table.Section.TheVariants.{Keyslots};
 ghost use Rattle.luks_rules.specs.Faults.{object_at};
-ghost use Rattle.luks_meta.specs.Says.{TellsKeyslot};
 ghost use Rattle.luks_wider.specs.Underways.{content};
-ghost use Rattle.luks_underway_show.specs.KeyslotLines.{further_key_lines, key_line, keyslot_lines};
+ghost use Rattle.luks_underway_show.specs.KeyslotLines.{keyslot_lines};
+ghost use Rattle.luks_underway_show.specs.RecordLines.{further_key_text, keyslot_text};
 ghost use Rattle.luks_underway_show.specs.Shown.{keyslot_digest, object_listed, section_listed};
 
 use crate::lines::Lines;
-use crate::reencryption::list_reencryption;
+use crate::reencryption::ReencryptionLine;
 use luks_meta::Keyslot;
 use luks_show::{CostsLine, KeyslotLine, SaltLine};
 use luks_underway::WideKeyslot;
@@ -44,12 +44,10 @@ fn list_keyslot<W: fmt::Write>(
     ensures { WritesOnOk W.write_str_gives f.old result
         (object_listed (keyslot_lines lines (content meta.now)) (content meta.now) Keyslots n) f.new }
 {
-    let digest = digest_of(meta, n);
-    match meta.keyslot(n) {
-        Some(WideKeyslot::Luks2(keyslot)) => list_key(n, &keyslot, digest, lines, f),
-        Some(WideKeyslot::Reencrypt(members)) => list_reencryption(n, &members, digest, f),
-        None => Ok(()),
-    }
+    let Some(keyslot) = meta.keyslot(n) else {
+        return Ok(());
+    };
+    list_members(n, &keyslot, digest_of(meta, n), lines, f)
 }
 
 /// The digest that names the keyslot of this number, if one does.
@@ -61,33 +59,38 @@ pub(crate) fn digest_of(meta: &Underway, n: u8) -> Option<u8>
     meta.digest_of_keyslot(n)
 }
 
-/// Lists a keyslot that keeps a key.
-fn list_key<W: fmt::Write>(
+fn list_members<W: fmt::Write>(
     n: u8,
-    keyslot: &Keyslot<'_>,
+    keyslot: &WideKeyslot<'_>,
     digest: Option<u8>,
     lines: Lines,
     f: &mut fmt::Formatter<W>,
 ) -> fmt::Result
-    ensures { (j d : Data) → TellsKeyslot d keyslot.now → keyslot_digest j n ≡ digest
-        → WritesOnOk W.write_str_gives f.old result (key_line j n d ++ further_key_lines lines n d) f.new }
+    ensures { WritesOnOk W.write_str_gives f.old result (keyslot_text lines n keyslot.now digest) f.new }
 {
-    f.write(KeyslotLine(n, keyslot, digest))?;
-    match lines {
-        Lines::Few => Ok(()),
-        Lines::All => list_derivation(n, keyslot, f),
+    match keyslot {
+        WideKeyslot::Luks2(keyslot) => {
+            f.write(KeyslotLine(n, keyslot, digest))?;
+            list_further(n, keyslot, lines, f)
+        }
+        WideKeyslot::Reencrypt(members) => f.write(ReencryptionLine(n, *members, digest)),
     }
 }
 
 /// Lists what the derivation costs, and its salt.
-fn list_derivation<W: fmt::Write>(
+fn list_further<W: fmt::Write>(
     n: u8,
     keyslot: &Keyslot<'_>,
+    lines: Lines,
     f: &mut fmt::Formatter<W>,
 ) -> fmt::Result
-    ensures { (d : Data) → TellsKeyslot d keyslot.now
-        → WritesOnOk W.write_str_gives f.old result (further_key_lines Lines.All n d) f.new }
+    ensures { WritesOnOk W.write_str_gives f.old result (further_key_text lines n keyslot.now) f.new }
 {
-    f.write(CostsLine(n, keyslot.kdf.cost))?;
-    f.write(SaltLine(usize::from(n), keyslot.kdf.salt.as_slice()))
+    match lines {
+        Lines::Few => Ok(()),
+        Lines::All => {
+            f.write(CostsLine(n, keyslot.kdf.cost))?;
+            f.write(SaltLine(usize::from(n), keyslot.kdf.salt.as_slice()))
+        }
+    }
 }

@@ -1,14 +1,12 @@
 //! The line of the keyslot that says what is under way.
 
-ghost use Rattle.std.specs.Prelude.{◌≡◌};
-ghost use Rattle.std.specs.Fmt.{WritesOnOk};
-ghost use Rattle.serde_json.specs.Data.{Data};
-ghost use Rattle.luks_underway.specs.Reencryptions.{TellsReencryption, TellsResilience};
-ghost use Rattle.luks_underway_show.specs.KeyslotLines.{direction_text, mode_text, reencryption_line, resilience_shown};
-ghost use Rattle.luks_underway_show.specs.Shown.{keyslot_digest};
+ghost use Rattle.std.specs.Prelude.{◌≡◌, Some};
+ghost use Rattle.luks_underway_show.specs.KeyslotLines.{direction_text, mode_text};
+ghost use Rattle.luks_underway_show.specs.RecordLines.{checksum_text, reencryption_text, resilience_text, shift_text};
+ghost use Rattle.luks_underway_show.specs.Shown.{digest_shown};
 
 use luks_show::Escaped;
-use luks_underway::{Direction, Mode, Reencryption, Resilience};
+use luks_underway::{Checksum, Direction, Mode, Reencryption, Resilience};
 use std::fmt;
 
 /// What is done with the data.
@@ -32,54 +30,104 @@ pub(crate) fn direction_name(direction: Direction) -> &'static str
     }
 }
 
-/// Lists the keyslot of this number that says what is under way, and the digest that names it.
-pub(crate) fn list_reencryption<W: fmt::Write>(
-    n: u8,
-    members: &Reencryption<'_>,
-    digest: Option<u8>,
-    f: &mut fmt::Formatter<W>,
-) -> fmt::Result
-    ensures { (j d : Data) → TellsReencryption d members.now → keyslot_digest j n ≡ digest
-        → WritesOnOk W.write_str_gives f.old result (reencryption_line j n d) f.new }
-{
-    let mode = mode_name(members.mode);
-    let direction = direction_name(members.direction);
-    let offset = members.area.offset;
-    let size = members.area.size;
-    write!(
-        f,
-        "keyslot {n} reencrypt {mode} {direction} area {offset} {size} "
-    )?;
-    list_resilience(&members.area.resilience, f)?;
-    match digest {
-        Some(digest) => writeln!(f, " digest {digest}"),
-        None => writeln!(f, " digest -"),
+/// The keyslot of this number that says what is under way, and the digest that names it; it prints as its line.
+#[derive(Clone, Copy)]
+pub(crate) struct ReencryptionLine<'a>(
+    pub(crate) u8,
+    pub(crate) Reencryption<'a>,
+    pub(crate) Option<u8>,
+);
+
+impl fmt::Display for ReencryptionLine<'_> {
+    ghost output = { λ l. Some (reencryption_text l.0 l.1 l.2) };
+
+    fn fmt<W: fmt::Write>(&self, f: &mut fmt::Formatter<W>) -> fmt::Result {
+        let n = self.0;
+        let members = self.1;
+        let mode = mode_name(members.mode);
+        let direction = direction_name(members.direction);
+        let offset = members.area.offset;
+        let size = members.area.size;
+        let resilience = ResilienceText(members.area.resilience);
+        let digest = DigestText(self.2);
+        writeln!(
+            f,
+            "keyslot {n} reencrypt {mode} {direction} area {offset} {size} {resilience} digest {digest}"
+        )
     }
 }
 
-/// By what it is mended: the type of the area, then the hash and the unit of checksums, then by how many bytes
-/// the data moves.
-fn list_resilience<W: fmt::Write>(
-    resilience: &Resilience<'_>,
-    f: &mut fmt::Formatter<W>,
-) -> fmt::Result
-    ensures { (d : Data) → TellsResilience d resilience.now
-        → WritesOnOk W.write_str_gives f.old result (resilience_shown d) f.new }
-{
-    match *resilience {
-        Resilience::Nothing => f.write_str("none"),
-        Resilience::Journal => f.write_str("journal"),
-        Resilience::Checksum(sums) => {
-            let hash = Escaped(sums.hash.as_bytes());
-            let unit = sums.sector_size;
-            write!(f, "checksum {hash} {unit}")
+/// A digest, or a hyphen.
+#[derive(Clone, Copy)]
+struct DigestText(Option<u8>);
+
+impl fmt::Display for DigestText {
+    ghost output = { λ digest. Some (digest_shown digest.0) };
+
+    fn fmt<W: fmt::Write>(&self, f: &mut fmt::Formatter<W>) -> fmt::Result {
+        match self.0 {
+            Some(digest) => write!(f, "{digest}"),
+            None => f.write_str("-"),
         }
-        Resilience::Datashift(shift) => write!(f, "datashift {shift}"),
-        Resilience::DatashiftJournal(shift) => write!(f, "datashift-journal {shift}"),
-        Resilience::DatashiftChecksum(sums, shift) => {
-            let hash = Escaped(sums.hash.as_bytes());
-            let unit = sums.sector_size;
-            write!(f, "datashift-checksum {hash} {unit} {shift}")
+    }
+}
+
+/// By what it is mended: the type of the area, then the hash and the unit of checksums, then by how many bytes the
+/// data moves.
+#[derive(Clone, Copy)]
+struct ResilienceText<'a>(Resilience<'a>);
+
+impl fmt::Display for ResilienceText<'_> {
+    ghost output = { λ resilience. Some (resilience_text resilience.0) };
+
+    fn fmt<W: fmt::Write>(&self, f: &mut fmt::Formatter<W>) -> fmt::Result {
+        match self.0 {
+            Resilience::Nothing => f.write_str("none"),
+            Resilience::Journal => f.write_str("journal"),
+            Resilience::Checksum(sums) => {
+                let sums = ChecksumText(sums);
+                write!(f, "checksum{sums}")
+            }
+            Resilience::Datashift(shift) => {
+                let shift = ShiftText(shift);
+                write!(f, "datashift{shift}")
+            }
+            Resilience::DatashiftJournal(shift) => {
+                let shift = ShiftText(shift);
+                write!(f, "datashift-journal{shift}")
+            }
+            Resilience::DatashiftChecksum(sums, shift) => {
+                let sums = ChecksumText(sums);
+                let shift = ShiftText(shift);
+                write!(f, "datashift-checksum{sums}{shift}")
+            }
         }
+    }
+}
+
+/// How checksums are taken.
+#[derive(Clone, Copy)]
+struct ChecksumText<'a>(Checksum<'a>);
+
+impl fmt::Display for ChecksumText<'_> {
+    ghost output = { λ sums. Some (checksum_text sums.0) };
+
+    fn fmt<W: fmt::Write>(&self, f: &mut fmt::Formatter<W>) -> fmt::Result {
+        let hash = Escaped(self.0.hash.as_bytes());
+        let unit = self.0.sector_size;
+        write!(f, " {hash} {unit}")
+    }
+}
+
+/// By how many bytes the data moves.
+#[derive(Clone, Copy)]
+struct ShiftText(u64);
+
+impl fmt::Display for ShiftText {
+    ghost output = { λ shift. Some (shift_text shift.0) };
+
+    fn fmt<W: fmt::Write>(&self, f: &mut fmt::Formatter<W>) -> fmt::Result {
+        let shift = self.0;
+        write!(f, " {shift}")
     }
 }

@@ -1,12 +1,12 @@
 //! What standard error says of a volume in which something is under way.
 
-ghost use Rattle.std.specs.Prelude.{◌≡◌, ◌<◌, ℕ, codes, List, OnOk, Option, Some};
+ghost use Rattle.std.specs.Prelude.{◌≡◌, ◌<◌, ◌++◌, ℕ, codes, List, OnOk, Option, Some};
 ghost use Rattle.std.specs.Io.KnownBytes.{Appends};
 ghost use Rattle.std.specs.List.{list_any};
 ghost use Rattle.serde_json.specs.View.{view};
 ghost use Rattle.luks_underway.specs.Sides.{IsSide};
 ghost use Rattle.luks_wider.specs.Underways.{content};
-ghost use Rattle.luks_underway_show.specs.Said.{gives, hand_words, is_missing, IsReencryptionSaid, key_words, length_words, missing_line, missing_text, reencryption_words, said_of, side_by, side_line, side_words};
+ghost use Rattle.luks_underway_show.specs.Said.{gives, hand_words, is_missing, IsReencryptionSaid, key_words, length_words, missing_as, missing_text, reencryption_words, resuming_words, said_of, side_by, side_line, side_words};
 
 use crate::hotzone::{Hotzone, hotzone};
 use crate::reencryption::{direction_name, mode_name};
@@ -31,10 +31,18 @@ pub fn note_under_way<E: Write>(meta: &Underway, volume: &str, err: &mut E) -> i
         sides: meta.sides(),
         part: hotzone(meta),
     };
-    writeln!(err, "luks: {volume}: {words}")?;
+    note_words(&words, volume, err)
+}
+
+fn note_words<E: Write>(words: &Words<'_>, volume: &str, err: &mut E) -> io::Result<()>
+    ensures { OnOk result (Appends (E.contents err.old) (E.contents err.new)
+        (said_of volume.now (reencryption_words words.now.members words.now.sides.old words.now.sides.new words.now.part)
+        ++ said_of volume.now resuming_words)) }
+{
+    let words = *words;
     writeln!(
         err,
-        "luks: {volume}: cryptsetup repair or cryptsetup reencrypt --resume-only goes on with it"
+        "luks: {volume}: {words}\nluks: {volume}: cryptsetup repair or cryptsetup reencrypt --resume-only goes on with it"
     )
 }
 
@@ -144,18 +152,16 @@ pub fn note_missing_key<E: Write>(meta: &Underway, opened: &[u8], err: &mut E) -
         (missing_text (content meta.now) opened.now old new)) }
 {
     let sides = meta.sides();
-    if is_missing(meta, opened, sides.old) {
-        note_missing("old", err)?;
-    }
-    if is_missing(meta, opened, sides.new) {
-        note_missing("new", err)?;
-    }
-    Ok(())
+    note_missing(is_missing(meta, opened, sides.old), "old", err)?;
+    note_missing(is_missing(meta, opened, sides.new), "new", err)
 }
 
-fn note_missing<E: Write>(which: &str, err: &mut E) -> io::Result<()>
-    ensures { OnOk result (Appends (E.contents err.old) (E.contents err.new) (missing_line which.now)) }
+fn note_missing<E: Write>(is: bool, which: &str, err: &mut E) -> io::Result<()>
+    ensures { OnOk result (Appends (E.contents err.old) (E.contents err.new) (missing_as is which.now)) }
 {
+    if !is {
+        return Ok(());
+    }
     writeln!(
         err,
         "luks: no keyslot that opens gives the {which} key: cryptsetup reencrypt --resume-only asks for both by one passphrase, and fails"

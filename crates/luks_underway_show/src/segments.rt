@@ -2,14 +2,11 @@
 
 ghost use Rattle.std.specs.Prelude.{◌≡◌, ◌<◌, option_map, Some};
 ghost use Rattle.std.specs.Fmt.{WritesOnOk};
-ghost use Rattle.serde_json.specs.Data.{Data};
 ghost use Rattle.serde_json.specs.View.{view};
-ghost use Rattle.luks_rules.specs.declared.table.Outer.TheVariants.{Top};
 ghost use Rattle.luks_rules.specs.declared.table.Section.TheVariants.{Segments};
-ghost use Rattle.luks_rules.specs.Faults.{type_at};
-ghost use Rattle.luks_underway.specs.Segments.{flags_at, TellsWideKind, TellsWideSegment};
 ghost use Rattle.luks_wider.specs.Underways.{content};
-ghost use Rattle.luks_underway_show.specs.SegmentLines.{further_segment_lines, opal_line, segment_line, segment_lines};
+ghost use Rattle.luks_underway_show.specs.RecordLines.{encryption_text, extent_text, further_segment_text, kind_text, members_text};
+ghost use Rattle.luks_underway_show.specs.SegmentLines.{opal_line, segment_lines};
 ghost use Rattle.luks_underway_show.specs.Shown.{object_listed, section_listed};
 
 use crate::lines::Lines;
@@ -56,10 +53,7 @@ fn list_segment<W: fmt::Write>(
     };
     let flags = inside_at(object, Outer::Top, "flags");
     list_members(n, &segment, flags, f)?;
-    match lines {
-        Lines::Few => Ok(()),
-        Lines::All => list_encryption(n, &segment.kind, f),
-    }
+    list_further(n, &segment.kind, lines, f)
 }
 
 /// Lists a segment with these flags.
@@ -69,21 +63,19 @@ fn list_members<W: fmt::Write>(
     flags: Option<&Value>,
     f: &mut fmt::Formatter<W>,
 ) -> fmt::Result
-    ensures { (d : Data) → TellsWideSegment d segment.now → flags_at d ≡ option_map (λ v. view v.now) flags.entry
-        → WritesOnOk W.write_str_gives f.old result (segment_line n d) f.new }
+    ensures { WritesOnOk W.write_str_gives f.old result
+        (members_text n segment.now (option_map (λ v. view v.now) flags.entry)) f.new }
 {
     let kind = kind_name(&segment.kind);
     let offset = segment.offset;
+    let size = ExtentText(segment.size);
     let flags = FlagTexts(flags);
-    match segment.size {
-        Extent::Fixed(size) => writeln!(f, "segment {n} {kind} {offset} {size}{flags}"),
-        Extent::Dynamic => writeln!(f, "segment {n} {kind} {offset} dynamic{flags}"),
-    }
+    writeln!(f, "segment {n} {kind} {offset} {size}{flags}")
 }
 
 /// The segment's type.
-pub(crate) fn kind_name(kind: &WideKind<'_>) -> &'static str
-    ensures { (d : Data) → TellsWideKind d kind.now → type_at d Top ≡ Some result.now }
+fn kind_name(kind: &WideKind<'_>) -> &'static str
+    ensures { result.now ≡ kind_text kind.now }
 {
     match kind {
         WideKind::Crypt(_) => "crypt",
@@ -93,14 +85,42 @@ pub(crate) fn kind_name(kind: &WideKind<'_>) -> &'static str
     }
 }
 
+/// A length in bytes, or that it runs to the volume's end.
+#[derive(Clone, Copy)]
+struct ExtentText(Extent);
+
+impl fmt::Display for ExtentText {
+    ghost output = { λ extent. Some (extent_text extent.0) };
+
+    fn fmt<W: fmt::Write>(&self, f: &mut fmt::Formatter<W>) -> fmt::Result {
+        match self.0 {
+            Extent::Fixed(size) => write!(f, "{size}"),
+            Extent::Dynamic => f.write_str("dynamic"),
+        }
+    }
+}
+
+fn list_further<W: fmt::Write>(
+    n: u8,
+    kind: &WideKind<'_>,
+    lines: Lines,
+    f: &mut fmt::Formatter<W>,
+) -> fmt::Result
+    ensures { WritesOnOk W.write_str_gives f.old result (further_segment_text lines n kind.now) f.new }
+{
+    match lines {
+        Lines::Few => Ok(()),
+        Lines::All => list_encryption(n, kind, f),
+    }
+}
+
 /// Lists how a segment is encrypted, by software and by the disk.
 fn list_encryption<W: fmt::Write>(
     n: u8,
     kind: &WideKind<'_>,
     f: &mut fmt::Formatter<W>,
 ) -> fmt::Result
-    ensures { (d : Data) → TellsWideKind d kind.now
-        → WritesOnOk W.write_str_gives f.old result (further_segment_lines Lines.All n d) f.new }
+    ensures { WritesOnOk W.write_str_gives f.old result (encryption_text n kind.now) f.new }
 {
     match kind {
         WideKind::Crypt(encryption) => f.write(EncryptionLine(n, *encryption)),
