@@ -49,7 +49,7 @@ abbrev pub row_list : Option Row → List Row
 row_list None = []
 row_list (Some r) = r ∷ []
 
-abbrev pub rows_below : (ℕ → Option Row) → ℕ → List Row
+unfoldable pub rows_below : (ℕ → Option Row) → ℕ → List Row
 rows_below row zero = []
 rows_below row (suc n) = rows_below row n ++ row_list (row n)
 

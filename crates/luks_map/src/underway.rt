@@ -6,7 +6,7 @@ ghost use Rattle.luks_rules.specs.declared.table.Section.TheVariants.{Keyslots, 
 ghost use Rattle.luks_underway.specs.Segments.{TellsWideSegment};
 ghost use Rattle.luks_underway.specs.Slots.{TellsWideKeyslot};
 ghost use Rattle.luks_wider.specs.Underways.{content};
-ghost use Rattle.luks_map.specs.UnderwayRows.{IsUnderwayRows, object_row, section_rows, segment_row, slot_row};
+ghost use Rattle.luks_map.specs.UnderwayRows.{IsUnderwayRows, object_row, row_list, section_rows, segment_row, slot_row};
 
 use crate::map::Rows;
 use crate::part::Part;
@@ -47,9 +47,7 @@ fn add_slots(rows: &mut Rows, meta: &Underway)
     ensures count { length rows.new.items ≤ 36 }
 {
     for n in 0..32 {
-        if let Some(row) = slot_row(meta, n) {
-            rows.push(row);
-        }
+        add_row(rows, slot_row(meta, n));
     }
 }
 
@@ -58,9 +56,16 @@ fn add_segments(rows: &mut Rows, meta: &Underway, total: u64)
     ensures { rows.new.items ≡ rows.old.items ++ section_rows (segment_row total) (content meta.now) Segments }
 {
     for n in 0..32 {
-        if let Some(row) = segment_row(meta, total, n) {
-            rows.push(row);
-        }
+        add_row(rows, segment_row(meta, total, n));
+    }
+}
+
+fn add_row(rows: &mut Rows, row: Option<Row>)
+    requires { length rows.old.items < 68 }
+    ensures { rows.new.items ≡ rows.old.items ++ row_list row }
+{
+    if let Some(row) = row {
+        rows.push(row);
     }
 }
 

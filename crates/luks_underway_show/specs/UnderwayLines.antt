@@ -32,11 +32,12 @@ name_lines header =
 abbrev pub copy_lines : Bin2 → Copies → List ℕ
 copy_lines header copies = codes "copies " ++ copies_text copies ++ codes " seqid " ++ line (decimal header.seqid)
 
+abbrev pub size_line : Bin2 → Data → List ℕ
+size_line header j = codes "header-size " ++ decimal header.hdr_size ++ codes " keyslots-size " ++ line (number_shown (keyslots_size j))
+
 -- the sizes, and what the metadata asks of who uses the volume
 abbrev pub metadata_lines : Bin2 → Data → List ℕ
-metadata_lines header j =
-    (codes "header-size " ++ decimal header.hdr_size ++ codes " keyslots-size " ++ line (number_shown (keyslots_size j)))
-    ++ (codes "requirements " ++ line (texts_shown (mandatory_in j)))
+metadata_lines header j = size_line header j ++ (codes "requirements " ++ line (texts_shown (mandatory_in j)))
 
 -- what the header says of itself
 abbrev pub header_lines : Lines → Bin2 → Copies → Data → List ℕ

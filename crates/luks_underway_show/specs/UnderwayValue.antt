@@ -51,7 +51,7 @@ under_way_members old new hot =
     put (codes "new_digest") (number_value new) (
     put (codes "hotzone") (hotzone_value hot) no_members))
 
-pub record IsUnderWayValue (j : Data) (d : Data) : Type 0 where
+pub record IsUnderWayMember (j : Data) (d : Data) : Type 0 where
   pub old : Option ℕ
   pub new : Option ℕ
   pub hot : Option Hotzone
@@ -90,5 +90,5 @@ pub record IsUnderwayValue (header : Bin2) (copies : Copies) (j : Data) (d : Dat
   pub told_sizes : IsConfig j config
   pub told_texts : AreTextsOf header texts
   pub told_objects : AreUnderwayObjects j objects
-  pub told_under_way : IsUnderWayValue j under_way
+  pub told_under_way : IsUnderWayMember j under_way
   pub is : d ≡ object (put (codes "under_way") under_way (with_objects objects (copy_members header copies (sizes_value header.hdr_size config) texts)))

@@ -1,8 +1,10 @@
 //! The lines before those of the objects.
 
+ghost use Rattle.std.specs.Prelude.{◌≡◌, Some};
 ghost use Rattle.std.specs.Fmt.{WritesOnOk};
+ghost use Rattle.luks_rules.specs.Sizes.{keyslots_size};
 ghost use Rattle.luks_wider.specs.Underways.{content};
-ghost use Rattle.luks_underway_show.specs.UnderwayLines.{copy_lines, header_lines, metadata_lines, name_lines, subsystem_listed};
+ghost use Rattle.luks_underway_show.specs.UnderwayLines.{copy_lines, header_lines, metadata_lines, name_lines, size_line, subsystem_listed};
 
 use crate::lines::Lines;
 use crate::shown::Texts;
@@ -33,7 +35,9 @@ fn list_names<W: fmt::Write>(header: &Bin2, f: &mut fmt::Formatter<W>) -> fmt::R
 {
     let uuid = Escaped(before_zero(&header.uuid));
     let label = Escaped(before_zero(&header.label));
-    write!(f, "luks2\nuuid {uuid}\nlabel {label}\n")
+    writeln!(f, "luks2")?;
+    writeln!(f, "uuid {uuid}")?;
+    writeln!(f, "label {label}")
 }
 
 fn list_subsystem<W: fmt::Write>(
@@ -65,11 +69,26 @@ fn list_metadata<W: fmt::Write>(
 ) -> fmt::Result
     ensures { WritesOnOk W.write_str_gives f.old result (metadata_lines header.now (content meta.now)) f.new }
 {
-    let header_size = header.hdr_size;
-    let keyslots_size = meta.config().keyslots_size;
+    list_sizes(header, meta, f)?;
     let requirements = Texts(mandatory_in(meta.value()));
-    write!(
-        f,
-        "header-size {header_size} keyslots-size {keyslots_size}\nrequirements {requirements}\n"
-    )
+    writeln!(f, "requirements {requirements}")
+}
+
+fn list_sizes<W: fmt::Write>(
+    header: &Bin2,
+    meta: &Underway,
+    f: &mut fmt::Formatter<W>,
+) -> fmt::Result
+    ensures { WritesOnOk W.write_str_gives f.old result (size_line header.now (content meta.now)) f.new }
+{
+    let header_size = header.hdr_size;
+    let keyslots_size = region_size(meta);
+    writeln!(f, "header-size {header_size} keyslots-size {keyslots_size}")
+}
+
+/// The bytes of the region of the key areas.
+fn region_size(meta: &Underway) -> u64
+    ensures { keyslots_size (content meta.now) ≡ Some result }
+{
+    meta.config().keyslots_size
 }

@@ -18,7 +18,7 @@ pub struct Hotzone {
 }
 
 /// The part in hand, if there is one.
-pub fn hotzone(meta: &Underway) -> Option<Hotzone>
+pub fn part_in_hand(meta: &Underway) -> Option<Hotzone>
     ensures { IsHot (content meta.now) result }
 {
     let segment = meta.hot()?;

@@ -15,7 +15,7 @@ mod shown;
 mod tokens;
 
 pub use as_json::underway_json;
-pub use hotzone::{Hotzone, hotzone};
+pub use hotzone::{Hotzone, part_in_hand};
 pub use lines::Lines;
 pub use listing::UnderwayListing;
 pub use said::{note_missing_key, note_side, note_under_way};

@@ -8,7 +8,7 @@ ghost use Rattle.luks_underway.specs.Sides.{IsSide};
 ghost use Rattle.luks_wider.specs.Underways.{content};
 ghost use Rattle.luks_underway_show.specs.Said.{gives, hand_words, is_missing, IsReencryptionSaid, key_words, length_words, missing_as, missing_text, reencryption_words, resuming_words, said_of, side_by, side_line, side_words};
 
-use crate::hotzone::{Hotzone, hotzone};
+use crate::hotzone::{Hotzone, part_in_hand};
 use crate::reencryption::{direction_name, mode_name};
 use luks_meta::Extent;
 use luks_underway::{Reencryption, Side, is_named, keyslot_side};
@@ -29,7 +29,7 @@ pub fn note_under_way<E: Write>(meta: &Underway, volume: &str, err: &mut E) -> i
     let words = Words {
         members: slot.members,
         sides: meta.sides(),
-        part: hotzone(meta),
+        part: part_in_hand(meta),
     };
     note_words(&words, volume, err)
 }

@@ -5,7 +5,7 @@ ghost use Rattle.std.specs.Fmt.{WritesOnOk};
 ghost use Rattle.serde_json.specs.View.{view};
 ghost use Rattle.luks_rules.specs.declared.table.Section.TheVariants.{Segments};
 ghost use Rattle.luks_wider.specs.Underways.{content};
-ghost use Rattle.luks_underway_show.specs.RecordLines.{encryption_text, extent_text, further_segment_text, kind_text, members_text};
+ghost use Rattle.luks_underway_show.specs.RecordLines.{encryption_text, extent_text, further_segment_text, kind_text, members_text, segment_text};
 ghost use Rattle.luks_underway_show.specs.SegmentLines.{opal_line, segment_lines};
 ghost use Rattle.luks_underway_show.specs.Shown.{object_listed, section_listed};
 
@@ -52,12 +52,25 @@ fn list_segment<W: fmt::Write>(
         return Ok(());
     };
     let flags = inside_at(object, Outer::Top, "flags");
-    list_members(n, &segment, flags, f)?;
-    list_further(n, &segment.kind, lines, f)
+    list_members(n, &segment, flags, lines, f)
 }
 
 /// Lists a segment with these flags.
 fn list_members<W: fmt::Write>(
+    n: u8,
+    segment: &WideSegment<'_>,
+    flags: Option<&Value>,
+    lines: Lines,
+    f: &mut fmt::Formatter<W>,
+) -> fmt::Result
+    ensures { WritesOnOk W.write_str_gives f.old result
+        (segment_text lines n segment.now (option_map (λ v. view v.now) flags.entry)) f.new }
+{
+    list_line(n, segment, flags, f)?;
+    list_further(n, &segment.kind, lines, f)
+}
+
+fn list_line<W: fmt::Write>(
     n: u8,
     segment: &WideSegment<'_>,
     flags: Option<&Value>,

@@ -2,7 +2,7 @@
 
 ghost use Rattle.std.specs.Prelude.{◌<◌, IfOk, option_map, string_bytes};
 ghost use Rattle.std.specs.Fmt.{WritesOnOk};
-ghost use Rattle.luks_rules.specs.declared.table.Section.TheVariants as section;
+ghost use Rattle.luks_rules.specs.declared.table.Section.TheVariants.{Digests, Tokens};
 ghost use Rattle.luks_wider.specs.Underways.{content};
 ghost use Rattle.luks_underway_show.specs.Shown.{object_listed, section_listed};
 ghost use Rattle.luks_underway_show.specs.Tokens.{IsTokenShown};
@@ -16,7 +16,7 @@ use std::fmt;
 
 /// Lists each token.
 pub(crate) fn list_tokens<W: fmt::Write>(meta: &Underway, f: &mut fmt::Formatter<W>) -> fmt::Result
-    ensures { WritesOnOk W.write_str_gives f.old result (section_listed token_listed (content meta.now) section.Tokens) f.new }
+    ensures { WritesOnOk W.write_str_gives f.old result (section_listed token_listed (content meta.now) Tokens) f.new }
 {
     for n in 0..32 {
         list_token(meta, n, f)?;
@@ -26,7 +26,7 @@ pub(crate) fn list_tokens<W: fmt::Write>(meta: &Underway, f: &mut fmt::Formatter
 
 fn list_token<W: fmt::Write>(meta: &Underway, n: u8, f: &mut fmt::Formatter<W>) -> fmt::Result
     requires { n < 32 }
-    ensures { WritesOnOk W.write_str_gives f.old result (object_listed token_listed (content meta.now) section.Tokens n) f.new }
+    ensures { WritesOnOk W.write_str_gives f.old result (object_listed token_listed (content meta.now) Tokens n) f.new }
 {
     match meta.token(n) {
         Some(token) => f.write(TokenLine(n, &token)),
@@ -36,7 +36,7 @@ fn list_token<W: fmt::Write>(meta: &Underway, n: u8, f: &mut fmt::Formatter<W>) 
 
 /// Lists each digest.
 pub(crate) fn list_digests<W: fmt::Write>(meta: &Underway, f: &mut fmt::Formatter<W>) -> fmt::Result
-    ensures { WritesOnOk W.write_str_gives f.old result (section_listed digest_listed (content meta.now) section.Digests) f.new }
+    ensures { WritesOnOk W.write_str_gives f.old result (section_listed digest_listed (content meta.now) Digests) f.new }
 {
     for n in 0..32 {
         list_digest(meta, n, f)?;
@@ -46,7 +46,7 @@ pub(crate) fn list_digests<W: fmt::Write>(meta: &Underway, f: &mut fmt::Formatte
 
 fn list_digest<W: fmt::Write>(meta: &Underway, n: u8, f: &mut fmt::Formatter<W>) -> fmt::Result
     requires { n < 32 }
-    ensures { WritesOnOk W.write_str_gives f.old result (object_listed digest_listed (content meta.now) section.Digests n) f.new }
+    ensures { WritesOnOk W.write_str_gives f.old result (object_listed digest_listed (content meta.now) Digests n) f.new }
 {
     match meta.digest(n) {
         Some(digest) => f.write(DigestLine(n, &digest)),
@@ -61,7 +61,7 @@ pub struct UnderwayTokens(pub Underway);
 impl fmt::Display for UnderwayTokens {
     ghost use Rattle.std.specs.Prelude.{Some};
 
-    ghost output = { λ shown. Some (section_listed token_listed (content shown.0) section.Tokens) };
+    ghost output = { λ shown. Some (section_listed token_listed (content shown.0) Tokens) };
 
     fn fmt<W: fmt::Write>(&self, f: &mut fmt::Formatter<W>) -> fmt::Result {
         list_tokens(&self.0, f)

@@ -1,11 +1,11 @@
 //! The keyslots, as an array by number.
 
-ghost use Rattle.std.specs.Prelude.{◌<◌, IfOk, MatchOption};
+ghost use Rattle.std.specs.Prelude.{◌+◌, ◌<◌, IfOk, map, MatchOption, OnOk};
 ghost use Rattle.serde_json.specs.View.{view};
 ghost use Rattle.luks_rules.specs.declared.table.Section.TheVariants.{Keyslots};
 ghost use Rattle.luks_meta.specs.Objects.{IsMissing};
 ghost use Rattle.luks_wider.specs.Underways.{content};
-ghost use Rattle.luks_underway_show.specs.KeyslotValues.{IsKeyslotsValue, IsKeyslotValue};
+ghost use Rattle.luks_underway_show.specs.KeyslotValues.{AreKeyslots, IsKeyslotsValue, IsKeyslotValue};
 
 use crate::as_json::reencryption::reencryption_value;
 use crate::keyslots::digest_of;
@@ -20,11 +20,26 @@ pub(crate) fn keyslots_value(alloc: Global, meta: &Underway) -> Result<Value, Al
 {
     let mut items = Vec::new(alloc);
     for n in 0..32 {
-        if let Some(value) = keyslot_at(alloc, meta, n)? {
-            items.push(value)?;
-        }
+        add_keyslot(&mut items, alloc, meta, n)?;
     }
     Ok(Value::from(items))
+}
+
+/// Puts the object of the keyslot of this number behind those of lesser ones, if it is there.
+fn add_keyslot(
+    items: &mut Vec<Value>,
+    alloc: Global,
+    meta: &Underway,
+    n: u8,
+) -> Result<(), AllocError>
+    requires { n < 32 }
+    ensures { AreKeyslots (content meta.now) n (map view items.old.items)
+        → OnOk result (AreKeyslots (content meta.now) (n + 1) (map view items.new.items)) }
+{
+    let Some(value) = keyslot_at(alloc, meta, n)? else {
+        return Ok(());
+    };
+    items.push(value)
 }
 
 /// The object of the keyslot of this number, if it is there.

@@ -1,12 +1,12 @@
 //! The segments, as an array by number.
 
-ghost use Rattle.std.specs.Prelude.{◌≡◌, ◌<◌, IfOk, MatchOption, OnOk, option_map, unwrap_or};
+ghost use Rattle.std.specs.Prelude.{◌≡◌, ◌+◌, ◌<◌, IfOk, map, MatchOption, OnOk, option_map, unwrap_or};
 ghost use Rattle.serde_json.specs.Data.{array, no_items, no_members, object, put as with_member};
 ghost use Rattle.serde_json.specs.View.{members_view, view};
 ghost use Rattle.luks_rules.specs.declared.table.Section.TheVariants.{Segments};
 ghost use Rattle.luks_meta.specs.Objects.{IsMissing};
 ghost use Rattle.luks_wider.specs.Underways.{content};
-ghost use Rattle.luks_underway_show.specs.WideSegmentValues.{IsWideSegmentsValue, IsWideSegmentValue, opal_members, wide_segment_members, with_encryption, with_opal, with_wide_kind};
+ghost use Rattle.luks_underway_show.specs.WideSegmentValues.{AreWideSegments, IsWideSegmentsValue, IsWideSegmentValue, opal_members, wide_segment_members, with_encryption, with_opal, with_wide_kind};
 
 use luks_meta::Encryption;
 use luks_rules::{Outer, Section, object_at};
@@ -21,11 +21,26 @@ pub(crate) fn segments_value(alloc: Global, meta: &Underway) -> Result<Value, Al
 {
     let mut items = Vec::new(alloc);
     for n in 0..32 {
-        if let Some(value) = segment_at(alloc, meta, n)? {
-            items.push(value)?;
-        }
+        add_segment(&mut items, alloc, meta, n)?;
     }
     Ok(Value::from(items))
+}
+
+/// Puts the object of the segment of this number behind those of lesser ones, if it is there.
+fn add_segment(
+    items: &mut Vec<Value>,
+    alloc: Global,
+    meta: &Underway,
+    n: u8,
+) -> Result<(), AllocError>
+    requires { n < 32 }
+    ensures { AreWideSegments (content meta.now) n (map view items.old.items)
+        → OnOk result (AreWideSegments (content meta.now) (n + 1) (map view items.new.items)) }
+{
+    let Some(value) = segment_at(alloc, meta, n)? else {
+        return Ok(());
+    };
+    items.push(value)
 }
 
 /// The object of the segment of this number, if it is there.
@@ -47,12 +62,19 @@ fn segment_at(alloc: Global, meta: &Underway, n: u8) -> Result<Option<Value>, Al
 
 /// The flags as they stand, or an empty array.
 fn flags_value(alloc: Global, flags: Option<&Value>) -> Result<Value, AllocError>
-    ensures { IfOk result (λ v. view v ≡ unwrap_or (option_map (λ v. view v.now) flags.entry) (array no_items)) }
+    ensures { IfOk result (λ value. view value ≡ unwrap_or (option_map (λ v. view v.now) flags.entry) (array no_items)) }
 {
     match flags {
         Some(flags) => flags.clone(),
-        None => Ok(Value::from(Vec::new(alloc))),
+        None => no_flags(alloc),
     }
+}
+
+fn no_flags(alloc: Global) -> Result<Value, AllocError>
+    ensures { IfOk result (λ v. view v ≡ array no_items) }
+{
+    let items: Vec<Value> = Vec::new(alloc);
+    Ok(Value::from(items))
 }
 
 fn segment_value(

@@ -3,20 +3,20 @@
 ghost use Rattle.std.specs.Prelude.{◌≡◌, IfOk};
 ghost use Rattle.serde_json.specs.View.{view};
 ghost use Rattle.luks_wider.specs.Underways.{content};
-ghost use Rattle.luks_underway_show.specs.UnderwayValue.{hotzone_value, IsUnderWayValue};
+ghost use Rattle.luks_underway_show.specs.UnderwayValue.{hotzone_value, IsUnderWayMember};
 
 use crate::as_json::reencryption::number_value;
-use crate::hotzone::{Hotzone, hotzone};
+use crate::hotzone::{Hotzone, part_in_hand};
 use luks_show::{put_extent, put_number};
 use luks_wider::Underway;
 use serde_json::{Map, Value, put};
 use std::alloc::{AllocError, Global};
 
 pub(crate) fn under_way_value(alloc: Global, meta: &Underway) -> Result<Value, AllocError>
-    ensures { IfOk result (λ v. IsUnderWayValue (content meta.now) (view v)) }
+    ensures { IfOk result (λ v. IsUnderWayMember (content meta.now) (view v)) }
 {
     let sides = meta.sides();
-    let part = hotzone_value(alloc, hotzone(meta))?;
+    let part = hotzone_value(alloc, part_in_hand(meta))?;
     let mut members = Map::new(alloc);
     put(&mut members, alloc, "hotzone", part)?;
     put(&mut members, alloc, "new_digest", number_value(sides.new))?;
