@@ -11,8 +11,3 @@ pub joined_encryption : (n c s t : List ℕ) →
     codes "encryption " ++ (n ++ (codes " " ++ (c ++ (codes " sector-size " ++ (s ++ (codes " iv-tweak " ++ (t ++ 10 ∷ [])))))))
     ≡ codes "encryption " ++ n ++ codes " " ++ c ++ codes " sector-size " ++ s ++ codes " iv-tweak " ++ line t
 joined_encryption n c s t = simp append_assoc refl
-
-pub joined_keyslot : (n b k o s e t : List ℕ) →
-    codes "keyslot " ++ (n ++ (codes " key-bytes " ++ (b ++ (codes " kdf " ++ (k ++ (codes " area " ++ (o ++ (codes " " ++ (s ++ (codes " " ++ (e ++ (t ++ 10 ∷ []))))))))))))
-    ≡ codes "keyslot " ++ n ++ codes " key-bytes " ++ b ++ codes " kdf " ++ k ++ codes " area " ++ o ++ codes " " ++ s ++ codes " " ++ e ++ line t
-joined_keyslot n b k o s e t = simp append_assoc refl

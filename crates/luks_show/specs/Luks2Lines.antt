@@ -29,11 +29,17 @@ abbrev pub digest_text : Option ℕ → List ℕ
 digest_text None = []
 digest_text (Some n) = codes " digest " ++ decimal n
 
+-- the key of the keyslot n, and where its area lies
+abbrev pub key_text : ℕ → Keyslot → List ℕ
+key_text n k = codes "keyslot " ++ decimal n ++ codes " key-bytes " ++ decimal k.key_size ++ codes " kdf " ++ kdf_text k.kdf.cost
+
+abbrev pub area_text : Keyslot → Option ℕ → List ℕ
+area_text k digest =
+    codes " area " ++ decimal k.area.offset ++ codes " " ++ decimal k.area.size ++ codes " " ++ escaped k.area.encryption.now ++ line (digest_text digest)
+
 -- the keyslot n, which is of this digest
 abbrev pub keyslot_line : ℕ → Keyslot → Option ℕ → List ℕ
-keyslot_line n k digest =
-    codes "keyslot " ++ decimal n ++ codes " key-bytes " ++ decimal k.key_size ++ codes " kdf " ++ kdf_text k.kdf.cost ++ codes " area "
-    ++ decimal k.area.offset ++ codes " " ++ decimal k.area.size ++ codes " " ++ escaped k.area.encryption.now ++ line (digest_text digest)
+keyslot_line n k digest = key_text n k ++ area_text k digest
 
 abbrev pub token_line : ℕ → Token → List ℕ
 token_line n t = codes "token " ++ decimal n ++ codes " " ++ escaped t.kind.now ++ codes " keyslots " ++ line (numbers_text t.keyslots.items)

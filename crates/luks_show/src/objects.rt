@@ -1,6 +1,7 @@
 //! The lines of the objects of LUKS2 metadata.
 ghost use Rattle.std.specs.Prelude.{◌≡◌, Some};
-ghost use Rattle.luks_show.specs.Luks2Lines.{digest_line, digest_text, kdf_text, keyslot_line, token_line};
+ghost use Rattle.std.specs.Fmt.{WritesOnOk};
+ghost use Rattle.luks_show.specs.Luks2Lines.{area_text, digest_line, digest_text, kdf_text, key_text, keyslot_line, token_line};
 
 use crate::costs::{CostsLine, EncryptionLine, SaltLine};
 use crate::escaped::Escaped;
@@ -54,19 +55,32 @@ impl fmt::Display for KeyslotLine<'_> {
     ghost output = { λ l. Some (keyslot_line l.0 l.1.now l.2) };
 
     fn fmt<W: fmt::Write>(&self, f: &mut fmt::Formatter<W>) -> fmt::Result {
-        let n = self.0;
         let keyslot = self.1;
-        let key_bytes = keyslot.key_size;
-        let kdf = kdf_name(&keyslot.kdf.cost);
-        let offset = keyslot.area.offset;
-        let size = keyslot.area.size;
-        let encryption = Escaped(keyslot.area.encryption.as_bytes());
-        let digest = OfDigest(self.2);
-        writeln!(
-            f,
-            "keyslot {n} key-bytes {key_bytes} kdf {kdf} area {offset} {size} {encryption}{digest}"
-        )
+        list_key(self.0, keyslot, f)?;
+        list_area(keyslot, self.2, f)
     }
+}
+
+fn list_key<W: fmt::Write>(n: u8, keyslot: &Keyslot<'_>, f: &mut fmt::Formatter<W>) -> fmt::Result
+    ensures { WritesOnOk W.write_str_gives f.old result (key_text n keyslot.now) f.new }
+{
+    let key_bytes = keyslot.key_size;
+    let kdf = kdf_name(&keyslot.kdf.cost);
+    write!(f, "keyslot {n} key-bytes {key_bytes} kdf {kdf}")
+}
+
+fn list_area<W: fmt::Write>(
+    keyslot: &Keyslot<'_>,
+    digest: Option<u8>,
+    f: &mut fmt::Formatter<W>,
+) -> fmt::Result
+    ensures { WritesOnOk W.write_str_gives f.old result (area_text keyslot.now digest) f.new }
+{
+    let offset = keyslot.area.offset;
+    let size = keyslot.area.size;
+    let encryption = Escaped(keyslot.area.encryption.as_bytes());
+    let digest = OfDigest(digest);
+    writeln!(f, " area {offset} {size} {encryption}{digest}")
 }
 
 fn kdf_name(cost: &Cost<'_>) -> &'static str

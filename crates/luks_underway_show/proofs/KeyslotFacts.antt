@@ -26,7 +26,7 @@ kdf_told d (cost.Argon2i c) tells = tells.0
 kdf_told d (cost.Argon2id c) tells = tells.0
 
 regrouped : (n b k o s e t : List ℕ) →
-    codes "keyslot " ++ n ++ codes " key-bytes " ++ b ++ codes " kdf " ++ k ++ codes " area " ++ o ++ codes " " ++ s ++ codes " " ++ e ++ line t
+    (codes "keyslot " ++ n ++ codes " key-bytes " ++ b ++ codes " kdf " ++ k) ++ (codes " area " ++ o ++ codes " " ++ s ++ codes " " ++ e ++ line t)
     ≡ codes "keyslot " ++ n ++ codes " key-bytes " ++ b ++ codes " kdf " ++ k ++ codes " area " ++ (o ++ codes " " ++ s) ++ codes " " ++ e ++ line t
 regrouped n b k o s e t = simp append_assoc refl
 

@@ -19,7 +19,7 @@ resilience_told d (kept_by.DatashiftJournal n) tells = rw (tells.0, tells.1) ref
 resilience_told d (kept_by.DatashiftChecksum k n) tells = let sums = tells.1 in rw (tells.0, sums.0, sums.1, tells.2) refl
 
 regrouped : (n m w o s r t : List ℕ) →
-    codes "keyslot " ++ n ++ codes " reencrypt " ++ m ++ codes " " ++ w ++ codes " area " ++ o ++ codes " " ++ s ++ codes " " ++ r ++ codes " digest " ++ line t
+    (codes "keyslot " ++ n ++ codes " reencrypt " ++ m ++ codes " " ++ w) ++ (codes " area " ++ o ++ codes " " ++ s ++ codes " " ++ r ++ codes " digest " ++ line t)
     ≡ codes "keyslot " ++ n ++ codes " reencrypt " ++ m ++ codes " " ++ w ++ codes " area " ++ (o ++ codes " " ++ s) ++ codes " " ++ r ++ codes " digest " ++ line t
 regrouped n m w o s r t = simp append_assoc refl
 

@@ -10,6 +10,7 @@ use Rattle.luks_show.specs.AllLines.{costs_line, encryption_line, salt_line}
 use Rattle.luks_show.specs.Luks2Lines.{keyslot_line}
 use Rattle.luks_show.specs.Texts.{escaped, line}
 use Rattle.luks_underway.specs.declared.opal.Opal.{Opal}
+use Rattle.luks_underway.specs.declared.reencryption.ReencryptArea.{ReencryptArea}
 use Rattle.luks_underway.specs.declared.reencryption.Reencryption.{Reencryption}
 use Rattle.luks_underway.specs.declared.resilience.Checksum.{Checksum}
 use Rattle.luks_underway.specs.declared.resilience.Resilience.{Resilience}
@@ -41,11 +42,17 @@ resilience_text (kept_by.Datashift n) = codes "datashift" ++ shift_text n
 resilience_text (kept_by.DatashiftJournal n) = codes "datashift-journal" ++ shift_text n
 resilience_text (kept_by.DatashiftChecksum k n) = codes "datashift-checksum" ++ checksum_text k ++ shift_text n
 
-abbrev pub reencryption_text : ℕ → Reencryption → Option ℕ → List ℕ
-reencryption_text n k digest =
-    codes "keyslot " ++ decimal n ++ codes " reencrypt " ++ mode_text k.mode ++ codes " " ++ direction_text k.direction ++ codes " area "
-    ++ decimal k.area.offset ++ codes " " ++ decimal k.area.size ++ codes " " ++ resilience_text k.area.resilience ++ codes " digest "
+-- what is done and which way; what it is mended by
+abbrev pub mode_words : ℕ → Reencryption → List ℕ
+mode_words n k = codes "keyslot " ++ decimal n ++ codes " reencrypt " ++ mode_text k.mode ++ codes " " ++ direction_text k.direction
+
+abbrev pub kept_words : ReencryptArea → Option ℕ → List ℕ
+kept_words a digest =
+    codes " area " ++ decimal a.offset ++ codes " " ++ decimal a.size ++ codes " " ++ resilience_text a.resilience ++ codes " digest "
     ++ line (digest_shown digest)
+
+abbrev pub reencryption_text : ℕ → Reencryption → Option ℕ → List ℕ
+reencryption_text n k digest = mode_words n k ++ kept_words k.area digest
 
 abbrev pub further_key_text : Lines → ℕ → Keyslot → List ℕ
 further_key_text Few n k = []
@@ -67,10 +74,14 @@ abbrev pub extent_text : Extent → List ℕ
 extent_text (Fixed n) = decimal n
 extent_text Dynamic = codes "dynamic"
 
+abbrev pub kind_words : ℕ → WideKind → List ℕ
+kind_words n kind = codes "segment " ++ decimal n ++ codes " " ++ kind_text kind
+
+abbrev pub place_words : WideSegment → Option Data → List ℕ
+place_words s flags = codes " " ++ decimal s.offset ++ codes " " ++ extent_text s.size ++ line (flags_shown flags)
+
 abbrev pub members_text : ℕ → WideSegment → Option Data → List ℕ
-members_text n s flags =
-    codes "segment " ++ decimal n ++ codes " " ++ kind_text s.kind ++ codes " " ++ decimal s.offset ++ codes " " ++ extent_text s.size
-    ++ line (flags_shown flags)
+members_text n s flags = kind_words n s.kind ++ place_words s flags
 
 abbrev pub encryption_text : ℕ → WideKind → List ℕ
 encryption_text n (Crypt e) = encryption_line n e

@@ -31,11 +31,15 @@ abbrev pub hand_words : Option Hotzone → List ℕ
 hand_words None = codes ", no part is in hand"
 hand_words (Some z) = codes ", the part in hand begins at byte " ++ decimal z.offset ++ codes " and has " ++ length_words z.size
 
--- what is done, which way, from which key to which, and where
+-- what is done and which way; from which key to which, and where
+abbrev pub doing_words : Reencryption → List ℕ
+doing_words k = codes "a reencryption is under way: " ++ mode_text k.mode ++ codes " " ++ direction_text k.direction
+
+abbrev pub between_words : Option ℕ → Option ℕ → Option Hotzone → List ℕ
+between_words old new hot = codes ", from " ++ key_words old ++ codes " to " ++ key_words new ++ hand_words hot
+
 abbrev pub reencryption_words : Reencryption → Option ℕ → Option ℕ → Option Hotzone → List ℕ
-reencryption_words k old new hot =
-    codes "a reencryption is under way: " ++ mode_text k.mode ++ codes " " ++ direction_text k.direction ++ codes ", from " ++ key_words old ++ codes " to "
-    ++ key_words new ++ hand_words hot
+reencryption_words k old new hot = doing_words k ++ between_words old new hot
 
 abbrev pub said_of : List ℕ → List ℕ → List ℕ
 said_of volume words = codes "luks: " ++ volume ++ codes ": " ++ line words

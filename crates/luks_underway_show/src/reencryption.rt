@@ -1,12 +1,13 @@
 //! The line of the keyslot that says what is under way.
 
 ghost use Rattle.std.specs.Prelude.{◌≡◌, Some};
+ghost use Rattle.std.specs.Fmt.{WritesOnOk};
 ghost use Rattle.luks_underway_show.specs.KeyslotLines.{direction_text, mode_text};
-ghost use Rattle.luks_underway_show.specs.RecordLines.{checksum_text, reencryption_text, resilience_text, shift_text};
+ghost use Rattle.luks_underway_show.specs.RecordLines.{checksum_text, kept_words, mode_words, reencryption_text, resilience_text, shift_text};
 ghost use Rattle.luks_underway_show.specs.Shown.{digest_shown};
 
 use luks_show::Escaped;
-use luks_underway::{Checksum, Direction, Mode, Reencryption, Resilience};
+use luks_underway::{Checksum, Direction, Mode, ReencryptArea, Reencryption, Resilience};
 use std::fmt;
 
 /// What is done with the data.
@@ -42,19 +43,36 @@ impl fmt::Display for ReencryptionLine<'_> {
     ghost output = { λ l. Some (reencryption_text l.0 l.1 l.2) };
 
     fn fmt<W: fmt::Write>(&self, f: &mut fmt::Formatter<W>) -> fmt::Result {
-        let n = self.0;
         let members = self.1;
-        let mode = mode_name(members.mode);
-        let direction = direction_name(members.direction);
-        let offset = members.area.offset;
-        let size = members.area.size;
-        let resilience = ResilienceText(members.area.resilience);
-        let digest = DigestText(self.2);
-        writeln!(
-            f,
-            "keyslot {n} reencrypt {mode} {direction} area {offset} {size} {resilience} digest {digest}"
-        )
+        list_mode(self.0, &members, f)?;
+        list_area(&members.area, self.2, f)
     }
+}
+
+fn list_mode<W: fmt::Write>(
+    n: u8,
+    members: &Reencryption<'_>,
+    f: &mut fmt::Formatter<W>,
+) -> fmt::Result
+    ensures { WritesOnOk W.write_str_gives f.old result (mode_words n members.now) f.new }
+{
+    let mode = mode_name(members.mode);
+    let direction = direction_name(members.direction);
+    write!(f, "keyslot {n} reencrypt {mode} {direction}")
+}
+
+fn list_area<W: fmt::Write>(
+    area: &ReencryptArea<'_>,
+    digest: Option<u8>,
+    f: &mut fmt::Formatter<W>,
+) -> fmt::Result
+    ensures { WritesOnOk W.write_str_gives f.old result (kept_words area.now digest) f.new }
+{
+    let offset = area.offset;
+    let size = area.size;
+    let resilience = ResilienceText(area.resilience);
+    let digest = DigestText(digest);
+    writeln!(f, " area {offset} {size} {resilience} digest {digest}")
 }
 
 /// A digest, or a hyphen.

@@ -1,12 +1,13 @@
 //! What standard error says of a volume in which something is under way.
 
 ghost use Rattle.std.specs.Prelude.{◌≡◌, ◌<◌, ◌++◌, ℕ, codes, List, OnOk, Option, Some};
+ghost use Rattle.std.specs.Fmt.{WritesOnOk};
 ghost use Rattle.std.specs.Io.KnownBytes.{Appends};
 ghost use Rattle.std.specs.List.{list_any};
 ghost use Rattle.serde_json.specs.View.{view};
 ghost use Rattle.luks_underway.specs.Sides.{IsSide};
 ghost use Rattle.luks_wider.specs.Underways.{content};
-ghost use Rattle.luks_underway_show.specs.Said.{gives, hand_words, is_missing, IsReencryptionSaid, key_words, length_words, missing_as, missing_text, reencryption_words, resuming_words, said_of, side_by, side_line, side_words};
+ghost use Rattle.luks_underway_show.specs.Said.{between_words, doing_words, gives, hand_words, is_missing, IsReencryptionSaid, key_words, length_words, missing_as, missing_text, reencryption_words, resuming_words, said_of, side_by, side_line, side_words};
 
 use crate::hotzone::{Hotzone, part_in_hand};
 use crate::reencryption::{direction_name, mode_name};
@@ -31,18 +32,32 @@ pub fn note_under_way<E: Write>(meta: &Underway, volume: &str, err: &mut E) -> i
         sides: meta.sides(),
         part: part_in_hand(meta),
     };
-    note_words(&words, volume, err)
+    note_words(words, volume, err)
 }
 
-fn note_words<E: Write>(words: &Words<'_>, volume: &str, err: &mut E) -> io::Result<()>
+fn note_words<E: Write>(words: Words<'_>, volume: &str, err: &mut E) -> io::Result<()>
     ensures { OnOk result (Appends (E.contents err.old) (E.contents err.new)
-        (said_of volume.now (reencryption_words words.now.members words.now.sides.old words.now.sides.new words.now.part)
+        (said_of volume.now (reencryption_words words.members words.sides.old words.sides.new words.part)
         ++ said_of volume.now resuming_words)) }
 {
-    let words = *words;
+    say_words(words, volume, err)?;
+    say_resuming(volume, err)
+}
+
+fn say_words<E: Write>(words: Words<'_>, volume: &str, err: &mut E) -> io::Result<()>
+    ensures { OnOk result (Appends (E.contents err.old) (E.contents err.new)
+        (said_of volume.now (reencryption_words words.members words.sides.old words.sides.new words.part))) }
+{
+    writeln!(err, "luks: {volume}: {words}")
+}
+
+fn say_resuming<E: Write>(volume: &str, err: &mut E) -> io::Result<()>
+    ensures { OnOk result
+        (Appends (E.contents err.old) (E.contents err.new) (said_of volume.now resuming_words)) }
+{
     writeln!(
         err,
-        "luks: {volume}: {words}\nluks: {volume}: cryptsetup repair or cryptsetup reencrypt --resume-only goes on with it"
+        "luks: {volume}: cryptsetup repair or cryptsetup reencrypt --resume-only goes on with it"
     )
 }
 
@@ -58,16 +73,30 @@ impl fmt::Display for Words<'_> {
     ghost output = { λ w. Some (reencryption_words w.members w.sides.old w.sides.new w.part) };
 
     fn fmt<W: fmt::Write>(&self, f: &mut fmt::Formatter<W>) -> fmt::Result {
-        let mode = mode_name(self.members.mode);
-        let direction = direction_name(self.members.direction);
-        let old = KeyWords(self.sides.old);
-        let new = KeyWords(self.sides.new);
-        let part = PartWords(self.part);
-        write!(
-            f,
-            "a reencryption is under way: {mode} {direction}, from {old} to {new}{part}"
-        )
+        write_doing(&self.members, f)?;
+        write_between(self.sides, self.part, f)
     }
+}
+
+fn write_doing<W: fmt::Write>(members: &Reencryption<'_>, f: &mut fmt::Formatter<W>) -> fmt::Result
+    ensures { WritesOnOk W.write_str_gives f.old result (doing_words members.now) f.new }
+{
+    let mode = mode_name(members.mode);
+    let direction = direction_name(members.direction);
+    write!(f, "a reencryption is under way: {mode} {direction}")
+}
+
+fn write_between<W: fmt::Write>(
+    sides: Sides,
+    part: Option<Hotzone>,
+    f: &mut fmt::Formatter<W>,
+) -> fmt::Result
+    ensures { WritesOnOk W.write_str_gives f.old result (between_words sides.old sides.new part) f.new }
+{
+    let old = KeyWords(sides.old);
+    let new = KeyWords(sides.new);
+    let part = PartWords(part);
+    write!(f, ", from {old} to {new}{part}")
 }
 
 /// The key of a side.
@@ -128,7 +157,14 @@ pub fn note_side<E: Write>(meta: &Underway, n: u8, err: &mut E) -> io::Result<()
         → OnOk result (Appends (E.contents err.old) (E.contents err.new)
         (side_line n (side_by (content meta.now) n old new))) }
 {
-    let gives = side_name(keyslot_side(meta.value(), n));
+    let side = keyslot_side(meta.value(), n);
+    say_side(n, side, err)
+}
+
+fn say_side<E: Write>(n: u8, side: Side, err: &mut E) -> io::Result<()>
+    ensures { OnOk result (Appends (E.contents err.old) (E.contents err.new) (side_line n side)) }
+{
+    let gives = side_name(side);
     writeln!(err, "luks: keyslot {n}: it gives {gives}")
 }
 
@@ -152,8 +188,10 @@ pub fn note_missing_key<E: Write>(meta: &Underway, opened: &[u8], err: &mut E) -
         (missing_text (content meta.now) opened.now old new)) }
 {
     let sides = meta.sides();
-    note_missing(is_missing(meta, opened, sides.old), "old", err)?;
-    note_missing(is_missing(meta, opened, sides.new), "new", err)
+    let old = is_missing(meta, opened, sides.old);
+    let new = is_missing(meta, opened, sides.new);
+    note_missing(old, "old", err)?;
+    note_missing(new, "new", err)
 }
 
 fn note_missing<E: Write>(is: bool, which: &str, err: &mut E) -> io::Result<()>

@@ -5,7 +5,7 @@ ghost use Rattle.std.specs.Fmt.{WritesOnOk};
 ghost use Rattle.serde_json.specs.View.{view};
 ghost use Rattle.luks_rules.specs.declared.table.Section.TheVariants.{Segments};
 ghost use Rattle.luks_wider.specs.Underways.{content};
-ghost use Rattle.luks_underway_show.specs.RecordLines.{encryption_text, extent_text, further_segment_text, kind_text, members_text, segment_text};
+ghost use Rattle.luks_underway_show.specs.RecordLines.{encryption_text, extent_text, further_segment_text, kind_text, kind_words, members_text, place_words, segment_text};
 ghost use Rattle.luks_underway_show.specs.SegmentLines.{opal_line, segment_lines};
 ghost use Rattle.luks_underway_show.specs.Shown.{object_listed, section_listed};
 
@@ -79,11 +79,29 @@ fn list_line<W: fmt::Write>(
     ensures { WritesOnOk W.write_str_gives f.old result
         (members_text n segment.now (option_map (λ v. view v.now) flags.entry)) f.new }
 {
-    let kind = kind_name(&segment.kind);
+    list_kind(n, &segment.kind, f)?;
+    list_place(segment, flags, f)
+}
+
+fn list_kind<W: fmt::Write>(n: u8, kind: &WideKind<'_>, f: &mut fmt::Formatter<W>) -> fmt::Result
+    ensures { WritesOnOk W.write_str_gives f.old result (kind_words n kind.now) f.new }
+{
+    let kind = kind_name(kind);
+    write!(f, "segment {n} {kind}")
+}
+
+fn list_place<W: fmt::Write>(
+    segment: &WideSegment<'_>,
+    flags: Option<&Value>,
+    f: &mut fmt::Formatter<W>,
+) -> fmt::Result
+    ensures { WritesOnOk W.write_str_gives f.old result
+        (place_words segment.now (option_map (λ v. view v.now) flags.entry)) f.new }
+{
     let offset = segment.offset;
     let size = ExtentText(segment.size);
     let flags = FlagTexts(flags);
-    writeln!(f, "segment {n} {kind} {offset} {size}{flags}")
+    writeln!(f, " {offset} {size}{flags}")
 }
 
 /// The segment's type.
