@@ -1,5 +1,6 @@
 -- The lines of a keyslot, by its record.
 use Rattle.std.proofs.Common.{◌≡◌, ℕ, List, [], ◌∷◌, ◌++◌, codes, Option, Some, None, refl, ap₂, append_assoc}
+use Rattle.std.specs.Fmt.{decimal}
 use Rattle.serde_json.specs.Data.{Data}
 use Rattle.luks_rules.specs.declared.table.Outer.TheVariants as outer
 use Rattle.luks_rules.specs.Faults.{type_at}
@@ -8,8 +9,8 @@ use Rattle.luks_meta.specs.declared.keyslots.Cost.TheVariants as cost
 use Rattle.luks_meta.specs.declared.keyslots.Keyslot.{Keyslot}
 use Rattle.luks_meta.specs.Says.{TellsCost, TellsKeyslot}
 use Rattle.luks_show.specs.AllLines.{costs_line, salt_line}
-use Rattle.luks_show.specs.Luks2Lines.{kdf_text, keyslot_line}
-use Rattle.luks_show.specs.Texts.{line}
+use Rattle.luks_show.specs.Luks2Lines.{digest_text, kdf_text, keyslot_line}
+use Rattle.luks_show.specs.Texts.{escaped, line}
 use Rattle.luks_underway.specs.declared.slots.WideKeyslot.{WideKeyslot}
 use Rattle.luks_underway.specs.declared.slots.WideKeyslot.TheVariants.{Luks2, Reencrypt}
 use Rattle.luks_underway.specs.Slots.{TellsWideKeyslot}
@@ -34,7 +35,7 @@ key_told : (j : Data) (n : ℕ) (d : Data) (k : Keyslot) (digest : Option ℕ) �
     → keyslot_line n k digest ≡ key_line j n d
 key_told j n d k digest tells of =
     let area = tells.4 in
-    rw (of, tells.1, kdf_told d k.kdf.cost tells.5.0, area.1, area.3, area.4) (regrouped _ _ _ _ _ _ _)
+    rw (of, tells.1, kdf_told d k.kdf.cost tells.5.0, area.1, area.3, area.4) (regrouped (decimal n) (decimal k.key_size) (kdf_text k.kdf.cost) (decimal k.area.offset) (decimal k.area.size) (escaped k.area.encryption.now) (digest_text digest))
 
 costs_told : (n : ℕ) (d : Data) (c : Cost) → TellsCost d c → costs_line n c ≡ costs_listed n d
 costs_told n d (cost.Pbkdf2 c) tells = rw (tells.0, tells.1, tells.2) refl

@@ -1,5 +1,6 @@
 -- The lines of a segment, by its record.
 use Rattle.std.proofs.Common.{◌≡◌, ℕ, List, [], ◌++◌, codes, Option, Some, refl, ap₂, append_assoc, append-nil}
+use Rattle.std.specs.Fmt.{decimal}
 use Rattle.serde_json.specs.Data.{Data}
 use Rattle.luks_rules.specs.declared.table.Outer.TheVariants as outer
 use Rattle.luks_rules.specs.Faults.{type_at}
@@ -14,7 +15,7 @@ use Rattle.luks_underway.specs.Segments.{flags_at, TellsWideKind, TellsWideSegme
 use Rattle.luks_underway_show.specs.declared.lines.Lines.{Lines}
 use Rattle.luks_underway_show.specs.declared.lines.Lines.TheVariants.{Few, All}
 use Rattle.luks_underway_show.specs.RecordLines.{encryption_text, extent_text, further_segment_text, kind_text, members_text, segment_text}
-use Rattle.luks_underway_show.specs.SegmentLines.{further_segment_lines, segment_line, segment_lines}
+use Rattle.luks_underway_show.specs.SegmentLines.{flags_shown, further_segment_lines, segment_line, segment_lines}
 use Rattle.luks_underway_show.specs.Shown.{extent_shown}
 
 kind_told : (d : Data) (k : WideKind) → TellsWideKind d k → type_at d outer.Top ≡ Some (kind_text k)
@@ -33,7 +34,7 @@ regrouped : (n k o s t : List ℕ) →
 regrouped n k o s t = simp append_assoc refl
 
 members_told : (n : ℕ) (d : Data) (s : WideSegment) (flags : Option Data) → TellsWideSegment d s → flags_at d ≡ flags → members_text n s flags ≡ segment_line n d
-members_told n d s flags tells has = rw (has, kind_told d s.kind tells.kind, tells.offset, tells.size, ← extent_told s.size) (regrouped _ _ _ _ _)
+members_told n d s flags tells has = rw (has, kind_told d s.kind tells.kind, tells.offset, tells.size, ← extent_told s.size) (regrouped (decimal n) (kind_text s.kind) (decimal s.offset) (extent_text s.size) (flags_shown flags))
 
 encryption_told : (n : ℕ) (d : Data) (k : WideKind) → TellsWideKind d k → encryption_text n k ≡ further_segment_lines All n d
 encryption_told n d (wide.Crypt e) tells = rw (tells.0, tells.1, tells.2, tells.3) (simp append-nil refl)
