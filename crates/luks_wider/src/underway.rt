@@ -71,13 +71,13 @@ impl Underway {
         ensures memory { IfErr result (λ f. f ≡ no_memory → (text : List ℕ) × JsonText area.now text) }
     {
         let value = read_members(alloc, area)?;
-        if let Some(place) = first_contradiction(&value) {
-            return Err(WideFault::UnderWay(contradiction_path(place)));
+        match first_contradiction(&value) {
+            Some(place) => Err(WideFault::UnderWay(contradiction_path(place))),
+            None => Ok(Underway {
+                value,
+                len: area.len(),
+            }),
         }
-        Ok(Underway {
-            value,
-            len: area.len(),
-        })
     }
 
     /// The metadata meets the rules of what is under way, and doesn't contradict itself: a law.
