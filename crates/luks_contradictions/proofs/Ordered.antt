@@ -47,8 +47,8 @@ found test (x ∷ xs) ord n e =
     let p = and_parts _ _ ord in
     elim (cases_Bool (test x)) [
       | inl is ↦
-          let at : n ≡ x = some_same n x (rw is at e) in
-          rw at record {
+          let here : n ≡ x = some_same n x (rw is at e) in
+          rw here record {
             holds = is;
             among = inl refl;
             least = λ m k yes. elim k [ inl one ↦ rw one (same (number_text x)) | inr rest ↦ told _ _ (to_all _ xs p.0 m rest) ];
@@ -58,7 +58,7 @@ found test (x ∷ xs) ord n e =
           record {
             holds = r.holds;
             among = inr r.among;
-            least = λ m k yes. elim k [ inl one ↦ absurd (false≢true (sym off ∙ rw one at yes)) | inr rest ↦ r.least m rest yes ];
+            least = λ m k yes. elim k [ inl one ↦ absurd (let lost : test x ≡ true = rw one at yes in false≢true (sym off ∙ lost)) | inr rest ↦ r.least m rest yes ];
           }
     ]
 
