@@ -44,14 +44,14 @@ some_same x y e = cc
 found : (test : ℕ → Bool) (ns : List ℕ) → IsInOrder ns → (n : ℕ) → Some n ≡ find test ns → IsFound test ns n
 found test [] ord n e = absurd (cc)
 found test (x ∷ xs) ord n e =
-    let p = and_parts _ _ ord in
+    let p = and_parts (list_all (λ m. not_after (number_text x) (number_text m)) xs) (pairwise (λ k m. not_after (number_text k) (number_text m)) xs) ord in
     elim (cases_Bool (test x)) [
       | inl is ↦
           let here : n ≡ x = some_same n x (rw is at e) in
           rw here record {
             holds = is;
             among = inl refl;
-            least = λ m k yes. elim k [ inl one ↦ rw one (same (number_text x)) | inr rest ↦ told _ _ (to_all _ xs p.0 m rest) ];
+            least = λ m k yes. elim k [ inl one ↦ rw one (same (number_text x)) | inr rest ↦ told (number_text x) (number_text m) (to_all (λ k. not_after (number_text x) (number_text k)) xs p.0 m rest) ];
           }
       | inr off ↦
           let r = found test xs p.1 n (rw off at e) in
