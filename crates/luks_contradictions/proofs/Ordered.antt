@@ -2,7 +2,7 @@
 use Rattle.std.proofs.Common.{◌≡◌, ℕ, ◌<◌, Bool, true, false, ◌&&◌, List, [], ◌∷◌, ◌++◌, ◌⊎◌, Option, Some, None, cond, codes, refl, sym, ap, ◌∙◌, arith, inl, inr}
 use Rattle.std.specs.Prelude.{find, ◌==◌, nat_lt, option_map}
 use Rattle.std.specs.List.{list_all, list_any}
-use Rattle.std.proofs.lemmas.Bool.{agree_below_at, and_from, and_parts, cases_Bool, eqb-true, false≢true, lt-ltb, ltb-true, or_cases}
+use Rattle.std.proofs.lemmas.Bool.{agree_below_at, and_from, and_parts, cases_Bool, eqb-true, false≢true, lt-ltb, ltb-true, or_cases, true≢false}
 use Rattle.serde_json.specs.Data.{Data}
 use Rattle.luks_area.specs.First.{IsLeast, NotAfter}
 use Rattle.luks_json.specs.Number.{number_text}
@@ -149,6 +149,15 @@ none_contradicts j off none whole e (Segment n) = elim (cases_Bool (nat_lt n 32)
 ]
 
 -- ---- the walk
+
+-- what a test answers
+pub take_then : {A : Type 0} (b : Bool) (x : A) (o : Option A) → true ≡ b → Some x ≡ cond b (Some x) o
+take_then true x o e = refl
+take_then false x o e = absurd (true≢false e)
+
+pub take_else : {A : Type 0} (b : Bool) (x : A) (o p : Option A) → false ≡ b → p ≡ o → p ≡ cond b (Some x) o
+take_else true x o p e h = absurd (false≢true e)
+take_else false x o p e h = h
 
 -- what was answered is the one, or what is answered where that doesn't hold
 from_test : {A : Type 0} (b : Bool) (x p : A) (o : Option A) → Some p ≡ cond b (Some x) o → ((b ≡ true) × (p ≡ x)) ⊎ ((b ≡ false) × (Some p ≡ o))

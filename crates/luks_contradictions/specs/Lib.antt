@@ -3,3 +3,4 @@ pub mod Consistent
 pub mod Contradictions
 pub mod Contradicted
 pub mod Walk
+pub mod Hot

@@ -46,8 +46,20 @@ meta_least area f least off = let l = least (other_fault f off) in (l.0, λ g h.
     by l (Meta g) h = l.1 g h
     by l (UnderWay path) h = before_contradiction f path.bytes
 
+-- the fault of the members that it is
+inner : WideFault → MetaFault
+inner (Meta f) = f
+inner (UnderWay path) = fault.JsonArea
+
 pub is_memory : (f : MetaFault) → Meta f ≡ no_memory → f ≡ fault.Memory
-is_memory f e = cc
+is_memory f e = ap inner e
+
+is_meta : WideFault → Bool
+is_meta (Meta f) = true
+is_meta (UnderWay path) = false
+
+pub not_memory : (path : ArrayString 32) → UnderWay path ≡ no_memory → ⊥
+not_memory path e = false≢true (ap is_meta e)
 
 -- the value in which the place contradicts itself is that of the area
 of_value : (area : List ℕ) (j : Data) → Json area j → (path : List ℕ) → HasContradiction area path → (p : Contradiction) × (contradicts j p ≡ true) × (path ≡ contradiction_path p)

@@ -43,12 +43,14 @@ returns-in_err-read-2-clause-memory c =
     rw (p.1, p.2) (λ e. c.in_err-read-2.ensures.memory (is_memory c.in_err-read-2.field-0.0 e))
 
 pub returns-in_ok-read-clause-found : goal.returns-in_ok-read-clause-found
-returns-in_ok-read-clause-found c =
-    (c.in_ok-read.ensures.found.json, record {
-      under_way = is_under c.args.area.now (underway_content c.in_ok-read.field-0) (c.in_ok-has_under_way.ensures.is c.if-branch.true) c.in_ok-read.ensures.found.json;
-      rules = c.in_ok-read.ensures.found.rules;
-      consistent = c.in_ok-read.ensures.found.consistent;
-    })
+returns-in_ok-read-clause-found c = (
+  c.in_ok-read.ensures.found.json,
+  record {
+    under_way = is_under c.args.area.now (underway_content c.in_ok-read.field-0) (c.in_ok-has_under_way.ensures.is c.if-branch.true) c.in_ok-read.ensures.found.json;
+    rules = c.in_ok-read.ensures.found.rules;
+    consistent = c.in_ok-read.ensures.found.consistent;
+  },
+)
 
 pub returns-in_ok-read-clause-narrow : goal.returns-in_ok-read-clause-narrow
 returns-in_ok-read-clause-narrow c = λ j m. none_of_accepted c.args.area.now j m (c.in_ok-has_under_way.ensures.is c.if-branch.true)

@@ -2,7 +2,7 @@ use Rattle.std.proofs.Common.{ap, length, refl}
 use Rattle.std.proofs.lemmas.Result.{err_from_is_err_and}
 use Rattle.serde_json.specs.View.{view}
 use Rattle.luks_wider.specs.declared.fault.WideFault.TheVariants.{Meta}
-use Rattle.luks_wider.proofs.UnderWayFaults.{accepted_nowhere, consistent_in, contradiction_least, is_memory, meta_least, named_of, none_found}
+use Rattle.luks_wider.proofs.UnderWayFaults.{accepted_nowhere, consistent_in, contradiction_least, is_memory, meta_least, named_of, none_found, not_memory}
 use Rattle.luks_wider.proofs.underway.Underway.read.Goals as goal
 
 pub contradiction_path-requires : goal.contradiction_path-requires
@@ -33,7 +33,7 @@ returns-in-Some-clause-only c = λ j m.
     absurd (accepted_nowhere c.args.area.now (view c.in_ok-value.value) j c.in_ok-value.ensures.found.json m c.in-Some.place c.in-Some.ensures.least.0)
 
 pub returns-in-Some-clause-memory : goal.returns-in-Some-clause-memory
-returns-in-Some-clause-memory c = λ e. absurd (cc)
+returns-in-Some-clause-memory c = λ e. absurd (not_memory c.contradiction_path.result e)
 
 pub returns-in-None-clause-found : goal.returns-in-None-clause-found
 returns-in-None-clause-found c = record {
