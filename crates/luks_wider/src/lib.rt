@@ -22,4 +22,4 @@ pub use laws::accepted_is_not_under_way;
 pub use luks_contradictions::{first_reencryption, is_under_way};
 pub use reencryption::ReencryptSlot;
 pub use underway::{Sides, Underway};
-pub use wider::{Wider, read_wider};
+pub use wider::{Wider, has_under_way, read_wider};

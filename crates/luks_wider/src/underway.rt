@@ -94,6 +94,13 @@ impl Underway {
         &self.value
     }
 
+    /// The value, which the metadata gives up: it is moved, and no memory is taken.
+    pub fn into_value(self) -> Value
+        ensures { view result ≡ content self }
+    {
+        self.value
+    }
+
     /// The length in bytes of the JSON area that it was read from.
     pub fn area_len(&self) -> usize
         ensures { result ≡ area_len self.now }

@@ -51,7 +51,7 @@ pub fn read_wider(alloc: Global, area: &[u8]) -> Result<Wider, WideFault>
 }
 
 /// Whether the area holds a value in which something is under way. Fails only where memory was refused.
-fn has_under_way(alloc: Global, area: &[u8]) -> Result<bool, WideFault>
+pub fn has_under_way(alloc: Global, area: &[u8]) -> Result<bool, WideFault>
     ensures is { IfOk result (λ is. is ≡ true → HasUnderWay area.now) }
     ensures other { IfOk result (λ is. is ≡ false → HasUnderWay area.now → ⊥) }
     ensures memory { IfErr result (λ f. f ≡ no_memory) }
