@@ -16,8 +16,7 @@ use Rattle.luks_show.specs.Texts.{copies_text}
 use Rattle.luks_underway.specs.declared.segments.WideSegment.{WideSegment}
 use Rattle.luks_underway.specs.Segments.{TellsWideSegment}
 use Rattle.luks_underway.specs.Sides.{IsSide}
-use Rattle.luks_contradictions.specs.Contradictions.{has_marked}
-use Rattle.luks_contradictions.specs.declared.marks.Mark.TheVariants.{Hot}
+use Rattle.luks_contradictions.specs.Hot.{is_in_hand}
 use Rattle.luks_underway_show.specs.declared.hotzone.Hotzone.{Hotzone}
 use Rattle.luks_underway_show.specs.KeyslotValues.{IsKeyslotsValue, number_value}
 use Rattle.luks_underway_show.specs.WideSegmentValues.{IsWideSegmentsValue}
@@ -26,7 +25,7 @@ use Rattle.luks_underway_show.specs.WideSegmentValues.{IsWideSegmentsValue}
 
 -- the part in hand lies where the first segment in use that is in reencryption says
 pub record IsHotzone (j : Data) (z : Hotzone) : Type 0 where
-  pub is : IsFirst (has_marked Hot j) z.segment
+  pub is : IsFirst (is_in_hand j) z.segment
   pub members : WideSegment
   pub told : IsObject TellsWideSegment j Segments z.segment members
   pub offset : z.offset ≡ members.offset
@@ -34,7 +33,7 @@ pub record IsHotzone (j : Data) (z : Hotzone) : Type 0 where
 
 -- or there is none
 abbrev pub IsHot : Data → Option Hotzone → Type 0
-IsHot j None = (n : ℕ) → n < 32 → has_marked Hot j n ≡ false
+IsHot j None = (n : ℕ) → n < 32 → is_in_hand j n ≡ false
 IsHot j (Some z) = IsHotzone j z
 
 abbrev pub hotzone_value : Option Hotzone → Data
