@@ -51,8 +51,20 @@ some_more zero e = absurd (cc)
 some_more (suc n) e = omega arith
 
 no_zero : (n : ℕ) → 1 ≤ n → (n == 0) ≡ false
-no_zero zero h = absurd (omega (arith, h))
-no_zero (suc n) h = refl
+no_zero n h = false_from_ne_true _ (λ e. let z : n ≡ 0 = eqb-true n 0 e in omega (arith, h, z))
+
+-- of three and of four tests none holds
+three_off : (a b c : Bool) → (a || b || c) ≡ false → (a ≡ false) × (b ≡ false) × (c ≡ false)
+three_off a b c h =
+    let p = or_parts (a || b) c h in
+    let q = or_parts a b p.0 in
+    (q.0, q.1, p.1)
+
+four_off : (a b c d : Bool) → (a || b || c || d) ≡ false → (a ≡ false) × (b ≡ false) × (c ≡ false) × (d ≡ false)
+four_off a b c d h =
+    let p = or_parts (a || b || c) d h in
+    let q = three_off a b c p.0 in
+    (q.0, q.1, q.2, p.1)
 
 some_same : {A : Type 0} (x y : A) → Some x ≡ Some y → x ≡ y
 some_same x y e = cc
@@ -162,32 +174,35 @@ module _ (j : Data) (off : (p : Contradiction) → contradicts j p ≡ false) wh
 
 -- the segments of a reencryption
 module _ (j : Data) (wide : AreWideSegments j) (off : (p : Contradiction) → contradicts j p ≡ false) (any : any_below (has_reencrypt j) 32 ≡ true) where
-  counted_well : is_miscounted j ≡ false
-  counted_well = (or_parts (is_miscounted j) (is_gapped j) (after _ _ any (off Segments))).0
+  whole : (is_miscounted j ≡ false) × (is_gapped j ≡ false)
+  whole = or_parts (is_miscounted j) (is_gapped j) (after _ _ any (off Segments))
 
-  no_gaps : is_gapped j ≡ false
-  no_gaps = (or_parts (is_miscounted j) (is_gapped j) (after _ _ any (off Segments))).1
+  counts : (not (count_marked mark.Previous j == 1) ≡ false) × (not (count_marked mark.Final j == 1) ≡ false) × (nat_lt 1 (count_marked mark.Moved j) ≡ false) × (nat_lt 1 (count_marked mark.Hot j) ≡ false)
+  counts = four_off (not (count_marked mark.Previous j == 1)) (not (count_marked mark.Final j == 1)) (nat_lt 1 (count_marked mark.Moved j)) (nat_lt 1 (count_marked mark.Hot j)) whole.0
+
+  gaps : ((count_marked mark.Used j == 0) ≡ false) × (not (all_below (has_marked mark.Used j) (count_marked mark.Used j)) ≡ false) × (not (all_below (has_marked mark.There j) (count_marked mark.There j)) ≡ false)
+  gaps = three_off (count_marked mark.Used j == 0) (not (all_below (has_marked mark.Used j) (count_marked mark.Used j))) (not (all_below (has_marked mark.There j) (count_marked mark.There j))) whole.1
 
   old_once : count_marked mark.Previous j ≡ 1
-  old_once = eqb-true _ 1 (not_off _ (or_parts _ _ counted_well).0)
+  old_once = eqb-true _ 1 (not_off _ counts.0)
 
   new_once : count_marked mark.Final j ≡ 1
-  new_once = eqb-true _ 1 (not_off _ (or_parts _ _ (or_parts _ _ counted_well).1).0)
+  new_once = eqb-true _ 1 (not_off _ counts.1)
 
   moved_once : count_marked mark.Moved j ≤ 1
-  moved_once = ltb-false 1 _ (or_parts _ _ (or_parts _ _ (or_parts _ _ counted_well).1).1).0
+  moved_once = ltb-false 1 _ counts.2
 
   hot_once : count_marked mark.Hot j ≤ 1
-  hot_once = ltb-false 1 _ (or_parts _ _ (or_parts _ _ (or_parts _ _ counted_well).1).1).1
+  hot_once = ltb-false 1 _ counts.3
 
   one_used : 1 ≤ count_marked mark.Used j
-  one_used = some_more _ (or_parts _ _ no_gaps).0
+  one_used = some_more _ gaps.0
 
   used_first : all_below (has_marked mark.Used j) (count_marked mark.Used j) ≡ true
-  used_first = not_off _ (or_parts _ _ (or_parts _ _ no_gaps).1).0
+  used_first = not_off _ gaps.1
 
   there_first : all_below (has_marked mark.There j) (count_marked mark.There j) ≡ true
-  there_first = not_off _ (or_parts _ _ (or_parts _ _ no_gaps).1).1
+  there_first = not_off _ gaps.2
 
   old : IsOne mark.Previous j
   old = one_of mark.Previous j old_once
@@ -205,10 +220,9 @@ module _ (j : Data) (wide : AreWideSegments j) (off : (p : Contradiction) → co
   well n d u =
       let at : has_out_of_place j n ≡ false = after _ _ (lt-ltb n 32 u.held.named) (off (Segment n)) in
       let none : is_out_of_place j n d ≡ false = rw u.held.is at at in
-      let p = or_parts _ _ (after _ _ (not_from_false _ u.used) (after _ _ any none)) in
-      let q = or_parts _ _ p.1 in
-      let r = or_parts _ _ q.1 in
-      record { like = p.0; hot = q.0; ended = r.0; alone = r.1 }
+      let judged : (any_below (has_reencrypt j) 32 && not (is_kept_back d)) ≡ true = and_from _ _ any (not_from_false _ u.used) in
+      let p = four_off (is_unlike j d) (is_hot_outside j d) (is_unended j n d) (any_beside beside.Meeting j d n) (after _ _ judged none) in
+      record { like = p.0; hot = p.1; ended = p.2; alone = p.3 }
 
   is_placed : (n : ℕ) (d : Data) → IsInUse j n d → IsPlaced d
   is_placed n d u = placed d (wide n d u.held)
@@ -340,9 +354,10 @@ module _ (j : Data) (wide : AreWideSegments j) (p : IsParted j) where
 
   miscounted_off : is_miscounted j ≡ false
   miscounted_off =
-      or_from _ _ (not_from_true _ (eq-eqb _ 1 (once mark.Previous (codes "backup-previous") (λ _. refl) p.old_number p.old p.is_old)))
-      (or_from _ _ (not_from_true _ (eq-eqb _ 1 (once mark.Final (codes "backup-final") (λ _. refl) p.new_number p.new p.is_new)))
-      (or_from _ _ (le-ltb _ 1 few_moved) (le-ltb _ 1 few_hot)))
+      or_from _ _ (or_from _ _ (or_from _ _
+      (not_from_true _ (eq-eqb _ 1 (once mark.Previous (codes "backup-previous") (λ _. refl) p.old_number p.old p.is_old)))
+      (not_from_true _ (eq-eqb _ 1 (once mark.Final (codes "backup-final") (λ _. refl) p.new_number p.new p.is_new))))
+      (le-ltb 1 _ few_moved)) (le-ltb 1 _ few_hot)
 
   there_closed : (a b : ℕ) → a < 32 → b < a → has_marked mark.There j a ≡ true → has_marked mark.There j b ≡ true
   there_closed a b la before is =
@@ -359,9 +374,9 @@ module _ (j : Data) (wide : AreWideSegments j) (p : IsParted j) where
   gapped_off : is_gapped j ≡ false
   gapped_off =
       let some = count_some (has_marked mark.Used j) 0 32 (omega arith) (used_at j 0 p.first.0 p.first.1) in
-      or_from _ _ (no_zero _ some)
-      (or_from _ _ (not_from_true _ (all_from _ _ (front_counted (has_marked mark.Used j) 32 32 used_closed (omega arith))))
-      (not_from_true _ (all_from _ _ (front_counted (has_marked mark.There j) 32 32 there_closed (omega arith)))))
+      or_from _ _ (or_from _ _ (no_zero _ some)
+      (not_from_true _ (all_from (has_marked mark.Used j) (count_marked mark.Used j) (front_counted (has_marked mark.Used j) 32 32 used_closed (omega arith)))))
+      (not_from_true _ (all_from (has_marked mark.There j) (count_marked mark.There j) (front_counted (has_marked mark.There j) 32 32 there_closed (omega arith))))
 
   new_mark : is_marked mark.Final p.new ≡ true
   new_mark = and_from _ _ p.is_new.backup p.is_new.has
@@ -402,45 +417,46 @@ module _ (j : Data) (wide : AreWideSegments j) (p : IsParted j) where
 
   unended_not : (n : ℕ) (d : Data) → IsInUse j n d → is_unended j n d ≡ true → ⊥
   unended_not n d u h =
-      let q = and_parts _ _ h in
-      let r = and_parts _ _ q.1 in
-      let less : n < 31 = ltb-true n 31 r.0 in
-      let v = in_use j (n + 1) (omega (arith, less)) r.1 in
+      let q = and_parts (option_map_or (λ size. false) (size_of d) true && nat_lt n 31) (has_marked mark.Used j (n + 1)) h in
+      let r = and_parts (option_map_or (λ size. false) (size_of d) true) (nat_lt n 31) q.0 in
+      let less : n < 31 = ltb-true n 31 r.1 in
+      let v = in_use j (n + 1) (omega (arith, less)) q.1 in
       let at = placed d (wide n d u.held) in
-      p.fixed n (n + 1) d v.0 at.start u v.1 (omega arith) (lies_on d at (none_told (size_of d) q.0))
+      p.fixed n (n + 1) d v.0 at.start u v.1 (omega arith) (lies_on d at (none_told (size_of d) r.0))
 
   meeting_not : (n : ℕ) (d : Data) → IsInUse j n d → any_beside beside.Meeting j d n ≡ true → ⊥
   meeting_not n d u h =
       let s = some_below (has_beside beside.Meeting j d) n h in
       let k = held_by (is_beside beside.Meeting d) (object_at j SegmentsMap s.0) s.2 in
-      let q = and_parts _ _ k.2 in
+      let q = and_parts (is_marked mark.Used k.0) (is_meeting d k.0) k.2 in
       let less : n < 32 = u.held.named in
-      let held = has_object j s.0 k.0 (omega (arith, s.1, less)) k.1 in
+      let before : s.0 < n = s.1 in
+      let held = has_object j s.0 k.0 (omega (arith, before, less)) k.1 in
       let v : IsInUse j s.0 k.0 = record { held = held; used = not_on _ q.0 } in
-      let off = apart_is k.0 d (placed k.0 (wide s.0 k.0 held)) (placed d (wide n d u.held)) (p.apart s.0 n k.0 d v u s.1) in
+      let off = apart_is k.0 d (placed k.0 (wide s.0 k.0 held)) (placed d (wide n d u.held)) (p.apart s.0 n k.0 d v u before) in
       false≢true (sym off ∙ q.1)
 
   out_of_place_not : (n : ℕ) (d : Data) → n < 32 → object_at j SegmentsMap n ≡ Some d → is_kept_back d ≡ false
       → (is_unlike j d || is_hot_outside j d || is_unended j n d || any_beside beside.Meeting j d n) ≡ true → ⊥
   out_of_place_not n d less is used h =
       let u : IsInUse j n d = record { held = has_object j n d less is; used = used } in
-      elim (or_cases _ _ h) [
-        | inl a ↦ unlike_not n d u a
-        | inr more ↦ elim (or_cases _ _ more) [
-          | inl a ↦ outside_not n d u a
-          | inr rest ↦ elim (or_cases _ _ rest) [
-            | inl a ↦ unended_not n d u a
-            | inr a ↦ meeting_not n d u a
+      elim (or_cases (is_unlike j d || is_hot_outside j d || is_unended j n d) _ h) [
+        | inr a ↦ meeting_not n d u a
+        | inl more ↦ elim (or_cases (is_unlike j d || is_hot_outside j d) _ more) [
+          | inr a ↦ unended_not n d u a
+          | inl rest ↦ elim (or_cases (is_unlike j d) _ rest) [
+            | inl a ↦ unlike_not n d u a
+            | inr a ↦ outside_not n d u a
           ]
         ]
       ]
 
 segments_not : (j : Data) → AreWideSegments j → IsConsistent j → is_misparted j ≡ true → ⊥
 segments_not j wide c h =
-    let q = and_parts _ _ h in
+    let q = and_parts (any_below (has_reencrypt j) 32) (is_miscounted j || is_gapped j) h in
     let s = some_below (has_reencrypt j) 32 q.0 in
     let p = c.parted s.0 s.1 s.2 in
-    elim (or_cases _ _ q.1) [
+    elim (or_cases (is_miscounted j) (is_gapped j) q.1) [
       | inl a ↦ false≢true (sym (miscounted_off j wide p) ∙ a)
       | inr a ↦ false≢true (sym (gapped_off j wide p) ∙ a)
     ]
@@ -449,10 +465,10 @@ segment_not : (j : Data) → AreWideSegments j → IsConsistent j → (n : ℕ) 
 segment_not j wide c n h =
     let q = and_parts _ _ h in
     let k = held_by (is_out_of_place j n) (object_at j SegmentsMap n) q.1 in
-    let r = and_parts _ _ k.2 in
-    let t = and_parts _ _ r.1 in
-    let s = some_below (has_reencrypt j) 32 r.0 in
-    out_of_place_not j wide (c.parted s.0 s.1 s.2) n k.0 (ltb-true n 32 q.0) k.1 (not_on _ t.0) t.1
+    let r = and_parts (any_below (has_reencrypt j) 32 && not (is_kept_back k.0)) (is_unlike j k.0 || is_hot_outside j k.0 || is_unended j n k.0 || any_beside beside.Meeting j k.0 n) k.2 in
+    let t = and_parts (any_below (has_reencrypt j) 32) (not (is_kept_back k.0)) r.0 in
+    let s = some_below (has_reencrypt j) 32 t.0 in
+    out_of_place_not j wide (c.parted s.0 s.1 s.2) n k.0 (ltb-true n 32 q.0) k.1 (not_on _ t.1) r.1
 
 pub nowhere_of : (j : Data) → AreWideSegments j → IsConsistent j → (p : Contradiction) → contradicts j p ≡ false
 nowhere_of j wide c Requirements = requirements_off j c

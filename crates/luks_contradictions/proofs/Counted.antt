@@ -148,7 +148,7 @@ front_counted test n (suc k) closed le m less = elim (cases_Bool (test k)) [
 
 full : (test : ℕ → Bool) (n : ℕ) → all_below test n ≡ true → count_below test n ≡ n
 full test zero all = refl
-full test (suc n) all = let p = and_parts _ _ all in rw p.0 (ap suc (full test n p.1))
+full test (suc n) all = let p = and_parts (test n) (all_below test n) all in count_step test n p.0 ∙ ap suc (full test n p.1)
 
 -- with each one those below it, where as many of the first ones are so
 pub front_of : (test : ℕ → Bool) (n a b : ℕ) → all_below test (count_below test n) ≡ true → a < n → b < a → test a ≡ true → test b ≡ true

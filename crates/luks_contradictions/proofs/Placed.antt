@@ -24,7 +24,7 @@ use Rattle.luks_contradictions.specs.Contradictions.{end_of, is_before, is_like,
 abbrev extent_at : Data → Option Field
 extent_at d = option_and_then extent_of (text_of (member_at d outer.Top name.Size))
 
-data HasSize (d : Data) : Type 0 where
+pub data HasSize (d : Data) : Type 0 where
   fixed : (n : ℕ) → size_of d ≡ Some n → extent_at d ≡ Some (whole n) → HasSize d
   unended : size_of d ≡ None → extent_at d ≡ Some dynamic → HasSize d
 
@@ -47,11 +47,11 @@ no_dynamic (Some n) e = absurd (no_decimal n e)
 
 size_text : (d : Data) (t : List ℕ) → text_of (member_at d outer.Top name.Size) ≡ Some t → is_some (extent_of t) ≡ true → HasSize d
 size_text d t is there = elim (cases_Bool (bytes_eq t (codes "dynamic"))) [
-  | inl yes ↦
-      let at : t ≡ codes "dynamic" = (bytes_eq-Decides t (codes "dynamic")).0 yes in
-      unended (rw (is, at) (no_dynamic _ refl)) (rw is (rw yes refl))
-  | inr no ↦
-      let n = some_there (decimal_of t) (map_there whole (decimal_of t) (rw no at there)) in
+  | inl same ↦
+      let at : t ≡ codes "dynamic" = (bytes_eq-Decides t (codes "dynamic")).0 same in
+      unended (rw (is, at) (no_dynamic _ refl)) (rw (is, same) refl)
+  | inr other ↦
+      let n = some_there (decimal_of t) (map_there whole (decimal_of t) (rw other at there)) in
       fixed n.0 (rw is n.1) (rw is (extent_text t n.0 n.1))
 ]
 
@@ -159,12 +159,18 @@ not_behind (Some n) None h = refl
 not_behind None (Some m) h = elim h [ ]
 not_behind (Some n) (Some m) h = le-leb n m h
 
+begins_by : (o p : Option ℕ) (least start : ℕ) → o ≡ Some least → p ≡ Some start → is_not_behind o p ≡ true → least ≤ start
+begins_by o p least start e f h = leb-true least start (rw (e, f) at h)
+
+ends_by : (o p end most : Option ℕ) → o ≡ end → p ≡ most → is_not_behind o p ≡ true → EndsWithin end most
+ends_by o p end most e f h = ends_within end most (rw (e, f) at h)
+
 pub within_of : (d e : Data) → IsPlaced d → IsPlaced e → is_within d e ≡ true → IsWithin d e
 within_of d e p q h = λ start least end most lies around.
     let a = is_at d p start end lies in
     let b = is_at e q least most around in
-    let parts = and_parts _ _ (rw (a.starts, a.ends, b.starts, b.ends) at h) in
-    (leb-true least start parts.0, ends_within end most parts.1)
+    let parts = and_parts _ _ h in
+    (begins_by (start_of e) (start_of d) least start b.starts a.starts parts.0, ends_by (end_of d) (end_of e) end most a.ends b.ends parts.1)
 
 pub within_is : (d e : Data) → IsPlaced d → IsPlaced e → IsWithin d e → is_within d e ≡ true
 within_is d e p q h =
@@ -240,8 +246,8 @@ same_numbers (Some a) (Some b) e = eq-eqb a b (some_same a b e)
 pub like_of : (d e : Data) → is_like d e ≡ true → IsLike d e
 like_of d e h =
     let p = and_parts _ _ h in
-    let q = and_parts _ _ p.1 in
-    record { kind = texts_same _ _ p.0; cipher = texts_same _ _ q.0; sector = numbers_same _ _ q.1 }
+    let q = and_parts _ _ p.0 in
+    record { kind = texts_same _ _ q.0; cipher = texts_same _ _ q.1; sector = numbers_same _ _ p.1 }
 
 pub like_is : (d e : Data) → IsLike d e → is_like d e ≡ true
-like_is d e l = and_from _ _ (same_texts _ _ l.kind) (and_from _ _ (same_texts _ _ l.cipher) (same_numbers _ _ l.sector))
+like_is d e l = and_from _ _ (and_from _ _ (same_texts _ _ l.kind) (same_texts _ _ l.cipher)) (same_numbers _ _ l.sector)

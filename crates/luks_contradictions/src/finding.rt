@@ -1,11 +1,12 @@
 //! The first place where what is under way contradicts itself, by the order of the bytes of the paths.
 
-ghost use Rattle.std.specs.Prelude.{◌≡◌, ◌<◌, ℕ, true, false, find, nat_lt, option_map, IfSome, IsNone};
+ghost use Rattle.std.specs.Prelude.{◌≡◌, ◌<◌, true, false, find, nat_lt, IfSome, IsNone};
 ghost use Rattle.std.specs.List.{list_all};
 ghost use Rattle.serde_json.specs.View.{view};
 ghost use Rattle.luks_area.specs.First.{IsLeast};
 ghost use Rattle.luks_contradictions.specs.Contradicted.{contradiction_path, contradicts, has_out_of_place};
 ghost use Rattle.luks_contradictions.specs.Contradictions.{is_second};
+ghost use Rattle.luks_contradictions.specs.Walk.{first_of_segments, first_place};
 
 use crate::contradiction::Contradiction;
 use crate::contradictions::{is_misparted, is_out_of_place, is_second, lacks_requirement};
@@ -23,12 +24,28 @@ pub fn first_contradiction(value: &Value) -> Option<Contradiction>
     ensures least { IfSome result (λ p. IsLeast contradiction_path (λ q. contradicts (view value.now) q ≡ true) p) }
     ensures none { IsNone result → (p : Contradiction) → contradicts (view value.now) p ≡ false }
 {
+    match first_place(value) {
+        Some(place) => Some(place),
+        None => None,
+    }
+}
+
+fn first_place(value: &Value) -> Option<Contradiction>
+    ensures { result ≡ first_place (view value.now) }
+{
     if lacks_requirement(value) {
         return Some(Contradiction::Requirements);
     }
-    if let Some(number) = first_second(value, &NUMBERS) {
-        return Some(Contradiction::Keyslot(number));
+    match first_second(value, &NUMBERS) {
+        Some(number) => Some(Contradiction::Keyslot(number)),
+        None => first_of_segments(value),
     }
+}
+
+/// The first place among the segments.
+fn first_of_segments(value: &Value) -> Option<Contradiction>
+    ensures { result ≡ first_of_segments (view value.now) }
+{
     if is_misparted(value) {
         return Some(Contradiction::Segments);
     }

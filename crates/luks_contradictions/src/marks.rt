@@ -5,6 +5,7 @@ ghost use Rattle.serde_json.specs.View.{view};
 ghost use Rattle.luks_rules.specs.Faults.{member_at};
 ghost use Rattle.luks_rules.specs.Reading.{number_of, text_of};
 ghost use Rattle.luks_rules.specs.Sizes.{IsFirst};
+ghost use Rattle.luks_contradictions.specs.Hot.{is_in_hand};
 ghost use Rattle.luks_contradictions.specs.Contradictions.{all_below, any_beside, count_marked, end_of, has_beside, has_marked, is_before, is_beside, is_like, is_marked, is_meeting, is_not_behind, is_within, same_number, same_text, size_of, start_of};
 
 use luks_json::{decimal_in, text_in, whole_number_in};
@@ -59,8 +60,8 @@ pub(crate) fn has_marked(mark: Mark, value: &Value, number: u8) -> bool
 /// The least segment that data is read by with the flag `in-reencryption`: the part in hand.
 pub fn first_hot(value: &Value) -> Option<u8>
     ensures { MatchOption result
-        ((n : ℕ) → n < 32 → has_marked Mark.Hot (view value.now) n ≡ false)
-        (λ n. IsFirst (has_marked Mark.Hot (view value.now)) n) }
+        ((n : ℕ) → n < 32 → is_in_hand (view value.now) n ≡ false)
+        (λ n. IsFirst (is_in_hand (view value.now)) n) }
 {
     for number in 0..32u8 {
         if has_marked(Mark::Hot, value, number) {

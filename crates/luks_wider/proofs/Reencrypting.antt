@@ -1,11 +1,12 @@
 -- The keyslot of the type `reencrypt`, of which there is one at most.
-use Rattle.std.proofs.Common.{◌≡◌, ℕ, ◌<◌, Bool, true, false, Option, Some, None, option_map, is_some, refl, sym, ◌∙◌, inl, inr, arith}
+use Rattle.std.proofs.Common.{◌≡◌, ℕ, ◌<◌, Bool, true, false, Option, Some, None, option_map, is_some, IfSome, refl, sym, subst, ◌∙◌, inl, inr, arith}
 use Rattle.std.specs.Option.{option_map_or}
 use Rattle.std.proofs.lemmas.Bool.{and_from, cases_eq, cases_lt, false≢true, lt-ltb}
 use Rattle.serde_json.specs.Data.{Data}
 use Rattle.luks_rules.specs.declared.table.Section.TheVariants.{Keyslots}
 use Rattle.luks_rules.specs.Faults.{object_at}
 use Rattle.luks_rules.specs.Sizes.{IsFirst}
+use Rattle.luks_meta.specs.Objects.{IsObject}
 use Rattle.luks_underway.specs.declared.reencryption.Reencryption.{Reencryption}
 use Rattle.luks_underway.specs.Kinds.{has_reencrypt, is_reencrypt}
 use Rattle.luks_underway.specs.Reencryptions.{IsReencryption, TellsReencryption}
@@ -34,6 +35,9 @@ is_reencryption j a n d first is =
     let typed : is_reencrypt d ≡ true = rw is at first.holds in
     by_kind d typed (a.rules.keyslots n d (record { numbered = refl; named = first.below; is = is }))
 
+some_same : {A : Type 0} (x y : A) → Some x ≡ Some y → x ≡ y
+some_same x y e = cc
+
 alone : (j : Data) → ((p : Contradiction) → contradicts j p ≡ false) → (n : ℕ) → IsFirst (has_reencrypt j) n → (m : ℕ) → m < 32 → has_reencrypt j m ≡ true → m ≡ n
 alone j off n first m less is = elim (cases_lt n m) [
   | inl behind ↦
@@ -45,10 +49,11 @@ alone j off n first m less is = elim (cases_lt n m) [
   ]
 ]
 
-pub is_slot : (j : Data) → ((p : Contradiction) → contradicts j p ≡ false) → (n : ℕ) (d : Data) (r : Reencryption) → IsFirst (has_reencrypt j) n → object_at j Keyslots n ≡ Some d
-    → TellsReencryption d r → IsReencryptSlot j (record { number = n; members = r })
-is_slot j off n d r first is tells = record {
-  is = first;
-  only = alone j off n first;
-  tells_members = record { object = d; is = is; tells_members = tells };
-}
+-- what is told of a record that is there
+pub told_by : {A : Type 0} (P : A → Type 0) (r : Option A) (x : A) → IfSome r P → r ≡ Some x → P x
+told_by P None x h e = absurd (cc)
+told_by P (Some y) x h e = let same : y ≡ x = some_same y x e in subst P same h
+
+pub is_slot : (j : Data) → ((p : Contradiction) → contradicts j p ≡ false) → (n : ℕ) (r : Reencryption) → IsFirst (has_reencrypt j) n → IsObject TellsReencryption j Keyslots n r
+    → IsReencryptSlot j (record { number = n; members = r })
+is_slot j off n r first is = record { is = first; only = alone j off n first; tells_members = is }

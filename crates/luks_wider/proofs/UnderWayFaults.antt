@@ -1,6 +1,6 @@
 -- The faults of an area in which something is under way: those of its members, and where it contradicts itself.
 use Rattle.std.proofs.Common.{◌≡◌, ◌≢◌, ℕ, ◌<◌, ◌≤◌, Bool, true, false, List, ◌∷◌, length, refl, sym, ap, subst, ◌∙◌, arith}
-use Rattle.std.proofs.lemmas.Bool.{false≢true}
+use Rattle.std.proofs.lemmas.Bool.{and_parts, false≢true, ltb-true}
 use Rattle.serde_json.specs.Data.{Data}
 use Rattle.arrayvec.specs.declared.array_string.ArrayString.{ArrayString}
 use Rattle.luks_area.specs.First.{IsLeast, NotAfter}
@@ -10,8 +10,9 @@ use Rattle.luks_rules.specs.declared.fault.MetaFault.TheVariants as fault
 use Rattle.luks_rules.specs.MetaFault.{meta_key, meta_row}
 use Rattle.luks_rules.proofs.AreaFaults.{one_value}
 use Rattle.luks_contradictions.specs.Consistent.{IsConsistent}
-use Rattle.luks_contradictions.specs.Contradicted.{contradiction_path, contradicts}
+use Rattle.luks_contradictions.specs.Contradicted.{contradiction_path, contradicts, IsNamed}
 use Rattle.luks_contradictions.specs.declared.contradiction.Contradiction.{Contradiction}
+use Rattle.luks_contradictions.specs.declared.contradiction.Contradiction.TheVariants.{Keyslot, Requirements, Segment, Segments}
 use Rattle.luks_contradictions.proofs.Consistency.{consistent_of, nowhere_of}
 use Rattle.luks_wider.specs.Accepted.{IsUnderWayArea, IsWideArea, IsWideRules}
 use Rattle.luks_wider.specs.WideFaults.{HasContradiction, IsUnderWayFault, IsWideMetaFault, no_memory, wide_key}
@@ -45,8 +46,20 @@ meta_least area f least off = let l = least (other_fault f off) in (l.0, λ g h.
     by l (Meta g) h = l.1 g h
     by l (UnderWay path) h = before_contradiction f path.bytes
 
+-- the fault of the members that it is
+inner : WideFault → MetaFault
+inner (Meta f) = f
+inner (UnderWay path) = fault.JsonArea
+
 pub is_memory : (f : MetaFault) → Meta f ≡ no_memory → f ≡ fault.Memory
-is_memory f e = cc
+is_memory f e = ap inner e
+
+is_meta : WideFault → Bool
+is_meta (Meta f) = true
+is_meta (UnderWay path) = false
+
+pub not_memory : (path : ArrayString 32) → UnderWay path ≡ no_memory → ⊥
+not_memory path e = false≢true (ap is_meta e)
 
 -- the value in which the place contradicts itself is that of the area
 of_value : (area : List ℕ) (j : Data) → Json area j → (path : List ℕ) → HasContradiction area path → (p : Contradiction) × (contradicts j p ≡ true) × (path ≡ contradiction_path p)
@@ -64,6 +77,13 @@ contradiction_least area j json none p path least is =
     by (UnderWay other) h =
         let q = of_value area j json other.bytes h in
         (omega arith, λ _. rw (is, q.2) (least.1 q.0 q.1))
+
+-- a place that contradicts itself has a path
+pub named_of : (j : Data) (p : Contradiction) → contradicts j p ≡ true → IsNamed p
+named_of j Requirements h = tt
+named_of j (Keyslot n) h = ltb-true n 32 (and_parts _ _ h).0
+named_of j Segments h = tt
+named_of j (Segment n) h = ltb-true n 32 (and_parts _ _ h).0
 
 pub none_found : (area : List ℕ) (j : Data) → Json area j → ((f : MetaFault) → IsWideMetaFault area f → ⊥) → ((p : Contradiction) → contradicts j p ≡ false)
     → (g : WideFault) → IsUnderWayFault area g → ⊥

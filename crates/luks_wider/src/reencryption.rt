@@ -2,7 +2,10 @@
 
 ghost use Rattle.std.specs.Prelude.{◌≡◌, ◌<◌, ℕ, false, MatchOption};
 ghost use Rattle.serde_json.specs.View.{view};
+ghost use Rattle.luks_rules.specs.Sizes.{IsFirst};
+ghost use Rattle.luks_meta.specs.Objects.{IsObject};
 ghost use Rattle.luks_underway.specs.Kinds.{has_reencrypt};
+ghost use Rattle.luks_underway.specs.Reencryptions.{TellsReencryption};
 ghost use Rattle.luks_contradictions.specs.Contradicted.{contradicts};
 ghost use Rattle.luks_wider.specs.Accepted.{IsWideAccepted};
 ghost use Rattle.luks_wider.specs.Reencrypting.{IsReencryptSlot};
@@ -29,8 +32,20 @@ pub(crate) fn reencrypt_slot(value: &Value) -> Option<ReencryptSlot<'_>>
         ((n : ℕ) → n < 32 → has_reencrypt (view value.now) n ≡ false)
         (IsReencryptSlot (view value.now)) }
 {
-    let number = first_reencryption(value)?;
-    let object = object_at(value, Section::Keyslots, number).unwrap();
-    let members = read_reencryption(object).unwrap();
-    Some(ReencryptSlot { number, members })
+    match first_reencryption(value) {
+        Some(number) => Some(ReencryptSlot {
+            number,
+            members: members_at(value, number),
+        }),
+        None => None,
+    }
+}
+
+/// The members of the keyslot with the number, the least of the type `reencrypt`.
+fn members_at(value: &Value, number: u8) -> Reencryption<'_>
+    requires rules { IsWideAccepted (view value.now) }
+    requires first { IsFirst (has_reencrypt (view value.now)) number }
+    ensures { IsObject TellsReencryption (view value.now) Section.Keyslots number result }
+{
+    read_reencryption(object_at(value, Section::Keyslots, number).unwrap()).unwrap()
 }

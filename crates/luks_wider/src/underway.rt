@@ -50,8 +50,7 @@ impl Underway {
     ghost use Rattle.luks_underway.specs.Kinds.{has_reencrypt};
     ghost use Rattle.luks_underway.specs.Sides.{IsSide};
     ghost use Rattle.luks_contradictions.specs.Consistent.{IsConsistent};
-    ghost use Rattle.luks_contradictions.specs.Contradictions.{has_marked};
-    ghost use Rattle.luks_contradictions.specs.declared.marks.Mark.TheVariants.{Hot};
+    ghost use Rattle.luks_contradictions.specs.Hot.{is_in_hand};
     ghost use Rattle.luks_wider.specs.Accepted.{IsUnderWayArea, IsWideAccepted};
     ghost use Rattle.luks_wider.specs.Reencrypting.{IsReencryptSlot};
     ghost use Rattle.luks_wider.specs.Underways.{area_len, content};
@@ -71,13 +70,13 @@ impl Underway {
         ensures memory { IfErr result (λ f. f ≡ no_memory → (text : List ℕ) × JsonText area.now text) }
     {
         let value = read_members(alloc, area)?;
-        if let Some(place) = first_contradiction(&value) {
-            return Err(WideFault::UnderWay(contradiction_path(place)));
+        match first_contradiction(&value) {
+            Some(place) => Err(WideFault::UnderWay(contradiction_path(place))),
+            None => Ok(Underway {
+                value,
+                len: area.len(),
+            }),
         }
-        Ok(Underway {
-            value,
-            len: area.len(),
-        })
     }
 
     /// The metadata meets the rules of what is under way, and doesn't contradict itself: a law.
@@ -166,8 +165,8 @@ impl Underway {
     /// The number of the segment that is in hand, where sectors of either key may stand, if there is one.
     pub fn hot(&self) -> Option<u8>
         ensures { MatchOption result
-            ((n : ℕ) → n < 32 → has_marked Hot (content self.now) n ≡ false)
-            (IsFirst (has_marked Hot (content self.now))) }
+            ((n : ℕ) → n < 32 → is_in_hand (content self.now) n ≡ false)
+            (IsFirst (is_in_hand (content self.now))) }
     {
         first_hot(&self.value)
     }
