@@ -7,7 +7,7 @@ use Rattle.luks_json.specs.AreaText.{Json}
 use Rattle.luks_rules.specs.declared.table.Member.TheVariants as name
 use Rattle.luks_rules.specs.declared.table.Outer.TheVariants as outer
 use Rattle.luks_rules.specs.declared.table.Section.TheVariants.{Keyslots}
-use Rattle.luks_rules.specs.Accepted.{IsRead}
+use Rattle.luks_rules.specs.Accepted.{HasObject, IsRead}
 use Rattle.luks_rules.specs.Faults.{member_at, object_at, type_at}
 use Rattle.luks_rules.specs.Table.{keyslot_rows}
 use Rattle.luks_meta.specs.declared.keyslots.Keyslot.{Keyslot}
@@ -55,7 +55,7 @@ unkeyed j d n there is = rw (there, is) refl
 pub wide_judged : (len n : ℕ) (j d : Data) (plan : SlotPlan) → IsWideRules len j → n < 32 → object_at j Keyslots n ≡ Some d
     → type_at d outer.Top ≡ Some (codes "luks2") → IsLuks2Plan j n d plan → IsOpenable plan
 wide_judged len n j d plan rules numbered there is x =
-    let held = record { numbered = refl; named = numbered; is = there } in
+    let held : HasObject j Keyslots n d = record { numbered = refl; named = numbered; is = there } in
     let key = in_limits 1 128 (member_at d outer.Top name.KeySize) plan.key_bytes x.key_bytes in
     let stored = long_enough 20 64 (member_at x.digest.object outer.Top name.Digest) plan.digest.stored.now x.digest.stored in
     let large = rules.large n d plan.key_bytes plan.stripes plan.area.len held (keyed_rows d (rules.keyslots n d held) is) x.key_bytes x.stripes x.len in
