@@ -226,9 +226,9 @@ passed_count (Open Memory) old new is = is
 passed_count other old new is = is
 
 pub passed_no_memory : (f : WideOpenFault) → f ≢ Open Memory → IfErr (passed_over f) (λ g. g ≢ Memory)
-passed_no_memory (Open Device) no = λ e. cc
-passed_no_memory (Open Memory) no = absurd (no refl)
-passed_no_memory other no = tt
+passed_no_memory (Open Device) other_fault = λ e. cc
+passed_no_memory (Open Memory) other_fault = absurd (other_fault refl)
+passed_no_memory other other_fault = tt
 
 -- ---- when it is tried
 
