@@ -1,5 +1,5 @@
 -- The refusals of a keyslot that holds a key, step by step, and what its plan gives, where something is under way in the metadata.
-use Rattle.std.proofs.Common.{◌≡◌, ℕ, ◌<◌, List, [], ◌∷◌, length, codes, true, false, refl, sym, ap, ◌∙◌, arith, subst, Option, Some, None, Result, Ok, Err, IfOk, IfErr, IfSome}
+use Rattle.std.proofs.Common.{◌≡◌, ◌≢◌, ℕ, ◌<◌, List, [], ◌∷◌, length, codes, true, false, refl, sym, ap, ◌∙◌, arith, subst, Option, Some, None, Result, Ok, Err, IfOk, IfErr, IfSome}
 use Rattle.serde_json.specs.Data.{Data}
 use Rattle.luks_area.specs.Device.{count_after, CountsFailure}
 use Rattle.luks_area.specs.First.{NotAfter, IsLeast}
@@ -7,9 +7,11 @@ use Rattle.luks_json.specs.AreaText.{Json}
 use Rattle.luks_rules.specs.declared.table.Member.TheVariants as name
 use Rattle.luks_rules.specs.declared.table.Outer.TheVariants as outer
 use Rattle.luks_rules.specs.declared.table.Section.TheVariants.{Keyslots}
-use Rattle.luks_rules.specs.Accepted.{IsRead}
+use Rattle.luks_rules.specs.Accepted.{HasObject, IsRead}
 use Rattle.luks_rules.specs.Faults.{member_at, object_at, type_at}
 use Rattle.luks_rules.specs.Table.{keyslot_rows}
+use Rattle.luks_meta.specs.declared.keyslots.Keyslot.{Keyslot}
+use Rattle.luks_meta.specs.Says.{priority_field, TellsKeyslot}
 use Rattle.luks_slot.specs.declared.allowed.Allowed.{Allowed}
 use Rattle.luks_slot.specs.declared.fault.SlotFault.{SlotFault}
 use Rattle.luks_slot.specs.declared.plan.SlotPlan.{SlotPlan}
@@ -29,9 +31,11 @@ use Rattle.luks_underway.specs.Slots.{IsWideKeyslot, plain, reencrypt}
 use Rattle.luks_wider.specs.Accepted.{IsWideRules}
 use Rattle.luks_wide_reading.specs.declared.open_fault.WideOpenFault.{WideOpenFault}
 use Rattle.luks_wide_reading.specs.declared.open_fault.WideOpenFault.TheVariants.{Open, NoKey}
+use Rattle.luks_wide_reading.specs.declared.trying.Rank.{Rank}
+use Rattle.luks_wide_reading.specs.declared.trying.Rank.TheVariants.{Preferred, Normal}
 use Rattle.luks_wide_reading.specs.Faults.{is_wide_open_failure, wide_open_key}
 use Rattle.luks_wide_reading.specs.Opening.{HasNoKey, IsUnderwayRefusal, UnderwayOpens, UnderwayRefused, UnderwayTakesMemory}
-use Rattle.luks_wide_reading.specs.Trying.{UnderwayTried, passed_over}
+use Rattle.luks_wide_reading.specs.Trying.{is_of_rank, is_ranked, UnderwayTried, passed_over}
 
 -- ---- the keyslot
 
@@ -51,7 +55,7 @@ unkeyed j d n there is = rw (there, is) refl
 pub wide_judged : (len n : ℕ) (j d : Data) (plan : SlotPlan) → IsWideRules len j → n < 32 → object_at j Keyslots n ≡ Some d
     → type_at d outer.Top ≡ Some (codes "luks2") → IsLuks2Plan j n d plan → IsOpenable plan
 wide_judged len n j d plan rules numbered there is x =
-    let held = record { numbered = refl; named = numbered; is = there } in
+    let held : HasObject j Keyslots n d = record { numbered = refl; named = numbered; is = there } in
     let key = in_limits 1 128 (member_at d outer.Top name.KeySize) plan.key_bytes x.key_bytes in
     let stored = long_enough 20 64 (member_at x.digest.object outer.Top name.Digest) plan.digest.stored.now x.digest.stored in
     let large = rules.large n d plan.key_bytes plan.stripes plan.area.len held (keyed_rows d (rules.keyslots n d held) is) x.key_bytes x.stripes x.len in
@@ -220,3 +224,23 @@ pub passed_count : (f : WideOpenFault) (old new : ℕ) → new ≡ count_after (
 passed_count (Open Device) old new is = is
 passed_count (Open Memory) old new is = is
 passed_count other old new is = is
+
+pub passed_no_memory : (f : WideOpenFault) → f ≢ Open Memory → IfErr (passed_over f) (λ g. g ≢ Memory)
+passed_no_memory (Open Device) other_fault = λ e. cc
+passed_no_memory (Open Memory) other_fault = absurd (other_fault refl)
+passed_no_memory other other_fault = tt
+
+-- ---- when it is tried
+
+pub keyed_rank : (rank : Rank) (j d : Data) (n : ℕ) (k : Keyslot) → object_at j Keyslots n ≡ Some d → TellsKeyslot d k
+    → is_of_rank rank j n ≡ is_ranked rank (priority_field k.priority)
+keyed_rank Preferred j d n k there tells = rw (there, tells.0, tells.2) refl
+keyed_rank Normal j d n k there tells = rw (there, tells.0, tells.2) refl
+
+pub unkeyed_rank : (rank : Rank) (j : Data) (n : ℕ) → has_reencrypt j n ≡ true → is_of_rank rank j n ≡ false
+unkeyed_rank Preferred j n is = rw is refl
+unkeyed_rank Normal j n is = rw is refl
+
+pub absent_rank : (rank : Rank) (j : Data) (n : ℕ) → object_at j Keyslots n ≡ None → is_of_rank rank j n ≡ false
+absent_rank Preferred j n is = rw is refl
+absent_rank Normal j n is = rw is refl

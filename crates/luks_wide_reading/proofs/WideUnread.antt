@@ -3,7 +3,7 @@ use Rattle.std.proofs.Common.{◌≡◌, ◌≢◌, ◌∙◌, ℕ, List, length
 use Rattle.luks_area.specs.First.{IsLeast}
 use Rattle.luks1_header.specs.declared.fault.HeadFault.{HeadFault}
 use Rattle.luks2_header.specs.declared.selection.Copies.{Copies}
-use Rattle.luks2_header.specs.Header2.{header_at, uuid_field, IsUuidFault}
+use Rattle.luks2_header.specs.Header2.{header_at, uuid_field, HoldsBin2, IsUuidFault, IsUuidField}
 use Rattle.luks2_header.specs.Selection.{Choice, luks1, luks2, nothing, Chosen}
 use Rattle.luks2_header.proofs.ChoiceFacts.{choices_agree}
 use Rattle.luks_json.specs.AreaText.{Json}
@@ -16,25 +16,29 @@ use Rattle.luks_reading.specs.declared.header.Header.{Header}
 use Rattle.luks_reading.specs.declared.header.Header.TheVariants.{Luks1, Luks2}
 use Rattle.luks_reading.specs.declared.read_fault.ReadFault.{ReadFault}
 use Rattle.luks_reading.specs.declared.read_fault.ReadFault.TheVariants as reading
+use Rattle.luks_reading.specs.ChosenCopies.{json_of}
 use Rattle.luks_reading.specs.Header.{json_at, read_key, IsChosenCopy, IsHeader, IsReadFault, IsReadFaultAs, IsUnread, NeedsMetadata, TakesNoMemory}
-use Rattle.luks_reading.proofs.ReadFaults.{as_unread, cleared_copy, copy_unread, no_metadata}
-use Rattle.luks_wider.specs.Wide.{HasUnderWay}
+use Rattle.luks_reading.proofs.ReadFaults.{as_unread, cleared_copy, copy_unread, no_metadata, same_json}
+use Rattle.luks_wider.specs.declared.wider.Wider.TheVariants as wider
+use Rattle.luks_wider.specs.Underways.{area_len}
+use Rattle.luks_wider.specs.Wide.{HasUnderWay, IsWiderOf}
 use Rattle.luks_wider.specs.WideFaults.{no_memory, wide_key, IsUnderWayFault}
 use Rattle.luks_wider.specs.declared.fault.WideFault.{WideFault}
 use Rattle.luks_wider.specs.declared.fault.WideFault.TheVariants as wide
 use Rattle.luks_wide_reading.specs.declared.read_fault.WideReadFault.{WideReadFault}
 use Rattle.luks_wide_reading.specs.declared.read_fault.WideReadFault.TheVariants.{Read, Underway}
 use Rattle.luks_wide_reading.specs.declared.header.WideHeader.TheVariants as wide_header
+use Rattle.luks_wide_reading.specs.declared.copy.UnderwayCopy.{UnderwayCopy}
 use Rattle.luks_wide_reading.specs.Beside.{AreaRefused, CopyRefused}
 use Rattle.luks_wide_reading.specs.Faults.{underway_unread}
-use Rattle.luks_wide_reading.specs.Headers.{IsFromOutside, IsSameCopy, IsSameHeader, IsUnderWayVolume, IsWideUnread}
+use Rattle.luks_wide_reading.specs.Headers.{IsFromOutside, IsSameCopy, IsSameHeader, IsUnderwayCopy, IsUnderWayVolume, IsWideUnread}
 
 -- ---- the JSON area, and the copy
 
 pub area_refused : (area : List ℕ) (known : MetaFault) (f : WideFault) → HasUnderWay area
     → (f ≢ no_memory → IsLeast wide_key (IsUnderWayFault area) f) → AreaRefused area known (underway_unread f known)
 area_refused area known (wide.Meta meta.Memory) is x = tt
-area_refused area known other is x = (refl, (is, x (λ e. cc)))
+area_refused area known other is x = (refl, is, x (λ e. cc))
 
 pub copy_refused : (uuid json : List ℕ) (known : MetaFault) (f : WideReadFault) → ((g : HeadFault) → IsUuidFault uuid g → ⊥)
     → AreaRefused json known f → CopyRefused uuid json known f
@@ -74,6 +78,21 @@ beside_unread v o copies known (Underway f narrow) chosen was x = record {
   least = x.1.2;
   narrow = subst (λ h. IsUnread v (reading.Meta h)) (sym x.1.0) was;
 }
+
+-- what was read of the copy that counts
+pub beside_read : (v : List ℕ) (c : UnderwayCopy) → Chosen v (luks2 c.header.hdr_offset c.copies) → HoldsBin2 (header_at v c.header.hdr_offset) c.header
+    → IsUuidField c.header.uuid → IsWiderOf (json_of v c.header) (wider.Underway c.meta) → area_len c.meta ≡ length (json_of v c.header)
+    → IsUnread v (reading.Meta c.narrow_fault) → IsUnderwayCopy v c
+beside_read v c chosen holds uuid metadata len narrow =
+    let area = same_json v c.header holds in
+    record {
+      chosen = chosen;
+      header = holds;
+      uuid = subst IsUuidField (sym holds.uuid) uuid;
+      metadata = subst (λ (json : List ℕ). IsWiderOf json (wider.Underway c.meta)) area metadata;
+      area_len = len ∙ ap length area;
+      narrow = narrow;
+    }
 
 -- ---- a fault of the metadata
 

@@ -1,6 +1,7 @@
 -- What trying the keyslots in their order gives where something is under way in the metadata of the JSON area `json`.
 use Rattle.std.specs.Prelude.{◌≡◌, ℕ, List, ◌++◌, filter, ◌&&◌, not, Bool, Option, Some, None, Result, Ok, Err, IfOk, IfErr}
 use Rattle.serde_json.specs.Data.{Data}
+use Rattle.luks_rules.specs.Reading.{Field}
 use Rattle.luks_slot.specs.declared.allowed.Allowed.{Allowed}
 use Rattle.luks_reading.specs.declared.open_fault.OpenFault.{OpenFault}
 use Rattle.luks_reading.specs.declared.open_fault.OpenFault.TheVariants.{Device, Memory}
@@ -39,6 +40,11 @@ pub record IsUnderwayTrial (tells : Type 0) (total : ℕ) (v json : List ℕ) (a
 -- the keyslots of the list have been tried in its order: the first that opens, with its key, or none
 abbrev pub UnderwayTries : Allowed → List ℕ → List ℕ → List ℕ → List ℕ → Option (ℕ × List ℕ) → Type 0
 UnderwayTries allowed json v p order found = GivesFirst (UnderwayStaysShut allowed json v p) (λ n k. UnderwayOpens allowed json v n p (Some k)) order found
+
+-- a keyslot of this priority is tried in this rank
+abbrev pub is_ranked : Rank → Field → Bool
+is_ranked Preferred priority = is_preferred (Some priority)
+is_ranked Normal priority = is_normal (Some priority)
 
 -- the keyslot of the value `j` holds a key, and is tried in this rank
 abbrev pub is_of_rank : Rank → Data → ℕ → Bool

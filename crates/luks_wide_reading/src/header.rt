@@ -1,5 +1,5 @@
 //! The header that counts of a volume, by the wider reading.
-ghost use Rattle.std.specs.Prelude.{◌≡◌, ◌≢◌, ◌+◌, ◌-◌, ◌^◌, ◌<◌, ℕ, List, length, IfOk, IfErr, MatchResult};
+ghost use Rattle.std.specs.Prelude.{◌≡◌, ◌≢◌, ◌+◌, ◌-◌, ◌^◌, ◌<◌, ℕ, List, length, false, IfOk, IfErr, MatchResult};
 ghost use Rattle.luks_area.specs.Device.{CountsFailure, IsUnchanged};
 ghost use Rattle.luks2_header.specs.Header2.{IsCopyWithin, IsUuidField};
 ghost use Rattle.luks_reading.specs.declared.header.Header.{Header as TheHeader};
@@ -60,8 +60,10 @@ pub fn read_wide_header<D: Device>(
 {
     match read_header(alloc, device) {
         Ok(header) => Ok(WideHeader::Narrow(header)),
-        Err(ReadFault::Meta(fault)) => read_beside(alloc, device, fault),
-        Err(fault) => Err(WideReadFault::Read(fault)),
+        Err(ReadFault::Meta(fault)) => read_beside(alloc, device, &fault),
+        Err(ReadFault::Head(fault)) => Err(WideReadFault::Read(ReadFault::Head(fault))),
+        Err(ReadFault::Device) => Err(WideReadFault::Read(ReadFault::Device)),
+        Err(ReadFault::Memory) => Err(WideReadFault::Read(ReadFault::Memory)),
     }
 }
 
@@ -69,28 +71,28 @@ pub fn read_wide_header<D: Device>(
 fn read_beside<D: Device>(
     alloc: Global,
     device: &mut D,
-    narrow_fault: MetaFault,
+    narrow_fault: &MetaFault,
 ) -> Result<WideHeader, WideReadFault>
     requires { D.failed device.old + 1 < 2 ^ 64 }
     ensures unchanged { IsUnchanged D.tells D.size D.bytes D.unsettled device.old device.new }
     ensures count { CountsFailure is_wide_read_failure result
         (D.failed device.old) (D.failed device.new) }
     ensures accepted { IfOk result IsAcceptedWide }
-    ensures read { D.tells → IsUnread (D.bytes device.old) (OfMeta narrow_fault)
+    ensures read { D.tells → IsUnread (D.bytes device.old) (OfMeta narrow_fault.now)
         → IfOk result (IsWideHeader (D.bytes device.old)) }
-    ensures refused { D.tells → IsUnread (D.bytes device.old) (OfMeta narrow_fault)
+    ensures refused { D.tells → IsUnread (D.bytes device.old) (OfMeta narrow_fault.now)
         → IfErr result (IsWideUnread (D.bytes device.old)) }
 {
     let mut json = [0; KEPT_JSON];
     match select_with_json(device, &mut json)? {
-        Selected::V1(_) => Err(WideReadFault::Read(ReadFault::Meta(narrow_fault))),
+        Selected::V1(_) => Err(WideReadFault::Read(ReadFault::Meta(*narrow_fault))),
         Selected::V2 { header, copies } => {
             let meta = read_metadata(alloc, device, &header, &json, narrow_fault)?;
             Ok(WideHeader::Underway(UnderwayCopy {
                 header,
                 copies,
                 meta,
-                narrow_fault,
+                narrow_fault: *narrow_fault,
             }))
         }
     }
@@ -103,7 +105,7 @@ fn read_metadata<D: Device>(
     device: &mut D,
     header: &Bin2,
     kept: &[u8],
-    narrow_fault: MetaFault,
+    narrow_fault: &MetaFault,
 ) -> Result<Underway, WideReadFault>
     requires room { D.failed device.old + 1 < 2 ^ 64 }
     requires within { IsCopyWithin (D.size device.old) header.now }
@@ -118,7 +120,7 @@ fn read_metadata<D: Device>(
     ensures length { D.tells → IfOk result (λ m.
         area_len m ≡ length (json_of (D.bytes device.old) header.now)) }
     ensures refused { D.tells → IfErr result
-        (CopyRefused header.now.uuid (json_of (D.bytes device.old) header.now) narrow_fault) }
+        (CopyRefused header.now.uuid (json_of (D.bytes device.old) header.now) narrow_fault.now) }
 {
     header.uuid()?;
     if header.hdr_size == LEAST_HEADER {
@@ -129,10 +131,14 @@ fn read_metadata<D: Device>(
 }
 
 /// The metadata of a JSON area that the narrow reading refuses by this fault.
-fn read_area(alloc: Global, area: &[u8], narrow_fault: MetaFault) -> Result<Underway, WideReadFault>
+fn read_area(
+    alloc: Global,
+    area: &[u8],
+    narrow_fault: &MetaFault,
+) -> Result<Underway, WideReadFault>
     ensures read { IfOk result (λ m. IsWiderOf area.now (OfUnderway m)) }
     ensures length { IfOk result (λ m. area_len m ≡ length area.now) }
-    ensures refused { IfErr result (AreaRefused area.now narrow_fault) }
+    ensures refused { IfErr result (AreaRefused area.now narrow_fault.now) }
     ensures no_failure { IfErr result (λ f. is_wide_read_failure f ≡ false) }
 {
     match has_under_way(alloc, area) {
@@ -140,20 +146,20 @@ fn read_area(alloc: Global, area: &[u8], narrow_fault: MetaFault) -> Result<Unde
             Ok(meta) => Ok(meta),
             Err(fault) => Err(underway_unread(fault, narrow_fault)),
         },
-        Ok(false) => Err(WideReadFault::Read(ReadFault::Meta(narrow_fault))),
+        Ok(false) => Err(WideReadFault::Read(ReadFault::Meta(*narrow_fault))),
         Err(_) => Err(WideReadFault::Read(ReadFault::Memory)),
     }
 }
 
 /// Why metadata isn't read in which something is under way: want of memory stands for itself.
-fn underway_unread(fault: WideFault, narrow_fault: MetaFault) -> WideReadFault
-    ensures { result ≡ underway_unread fault narrow_fault }
+fn underway_unread(fault: WideFault, narrow_fault: &MetaFault) -> WideReadFault
+    ensures { result ≡ underway_unread fault narrow_fault.now }
 {
     match fault {
         WideFault::Meta(MetaFault::Memory) => WideReadFault::Read(ReadFault::Memory),
         fault => WideReadFault::Underway {
             fault,
-            narrow_fault,
+            narrow_fault: *narrow_fault,
         },
     }
 }

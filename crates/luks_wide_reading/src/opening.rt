@@ -51,6 +51,9 @@ pub fn try_underway_slot<D: Device>(
         (λ found. IfSome found (λ key. HasLuks2KeyBytes (content copy.now.meta) n (length key))) }
     ensures no_memory { allowed.memory ≡ 0 → IfErr result (λ f. f ≢ WideOpenFault.Open NoMemory) }
 {
+    if n > 31 {
+        return Err(WideOpenFault::Open(OpenFault::NoSuchSlot));
+    }
     match copy.meta.keyslot(n) {
         None => Err(WideOpenFault::Open(OpenFault::NoSuchSlot)),
         Some(WideKeyslot::Reencrypt(_)) => Err(WideOpenFault::NoKey),

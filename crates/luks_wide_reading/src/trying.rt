@@ -2,11 +2,12 @@
 ghost use Rattle.std.specs.Prelude.{◌≡◌, ◌≢◌, ◌+◌, ◌^◌, ◌<◌, ℕ, List, length, IfOk, IfErr, IfSome};
 ghost use Rattle.luks_area.specs.Device.{CountsFailure, IsUnchanged};
 ghost use Rattle.luks_json.specs.AreaText.{Json};
+ghost use Rattle.luks_meta.specs.Says.{priority_field};
 ghost use Rattle.luks_reading.specs.Failures.{is_open_failure};
 ghost use Rattle.luks_reading.specs.PlanAnswers.{IsOfDevice};
 ghost use Rattle.luks_reading.specs.Plans.{HasLuks2KeyBytes};
 ghost use Rattle.luks_wider.specs.Underways.{content};
-ghost use Rattle.luks_wide_reading.specs.Trying.{is_of_rank, passed_over, rank_order, underway_order, IsUnderwayTrial, IsUnderwayUnlocking};
+ghost use Rattle.luks_wide_reading.specs.Trying.{is_of_rank, is_ranked, passed_over, rank_order, underway_order, IsUnderwayTrial, IsUnderwayUnlocking};
 
 use crate::copy::UnderwayCopy;
 use crate::open_fault::WideOpenFault;
@@ -115,13 +116,20 @@ fn is_of_rank(copy: &UnderwayCopy, rank: Rank, n: u8) -> bool
     ensures { result ≡ is_of_rank rank (content copy.now.meta) n }
 {
     match copy.meta.keyslot(n) {
-        Some(WideKeyslot::Luks2(keyslot)) => match (rank, keyslot.priority) {
-            (Rank::Preferred, Some(2)) => true,
-            (Rank::Normal, None | Some(1)) => true,
-            _ => false,
-        },
+        Some(WideKeyslot::Luks2(keyslot)) => is_ranked(rank, keyslot.priority),
         Some(WideKeyslot::Reencrypt(_)) => false,
         None => false,
+    }
+}
+
+/// Whether a keyslot of this priority is tried in the rank.
+fn is_ranked(rank: Rank, priority: Option<u8>) -> bool
+    ensures { result ≡ is_ranked rank (priority_field priority) }
+{
+    match (rank, priority) {
+        (Rank::Preferred, Some(2)) => true,
+        (Rank::Normal, None | Some(1)) => true,
+        _ => false,
     }
 }
 
