@@ -9,3 +9,4 @@ pub mod SplittingFacts
 pub mod SealingFacts
 pub mod HashFacts
 pub mod RefusalFacts
+pub mod InPlaceFacts

@@ -9,7 +9,7 @@ use Rattle.luks_kdf.specs.KeyslotNames.{keyslot_digest, keyslot_digest_size}
 use Rattle.luks_kdf.specs.Splitter.{merge}
 use Rattle.luks_slot.specs.declared.cipher.AreaKey.{AreaKey}
 use Rattle.luks_slot.specs.declared.plan.SlotPlan.{SlotPlan}
-use Rattle.luks_slot.specs.Distance.{digest_distance, slot_distance}
+use Rattle.luks_slot.specs.Distance.{digest_distance, digest_of, slot_digest, slot_distance}
 use Rattle.luks_slot.specs.Opening.{slot_key, candidate, area_bytes, area_key, stripe_bytes, stripes_from, stripes_in, hash_by_name, meets_digest}
 use Rattle.luks_slot.proofs.AreaFacts.{stripes_from-shorter}
 
@@ -65,6 +65,12 @@ pub distance_read : (plan : SlotPlan) (area passphrase merged : List ℕ) → me
     → digest_distance plan.digest merged ≡ slot_distance plan area passphrase
 unfolding slot_distance
 distance_read plan area passphrase merged is = ap (digest_distance plan.digest) is
+
+-- and the digest is
+pub digest_read : (plan : SlotPlan) (area passphrase merged : List ℕ) → merged ≡ candidate plan area passphrase
+    → digest_of plan.digest merged ≡ slot_digest plan area passphrase
+unfolding slot_digest
+digest_read plan area passphrase merged is = ap (digest_of plan.digest) is
 
 -- what is found where a test says so is what was tested
 found_if : (test : Bool) (k key : List ℕ) → (if test then Some k else None) ≡ Some key → (test ≡ true) × (k ≡ key)

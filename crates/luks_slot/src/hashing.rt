@@ -3,7 +3,7 @@
 ghost use Rattle.std.specs.Prelude.{◌≡◌, ◌≢◌, ◌*◌, ◌^◌, ◌<◌, ◌≤◌, length, true, false, count_ones, sum_by, IfErr, IfOk, IfNone};
 ghost use Rattle.luks_slot.specs.Ciphers.{is_size_of, keyed};
 ghost use Rattle.luks_slot.specs.Opening.{area_key, derived_by_argon2, hash_by_name, meets_digest, variant_of, HasIterations};
-ghost use Rattle.luks_slot.specs.Distance.{digest_distance};
+ghost use Rattle.luks_slot.specs.Distance.{digest_distance, digest_of};
 ghost use Rattle.luks_slot.specs.Parameters.{derived_by_pbkdf2, AreParameters};
 ghost use Rattle.luks_slot.specs.Refusal.{is_argon2};
 ghost use Rattle.luks_slot.specs.declared.fault.SlotFault.{SlotFault as TheFault};
@@ -13,6 +13,7 @@ use crate::cipher::{AreaKey, SectorCipher};
 use crate::fault::SlotFault;
 use crate::parameters::{KeyDerivation, Parameters, Pbkdf2Costs};
 use crate::plan::{Argon2Kind, Argon2Plan, DigestPlan, SlotPlan};
+use arrayvec::ArrayVec;
 use luks_argon2::{Variant, argon2};
 use luks_kdf::{KeyslotHash, xor_into};
 use std::alloc::Global;
@@ -116,7 +117,51 @@ pub(crate) fn digest_distance(digest: &DigestPlan<'_>, hash: KeyslotHash, key: &
     distance_in(&mut buffer[..digest.stored.len()], digest, hash, key)
 }
 
-// The same, with room for what is to be compared.
+// What the key gives, as long as the stored digest.
+pub(crate) fn made_digest(
+    digest: &DigestPlan<'_>,
+    hash: KeyslotHash,
+    key: &[u8],
+) -> ArrayVec<u8, 64>
+    requires hash { hash_by_name digest.now.hash.now ≡ hash }
+    requires iterations { 1 ≤ digest.now.iterations }
+    requires at_most_64 { length digest.now.stored.now ≤ 64 }
+    ensures value { result.items ≡ digest_of digest.now key.now }
+    ensures long { length result.items ≡ length digest.now.stored.now }
+{
+    let mut buffer = [0u8; 64];
+    made_in(&mut buffer[..digest.stored.len()], digest, hash, key)
+}
+
+// The same, with room for it.
+fn made_in(
+    room: &mut [u8],
+    digest: &DigestPlan<'_>,
+    hash: KeyslotHash,
+    key: &[u8],
+) -> ArrayVec<u8, 64>
+    requires hash { hash_by_name digest.now.hash.now ≡ hash }
+    requires iterations { 1 ≤ digest.now.iterations }
+    requires at_most_64 { length digest.now.stored.now ≤ 64 }
+    requires room_length { length room.old ≡ length digest.now.stored.now }
+    ensures value { result.items ≡ digest_of digest.now key.now }
+    ensures long { length result.items ≡ length digest.now.stored.now }
+{
+    hash.pbkdf2(room, key, digest.salt, digest.iterations);
+    held(room)
+}
+
+// The bytes, at most 64, in place.
+fn held(bytes: &[u8]) -> ArrayVec<u8, 64>
+    requires { length bytes.now ≤ 64 }
+    ensures { result.items ≡ bytes.now }
+{
+    let mut held = ArrayVec::new();
+    held.try_extend_from_slice(bytes).unwrap();
+    held
+}
+
+// In how many bits the two differ, with room for what is to be compared.
 fn distance_in(room: &mut [u8], digest: &DigestPlan<'_>, hash: KeyslotHash, key: &[u8]) -> u32
     requires hash { hash_by_name digest.now.hash.now ≡ hash }
     requires iterations { 1 ≤ digest.now.iterations }

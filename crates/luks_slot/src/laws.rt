@@ -6,7 +6,8 @@ ghost use Rattle.luks_slot.specs.declared.allowed.Allowed.{Allowed as WhatIsAllo
 ghost use Rattle.luks_slot.specs.declared.plan.SlotPlan.{SlotPlan as ThePlan};
 ghost use Rattle.luks_slot.specs.declared.fault.SlotFault.{SlotFault as TheFault};
 ghost use Rattle.luks_slot.specs.Fault.{IsAnsweredFault, IsAnsweredWithin};
-ghost use Rattle.luks_slot.specs.Opening.{meets_digest, slot_key};
+ghost use Rattle.luks_slot.specs.Distance.{differing_bits, slot_digest, slot_distance, IsButDigest};
+ghost use Rattle.luks_slot.specs.Opening.{candidate, meets_digest, slot_key};
 ghost use Rattle.luks_slot.specs.Refusal.{is_argon2, slot_refusal, slot_refusal_within};
 ghost use Rattle.luks_slot.specs.Sealing.{IsSealed};
 
@@ -46,4 +47,15 @@ pub fn more_allowed_opens_as_much()
 pub fn found_key_meets_digest()
     ensures { (plan : ThePlan) (area passphrase key : List ℕ)
         → slot_key plan area passphrase ≡ Some key → meets_digest plan.digest key ≡ true }
+{}
+
+/// A keyslot's distance is that of the digest that its stripes give; with that digest in the place of the stored
+/// one, and nothing else changed, it opens.
+pub fn digest_in_place_opens()
+    ensures distance { (plan : ThePlan) (area passphrase : List ℕ)
+        → slot_distance plan area passphrase
+        ≡ differing_bits (slot_digest plan area passphrase) plan.digest.stored.now }
+    ensures opens { (plan other : ThePlan) (area passphrase : List ℕ) → IsButDigest plan other
+        → other.digest.stored.now ≡ slot_digest plan area passphrase
+        → slot_key other area passphrase ≡ Some (candidate plan area passphrase) }
 {}

@@ -22,10 +22,10 @@ pub use allowed::Allowed;
 pub use fault::SlotFault;
 pub use key::Key;
 pub use laws::{
-    found_key_meets_digest, more_allowed_opens_as_much, nothing_allowed_is_as_before,
-    sealed_area_opens,
+    digest_in_place_opens, found_key_meets_digest, more_allowed_opens_as_much,
+    nothing_allowed_is_as_before, sealed_area_opens,
 };
-pub use opening::{Tried, open, open_within, try_within};
+pub use opening::{Tried, digest_within, open, open_within, try_within};
 pub use parameters::{refusal, refusal_within};
 pub use plan::{AreaCipher, Argon2Kind, Argon2Plan, Derivation, DigestPlan, SlotPlan};
 pub use sealing::{seal, seal_within};

@@ -4,20 +4,21 @@ ghost use Rattle.std.specs.Prelude.{◌≡◌, ◌+◌, ◌*◌, ◌^◌, ◌<�
 ghost use Rattle.luks_area.specs.Area.{IsInside};
 ghost use Rattle.luks_area.specs.Device.{CountsFailure, IsUnchanged};
 ghost use Rattle.luks_area.specs.Sectors.{rounded_to_sectors};
-ghost use Rattle.luks_slot.specs.Distance.{digest_distance, found_by, slot_distance, IsTriedAt};
+ghost use Rattle.luks_slot.specs.Distance.{digest_distance, found_by, slot_digest, slot_distance, IsTriedAt};
 ghost use Rattle.luks_slot.specs.Fault.{IsAnsweredFault, IsAnsweredWithin, is_device_fault};
-ghost use Rattle.luks_slot.specs.Opening.{area_bytes, hash_by_name, meets_digest, slot_key, stripe_bytes, HasIterations};
+ghost use Rattle.luks_slot.specs.Opening.{area_bytes, candidate, hash_by_name, meets_digest, slot_key, stripe_bytes, HasIterations};
 ghost use Rattle.luks_slot.specs.Refusal.{slot_refusal, slot_refusal_within};
 ghost use Rattle.luks_slot.specs.declared.fault.SlotFault.{SlotFault as TheFault};
 
 use crate::allowed::Allowed;
 use crate::area_reader::AreaReader;
 use crate::fault::SlotFault;
-use crate::hashing::{area_key, digest_distance};
+use crate::hashing::{area_key, digest_distance, made_digest};
 use crate::key::Key;
 use crate::merging::read_candidate;
 use crate::parameters::parameters_within;
 use crate::plan::{DigestPlan, SlotPlan};
+use arrayvec::ArrayVec;
 use luks_area::{Area, Device, rounded_to_sectors};
 use luks_kdf::KeyslotHash;
 use std::alloc::Global;
@@ -149,14 +150,94 @@ pub fn try_within<D: Device>(
         (D.failed device.old) (D.failed device.new) }
     ensures unchanged { IsUnchanged D.tells D.size D.bytes D.unsettled device.old device.new }
 {
+    let mut buffer = [0u8; 128];
+    let candidate = &mut buffer[..plan.key_bytes];
+    let hash = candidate_within(alloc, device, plan, passphrase, allowed, candidate)?;
+    Ok(tested(&plan.digest, hash, candidate))
+}
+
+/// The digest that the keyslot's stripes give under the passphrase, as long as the stored one, whether or not it is
+/// that: what the header would have to store for the keyslot to open. It is answered and refused where `try_within`
+/// is, and derives as much.
+pub fn digest_within<D: Device>(
+    alloc: Global,
+    device: &mut D,
+    plan: &SlotPlan<'_>,
+    passphrase: &[u8],
+    allowed: Allowed,
+) -> Result<ArrayVec<u8, 64>, SlotFault>
+    requires iterations { HasIterations plan.now.derivation }
+    requires passphrase { 0 < allowed.memory → length passphrase.now < 2 ^ 32 }
+    requires digest_iterations { 1 ≤ plan.now.digest.iterations }
+    requires digest_length { length plan.now.digest.stored.now ≤ 64 }
+    requires some_bytes { 1 ≤ plan.now.key_bytes }
+    requires at_most_128 { plan.now.key_bytes ≤ 128 }
+    requires some_stripes { 1 ≤ plan.now.stripes }
+    requires sectors { rounded_to_sectors (stripe_bytes plan.now) ≤ plan.now.area.len }
+    requires within { IsInside plan.now.area (D.size device.old) }
+    requires room { D.failed device.old + 1 < 2 ^ 64 }
+
+    // The plan is refused, the device failed, memory was refused, or there is an answer.
+    ensures refused { (f : TheFault) → slot_refusal_within allowed plan.now ≡ Some f → result ≡ Err f }
+    ensures fault { IfErr result (IsAnsweredWithin allowed plan.now) }
+    ensures accepted { OnOk result (slot_refusal_within allowed plan.now ≡ None) }
+    ensures length { IfOk result
+        (λ digest. length digest.items ≡ length plan.now.digest.stored.now) }
+    ensures value { D.tells → IfOk result (λ digest. digest.items
+        ≡ slot_digest plan.now (area_bytes (D.bytes device.old) plan.now.area) passphrase.now) }
+
+    // The device: `Device` exactly where a call of it failed.
+    ensures count { CountsFailure is_device_fault result
+        (D.failed device.old) (D.failed device.new) }
+    ensures unchanged { IsUnchanged D.tells D.size D.bytes D.unsettled device.old device.new }
+{
+    let mut buffer = [0u8; 128];
+    let candidate = &mut buffer[..plan.key_bytes];
+    let hash = candidate_within(alloc, device, plan, passphrase, allowed, candidate)?;
+    Ok(made_digest(&plan.digest, hash, candidate))
+}
+
+// Reads what the stripes hold under the passphrase, the volume key or not; the hash of the digest.
+fn candidate_within<D: Device>(
+    alloc: Global,
+    device: &mut D,
+    plan: &SlotPlan<'_>,
+    passphrase: &[u8],
+    allowed: Allowed,
+    out: &mut [u8],
+) -> Result<KeyslotHash, SlotFault>
+    requires iterations { HasIterations plan.now.derivation }
+    requires passphrase { 0 < allowed.memory → length passphrase.now < 2 ^ 32 }
+    requires digest_iterations { 1 ≤ plan.now.digest.iterations }
+    requires digest_length { length plan.now.digest.stored.now ≤ 64 }
+    requires some_bytes { 1 ≤ plan.now.key_bytes }
+    requires at_most_128 { plan.now.key_bytes ≤ 128 }
+    requires some_stripes { 1 ≤ plan.now.stripes }
+    requires sectors { rounded_to_sectors (stripe_bytes plan.now) ≤ plan.now.area.len }
+    requires long { length out.old ≡ plan.now.key_bytes }
+    requires within { IsInside plan.now.area (D.size device.old) }
+    requires room { D.failed device.old + 1 < 2 ^ 64 }
+    ensures refused { (f : TheFault) → slot_refusal_within allowed plan.now ≡ Some f → result ≡ Err f }
+    ensures fault { IfErr result (IsAnsweredWithin allowed plan.now) }
+    ensures accepted { OnOk result (slot_refusal_within allowed plan.now ≡ None) }
+    ensures hash { IfOk result (λ hash. hash_by_name plan.now.digest.hash.now ≡ hash) }
+    ensures value { D.tells → OnOk result (out.new ≡ candidate plan.now
+        (area_bytes (D.bytes device.old) plan.now.area) passphrase.now) }
+    ensures count { CountsFailure is_device_fault result
+        (D.failed device.old) (D.failed device.new) }
+    ensures unchanged { IsUnchanged D.tells D.size D.bytes D.unsettled device.old device.new }
+{
     let parameters = parameters_within(plan, allowed)?;
     let key = area_key(alloc, plan, &parameters, passphrase)?;
     let mut reader = AreaReader::new(stripes_area(plan), key);
-    let mut buffer = [0u8; 128];
-    let candidate = &mut buffer[..plan.key_bytes];
-    let hash = parameters.splitter_hash;
-    read_candidate(device, &mut reader, hash, plan.stripes, candidate)?;
-    Ok(tested(&plan.digest, parameters.digest_hash, candidate))
+    read_candidate(
+        device,
+        &mut reader,
+        parameters.splitter_hash,
+        plan.stripes,
+        out,
+    )?;
+    Ok(parameters.digest_hash)
 }
 
 // The sectors of the keyslot's area that hold its stripes.
