@@ -1,0 +1,3 @@
+pub mod AppendFacts
+pub mod ObjectFacts
+pub mod RegionFacts

@@ -1,0 +1,7 @@
+use Rattle.std.proofs.Common.{ℕ, ◌<◌}
+use Rattle.luks_fragments.specs.Fragments.{IsNamedAt}
+use Rattle.luks_fragments.proofs.names.number_before.Given as goal
+
+-- no number before this one stands there
+abbrev pub invariant-loop-n : goal.invariant-loop-n
+invariant-loop-n l = (n : ℕ) → n < l.n → IsNamedAt l.area l.start n → ⊥

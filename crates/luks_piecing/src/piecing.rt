@@ -1,0 +1,199 @@
+//! The search in fragments.
+ghost use Rattle.std.specs.Prelude.{◌≡◌, ◌+◌, ◌^◌, ◌<◌, ◌≤◌, length, IfErr, IfOk, IfSome};
+ghost use Rattle.luks_area.specs.Device.{CountsFailure, IsUnchanged};
+ghost use Rattle.luks_fragments.specs.Kinds.{NeedsRegion};
+ghost use Rattle.luks_trials.specs.Faults.{is_search_failure, IsCutShort};
+ghost use Rattle.luks_trials.specs.Tallies.{Counts};
+ghost use Rattle.luks_piecing.specs.Pieced.{IsPieced, IsTextAt};
+
+use crate::joining::{Pieced, joined};
+use crate::reading::read_fragment;
+use crate::spots::{Spot, Spots, chosen_segment, collected};
+use luks_area::Device;
+use luks_fragments::{Kind, Parts, needed_region};
+use luks_trials::{Progress, SearchFault, Tally, Trying};
+use std::alloc::Global;
+
+/// A keyslot that was seen.
+#[derive(Clone, Copy)]
+pub(crate) struct Seen<'a> {
+    /// Where.
+    pub(crate) spot: Spot,
+    /// Its text.
+    pub(crate) text: &'a [u8],
+    /// The size of the region that it needs, in bytes.
+    pub(crate) region: u64,
+}
+
+/// The first metadata that is put together of a keyslot, a digest and a segment, which stand whole in the first 8 MiB of the
+/// source, by which the passphrase opens the keyslot; None where it opens none so.
+///
+/// Of each kind the first 64 count, of segments those that encrypt. Each keyslot is tried with each digest, at most 4096
+/// times in all; the segment is that with the number which the digest names, or else the first one. The first 8 MiB are
+/// read in pieces of 1 MiB. `tally` counts each derivation before it is made: `Spent` comes only where as many were made
+/// as may be. `Device` comes exactly where a device call failed. Takes memory for one piece, a few areas of 12288 bytes
+/// with their values, and what is allowed to Argon2.
+pub fn search_fragments<D: Device, P: Progress>(
+    alloc: Global,
+    source: &mut D,
+    trying: &Trying<'_>,
+    tally: &mut Tally,
+    progress: &mut P,
+) -> Result<Option<Pieced>, SearchFault>
+    requires passphrase { 0 < trying.now.allowed.memory
+        → length trying.now.passphrase.now < 2 ^ 32 }
+    requires room { D.failed source.old + 1 < 2 ^ 64 }
+    ensures unchanged { IsUnchanged D.tells D.size D.bytes D.unsettled source.old source.new }
+    ensures count { CountsFailure is_search_failure result
+        (D.failed source.old) (D.failed source.new) }
+    ensures counts { Counts tally.old tally.new }
+    ensures cut { IfErr result (IsCutShort tally.new) }
+    ensures long { IfOk result (λ found. IfSome found (λ f. length f.json.items ≡ 12288)) }
+    ensures found { D.tells → IfOk result (λ found. IfSome found
+        (IsPieced trying.now.allowed (D.bytes source.old) trying.now.passphrase.now)) }
+{
+    let spots = collected(alloc, source)?;
+    for spot in spots.keyslots.iter() {
+        let found = by_keyslot(alloc, source, *spot, &spots, trying, tally, progress)?;
+        if found.is_some() {
+            return Ok(found);
+        }
+    }
+    Ok(None)
+}
+
+/// The same with the keyslot at the spot.
+fn by_keyslot<D: Device, P: Progress>(
+    alloc: Global,
+    source: &mut D,
+    spot: Spot,
+    spots: &Spots,
+    trying: &Trying<'_>,
+    tally: &mut Tally,
+    progress: &mut P,
+) -> Result<Option<Pieced>, SearchFault>
+    requires passphrase { 0 < trying.now.allowed.memory
+        → length trying.now.passphrase.now < 2 ^ 32 }
+    requires room { D.failed source.old + 1 < 2 ^ 64 }
+    ensures unchanged { IsUnchanged D.tells D.size D.bytes D.unsettled source.old source.new }
+    ensures count { CountsFailure is_search_failure result
+        (D.failed source.old) (D.failed source.new) }
+    ensures counts { Counts tally.old tally.new }
+    ensures cut { IfErr result (IsCutShort tally.new) }
+    ensures long { IfOk result (λ found. IfSome found (λ f. length f.json.items ≡ 12288)) }
+    ensures found { D.tells → IfOk result (λ found. IfSome found
+        (IsPieced trying.now.allowed (D.bytes source.old) trying.now.passphrase.now)) }
+{
+    let Some(text) = read_fragment(alloc, source, spot, Kind::Keyslot)? else {
+        return Ok(None);
+    };
+    let Some(region) = needed_region(alloc, &text)? else {
+        return Ok(None);
+    };
+    let seen = Seen {
+        spot,
+        text: &text,
+        region,
+    };
+    by_seen(alloc, source, &seen, spots, trying, tally, progress)
+}
+
+/// The same with this keyslot.
+fn by_seen<D: Device, P: Progress>(
+    alloc: Global,
+    source: &mut D,
+    keyslot: &Seen<'_>,
+    spots: &Spots,
+    trying: &Trying<'_>,
+    tally: &mut Tally,
+    progress: &mut P,
+) -> Result<Option<Pieced>, SearchFault>
+    requires there { D.tells → IsTextAt (D.bytes source.old) keyslot.now.spot.at Kind.Keyslot keyslot.now.text.now }
+    requires needs { NeedsRegion keyslot.now.text.now keyslot.now.region }
+    requires passphrase { 0 < trying.now.allowed.memory
+        → length trying.now.passphrase.now < 2 ^ 32 }
+    requires room { D.failed source.old + 1 < 2 ^ 64 }
+    ensures unchanged { IsUnchanged D.tells D.size D.bytes D.unsettled source.old source.new }
+    ensures count { CountsFailure is_search_failure result
+        (D.failed source.old) (D.failed source.new) }
+    ensures counts { Counts tally.old tally.new }
+    ensures cut { IfErr result (IsCutShort tally.new) }
+    ensures long { IfOk result (λ found. IfSome found (λ f. length f.json.items ≡ 12288)) }
+    ensures found { D.tells → IfOk result (λ found. IfSome found
+        (IsPieced trying.now.allowed (D.bytes source.old) trying.now.passphrase.now)) }
+{
+    for digest in spots.digests.iter() {
+        let segment = chosen_segment(&spots.segments, digest.segment);
+        let found = by_digest(
+            alloc, source, keyslot, *digest, segment, trying, tally, progress,
+        )?;
+        if found.is_some() {
+            return Ok(found);
+        }
+    }
+    Ok(None)
+}
+
+/// The same with the digest at the spot, and this segment.
+fn by_digest<D: Device, P: Progress>(
+    alloc: Global,
+    source: &mut D,
+    keyslot: &Seen<'_>,
+    spot: Spot,
+    chosen: Option<Spot>,
+    trying: &Trying<'_>,
+    tally: &mut Tally,
+    progress: &mut P,
+) -> Result<Option<Pieced>, SearchFault>
+    requires there { D.tells → IsTextAt (D.bytes source.old) keyslot.now.spot.at Kind.Keyslot keyslot.now.text.now }
+    requires needs { NeedsRegion keyslot.now.text.now keyslot.now.region }
+    requires passphrase { 0 < trying.now.allowed.memory
+        → length trying.now.passphrase.now < 2 ^ 32 }
+    requires room { D.failed source.old + 1 < 2 ^ 64 }
+    ensures unchanged { IsUnchanged D.tells D.size D.bytes D.unsettled source.old source.new }
+    ensures count { CountsFailure is_search_failure result
+        (D.failed source.old) (D.failed source.new) }
+    ensures counts { Counts tally.old tally.new }
+    ensures cut { IfErr result (IsCutShort tally.new) }
+    ensures long { IfOk result (λ found. IfSome found (λ f. length f.json.items ≡ 12288)) }
+    ensures found { D.tells → IfOk result (λ found. IfSome found
+        (IsPieced trying.now.allowed (D.bytes source.old) trying.now.passphrase.now)) }
+{
+    let Some(chosen) = chosen else {
+        return Ok(None);
+    };
+    let Some(digest) = read_fragment(alloc, source, spot, Kind::Digest)? else {
+        return Ok(None);
+    };
+    let Some(segment) = read_fragment(alloc, source, chosen, Kind::Segment)? else {
+        return Ok(None);
+    };
+    let parts = Parts {
+        region: keyslot.region,
+        slot: number_of(keyslot.spot.number),
+        number: number_of(spot.number),
+        keyslot: keyslot.text,
+        digest: &digest,
+        segment: &segment,
+    };
+    let Some(json) = joined(alloc, source, &parts, trying, tally, progress)? else {
+        return Ok(None);
+    };
+    Ok(Some(Pieced {
+        json,
+        slot: parts.slot,
+        keyslot: keyslot.spot.at,
+        digest: spot.at,
+        segment: chosen.at,
+    }))
+}
+
+/// The number, or 0 where none stands before a fragment.
+fn number_of(number: Option<u8>) -> u8
+    ensures { result < 32 }
+{
+    match number {
+        Some(n) if n < 32 => n,
+        _ => 0,
+    }
+}
