@@ -2,6 +2,7 @@ pub mod Texts
 pub mod Digits
 pub mod Luks1Lines
 pub mod AllLines
+pub mod Luks2Lines
 pub mod Listed
 pub mod SegmentValues
 pub mod ValueTexts

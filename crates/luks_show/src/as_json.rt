@@ -8,5 +8,9 @@ mod steering;
 mod text;
 mod values;
 
+pub use luks2::{Objects, Texts, put_objects, read_texts, sizes_value};
+pub use objects::{digest_value, keyslot_value, token_value};
+pub use segments::{put_encryption, put_extent, put_integrity};
 pub use steering::unsteering;
 pub use text::json_text;
+pub use values::{put_number, put_text};

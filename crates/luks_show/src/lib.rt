@@ -13,10 +13,16 @@ mod luks2;
 mod objects;
 mod tokens;
 
-pub use as_json::{json_text, unsteering};
+pub use as_json::{
+    Objects, Texts, digest_value, json_text, keyslot_value, put_encryption, put_extent,
+    put_integrity, put_number, put_objects, put_text, read_texts, sizes_value, token_value,
+    unsteering,
+};
 pub use copies::copies_name;
 pub use costs::{CostsLine, EncryptionLine, SaltLine};
 pub use escaped::{Escaped, before_zero};
 pub use listing::{FullListing, Listing};
+pub use lists::Numbers;
 pub use luks2::SubsystemLine;
+pub use objects::{DigestLine, KeyslotLine, TokenLine};
 pub use tokens::{TokenListing, token_text};

@@ -16,22 +16,32 @@ use std::alloc::{AllocError, Global};
 
 /// The texts of the binary header.
 #[derive(Drop)]
-pub(crate) struct Texts {
-    uuid: Value,
-    label: Value,
-    subsystem: Value,
+pub struct Texts {
+    /// The uuid.
+    pub uuid: Value,
+    /// The label, empty where there is none.
+    pub label: Value,
+    /// The subsystem, likewise.
+    pub subsystem: Value,
 }
 
 /// What the metadata says.
 #[derive(Drop)]
-pub(crate) struct Objects {
-    flags: Value,
-    requirements: Value,
-    keyslots: Value,
-    tokens: Value,
-    segments: Value,
-    digests: Value,
-    metadata: Value,
+pub struct Objects {
+    /// The member `flags` of `config`.
+    pub flags: Value,
+    /// The member `requirements` of `config`.
+    pub requirements: Value,
+    /// The keyslots, by number.
+    pub keyslots: Value,
+    /// The tokens, by number.
+    pub tokens: Value,
+    /// The segments, by number.
+    pub segments: Value,
+    /// The digests, by number.
+    pub digests: Value,
+    /// All of it, as it stands.
+    pub metadata: Value,
 }
 
 /// The object of the chosen copy of a LUKS2 header, which the metadata's value is moved into: it is never
@@ -48,7 +58,8 @@ pub(crate) fn luks2_value(alloc: Global, copy: ChosenCopy) -> Result<Value, Allo
     Ok(Value::from(members))
 }
 
-fn sizes_value(alloc: Global, header_size: u64, config: Config) -> Result<Value, AllocError>
+/// What the header's parts take, in bytes.
+pub fn sizes_value(alloc: Global, header_size: u64, config: Config) -> Result<Value, AllocError>
     ensures { IfOk result (λ v. view v ≡ sizes_value header_size config) }
 {
     let mut members = Map::new(alloc);
@@ -79,7 +90,8 @@ fn header_members(
     Ok(members)
 }
 
-fn put_objects(
+/// Puts what the metadata says.
+pub fn put_objects(
     members: &mut Map<String, Value>,
     alloc: Global,
     objects: Objects,
@@ -96,7 +108,8 @@ fn put_objects(
     put(members, alloc, "metadata", objects.metadata)
 }
 
-fn read_texts(alloc: Global, header: &Bin2) -> Result<Texts, AllocError>
+/// The texts of a binary header.
+pub fn read_texts(alloc: Global, header: &Bin2) -> Result<Texts, AllocError>
     ensures { IfOk result (AreTextsOf header.now) }
 {
     Ok(Texts {

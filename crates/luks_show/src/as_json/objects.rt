@@ -19,7 +19,8 @@ pub(crate) fn keyslots_value(alloc: Global, meta: &Meta) -> Result<Value, AllocE
     Ok(Value::from(items))
 }
 
-fn keyslot_value(
+/// The object of a keyslot, and the digest that names it.
+pub fn keyslot_value(
     alloc: Global,
     n: u8,
     keyslot: &Keyslot<'_>,
@@ -128,7 +129,8 @@ pub(crate) fn tokens_value(alloc: Global, meta: &Meta) -> Result<Value, AllocErr
     Ok(Value::from(items))
 }
 
-fn token_value(alloc: Global, n: u8, token: &Token<'_>) -> Result<Value, AllocError> {
+/// The object of a token.
+pub fn token_value(alloc: Global, n: u8, token: &Token<'_>) -> Result<Value, AllocError> {
     let mut members = Map::new(alloc);
     put_numbers(&mut members, alloc, "keyslots", token.keyslots.as_slice())?;
     put_number(&mut members, alloc, "number", u64::from(n))?;
@@ -146,7 +148,8 @@ pub(crate) fn digests_value(alloc: Global, meta: &Meta) -> Result<Value, AllocEr
     Ok(Value::from(items))
 }
 
-fn digest_value(alloc: Global, n: u8, digest: &Digest<'_>) -> Result<Value, AllocError> {
+/// The object of a digest.
+pub fn digest_value(alloc: Global, n: u8, digest: &Digest<'_>) -> Result<Value, AllocError> {
     let mut members = Map::new(alloc);
     put_digest(&mut members, alloc, n, digest)?;
     Ok(Value::from(members))

@@ -67,7 +67,8 @@ fn put_segment(
     }
 }
 
-fn put_extent(
+/// Puts a segment's size: in bytes, or `dynamic` where it runs to the volume's end.
+pub fn put_extent(
     members: &mut Map<String, Value>,
     alloc: Global,
     size: Extent,
@@ -81,7 +82,8 @@ fn put_extent(
     }
 }
 
-fn put_encryption(
+/// Puts how a segment of the type `crypt` is encrypted, and that type.
+pub fn put_encryption(
     members: &mut Map<String, Value>,
     alloc: Global,
     encryption: &Encryption<'_>,
@@ -100,7 +102,8 @@ fn put_encryption(
     put_text(members, alloc, "type", "crypt")
 }
 
-fn put_integrity(
+/// Puts the member `integrity` of a segment as it stands, where it is there.
+pub fn put_integrity(
     members: &mut Map<String, Value>,
     alloc: Global,
     integrity: Option<&Value>,

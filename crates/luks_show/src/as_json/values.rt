@@ -12,7 +12,7 @@ use std::alloc::{AllocError, Global};
 use std::str;
 
 /// Puts a text.
-pub(crate) fn put_text(
+pub fn put_text(
     members: &mut Map<String, Value>,
     alloc: Global,
     name: &str,
@@ -25,7 +25,7 @@ pub(crate) fn put_text(
 }
 
 /// Puts a number.
-pub(crate) fn put_number(
+pub fn put_number(
     members: &mut Map<String, Value>,
     alloc: Global,
     name: &str,
