@@ -14,5 +14,5 @@ pub use anew::first_anew;
 pub use fault::SearchFault;
 pub use metadata::meta_of;
 pub use tally::{Progress, Spent, Tally, Untold};
-pub use trial::try_plan;
+pub use trial::{digest_of_plan, try_plan};
 pub use trial2::{Trying, distance, opens};
