@@ -4,6 +4,7 @@
 
 mod alike;
 mod anew;
+mod bits;
 mod fault;
 mod metadata;
 mod tally;
@@ -11,6 +12,7 @@ mod trial;
 mod trial2;
 
 pub use anew::first_anew;
+pub use bits::differing_bits;
 pub use fault::SearchFault;
 pub use metadata::meta_of;
 pub use tally::{Progress, Spent, Tally, Untold};
