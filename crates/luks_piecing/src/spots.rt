@@ -1,8 +1,7 @@
 //! Where fragments were seen.
-ghost use Rattle.std.specs.Prelude.{◌≡◌, ◌+◌, ◌^◌, ◌<◌, ◌≤◌, length, IfErr};
+ghost use Rattle.std.specs.Prelude.{◌≡◌, ◌≢◌, ◌+◌, ◌^◌, ◌<◌, ◌≤◌, length, IfErr};
 ghost use Rattle.luks_area.specs.Device.{CountsFailure, IsUnchanged};
-ghost use Rattle.luks_trials.specs.Faults.{is_search_failure, IsCutShort};
-ghost use Rattle.luks_trials.specs.declared.tally.Tally.{Tally as TheTally};
+ghost use Rattle.luks_trials.specs.Faults.{is_search_failure};
 
 use arrayvec::ArrayVec;
 use luks_area::Device;
@@ -56,7 +55,7 @@ pub(crate) fn collected<D: Device>(alloc: Global, source: &mut D) -> Result<Spot
     ensures unchanged { IsUnchanged D.tells D.size D.bytes D.unsettled source.old source.new }
     ensures count { CountsFailure is_search_failure result
         (D.failed source.old) (D.failed source.new) }
-    ensures cut { (tally : TheTally) → IfErr result (IsCutShort tally) }
+    ensures kinds { IfErr result (λ f. f ≢ SearchFault.Spent) }
 {
     let mut bytes = vec![in alloc; 0u8; PIECE]?;
     let mut spots = no_spots();
@@ -84,7 +83,7 @@ fn add_pieces<D: Device>(
     ensures unchanged { IsUnchanged D.tells D.size D.bytes D.unsettled source.old source.new }
     ensures count { CountsFailure is_search_failure result
         (D.failed source.old) (D.failed source.new) }
-    ensures cut { (tally : TheTally) → IfErr result (IsCutShort tally) }
+    ensures kinds { IfErr result (λ f. f ≢ SearchFault.Spent) }
 {
     for piece in 0..PIECES {
         add_piece(alloc, source, piece, bytes, spots)?;
@@ -107,7 +106,7 @@ fn add_piece<D: Device>(
     ensures unchanged { IsUnchanged D.tells D.size D.bytes D.unsettled source.old source.new }
     ensures count { CountsFailure is_search_failure result
         (D.failed source.old) (D.failed source.new) }
-    ensures cut { (tally : TheTally) → IfErr result (IsCutShort tally) }
+    ensures kinds { IfErr result (λ f. f ≢ SearchFault.Spent) }
 {
     let at = STEP * piece;
     let total = source.len();
