@@ -1,5 +1,6 @@
 pub mod DigestFacts
 pub mod FoundFacts
 pub mod MixedFacts
+pub mod PiecedFacts
 pub mod ResultFacts
 pub mod SizeFacts

@@ -4,11 +4,11 @@ ghost use Rattle.luks_area.specs.Device.{CountsFailure, IsUnchanged};
 ghost use Rattle.luks_rebuilding.specs.Candidates.{IsPlace};
 ghost use Rattle.luks_trials.specs.Faults.{is_search_failure, IsCutShort};
 ghost use Rattle.luks_trials.specs.Tallies.{Counts};
-ghost use Rattle.luks2_searching.specs.Found.{first_place, shortest, IsFound2};
+ghost use Rattle.luks2_searching.specs.Found.{IsFound2};
 
 use crate::found::{Change2, Found2};
 use luks_area::Device;
-use luks_piecing::{GivenSegment, Pieced, search_fragments};
+use luks_piecing::{GivenSegment, search_fragments};
 use luks_rebuilding::Place;
 use luks_trials::{Progress, SearchFault, Tally, Trying};
 use std::alloc::Global;
@@ -44,17 +44,7 @@ pub(crate) fn by_fragments<D: Device, P: Progress>(
     let Some(pieced) = search_fragments(alloc, source, given, trying, tally, progress)? else {
         return Ok(None);
     };
-    Ok(Some(found_of(pieced)))
-}
-
-/// What was found, with its place.
-fn found_of(pieced: Pieced) -> Found2
-    ensures json { result.json ≡ pieced.json }
-    ensures slot { result.slot ≡ pieced.slot }
-    ensures place { result.place ≡ first_place shortest }
-    ensures change { result.change ≡ Change2.Fragments pieced.keyslot pieced.digest pieced.segment }
-{
-    Found2 {
+    Ok(Some(Found2 {
         json: pieced.json,
         place: Place { size: SIZE, at: 0 },
         slot: pieced.slot,
@@ -63,5 +53,5 @@ fn found_of(pieced: Pieced) -> Found2
             digest: pieced.digest,
             segment: pieced.segment,
         },
-    }
+    }))
 }
