@@ -31,10 +31,10 @@ pub(crate) struct Seen<'a> {
 /// source, by which the passphrase opens the keyslot; None where it opens none so. Where a segment is given, it is taken
 /// in place of one that stands.
 ///
-/// The first 8 MiB are read in pieces of 1 MiB. Of each kind the first 64 count, of segments those that encrypt. Each
-/// keyslot is tried with each digest, at most 4096 times in all; the segment is that with the number which the digest
-/// names, or else the first one. None is tried where no segment is there, or where the cipher of the one that is given
-/// has more than 64 bytes, or some that can't stand between quotes.
+/// The first 8 MiB are read in pieces of 1 MiB. Of each kind the first 64 count, of segments those that encrypt; what stands
+/// twice in a piece, as in both copies, counts once. Each keyslot is tried with each digest, at most 4096 times in all;
+/// the segment is that with the number which the digest names, or else the first one. None is tried where no segment is
+/// there, or where the cipher of the one that is given has more than 64 bytes, or some that can't stand between quotes.
 ///
 /// `tally` counts each derivation before it is made: `Spent` comes only where as many were made as may be. `Device` comes
 /// exactly where a device call failed. Takes memory for one piece, a few areas of 12288 bytes with their values, and what
