@@ -104,15 +104,8 @@ def differs(plan, passphrase):
     return digest, flipped(digest, plan[-1][2])
 
 
-def mending(stored, digest, tally):
-    """Counts the derivations by which a digest is mended bit by bit, each byte's from its low bit on: all up to the last bit that is wrong."""
-    last = max(bit for bit in range(8 * len(stored)) if (stored[bit // 8] ^ digest[bit // 8]) >> bit % 8 & 1)
-    for _ in range(last + 1):
-        tally.count()
-
-
 def by_digest(bits):
-    return f"with {bits} bits of the digest turned"
+    return f"with {bits} bit{'s' if bits != 1 else ''} of the digest turned"
 
 
 # ---- LUKS1
@@ -151,7 +144,6 @@ def standing_1(source, head, given, n, passphrase, tally):
     digest, bits = found
     if bits == 0:
         return head, n, "by what stands"
-    mending(head[112:132], digest, tally)
     return head[:112] + digest + head[132:], n, by_digest(bits)
 
 
@@ -172,10 +164,10 @@ def search1(source, given, passphrase, tally=None):
 
 
 def most_1(source):
-    """How many derivations are made at most: of a keyslot in use one as it stands, and one for each bit of the digest and of the fields that are searched; of one
-    whose word is a bit from that one."""
+    """How many derivations are made at most: of a keyslot in use one as it stands, and one for each bit of the fields that are searched; of one whose word is a
+    bit from that one."""
     off = [(int.from_bytes(source[208 + 48 * n:212 + 48 * n], "big") ^ ENABLED).bit_count() for n in range(8)]
-    return 865 * off.count(0) + off.count(1)
+    return 705 * off.count(0) + off.count(1)
 
 
 def rebuilt1(source, given, passphrase, target, tally=None):
@@ -281,7 +273,8 @@ def standing_2(source, size, text, passphrase, allowed, tally):
         if bits == 0:
             return text, n, "by what stands"
         old, new = digest_of(value, n)["digest"].encode(), base64.b64encode(digest)
-        mending(base64.b64decode(old), digest, tally)
+        # the digest is derived again, for its bytes
+        tally.count()
         at = text.find(old)
         while at >= 0:
             # another text may stand there
@@ -360,6 +353,11 @@ def first_2(source, trying):
         if found is not None:
             return size, at, *found
     return search_fragments(source, *trying)
+
+
+def most_2(source):
+    """How many derivations are made at most: so many for each keyslot, by the places where the first 8 MiB name its derivation."""
+    return 4096 * max(1, source[:1 << 23].count(b'"kdf"'))
 
 
 def rebuilt2(source, passphrase, target, random, uuid=None, allowed=(0, False), tally=None):

@@ -1,4 +1,3 @@
-pub mod DigestFacts
 pub mod FoundFacts
 pub mod MixedFacts
 pub mod PiecedFacts
