@@ -5,7 +5,7 @@ use Rattle.luks2_searching.specs.Found.{HasNoneBy}
 use Rattle.luks2_searching.specs.declared.searching.Step.TheVariants.{Mixed, Bits}
 use Rattle.luks2_searching.proofs.FoundFacts.{none_of_steps}
 use Rattle.luks2_searching.proofs.ResultFacts.{none_so}
-use Rattle.luks2_searching.proofs.searching.search2.Goals as goal
+use Rattle.luks2_searching.proofs.searching.near_copies.Goals as goal
 
 pub returns-clause-none : goal.returns-clause-none
 returns-clause-none g c = λ tells.
