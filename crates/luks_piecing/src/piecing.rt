@@ -61,9 +61,7 @@ pub fn search_fragments<D: Device, P: Progress>(
 {
     let spots = collected(alloc, source)?;
     for spot in spots.keyslots.iter() {
-        let found = by_keyslot(
-            alloc, source, *spot, &spots, given, trying, tally, progress,
-        )?;
+        let found = by_keyslot(alloc, source, *spot, &spots, given, trying, tally, progress)?;
         if found.is_some() {
             return Ok(found);
         }
@@ -105,9 +103,7 @@ fn by_keyslot<D: Device, P: Progress>(
         text: &text,
         region,
     };
-    by_seen(
-        alloc, source, &seen, spots, given, trying, tally, progress,
-    )
+    by_seen(alloc, source, &seen, spots, given, trying, tally, progress)
 }
 
 /// The same with this keyslot.

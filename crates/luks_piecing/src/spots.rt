@@ -181,9 +181,7 @@ fn keep(spots: &mut ArrayVec<Spot, 64>, spot: Spot, at: u64, bytes: &[u8]) {
 /// Whether one of the spots has the same number and the same text in these bytes, which stand at `at`.
 fn is_seen(spots: &[Spot], spot: &Spot, at: u64, bytes: &[u8]) -> bool {
     let text = text_of(spot, at, bytes);
-    spots
-        .iter()
-        .any(|seen| seen.number == spot.number && text_of(seen, at, bytes) == text)
+    spots.iter().any(|seen| seen.number == spot.number && text_of(seen, at, bytes) == text)
 }
 
 /// The text at the spot, if it lies in these bytes, which stand at `at`.
