@@ -45,7 +45,7 @@ use Rattle.luks_commands.specs.ShowAnswers.{AnswersShow, IsFullAnswer, IsJsonAns
 use Rattle.luks_header_commands.specs.Converting.{AnswersConvert, IsConvertAnswer}
 use Rattle.luks_header_commands.specs.FoundHeader.{IsHeadedAnswer}
 use Rattle.luks_header_commands.specs.FoundMetadata.{IsMadeAnswer2}
-use Rattle.luks_header_commands.specs.Searching.{allowed_by, broken_off, broken_off2, by_combinations, cut_short, found_near, found_near2, no_memory, none_near, none_near2, search_failed, searched_luks1, searched_luks2, version_unread, BrokenOff, SearchedAnswer, SearchedAnswer1, SearchedAnswer2}
+use Rattle.luks_header_commands.specs.Searching.{broken_off, broken_off2, by_combinations, cut_short, found_near, found_near2, no_memory, none_near, none_near2, search_failed, searched_luks1, searched_luks2, version_unread, BrokenOff, SearchedAnswer, SearchedAnswer1, SearchedAnswer2}
 use Rattle.luks_header_commands.specs.Tried.{no_header, none_open, one_opens, trial_failed, TriedAnswer}
 use Rattle.luks_header_commands.specs.Trying.{AnswersBy, AnswersRebuild, IsTriedAnswer, TriedBy}
 use Rattle.luks_header_commands.specs.Rebuilding.{given_of, copies_asked, IsAnswerOf, IsLuks1Answer, IsLuks2Answer, IsRebuildAnswer}
