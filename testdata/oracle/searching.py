@@ -104,15 +104,8 @@ def differs(plan, passphrase):
     return digest, flipped(digest, plan[-1][2])
 
 
-def mending(stored, digest, tally):
-    """Counts the derivations by which a digest is mended bit by bit, each byte's from its low bit on: all up to the last bit that is wrong."""
-    last = max(bit for bit in range(8 * len(stored)) if (stored[bit // 8] ^ digest[bit // 8]) >> bit % 8 & 1)
-    for _ in range(last + 1):
-        tally.count()
-
-
 def by_digest(bits):
-    return f"with {bits} bits of the digest turned"
+    return f"with {bits} bit{'s' if bits != 1 else ''} of the digest turned"
 
 
 # ---- LUKS1
@@ -151,7 +144,6 @@ def standing_1(source, head, given, n, passphrase, tally):
     digest, bits = found
     if bits == 0:
         return head, n, "by what stands"
-    mending(head[112:132], digest, tally)
     return head[:112] + digest + head[132:], n, by_digest(bits)
 
 
@@ -172,10 +164,10 @@ def search1(source, given, passphrase, tally=None):
 
 
 def most_1(source):
-    """How many derivations are made at most: of a keyslot in use one as it stands, and one for each bit of the digest and of the fields that are searched; of one
-    whose word is a bit from that one."""
+    """How many derivations are made at most: of a keyslot in use one as it stands, and one for each bit of the fields that are searched; of one whose word is a
+    bit from that one."""
     off = [(int.from_bytes(source[208 + 48 * n:212 + 48 * n], "big") ^ ENABLED).bit_count() for n in range(8)]
-    return 865 * off.count(0) + off.count(1)
+    return 705 * off.count(0) + off.count(1)
 
 
 def rebuilt1(source, given, passphrase, target, tally=None):
@@ -281,7 +273,8 @@ def standing_2(source, size, text, passphrase, allowed, tally):
         if bits == 0:
             return text, n, "by what stands"
         old, new = digest_of(value, n)["digest"].encode(), base64.b64encode(digest)
-        mending(base64.b64decode(old), digest, tally)
+        # the digest is derived again, for its bytes
+        tally.count()
         at = text.find(old)
         while at >= 0:
             # another text may stand there
@@ -334,17 +327,17 @@ def by_bits(source, size, text, passphrase, allowed, tally):
     return None
 
 
-def search2(source, passphrase, allowed=(0, False), tally=None):
+def search2(source, passphrase, allowed=(0, False), tally=None, given=None):
     """The first JSON area and keyslot that open: the size and place of the copy, the area, the keyslot, and what was changed for it; or none. Argon2 may take
-    so many KiB, and ciphers and hashes of older disks are accepted where that is said."""
-    found = first_2(source, (passphrase, allowed, tally or Tally()))
+    so many KiB, and ciphers and hashes of older disks are accepted where that is said. A segment may be given: its offset, cipher and sector size."""
+    found = first_2(source, (passphrase, allowed, tally or Tally()), given)
     if found is None:
         return None
     size, at, text, n, how = found
     return size, at, text.ljust(size - 4096, b"\0"), n, how
 
 
-def first_2(source, trying):
+def first_2(source, trying, given):
     copies = list(begun(source))
     for size, at, text in copies:
         found = standing_2(source, size, text, *trying)
@@ -359,12 +352,17 @@ def first_2(source, trying):
         found = by_bits(source, size, text, *trying)
         if found is not None:
             return size, at, *found
-    return search_fragments(source, *trying)
+    return search_fragments(source, given, *trying) if len(source) >= 4096 + AREA else None
 
 
-def rebuilt2(source, passphrase, target, random, uuid=None, allowed=(0, False), tally=None):
+def most_2(source):
+    """How many derivations are made at most: so many for each place where the first 32768 bytes tell what a keyslot is derived by, and for one at least."""
+    return 4096 * max(1, source[:1 << 15].count(b'"kdf"'))
+
+
+def rebuilt2(source, passphrase, target, random, uuid=None, allowed=(0, False), tally=None, given=None):
     """What the program answers, and the target that is left."""
-    found = search2(source, passphrase, allowed, tally)
+    found = search2(source, passphrase, allowed, tally, given)
     if found is None:
         return "no slot opens", target
     size, at, area, n, how = found
@@ -461,11 +459,12 @@ def name_before(data, start):
 
 def found_fragments(source):
     """The first of each kind in the first bytes of the source, of segments those that encrypt: where each begins, its number, if one stands before it, and its
-    text."""
+    text. What stands again with the same number, as in both copies, counts once."""
     them = {kind: [] for kind in SOME}
     for start, kind, number, text in fragments(source[:FRONT + LONGEST]):
         counts = start < FRONT and (kind != "segment" or reader.read_value(text)["type"] == "crypt")
-        if counts and len(them[kind]) < MOST_FRAGMENTS:
+        again = any(it[1:] == (number, text) for it in them[kind])
+        if counts and not again and len(them[kind]) < MOST_FRAGMENTS:
             them[kind].append((start, number, text))
     return them
 
@@ -483,13 +482,19 @@ def chosen_segment(segments, digest):
     return next((it for it in segments if it[1] is not None and str(it[1]) == first), segments[0])
 
 
-def search_fragments(source, passphrase, allowed, tally):
-    """Each keyslot with each digest, and the digest's segment: what is found is the compact text of the metadata that they make."""
+def given_text(offset, cipher, sector_size):
+    """The text of the segment that is given."""
+    return (b'{"type":"crypt","offset":"%d","iv_tweak":"0","size":"dynamic","encryption":"%s","sector_size":%d}' % (offset, cipher, sector_size))
+
+
+def search_fragments(source, given, passphrase, allowed, tally):
+    """Each keyslot with each digest, and the digest's segment, or the one that is given: what is found is the compact text of the metadata that they make."""
     them, size = found_fragments(source), 4096 + AREA
     for at, n, keyslot in them["keyslot"]:
-        for place, m, digest in them["digest"] if them["segment"] else []:
-            where, _, segment = chosen_segment(them["segment"], digest)
+        for place, m, digest in them["digest"] if given or them["segment"] else []:
+            where, _, segment = (None, None, given_text(*given)) if given else chosen_segment(them["segment"], digest)
             value = value_of(size, made_text(region_of(keyslot), n or 0, m or 0, keyslot, digest, segment))
             if value is not None and opens(source, value, n or 0, passphrase, allowed, tally):
-                return size, 0, images.compact(value), n or 0, f"by fragments at {at}, {place} and {where}"
+                how = f"{at} and {place}, and the segment that is given" if given else f"{at}, {place} and {where}"
+                return size, 0, images.compact(value), n or 0, f"by fragments at {how}"
     return None

@@ -1,5 +1,5 @@
 -- Metadata in which the digest of a keyslot has few other bits.
-use Rattle.std.specs.Prelude.{◌≡◌, ◌⊎◌, ℕ, zero, suc, ◌+◌, ◌<◌, ◌≤◌, List, length, Option, Some, true}
+use Rattle.std.specs.Prelude.{◌≡◌, ℕ, ◌≤◌, List, length, Some, true}
 use Rattle.base64.specs.Rfc4648.{encode}
 use Rattle.serde_json.specs.Data.{Data}
 use Rattle.luks_area.specs.Ranges.{part, written}
@@ -12,34 +12,8 @@ use Rattle.luks_meta.specs.Says.{member_at}
 use Rattle.luks_rules.specs.declared.table.Member.TheVariants as name
 use Rattle.luks_rules.specs.declared.table.Outer.TheVariants as outer
 use Rattle.luks_rules.specs.declared.table.Section.TheVariants.{Digests}
-use Rattle.luks_trials.specs.Turned.{turned}
-use Rattle.luks2_searching.specs.declared.digest.Mended.{Mended}
+use Rattle.luks_slot.specs.Distance.{differing_bits}
 use Rattle.luks2_searching.specs.declared.digest.NearDigest.{NearDigest}
-
--- one bit more of the bytes is turned
-pub record IsTurnedOnce (old new : List ℕ) : Type 0 where
-  pub place : ℕ
-  pub bit : ℕ
-  pub inside : place < length old
-  pub low : bit < 8
-  pub is : new ≡ turned old place bit
-
--- so many bits are, one after the other: they differ in no more
-abbrev pub AreTurned : ℕ → List ℕ → List ℕ → Type 0
-AreTurned zero old new = new ≡ old
-AreTurned (suc count) old new = (before : List ℕ) × (AreTurned count old before × IsTurnedOnce before new)
-
--- on the way to the digest that the key gives: one bit more was turned, where that left fewer bits to turn
-abbrev pub IsNearer : Mended → List ℕ → Option ℕ → Mended → Type 0
-IsNearer before digest distance after =
-    (after ≡ before) ⊎ ((after.digest.items ≡ digest) × (after.times ≡ before.times + 1) × (after.left < before.left) × (distance ≡ Some after.left))
-
--- of `bits` bits so many were turned that at most the others are left
-pub record IsUnderWay (stood : List ℕ) (bits : ℕ) (m : Mended) : Type 0 where
-  pub long : length m.digest.items ≡ length stood
-  pub some : 1 ≤ m.left
-  pub sum : m.times + m.left ≤ bits
-  pub turned : AreTurned m.times stood m.digest.items
 
 -- by the metadata of the JSON area the key of the keyslot `n` is told by these bytes: those of the digest that names it
 -- (LUKS2 On-Disk Format 1.1, 3.4)
@@ -66,25 +40,35 @@ pub record IsReplaced (json stood digest : List ℕ) (place : ℕ) (new : List �
   pub before : part json place (length (base64_text stood)) ≡ base64_text stood
   pub put : new ≡ written json place (base64_text digest)
 
--- so many bits of the keyslot's digest are turned, and its text stands where that of the one before stood
+-- the keyslot's digest has other bytes, which differ in so many bits, 1 to 8, and their text stands where that of the one
+-- before stood
 pub record IsDigestTurned (json : List ℕ) (n bits : ℕ) (new : List ℕ) : Type 0 where
+  pub some : 1 ≤ bits
   pub few : bits ≤ few_bits
   pub stood : List ℕ
   pub stands : HasDigest json n stood
   pub digest : List ℕ
   pub is : HasDigest new n digest
-  pub turned : AreTurned bits stood digest
+  pub long : length digest ≡ length stood
+  pub differ : differing_bits digest stood ≡ bits
   pub place : ℕ
   pub replaced : IsReplaced json stood digest place new
 
--- what the key of the keyslot `n` gives in place of the digest that stands
+-- ---- words of private contracts
+
+-- the two digests are as long, and differ in so many bits, 1 to 8
+pub record AreNear (near : NearDigest) : Type 0 where
+  pub some : 1 ≤ near.bits
+  pub few : near.bits ≤ few_bits
+  pub long : length near.digest.items ≡ length near.stood.items
+  pub differ : differing_bits near.digest.items near.stood.items ≡ near.bits
+
+-- one of them is that of the keyslot `n`
 pub record IsNear (json : List ℕ) (n : ℕ) (near : NearDigest) : Type 0 where
   pub stands : HasDigest json n near.stood.items
-  pub few : near.bits ≤ few_bits
-  pub turned : AreTurned near.bits near.stood.items near.digest.items
+  pub are : AreNear near
 
--- what a key gives in place of the digest `stood`
+-- one of them is this one
 pub record IsNearTo (stood : List ℕ) (near : NearDigest) : Type 0 where
   pub is : near.stood.items ≡ stood
-  pub few : near.bits ≤ few_bits
-  pub turned : AreTurned near.bits stood near.digest.items
+  pub are : AreNear near

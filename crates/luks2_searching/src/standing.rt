@@ -8,16 +8,13 @@ ghost use Rattle.luks_trials.specs.Tallies.{Counts};
 ghost use Rattle.luks2_searching.specs.Found.{IsFoundIn, IsThere};
 ghost use Rattle.luks_trials.specs.Metadata.{OpensAt, OpensNone};
 
-use crate::digest::mended_digest;
+use crate::digest::{FEW_BITS, mended_digest};
 use crate::found::{Change2, Found2};
 use luks_area::Device;
 use luks_meta::Meta;
 use luks_rebuilding::Place;
 use luks_trials::{Progress, SearchFault, Tally, Trying, distance, meta_of};
 use std::alloc::Global;
-
-/// A digest is taken for the key's where it differs in no more bits.
-const FEW_BITS: u32 = 8;
 
 /// The first keyslot that opens by the area as it stands, or by a digest that differs in few bits. `place` is that of
 /// the copy.
@@ -93,7 +90,7 @@ fn slot_as_it_stands<D: Device, P: Progress>(
             change: Change2::Nothing,
         })),
         Some(bits) if bits <= FEW_BITS => mended_digest(
-            alloc, source, place, json, meta, n, bits, trying, tally, progress,
+            alloc, source, place, json, meta, n, trying, tally, progress,
         ),
         _ => Ok(None),
     }

@@ -5,35 +5,96 @@ use Rattle.luks1_header.specs.Header1.{active_word, enabled_word, entry, entry_i
 use Rattle.luks1_header.specs.Written.{WritesLuks1}
 use Rattle.luks1_header.specs.declared.luks1.Luks1.{Luks1}
 use Rattle.luks1_header.specs.declared.luks1.Luks1Slot.{Luks1Slot}
+use Rattle.luks1_header.specs.declared.luks1.SlotState.{SlotState}
 use Rattle.luks1_header.specs.declared.luks1.SlotState.TheVariants.{Disabled, Enabled}
 use Rattle.luks1_mending.specs.Made.{IsMade}
 use Rattle.luks1_mending.specs.Taken.{IsFieldFault}
 use Rattle.luks1_mending.specs.declared.given.Given.{Given}
 use Rattle.luks1_mending.proofs.HeaderFacts.{made_header}
-use Rattle.luks_slot.specs.Allowance.{none_allowed}
-use Rattle.luks_slot.specs.Opening.{slot_key}
-use Rattle.luks_slot.specs.Refusal.{slot_refusal}
-use Rattle.luks_slot.proofs.RefusalFacts.{refusal_at_none}
+use Rattle.luks_slot.specs.Allowance.{none_allowed, without_memory}
+use Rattle.luks_slot.specs.Ciphers.{cipher_of, keyed}
+use Rattle.luks_slot.specs.Distance.{digest_of, slot_digest}
+use Rattle.luks_slot.specs.Opening.{area_key, area_key_by, candidate, slot_key, stripes_in}
+use Rattle.luks_slot.specs.Refusal.{is_argon2, slot_refusal}
+use Rattle.luks_slot.proofs.RefusalFacts.{accepted_within, refusal_at_none}
 use Rattle.luks_slot.specs.declared.fault.SlotFault.{SlotFault}
 use Rattle.luks_slot.specs.declared.plan.Derivation.{Derivation}
 use Rattle.luks_slot.specs.declared.plan.Derivation.TheVariants.{Argon2, Pbkdf2}
 use Rattle.luks_slot.specs.declared.plan.SlotPlan.{SlotPlan}
 use Rattle.luks_reading.specs.PlanAnswers.{IsOpenable}
 use Rattle.luks_reading.specs.Plans.{HasLuks1Plan, IsLuks1Derivation, IsLuks1Plan}
+use Rattle.luks_reading.specs.declared.open_fault.OpenFault.{OpenFault}
 use Rattle.luks_reading.specs.declared.open_fault.OpenFault.TheVariants as fault
 use Rattle.luks_reading.proofs.Luks1Plans.{one_luks1_plan}
-use Rattle.luks_reading.proofs.SamePlans.{same_answer, SameFields}
-use Rattle.luks1_rebuilding.specs.Gives.{IsKeptPlan}
+use Rattle.luks_reading.proofs.SamePlans.{same_answer, same_refusal_within, SameFields}
+use Rattle.luks1_rebuilding.specs.Gives.{IsRefusedKept}
+use Rattle.luks1_rebuilding.specs.KeyAreas.{header_of}
 use Rattle.luks1_rebuilding.specs.Openings.{OpensBy}
 use Rattle.luks1_rebuilding.specs.Tried.{IsMadeOf}
 use Rattle.luks1_rebuilding.specs.Used.{any_slot, slot_at}
 use Rattle.luks1_rebuilding.proofs.HeadedFacts.{area_is, header_is, made_headed}
 use Rattle.luks1_rebuilding.proofs.MadeFacts.{behind}
-use Rattle.luks1_rebuilding.proofs.OpeningFacts.{kept_entry_of, says_of, tells_opening, tells_shut}
+use Rattle.luks1_rebuilding.proofs.OpeningFacts.{enabled_there, kept_entry_of, made_faultless, says_of, tells_opening, tells_shut}
 use Rattle.luks1_rebuilding.proofs.PlanFacts.{plan_here, plan_there, SaysKept}
 use Rattle.luks1_rebuilding.specs.Headed.{headed}
-use Rattle.luks_searching.specs.Headed.{IsCheap, OpensHeaded}
-use Rattle.luks_trials.specs.Trials.{most_stripes, most_turns, IsCheapDerivation, IsCheapPlan, IsOpenedPlan}
+use Rattle.luks_searching.specs.Headed.{GivesDigest, GivesNoDigest, GivesOneDigest, IsCheap, OpensHeaded}
+use Rattle.luks_trials.specs.Faults.{IsCutShort, IsCutWithoutMemory}
+use Rattle.luks_trials.specs.Trials.{most_stripes, most_turns, IsCheapDerivation, IsCheapPlan, IsOpenedPlan, IsTriedPlan, TakesMemory}
+use Rattle.luks_trials.specs.declared.fault.SearchFault.{SearchFault}
+use Rattle.luks_trials.specs.declared.fault.SearchFault.TheVariants as search
+use Rattle.luks_trials.specs.declared.tally.Tally.{Tally}
+
+-- ---- plans that say the same give the same digest
+
+same_back : {a b : SlotPlan} → SameFields a b → SameFields b a
+same_back s = record {
+  argon2 = sym s.argon2;
+  argon2_refused = λ memory. sym (s.argon2_refused memory);
+  known = λ older. sym (s.known older);
+  key = λ n p. sym (s.key n p);
+  cipher = λ older. sym (s.cipher older);
+  sector_cipher = sym s.sector_cipher;
+  key_size = λ n. sym (s.key_size n);
+  start = sym s.start;
+  len = sym s.len;
+  area_key_bytes = sym s.area_key_bytes;
+  key_bytes = sym s.key_bytes;
+  stripes = sym s.stripes;
+  splitter_hash = sym s.splitter_hash;
+  digest_hash = sym s.digest_hash;
+  digest_iterations = sym s.digest_iterations;
+  digest_salt = sym s.digest_salt;
+  digest_stored = sym s.digest_stored;
+}
+
+same_area_key : (a b : SlotPlan) (p : List ℕ) → SameFields a b → area_key a p ≡ area_key b p
+unfolding area_key
+same_area_key a b p s =
+    ap (λ bytes. keyed (cipher_of a.cipher) bytes) (ap (λ n. area_key_by a.derivation n p) s.area_key_bytes ∙ s.key b.area_key_bytes p)
+    ∙ ap (λ cipher. keyed cipher (area_key_by b.derivation b.area_key_bytes p)) s.sector_cipher
+
+same_stripes : (a b : SlotPlan) (p area : List ℕ) → SameFields a b → stripes_in a (area_key b p) area ≡ stripes_in b (area_key b p) area
+unfolding stripes_in
+same_stripes a b p area s = simp (s.key_bytes, s.stripes)
+
+same_candidate : (a b : SlotPlan) (area p : List ℕ) → SameFields a b → candidate a area p ≡ candidate b area p
+unfolding candidate
+same_candidate a b area p s =
+    let keys = same_area_key a b p s in
+    let stripes = same_stripes a b p area s in
+    simp (keys, stripes, s.splitter_hash, s.key_bytes, s.stripes)
+
+same_slot_digest : (a b : SlotPlan) (area p : List ℕ) → SameFields a b → slot_digest a area p ≡ slot_digest b area p
+unfolding slot_digest digest_of
+same_slot_digest a b area p s =
+    let candidates = same_candidate a b area p s in
+    simp (candidates, s.digest_hash, s.digest_iterations, s.digest_salt, s.digest_stored)
+
+same_given : (a b : SlotPlan) (v p : List ℕ) → SameFields a b → slot_digest a (part v a.area.start a.area.len) p ≡ slot_digest b (part v b.area.start b.area.len) p
+same_given a b v p s =
+    same_slot_digest a b (part v a.area.start a.area.len) p s
+    ∙ ap (λ at. slot_digest b (part v at a.area.len) p) s.start
+    ∙ ap (λ size. slot_digest b (part v b.area.start size) p) s.len
 
 -- ---- an enabled keyslot of it
 
@@ -130,17 +191,84 @@ module _ (v h : List ℕ) (long : length h ≡ 592) (room : 592 ≤ length v) (g
     pub opens_headed : IsOpenedPlan none_allowed plan v p ↔ OpensHeaded v h g p n
     opens_headed = (opened_here, by_refusal (slot_refusal plan) refl)
 
+    -- what its stripes give
+    unrefused : slot_refusal plan ≡ None → (older : Bool) (f : OpenFault) → IsRefusedKept older (headed v h) g n f → ⊥
+    unrefused none older (fault.Head f) bad = bad
+    unrefused none older (fault.Meta f) bad = bad
+    unrefused none older fault.NoSuchSlot bad = bad
+    unrefused none older fault.SlotFree bad = bad
+    unrefused none older fault.Outside bad = bad
+    unrefused none older (fault.Slot f) bad =
+        let alike = same_refusal_within (without_memory older) plan bad.plan (one_luks1_plan b n plan bad.plan has_plan (plan_there says bad.plan bad.is)) in
+        let fine = accepted_within (without_memory older) plan none in
+        let refused = bad.refused in
+        absurd (cc)
+    unrefused none older fault.Device bad = bad
+    unrefused none older fault.Memory bad = bad
+
+    gives_it : IsTriedPlan none_allowed plan → GivesDigest v h g p n (slot_digest plan (part v plan.area.start plan.area.len) p)
+    gives_it x = record {
+      cheap = cheap_here x.cheap;
+      made = made_faultless (header_of (headed v h)) (length (headed v h)) g d of_volume;
+      in_use = record {
+        kept = (kept_entry_of (header_of (headed v h)) (length (headed v h)) g d of_volume n lt on_there).kept;
+        enabled = (kept_entry_of (header_of (headed v h)) (length (headed v h)) g d of_volume n lt on_there).enabled;
+      };
+      plan = plan;
+      is = plan_here says plan has_plan;
+      unrefused = unrefused (sym (refusal_at_none plan) ∙ x.accepted);
+      gives = ap (λ a. slot_digest plan a p) (sym same_area);
+    }
+
+    one_given : (other : List ℕ) → GivesDigest v h g p n other → other ≡ slot_digest plan (part v plan.area.start plan.area.len) p
+    one_given other x =
+        x.gives ∙ same_given x.plan plan (headed v h) p (same_back (one_luks1_plan b n plan x.plan has_plan (plan_there says x.plan x.is)))
+        ∙ ap (λ a. slot_digest plan a p) same_area
+
+    pub given_headed : (digest : List ℕ) → IsTriedPlan none_allowed plan → digest ≡ slot_digest plan (part v plan.area.start plan.area.len) p → GivesOneDigest v h g p n digest
+    given_headed digest x is = record { it = subst (GivesDigest v h g p n) (sym is) (gives_it x); one = λ other y. one_given other y ∙ sym is }
+
+    tried_by : (o : Option SlotFault) → slot_refusal plan ≡ o → (digest : List ℕ) → GivesDigest v h g p n digest → IsTriedPlan none_allowed plan
+    tried_by (Some f) refused digest x =
+        absurd (x.unrefused false (fault.Slot f) (record { plan = plan; is = plan_here says plan has_plan; refused = refusal_at_none plan ∙ refused }))
+    tried_by None accepted digest x = record { cheap = cheap_there x.cheap; accepted = refusal_at_none plan ∙ accepted }
+
+    pub untried_headed : (IsTriedPlan none_allowed plan → ⊥) → GivesNoDigest v h g p n
+    untried_headed none digest x = none (tried_by (slot_refusal plan) refl digest x)
+
 -- a keyslot of it that isn't enabled opens by none
 pub shut_headed : (v h : List ℕ) (g : Given) (d : Luks1) → length h ≡ 592 → 592 ≤ length v → IsMade h (length v) g d → (n : ℕ) → n < 8
     → (s : Luks1Slot) → s ≡ slot_at d n → s.state ≡ Disabled → (p : List ℕ) → OpensHeaded v h g p n → ⊥
 shut_headed v h g d long room made n lt s here off p x =
     let t : IsTrue false = (tells_shut (headed v h) g d (made_headed v h g d long room made) n lt s here off p).1 x.opens in cc
 
+-- nor gives a digest
+pub shut_gives : (v h : List ℕ) (g : Given) (d : Luks1) → length h ≡ 592 → 592 ≤ length v → IsMade h (length v) g d → (n : ℕ) → n < 8
+    → (s : Luks1Slot) → s ≡ slot_at d n → s.state ≡ Disabled → (p : List ℕ) → GivesNoDigest v h g p n
+shut_gives v h g d long room made n lt s here off p digest x =
+    let on = enabled_there (header_of (headed v h)) (length (headed v h)) g d (made_headed v h g d long room made) n lt x.in_use.kept x.in_use.enabled in
+    absurd (no_state (slot_at d n).state on (ap (λ (q : Luks1Slot). q.state) (sym here) ∙ off))
+  where
+    no_state : (t : SlotState) → t ≡ Enabled → t ≡ Disabled → ⊥
+    no_state t on disabled = cc
+
 -- nor does one of a header that isn't made
 pub unmade_headed : (v h : List ℕ) (g : Given) → length h ≡ 592 → (n : ℕ) (p : List ℕ) → OpensHeaded v h g p n → (f : _) → IsFieldFault h g f → ⊥
 unmade_headed v h g long n p x f bad = x.opens.made f (subst (λ i. IsFieldFault i g f) (sym (header_is v h long)) bad)
+
+pub unmade_gives : (v h : List ℕ) (g : Given) → length h ≡ 592 → (n : ℕ) (p : List ℕ) (f : _) → IsFieldFault h g f → GivesNoDigest v h g p n
+unmade_gives v h g long n p f bad digest x = x.made f (subst (λ i. IsFieldFault i g f) (sym (header_is v h long)) bad)
 
 -- what is told of a keyslot by its plan is told of it by the header
 pub told_by : {F : Type 0} (r : Result (Option ℕ) F) (A B : Type 0) → A ↔ B → IfOk r (λ bits. (bits ≡ Some 0) ↔ A) → IfOk r (λ bits. (bits ≡ Some 0) ↔ B)
 told_by (Ok bits) A B same told = ((λ e. same.0 (told.0 e)), (λ x. told.1 (same.1 x)))
 told_by (Err f) A B same told = tt
+
+-- where nothing is allowed, no memory is taken
+pub bare_cut : (plan : SlotPlan) (tally : Tally) (f : SearchFault) → TakesMemory none_allowed plan f → IsCutShort tally f → IsCutWithoutMemory tally f
+bare_cut plan tally search.Memory takes cut =
+    let accepted = sym (refusal_at_none plan) ∙ takes.0 in
+    let argon2 = takes.1 in
+    absurd (rw argon2 at accepted in cc)
+bare_cut plan tally search.Device takes cut = cut
+bare_cut plan tally search.Spent takes cut = cut

@@ -1,12 +1,12 @@
 -- What a turned bit leaves of a LUKS1 header.
-use Rattle.std.proofs.Common.{◌≡◌, ◌⊎◌, ℕ, zero, suc, ◌+◌, ◌*◌, ◌<◌, ◌≤◌, List, inl, inr, ap, sym, subst, ◌∙◌, arith}
+use Rattle.std.proofs.Common.{◌≡◌, ◌⊎◌, ℕ, ◌+◌, ◌*◌, ◌<◌, ◌≤◌, List, inl, inr, ap, ◌∙◌, arith}
 use Rattle.std.proofs.Math.ListN.{length-set}
 use Rattle.std.proofs.lemmas.List.{get_or-set_other}
 use Rattle.luks_area.specs.Ranges.{IsAt, SameBut}
-use Rattle.luks_area.proofs.RangeFacts.{part-same_but_at, same_but-equal, same_but-then, same_but-wider}
+use Rattle.luks_area.proofs.RangeFacts.{part-same_but_at}
 use Rattle.luks1_header.specs.Header1.{mk_digest_of}
 use Rattle.luks_searching.specs.Fields1.{IsOfField}
-use Rattle.luks_searching.specs.Found1.{IsBitTurned, IsTurnedOnce, IsTurnedTimes}
+use Rattle.luks_searching.specs.Found1.{IsBitTurned}
 use Rattle.luks_trials.specs.Turned.{turned}
 use Rattle.luks_searching.specs.declared.fields1.Field.{Field}
 use Rattle.luks_searching.specs.declared.fields1.Field.TheVariants.{KeyBytes, DigestSalt, State, SaltAndArea, DigestIterations, Iterations}
@@ -30,13 +30,3 @@ pub bit_turned_digest : (h new : List ℕ) (n place bit : ℕ) → IsBitTurned h
 bit_turned_digest h new n place bit x =
     ap mk_digest_of x.is
     ∙ part-same_but_at {v = h} {w = turned h place bit} place 1 112 20 (turned_same_but h place bit) (apart_of x.searched.0 n place x.searched.1)
-
-once_same_but : (h new : List ℕ) → IsTurnedOnce h new → SameBut (IsAt 112 20) h new
-once_same_but h new x =
-    subst (λ w. SameBut (IsAt 112 20) h w) (sym x.is)
-    (same_but-wider (λ p at. (let low = x.of_digest.0 in let high = x.of_digest.1 in let here = at.0 in let there = at.1 in (omega (arith, low, here), omega (arith, high, there))))
-    (turned_same_but h x.place x.bit))
-
-pub times_same_but : (bits : ℕ) (h new : List ℕ) → IsTurnedTimes bits h new → SameBut (IsAt 112 20) h new
-times_same_but zero h new x = same_but-equal (IsAt 112 20) x
-times_same_but (suc bits) h new (mid, (x, once)) = same_but-then (times_same_but bits h mid x) (once_same_but mid new once)

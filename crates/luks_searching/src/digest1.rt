@@ -1,104 +1,46 @@
-//! A digest of LUKS1 of which few bits are wrong.
-ghost use Rattle.std.specs.Prelude.{◌≡◌, ◌↔◌, ◌+◌, ◌^◌, ◌<◌, ◌≤◌, Some, IfErr, IfOk, IfSome, IsTrue};
-ghost use Rattle.luks_area.specs.Device.{CountsFailure, IsUnchanged};
-ghost use Rattle.luks1_header.specs.Header1.{luks1_size};
-ghost use Rattle.luks_trials.specs.Faults.{is_search_failure, IsCutShort};
-ghost use Rattle.luks_searching.specs.Found1.{few_bits, IsFoundOf, IsNearer};
-ghost use Rattle.luks_trials.specs.Tallies.{Counts};
+//! A digest that a keyslot gives, in a LUKS1 header.
+ghost use Rattle.std.specs.Prelude.{◌≡◌, ◌<◌, length, IfNone, IfSome};
+ghost use Rattle.luks_area.specs.Ranges.{written};
+ghost use Rattle.luks1_header.specs.Header1.{luks1_size, mk_digest_of};
+ghost use Rattle.luks_slot.specs.Distance.{differing_bits};
+ghost use Rattle.luks_searching.specs.Found1.{few_bits, HasDigestOf};
 
 use crate::searching1::{Change1, Found1};
-use crate::trial1::{Sought, distance};
-use crate::turning::turned;
-use luks_area::Device;
-use luks_trials::{Progress, SearchFault, Tally};
-use std::alloc::Global;
+use luks_trials::differing_bits;
 
-/// Where the digest stands, in bytes from the header's start.
-const DIGEST: usize = 112;
+/// A digest is taken for the key's where it differs in no more bits.
+const FEW_BITS: u32 = 8;
 
-/// The bits of the digest.
-const BITS: usize = 160;
-
-/// The header with the digest that the key of the keyslot `n` meets, where it differs from the one that
-/// stands in `bits` bits: each bit is turned that lessens this distance.
-pub(crate) fn mended_digest<D: Device, P: Progress>(
-    alloc: Global,
-    source: &mut D,
-    sought: &Sought<'_>,
-    n: u8,
-    bits: u32,
-    tally: &mut Tally,
-    progress: &mut P,
-) -> Result<Option<Found1>, SearchFault>
-    requires numbered { n < 8 }
-    requires some_bits { 1 ≤ bits }
-    requires few { bits ≤ few_bits }
-    requires large { luks1_size ≤ D.size source.old }
-    requires room { D.failed source.old + 1 < 2 ^ 64 }
-    ensures unchanged { IsUnchanged D.tells D.size D.bytes D.unsettled source.old source.new }
-    ensures count { CountsFailure is_search_failure result
-        (D.failed source.old) (D.failed source.new) }
-    ensures counts { Counts tally.old tally.new }
-    ensures cut { IfErr result (IsCutShort tally.new) }
-    ensures found { D.tells → IfOk result (λ found. IfSome found (IsFoundOf (D.bytes source.old)
-        sought.now.header.now sought.now.given.now sought.now.passphrase.now)) }
+/// The header by which the keyslot `slot` opens whose stripes give this digest: as it stands where that is its own,
+/// else with it in the place of its own, if these differ in few bits.
+pub(crate) fn with_given(header: &[u8; 592], slot: u8, digest: &[u8]) -> Option<Found1>
+    requires header_long { length header.now ≡ luks1_size }
+    requires long { length digest.now ≡ 20 }
+    ensures found { IfSome result (HasDigestOf header.now digest.now slot) }
+    ensures none { IfNone result (few_bits < differing_bits digest.now (mk_digest_of header.now)) }
 {
-    let mut mended = Mended {
-        header: *sought.header,
-        times: 0,
-        left: bits,
-    };
-    for number in 0..BITS {
-        let header = turned(&mended.header, DIGEST + number / 8, (number % 8) as u8);
-        let changed = Sought {
-            header: &header,
-            given: sought.given,
-            passphrase: sought.passphrase,
-        };
-        let distance = distance(alloc, source, &changed, n, tally, progress)?;
-        if is_met(distance) {
-            return Ok(Some(Found1 {
-                header,
-                slot: n,
-                change: Change1::Digest {
-                    bits: mended.times + 1,
-                },
-            }));
-        }
-        mended = nearer(mended, header, distance);
-    }
-    Ok(None)
-}
-
-/// A header on the way to the digest that the key meets.
-#[derive(Clone, Copy)]
-pub(crate) struct Mended {
-    header: [u8; 592],
-    times: u32,
-    left: u32,
-}
-
-/// The header by which the digest differs in so many bits, if these are fewer, else the one before.
-fn nearer(before: Mended, header: [u8; 592], distance: Option<u32>) -> Mended
-    requires { before.times + before.left ≤ few_bits }
-    ensures { IsNearer before header distance result }
-{
-    match distance {
-        Some(left) if left < before.left => Mended {
-            header,
-            times: before.times + 1,
-            left,
-        },
-        _ => before,
+    match differing_bits(digest, &header[112..132]) {
+        0 => Some(Found1 {
+            header: *header,
+            slot,
+            change: Change1::Nothing,
+        }),
+        bits if bits <= FEW_BITS => Some(Found1 {
+            header: with_digest(header, digest),
+            slot,
+            change: Change1::Digest { bits },
+        }),
+        _ => None,
     }
 }
 
-/// Whether the keyslot opens: nothing differs.
-fn is_met(distance: Option<u32>) -> bool
-    ensures { IsTrue result ↔ (distance ≡ Some 0) }
+/// The header with this digest.
+fn with_digest(header: &[u8; 592], digest: &[u8]) -> [u8; 592]
+    requires header_long { length header.now ≡ luks1_size }
+    requires long { length digest.now ≡ 20 }
+    ensures { result ≡ written header.now 112 digest.now }
 {
-    match distance {
-        Some(0) => true,
-        _ => false,
-    }
+    let mut bytes = *header;
+    bytes[112..132].copy_from_slice(digest);
+    bytes
 }

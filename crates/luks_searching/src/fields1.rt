@@ -2,7 +2,7 @@
 ghost use Rattle.std.specs.Prelude.{◌≡◌, ◌↔◌, ◌+◌, ◌^◌, ◌<◌, ◌≤◌, ℕ, IfErr, IfNone, IfOk, IfSome, IsTrue};
 ghost use Rattle.luks_area.specs.Device.{CountsFailure, IsUnchanged};
 ghost use Rattle.luks1_header.specs.Header1.{luks1_size};
-ghost use Rattle.luks_trials.specs.Faults.{is_search_failure, IsCutShort};
+ghost use Rattle.luks_trials.specs.Faults.{is_search_failure, IsCutWithoutMemory};
 ghost use Rattle.luks_searching.specs.Fields1.{len_of, start_of};
 ghost use Rattle.luks_searching.specs.Found1.{IsFoundOf, OpensNoneIn};
 ghost use Rattle.luks_searching.specs.Headed.{OpensHeaded};
@@ -81,7 +81,7 @@ pub(crate) fn turned_in<D: Device, P: Progress>(
     ensures count { CountsFailure is_search_failure result
         (D.failed source.old) (D.failed source.new) }
     ensures counts { Counts tally.old tally.new }
-    ensures cut { IfErr result (IsCutShort tally.new) }
+    ensures cut { IfErr result (IsCutWithoutMemory tally.new) }
     ensures found { D.tells → IfOk result (λ found. IfSome found (IsFoundOf (D.bytes source.old)
         sought.now.header.now sought.now.given.now sought.now.passphrase.now)) }
     ensures none { D.tells → IfOk result (λ found. IfNone found (OpensNoneIn (D.bytes source.old)
@@ -120,7 +120,7 @@ fn turned_at<D: Device, P: Progress>(
     ensures count { CountsFailure is_search_failure result
         (D.failed source.old) (D.failed source.new) }
     ensures counts { Counts tally.old tally.new }
-    ensures cut { IfErr result (IsCutShort tally.new) }
+    ensures cut { IfErr result (IsCutWithoutMemory tally.new) }
     ensures low { IfOk result (λ found. IfSome found (λ bit. bit < 8)) }
     ensures opens { D.tells → IfOk result (λ found. IfSome found (λ bit. OpensHeaded
         (D.bytes source.old) (turned sought.now.header.now place bit) sought.now.given.now
@@ -157,7 +157,7 @@ fn is_opened<D: Device, P: Progress>(
     ensures count { CountsFailure is_search_failure result
         (D.failed source.old) (D.failed source.new) }
     ensures counts { Counts tally.old tally.new }
-    ensures cut { IfErr result (IsCutShort tally.new) }
+    ensures cut { IfErr result (IsCutWithoutMemory tally.new) }
     ensures opens { D.tells → IfOk result (λ is. IsTrue is ↔ OpensHeaded (D.bytes source.old)
         (turned sought.now.header.now place bit) sought.now.given.now sought.now.passphrase.now n) }
 {

@@ -2,22 +2,18 @@
 ghost use Rattle.std.specs.Prelude.{◌≡◌, ◌+◌, ◌^◌, ◌<◌, ◌≤◌, ℕ, IfErr, IfNone, IfOk, IfSome};
 ghost use Rattle.luks_area.specs.Device.{CountsFailure, IsUnchanged};
 ghost use Rattle.luks1_header.specs.Header1.{luks1_size};
-ghost use Rattle.luks_trials.specs.Faults.{is_search_failure, IsCutShort};
-ghost use Rattle.luks_searching.specs.Found1.{few_bits, HasNone1, IsFound1, IsFoundOf, OpensNoneIn};
-ghost use Rattle.luks_searching.specs.Headed.{OpensHeaded};
+ghost use Rattle.luks_trials.specs.Faults.{is_search_failure, IsCutWithoutMemory};
+ghost use Rattle.luks_searching.specs.Found1.{HasNone1, IsFound1, IsFoundOf, OpensNoneBut, OpensNoneIn};
 ghost use Rattle.luks_trials.specs.Tallies.{Counts};
 ghost use Rattle.luks_searching.specs.declared.fields1.Field.{Field as TheField};
 
-use crate::digest1::mended_digest;
+use crate::digest1::with_given;
 use crate::fields1::{Field, turned_in};
-use crate::trial1::{Sought, distance};
+use crate::trial1::{Sought, given_digest};
 use luks_area::Device;
 use luks_trials::{Progress, SearchFault, Tally};
 use luks1_mending::Given;
 use std::alloc::Global;
-
-/// A digest is taken for the key's where it differs in no more bits.
-const FEW_BITS: u32 = 8;
 
 /// What isn't as it stands in a header that was found.
 #[derive(Debug, Clone, Copy, PartialEq, Eq)]
@@ -51,12 +47,11 @@ pub struct Found1 {
 
 /// The first header near to that of the source by which the passphrase opens a keyslot, or None where none
 /// does: as it stands; with a digest that differs in at most 8 bits; with one bit turned, of the key's
-/// length, the digest's salt and iterations, and the entry of a keyslot. The source never changes. That a digest
-/// in reach is found is in no clause.
+/// length, the digest's salt and iterations, and the entry of a keyslot. The source never changes.
 ///
 /// `tally` counts each derivation before it is made: `Spent` comes only where as many were made as may be.
-/// `Device` comes exactly where a device call failed. A keyslot by more than 2^26 iterations, or of more than
-/// 2^16 stripes, isn't tried. Takes no memory from the allocator.
+/// `Device` comes exactly where a device call failed, `Memory` never: none is taken. A keyslot by more than 2^26
+/// iterations, or of more than 2^16 stripes, isn't tried.
 pub fn search1<D: Device, P: Progress>(
     alloc: Global,
     source: &mut D,
@@ -71,7 +66,7 @@ pub fn search1<D: Device, P: Progress>(
     ensures count { CountsFailure is_search_failure result
         (D.failed source.old) (D.failed source.new) }
     ensures counts { Counts tally.old tally.new }
-    ensures cut { IfErr result (IsCutShort tally.new) }
+    ensures cut { IfErr result (IsCutWithoutMemory tally.new) }
     ensures found { D.tells → IfOk result (λ found. IfSome found
         (IsFound1 (D.bytes source.old) given.now passphrase.now)) }
     ensures none { D.tells → IfOk result (λ found. IfNone found
@@ -105,12 +100,11 @@ fn as_it_stands<D: Device, P: Progress>(
     ensures count { CountsFailure is_search_failure result
         (D.failed source.old) (D.failed source.new) }
     ensures counts { Counts tally.old tally.new }
-    ensures cut { IfErr result (IsCutShort tally.new) }
+    ensures cut { IfErr result (IsCutWithoutMemory tally.new) }
     ensures found { D.tells → IfOk result (λ found. IfSome found (IsFoundOf (D.bytes source.old)
         sought.now.header.now sought.now.given.now sought.now.passphrase.now)) }
-    ensures none { D.tells → IfOk result (λ found. IfNone found ((n : ℕ) → n < 8 → OpensHeaded
-        (D.bytes source.old) sought.now.header.now sought.now.given.now sought.now.passphrase.now n
-        → ⊥)) }
+    ensures none { D.tells → IfOk result (λ found. IfNone found ((n : ℕ) → n < 8 → OpensNoneBut
+        (D.bytes source.old) sought.now.header.now sought.now.given.now sought.now.passphrase.now n)) }
 {
     for n in 0..8 {
         let found = slot_as_it_stands(alloc, source, sought, n, tally, progress)?;
@@ -137,22 +131,15 @@ fn slot_as_it_stands<D: Device, P: Progress>(
     ensures count { CountsFailure is_search_failure result
         (D.failed source.old) (D.failed source.new) }
     ensures counts { Counts tally.old tally.new }
-    ensures cut { IfErr result (IsCutShort tally.new) }
+    ensures cut { IfErr result (IsCutWithoutMemory tally.new) }
     ensures found { D.tells → IfOk result (λ found. IfSome found (IsFoundOf (D.bytes source.old)
         sought.now.header.now sought.now.given.now sought.now.passphrase.now)) }
-    ensures none { D.tells → IfOk result (λ found. IfNone found (OpensHeaded (D.bytes source.old)
-        sought.now.header.now sought.now.given.now sought.now.passphrase.now n → ⊥)) }
+    ensures none { D.tells → IfOk result (λ found. IfNone found (OpensNoneBut (D.bytes source.old)
+        sought.now.header.now sought.now.given.now sought.now.passphrase.now n)) }
 {
-    match distance(alloc, source, sought, n, tally, progress)? {
-        Some(0) => Ok(Some(Found1 {
-            header: *sought.header,
-            slot: n,
-            change: Change1::Nothing,
-        })),
-        Some(bits) if bits <= FEW_BITS => {
-            mended_digest(alloc, source, sought, n, bits, tally, progress)
-        }
-        _ => Ok(None),
+    match given_digest(alloc, source, sought, n, tally, progress)? {
+        Some(digest) => Ok(with_given(sought.header, n, &digest)),
+        None => Ok(None),
     }
 }
 
@@ -180,7 +167,7 @@ fn by_fields<D: Device, P: Progress>(
     ensures count { CountsFailure is_search_failure result
         (D.failed source.old) (D.failed source.new) }
     ensures counts { Counts tally.old tally.new }
-    ensures cut { IfErr result (IsCutShort tally.new) }
+    ensures cut { IfErr result (IsCutWithoutMemory tally.new) }
     ensures found { D.tells → IfOk result (λ found. IfSome found (IsFoundOf (D.bytes source.old)
         sought.now.header.now sought.now.given.now sought.now.passphrase.now)) }
     ensures none { D.tells → IfOk result (λ found. IfNone found ((n : ℕ) (field : TheField) → n < 8
@@ -211,7 +198,7 @@ fn by_field<D: Device, P: Progress>(
     ensures count { CountsFailure is_search_failure result
         (D.failed source.old) (D.failed source.new) }
     ensures counts { Counts tally.old tally.new }
-    ensures cut { IfErr result (IsCutShort tally.new) }
+    ensures cut { IfErr result (IsCutWithoutMemory tally.new) }
     ensures found { D.tells → IfOk result (λ found. IfSome found (IsFoundOf (D.bytes source.old)
         sought.now.header.now sought.now.given.now sought.now.passphrase.now)) }
     ensures none { D.tells → IfOk result (λ found. IfNone found ((n : ℕ) → n < 8 → OpensNoneIn

@@ -1,11 +1,10 @@
 -- Which keyslots of metadata open, by the plan that was read of one.
-use Rattle.std.proofs.Common.{◌≡◌, ◌↔◌, ℕ, ◌+◌, ◌*◌, ◌<◌, ◌≤◌, List, Bool, true, false, Option, Some, unwrap_or, refl, sym, ap, subst, ◌∙◌, arith}
+use Rattle.std.proofs.Common.{◌≡◌, ◌↔◌, ℕ, ◌*◌, ◌≤◌, List, Bool, true, false, Option, Some, unwrap_or, refl, sym, ap, subst, ◌∙◌, arith}
 use Rattle.serde_json.specs.Data.{Data}
 use Rattle.luks_area.specs.declared.area.Area.{Area}
 use Rattle.luks_meta.specs.Accepted.{IsMeta}
 use Rattle.luks_meta.specs.Faults.{object_at}
-use Rattle.luks_meta.specs.Reading.{bytes_in, text_of}
-use Rattle.luks_meta.specs.Says.{member_at, small_at}
+use Rattle.luks_meta.specs.Says.{small_at}
 use Rattle.luks_rules.proofs.AreaFaults.{accepted_none}
 use Rattle.luks_rules.specs.declared.table.Member.TheVariants as name
 use Rattle.luks_rules.specs.declared.table.Outer.TheVariants as outer
@@ -18,11 +17,11 @@ use Rattle.luks_slot.specs.declared.plan.Derivation.TheVariants.{Pbkdf2, Argon2}
 use Rattle.luks_slot.specs.declared.plan.SlotPlan.{SlotPlan}
 use Rattle.luks_slot.specs.Ciphers.{cipher_of, is_size_of}
 use Rattle.luks_slot.specs.Opening.{area_key_by}
-use Rattle.luks_slot.specs.Refusal.{is_allowed_cipher, is_argon2, is_argon2_refused, is_key_size, is_known_derivation, is_known_hash}
+use Rattle.luks_slot.specs.Refusal.{is_allowed_cipher, is_argon2, is_argon2_refused, is_known_derivation, is_known_hash}
 use Rattle.luks_reading.proofs.Luks2Plans.{one_luks2_plan, IsOnly}
 use Rattle.luks_reading.proofs.PlanFacts.{no_pbkdf2}
 use Rattle.luks_reading.proofs.SamePlans.{same_answer, same_refusal_within, SameFields}
-use Rattle.luks_reading.specs.Plans.{HasLuks2Plan, IsLuks2Derivation, IsLuks2Plan}
+use Rattle.luks_reading.specs.Plans.{HasLuks2Plan, IsLuks2Derivation}
 use Rattle.luks_trials.specs.Alike.{IsAlike, IsAlikeCipher, IsAlikeDerivation}
 use Rattle.luks_trials.specs.Metadata.{OpensAt}
 use Rattle.luks_trials.specs.Trials.{most_stripes, most_turns, IsCheapDerivation, IsCheapPlan, IsOpenedPlan}

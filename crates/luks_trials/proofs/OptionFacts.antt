@@ -1,5 +1,5 @@
 -- What is said of a value where there is none, and of one that is told otherwise.
-use Rattle.std.proofs.Common.{◌≡◌, ◌↔◌, ℕ, Option, Some, None, Result, Ok, Err, IfNone, IfOk, IfSome, Bool, IsTrue, is_some, true, false}
+use Rattle.std.proofs.Common.{◌≡◌, ◌↔◌, ℕ, Option, Some, None, Result, Ok, Err, IfNone, IfOk, Bool, IsTrue, is_some, false}
 
 pub none_of : {A : Type 0} (o : Option A) (X : Type 0) → o ≡ None → IfNone o X → X
 none_of None X is x = x

@@ -1,5 +1,5 @@
 -- What calls in turn leave of a tally.
-use Rattle.std.proofs.Common.{◌≡◌, ◌∙◌, refl, arith}
+use Rattle.std.proofs.Common.{◌∙◌, refl, arith}
 use Rattle.luks_trials.specs.Tallies.{Counts}
 use Rattle.luks_trials.specs.declared.tally.Tally.{Tally}
 

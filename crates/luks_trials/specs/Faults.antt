@@ -16,3 +16,9 @@ abbrev pub IsCutShort : Tally → SearchFault → Type 0
 IsCutShort tally Memory = ⊤
 IsCutShort tally Device = ⊤
 IsCutShort tally Spent = done_of tally ≡ most_of tally
+
+-- the same of a search that takes no memory
+abbrev pub IsCutWithoutMemory : Tally → SearchFault → Type 0
+IsCutWithoutMemory tally Memory = ⊥
+IsCutWithoutMemory tally Device = ⊤
+IsCutWithoutMemory tally Spent = done_of tally ≡ most_of tally

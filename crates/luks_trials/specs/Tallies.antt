@@ -15,6 +15,6 @@ pub record Counts (old new : Tally) : Type 0 where
   pub grows : done_of old ≤ done_of new
 
 -- a keyslot that was tried is counted once, and one that wasn't at most once
-abbrev pub CountsOne : Option ℕ → Tally → Tally → Type 0
-CountsOne (Some bits) old new = done_of new ≡ done_of old + 1
-CountsOne None old new = done_of new ≤ done_of old + 1
+abbrev pub CountsOne : {A : Type 0} → Option A → Tally → Tally → Type 0
+CountsOne {A} (Some answer) old new = done_of new ≡ done_of old + 1
+CountsOne {A} None old new = done_of new ≤ done_of old + 1

@@ -4,6 +4,7 @@
 
 mod alike;
 mod anew;
+mod bits;
 mod fault;
 mod metadata;
 mod tally;
@@ -11,8 +12,9 @@ mod trial;
 mod trial2;
 
 pub use anew::first_anew;
+pub use bits::differing_bits;
 pub use fault::SearchFault;
 pub use metadata::meta_of;
 pub use tally::{Progress, Spent, Tally, Untold};
-pub use trial::try_plan;
+pub use trial::{digest_of_plan, try_plan};
 pub use trial2::{Trying, distance, opens};

@@ -17,13 +17,15 @@ returns-clause-found g c = λ tells.
     c.in_ok-changed.ensures in
     record {
       changed = record {
-        few = c.requires.near.few;
+        some = c.requires.near.are.some;
+        few = c.requires.near.are.few;
         stood = c.args.near.now.stood.items;
         stands = c.requires.near.stands;
         digest = c.args.near.now.digest.items;
         is = subst (λ d. HasDigest c.in-Some.changed.items c.args.n d) c.deref-4.ensures.value
             (subst (λ j. HasDigest j c.args.n c.deref-4.result.now) c.deref-3.ensures.value (c.in_ok-opened.ensures.digest c.if-not-opened.false));
-        turned = c.requires.near.turned;
+        long = c.requires.near.are.long;
+        differ = c.requires.near.are.differ;
         place = c.args.at;
         replaced = subst (λ d. IsReplaced json c.args.near.now.stood.items d c.args.at c.in-Some.changed.items) c.deref-2.ensures.value
             (subst (λ s. IsReplaced json s c.deref-2.result.now c.args.at c.in-Some.changed.items) c.deref.ensures.value put);

@@ -1,8 +1,8 @@
-use Rattle.luks_searching.proofs.LawFacts.{bit_turned_digest, times_same_but}
+use Rattle.luks_searching.proofs.LawFacts.{bit_turned_digest}
 use Rattle.luks_searching.proofs.laws.digest_stood.Goals as goal
 
 pub returns-clause-bit : goal.returns-clause-bit
 returns-clause-bit c = bit_turned_digest
 
 pub returns-clause-digest : goal.returns-clause-digest
-returns-clause-digest c = λ h new bits x. times_same_but bits h new x
+returns-clause-digest c = λ h new bits x. x.rest

@@ -1,7 +1,6 @@
 use Rattle.std.proofs.Common.{◌≡◌, ℕ, ◌<◌}
 use Rattle.luks_area.specs.Device.{IsUnchanged}
-use Rattle.luks_searching.specs.Found1.{OpensNoneIn}
-use Rattle.luks_searching.specs.Headed.{OpensHeaded}
+use Rattle.luks_searching.specs.Found1.{OpensNoneBut}
 use Rattle.luks_trials.specs.Tallies.{Counts}
 use Rattle.luks_searching.proofs.searching1.as_it_stands.Given as goal
 
@@ -11,5 +10,5 @@ invariant-loop-n g l = record {
   unchanged : IsUnchanged g.D.Device.tells g.D.Device.size g.D.Device.bytes g.D.Device.unsettled l.initial.source l.source;
   count : g.D.Device.failed l.source ≡ g.D.Device.failed l.initial.source;
   counts : Counts l.initial.tally l.tally;
-  shut : g.D.Device.tells → (n : ℕ) → n < l.n → OpensHeaded (g.D.Device.bytes l.initial.source) l.sought.header.now l.sought.given.now l.sought.passphrase.now n → ⊥;
+  shut : g.D.Device.tells → (n : ℕ) → n < l.n → OpensNoneBut (g.D.Device.bytes l.initial.source) l.sought.header.now l.sought.given.now l.sought.passphrase.now n;
 }

@@ -1,4 +1,4 @@
-use Rattle.std.proofs.Common.{◌∙◌, ℕ, ◌<◌, List, subst, sym, arith, rules, below_more}
+use Rattle.std.proofs.Common.{◌∙◌, subst, arith, below_more}
 use Rattle.luks_area.specs.Device.{unchanged-then}
 use Rattle.luks_trials.specs.Metadata.{IsMetaOf, OpensAt}
 use Rattle.luks_trials.proofs.TallyFacts.{counts_then}
