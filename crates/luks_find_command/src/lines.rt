@@ -57,10 +57,16 @@ impl fmt::Display for FragmentLine {
         let kind = kind_text(self.kind);
         match (self.as_json, self.number) {
             (true, Some(number)) => {
-                writeln!(f, "{{\"offset\":{place},\"kind\":\"{kind}\",\"number\":{number}}}")
+                writeln!(
+                    f,
+                    "{{\"offset\":{place},\"kind\":\"{kind}\",\"number\":{number}}}"
+                )
             }
             (true, None) => {
-                writeln!(f, "{{\"offset\":{place},\"kind\":\"{kind}\",\"number\":null}}")
+                writeln!(
+                    f,
+                    "{{\"offset\":{place},\"kind\":\"{kind}\",\"number\":null}}"
+                )
             }
             (false, Some(number)) => writeln!(f, "{place} {kind} {number}"),
             (false, None) => writeln!(f, "{place} {kind} -"),
