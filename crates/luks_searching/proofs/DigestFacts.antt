@@ -1,9 +1,9 @@
 -- A header whose digest alone is another: what its keyslots give stays the same.
-use Rattle.std.proofs.Common.{◌≡◌, ◌≢◌, ◌⊎◌, ℕ, ◌+◌, ◌-◌, ◌*◌, ◌<◌, ◌≤◌, ◌==◌, ◌&&◌, List, length, min, Bool, true, false, Option, Some, None, unwrap_or, inl, inr, refl, sym, ap, subst, ◌∙◌, arith, if◌then◌else◌, bytes_eq}
+use Rattle.std.proofs.Common.{◌≡◌, ℕ, ◌+◌, ◌-◌, ◌*◌, ◌<◌, ◌≤◌, ◌==◌, ◌&&◌, List, length, min, Bool, true, false, Some, None, unwrap_or, inl, inr, refl, sym, ap, subst, ◌∙◌, arith, if◌then◌else◌, bytes_eq}
 use Rattle.std.proofs.lemmas.Bool.{cases_eq}
 use Rattle.std.proofs.lemmas.Slice.Eq.{bytes_eq-Decides}
 use Rattle.byteorder.specs.Endian.{big_number}
-use Rattle.luks_area.specs.Area.{IsInside, Meet}
+use Rattle.luks_area.specs.Area.{IsInside}
 use Rattle.luks_area.specs.Ranges.{part, written, IsAt, SameBut}
 use Rattle.luks_area.specs.Text.{text_of}
 use Rattle.luks_area.specs.declared.area.Area.{Area}
@@ -15,7 +15,7 @@ use Rattle.luks1_header.specs.declared.fault.HeadFault.TheVariants as head
 use Rattle.luks1_header.specs.declared.fault.IterationsOf.TheVariants as of
 use Rattle.luks1_header.specs.declared.fault.TextField.{TextField}
 use Rattle.luks1_header.specs.declared.fault.TextField.TheVariants as field
-use Rattle.luks1_mending.specs.Areas.{is_usual, own_area, stripes_area, usual_sector, usual_stripes}
+use Rattle.luks1_mending.specs.Areas.{own_area, stripes_area, usual_sector, usual_stripes}
 use Rattle.luks1_mending.specs.Kept.{rank, AreKept, ComesBefore, IsBeforeAndMeets, IsKept, IsSound}
 use Rattle.luks1_mending.specs.Taken.{given_text, taken_key_bytes, taken_text, IsFieldFault, IsUsable}
 use Rattle.luks1_mending.specs.declared.given.Given.{Given}

@@ -1,5 +1,5 @@
 -- Which keyslots open of a volume with another header.
-use Rattle.std.proofs.Common.{◌≡◌, ◌↔◌, ℕ, ◌+◌, ◌*◌, ◌<◌, ◌≤◌, List, length, Option, Some, None, Result, Ok, Err, IfErr, IfNone, IfOk, IfSome, IsTrue, true, false, Bool, refl, sym, ap, subst, ◌∙◌, arith, if◌then◌else◌}
+use Rattle.std.proofs.Common.{◌≡◌, ◌↔◌, ℕ, ◌+◌, ◌<◌, ◌≤◌, List, length, Option, Some, None, Result, Ok, Err, IfErr, IfNone, IfOk, IfSome, IsTrue, true, false, Bool, refl, sym, ap, subst, ◌∙◌, arith, if◌then◌else◌}
 use Rattle.luks_area.specs.Ranges.{part}
 use Rattle.luks_area.proofs.RangeFacts.{length-part_inside}
 use Rattle.luks1_header.specs.Header1.{active_word, enabled_word, entry, entry_iterations, entry_stripes, mk_digest_iterations_of, IsCommon, IsEntry, IsLuks1}
@@ -31,7 +31,6 @@ use Rattle.luks_reading.proofs.Luks1Plans.{one_luks1_plan}
 use Rattle.luks_reading.proofs.SamePlans.{same_answer, same_refusal_within, SameFields}
 use Rattle.luks1_rebuilding.specs.Gives.{IsRefusedKept}
 use Rattle.luks1_rebuilding.specs.KeyAreas.{header_of}
-use Rattle.luks1_rebuilding.specs.Openings.{OpensBy}
 use Rattle.luks1_rebuilding.specs.Tried.{IsMadeOf}
 use Rattle.luks1_rebuilding.specs.Used.{any_slot, slot_at}
 use Rattle.luks1_rebuilding.proofs.HeadedFacts.{area_is, header_is, made_headed}

@@ -1,4 +1,4 @@
-use Rattle.std.proofs.Common.{◌≡◌, ◌≤◌, arith}
+use Rattle.std.proofs.Common.{arith}
 use Rattle.luks_searching.proofs.DigestFacts.{as_it_stands, with_other}
 use Rattle.luks_searching.proofs.digest1.with_given.Goals as goal
 

@@ -9,6 +9,6 @@ returns-clause-none g c = λ tells.
     let shut = none_where c.in_ok-found.found _ (sym c.is_some.ensures ∙ c.if-is_some.false) (c.in_ok-found.ensures.none tells) in
     none_so c.by_fields.result _ _
     (λ turned.
-        has_none (g.D.Device.bytes c.args.source.now) _ _ c.read_at.new.into c.args.given.now c.args.passphrase.now (c.in_ok-read_at.ensures.unchanged.same tells)
-        (c.in_ok-found.ensures.unchanged.same tells) (c.in_ok-read_at.ensures.read tells) shut turned)
+    has_none (g.D.Device.bytes c.args.source.now) _ _ c.read_at.new.into c.args.given.now c.args.passphrase.now (c.in_ok-read_at.ensures.unchanged.same tells)
+    (c.in_ok-found.ensures.unchanged.same tells) (c.in_ok-read_at.ensures.read tells) shut turned)
     (c.by_fields.ensures.none tells)
