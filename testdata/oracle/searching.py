@@ -327,17 +327,17 @@ def by_bits(source, size, text, passphrase, allowed, tally):
     return None
 
 
-def search2(source, passphrase, allowed=(0, False), tally=None):
+def search2(source, passphrase, allowed=(0, False), tally=None, given=None):
     """The first JSON area and keyslot that open: the size and place of the copy, the area, the keyslot, and what was changed for it; or none. Argon2 may take
-    so many KiB, and ciphers and hashes of older disks are accepted where that is said."""
-    found = first_2(source, (passphrase, allowed, tally or Tally()))
+    so many KiB, and ciphers and hashes of older disks are accepted where that is said. A segment may be given: its offset, cipher and sector size."""
+    found = first_2(source, (passphrase, allowed, tally or Tally()), given)
     if found is None:
         return None
     size, at, text, n, how = found
     return size, at, text.ljust(size - 4096, b"\0"), n, how
 
 
-def first_2(source, trying):
+def first_2(source, trying, given):
     copies = list(begun(source))
     for size, at, text in copies:
         found = standing_2(source, size, text, *trying)
@@ -352,17 +352,17 @@ def first_2(source, trying):
         found = by_bits(source, size, text, *trying)
         if found is not None:
             return size, at, *found
-    return search_fragments(source, *trying)
+    return search_fragments(source, given, *trying) if len(source) >= 4096 + AREA else None
 
 
 def most_2(source):
-    """How many derivations are made at most: so many for each keyslot, by the places where the first 8 MiB name its derivation."""
-    return 4096 * max(1, source[:1 << 23].count(b'"kdf"'))
+    """How many derivations are made at most: so many for each place where the first 32768 bytes tell what a keyslot is derived by, and for one at least."""
+    return 4096 * max(1, source[:1 << 15].count(b'"kdf"'))
 
 
-def rebuilt2(source, passphrase, target, random, uuid=None, allowed=(0, False), tally=None):
+def rebuilt2(source, passphrase, target, random, uuid=None, allowed=(0, False), tally=None, given=None):
     """What the program answers, and the target that is left."""
-    found = search2(source, passphrase, allowed, tally)
+    found = search2(source, passphrase, allowed, tally, given)
     if found is None:
         return "no slot opens", target
     size, at, area, n, how = found
@@ -482,13 +482,19 @@ def chosen_segment(segments, digest):
     return next((it for it in segments if it[1] is not None and str(it[1]) == first), segments[0])
 
 
-def search_fragments(source, passphrase, allowed, tally):
-    """Each keyslot with each digest, and the digest's segment: what is found is the compact text of the metadata that they make."""
+def given_text(offset, cipher, sector_size):
+    """The text of the segment that is given."""
+    return (b'{"type":"crypt","offset":"%d","iv_tweak":"0","size":"dynamic","encryption":"%s","sector_size":%d}' % (offset, cipher, sector_size))
+
+
+def search_fragments(source, given, passphrase, allowed, tally):
+    """Each keyslot with each digest, and the digest's segment, or the one that is given: what is found is the compact text of the metadata that they make."""
     them, size = found_fragments(source), 4096 + AREA
     for at, n, keyslot in them["keyslot"]:
-        for place, m, digest in them["digest"] if them["segment"] else []:
-            where, _, segment = chosen_segment(them["segment"], digest)
+        for place, m, digest in them["digest"] if given or them["segment"] else []:
+            where, _, segment = (None, None, given_text(*given)) if given else chosen_segment(them["segment"], digest)
             value = value_of(size, made_text(region_of(keyslot), n or 0, m or 0, keyslot, digest, segment))
             if value is not None and opens(source, value, n or 0, passphrase, allowed, tally):
-                return size, 0, images.compact(value), n or 0, f"by fragments at {at}, {place} and {where}"
+                how = f"{at} and {place}, and the segment that is given" if given else f"{at}, {place} and {where}"
+                return size, 0, images.compact(value), n or 0, f"by fragments at {how}"
     return None

@@ -5,5 +5,6 @@ pub mod Turned
 pub mod Tried
 pub mod FoundHeader
 pub mod FoundMetadata
+pub mod Segment
 pub mod Searching
 pub mod Trying

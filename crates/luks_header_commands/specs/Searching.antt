@@ -14,6 +14,7 @@ use Rattle.luks_trials.specs.declared.fault.SearchFault.TheVariants as search
 use Rattle.luks_searching.specs.declared.searching1.Found1.{Found1}
 use Rattle.luks2_searching.specs.Found.{HasNone2, IsFound2}
 use Rattle.luks2_searching.specs.declared.found.Found2.{Found2}
+use Rattle.luks_piecing.specs.declared.given.GivenSegment.{GivenSegment}
 use Rattle.luks_request.specs.Meant.{meant_by}
 use Rattle.luks_request.specs.declared.rebuilding.Meant.{Meant}
 use Rattle.luks_request.specs.declared.rebuilding.Meant.TheVariants.{Luks1, Luks2, Either}
@@ -25,6 +26,7 @@ use Rattle.luks_commands.specs.declared.answers.Refusal.TheVariants.{Rebuild}
 use Rattle.luks_header_commands.specs.FoundHeader.{IsHeadedAnswer, KeepsHeaded, OpensWhereDone}
 use Rattle.luks_header_commands.specs.FoundMetadata.{IsMadeAnswer2, KeepsMade2}
 use Rattle.luks_header_commands.specs.Rebuilding.{given_of}
+use Rattle.luks_header_commands.specs.Segment.{IsGivenSegment}
 use Rattle.luks_header_commands.specs.Target.{NoneFailed, Pair}
 use Rattle.luks_header_commands.specs.Tried.{KeepsOpened, TriedAnswer}
 
@@ -48,10 +50,9 @@ search_fault_answer search.Device = DeviceFault
 search_fault_answer search.Memory = NoMemory
 search_fault_answer search.Spent = Refused (Rebuild NoMetadata)
 
--- it is, and nothing is written
+-- it is, by a call that failed or where as many derivations were made as may be, and nothing is written
 pub data BrokenOff (tells : Type 0) (d : Pair) (a : Answer) : Type 0 where
   search_failed : IsOneFailure d.volume_before d.volume_after d.before d.after → (tells → d.new ≡ d.old) → a ≡ DeviceFault → BrokenOff tells d a
-  no_memory : NoneFailed d → (tells → d.new ≡ d.old) → a ≡ NoMemory → BrokenOff tells d a
   cut_short : NoneFailed d → (tells → d.new ≡ d.old) → a ≡ Refused (Rebuild NoMetadata) → BrokenOff tells d a
 
 -- Of LUKS1: as by the combinations, unless no keyslot opens. Then no header near to what stands opens one, and nothing is written; or
@@ -64,20 +65,20 @@ pub data SearchedAnswer1 (tells : Type 0) (g : Given) (p : List ℕ) (d : Pair) 
   found_near : (found : Found1) → (tells → OpensNoneBelow d.volume g p 64) → (tells → IsFound1 d.volume g p found) → IsHeadedAnswer tells found.header g d a
       → (tells → OpensWhereDone a d.new p found.slot) → SearchedAnswer1 tells g p d a
 
--- Of LUKS2, where so much is allowed: no metadata near to that of a copy opens a keyslot, and nothing is written; or the search is
--- broken off. Else LUKS2 answers with the metadata that was found.
-pub data SearchedAnswer2 (tells : Type 0) (allowed : Allowed) (given : Option (List ℕ)) (p random : List ℕ) (d : Pair) (a : Answer) : Type 0 where
-  none_near2 : NoneFailed d → (tells → d.new ≡ d.old) → (tells → HasNone2 allowed d.volume p) → a ≡ NoneOpens → SearchedAnswer2 tells allowed given p random d a
-  broken_off2 : BrokenOff tells d a → SearchedAnswer2 tells allowed given p random d a
-  found_near2 : (found : Found2) → (tells → IsFound2 allowed d.volume p found) → IsMadeAnswer2 tells found.json.items found.place given random d a
-      → SearchedAnswer2 tells allowed given p random d a
+-- Of LUKS2: no metadata near to that of a copy opens a keyslot, and nothing is written; or the search is broken off, also where memory is
+-- refused. Else LUKS2 answers with the metadata that was found.
+pub data SearchedAnswer2 (tells : Type 0) (r : Rebuilding) (p random : List ℕ) (d : Pair) (a : Answer) : Type 0 where
+  none_near2 : NoneFailed d → (tells → d.new ≡ d.old) → (tells → HasNone2 (allowed_by r) d.volume p) → a ≡ NoneOpens → SearchedAnswer2 tells r p random d a
+  broken_off2 : BrokenOff tells d a → SearchedAnswer2 tells r p random d a
+  no_memory : NoneFailed d → (tells → d.new ≡ d.old) → a ≡ NoMemory → SearchedAnswer2 tells r p random d a
+  found_near2 : (segment : Option GivenSegment) (found : Found2) → IsGivenSegment r segment → (tells → IsFound2 (allowed_by r) segment d.volume p found)
+      → IsMadeAnswer2 tells found.json.items found.place (given_of r) random d a → SearchedAnswer2 tells r p random d a
 
 -- by the version; the volume's first bytes are read where either may be meant
 pub data SearchedAnswer (tells : Type 0) (r : Rebuilding) (g : Given) (p random : List ℕ) (d : Pair) (a : Answer) : Type 0 where
   version_unread : IsOneFailure d.volume_before d.volume_after d.before d.after → (tells → d.new ≡ d.old) → a ≡ DeviceFault → SearchedAnswer tells r g p random d a
   searched_luks1 : (tells → SeeksLuks1 (meant_by r) d.volume) → SearchedAnswer1 tells g p d a → SearchedAnswer tells r g p random d a
-  searched_luks2 : (tells → SeeksLuks1 (meant_by r) d.volume → ⊥) → SearchedAnswer2 tells (allowed_by r) (given_of r) p random d a
-      → SearchedAnswer tells r g p random d a
+  searched_luks2 : (tells → SeeksLuks1 (meant_by r) d.volume → ⊥) → SearchedAnswer2 tells r p random d a → SearchedAnswer tells r g p random d a
 
 -- ---- what is left
 
@@ -90,24 +91,26 @@ pub record KeepsFound1 (HasWords : List ℕ → Type 0) (g : Given) (volume old 
   pub keeps : KeepsHeaded found.header g volume old new
 
 -- or of metadata that was found
-pub record KeepsFound2 (HasWords : List ℕ → Type 0) (allowed : Allowed) (volume old new : List ℕ) : Type 0 where
+pub record KeepsFound2 (HasWords : List ℕ → Type 0) (r : Rebuilding) (volume old new : List ℕ) : Type 0 where
   pub words : List ℕ
   pub has : HasWords words
+  pub segment : Option GivenSegment
+  pub given : IsGivenSegment r segment
   pub found : Found2
-  pub near : IsFound2 allowed volume words found
+  pub near : IsFound2 (allowed_by r) segment volume words found
   pub keeps : KeepsMade2 found.json.items found.place old new
 
 pub data KeepsSought (r : Rebuilding) (HasWords : List ℕ → Type 0) (g : Given) (volume old new : List ℕ) : Type 0 where
   kept_luks1 : SeeksLuks1 (meant_by r) volume → KeepsOpened HasWords g volume old new ⊎ KeepsFound1 HasWords g volume old new
       → KeepsSought r HasWords g volume old new
-  kept_luks2 : (SeeksLuks1 (meant_by r) volume → ⊥) → KeepsFound2 HasWords (allowed_by r) volume old new → KeepsSought r HasWords g volume old new
+  kept_luks2 : (SeeksLuks1 (meant_by r) volume → ⊥) → KeepsFound2 HasWords r volume old new → KeepsSought r HasWords g volume old new
 
 -- nothing of the target has changed, or what may have; of LUKS1 and of LUKS2 alone, and of either
 abbrev pub IsRest1 : Given → List ℕ → List ℕ → List ℕ → List ℕ → Type 0
 IsRest1 g p volume old new = (new ≡ old) ⊎ (KeepsOpened (λ words. words ≡ p) g volume old new ⊎ KeepsFound1 (λ words. words ≡ p) g volume old new)
 
-abbrev pub IsRest2 : Allowed → List ℕ → List ℕ → List ℕ → List ℕ → Type 0
-IsRest2 allowed p volume old new = (new ≡ old) ⊎ KeepsFound2 (λ words. words ≡ p) allowed volume old new
+abbrev pub IsRest2 : Rebuilding → List ℕ → List ℕ → List ℕ → List ℕ → Type 0
+IsRest2 r p volume old new = (new ≡ old) ⊎ KeepsFound2 (λ words. words ≡ p) r volume old new
 
 abbrev pub IsSearchedRest : Rebuilding → Given → List ℕ → List ℕ → List ℕ → List ℕ → Type 0
 IsSearchedRest r g p volume old new = (new ≡ old) ⊎ KeepsSought r (λ words. words ≡ p) g volume old new

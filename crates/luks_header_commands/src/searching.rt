@@ -103,6 +103,14 @@ pub(crate) fn not_searched<E: Write>(fault: SearchFault, volume: &str, err: &mut
     }
 }
 
+/// The word for so many bits.
+pub(crate) fn bits_word(bits: u32) -> &'static str {
+    match bits {
+        1 => "bit",
+        _ => "bits",
+    }
+}
+
 /// Says how many derivations a search has made.
 pub(crate) fn note_derivations<E: Write>(tally: &Tally, err: &mut E) {
     let (done, most) = (tally.done(), tally.most());

@@ -2,27 +2,28 @@
 ghost use Rattle.std.specs.Prelude.{◌≡◌, ◌≢◌, ◌+◌, ◌<◌, ◌^◌};
 ghost use Rattle.luks_area.specs.Device.{IsSettled, IsUnchanged};
 ghost use Rattle.luks_commands.specs.Answer.{answer_status};
-ghost use Rattle.luks_header_commands.specs.Rebuilding.{given_of};
-ghost use Rattle.luks_header_commands.specs.Searching.{allowed_by, IsRest2, SearchedAnswer2};
+ghost use Rattle.luks_header_commands.specs.Searching.{IsRest2, SearchedAnswer2};
+ghost use Rattle.luks_header_commands.specs.Segment.{IsGivenSegment};
 ghost use Rattle.luks_header_commands.specs.Target.{pair_of};
 
+use crate::bound2::most_derivations;
+use crate::header_work::READING_FAILED;
 use crate::of_found::make_of_json;
 use crate::progress::DerivationProgress;
 use crate::rebuild::Making;
-use crate::searching::{not_searched, note_derivations};
+use crate::searching::{bits_word, not_searched, note_derivations};
+use crate::segment::{given_cipher, given_segment};
 use crate::trying::Trying;
 use luks_commands::open::allowed_of;
-use luks_commands::{Answer, Status};
+use luks_commands::{Answer, Status, device_fault};
 use luks_reading::Device;
 use luks_trials::{Tally, Trying as Passphrase};
-use luks2_searching::{Change2, Found2, search2};
+use luks2_searching::{Change2, Found2, GivenSegment, search2};
 use std::alloc::Global;
 use std::io::Write;
 
-/// How many derivations the search makes at most.
-const MOST: u32 = 1 << 17;
-
-/// Makes a header on the target of metadata that is near to that of a copy and by which the passphrase opens a keyslot.
+/// Makes a header on the target of metadata that is near to that of a copy, or put together of fragments, and by which
+/// the passphrase opens a keyslot.
 pub(crate) fn make_searched2<D: Device, E: Write, G: DerivationProgress>(
     alloc: Global,
     volume: &mut D,
@@ -37,13 +38,52 @@ pub(crate) fn make_searched2<D: Device, E: Write, G: DerivationProgress>(
     requires settled { D.tells → IsSettled D.unsettled target.old }
     ensures unchanged { IsUnchanged D.tells D.size D.bytes D.unsettled volume.old volume.new }
     ensures size { D.size target.new ≡ D.size target.old }
-    ensures rest { D.tells → IsRest2 (allowed_by trying.now.rebuilding) trying.now.passphrase.now
+    ensures rest { D.tells → IsRest2 trying.now.rebuilding trying.now.passphrase.now
         (D.bytes volume.old) (D.bytes target.old) (D.bytes target.new) }
     ensures settled { D.tells → D.failed volume.new ≡ D.failed volume.old
         → D.failed target.new ≡ D.failed target.old → IsSettled D.unsettled target.new }
     ensures kinds { answer_status result ≢ Status.NotInStep }
-    ensures answers { SearchedAnswer2 D.tells (allowed_by trying.now.rebuilding)
-        (given_of trying.now.rebuilding) trying.now.passphrase.now random.now (pair_of D.size
+    ensures answers { SearchedAnswer2 D.tells trying.now.rebuilding trying.now.passphrase.now
+        random.now (pair_of D.size
+        D.bytes D.failed volume.old volume.new target.old target.new) result }
+{
+    match most_derivations(volume) {
+        Ok(most) => {
+            let cipher = given_cipher(&trying.rebuilding.luks1);
+            let segment = given_segment(&trying.rebuilding, &cipher);
+            make_within(
+                alloc, volume, target, trying, &segment, most, random, err, progress,
+            )
+        }
+        Err(DeviceFault) => device_fault(trying.files.volume, READING_FAILED, err),
+    }
+}
+
+/// The same by at most so many derivations, with the segment that is given.
+fn make_within<D: Device, E: Write, G: DerivationProgress>(
+    alloc: Global,
+    volume: &mut D,
+    target: &mut D,
+    trying: &Trying<'_>,
+    segment: &Option<GivenSegment<'_>>,
+    most: u32,
+    random: &[u8],
+    err: &mut E,
+    progress: &mut G,
+) -> Answer
+    requires segment { IsGivenSegment trying.now.rebuilding segment.now }
+    requires volume_room { D.failed volume.old + 1 < 2 ^ 64 }
+    requires target_room { D.failed target.old + 1 < 2 ^ 64 }
+    requires settled { D.tells → IsSettled D.unsettled target.old }
+    ensures unchanged { IsUnchanged D.tells D.size D.bytes D.unsettled volume.old volume.new }
+    ensures size { D.size target.new ≡ D.size target.old }
+    ensures rest { D.tells → IsRest2 trying.now.rebuilding trying.now.passphrase.now
+        (D.bytes volume.old) (D.bytes target.old) (D.bytes target.new) }
+    ensures settled { D.tells → D.failed volume.new ≡ D.failed volume.old
+        → D.failed target.new ≡ D.failed target.old → IsSettled D.unsettled target.new }
+    ensures kinds { answer_status result ≢ Status.NotInStep }
+    ensures answers { SearchedAnswer2 D.tells trying.now.rebuilding trying.now.passphrase.now
+        random.now (pair_of D.size
         D.bytes D.failed volume.old volume.new target.old target.new) result }
 {
     let making = Making {
@@ -54,8 +94,8 @@ pub(crate) fn make_searched2<D: Device, E: Write, G: DerivationProgress>(
         passphrase: trying.passphrase,
         allowed: allowed_of(trying.rebuilding.memory, true),
     };
-    let mut tally = Tally::new(MOST);
-    let searched = search2(alloc, volume, &passphrase, &mut tally, progress);
+    let mut tally = Tally::new(most);
+    let searched = search2(alloc, volume, segment, &passphrase, &mut tally, progress);
     note_derivations(&tally, err);
     match searched {
         Ok(Some(found)) => {
@@ -95,18 +135,29 @@ fn note_found<E: Write>(found: &Found2, err: &mut E) {
         Change2::Digest { bits } => {
             writeln!(
                 err,
-                "luks: keyslot {slot} opens with {bits} bits of the digest turned"
+                "luks: keyslot {slot} opens with {bits} {} of the digest turned",
+                bits_word(bits)
             )
         }
         Change2::Mixed => writeln!(err, "luks: keyslot {slot} opens by bytes of both copies"),
         Change2::Fragments {
             keyslot,
             digest,
-            segment,
+            segment: Some(segment),
         } => {
             writeln!(
                 err,
                 "luks: keyslot {slot} opens by fragments at {keyslot}, {digest} and {segment}"
+            )
+        }
+        Change2::Fragments {
+            keyslot,
+            digest,
+            segment: None,
+        } => {
+            writeln!(
+                err,
+                "luks: keyslot {slot} opens by fragments at {keyslot} and {digest}, and the segment that is given"
             )
         }
     };
