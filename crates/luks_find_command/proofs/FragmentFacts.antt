@@ -1,5 +1,5 @@
 -- What is told of fragments, step by step.
-use Rattle.std.proofs.Common.{◌≡◌, ◌⊎◌, ℕ, ◌+◌, ◌<◌, ◌≤◌, List, [], ◌∷◌, ◌++◌, length, length-append, Option, Some, Result, Ok, Err, IfOk, IfErr, OnOk, inl, inr, refl, sym, ap, ◌∙◌, subst, arith, append_assoc}
+use Rattle.std.proofs.Common.{◌≡◌, ℕ, ◌+◌, ◌<◌, List, [], ◌∷◌, ◌++◌, length, length-append, Option, Result, Ok, Err, IfOk, IfErr, OnOk, inl, inr, refl, sym, ap, ◌∙◌, subst, arith, append_assoc}
 use Rattle.std.proofs.lemmas.Bool.{cases_lt}
 use Rattle.std.proofs.lemmas.List.{append-nil}
 use Rattle.std.proofs.KnownBytes.{Appends-nil, Appends-trans}
@@ -8,7 +8,7 @@ use Rattle.luks_fragments.specs.Fragments.{HasNoneFrom}
 use Rattle.luks_seeking.specs.Seeking.{HasNoneBetween, IsFirstFound}
 use Rattle.luks_seeking.specs.declared.seeking.Found.{Found}
 use Rattle.luks_find_command.specs.FragmentLines.{fragment_line, last_line}
-use Rattle.luks_find_command.specs.Fragments.{fragment_lines, fragments_end, fragments_run, fragments_status, AreFragmentsFrom, AreFragmentsTo, EndsListing, FragmentsRun, IsFragmentsRun, ListsAll, ListsSome, ListsStep, ListsTo, ListsUntil, PrintsNone, StopsOnce, TellsFragments, TellsSome}
+use Rattle.luks_find_command.specs.Fragments.{fragment_lines, fragments_end, fragments_run, fragments_status, AreFragmentsFrom, AreFragmentsTo, EndsListing, IsFragmentsRun, ListsAll, ListsSome, ListsStep, ListsTo, ListsUntil, PrintsNone, StopsOnce, TellsFragments, TellsSome}
 use Rattle.luks_find_command.specs.declared.fragments.Listed.{Listed}
 use Rattle.luks_find_command.specs.declared.fragments.Telling.{Telling}
 use Rattle.luks_find_command.specs.declared.lines.Last.{Last}

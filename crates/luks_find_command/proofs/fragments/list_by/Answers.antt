@@ -1,8 +1,8 @@
-use Rattle.std.proofs.Common.{◌≡◌, ◌∙◌, ℕ, ◌+◌, ◌<◌, ◌≤◌, List, Option, sym, ap, subst, arith, refl}
-use Rattle.luks_area.specs.Device.{unchanged-same, unchanged-then}
+use Rattle.std.proofs.Common.{◌≡◌, ◌∙◌, ℕ, List, sym, subst, arith}
+use Rattle.luks_area.specs.Device.{unchanged-then}
 use Rattle.luks_fragments.specs.Fragments.{HasNoneFrom}
-use Rattle.luks_find_command.specs.Fragments.{ListsAll, ListsStep, ListsUntil}
-use Rattle.luks_find_command.proofs.FragmentFacts.{lists-all, lists-none, lists-step, lists-until}
+use Rattle.luks_find_command.specs.Fragments.{ListsAll}
+use Rattle.luks_find_command.proofs.FragmentFacts.{lists-all, lists-step, lists-until}
 use Rattle.luks_find_command.proofs.fragments.list_by.Goals as goal
 
 pub returns-in-Ok-None-clause-all : goal.returns-in-Ok-None-clause-all
