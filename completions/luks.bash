@@ -18,7 +18,7 @@ _luks() {
         [format]="--passphrase --passphrase-line --random --version --hash --iterations --kdf --kdf-memory --passes --lanes --iter-time --memory --cipher --key-bytes --sector-size --older --key --payload --uuid --label --subsystem --over --detached --offset --length --quiet --help"
         [convert]="--random --over --detached --offset --length --quiet --help"
         [rebuild]="--random --second --size --thorough --cipher --hash --key-bytes --payload --sector-size --passphrase --passphrase-line --memory --uuid --over --offset --length --quiet --help"
-        [find]="--fragments --offset --length --quiet --help"
+        [find]="--fragments --json --offset --length --quiet --help"
         [backup]="--over --rescue --detached --offset --length --quiet --help"
         [restore]="--other --over --over-reencryption --detached --offset --length --quiet --help"
         [compare]="--detached --offset --length --quiet --help"

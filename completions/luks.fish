@@ -217,6 +217,7 @@ complete -c luks -n '__fish_seen_subcommand_from rebuild' -l quiet -d 'No hints 
 complete -c luks -n __fish_use_subcommand -a find -d 'Finds the volumes of a disk by any sign left of them'
 complete -c luks -n '__fish_seen_subcommand_from find' -F
 complete -c luks -n '__fish_seen_subcommand_from find' -l fragments -d 'Find the keyslots, digests and segments that stand whole instead'
+complete -c luks -n '__fish_seen_subcommand_from find' -l json -d 'With --fragments a JSON object in place of each line'
 complete -c luks -n '__fish_seen_subcommand_from find' -l offset -x -d 'The byte of the device where the search begins'
 complete -c luks -n '__fish_seen_subcommand_from find' -l length -x -d 'How many bytes are searched'
 complete -c luks -n '__fish_seen_subcommand_from find' -l quiet -d 'No hints on standard error'

@@ -424,6 +424,15 @@ def fragments(data):
         start = data.find(b"{", start + 1)
 
 
+def listed(disk):
+    """The fragments of a disk, one after the other: where each begins, what it is, and the number that stands before it. What begins inside of one isn't looked at."""
+    behind = 0
+    for start, kind, number, text in fragments(disk):
+        if start >= behind:
+            behind = start + len(text)
+            yield start, kind, number
+
+
 # Metadata that is accepted, of which one object is exchanged.
 SOME = {"keyslot": b'{"type":"luks2","key_size":64,"af":{"type":"luks1","stripes":4000,"hash":"sha256"},"area":{"type":"raw","offset":"32768","size":"258048",'
         b'"encryption":"aes-xts-plain64","key_size":64},"kdf":{"type":"pbkdf2","hash":"sha256","iterations":1000,"salt":"AAAA"}}',

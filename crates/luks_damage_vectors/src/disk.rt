@@ -2,7 +2,7 @@
 use crate::bad_disk::BadDisk;
 use luks_area::{FaultyDevice, Leave, MemDevice};
 use luks_commands::CountingPrinter;
-use luks_find_command::{Progress, SameUuid, Unread, find};
+use luks_find_command::{Progress, SameUuid, Unread, Untold, find, fragments};
 use luks_finding::all_starts;
 use luks_request::Place;
 use luks_vector_lines::{Functions, Malformed, Words, demand, shown};
@@ -91,14 +91,33 @@ impl Disk {
             &mut err,
             &mut passes,
         );
-        let mut text = format!(in alloc; "{status}")?;
-        let lines = str::from_utf8(out.writer.as_slice()).unwrap_or("no text");
-        for line in lines.lines() {
-            text.push_str("; ")?;
-            text.push_str(line)?;
-        }
+        let mut text = told(alloc, status, out.writer.as_slice())?;
         text.push_str(str::from_utf8(passes.text.as_slice()).unwrap_or("no text"))?;
         Ok(text)
+    }
+
+    /// `fragments [OFFSET]`: the status of `luks find --fragments`, and its lines, where the disk begins at that byte of
+    /// its file; with it they are objects of JSON.
+    fn fragments(&self, alloc: Global, words: &mut Words<'_>) -> Result<String, Malformed> {
+        let as_json = !words.is_empty();
+        let place = Place {
+            offset: if as_json { words.number()? } else { 0 },
+            length: None,
+        };
+        let mut volume = Ok(BadDisk::new(self.bytes.clone()?, self.bad.clone()?));
+        let mut out = CountingPrinter::new(Vec::new(alloc));
+        let mut err = Vec::new(alloc);
+        let status = fragments::run(
+            alloc,
+            &mut volume,
+            "disk",
+            place,
+            as_json,
+            &mut out,
+            &mut err,
+            &mut Untold,
+        );
+        told(alloc, status, out.writer.as_slice())
     }
 
     /// `put AT BYTES`: these bytes stand there.
@@ -123,6 +142,17 @@ impl Disk {
     }
 }
 
+/// The exit status, and the lines, each behind a semicolon.
+fn told(alloc: Global, status: u8, printed: &[u8]) -> Result<String, Malformed> {
+    let mut text = format!(in alloc; "{status}")?;
+    let lines = str::from_utf8(printed).unwrap_or("no text");
+    for line in lines.lines() {
+        text.push_str("; ")?;
+        text.push_str(line)?;
+    }
+    Ok(text)
+}
+
 impl Functions for Disk {
     fn answer(
         &mut self,
@@ -135,6 +165,7 @@ impl Functions for Disk {
             "put" => self.put(alloc, words)?,
             "bad" => self.spoil(words)?,
             "find" => return Ok(Some(self.find(alloc)?)),
+            "fragments" => return Ok(Some(self.fragments(alloc, words)?)),
             "starts" => return Ok(Some(self.starts(alloc, words)?)),
             _ => return Err(Malformed::Function),
         }

@@ -1,5 +1,5 @@
 //! A small volume that lines damage, and the header that is made of it.
-use crate::near::Sought;
+use crate::near::{Sought, given_segment};
 use luks_area::MemDevice;
 use luks_notes::{Hashing, note_taken};
 use luks_reading::{Data, check};
@@ -147,12 +147,13 @@ impl DamagedLuks2 {
         Ok(String::from_str(alloc, said.trim_end())?)
     }
 
-    /// `thorough SOURCE PASSPHRASE MOST`: what is found near to what stands in so many bytes of the volume, by so many
-    /// derivations at most.
+    /// `thorough SOURCE PASSPHRASE MOST`, and then `OFFSET CIPHER SECTOR_SIZE` where a segment is given: what is found
+    /// near to what stands in so many bytes of the volume, or in fragments, by so many derivations at most.
     fn thorough(&self, alloc: Global, words: &mut Words<'_>) -> Result<String, Malformed> {
         let mut source = MemDevice::new(self.front(words)?.to_vec(alloc)?);
         let sought = Sought::read(alloc, words)?;
-        sought.luks2(alloc, &mut source)
+        let given = given_segment(words)?;
+        sought.luks2(alloc, &mut source, &given)
     }
 }
 

@@ -4,7 +4,7 @@ use luks_searching::{Change1, Found1, SearchFault, Tally, Trying, Untold, search
 use luks_slot::Allowed;
 use luks_vector_lines::{Malformed, Words, demand};
 use luks1_rebuilding::Given;
-use luks2_searching::{Change2, Found2, search2};
+use luks2_searching::{Change2, Found2, GivenSegment, search2};
 use sha2::{Digest, Sha256};
 use std::alloc::Global;
 
@@ -47,19 +47,42 @@ impl Sought {
         }
     }
 
-    /// The JSON area of the LUKS2 volume that is found, likewise, and the size and the place of its copy.
-    pub fn luks2(&self, alloc: Global, source: &mut MemDevice) -> Result<String, Malformed> {
+    /// The JSON area of the LUKS2 volume that is found, likewise, and the size and the place of its copy. A segment may
+    /// be given.
+    pub fn luks2(
+        &self,
+        alloc: Global,
+        source: &mut MemDevice,
+        given: &Option<GivenSegment<'_>>,
+    ) -> Result<String, Malformed> {
         let trying = Trying {
             passphrase: &self.passphrase,
             allowed: Allowed::NOTHING,
         };
         let mut tally = Tally::new(self.most);
-        match search2(alloc, source, &trying, &mut tally, &mut Untold) {
+        match search2(alloc, source, given, &trying, &mut tally, &mut Untold) {
             Ok(Some(found)) => told2(alloc, &found, tally.done()),
             Ok(None) => none(alloc, tally.done()),
             Err(fault) => broken_off(alloc, fault),
         }
     }
+}
+
+/// The segment that is given, if the line goes on: `OFFSET CIPHER SECTOR_SIZE`.
+pub fn given_segment<'a>(
+    words: &mut Words<'a>,
+) -> Result<Option<GivenSegment<'a>>, Malformed> {
+    if words.is_empty() {
+        return Ok(None);
+    }
+    let offset = words.number()?;
+    let cipher = words.word()?;
+    let sector_size = words.number32()?;
+    Ok(Some(GivenSegment {
+        offset,
+        cipher,
+        sector_size,
+    }))
 }
 
 /// What was found of LUKS1 after so many derivations.
@@ -84,7 +107,8 @@ fn change1(alloc: Global, change: Change1) -> Result<String, Malformed> {
 
 /// By so many bits of the digest.
 fn of_digest(alloc: Global, bits: u32) -> Result<String, Malformed> {
-    Ok(format!(in alloc; "with {bits} bits of the digest turned")?)
+    let counted = if bits == 1 { "bit" } else { "bits" };
+    Ok(format!(in alloc; "with {bits} {counted} of the digest turned")?)
 }
 
 /// What was found of LUKS2 after so many derivations.
@@ -110,7 +134,25 @@ fn change2(alloc: Global, change: Change2) -> Result<String, Malformed> {
             keyslot,
             digest,
             segment,
-        } => format!(in alloc; "by fragments at {keyslot}, {digest} and {segment}")?,
+        } => of_fragments(alloc, keyslot, digest, segment)?,
+    };
+    Ok(text)
+}
+
+/// By fragments at these places; the segment stands nowhere if it is given.
+fn of_fragments(
+    alloc: Global,
+    keyslot: u64,
+    digest: u64,
+    segment: Option<u64>,
+) -> Result<String, Malformed> {
+    let text = match segment {
+        Some(segment) => {
+            format!(in alloc; "by fragments at {keyslot}, {digest} and {segment}")?
+        }
+        None => {
+            format!(in alloc; "by fragments at {keyslot} and {digest}, and the segment that is given")?
+        }
     };
     Ok(text)
 }

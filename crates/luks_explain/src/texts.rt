@@ -513,8 +513,10 @@ pub(crate) fn next(fault: Fault) -> &'static str {
         }
         Fault::NoMetadata => {
             "where standard error says that not all was tried, say --thorough; where
-       it was of LUKS1 name a field of it, as --cipher aes-xts-plain64; else a
-       backup of the header, by luks restore"
+       it was of LUKS1 name a field of it, as --cipher aes-xts-plain64; luks
+       find --fragments tells what of LUKS2 still stands whole, and --thorough
+       --passphrase FILE seeks a header in what is left; else a backup of the
+       header, by luks restore"
         }
         Fault::NoHeader => {
             "see that it is the right device, and where it begins (luks find); of

@@ -1,6 +1,6 @@
 //! The lines that `find` prints of its own.
 ghost use Rattle.std.specs.Prelude.{◌≡◌, Some};
-ghost use Rattle.luks_find_command.specs.Fragments.{kind_text};
+ghost use Rattle.luks_find_command.specs.FragmentLines.{kind_text, last_text};
 
 use luks_commands::Answer;
 use luks_seeking::Kind;
@@ -37,24 +37,39 @@ impl fmt::Display for NoneFound {
     }
 }
 
-/// A fragment that was found: where it begins in its file, in bytes, what it is, and the number that stands before it.
+/// A fragment that was found: where it begins in its file, in bytes, what it is, and the number that stands before it;
+/// as an object of JSON or as a line.
 #[derive(Clone, Copy)]
 pub(crate) struct FragmentLine {
     pub(crate) place: u128,
     pub(crate) kind: Kind,
     pub(crate) number: Option<u8>,
+    pub(crate) as_json: bool,
 }
 
 impl fmt::Display for FragmentLine {
-    ghost use Rattle.luks_find_command.specs.Fragments.{fragment_line};
+    ghost use Rattle.luks_find_command.specs.FragmentLines.{fragment_line};
 
-    ghost output = { λ l. Some (fragment_line l.place l.kind l.number) };
+    ghost output = { λ l. Some (fragment_line l.as_json l.place l.kind l.number) };
 
     fn fmt<W: fmt::Write>(&self, f: &mut fmt::Formatter<W>) -> fmt::Result {
+        let place = self.place;
         let kind = kind_text(self.kind);
-        match self.number {
-            Some(number) => writeln!(f, "{} {kind} {number}", self.place),
-            None => writeln!(f, "{} {kind} -", self.place),
+        match (self.as_json, self.number) {
+            (true, Some(number)) => {
+                writeln!(
+                    f,
+                    "{{\"offset\":{place},\"kind\":\"{kind}\",\"number\":{number}}}"
+                )
+            }
+            (true, None) => {
+                writeln!(
+                    f,
+                    "{{\"offset\":{place},\"kind\":\"{kind}\",\"number\":null}}"
+                )
+            }
+            (false, Some(number)) => writeln!(f, "{place} {kind} {number}"),
+            (false, None) => writeln!(f, "{place} {kind} -"),
         }
     }
 }
@@ -67,5 +82,48 @@ fn kind_text(kind: Kind) -> &'static str
         Kind::Keyslot => "keyslot",
         Kind::Digest => "digest",
         Kind::Segment => "segment",
+    }
+}
+
+/// How a search for fragments ends that found none, or stopped.
+#[derive(Clone, Copy)]
+pub(crate) enum Last {
+    /// It found none.
+    NoneFound,
+    /// A file can't be read.
+    DeviceFault,
+    /// Memory was refused.
+    NoMemory,
+}
+
+/// The last line of such a search, as an object of JSON or as a line.
+#[derive(Clone, Copy)]
+pub(crate) struct LastLine {
+    pub(crate) last: Last,
+    pub(crate) as_json: bool,
+}
+
+impl fmt::Display for LastLine {
+    ghost use Rattle.luks_find_command.specs.FragmentLines.{last_line};
+
+    ghost output = { λ l. Some (last_line l.as_json l.last) };
+
+    fn fmt<W: fmt::Write>(&self, f: &mut fmt::Formatter<W>) -> fmt::Result {
+        let text = last_text(self.last);
+        if self.as_json {
+            writeln!(f, "{{\"answer\":\"{text}\"}}")
+        } else {
+            writeln!(f, "{text}")
+        }
+    }
+}
+
+fn last_text(last: Last) -> &'static str
+    ensures { result.now ≡ last_text last }
+{
+    match last {
+        Last::NoneFound => "none found",
+        Last::DeviceFault => "device fault",
+        Last::NoMemory => "no memory",
     }
 }

@@ -2,7 +2,6 @@
 
 use luks_finding::FindFault;
 use luks_seeking::SeekFault;
-use std::alloc::AllocError;
 
 /// Why a search stops before the end of its device.
 #[derive(Clone, Copy)]
@@ -40,16 +39,5 @@ impl From<SeekFault> for Stop {
             SeekFault::Device => Stop::Device,
             SeekFault::Memory => Stop::Memory,
         }
-    }
-}
-
-impl From<AllocError> for Stop {
-    ghost use Rattle.std.specs.Prelude.{◌≡◌};
-    ghost use Rattle.luks_find_command.specs.declared.stop.Stop.{Stop};
-
-    ghost from_gives = { λ _ stop. stop ≡ Stop.Memory };
-
-    fn from(_: AllocError) -> Stop {
-        Stop::Memory
     }
 }

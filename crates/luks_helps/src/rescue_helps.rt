@@ -34,7 +34,9 @@ them. It prints a line for each, as soon as it is found:
   OFFSET KIND NUMBER  the byte of DEVICE where it begins; keyslot, digest or
                       segment; its number, or - where none stands before it
 and none found, device fault or no memory as above. The first read that fails
-ends it.
+ends it. With --json, too, each of these lines is an object:
+  {\"offset\":N,\"kind\":KIND,\"number\":N} (null where none stands before it), and
+  {\"answer\":\"none found\"}, {\"answer\":\"device fault\"} or {\"answer\":\"no memory\"}
 
 Exit status:
   0  one was found or more, or help was asked for

@@ -7,7 +7,7 @@ use crate::matching::{wrong_change, wrong_key, wrong_removal};
 use crate::other_words::other_word;
 use crate::program::program;
 use crate::requests::{line_of, search_of};
-use crate::search::Search;
+use crate::search::{Search, wrong_search};
 use crate::sized::wrong_size;
 use crate::tokens::{wrong_priority, wrong_token};
 use clap::error::ErrorKind;
@@ -116,6 +116,7 @@ fn wrong_words(name: CommandName, given: &ArgMatches<'_>) -> Option<&'static str
     match name {
         CommandName::Open => wrong_key(given),
         CommandName::Rebuild => wrong_field(given),
+        CommandName::Find => wrong_search(given),
         CommandName::Change => wrong_change(given).or(wrong_derivation(given)),
         CommandName::Remove => wrong_removal(given),
         CommandName::Priority => wrong_priority(given),

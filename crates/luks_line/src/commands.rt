@@ -343,6 +343,7 @@ static COMMANDS: [Described; 21] = [
         operands: &[Operand::Device],
         options: &[
             LongOption::Fragments,
+            LongOption::JsonAnswer,
             LongOption::Offset,
             LongOption::Length,
             LongOption::Quiet,

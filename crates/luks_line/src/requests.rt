@@ -36,6 +36,7 @@ pub(crate) fn search_of<'a>(given: &ArgMatches<'a>) -> Option<Search<'a>> {
         disk: given.get_str("DEVICE")?,
         place: place_of(given)?,
         fragments: given.get_flag("fragments"),
+        json: given.get_flag("json"),
     })
 }
 

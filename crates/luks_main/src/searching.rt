@@ -103,7 +103,16 @@ fn search_for<D: Device, P: Printer, E: Write, G: Progress>(
     ensures { EndsFind result }
 {
     if search.fragments {
-        fragments::run(alloc, disk, search.disk, search.place, out, err, progress)
+        fragments::run(
+            alloc,
+            disk,
+            search.disk,
+            search.place,
+            search.json,
+            out,
+            err,
+            progress,
+        )
     } else {
         find::run(alloc, disk, search.disk, search.place, out, err, progress)
     }

@@ -1,13 +1,13 @@
 -- A header whose digest alone is another: what its keyslots give stays the same.
-use Rattle.std.proofs.Common.{◌≡◌, ◌≢◌, ◌⊎◌, ℕ, ◌+◌, ◌-◌, ◌*◌, ◌<◌, ◌≤◌, ◌==◌, ◌&&◌, List, length, min, Bool, true, false, Option, Some, None, unwrap_or, inl, inr, refl, sym, ap, subst, ◌∙◌, arith, if◌then◌else◌, bytes_eq}
+use Rattle.std.proofs.Common.{◌≡◌, ℕ, ◌+◌, ◌-◌, ◌*◌, ◌<◌, ◌≤◌, ◌==◌, ◌&&◌, List, length, min, Bool, true, false, Some, None, unwrap_or, inl, inr, refl, sym, ap, subst, ◌∙◌, arith, if◌then◌else◌, bytes_eq}
 use Rattle.std.proofs.lemmas.Bool.{cases_eq}
 use Rattle.std.proofs.lemmas.Slice.Eq.{bytes_eq-Decides}
 use Rattle.byteorder.specs.Endian.{big_number}
-use Rattle.luks_area.specs.Area.{IsInside, Meet}
+use Rattle.luks_area.specs.Area.{IsInside}
 use Rattle.luks_area.specs.Ranges.{part, written, IsAt, SameBut}
 use Rattle.luks_area.specs.Text.{text_of}
 use Rattle.luks_area.specs.declared.area.Area.{Area}
-use Rattle.luks_area.proofs.RangeFacts.{length-part, part-same_but_at, part-written, same_but-same_outside, same_outside-written}
+use Rattle.luks_area.proofs.RangeFacts.{length-part, length-part_inside, part-same_but_at, part-written, same_but-same, same_but-same_outside, same_outside-written}
 use Rattle.luks1_header.specs.Faults.{IsEntryFault}
 use Rattle.luks1_header.specs.Header1.{active_word, enabled_word, entry, entry_iterations, entry_key_material_offset, entry_salt, entry_stripes, header_text, mk_digest_iterations_of, mk_digest_of, mk_digest_salt_of}
 use Rattle.luks1_header.specs.declared.fault.HeadFault.{HeadFault}
@@ -15,7 +15,7 @@ use Rattle.luks1_header.specs.declared.fault.HeadFault.TheVariants as head
 use Rattle.luks1_header.specs.declared.fault.IterationsOf.TheVariants as of
 use Rattle.luks1_header.specs.declared.fault.TextField.{TextField}
 use Rattle.luks1_header.specs.declared.fault.TextField.TheVariants as field
-use Rattle.luks1_mending.specs.Areas.{is_usual, own_area, stripes_area, usual_sector, usual_stripes}
+use Rattle.luks1_mending.specs.Areas.{own_area, stripes_area, usual_sector, usual_stripes}
 use Rattle.luks1_mending.specs.Kept.{rank, AreKept, ComesBefore, IsBeforeAndMeets, IsKept, IsSound}
 use Rattle.luks1_mending.specs.Taken.{given_text, taken_key_bytes, taken_text, IsFieldFault, IsUsable}
 use Rattle.luks1_mending.specs.declared.given.Given.{Given}
@@ -35,8 +35,10 @@ use Rattle.luks1_rebuilding.specs.Gives.{IsKeptCipher, IsKeptDerivation, IsKeptP
 use Rattle.luks1_rebuilding.specs.Headed.{headed}
 use Rattle.luks1_rebuilding.specs.KeyAreas.{header_of, key_of, IsKeptInUse}
 use Rattle.luks1_rebuilding.proofs.HeadedFacts.{area_is, header_is, length_is}
-use Rattle.luks_searching.specs.Found1.{few_bits, HasDigestOf, IsChanged1, IsFoundOf, OpensNoneBut}
+use Rattle.luks_searching.specs.Found1.{few_bits, HasDigestOf, HasNone1, HasNoneOf, IsChanged1, IsFoundOf, OpensNoneBut, OpensNoneIn}
 use Rattle.luks_searching.specs.Headed.{GivesDigest, GivesNoDigest, GivesOneDigest, IsCheap, OpensHeaded}
+use Rattle.luks_searching.specs.declared.fields1.Field.{Field}
+use Rattle.luks_searching.specs.declared.searching1.Change1.TheVariants as change
 use Rattle.luks_searching.specs.declared.searching1.Found1.{Found1}
 use Rattle.luks_trials.specs.Trials.{most_stripes, most_turns}
 
@@ -355,3 +357,37 @@ put_there h digest long twenty = subst (λ (m : ℕ). part (written h 112 digest
 pub put_rest : (h digest : List ℕ) → length h ≡ 592 → length digest ≡ 20 → SameBut (IsAt 112 20) h (written h 112 digest)
 put_rest h digest long twenty =
     subst (λ (m : ℕ). SameBut (IsAt 112 m) h (written h 112 digest)) twenty (same_but-same_outside {v = h} {w = written h 112 digest} {at = 112} {len = length digest} (same_outside-written h 112 digest (omega (arith, long, twenty))))
+
+-- the header as it stands, where the digest is its own
+pub as_it_stands : (h digest : List ℕ) (n bits : ℕ) → length h ≡ 592 → length digest ≡ 20 → bits ≡ differing_bits digest (mk_digest_of h) → bits ≡ 0
+    → HasDigestOf h digest n (record { header = h; slot = n; change = change.Nothing })
+as_it_stands h digest n bits long twenty is none =
+    let own : length (mk_digest_of h) ≡ 20 = length-part_inside h 112 20 (omega (arith, long)) in
+    record {
+      slot = refl;
+      changed = refl;
+      rest = same_but-same (IsAt 112 20) h;
+      is = sym (equal_bits digest (mk_digest_of h) (twenty ∙ sym own) (sym is ∙ none));
+    }
+
+-- the header with the digest
+pub with_other : (h digest new : List ℕ) (n bits : ℕ) → length h ≡ 592 → length digest ≡ 20 → new ≡ written h 112 digest → bits ≡ differing_bits digest (mk_digest_of h)
+    → 1 ≤ bits → bits ≤ 8 → HasDigestOf h digest n (record { header = new; slot = n; change = change.Digest bits })
+with_other h digest new n bits long twenty put is some few =
+    let rest : SameBut (IsAt 112 20) h new = subst (SameBut (IsAt 112 20) h) (sym put) (put_rest h digest long twenty) in
+    let there : mk_digest_of new ≡ digest = ap mk_digest_of put ∙ put_there h digest long twenty in
+    record {
+      slot = refl;
+      changed = record { some = some; few = few; rest = rest; differ = ap (λ (d : List ℕ). differing_bits d (mk_digest_of h)) there ∙ sym is };
+      rest = rest;
+      is = there;
+    }
+
+-- what is told of the header as it was read, while the device stays the same, is told of the volume
+pub has_none : (v one two h : List ℕ) (g : Given) (p : List ℕ) → one ≡ v → two ≡ one → h ≡ header_of v → ((n : ℕ) → n < 8 → OpensNoneBut one h g p n)
+    → ((n : ℕ) (field : Field) → n < 8 → OpensNoneIn two h g p n field) → HasNone1 v g p
+has_none v one two h g p first second read shut turned = subst (λ (i : List ℕ). HasNoneOf v i g p) read (record {
+  standing = λ n low. (subst (λ (w : List ℕ). OpensNoneBut w h g p n) first (shut n low)).standing;
+  digest = λ n low. (subst (λ (w : List ℕ). OpensNoneBut w h g p n) first (shut n low)).digest;
+  turned = λ n field low. subst (λ (w : List ℕ). OpensNoneIn w h g p n field) (second ∙ first) (turned n field low);
+})

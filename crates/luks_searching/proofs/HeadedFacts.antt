@@ -1,6 +1,7 @@
 -- Which keyslots open of a volume with another header.
-use Rattle.std.proofs.Common.{◌≡◌, ◌↔◌, ℕ, ◌+◌, ◌*◌, ◌<◌, ◌≤◌, List, length, Option, Some, None, Result, Ok, Err, IfOk, IsTrue, true, false, refl, sym, ap, subst, ◌∙◌, arith}
+use Rattle.std.proofs.Common.{◌≡◌, ◌↔◌, ℕ, ◌+◌, ◌<◌, ◌≤◌, List, length, Option, Some, None, Result, Ok, Err, IfErr, IfNone, IfOk, IfSome, IsTrue, true, false, Bool, refl, sym, ap, subst, ◌∙◌, arith, if◌then◌else◌}
 use Rattle.luks_area.specs.Ranges.{part}
+use Rattle.luks_area.proofs.RangeFacts.{length-part_inside}
 use Rattle.luks1_header.specs.Header1.{active_word, enabled_word, entry, entry_iterations, entry_stripes, mk_digest_iterations_of, IsCommon, IsEntry, IsLuks1}
 use Rattle.luks1_header.specs.Written.{WritesLuks1}
 use Rattle.luks1_header.specs.declared.luks1.Luks1.{Luks1}
@@ -18,6 +19,7 @@ use Rattle.luks_slot.specs.Opening.{area_key, area_key_by, candidate, slot_key, 
 use Rattle.luks_slot.specs.Refusal.{is_argon2, slot_refusal}
 use Rattle.luks_slot.proofs.RefusalFacts.{accepted_within, refusal_at_none}
 use Rattle.luks_slot.specs.declared.fault.SlotFault.{SlotFault}
+use Rattle.luks_slot.specs.declared.fault.SlotFault.TheVariants as slot
 use Rattle.luks_slot.specs.declared.plan.Derivation.{Derivation}
 use Rattle.luks_slot.specs.declared.plan.Derivation.TheVariants.{Argon2, Pbkdf2}
 use Rattle.luks_slot.specs.declared.plan.SlotPlan.{SlotPlan}
@@ -29,7 +31,6 @@ use Rattle.luks_reading.proofs.Luks1Plans.{one_luks1_plan}
 use Rattle.luks_reading.proofs.SamePlans.{same_answer, same_refusal_within, SameFields}
 use Rattle.luks1_rebuilding.specs.Gives.{IsRefusedKept}
 use Rattle.luks1_rebuilding.specs.KeyAreas.{header_of}
-use Rattle.luks1_rebuilding.specs.Openings.{OpensBy}
 use Rattle.luks1_rebuilding.specs.Tried.{IsMadeOf}
 use Rattle.luks1_rebuilding.specs.Used.{any_slot, slot_at}
 use Rattle.luks1_rebuilding.proofs.HeadedFacts.{area_is, header_is, made_headed}
@@ -264,11 +265,59 @@ pub told_by : {F : Type 0} (r : Result (Option ℕ) F) (A B : Type 0) → A ↔ 
 told_by (Ok bits) A B same told = ((λ e. same.0 (told.0 e)), (λ x. told.1 (same.1 x)))
 told_by (Err f) A B same told = tt
 
+-- what Argon2 refuses isn't accepted
+never_argon2 : (t : Bool) (o : Option SlotFault) → t ≡ true → (if t then Some slot.Argon2 else o) ≡ None → ⊥
+never_argon2 t o holds accepted = (let refused = ap (λ (b : Bool). if b then Some slot.Argon2 else o) holds in cc)
+
 -- where nothing is allowed, no memory is taken
 pub bare_cut : (plan : SlotPlan) (tally : Tally) (f : SearchFault) → TakesMemory none_allowed plan f → IsCutShort tally f → IsCutWithoutMemory tally f
-bare_cut plan tally search.Memory takes cut =
-    let accepted = sym (refusal_at_none plan) ∙ takes.0 in
-    let argon2 = takes.1 in
-    absurd (rw argon2 at accepted in cc)
+bare_cut plan tally search.Memory takes cut = never_argon2 (is_argon2 plan.derivation) _ takes.1 (sym (refusal_at_none plan) ∙ takes.0)
 bare_cut plan tally search.Device takes cut = cut
 bare_cut plan tally search.Spent takes cut = cut
+
+pub err_cut : {A : Type 0} (plan : SlotPlan) (tally : Tally) (r : Result A SearchFault) → IfErr r (TakesMemory none_allowed plan) → IfErr r (IsCutShort tally)
+    → IfErr r (IsCutWithoutMemory tally)
+err_cut {A} plan tally (Ok a) takes cut = tt
+err_cut {A} plan tally (Err f) takes cut = bare_cut plan tally f takes cut
+
+-- the stored digest of a plan of LUKS1 has 20 bytes
+pub stored_twenty : (h : List ℕ) (total : ℕ) (g : Given) (d : Luks1) → IsMade h total g d → (b : List ℕ) → WritesLuks1 b d → (n : ℕ) → n < 8
+    → (s : Luks1Slot) → s ≡ slot_at d n → (plan : SlotPlan) → ((i e : List ℕ) → IsCommon i d.common → IsEntry e s → IsLuks1Plan i e plan)
+    → length plan.digest.stored.now ≡ 20
+stored_twenty h total g d made b put n lt s here plan is =
+    let header : IsLuks1 b d = made_header h total g d made b put in
+    let there : IsEntry (entry b n) s = subst (IsEntry (entry b n)) (sym here) (header.slots.each n any_slot lt) in
+    let long = header.long in
+    ap length (is b (entry b n) header.common there).digest.stored ∙ length-part_inside b 112 20 (omega (arith, long))
+
+-- ---- what is said of what is found, and of where nothing is
+
+pub found_so : {A F : Type 0} (r : Result (Option A) F) (P Q : A → Type 0) → ((x : A) → P x → Q x) → IfOk r (λ o. IfSome o P) → IfOk r (λ o. IfSome o Q)
+found_so {A} {F} (Ok (Some x)) P Q so p = so x p
+found_so {A} {F} (Ok None) P Q so p = tt
+found_so {A} {F} (Err f) P Q so p = tt
+
+pub found_both : {A F : Type 0} (r : Result (Option A) F) (P R Q : A → Type 0) → ((x : A) → P x → R x → Q x) → IfOk r (λ o. IfSome o P) → IfOk r (λ o. IfSome o R)
+    → IfOk r (λ o. IfSome o Q)
+found_both {A} {F} (Ok (Some x)) P R Q so p q = so x p q
+found_both {A} {F} (Ok None) P R Q so p q = tt
+found_both {A} {F} (Err f) P R Q so p q = tt
+
+pub none_so : {A F : Type 0} (r : Result (Option A) F) (X Y : Type 0) → (X → Y) → IfOk r (λ o. IfNone o X) → IfOk r (λ o. IfNone o Y)
+none_so {A} {F} (Ok (Some x)) X Y so p = tt
+none_so {A} {F} (Ok None) X Y so p = so p
+none_so {A} {F} (Err f) X Y so p = tt
+
+pub some_of : {A : Type 0} (o : Option A) (x : A) (P : A → Type 0) → o ≡ Some x → IfSome o P → P x
+some_of {A} o x P is p = subst (λ (q : Option A). IfSome q P) is p
+
+pub none_at : {A : Type 0} (o : Option A) (X : Type 0) → o ≡ None → IfNone o X → X
+none_at {A} o X is p = subst (λ (q : Option A). IfNone q X) is p
+
+pub some_so : {A : Type 0} (o : Option A) (P Q : A → Type 0) → ((x : A) → P x → Q x) → IfSome o P → IfSome o Q
+some_so {A} (Some x) P Q so p = so x p
+some_so {A} None P Q so p = tt
+
+pub none_as : {A : Type 0} (o : Option A) (X Y : Type 0) → (X → Y) → IfNone o X → IfNone o Y
+none_as {A} (Some x) X Y so p = tt
+none_as {A} None X Y so p = so p

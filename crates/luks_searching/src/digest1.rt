@@ -7,6 +7,10 @@ ghost use Rattle.luks_searching.specs.Found1.{few_bits, HasDigestOf};
 
 use crate::searching1::{Change1, Found1};
 use luks_trials::differing_bits;
+use luks1_header::fields::put;
+
+/// Where the digest stands, in bytes from the header's start.
+const DIGEST: usize = 112;
 
 /// A digest is taken for the key's where it differs in no more bits.
 const FEW_BITS: u32 = 8;
@@ -19,7 +23,7 @@ pub(crate) fn with_given(header: &[u8; 592], slot: u8, digest: &[u8]) -> Option<
     ensures found { IfSome result (HasDigestOf header.now digest.now slot) }
     ensures none { IfNone result (few_bits < differing_bits digest.now (mk_digest_of header.now)) }
 {
-    match differing_bits(digest, &header[112..132]) {
+    match differing_bits(digest, &header[DIGEST..DIGEST + 20]) {
         0 => Some(Found1 {
             header: *header,
             slot,
@@ -41,6 +45,6 @@ fn with_digest(header: &[u8; 592], digest: &[u8]) -> [u8; 592]
     ensures { result ≡ written header.now 112 digest.now }
 {
     let mut bytes = *header;
-    bytes[112..132].copy_from_slice(digest);
+    put(&mut bytes, DIGEST, digest);
     bytes
 }

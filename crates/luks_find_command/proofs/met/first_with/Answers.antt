@@ -1,4 +1,4 @@
-use Rattle.std.proofs.Common.{◌≡◌, ℕ, ◌<◌, Some, slice_get, slice_index_or, length, inl, inr, refl, sym, ap, ◌∙◌, subst, arith, [], IsTrue}
+use Rattle.std.proofs.Common.{◌≡◌, ◌<◌, Some, slice_get, slice_index_or, length, inl, inr, refl, sym, ap, ◌∙◌, subst, arith, []}
 use Rattle.std.proofs.lemmas.Bool.{cases_lt, false≢true}
 use Rattle.std.proofs.lemmas.Option.{get_or_from_slice_get, slice_get-get_or, slice_get_within}
 use Rattle.luks_find_command.specs.declared.met.Met.{Met}

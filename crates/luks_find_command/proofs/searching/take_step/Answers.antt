@@ -1,4 +1,4 @@
-use Rattle.std.proofs.Common.{◌≡◌, ℕ, ◌<◌, List, Option, subst}
+use Rattle.std.proofs.Common.{◌<◌, List, Option, subst}
 use Rattle.luks_find_command.specs.Searches.{starts_in, told_of, HasToldBy, TellsPart}
 use Rattle.luks_find_command.specs.declared.same_uuid.SameUuid.{SameUuid}
 use Rattle.luks_find_command.proofs.TellingFacts.{part-all}

@@ -1,7 +1,6 @@
 use Rattle.std.proofs.Common.{◌≡◌, ℕ, ◌<◌}
 use Rattle.luks_area.specs.Device.{IsUnchanged}
 use Rattle.luks_searching.specs.Found1.{OpensNoneIn}
-use Rattle.luks_searching.specs.Headed.{OpensHeaded}
 use Rattle.luks_trials.specs.Tallies.{Counts}
 use Rattle.luks_searching.proofs.searching1.by_field.Given as goal
 

@@ -1,4 +1,4 @@
-use Rattle.std.proofs.Common.{◌≡◌, ℕ, ◌<◌, ◌∙◌, slice_index_or, lit<, subst, sym, arith, below_more}
+use Rattle.std.proofs.Common.{ℕ, ◌<◌, ◌∙◌, slice_index_or, lit<, subst, sym, arith, below_more}
 use Rattle.luks_area.specs.Device.{unchanged-then}
 use Rattle.luks_searching.specs.Found1.{OpensNoneIn}
 use Rattle.luks_searching.specs.declared.fields1.Field.{Field}

@@ -1,9 +1,9 @@
-use Rattle.std.proofs.Common.{◌≡◌, ◌<◌, ◌∙◌, length, refl, subst, sym, arith}
+use Rattle.std.proofs.Common.{◌≡◌, ◌<◌, length, subst, sym, arith}
 use Rattle.std.proofs.lemmas.List.{get_or_default}
 use Rattle.luks1_mending.specs.Made.{IsMade}
 use Rattle.luks1_rebuilding.specs.Used.{any_slot}
 use Rattle.luks1_rebuilding.proofs.OpeningFacts.{enabled_plan}
-use Rattle.luks_searching.proofs.HeadedFacts.{opens_headed, shut_headed, told_by}
+use Rattle.luks_searching.proofs.HeadedFacts.{err_cut, opens_headed, shut_headed, told_by}
 use Rattle.luks_searching.proofs.trial1.distance_of.Goals as goal
 
 pub try_plan-requires-clause-openable : goal.try_plan-requires-clause-openable
@@ -17,6 +17,9 @@ try_plan-requires-clause-inside g c =
     (enabled_plan c.args.made.now c.args.n (g.D.Device.size c.args.source.now)
     (record { bytes = c.args.sought.now.header.now; given = c.args.sought.now.given.now; made = c.requires.made; as_written = c.write-written.result; written = c.write-written.ensures.written })
     c.requires.numbered _ c.in-Enabled.is c.luks1_plan-plan.result c.luks1_plan-plan.ensures.is c.luks1_plan-plan.ensures.judged).inside
+
+pub returns-in-Enabled-clause-cut : goal.returns-in-Enabled-clause-cut
+returns-in-Enabled-clause-cut g c = err_cut c.luks1_plan-plan.result c.try_plan.new.tally c.try_plan.result c.try_plan.ensures.memory c.try_plan.ensures.cut
 
 pub returns-in-Enabled-clause-opens : goal.returns-in-Enabled-clause-opens
 returns-in-Enabled-clause-opens g c = λ tells.
