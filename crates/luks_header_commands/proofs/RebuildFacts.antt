@@ -1,7 +1,7 @@
 -- What `rebuild` answers, by what it met.
 use Rattle.std.proofs.Common.{◌≡◌, ◌≢◌, List, ℕ, Bool, false, Option, None, refl, sym, subst, inl, inr, length, [], ◌∙◌}
 use Rattle.luks_area.specs.Ranges.{SameBut}
-use Rattle.luks_writing.specs.TwoDevices.{CountsAfter, IsOneFailure}
+use Rattle.luks_writing.specs.TwoDevices.{CountsAfter}
 use Rattle.luks_rebuilding.specs.RebuildFaults.{is_rebuild_failure}
 use Rattle.luks_rebuilding.specs.Outcome.{IsAnsweredFault, IsRebuildable, IsRebuildFault}
 use Rattle.luks_rebuilding.specs.Rebuilt.{IsOfRebuilt}

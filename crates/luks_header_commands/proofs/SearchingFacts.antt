@@ -1,7 +1,7 @@
 -- What `rebuild` answers where what is damaged is sought by a passphrase, by what it met.
-use Rattle.std.proofs.Common.{◌≡◌, ◌≢◌, ◌↔◌, ◌⊎◌, List, ℕ, ◌+◌, ◌<◌, Bool, true, false, Option, Some, None, IfSome, IfNone, Result, Ok, IfOk, IsTrue, refl, sym, subst, inl, inr, length, ◌∙◌}
+use Rattle.std.proofs.Common.{◌≡◌, List, ℕ, ◌<◌, Bool, true, false, Option, Some, None, IfSome, IfNone, Result, Ok, IfOk, refl, sym, subst, inl, inr, length, ◌∙◌}
 use Rattle.luks_area.specs.Device.{count_after, CountsFailure}
-use Rattle.luks_writing.specs.TwoDevices.{CountsAfter, IsOneFailure}
+use Rattle.luks_writing.specs.TwoDevices.{CountsAfter}
 use Rattle.luks_reading.specs.Answer.{opens}
 use Rattle.luks_rebuilding.specs.Making.{source_with, IsMakeable as IsMakeable2, IsAnsweredMaking as IsAnsweredMaking2}
 use Rattle.luks_rebuilding.specs.RebuildFaults.{is_rebuild_failure as is_rebuild2_failure}
@@ -32,7 +32,7 @@ use Rattle.luks_commands.specs.declared.answers.Answer.{Answer}
 use Rattle.luks_commands.specs.declared.answers.Answer.TheVariants as answer
 use Rattle.luks_commands.specs.declared.answers.Refusal.TheVariants as refusal
 use Rattle.luks_commands.specs.Answer.{rebuild_fault_answer, rebuild1_fault_answer}
-use Rattle.luks_header_commands.specs.FoundHeader.{IsHeadedAnswer, IsHeadedHeader, KeepsHeaded, OpensMade, OpensWhereDone}
+use Rattle.luks_header_commands.specs.FoundHeader.{IsHeadedAnswer, IsHeadedHeader, KeepsHeaded, OpensWhereDone}
 use Rattle.luks_header_commands.specs.FoundMetadata.{IsMadeAnswer2, IsMadeHeader2, KeepsMade2}
 use Rattle.luks_header_commands.specs.Rebuilding.{given_of, IsLuks1Answer}
 use Rattle.luks_header_commands.specs.Searching.{allowed_by, search_fault_answer, cut_short, no_memory, search_failed, by_combinations, broken_off, found_near, none_near, broken_off2, found_near2, none_near2, kept_luks1, kept_luks2, searched_luks1, searched_luks2, version_unread, BrokenOff, IsRest1, IsRest2, IsSearchedRest, SearchedAnswer, SearchedAnswer1, SearchedAnswer2, SeeksLuks1}

@@ -1,5 +1,5 @@
 -- What is answered of the target of a command that makes a header.
-use Rattle.std.proofs.Common.{◌≡◌, ◌⊎◌, ℕ, List, Bool, true, false, Option, Some, None, ap, Result, Ok, Err, IfErr, OnOk, refl, sym, subst, ◌∙◌, inl, inr}
+use Rattle.std.proofs.Common.{◌≡◌, ℕ, List, Bool, true, false, Option, Some, None, ap, Result, Ok, Err, IfErr, OnOk, refl, sym, subst, ◌∙◌, inl, inr}
 use Rattle.luks_area.specs.Device.{count_after, CountsFailure}
 use Rattle.luks_writing.specs.TwoDevices.{CountsAfter, CountsEither, IsOneFailure}
 use Rattle.luks_commands.specs.declared.answers.Answer.{Answer}

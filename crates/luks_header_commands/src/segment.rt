@@ -1,5 +1,5 @@
 //! The segment of LUKS2 metadata that is given, where none stands whole.
-ghost use Rattle.std.specs.Prelude.{◌≡◌, ◌+◌, ◌<◌, ◌≤◌, ◌∷◌, ◌++◌, ℕ, List, length, IfNone, IfSome};
+ghost use Rattle.std.specs.Prelude.{◌≡◌, ◌+◌, ◌*◌, ◌<◌, ◌≤◌, ◌∷◌, ◌++◌, ℕ, List, length, IfNone, IfSome};
 ghost use Rattle.luks_header_commands.specs.Segment.{longest_cipher, HasCipher, IsGivenCipher, IsGivenSegment};
 
 use arrayvec::ArrayString;
@@ -34,6 +34,13 @@ fn joined(name: &str, mode: &str) -> Option<ArrayString<64>>
     Some(text)
 }
 
+/// The byte where the sector begins, of 512 bytes.
+fn first_byte(sector: u32) -> u64
+    ensures { result ≡ 512 * sector }
+{
+    512 * u64::from(sector)
+}
+
 /// The segment that is given, of this cipher, if its place and the size of its sectors are, too.
 pub(crate) fn given_segment<'a>(
     rebuilding: &Rebuilding<'_>,
@@ -44,7 +51,7 @@ pub(crate) fn given_segment<'a>(
 {
     match (cipher, rebuilding.luks1.payload, rebuilding.sector_size) {
         (Some(cipher), Some(sector), Some(sector_size)) => Some(GivenSegment {
-            offset: 512 * u64::from(sector),
+            offset: first_byte(sector),
             cipher: cipher.as_str(),
             sector_size,
         }),

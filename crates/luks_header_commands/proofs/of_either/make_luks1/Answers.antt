@@ -1,5 +1,4 @@
 use Rattle.std.proofs.Common.{ap, subst, ◌∙◌}
-use Rattle.luks_commands.specs.declared.answers.Answer.{Answer}
 use Rattle.luks_commands.specs.declared.answers.Answer.TheVariants.{Refused}
 use Rattle.luks_commands.specs.declared.answers.Refusal.TheVariants.{Rebuild1}
 use Rattle.luks_header_commands.specs.Rebuilding.{IsLuks1Answer}

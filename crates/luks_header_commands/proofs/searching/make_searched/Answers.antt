@@ -1,7 +1,7 @@
-use Rattle.std.proofs.Common.{refl, sym, subst, true≢false, ◌∙◌, inl}
+use Rattle.std.proofs.Common.{refl, sym, subst, true≢false, ◌∙◌}
 use Rattle.luks_request.specs.declared.rebuilding.Meant.{Meant}
-use Rattle.luks_header_commands.specs.Searching.{searched_luks1, searched_luks2, version_unread, SeeksLuks1}
-use Rattle.luks_header_commands.specs.Target.{pair_of, Pair}
+use Rattle.luks_header_commands.specs.Searching.{searched_luks1, searched_luks2, SeeksLuks1}
+use Rattle.luks_header_commands.specs.Target.{pair_of}
 use Rattle.luks_header_commands.proofs.SearchingFacts.{luks1_rest, luks2_rest, searched1_later, searched2_later}
 use Rattle.luks_header_commands.proofs.searching.make_searched.Goals as goal
 

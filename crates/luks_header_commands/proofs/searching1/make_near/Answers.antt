@@ -1,5 +1,4 @@
-use Rattle.std.proofs.Common.{◌∙◌, List, ℕ, refl, sym, subst}
-use Rattle.luks_searching.specs.Found1.{HasNone1, IsFound1}
+use Rattle.std.proofs.Common.{◌∙◌, refl, sym, subst}
 use Rattle.luks_header_commands.specs.Searching.{none_near, SearchedAnswer1}
 use Rattle.luks_header_commands.specs.Target.{pair_of}
 use Rattle.luks_header_commands.proofs.SearchingFacts.{near_later, near_of, none_of, short_answers}

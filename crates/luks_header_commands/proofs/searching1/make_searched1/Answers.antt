@@ -1,8 +1,8 @@
-use Rattle.std.proofs.Common.{◌≡◌, ℕ, ◌+◌, ◌<◌, ◌^◌, List, refl, sym, subst}
+use Rattle.std.proofs.Common.{ℕ, ◌+◌, ◌<◌, ◌^◌, List, refl, sym, subst}
 use Rattle.luks1_rebuilding.specs.Openings.{OpensNoneBelow}
 use Rattle.luks1_rebuilding.specs.TrialFaults.{IsTrialFault}
 use Rattle.luks1_rebuilding.specs.declared.rebuild_fault.Rebuild1Fault.{Rebuild1Fault}
-use Rattle.luks_header_commands.specs.Target.{pair_of, Pair}
+use Rattle.luks_header_commands.specs.Target.{pair_of}
 use Rattle.luks_header_commands.proofs.SearchingFacts.{combined, none_tried, rest1_of, searched1_later, tried_rest}
 use Rattle.luks_header_commands.proofs.searching1.make_searched1.Goals as goal
 
