@@ -96,12 +96,16 @@ impl Disk {
         Ok(text)
     }
 
-    /// `fragments [OFFSET]`: the status of `luks find --fragments`, and its lines, where the disk begins at that byte of
-    /// its file; with it they are objects of JSON.
-    fn fragments(&self, alloc: Global, words: &mut Words<'_>) -> Result<String, Malformed> {
-        let as_json = !words.is_empty();
+    /// `fragments OFFSET`: the status of `luks find --fragments`, and its lines, where the disk begins at that byte of
+    /// its file; `objects OFFSET`: the same with `--json`.
+    fn fragments(
+        &self,
+        alloc: Global,
+        as_json: bool,
+        words: &mut Words<'_>,
+    ) -> Result<String, Malformed> {
         let place = Place {
-            offset: if as_json { words.number()? } else { 0 },
+            offset: words.number()?,
             length: None,
         };
         let mut volume = Ok(BadDisk::new(self.bytes.clone()?, self.bad.clone()?));
@@ -165,7 +169,8 @@ impl Functions for Disk {
             "put" => self.put(alloc, words)?,
             "bad" => self.spoil(words)?,
             "find" => return Ok(Some(self.find(alloc)?)),
-            "fragments" => return Ok(Some(self.fragments(alloc, words)?)),
+            "fragments" => return Ok(Some(self.fragments(alloc, false, words)?)),
+            "objects" => return Ok(Some(self.fragments(alloc, true, words)?)),
             "starts" => return Ok(Some(self.starts(alloc, words)?)),
             _ => return Err(Malformed::Function),
         }

@@ -69,9 +69,7 @@ impl Sought {
 }
 
 /// The segment that is given, if the line goes on: `OFFSET CIPHER SECTOR_SIZE`.
-pub fn given_segment<'a>(
-    words: &mut Words<'a>,
-) -> Result<Option<GivenSegment<'a>>, Malformed> {
+pub fn given_segment<'a>(words: &mut Words<'a>) -> Result<Option<GivenSegment<'a>>, Malformed> {
     if words.is_empty() {
         return Ok(None);
     }
@@ -147,11 +145,11 @@ fn of_fragments(
     segment: Option<u64>,
 ) -> Result<String, Malformed> {
     let text = match segment {
-        Some(segment) => {
-            format!(in alloc; "by fragments at {keyslot}, {digest} and {segment}")?
-        }
+        Some(segment) => { format!(in alloc; "by fragments at {keyslot}, {digest} and {segment}")? }
         None => {
-            format!(in alloc; "by fragments at {keyslot} and {digest}, and the segment that is given")?
+            format!(in alloc;
+                "by fragments at {keyslot} and {digest}, and the segment that is given"
+            )?
         }
     };
     Ok(text)
