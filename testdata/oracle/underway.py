@@ -217,9 +217,9 @@ def judge(copy, value):
 # --- what is told
 
 def sides(value):
-    """The digests of the old and of the new key, none where that side isn't encrypted, of metadata with a reencryption."""
-    kept = {flag: str(n) for n, it in by_number(value["segments"]) for flag in flags(it) if flag in BACKUPS[:2]}
-    return tuple((naming(value, "segments", kept[flag]) or [None])[0] if value["segments"][kept[flag]]["type"] != "linear" else None for flag in BACKUPS[:2])
+    """The digests of the old and of the new key: of each the one that names the backup, of whatever type that is, as cryptsetup takes it; none where none does."""
+    flagged = [[str(n) for n, it in by_number(value["segments"]) if flag in flags(it)][:1] for flag in BACKUPS[:2]]
+    return tuple((naming(value, "segments", names[0]) or [None])[0] if names else None for names in flagged)
 
 
 def side_of_keyslot(value, n):
@@ -373,8 +373,7 @@ def json_segment(n, it):
 
 
 def json_under_way(value):
-    flagged = [[str(n) for n, it in by_number(value["segments"]) if flag in flags(it)][:1] for flag in BACKUPS[:2]]
-    old, new = ((naming(value, "segments", names[0]) or [None])[0] if names else None for names in flagged)
+    old, new = sides(value)
     hot = [(n, it) for n, it in by_number(value["segments"]) if HOT in flags(it) and not is_backup(it)]
     zone = None
     if hot:

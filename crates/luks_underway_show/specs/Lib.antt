@@ -7,5 +7,4 @@ pub mod KeyslotValues
 pub mod WideSegmentValues
 pub mod UnderwayValue
 pub mod UnderwayJson
-pub mod Said
 pub mod Tokens

@@ -11,7 +11,7 @@ use luks_underway::{Checksum, Direction, Mode, ReencryptArea, Reencryption, Resi
 use std::fmt;
 
 /// What is done with the data.
-pub(crate) fn mode_name(mode: Mode) -> &'static str
+pub fn mode_name(mode: Mode) -> &'static str
     ensures { result.now ≡ mode_text mode }
 {
     match mode {
@@ -22,7 +22,7 @@ pub(crate) fn mode_name(mode: Mode) -> &'static str
 }
 
 /// Where it begins.
-pub(crate) fn direction_name(direction: Direction) -> &'static str
+pub fn direction_name(direction: Direction) -> &'static str
     ensures { result.now ≡ direction_text direction }
 {
     match direction {

@@ -3,8 +3,8 @@ use Rattle.std.specs.Io.KnownBytes.{Appends}
 use Rattle.luks_underway.specs.Sides.{IsSide}
 use Rattle.luks_underway.specs.declared.sides.Side.{Side}
 use Rattle.luks_wider.specs.Underways.{content}
-use Rattle.luks_underway_show.specs.Said.{side_by, side_line}
-use Rattle.luks_underway_show.proofs.said.note_side.Goals as goal
+use Rattle.luks_underway_said.specs.Said.{side_by, side_line}
+use Rattle.luks_underway_said.proofs.said.note_side.Goals as goal
 
 pub returns : goal.returns
 returns g c old new a b =

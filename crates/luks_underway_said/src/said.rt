@@ -7,12 +7,11 @@ ghost use Rattle.std.specs.List.{list_any};
 ghost use Rattle.serde_json.specs.View.{view};
 ghost use Rattle.luks_underway.specs.Sides.{IsSide};
 ghost use Rattle.luks_wider.specs.Underways.{content};
-ghost use Rattle.luks_underway_show.specs.Said.{between_words, doing_words, gives, hand_words, is_missing, IsReencryptionSaid, key_words, length_words, missing_as, missing_text, reencryption_words, resuming_words, said_of, side_by, side_line, side_words};
+ghost use Rattle.luks_underway_said.specs.Said.{between_words, doing_words, gives, hand_words, is_missing, IsReencryptionSaid, key_words, length_words, missing_as, missing_text, reencryption_words, resuming_words, said_of, side_by, side_line, side_words};
 
-use crate::hotzone::{Hotzone, part_in_hand};
-use crate::reencryption::{direction_name, mode_name};
 use luks_meta::Extent;
 use luks_underway::{Reencryption, Side, is_named, keyslot_side};
+use luks_underway_show::{Hotzone, direction_name, mode_name, part_in_hand};
 use luks_wider::{Sides, Underway};
 use serde_json::Value;
 use std::fmt;

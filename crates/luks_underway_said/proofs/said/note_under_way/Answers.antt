@@ -1,7 +1,7 @@
 use Rattle.std.proofs.Common.{refl}
 use Rattle.std.proofs.lemmas.Result.{on_ok_weaker}
-use Rattle.luks_underway_show.specs.Said.{said}
-use Rattle.luks_underway_show.proofs.said.note_under_way.Goals as goal
+use Rattle.luks_underway_said.specs.Said.{said}
+use Rattle.luks_underway_said.proofs.said.note_under_way.Goals as goal
 
 pub returns : goal.returns
 returns g c =

@@ -4,8 +4,8 @@ use Rattle.std.proofs.lemmas.Result.{on_ok_weaker}
 use Rattle.std.specs.Io.KnownBytes.{Appends}
 use Rattle.luks_underway.proofs.Sided.{one_side}
 use Rattle.luks_wider.specs.Underways.{content}
-use Rattle.luks_underway_show.specs.Said.{is_missing, missing_as, missing_text}
-use Rattle.luks_underway_show.proofs.said.note_missing_key.Goals as goal
+use Rattle.luks_underway_said.specs.Said.{is_missing, missing_as, missing_text}
+use Rattle.luks_underway_said.proofs.said.note_missing_key.Goals as goal
 
 pub returns : goal.returns
 returns g c old new a b =
