@@ -229,17 +229,6 @@ def side_of_keyslot(value, n):
     return "both" if old and new else "old" if old else "new" if new else "none"
 
 
-def side_of_segment(value, n):
-    """By which key a part of the data is read: `old`, `new`, `both` in the zone where both stand, `plain`."""
-    it = value["segments"][str(n)]
-    if HOT in flags(it):
-        return "both"
-    if it["type"] == "linear":
-        return "plain"
-    old, new = (side in naming(value, "segments", str(n)) for side in sides(value))
-    return "both" if old and new else "old" if old else "new"
-
-
 def resilience(area):
     words = [area["type"]]
     if area["type"] in CHECKSUMS:
@@ -403,18 +392,21 @@ def open_slot(volume, passphrase, n):
     return reader.opened(reader.plan2(volume, value, n, 1 << 30), passphrase)
 
 
-def tables(value, device, end):
-    """Two `crypt` tables of dmsetup by the segments, one for each key, over data that ends at byte `end`: (side, line); a part in hand has none."""
+def table(value, end):
+    """The table of dmsetup by the segments in use, over data that ends at byte `end`: one line each; what is in hand isn't read."""
     place = 0
     for n, it in by_number(value["segments"]):
-        if is_backup(it):
-            continue
         start, stop = extent(it)
-        sectors = ((end if stop is None else stop) - start) // 512
-        side = side_of_segment(value, n)
-        if side == "plain":
-            yield side, f"{place} {sectors} linear {device} {start // 512}"
-        elif side != "both":
+        sectors = 0 if is_backup(it) else (max(0, end - start) if stop is None else stop - start) // 512
+        if not sectors:
+            continue
+        key, at = "".join(f"-{m}" for m in naming(value, "segments", str(n))[:1]), f"DEVICE {start // 512}"
+        if HOT in flags(it):
+            target = "error"
+        elif it["type"] in ("crypt", "hw-opal-crypt"):
             more = "" if it["sector_size"] == 512 else f" 1 sector_size:{it['sector_size']}"
-            yield side, f"{place} {sectors} crypt {it['encryption']} KEY {it['iv_tweak']} {device} {start // 512}{more}"
+            target = f"crypt {reader.shown_text(it['encryption'])} KEY{key} {it['iv_tweak']} {at}{more}"
+        else:
+            target = f"linear {at}"
+        yield f"{place} {sectors} {target}"
         place += sectors
