@@ -47,14 +47,14 @@ meta_least area f least off = let l = least (other_fault f off) in (l.0, λ g h.
     by l (UnderWay path) h = before_contradiction f path.bytes
 
 -- the fault of the members that it is
-inner : WideFault → MetaFault
+abbrev inner : WideFault → MetaFault
 inner (Meta f) = f
 inner (UnderWay path) = fault.JsonArea
 
 pub is_memory : (f : MetaFault) → Meta f ≡ no_memory → f ≡ fault.Memory
 is_memory f e = ap inner e
 
-is_meta : WideFault → Bool
+abbrev is_meta : WideFault → Bool
 is_meta (Meta f) = true
 is_meta (UnderWay path) = false
 
