@@ -7,8 +7,7 @@ use Rattle.luks_wide_reading.proofs.header.read_area.Goals as goal
 
 pub returns-in-Ok-clause-read : goal.returns-in-Ok-clause-read
 returns-in-Ok-clause-read c =
-    let found = c.in-Ok.ensures.found in
-    (
+    let found = c.in-Ok.ensures.found in (
       found.json,
       record {
         under_way = is_under c.args.area.now (content c.in-Ok.meta) (c.in-Ok-true.ensures.is c.in-Ok-true.field-0-test) found.json;
