@@ -11,14 +11,14 @@ use Rattle.luks_underway.specs.Kinds.{has_opal, has_reencrypt, is_hot, is_kept_b
 use Rattle.luks_underway.specs.Segments.{has_flag}
 use Rattle.luks_contradictions.specs.Consistent.{IsApart, IsConsistent, IsInUse, IsLike, IsOnly, IsParted, IsWithin, Lies, requires_opal, requires_reencryption}
 use Rattle.luks_contradictions.specs.Contradicted.{AreWideSegments, contradicts, has_out_of_place}
-use Rattle.luks_contradictions.specs.Contradictions.{all_below, any_below, any_beside, count_marked, has_beside, has_marked, is_beside, is_gapped, is_hot_outside, is_like, is_marked, is_meeting, is_miscounted, is_misparted, is_out_of_place, is_second, is_unended, is_unlike, is_within, lacks_requirement, size_of}
+use Rattle.luks_contradictions.specs.Contradictions.{all_below, any_below, any_beside, count_marked, has_beside, has_marked, is_beside, is_gapped, is_hot_outside, is_like, is_marked, is_meeting, is_miscounted, is_misparted, is_out_of_place, is_unended, is_unlike, is_within, lacks_requirement, size_of}
 use Rattle.luks_contradictions.specs.declared.contradiction.Contradiction.{Contradiction}
 use Rattle.luks_contradictions.specs.declared.contradiction.Contradiction.TheVariants.{Keyslot, Requirements, Segment, Segments}
 use Rattle.luks_contradictions.specs.declared.marks.Mark.{Mark}
 use Rattle.luks_contradictions.specs.declared.marks.Mark.TheVariants as mark
 use Rattle.luks_contradictions.specs.declared.marks.Beside.{Beside}
 use Rattle.luks_contradictions.specs.declared.marks.Beside.TheVariants as beside
-use Rattle.luks_contradictions.proofs.Counted.{all_from, any_at, count_few, count_some, each_below, front_counted, front_of, none_below, none_from, one_counted, some_below, some_counted}
+use Rattle.luks_contradictions.proofs.Counted.{all_from, any_at, count_few, count_some, each_below, front_counted, front_of, none_below, one_counted, some_below, some_counted}
 use Rattle.luks_contradictions.proofs.Placed.{apart_is, apart_of, IsPlaced, lies_on, like_is, like_of, no_size, placed, within_is, within_of}
 use Rattle.luks_contradictions.proofs.UnderWayFacts.{held_by}
 

@@ -1,8 +1,8 @@
 -- The first place that is met is the least.
-use Rattle.std.proofs.Common.{◌≡◌, ℕ, ◌<◌, Bool, true, false, ◌&&◌, List, [], ◌∷◌, ◌++◌, ◌⊎◌, Option, Some, None, cond, codes, refl, sym, ap, ◌∙◌, arith, inl, inr}
+use Rattle.std.proofs.Common.{◌≡◌, ℕ, ◌<◌, Bool, true, false, List, [], ◌∷◌, ◌⊎◌, Option, Some, None, cond, codes, refl, sym, ◌∙◌, arith, inl, inr}
 use Rattle.std.specs.Prelude.{find, ◌==◌, nat_lt, option_map}
 use Rattle.std.specs.List.{list_all, list_any}
-use Rattle.std.proofs.lemmas.Bool.{agree_below_at, and_from, and_parts, cases_Bool, eqb-true, false≢true, lt-ltb, ltb-true, or_cases, true≢false}
+use Rattle.std.proofs.lemmas.Bool.{agree_below_at, and_from, and_parts, cases_Bool, eqb-true, false≢true, ltb-true, or_cases, true≢false}
 use Rattle.serde_json.specs.Data.{Data}
 use Rattle.luks_area.specs.First.{IsLeast, NotAfter}
 use Rattle.luks_json.specs.Number.{number_text}

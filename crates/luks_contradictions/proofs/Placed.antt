@@ -1,6 +1,6 @@
 -- Where a segment lies, and how it stands to another: the tests say what the definitions do.
-use Rattle.std.proofs.Common.{◌≡◌, ℕ, ◌+◌, ◌<◌, ◌≤◌, Bool, true, false, ◌&&◌, ◌⊎◌, List, Option, Some, None, codes, is_some, option_map, option_and_then, refl, sym, ap, subst, ◌∙◌, inl, inr, arith}
-use Rattle.std.specs.Prelude.{◌||◌, not, nat_le, bytes_eq}
+use Rattle.std.proofs.Common.{◌≡◌, ℕ, ◌+◌, ◌≤◌, Bool, true, false, ◌&&◌, ◌⊎◌, List, Option, Some, None, codes, is_some, option_map, option_and_then, refl, sym, ap, subst, ◌∙◌, inl, inr, arith}
+use Rattle.std.specs.Prelude.{not, nat_le, bytes_eq}
 use Rattle.std.specs.Option.{option_map_or}
 use Rattle.std.proofs.lemmas.Bool.{and_from, and_parts, cases_Bool, false≢true, true≢false, eq-eqb, eqb-true, le-leb, leb-true}
 use Rattle.std.proofs.lemmas.Slice.Eq.{bytes_eq-Decides}
@@ -8,8 +8,8 @@ use Rattle.serde_json.specs.Data.{Data}
 use Rattle.luks_json.specs.Decimal.{decimal_of}
 use Rattle.luks_rules.specs.declared.table.Member.TheVariants as name
 use Rattle.luks_rules.specs.declared.table.Outer.TheVariants as outer
-use Rattle.luks_rules.specs.Faults.{member_at, type_at}
-use Rattle.luks_rules.specs.Reading.{Field, dynamic, whole, decimal_in, extent_of, number_of, text_of}
+use Rattle.luks_rules.specs.Faults.{member_at}
+use Rattle.luks_rules.specs.Reading.{Field, dynamic, whole, extent_of, text_of}
 use Rattle.luks_rules.specs.Table.{segment_rows}
 use Rattle.luks_meta.proofs.RowsRead.{at_top}
 use Rattle.luks_underway.specs.Members.{positive_in}

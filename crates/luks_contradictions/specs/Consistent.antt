@@ -7,11 +7,11 @@ use Rattle.serde_json.specs.Find.{as_array, as_str}
 use Rattle.luks_json.specs.Arrays.{names}
 use Rattle.luks_rules.specs.declared.table.Member.TheVariants as name
 use Rattle.luks_rules.specs.declared.table.Outer.TheVariants as outer
-use Rattle.luks_rules.specs.declared.table.Section.TheVariants.{Keyslots, Segments}
+use Rattle.luks_rules.specs.declared.table.Section.TheVariants.{Segments}
 use Rattle.luks_rules.specs.Accepted.{HasObject}
-use Rattle.luks_rules.specs.Faults.{member_at, object_at, type_at}
-use Rattle.luks_rules.specs.Reading.{Field, dynamic, whole, decimal_in, extent_of, number_of, text_of}
-use Rattle.luks_underway.specs.Kinds.{has_opal, has_reencrypt, is_hot, is_kept_back, is_type}
+use Rattle.luks_rules.specs.Faults.{member_at, type_at}
+use Rattle.luks_rules.specs.Reading.{dynamic, whole, decimal_in, extent_of, number_of, text_of}
+use Rattle.luks_underway.specs.Kinds.{has_opal, has_reencrypt, is_hot, is_kept_back}
 use Rattle.luks_underway.specs.Requirements.{mandatory_in}
 use Rattle.luks_underway.specs.Segments.{has_flag}
 use Rattle.std.specs.Prelude.{option_and_then}

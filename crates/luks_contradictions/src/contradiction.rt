@@ -1,6 +1,6 @@
 //! The places where what is under way may contradict itself.
 
-ghost use Rattle.std.specs.Prelude.{◌≡◌, ◌<◌, ◌++◌, codes};
+ghost use Rattle.std.specs.Prelude.{◌≡◌, ◌<◌};
 ghost use Rattle.luks_json.specs.Number.{number_text};
 ghost use Rattle.luks_contradictions.specs.Contradicted.{contradiction_path, IsNamed};
 

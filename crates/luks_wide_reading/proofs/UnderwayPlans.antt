@@ -1,5 +1,5 @@
 -- The refusals of a keyslot that holds a key, step by step, and what its plan gives, where something is under way in the metadata.
-use Rattle.std.proofs.Common.{◌≡◌, ◌≢◌, ℕ, ◌<◌, List, [], ◌∷◌, length, codes, true, false, refl, sym, ap, ◌∙◌, arith, subst, Option, Some, None, Result, Ok, Err, IfOk, IfErr, IfSome}
+use Rattle.std.proofs.Common.{◌≡◌, ◌≢◌, ℕ, ◌<◌, List, [], ◌∷◌, length, codes, true, false, refl, sym, ap, ◌∙◌, arith, subst, Option, Some, None, IfOk, IfErr, IfSome}
 use Rattle.serde_json.specs.Data.{Data}
 use Rattle.luks_area.specs.Device.{count_after, CountsFailure}
 use Rattle.luks_area.specs.First.{NotAfter, IsLeast}

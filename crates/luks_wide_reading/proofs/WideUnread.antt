@@ -1,7 +1,9 @@
 -- Why a header isn't read by the wider reading, from why the narrow one refuses it.
-use Rattle.std.proofs.Common.{◌≡◌, ◌≢◌, ◌∙◌, ℕ, List, length, inl, refl, ap, subst, sym, arith}
+use Rattle.std.proofs.Common.{◌≡◌, ◌≢◌, ◌∙◌, ℕ, List, length, false, inl, refl, ap, subst, sym, arith, Result, Ok, Err, IfErr}
+use Rattle.luks_area.specs.Device.{CountsFailure}
 use Rattle.luks_area.specs.First.{IsLeast}
 use Rattle.luks1_header.specs.declared.fault.HeadFault.{HeadFault}
+use Rattle.luks1_header.specs.declared.fault.HeadFault.TheVariants as head
 use Rattle.luks2_header.specs.declared.selection.Copies.{Copies}
 use Rattle.luks2_header.specs.Header2.{header_at, uuid_field, HoldsBin2, IsUuidFault, IsUuidField}
 use Rattle.luks2_header.specs.Selection.{Choice, luks1, luks2, nothing, Chosen}
@@ -17,6 +19,7 @@ use Rattle.luks_reading.specs.declared.header.Header.TheVariants.{Luks1, Luks2}
 use Rattle.luks_reading.specs.declared.read_fault.ReadFault.{ReadFault}
 use Rattle.luks_reading.specs.declared.read_fault.ReadFault.TheVariants as reading
 use Rattle.luks_reading.specs.ChosenCopies.{json_of}
+use Rattle.luks_reading.specs.Conversions.{head_unread}
 use Rattle.luks_reading.specs.Header.{json_at, read_key, IsChosenCopy, IsHeader, IsReadFault, IsReadFaultAs, IsUnread, NeedsMetadata, TakesNoMemory}
 use Rattle.luks_reading.proofs.ReadFaults.{as_unread, cleared_copy, copy_unread, no_metadata, same_json}
 use Rattle.luks_wider.specs.declared.wider.Wider.TheVariants as wider
@@ -30,7 +33,7 @@ use Rattle.luks_wide_reading.specs.declared.read_fault.WideReadFault.TheVariants
 use Rattle.luks_wide_reading.specs.declared.header.WideHeader.TheVariants as wide_header
 use Rattle.luks_wide_reading.specs.declared.copy.UnderwayCopy.{UnderwayCopy}
 use Rattle.luks_wide_reading.specs.Beside.{AreaRefused, CopyRefused}
-use Rattle.luks_wide_reading.specs.Faults.{underway_unread}
+use Rattle.luks_wide_reading.specs.Faults.{is_wide_read_failure, underway_unread}
 use Rattle.luks_wide_reading.specs.Headers.{IsFromOutside, IsSameCopy, IsSameHeader, IsUnderwayCopy, IsUnderWayVolume, IsWideUnread}
 
 -- ---- the JSON area, and the copy
@@ -39,6 +42,16 @@ pub area_refused : (area : List ℕ) (known : MetaFault) (f : WideFault) → Has
     → (f ≢ no_memory → IsLeast wide_key (IsUnderWayFault area) f) → AreaRefused area known (underway_unread f known)
 area_refused area known (wide.Meta meta.Memory) is x = tt
 area_refused area known other is x = (refl, is, x (λ e. cc))
+
+-- that fault isn't the device's
+pub underway_no_failure : (f : WideFault) (known : MetaFault) → is_wide_read_failure (underway_unread f known) ≡ false
+underway_no_failure (wide.Meta meta.Memory) known = refl
+underway_no_failure other known = refl
+
+-- what isn't the device's leaves its count
+pub no_failure_counts : {T : Type 0} (r : Result T WideReadFault) (n : ℕ) → IfErr r (λ f. is_wide_read_failure f ≡ false) → CountsFailure is_wide_read_failure r n n
+no_failure_counts (Ok x) n off = refl
+no_failure_counts (Err f) n off = rw off refl
 
 pub copy_refused : (uuid json : List ℕ) (known : MetaFault) (f : WideReadFault) → ((g : HeadFault) → IsUuidFault uuid g → ⊥)
     → AreaRefused json known f → CopyRefused uuid json known f
@@ -78,6 +91,12 @@ beside_unread v o copies known (Underway f narrow) chosen was x = record {
   least = x.1.2;
   narrow = subst (λ h. IsUnread v (reading.Meta h)) (sym x.1.0) was;
 }
+
+-- a fault of the selection is none of the metadata
+pub head_wide : (v : List ℕ) (f : HeadFault) → IsUnread v (head_unread f) → IsWideUnread v (Read (head_unread f))
+head_wide v head.Device x = x
+head_wide v head.Memory x = x
+head_wide v other x = x
 
 -- what was read of the copy that counts
 pub beside_read : (v : List ℕ) (c : UnderwayCopy) → Chosen v (luks2 c.header.hdr_offset c.copies) → HoldsBin2 (header_at v c.header.hdr_offset) c.header

@@ -1,6 +1,5 @@
 -- The header that counts of a volume, by the wider reading, and why it isn't read.
 use Rattle.std.specs.Prelude.{◌≡◌, ℕ, List, length, ⊤}
-use Rattle.serde_json.specs.Data.{Data}
 use Rattle.luks_area.specs.First.{IsLeast}
 use Rattle.luks1_header.specs.declared.fault.HeadFault.{HeadFault}
 use Rattle.luks2_header.specs.declared.selection.Copies.{Copies}

@@ -1,5 +1,5 @@
 //! The header that counts of a volume, by the wider reading.
-ghost use Rattle.std.specs.Prelude.{◌≡◌, ◌≢◌, ◌+◌, ◌-◌, ◌^◌, ◌<◌, ℕ, List, length, false, IfOk, IfErr, MatchResult};
+ghost use Rattle.std.specs.Prelude.{◌≡◌, ◌≢◌, ◌+◌, ◌-◌, ◌^◌, ◌<◌, length, false, IfOk, IfErr, MatchResult};
 ghost use Rattle.luks_area.specs.Device.{CountsFailure, IsUnchanged};
 ghost use Rattle.luks2_header.specs.Header2.{IsCopyWithin, IsUuidField};
 ghost use Rattle.luks_reading.specs.declared.header.Header.{Header as TheHeader};

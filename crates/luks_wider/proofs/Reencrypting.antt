@@ -1,7 +1,7 @@
 -- The keyslot of the type `reencrypt`, of which there is one at most.
-use Rattle.std.proofs.Common.{◌≡◌, ℕ, ◌<◌, Bool, true, false, Option, Some, None, option_map, is_some, IfSome, refl, sym, subst, ◌∙◌, inl, inr, arith}
+use Rattle.std.proofs.Common.{◌≡◌, ℕ, ◌<◌, true, false, Option, Some, None, option_map, is_some, IfSome, refl, sym, ap, subst, ◌∙◌, inl, inr, arith}
 use Rattle.std.specs.Option.{option_map_or}
-use Rattle.std.proofs.lemmas.Bool.{and_from, cases_eq, cases_lt, false≢true, lt-ltb}
+use Rattle.std.proofs.lemmas.Bool.{and_from, cases_lt, false≢true, lt-ltb}
 use Rattle.serde_json.specs.Data.{Data}
 use Rattle.luks_rules.specs.declared.table.Section.TheVariants.{Keyslots}
 use Rattle.luks_rules.specs.Faults.{object_at}
@@ -24,7 +24,7 @@ slot_there f None v e h = absurd (false≢true (rw (← e) at h))
 slot_there f (Some x) v e h = refl
 
 pub slot_is : {A : Type 0} (f : A → Data) (o : Option A) (x : A) (v : Option Data) → option_map f o ≡ v → o ≡ Some x → v ≡ Some (f x)
-slot_is f o x v e is = sym e ∙ (rw is refl)
+slot_is f o x v e is = sym e ∙ ap (option_map f) is
 
 by_kind : (d : Data) → is_reencrypt d ≡ true → IsWideKeyslot d → IsReencryption d
 by_kind d is (plain read) = absurd (not_reencrypt d (sym is) read)

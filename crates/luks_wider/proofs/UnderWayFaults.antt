@@ -1,5 +1,5 @@
 -- The faults of an area in which something is under way: those of its members, and where it contradicts itself.
-use Rattle.std.proofs.Common.{◌≡◌, ◌≢◌, ℕ, ◌<◌, ◌≤◌, Bool, true, false, List, ◌∷◌, length, refl, sym, ap, subst, ◌∙◌, arith}
+use Rattle.std.proofs.Common.{◌≡◌, ◌≢◌, ℕ, ◌<◌, Bool, true, false, List, ◌∷◌, sym, ap, subst, ◌∙◌, arith}
 use Rattle.std.proofs.lemmas.Bool.{and_parts, false≢true, ltb-true}
 use Rattle.serde_json.specs.Data.{Data}
 use Rattle.arrayvec.specs.declared.array_string.ArrayString.{ArrayString}
@@ -14,7 +14,7 @@ use Rattle.luks_contradictions.specs.Contradicted.{contradiction_path, contradic
 use Rattle.luks_contradictions.specs.declared.contradiction.Contradiction.{Contradiction}
 use Rattle.luks_contradictions.specs.declared.contradiction.Contradiction.TheVariants.{Keyslot, Requirements, Segment, Segments}
 use Rattle.luks_contradictions.proofs.Consistency.{consistent_of, nowhere_of}
-use Rattle.luks_wider.specs.Accepted.{IsUnderWayArea, IsWideArea, IsWideRules}
+use Rattle.luks_wider.specs.Accepted.{IsUnderWayArea, IsWideRules}
 use Rattle.luks_wider.specs.WideFaults.{HasContradiction, IsUnderWayFault, IsWideMetaFault, no_memory, wide_key}
 use Rattle.luks_wider.specs.declared.fault.WideFault.{WideFault}
 use Rattle.luks_wider.specs.declared.fault.WideFault.TheVariants.{Meta, UnderWay}
@@ -47,14 +47,14 @@ meta_least area f least off = let l = least (other_fault f off) in (l.0, λ g h.
     by l (UnderWay path) h = before_contradiction f path.bytes
 
 -- the fault of the members that it is
-inner : WideFault → MetaFault
+abbrev inner : WideFault → MetaFault
 inner (Meta f) = f
 inner (UnderWay path) = fault.JsonArea
 
 pub is_memory : (f : MetaFault) → Meta f ≡ no_memory → f ≡ fault.Memory
 is_memory f e = ap inner e
 
-is_meta : WideFault → Bool
+abbrev is_meta : WideFault → Bool
 is_meta (Meta f) = true
 is_meta (UnderWay path) = false
 

@@ -1,13 +1,13 @@
 -- A value in which no test finds a fault meets the rules.
-use Rattle.std.proofs.Common.{◌≡◌, ℕ, ◌+◌, ◌*◌, ◌<◌, ◌≤◌, Bool, true, false, ◌&&◌, List, [], ◌∷◌, ◌++◌, map, Option, Some, None, cond, refl, sym, ap, ◌∙◌, inl, inr, ◌⊎◌}
-use Rattle.std.specs.Prelude.{◌||◌, ◌==◌, not, option_map, option_and_then, is_some, codes}
+use Rattle.std.proofs.Common.{◌≡◌, ℕ, ◌+◌, ◌*◌, ◌≤◌, Bool, true, false, ◌&&◌, List, [], ◌∷◌, ◌++◌, map, Option, Some, None, refl, sym, ap, ◌∙◌, inl, inr, ◌⊎◌}
+use Rattle.std.specs.Prelude.{◌==◌, not, option_map, option_and_then, is_some, codes}
 use Rattle.std.specs.Option.{option_map_or}
 use Rattle.std.specs.List.{list_all, list_any}
 use Rattle.std.specs.Str.{bytes_eq}
 use Rattle.std.proofs.lemmas.Bool.{cases_Bool, eqb-true, false_from_ne_true, ltb-false, or_cases}
 use Rattle.std.proofs.lemmas.Slice.Eq.{bytes_eq-Decides}
 use Rattle.serde_json.specs.Data.{Data, Items}
-use Rattle.serde_json.specs.Find.{as_array, as_object, get}
+use Rattle.serde_json.specs.Find.{as_object}
 use Rattle.luks_json.specs.Arrays.{all_there, has_repeat}
 use Rattle.luks_area.specs.Sectors.{rounded_to_sectors}
 use Rattle.luks_rules.specs.declared.table.Listed.TheVariants as listed
@@ -20,7 +20,7 @@ use Rattle.luks_rules.specs.declared.place.Test.{Test}
 use Rattle.luks_rules.specs.declared.place.Test.TheVariants as test
 use Rattle.luks_rules.specs.Accepted.{HasNames, HasObject, IsRead}
 use Rattle.luks_rules.specs.Faults.{Among, is_section, object_at, section_at, type_at, value_at}
-use Rattle.luks_rules.specs.Reading.{decimal_in, is_listed, kept, number_in, text, text_of}
+use Rattle.luks_rules.specs.Reading.{decimal_in, is_listed, kept, number_in, text}
 use Rattle.luks_rules.specs.Sizes.{inside_at, is_outside, is_too_small, json_size, keyslots_size, region_start}
 use Rattle.luks_rules.specs.Table.{config_rows, digest_rows, keyslot_rows, rows_of, segment_rows, token_rows}
 use Rattle.luks_rules.proofs.Accepting.{all_read, names_found, names_once, neither, not_false, size_is}
@@ -29,7 +29,7 @@ use Rattle.luks_meta.proofs.RowsRead.{at_top, typed}
 use Rattle.luks_underway.specs.Kinds.{is_hot, is_opal, is_reencrypt, is_type, needs_digest}
 use Rattle.luks_underway.specs.Reencryptions.{HasChecksum, HasShift, IsReencryptArea, IsReencryption, IsResilience, nothing, journal, checksum, datashift, datashift_journal, datashift_checksum}
 use Rattle.luks_underway.specs.Requirements.{are_requirements}
-use Rattle.luks_underway.specs.Segments.{are_flags, flags_at, HasEncryption, HasOpal, IsOpalKind, IsWideSegment, hardware, both, plain, opal}
+use Rattle.luks_underway.specs.Segments.{HasEncryption, HasOpal, IsOpalKind, IsWideSegment, hardware, both, plain, opal}
 use Rattle.luks_underway.specs.Slots.{IsWideKeyslot, plain as plain_slot, reencrypt}
 use Rattle.luks_underway.proofs.Typed.{not_reencrypt}
 use Rattle.luks_wider.specs.Accepted.{IsWideAccepted, IsWideRules, WideResolves}

@@ -20,11 +20,9 @@ use Rattle.luks_json.specs.Arrays.{all_named, all_there}
 use Rattle.luks_rules.specs.Reading.{names, item_texts, reads}
 use Rattle.luks_rules.specs.Table.{rows_of, digest_rows, token_rows}
 use Rattle.luks_rules.specs.Faults.{Among, section_at, value_at}
-use Rattle.luks_rules.specs.Accepted.{IsRead}
 use Rattle.luks_rules.specs.Faults.{member_at}
 use Rattle.luks_meta.proofs.RowsRead.{among_of, at_top, is_row_of}
 use Rattle.luks_rules.specs.Accepted.{HasObject, HasNames}
-use Rattle.luks_json.specs.Arrays.{has_repeat}
 use Rattle.luks_wider.specs.Accepted.{IsWideRules}
 
 -- a member of a map whose names are all names

@@ -1,15 +1,13 @@
 -- The rows of each object stand in the order of their paths' bytes.
-use Rattle.std.proofs.Common.{◌≡◌, Bool, true, false, List, ◌&&◌, map, refl, inl, inr}
+use Rattle.std.proofs.Common.{◌≡◌, true, List, refl, inl, inr}
 use Rattle.std.proofs.lemmas.Bool.{cases_Bool}
 use Rattle.serde_json.specs.Data.{Data}
 use Rattle.luks_rules.specs.declared.table.Section.{Section}
 use Rattle.luks_rules.specs.declared.table.Section.TheVariants.{Config, Digests, Keyslots, Segments, Tokens}
-use Rattle.luks_rules.specs.Table.{keyslot_rows, segment_rows}
 use Rattle.luks_rules.proofs.Order.{not_after, pairwise}
 use Rattle.luks_underway.specs.Kinds.{is_opal, is_reencrypt}
-use Rattle.luks_wider.specs.Rows.{opal_rows, reencrypt_rows, rows_for, wide_path, with_flags}
+use Rattle.luks_wider.specs.Rows.{rows_for, wide_path}
 use Rattle.luks_wider.specs.declared.rows.WideRow.{WideRow}
-use Rattle.luks_wider.specs.declared.rows.WideRow.TheVariants.{Known, New}
 
 abbrev pub InOrder : List WideRow → Type 0
 InOrder rows = pairwise (λ r q. not_after (wide_path r) (wide_path q)) rows ≡ true

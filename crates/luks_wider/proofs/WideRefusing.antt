@@ -1,26 +1,22 @@
 -- In a value that meets the rules no test finds a fault.
-use Rattle.std.proofs.Common.{◌≡◌, ℕ, ◌+◌, ◌*◌, ◌<◌, ◌≤◌, Bool, true, false, ◌&&◌, List, [], ◌∷◌, ◌++◌, map, Option, Some, None, cond, refl, sym, ap, ◌∙◌, inl, inr, ◌⊎◌, eq-eqb}
-use Rattle.std.specs.Prelude.{◌||◌, ◌==◌, not, option_map, option_and_then, is_some, codes, nat_lt}
-use Rattle.std.specs.Option.{option_map_or}
+use Rattle.std.proofs.Common.{◌≡◌, ℕ, ◌+◌, ◌*◌, ◌<◌, Bool, true, false, ◌&&◌, List, [], ◌∷◌, ◌++◌, map, Option, Some, None, refl, sym, inl, inr, ◌⊎◌, eq-eqb}
+use Rattle.std.specs.Prelude.{not, option_and_then, is_some, codes}
 use Rattle.std.proofs.lemmas.Bool.{cases_Bool, false_from_ne_true, le-ltb}
-use Rattle.serde_json.specs.Data.{Data, null, boolean, number, string, array, object, Items}
-use Rattle.serde_json.specs.Find.{as_array, as_object, as_str, get}
+use Rattle.serde_json.specs.Data.{Data, null, boolean, number, string, array, object}
+use Rattle.serde_json.specs.Find.{as_object, get}
 use Rattle.luks_area.specs.Sectors.{rounded_to_sectors}
-use Rattle.luks_rules.specs.declared.table.Member.TheVariants as name
 use Rattle.luks_rules.specs.declared.table.Outer.TheVariants as outer
 use Rattle.luks_rules.specs.declared.table.Row.{Row}
-use Rattle.luks_rules.specs.declared.table.Rule.TheVariants as rule
 use Rattle.luks_rules.specs.declared.table.Section.{Section}
 use Rattle.luks_rules.specs.declared.table.Section.TheVariants.{Config, Digests, Keyslots, Segments, Tokens}
 use Rattle.luks_rules.specs.declared.place.Test.{Test}
 use Rattle.luks_rules.specs.declared.place.Test.TheVariants as test
 use Rattle.luks_rules.specs.Accepted.{HasObject, IsRead}
-use Rattle.luks_rules.specs.Faults.{Among, object_at, outer_at, row_fault, section_at, type_at, value_at}
+use Rattle.luks_rules.specs.Faults.{Among, object_at, outer_at, row_fault, section_at}
 use Rattle.luks_rules.specs.Reading.{decimal_in, number_in, text_of}
 use Rattle.luks_rules.specs.Sizes.{has_slot_outside, has_small_area, inside_at, keyslots_size, region_start}
 use Rattle.luks_rules.specs.Table.{config_rows, digest_rows, keyslot_rows, rows_of, segment_rows, token_rows}
-use Rattle.luks_rules.proofs.Refusing.{all_among, by_option, is_names, no_names, or_off, row_off, Speaks}
-use Rattle.luks_json.specs.Arrays.{all_there, has_repeat}
+use Rattle.luks_rules.proofs.Refusing.{all_among, by_option, is_names, no_names, or_off, row_off}
 use Rattle.luks_underway.specs.Kinds.{has_reencrypt, is_hot, is_opal, is_reencrypt, needs_digest}
 use Rattle.luks_underway.specs.Reencryptions.{IsReencryption, IsResilience, nothing, journal, checksum, datashift, datashift_journal, datashift_checksum}
 use Rattle.luks_underway.specs.Segments.{HasPlace, IsOpalKind, IsWideSegment, hardware, both, plain, opal}

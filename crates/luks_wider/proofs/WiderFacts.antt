@@ -34,7 +34,7 @@ least_narrow area f none least = (narrow none least.0, λ g w. elim w [ under_wa
   where
     by : (g : WideFault) → IsNarrowFault area g → NotAfter (wide_key (Meta f)) (wide_key g)
     by (Meta g) i = least.1 g i
-    by (UnderWay path) i = elim i [ ]
+    by (UnderWay path) i = absurd i
 
 pub under_faultless : (area : List ℕ) → HasUnderWay area → ((g : WideFault) → IsUnderWayFault area g → ⊥) → (f : WideFault) → IsWiderFault area f → ⊥
 under_faultless area h none f w = elim w [ under_way k i ↦ none f i | narrow other i ↦ other h ]

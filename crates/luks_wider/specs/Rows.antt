@@ -1,6 +1,6 @@
 -- The rows of metadata in which something is under way (LUKS2 On-Disk Format 1.1.3, 3.2.2, 3.2.3, 3.3, 3.5 and 4.10): which members an object has, in
 -- the order of the bytes of their paths, and when one breaks its rule.
-use Rattle.std.specs.Prelude.{ℕ, List, [], ◌∷◌, ◌++◌, map, codes, Bool, true, false, ◌&&◌, ◌||◌, not, if◌then◌else◌, Option, option_and_then, is_some}
+use Rattle.std.specs.Prelude.{ℕ, List, [], ◌∷◌, ◌++◌, map, codes, Bool, true, false, ◌&&◌, not, if◌then◌else◌, Option, option_and_then, is_some}
 use Rattle.std.specs.Option.{option_map_or}
 use Rattle.std.specs.Str.{bytes_eq}
 use Rattle.std.specs.List.{list_any}

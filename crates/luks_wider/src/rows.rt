@@ -1,7 +1,6 @@
 //! The members of objects in which something is under way, each with its rule, in the order of their paths' bytes.
 
 ghost use Rattle.std.specs.Prelude.{◌≡◌, ◌≤◌, length};
-ghost use Rattle.serde_json.specs.View.{view};
 ghost use Rattle.luks_wider.specs.Rows.{new_path, opal_rows, reencrypt_rows};
 
 use luks_rules::Row;

@@ -1,14 +1,14 @@
 //! The first fault, by the order of the bytes of the paths.
 
-ghost use Rattle.std.specs.Prelude.{◌≡◌, ◌<◌, [], ◌∷◌, ◌++◌, find, map, option_map, true, false, nat_lt, IfSome, IsNone};
+ghost use Rattle.std.specs.Prelude.{◌≡◌, ◌<◌, [], ◌∷◌, find, map, option_map, true, false, nat_lt, IfSome, IsNone};
 ghost use Rattle.std.specs.List.{list_all};
 ghost use Rattle.serde_json.specs.View.{view};
 ghost use Rattle.luks_area.specs.First.{IsLeast};
-ghost use Rattle.luks_rules.specs.Table.{rows_of, segment_rows};
+ghost use Rattle.luks_rules.specs.Table.{rows_of};
 ghost use Rattle.luks_wider.specs.declared.place.WidePlace.{WidePlace};
 ghost use Rattle.luks_wider.specs.declared.rows.WideRow.TheVariants.{Known, New};
 ghost use Rattle.luks_wider.specs.Places.{has_wide_fault, IsWideFaulty, IsWidePlace, wide_place_path, wide_row_fault};
-ghost use Rattle.luks_wider.specs.Rows.{rows_for, with_flags};
+ghost use Rattle.luks_wider.specs.Rows.{with_flags};
 ghost use Rattle.luks_wider.specs.WideWalk.{first_faulty, first_in, first_numbered, first_of_config, first_of_section, first_place, first_row};
 
 use crate::object_faults::wide_object_fault;

@@ -4,7 +4,7 @@
 ghost use Rattle.std.specs.Prelude.{◌≡◌, ◌≢◌, ℕ, List, length, true, false, IfOk, IfErr, MatchResult};
 ghost use Rattle.serde_json.specs.Data.{Data};
 ghost use Rattle.luks_area.specs.First.{IsLeast};
-ghost use Rattle.luks_json.specs.AreaText.{Json, JsonText};
+ghost use Rattle.luks_json.specs.AreaText.{JsonText};
 ghost use Rattle.luks_rules.specs.Accepted.{IsMeta};
 ghost use Rattle.luks_wider.specs.Accepted.{IsWide};
 ghost use Rattle.luks_wider.specs.Wide.{HasUnderWay, IsNarrowOf, IsWiderFault, IsWiderOf, wider_content, wider_len};

@@ -1,7 +1,6 @@
 -- The plan of the keyslot is judged, and its answer is that of the keyslot.
-use Rattle.std.proofs.Common.{◌<◌, Some, ap, sym, ◌∙◌}
+use Rattle.std.proofs.Common.{Some, ap, sym, ◌∙◌}
 use Rattle.luks_rules.proofs.AreaFaults.{one_value}
-use Rattle.luks_reading.specs.Plans.{HasLuks2Plan}
 use Rattle.luks_reading.proofs.OptionFacts.{some_weaker}
 use Rattle.luks_reading.proofs.Luks2Plans.{IsOnly}
 use Rattle.luks_wider.specs.Underways.{content}

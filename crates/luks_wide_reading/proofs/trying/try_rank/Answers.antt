@@ -1,5 +1,5 @@
 -- The rank's keyslots before this one don't open, so that it is the first of the order.
-use Rattle.std.proofs.Common.{◌≡◌, ◌∙◌, ◌<◌, ℕ, List, true, length, Option, Some, IfSome, IfErr, ap, subst, sym, arith, below_more}
+use Rattle.std.proofs.Common.{◌≡◌, ◌∙◌, ◌<◌, ℕ, List, true, length, Option, Some, IfSome, ap, subst, sym, arith, below_more}
 use Rattle.luks_area.specs.Device.{IsUnchanged, unchanged-then}
 use Rattle.luks_reading.specs.Plans.{HasLuks2KeyBytes}
 use Rattle.luks_reading.proofs.KeyslotOrders.{all_shut, first_shut}

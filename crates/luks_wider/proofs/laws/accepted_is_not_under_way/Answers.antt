@@ -1,8 +1,4 @@
 use Rattle.luks_contradictions.proofs.UnderWayFacts.{not_under_way}
-use Rattle.luks_wider.proofs.UnderWayFaults.{none_found}
-use Rattle.luks_wider.proofs.WiderFacts.{least_narrow}
-use Rattle.luks_wider.proofs.WideNamings.{digest_only}
-use Rattle.luks_wider.proofs.Reencrypting.{is_slot}
 use Rattle.luks_wider.proofs.laws.accepted_is_not_under_way.Goals as goal
 
 pub returns : goal.returns

@@ -1,3 +1,4 @@
+use Rattle.std.proofs.Common.{refl}
 use Rattle.serde_json.specs.View.{view}
 use Rattle.luks_meta.proofs.Namings.{no_digest}
 use Rattle.luks_wider.proofs.WideNamings.{digest_only, digest_some, digest_there}
