@@ -3,6 +3,7 @@
 ghost use Rattle.std.specs.Prelude.{◌≡◌, ◌≢◌, ◌<◌, ℕ, List, Some, codes, false, is_some, length, true, IfOk, IfErr, IfSome, IsNone, IsSome, MatchOption};
 ghost use Rattle.serde_json.specs.View.{view};
 ghost use Rattle.luks_contradictions.specs.Contradicted.{contradicts};
+ghost use Rattle.luks_contradictions.specs.declared.contradiction.Contradiction.{Contradiction};
 ghost use Rattle.luks_wider.specs.WideFaults.{IsWideHeld};
 
 use crate::content::read_members;
