@@ -20,10 +20,10 @@ unfolding least_below
 least_first test zero m below holds none = absurd (omega (arith, below))
 least_first test (suc n) m below holds none = elim (cases_eq m n) [
   | inl same ↦
-    let here : test n ≡ true = rw (← same) holds in
-    let before : least_below test n ≡ None = least_none test n (rw (← same) none) in
-    rw (here, before, same) refl
+      let here : test n ≡ true = rw (← same) holds in
+      let before : least_below test n ≡ None = least_none test n (rw (← same) none) in
+      rw (here, before, same) refl
   | inr other ↦
-    let before : least_below test n ≡ Some m = least_first test n m (omega (arith, below, other)) holds none in
-    rw before refl
+      let before : least_below test n ≡ Some m = least_first test n m (omega (arith, below, other)) holds none in
+      rw before refl
 ]

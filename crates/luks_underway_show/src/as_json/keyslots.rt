@@ -39,7 +39,8 @@ fn add_keyslot(
     let Some(value) = keyslot_at(alloc, meta, n)? else {
         return Ok(());
     };
-    items.push(value)
+    items.push(value)?;
+    Ok(())
 }
 
 /// The object of the keyslot of this number, if it is there.

@@ -40,7 +40,8 @@ fn add_segment(
     let Some(value) = segment_at(alloc, meta, n)? else {
         return Ok(());
     };
-    items.push(value)
+    items.push(value)?;
+    Ok(())
 }
 
 /// The object of the segment of this number, if it is there.

@@ -28,10 +28,10 @@ loop-n-preserved g c =
       place = ap₂ (λ a b. a + b) c.loop-n.invariant.place c.sectors_at.ensures.are ∙ place_more c.args.end j c.loop-n.n;
       few = omega (arith, few, more);
       written = λ plain.
-        let before = c.loop-n.invariant.written plain in
-        has_written_of_eq _ _ _ _ _
-        (ap (λ p. parts_below c.args.end j c.loop-n.n ++ part_listed c.args.end j c.loop-n.n p) c.loop-n.invariant.place ∙ parts_more c.args.end j c.loop-n.n)
-        (has_written_append _ _ _ _ _ _ before (c.list_part.ensures before.plain (search rules)));
+          let before = c.loop-n.invariant.written plain in
+          has_written_of_eq _ _ _ _ _
+          (ap (λ p. parts_below c.args.end j c.loop-n.n ++ part_listed c.args.end j c.loop-n.n p) c.loop-n.invariant.place ∙ parts_more c.args.end j c.loop-n.n)
+          (has_written_append _ _ _ _ _ _ before (c.list_part.ensures before.plain (search rules)));
     }
 
 pub returns : goal.returns
