@@ -8,7 +8,7 @@ ghost use Rattle.luks_reading.specs.ChosenCopies.{json_of};
 ghost use Rattle.luks_reading.specs.Header.{IsHeader, IsUnread, TakesNoMemory};
 ghost use Rattle.luks_wider.specs.declared.wider.Wider.TheVariants.{Underway as OfUnderway};
 ghost use Rattle.luks_wider.specs.Underways.{area_len};
-ghost use Rattle.luks_wider.specs.Wide.{IsWiderOf};
+ghost use Rattle.luks_wider.specs.Wide.{HasUnderWay, IsWiderOf};
 ghost use Rattle.luks_wide_reading.specs.Beside.{AreaRefused, CopyRefused};
 ghost use Rattle.luks_wide_reading.specs.Faults.{is_wide_read_failure, underway_unread};
 ghost use Rattle.luks_wide_reading.specs.Headers.{IsAcceptedWide, IsFromOutside, IsSameHeader, IsWideHeader, IsWideUnread};
@@ -142,12 +142,27 @@ fn read_area(
     ensures no_failure { IfErr result (λ f. is_wide_read_failure f ≡ false) }
 {
     match has_under_way(alloc, area) {
-        Ok(true) => match Underway::read(alloc, area) {
-            Ok(meta) => Ok(meta),
-            Err(fault) => Err(underway_unread(fault, narrow_fault)),
-        },
+        Ok(true) => read_under_way(alloc, area, narrow_fault),
         Ok(false) => Err(WideReadFault::Read(ReadFault::Meta(*narrow_fault))),
         Err(_) => Err(WideReadFault::Read(ReadFault::Memory)),
+    }
+}
+
+/// The metadata of a JSON area in which something is under way.
+fn read_under_way(
+    alloc: Global,
+    area: &[u8],
+    narrow_fault: &MetaFault,
+) -> Result<Underway, WideReadFault>
+    requires { HasUnderWay area.now }
+    ensures read { IfOk result (λ m. IsWiderOf area.now (OfUnderway m)) }
+    ensures length { IfOk result (λ m. area_len m ≡ length area.now) }
+    ensures refused { IfErr result (AreaRefused area.now narrow_fault.now) }
+    ensures no_failure { IfErr result (λ f. is_wide_read_failure f ≡ false) }
+{
+    match Underway::read(alloc, area) {
+        Ok(meta) => Ok(meta),
+        Err(fault) => Err(underway_unread(fault, narrow_fault)),
     }
 }
 

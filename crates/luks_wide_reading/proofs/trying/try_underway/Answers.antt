@@ -40,3 +40,6 @@ returns-in-Ok-None-clause-answers g c = λ json holds. record {
       (x.0, subst (λ (total : ℕ). UnderwayTakesMemory c.args.allowed json total x.0) c.in-Ok-None.ensures.unchanged.size x.1))
       (c.try_rank-in-Ok-None.ensures.answers json holds).memory;
 }
+
+pub returns-in-Err-clause-answers : goal.returns-in-Err-clause-answers
+returns-in-Err-clause-answers g c = λ json holds. record { tries = λ tells. tt; memory = (c.in-Err.ensures.answers json holds).memory }
