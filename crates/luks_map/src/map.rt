@@ -43,9 +43,9 @@ impl HeaderMap {
     pub fn of_underway(header_size: u64, meta: &Underway, total: u64) -> HeaderMap
         ensures { IsUnderwayMap header_size (content meta.now) total result }
     {
-        let mut rows = underway_rows(header_size, meta, total);
-        put_in_order(rows.as_mut_slice());
-        HeaderMap { rows, total }
+        let mut parts = underway_rows(header_size, meta, total);
+        put_in_order(parts.as_mut_slice());
+        HeaderMap { rows: parts, total }
     }
 }
 
