@@ -1,5 +1,5 @@
 -- What is found in one area is found in the volume.
-use Rattle.std.proofs.Common.{◌≡◌, ◌⊎◌, ℕ, ◌+◌, ◌-◌, List, Option, length, inl, inr, sym, ap, subst, ◌∙◌, arith}
+use Rattle.std.proofs.Common.{◌≡◌, ℕ, ◌+◌, ◌-◌, List, Option, length, inl, inr, sym, ap, subst, ◌∙◌, arith}
 use Rattle.luks2_header.specs.Sizes.{IsListed}
 use Rattle.luks2_header.proofs.CopyFacts.{listed_at_least}
 use Rattle.luks_rebuilding.specs.Candidates.{IsBegun, IsPlace}

@@ -1,5 +1,5 @@
 -- Metadata that is made of fragments is found at the place of the shortest header.
-use Rattle.std.proofs.Common.{◌≡◌, ℕ, ◌+◌, ◌≤◌, List, Option, length, inl, refl, ap, arith}
+use Rattle.std.proofs.Common.{◌≡◌, ℕ, ◌+◌, ◌≤◌, List, Option, length, inl, refl, ap}
 use Rattle.luks_rebuilding.specs.Candidates.{IsPlace}
 use Rattle.luks_slot.specs.declared.allowed.Allowed.{Allowed}
 use Rattle.luks_piecing.specs.Pieced.{IsPieced}

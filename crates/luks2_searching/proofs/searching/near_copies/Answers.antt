@@ -1,5 +1,4 @@
-use Rattle.std.proofs.Common.{◌∙◌, ℕ, subst, sym}
-use Rattle.luks2_header.specs.Sizes.{IsListed}
+use Rattle.std.proofs.Common.{◌∙◌, subst, sym}
 use Rattle.luks_trials.proofs.OptionFacts.{none_where}
 use Rattle.luks2_searching.specs.Found.{HasNoneBy}
 use Rattle.luks2_searching.specs.declared.searching.Step.TheVariants.{Mixed, Bits}
